@@ -1,0 +1,24 @@
+-- The kinds that are known.
+use Rattle.std.proofs.Common.{◌≡◌, ◌≢◌, List, Bool, true, false, refl, codes, sym, ◌∙◌}
+use Rattle.std.specs.Prelude.{◌∷◌, Err, bytes_eq}
+use Rattle.std.proofs.lemmas.Bool.{false_from_ne_true}
+use Rattle.std.proofs.lemmas.Slice.Eq.{bytes_eq-Decides}
+use Rattle.brk_money.specs.Spelling.{Text}
+use Rattle.brk_money.specs.declared.refusal.Refusal.TheVariants.{BadText}
+use Rattle.brk_model.specs.Parse.{parse_by, party_readers}
+
+-- another text is told apart
+other : (known kind : Text) → kind ≢ known → bytes_eq known kind ≡ false
+other known kind h = false_from_ne_true (bytes_eq known kind) (λ e. h (sym ((bytes_eq-Decides known kind).0 e)))
+
+-- a row of an unknown kind is refused
+pub unknown_kind : (kind : Text) (fields : List Text) → kind ≢ codes "broker" → kind ≢ codes "customer" → kind ≢ codes "account"
+    → parse_by party_readers (kind ∷ fields) ≡ Err BadText
+unknown_kind kind fields b c a = rw (other (codes "broker") kind b, other (codes "customer") kind c, other (codes "account") kind a) refl
+
+-- what a comparison with a known text tells
+pub same_text : (kind slice known : Text) (r : Bool) → r ≡ bytes_eq kind slice → slice ≡ known → r ≡ true → kind ≡ known
+same_text kind slice known r e s t = (bytes_eq-Decides kind slice).0 (sym e ∙ t) ∙ s
+
+pub other_text : (kind slice known : Text) (r : Bool) → r ≡ bytes_eq kind slice → slice ≡ known → r ≡ false → kind ≢ known
+other_text kind slice known r e s f h = let yes = (bytes_eq-Decides kind slice).1 (h ∙ sym s) in absurd (cc)

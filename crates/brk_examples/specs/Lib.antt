@@ -1,0 +1,9 @@
+pub mod Batches
+pub mod Setting
+pub mod Trading
+pub mod Standing
+pub mod Waiting
+pub mod Extremes
+pub mod Sales
+pub mod Bought
+pub mod Rules

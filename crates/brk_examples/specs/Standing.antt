@@ -1,0 +1,25 @@
+-- What an example shows of the tables of a base.
+use Rattle.std.specs.Prelude.{ℕ, ℤ, List, map, filter, ◌==◌}
+use Rattle.brk_model.specs.Base.{Base}
+use Rattle.brk_model.specs.Tables.{Tables, tables_of}
+
+-- the lots (trade, quantity), the changes of lots by one trade (lot, before, after), the summaries, the balances, and each broker's count and commissions
+pub record Standing : Type 0 where
+  pub lots : List (ℕ × ℤ)
+  pub changes : List (ℕ × ℤ × ℤ)
+  pub summaries : List ℤ
+  pub balances : List ℤ
+  pub brokers : List (ℤ × ℕ)
+
+abbrev pub standing_in : Tables → ℕ → Standing
+standing_in tables trade = record {
+  lots = map {B = ℕ × ℤ} (λ row. (row.trade, row.qty)) tables.holdings;
+  changes = map {B = ℕ × ℤ × ℤ} (λ row. (row.lot, row.before, row.after)) (filter (λ row. row.trade == trade) tables.holding_history);
+  summaries = map {B = ℤ} (λ row. row.qty) tables.summaries;
+  balances = map {B = ℤ} (λ row. row.balance) tables.accounts;
+  brokers = map {B = ℤ × ℕ} (λ row. (row.trades, row.commissions)) tables.brokers;
+}
+
+-- of a base and a trade
+abbrev pub standing : Base → ℕ → Standing
+standing base trade = standing_in (tables_of base) trade

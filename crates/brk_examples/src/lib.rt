@@ -1,0 +1,19 @@
+//! Worked examples of the abstract brokerage: what batches over the empty base and a small setting are answered with, and what
+//! queries, statements and audits show then. Each is an equation that the checker computes from the definitions.
+#![tactic(auto)]
+
+pub mod audits;
+pub mod closings;
+pub mod forms;
+pub mod markets;
+pub mod permissions;
+pub mod reference;
+pub mod repeats;
+pub mod rules;
+pub mod statements;
+pub mod statuses;
+pub mod tables;
+pub mod taxes;
+pub mod trading;
+pub mod updates;
+pub mod views;

@@ -1,0 +1,6 @@
+pub mod Moments
+pub mod Counts
+pub mod Answers
+pub mod Reading
+pub mod Batch
+pub mod Parts

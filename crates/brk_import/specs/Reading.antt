@@ -1,0 +1,19 @@
+-- A reader over the records of a batch.
+use Rattle.std.specs.Prelude.{◌≡◌, Option, Some, None, List, true}
+use Rattle.csv.specs.Reading.{Reached, Ready, default_config, is_flexible, reader_config, reader_trim}
+use Rattle.csv.specs.declared.reader.Reader.{Reader}
+use Rattle.csv.specs.declared.reader.Trim.TheVariants as trim
+use Rattle.csv.specs.declared.parser.State.{State}
+use Rattle.csv.specs.declared.parser.State.TheVariants as st
+use Rattle.brk_money.specs.Spelling.{Text}
+use Rattle.brk_model.specs.Answers.{Fields}
+
+-- a reader reads the records of a batch: as they stand, of any number of fields, and with no header row
+abbrev pub ReadsBatch : {R : Type 0} → Reader R → Type 0
+ReadsBatch reader = (reader_trim reader ≡ trim.None) × Ready reader × (reader_config reader ≡ default_config) × (is_flexible reader ≡ true)
+
+-- the text begins with these records, and a reader in this state has these bytes left of it, where they are known
+abbrev pub Stands : Option Text → List Fields → State → Option Text → Type 0
+Stands None front state left = Unit {0}
+Stands (Some text) front state None = ⊥
+Stands (Some text) front state (Some left) = Reached default_config st.StartRecord text front state left

@@ -1,0 +1,35 @@
+ghost use Rattle.std.specs.Prelude.{option_map};
+ghost use Rattle.brk_model.specs.Input.{text_of};
+ghost use Rattle.brk_model.specs.Parse.{parse_by, party_readers};
+ghost use Rattle.brk_import.specs.Batch.{TellsAnswers};
+
+use crate::batch_fault::BatchFault;
+use crate::clock::Clock;
+use crate::counts::Counts;
+use crate::engine::run;
+use brk_desk::Desk;
+use sqlite::Alter;
+use std::alloc::Global;
+use std::io::{Read, Write};
+
+/// Reads a batch of rows, hands each to the desk and writes its line before the next one acts.
+///
+/// The input is comma-separated: first `batch,NAME`, then the rows, then `end,N` with the number of rows. Of an input
+/// the first 67,108,864 bytes are read. A row acts once the record after it was read, so that the last row of a cut
+/// input never acts: it is refused with 18. The clock is asked once for each row that is in form and has a record after
+/// it. The lines are `n,ok,FIELDS`, `n,again,FIELDS` or `n,no,FIELDS`, and after the right end record
+/// `end,OK,AGAIN,NO`. At a fault the rows before stand. An error of the reader or the writer, an interrupted one too,
+/// ends the batch.
+pub fn run_batch<R: Read + Drop, W: Write, C: Clock, S: Alter>(
+    alloc: Global,
+    reader: R,
+    writer: &mut W,
+    clock: &mut C,
+    desk: &mut Desk<S>,
+) -> Result<Counts, BatchFault>
+    // Whatever the desk answers to the rows that are in form, the lines are those of its answers.
+    ensures told { TellsAnswers (parse_by party_readers) C.gives (option_map text_of (R.remaining reader))
+        (record { clock = clock.old; later = clock.new; old = W.contents writer.old; new = W.contents writer.new }) result }
+{
+    run(alloc, reader, writer, clock, desk)
+}

@@ -1,0 +1,329 @@
+-- The function that computes a batch gives the batch text.
+use Rattle.std.proofs.Common.{◌≡◌, ◌≤◌, ◌⊎◌, inl, inr, ℕ, zero, suc, ◌+◌, Bool, true, false, cond, List, [], ◌∷◌, ◌++◌, length, take, refl, sym, ◌∙◌, ap, subst, arith, Option, Some, None, Ok, Err, codes}
+use Rattle.std.specs.Prelude.{bytes_eq, decimal}
+use Rattle.std.specs.List.{AllByRecursion}
+use Rattle.std.proofs.lemmas.Slice.Eq.{bytes_eq-Decides}
+use Rattle.csv.specs.Reading.{records, default_config}
+use Rattle.csv.specs.Records.{field_at}
+use Rattle.brk_money.specs.Spelling.{Text}
+use Rattle.brk_money.specs.declared.refusal.Refusal.TheVariants.{BadText}
+use Rattle.brk_model.specs.Base.{Base}
+use Rattle.brk_model.specs.Forms.{Read, is_batch_name}
+use Rattle.brk_model.specs.Parse.{parse_row}
+use Rattle.brk_model.specs.Commands.{Answer, Refused}
+use Rattle.brk_model.specs.Answers.{Fields, RowStep, RowCall, call_step, InTurn, formed_from, with_formed, calls_of, woven, woven_one}
+use Rattle.brk_model.specs.Input.{text_of, Begins, AreAll, IsName, IsEnd, header_of, end_of}
+use Rattle.brk_model.specs.Batch.{Batch, BadEnd, AreSettled, IsAnswered, IsUnanswered, row_step, IsBatch}
+use Rattle.brk_model.specs.Computed.{Answered, in_turn, settled, is_end, Split, with_row, split_at_end, name_in, is_right, told, told_whole, ended_by, cut_off, rows_of, named, batch_from, batch}
+
+-- ---- a run and its answers
+
+pub run_of : {B C : Type 0} (step : RowStep B C) (base : B) (calls : List (RowCall C)) → InTurn step base calls (in_turn step base calls).0 (in_turn step base calls).1
+run_of step base [] = refl
+run_of step base (call ∷ calls) = (refl, run_of step (call_step step base call).1 calls)
+
+pub length-in_turn : {B C : Type 0} (step : RowStep B C) (base : B) (calls : List (RowCall C)) → length (in_turn step base calls).0 ≡ length calls
+length-in_turn step base [] = refl
+length-in_turn step base (call ∷ calls) = ap suc (length-in_turn step (call_step step base call).1 calls)
+
+-- moments past the last row are not asked for
+pub calls-take : {C : Type 0} (name : Text) (moments : List ℕ) (rows : List (ℕ × C)) → calls_of name (take (length rows) moments) rows ≡ calls_of name moments rows
+calls-take name [] [] = refl
+calls-take name [] (row ∷ rows) = refl
+calls-take name (moment ∷ moments) [] = refl
+calls-take name (moment ∷ moments) (row ∷ rows) = ap (λ calls. record { key = record { batch = name; row = row.0 }; now = moment; command = row.1 } ∷ calls) (calls-take name moments rows)
+
+pub length-calls : {C : Type 0} (name : Text) (moments : List ℕ) (rows : List (ℕ × C)) → length rows ≤ length moments → length (calls_of name moments rows) ≡ length rows
+length-calls name [] [] h = refl
+length-calls name [] (row ∷ rows) h = absurd (omega (h, arith))
+length-calls name (moment ∷ moments) [] h = refl
+length-calls name (moment ∷ moments) (row ∷ rows) h = ap suc (length-calls name moments rows (omega (h, arith)))
+
+pub length-taken : {X : Type 0} (n : ℕ) (xs : List X) → n ≤ length xs → length (take n xs) ≡ n
+length-taken zero xs h = refl
+length-taken (suc n) [] h = absurd (omega (h, arith))
+length-taken (suc n) (x ∷ xs) h = ap suc (length-taken n xs (omega (h, arith)))
+
+-- ---- the rows in form, and all of them
+
+pub formed-few : {C : Type 0} (form : Fields → Read C) (n : ℕ) (rows : List Fields) → length (formed_from form n rows) ≤ length rows
+formed-few form n [] = omega arith
+formed-few form n (row ∷ rows) = one (form row) n (formed_from form (n + 1) rows) (length rows) (formed-few form (n + 1) rows)
+  where
+    one : {C : Type 0} (r : Read C) (n : ℕ) (rest : List (ℕ × C)) (k : ℕ) → length rest ≤ k → length (with_formed r n rest) ≤ suc k
+    one (Ok command) n rest k h = omega (h, arith)
+    one (Err refusal) n rest k h = omega (h, arith)
+
+pub length-woven : {C : Type 0} (form : Fields → Read C) (n : ℕ) (rows : List Fields) (answers : List Answer)
+    → length answers ≡ length (formed_from form n rows) → length (woven form rows answers) ≡ length rows
+length-woven form n [] answers h = refl
+length-woven form n (row ∷ rows) answers h = one (form row) n (formed_from form (n + 1) rows) (woven form rows) (length rows) answers (length-woven form (n + 1) rows) h
+  where
+    one : {C : Type 0} (r : Read C) (n : ℕ) (rest : List (ℕ × C)) (more : List Answer → List Answer) (k : ℕ) (answers : List Answer)
+        → ((others : List Answer) → length others ≡ length rest → length (more others) ≡ k) → length answers ≡ length (with_formed r n rest) → length (woven_one r more answers) ≡ suc k
+    one (Ok command) n rest more k [] each h = absurd (omega (h, arith))
+    one (Ok command) n rest more k (answer ∷ answers) each h = ap suc (each answers (omega (h, arith)))
+    one (Err refusal) n rest more k answers each h = ap suc (each answers h)
+
+-- ---- records that end a batch
+
+pub sound : (xs ys : List ℕ) → bytes_eq xs ys ≡ true → xs ≡ ys
+sound xs ys h = (bytes_eq-Decides xs ys).0 h
+
+pub same : (xs ys : List ℕ) → xs ≡ ys → bytes_eq xs ys ≡ true
+same xs ys h = (bytes_eq-Decides xs ys).1 h
+
+pub some-inj : {X : Type 0} {x y : X} → Some x ≡ Some y → x ≡ y
+some-inj {X = X} {x = x} e = ap (value x) e
+  where
+    value : {X : Type 0} → X → Option X → X
+    value d None = d
+    value d (Some x) = x
+
+pub end_is : (row : Fields) → is_end row ≡ true → IsEnd row
+unfolding field_at
+end_is [] h = absurd (cc)
+end_is (word ∷ fields) h = ap Some (sound word (codes "end") h)
+
+pub is_end_of : (row : Fields) → IsEnd row → is_end row ≡ true
+unfolding field_at
+is_end_of [] h = absurd (cc)
+is_end_of (word ∷ fields) h = same word (codes "end") (some-inj h)
+
+pub no_end : (row : Fields) → is_end row ≡ false → ¬ (IsEnd row)
+no_end row h e = let k = is_end_of row e in absurd (cc)
+
+-- what the split says of the rows
+abbrev pub Splits : List Fields → Split → Type 0
+Splits rows (front, Some last) = AllByRecursion (λ row. ¬ (IsEnd row)) front × IsEnd last × ((more : List Fields) × (rows ≡ front ++ last ∷ more))
+Splits rows (front, None) = AllByRecursion (λ row. ¬ (IsEnd row)) front × (rows ≡ front)
+
+pub with_row-Splits : (row : Fields) (rows : List Fields) (split : Split) → ¬ (IsEnd row) → Splits rows split → Splits (row ∷ rows) (with_row row split)
+with_row-Splits row rows (front, Some last) h s = ((h, s.0), s.1, (s.2.0, ap (λ rs. row ∷ rs) s.2.1))
+with_row-Splits row rows (front, None) h s = ((h, s.0), ap (λ rs. row ∷ rs) s.1)
+
+pub splits_one : (row : Fields) (rows : List Fields) (b : Bool) → is_end row ≡ b → Splits rows (split_at_end rows)
+    → Splits (row ∷ rows) (cond b ([], Some row) (with_row row (split_at_end rows)))
+splits_one row rows true h s = (tt, end_is row h, (rows, refl))
+splits_one row rows false h s = with_row-Splits row rows (split_at_end rows) (no_end row h) s
+
+pub splits : (rows : List Fields) → Splits rows (split_at_end rows)
+splits [] = (tt, refl)
+splits (row ∷ rows) = splits_one row rows (is_end row) refl (splits rows)
+
+-- ---- the header and the right end
+
+second_of : Fields → Text
+second_of [] = []
+second_of (word ∷ []) = []
+second_of (word ∷ count ∷ more) = count
+
+first_of : Fields → Text
+first_of [] = []
+first_of (word ∷ more) = word
+
+-- what the name in a header says of it
+abbrev pub NameSays : Fields → Option Text → Type 0
+NameSays header (Some name) = (header ≡ header_of name) × IsName name
+NameSays header None = (name : Text) → IsName name → header ≡ header_of name → ⊥
+
+pub header_says : (header : Fields) → NameSays header (name_in header)
+unfolding second_of first_of
+header_says [] = λ name named e. absurd (cc)
+header_says (word ∷ []) = λ name named e. absurd (cc)
+header_says (word ∷ count ∷ more ∷ fields) = λ name named e. absurd (cc)
+header_says (word ∷ name ∷ []) = at (bytes_eq word (codes "batch")) refl (is_batch_name name) refl
+  where
+    at : (b : Bool) → bytes_eq word (codes "batch") ≡ b → (n : Bool) → is_batch_name name ≡ n → NameSays (word ∷ name ∷ []) (cond b (cond n (Some name) None) None)
+    at true h true k = (ap (λ w. w ∷ name ∷ []) (sound word (codes "batch") h), k)
+    at true h false k = λ other named e. let q : name ≡ other = ap second_of e in absurd (cc)
+    at false h n k = λ other named e. let q = same word (codes "batch") (ap first_of e) in absurd (cc)
+
+-- what the test of an end record says of it
+abbrev pub RightSays : ℕ → Fields → Bool → Type 0
+RightSays n last true = last ≡ end_of n
+RightSays n last false = last ≡ end_of n → ⊥
+
+pub right_says : (n : ℕ) (last : Fields) → IsEnd last → RightSays n last (is_right n last)
+unfolding field_at second_of
+right_says n [] h = λ e. absurd (cc)
+right_says n (word ∷ []) h = λ e. absurd (cc)
+right_says n (word ∷ count ∷ more ∷ fields) h = λ e. absurd (cc)
+right_says n (word ∷ count ∷ []) h = at (bytes_eq count (decimal n)) refl
+  where
+    at : (b : Bool) → bytes_eq count (decimal n) ≡ b → RightSays n (word ∷ count ∷ []) b
+    at true k = ap (λ w. w ∷ count ∷ []) (some-inj h) ∙ ap (λ c. codes "end" ∷ c ∷ []) (sound count (decimal n) k)
+    at false k = λ e. let q = same count (decimal n) (ap second_of e) in absurd (cc)
+
+-- ---- the batch
+
+-- rows that are none of them an end record, settled
+pub settles : {B C : Type 0} (form : Fields → Read C) (step : RowStep B C) (name : Text) (base : B) (moments : List ℕ) (rows : List Fields)
+    → IsName name → AllByRecursion (λ row. ¬ (IsEnd row)) rows → length rows ≤ length moments
+    → AreSettled form step name base (take (length (formed_from form 1 rows)) moments) rows (settled form step name base moments rows).0 (settled form step name base moments rows).1
+settles {B = B} {C = C} form step name base moments rows named only h = record {
+  named = named;
+  rows_only = only;
+  answered = record {
+    replies = (in_turn step base calls).0;
+    one_each = length-taken (length formed) moments enough;
+    run = subst (λ cs. InTurn step base cs (in_turn step base calls).0 (in_turn step base calls).1) (sym (calls-take name moments formed)) (run_of step base calls);
+    all = refl;
+  };
+  each = length-woven form 1 rows (in_turn step base calls).0 (length-in_turn step base calls ∙ length-calls name moments formed enough);
+}
+  where
+    formed : List (ℕ × C)
+    formed = formed_from form 1 rows
+
+    calls : List (RowCall C)
+    calls = calls_of name moments formed
+
+    enough : length formed ≤ length moments
+    enough = let k = formed-few form 1 rows in omega (k, h, arith)
+
+-- a batch comes to this with the first of the moments
+abbrev pub Comes : {B C : Type 0} → (Fields → Read C) → RowStep B C → B → List ℕ → Text → Batch B → Type 0
+Comes form step base moments text batch =
+    (n : ℕ) × (IsAnswered form step base (take n moments) (Some text) batch ⊎ IsUnanswered base (take n moments) (Some text) batch)
+
+append-assoc : {X : Type 0} (xs ys zs : List X) → xs ++ (ys ++ zs) ≡ (xs ++ ys) ++ zs
+append-assoc [] ys zs = refl
+append-assoc (x ∷ xs) ys zs = ap (λ rs. x ∷ rs) (append-assoc xs ys zs)
+
+length-append_one : {X : Type 0} (xs : List X) (y : X) (zs : List X) → length (xs ++ y ∷ zs) ≡ suc (length xs + length zs)
+length-append_one [] y zs = omega arith
+length-append_one (x ∷ xs) y zs = let h = length-append_one xs y zs in omega (h, arith)
+
+-- the rows before an end record, right or wrong
+pub ends_with : {B C : Type 0} (form : Fields → Read C) (step : RowStep B C) (name : Text) (base : B) (moments : List ℕ) (text : Text) (rows : List Fields) (last : Fields) (more : List Fields)
+    → IsName name → AllByRecursion (λ row. ¬ (IsEnd row)) rows → IsEnd last → records default_config text ≡ header_of name ∷ (rows ++ last ∷ more) → length rows ≤ length moments
+    → Comes form step base moments text (ended_by form step name base moments rows last)
+ends_with {B = B} form step name base moments text rows last more named only end all h = at (is_right (length rows) last) (right_says (length rows) last end)
+  where
+    run : Answered B
+    run = settled form step name base moments rows
+
+    at : (b : Bool) → RightSays (length rows) last b → Comes form step base moments text (cond b (told_whole run) (told run BadEnd))
+    at true k = (
+      length (formed_from form 1 rows),
+      inl (record {
+        name = name;
+        rows = rows;
+        answers = run.0;
+        told = run.0;
+        settled = settles form step name base moments rows named only h;
+        ends = ((more, all ∙ ap (λ l. header_of name ∷ (rows ++ l ∷ more)) k ∙ ap (λ rs. header_of name ∷ rs) (append-assoc rows (end_of (length rows) ∷ []) more)), refl, refl);
+        counted = refl;
+      }),
+    )
+    at false k = (
+      length (formed_from form 1 rows),
+      inl (record {
+        name = name;
+        rows = rows;
+        answers = run.0;
+        told = run.0;
+        settled = settles form step name base moments rows named only h;
+        ends = ((last, end, k, (more, all ∙ ap (λ rs. header_of name ∷ rs) (append-assoc rows (last ∷ []) more))), refl, refl);
+        counted = refl;
+      }),
+    )
+
+-- all but the last of some rows, and the last
+pub last_of : {X : Type 0} (x : X) (xs : List X) → (last : X) × (x ∷ xs ≡ take (length xs) (x ∷ xs) ++ last ∷ [])
+last_of x [] = (x, refl)
+last_of x (y ∷ ys) = let k = last_of y ys in (k.0, ap (λ zs. x ∷ zs) k.1)
+
+pub All-front : {X : Type 0} (P : X → Type 0) (xs ys : List X) → AllByRecursion P (xs ++ ys) → AllByRecursion P xs
+All-front P [] ys h = tt
+All-front P (x ∷ xs) ys h = (h.0, All-front P xs ys h.1)
+
+pub All-back : {X : Type 0} (P : X → Type 0) (xs ys : List X) → AllByRecursion P (xs ++ ys) → AllByRecursion P ys
+All-back P [] ys h = h
+All-back P (x ∷ xs) ys h = All-back P xs ys h.1
+
+-- rows with no end record after them
+pub cuts_off : {B C : Type 0} (form : Fields → Read C) (step : RowStep B C) (name : Text) (base : B) (moments : List ℕ) (text : Text) (rows : List Fields)
+    → IsName name → AllByRecursion (λ row. ¬ (IsEnd row)) rows → records default_config text ≡ header_of name ∷ rows → length rows ≤ length moments
+    → Comes form step base moments text (cut_off form step name base moments rows)
+cuts_off form step name base moments text [] named only all h = (
+  length (formed_from form 1 []),
+  inl (record {
+    name = name;
+    rows = [];
+    answers = (settled form step name base moments []).0;
+    told = [];
+    settled = settles form step name base moments [] named only h;
+    ends = (inl (refl, all, refl), refl);
+    counted = refl;
+  }),
+)
+cuts_off {B = B} form step name base moments text (row ∷ rows) named only all h = (
+  length (formed_from form 1 front),
+  inl (record {
+    name = name;
+    rows = front;
+    answers = run.0;
+    told = run.0 ++ Refused BadText ∷ [];
+    settled = settles form step name base moments front named (All-front P front (end.0 ∷ []) only') enough;
+    ends = (inr (end.0, (All-back P front (end.0 ∷ []) only').0, all ∙ ap (λ rs. header_of name ∷ rs) end.1, refl), refl);
+    counted = refl;
+  }),
+)
+  where
+    P : Fields → Type 0
+    P r = ¬ (IsEnd r)
+
+    front : List Fields
+    front = take (length rows) (row ∷ rows)
+
+    run : Answered B
+    run = settled form step name base moments front
+
+    end : (last : Fields) × (row ∷ rows ≡ front ++ last ∷ [])
+    end = last_of row rows
+
+    only' : AllByRecursion P (front ++ end.0 ∷ [])
+    only' = subst (AllByRecursion P) end.1 only
+
+    enough : length front ≤ length moments
+    enough = let k = length-append_one front end.0 [] in let e = ap length end.1 in omega (k, e, h, arith)
+
+-- the records after a header
+pub comes_named : {B C : Type 0} (form : Fields → Read C) (step : RowStep B C) (name : Text) (base : B) (moments : List ℕ) (text : Text) (rest : List Fields) (split : Split)
+    → IsName name → records default_config text ≡ header_of name ∷ rest → length rest ≤ length moments → Splits rest split
+    → Comes form step base moments text (rows_of form step name base moments split)
+comes_named form step name base moments text rest (rows, Some last) named all h s =
+    ends_with form step name base moments text rows last s.2.0 named s.0 s.1 (all ∙ ap (λ rs. header_of name ∷ rs) s.2.1)
+    (let k = length-append_one rows last s.2.0 in let e = ap length s.2.1 in omega (k, e, h, arith))
+comes_named form step name base moments text rest (rows, None) named all h s =
+    cuts_off form step name base moments text rows named s.0 (all ∙ ap (λ rs. header_of name ∷ rs) s.1) (let e = ap length s.1 in omega (e, h, arith))
+
+-- a batch without a header
+pub comes_headless : {B C : Type 0} (form : Fields → Read C) (step : RowStep B C) (base : B) (moments : List ℕ) (text : Text)
+    → (AreAll (Some text) [] ⊎ ((first : Fields) × Begins (Some text) (first ∷ []) × ((name : Text) → IsName name → first ≡ header_of name → ⊥)))
+    → Comes form step base moments text (named form step None base moments [])
+comes_headless form step base moments text h =
+    (0, inr (record { headless = h; ending = refl; asked = refl; unchanged = refl; told = refl; counted = refl }))
+
+-- by the name in the header
+pub comes_headed : {B C : Type 0} (form : Fields → Read C) (step : RowStep B C) (base : B) (moments : List ℕ) (text : Text) (header : Fields) (rest : List Fields) (name : Option Text)
+    → records default_config text ≡ header ∷ rest → length rest ≤ length moments → NameSays header name
+    → Comes form step base moments text (named form step name base moments rest)
+comes_headed form step base moments text header rest (Some name) all h says =
+    comes_named form step name base moments text rest (split_at_end rest) says.1 (all ∙ ap (λ r. r ∷ rest) says.0) h (splits rest)
+comes_headed form step base moments text header rest None all h says =
+    comes_headless form step base moments text (inr (header, (rest, all), says))
+
+pub comes : {B C : Type 0} (form : Fields → Read C) (step : RowStep B C) (base : B) (moments : List ℕ) (text : Text) (all : List Fields)
+    → records default_config text ≡ all → length all ≤ length moments → Comes form step base moments text (batch_from form step base moments all)
+comes form step base moments text [] e h = comes_headless form step base moments text (inl e)
+comes form step base moments text (header ∷ rest) e h =
+    comes_headed form step base moments text header rest (name_in header) e (omega (h, arith)) (header_says header)
+
+-- the function gives the batch text, and takes the first of the moments
+pub computes : (base : Base) (moments : List ℕ) (input : Text) → length (records default_config (text_of input)) ≤ length moments
+    → (n : ℕ) × IsBatch base (take n moments) input (batch base moments input)
+unfolding batch
+computes base moments input h = comes parse_row row_step base moments (text_of input) (records default_config (text_of input)) refl h

@@ -1,0 +1,9 @@
+pub mod BatchLaws
+pub mod Steps
+pub mod KeyLaws
+pub mod RunLaws
+pub mod Reached
+pub mod NameLaws
+pub mod Sums
+pub mod Sides
+pub mod LotLaws

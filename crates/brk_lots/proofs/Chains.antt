@@ -1,0 +1,123 @@
+-- The history of a lot is a chain.
+use Rattle.std.proofs.Common.{◌≡◌, ◌≢◌, ℕ, zero, suc, ℤ, pos, negsuc, ◌-ℤ◌, ◌-◌, ◌≤◌, eqb, Bool, true, false, not, cond, List, [], ◌∷◌, length, refl, sym, ap, ◌∙◌, subst, arith, ◌⊎◌, inl, inr}
+use Rattle.std.specs.Prelude.{fold}
+use Rattle.std.specs.List.{AllByRecursion}
+use Rattle.std.proofs.lemmas.Int.{ints}
+use Rattle.std.proofs.lemmas.List.Sums.{sum_by-take-le, sum_by-take-drop}
+use Rattle.std.proofs.lemmas.Bool.{cases_eq, cases_Bool}
+use Rattle.brk_money.specs.declared.side.Side.{Side}
+use Rattle.brk_money.specs.declared.side.Side.TheVariants.{Buy, Sell}
+use Rattle.brk_model.specs.Lists.{is_zero}
+use Rattle.brk_model.specs.Shares.{Share, Deal, Touch, signed, replay, shares_after, opened_share, closed_count, lot_qty, is_change}
+use Rattle.brk_lots.specs.Deals.{IsLater, AreDeals}
+use Rattle.brk_lots.specs.Chains.{touch_by, rows_of, Falls, IsLife}
+use Rattle.brk_lots.proofs.Runs.{count_of, without}
+use Rattle.brk_lots.proofs.Changes.{all_from, shares_appended}
+use Rattle.brk_lots.proofs.Counts.{OneSide, lot_counts, differ_none, differ, owes}
+use Rattle.brk_lots.proofs.Plain.{after_is, lot_after}
+use Rattle.brk_lots.proofs.Books.{stays, side_after}
+
+count_without : (t : ℕ) (lifo : Bool) (k : ℕ) (us : List Share) → count_of t (without lifo k us) ≤ count_of t us
+count_without t true k us = sum_by-take-le (λ (u : Share). cond (eqb u.trade t) 1 0) us (length us - k)
+count_without t false k us = omega (arith, sum_by-take-drop (λ (u : Share). cond (eqb u.trade t) 1 0) us k)
+
+count_after : (t : ℕ) (d : Deal) (us : List Share) → d.trade ≢ t → count_of t (shares_after us d) ≤ count_of t us
+count_after t d us h =
+    let k = closed_count d us in
+    let e : count_of t (shares_after us d) ≡ count_of t (without d.is_lifo k us) =
+    ap (count_of t) (after_is d us) ∙ shares_appended t (d.qty - k) (without d.is_lifo k us) (opened_share d) h in
+    omega (arith, e, count_without t d.is_lifo k us)
+
+-- where a deal does not open the lot, it changes it where it changes its count
+change_by : (t : ℕ) (d : Deal) (s : Side) (us : List Share) → OneSide s us → d.trade ≢ t → is_change (touch_by t d us) ≡ not (is_zero (signed s (count_of t us) -ℤ signed s (count_of t (shares_after us d))))
+change_by t d s us one h =
+    ap (λ z. not (is_zero (z -ℤ lot_qty (shares_after us d) t))) (lot_counts s t us one)
+    ∙ ap (λ z. not (is_zero (signed s (count_of t us) -ℤ z))) (lot_after d s us t (stays s d us one) h)
+
+-- where no deal opens the lot again, it falls
+falls : (t : ℕ) (ds : List Deal) (s : Side) (us : List Share) → OneSide s us → AllByRecursion (λ d. d.trade ≢ t) ds → Falls (lot_qty us t) (rows_of t ds us) (lot_qty (fold shares_after us ds) t)
+falls t [] s us one h = refl
+falls t (d ∷ ds) s us one h = let a = side_after s d us one in step (falls t ds a.0 (shares_after us d) a.1 h.1) where
+  after : List Share
+  after = shares_after us d
+
+  to : ℤ
+  to = lot_qty (fold shares_after after ds) t
+
+  before_is : lot_qty us t ≡ signed s (count_of t us)
+  before_is = lot_counts s t us one
+
+  after_was : lot_qty after t ≡ signed s (count_of t after)
+  after_was = lot_after d s us t (stays s d us one) h.0
+
+  step : Falls (lot_qty after t) (rows_of t ds after) to → Falls (lot_qty us t) (rows_of t (d ∷ ds) us) to
+  step rest = elim (cases_eq (count_of t us) (count_of t after)) [
+    | inl e ↦
+        let same : lot_qty us t ≡ lot_qty after t = before_is ∙ ap (signed s) e ∙ sym after_was in
+        let no : is_change (touch_by t d us) ≡ false = change_by t d s us one h.0 ∙ ap (λ n. not (is_zero (signed s n -ℤ signed s (count_of t after)))) e ∙ ap not (differ_none s (count_of t after)) in
+        subst (λ b. Falls (lot_qty us t) (cond b (touch_by t d us ∷ rows_of t ds after) (rows_of t ds after)) to) (sym no) (subst (λ z. Falls z (rows_of t ds after) to) (sym same) rest)
+    | inr n ↦
+        let yes : is_change (touch_by t d us) ≡ true = change_by t d s us one h.0 ∙ ap not (differ s (count_of t us) (count_of t after) n) in
+        let fewer = count_after t d us h.0 in
+        subst (λ b. Falls (lot_qty us t) (cond b (touch_by t d us ∷ rows_of t ds after) (rows_of t ds after)) to) (sym yes)
+        (refl, (s, count_of t after, count_of t us, after_was, before_is, omega (arith, n, fewer)), rest)
+  ]
+
+signed_none : (s : Side) (n : ℕ) → signed s n ≡ pos 0 → n ≡ 0
+signed_none Buy n e = omega (arith, ints, e)
+signed_none Sell n e = omega (arith, ints, e, owes n)
+
+none_signed : (s : Side) → signed s 0 ≡ pos 0
+none_signed Buy = refl
+none_signed Sell = refl
+
+from_none : (rows : List Touch) (to : ℤ) → Falls (pos 0) rows to → IsLife rows to
+from_none [] to h = h
+from_none (row ∷ rows) to h =
+    let near = h.1 in
+    let e : near.2 ≡ 0 = signed_none near.0 near.2 (sym near.4 ∙ h.0) in
+    let less = near.5 in
+    absurd (omega (arith, e, less))
+
+zero_is : (z : ℤ) → is_zero z ≡ true → z ≡ pos 0
+zero_is (pos zero) e = refl
+zero_is (pos (suc n)) e = cc
+zero_is (negsuc n) e = cc
+
+-- from no share of it, a lot has a life
+life : (t : ℕ) (ds : List Deal) (s : Side) (us : List Share) → OneSide s us → AreDeals ds → count_of t us ≡ 0 → IsLife (rows_of t ds us) (lot_qty (fold shares_after us ds) t)
+life t [] s us one a z = sym (lot_counts s t us one ∙ ap (signed s) z ∙ none_signed s)
+life t (d ∷ ds) s us one a z = let b = side_after s d us one in step b.0 b.1 (cases_eq d.trade t) (life t ds b.0 (shares_after us d) b.1 a.1) where
+  after : List Share
+  after = shares_after us d
+
+  to : ℤ
+  to = lot_qty (fold shares_after after ds) t
+
+  rows : List Touch
+  rows = rows_of t ds after
+
+  none : lot_qty us t ≡ pos 0
+  none = lot_counts s t us one ∙ ap (signed s) z ∙ none_signed s
+
+  opened : (b : Bool) → is_change (touch_by t d us) ≡ b → Falls (lot_qty after t) rows to → IsLife (cond b (touch_by t d us ∷ rows) rows) to
+  opened true e fall = (none, fall)
+  opened false e fall =
+      let same : is_zero (lot_qty us t -ℤ lot_qty after t) ≡ true = elim (cases_Bool (is_zero (lot_qty us t -ℤ lot_qty after t))) [ inl y ↦ y | inr n ↦ let f : true ≡ false = sym (ap not n) ∙ e in cc ] in
+      let d0 : lot_qty us t -ℤ lot_qty after t ≡ pos 0 = zero_is (lot_qty us t -ℤ lot_qty after t) same in
+      let e0 : lot_qty after t ≡ pos 0 = omega (arith, ints, d0, none) in
+      from_none rows to (subst (λ y. Falls y rows to) e0 fall)
+
+  step : (r : Side) → OneSide r after → (d.trade ≡ t) ⊎ (d.trade ≡ t → ⊥) → (count_of t after ≡ 0 → IsLife rows to) → IsLife (rows_of t (d ∷ ds) us) to
+  step r side (inl own) rest =
+      let others : AllByRecursion (λ e. e.trade ≢ t) ds = all_from (IsLater d) (IsLater d) (λ e. e.trade ≢ t) (λ e l m x. l.0 (own ∙ sym x)) ds a.0 a.0 in
+      opened (is_change (touch_by t d us)) refl (falls t ds r after side others)
+  step r side (inr other) rest =
+      let fewer = count_after t d us other in
+      let zero_after : count_of t after ≡ 0 = omega (arith, fewer, z) in
+      let no : is_change (touch_by t d us) ≡ false =
+      change_by t d s us one other ∙ ap (λ n. not (is_zero (signed s n -ℤ signed s (count_of t after)))) (z ∙ sym zero_after) ∙ ap not (differ_none s (count_of t after)) in
+      subst (λ b. IsLife (cond b (touch_by t d us ∷ rows) rows) to) (sym no) (rest zero_after)
+
+pub lots_live : (ds : List Deal) (t : ℕ) → AreDeals ds → IsLife (rows_of t ds []) (lot_qty (replay ds) t)
+lots_live ds t a = life t ds Buy [] tt a refl

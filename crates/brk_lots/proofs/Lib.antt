@@ -1,0 +1,14 @@
+pub mod Runs
+pub mod Walks
+pub mod Changes
+pub mod Ends
+pub mod Counts
+pub mod Plain
+pub mod Deals
+pub mod Upon
+pub mod Left
+pub mod Books
+pub mod Chains
+pub mod History
+pub mod Cuts
+pub mod Order

@@ -1,0 +1,32 @@
+-- The history of one lot.
+use Rattle.std.specs.Prelude.{◌≡◌, ℕ, ◌<◌, ℤ, pos, if◌then◌else◌, List, [], ◌∷◌}
+use Rattle.brk_money.specs.declared.side.Side.{Side}
+use Rattle.brk_model.specs.Shares.{Share, Deal, Lot, Touch, signed, shares_after, lot_qty, is_change}
+
+-- what a deal upon shares does to the lot of a trade
+abbrev pub touch_by : ℕ → Deal → List Share → Touch
+touch_by trade d us = record { lot = trade; before = lot_qty us trade; after = lot_qty (shares_after us d) trade }
+
+-- the history of the lot of a trade: what each deal that changes it does
+abbrev pub rows_of : ℕ → List Deal → List Share → List Touch
+rows_of trade [] us = []
+rows_of trade (d ∷ ds) us =
+    if is_change (touch_by trade d us) then touch_by trade d us ∷ rows_of trade ds (shares_after us d) else rows_of trade ds (shares_after us d)
+
+-- fewer shares of the same side
+abbrev pub IsNearer : ℤ → ℤ → Type 0
+IsNearer after before = (side : Side) × (m : ℕ) × (n : ℕ) × (after ≡ signed side m) × (before ≡ signed side n) × (m < n)
+
+-- each row begins where the one before ended, and comes nearer to 0
+abbrev pub Falls : ℤ → List Touch → ℤ → Type 0
+Falls from [] to = from ≡ to
+Falls from (row ∷ rows) to = (row.before ≡ from) × IsNearer row.after row.before × Falls row.after rows to
+
+-- a lot's life: a row from 0 to what is opened, and then a fall to what is there in the end; or nothing
+abbrev pub IsLife : List Touch → ℤ → Type 0
+IsLife [] to = pos 0 ≡ to
+IsLife (row ∷ rows) to = (row.before ≡ pos 0) × Falls row.after rows to
+
+-- the row of a lot that is opened
+abbrev pub opening_touch : Lot → Touch
+opening_touch l = record { lot = l.trade; before = pos 0; after = l.qty }

@@ -1,0 +1,55 @@
+-- Closing lot by lot, for the contracts of private helpers.
+use Rattle.std.specs.Prelude.{ℕ, ◌+◌, ◌*◌, ◌-◌, min, nat_eq, if◌then◌else◌, List, [], ◌∷◌, length, ℤ, pos}
+use Rattle.std.specs.List.{flat_map}
+use Rattle.std.specs.Ordering.{int_eq}
+use Rattle.std.specs.Int.RustNames.{unsigned_abs}
+use Rattle.brk_money.specs.Kinds.{same_side}
+use Rattle.brk_money.specs.declared.side.Side.{Side}
+use Rattle.brk_money.specs.declared.side.Side.TheVariants.{Buy, Sell}
+use Rattle.brk_model.specs.Shares.{signed}
+use Rattle.brk_lots.specs.declared.lot.Lot.{Lot}
+use Rattle.brk_lots.specs.declared.lot.Touch.{Touch}
+use Rattle.brk_lots.specs.Lots.{side_of_qty, shares_of}
+
+-- how many shares of lots a trade of q shares of a side closes: none of its own side, else as many as there are
+abbrev pub met : Side → ℕ → List Lot → ℕ
+met side q [] = 0
+met side q (l ∷ ls) = if same_side (side_of_qty l.qty) side then 0 else min q (length (shares_of (l ∷ ls)))
+
+-- the rows of the lots that k shares from the front touch
+abbrev pub rows_taken : ℕ → List Lot → List Touch
+rows_taken k [] = []
+rows_taken k (l ∷ ls) =
+    if nat_eq k 0 then []
+    else record { lot = l.trade; before = l.qty; after = signed (side_of_qty l.qty) (unsigned_abs l.qty - k) } ∷ rows_taken (k - unsigned_abs l.qty) ls
+
+-- what those shares cost
+abbrev pub paid : ℕ → List Lot → ℕ
+paid k [] = 0
+paid k (l ∷ ls) = min k (unsigned_abs l.qty) * l.price + paid (k - unsigned_abs l.qty) ls
+
+-- the value of a trade's own price and that of the closed shares' prices, as what was bought and what was sold
+abbrev pub bought : Side → ℕ → ℕ → ℕ
+bought Buy traded opened = traded
+bought Sell traded opened = opened
+
+abbrev pub sold : Side → ℕ → ℕ → ℕ
+sold Buy traded opened = opened
+sold Sell traded opened = traded
+
+-- a lot's quantity after the rows, which leave a lot that they do not name
+abbrev pub qty_after : List Touch → Lot → ℤ
+qty_after [] l = l.qty
+qty_after (t ∷ ts) l = if nat_eq t.lot l.trade then t.after else qty_after ts l
+
+-- a lot with another quantity, which is none where that is 0
+abbrev pub smaller : ℤ → Lot → List Lot
+smaller qty l = if int_eq qty (pos 0) then [] else record { trade = l.trade; price = l.price; qty = qty; stamp = l.stamp } ∷ []
+
+-- what the rows leave of a lot
+abbrev pub left_of : List Touch → Lot → List Lot
+left_of ts l = smaller (qty_after ts l) l
+
+-- what the rows leave of lots
+abbrev pub lots_left : List Touch → List Lot → List Lot
+lots_left ts ls = flat_map (left_of ts) ls

@@ -1,0 +1,47 @@
+ghost use Rattle.std.specs.Prelude.{◌≡◌, List, [], ◌∷◌, OnErr, ℕ};
+ghost use Rattle.brk_lots.specs.Lots.{from_end};
+
+use crate::lot::Lot;
+use crate::source::LotSource;
+use brk_money::Fault;
+
+/// The lots of a position from one end. It takes no memory and never faults.
+#[derive(Drop)]
+pub struct PositionEnd<'a> {
+    lots: &'a [Lot],
+    lifo: bool,
+}
+
+impl<'a> PositionEnd<'a> {
+    pub(crate) fn new(lots: &'a [Lot], lifo: bool) -> PositionEnd<'a>
+        ensures { ⟦<PositionEnd<'static> as LotSource>⟧.rest result ≡ from_end lifo lots.now }
+    {
+        PositionEnd { lots, lifo }
+    }
+}
+
+impl LotSource for PositionEnd<'_> {
+    ghost rest = { λ end. from_end end.lifo end.lots.now };
+
+    ghost asked = { λ _. 0 };
+
+    ghost faulted = { λ _. 0 };
+
+    ghost fails = { λ _ _ _. ⊥ };
+
+    fn next(&mut self) -> Result<Option<Lot>, Fault> {
+        if self.lifo {
+            let [rest @ .., last] = self.lots else {
+                return Ok(None);
+            };
+            self.lots = rest;
+            Ok(Some(*last))
+        } else {
+            let [first, rest @ ..] = self.lots else {
+                return Ok(None);
+            };
+            self.lots = rest;
+            Ok(Some(*first))
+        }
+    }
+}

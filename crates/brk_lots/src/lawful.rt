@@ -1,0 +1,89 @@
+ghost use Rattle.std.specs.Prelude.{◌≡◌, ◌≢◌, ◌<◌, IsTrue, IsPermutation, ◌↔◌};
+ghost use Rattle.std.specs.List.{All};
+ghost use Rattle.std.specs.List.Sorted.{IsNonDecreasingBy};
+ghost use Rattle.brk_lots.specs.Order.{Climbs, Differ, First, IsHigher};
+ghost use Rattle.brk_lots.specs.Position.{IsPosition};
+
+use crate::lot::{Lot, is_same};
+use brk_money::{Id, Stamp};
+
+// Whether the first of some lots is a later one of a lot's side.
+fn next_rises(lot: &Lot, rest: &[Lot]) -> bool
+    ensures { IsTrue result ↔ First (IsHigher lot.now) rest.now }
+{
+    match rest {
+        [] => true,
+        [next, ..] => is_same(next.side(), lot.side()) && lot.stamp.get() < next.stamp.get(),
+    }
+}
+
+// Whether lots have one side, none is of 0 shares, and their stamps rise.
+fn climbs(lots: &[Lot]) -> bool
+    ensures { IsTrue result ↔ Climbs lots.now }
+{
+    for (i, lot) in lots.iter().enumerate() {
+        if lot.qty == 0 || !next_rises(lot, &lots[i + 1..]) {
+            return false;
+        }
+    }
+    true
+}
+
+// Whether the first of some lots is not a trade's.
+fn next_differs(trade: Id, rest: &[Lot]) -> bool
+    ensures { IsTrue result ↔ First (λ l. l.trade ≢ trade) rest.now }
+{
+    match rest {
+        [] => true,
+        [next, ..] => next.trade != trade,
+    }
+}
+
+// Whether no two neighbours are of one trade.
+fn differ(lots: &[Lot]) -> bool
+    ensures { IsTrue result ↔ Differ lots.now }
+{
+    for (i, lot) in lots.iter().enumerate() {
+        if !next_differs(lot.trade, &lots[i + 1..]) {
+            return false;
+        }
+    }
+    true
+}
+
+fn sort_by_trade(lots: &mut [Lot])
+    ensures permutation { IsPermutation lots.old lots.new }
+    ensures order { IsNonDecreasingBy (λ l. l.trade) lots.new }
+{
+    lots.sort_unstable_by_key(|lot| lot.trade.get());
+}
+
+fn sort_by_stamp(lots: &mut [Lot])
+    ensures permutation { IsPermutation lots.old lots.new }
+    ensures order { IsNonDecreasingBy (λ l. l.stamp) lots.new }
+{
+    lots.sort_unstable_by_key(|lot| lot.stamp.get().unsigned_abs());
+}
+
+// Whether lots are those of a position. They are sorted by trade, so that each has those of its trade beside it, and
+// then back: rising stamps leave one order alone.
+pub(crate) fn is_position(lots: &mut [Lot]) -> bool
+    ensures lots { lots.new ≡ lots.old }
+    ensures lawful { IsTrue result ↔ IsPosition lots.old }
+{
+    if !climbs(lots) {
+        return false;
+    }
+    sort_by_trade(lots);
+    let distinct = differ(lots);
+    sort_by_stamp(lots);
+    distinct
+}
+
+// Whether all lots are older than a trade, and of other trades.
+pub(crate) fn all_older(lots: &[Lot], trade: Id, stamp: Stamp) -> bool
+    ensures { IsTrue result ↔ All (λ l. (l.trade ≢ trade) × (l.stamp < stamp)) lots.now }
+{
+    lots.iter()
+        .all(|l| l.trade != trade && l.stamp.get() < stamp.get())
+}

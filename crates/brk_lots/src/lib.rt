@@ -1,0 +1,25 @@
+//! Lots of a position, and how a trade closes them first in first out or last in first out (Trade-Result).
+#![tactic(auto)]
+
+pub mod closing;
+pub mod deal;
+pub mod end;
+mod lawful;
+pub mod laws;
+pub mod lot;
+pub mod position;
+mod remaining;
+pub mod replay;
+pub mod source;
+
+pub use closing::{Closing, close};
+pub use deal::Deal;
+pub use end::PositionEnd;
+pub use lot::{Lot, Touch};
+pub use position::Position;
+pub use source::LotSource;
+
+#[cfg(test)]
+mod slow_tests;
+#[cfg(test)]
+mod tests;

@@ -1,0 +1,89 @@
+ghost use Rattle.std.specs.Prelude.{◌≡◌, ◌≤◌, ◌-◌};
+ghost use Rattle.std.specs.Int.RustNames.{unsigned_abs};
+ghost use Rattle.brk_money.specs.Kinds.{same_side};
+ghost use Rattle.brk_model.specs.Shares.{signed};
+ghost use Rattle.brk_lots.specs.Lots.{side_of_qty};
+
+use brk_money::{Id, Price, Side, Stamp};
+
+/// What is left of the shares that one trade opened (HOLDING): bought where the quantity is above 0, sold short where it
+/// is below.
+#[derive(Clone, Copy, Debug, PartialEq, Eq)]
+pub struct Lot {
+    /// The trade that opened it.
+    pub trade: Id,
+    /// What it paid or was paid for each share, in cents.
+    pub price: Price,
+    pub qty: i64,
+    /// When the trade was completed.
+    pub stamp: Stamp,
+}
+
+/// A lot that a trade made smaller or closed (HOLDING_HISTORY): its quantity before and after.
+#[derive(Clone, Copy, Debug, PartialEq, Eq)]
+pub struct Touch {
+    /// The trade that opened the lot.
+    pub lot: Id,
+    pub before: i64,
+    pub after: i64,
+}
+
+impl Lot {
+    /// The side that opened it.
+    pub fn side(&self) -> Side
+        ensures { result ≡ side_of_qty self.now.qty }
+    {
+        if self.qty < 0 { Side::Sell } else { Side::Buy }
+    }
+
+    /// How many shares it has.
+    pub fn size(&self) -> u64
+        ensures { result ≡ unsigned_abs self.now.qty }
+    {
+        self.qty.unsigned_abs()
+    }
+
+    // Its quantity without some of its shares.
+    fn less(&self, shares: u32) -> i64
+        requires { shares ≤ unsigned_abs self.now.qty }
+        ensures { result ≡ signed (side_of_qty self.now.qty) (unsigned_abs self.now.qty - shares) }
+    {
+        if self.qty < 0 {
+            self.qty + i64::from(shares)
+        } else {
+            self.qty - i64::from(shares)
+        }
+    }
+
+    // The row of the lot without some of its shares.
+    pub(crate) fn touch(&self, shares: u32) -> Touch
+        requires { shares ≤ unsigned_abs self.now.qty }
+        ensures { result ≡ record { lot = self.now.trade; before = self.now.qty; after = signed (side_of_qty self.now.qty) (unsigned_abs self.now.qty - shares) } }
+    {
+        Touch {
+            lot: self.trade,
+            before: self.qty,
+            after: self.less(shares),
+        }
+    }
+}
+
+// Whether the two sides are the same.
+pub(crate) fn is_same(a: Side, b: Side) -> bool
+    ensures { result ≡ same_side a b }
+{
+    match (a, b) {
+        (Side::Buy, Side::Buy) | (Side::Sell, Side::Sell) => true,
+        _ => false,
+    }
+}
+
+// So many shares of a side, as a signed number.
+pub(crate) fn signed_qty(side: Side, shares: u32) -> i64
+    ensures { result ≡ signed side shares }
+{
+    match side {
+        Side::Buy => i64::from(shares),
+        Side::Sell => -i64::from(shares),
+    }
+}

@@ -1,0 +1,98 @@
+ghost use Rattle.std.specs.Prelude.{◌≡◌, ℕ, List, [], map, IsTrue, ◌↔◌, OnOk, IfErr, MatchOption};
+ghost use Rattle.brk_model.specs.Shares as model;
+ghost use Rattle.brk_lots.specs.Lots.{shares_of, from_end, plain_lot};
+ghost use Rattle.brk_lots.specs.Position.{IsPosition, IsWalk, IsNew, AreOlder};
+ghost use Rattle.brk_lots.specs.Closing.{Applies};
+
+use crate::closing::Closing;
+use crate::end::PositionEnd;
+use crate::lawful::{all_older, is_position};
+use crate::lot::Lot;
+use crate::remaining::remaining;
+use crate::source::LotSource;
+use brk_money::{Fault, Id, Stamp};
+use std::alloc::Global;
+use std::marker::Model;
+
+/// The lots of one account and security, the oldest first. They have one side, none is of 0 shares, no two are of one
+/// trade, and their stamps rise.
+#[derive(Debug, Drop)]
+pub struct Position {
+    lots: Vec<Lot>,
+}
+
+impl Model for Position {
+    ghost use Rattle.std.specs.Prelude.{List};
+    ghost use Rattle.brk_lots.specs.declared.lot.Lot.{Lot};
+
+    ghost Value = { List Lot };
+
+    ghost use Rattle.brk_lots.specs.Position.{IsPosition};
+
+    ghost view = { λ a. a.lots.items };
+
+    ghost invariant = { λ a. IsPosition a.lots.items };
+}
+
+impl Position {
+    /// The position without lots. It takes no memory.
+    pub fn new(alloc: Global) -> Position
+        ensures { result ≡ [] }
+    {
+        Position {
+            lots: Vec::new(alloc),
+        }
+    }
+
+    /// The position of these lots, or none where they are not those of a position. It takes no memory.
+    pub fn from_lots(mut lots: Vec<Lot>) -> Option<Position>
+        ensures { MatchOption result (IsPosition lots.items → ⊥) (λ position. (position ≡ lots.items) × IsPosition lots.items) }
+    {
+        if is_position(&mut lots) {
+            Some(Position { lots })
+        } else {
+            None
+        }
+    }
+
+    /// The lots, the oldest first.
+    pub fn lots(&self) -> &[Lot]
+        ensures lots { result.now ≡ self.now }
+        ensures lawful { IsPosition self.now }
+        ensures walk { IsWalk self.now }
+    {
+        &self.lots
+    }
+
+    /// Whether a trade of this id and moment may come upon it: it opened none of the lots, and is later than all.
+    pub fn takes(&self, trade: Id, stamp: Stamp) -> bool
+        ensures { IsTrue result ↔ (IsNew trade self.now × AreOlder stamp self.now) }
+    {
+        all_older(&self.lots, trade, stamp)
+    }
+
+    /// Books a closing that a trade made of this position, from whichever end it took. Where memory is refused the
+    /// position is as it was.
+    pub fn apply(&mut self, alloc: Global, closing: &Closing) -> Result<(), Fault>
+        requires { (d : model.Deal) × Applies d self.old closing.now }
+        ensures shares { OnOk result ((d : model.Deal) → Applies d self.old closing.now → shares_of self.new ≡ model.shares_after (shares_of self.old) d) }
+        ensures lots { OnOk result ((d : model.Deal) → Applies d self.old closing.now → map plain_lot self.new ≡ model.lots (model.shares_after (shares_of self.old) d)) }
+        ensures err { IfErr result (λ fault. (fault ≡ Fault.Memory) × (self.new ≡ self.old)) }
+    {
+        let mut lots = remaining(alloc, &self.lots, &closing.touched)?;
+        if let Some(lot) = closing.opened {
+            lots.push(lot)?;
+        }
+        self.lots = lots;
+        Ok(())
+    }
+
+    /// The lots from the back for last in first out, else from the front. It takes no memory.
+    pub fn from_end(&self, lifo: bool) -> PositionEnd<'_>
+        ensures rest { ⟦<PositionEnd<'static> as LotSource>⟧.rest result ≡ from_end lifo self.now }
+        ensures walk { IsWalk (from_end lifo self.now) }
+        ensures fresh { (trade : ℕ) → IsNew trade self.now → IsNew trade (from_end lifo self.now) }
+    {
+        PositionEnd::new(&self.lots, lifo)
+    }
+}

@@ -1,0 +1,69 @@
+-- The base that the rows of a database give.
+use Rattle.std.specs.Prelude.{ℕ, ◌==◌, List, [], map, find, bytes_eq}
+use Rattle.std.specs.Option.{option_map_or}
+use Rattle.brk_money.specs.Spelling.{Text}
+use Rattle.brk_model.specs.Lists.{sort_by_key}
+use Rattle.brk_model.specs.Records.{Account, Security, Mark, Trade}
+use Rattle.brk_model.specs.Base.{Base}
+use Rattle.brk_model.specs.Tables.{Tables, AccountRow, SecurityRow, LastTradeRow, TradeRow}
+use Rattle.brk_model.specs.Joins.{history_in}
+
+-- an account without its balance
+abbrev pub account_of_row : AccountRow → Account
+account_of_row a = record { id = a.id; customer = a.customer; broker = a.broker; name = a.name; tax_status = a.tax_status; opening = a.opening }
+
+-- the statuses of a trade, by rising stamp
+abbrev pub marks_in : Tables → ℕ → List Mark
+marks_in tables trade = sort_by_key (λ m. m.stamp) (map (λ h. record { stamp = h.stamp; status = h.status }) (history_in tables trade))
+
+-- a trade with its statuses, and with the words of its settlement and its cash row
+abbrev pub trade_of_row : Tables → TradeRow → Trade
+trade_of_row tables t = record {
+  id = t.id;
+  account = t.account;
+  kind = t.kind;
+  symbol = t.symbol;
+  qty = t.qty;
+  bid = t.bid;
+  is_cash = t.is_cash;
+  is_lifo = t.is_lifo;
+  executor = t.executor;
+  charge = t.charge;
+  commission = t.commission;
+  tax = t.tax;
+  price = t.price;
+  marks = marks_in tables t.id;
+  cash_type = option_map_or (λ s. s.cash_type) (find (λ s. s.trade == t.id) tables.settlements) [];
+  cash_name = option_map_or (λ c. c.name) (find (λ c. c.trade == t.id) tables.cash) [];
+}
+
+-- a security of two rows
+abbrev pub security_of_rows : SecurityRow → LastTradeRow → Security
+security_of_rows s l =
+    record { symbol = s.symbol; name = s.name; exchange = s.exchange; sector = s.sector; last_price = l.price; volume = l.volume; moment = l.stamp }
+
+-- what stands in for a last trade that is not there
+abbrev pub no_last_trade : Text → LastTradeRow
+no_last_trade symbol = record { symbol = symbol; stamp = 0; price = 0; volume = 0 }
+
+-- the security of a row, with its last trade
+abbrev pub security_of_row : Tables → SecurityRow → Security
+security_of_row tables s =
+    option_map_or (security_of_rows s) (find (λ l. bytes_eq l.symbol s.symbol) tables.last_trades) (security_of_rows s (no_last_trade s.symbol))
+
+-- the base that the columns of a base give
+unfoldable pub base_of : Tables → Base
+base_of t = record {
+  brokers = map (λ b. record { id = b.id; name = b.name }) t.brokers;
+  customers = t.customers;
+  accounts = map account_of_row t.accounts;
+  permissions = t.permissions;
+  securities = map (security_of_row t) t.securities;
+  charges = t.charges;
+  bands = t.bands;
+  tax_rates = t.tax_rates;
+  customer_taxes = t.customer_taxes;
+  trades = map (trade_of_row t) t.trades;
+  kept = t.kept;
+  last = t.last;
+}

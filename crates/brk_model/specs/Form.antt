@@ -1,0 +1,221 @@
+-- The form of a database's rows: limits, references, keys.
+use Rattle.std.specs.Prelude.{ℕ, ◌+◌, Bool, true, false, not, ◌&&◌, ◌||◌, ◌==◌, nat_le, if◌then◌else◌, List, [], ◌∷◌, map, filter, length, is_some, is_none, ℤ, nat_abs, codes, bytes_eq}
+use Rattle.std.specs.List.{list_any, list_all, range_with_len}
+use Rattle.std.specs.Option.{option_map_or}
+use Rattle.brk_money.specs.Spelling.{Text}
+use Rattle.brk_money.specs.Moments.{day_of, last_day, last_stamp}
+use Rattle.brk_money.specs.Kinds.{same_status}
+use Rattle.brk_money.specs.declared.status.Status.TheVariants.{Completed}
+use Rattle.brk_model.specs.Limits.{greatest_qty, greatest_price, greatest_charge, greatest_rate, greatest_tax_rate, greatest_amount, greatest_summary, greatest_id, most_accounts}
+use Rattle.brk_model.specs.Records.{Customer, Permission, Charge, Band, TaxRate, CustomerTax, Kept}
+use Rattle.brk_model.specs.Base.{rates_of}
+use Rattle.brk_model.specs.Tables.{Tables, BrokerRow, AccountRow, SecurityRow, LastTradeRow, TradeRow, HistoryRow, RequestRow, HoldingRow, SummaryRow, HoldingHistoryRow, SettlementRow, CashRow}
+use Rattle.brk_model.specs.Derived.{settlement_days}
+use Rattle.brk_model.specs.Results.{cash_text}
+use Rattle.brk_model.specs.Tests.{bands_meet}
+use Rattle.brk_model.specs.Forms.{is_name, is_tax_id, is_symbol, is_exchange, is_acl, is_batch_name}
+use Rattle.brk_model.specs.Joins.{history_in, trade_in, security_in, account_in}
+use Rattle.brk_model.specs.Adopted.{base_of, trade_of_row}
+use Rattle.brk_model.specs.Keys.{KeyPart, key_before, kept_key, broker_key, customer_key, account_key, permission_key, security_key, last_trade_key, charge_key, band_key, tax_rate_key, customer_tax_key, trade_key, history_key, request_key, holding_key, summary_key, holding_history_key, settlement_key, cash_key}
+
+-- an id
+abbrev pub is_id : ℕ → Bool
+is_id n = nat_le 1 n && nat_le n greatest_id
+
+-- a quantity
+abbrev pub is_qty : ℕ → Bool
+is_qty n = nat_le 1 n && nat_le n greatest_qty
+
+-- a price
+abbrev pub is_price : ℕ → Bool
+is_price n = nat_le 1 n && nat_le n greatest_price
+
+-- a tier
+abbrev pub is_tier : ℕ → Bool
+is_tier n = nat_le 1 n && nat_le n 3
+
+-- an amount of cents
+abbrev pub is_amount : ℤ → Bool
+is_amount z = nat_le (nat_abs z) greatest_amount
+
+-- a stamp that is not after the last one
+abbrev pub is_stamp : Tables → ℕ → Bool
+is_stamp tables stamp = option_map_or (λ last. nat_le stamp last) tables.last false
+
+-- a trade is there
+abbrev pub has_trade : Tables → ℕ → Bool
+has_trade tables id = is_some (trade_in tables id)
+
+-- an account is there
+abbrev pub has_account : Tables → ℕ → Bool
+has_account tables id = is_some (account_in tables id)
+
+-- a security is there
+abbrev pub has_security : Tables → Text → Bool
+has_security tables symbol = is_some (security_in tables symbol)
+
+-- a customer is there
+abbrev pub has_customer : Tables → ℕ → Bool
+has_customer tables id = list_any (λ c. c.id == id) tables.customers
+
+-- a broker is there
+abbrev pub has_broker : Tables → ℕ → Bool
+has_broker tables id = list_any (λ b. b.id == id) tables.brokers
+
+-- the columns of KEPT have their forms: the form of a key
+abbrev pub kept_form : Kept → Bool
+kept_form k = is_batch_name k.key.batch && is_id k.key.row
+
+-- the columns of BROKER have their forms
+abbrev pub broker_form : BrokerRow → Bool
+broker_form b = is_id b.id && is_name b.name && nat_le b.commissions greatest_amount
+
+-- the columns of CUSTOMER have their forms, and what a row names is there
+abbrev pub customer_form : Customer → Bool
+customer_form c = is_id c.id && is_tier c.tier && is_tax_id c.tax_id && is_name c.last_name && is_name c.first_name
+
+-- the columns of CUSTOMER_ACCOUNT have their forms, and what a row names is there
+abbrev pub account_form : Tables → AccountRow → Bool
+account_form t a =
+    is_id a.id && has_customer t a.customer && has_broker t a.broker && is_name a.name && is_amount a.opening && is_amount a.balance
+
+-- the columns of ACCOUNT_PERMISSION have their forms, and what a row names is there
+abbrev pub permission_form : Tables → Permission → Bool
+permission_form t p = has_account t p.account && is_acl p.acl && is_tax_id p.tax_id && is_name p.last_name && is_name p.first_name
+
+-- the columns of SECURITY have their forms: it has its last trade
+abbrev pub security_form : Tables → SecurityRow → Bool
+security_form t s =
+    is_symbol s.symbol && is_name s.name && is_exchange s.exchange && is_name s.sector && list_any (λ l. bytes_eq l.symbol s.symbol) t.last_trades
+
+-- the columns of LAST_TRADE have their forms, and what a row names is there
+abbrev pub last_trade_form : Tables → LastTradeRow → Bool
+last_trade_form t l = has_security t l.symbol && is_stamp t l.stamp && is_price l.price && nat_le l.volume greatest_amount
+
+-- the columns of CHARGE have their forms, and what a row names is there
+abbrev pub charge_form : Charge → Bool
+charge_form c = is_tier c.tier && nat_le c.amount greatest_charge
+
+-- the columns of COMMISSION_RATE have their forms, and what a row names is there
+abbrev pub band_form : Band → Bool
+band_form b = is_tier b.tier && is_exchange b.exchange && is_qty b.from_qty && is_qty b.to_qty && nat_le b.from_qty b.to_qty && nat_le b.rate greatest_rate
+
+-- the columns of TAXRATE have their forms, and what a row names is there
+abbrev pub tax_rate_form : TaxRate → Bool
+tax_rate_form r = is_id r.id && is_name r.name && nat_le r.rate greatest_tax_rate
+
+-- the columns of CUSTOMER_TAXRATE have their forms, and what a row names is there
+abbrev pub customer_tax_form : Tables → CustomerTax → Bool
+customer_tax_form t x = has_customer t x.customer && list_any (λ r. r.id == x.tax) t.tax_rates
+
+-- a trade has a price just where a row of its history says that it is completed
+abbrev pub price_form : Tables → TradeRow → Bool
+price_form t row =
+    if list_any (λ h. same_status h.status Completed) (history_in t row.id) then option_map_or is_price row.price false else is_none row.price
+
+-- the columns of TRADE have their forms, and what a row names is there
+abbrev pub trade_form : Tables → TradeRow → Bool
+trade_form t row =
+    is_stamp t row.stamp && has_security t row.symbol && is_qty row.qty && is_price row.bid && has_account t row.account && price_form t row
+    && nat_le row.charge greatest_charge && nat_le row.commission greatest_amount && nat_le row.tax greatest_amount
+
+-- the columns of TRADE_HISTORY have their forms: a completion leaves its due day within the calendar
+abbrev pub history_form : Tables → HistoryRow → Bool
+history_form t h = has_trade t h.trade && is_stamp t h.stamp && (not (same_status h.status Completed) || nat_le (day_of h.stamp + settlement_days) last_day)
+
+-- the columns of TRADE_REQUEST have their forms, and what a row names is there
+abbrev pub request_form : Tables → RequestRow → Bool
+request_form t r = has_trade t r.trade && has_security t r.symbol && is_qty r.qty && is_price r.bid && has_broker t r.broker
+
+-- the columns of HOLDING have their forms, and what a row names is there
+abbrev pub holding_form : Tables → HoldingRow → Bool
+holding_form t h = has_trade t h.trade && has_account t h.account && has_security t h.symbol && is_stamp t h.stamp && is_price h.price
+
+-- the columns of HOLDING_SUMMARY have their forms, and what a row names is there
+abbrev pub summary_form : Tables → SummaryRow → Bool
+summary_form t s = has_account t s.account && has_security t s.symbol && nat_le (nat_abs s.qty) greatest_summary
+
+-- the columns of HOLDING_HISTORY have their forms, and what a row names is there
+abbrev pub holding_history_form : Tables → HoldingHistoryRow → Bool
+holding_history_form t h = has_trade t h.lot && has_trade t h.trade
+
+-- the words that a settlement may have
+abbrev pub is_cash_type : Bool → Text → Bool
+is_cash_type is_cash word =
+    if is_cash then bytes_eq word (codes "Cash Account") || bytes_eq word (codes "Cash") else bytes_eq word (codes "Margin") || bytes_eq word (codes "Margin Account")
+
+-- the columns of SETTLEMENT have their forms: its words are those of its kind of trade
+abbrev pub settlement_form : Tables → SettlementRow → Bool
+settlement_form t s =
+    option_map_or (λ row. is_cash_type row.is_cash s.cash_type) (trade_in t s.trade) false && nat_le s.due_day last_day && is_amount s.amount
+
+-- the names that a cash row may have
+abbrev pub is_cash_name : Tables → Text → TradeRow → Bool
+is_cash_name t name row =
+    bytes_eq name (cash_text (codes " shares of ") (base_of t) (trade_of_row t row)) || bytes_eq name (cash_text (codes " Shares of ") (base_of t) (trade_of_row t row))
+
+-- the columns of CASH_TRANSACTION have their forms: its name is one of the two of its trade
+abbrev pub cash_form : Tables → CashRow → Bool
+cash_form t c = option_map_or (is_cash_name t c.name) (trade_in t c.trade) false && is_stamp t c.stamp && is_amount c.amount
+
+-- no two bands of a list share a quantity
+abbrev pub no_overlap : List Band → Bool
+no_overlap [] = true
+no_overlap (b ∷ bands) = not (list_any (bands_meet b) bands) && no_overlap bands
+
+-- the trades are numbered from 1, in order
+abbrev pub same_numbers : List ℕ → List ℕ → Bool
+same_numbers [] [] = true
+same_numbers (m ∷ ms) (n ∷ ns) = (m == n) && same_numbers ms ns
+same_numbers _ _ = false
+
+-- a customer has at most ten accounts and pays at most the greatest tax rate
+abbrev pub customer_limits : Tables → Customer → Bool
+customer_limits t c =
+    nat_le (length (filter (λ a. a.customer == c.id) t.accounts)) most_accounts && nat_le (rates_of (base_of t) c.id) greatest_tax_rate
+
+-- rows by strictly rising key: no key stands twice
+abbrev pub rises : {Row : Type 0} → (Row → List KeyPart) → List Row → Bool
+rises key [] = true
+rises key (a ∷ []) = true
+rises key (a ∷ b ∷ rows) = key_before (key a) (key b) && rises key (b ∷ rows)
+
+-- each table is by strictly rising key
+unfoldable pub has_keys : Tables → Bool
+has_keys t =
+    rises kept_key t.kept && rises broker_key t.brokers && rises customer_key t.customers && rises account_key t.accounts
+    && rises permission_key t.permissions && rises security_key t.securities && rises last_trade_key t.last_trades && rises charge_key t.charges
+    && rises band_key t.bands && rises tax_rate_key t.tax_rates && rises customer_tax_key t.customer_taxes && rises trade_key t.trades
+    && rises history_key t.history && rises request_key t.requests && rises holding_key t.holdings && rises summary_key t.summaries
+    && rises holding_history_key t.holding_history && rises settlement_key t.settlements && rises cash_key t.cash
+
+-- no tax id is of two customers
+abbrev pub one_tax_id_each : List Customer → Bool
+one_tax_id_each [] = true
+one_tax_id_each (c ∷ customers) = not (list_any (λ d. bytes_eq d.tax_id c.tax_id) customers) && one_tax_id_each customers
+
+-- each column holds a value of its form, what a row names is there, and no key stands twice
+unfoldable pub has_form : Tables → Bool
+has_form t =
+    option_map_or (λ last. nat_le last last_stamp) t.last true
+    && has_keys t
+    && one_tax_id_each t.customers
+    && list_all kept_form t.kept
+    && list_all broker_form t.brokers
+    && list_all customer_form t.customers && list_all (customer_limits t) t.customers
+    && list_all (account_form t) t.accounts
+    && list_all (permission_form t) t.permissions
+    && list_all (security_form t) t.securities
+    && list_all (last_trade_form t) t.last_trades
+    && list_all charge_form t.charges
+    && list_all band_form t.bands && no_overlap t.bands
+    && list_all tax_rate_form t.tax_rates
+    && list_all (customer_tax_form t) t.customer_taxes
+    && list_all (trade_form t) t.trades && same_numbers (map (λ row. row.id) t.trades) (range_with_len 1 (length t.trades))
+    && list_all (history_form t) t.history
+    && list_all (request_form t) t.requests
+    && list_all (holding_form t) t.holdings
+    && list_all (summary_form t) t.summaries
+    && list_all (holding_history_form t) t.holding_history
+    && list_all (settlement_form t) t.settlements
+    && list_all (cash_form t) t.cash

@@ -1,0 +1,104 @@
+-- Trade-Order: who may order, what an order is estimated at, and the trade that it makes.
+use Rattle.std.specs.Prelude.{ℕ, ◌+◌, Bool, true, ◌&&◌, ◌||◌, ◌==◌, if◌then◌else◌, List, [], ◌∷◌, ◌++◌, length, filter, Option, None, unwrap_or, option_map, ℤ, ◌+ℤ◌, bytes_eq}
+use Rattle.std.specs.List.{list_any}
+use Rattle.std.specs.Option.{option_map_or}
+use Rattle.brk_money.specs.Spelling.{Text}
+use Rattle.brk_money.specs.Amounts.{commission, tax}
+use Rattle.brk_money.specs.Kinds.{side_of, is_market}
+use Rattle.brk_money.specs.declared.status.Status.{Status}
+use Rattle.brk_money.specs.declared.status.Status.TheVariants.{Submitted, Pending}
+use Rattle.brk_money.specs.declared.trade_type.TradeType.{TradeType}
+use Rattle.brk_model.specs.Records.{Customer, Permission, Executor, Trade}
+use Rattle.brk_model.specs.Base.{Base, completed, customer_with, charge_with, band_with, customer_of, tier_of, exchange_of, last_price, rates_of, is_taxed}
+use Rattle.brk_model.specs.Shares.{Share, Deal, buy_value, sell_value, gain}
+use Rattle.brk_model.specs.Derived.{shares_in, balance_of, holdings_of}
+use Rattle.brk_model.specs.Commands.{Order, Estimate, Reply, Ordered}
+
+-- the executor has the three names of a person
+abbrev pub is_person : Executor → Text → Text → Text → Bool
+is_person e first last tax_id = bytes_eq e.first_name first && bytes_eq e.last_name last && bytes_eq e.tax_id tax_id
+
+-- the executor is the customer, or one permission of the account names all three (Trade-Order, frame 2)
+abbrev pub permitted : Customer → List Permission → Executor → Bool
+permitted c permissions e =
+    is_person e c.first_name c.last_name c.tax_id || list_any (λ p. is_person e p.first_name p.last_name p.tax_id) permissions
+
+-- whether the executor may order for an account
+abbrev pub is_permitted : Base → ℕ → Executor → Bool
+is_permitted base account e =
+    option_map_or (λ c. permitted c (filter (λ p. p.account == account) base.permissions) e) (customer_with base (customer_of base account)) true
+
+-- the market's price for a market type, and else the order's (Trade-Order, frame 3)
+abbrev pub requested_price : Base → Order → ℕ
+requested_price base o = if is_market o.kind then last_price base o.symbol else unwrap_or o.price 0
+
+-- the commission of a quantity at a price, where a band has it
+abbrev pub commission_of : Base → ℕ → TradeType → Text → ℕ → ℕ → Option ℕ
+commission_of base account kind symbol qty price =
+    option_map (λ b. commission b.rate qty price) (band_with base (tier_of base account) kind (exchange_of base symbol) qty)
+
+-- the tax that a deal bears upon an account's shares
+abbrev pub tax_of : Base → ℕ → Deal → List Share → ℕ
+tax_of base account d shares = if is_taxed base account then tax (gain d shares) (rates_of base (customer_of base account)) else 0
+
+-- the order as a deal at its requested price
+abbrev pub deal_at : Base → Order → Deal
+deal_at base o =
+    record { trade = length base.trades + 1; side = side_of o.kind; qty = o.qty; price = requested_price base o; stamp = 0; is_lifo = o.is_lifo }
+
+-- an account's balance and the worth of what it holds
+abbrev pub assets_of : Base → ℕ → ℤ
+assets_of base account = balance_of base.accounts (completed base) account +ℤ holdings_of base.securities (completed base) account
+
+-- the numbers of an order, upon the shares of its account
+abbrev pub estimate_upon : List Share → Base → Order → Estimate
+estimate_upon shares base o = record {
+  price = requested_price base o;
+  buy_value = buy_value (deal_at base o) shares;
+  sell_value = sell_value (deal_at base o) shares;
+  tax = tax_of base o.account (deal_at base o) shares;
+  commission = unwrap_or (commission_of base o.account o.kind o.symbol o.qty (requested_price base o)) 0;
+  charge = option_map_or (λ c. c.amount) (charge_with base o.kind (tier_of base o.account)) 0;
+  assets = assets_of base o.account;
+}
+
+-- the numbers of an order
+unfoldable pub estimate : Base → Order → Estimate
+estimate base o = estimate_upon (shares_in (completed base) o.account o.symbol) base o
+
+-- the first status of an order
+abbrev pub first_status : TradeType → Status
+first_status kind = if is_market kind then Submitted else Pending
+
+-- first name, a space, last name
+abbrev pub executor_name : Executor → Text
+executor_name e = e.first_name ++ 32 ∷ e.last_name
+
+-- the trade that an order makes, numbered after those before it
+abbrev pub ordered_trade : Base → ℕ → Order → Trade
+ordered_trade base stamp o = record {
+  id = length base.trades + 1;
+  account = o.account;
+  kind = o.kind;
+  symbol = o.symbol;
+  qty = o.qty;
+  bid = requested_price base o;
+  is_cash = o.is_cash;
+  is_lifo = o.is_lifo;
+  executor = executor_name o.executor;
+  charge = (estimate base o).charge;
+  commission = (estimate base o).commission;
+  tax = 0;
+  price = None;
+  marks = record { stamp = stamp; status = first_status o.kind } ∷ [];
+  cash_type = [];
+  cash_name = [];
+}
+
+-- the base with the trade that an order makes
+abbrev pub with_order : Base → ℕ → Order → Base
+with_order base stamp o = record base { trades = base.trades ++ ordered_trade base stamp o ∷ [] }
+
+-- what is told of an order
+abbrev pub order_reply : Base → ℕ → Order → Reply
+order_reply base stamp o = Ordered stamp (length base.trades + 1) (first_status o.kind) (estimate base o)

@@ -1,0 +1,79 @@
+-- The texts of a command, of a reply and of a refusal.
+use Rattle.std.specs.Prelude.{ℕ, Bool, if◌then◌else◌, List, [], ◌∷◌, map, flat_map, pos, codes, decimal}
+use Rattle.std.specs.List.{join_with_byte}
+use Rattle.std.specs.Option.{option_map_or}
+use Rattle.brk_money.specs.Spelling.{Text, cents_text, day_text}
+use Rattle.brk_money.specs.Kinds.{type_code, status_code, tax_status_number}
+use Rattle.brk_model.specs.Commands.{Command, Order, Tick, Estimate, Completion, Reply, Booked, Ordered, Ticked, CanceledTrade, CompletedTrade, Changed, AddBroker, AddCustomer, AddAccount, AddPermission, AddSecurity, AddCharge, AddBand, AddTaxRate, AddCustomerTax, PlaceOrder, FeedTicks, CancelTrade, CompleteTrade, ChangeExecutors, ChangeCashTypes, ChangeCashNames}
+
+-- an amount that is not below 0
+abbrev pub price_text : ℕ → Text
+price_text n = cents_text (pos n)
+
+-- the word of a trade's cash account or margin
+abbrev pub cash_word : Bool → Text
+cash_word is_cash = if is_cash then codes "cash" else codes "margin"
+
+-- the word of the end from which lots are closed
+abbrev pub end_word : Bool → Text
+end_word is_lifo = if is_lifo then codes "lifo" else codes "fifo"
+
+-- the ten fields of an order
+abbrev pub order_fields : Order → List Text
+order_fields o =
+    decimal o.account ∷ type_code o.kind ∷ o.symbol ∷ decimal o.qty ∷ option_map_or price_text o.price [] ∷ cash_word o.is_cash ∷ end_word o.is_lifo
+    ∷ o.executor.first_name ∷ o.executor.last_name ∷ o.executor.tax_id ∷ []
+
+-- the three fields of a tick
+abbrev pub tick_fields : Tick → List Text
+tick_fields tick = tick.symbol ∷ price_text tick.price ∷ decimal tick.qty ∷ []
+
+-- the fields of a command's row, its kind first
+unfoldable pub row_fields : Command → List Text
+row_fields (AddBroker b) = codes "broker" ∷ decimal b.id ∷ b.name ∷ []
+row_fields (AddCustomer c) = codes "customer" ∷ decimal c.id ∷ decimal c.tier ∷ c.tax_id ∷ c.last_name ∷ c.first_name ∷ []
+row_fields (AddAccount a) = codes "account" ∷ decimal a.id ∷ decimal a.customer ∷ decimal a.broker ∷ a.name ∷ decimal (tax_status_number a.tax_status) ∷ cents_text a.opening ∷ []
+row_fields (AddPermission p) = codes "permission" ∷ decimal p.account ∷ p.acl ∷ p.tax_id ∷ p.last_name ∷ p.first_name ∷ []
+row_fields (AddSecurity l) = codes "security" ∷ l.symbol ∷ l.name ∷ l.exchange ∷ l.sector ∷ price_text l.price ∷ []
+row_fields (AddCharge c) = codes "charge" ∷ type_code c.kind ∷ decimal c.tier ∷ price_text c.amount ∷ []
+row_fields (AddBand b) = codes "band" ∷ decimal b.tier ∷ type_code b.kind ∷ b.exchange ∷ decimal b.from_qty ∷ decimal b.to_qty ∷ decimal b.rate ∷ []
+row_fields (AddTaxRate r) = codes "taxrate" ∷ decimal r.id ∷ r.name ∷ decimal r.rate ∷ []
+row_fields (AddCustomerTax x) = codes "custtax" ∷ decimal x.customer ∷ decimal x.tax ∷ []
+row_fields (PlaceOrder o) = codes "order" ∷ order_fields o
+row_fields (FeedTicks ticks) = codes "feed" ∷ flat_map tick_fields ticks
+row_fields (CancelTrade id) = codes "cancel" ∷ decimal id ∷ []
+row_fields (CompleteTrade id price) = codes "result" ∷ decimal id ∷ price_text price ∷ []
+row_fields (ChangeExecutors ids) = codes "upname" ∷ map decimal ids
+row_fields (ChangeCashTypes account first last) = codes "upcash" ∷ decimal account ∷ decimal first ∷ decimal last ∷ []
+row_fields (ChangeCashNames symbol first last) = codes "uptext" ∷ symbol ∷ decimal first ∷ decimal last ∷ []
+
+-- the text that is kept with a key, its fields joined by byte 31
+abbrev pub row_text : Command → Text
+row_text command = join_with_byte 31 (row_fields command)
+
+-- the seven numbers of an estimate
+abbrev pub estimate_fields : Estimate → List Text
+estimate_fields e =
+    price_text e.price ∷ price_text e.buy_value ∷ price_text e.sell_value ∷ price_text e.tax ∷ price_text e.commission ∷ price_text e.charge ∷ cents_text e.assets ∷ []
+
+-- the seven numbers of a completion
+abbrev pub completion_fields : Completion → List Text
+completion_fields c =
+    price_text c.commission ∷ price_text c.tax ∷ cents_text c.amount ∷ day_text c.due_day ∷ price_text c.buy_value ∷ price_text c.sell_value ∷ cents_text c.balance ∷ []
+
+-- the fields of a reply, its stamp first
+unfoldable pub reply_fields : Reply → List Text
+reply_fields (Booked stamp) = decimal stamp ∷ []
+reply_fields (Ordered stamp trade status e) = decimal stamp ∷ decimal trade ∷ status_code status ∷ estimate_fields e
+reply_fields (Ticked stamp triggered) = decimal stamp ∷ map decimal triggered
+reply_fields (CanceledTrade stamp) = decimal stamp ∷ codes "CNCL" ∷ []
+reply_fields (CompletedTrade stamp c) = decimal stamp ∷ completion_fields c
+reply_fields (Changed stamp count) = decimal stamp ∷ decimal count ∷ []
+
+-- a line of fields, joined by commas
+abbrev pub line_of : List Text → Text
+line_of fields = join_with_byte 44 fields
+
+-- the line that is kept with a key: a reply's fields joined by commas
+abbrev pub line_text : Reply → Text
+line_text reply = line_of (reply_fields reply)

@@ -1,0 +1,84 @@
+-- The text of an account's statement over the tables.
+use Rattle.std.specs.Prelude.{ℕ, ◌-◌, false, ◌&&◌, ◌||◌, ◌==◌, nat_le, nat_lt, if◌then◌else◌, List, [], ◌∷◌, ◌++◌, map, flat_map, filter, length, replicate, Option, Some, None, Result, Ok, Err, ℤ, ◌+ℤ◌, codes, decimal, bytes_eq}
+use Rattle.std.specs.Option.{option_map_or}
+use Rattle.std.specs.Fmt.{signed_decimal}
+use Rattle.brk_money.specs.Spelling.{Text, cents_text, day_text}
+use Rattle.brk_money.specs.Moments.{day_of}
+use Rattle.brk_money.specs.declared.refusal.Refusal.{Refusal}
+use Rattle.brk_money.specs.declared.refusal.Refusal.TheVariants.{BadText, NoAccount}
+use Rattle.brk_model.specs.Lists.{sort_by, total_by, text_before}
+use Rattle.brk_model.specs.Tables.{Tables, AccountRow, HoldingRow, CashRow}
+use Rattle.brk_model.specs.Rows.{price_text}
+use Rattle.brk_model.specs.Joins.{account_in, trade_in}
+use Rattle.brk_model.specs.PositionView.{asset_total}
+
+-- a text in so many places, to the left
+abbrev pub at_left : ℕ → Text → Text
+at_left places text = text ++ replicate (places - length text) 32
+
+-- a text in so many places, to the right
+abbrev pub at_right : ℕ → Text → Text
+at_right places text = replicate (places - length text) 32 ++ text
+
+-- a word and an amount
+abbrev pub amount_line : Text → ℤ → Text
+amount_line word amount = at_left 10 word ++ 32 ∷ at_right 22 (cents_text amount)
+
+-- the account's cash rows, by rising stamp
+abbrev pub cash_in : Tables → ℕ → List CashRow
+cash_in tables account =
+    sort_by (λ a b. nat_lt a.stamp b.stamp) (filter (λ row. option_map_or (λ t. t.account == account) (trade_in tables row.trade) false) tables.cash)
+
+-- the cash rows of earlier days
+abbrev pub cash_before : ℕ → List CashRow → List CashRow
+cash_before from rows = filter (λ row. nat_lt (day_of row.stamp) from) rows
+
+-- the cash rows of the days
+abbrev pub cash_within : ℕ → ℕ → List CashRow → List CashRow
+cash_within from to rows = filter (λ row. nat_le from (day_of row.stamp) && nat_le (day_of row.stamp) to) rows
+
+-- the sum of cash rows
+abbrev pub cash_total : List CashRow → ℤ
+cash_total rows = total_by (λ row. row.amount) rows
+
+-- the account's lots, by symbol, then by the moment of opening
+abbrev pub lots_in : Tables → ℕ → List HoldingRow
+lots_in tables account =
+    sort_by (λ a b. text_before a.symbol b.symbol || (bytes_eq a.symbol b.symbol && nat_lt a.stamp b.stamp))
+    (filter (λ row. row.account == account) tables.holdings)
+
+-- the line of a cash row
+abbrev pub cash_line : CashRow → Text
+cash_line row = day_text (day_of row.stamp) ++ 32 ∷ at_right 22 (cents_text row.amount) ++ 32 ∷ row.name
+
+-- the line of a lot
+abbrev pub lot_line : HoldingRow → Text
+lot_line row =
+    at_left 15 row.symbol ++ 32 ∷ at_right 13 (decimal row.trade) ++ 32 ∷ at_right 11 (signed_decimal row.qty) ++ 32 ∷ at_right 10 (price_text row.price)
+
+-- the lines of a statement
+abbrev pub statement_lines : Tables → AccountRow → ℕ → ℕ → List CashRow → List Text
+statement_lines tables a from to rows =
+    (codes "Statement of account " ++ decimal a.id)
+    ∷ a.name
+    ∷ (codes "From " ++ day_text from ++ codes " to " ++ day_text to)
+    ∷ amount_line (codes "Opening") (a.opening +ℤ cash_total (cash_before from rows))
+    ∷ map cash_line (cash_within from to rows)
+    ++ amount_line (codes "Closing") (a.opening +ℤ cash_total (cash_before from rows) +ℤ cash_total (cash_within from to rows))
+    ∷ map lot_line (lots_in tables a.id)
+    ++ amount_line (codes "Holdings") (asset_total tables a)
+    ∷ (codes "Cash rows " ++ decimal (length (cash_within from to rows)) ++ codes ", lots " ++ decimal (length (lots_in tables a.id)))
+    ∷ []
+
+-- lines, each ended by a line feed
+abbrev pub lines_text : List Text → Text
+lines_text lines = flat_map (λ line. line ++ 10 ∷ []) lines
+
+-- the statement of an account, or that there is none
+abbrev pub statement_of : Tables → Option AccountRow → ℕ → ℕ → Result Text Refusal
+statement_of tables None from to = Err NoAccount
+statement_of tables (Some a) from to = Ok (lines_text (statement_lines tables a from to (cash_in tables a.id)))
+
+-- the statement of an account over some days; days out of order are refused first
+unfoldable pub statement : Tables → ℕ → ℕ → ℕ → Result Text Refusal
+statement tables account from to = if nat_lt to from then Err BadText else statement_of tables (account_in tables account) from to

@@ -1,0 +1,248 @@
+-- The tables: one list of rows for each, in the order of acceptance. Two that hold the same rows are the same table.
+use Rattle.std.specs.Prelude.{ℕ, Bool, not, List, [], ◌∷◌, map, filter, flat_map, Option, ℤ, pos, ◌-ℤ◌}
+use Rattle.std.specs.Option.{option_map_or}
+use Rattle.brk_money.specs.Spelling.{Text}
+use Rattle.brk_money.specs.declared.trade_type.TradeType.{TradeType}
+use Rattle.brk_money.specs.declared.status.Status.{Status}
+use Rattle.brk_money.specs.declared.tax_status.TaxStatus.{TaxStatus}
+use Rattle.brk_money.specs.declared.status.Status.TheVariants.{Canceled}
+use Rattle.brk_model.specs.Lists.{is_zero}
+use Rattle.brk_model.specs.Records.{Broker, Customer, Account, Permission, Security, Charge, Band, TaxRate, CustomerTax, Trade, Kept}
+use Rattle.brk_model.specs.Base.{Base, last_mark, moment_of, broker_in, completed, price_of}
+use Rattle.brk_model.specs.Shares.{Share, Deal, shares_after, lot_qty}
+use Rattle.brk_model.specs.Derived.{deals_in, shares_in, summary_of, amount_of, due_day, cash_trades, balance_of, trade_count_of, commissions_of, pending}
+
+-- BROKER: B_ID, B_NAME, B_NUM_TRADES, B_COMM_TOTAL
+pub record BrokerRow : Type 0 where
+  pub id : ℕ
+  pub name : Text
+  pub trades : ℤ
+  pub commissions : ℕ
+
+-- CUSTOMER_ACCOUNT: CA_ID, CA_C_ID, CA_B_ID, CA_NAME, CA_TAX_ST, CA_OPEN, CA_BAL
+pub record AccountRow : Type 0 where
+  pub id : ℕ
+  pub customer : ℕ
+  pub broker : ℕ
+  pub name : Text
+  pub tax_status : TaxStatus
+  pub opening : ℤ
+  pub balance : ℤ
+
+-- SECURITY: S_SYMB, S_NAME, S_EX_ID, S_SECTOR
+pub record SecurityRow : Type 0 where
+  pub symbol : Text
+  pub name : Text
+  pub exchange : Text
+  pub sector : Text
+
+-- LAST_TRADE: LT_S_SYMB, LT_DTS, LT_PRICE, LT_VOL
+pub record LastTradeRow : Type 0 where
+  pub symbol : Text
+  pub stamp : ℕ
+  pub price : ℕ
+  pub volume : ℕ
+
+-- TRADE: T_ID, T_DTS, T_ST_ID, T_TT_ID, T_IS_CASH, T_S_SYMB, T_QTY, T_BID_PRICE, T_CA_ID, T_EXEC_NAME, T_TRADE_PRICE, T_CHRG, T_COMM, T_TAX, T_LIFO
+pub record TradeRow : Type 0 where
+  pub id : ℕ
+  pub stamp : ℕ
+  pub status : Status
+  pub kind : TradeType
+  pub is_cash : Bool
+  pub symbol : Text
+  pub qty : ℕ
+  pub bid : ℕ
+  pub account : ℕ
+  pub executor : Text
+  pub price : Option ℕ
+  pub charge : ℕ
+  pub commission : ℕ
+  pub tax : ℕ
+  pub is_lifo : Bool
+
+-- TRADE_HISTORY: TH_T_ID, TH_ST_ID, TH_DTS
+pub record HistoryRow : Type 0 where
+  pub trade : ℕ
+  pub status : Status
+  pub stamp : ℕ
+
+-- TRADE_REQUEST: TR_T_ID, TR_TT_ID, TR_S_SYMB, TR_QTY, TR_BID_PRICE, TR_B_ID
+pub record RequestRow : Type 0 where
+  pub trade : ℕ
+  pub kind : TradeType
+  pub symbol : Text
+  pub qty : ℕ
+  pub bid : ℕ
+  pub broker : ℕ
+
+-- HOLDING: H_T_ID, H_CA_ID, H_S_SYMB, H_DTS, H_PRICE, H_QTY
+pub record HoldingRow : Type 0 where
+  pub trade : ℕ
+  pub account : ℕ
+  pub symbol : Text
+  pub stamp : ℕ
+  pub price : ℕ
+  pub qty : ℤ
+
+-- HOLDING_SUMMARY: HS_CA_ID, HS_S_SYMB, HS_QTY
+pub record SummaryRow : Type 0 where
+  pub account : ℕ
+  pub symbol : Text
+  pub qty : ℤ
+
+-- HOLDING_HISTORY: HH_H_T_ID, HH_T_ID, HH_BEFORE_QTY, HH_AFTER_QTY
+pub record HoldingHistoryRow : Type 0 where
+  pub lot : ℕ
+  pub trade : ℕ
+  pub before : ℤ
+  pub after : ℤ
+
+-- SETTLEMENT: SE_T_ID, SE_CASH_TYPE, SE_CASH_DUE_DATE, SE_AMT
+pub record SettlementRow : Type 0 where
+  pub trade : ℕ
+  pub cash_type : Text
+  pub due_day : ℕ
+  pub amount : ℤ
+
+-- CASH_TRANSACTION: CT_T_ID, CT_DTS, CT_AMT, CT_NAME
+pub record CashRow : Type 0 where
+  pub trade : ℕ
+  pub stamp : ℕ
+  pub amount : ℤ
+  pub name : Text
+
+-- all tables; last is D_LAST
+pub record Tables : Type 0 where
+  pub last : Option ℕ
+  pub kept : List Kept
+  pub brokers : List BrokerRow
+  pub customers : List Customer
+  pub accounts : List AccountRow
+  pub permissions : List Permission
+  pub securities : List SecurityRow
+  pub last_trades : List LastTradeRow
+  pub charges : List Charge
+  pub bands : List Band
+  pub tax_rates : List TaxRate
+  pub customer_taxes : List CustomerTax
+  pub trades : List TradeRow
+  pub history : List HistoryRow
+  pub requests : List RequestRow
+  pub holdings : List HoldingRow
+  pub summaries : List SummaryRow
+  pub holding_history : List HoldingHistoryRow
+  pub settlements : List SettlementRow
+  pub cash : List CashRow
+
+-- a broker with the number of completed trades and the sum of their commissions
+abbrev pub broker_row : List Account → List Trade → Broker → BrokerRow
+broker_row accounts done b =
+    record { id = b.id; name = b.name; trades = pos (trade_count_of accounts done b.id); commissions = commissions_of accounts done b.id }
+
+-- an account with its balance
+abbrev pub account_row : List Account → List Trade → Account → AccountRow
+account_row accounts done a =
+    record { id = a.id; customer = a.customer; broker = a.broker; name = a.name; tax_status = a.tax_status; opening = a.opening; balance = balance_of accounts done a.id }
+
+-- a security as it is listed
+abbrev pub security_row : Security → SecurityRow
+security_row s = record { symbol = s.symbol; name = s.name; exchange = s.exchange; sector = s.sector }
+
+-- a security's last trade on the market
+abbrev pub last_trade_row : Security → LastTradeRow
+last_trade_row s = record { symbol = s.symbol; stamp = s.moment; price = s.last_price; volume = s.volume }
+
+-- the last status of a trade, which always has one
+abbrev pub status_of : Trade → Status
+status_of t = option_map_or (λ m. m.status) (last_mark t) Canceled
+
+-- a trade as it stands
+abbrev pub trade_row : Trade → TradeRow
+trade_row t =
+    record {
+      id = t.id;
+      stamp = moment_of t;
+      status = status_of t;
+      kind = t.kind;
+      is_cash = t.is_cash;
+      symbol = t.symbol;
+      qty = t.qty;
+      bid = t.bid;
+      account = t.account;
+      executor = t.executor;
+      price = t.price;
+      charge = t.charge;
+      commission = t.commission;
+      tax = t.tax;
+      is_lifo = t.is_lifo;
+    }
+
+-- a row for each status of a trade
+abbrev pub history_rows : Trade → List HistoryRow
+history_rows t = map (λ m. record { trade = t.id; status = m.status; stamp = m.stamp }) t.marks
+
+-- a request of a waiting trade, with the broker of its account
+abbrev pub request_row : List Account → Trade → RequestRow
+request_row accounts t = record { trade = t.id; kind = t.kind; symbol = t.symbol; qty = t.qty; bid = t.bid; broker = broker_in accounts t.account }
+
+-- rows for each account and symbol
+abbrev pub by_position : {Row : Type 0} → Base → (ℕ → Text → List Row) → List Row
+by_position base rows = flat_map (λ a. flat_map (λ s. rows a.id s.symbol) base.securities) base.accounts
+
+-- what is left of the shares that a completed trade opened: its lot
+abbrev pub holding_row : List Trade → Trade → HoldingRow
+holding_row done t =
+    record { trade = t.id; account = t.account; symbol = t.symbol; stamp = moment_of t; price = price_of t; qty = lot_qty (shares_in done t.account t.symbol) t.id }
+
+-- a lot before and after each of some deals, one after another from some shares
+abbrev pub lot_rows : ℕ → List Share → List Deal → List HoldingHistoryRow
+lot_rows lot shares [] = []
+lot_rows lot shares (d ∷ deals) =
+    record { lot = lot; trade = d.trade; before = lot_qty shares lot; after = lot_qty (shares_after shares d) lot } ∷ lot_rows lot (shares_after shares d) deals
+
+-- the changes of the lot that a completed trade opened
+abbrev pub lot_history : List Trade → Trade → List HoldingHistoryRow
+lot_history done t = filter (λ row. not (is_zero (row.before -ℤ row.after))) (lot_rows t.id [] (deals_in done t.account t.symbol))
+
+-- a position's summary, where it is not 0
+abbrev pub summary_rows : List Trade → ℕ → Text → List SummaryRow
+summary_rows done account symbol =
+    filter (λ row. not (is_zero row.qty)) (record { account = account; symbol = symbol; qty = summary_of done account symbol } ∷ [])
+
+-- what a completed trade settles for, and when
+abbrev pub settlement_row : List Account → Trade → SettlementRow
+settlement_row accounts t = record { trade = t.id; cash_type = t.cash_type; due_day = due_day t; amount = amount_of accounts t }
+
+-- what a completed cash trade moved
+abbrev pub cash_row : List Account → Trade → CashRow
+cash_row accounts t = record { trade = t.id; stamp = moment_of t; amount = amount_of accounts t; name = t.cash_name }
+
+-- the rows of a base and those that follow from some completed trades
+abbrev pub tables_upon : Base → List Trade → Tables
+tables_upon base done = record {
+  last = base.last;
+  kept = base.kept;
+  brokers = map (broker_row base.accounts done) base.brokers;
+  customers = base.customers;
+  accounts = map (account_row base.accounts done) base.accounts;
+  permissions = base.permissions;
+  securities = map security_row base.securities;
+  last_trades = map last_trade_row base.securities;
+  charges = base.charges;
+  bands = base.bands;
+  tax_rates = base.tax_rates;
+  customer_taxes = base.customer_taxes;
+  trades = map trade_row base.trades;
+  history = flat_map history_rows base.trades;
+  requests = map (request_row base.accounts) (pending base.trades);
+  holdings = filter (λ row. not (is_zero row.qty)) (map (holding_row done) done);
+  summaries = by_position base (summary_rows done);
+  holding_history = flat_map (lot_history done) done;
+  settlements = map (settlement_row base.accounts) done;
+  cash = map (cash_row base.accounts) (cash_trades done);
+}
+
+-- the rows of a base and those that follow from it
+unfoldable pub tables_of : Base → Tables
+tables_of base = tables_upon base (completed base)

@@ -1,0 +1,126 @@
+-- The tests of a command past those of form. The refusal is that of the first test that finds something wrong.
+use Rattle.std.specs.Prelude.{ℕ, ◌+◌, Bool, true, not, ◌&&◌, ◌==◌, nat_le, nat_lt, max, List, [], ◌∷◌, ◌++◌, length, filter, find, Option, option_map, is_some, is_none, nat_abs, bytes_eq}
+use Rattle.std.specs.List.{list_any}
+use Rattle.std.specs.Option.{option_map_or}
+use Rattle.brk_money.specs.Spelling.{Text}
+use Rattle.brk_money.specs.Moments.{day_of, last_day, last_stamp}
+use Rattle.brk_money.specs.Kinds.{same_type}
+use Rattle.brk_money.specs.declared.refusal.Refusal.{Refusal}
+use Rattle.brk_money.specs.declared.refusal.Refusal.TheVariants.{BadQty, NoAccount, NoCustomer, NoBroker, NoSecurity, NoTrade, NoTax, WrongStatus, NotPermitted, Exists, Overlap, TaxSum, NoCharge, NoRate, Range, ClockEnd}
+use Rattle.brk_money.specs.declared.refusal.Limit.TheVariants as limit
+use Rattle.brk_money.specs.declared.status.Status.TheVariants.{Pending, Submitted}
+use Rattle.brk_model.specs.Limits.{greatest_amount, greatest_summary, greatest_tax_rate, greatest_id, most_accounts}
+use Rattle.brk_model.specs.Records.{Band, Trade}
+use Rattle.brk_model.specs.Base.{Base, broker_with, customer_with, account_with, security_with, tax_rate_with, trade_with, charge_with, band_with, broker_of, tier_of, exchange_of, rates_of, completed, has_status}
+use Rattle.brk_model.specs.Tables.{status_of}
+use Rattle.brk_model.specs.Derived.{settlement_days, summary_of, balance_of, commissions_of}
+use Rattle.brk_model.specs.Orders.{is_permitted}
+use Rattle.brk_model.specs.Feed.{with_ticks}
+use Rattle.brk_model.specs.Results.{with_result}
+use Rattle.brk_model.specs.Commands.{Command, Order, AddBroker, AddCustomer, AddAccount, AddPermission, AddSecurity, AddCharge, AddBand, AddTaxRate, AddCustomerTax, PlaceOrder, FeedTicks, CancelTrade, CompleteTrade, ChangeExecutors, ChangeCashTypes, ChangeCashNames}
+
+-- a refusal, and whether there is cause for it
+abbrev pub Test : Type 0
+Test = Bool × Refusal
+
+-- the first refusal that there is cause for
+abbrev pub first_refusal : List Test → Option Refusal
+first_refusal tests = option_map (λ test. test.1) (find (λ test. test.0) tests)
+
+-- the stamp of a command that is accepted: the moment, moved past the last stamp
+abbrev pub next_stamp : Base → ℕ → ℕ
+next_stamp base now = option_map_or (λ last. max now (last + 1)) base.last now
+
+-- what a command names has to be there: an account
+abbrev pub lacks_account : Base → ℕ → Test
+lacks_account base id = (is_none (account_with base id), NoAccount)
+
+-- a customer is there
+abbrev pub lacks_customer : Base → ℕ → Test
+lacks_customer base id = (is_none (customer_with base id), NoCustomer)
+
+-- a broker is there
+abbrev pub lacks_broker : Base → ℕ → Test
+lacks_broker base id = (is_none (broker_with base id), NoBroker)
+
+-- a security is there
+abbrev pub lacks_security : Base → Text → Test
+lacks_security base symbol = (is_none (security_with base symbol), NoSecurity)
+
+-- a trade is there
+abbrev pub lacks_trade : Base → ℕ → Test
+lacks_trade base id = (is_none (trade_with base id), NoTrade)
+
+-- what it adds may not be there yet
+abbrev pub exists_if : Bool → Test
+exists_if found = (found, Exists)
+
+-- two bands of a tier, a type and an exchange share a quantity
+abbrev pub bands_meet : Band → Band → Bool
+bands_meet b c =
+    (b.tier == c.tier) && same_type b.kind c.kind && bytes_eq b.exchange c.exchange && nat_le b.from_qty c.to_qty && nat_le c.from_qty b.to_qty
+
+-- an order's charge has to be known
+abbrev pub lacks_charge : Base → Order → Test
+lacks_charge base o = (is_none (charge_with base o.kind (tier_of base o.account)), NoCharge)
+
+-- an order's commission has to be known
+abbrev pub lacks_rate : Base → Order → Test
+lacks_rate base o = (is_none (band_with base (tier_of base o.account) o.kind (exchange_of base o.symbol) o.qty), NoRate)
+
+-- what an order and an estimate are tested for
+abbrev pub order_tests : Base → Order → List Test
+order_tests base o =
+    lacks_account base o.account ∷ lacks_security base o.symbol ∷ (not (is_permitted base o.account o.executor), NotPermitted)
+    ∷ lacks_charge base o ∷ lacks_rate base o ∷ []
+
+-- the trade's status is not the one that the command needs
+abbrev pub wrong_status : Bool → Trade → Test
+wrong_status right t = (not right, WrongStatus (status_of t))
+
+-- what a result is tested for, with the base that would follow
+abbrev pub result_tests : Base → Base → ℕ → Trade → List Test
+result_tests base after stamp t =
+    wrong_status (has_status Submitted t) t
+    ∷ (is_none (band_with base (tier_of base t.account) t.kind (exchange_of base t.symbol) t.qty), NoRate)
+    ∷ (nat_lt greatest_summary (nat_abs (summary_of (completed after) t.account t.symbol)), Range limit.Summary)
+    ∷ (t.is_cash && nat_lt greatest_amount (nat_abs (balance_of after.accounts (completed after) t.account)), Range limit.Balance)
+    ∷ (nat_lt greatest_amount (commissions_of after.accounts (completed after) (broker_of base t.account)), Range limit.Broker)
+    ∷ (nat_lt last_day (day_of stamp + settlement_days), ClockEnd)
+    ∷ []
+
+-- the tests of the trade that is named, or that there is none
+abbrev pub tests_of_trade : Base → ℕ → (Trade → List Test) → List Test
+tests_of_trade base id tests = option_map_or tests (trade_with base id) ((true, NoTrade) ∷ [])
+
+-- the tests of a command, in the order in which they are made
+unfoldable pub tests : Base → ℕ → Command → List Test
+tests base stamp (AddBroker b) = exists_if (is_some (broker_with base b.id)) ∷ []
+tests base stamp (AddCustomer c) = exists_if (list_any (λ d. (d.id == c.id)) base.customers) ∷ exists_if (list_any (λ d. bytes_eq d.tax_id c.tax_id) base.customers) ∷ []
+tests base stamp (AddAccount a) =
+    lacks_customer base a.customer ∷ lacks_broker base a.broker ∷ exists_if (is_some (account_with base a.id))
+    ∷ (nat_le most_accounts (length (filter (λ b. b.customer == a.customer) base.accounts)), Range limit.Accounts) ∷ []
+tests base stamp (AddPermission p) =
+    lacks_account base p.account ∷ exists_if (list_any (λ q. (q.account == p.account) && bytes_eq q.tax_id p.tax_id) base.permissions) ∷ []
+tests base stamp (AddSecurity s) = exists_if (is_some (security_with base s.symbol)) ∷ []
+tests base stamp (AddCharge c) = exists_if (is_some (charge_with base c.kind c.tier)) ∷ []
+tests base stamp (AddBand b) = (nat_lt b.to_qty b.from_qty, BadQty) ∷ (list_any (bands_meet b) base.bands, Overlap) ∷ []
+tests base stamp (AddTaxRate r) = exists_if (is_some (tax_rate_with base r.id)) ∷ []
+tests base stamp (AddCustomerTax x) =
+    lacks_customer base x.customer ∷ (is_none (tax_rate_with base x.tax), NoTax)
+    ∷ exists_if (list_any (λ y. (y.customer == x.customer) && (y.tax == x.tax)) base.customer_taxes)
+    ∷ (nat_lt greatest_tax_rate (rates_of base x.customer + option_map_or (λ r. r.rate) (tax_rate_with base x.tax) 0), TaxSum) ∷ []
+tests base stamp (PlaceOrder o) = order_tests base o ++ (nat_le greatest_id (length base.trades), Range limit.Trades) ∷ []
+tests base stamp (FeedTicks ticks) =
+    (list_any (λ tick. is_none (security_with base tick.symbol)) ticks, NoSecurity)
+    ∷ (list_any (λ s. nat_lt greatest_amount s.volume) (with_ticks stamp base ticks).securities, Range limit.Volume) ∷ []
+tests base stamp (CancelTrade id) = tests_of_trade base id (λ t. wrong_status (has_status Pending t) t ∷ [])
+tests base stamp (CompleteTrade id price) = tests_of_trade base id (λ t. result_tests base (with_result base stamp price t) stamp t)
+tests base stamp (ChangeExecutors ids) = (list_any (λ id. is_none (trade_with base id)) ids, NoTrade) ∷ []
+tests base stamp (ChangeCashTypes account first last) = lacks_account base account ∷ []
+tests base stamp (ChangeCashNames symbol first last) = lacks_security base symbol ∷ []
+
+-- why a command is refused, if it is; the last test of each is that there is a stamp left
+unfoldable pub refusal_of : Base → ℕ → Command → Option Refusal
+refusal_of base now command =
+    first_refusal (tests base (next_stamp base now) command ++ (nat_lt last_stamp (next_stamp base now), ClockEnd) ∷ [])

@@ -1,0 +1,32 @@
+-- The view of Broker-Volume, which lends its name alone.
+use Rattle.std.specs.Prelude.{ℕ, ◌*◌, Bool, false, ◌&&◌, ◌||◌, ◌==◌, nat_lt, List, [], ◌∷◌, map, filter, length, sum_by, decimal, bytes_eq}
+use Rattle.std.specs.List.{list_any}
+use Rattle.std.specs.Option.{option_map_or}
+use Rattle.brk_money.specs.Spelling.{Text}
+use Rattle.brk_model.specs.Lists.{sort_by, text_before}
+use Rattle.brk_model.specs.Tables.{Tables, BrokerRow, RequestRow}
+use Rattle.brk_model.specs.Rows.{price_text}
+use Rattle.brk_model.specs.Queries.{View}
+use Rattle.brk_model.specs.Joins.{security_in}
+
+-- a broker's pending requests in a sector
+abbrev pub requests_in : Tables → Text → ℕ → List RequestRow
+requests_in tables sector broker =
+    filter (λ r. (r.broker == broker) && option_map_or (λ s. bytes_eq s.sector sector) (security_in tables r.symbol) false) tables.requests
+
+-- the value of a broker's pending requests in a sector
+abbrev pub volume_in : Tables → Text → ℕ → ℕ
+volume_in tables sector broker = sum_by (λ r. r.qty * r.bid) (requests_in tables sector broker)
+
+-- by falling volume, then name, then id
+abbrev pub by_volume : Tables → Text → BrokerRow → BrokerRow → Bool
+by_volume tables sector a b =
+    nat_lt (volume_in tables sector b.id) (volume_in tables sector a.id)
+    || ((volume_in tables sector b.id == volume_in tables sector a.id) && (text_before a.name b.name || (bytes_eq a.name b.name && nat_lt a.id b.id)))
+
+-- the brokers of these names that have such a request
+unfoldable pub volume_view : Tables → Text → List Text → View
+volume_view tables sector names =
+    map (λ b. b.name ∷ decimal b.id ∷ price_text (volume_in tables sector b.id) ∷ [])
+    (sort_by (by_volume tables sector)
+    (filter (λ b. list_any (bytes_eq b.name) names && nat_lt 0 (length (requests_in tables sector b.id))) tables.brokers))

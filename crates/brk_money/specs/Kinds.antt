@@ -1,0 +1,161 @@
+-- What the types of trade and the statuses are, and the words and numbers that stand for them.
+use Rattle.std.specs.Prelude.{ℕ, Bool, true, false, List, [], ◌∷◌, ◌==◌, if◌then◌else◌, Option, Some, None, codes, decimal}
+use Rattle.std.specs.List.{join_with_byte}
+use Rattle.brk_money.specs.declared.trade_type.TradeType.{TradeType}
+use Rattle.brk_money.specs.declared.trade_type.TradeType.TheVariants.{MarketBuy, MarketSell, StopLoss, LimitSell, LimitBuy}
+use Rattle.brk_money.specs.declared.status.Status.{Status}
+use Rattle.brk_money.specs.declared.status.Status.TheVariants.{Completed, Active, Submitted, Pending, Canceled}
+use Rattle.brk_money.specs.declared.tax_status.TaxStatus.{TaxStatus}
+use Rattle.brk_money.specs.declared.tax_status.TaxStatus.TheVariants.{Untaxed, Withheld, Reported}
+use Rattle.brk_money.specs.declared.fault.Condition.{Condition}
+use Rattle.brk_money.specs.declared.fault.Condition.TheVariants as condition
+use Rattle.brk_money.specs.declared.side.Side.{Side}
+use Rattle.brk_money.specs.declared.side.Side.TheVariants.{Buy, Sell}
+use Rattle.brk_money.specs.declared.refusal.Limit.{Limit}
+use Rattle.brk_money.specs.declared.refusal.Limit.TheVariants as limit
+use Rattle.brk_money.specs.declared.refusal.Refusal.{Refusal}
+use Rattle.brk_money.specs.declared.refusal.Refusal.TheVariants.{BadText, BadQty, BadPrice, BadType, TooMany, KeyReused, NoAccount, NoCustomer, NoBroker, NoSecurity, NoTrade, NoTax, WrongStatus, NotPermitted, Exists, Overlap, TaxSum, NoCharge, NoRate, Range, ClockEnd}
+
+-- which way a type goes (TT_IS_SELL)
+abbrev pub side_of : TradeType → Side
+side_of MarketBuy = Buy
+side_of MarketSell = Sell
+side_of StopLoss = Sell
+side_of LimitSell = Sell
+side_of LimitBuy = Buy
+
+-- whether a type trades at the market's price (TT_IS_MRKT)
+abbrev pub is_market : TradeType → Bool
+is_market MarketBuy = true
+is_market MarketSell = true
+is_market StopLoss = false
+is_market LimitSell = false
+is_market LimitBuy = false
+
+-- TT_ID
+abbrev pub type_code : TradeType → List ℕ
+type_code MarketBuy = codes "TMB"
+type_code MarketSell = codes "TMS"
+type_code StopLoss = codes "TSL"
+type_code LimitSell = codes "TLS"
+type_code LimitBuy = codes "TLB"
+
+-- TT_NAME
+abbrev pub type_name : TradeType → List ℕ
+type_name MarketBuy = codes "Market-Buy"
+type_name MarketSell = codes "Market-Sell"
+type_name StopLoss = codes "Stop-Loss"
+type_name LimitSell = codes "Limit-Sell"
+type_name LimitBuy = codes "Limit-Buy"
+
+-- ST_ID
+abbrev pub status_code : Status → List ℕ
+status_code Completed = codes "CMPT"
+status_code Active = codes "ACTV"
+status_code Submitted = codes "SBMT"
+status_code Pending = codes "PNDG"
+status_code Canceled = codes "CNCL"
+
+-- ST_NAME
+abbrev pub status_name : Status → List ℕ
+status_name Completed = codes "Completed"
+status_name Active = codes "Active"
+status_name Submitted = codes "Submitted"
+status_name Pending = codes "Pending"
+status_name Canceled = codes "Canceled"
+
+-- tests of equality
+abbrev pub same_type : TradeType → TradeType → Bool
+same_type MarketBuy MarketBuy = true
+same_type MarketSell MarketSell = true
+same_type StopLoss StopLoss = true
+same_type LimitSell LimitSell = true
+same_type LimitBuy LimitBuy = true
+same_type _ _ = false
+
+abbrev pub same_status : Status → Status → Bool
+same_status Completed Completed = true
+same_status Active Active = true
+same_status Submitted Submitted = true
+same_status Pending Pending = true
+same_status Canceled Canceled = true
+same_status _ _ = false
+
+abbrev pub same_side : Side → Side → Bool
+same_side Buy Buy = true
+same_side Sell Sell = true
+same_side Buy Sell = false
+same_side Sell Buy = false
+
+-- the word of what would leave its range
+abbrev pub limit_word : Limit → List ℕ
+limit_word limit.Summary = codes "summary"
+limit_word limit.Balance = codes "balance"
+limit_word limit.Broker = codes "broker"
+limit_word limit.Volume = codes "volume"
+limit_word limit.Trades = codes "trades"
+limit_word limit.Accounts = codes "accounts"
+
+-- the number that is printed of a refusal
+abbrev pub refusal_number : Refusal → ℕ
+refusal_number NoAccount = 1
+refusal_number NoCustomer = 2
+refusal_number NoBroker = 3
+refusal_number NoSecurity = 4
+refusal_number NoTrade = 5
+refusal_number NotPermitted = 6
+refusal_number BadType = 7
+refusal_number BadQty = 8
+refusal_number BadPrice = 9
+refusal_number NoCharge = 10
+refusal_number NoRate = 11
+refusal_number NoTax = 12
+refusal_number (WrongStatus s) = 13
+refusal_number (Range l) = 14
+refusal_number Exists = 15
+refusal_number Overlap = 16
+refusal_number TaxSum = 17
+refusal_number BadText = 18
+refusal_number KeyReused = 19
+refusal_number TooMany = 20
+refusal_number ClockEnd = 21
+
+-- what a refusal says beside its number
+abbrev pub refusal_words : Refusal → List (List ℕ)
+refusal_words (WrongStatus status) = status_code status ∷ []
+refusal_words (Range limit) = limit_word limit ∷ []
+refusal_words _ = []
+
+-- the fields that are told of a refusal
+abbrev pub refusal_fields : Refusal → List (List ℕ)
+refusal_fields refusal = decimal (refusal_number refusal) ∷ refusal_words refusal
+
+-- the same, joined by commas
+abbrev pub refusal_text : Refusal → List ℕ
+refusal_text refusal = join_with_byte 44 (refusal_fields refusal)
+
+-- CA_TAX_ST
+abbrev pub tax_status_number : TaxStatus → ℕ
+tax_status_number Untaxed = 0
+tax_status_number Withheld = 1
+tax_status_number Reported = 2
+
+-- the status with a number
+abbrev pub tax_status_of : ℕ → Option TaxStatus
+tax_status_of n = if n == 0 then Some Untaxed else if n == 1 then Some Withheld else if n == 2 then Some Reported else None
+
+-- the word of a condition of the audit
+abbrev pub condition_word : Condition → List ℕ
+condition_word condition.NotEmpty = codes "notempty"
+condition_word condition.Schema = codes "schema"
+condition_word condition.Form = codes "form"
+condition_word condition.Status = codes "status"
+condition_word condition.Requests = codes "requests"
+condition_word condition.Lots = codes "lots"
+condition_word condition.History = codes "history"
+condition_word condition.Summary = codes "summary"
+condition_word condition.Count = codes "count"
+condition_word condition.Commission = codes "commission"
+condition_word condition.Settlement = codes "settlement"
+condition_word condition.Cash = codes "cash"
+condition_word condition.Balance = codes "balance"

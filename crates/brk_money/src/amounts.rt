@@ -1,0 +1,45 @@
+ghost use Rattle.std.specs.Prelude.{◌≡◌, ◌+◌, ◌*◌, ◌<◌, ◌≤◌, ◌^◌, pos};
+ghost use Rattle.brk_money.specs.Amounts as spec;
+
+use crate::cents::Cents;
+use crate::price::Price;
+use crate::qty::Qty;
+use crate::rate::Rate;
+use crate::tax_rate::TaxRate;
+
+/// `n / d` to the nearest whole number, a half upwards.
+pub fn half_up(n: u128, d: u128) -> u128
+    requires divisor { 0 < d }
+    requires fits { 2 * n + d < 2 ^ 128 }
+    ensures { result ≡ spec.half_up n d }
+{
+    // by two first, so that twice the divisor need not fit
+    (2 * n + d) / 2 / d
+}
+
+// An amount that is within the limit.
+fn natural(cents: u128) -> Cents
+    requires { cents ≤ 100000000000000000 }
+    ensures { result ≡ pos cents }
+{
+    Cents::new(cents as i64).unwrap()
+}
+
+/// The commission of a trade, rounded once to whole cents (T_COMM, Trade-Result).
+pub fn commission(rate: Rate, qty: Qty, price: Price) -> Cents
+    ensures { result ≡ pos (spec.commission rate qty price) }
+{
+    let product = u128::from(rate.get()) * u128::from(qty.get()) * u128::from(price.get());
+    natural(half_up(product, 10_000))
+}
+
+/// The tax on a trade's gain, rounded once to whole cents; a loss bears none (T_TAX, Trade-Result).
+pub fn tax(gain: Cents, rates: TaxRate) -> Cents
+    ensures { result ≡ pos (spec.tax gain rates) }
+{
+    let gain = gain.get();
+    if gain <= 0 {
+        return natural(0);
+    }
+    natural(half_up(gain as u128 * u128::from(rates.get()), 100_000))
+}

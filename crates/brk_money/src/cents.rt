@@ -1,0 +1,99 @@
+ghost use Rattle.std.specs.Prelude.{◌≡◌, ◌≢◌, ◌≤◌, ◌+◌, ◌<◌, ◌^◌, ◌≤ℤ◌, ℕ, ℤ, pos, negsuc, SomeIff, IfSome, IfNone, Some};
+ghost use Rattle.brk_money.specs.Spelling.{cents_text, magnitude_text, most_cents, IsWithin};
+
+use crate::whole::parse_whole;
+use std::marker::Model;
+
+/// An amount of whole cents, up to 10^17 either way.
+#[derive(Clone, Copy, Debug, PartialEq, Eq)]
+pub struct Cents(i64);
+
+impl Model for Cents {
+    ghost Value = { ℤ };
+
+    ghost view = { λ a. a.0 };
+
+    ghost inverse = { λ z. record { 0 = z } };
+
+    ghost invariant = { λ a. (negsuc 99999999999999999 ≤ℤ a.0) × (a.0 ≤ℤ pos 100000000000000000) };
+}
+
+impl Cents {
+    /// The greatest amount, either way.
+    pub const GREATEST: u64 = 100_000_000_000_000_000;
+
+    /// The amount of so many cents, where it is within the limits.
+    pub fn new(cents: i64) -> Option<Cents>
+        ensures { SomeIff result ((negsuc 99999999999999999 ≤ℤ cents) × (cents ≤ℤ pos 100000000000000000)) cents }
+    {
+        if -100_000_000_000_000_000 <= cents && cents <= 100_000_000_000_000_000 {
+            Some(Cents(cents))
+        } else {
+            None
+        }
+    }
+
+    pub fn get(self) -> i64
+        ensures value { result ≡ self }
+        ensures low { negsuc 99999999999999999 ≤ℤ self }
+        ensures high { self ≤ℤ pos 100000000000000000 }
+    {
+        self.0
+    }
+}
+
+// The cents that the bytes spell without a sign.
+#[tactic(auto, using(crate::proofs::Plain::plain_split, crate::proofs::Plain::plain_joined))]
+fn parse_plain(bytes: &[u8]) -> Option<u64>
+    ensures found { IfSome result (λ n. (n ≤ most_cents) × (bytes.now ≡ magnitude_text n)) }
+    ensures none { IfNone result ((n : ℕ) → n ≤ most_cents → bytes.now ≢ magnitude_text n) }
+{
+    if bytes.len() < 3 {
+        return None;
+    }
+    let (whole, rest) = bytes.split_at(bytes.len() - 3);
+    let tens = rest[1];
+    let ones = rest[2];
+    if rest[0] != b'.' || tens < b'0' || tens > b'9' || ones < b'0' || ones > b'9' {
+        return None;
+    }
+    let Some(units) = parse_whole(whole, Cents::GREATEST / 100) else {
+        return None;
+    };
+    let n = units * 100 + (tens - b'0') as u64 * 10 + (ones - b'0') as u64;
+    if n > Cents::GREATEST {
+        return None;
+    }
+    Some(n)
+}
+
+/// The amount that the bytes spell, within the limit: a minus below zero, digits without a needless zero, a point and
+/// two digits. `-0.00`, `010.00` and `10.0` spell none.
+#[tactic(auto, using(crate::proofs::Plain::plain_split))]
+pub fn parse_cents(bytes: &[u8]) -> Option<Cents>
+    ensures found { IfSome result (λ cents. IsWithin cents × (bytes.now ≡ cents_text cents)) }
+    ensures none { IfNone result ((z : ℤ) → IsWithin z → bytes.now ≢ cents_text z) }
+{
+    match bytes {
+        [b'-', rest @ ..] => {
+            let Some(n) = parse_plain(rest) else {
+                return None;
+            };
+            if n == 0 {
+                return None;
+            }
+            Some(Cents(-(n as i64)))
+        }
+        _ => {
+            let Some(n) = parse_plain(bytes) else {
+                return None;
+            };
+            Some(Cents(n as i64))
+        }
+    }
+}
+
+/// No two amounts are spelled alike.
+pub fn one_spelling()
+    ensures { (y z : ℤ) → IsWithin y → IsWithin z → cents_text y ≡ cents_text z → y ≡ z }
+{}

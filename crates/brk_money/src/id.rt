@@ -1,0 +1,41 @@
+ghost use Rattle.std.specs.Prelude.{◌≡◌, ℕ, ◌≤◌, ◌^◌, SomeIff};
+
+use std::marker::Model;
+
+/// The number of a customer, an account, a broker, a trade or a tax rate, 1 to 10^12.
+#[derive(Clone, Copy, Debug, PartialEq, Eq)]
+pub struct Id(u64);
+
+impl Model for Id {
+    ghost Value = { ℕ };
+
+    ghost view = { λ id. id.0 };
+
+    ghost inverse = { λ n. record { 0 = n } };
+
+    ghost invariant = { λ id. (1 ≤ id.0) × (id.0 ≤ 1000000000000) };
+}
+
+impl Id {
+    /// The greatest id.
+    pub const GREATEST: u64 = 1_000_000_000_000;
+
+    /// The id with a number, where the number is within the limits.
+    pub fn new(number: u64) -> Option<Id>
+        ensures { SomeIff result ((1 ≤ number) × (number ≤ 1000000000000)) number }
+    {
+        if 1 <= number && number <= Id::GREATEST {
+            Some(Id(number))
+        } else {
+            None
+        }
+    }
+
+    pub fn get(self) -> u64
+        ensures value { result ≡ self }
+        ensures low { 1 ≤ self }
+        ensures high { self ≤ 1000000000000 }
+    {
+        self.0
+    }
+}

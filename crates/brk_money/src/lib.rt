@@ -1,0 +1,40 @@
+//! Amounts, moments and numbers of a brokerage, each within its limits and in one spelling, and the words that every
+//! layer names: the types and the statuses of trades, refusals and faults.
+#![tactic(auto)]
+
+pub mod amounts;
+pub mod cents;
+pub mod fault;
+pub mod id;
+pub mod price;
+pub mod qty;
+pub mod rate;
+pub mod refusal;
+pub mod side;
+pub mod stamp;
+pub mod status;
+pub mod tax_rate;
+pub mod tax_status;
+pub mod trade_type;
+pub mod whole;
+pub mod wide;
+
+pub use amounts::{commission, half_up, tax};
+pub use cents::{Cents, parse_cents};
+pub use fault::{Condition, Fault};
+pub use id::Id;
+pub use price::Price;
+pub use qty::Qty;
+pub use rate::Rate;
+pub use refusal::{Limit, Planned, Refusal};
+pub use side::Side;
+pub use stamp::{Stamp, stamp_after};
+pub use status::Status;
+pub use tax_rate::TaxRate;
+pub use tax_status::TaxStatus;
+pub use trade_type::TradeType;
+pub use whole::parse_whole;
+pub use wide::{Wide, write_cents};
+
+#[cfg(test)]
+mod tests;

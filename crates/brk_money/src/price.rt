@@ -1,0 +1,41 @@
+ghost use Rattle.std.specs.Prelude.{◌≡◌, ◌≤◌, ℕ, SomeIff};
+
+use std::marker::Model;
+
+/// The price of one share in cents, 1 to 9,999,999.
+#[derive(Clone, Copy, Debug, PartialEq, Eq)]
+pub struct Price(u32);
+
+impl Model for Price {
+    ghost Value = { ℕ };
+
+    ghost view = { λ price. price.0 };
+
+    ghost inverse = { λ n. record { 0 = n } };
+
+    ghost invariant = { λ price. (1 ≤ price.0) × (price.0 ≤ 9999999) };
+}
+
+impl Price {
+    /// The greatest price, in cents.
+    pub const GREATEST: u32 = 9_999_999;
+
+    /// The price of so many cents, where it is within the limits.
+    pub fn new(cents: u32) -> Option<Price>
+        ensures { SomeIff result ((1 ≤ cents) × (cents ≤ 9999999)) cents }
+    {
+        if 1 <= cents && cents <= Price::GREATEST {
+            Some(Price(cents))
+        } else {
+            None
+        }
+    }
+
+    pub fn get(self) -> u32
+        ensures value { result ≡ self }
+        ensures low { 1 ≤ self }
+        ensures high { self ≤ 9999999 }
+    {
+        self.0
+    }
+}

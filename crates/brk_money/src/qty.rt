@@ -1,0 +1,41 @@
+ghost use Rattle.std.specs.Prelude.{◌≡◌, ◌≤◌, ℕ, SomeIff};
+
+use std::marker::Model;
+
+/// A number of shares that a trade is for, 1 to 999,999.
+#[derive(Clone, Copy, Debug, PartialEq, Eq)]
+pub struct Qty(u32);
+
+impl Model for Qty {
+    ghost Value = { ℕ };
+
+    ghost view = { λ qty. qty.0 };
+
+    ghost inverse = { λ n. record { 0 = n } };
+
+    ghost invariant = { λ qty. (1 ≤ qty.0) × (qty.0 ≤ 999999) };
+}
+
+impl Qty {
+    /// The greatest quantity.
+    pub const GREATEST: u32 = 999_999;
+
+    /// The quantity of so many shares, where it is within the limits.
+    pub fn new(shares: u32) -> Option<Qty>
+        ensures { SomeIff result ((1 ≤ shares) × (shares ≤ 999999)) shares }
+    {
+        if 1 <= shares && shares <= Qty::GREATEST {
+            Some(Qty(shares))
+        } else {
+            None
+        }
+    }
+
+    pub fn get(self) -> u32
+        ensures value { result ≡ self }
+        ensures low { 1 ≤ self }
+        ensures high { self ≤ 999999 }
+    {
+        self.0
+    }
+}

@@ -1,0 +1,40 @@
+ghost use Rattle.std.specs.Prelude.{◌≡◌, ◌≤◌, ℕ, SomeIff};
+
+use std::marker::Model;
+
+/// A commission rate in hundredths of a percent, 0 to 10,000 (CR_RATE).
+#[derive(Clone, Copy, Debug, PartialEq, Eq)]
+pub struct Rate(u32);
+
+impl Model for Rate {
+    ghost Value = { ℕ };
+
+    ghost view = { λ rate. rate.0 };
+
+    ghost inverse = { λ n. record { 0 = n } };
+
+    ghost invariant = { λ rate. rate.0 ≤ 10000 };
+}
+
+impl Rate {
+    /// The greatest rate: the whole value of the trade.
+    pub const GREATEST: u32 = 10_000;
+
+    /// The rate of so many hundredths of a percent, where it is within the limit.
+    pub fn new(hundredths: u32) -> Option<Rate>
+        ensures { SomeIff result (hundredths ≤ 10000) hundredths }
+    {
+        if hundredths <= Rate::GREATEST {
+            Some(Rate(hundredths))
+        } else {
+            None
+        }
+    }
+
+    pub fn get(self) -> u32
+        ensures value { result ≡ self }
+        ensures high { self ≤ 10000 }
+    {
+        self.0
+    }
+}

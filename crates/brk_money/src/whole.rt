@@ -1,0 +1,43 @@
+ghost use Rattle.std.specs.Prelude.{◌≡◌, ◌≢◌, ◌+◌, ◌-◌, ◌*◌, ◌^◌, ◌<◌, ◌≤◌, ℕ, true, IfSome, IfNone};
+ghost use Rattle.std.specs.Fmt.{decimal};
+ghost use Rattle.std.specs.Str.{all_ascii_digits};
+ghost use Rattle.brk_money.specs.Spelling.{read_on};
+
+// What digits read as, unless it is above the limit.
+#[tactic(auto, using(crate::proofs::Digits::read_on_le))]
+fn read_digits(bytes: &[u8], limit: u64) -> Option<u64>
+    requires { limit ≤ 10 ^ 17 }
+    ensures found { IfSome result (λ n. (all_ascii_digits bytes.now ≡ true) × (read_on 0 bytes.now ≡ n) × (n ≤ limit)) }
+    ensures none { IfNone result (all_ascii_digits bytes.now ≡ true → limit < read_on 0 bytes.now) }
+{
+    let mut value: u64 = 0;
+    for b in bytes {
+        if *b < b'0' || *b > b'9' {
+            return None;
+        }
+        value = value * 10 + (*b - b'0') as u64;
+        if value > limit {
+            return None;
+        }
+    }
+    Some(value)
+}
+
+/// The whole number up to the limit that the bytes spell: digits without a sign and without a needless zero in front.
+#[tactic(auto, using(crate::proofs::Digits::whole_found, crate::proofs::Digits::whole_only))]
+pub fn parse_whole(bytes: &[u8], limit: u64) -> Option<u64>
+    requires { limit ≤ 10 ^ 17 }
+    ensures found { IfSome result (λ n. (n ≤ limit) × (bytes.now ≡ decimal n)) }
+    ensures none { IfNone result ((n : ℕ) → n ≤ limit → bytes.now ≢ decimal n) }
+{
+    if bytes.is_empty() {
+        return None;
+    }
+    if bytes[0] == b'0' && bytes.len() > 1 {
+        return None;
+    }
+    let Some(n) = read_digits(bytes, limit) else {
+        return None;
+    };
+    Some(n)
+}

@@ -1,0 +1,83 @@
+ghost use Rattle.std.specs.Prelude.{◌≡◌, ◌++◌, ℤ, OnOk, OnErr, Err};
+ghost use Rattle.brk_money.specs.Spelling.{cents_text};
+ghost use Rattle.brk_money.specs.declared.fault.Fault.TheVariants.{Memory};
+
+use crate::cents::Cents;
+use crate::fault::Fault;
+use itoa::Buffer;
+use std::marker::Model;
+
+/// An amount of cents that may go beyond the limits of a balance, as an asset total does.
+#[derive(Clone, Copy, Debug, PartialEq, Eq)]
+pub struct Wide(i128);
+
+impl Model for Wide {
+    ghost Value = { ℤ };
+
+    ghost view = { λ a. a.0 };
+
+    ghost inverse = { λ z. record { 0 = z } };
+}
+
+impl Wide {
+    pub fn new(cents: i128) -> Wide
+        ensures { result ≡ cents }
+    {
+        Wide(cents)
+    }
+
+    pub fn get(self) -> i128
+        ensures { result ≡ self }
+    {
+        self.0
+    }
+}
+
+impl From<Cents> for Wide {
+    ghost from_gives = { λ cents wide. wide ≡ cents };
+
+    fn from(cents: Cents) -> Wide {
+        Wide(i128::from(cents.get()))
+    }
+}
+
+// Adds three texts in turn.
+fn append_three(
+    out: &mut Vec<u8>,
+    first: &[u8],
+    second: &[u8],
+    third: &[u8],
+) -> Result<(), Fault>
+    ensures ok { OnOk result (out.new.items ≡ out.old.items ++ (first.now ++ (second.now ++ third.now))) }
+    ensures err { OnErr result (out.new.items ≡ out.old.items) }
+    ensures fault { OnErr result (result ≡ Err Memory) }
+{
+    let start = out.len();
+    if out.extend_from_slice(first).is_ok()
+        && out.extend_from_slice(second).is_ok()
+        && out.extend_from_slice(third).is_ok()
+    {
+        return Ok(());
+    }
+    out.truncate(start);
+    Err(Fault::Memory)
+}
+
+/// Adds the one spelling of an amount: a minus below zero, digits, a point and two digits. Where memory is refused the
+/// vector stays as it was.
+pub fn write_cents(out: &mut Vec<u8>, amount: Wide) -> Result<(), Fault>
+    ensures ok { OnOk result (out.new.items ≡ out.old.items ++ cents_text amount) }
+    ensures err { OnErr result (out.new.items ≡ out.old.items) }
+    ensures fault { OnErr result (result ≡ Err Memory) }
+{
+    let cents = amount.0.unsigned_abs();
+    let part = (cents % 100) as u8;
+    let tail = [b'.', b'0' + part / 10, b'0' + part % 10];
+    let mut buffer = Buffer::new();
+    let whole = buffer.format(cents / 100).as_bytes();
+    if amount.0 < 0 {
+        append_three(out, b"-", whole, &tail)
+    } else {
+        append_three(out, b"", whole, &tail)
+    }
+}

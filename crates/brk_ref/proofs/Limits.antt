@@ -1,0 +1,77 @@
+-- Numbers that are read within two limits.
+use Rattle.std.proofs.Common.{◌≡◌, ◌≤◌, ℕ, Bool, true, false, refl, sym, ◌∙◌, ap, cond, arith, subst, ◌&&◌}
+use Rattle.std.specs.Prelude.{Option, Some, None, Result, Ok, Err, MatchOption, SomeIff, nat_le, ℤ, nat_abs, ◌^◌}
+use Rattle.std.specs.Option.{ok_or, option_and_then}
+use Rattle.std.proofs.lemmas.Bool.{leb-true, leb-false, le-leb, ne_eqb}
+use Rattle.brk_money.specs.Spelling.{Text, at_most, within_limit, number_of, cents_of}
+use Rattle.brk_money.specs.Kinds.{tax_status_of}
+use Rattle.brk_money.specs.declared.refusal.Refusal.{Refusal}
+use Rattle.brk_money.specs.declared.refusal.Refusal.TheVariants.{BadText}
+use Rattle.brk_money.specs.declared.tax_status.TaxStatus.{TaxStatus}
+use Rattle.brk_model.specs.Forms.{Read, read_if, read_number, read_tax_status, read_opening}
+
+-- what is not within both limits fails one of the tests
+fails_one : (low high n : ℕ) → ((low ≤ n) × (n ≤ high) → ⊥) → nat_le low n && nat_le n high ≡ false
+fails_one low high n h = by_low (nat_le low n) refl
+  where
+    by_high : (c : Bool) → nat_le n high ≡ c → nat_le low n ≡ true → c ≡ false
+    by_high true e l = absurd (h (leb-true low n l, leb-true n high e))
+    by_high false e l = refl
+    by_low : (b : Bool) → nat_le low n ≡ b → b && nat_le n high ≡ false
+    by_low true e = by_high (nat_le n high) refl e
+    by_low false e = refl
+
+-- what a test of both limits answers
+tested : (low high n : ℕ) (refusal : Refusal) (answer : Option ℕ) → SomeIff answer ((low ≤ n) × (n ≤ high)) n
+    → ok_or answer refusal ≡ cond (nat_le low n && nat_le n high) (Ok n) (Err refusal)
+tested low high n refusal (Some x) h = rw (le-leb low n h.0.0, le-leb n high h.0.1) (ap Ok h.1)
+tested low high n refusal None h = rw (fails_one low high n h) refl
+
+-- a number that was found up to the high limit, tested for both
+pub within_both : (low high : ℕ) (refusal : Refusal) (o : Option ℕ) (found : Option ℕ) (answer : Option ℕ) → found ≡ at_most high o
+    → MatchOption found (answer ≡ None) (λ n. SomeIff answer ((low ≤ n) × (n ≤ high)) n)
+    → ok_or answer refusal ≡ read_if (λ n. nat_le low n && nat_le n high) refusal o
+within_both low high refusal None found answer e h =
+    let h' = subst (λ (f : Option ℕ). MatchOption f (answer ≡ None) (λ n. SomeIff answer ((low ≤ n) × (n ≤ high)) n)) e h in
+    ap (λ (a : Option ℕ). ok_or a refusal) h'
+within_both low high refusal (Some n) found answer e h =
+    by_high (nat_le n high) refl (subst (λ (f : Option ℕ). MatchOption f (answer ≡ None) (λ n. SomeIff answer ((low ≤ n) × (n ≤ high)) n)) e h)
+  where
+    by_high : (b : Bool) → nat_le n high ≡ b → MatchOption (cond b (Some n) None) (answer ≡ None) (λ n. SomeIff answer ((low ≤ n) × (n ≤ high)) n)
+        → ok_or answer refusal ≡ cond (nat_le low n && nat_le n high) (Ok n) (Err refusal)
+    by_high true e s = tested low high n refusal answer s
+    by_high false e s =
+        let above = leb-false n high e in
+        ap (λ (a : Option ℕ). ok_or a refusal) s ∙ rw (fails_one low high n (λ both. omega (arith, both.1, above))) refl
+
+-- the tax status with a number up to 2
+pub status_read : (o : Option ℕ) (found : Option ℕ) (answer : Option TaxStatus) → found ≡ at_most 2 o
+    → MatchOption found (answer ≡ None) (λ n. answer ≡ tax_status_of n) → ok_or answer BadText ≡ read_if (λ _. true) BadText (option_and_then tax_status_of o)
+status_read None found answer e h =
+    ap (λ (a : Option TaxStatus). ok_or a BadText) (subst (λ (f : Option ℕ). MatchOption f (answer ≡ None) (λ n. answer ≡ tax_status_of n)) e h)
+status_read (Some n) found answer e h =
+    by_high (nat_le n 2) refl (subst (λ (f : Option ℕ). MatchOption f (answer ≡ None) (λ n. answer ≡ tax_status_of n)) e h)
+  where
+    passes : (o : Option TaxStatus) → ok_or o BadText ≡ read_if (λ _. true) BadText o
+    passes None = refl
+    passes (Some s) = refl
+    by_high : (b : Bool) → nat_le n 2 ≡ b → MatchOption (cond b (Some n) None) (answer ≡ None) (λ n. answer ≡ tax_status_of n)
+        → ok_or answer BadText ≡ read_if (λ _. true) BadText (tax_status_of n)
+    by_high true e s = ap (λ (a : Option TaxStatus). ok_or a BadText) s ∙ passes (tax_status_of n)
+    by_high false e s =
+        let above = leb-false n 2 e in
+        let zero' = ne_eqb n 0 (λ (h : n ≡ 0). omega arith) in
+        let one' = ne_eqb n 1 (λ (h : n ≡ 1). omega arith) in
+        let two' = ne_eqb n 2 (λ (h : n ≡ 2). omega arith) in
+        ap (λ (a : Option TaxStatus). ok_or a BadText) s ∙ rw (zero', one', two') refl
+
+-- an amount that was read
+pub opening_read : (text : Text) (answer : Option ℤ) → answer ≡ within_limit (cents_of text) → ok_or answer BadText ≡ read_opening text
+opening_read text answer e = ap (λ (a : Option ℤ). ok_or a BadText) e ∙ by_amount (cents_of text)
+  where
+    by_test : (z : ℤ) (b : Bool) → ok_or (cond b (Some z) None) BadText ≡ cond b (Ok z) (Err BadText)
+    by_test z true = refl
+    by_test z false = refl
+    by_amount : (o : Option ℤ) → ok_or (within_limit o) BadText ≡ read_if (λ z. nat_le (nat_abs z) (10 ^ 17)) BadText o
+    by_amount None = refl
+    by_amount (Some z) = by_test z (nat_le (nat_abs z) (10 ^ 17))

@@ -1,0 +1,113 @@
+ghost use Rattle.std.specs.Prelude.{◌≡◌, ◌∷◌, [], IfOk, OnErr, Err};
+ghost use Rattle.brk_model.specs.Parse.{read_account};
+ghost use Rattle.brk_money.specs.declared.fault.Fault.TheVariants.{Memory};
+ghost use Rattle.brk_ref.specs.Records.{account_of};
+ghost use Rattle.brk_ref.specs.Fields.{Reads, texts};
+
+use crate::name::Name;
+use crate::numbers::{parse_id, parse_opening, parse_tax_status};
+use brk_money::{Cents, Id, Planned, Refusal, TaxStatus};
+use std::alloc::{AllocError, Global};
+
+/// An account of a customer, looked after by a broker.
+#[derive(Debug, Drop)]
+pub struct Account {
+    pub id: Id,
+    pub customer: Id,
+    pub broker: Id,
+    pub name: Name,
+    pub tax_status: TaxStatus,
+    /// The balance that the account began with.
+    pub opening: Cents,
+}
+
+impl Clone for Account {
+    ghost is_clone = { λ one other. other ≡ one };
+
+    fn clone(&self) -> Result<Account, AllocError> {
+        Ok(Account {
+            id: self.id,
+            customer: self.customer,
+            broker: self.broker,
+            name: self.name.clone()?,
+            tax_status: self.tax_status,
+            opening: self.opening,
+        })
+    }
+}
+
+/// A row of CUSTOMER_ACCOUNT: an account with its balance.
+#[derive(Debug, Drop)]
+pub struct AccountRow {
+    pub account: Account,
+    pub balance: Cents,
+}
+
+// The account that these texts are.
+fn account_from(
+    alloc: Global,
+    id: &[u8],
+    customer: &[u8],
+    broker: &[u8],
+    name: &[u8],
+    tax_status: &[u8],
+    opening: &[u8],
+) -> Planned<Account>
+    ensures read { IfOk result (λ read. Reads account_of read (read_account (id.now ∷ customer.now ∷ broker.now ∷ name.now ∷ tax_status.now ∷ opening.now ∷ []))) }
+    ensures fault { OnErr result (result ≡ Err Memory) }
+{
+    let Some(id) = parse_id(id) else {
+        return Ok(Err(Refusal::BadText));
+    };
+    let Some(customer) = parse_id(customer) else {
+        return Ok(Err(Refusal::BadText));
+    };
+    let Some(broker) = parse_id(broker) else {
+        return Ok(Err(Refusal::BadText));
+    };
+    let Some(name) = Name::parse(alloc, name)? else {
+        return Ok(Err(Refusal::BadText));
+    };
+    let Some(tax_status) = parse_tax_status(tax_status) else {
+        return Ok(Err(Refusal::BadText));
+    };
+    let Some(opening) = parse_opening(opening) else {
+        return Ok(Err(Refusal::BadText));
+    };
+    Ok(Ok(Account {
+        id,
+        customer,
+        broker,
+        name,
+        tax_status,
+        opening,
+    }))
+}
+
+// The account of these parties, with the rest of its fields.
+fn account_on(
+    alloc: Global,
+    id: &[u8],
+    customer: &[u8],
+    broker: &[u8],
+    terms: &[&[u8]],
+) -> Planned<Account>
+    ensures read { IfOk result (λ read. Reads account_of read (read_account (id.now ∷ customer.now ∷ broker.now ∷ texts terms.now))) }
+    ensures fault { OnErr result (result ≡ Err Memory) }
+{
+    let [name, tax_status, opening] = terms else {
+        return Ok(Err(Refusal::BadText));
+    };
+    account_from(alloc, id, customer, broker, name, tax_status, opening)
+}
+
+/// The account that the fields ID, CUSTOMER, BROKER, NAME, TAXST and OPENING are, or the refusal of their form.
+pub fn check_account(alloc: Global, fields: &[&[u8]]) -> Planned<Account>
+    ensures read { IfOk result (λ read. Reads account_of read (read_account (texts fields.now))) }
+    ensures fault { OnErr result (result ≡ Err Memory) }
+{
+    let [id, customer, broker, terms @ ..] = fields else {
+        return Ok(Err(Refusal::BadText));
+    };
+    account_on(alloc, id, customer, broker, terms)
+}

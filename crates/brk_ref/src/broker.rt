@@ -1,0 +1,53 @@
+ghost use Rattle.std.specs.Prelude.{◌≡◌, IfOk, OnErr, Err};
+ghost use Rattle.brk_model.specs.Parse.{read_broker};
+ghost use Rattle.brk_money.specs.declared.fault.Fault.TheVariants.{Memory};
+ghost use Rattle.brk_ref.specs.Records.{broker_of};
+ghost use Rattle.brk_ref.specs.Fields.{Reads, texts};
+
+use crate::name::Name;
+use crate::numbers::parse_id;
+use brk_money::{Cents, Id, Planned, Refusal};
+use std::alloc::{AllocError, Global};
+
+/// A broker.
+#[derive(Debug, Drop)]
+pub struct Broker {
+    pub id: Id,
+    pub name: Name,
+}
+
+impl Clone for Broker {
+    ghost is_clone = { λ one other. other ≡ one };
+
+    fn clone(&self) -> Result<Broker, AllocError> {
+        Ok(Broker {
+            id: self.id,
+            name: self.name.clone()?,
+        })
+    }
+}
+
+/// A row of BROKER: a broker with the number of its completed trades and their commissions.
+#[derive(Debug, Drop)]
+pub struct BrokerRow {
+    pub broker: Broker,
+    pub trades: i64,
+    pub commissions: Cents,
+}
+
+/// The broker that the fields ID and NAME are, or the refusal of their form.
+pub fn check_broker(alloc: Global, fields: &[&[u8]]) -> Planned<Broker>
+    ensures read { IfOk result (λ read. Reads broker_of read (read_broker (texts fields.now))) }
+    ensures fault { OnErr result (result ≡ Err Memory) }
+{
+    let [id, name] = fields else {
+        return Ok(Err(Refusal::BadText));
+    };
+    let Some(id) = parse_id(id) else {
+        return Ok(Err(Refusal::BadText));
+    };
+    let Some(name) = Name::parse(alloc, name)? else {
+        return Ok(Err(Refusal::BadText));
+    };
+    Ok(Ok(Broker { id, name }))
+}
