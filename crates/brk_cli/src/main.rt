@@ -1,4 +1,44 @@
-//! The program.
+//! The program `brk`: a brokerage desk at the command line.
 #![tactic(auto)]
 
-fn main() {}
+mod batch;
+mod ending;
+mod moment;
+mod words;
+
+use crate::ending::{Ending, end_with};
+use crate::words::{Job, UsageFault, read_words};
+use std::env;
+use std::process::ExitCode;
+
+// Does what the words of the command line ask for.
+fn run(rt: &HostRuntime) -> Ending {
+    let Ok(words) = env::args(rt) else {
+        return Ending::Usage(UsageFault::Memory);
+    };
+    let Ok(words) = words.collect(rt.alloc()) else {
+        return Ending::Usage(UsageFault::Memory);
+    };
+    match read_words(rt.alloc(), words) {
+        Ok(Job::Batch { at }) => batch::run(rt, at),
+        Err(UsageFault::Help(text)) => show(rt, text),
+        Err(fault) => Ending::Usage(fault),
+    }
+}
+
+// Prints help that was asked for.
+fn show(rt: &HostRuntime, text: String) -> Ending {
+    match rt.print(text.as_str()) {
+        Ok(()) => Ending::Usage(UsageFault::Help(text)),
+        Err(_) => Ending::Output,
+    }
+}
+
+fn main(rt: HostRuntime) -> ExitCode {
+    let ending = run(&rt);
+    let mut errors = rt.stderr();
+    ExitCode::from(end_with(&ending, &mut errors))
+}
+
+#[cfg(test)]
+mod tests;

@@ -35,10 +35,7 @@ fn found_for_broker<S: Alter>(store: &mut Store<S>, broker: &Broker) -> Result<F
 }
 
 // What the tables hold that decides on a customer.
-fn found_for_customer<S: Alter>(
-    store: &mut Store<S>,
-    customer: &Customer,
-) -> Result<Found, Fault> {
+fn found_for_customer<S: Alter>(store: &mut Store<S>, customer: &Customer) -> Result<Found, Fault> {
     let mut found = NOTHING;
     found.same_id = store.customer(customer.id)?.is_some();
     found.same_tax_id = store.customer_by_tax_id(&customer.tax_id)?.is_some();
@@ -97,12 +94,7 @@ impl<S: Alter> Desk<S> {
 
     /// Decides on a command at a moment and books it where it is accepted: by one change of the tables, which is the
     /// last call of the database. At a refusal or a fault the tables are as they were.
-    pub fn call(
-        &mut self,
-        alloc: Global,
-        now: Stamp,
-        command: &Command,
-    ) -> Result<Answer, Fault> {
+    pub fn call(&mut self, alloc: Global, now: Stamp, command: &Command) -> Result<Answer, Fault> {
         match command {
             Command::Add(reference) => add(alloc, &mut self.store, now, reference),
         }

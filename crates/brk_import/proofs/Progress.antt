@@ -1,11 +1,10 @@
 -- How far a batch has come.
-use Rattle.std.proofs.Common.{◌≡◌, ◌+◌, ◌++◌, ◌∷◌, [], ℕ, List, Bool, sym, ap, ◌∙◌, refl, length, arith, cond, count_by}
+use Rattle.std.proofs.Common.{◌≡◌, ◌+◌, ◌++◌, ◌∷◌, [], ℕ, List, Bool, refl, length, arith, cond, count_by}
 use Rattle.std.specs.Prelude.{Option}
 use Rattle.std.specs.List.{AllByRecursion}
 use Rattle.std.specs.Io.KnownBytes.{Appends}
 use Rattle.std.proofs.KnownBytes.{Appends-trans}
 use Rattle.std.proofs.lemmas.Grind.{fold-append}
-use Rattle.std.proofs.lemmas.List.{length-append}
 use Rattle.std.proofs.lemmas.List.Sums.{sum_by-cons}
 use Rattle.csv.specs.declared.reader.Reader.{Reader}
 use Rattle.csv.specs.Reading.{source_of}
@@ -14,9 +13,8 @@ use Rattle.brk_model.specs.Answers.{Fields, RowStep}
 use Rattle.brk_model.specs.Batch.{AreSettled}
 use Rattle.brk_model.specs.Commands.{Again, Answer, Done, Refused}
 use Rattle.brk_model.specs.Forms.{Read}
-use Rattle.brk_model.specs.Input.{IsEnd, IsName, header_of}
+use Rattle.brk_model.specs.Input.{header_of}
 use Rattle.brk_model.specs.Lines.{answer_line, count_again, count_done, count_refused, is_again, is_done, is_refused, lines_from}
-use Rattle.brk_import.specs.Answers.{AnsweredBy}
 use Rattle.brk_import.specs.Counts.{counted, counts_of}
 use Rattle.brk_import.specs.Moments.{Moments}
 use Rattle.brk_import.specs.Reading.{Stands}

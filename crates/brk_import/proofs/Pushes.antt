@@ -107,7 +107,7 @@ answered_push {S = S} {X = X} honest stands form step gives batch first mid desk
     let formed = formed_push form 1 rows row ∙ ap (λ (o : Read X). formed_from form 1 rows ++ with_formed o (1 + length rows) []) e in
     let wove = rw e at (woven_push form 1 rows row h.replies (answer ∷ []) h.replied) in
     let longer : length (formed_from form 1 (rows ++ (row ∷ []))) ≡ length (formed_from form 1 rows) + 1 =
-        ap length formed ∙ length-append (formed_from form 1 rows) ((1 + length rows, command) ∷ []) in
+    ap length formed ∙ length-append (formed_from form 1 rows) ((1 + length rows, command) ∷ []) in
     record {
       moments = h.moments ++ (a.0 ∷ []);
       replies = h.replies ++ (answer ∷ []);

@@ -16,6 +16,7 @@ use std::alloc::{AllocError, Global};
 
 impl<S: Alter> Rows for Desk<S> {
     type Command = Command;
+
     type Reply = Reply;
 
     ghost Base = { Base };

@@ -87,6 +87,18 @@ firsts_after us kept r u fresh left old =
           let one : filter (new_to us) (filter (new_to kept) (u ∷ [])) ≡ u ∷ [] = rw (count_none u.trade kept left, count_none u.trade us fresh) refl in
           ap (λ (vs : List Share). filter (new_to us) (filter (new_to kept) vs)) f ∙ one ∙ sym f
 
+-- a deal opens its lot with what it does not close
+pub opened_qty : (d : Deal) (us : List Share) → Without d.trade us → lot_qty (shares_after us d) d.trade ≡ signed d.side (d.qty - closed_count d us)
+unfolding total_by
+opened_qty d us fresh =
+    let u = opened_share d in
+    let n = d.qty - closed_count d us in
+    let kept = without d.is_lifo (closed_count d us) us in
+    let left : opened_by d.trade kept ≡ [] = opened_none d.trade kept (all_without (λ v. v.trade ≢ d.trade) d.is_lifo (closed_count d us) us fresh) in
+    ap (λ (vs : List Share). lot_qty vs d.trade) (after_is d us)
+    ∙ ap net (filter-append (λ (v : Share). eqb v.trade d.trade) kept (replicate n u) ∙ ap (λ (vs : List Share). vs ++ opened_by d.trade (replicate n u)) left)
+    ∙ lot_counts d.side d.trade (replicate n u) (all_run (λ v. v.side ≡ d.side) n u refl) ∙ ap (signed d.side) (count_alike n u)
+
 -- what the deal opens
 opened_row : (d : Deal) (us : List Share) → Without d.trade us → (n : ℕ) → d.qty - closed_count d us ≡ n
     → filter is_change (map (touch_of d us) (firsts (replicate n (opened_share d)))) ≡ map opening_touch (lots (replicate n (opened_share d)))
@@ -94,13 +106,8 @@ unfolding total_by
 opened_row d us fresh zero z = ap (map opening_touch) (sym (lots_alike 0 (opened_share d)))
 opened_row d us fresh (suc n) z =
     let u = opened_share d in
-    let kept = without d.is_lifo (closed_count d us) us in
     let before : lot_qty us d.trade ≡ pos 0 = ap net (opened_none d.trade us fresh) in
-    let left : opened_by d.trade kept ≡ [] = opened_none d.trade kept (all_without (λ v. v.trade ≢ d.trade) d.is_lifo (closed_count d us) us fresh) in
-    let run : lot_qty (replicate (suc n) u) d.trade ≡ signed d.side (suc n) = lot_counts d.side d.trade (replicate (suc n) u) (all_run (λ v. v.side ≡ d.side) (suc n) u refl) ∙ ap (signed d.side) (count_alike (suc n) u) in
-    let after : lot_qty (shares_after us d) d.trade ≡ signed d.side (suc n) =
-    ap (λ (vs : List Share). lot_qty vs d.trade) (after_is d us ∙ ap (λ m. kept ++ replicate m u) z)
-    ∙ ap net (filter-append (λ (v : Share). eqb v.trade d.trade) kept (replicate (suc n) u) ∙ ap (λ (vs : List Share). vs ++ opened_by d.trade (replicate (suc n) u)) left) ∙ run in
+    let after : lot_qty (shares_after us d) d.trade ≡ signed d.side (suc n) = opened_qty d us fresh ∙ ap (signed d.side) z in
     let touch : touch_of d us u ≡ record { lot = d.trade; before = pos 0; after = signed d.side (suc n) } = rw (before, after) refl in
     let changes : is_change (record { lot = d.trade; before = pos 0; after = signed d.side (suc n) }) ≡ true = opens d.side in
     ap (λ (vs : List Share). filter is_change (map (touch_of d us) vs)) (firsts_alike n u)

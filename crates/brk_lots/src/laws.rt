@@ -1,9 +1,9 @@
 //! Laws of whole histories, over the definitions that the contracts cite.
 
-ghost use Rattle.std.specs.Prelude.{◌≡◌, ◌+ℤ◌, ◌++◌, List, [], ℕ, map};
+ghost use Rattle.std.specs.Prelude.{◌≡◌, ◌-◌, ◌+ℤ◌, ◌++◌, List, [], ℕ, map};
 ghost use Rattle.std.specs.List.{AllByRecursion};
 ghost use Rattle.brk_money.specs.declared.side.Side.{Side};
-ghost use Rattle.brk_model.specs.Shares.{Deal, Share, replay, net, lot_qty, lots, history, touches, opened_shares, shares_after};
+ghost use Rattle.brk_model.specs.Shares.{Deal, Share, replay, net, lot_qty, lots, history, touches, opened_shares, shares_after, closed_count, signed};
 ghost use Rattle.brk_lots.specs.declared.lot.Lot.{Lot};
 ghost use Rattle.brk_lots.specs.Books.{deals_total, gains, lots_cost, lots_total, spent};
 ghost use Rattle.brk_lots.specs.Chains.{IsLife, opening_touch, rows_of};
@@ -22,7 +22,9 @@ pub fn books_balance()
 /// The history of each lot forms a chain: from 0 to what its trade opens, then each row begins where the one before ended
 /// and comes strictly nearer to 0, to what is there in the end.
 pub fn lots_live()
-    ensures { (deals : List Deal) (trade : ℕ) → AreDeals deals → IsLife (rows_of trade deals []) (lot_qty (replay deals) trade) }
+    ensures life { (deals : List Deal) (trade : ℕ) → AreDeals deals → IsLife (rows_of trade deals []) (lot_qty (replay deals) trade) }
+    ensures opened { (d : Deal) (ls : List Lot) → IsPosition ls → IsNew d.trade ls →
+        lot_qty (shares_after (shares_of ls) d) d.trade ≡ signed d.side (d.qty - closed_count d (shares_of ls)) }
 {}
 
 /// The lots that a deal touches and the lot that it opens are all of its holding history.

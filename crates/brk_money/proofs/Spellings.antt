@@ -89,7 +89,7 @@ digits_value-magnitude n h =
     let whole = decimal (n / 100) in
     let kept = filter-append is_ascii_digit whole (46 ∷ (48 + n % 100 / 10) ∷ (48 + n % 10) ∷ []) in
     let tail : filter is_ascii_digit (46 ∷ (48 + n % 100 / 10) ∷ (48 + n % 10) ∷ []) ≡ (48 + n % 100 / 10) ∷ (48 + n % 10) ∷ [] =
-      digit_kept (n % 100 / 10) ((48 + n % 10) ∷ []) (omega arith) ∙ ap (λ (l : List ℕ). (48 + n % 100 / 10) ∷ l) (digit_kept (n % 10) [] (omega arith)) in
+    digit_kept (n % 100 / 10) ((48 + n % 10) ∷ []) (omega arith) ∙ ap (λ (l : List ℕ). (48 + n % 100 / 10) ∷ l) (digit_kept (n % 10) [] (omega arith)) in
     let front = digits_value-decimal (n / 100) (omega arith) in
     ap (fold (λ n c. 10 * n + (c - 48)) 0) kept
     ∙ fold-append (λ n c. 10 * n + (c - 48)) 0 (filter is_ascii_digit whole) (filter is_ascii_digit (46 ∷ (48 + n % 100 / 10) ∷ (48 + n % 10) ∷ []))

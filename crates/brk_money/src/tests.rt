@@ -1,6 +1,6 @@
 use crate::{
-    Cents, Id, Limit, Price, Qty, Rate, Refusal, Stamp, Status, TaxRate, TaxStatus, Wide, commission,
-    half_up, parse_cents, parse_whole, stamp_after, tax, write_cents,
+    Cents, Id, Limit, Price, Qty, Rate, Refusal, Stamp, Status, TaxRate, TaxStatus, Wide,
+    commission, half_up, parse_cents, parse_whole, stamp_after, tax, write_cents,
 };
 use std::test::Fail;
 
@@ -37,7 +37,14 @@ fn reads_one_spelling(rt: HostRuntime) {
 fn reads_whole_numbers(rt: HostRuntime) {
     assert!(rt; parse_whole(b"0", 0) == Some(0));
     assert!(rt; parse_whole(b"1000000000000", Id::GREATEST) == Some(1_000_000_000_000));
-    let others: [&[u8]; 6] = [b"", b"01", b"-1", b"1 ", b"1000000000001", b"99999999999999999999999999"];
+    let others: [&[u8]; 6] = [
+        b"",
+        b"01",
+        b"-1",
+        b"1 ",
+        b"1000000000001",
+        b"99999999999999999999999999",
+    ];
     for text in others {
         assert!(rt; parse_whole(text, Id::GREATEST).is_none(), "of {text:?}");
     }

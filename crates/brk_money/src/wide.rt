@@ -42,12 +42,7 @@ impl From<Cents> for Wide {
 }
 
 // Adds three texts in turn.
-fn append_three(
-    out: &mut Vec<u8>,
-    first: &[u8],
-    second: &[u8],
-    third: &[u8],
-) -> Result<(), Fault>
+fn append_three(out: &mut Vec<u8>, first: &[u8], second: &[u8], third: &[u8]) -> Result<(), Fault>
     ensures ok { OnOk result (out.new.items ≡ out.old.items ++ (first.now ++ (second.now ++ third.now))) }
     ensures err { OnErr result (out.new.items ≡ out.old.items) }
     ensures fault { OnErr result (result ≡ Err Memory) }

@@ -17,6 +17,7 @@ fails_one low high n h = by_low (nat_le low n) refl
     by_high : (c : Bool) → nat_le n high ≡ c → nat_le low n ≡ true → c ≡ false
     by_high true e l = absurd (h (leb-true low n l, leb-true n high e))
     by_high false e l = refl
+
     by_low : (b : Bool) → nat_le low n ≡ b → b && nat_le n high ≡ false
     by_low true e = by_high (nat_le n high) refl e
     by_low false e = refl
@@ -55,6 +56,7 @@ status_read (Some n) found answer e h =
     passes : (o : Option TaxStatus) → ok_or o BadText ≡ read_if (λ _. true) BadText o
     passes None = refl
     passes (Some s) = refl
+
     by_high : (b : Bool) → nat_le n 2 ≡ b → MatchOption (cond b (Some n) None) (answer ≡ None) (λ n. answer ≡ tax_status_of n)
         → ok_or answer BadText ≡ read_if (λ _. true) BadText (tax_status_of n)
     by_high true e s = ap (λ (a : Option TaxStatus). ok_or a BadText) s ∙ passes (tax_status_of n)
@@ -72,6 +74,7 @@ opening_read text answer e = ap (λ (a : Option ℤ). ok_or a BadText) e ∙ by_
     by_test : (z : ℤ) (b : Bool) → ok_or (cond b (Some z) None) BadText ≡ cond b (Ok z) (Err BadText)
     by_test z true = refl
     by_test z false = refl
+
     by_amount : (o : Option ℤ) → ok_or (within_limit o) BadText ≡ read_if (λ z. nat_le (nat_abs z) (10 ^ 17)) BadText o
     by_amount None = refl
     by_amount (Some z) = by_test z (nat_le (nat_abs z) (10 ^ 17))

@@ -26,7 +26,9 @@ fn plans_a_broker(rt: HostRuntime) -> Result<(), Fail> {
     assert!(rt; plan.reply == Reply::Booked(now));
     assert_eq!(rt; plan.changes.len(), 2);
     assert!(rt; matches!(plan.changes[0], Change::AddBroker(_)));
-    let later = plan_reference(rt.alloc(), &reference, found, Some(now), now)?.map_err(|_| "refused")?;
+    let later = plan_reference(rt.alloc(), &reference, found, Some(now), now)?.map_err(
+        |_| "refused",
+    )?;
     assert!(rt; Some(later.reply) == Stamp::new(1709251200001).map(Reply::Booked));
     Ok(())
 }

@@ -26,37 +26,37 @@ pub returns-in-Err-finish : goal.returns-in-Err-finish
 returns-in-Err-finish g c = λ text h.
     let r = c.loop-settled.invariant.reached in
     comes _ _ _ _ _ _ _ _ _ _ r _ text _ _ (λ good. good) (λ good base stood. stood) (λ T other base after turns.
-        end_failed _ _ _ _ _ _ _ _ text (progress_of _ _ _ _ _ _ _ _ _ _ r other base after turns) c.in-Err-finish.kind c.loop-settled.invariant.written
-        (c.if-is_end.ensures.0 refl) c.in-Err-finish.ensures.err h)
+    end_failed _ _ _ _ _ _ _ _ text (progress_of _ _ _ _ _ _ _ _ _ _ r other base after turns) c.in-Err-finish.kind c.loop-settled.invariant.written
+    (c.if-is_end.ensures.0 refl) c.in-Err-finish.ensures.err h)
 
 pub returns-then-is_end : goal.returns-then-is_end
 returns-then-is_end g c = λ text h.
     let r = c.loop-settled.invariant.reached in
     comes _ _ _ _ _ _ _ _ _ _ r _ text _ _ (λ good. good) (λ good base stood. stood) (λ T other base after turns.
-        ended_well _ _ _ _ _ _ _ _ text (progress_of _ _ _ _ _ _ _ _ _ _ r other base after turns) c.loop-settled.invariant.written
-        c.in_default.ensures.right c.in_default.ensures.ok h)
+    ended_well _ _ _ _ _ _ _ _ text (progress_of _ _ _ _ _ _ _ _ _ _ r other base after turns) c.loop-settled.invariant.written
+    c.in_default.ensures.right c.in_default.ensures.ok h)
 
 pub returns-in-Err-read_record : goal.returns-in-Err-read_record
 returns-in-Err-read_record g c = λ text h.
     let r = c.loop-settled.invariant.reached in
     comes _ _ _ _ _ _ _ _ _ _ r _ text _ _ (λ good. good) (λ good base stood. stood) (λ T other base after turns.
-        read_failed _ _ _ _ _ _ _ text (progress_of _ _ _ _ _ _ _ _ _ _ r other base after turns) c.in-Err-read_record.kind c.loop-settled.invariant.written
-        c.in-Err-read_record.ensures.kind h)
+    read_failed _ _ _ _ _ _ _ text (progress_of _ _ _ _ _ _ _ _ _ _ r other base after turns) c.in-Err-read_record.kind c.loop-settled.invariant.written
+    c.in-Err-read_record.ensures.kind h)
 
 pub returns-then-not-has_next : goal.returns-then-not-has_next
 returns-then-not-has_next g c = λ text h.
     let r = c.loop-settled.invariant.reached in
     comes _ _ _ _ _ _ _ _ _ _ r _ text _ _ (λ good. good) (λ good base stood. stood) (λ T other base after turns.
-        row_cut_off _ _ _ _ _ _ _ _ text (progress_of _ _ _ _ _ _ _ _ _ _ r other base after turns) _ c.loop-settled.invariant.written
-        (λ ends. let no = c.if-is_end.ensures.1 ends in cc) c.cut_off-kind.ensures
-        (λ t before stood. rw c.if-not-has_next.true at (c.in-Ok-read_record.ensures.found t before stood)) h)
+    row_cut_off _ _ _ _ _ _ _ _ text (progress_of _ _ _ _ _ _ _ _ _ _ r other base after turns) _ c.loop-settled.invariant.written
+    (λ ends. let no = c.if-is_end.ensures.1 ends in cc) c.cut_off-kind.ensures
+    (λ t before stood. rw c.if-not-has_next.true at (c.in-Ok-read_record.ensures.found t before stood)) h)
 
 pub returns-in-Err-answer_row : goal.returns-in-Err-answer_row
 returns-in-Err-answer_row g c = λ text h.
     let r = c.loop-settled.invariant.reached in
     comes _ _ _ _ _ _ _ _ _ _ r _ text _ _ c.in-Err-answer_row.ensures.earlier c.in-Err-answer_row.ensures.kept (λ T other base after turns.
-        answer_failed _ _ _ _ _ _ _ _ text (progress_of _ _ _ _ _ _ _ _ _ _ r other base after turns) c.in-Err-answer_row.fault c.loop-settled.invariant.written
-        c.in-Err-answer_row.ensures.asked h)
+    answer_failed _ _ _ _ _ _ _ _ text (progress_of _ _ _ _ _ _ _ _ _ _ r other base after turns) c.in-Err-answer_row.fault c.loop-settled.invariant.written
+    c.in-Err-answer_row.ensures.asked h)
 
 pub returns-in-Err-tell : goal.returns-in-Err-tell
 returns-in-Err-tell g c =
@@ -64,8 +64,8 @@ returns-in-Err-tell g c =
     (λ ends. let no = c.if-is_end.ensures.1 ends in cc) (c.with-counts.ensures g.D.Rows.told) c.in-Ok-answer_row.ensures.earlier c.in-Ok-answer_row.ensures.ok
     (λ t before stood. rw c.if-not-has_next.false at (c.in-Ok-read_record.ensures.found t before stood)) in
     λ text h. comes _ _ _ _ _ _ _ _ _ _ more.0 _ text _ _ (λ good. good) (λ good base stood. stood) (λ T other base after turns.
-        tell_failed _ _ _ _ _ _ _ _ text (progress_of _ _ _ _ _ _ _ _ _ _ more.0 other base after turns) _ _ c.in-Err-tell.kind more.1
-        c.loop-settled.invariant.written c.in-Err-tell.ensures.err h)
+    tell_failed _ _ _ _ _ _ _ _ text (progress_of _ _ _ _ _ _ _ _ _ _ more.0 other base after turns) _ _ c.in-Err-tell.kind more.1
+    c.loop-settled.invariant.written c.in-Err-tell.ensures.err h)
 
 pub loop-settled-preserved : goal.loop-settled-preserved
 loop-settled-preserved g c =
@@ -83,4 +83,4 @@ pub returns : goal.returns
 returns g c = λ text h.
     let r = c.loop-settled.invariant.reached in
     comes _ _ _ _ _ _ _ _ _ _ r _ text _ _ (λ good. good) (λ good base stood. stood) (λ T other base after turns.
-        turns_over _ _ _ _ _ _ _ text 67108864 (omega arith) (progress_of _ _ _ _ _ _ _ _ _ _ r other base after turns) c.loop-settled.invariant.written h)
+    turns_over _ _ _ _ _ _ _ text 67108864 (omega arith) (progress_of _ _ _ _ _ _ _ _ _ _ r other base after turns) c.loop-settled.invariant.written h)

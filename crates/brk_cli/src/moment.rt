@@ -1,0 +1,43 @@
+use brk_import::Clock;
+use brk_money::Stamp;
+use std::rt;
+use std::time::{SystemTime, UNIX_EPOCH};
+
+/// The program's clock.
+#[derive(Drop)]
+pub enum Moments<'a, R> {
+    /// It stands still.
+    At(Stamp),
+    /// It is the machine's.
+    Machine(&'a R),
+}
+
+// What the machine's clock tells, within the limits of stamps; 0 where it cannot be read.
+fn millis<R: rt::Clock>(clock: &R) -> i64 {
+    let Ok(now) = SystemTime::now(clock) else {
+        return 0;
+    };
+    match now.duration_since(UNIX_EPOCH) {
+        Ok(since) => since.as_millis().min(Stamp::GREATEST as u128) as i64,
+        Err(_) => 0,
+    }
+}
+
+impl<'a, R: rt::Clock> Moments<'a, R> {
+    /// A clock that tells this moment alone, or the machine's.
+    pub fn new(clock: &'a R, at: Option<Stamp>) -> Moments<'a, R> {
+        match at {
+            Some(stamp) => Moments::At(stamp),
+            None => Moments::Machine(clock),
+        }
+    }
+}
+
+impl<R: rt::Clock> Clock for Moments<'_, R> {
+    fn now(&mut self) -> Stamp {
+        match self {
+            Moments::At(stamp) => *stamp,
+            Moments::Machine(clock) => Stamp::nearest(millis(*clock)),
+        }
+    }
+}
