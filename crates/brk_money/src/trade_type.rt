@@ -55,10 +55,7 @@ impl TradeType {
     pub fn is_sell(self) -> bool
         ensures { IsTrue result ↔ (side_of self ≡ Sell) }
     {
-        matches!(
-            self,
-            TradeType::MarketSell | TradeType::StopLoss | TradeType::LimitSell
-        )
+        self.side() == Side::Sell
     }
 
     /// Whether it trades at the market's price (TT_IS_MRKT).

@@ -1,13 +1,16 @@
-ghost use Rattle.std.specs.Prelude.{◌≡◌, false};
-
-use brk_money::{Condition, Fault, Id, Stamp};
+use crate::changing::{apply_all, make_desk};
+use crate::reading::{
+    read_account, read_accounts_of, read_broker, read_customer, read_customer_by_tax_id, read_last,
+};
+use brk_money::{Fault, Id, Stamp};
 use brk_ref::{AccountRow, BrokerRow, Customer, TaxId};
 use brk_trade::Change;
-use sqlite::{Alter, Connection, Transaction};
+use sqlite::{Alter, Connection};
 use std::alloc::Global;
 use std::marker::Model;
 
-/// The tables of a desk over a connection, on which no transaction is open between two calls.
+/// The tables of a desk over a connection, on which no transaction is open between two calls. Contracts see it as what
+/// the connection holds.
 pub struct Store<S: Alter> {
     conn: Connection<S>,
 }
@@ -31,62 +34,21 @@ impl<S: Alter + Drop> Drop for Store<S> {
     }
 }
 
-// Makes one change of one row.
-fn make<S: Alter>(tx: &mut Transaction<'_, S>, change: &Change) -> Result<(), Fault>
-    ensures same_reference { tx.new.conn.ghost_name ≡ tx.old.conn.ghost_name }
-{
-    match change {
-        Change::AddBroker(broker) => brk_tables::add_broker(tx, broker),
-        Change::AddCustomer(customer) => brk_tables::add_customer(tx, customer),
-        Change::AddAccount(account) => brk_tables::add_account(tx, account),
-        Change::SetLast(stamp) => brk_tables::set_last_stamp(tx, *stamp),
-    }
-}
-
-fn make_all<S: Alter>(tx: &mut Transaction<'_, S>, changes: &[Change]) -> Result<(), Fault>
-    ensures same_reference { tx.new.conn.ghost_name ≡ tx.old.conn.ghost_name }
-{
-    for change in changes {
-        make(tx, change)?;
-    }
-    Ok(())
-}
-
-fn commit<S: Alter>(tx: Transaction<'_, S>) -> Result<(), Fault>
-    ensures ended { tx.exit.0.now.in_transaction ≡ false }
-{
-    match tx.commit() {
-        Ok(()) => Ok(()),
-        Err(_) => Err(Fault::Store),
-    }
-}
-
-fn apply_all<S: Alter>(conn: &mut Connection<S>, changes: &[Change]) -> Result<(), Fault>
-    requires { conn.old.in_transaction ≡ false }
-    ensures mode { conn.new.in_transaction ≡ false }
-{
-    let mut tx = conn.transaction();
-    make_all(&mut tx, changes)?;
-    commit(tx)
-}
-
-fn make_desk<S: Alter>(conn: &mut Connection<S>) -> Result<(), Fault>
-    requires { conn.old.in_transaction ≡ false }
-    ensures mode { conn.new.in_transaction ≡ false }
-{
-    let mut tx = conn.transaction();
-    if brk_tables::has_some_table(&mut tx)? {
-        return Err(Fault::Damaged(Condition::NotEmpty));
-    }
-    brk_tables::make_tables(&mut tx)?;
-    commit(tx)
-}
-
 impl<S: Alter> Store<S> {
+    ghost use Rattle.std.specs.Prelude.{◌≡◌, false, ◌==◌, ◌∷◌, [], Ok, Err, IfOk, IfErr, IsTrue, MatchResult, bytes_eq, filter, find, map, option_map};
+    ghost use Rattle.brk_money.specs.declared.fault.Condition.TheVariants.{NotEmpty};
+    ghost use Rattle.brk_money.specs.declared.fault.Fault.TheVariants.{Damaged};
+    ghost use Rattle.brk_ref.specs.Records.{customer_of};
+    ghost use Rattle.brk_tables.specs.Records.{account_row_of, broker_row_of};
+    ghost use Rattle.brk_trade.specs.Changes.{after_changes};
+    ghost use Rattle.brk_store.specs.Holds.{IsApplied, IsCreated, IsRead};
+
     /// Makes the tables of a desk in a database that has none of them, whatever others it has, or answers
     /// `Damaged(NotEmpty)` where it has one of them. At a fault the database is as it was, and the connection comes
     /// back. A connection on which a transaction is open is refused with `Store`.
-    pub fn create(mut conn: Connection<S>) -> Result<Store<S>, (Connection<S>, Fault)> {
+    pub fn create(mut conn: Connection<S>) -> Result<Store<S>, (Connection<S>, Fault)>
+        ensures created { MatchResult result (λ store. IsCreated S.Store conn store (Ok tt)) (λ e. IsCreated S.Store conn e.0 (Err e.1)) }
+    {
         if !conn.is_autocommit() {
             return Err((conn, Fault::Store));
         }
@@ -97,48 +59,57 @@ impl<S: Alter> Store<S> {
     }
 
     /// Makes the changes in turn, all of them in one transaction, or none at a fault.
-    pub fn apply(&mut self, changes: &[Change]) -> Result<(), Fault> {
+    pub fn apply(&mut self, changes: &[Change]) -> Result<(), Fault>
+        ensures applied { IsApplied S.Store self.old self.new result (after_changes changes.now) }
+    {
         apply_all(&mut self.conn, changes)
     }
 
     /// The stamp of the last accepted command.
-    pub fn last(&mut self) -> Result<Option<Stamp>, Fault> {
-        let mut tx = self.conn.transaction();
-        brk_tables::last_stamp(&mut tx)
+    pub fn last(&mut self) -> Result<Option<Stamp>, Fault>
+        ensures read { IsRead S.Store self.old self.new result (λ last t. last ≡ t.last) }
+    {
+        read_last(&mut self.conn)
     }
 
     /// The broker with an id.
-    pub fn broker(&mut self, id: Id) -> Result<Option<BrokerRow>, Fault> {
-        let mut tx = self.conn.transaction();
-        brk_tables::broker_by_id(&mut tx, id)
+    pub fn broker(&mut self, id: Id) -> Result<Option<BrokerRow>, Fault>
+        ensures read { IsRead S.Store self.old self.new result (λ o t. option_map broker_row_of o ≡ find (λ r. r.id == id) t.brokers) }
+    {
+        read_broker(&mut self.conn, id)
     }
 
     /// The customer with an id.
-    pub fn customer(&mut self, id: Id) -> Result<Option<Customer>, Fault> {
-        let mut tx = self.conn.transaction();
-        brk_tables::customer_by_id(&mut tx, id)
+    pub fn customer(&mut self, id: Id) -> Result<Option<Customer>, Fault>
+        ensures read { IsRead S.Store self.old self.new result (λ o t. option_map customer_of o ≡ find (λ r. r.id == id) t.customers) }
+    {
+        read_customer(&mut self.conn, id)
     }
 
     /// The customer with a tax id.
-    pub fn customer_by_tax_id(&mut self, tax_id: &TaxId) -> Result<Option<Customer>, Fault> {
-        let mut tx = self.conn.transaction();
-        brk_tables::customer_by_tax_id(&mut tx, tax_id)
+    pub fn customer_by_tax_id(&mut self, tax_id: &TaxId) -> Result<Option<Customer>, Fault>
+        ensures read { IsRead S.Store self.old self.new result (λ o t. option_map customer_of o ≡ find (λ r. bytes_eq r.tax_id tax_id.now) t.customers) }
+    {
+        read_customer_by_tax_id(&mut self.conn, tax_id)
     }
 
     /// The account with an id.
-    pub fn account(&mut self, id: Id) -> Result<Option<AccountRow>, Fault> {
-        let mut tx = self.conn.transaction();
-        brk_tables::account_by_id(&mut tx, id)
+    pub fn account(&mut self, id: Id) -> Result<Option<AccountRow>, Fault>
+        ensures read { IsRead S.Store self.old self.new result (λ o t. option_map account_row_of o ≡ find (λ r. r.id == id) t.accounts) }
+    {
+        read_account(&mut self.conn, id)
     }
 
     /// The accounts of a customer, by rising id.
-    pub fn accounts_of(&mut self, alloc: Global, customer: Id) -> Result<Vec<AccountRow>, Fault> {
-        let mut tx = self.conn.transaction();
-        brk_tables::accounts_of_customer(&mut tx, alloc, customer)
+    pub fn accounts_of(&mut self, alloc: Global, customer: Id) -> Result<Vec<AccountRow>, Fault>
+        ensures read { IsRead S.Store self.old self.new result (λ all t. map account_row_of all.items ≡ filter (λ r. r.customer == customer) t.accounts) }
+    {
+        read_accounts_of(&mut self.conn, alloc, customer)
     }
 
     /// The connection, on which no transaction is open.
     pub fn into_conn(self) -> Connection<S>
+        ensures same { result ≡ self }
         ensures idle { result.in_transaction ≡ false }
     {
         let Store { conn } = self;

@@ -1,31 +1,43 @@
-ghost use Rattle.std.specs.Prelude.{◌≡◌};
+ghost use Rattle.std.specs.Prelude.{◌≡◌, ◌==◌, IfOk, filter, find, map, option_map, slice_get};
+ghost use Rattle.sqlite.specs.Held.{state};
+ghost use Rattle.brk_rows.specs.Desk.{Turns};
+ghost use Rattle.brk_rows.specs.Model.{IsStep, Looks};
+ghost use Rattle.brk_ref.specs.Records.{account_of};
+ghost use Rattle.brk_trade.specs.Changes.{with_account};
+ghost use Rattle.brk_tables.specs.Cells.{account_cells};
+ghost use Rattle.brk_tables.specs.Desk.{desk};
+ghost use Rattle.brk_tables.specs.Records.{account_row_of};
 
 use crate::calls::{run, select};
-use crate::cells::{cents_in, has_columns, id_in, id_number, name_in, tax_status_in};
+use crate::cells::{cents_in, has_columns, id_in, name_in, tax_status_in};
+use crate::values::{cents_value, id_value, tax_status_value, text_value};
 use brk_money::{Fault, Id};
 use brk_ref::{Account, AccountRow};
-use sqlite::{Alter, Row, Transaction, params};
+use sqlite::{Alter, Row, Transaction};
 use std::alloc::Global;
 
 /// Adds an account, whose balance is its opening.
 pub fn add_account<S: Alter>(tx: &mut Transaction<'_, S>, account: &Account) -> Result<(), Fault>
     ensures same_reference { tx.new.conn.ghost_name ≡ tx.old.conn.ghost_name }
+    ensures step { IsStep (state S.Store tx.old.conn.now) (state S.Store tx.new.conn.now) result (λ _ a b. Turns desk (with_account (account_of account.now)) a.now b.now) }
 {
     run(
         tx,
         "INSERT INTO CUSTOMER_ACCOUNT (CA_ID, CA_C_ID, CA_B_ID, CA_NAME, CA_TAX_ST, CA_OPEN, CA_BAL) VALUES (?1, ?2, ?3, ?4, ?5, ?6, ?6)",
-        params![
-            id_number(account.id),
-            id_number(account.customer),
-            id_number(account.broker),
-            account.name.as_str(),
-            account.tax_status.number() as i64,
-            account.opening.get()
+        &[
+            id_value(account.id),
+            id_value(account.customer),
+            id_value(account.broker),
+            text_value(account.name.as_str()),
+            tax_status_value(account.tax_status),
+            cents_value(account.opening),
         ],
     )
 }
 
-fn account_in(row: &Row) -> Result<AccountRow, Fault> {
+fn account_in(row: &Row) -> Result<AccountRow, Fault>
+    ensures { IfOk result (λ r. account_cells (account_row_of r) ≡ row.now) }
+{
     has_columns(row, 7)?;
     Ok(AccountRow {
         account: Account {
@@ -40,14 +52,18 @@ fn account_in(row: &Row) -> Result<AccountRow, Fault> {
     })
 }
 
-fn first_account(rows: &[Row]) -> Result<Option<AccountRow>, Fault> {
+fn first_account(rows: &[Row]) -> Result<Option<AccountRow>, Fault>
+    ensures { IfOk result (λ o. option_map (λ r. account_cells (account_row_of r)) o ≡ slice_get rows.now 0) }
+{
     match rows.first() {
         Some(row) => Ok(Some(account_in(row)?)),
         None => Ok(None),
     }
 }
 
-fn all_accounts(alloc: Global, rows: &[Row]) -> Result<Vec<AccountRow>, Fault> {
+fn all_accounts(alloc: Global, rows: &[Row]) -> Result<Vec<AccountRow>, Fault>
+    ensures { IfOk result (λ all. map (λ r. account_cells (account_row_of r)) all.items ≡ rows.now) }
+{
     let mut all = Vec::new(alloc);
     for row in rows {
         all.push(account_in(row)?)?;
@@ -61,11 +77,12 @@ pub fn account_by_id<S: Alter>(
     id: Id,
 ) -> Result<Option<AccountRow>, Fault>
     ensures same_reference { tx.new.conn.ghost_name ≡ tx.old.conn.ghost_name }
+    ensures step { IsStep (state S.Store tx.old.conn.now) (state S.Store tx.new.conn.now) result (λ o. Looks desk (λ t. option_map account_row_of o ≡ find (λ r. r.id == id) t.accounts)) }
 {
     let rows = select(
         tx,
         "SELECT CA_ID, CA_C_ID, CA_B_ID, CA_NAME, CA_TAX_ST, CA_OPEN, CA_BAL FROM CUSTOMER_ACCOUNT WHERE CA_ID = ?1 ORDER BY CA_ID",
-        params![id_number(id)],
+        &[id_value(id)],
     )?;
     first_account(&rows)
 }
@@ -77,11 +94,12 @@ pub fn accounts_of_customer<S: Alter>(
     customer: Id,
 ) -> Result<Vec<AccountRow>, Fault>
     ensures same_reference { tx.new.conn.ghost_name ≡ tx.old.conn.ghost_name }
+    ensures step { IsStep (state S.Store tx.old.conn.now) (state S.Store tx.new.conn.now) result (λ all. Looks desk (λ t. map account_row_of all.items ≡ filter (λ r. r.customer == customer) t.accounts)) }
 {
     let rows = select(
         tx,
         "SELECT CA_ID, CA_C_ID, CA_B_ID, CA_NAME, CA_TAX_ST, CA_OPEN, CA_BAL FROM CUSTOMER_ACCOUNT WHERE CA_C_ID = ?1 ORDER BY CA_ID",
-        params![id_number(customer)],
+        &[id_value(customer)],
     )?;
     all_accounts(alloc, &rows)
 }

@@ -1,23 +1,35 @@
-ghost use Rattle.std.specs.Prelude.{◌≡◌};
+ghost use Rattle.std.specs.Prelude.{◌≡◌, ◌==◌, IfOk, find, option_map, slice_get};
+ghost use Rattle.sqlite.specs.Held.{state};
+ghost use Rattle.brk_rows.specs.Desk.{Turns};
+ghost use Rattle.brk_rows.specs.Model.{IsStep, Looks};
+ghost use Rattle.brk_ref.specs.Records.{broker_of};
+ghost use Rattle.brk_trade.specs.Changes.{with_broker};
+ghost use Rattle.brk_tables.specs.Cells.{broker_cells};
+ghost use Rattle.brk_tables.specs.Desk.{desk};
+ghost use Rattle.brk_tables.specs.Records.{broker_row_of};
 
 use crate::calls::{run, select};
-use crate::cells::{has_columns, id_in, id_number, name_in, number_in, total_in};
+use crate::cells::{has_columns, id_in, name_in, number_in, total_in};
+use crate::values::{id_value, text_value};
 use brk_money::{Fault, Id};
 use brk_ref::{Broker, BrokerRow};
-use sqlite::{Alter, Row, Transaction, params};
+use sqlite::{Alter, Row, Transaction};
 
 /// Adds a broker, with no trades and no commissions yet.
 pub fn add_broker<S: Alter>(tx: &mut Transaction<'_, S>, broker: &Broker) -> Result<(), Fault>
     ensures same_reference { tx.new.conn.ghost_name ≡ tx.old.conn.ghost_name }
+    ensures step { IsStep (state S.Store tx.old.conn.now) (state S.Store tx.new.conn.now) result (λ _ a b. Turns desk (with_broker (broker_of broker.now)) a.now b.now) }
 {
     run(
         tx,
         "INSERT INTO BROKER (B_ID, B_NAME, B_NUM_TRADES, B_COMM_TOTAL) VALUES (?1, ?2, 0, 0)",
-        params![id_number(broker.id), broker.name.as_str()],
+        &[id_value(broker.id), text_value(broker.name.as_str())],
     )
 }
 
-fn broker_in(row: &Row) -> Result<BrokerRow, Fault> {
+fn broker_in(row: &Row) -> Result<BrokerRow, Fault>
+    ensures { IfOk result (λ r. broker_cells (broker_row_of r) ≡ row.now) }
+{
     has_columns(row, 4)?;
     Ok(BrokerRow {
         broker: Broker {
@@ -29,7 +41,9 @@ fn broker_in(row: &Row) -> Result<BrokerRow, Fault> {
     })
 }
 
-fn first_broker(rows: &[Row]) -> Result<Option<BrokerRow>, Fault> {
+fn first_broker(rows: &[Row]) -> Result<Option<BrokerRow>, Fault>
+    ensures { IfOk result (λ o. option_map (λ r. broker_cells (broker_row_of r)) o ≡ slice_get rows.now 0) }
+{
     match rows.first() {
         Some(row) => Ok(Some(broker_in(row)?)),
         None => Ok(None),
@@ -42,11 +56,12 @@ pub fn broker_by_id<S: Alter>(
     id: Id,
 ) -> Result<Option<BrokerRow>, Fault>
     ensures same_reference { tx.new.conn.ghost_name ≡ tx.old.conn.ghost_name }
+    ensures step { IsStep (state S.Store tx.old.conn.now) (state S.Store tx.new.conn.now) result (λ o. Looks desk (λ t. option_map broker_row_of o ≡ find (λ r. r.id == id) t.brokers)) }
 {
     let rows = select(
         tx,
         "SELECT B_ID, B_NAME, B_NUM_TRADES, B_COMM_TOTAL FROM BROKER WHERE B_ID = ?1 ORDER BY B_ID",
-        params![id_number(id)],
+        &[id_value(id)],
     )?;
     first_broker(&rows)
 }

@@ -1,29 +1,40 @@
-ghost use Rattle.std.specs.Prelude.{◌≡◌};
+ghost use Rattle.std.specs.Prelude.{◌≡◌, ◌==◌, IfOk, bytes_eq, find, option_map, slice_get};
+ghost use Rattle.sqlite.specs.Held.{state};
+ghost use Rattle.brk_rows.specs.Desk.{Turns};
+ghost use Rattle.brk_rows.specs.Model.{IsStep, Looks};
+ghost use Rattle.brk_ref.specs.Records.{customer_of};
+ghost use Rattle.brk_trade.specs.Changes.{with_customer};
+ghost use Rattle.brk_tables.specs.Cells.{customer_cells};
+ghost use Rattle.brk_tables.specs.Desk.{desk};
 
 use crate::calls::{run, select};
-use crate::cells::{has_columns, id_in, id_number, name_in, tax_id_in, tier_in};
+use crate::cells::{has_columns, id_in, name_in, tax_id_in, tier_in};
+use crate::values::{id_value, text_value, tier_value};
 use brk_money::{Fault, Id};
 use brk_ref::{Customer, TaxId};
-use sqlite::{Alter, Row, Transaction, params};
+use sqlite::{Alter, Row, Transaction};
 
 /// Adds a customer, whose id and tax id are new.
 pub fn add_customer<S: Alter>(tx: &mut Transaction<'_, S>, customer: &Customer) -> Result<(), Fault>
     ensures same_reference { tx.new.conn.ghost_name ≡ tx.old.conn.ghost_name }
+    ensures step { IsStep (state S.Store tx.old.conn.now) (state S.Store tx.new.conn.now) result (λ _ a b. Turns desk (with_customer (customer_of customer.now)) a.now b.now) }
 {
     run(
         tx,
         "INSERT INTO CUSTOMER (C_ID, C_TIER, C_TAX_ID, C_L_NAME, C_F_NAME) VALUES (?1, ?2, ?3, ?4, ?5)",
-        params![
-            id_number(customer.id),
-            customer.tier.get() as i64,
-            customer.tax_id.as_str(),
-            customer.last_name.as_str(),
-            customer.first_name.as_str()
+        &[
+            id_value(customer.id),
+            tier_value(customer.tier),
+            text_value(customer.tax_id.as_str()),
+            text_value(customer.last_name.as_str()),
+            text_value(customer.first_name.as_str()),
         ],
     )
 }
 
-fn customer_in(row: &Row) -> Result<Customer, Fault> {
+fn customer_in(row: &Row) -> Result<Customer, Fault>
+    ensures { IfOk result (λ r. customer_cells (customer_of r) ≡ row.now) }
+{
     has_columns(row, 5)?;
     Ok(Customer {
         id: id_in(row, 0)?,
@@ -34,7 +45,9 @@ fn customer_in(row: &Row) -> Result<Customer, Fault> {
     })
 }
 
-fn first_customer(rows: &[Row]) -> Result<Option<Customer>, Fault> {
+fn first_customer(rows: &[Row]) -> Result<Option<Customer>, Fault>
+    ensures { IfOk result (λ o. option_map (λ r. customer_cells (customer_of r)) o ≡ slice_get rows.now 0) }
+{
     match rows.first() {
         Some(row) => Ok(Some(customer_in(row)?)),
         None => Ok(None),
@@ -47,11 +60,12 @@ pub fn customer_by_id<S: Alter>(
     id: Id,
 ) -> Result<Option<Customer>, Fault>
     ensures same_reference { tx.new.conn.ghost_name ≡ tx.old.conn.ghost_name }
+    ensures step { IsStep (state S.Store tx.old.conn.now) (state S.Store tx.new.conn.now) result (λ o. Looks desk (λ t. option_map customer_of o ≡ find (λ r. r.id == id) t.customers)) }
 {
     let rows = select(
         tx,
         "SELECT C_ID, C_TIER, C_TAX_ID, C_L_NAME, C_F_NAME FROM CUSTOMER WHERE C_ID = ?1 ORDER BY C_ID",
-        params![id_number(id)],
+        &[id_value(id)],
     )?;
     first_customer(&rows)
 }
@@ -62,11 +76,12 @@ pub fn customer_by_tax_id<S: Alter>(
     tax_id: &TaxId,
 ) -> Result<Option<Customer>, Fault>
     ensures same_reference { tx.new.conn.ghost_name ≡ tx.old.conn.ghost_name }
+    ensures step { IsStep (state S.Store tx.old.conn.now) (state S.Store tx.new.conn.now) result (λ o. Looks desk (λ t. option_map customer_of o ≡ find (λ r. bytes_eq r.tax_id tax_id.now) t.customers)) }
 {
     let rows = select(
         tx,
         "SELECT C_ID, C_TIER, C_TAX_ID, C_L_NAME, C_F_NAME FROM CUSTOMER WHERE C_TAX_ID = ?1 ORDER BY C_ID",
-        params![tax_id.as_str()],
+        &[text_value(tax_id.as_str())],
     )?;
     first_customer(&rows)
 }

@@ -1,13 +1,24 @@
-ghost use Rattle.std.specs.Prelude.{◌≡◌};
+ghost use Rattle.std.specs.Prelude.{◌≡◌, ◌∷◌, [], IfOk, map, Err, OnErr};
+ghost use Rattle.brk_money.specs.declared.fault.Fault.TheVariants.{Store};
+ghost use Rattle.sqlite.specs.Held.{state};
+ghost use Rattle.brk_rows.specs.Desk.{Turns};
+ghost use Rattle.brk_rows.specs.Model.{IsStep, Looks, Ran};
+ghost use Rattle.brk_trade.specs.Changes.{with_last};
+ghost use Rattle.brk_tables.specs.Cells.{desk_row_cells};
+ghost use Rattle.brk_tables.specs.Desk.{desk, desk_rows};
+ghost use Rattle.brk_tables.specs.Made.{desk_row_text};
 
 use crate::calls::{run, select};
-use crate::cells::{has_columns, maybe_stamp_in, number_in};
+use crate::cells::{has_columns, maybe_stamp_in, natural_in};
+use crate::values::{number_value, stamp_value};
 use brk_money::{Fault, Stamp};
-use sqlite::{Alter, Row, Transaction, params};
+use sqlite::{Alter, Row, Transaction};
 
 /// Adds the one row of DESK, of the first schema and with no stamp yet.
 pub(crate) fn add_desk_row<S: Alter>(tx: &mut Transaction<'_, S>) -> Result<(), Fault>
     ensures same_reference { tx.new.conn.ghost_name ≡ tx.old.conn.ghost_name }
+    ensures step { IsStep (state S.Store tx.old.conn.now) (state S.Store tx.new.conn.now) result (λ _. Ran desk_row_text []) }
+    ensures fault { OnErr result (result ≡ Err Store) }
 {
     run(
         tx,
@@ -19,23 +30,28 @@ pub(crate) fn add_desk_row<S: Alter>(tx: &mut Transaction<'_, S>) -> Result<(), 
 /// Sets the stamp of the last accepted command (D_LAST).
 pub fn set_last_stamp<S: Alter>(tx: &mut Transaction<'_, S>, stamp: Stamp) -> Result<(), Fault>
     ensures same_reference { tx.new.conn.ghost_name ≡ tx.old.conn.ghost_name }
+    ensures step { IsStep (state S.Store tx.old.conn.now) (state S.Store tx.new.conn.now) result (λ _ a b. Turns desk (with_last stamp) a.now b.now) }
 {
     run(
         tx,
-        "UPDATE DESK SET D_LAST = ?1 WHERE D_ID = 1",
-        params![stamp.get()],
+        "UPDATE DESK SET D_LAST = ?1 WHERE D_ID = ?2",
+        &[stamp_value(stamp), number_value(1)],
     )
 }
 
-fn stamp_of_row(row: &Row) -> Result<Option<Stamp>, Fault> {
+fn stamp_of_row(row: &Row) -> Result<Option<Stamp>, Fault>
+    ensures { IfOk result (λ last. map desk_row_cells (desk_rows last) ≡ row.now ∷ []) }
+{
     has_columns(row, 3)?;
-    if number_in(row, 0)? != 1 || number_in(row, 1)? != 1 {
+    if natural_in(row, 0)? != 1 || natural_in(row, 1)? != 1 {
         return Err(Fault::Store);
     }
     maybe_stamp_in(row, 2)
 }
 
-fn only_stamp(rows: &[Row]) -> Result<Option<Stamp>, Fault> {
+fn only_stamp(rows: &[Row]) -> Result<Option<Stamp>, Fault>
+    ensures { IfOk result (λ last. map desk_row_cells (desk_rows last) ≡ rows.now) }
+{
     match rows {
         [row] => stamp_of_row(row),
         _ => Err(Fault::Store),
@@ -45,6 +61,7 @@ fn only_stamp(rows: &[Row]) -> Result<Option<Stamp>, Fault> {
 /// The stamp of the last accepted command, where there is one (D_LAST).
 pub fn last_stamp<S: Alter>(tx: &mut Transaction<'_, S>) -> Result<Option<Stamp>, Fault>
     ensures same_reference { tx.new.conn.ghost_name ≡ tx.old.conn.ghost_name }
+    ensures step { IsStep (state S.Store tx.old.conn.now) (state S.Store tx.new.conn.now) result (λ last. Looks desk (λ t. last ≡ t.last)) }
 {
     let rows = select(
         tx,

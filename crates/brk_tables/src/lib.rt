@@ -11,6 +11,7 @@ pub mod customers;
 pub mod desk_row;
 pub mod making;
 pub mod presence;
+mod values;
 
 pub use accounts::{account_by_id, accounts_of_customer, add_account};
 pub use brokers::{add_broker, broker_by_id};

@@ -1,4 +1,10 @@
-ghost use Rattle.std.specs.Prelude.{◌≡◌};
+ghost use Rattle.std.specs.Prelude.{◌≡◌, Err, OnErr};
+ghost use Rattle.brk_money.specs.declared.fault.Fault.TheVariants.{Store};
+ghost use Rattle.sqlite.specs.Held.{state};
+ghost use Rattle.brk_rows.specs.Model.{IsStep};
+ghost use Rattle.brk_tables.specs.Desk.{no_rows};
+ghost use Rattle.brk_tables.specs.Made.{HasRows, MakesFour};
+ghost use Rattle.brk_tables.specs.Shapes as shape;
 
 use crate::calls::run;
 use crate::desk_row::add_desk_row;
@@ -28,6 +34,8 @@ const CASH_TRANSACTION: &str = "CREATE TABLE CASH_TRANSACTION (CT_T_ID INTEGER P
 
 fn make_first_tables<S: Alter>(tx: &mut Transaction<'_, S>) -> Result<(), Fault>
     ensures same_reference { tx.new.conn.ghost_name ≡ tx.old.conn.ghost_name }
+    ensures step { IsStep (state S.Store tx.old.conn.now) (state S.Store tx.new.conn.now) result (λ _ a b. MakesFour shape.desk_row shape.kept shape.broker shape.customer a.now b.now) }
+    ensures fault { OnErr result (result ≡ Err Store) }
 {
     run(tx, DESK, &[])?;
     run(tx, KEPT, &[])?;
@@ -37,6 +45,8 @@ fn make_first_tables<S: Alter>(tx: &mut Transaction<'_, S>) -> Result<(), Fault>
 
 fn make_account_tables<S: Alter>(tx: &mut Transaction<'_, S>) -> Result<(), Fault>
     ensures same_reference { tx.new.conn.ghost_name ≡ tx.old.conn.ghost_name }
+    ensures step { IsStep (state S.Store tx.old.conn.now) (state S.Store tx.new.conn.now) result (λ _ a b. MakesFour shape.account shape.permission shape.security shape.last_trade a.now b.now) }
+    ensures fault { OnErr result (result ≡ Err Store) }
 {
     run(tx, CUSTOMER_ACCOUNT, &[])?;
     run(tx, ACCOUNT_PERMISSION, &[])?;
@@ -46,6 +56,8 @@ fn make_account_tables<S: Alter>(tx: &mut Transaction<'_, S>) -> Result<(), Faul
 
 fn make_rate_tables<S: Alter>(tx: &mut Transaction<'_, S>) -> Result<(), Fault>
     ensures same_reference { tx.new.conn.ghost_name ≡ tx.old.conn.ghost_name }
+    ensures step { IsStep (state S.Store tx.old.conn.now) (state S.Store tx.new.conn.now) result (λ _ a b. MakesFour shape.charge shape.band shape.tax_rate shape.customer_tax a.now b.now) }
+    ensures fault { OnErr result (result ≡ Err Store) }
 {
     run(tx, CHARGE, &[])?;
     run(tx, COMMISSION_RATE, &[])?;
@@ -55,6 +67,8 @@ fn make_rate_tables<S: Alter>(tx: &mut Transaction<'_, S>) -> Result<(), Fault>
 
 fn make_trade_tables<S: Alter>(tx: &mut Transaction<'_, S>) -> Result<(), Fault>
     ensures same_reference { tx.new.conn.ghost_name ≡ tx.old.conn.ghost_name }
+    ensures step { IsStep (state S.Store tx.old.conn.now) (state S.Store tx.new.conn.now) result (λ _ a b. MakesFour shape.trade shape.history shape.request shape.holding a.now b.now) }
+    ensures fault { OnErr result (result ≡ Err Store) }
 {
     run(tx, TRADE, &[])?;
     run(tx, TRADE_HISTORY, &[])?;
@@ -64,6 +78,8 @@ fn make_trade_tables<S: Alter>(tx: &mut Transaction<'_, S>) -> Result<(), Fault>
 
 fn make_last_tables<S: Alter>(tx: &mut Transaction<'_, S>) -> Result<(), Fault>
     ensures same_reference { tx.new.conn.ghost_name ≡ tx.old.conn.ghost_name }
+    ensures step { IsStep (state S.Store tx.old.conn.now) (state S.Store tx.new.conn.now) result (λ _ a b. MakesFour shape.summary shape.holding_history shape.settlement shape.cash a.now b.now) }
+    ensures fault { OnErr result (result ≡ Err Store) }
 {
     run(tx, HOLDING_SUMMARY, &[])?;
     run(tx, HOLDING_HISTORY, &[])?;
@@ -74,6 +90,8 @@ fn make_last_tables<S: Alter>(tx: &mut Transaction<'_, S>) -> Result<(), Fault>
 /// Makes the tables, empty but for the one row of DESK, beside whatever tables there are.
 pub fn make_tables<S: Alter>(tx: &mut Transaction<'_, S>) -> Result<(), Fault>
     ensures same_reference { tx.new.conn.ghost_name ≡ tx.old.conn.ghost_name }
+    ensures step { IsStep (state S.Store tx.old.conn.now) (state S.Store tx.new.conn.now) result (λ _ a b. HasRows no_rows b.now) }
+    ensures fault { OnErr result (result ≡ Err Store) }
 {
     make_first_tables(tx)?;
     make_account_tables(tx)?;

@@ -1,0 +1,73 @@
+//! The tables of a program as lists of records, in a database that may have others.
+#![tactic(auto)]
+
+ghost use Rattle.std.specs.Prelude.{◌≡◌, IfOk, None, map};
+ghost use Rattle.sqlite_value.specs.declared.value.Value.TheVariants.{Int};
+ghost use Rattle.sqlite_value.specs.Order.{column};
+ghost use Rattle.std.specs.List.{AllByRecursion};
+ghost use Rattle.sqlite.specs.Effect.{IsDatabase};
+ghost use Rattle.sqlite.specs.Held.{state};
+ghost use Rattle.sqlite.specs.State.{HasCleanDisk};
+ghost use Rattle.brk_rows.specs.Rows.{climbs_from, IsSheet};
+ghost use Rattle.brk_rows.specs.Model.{IsStep};
+ghost use Rattle.brk_rows.specs.Desk.{Probes};
+
+use sqlite::{Alter, Connection, Error, Row, Transaction};
+use sqlite_resolve::error::CompileError;
+use std::alloc::Global;
+
+/// Whether each number is above the one before it.
+pub fn climbs(numbers: &[i64]) -> bool
+    ensures { result ≡ climbs_from None numbers.now }
+{
+    let mut last: Option<i64> = None;
+    for number in numbers {
+        if let Some(before) = last {
+            if before >= *number {
+                return false;
+            }
+        }
+        last = Some(*number);
+    }
+    true
+}
+
+/// The numbers in a column.
+pub fn numbers_in(alloc: Global, rows: &[Row], at: usize) -> Result<Vec<i64>, Error>
+    ensures { IfOk result (λ all. map Int all.items ≡ map (λ r. column r at) rows.now) }
+{
+    let mut all = Vec::new(alloc);
+    for row in rows {
+        all.push(row.get(at)?)?;
+    }
+    Ok(all)
+}
+
+/// Hands the store over and takes it back, after which the database is known to be sound and the order of each tree is.
+pub fn reopened<S: Alter + Drop>(
+    alloc: Global,
+    conn: Connection<S>,
+) -> Result<Connection<S>, (Error, Option<S>)>
+    ensures { IfOk result (λ c. HasCleanDisk (state S.Store c) → IsDatabase (state S.Store c).now × AllByRecursion (λ t. IsSheet ((state S.Store c).now.trees t.tree)) (state S.Store c).now.schema.tables) }
+{
+    let store = conn.into_store();
+    if store.is_broken() {
+        return Err((Error::InvalidQuery, Some(store)));
+    }
+    match Connection::over(alloc, store) {
+        Ok(conn) => Ok(conn),
+        Err((error, store)) => Err((error, Some(store))),
+    }
+}
+
+/// Whether a text is understood, or names a table that is not there. It runs nothing.
+pub fn is_understood<S: Alter>(tx: &mut Transaction<'_, S>, text: &str) -> Result<bool, Error>
+    ensures same_reference { tx.new.conn.ghost_name ≡ tx.old.conn.ghost_name }
+    ensures step { IsStep (state S.Store tx.old.conn.now) (state S.Store tx.new.conn.now) result (λ has old new. (new.now ≡ old.now) × Probes text.now has old.now.schema) }
+{
+    match tx.prepare(text) {
+        Ok(_) => Ok(true),
+        Err(Error::SqlInputError(CompileError::NoSuchTable)) => Ok(false),
+        Err(e) => Err(e),
+    }
+}

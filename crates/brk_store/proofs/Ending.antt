@@ -1,0 +1,171 @@
+-- How a transaction ends: rolled back, or committed.
+use Rattle.std.proofs.Common.{◌≡◌, ◌⊎◌, inl, inr, ℕ, Bool, true, false, Result, Ok, Err, IfOk, OnOk, OnErr, IsErr, IsTrue, List, [], refl, sym, ap, subst, ◌∙◌, arith}
+use Rattle.sqlite_trees.specs.declared.store.Store.{Ghosts}
+use Rattle.sqlite_trees.specs.Tree.{Trees}
+use Rattle.sqlite.specs.Effect.{Database}
+use Rattle.sqlite.specs.Held.{Held, state}
+use Rattle.sqlite.specs.State.{State, HasCleanDisk, Survives, IsRolledBack, IsUnchanged, Shows, KeepsCounts}
+use Rattle.sqlite.specs.Steps.{FailsToCommit}
+use Rattle.sqlite.specs.declared.error.Error.{Error}
+use Rattle.sqlite.proofs.Callers.{survives_begin}
+use Rattle.sqlite.proofs.StateLemmas.{survives_then, survives_weaker}
+use Rattle.brk_model.specs.Tables.{Tables}
+use Rattle.brk_rows.specs.Desk.{Turns}
+use Rattle.brk_rows.specs.Model.{IsStep, Looks}
+use Rattle.brk_rows.proofs.Inside.{clean_before, commits_all, commits_crash}
+use Rattle.brk_money.specs.declared.fault.Condition.TheVariants.{NotEmpty}
+use Rattle.brk_money.specs.declared.fault.Fault.{Fault}
+use Rattle.brk_money.specs.declared.fault.Fault.TheVariants.{Damaged, Store}
+use Rattle.brk_tables.specs.Desk.{desk, no_rows}
+use Rattle.brk_tables.specs.Made.{HasRows, has_table_of_desk}
+use Rattle.brk_store.specs.Holds.{Holds, IsRead, IsApplied, IsCreated}
+
+abbrev pub begun : {S : Type 0} → Held S → Held S
+begun old = record old { in_transaction = true }
+
+-- what is kept where nothing was committed
+pub record IsKept {S : Type 0} (g : Ghosts S) (old end : Held S) : Type 0 where
+  pub now : (state g end).now ≡ (state g old).now
+  pub committed : (state g end).committed ≡ (state g old).committed
+  pub was_open : IsTrue (state g old).is_open
+
+
+no_ok : {U F : Type 0} (o : Result U F) → IsErr o → (P : Type 0) → OnOk o P
+no_ok (Ok x) e P = absurd (let f = e in cc)
+no_ok (Err x) e P = tt
+
+all_err : {U F : Type 0} (o : Result U F) {P : Type 0} → P → OnErr o P
+all_err (Ok x) p = tt
+all_err (Err x) p = p
+
+module _ {S : Type 0} (g : Ghosts S) (old mid end : Held S) (settled : IsTrue (state g old).is_open → (state g old).now ≡ (state g old).committed) where
+
+  -- rolled back
+  pub rolled_back : {V E : Type 0} (r : Result V E) (Q : V → State → State → Type 0) (P : Trees → Type 0) → IsStep (state g (begun old)) (state g mid) r Q → (HasCleanDisk (state g end) → IsRolledBack (state g mid) (state g end))
+      → Survives (state g mid) (state g end) P → HasCleanDisk (state g end) → IsTrue (state g end).is_open → IsKept g old end
+  rolled_back r Q P step back late clean o =
+      let b = back clean in
+      let kept = step.kept (clean_before (state g mid) (state g end) P late clean) in
+      let mid_open = b.was_open o in
+      let old_open = kept.was_open mid_open in
+      record { now = (b.undone o).0 ∙ kept.committed mid_open ∙ sym (settled old_open); committed = (b.undone o).1 ∙ kept.committed mid_open; was_open = old_open }
+
+  still_holds : (P : Trees → Type 0) → Survives (state g old) (state g end) P → (HasCleanDisk (state g end) → IsTrue (state g end).is_open → IsKept g old end) → (t : Tables) → Holds g old t → Holds g end t
+  still_holds P through kept t holds clean o =
+      let k = kept clean o in
+      subst (HasRows t) (sym k.now) (holds (clean_before (state g old) (state g end) P through clean) k.was_open)
+
+  module _ {V E : Type 0} (r : Result V E) (Q : V → State → State → Type 0) (step : IsStep (state g (begun old)) (state g mid) r Q) (late : Survives (state g mid) (state g end) (λ _. ⊥)) where
+    pub through : Survives (state g old) (state g end) (λ _. ⊥)
+    through = survives_then (state g old) (state g mid) (state g end) (λ _. ⊥) (λ _. ⊥) (λ _. ⊥) (λ _ db none. none) (λ _ db none. none) (survives_begin g old (state g mid) (λ _. ⊥) step.survives) late
+
+    -- a call that changes gave up
+    pub gives_up : {U F : Type 0} (out : Result U F) (after : Tables → Tables) → IsErr out → (HasCleanDisk (state g end) → IsRolledBack (state g mid) (state g end)) → IsApplied g old end out after
+    gives_up {U} {F} out after failed back =
+        let kept = rolled_back r Q (λ _. ⊥) step back late in
+        record {
+          made = no_ok out failed _;
+          opened = λ clean. no_ok out failed _;
+          kept = all_err out (still_holds _ through kept);
+          same = λ clean o. let k = kept clean o in all_err out (k.now, k.committed);
+          survives = survives_weaker (state g old) (state g end) (λ _. ⊥) _ (λ _ db none. absurd none) through;
+        }
+
+    -- the making of the tables gave up
+    pub creates_none : (out : Result (Unit {0}) Fault) → IsErr out → (HasCleanDisk (state g end) → out ≡ Err (Damaged NotEmpty) → has_table_of_desk (state g old).now.schema ≡ true) → (HasCleanDisk (state g end) → IsRolledBack (state g mid) (state g end)) → IsCreated g old end out
+    creates_none out failed taken back =
+        let kept = rolled_back r Q (λ _. ⊥) step back late in
+        record {
+          made = no_ok out failed _;
+          opened = λ clean. no_ok out failed _;
+          absent = λ clean. no_ok out failed _;
+          taken = taken;
+          same = λ clean o. let k = kept clean o in all_err out (k.now, k.committed);
+          survives = survives_weaker (state g old) (state g end) (λ _. ⊥) _ (λ _ db none. absurd none) through;
+        }
+
+  -- a read, whose transaction is dropped
+  pub is_read : {V E : Type 0} (out : Result V E) (P : V → Tables → Type 0) → IsStep (state g (begun old)) (state g mid) out (λ v. Looks desk (P v)) → Survives (state g mid) (state g end) (λ _. ⊥)
+      → (HasCleanDisk (state g end) → IsRolledBack (state g mid) (state g end)) → IsRead g old end out P
+  is_read {V} {E} out P step late back =
+      let whole = through out (λ v. Looks desk (P v)) step late in
+      let kept = rolled_back out (λ v. Looks desk (P v)) (λ _. ⊥) step back late in
+      record {
+        told = λ clean. tells out (clean_before (state g old) (state g end) (λ _. ⊥) whole clean) (step.made (clean_before (state g mid) (state g end) (λ _. ⊥) late clean) refl);
+        opened = λ clean. opens out (step.made (clean_before (state g mid) (state g end) (λ _. ⊥) late clean) refl);
+        kept = still_holds _ whole kept;
+        same = λ clean o. let k = kept clean o in (k.now, k.committed);
+        survives = whole;
+      }
+    where
+      tells : (o : Result V E) → HasCleanDisk (state g old) → IfOk o (λ v. IsTrue (state g mid).in_transaction × Looks desk (P v) (state g (begun old)) (state g mid)) → IfOk o (λ v. (t : Tables) → Holds g old t → P v t)
+      tells (Ok v) clean h = λ t holds. let has = holds clean h.1.0 in h.1.2 t has.0 has.1
+      tells (Err e) clean h = tt
+
+      opens : (o : Result V E) → IfOk o (λ v. IsTrue (state g mid).in_transaction × Looks desk (P v) (state g (begun old)) (state g mid)) → OnOk o (IsTrue (state g old).is_open)
+      opens (Ok v) h = h.1.0
+      opens (Err e) h = tt
+
+-- ---- committed, or not
+
+module _ {S : Type 0} (g : Ghosts S) (old mid end : Held S) (settled : IsTrue (state g old).is_open → (state g old).now ≡ (state g old).committed) (made : Database → Database → Type 0)
+    (step : IsStep {V = Unit {0}} {E = Fault} (state g (begun old)) (state g mid) (Ok tt) (λ _ a b. made a.now b.now)) (late : Survives (state g mid) (state g end) (λ db. db ≡ (state g mid).now.trees)) where
+
+  whole : Survives (state g old) (state g end) (λ trees. (db : Database) × made (state g old).now db × (trees ≡ db.trees))
+  whole = commits_crash g old mid end made step late
+
+  -- a commit that failed has rolled back
+  back : (e : Error) → (HasCleanDisk (state g end) → FailsToCommit (state g mid) (state g end) e) → HasCleanDisk (state g end) → IsRolledBack (state g mid) (state g end)
+  back e fails clean = elim (fails clean) [
+    | inl f ↦ f.3
+    | inr off ↦ absurd (let on = (step.made (clean_before (state g mid) (state g end) _ late clean) refl).0 in let f = off.1 in cc)
+  ]
+
+  kept_at : (e : Error) → (HasCleanDisk (state g end) → FailsToCommit (state g mid) (state g end) e) → HasCleanDisk (state g end) → IsTrue (state g end).is_open → IsKept g old end
+  kept_at e fails = rolled_back g old mid end settled {V = Unit {0}} {E = Fault} (Ok tt) (λ _ a b. made a.now b.now) _ step (back e fails) late
+
+  module _ (done : HasCleanDisk (state g end) → IsTrue (state g mid).in_transaction × Shows (state g mid) (state g end) (state g mid).now (state g mid).now false × KeepsCounts (state g mid) (state g end) × ((state g end).marks ≡ [])) where
+    all : HasCleanDisk (state g end) → IsTrue (state g old).is_open × IsTrue (state g end).is_open × made (state g old).now (state g end).now × ((state g end).committed ≡ (state g end).now)
+    all clean = commits_all g old mid end made step late {F = Fault} (Ok tt) clean done
+
+    pub applies : (after : Tables → Tables) → ((a b : Database) → made a b → Turns desk after a b) → IsApplied {V = Unit {0}} {E = Fault} g old end (Ok tt) after
+    applies after turns = record {
+      made = λ t holds clean o.
+          let it = all clean in
+          let has = holds (clean_before (state g old) (state g end) _ whole clean) it.0 in
+          (has.0, turns _ _ it.2 t has.0 has.1);
+      opened = λ clean. let it = all clean in (it.0, it.1, it.3);
+      kept = tt;
+      same = λ clean o. tt;
+      survives = survives_weaker (state g old) (state g end) _ _ (λ _ db h. (h.0, (λ t has. (has.0, turns _ _ h.1 t has.0 has.1)), h.2)) whole;
+    }
+
+    pub creates : ((a b : Database) → made a b → (has_table_of_desk a.schema ≡ false) × HasRows no_rows b) → IsCreated g old end (Ok tt)
+    creates tells = record {
+      made = λ clean o. (tells _ _ (all clean).2).1;
+      opened = λ clean. let it = all clean in (it.0, it.1, it.3);
+      absent = λ clean. (tells _ _ (all clean).2).0;
+      taken = λ clean e. absurd (let f = e in cc);
+      same = λ clean o. tt;
+      survives = survives_weaker (state g old) (state g end) _ _ (λ _ db h. (h.0, (tells _ _ h.1).1, h.2)) whole;
+    }
+
+  module _ (e : Error) (fails : HasCleanDisk (state g end) → FailsToCommit (state g mid) (state g end) e) where
+    pub applies_none : (fault : Fault) (after : Tables → Tables) → ((a b : Database) → made a b → Turns desk after a b) → IsApplied {V = Unit {0}} {E = Fault} g old end (Err fault) after
+    applies_none fault after turns = record {
+      made = tt;
+      opened = λ clean. tt;
+      kept = still_holds g old mid end settled _ whole (kept_at e fails);
+      same = λ clean o. let k = kept_at e fails clean o in (k.now, k.committed);
+      survives = survives_weaker (state g old) (state g end) _ _ (λ _ db h. (h.0, (λ t has. (has.0, turns _ _ h.1 t has.0 has.1)), h.2)) whole;
+    }
+
+    pub commits_none : ((a b : Database) → made a b → (has_table_of_desk a.schema ≡ false) × HasRows no_rows b) → IsCreated g old end (Err Store)
+    commits_none tells = record {
+      made = tt;
+      opened = λ clean. tt;
+      absent = λ clean. tt;
+      taken = λ clean e. absurd (let f = e in cc);
+      same = λ clean o. let k = kept_at e fails clean o in (k.now, k.committed);
+      survives = survives_weaker (state g old) (state g end) _ _ (λ _ db h. (h.0, (tells _ _ h.1).1, h.2)) whole;
+    }

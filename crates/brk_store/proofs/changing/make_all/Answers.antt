@@ -1,0 +1,27 @@
+use Rattle.std.proofs.Common.{◌≡◌, ◌∙◌, Ok, ap, sym, subst, take, ◌+◌, refl}
+use Rattle.std.proofs.lemmas.List.Sums.{fold_more}
+use Rattle.sqlite.specs.Held.{state}
+use Rattle.brk_model.specs.Tables.{Tables}
+use Rattle.brk_rows.proofs.Inside.{step_then}
+use Rattle.brk_rows.specs.Desk.{HasTables, Turns}
+use Rattle.brk_tables.specs.Desk.{desk}
+use Rattle.brk_trade.specs.Changes.{after_change, after_changes}
+use Rattle.brk_trade.specs.declared.change.Change.{Change}
+use Rattle.brk_store.proofs.changing.make_all.Goals as goal
+
+pub loop-change-preserved : goal.loop-change-preserved
+loop-change-preserved g c =
+    let xs = c.args.changes.now in
+    let i = c.loop-change.change-index in
+    let a = state g.S.Store c.args.tx.now.conn.now in
+    let b = state g.S.Store c.loop-change.tx.conn.now in
+    let d = state g.S.Store c.make.new.tx.conn.now in
+    record {
+      same = c.make.ensures.same_reference ∙ c.loop-change.invariant.same;
+      step = step_then a b d tt (Ok tt) (λ _ x y. Turns desk (after_changes (take i xs)) x.now y.now) (λ _ x y. Turns desk (after_change c.change-item.result) x.now y.now) (λ _ x y. Turns desk (after_changes (take (i + 1) xs)) x.now y.now)
+          (λ v p q t tree h.
+            let e : after_changes (take (i + 1) xs) t ≡ after_change c.change-item.result (after_changes (take i xs) t) =
+                fold_more (λ (u : Tables) (k : Change). after_change k u) t xs i c.change-item.result c.loop-change-test.true ∙ ap (λ (k : Change). after_change k (after_changes (take i xs) t)) (sym c.change-item.is) in
+            subst (λ u. HasTables desk u tree d.now) (sym e) (q (after_changes (take i xs) t) tree (p t tree h)))
+          c.loop-change.invariant.step c.in_ok-make.ensures.step;
+    }

@@ -1,0 +1,14 @@
+use Rattle.std.proofs.Common.{◌≡◌, Ok, take}
+use Rattle.sqlite.specs.Held.{state}
+use Rattle.brk_money.specs.declared.fault.Fault.{Fault}
+use Rattle.brk_rows.specs.Model.{IsStep}
+use Rattle.brk_rows.specs.Desk.{Turns}
+use Rattle.brk_tables.specs.Desk.{desk}
+use Rattle.brk_trade.specs.Changes.{after_changes}
+use Rattle.brk_store.proofs.changing.make_all.Given as goal
+
+abbrev pub invariant-loop-change : goal.invariant-loop-change
+invariant-loop-change g l = record {
+  same : l.tx.conn.ghost_name ≡ l.fn.tx.conn.ghost_name;
+  step : IsStep {V = Unit {0}} {E = Fault} (state g.S.Store l.fn.tx.conn.now) (state g.S.Store l.tx.conn.now) (Ok tt) (λ _ a b. Turns desk (after_changes (take l.change-index l.changes)) a.now b.now);
+}

@@ -1,0 +1,53 @@
+-- What a store holds, and what its calls do to it.
+use Rattle.std.specs.Prelude.{◌≡◌, true, false, Result, Err, IfOk, OnOk, OnErr, IsTrue}
+use Rattle.sqlite_trees.specs.declared.store.Store.{Ghosts}
+use Rattle.sqlite.specs.Effect.{Database}
+use Rattle.sqlite.specs.Held.{Held, state}
+use Rattle.sqlite.specs.State.{HasCleanDisk, Survives}
+use Rattle.brk_money.specs.declared.fault.Condition.TheVariants.{NotEmpty}
+use Rattle.brk_money.specs.declared.fault.Fault.{Fault}
+use Rattle.brk_money.specs.declared.fault.Fault.TheVariants.{Damaged}
+use Rattle.brk_model.specs.Tables.{Tables}
+use Rattle.brk_tables.specs.Desk.{no_rows}
+use Rattle.brk_tables.specs.Made.{HasRows, has_table_of_desk}
+
+-- as far as the disk has returned what was written and no fault has shut the store, the desk's tables have these rows
+abbrev pub Holds : {S : Type 0} → Ghosts S → Held S → Tables → Type 0
+Holds g store t = HasCleanDisk (state g store) → IsTrue (state g store).is_open → HasRows t (state g store).now
+
+-- a call that reads
+pub record IsRead {S V E : Type 0} (g : Ghosts S) (old new : Held S) (result : Result V E) (Told : V → Tables → Type 0) : Type 0 where
+  -- the answer is so of whatever rows the store holds
+  pub told : HasCleanDisk (state g new) → IfOk result (λ answer. (t : Tables) → Holds g old t → Told answer t)
+  -- only a store that is open answers
+  pub opened : HasCleanDisk (state g new) → OnOk result (IsTrue (state g old).is_open)
+  -- it holds them still, whatever the answer
+  pub kept : (t : Tables) → Holds g old t → Holds g new t
+  -- the whole database is as it was
+  pub same : HasCleanDisk (state g new) → IsTrue (state g new).is_open → ((state g new).now ≡ (state g old).now) × ((state g new).committed ≡ (state g old).committed)
+  -- a crash leaves what it could leave before
+  pub survives : Survives (state g old) (state g new) (λ _. ⊥)
+
+-- a call that changes the rows, wholly or not at all
+pub record IsApplied {S V E : Type 0} (g : Ghosts S) (old new : Held S) (result : Result V E) (after : Tables → Tables) : Type 0 where
+  -- at Ok the rows are the changed ones, and committed
+  pub made : OnOk result ((t : Tables) → Holds g old t → Holds g new (after t))
+  pub opened : HasCleanDisk (state g new) → OnOk result (IsTrue (state g old).is_open × IsTrue (state g new).is_open × ((state g new).committed ≡ (state g new).now))
+  -- at a fault they are those from before, and the whole database is as it was
+  pub kept : OnErr result ((t : Tables) → Holds g old t → Holds g new t)
+  pub same : HasCleanDisk (state g new) → IsTrue (state g new).is_open → OnErr result (((state g new).now ≡ (state g old).now) × ((state g new).committed ≡ (state g old).committed))
+  -- a crash leaves what it could leave before, or the changed rows
+  pub survives : Survives (state g old) (state g new) (λ trees. (db : Database) × ((t : Tables) → HasRows t (state g old).now → HasRows (after t) db) × (trees ≡ db.trees))
+
+-- the making of the tables, wholly or not at all
+pub record IsCreated {S : Type 0} (g : Ghosts S) (old new : Held S) (result : Result (Unit {0}) Fault) : Type 0 where
+  -- at Ok the tables are there without rows, and committed, and none of them was there
+  pub made : OnOk result (Holds g new no_rows)
+  pub opened : HasCleanDisk (state g new) → OnOk result (IsTrue (state g old).is_open × IsTrue (state g new).is_open × ((state g new).committed ≡ (state g new).now))
+  pub absent : HasCleanDisk (state g new) → OnOk result (has_table_of_desk (state g old).now.schema ≡ false)
+  -- it is answered that one is there only where one is
+  pub taken : HasCleanDisk (state g new) → result ≡ Err (Damaged NotEmpty) → has_table_of_desk (state g old).now.schema ≡ true
+  -- at a fault the whole database is as it was
+  pub same : HasCleanDisk (state g new) → IsTrue (state g new).is_open → OnErr result (((state g new).now ≡ (state g old).now) × ((state g new).committed ≡ (state g old).committed))
+  -- a crash leaves what it could leave before, or the tables without rows
+  pub survives : Survives (state g old) (state g new) (λ trees. (db : Database) × HasRows no_rows db × (trees ≡ db.trees))

@@ -1,0 +1,72 @@
+//! Changes of rows, and the making of the tables, each in one transaction.
+
+ghost use Rattle.std.specs.Prelude.{◌≡◌, false};
+ghost use Rattle.sqlite.specs.Held.{state};
+ghost use Rattle.brk_rows.specs.Desk.{Turns};
+ghost use Rattle.brk_rows.specs.Model.{IsStep};
+ghost use Rattle.brk_tables.specs.Desk.{desk};
+ghost use Rattle.brk_trade.specs.Changes.{after_change, after_changes};
+ghost use Rattle.brk_store.specs.Holds.{IsApplied, IsCreated};
+
+use brk_money::{Condition, Fault};
+use brk_trade::Change;
+use sqlite::{Alter, Connection, Transaction};
+
+// Makes one change of one row.
+fn make<S: Alter>(tx: &mut Transaction<'_, S>, change: &Change) -> Result<(), Fault>
+    ensures same_reference { tx.new.conn.ghost_name ≡ tx.old.conn.ghost_name }
+    ensures step { IsStep (state S.Store tx.old.conn.now) (state S.Store tx.new.conn.now) result (λ _ a b. Turns desk (after_change change.now) a.now b.now) }
+{
+    match change {
+        Change::AddBroker(broker) => brk_tables::add_broker(tx, broker),
+        Change::AddCustomer(customer) => brk_tables::add_customer(tx, customer),
+        Change::AddAccount(account) => brk_tables::add_account(tx, account),
+        Change::SetLast(stamp) => brk_tables::set_last_stamp(tx, *stamp),
+    }
+}
+
+fn make_all<S: Alter>(tx: &mut Transaction<'_, S>, changes: &[Change]) -> Result<(), Fault>
+    ensures same_reference { tx.new.conn.ghost_name ≡ tx.old.conn.ghost_name }
+    ensures step { IsStep (state S.Store tx.old.conn.now) (state S.Store tx.new.conn.now) result (λ _ a b. Turns desk (after_changes changes.now) a.now b.now) }
+{
+    for change in changes {
+        make(tx, change)?;
+    }
+    Ok(())
+}
+
+/// Makes the changes in turn, all of them or none.
+pub(crate) fn apply_all<S: Alter>(
+    conn: &mut Connection<S>,
+    changes: &[Change],
+) -> Result<(), Fault>
+    requires { conn.old.in_transaction ≡ false }
+    ensures mode { conn.new.in_transaction ≡ false }
+    ensures applied { IsApplied S.Store conn.old conn.new result (after_changes changes.now) }
+{
+    let _settled = conn.is_autocommit();
+    let mut tx = conn.transaction();
+    make_all(&mut tx, changes)?;
+    match tx.commit() {
+        Ok(()) => Ok(()),
+        Err(_) => Err(Fault::Store),
+    }
+}
+
+/// Makes the tables where none of them is there, or none of them.
+pub(crate) fn make_desk<S: Alter>(conn: &mut Connection<S>) -> Result<(), Fault>
+    requires { conn.old.in_transaction ≡ false }
+    ensures mode { conn.new.in_transaction ≡ false }
+    ensures created { IsCreated S.Store conn.old conn.new result }
+{
+    let _settled = conn.is_autocommit();
+    let mut tx = conn.transaction();
+    if brk_tables::has_some_table(&mut tx)? {
+        return Err(Fault::Damaged(Condition::NotEmpty));
+    }
+    brk_tables::make_tables(&mut tx)?;
+    match tx.commit() {
+        Ok(()) => Ok(()),
+        Err(_) => Err(Fault::Store),
+    }
+}

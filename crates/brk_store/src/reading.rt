@@ -1,0 +1,71 @@
+//! Each read in a transaction of its own, which is rolled back.
+
+ghost use Rattle.std.specs.Prelude.{◌≡◌, ◌==◌, false, bytes_eq, filter, find, map, option_map};
+ghost use Rattle.brk_ref.specs.Records.{customer_of};
+ghost use Rattle.brk_tables.specs.Records.{account_row_of, broker_row_of};
+ghost use Rattle.brk_store.specs.Holds.{IsRead};
+
+use brk_money::{Fault, Id, Stamp};
+use brk_ref::{AccountRow, BrokerRow, Customer, TaxId};
+use sqlite::{Alter, Connection};
+use std::alloc::Global;
+
+pub(crate) fn read_last<S: Alter>(conn: &mut Connection<S>) -> Result<Option<Stamp>, Fault>
+    requires { conn.old.in_transaction ≡ false }
+    ensures mode { conn.new.in_transaction ≡ false }
+    ensures read { IsRead S.Store conn.old conn.new result (λ last t. last ≡ t.last) }
+{
+    let _settled = conn.is_autocommit();
+    let mut tx = conn.transaction();
+    brk_tables::last_stamp(&mut tx)
+}
+
+pub(crate) fn read_broker<S: Alter>(conn: &mut Connection<S>, id: Id) -> Result<Option<BrokerRow>, Fault>
+    requires { conn.old.in_transaction ≡ false }
+    ensures mode { conn.new.in_transaction ≡ false }
+    ensures read { IsRead S.Store conn.old conn.new result (λ o t. option_map broker_row_of o ≡ find (λ r. r.id == id) t.brokers) }
+{
+    let _settled = conn.is_autocommit();
+    let mut tx = conn.transaction();
+    brk_tables::broker_by_id(&mut tx, id)
+}
+
+pub(crate) fn read_customer<S: Alter>(conn: &mut Connection<S>, id: Id) -> Result<Option<Customer>, Fault>
+    requires { conn.old.in_transaction ≡ false }
+    ensures mode { conn.new.in_transaction ≡ false }
+    ensures read { IsRead S.Store conn.old conn.new result (λ o t. option_map customer_of o ≡ find (λ r. r.id == id) t.customers) }
+{
+    let _settled = conn.is_autocommit();
+    let mut tx = conn.transaction();
+    brk_tables::customer_by_id(&mut tx, id)
+}
+
+pub(crate) fn read_customer_by_tax_id<S: Alter>(conn: &mut Connection<S>, tax_id: &TaxId) -> Result<Option<Customer>, Fault>
+    requires { conn.old.in_transaction ≡ false }
+    ensures mode { conn.new.in_transaction ≡ false }
+    ensures read { IsRead S.Store conn.old conn.new result (λ o t. option_map customer_of o ≡ find (λ r. bytes_eq r.tax_id tax_id.now) t.customers) }
+{
+    let _settled = conn.is_autocommit();
+    let mut tx = conn.transaction();
+    brk_tables::customer_by_tax_id(&mut tx, tax_id)
+}
+
+pub(crate) fn read_account<S: Alter>(conn: &mut Connection<S>, id: Id) -> Result<Option<AccountRow>, Fault>
+    requires { conn.old.in_transaction ≡ false }
+    ensures mode { conn.new.in_transaction ≡ false }
+    ensures read { IsRead S.Store conn.old conn.new result (λ o t. option_map account_row_of o ≡ find (λ r. r.id == id) t.accounts) }
+{
+    let _settled = conn.is_autocommit();
+    let mut tx = conn.transaction();
+    brk_tables::account_by_id(&mut tx, id)
+}
+
+pub(crate) fn read_accounts_of<S: Alter>(conn: &mut Connection<S>, alloc: Global, customer: Id) -> Result<Vec<AccountRow>, Fault>
+    requires { conn.old.in_transaction ≡ false }
+    ensures mode { conn.new.in_transaction ≡ false }
+    ensures read { IsRead S.Store conn.old conn.new result (λ all t. map account_row_of all.items ≡ filter (λ r. r.customer == customer) t.accounts) }
+{
+    let _settled = conn.is_autocommit();
+    let mut tx = conn.transaction();
+    brk_tables::accounts_of_customer(&mut tx, alloc, customer)
+}

@@ -1,0 +1,26 @@
+-- A comparison of a column with a parameter is that of its value.
+use Rattle.std.proofs.Common.{◌≡◌, ℕ, pos, List, Bool, true, false, ◌==◌, is_eq, int_cmp, nat_cmp, refl, sym, ap, ◌∙◌, inl, inr, arith, eq-eqb, ne_eqb}
+use Rattle.std.specs.Prelude.{nat_lt, bytes_eq}
+use Rattle.std.proofs.lemmas.Bool.{cases_Bool, ltb-true, ltb-false}
+use Rattle.std.proofs.lemmas.Map.Text.{is_eq-slice_cmp}
+use Rattle.sqlite_value.specs.declared.value.Value.TheVariants.{Int, Text as Words}
+use Rattle.sqlite_value.specs.declared.keys.Collation.TheVariants.{Binary}
+use Rattle.sqlite_sql.specs.declared.ops.BinaryOp.TheVariants.{Compare}
+use Rattle.sqlite_sql.specs.declared.ops.CompareOp.TheVariants.{Eq}
+use Rattle.sqlite_sql.specs.Ops.{binary, is_true}
+use Rattle.brk_rows.proofs.Values.{equal_ints, equal_texts}
+
+numbers_tie : (m n : ℕ) → is_eq (int_cmp (pos m) (pos n)) ≡ (m == n)
+numbers_tie m n = elim (cases_Bool (nat_lt m n)) [
+  | inl a ↦ rw a (sym (ne_eqb m n (λ e. omega (arith, ltb-true m n a, e))))
+  | inr a ↦ elim (cases_Bool (nat_lt n m)) [
+      | inl b ↦ rw (a, b) (sym (ne_eqb m n (λ e. omega (arith, ltb-true n m b, e))))
+      | inr b ↦ rw (a, b) (sym (eq-eqb m n (omega (arith, ltb-false m n a, ltb-false n m b))))
+    ]
+]
+
+pub same_number : (m n : ℕ) → is_true (binary (Compare Eq Binary) (Int (pos m)) (Int (pos n))) ≡ (m == n)
+same_number m n = equal_ints (pos m) (pos n) ∙ numbers_tie m n
+
+pub same_text : (s t : List ℕ) → is_true (binary (Compare Eq Binary) (Words s) (Words t)) ≡ bytes_eq s t
+same_text s t = equal_texts s t ∙ is_eq-slice_cmp s t

@@ -1,0 +1,107 @@
+-- Written by tools/tables.py: the columns of each row.
+use Rattle.std.specs.Prelude.{ℕ, pos, Bool, if◌then◌else◌, List, [], ◌∷◌, Option}
+use Rattle.sqlite_value.specs.declared.value.Value.{Value}
+use Rattle.sqlite_value.specs.declared.value.Value.TheVariants.{Int, Text as Words}
+use Rattle.sqlite_value.specs.Order.{Row}
+use Rattle.sqlite.specs.Values.{or_null}
+use Rattle.brk_money.specs.Kinds.{type_code, status_code, tax_status_number}
+use Rattle.brk_model.specs.Records.{Customer, Permission, Charge, Band, TaxRate, CustomerTax, Kept}
+use Rattle.brk_model.specs.Tables.{BrokerRow, AccountRow, SecurityRow, LastTradeRow, TradeRow, HistoryRow, RequestRow, HoldingRow, SummaryRow, HoldingHistoryRow, SettlementRow, CashRow}
+
+-- the row of DESK: D_ID, D_SCHEMA, D_LAST
+pub record DeskRow : Type 0 where
+  pub id : ℕ
+  pub schema : ℕ
+  pub last : Option ℕ
+
+-- a number that is not below 0
+abbrev pub nat : ℕ → Value
+nat n = Int (pos n)
+
+-- such a number, or null
+abbrev pub maybe : Option ℕ → Value
+maybe = or_null (λ n. Int (pos n))
+
+-- 1 for true and 0 for false
+abbrev pub flag : Bool → Value
+flag b = Int (pos (if b then 1 else 0))
+
+-- DESK
+abbrev pub desk_row_cells : DeskRow → Row
+desk_row_cells r = nat r.id ∷ nat r.schema ∷ maybe r.last ∷ []
+
+-- KEPT
+abbrev pub kept_cells : Kept → Row
+kept_cells r = Words r.key.batch ∷ nat r.key.row ∷ Words r.row_text ∷ Words r.line ∷ []
+
+-- BROKER
+abbrev pub broker_cells : BrokerRow → Row
+broker_cells r = nat r.id ∷ Words r.name ∷ Int r.trades ∷ nat r.commissions ∷ []
+
+-- CUSTOMER
+abbrev pub customer_cells : Customer → Row
+customer_cells r = nat r.id ∷ nat r.tier ∷ Words r.tax_id ∷ Words r.last_name ∷ Words r.first_name ∷ []
+
+-- CUSTOMER_ACCOUNT
+abbrev pub account_cells : AccountRow → Row
+account_cells r = nat r.id ∷ nat r.customer ∷ nat r.broker ∷ Words r.name ∷ nat (tax_status_number r.tax_status) ∷ Int r.opening ∷ Int r.balance ∷ []
+
+-- ACCOUNT_PERMISSION
+abbrev pub permission_cells : Permission → Row
+permission_cells r = nat r.account ∷ Words r.tax_id ∷ Words r.acl ∷ Words r.last_name ∷ Words r.first_name ∷ []
+
+-- SECURITY
+abbrev pub security_cells : SecurityRow → Row
+security_cells r = Words r.symbol ∷ Words r.name ∷ Words r.exchange ∷ Words r.sector ∷ []
+
+-- LAST_TRADE
+abbrev pub last_trade_cells : LastTradeRow → Row
+last_trade_cells r = Words r.symbol ∷ nat r.stamp ∷ nat r.price ∷ nat r.volume ∷ []
+
+-- CHARGE
+abbrev pub charge_cells : Charge → Row
+charge_cells r = Words (type_code r.kind) ∷ nat r.tier ∷ nat r.amount ∷ []
+
+-- COMMISSION_RATE
+abbrev pub band_cells : Band → Row
+band_cells r = nat r.tier ∷ Words (type_code r.kind) ∷ Words r.exchange ∷ nat r.from_qty ∷ nat r.to_qty ∷ nat r.rate ∷ []
+
+-- TAXRATE
+abbrev pub tax_rate_cells : TaxRate → Row
+tax_rate_cells r = nat r.id ∷ Words r.name ∷ nat r.rate ∷ []
+
+-- CUSTOMER_TAXRATE
+abbrev pub customer_tax_cells : CustomerTax → Row
+customer_tax_cells r = nat r.customer ∷ nat r.tax ∷ []
+
+-- TRADE
+abbrev pub trade_cells : TradeRow → Row
+trade_cells r = nat r.id ∷ nat r.stamp ∷ Words (status_code r.status) ∷ Words (type_code r.kind) ∷ flag r.is_cash ∷ Words r.symbol ∷ nat r.qty ∷ nat r.bid ∷ nat r.account ∷ Words r.executor ∷ maybe r.price ∷ nat r.charge ∷ nat r.commission ∷ nat r.tax ∷ flag r.is_lifo ∷ []
+
+-- TRADE_HISTORY
+abbrev pub history_cells : HistoryRow → Row
+history_cells r = nat r.trade ∷ Words (status_code r.status) ∷ nat r.stamp ∷ []
+
+-- TRADE_REQUEST
+abbrev pub request_cells : RequestRow → Row
+request_cells r = nat r.trade ∷ Words (type_code r.kind) ∷ Words r.symbol ∷ nat r.qty ∷ nat r.bid ∷ nat r.broker ∷ []
+
+-- HOLDING
+abbrev pub holding_cells : HoldingRow → Row
+holding_cells r = nat r.trade ∷ nat r.account ∷ Words r.symbol ∷ nat r.stamp ∷ nat r.price ∷ Int r.qty ∷ []
+
+-- HOLDING_SUMMARY
+abbrev pub summary_cells : SummaryRow → Row
+summary_cells r = nat r.account ∷ Words r.symbol ∷ Int r.qty ∷ []
+
+-- HOLDING_HISTORY
+abbrev pub holding_history_cells : HoldingHistoryRow → Row
+holding_history_cells r = nat r.lot ∷ nat r.trade ∷ Int r.before ∷ Int r.after ∷ []
+
+-- SETTLEMENT
+abbrev pub settlement_cells : SettlementRow → Row
+settlement_cells r = nat r.trade ∷ Words r.cash_type ∷ nat r.due_day ∷ Int r.amount ∷ []
+
+-- CASH_TRANSACTION
+abbrev pub cash_cells : CashRow → Row
+cash_cells r = nat r.trade ∷ nat r.stamp ∷ Int r.amount ∷ Words r.name ∷ []

@@ -1,0 +1,6 @@
+pub mod Order
+pub mod Shapes
+pub mod Cells
+pub mod Desk
+pub mod Records
+pub mod Made

@@ -1,0 +1,52 @@
+//! Typed values as parameters of a statement.
+
+ghost use Rattle.std.specs.Prelude.{◌≡◌, pos};
+ghost use Rattle.sqlite_value.specs.Value.{owned};
+ghost use Rattle.sqlite_value.specs.declared.value.Value.TheVariants.{Int, Text};
+ghost use Rattle.brk_money.specs.Kinds.{tax_status_number};
+
+use brk_money::{Cents, Id, Stamp, TaxStatus};
+use brk_ref::Tier;
+use sqlite_value::value::ValueRef;
+
+pub(crate) fn number_value<'a>(number: i64) -> ValueRef<'a>
+    ensures { owned result ≡ Int number }
+{
+    ValueRef::Int(number)
+}
+
+pub(crate) fn id_value<'a>(id: Id) -> ValueRef<'a>
+    ensures { owned result ≡ Int (pos id) }
+{
+    ValueRef::Int(id.get() as i64)
+}
+
+pub(crate) fn tier_value<'a>(tier: Tier) -> ValueRef<'a>
+    ensures { owned result ≡ Int (pos tier) }
+{
+    ValueRef::Int(tier.get() as i64)
+}
+
+pub(crate) fn tax_status_value<'a>(tax_status: TaxStatus) -> ValueRef<'a>
+    ensures { owned result ≡ Int (pos (tax_status_number tax_status)) }
+{
+    ValueRef::Int(tax_status.number() as i64)
+}
+
+pub(crate) fn cents_value<'a>(cents: Cents) -> ValueRef<'a>
+    ensures { owned result ≡ Int cents }
+{
+    ValueRef::Int(cents.get())
+}
+
+pub(crate) fn stamp_value<'a>(stamp: Stamp) -> ValueRef<'a>
+    ensures { owned result ≡ Int (pos stamp) }
+{
+    ValueRef::Int(stamp.get())
+}
+
+pub(crate) fn text_value(text: &str) -> ValueRef<'_>
+    ensures { owned result ≡ Text text.now }
+{
+    ValueRef::Text(text.as_bytes())
+}

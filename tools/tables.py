@@ -1,0 +1,582 @@
+#!/usr/bin/env python3
+"""Writes the parts of crates/brk_tables that follow from the list of tables and statements below: the shapes and cells
+of the tables, what each SQL text means over any schema, and which text makes which table. Run it at the top of the
+repository after a change of the list. What it writes is checked like any other file."""
+OUT = 'crates/brk_tables/proofs'
+SPECS = 'crates/brk_tables/specs'
+CRATE = 'brk_tables'
+
+# For each table: the SQL name, its name among the tables, the type of its rows, the key of a row, the list of its rows,
+# whether its key is the rowid, and its columns: name, kind, how a row r shows it, the table and column it names.
+DATA = [
+    ('desk_row', 'DESK', 'TheDesk', 'DeskRow', 'desk_key', 'desk_rows t.last', True, [('D_ID', 'whole', 'nat r.id', None), ('D_SCHEMA', 'whole', 'nat r.schema', None), ('D_LAST', 'perhaps', 'maybe r.last', None)]),
+    ('kept', 'KEPT', 'KeptRows', 'Kept', 'kept_key', 't.kept', False, [('K_BATCH', 'text', 'Words r.key.batch', None), ('K_N', 'whole', 'nat r.key.row', None), ('K_ROW', 'text', 'Words r.row_text', None), ('K_LINE', 'text', 'Words r.line', None)]),
+    ('broker', 'BROKER', 'Brokers', 'BrokerRow', 'broker_key', 't.brokers', True, [('B_ID', 'whole', 'nat r.id', None), ('B_NAME', 'text', 'Words r.name', None), ('B_NUM_TRADES', 'whole', 'Int r.trades', None), ('B_COMM_TOTAL', 'whole', 'nat r.commissions', None)]),
+    ('customer', 'CUSTOMER', 'Customers', 'Customer', 'customer_key', 't.customers', True, [('C_ID', 'whole', 'nat r.id', None), ('C_TIER', 'whole', 'nat r.tier', None), ('C_TAX_ID', 'text', 'Words r.tax_id', None), ('C_L_NAME', 'text', 'Words r.last_name', None), ('C_F_NAME', 'text', 'Words r.first_name', None)]),
+    ('account', 'CUSTOMER_ACCOUNT', 'Accounts', 'AccountRow', 'account_key', 't.accounts', True, [('CA_ID', 'whole', 'nat r.id', None), ('CA_C_ID', 'whole', 'nat r.customer', 'CUSTOMER.C_ID'), ('CA_B_ID', 'whole', 'nat r.broker', 'BROKER.B_ID'), ('CA_NAME', 'text', 'Words r.name', None), ('CA_TAX_ST', 'whole', 'nat (tax_status_number r.tax_status)', None), ('CA_OPEN', 'whole', 'Int r.opening', None), ('CA_BAL', 'whole', 'Int r.balance', None)]),
+    ('permission', 'ACCOUNT_PERMISSION', 'Permissions', 'Permission', 'permission_key', 't.permissions', False, [('AP_CA_ID', 'whole', 'nat r.account', 'CUSTOMER_ACCOUNT.CA_ID'), ('AP_TAX_ID', 'text', 'Words r.tax_id', None), ('AP_ACL', 'text', 'Words r.acl', None), ('AP_L_NAME', 'text', 'Words r.last_name', None), ('AP_F_NAME', 'text', 'Words r.first_name', None)]),
+    ('security', 'SECURITY', 'Securities', 'SecurityRow', 'security_key', 't.securities', False, [('S_SYMB', 'text', 'Words r.symbol', None), ('S_NAME', 'text', 'Words r.name', None), ('S_EX_ID', 'text', 'Words r.exchange', None), ('S_SECTOR', 'text', 'Words r.sector', None)]),
+    ('last_trade', 'LAST_TRADE', 'LastTrades', 'LastTradeRow', 'last_trade_key', 't.last_trades', False, [('LT_S_SYMB', 'text', 'Words r.symbol', 'SECURITY.S_SYMB'), ('LT_DTS', 'whole', 'nat r.stamp', None), ('LT_PRICE', 'whole', 'nat r.price', None), ('LT_VOL', 'whole', 'nat r.volume', None)]),
+    ('charge', 'CHARGE', 'Charges', 'Charge', 'charge_key', 't.charges', False, [('CH_TT_ID', 'text', 'Words (type_code r.kind)', None), ('CH_C_TIER', 'whole', 'nat r.tier', None), ('CH_CHRG', 'whole', 'nat r.amount', None)]),
+    ('band', 'COMMISSION_RATE', 'Bands', 'Band', 'band_key', 't.bands', False, [('CR_C_TIER', 'whole', 'nat r.tier', None), ('CR_TT_ID', 'text', 'Words (type_code r.kind)', None), ('CR_EX_ID', 'text', 'Words r.exchange', None), ('CR_FROM_QTY', 'whole', 'nat r.from_qty', None), ('CR_TO_QTY', 'whole', 'nat r.to_qty', None), ('CR_RATE', 'whole', 'nat r.rate', None)]),
+    ('tax_rate', 'TAXRATE', 'TaxRates', 'TaxRate', 'tax_rate_key', 't.tax_rates', True, [('TX_ID', 'whole', 'nat r.id', None), ('TX_NAME', 'text', 'Words r.name', None), ('TX_RATE', 'whole', 'nat r.rate', None)]),
+    ('customer_tax', 'CUSTOMER_TAXRATE', 'CustomerTaxes', 'CustomerTax', 'customer_tax_key', 't.customer_taxes', False, [('CX_C_ID', 'whole', 'nat r.customer', 'CUSTOMER.C_ID'), ('CX_TX_ID', 'whole', 'nat r.tax', 'TAXRATE.TX_ID')]),
+    ('trade', 'TRADE', 'Trades', 'TradeRow', 'trade_key', 't.trades', True, [('T_ID', 'whole', 'nat r.id', None), ('T_DTS', 'whole', 'nat r.stamp', None), ('T_ST_ID', 'text', 'Words (status_code r.status)', None), ('T_TT_ID', 'text', 'Words (type_code r.kind)', None), ('T_IS_CASH', 'whole', 'flag r.is_cash', None), ('T_S_SYMB', 'text', 'Words r.symbol', 'SECURITY.S_SYMB'), ('T_QTY', 'whole', 'nat r.qty', None), ('T_BID_PRICE', 'whole', 'nat r.bid', None), ('T_CA_ID', 'whole', 'nat r.account', 'CUSTOMER_ACCOUNT.CA_ID'), ('T_EXEC_NAME', 'text', 'Words r.executor', None), ('T_TRADE_PRICE', 'perhaps', 'maybe r.price', None), ('T_CHRG', 'whole', 'nat r.charge', None), ('T_COMM', 'whole', 'nat r.commission', None), ('T_TAX', 'whole', 'nat r.tax', None), ('T_LIFO', 'whole', 'flag r.is_lifo', None)]),
+    ('history', 'TRADE_HISTORY', 'TradeHistory', 'HistoryRow', 'history_key', 't.history', False, [('TH_T_ID', 'whole', 'nat r.trade', 'TRADE.T_ID'), ('TH_ST_ID', 'text', 'Words (status_code r.status)', None), ('TH_DTS', 'whole', 'nat r.stamp', None)]),
+    ('request', 'TRADE_REQUEST', 'Requests', 'RequestRow', 'request_key', 't.requests', True, [('TR_T_ID', 'whole', 'nat r.trade', 'TRADE.T_ID'), ('TR_TT_ID', 'text', 'Words (type_code r.kind)', None), ('TR_S_SYMB', 'text', 'Words r.symbol', 'SECURITY.S_SYMB'), ('TR_QTY', 'whole', 'nat r.qty', None), ('TR_BID_PRICE', 'whole', 'nat r.bid', None), ('TR_B_ID', 'whole', 'nat r.broker', 'BROKER.B_ID')]),
+    ('holding', 'HOLDING', 'Holdings', 'HoldingRow', 'holding_key', 't.holdings', True, [('H_T_ID', 'whole', 'nat r.trade', 'TRADE.T_ID'), ('H_CA_ID', 'whole', 'nat r.account', 'CUSTOMER_ACCOUNT.CA_ID'), ('H_S_SYMB', 'text', 'Words r.symbol', 'SECURITY.S_SYMB'), ('H_DTS', 'whole', 'nat r.stamp', None), ('H_PRICE', 'whole', 'nat r.price', None), ('H_QTY', 'whole', 'Int r.qty', None)]),
+    ('summary', 'HOLDING_SUMMARY', 'Summaries', 'SummaryRow', 'summary_key', 't.summaries', False, [('HS_CA_ID', 'whole', 'nat r.account', 'CUSTOMER_ACCOUNT.CA_ID'), ('HS_S_SYMB', 'text', 'Words r.symbol', 'SECURITY.S_SYMB'), ('HS_QTY', 'whole', 'Int r.qty', None)]),
+    ('holding_history', 'HOLDING_HISTORY', 'HoldingHistory', 'HoldingHistoryRow', 'holding_history_key', 't.holding_history', False, [('HH_H_T_ID', 'whole', 'nat r.lot', 'TRADE.T_ID'), ('HH_T_ID', 'whole', 'nat r.trade', 'TRADE.T_ID'), ('HH_BEFORE_QTY', 'whole', 'Int r.before', None), ('HH_AFTER_QTY', 'whole', 'Int r.after', None)]),
+    ('settlement', 'SETTLEMENT', 'Settlements', 'SettlementRow', 'settlement_key', 't.settlements', True, [('SE_T_ID', 'whole', 'nat r.trade', 'TRADE.T_ID'), ('SE_CASH_TYPE', 'text', 'Words r.cash_type', None), ('SE_CASH_DUE_DATE', 'whole', 'nat r.due_day', None), ('SE_AMT', 'whole', 'Int r.amount', None)]),
+    ('cash', 'CASH_TRANSACTION', 'CashRows', 'CashRow', 'cash_key', 't.cash', True, [('CT_T_ID', 'whole', 'nat r.trade', 'TRADE.T_ID'), ('CT_DTS', 'whole', 'nat r.stamp', None), ('CT_AMT', 'whole', 'Int r.amount', None), ('CT_NAME', 'text', 'Words r.name', None)]),
+]
+
+# how many columns of a table are its key, where that is no rowid, and its other UNIQUE columns
+KEYS = {'kept': 2, 'permission': 2, 'security': 1, 'last_trade': 1, 'charge': 2, 'band': 4, 'customer_tax': 2, 'history': 2, 'summary': 2, 'holding_history': 2}
+UNIQUE = {'customer': [3]}
+# written inside the column, as its key is one text
+INLINE = {'security', 'last_trade'}
+
+TABLES = {d[0]: (d[1], [(c[0], c[1]) for c in d[7]], d[6]) for d in DATA}
+
+def which(t):
+    return {d[0]: d[2] for d in DATA}[t]
+
+def place(t, c):
+    name, cols, rowkey = TABLES[t]
+    i = [k for k, _ in cols].index(c)
+    return 0 if rowkey and i == 0 else i + 1
+
+def kind(t, c):
+    return dict(TABLES[t][1])[c]
+
+def index(t, c):
+    return [k for k, _ in TABLES[t][1]].index(c)
+
+def lst(xs):
+    return ' ∷ '.join(list(xs) + ['[]'])
+
+def q(s):
+    return f'codes "{s}"'
+
+def col_is(t, c, shown, agg, alias):
+    return f'column_is schema at ({t} tree) found ({q(TABLES[t][0])}) {shown} [] {agg} {alias} ({q(c)}) {index(t, c)} ({kind(t, c)} ({q(c)})) refl refl'
+
+def head_is(t, c):
+    return f'heading_is schema at ({t} tree) found ({q(TABLES[t][0])}) [] [] true true (e.Column None ({q(c)})) ({q(c)}) ({q(c)}) {index(t, c)} ({kind(t, c)} ({q(c)})) refl refl refl'
+
+def conj(parts):
+    out = parts[0]
+    for p in parts[1:]:
+        out = f'e.Binary operator.And ({out}) ({p})'
+    return out
+
+def test_expr(tests):
+    return conj([f'e.Binary operator.Eq (e.Column None ({q(c)})) (e.Parameter {n})' for c, n in tests])
+
+def test_terms(t, tests):
+    return lst(f'op2 (Compare Eq Binary) (col 1 {place(t, c)}) (col 0 {n - 1})' for c, n in tests)
+
+def test_lemmas(t, tests, shown, found_first):
+    out = ['found'] if found_first else []
+    for c, n in tests:
+        out.append(col_is(t, c, shown, 'false', 'true'))
+        if place(t, c) != 0:
+            out.append('found')
+    return out
+
+HEAD = '''-- Written by tools/tables.py: what {what} means.
+use Rattle.std.proofs.Common.{{◌≡◌, ◌⊎◌, ℕ, ◌-◌, pos, negsuc, List, [], ◌∷◌, codes, true, false, None, Some, Ok, Err, refl, slice_get}}
+use Rattle.sqlite_value.specs.declared.keys.Collation.TheVariants.{{Binary}}
+use Rattle.sqlite.specs.declared.types.Value.TheVariants.{{Null, Int, Text}}
+use Rattle.sqlite_sql.specs.declared.ops.BinaryOp.TheVariants.{{Compare}}
+use Rattle.sqlite_sql.specs.declared.ops.CompareOp.TheVariants.{{Eq}}
+use Rattle.sqlite_value.specs.declared.keys.Key.{{Key}}
+use Rattle.sqlite.specs.Term.{{Term, lit, col, op2}}
+use Rattle.sqlite.specs.Schema.{{Schema}}
+use Rattle.sqlite.specs.Source.TheVariants.{{Values}}
+use Rattle.sqlite.specs.Command.TheVariants.{{Insert, Update, Delete, Select}}
+use Rattle.sqlite_ast.specs.declared.Expr.{{Expr, out-Expr}}
+use Rattle.sqlite_ast.specs.declared.Expr.TheVariants as e
+use Rattle.sqlite_ast.specs.declared.Binary.TheVariants as operator
+use Rattle.sqlite_resolve.specs.Scope.{{Name}}
+use Rattle.sqlite_resolve.specs.Write.{{updated, deleted, simple}}
+use Rattle.sqlite_resolve.specs.Compile.{{compiled, first}}
+use Rattle.sqlite_resolve.specs.declared.error.CompileError.TheVariants.{{Mismatch}}
+use Rattle.sqlite_draft.specs.declared.join.Step.TheVariants.{{Inner}}
+use Rattle.sqlite_draft.specs.declared.query.Draft.{{Draft}}
+use Rattle.sqlite_draft.specs.Query.{{query_of}}
+use Rattle.sqlite_tied.specs.Compute.{{everything}}
+use Rattle.brk_rows.specs.Partly.{{lowering}}
+use Rattle.brk_rows.specs.Desk.{{whole, text, perhaps, Stands}}
+use Rattle.brk_rows.proofs.Meant.{{meant, inserts, updates_or, deletes_or, reads_or}}
+use Rattle.brk_rows.proofs.Pick.{{selection, whole_page}}
+use Rattle.brk_rows.proofs.Scoped.{{over_one, column_is, heading_is}}
+use Rattle.brk_rows.proofs.Texts.{{read}}
+use Rattle.{crate}.specs.Shapes.{{{table}}}
+'''
+
+def write(name, what, table, body):
+    text = HEAD.format(what=what, crate=CRATE, table=table) + body
+    open(f'{OUT}/{name}.antt', 'w').write(text)
+
+def insert(name, t, values):
+    """values: for each column a parameter's number, ('lit', n) or 'null'"""
+    sql, cols, rowkey = TABLES[t]
+    shown = ', '.join(f'?{v}' if isinstance(v, int) else 'NULL' if v == 'null' else str(v[1]) for v in values)
+    text = f'INSERT INTO {sql} ({", ".join(c for c, _ in cols)}) VALUES ({shown})'
+    term = lambda v: f'col 0 {v - 1}' if isinstance(v, int) else 'lit Null' if v == 'null' else f'lit (Int (pos {v[1]}))'
+    terms = [term(v) for v in values]
+    terms = [terms[0], 'lit Null'] + terms[1:] if rowkey else ['lit Null'] + terms
+    write(name, 'an INSERT', t, f'''
+abbrev pub statement : List ℕ
+statement = codes "{text}"
+
+abbrev pub terms : List Term
+terms = {lst(terms)}
+
+pub understood_as : (schema : Schema) (at tree : ℕ) → Stands schema ({t} tree) at → compiled schema statement ≡ Ok (meant (read statement) [] (Insert at (Values terms {len(terms)})))
+unfolding everything
+understood_as schema at tree h = inserts schema statement (read statement) refl refl ({q(sql)}) at ({t} tree) h.named h.found _ _ _ refl refl
+''')
+    return text
+
+def update(name, t, sets, tests):
+    sql, cols, rowkey = TABLES[t]
+    text = f'UPDATE {sql} SET {", ".join(f"{c} = ?{n}" for c, n in sets)} WHERE {" AND ".join(f"{c} = ?{n}" for c, n in tests)}'
+    new = dict(sets)
+    project = ['col 1 0'] + (['col 1 0', 'lit Null'] if rowkey else ['col 1 0'])
+    for i, (c, _) in enumerate(cols):
+        if rowkey and i == 0:
+            continue
+        project.append(f'col 0 {new[c] - 1}' if c in new else f'col 1 {i + 1}')
+    write(name, 'an UPDATE', t, f'''
+abbrev pub statement : List ℕ
+statement = codes "{text}"
+
+abbrev pub sets : List (Name × Expr)
+sets = {lst(f'({q(c)}, e.Parameter {n})' for c, n in sets)}
+
+abbrev pub test : Expr
+test = {test_expr(tests)}
+
+abbrev pub terms : List Term
+terms = {test_terms(t, tests)}
+
+abbrev pub project : List Term
+project = {lst(project)}
+
+abbrev pub draft : ℕ → Draft
+draft tree = simple (Inner tree ∷ []) terms project
+
+draft_is : (schema : Schema) (at tree : ℕ) → slice_get schema.tables at ≡ Some ({t} tree) → updated schema at ({t} tree) sets (Some test) ≡ Ok (draft tree)
+unfolding lowering
+draft_is schema at tree found = rw ({", ".join(test_lemmas(t, tests, '[]', False))})
+
+pub understood_as : (schema : Schema) (at tree : ℕ) → Stands schema ({t} tree) at
+    → (compiled schema statement ≡ Ok (meant (read statement) [] (Update at (record {{ lets = []; body = selection tree terms project [] whole_page }})))) ⊎ (compiled schema statement ≡ Err Mismatch)
+unfolding everything
+understood_as schema at tree h = updates_or schema statement (read statement) refl refl ({q(sql)}) at ({t} tree) h.named h.found sets (Some test) (draft tree) refl (draft_is schema at tree h.found)
+''')
+    return text
+
+def delete(name, t, tests):
+    sql, cols, rowkey = TABLES[t]
+    text = f'DELETE FROM {sql} WHERE {" AND ".join(f"{c} = ?{n}" for c, n in tests)}'
+    write(name, 'a DELETE', t, f'''
+abbrev pub statement : List ℕ
+statement = codes "{text}"
+
+abbrev pub test : Expr
+test = {test_expr(tests)}
+
+abbrev pub terms : List Term
+terms = {test_terms(t, tests)}
+
+abbrev pub project : List Term
+project = col 1 0 ∷ []
+
+abbrev pub draft : ℕ → Draft
+draft tree = simple (Inner tree ∷ []) terms project
+
+draft_is : (schema : Schema) (at tree : ℕ) → slice_get schema.tables at ≡ Some ({t} tree) → deleted schema at ({t} tree) (Some test) ≡ Ok (draft tree)
+unfolding lowering
+draft_is schema at tree found = rw ({", ".join(test_lemmas(t, tests, '[]', False))})
+
+pub understood_as : (schema : Schema) (at tree : ℕ) → Stands schema ({t} tree) at
+    → (compiled schema statement ≡ Ok (meant (read statement) [] (Delete at (record {{ lets = []; body = selection tree terms project [] whole_page }})))) ⊎ (compiled schema statement ≡ Err Mismatch)
+unfolding everything
+understood_as schema at tree h = deletes_or schema statement (read statement) refl refl ({q(sql)}) at ({t} tree) h.named h.found (Some test) (draft tree) refl (draft_is schema at tree h.found)
+''')
+    return text
+
+SELECT_HEAD = '''use Rattle.sqlite_ast.specs.declared.Shown.TheVariants.{One}
+use Rattle.sqlite_ast.specs.declared.Origin.TheVariants.{Table}
+use Rattle.sqlite_ast.specs.declared.Source.{Source, roll-Source}
+use Rattle.sqlite_ast.specs.declared.Core.{Core, roll-Core}
+use Rattle.sqlite_ast.specs.declared.Sort.{Sort, roll-Sort}
+use Rattle.sqlite_ast.specs.declared.Select as ast
+use Rattle.sqlite_resolve.specs.Program.{query as meaning}
+use Rattle.sqlite_draft.specs.Join.{chain}
+use Rattle.sqlite_resolve.specs.declared.scope.Output.{Output}
+use Rattle.sqlite_resolve.specs.declared.state.State.{State}
+use Rattle.sqlite_resolve.specs.declared.state.Carried.{Carried}
+use Rattle.sqlite_resolve.specs.Lowering.{fresh, max_budget, nothing}
+use Rattle.sqlite_resolve.specs.Expr.{lower}
+use Rattle.sqlite_resolve.specs.Order.{sorts}
+use Rattle.sqlite_resolve.specs.Body.{result, matching}
+use Rattle.sqlite_resolve.specs.Select.{outermost, inside}
+use Rattle.brk_rows.proofs.Selecting.{level_one, named_is, query_is}
+use Rattle.brk_rows.proofs.Looks.{no_returning}
+use Rattle.sqlite_resolve.specs.declared.compiled.Compiled.{Compiled}
+use Rattle.sqlite.specs.Listing.{understood}
+'''
+
+def select(name, t, tests, order, limit=None):
+    """order: [(column, falls)]; limit: a parameter's number or ('lit', n). All columns are shown, in their order."""
+    sql, cols, rowkey = TABLES[t]
+    names = [c for c, _ in cols]
+    text = f'SELECT {", ".join(names)} FROM {sql}'
+    if tests:
+        text += f' WHERE {" AND ".join(f"{c} = ?{n}" for c, n in tests)}'
+    text += f' ORDER BY {", ".join(c + (" DESC" if f else "") for c, f in order)}'
+    if limit is not None:
+        text += f' LIMIT ' + (f'?{limit}' if isinstance(limit, int) else str(limit[1]))
+    lim_e = 'None' if limit is None else ('Some (e.Parameter %d)' % limit if isinstance(limit, int) else f'Some (e.Integer ({q(limit[1])}))')
+    lim_t = 'lit (Int (negsuc 0))' if limit is None else (f'col 0 {limit - 1}' if isinstance(limit, int) else f'lit (Int (pos {limit[1]}))')
+    b = lambda x: 'true' if x else 'false'
+    n1 = len(cols)
+    n2 = n1 + (4 * len(tests) - 1 if tests else 0)
+    n3 = n2 + len(order)
+    carry = lambda c: 'nothing' if place(t, c) == 0 else 'binary'
+    last1 = carry(names[-1])
+    last2 = 'nothing' if tests else last1
+    last3 = carry(order[-1][0])
+    outs = lst(f'output ({q(c)}) {place(t, c)} {carry(c)}' for c in names)
+    shows = ',\n      '.join(x for c in names for x in (col_is(t, c, '[]', 'true', 'true'), head_is(t, c)))
+    sorts_l = ',\n      '.join(col_is(t, c, 'columns', 'false', 'true') for c, _ in order)
+    filt = f'Some ({test_expr(tests)})' if tests else 'None'
+    matches = f'rw ({", ".join(test_lemmas(t, tests, "columns", True))})' if tests else 'rw found'
+    cols_b = lst('None' if place(t, c) == 0 else 'Some Binary' for c in names)
+    body = SELECT_HEAD + f'''
+abbrev pub statement : List ℕ
+statement = codes "{text}"
+
+abbrev pub source : Source
+source = roll-Source (record {{ is_left = false; origin = Table ({q(sql)}); alias = None; on = None; using = [] }})
+
+abbrev pub core : Core
+core = roll-Core (record {{
+  distinct = false;
+  shown = {lst(f'One (e.Column None ({q(c)})) None ({q(c)})' for c in names)};
+  from = source ∷ [];
+  filter = {filt};
+  group = [];
+  having = None;
+}})
+
+abbrev pub by : List Sort
+by = {lst(f'roll-Sort (record {{ key = e.Column None ({q(c)}); descending = {b(f)}; nulls_first = None }})' for c, f in order)}
+
+abbrev pub select : ast.Select
+select = ast.roll-Select (record {{ with = []; first = core; others = []; order = by; limit = {lim_e}; offset = None }})
+
+abbrev pub terms : List Term
+terms = {test_terms(t, tests)}
+
+abbrev pub project : List Term
+project = {lst(f'col 1 {place(t, c)}' for c in names)}
+
+abbrev pub order : List (Term × Key)
+order = {lst(f'(col 1 {place(t, c)}, record {{ collation = Binary; descending = {b(f)} }})' for c, f in order)}
+
+abbrev pub paging : Term × Term
+paging = ({lim_t}, lit (Int (pos 0)))
+
+abbrev pub draft : ℕ → Draft
+draft tree = record {{ from = chain (Inner tree ∷ []); filter = terms; group = None; project = project; distinct = false; collations = []; order = order; limit = paging.0; offset = paging.1 }}
+
+abbrev binary : Carried
+binary = record {{ collation = Some Binary; is_written = false }}
+
+abbrev pub output : List ℕ → ℕ → Carried → Output
+output name place carried = record {{ name = name; is_alias = false; is_column = true; term = col 1 place; carried = carried }}
+
+abbrev pub columns : List Output
+columns = {outs}
+
+abbrev pub names : List (List ℕ)
+names = {lst(q(c) for c in names)}
+
+abbrev after : ℕ → Carried → State
+after spent last = record (fresh 2 max_budget) {{ budget = max_budget - spent; last = last }}
+
+module _ (schema : Schema) (at tree : ℕ) (h : Stands schema ({t} tree) at) where
+  abbrev found : slice_get schema.tables at ≡ Some ({t} tree)
+  found = h.found
+
+  shows : result lower (outermost schema) (level_one ({q(sql)}) at []) core (fresh 2 max_budget) ≡ Ok (columns, after {n1} {last1})
+  unfolding lowering
+  shows =
+      rw ({shows})
+
+  matches : matching lower (outermost schema) (level_one ({q(sql)}) at columns) core (after {n1} {last1})
+      ≡ Ok (record {{ steps = Inner tree ∷ []; filter = terms }}, after {n2} {last2})
+  unfolding lowering
+  matches = {matches}
+
+  sorted : sorts lower (inside schema (level_one ({q(sql)}) at columns) false) columns by (after {n2} {last2}) ≡ Ok ((draft tree).order, after {n3} {last3})
+  unfolding lowering
+  sorted =
+      rw ({sorts_l})
+
+  meaning_is : meaning schema select ≡ Ok ((draft tree, names, {cols_b}), [])
+  unfolding everything
+  meaning_is = query_is schema select core source ({q(sql)}) paging _ refl refl refl refl refl refl
+      (named_is schema core source ({q(sql)}) at h.named refl refl refl refl columns (after {n1} {last1})
+      (record {{ steps = Inner tree ∷ []; filter = terms }}) (after {n2} {last2}) shows matches by _ (after {n3} {last3}) _ refl refl sorted)
+
+  pub understood_as : (compiled schema statement ≡ Ok (meant (read statement) [] (Select (record {{ lets = []; body = selection tree terms project order paging }}) names))) ⊎ (compiled schema statement ≡ Err Mismatch)
+  unfolding everything
+  understood_as = reads_or schema statement (read statement) refl refl select (draft tree) names ({cols_b}) refl meaning_is
+
+pub plain : (schema : Schema) (c : Compiled) → understood schema statement ≡ Ok c → c.returning ≡ None
+unfolding everything
+plain = no_returning statement (read statement) select refl refl refl
+'''
+    write(name, 'a SELECT', t, body)
+    return text
+
+
+def shapes():
+    out = """-- Written by tools/tables.py: what the tables are made of, each at any tree.
+use Rattle.std.specs.Prelude.{ℕ, List, [], ◌∷◌, codes, Some, None}
+use Rattle.sqlite_schema.specs.declared.schema.Table.{Table}
+use Rattle.brk_rows.specs.Desk.{text, whole, perhaps, refers, table_of}
+"""
+    for t, sql, w, row, key, rows, rowkey, cols in DATA:
+        cs = lst(f'{k} ({q(c)})' for c, k, _, _ in cols)
+        spot = lambda i: 0 if rowkey and i == 0 else i + 1
+        n = 1 if rowkey else KEYS[t]
+        primary = lst(str(spot(i)) for i in range(n))
+        uniques = ([] if rowkey else [f'({primary})']) + [f'({u} ∷ [])' for u in UNIQUE.get(t, [])]
+        refs = lst(f'refers {spot(i)} ({q(r.split(".")[0])}) ({q(r.split(".")[1])})' for i, (c, k, _, r) in enumerate(cols) if r)
+        out += f"""
+-- {sql}
+abbrev pub {t} : ℕ → Table
+{t} tree = table_of ({q(sql)}) tree ({cs})
+    {'(Some 0)' if rowkey else 'None'} ({primary}) ({lst(uniques)}) ({refs})
+"""
+    open(f'{SPECS}/Shapes.antt', 'w').write(out)
+
+ROWS = 'BrokerRow, AccountRow, SecurityRow, LastTradeRow, TradeRow, HistoryRow, RequestRow, HoldingRow, SummaryRow, HoldingHistoryRow, SettlementRow, CashRow'
+RECORDS = 'Customer, Permission, Charge, Band, TaxRate, CustomerTax, Kept'
+
+def cells():
+    out = f"""-- Written by tools/tables.py: the columns of each row.
+use Rattle.std.specs.Prelude.{{ℕ, pos, Bool, if◌then◌else◌, List, [], ◌∷◌, Option}}
+use Rattle.sqlite_value.specs.declared.value.Value.{{Value}}
+use Rattle.sqlite_value.specs.declared.value.Value.TheVariants.{{Int, Text as Words}}
+use Rattle.sqlite_value.specs.Order.{{Row}}
+use Rattle.sqlite.specs.Values.{{or_null}}
+use Rattle.brk_money.specs.Kinds.{{type_code, status_code, tax_status_number}}
+use Rattle.brk_model.specs.Records.{{{RECORDS}}}
+use Rattle.brk_model.specs.Tables.{{{ROWS}}}
+
+-- the row of DESK: D_ID, D_SCHEMA, D_LAST
+pub record DeskRow : Type 0 where
+  pub id : ℕ
+  pub schema : ℕ
+  pub last : Option ℕ
+
+-- a number that is not below 0
+abbrev pub nat : ℕ → Value
+nat n = Int (pos n)
+
+-- such a number, or null
+abbrev pub maybe : Option ℕ → Value
+maybe = or_null (λ n. Int (pos n))
+
+-- 1 for true and 0 for false
+abbrev pub flag : Bool → Value
+flag b = Int (pos (if b then 1 else 0))
+"""
+    for t, sql, w, row, key, rows, rowkey, cols in DATA:
+        out += f"""
+-- {sql}
+abbrev pub {t}_cells : {row} → Row
+{t}_cells r = {lst(e for _, _, e, _ in cols)}
+"""
+    open(f'{SPECS}/Cells.antt', 'w').write(out)
+
+def desk():
+    both = lambda f: '\n'.join(f(d) for d in DATA)
+    out = f"""-- Written by tools/tables.py: the tables of a desk, and the list of rows that each of them holds.
+use Rattle.std.specs.Prelude.{{◌≡◌, ℕ, List, [], ◌∷◌, Option, None, map, refl}}
+use Rattle.std.specs.declared.cmp.Ordering.{{Ordering}}
+use Rattle.sqlite_value.specs.Order.{{Row}}
+use Rattle.sqlite_schema.specs.declared.schema.Table.{{Table}}
+use Rattle.brk_model.specs.Records.{{{RECORDS}}}
+use Rattle.brk_model.specs.Tables.{{Tables, {ROWS}}}
+use Rattle.brk_model.specs.Keys.{{KeyPart, number, {', '.join(d[4] for d in DATA[1:])}}}
+use Rattle.brk_rows.specs.Desk.{{Desk}}
+use Rattle.brk_tables.specs.Shapes.{{{', '.join(d[0] for d in DATA)}}}
+use Rattle.brk_tables.specs.Cells.{{DeskRow, {', '.join(d[0] + '_cells' for d in DATA)}}}
+use Rattle.brk_tables.specs.Order.{{by_key_values}}
+
+-- the tables by name
+pub data Which : Type 0 where
+{both(lambda d: f'  {d[2]} : Which')}
+
+-- the one row of DESK, of the first schema
+abbrev pub desk_rows : Option ℕ → List DeskRow
+desk_rows last = record {{ id = 1; schema = 1; last = last }} ∷ []
+
+abbrev pub desk_key : DeskRow → List KeyPart
+desk_key r = number r.id ∷ []
+
+-- what each is made of
+abbrev pub shape : Which → ℕ → Table
+{both(lambda d: f'shape {d[2]} = {d[0]}')}
+
+abbrev pub placed : (w : Which) (tree : ℕ) → (shape w tree).tree ≡ tree
+{both(lambda d: f'placed {d[2]} tree = refl')}
+
+-- what a row of it is
+abbrev pub Item : Which → Type 0
+{both(lambda d: f'Item {d[2]} = {d[3]}')}
+
+abbrev pub encode : (w : Which) → Item w → Row
+{both(lambda d: f'encode {d[2]} = {d[0]}_cells')}
+
+abbrev pub key : (w : Which) → Item w → List KeyPart
+{both(lambda d: f'key {d[2]} = {d[4]}')}
+
+-- by rising key
+abbrev pub order : (w : Which) → Item w → Item w → Ordering
+order w = by_key_values (key w)
+
+-- the rows that it holds
+abbrev pub list : (w : Which) → Tables → List (Item w)
+{both(lambda d: f'list {d[2]} t = {d[5]}')}
+
+-- all of them
+abbrev pub desk : Desk Which Tables
+desk = record {{ shape = shape; placed = placed; Item = Item; encode = encode; order = order; list = list }}
+
+-- no row but that of DESK, and no stamp yet
+abbrev pub no_rows : Tables
+no_rows = record {{ last = None; {'; '.join(d[5][2:] + ' = []' for d in DATA[1:])} }}
+
+-- their names
+abbrev pub names : List (List ℕ)
+names = map (λ w. (shape w 0).name) ({lst(d[2] for d in DATA)})
+"""
+    open(f'{SPECS}/Desk.antt', 'w').write(out)
+
+def splits():
+    out = f"""-- Written by tools/tables.py: whether a table is a certain one.
+use Rattle.std.proofs.Common.{{◌≡◌, ◌≢◌, ◌⊎◌, refl, inl, inr}}
+use Rattle.brk_tables.specs.Desk.{{Which, {', '.join(d[2] for d in DATA)}}}
+"""
+    for d in DATA:
+        out += f"""
+pub is_{d[0]} : (v : Which) → (v ≡ {d[2]}) ⊎ (v ≢ {d[2]})
+is_{d[0]} {d[2]} = inl refl
+is_{d[0]} v = inr (λ e. absurd (let f = e in cc))
+"""
+    open(f'{OUT}/Which.antt', 'w').write(out)
+
+def create_text(d):
+    t, sql, w, row, key, rows, rowkey, cols = d
+    parts = []
+    for i, (c, k, _, r) in enumerate(cols):
+        s = c + ' ' + ('TEXT' if k == 'text' else 'INTEGER')
+        if rowkey and i == 0:
+            s += ' PRIMARY KEY NOT NULL'
+        elif t in INLINE and i == 0:
+            s += ' NOT NULL PRIMARY KEY'
+        elif k != 'perhaps':
+            s += ' NOT NULL'
+        if i + 1 in UNIQUE.get(t, []):
+            s += ' UNIQUE'
+        if r:
+            s += f' REFERENCES {r.split(".")[0]} ({r.split(".")[1]})'
+        parts.append(s)
+    if not rowkey and t not in INLINE:
+        parts.append(f'PRIMARY KEY ({", ".join(c[0] for c in cols[:KEYS[t]])})')
+    return f'CREATE TABLE {sql} ({", ".join(parts)}) STRICT'
+
+def making():
+    out = f"""-- Written by tools/tables.py: which table each text makes.
+use Rattle.std.proofs.Common.{{◌≡◌, ℕ, List, [], ◌∷◌, codes, Ok, refl}}
+use Rattle.sqlite.specs.State.{{State, Executes}}
+use Rattle.sqlite_tied.specs.Compute.{{everything}}
+use Rattle.brk_rows.specs.Desk.{{Makes}}
+use Rattle.brk_rows.proofs.Texts.{{read}}
+use Rattle.brk_rows.proofs.Created.{{makes}}
+use Rattle.brk_tables.specs.Shapes.{{{', '.join(d[0] for d in DATA)}}}
+"""
+    for d in DATA:
+        out += f"""
+abbrev pub {d[0]}_text : List ℕ
+{d[0]}_text = codes "{create_text(d)}"
+
+pub makes_{d[0]} : (old new : State) (count : ℕ) → Executes {d[0]}_text [] old new (Ok count) → Makes old.now new.now {d[0]}
+unfolding everything
+makes_{d[0]} = makes {d[0]}_text {d[0]} refl (λ tree. refl) (λ tree. refl) refl (read {d[0]}_text) _ refl refl refl refl refl refl refl refl
+"""
+    open(f'{OUT}/Makes.antt', 'w').write(out)
+
+def probing():
+    out = f"""-- Written by tools/tables.py: what a statement that is looked at, and not run, tells of a table.
+use Rattle.std.proofs.Common.{{◌≡◌, ℕ, List, [], ◌∷◌, codes, is_some, Bool, refl}}
+use Rattle.std.specs.List.{{AllByRecursion}}
+use Rattle.sqlite_schema.specs.declared.schema.Schema.{{Schema}}
+use Rattle.sqlite_schema.specs.Names.{{table_named}}
+use Rattle.sqlite.specs.Listing.{{listing_schema}}
+use Rattle.sqlite_tied.specs.Compute.{{everything}}
+use Rattle.brk_rows.specs.Desk.{{Probes}}
+use Rattle.brk_rows.proofs.Probe.{{probed}}
+use Rattle.brk_rows.proofs.Texts.{{read}}
+"""
+    for d in DATA:
+        out += f"""
+abbrev pub {d[0]}_probe : List ℕ
+{d[0]}_probe = codes "DELETE FROM {d[1]}"
+
+pub {d[0]}_probed : (schema : Schema) (has : Bool) → Probes {d[0]}_probe has schema → has ≡ is_some (table_named schema ({q(d[1])}))
+unfolding everything listing_schema
+{d[0]}_probed = probed {d[0]}_probe (read {d[0]}_probe) ({q(d[1])}) refl refl refl refl
+"""
+    out += f"""
+-- each statement beside the table that it names
+abbrev pub pairs : List (List ℕ × List ℕ)
+pairs = {lst(f'({d[0]}_probe, {q(d[1])})' for d in DATA)}
+
+pub all_probed : AllByRecursion (λ (p : List ℕ × List ℕ). (schema : Schema) (has : Bool) → Probes p.0 has schema → has ≡ is_some (table_named schema p.1)) pairs
+all_probed = {'('.join(f'({d[0]}_probed, ' for d in DATA).replace('((','(')}tt{')' * len(DATA)}
+"""
+    open(f'{OUT}/Probing.antt', 'w').write(out)
+
+if __name__ == '__main__':
+    shapes()
+    cells()
+    desk()
+    splits()
+    making()
+    probing()
+    for line in [create_text(d) for d in DATA] + [
+        insert('AddDesk', 'desk_row', [('lit', 1), ('lit', 1), 'null']),
+        insert('AddBroker', 'broker', [1, 2, ('lit', 0), ('lit', 0)]),
+        insert('AddCustomer', 'customer', [1, 2, 3, 4, 5]),
+        insert('AddAccount', 'account', [1, 2, 3, 4, 5, 6, 6]),
+        update('SetLast', 'desk_row', [('D_LAST', 1)], [('D_ID', 2)]),
+        select('DeskRows', 'desk_row', [], [('D_ID', False)]),
+        select('BrokerById', 'broker', [('B_ID', 1)], [('B_ID', False)]),
+        select('CustomerById', 'customer', [('C_ID', 1)], [('C_ID', False)]),
+        select('CustomerByTaxId', 'customer', [('C_TAX_ID', 1)], [('C_ID', False)]),
+        select('AccountById', 'account', [('CA_ID', 1)], [('CA_ID', False)]),
+        select('AccountsOfCustomer', 'account', [('CA_C_ID', 1)], [('CA_ID', False)]),
+    ]:
+        print(line)
