@@ -3,7 +3,7 @@
 ghost use Rattle.std.specs.Prelude.{◌≡◌, ◌-◌, ◌+ℤ◌, ◌++◌, List, [], ℕ, map};
 ghost use Rattle.std.specs.List.{AllByRecursion};
 ghost use Rattle.brk_money.specs.declared.side.Side.{Side};
-ghost use Rattle.brk_model.specs.Shares.{Deal, Share, replay, net, lot_qty, lots, history, touches, opened_shares, shares_after, closed_count, signed};
+ghost use Rattle.brk_model.specs.Shares.{Deal, replay, lot_qty, lots, history, touches, opened_shares, shares_after, closed_count, signed};
 ghost use Rattle.brk_lots.specs.declared.lot.Lot.{Lot};
 ghost use Rattle.brk_lots.specs.Books.{deals_total, gains, lots_cost, lots_total, spent};
 ghost use Rattle.brk_lots.specs.Chains.{IsLife, opening_touch, rows_of};

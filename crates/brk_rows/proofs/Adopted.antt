@@ -159,7 +159,7 @@ module _ {W T : Type 0} (desk : Desk W T) (w : W) (place : Place desk w) (db : D
         let m = int_is (rowid r) (all_has _ rows r sheet.keyed hr) in
         let n = int_is (rowid s) (all_has _ rows s sheet.keyed hs) in
         let other : differ (rowid r) (rowid s) ≡ true =
-            ap₂ differ m n ∙ differ_ints (id_in (rowid r)) (id_in (rowid s)) ∙ ap not (ap is_eq (ap₂ value_cmp (sym m) (sym n)) ∙ apart) in
+        ap₂ differ m n ∙ differ_ints (id_in (rowid r)) (id_in (rowid s)) ∙ ap not (ap is_eq (ap₂ value_cmp (sym m) (sym n)) ∙ apart) in
         by_key.tied tree r s x y e f
         ∙ unique_rows db at (desk.shape w tree) by_key.key sound h.found (by_key.first tree) s r (subst (λ l. Has l s) (sym same_tree) hs) (subst (λ l. Has l r) (sym same_tree) hr) other
   ]
@@ -193,5 +193,5 @@ module _ {W T : Type 0} (desk : Desk W T) (w : W) (place : Place desk w) (db : D
       let are : map (cells (desk.shape w tree)) p.picked ≡ map (desk.encode w) xs = sym (decoded ∙ p.is ∙ unpaged _ ∙ map_on _ _ p.picked (λ r k. shows r)) in
       let apart = table_apart rows sheet.rise in
       let rising = rises_from_sorted place.total xs (ordered (cells (desk.shape w tree)) (desk.encode w) (sorted_by params order) (desk.order w) sorts p.picked xs are p.sorted)
-          (untied p.picked xs (λ r k. has_permuted rows p.picked r all k) (apart_permuted rows p.picked all apart) are) in
+      (untied p.picked xs (λ r k. has_permuted rows p.picked r all k) (apart_permuted rows p.picked all apart) are) in
       adopted (desk.shape w tree) (desk.encode w) (desk.order w) rows query params project order read p unpaged shows xs decoded rising sheet.keyed apart

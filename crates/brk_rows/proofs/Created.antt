@@ -163,7 +163,7 @@ makes_more text shape placed old mid new one table tables idle made =
       empty = subst (λ n. new.trees n ≡ mid.trees n) (placed one.tree) (all_at (λ t. new.trees t.tree ≡ mid.trees t.tree) mid.schema.tables one.at (shape one.tree) one.stands.found made.others) ∙ one.empty;
       kept = λ other place h. stays mid.schema new.schema _ more other place (one.kept other place h);
       rows = kept_twice old.trees mid.trees new.trees old.schema.tables one.rows
-      (all_left (λ t. new.trees t.tree ≡ mid.trees t.tree) old.schema.tables (table ∷ []) (subst (λ all. KeepsRows all mid.trees new.trees) tables made.others));
+          (all_left (λ t. new.trees t.tree ≡ mid.trees t.tree) old.schema.tables (table ∷ []) (subst (λ all. KeepsRows all mid.trees new.trees) tables made.others));
       apart = one.apart;
       more = one.more ++ (record made.table { tree = next_tree mid.schema }) ∷ [];
       tables = more ∙ ap (λ (l : List Table). l ++ (record made.table { tree = next_tree mid.schema }) ∷ []) one.tables ∙ append_assoc old.schema.tables one.more _;
@@ -173,7 +173,6 @@ makes_more text shape placed old mid new one table tables idle made =
 module _ (text : List ℕ) (shape : ℕ → Table) (defined : table_defined_by text ≡ Ok (shape 0)) (moved : (tree : ℕ) → record (shape 0) { tree = tree } ≡ shape tree) (placed : (tree : ℕ) → (shape tree).tree ≡ tree)
     (own : same_name (shape 0).name (shape 0).name ≡ true) (p : Parsed) (def : CreateTable) (is : first text ≡ Ok p) (statement : p.statement ≡ written.CreateTable def) (untimed : p.formats ≡ []) (whole : slice_range text p.start p.end ≡ text)
     (table : define.table [] def ≡ Ok (shape 0)) (still : is_inert (shape 0) ≡ true) (fits : (length (shape 0).computed == length (shape 0).stamps.places && not def.resolves) ≡ true) (fresh : def.if_missing ≡ false) where
-
   pub makes : (old new : State) (count : ℕ) → Executes text [] old new (Ok count) → Makes old.now new.now shape
   unfolding ExecutesIn
   makes old new count h =

@@ -64,7 +64,15 @@ pub record Part {W T : Type 0} (desk : Desk W T) (In : W → Type 0) (old new : 
 module _ {W T : Type 0} (desk : Desk W T) where
   pub part_none : (db : Database) → Part desk (λ _. ⊥) db db
   part_none db = record {
-    tree = λ _. 0; place = λ _. 0; stands = λ w h. absurd h; apart = λ v w h. absurd h; calm = λ w h. absurd h; empty = λ w h. absurd h; more = []; tables = sym (Rattle.std.proofs.Common.append-nil db.schema.tables); rows = kept_self db.trees db.schema.tables;
+    tree = λ _. 0;
+    place = λ _. 0;
+    stands = λ w h. absurd h;
+    apart = λ v w h. absurd h;
+    calm = λ w h. absurd h;
+    empty = λ w h. absurd h;
+    more = [];
+    tables = sym (Rattle.std.proofs.Common.append-nil db.schema.tables);
+    rows = kept_self db.trees db.schema.tables;
   }
 
   module _ (In : W → Type 0) (old mid new : Database) (p : Part desk In old mid) (w : W) (is : (v : W) → (v ≡ w) ⊎ (v ≢ w)) (m : Makes mid new (desk.shape w)) where

@@ -65,7 +65,7 @@ module _ (text : List ℕ) (p : Parsed) (s : ast.Select) (is : first text ≡ Ok
 
 module _ {W T : Type 0} (desk : Desk W T) (w : W) (text : List ℕ) (params : Row) (p : Parsed) (terms project : List Term) (order : List (Term × Key)) (paging : Term × Term) (names : List (List ℕ))
     (either : (schema : Schema) (at tree : ℕ) → Stands schema (desk.shape w tree) at
-      → (compiled schema text ≡ Ok (meant p [] (Select (record { lets = []; body = selection tree terms project order paging }) names))) ⊎ (compiled schema text ≡ Err Mismatch))
+    → (compiled schema text ≡ Ok (meant p [] (Select (record { lets = []; body = selection tree terms project order paging }) names))) ⊎ (compiled schema text ≡ Err Mismatch))
     (q : desk.Item w → Bool) (same : (tree : ℕ) (r : Row) (x : desk.Item w) → cells (desk.shape w tree) r ≡ desk.encode w x → passes params terms r ≡ q x)
     (show : desk.Item w → Row) (shows : (tree : ℕ) (r : Row) (x : desk.Item w) → cells (desk.shape w tree) r ≡ desk.encode w x → eval_all project (params ∷ r ∷ []) ≡ show x)
     (C : desk.Item w → desk.Item w → Ordering) (total : IsTotalOrder C)
@@ -102,7 +102,7 @@ module _ {W T : Type 0} (desk : Desk W T) (w : W) (text : List ℕ) (params : Ro
 -- what is shown of the rows, whatever they are
 module _ {W T : Type 0} (desk : Desk W T) (w : W) (text : List ℕ) (params : Row) (p : Parsed) (terms project : List Term) (order : List (Term × Key)) (paging : Term × Term) (names : List (List ℕ))
     (either : (schema : Schema) (at tree : ℕ) → Stands schema (desk.shape w tree) at
-      → (compiled schema text ≡ Ok (meant p [] (Select (record { lets = []; body = selection tree terms project order paging }) names))) ⊎ (compiled schema text ≡ Err Mismatch))
+    → (compiled schema text ≡ Ok (meant p [] (Select (record { lets = []; body = selection tree terms project order paging }) names))) ⊎ (compiled schema text ≡ Err Mismatch))
     (old new : State) (rows : List Row) (shown : Shown text params old new rows) where
   pub shows_rows : (at tree : ℕ) → Stands old.now.schema (desk.shape w tree) at → Picks (selection tree terms project order paging) params terms project order (old.now.trees tree) rows
   unfolding Shown

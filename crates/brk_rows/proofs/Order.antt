@@ -29,11 +29,11 @@ pub unmapped : {X Y : Type 0} (f : X → Y) (xs : List X) (ys : List Y) → IsPe
 unmapped f xs ys =
     IsPermutation-keeps (map f xs) (λ l. (zs : List _) × IsPermutation xs zs × (l ≡ map f zs)) (xs, IsPermutation-refl xs, refl)
     (λ l i j p q h.
-      let zs = h.0 in
-      let long : length l ≡ length zs = ap length h.2 ∙ length-map zs f in
-      let pi : i < length zs = omega arith in
-      let qj : j < length zs = omega arith in
-      (swap zs i j, IsPermutation-trans xs zs (swap zs i j) h.1 (IsPermutation-swap zs (swap zs i j) i j pi qj refl), ap (λ k. swap k i j) h.2 ∙ map_swap f zs i j pi qj)) ys
+    let zs = h.0 in
+    let long : length l ≡ length zs = ap length h.2 ∙ length-map zs f in
+    let pi : i < length zs = omega arith in
+    let qj : j < length zs = omega arith in
+    (swap zs i j, IsPermutation-trans xs zs (swap zs i j) h.1 (IsPermutation-swap zs (swap zs i j) i j pi qj refl), ap (λ k. swap k i j) h.2 ∙ map_swap f zs i j pi qj)) ys
 
 pub has_permuted : {X : Type 0} (xs ys : List X) (x : X) → IsPermutation xs ys → Has ys x → Has xs x
 has_permuted xs ys x s h = all_has (Has xs) ys x (all_shuffled (Has xs) xs ys s (all_from (Has xs) xs (λ e k. k))) h
@@ -81,7 +81,7 @@ module _ {X Y Z : Type 0} (f : X → Z) (g : Y → Z) where
       let xs = x ∷ more in
       let long : length xs ≡ length ys = sym (length-map xs f) ∙ ap length h ∙ length-map ys g in
       let at : (i : ℕ) → i < length ys → f (get_or xs i x) ≡ g (get_or ys i d) =
-          λ i l. sym (get_or-map f xs i x (f x) (omega arith)) ∙ ap (λ zs. get_or zs i (f x)) h ∙ get_or-map g ys i d (f x) l in
+      λ i l. sym (get_or-map f xs i x (f x) (omega arith)) ∙ ap (λ zs. get_or zs i (f x)) h ∙ get_or-map g ys i d (f x) l in
       ap is_lt (sym (same (get_or xs (k + 1) x) (get_or xs k x) (get_or ys (k + 1) d) (get_or ys k d) (at (k + 1) high) (at k (omega arith)))) ∙ sorted k x low (omega arith)
 
 -- ---- a record that comes in by its key

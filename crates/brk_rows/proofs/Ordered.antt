@@ -14,5 +14,5 @@ pub sheets_of : (v : View) (schema : Schema) → IsOrdered v.shape v.trees → I
 sheets_of v schema ordered listed sound =
     let laid = laid_out listed (objects_rise v listed ordered) sound.lists.listed in
     all_from _ schema.tables (λ t h.
-      let shaped = subst (λ s. IsShaped s (v.trees t.tree)) (all_has _ schema.tables t laid.tables h) (ordered t.tree) in
-      record { rise = shaped.0; keyed = shaped.1 })
+    let shaped = subst (λ s. IsShaped s (v.trees t.tree)) (all_has _ schema.tables t laid.tables h) (ordered t.tree) in
+    record { rise = shaped.0; keyed = shaped.1 })

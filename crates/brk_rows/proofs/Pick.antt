@@ -75,7 +75,7 @@ picks lost tree terms project order paging db params read a =
     let q = selection tree terms project order paging in
     let env = λ (r : Row). params ∷ r ∷ [] in
     let kept : a.kept ≡ map (λ r. output q (env r)) (filter (passes params terms) (db tree)) =
-        a.distinct ∙ ap (map (output q)) (a.grouped ∙ matched params terms (overlay db [] tree) ∙ ap (λ rows. map env (filter (passes params terms) rows)) (no_overlay db tree)) ∙ map_twice (output q) env _ in
+    a.distinct ∙ ap (map (output q)) (a.grouped ∙ matched params terms (overlay db [] tree) ∙ ap (λ rows. map env (filter (passes params terms) rows)) (no_overlay db tree)) ∙ map_twice (output q) env _ in
     let u = unmapped (λ r. output q (env r)) (filter (passes params terms) (db tree)) a.ordered (subst (λ k. IsPermutation k a.ordered) kept a.same) in
     record {
       picked = u.0;
@@ -175,14 +175,14 @@ named_is : (p : Row → Bool) (rows picked : List Row) → Keyed rows → Apart 
 named_is p rows picked keyed apart same r h =
     both_ways _ _
     (λ is.
-      let i = some_has (λ id. has_rowid id r) (ids_of picked) is in
-      let s = has_mapped (λ x. id_in (rowid x)) picked i.0 i.1 in
-      let f = has_filtered p rows s.0 (has_permuted (filter p rows) picked s.0 same s.1) in
-      let e = named_row rows s.0 r keyed apart f.0 h (subst (λ id. has_rowid id r ≡ true) s.2 i.2) in
-      ap p (sym e) ∙ f.1)
+    let i = some_has (λ id. has_rowid id r) (ids_of picked) is in
+    let s = has_mapped (λ x. id_in (rowid x)) picked i.0 i.1 in
+    let f = has_filtered p rows s.0 (has_permuted (filter p rows) picked s.0 same s.1) in
+    let e = named_row rows s.0 r keyed apart f.0 h (subst (λ id. has_rowid id r ≡ true) s.2 i.2) in
+    ap p (sym e) ∙ f.1)
     (λ is.
-      let there = has_permuted picked (filter p rows) r (IsPermutation-sym _ _ same) (has_kept p rows r h is) in
-      some_from (λ id. has_rowid id r) (ids_of picked) (id_in (rowid r)) (mapped_has (λ x. id_in (rowid x)) picked r there) (has_itself rows r keyed h))
+    let there = has_permuted picked (filter p rows) r (IsPermutation-sym _ _ same) (has_kept p rows r h is) in
+    some_from (λ id. has_rowid id r) (ids_of picked) (id_in (rowid r)) (mapped_has (λ x. id_in (rowid x)) picked r there) (has_itself rows r keyed h))
 
 pub remains : (p : Row → Bool) (rows picked : List Row) → Keyed rows → Apart rows → IsPermutation (filter p rows) picked → without_all rows (ids_of picked) ≡ filter (λ r. not (p r)) rows
 remains p rows picked keyed apart same = without_named (ids_of picked) rows ∙ filter_all _ _ rows (all_from _ rows (λ r h. ap not (named_is p rows picked keyed apart same r h)))

@@ -106,7 +106,6 @@ module _ (tree : ℕ) where
             let got = first_of (nat_lt w.depth max_depth) _ _ (λ e. let f = e in cc) h in
             on_ids below w got.0 front.0 front.1 got.2 more
 
-
     -- whatever a statement on another table sets off, this table keeps its rows
     pub keeps_ours : (db next : Trees) (edit : Edit) → edit.table.tree ≢ tree → Writes schema Enforced db edit (Ok next) → next tree ≡ db tree
     keeps_ours db next edit apart (inl off) = absurd (let e = off.2 in cc)

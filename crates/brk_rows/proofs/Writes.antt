@@ -80,20 +80,20 @@ module _ {X : Type 0} (table : Table) (encode : X → Row) (cmp : X → X → Or
   absent_rowid : ((r s : Row) (x y : X) → cells table r ≡ encode x → cells table s ≡ encode y → is_eq (cmp x y) ≡ same_rowid r s) → AllByRecursion (λ y. is_eq (cmp x y) ≡ false) xs
   absent_rowid tied =
       all_from _ xs (λ y there.
-        let r = row_of table encode cmp xs rows h y there in
-        tied new r.0 x y e r.2 ∙ untaken rows free r.0 r.1)
+      let r = row_of table encode cmp xs rows h y there in
+      tied new r.0 x y e r.2 ∙ untaken rows free r.0 r.1)
 
   absent_unique : (order : _) (key : List ℕ) → ((r s : Row) (x y : X) → cells table r ≡ encode x → cells table s ≡ encode y → is_eq (cmp x y) ≡ agree order key r key s)
       → ((r s : Row) → Has (put_row new rows) r → Has (put_row new rows) s → differ (rowid s) (rowid r) ≡ true → agree order key s key r ≡ false)
       → IsTrue (is_int (rowid new)) → AllByRecursion (λ y. is_eq (cmp x y) ≡ false) xs
   absent_unique order key tied once whole =
       all_from _ xs (λ y there.
-        let r = row_of table encode cmp xs rows h y there in
-        let perm = put_is new rows free in
-        let other : differ (rowid new) (rowid r.0) ≡ true =
-            ap₂ differ (int_is (rowid new) whole) (int_is (rowid r.0) (all_has _ rows r.0 h.keyed r.1)) ∙ differ_ints (id_in (rowid new)) (id_in (rowid r.0))
-            ∙ ap not (ap is_eq (ap₂ value_cmp (sym (int_is (rowid new) whole)) (sym (int_is (rowid r.0) (all_has _ rows r.0 h.keyed r.1)))) ∙ untaken rows free r.0 r.1) in
-        tied new r.0 x y e r.2 ∙ once r.0 new (has_permuted _ (new ∷ rows) r.0 (IsPermutation-sym _ _ perm) (inr r.1)) (has_permuted _ (new ∷ rows) new (IsPermutation-sym _ _ perm) (inl refl)) other)
+      let r = row_of table encode cmp xs rows h y there in
+      let perm = put_is new rows free in
+      let other : differ (rowid new) (rowid r.0) ≡ true =
+      ap₂ differ (int_is (rowid new) whole) (int_is (rowid r.0) (all_has _ rows r.0 h.keyed r.1)) ∙ differ_ints (id_in (rowid new)) (id_in (rowid r.0))
+      ∙ ap not (ap is_eq (ap₂ value_cmp (sym (int_is (rowid new) whole)) (sym (int_is (rowid r.0) (all_has _ rows r.0 h.keyed r.1)))) ∙ untaken rows free r.0 r.1) in
+      tied new r.0 x y e r.2 ∙ once r.0 new (has_permuted _ (new ∷ rows) r.0 (IsPermutation-sym _ _ perm) (inr r.1)) (has_permuted _ (new ∷ rows) new (IsPermutation-sym _ _ perm) (inl refl)) other)
 
 module _ {W T : Type 0} (desk : Desk W T) (w : W) (place : Place desk w) where
   abbrev shape : ℕ → Table
@@ -142,7 +142,6 @@ module _ {W T : Type 0} (desk : Desk W T) (w : W) (place : Place desk w) where
   module _ (text : List ℕ) (params : Row) (p : Parsed) (terms project : List Term) (q : Item → Bool)
       (same : (tree : ℕ) (r : Row) (x : Item) → cells (shape tree) r ≡ desk.encode w x → passes params terms r ≡ q x)
       (ids : (r : Row) → id_in (rowid (eval_all project (params ∷ r ∷ []))) ≡ id_in (rowid r)) where
-
     pub deletes_as : ((schema : Schema) (at tree : ℕ) → Stands schema (shape tree) at
         → (compiled schema text ≡ Ok (meant p [] (Delete at (record { lets = []; body = selection tree terms project [] whole_page })))) ⊎ (compiled schema text ≡ Err Mismatch))
         → (old new : State) (count : ℕ) → Executes text params old new (Ok count) → Turns desk (λ t. place.put (delete_where q (desk.list w t)) t) old.now new.now
@@ -158,11 +157,11 @@ module _ {W T : Type 0} (desk : Desk W T) (w : W) (place : Place desk w) where
         let held = h.rows w in
         let named : ids_of it.1.0 ≡ ids_of k.picked = ap ids_of k.is ∙ map_twice _ _ k.picked ∙ map_on _ _ k.picked (λ r there. ids r) in
         let left : without_all (db table.tree) (ids_of it.1.0) ≡ filter (λ r. not (passes params terms r)) rows =
-            ap₂ without_all (ap db at) named ∙ remains (passes params terms) rows k.picked held.keyed held.apart k.same in
+        ap₂ without_all (ap db at) named ∙ remains (passes params terms) rows k.picked held.keyed held.apart k.same in
         framed t _ tree old.now new.now h it.0 (step_others t tree old.now new.now h e refl it.1.2)
         (subst (Holds table (desk.encode w) (desk.order w) (delete_where q (desk.list w t))) (sym (step.0 ∙ left)) (held_without table (desk.encode w) (desk.order w) (passes params terms) q (same (tree w)) (desk.list w t) rows held))
 
-  -- ---- UPDATE of columns that are no key
+    -- ---- UPDATE of columns that are no key
 
     pub updates_as : ((schema : Schema) (at tree : ℕ) → Stands schema (shape tree) at
         → (compiled schema text ≡ Ok (meant p [] (Update at (record { lets = []; body = selection tree terms project [] whole_page })))) ⊎ (compiled schema text ≡ Err Mismatch))
@@ -185,18 +184,18 @@ module _ {W T : Type 0} (desk : Desk W T) (w : W) (place : Place desk w) where
         let held = h.rows w in
         let named : ids_of read ≡ ids_of k.picked = ap ids_of k.is ∙ map_twice _ _ k.picked ∙ map_on _ _ k.picked (λ r there. ids r) in
         let left : without_all (db table.tree) (ids_of read) ≡ filter (λ r. not (test r)) rows =
-            ap₂ without_all (ap db at) named ∙ remains test rows k.picked held.keyed held.apart k.same in
+        ap₂ without_all (ap db at) named ∙ remains test rows k.picked held.keyed held.apart k.same in
         let news : e.news ≡ map write k.picked =
-            given _ _ ∙ ap (map (λ r. cast_row table (drop 1 r))) k.is ∙ map_twice _ _ k.picked
-            ∙ map_on _ write k.picked (λ r there.
-              let mine = (has_filtered test rows r (has_permuted (filter test rows) k.picked r k.same there)).0 in
-              let x = record_of table (desk.encode w) (desk.order w) (desk.list w t) rows held r mine in
-              writes (tree w) r x.0 (all_has _ rows r held.keyed mine) x.2) in
+        given _ _ ∙ ap (map (λ r. cast_row table (drop 1 r))) k.is ∙ map_twice _ _ k.picked
+        ∙ map_on _ write k.picked (λ r there.
+        let mine = (has_filtered test rows r (has_permuted (filter test rows) k.picked r k.same there)).0 in
+        let x = record_of table (desk.encode w) (desk.order w) (desk.list w t) rows held r mine in
+        writes (tree w) r x.0 (all_has _ rows r held.keyed mine) x.2) in
         let fresh : are_fresh (filter (λ r. not (test r)) rows) (map write k.picked) ≡ true = ap₂ are_fresh (sym left) (sym news) ∙ step.1 in
         let those : new.now.trees (tree w) ≡ put_all (filter (λ r. not (test r)) rows) (map write k.picked) = step.0 ∙ ap₂ put_all left news in
         let perm : IsPermutation (map (λ r. if test r then write r else r) rows) (put_all (filter (λ r. not (test r)) rows) (map write k.picked)) =
-            IsPermutation-trans _ _ _ (IsPermutation-sym _ _ (changed_is test write rows))
-            (IsPermutation-trans _ _ _ (IsPermutation-append _ _ _ _ (IsPermutation-map write (filter test rows) k.picked k.same) (IsPermutation-refl (filter (λ r. not (test r)) rows))) (put_all_is (map write k.picked) _ fresh)) in
+        IsPermutation-trans _ _ _ (IsPermutation-sym _ _ (changed_is test write rows))
+        (IsPermutation-trans _ _ _ (IsPermutation-append _ _ _ _ (IsPermutation-map write (filter test rows) k.picked k.same) (IsPermutation-refl (filter (λ r. not (test r)) rows))) (put_all_is (map write k.picked) _ fresh)) in
         framed t _ tree old.now new.now h it.0 (step_others t tree old.now new.now h e refl it.1.2)
         (subst (Holds table (desk.encode w) (desk.order w) (update_where q to (desk.list w t))) (sym those)
         (held_changed table (desk.encode w) (desk.order w) test write q to keeps before after (same (tree w)) (shows (tree w)) (desk.list w t) rows _ perm held))
@@ -227,12 +226,12 @@ module _ {W T : Type 0} (desk : Desk W T) (w : W) (place : Place desk w) where
         | inl by_rowid ↦ absent_rowid table (desk.encode w) (desk.order w) (desk.list w t) rows held comer x (shows (tree w) rows) free (by_rowid (tree w))
         | inr by_key ↦ absent_unique table (desk.encode w) (desk.order w) (desk.list w t) rows held comer x (shows (tree w) rows) free _ by_key.key (by_key.tied (tree w))
             (λ r s hr hs apart.
-              unique_rows new.now (h.place w) table by_key.key it.2 (subst (λ s. slice_get s.tables (h.place w) ≡ Some table) (sym it.0) (h.stands w).found) (by_key.first (tree w)) r s
-              (subst (λ l. Has l r) (sym (ap new.now.trees at ∙ those)) hr) (subst (λ l. Has l s) (sym (ap new.now.trees at ∙ those)) hs) apart) whole
+            unique_rows new.now (h.place w) table by_key.key it.2 (subst (λ s. slice_get s.tables (h.place w) ≡ Some table) (sym it.0) (h.stands w).found) (by_key.first (tree w)) r s
+            (subst (λ l. Has l r) (sym (ap new.now.trees at ∙ those)) hr) (subst (λ l. Has l s) (sym (ap new.now.trees at ∙ those)) hs) apart) whole
       ] in
       framed t _ tree old.now new.now h it.0
       (λ v other. subst (λ n. n ≢ table.tree → new.now.trees n ≡ db n) (desk.placed v (tree v))
-        (all_at (λ k. k.tree ≢ table.tree → new.now.trees k.tree ≡ db k.tree) old.now.schema.tables (h.place v) (desk.shape v (tree v)) (h.stands v).found a.tables) (λ same. other (h.apart v w (same ∙ at))))
+      (all_at (λ k. k.tree ≢ table.tree → new.now.trees k.tree ≡ db k.tree) old.now.schema.tables (h.place v) (desk.shape v (tree v)) (h.stands v).found a.tables) (λ same. other (h.apart v w (same ∙ at))))
       (subst (Holds table (desk.encode w) (desk.order w) (insert_sorted (desk.order w) x (desk.list w t))) (sym those)
       (held_with table (desk.encode w) (desk.order w) place.total comer x (shows (tree w) rows) whole (desk.list w t) rows free absent held))
     where

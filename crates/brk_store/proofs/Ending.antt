@@ -29,7 +29,6 @@ pub record IsKept {S : Type 0} (g : Ghosts S) (old end : Held S) : Type 0 where
   pub committed : (state g end).committed ≡ (state g old).committed
   pub was_open : IsTrue (state g old).is_open
 
-
 no_ok : {U F : Type 0} (o : Result U F) → IsErr o → (P : Type 0) → OnOk o P
 no_ok (Ok x) e P = absurd (let f = e in cc)
 no_ok (Err x) e P = tt
@@ -39,7 +38,6 @@ all_err (Ok x) p = tt
 all_err (Err x) p = p
 
 module _ {S : Type 0} (g : Ghosts S) (old mid end : Held S) (settled : IsTrue (state g old).is_open → (state g old).now ≡ (state g old).committed) where
-
   -- rolled back
   pub rolled_back : {V E : Type 0} (r : Result V E) (Q : V → State → State → Type 0) (P : Trees → Type 0) → IsStep (state g (begun old)) (state g mid) r Q → (HasCleanDisk (state g end) → IsRolledBack (state g mid) (state g end))
       → Survives (state g mid) (state g end) P → HasCleanDisk (state g end) → IsTrue (state g end).is_open → IsKept g old end
@@ -110,7 +108,6 @@ module _ {S : Type 0} (g : Ghosts S) (old mid end : Held S) (settled : IsTrue (s
 
 module _ {S : Type 0} (g : Ghosts S) (old mid end : Held S) (settled : IsTrue (state g old).is_open → (state g old).now ≡ (state g old).committed) (made : Database → Database → Type 0)
     (step : IsStep {V = Unit {0}} {E = Fault} (state g (begun old)) (state g mid) (Ok tt) (λ _ a b. made a.now b.now)) (late : Survives (state g mid) (state g end) (λ db. db ≡ (state g mid).now.trees)) where
-
   whole : Survives (state g old) (state g end) (λ trees. (db : Database) × made (state g old).now db × (trees ≡ db.trees))
   whole = commits_crash g old mid end made step late
 

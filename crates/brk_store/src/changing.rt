@@ -36,10 +36,7 @@ fn make_all<S: Alter>(tx: &mut Transaction<'_, S>, changes: &[Change]) -> Result
 }
 
 /// Makes the changes in turn, all of them or none.
-pub(crate) fn apply_all<S: Alter>(
-    conn: &mut Connection<S>,
-    changes: &[Change],
-) -> Result<(), Fault>
+pub(crate) fn apply_all<S: Alter>(conn: &mut Connection<S>, changes: &[Change]) -> Result<(), Fault>
     requires { conn.old.in_transaction ≡ false }
     ensures mode { conn.new.in_transaction ≡ false }
     ensures applied { IsApplied S.Store conn.old conn.new result (after_changes changes.now) }

@@ -20,7 +20,10 @@ pub(crate) fn read_last<S: Alter>(conn: &mut Connection<S>) -> Result<Option<Sta
     brk_tables::last_stamp(&mut tx)
 }
 
-pub(crate) fn read_broker<S: Alter>(conn: &mut Connection<S>, id: Id) -> Result<Option<BrokerRow>, Fault>
+pub(crate) fn read_broker<S: Alter>(
+    conn: &mut Connection<S>,
+    id: Id,
+) -> Result<Option<BrokerRow>, Fault>
     requires { conn.old.in_transaction ≡ false }
     ensures mode { conn.new.in_transaction ≡ false }
     ensures read { IsRead S.Store conn.old conn.new result (λ o t. option_map broker_row_of o ≡ find (λ r. r.id == id) t.brokers) }
@@ -30,7 +33,10 @@ pub(crate) fn read_broker<S: Alter>(conn: &mut Connection<S>, id: Id) -> Result<
     brk_tables::broker_by_id(&mut tx, id)
 }
 
-pub(crate) fn read_customer<S: Alter>(conn: &mut Connection<S>, id: Id) -> Result<Option<Customer>, Fault>
+pub(crate) fn read_customer<S: Alter>(
+    conn: &mut Connection<S>,
+    id: Id,
+) -> Result<Option<Customer>, Fault>
     requires { conn.old.in_transaction ≡ false }
     ensures mode { conn.new.in_transaction ≡ false }
     ensures read { IsRead S.Store conn.old conn.new result (λ o t. option_map customer_of o ≡ find (λ r. r.id == id) t.customers) }
@@ -40,7 +46,10 @@ pub(crate) fn read_customer<S: Alter>(conn: &mut Connection<S>, id: Id) -> Resul
     brk_tables::customer_by_id(&mut tx, id)
 }
 
-pub(crate) fn read_customer_by_tax_id<S: Alter>(conn: &mut Connection<S>, tax_id: &TaxId) -> Result<Option<Customer>, Fault>
+pub(crate) fn read_customer_by_tax_id<S: Alter>(
+    conn: &mut Connection<S>,
+    tax_id: &TaxId,
+) -> Result<Option<Customer>, Fault>
     requires { conn.old.in_transaction ≡ false }
     ensures mode { conn.new.in_transaction ≡ false }
     ensures read { IsRead S.Store conn.old conn.new result (λ o t. option_map customer_of o ≡ find (λ r. bytes_eq r.tax_id tax_id.now) t.customers) }
@@ -50,7 +59,10 @@ pub(crate) fn read_customer_by_tax_id<S: Alter>(conn: &mut Connection<S>, tax_id
     brk_tables::customer_by_tax_id(&mut tx, tax_id)
 }
 
-pub(crate) fn read_account<S: Alter>(conn: &mut Connection<S>, id: Id) -> Result<Option<AccountRow>, Fault>
+pub(crate) fn read_account<S: Alter>(
+    conn: &mut Connection<S>,
+    id: Id,
+) -> Result<Option<AccountRow>, Fault>
     requires { conn.old.in_transaction ≡ false }
     ensures mode { conn.new.in_transaction ≡ false }
     ensures read { IsRead S.Store conn.old conn.new result (λ o t. option_map account_row_of o ≡ find (λ r. r.id == id) t.accounts) }
@@ -60,7 +72,11 @@ pub(crate) fn read_account<S: Alter>(conn: &mut Connection<S>, id: Id) -> Result
     brk_tables::account_by_id(&mut tx, id)
 }
 
-pub(crate) fn read_accounts_of<S: Alter>(conn: &mut Connection<S>, alloc: Global, customer: Id) -> Result<Vec<AccountRow>, Fault>
+pub(crate) fn read_accounts_of<S: Alter>(
+    conn: &mut Connection<S>,
+    alloc: Global,
+    customer: Id,
+) -> Result<Vec<AccountRow>, Fault>
     requires { conn.old.in_transaction ≡ false }
     ensures mode { conn.new.in_transaction ≡ false }
     ensures read { IsRead S.Store conn.old conn.new result (λ all t. map account_row_of all.items ≡ filter (λ r. r.customer == customer) t.accounts) }

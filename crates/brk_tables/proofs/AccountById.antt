@@ -107,20 +107,22 @@ module _ (schema : Schema) (at tree : ℕ) (h : Stands schema (account tree) at)
   shows : result lower (outermost schema) (level_one (codes "CUSTOMER_ACCOUNT") at []) core (fresh 2 max_budget) ≡ Ok (columns, after 7 binary)
   unfolding lowering
   shows =
-      rw (column_is schema at (account tree) found (codes "CUSTOMER_ACCOUNT") [] [] true true (codes "CA_ID") 0 (whole (codes "CA_ID")) refl refl,
-      heading_is schema at (account tree) found (codes "CUSTOMER_ACCOUNT") [] [] true true (e.Column None (codes "CA_ID")) (codes "CA_ID") (codes "CA_ID") 0 (whole (codes "CA_ID")) refl refl refl,
-      column_is schema at (account tree) found (codes "CUSTOMER_ACCOUNT") [] [] true true (codes "CA_C_ID") 1 (whole (codes "CA_C_ID")) refl refl,
-      heading_is schema at (account tree) found (codes "CUSTOMER_ACCOUNT") [] [] true true (e.Column None (codes "CA_C_ID")) (codes "CA_C_ID") (codes "CA_C_ID") 1 (whole (codes "CA_C_ID")) refl refl refl,
-      column_is schema at (account tree) found (codes "CUSTOMER_ACCOUNT") [] [] true true (codes "CA_B_ID") 2 (whole (codes "CA_B_ID")) refl refl,
-      heading_is schema at (account tree) found (codes "CUSTOMER_ACCOUNT") [] [] true true (e.Column None (codes "CA_B_ID")) (codes "CA_B_ID") (codes "CA_B_ID") 2 (whole (codes "CA_B_ID")) refl refl refl,
-      column_is schema at (account tree) found (codes "CUSTOMER_ACCOUNT") [] [] true true (codes "CA_NAME") 3 (text (codes "CA_NAME")) refl refl,
-      heading_is schema at (account tree) found (codes "CUSTOMER_ACCOUNT") [] [] true true (e.Column None (codes "CA_NAME")) (codes "CA_NAME") (codes "CA_NAME") 3 (text (codes "CA_NAME")) refl refl refl,
-      column_is schema at (account tree) found (codes "CUSTOMER_ACCOUNT") [] [] true true (codes "CA_TAX_ST") 4 (whole (codes "CA_TAX_ST")) refl refl,
-      heading_is schema at (account tree) found (codes "CUSTOMER_ACCOUNT") [] [] true true (e.Column None (codes "CA_TAX_ST")) (codes "CA_TAX_ST") (codes "CA_TAX_ST") 4 (whole (codes "CA_TAX_ST")) refl refl refl,
-      column_is schema at (account tree) found (codes "CUSTOMER_ACCOUNT") [] [] true true (codes "CA_OPEN") 5 (whole (codes "CA_OPEN")) refl refl,
-      heading_is schema at (account tree) found (codes "CUSTOMER_ACCOUNT") [] [] true true (e.Column None (codes "CA_OPEN")) (codes "CA_OPEN") (codes "CA_OPEN") 5 (whole (codes "CA_OPEN")) refl refl refl,
-      column_is schema at (account tree) found (codes "CUSTOMER_ACCOUNT") [] [] true true (codes "CA_BAL") 6 (whole (codes "CA_BAL")) refl refl,
-      heading_is schema at (account tree) found (codes "CUSTOMER_ACCOUNT") [] [] true true (e.Column None (codes "CA_BAL")) (codes "CA_BAL") (codes "CA_BAL") 6 (whole (codes "CA_BAL")) refl refl refl)
+      rw (
+        column_is schema at (account tree) found (codes "CUSTOMER_ACCOUNT") [] [] true true (codes "CA_ID") 0 (whole (codes "CA_ID")) refl refl,
+        heading_is schema at (account tree) found (codes "CUSTOMER_ACCOUNT") [] [] true true (e.Column None (codes "CA_ID")) (codes "CA_ID") (codes "CA_ID") 0 (whole (codes "CA_ID")) refl refl refl,
+        column_is schema at (account tree) found (codes "CUSTOMER_ACCOUNT") [] [] true true (codes "CA_C_ID") 1 (whole (codes "CA_C_ID")) refl refl,
+        heading_is schema at (account tree) found (codes "CUSTOMER_ACCOUNT") [] [] true true (e.Column None (codes "CA_C_ID")) (codes "CA_C_ID") (codes "CA_C_ID") 1 (whole (codes "CA_C_ID")) refl refl refl,
+        column_is schema at (account tree) found (codes "CUSTOMER_ACCOUNT") [] [] true true (codes "CA_B_ID") 2 (whole (codes "CA_B_ID")) refl refl,
+        heading_is schema at (account tree) found (codes "CUSTOMER_ACCOUNT") [] [] true true (e.Column None (codes "CA_B_ID")) (codes "CA_B_ID") (codes "CA_B_ID") 2 (whole (codes "CA_B_ID")) refl refl refl,
+        column_is schema at (account tree) found (codes "CUSTOMER_ACCOUNT") [] [] true true (codes "CA_NAME") 3 (text (codes "CA_NAME")) refl refl,
+        heading_is schema at (account tree) found (codes "CUSTOMER_ACCOUNT") [] [] true true (e.Column None (codes "CA_NAME")) (codes "CA_NAME") (codes "CA_NAME") 3 (text (codes "CA_NAME")) refl refl refl,
+        column_is schema at (account tree) found (codes "CUSTOMER_ACCOUNT") [] [] true true (codes "CA_TAX_ST") 4 (whole (codes "CA_TAX_ST")) refl refl,
+        heading_is schema at (account tree) found (codes "CUSTOMER_ACCOUNT") [] [] true true (e.Column None (codes "CA_TAX_ST")) (codes "CA_TAX_ST") (codes "CA_TAX_ST") 4 (whole (codes "CA_TAX_ST")) refl refl refl,
+        column_is schema at (account tree) found (codes "CUSTOMER_ACCOUNT") [] [] true true (codes "CA_OPEN") 5 (whole (codes "CA_OPEN")) refl refl,
+        heading_is schema at (account tree) found (codes "CUSTOMER_ACCOUNT") [] [] true true (e.Column None (codes "CA_OPEN")) (codes "CA_OPEN") (codes "CA_OPEN") 5 (whole (codes "CA_OPEN")) refl refl refl,
+        column_is schema at (account tree) found (codes "CUSTOMER_ACCOUNT") [] [] true true (codes "CA_BAL") 6 (whole (codes "CA_BAL")) refl refl,
+        heading_is schema at (account tree) found (codes "CUSTOMER_ACCOUNT") [] [] true true (e.Column None (codes "CA_BAL")) (codes "CA_BAL") (codes "CA_BAL") 6 (whole (codes "CA_BAL")) refl refl refl,
+      )
 
   matches : matching lower (outermost schema) (level_one (codes "CUSTOMER_ACCOUNT") at columns) core (after 7 binary)
       ≡ Ok (record { steps = Inner tree ∷ []; filter = terms }, after 10 nothing)

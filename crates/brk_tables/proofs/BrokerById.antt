@@ -107,14 +107,16 @@ module _ (schema : Schema) (at tree : ℕ) (h : Stands schema (broker tree) at) 
   shows : result lower (outermost schema) (level_one (codes "BROKER") at []) core (fresh 2 max_budget) ≡ Ok (columns, after 4 binary)
   unfolding lowering
   shows =
-      rw (column_is schema at (broker tree) found (codes "BROKER") [] [] true true (codes "B_ID") 0 (whole (codes "B_ID")) refl refl,
-      heading_is schema at (broker tree) found (codes "BROKER") [] [] true true (e.Column None (codes "B_ID")) (codes "B_ID") (codes "B_ID") 0 (whole (codes "B_ID")) refl refl refl,
-      column_is schema at (broker tree) found (codes "BROKER") [] [] true true (codes "B_NAME") 1 (text (codes "B_NAME")) refl refl,
-      heading_is schema at (broker tree) found (codes "BROKER") [] [] true true (e.Column None (codes "B_NAME")) (codes "B_NAME") (codes "B_NAME") 1 (text (codes "B_NAME")) refl refl refl,
-      column_is schema at (broker tree) found (codes "BROKER") [] [] true true (codes "B_NUM_TRADES") 2 (whole (codes "B_NUM_TRADES")) refl refl,
-      heading_is schema at (broker tree) found (codes "BROKER") [] [] true true (e.Column None (codes "B_NUM_TRADES")) (codes "B_NUM_TRADES") (codes "B_NUM_TRADES") 2 (whole (codes "B_NUM_TRADES")) refl refl refl,
-      column_is schema at (broker tree) found (codes "BROKER") [] [] true true (codes "B_COMM_TOTAL") 3 (whole (codes "B_COMM_TOTAL")) refl refl,
-      heading_is schema at (broker tree) found (codes "BROKER") [] [] true true (e.Column None (codes "B_COMM_TOTAL")) (codes "B_COMM_TOTAL") (codes "B_COMM_TOTAL") 3 (whole (codes "B_COMM_TOTAL")) refl refl refl)
+      rw (
+        column_is schema at (broker tree) found (codes "BROKER") [] [] true true (codes "B_ID") 0 (whole (codes "B_ID")) refl refl,
+        heading_is schema at (broker tree) found (codes "BROKER") [] [] true true (e.Column None (codes "B_ID")) (codes "B_ID") (codes "B_ID") 0 (whole (codes "B_ID")) refl refl refl,
+        column_is schema at (broker tree) found (codes "BROKER") [] [] true true (codes "B_NAME") 1 (text (codes "B_NAME")) refl refl,
+        heading_is schema at (broker tree) found (codes "BROKER") [] [] true true (e.Column None (codes "B_NAME")) (codes "B_NAME") (codes "B_NAME") 1 (text (codes "B_NAME")) refl refl refl,
+        column_is schema at (broker tree) found (codes "BROKER") [] [] true true (codes "B_NUM_TRADES") 2 (whole (codes "B_NUM_TRADES")) refl refl,
+        heading_is schema at (broker tree) found (codes "BROKER") [] [] true true (e.Column None (codes "B_NUM_TRADES")) (codes "B_NUM_TRADES") (codes "B_NUM_TRADES") 2 (whole (codes "B_NUM_TRADES")) refl refl refl,
+        column_is schema at (broker tree) found (codes "BROKER") [] [] true true (codes "B_COMM_TOTAL") 3 (whole (codes "B_COMM_TOTAL")) refl refl,
+        heading_is schema at (broker tree) found (codes "BROKER") [] [] true true (e.Column None (codes "B_COMM_TOTAL")) (codes "B_COMM_TOTAL") (codes "B_COMM_TOTAL") 3 (whole (codes "B_COMM_TOTAL")) refl refl refl,
+      )
 
   matches : matching lower (outermost schema) (level_one (codes "BROKER") at columns) core (after 4 binary)
       ≡ Ok (record { steps = Inner tree ∷ []; filter = terms }, after 7 nothing)

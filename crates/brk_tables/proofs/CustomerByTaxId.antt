@@ -107,16 +107,18 @@ module _ (schema : Schema) (at tree : ℕ) (h : Stands schema (customer tree) at
   shows : result lower (outermost schema) (level_one (codes "CUSTOMER") at []) core (fresh 2 max_budget) ≡ Ok (columns, after 5 binary)
   unfolding lowering
   shows =
-      rw (column_is schema at (customer tree) found (codes "CUSTOMER") [] [] true true (codes "C_ID") 0 (whole (codes "C_ID")) refl refl,
-      heading_is schema at (customer tree) found (codes "CUSTOMER") [] [] true true (e.Column None (codes "C_ID")) (codes "C_ID") (codes "C_ID") 0 (whole (codes "C_ID")) refl refl refl,
-      column_is schema at (customer tree) found (codes "CUSTOMER") [] [] true true (codes "C_TIER") 1 (whole (codes "C_TIER")) refl refl,
-      heading_is schema at (customer tree) found (codes "CUSTOMER") [] [] true true (e.Column None (codes "C_TIER")) (codes "C_TIER") (codes "C_TIER") 1 (whole (codes "C_TIER")) refl refl refl,
-      column_is schema at (customer tree) found (codes "CUSTOMER") [] [] true true (codes "C_TAX_ID") 2 (text (codes "C_TAX_ID")) refl refl,
-      heading_is schema at (customer tree) found (codes "CUSTOMER") [] [] true true (e.Column None (codes "C_TAX_ID")) (codes "C_TAX_ID") (codes "C_TAX_ID") 2 (text (codes "C_TAX_ID")) refl refl refl,
-      column_is schema at (customer tree) found (codes "CUSTOMER") [] [] true true (codes "C_L_NAME") 3 (text (codes "C_L_NAME")) refl refl,
-      heading_is schema at (customer tree) found (codes "CUSTOMER") [] [] true true (e.Column None (codes "C_L_NAME")) (codes "C_L_NAME") (codes "C_L_NAME") 3 (text (codes "C_L_NAME")) refl refl refl,
-      column_is schema at (customer tree) found (codes "CUSTOMER") [] [] true true (codes "C_F_NAME") 4 (text (codes "C_F_NAME")) refl refl,
-      heading_is schema at (customer tree) found (codes "CUSTOMER") [] [] true true (e.Column None (codes "C_F_NAME")) (codes "C_F_NAME") (codes "C_F_NAME") 4 (text (codes "C_F_NAME")) refl refl refl)
+      rw (
+        column_is schema at (customer tree) found (codes "CUSTOMER") [] [] true true (codes "C_ID") 0 (whole (codes "C_ID")) refl refl,
+        heading_is schema at (customer tree) found (codes "CUSTOMER") [] [] true true (e.Column None (codes "C_ID")) (codes "C_ID") (codes "C_ID") 0 (whole (codes "C_ID")) refl refl refl,
+        column_is schema at (customer tree) found (codes "CUSTOMER") [] [] true true (codes "C_TIER") 1 (whole (codes "C_TIER")) refl refl,
+        heading_is schema at (customer tree) found (codes "CUSTOMER") [] [] true true (e.Column None (codes "C_TIER")) (codes "C_TIER") (codes "C_TIER") 1 (whole (codes "C_TIER")) refl refl refl,
+        column_is schema at (customer tree) found (codes "CUSTOMER") [] [] true true (codes "C_TAX_ID") 2 (text (codes "C_TAX_ID")) refl refl,
+        heading_is schema at (customer tree) found (codes "CUSTOMER") [] [] true true (e.Column None (codes "C_TAX_ID")) (codes "C_TAX_ID") (codes "C_TAX_ID") 2 (text (codes "C_TAX_ID")) refl refl refl,
+        column_is schema at (customer tree) found (codes "CUSTOMER") [] [] true true (codes "C_L_NAME") 3 (text (codes "C_L_NAME")) refl refl,
+        heading_is schema at (customer tree) found (codes "CUSTOMER") [] [] true true (e.Column None (codes "C_L_NAME")) (codes "C_L_NAME") (codes "C_L_NAME") 3 (text (codes "C_L_NAME")) refl refl refl,
+        column_is schema at (customer tree) found (codes "CUSTOMER") [] [] true true (codes "C_F_NAME") 4 (text (codes "C_F_NAME")) refl refl,
+        heading_is schema at (customer tree) found (codes "CUSTOMER") [] [] true true (e.Column None (codes "C_F_NAME")) (codes "C_F_NAME") (codes "C_F_NAME") 4 (text (codes "C_F_NAME")) refl refl refl,
+      )
 
   matches : matching lower (outermost schema) (level_one (codes "CUSTOMER") at columns) core (after 5 binary)
       ≡ Ok (record { steps = Inner tree ∷ []; filter = terms }, after 8 nothing)

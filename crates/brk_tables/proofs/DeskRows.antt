@@ -107,12 +107,14 @@ module _ (schema : Schema) (at tree : ℕ) (h : Stands schema (desk_row tree) at
   shows : result lower (outermost schema) (level_one (codes "DESK") at []) core (fresh 2 max_budget) ≡ Ok (columns, after 3 binary)
   unfolding lowering
   shows =
-      rw (column_is schema at (desk_row tree) found (codes "DESK") [] [] true true (codes "D_ID") 0 (whole (codes "D_ID")) refl refl,
-      heading_is schema at (desk_row tree) found (codes "DESK") [] [] true true (e.Column None (codes "D_ID")) (codes "D_ID") (codes "D_ID") 0 (whole (codes "D_ID")) refl refl refl,
-      column_is schema at (desk_row tree) found (codes "DESK") [] [] true true (codes "D_SCHEMA") 1 (whole (codes "D_SCHEMA")) refl refl,
-      heading_is schema at (desk_row tree) found (codes "DESK") [] [] true true (e.Column None (codes "D_SCHEMA")) (codes "D_SCHEMA") (codes "D_SCHEMA") 1 (whole (codes "D_SCHEMA")) refl refl refl,
-      column_is schema at (desk_row tree) found (codes "DESK") [] [] true true (codes "D_LAST") 2 (perhaps (codes "D_LAST")) refl refl,
-      heading_is schema at (desk_row tree) found (codes "DESK") [] [] true true (e.Column None (codes "D_LAST")) (codes "D_LAST") (codes "D_LAST") 2 (perhaps (codes "D_LAST")) refl refl refl)
+      rw (
+        column_is schema at (desk_row tree) found (codes "DESK") [] [] true true (codes "D_ID") 0 (whole (codes "D_ID")) refl refl,
+        heading_is schema at (desk_row tree) found (codes "DESK") [] [] true true (e.Column None (codes "D_ID")) (codes "D_ID") (codes "D_ID") 0 (whole (codes "D_ID")) refl refl refl,
+        column_is schema at (desk_row tree) found (codes "DESK") [] [] true true (codes "D_SCHEMA") 1 (whole (codes "D_SCHEMA")) refl refl,
+        heading_is schema at (desk_row tree) found (codes "DESK") [] [] true true (e.Column None (codes "D_SCHEMA")) (codes "D_SCHEMA") (codes "D_SCHEMA") 1 (whole (codes "D_SCHEMA")) refl refl refl,
+        column_is schema at (desk_row tree) found (codes "DESK") [] [] true true (codes "D_LAST") 2 (perhaps (codes "D_LAST")) refl refl,
+        heading_is schema at (desk_row tree) found (codes "DESK") [] [] true true (e.Column None (codes "D_LAST")) (codes "D_LAST") (codes "D_LAST") 2 (perhaps (codes "D_LAST")) refl refl refl,
+      )
 
   matches : matching lower (outermost schema) (level_one (codes "DESK") at columns) core (after 3 binary)
       ≡ Ok (record { steps = Inner tree ∷ []; filter = terms }, after 3 binary)

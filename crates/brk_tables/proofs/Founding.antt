@@ -114,6 +114,6 @@ founds_bare a b c d e f u v w x y =
 pub founds_desk : (a : Database) (old new : State) → Founds wide bare a old.now → Ran AddDesk.statement [] old new → HasRows no_rows new.now
 founds_desk a old new f ran =
     let turned = inserts_as wide TheDesk the_desk AddDesk.statement [] (read AddDesk.statement) AddDesk.terms 4
-        (Int (pos 1) ∷ Null ∷ Int (pos 1) ∷ Null ∷ []) (record { id = 1; schema = 1; last = None })
-        AddDesk.understood_as (λ tree. refl) (λ tree rows. rw (cast_int (pos 1), cast_null) refl) old new ran.0 ran.1 bare f.tree f.tables in
+    (Int (pos 1) ∷ Null ∷ Int (pos 1) ∷ Null ∷ []) (record { id = 1; schema = 1; last = None })
+    AddDesk.understood_as (λ tree. refl) (λ tree rows. rw (cast_int (pos 1), cast_null) refl) old new ran.0 ran.1 bare f.tree f.tables in
     (f.tree, narrowed f.tree new.now (desk_rows None) no_rows no_rows refl (λ w other. refl) turned)

@@ -32,9 +32,9 @@ texts_before [] (y ∷ t) = refl
 texts_before (x ∷ s) (y ∷ t) = elim (cases_Bool (nat_lt y x)) [
   | inl b ↦ let a : nat_lt x y ≡ false = elim (cases_Bool (nat_lt x y)) [ inl a ↦ absurd (omega (arith, ltb-true x y a, ltb-true y x b)) | inr a ↦ a ] in rw (a, b) refl
   | inr b ↦ elim (cases_Bool (nat_lt x y)) [
-      | inl a ↦ let e : (y == x) ≡ false = ne_eqb y x (λ e. omega (arith, ltb-true x y a, e)) in rw (a, b, e) refl
-      | inr a ↦ let e : (y == x) ≡ true = eq-eqb y x (omega (arith, ltb-false x y a, ltb-false y x b)) in rw (a, b, e) (texts_before s t)
-    ]
+    | inl a ↦ let e : (y == x) ≡ false = ne_eqb y x (λ e. omega (arith, ltb-true x y a, e)) in rw (a, b, e) refl
+    | inr a ↦ let e : (y == x) ≡ true = eq-eqb y x (omega (arith, ltb-false x y a, ltb-false y x b)) in rw (a, b, e) (texts_before s t)
+  ]
 ]
 
 parts_before : (j k : KeyPart) → part_before j k ≡ is_gt (value_cmp (part_value k) (part_value j))

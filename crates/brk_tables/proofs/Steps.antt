@@ -50,13 +50,13 @@ adds_broker old new b ran =
     let x : BrokerRow = record { id = b.id; name = b.name; trades = pos 0; commissions = 0 } in
     added Brokers brokers x old.now new.now
     (inserts_as desk Brokers brokers AddBroker.statement (nat b.id ∷ Words b.name ∷ []) (read AddBroker.statement) AddBroker.terms 5
-      (nat b.id ∷ Null ∷ Words b.name ∷ Int (pos 0) ∷ Int (pos 0) ∷ []) x AddBroker.understood_as (λ tree. refl) (λ tree rows. rw (cast_int (pos b.id), cast_int (pos 0)) refl) old new ran.0 ran.1)
+    (nat b.id ∷ Null ∷ Words b.name ∷ Int (pos 0) ∷ Int (pos 0) ∷ []) x AddBroker.understood_as (λ tree. refl) (λ tree rows. rw (cast_int (pos b.id), cast_int (pos 0)) refl) old new ran.0 ran.1)
 
 pub adds_customer : (old new : State) (c : Customer) → Ran AddCustomer.statement (nat c.id ∷ nat c.tier ∷ Words c.tax_id ∷ Words c.last_name ∷ Words c.first_name ∷ []) old new → Turns desk (with_customer c) old.now new.now
 adds_customer old new c ran =
     added Customers customers c old.now new.now
     (inserts_as desk Customers customers AddCustomer.statement (nat c.id ∷ nat c.tier ∷ Words c.tax_id ∷ Words c.last_name ∷ Words c.first_name ∷ []) (read AddCustomer.statement) AddCustomer.terms 6
-      (nat c.id ∷ Null ∷ nat c.tier ∷ Words c.tax_id ∷ Words c.last_name ∷ Words c.first_name ∷ []) c AddCustomer.understood_as (λ tree. refl) (λ tree rows. rw (cast_int (pos c.id), cast_int (pos c.tier)) refl) old new ran.0 ran.1)
+    (nat c.id ∷ Null ∷ nat c.tier ∷ Words c.tax_id ∷ Words c.last_name ∷ Words c.first_name ∷ []) c AddCustomer.understood_as (λ tree. refl) (λ tree rows. rw (cast_int (pos c.id), cast_int (pos c.tier)) refl) old new ran.0 ran.1)
 
 abbrev pub account_values : Account → Row
 account_values a = nat a.id ∷ nat a.customer ∷ nat a.broker ∷ Words a.name ∷ nat (tax_status_number a.tax_status) ∷ Int a.opening ∷ []
@@ -66,18 +66,18 @@ adds_account old new a ran =
     let x : AccountRow = record { id = a.id; customer = a.customer; broker = a.broker; name = a.name; tax_status = a.tax_status; opening = a.opening; balance = a.opening } in
     added Accounts accounts x old.now new.now
     (inserts_as desk Accounts accounts AddAccount.statement (account_values a) (read AddAccount.statement) AddAccount.terms 8
-      (nat a.id ∷ Null ∷ nat a.customer ∷ nat a.broker ∷ Words a.name ∷ nat (tax_status_number a.tax_status) ∷ Int a.opening ∷ Int a.opening ∷ []) x AddAccount.understood_as (λ tree. refl)
-      (λ tree rows. rw (cast_int (pos a.id), cast_int (pos a.customer), cast_int (pos a.broker), cast_int (pos (tax_status_number a.tax_status)), cast_int a.opening) refl) old new ran.0 ran.1)
+    (nat a.id ∷ Null ∷ nat a.customer ∷ nat a.broker ∷ Words a.name ∷ nat (tax_status_number a.tax_status) ∷ Int a.opening ∷ Int a.opening ∷ []) x AddAccount.understood_as (λ tree. refl)
+    (λ tree rows. rw (cast_int (pos a.id), cast_int (pos a.customer), cast_int (pos a.broker), cast_int (pos (tax_status_number a.tax_status)), cast_int a.opening) refl) old new ran.0 ran.1)
 
 pub sets_last : (old new : State) (stamp : ℕ) → Ran SetLast.statement (nat stamp ∷ nat 1 ∷ []) old new → Turns desk (with_last stamp) old.now new.now
 sets_last old new stamp ran = λ t tree h.
     let turned = updates_as wide TheDesk the_desk SetLast.statement (nat stamp ∷ nat 1 ∷ []) (read SetLast.statement) SetLast.terms SetLast.project (λ (r : DeskRow). r.id == 1)
-        (λ tree r x e. let a : column r 0 ≡ nat x.id = cc in rw (a, same_number x.id 1) (and_true _)) (λ r. refl) SetLast.understood_as
-        (λ r. column r 0 ∷ Null ∷ column r 2 ∷ nat stamp ∷ []) (λ (r : DeskRow). record r { last = Some stamp }) (λ x y. refl) (λ x y. refl) (λ r. refl)
-        (λ tree r x whole e. let a : column r 2 ≡ nat x.schema = cc in
-          rw (a, cast_int (pos x.schema), cast_int (pos stamp), cast_null) (ap (λ v. v ∷ Null ∷ nat x.schema ∷ nat stamp ∷ []) (cast_whole (column r 0) whole)))
-        (λ tree r x e. let a : column r 0 ≡ nat x.id = cc in let b : column r 2 ≡ nat x.schema = cc in rw (a, b) refl) old new ran.0 ran.1
-        (record { rows = desk_rows t.last; tables = t }) tree (widened tree old.now t h) in
+    (λ tree r x e. let a : column r 0 ≡ nat x.id = cc in rw (a, same_number x.id 1) (and_true _)) (λ r. refl) SetLast.understood_as
+    (λ r. column r 0 ∷ Null ∷ column r 2 ∷ nat stamp ∷ []) (λ (r : DeskRow). record r { last = Some stamp }) (λ x y. refl) (λ x y. refl) (λ r. refl)
+    (λ tree r x whole e. let a : column r 2 ≡ nat x.schema = cc in
+    rw (a, cast_int (pos x.schema), cast_int (pos stamp), cast_null) (ap (λ v. v ∷ Null ∷ nat x.schema ∷ nat stamp ∷ []) (cast_whole (column r 0) whole)))
+    (λ tree r x e. let a : column r 0 ≡ nat x.id = cc in let b : column r 2 ≡ nat x.schema = cc in rw (a, b) refl) old new ran.0 ran.1
+    (record { rows = desk_rows t.last; tables = t }) tree (widened tree old.now t h) in
     narrowed tree new.now (desk_rows (Some stamp)) t (with_last stamp t) refl (λ w other. others w other t) turned
   where
     others : (w : Which) → w ≢ TheDesk → (t : Tables) → list w (with_last stamp t) ≡ list w t

@@ -14,9 +14,9 @@ numbers_tie : (m n : ℕ) → is_eq (int_cmp (pos m) (pos n)) ≡ (m == n)
 numbers_tie m n = elim (cases_Bool (nat_lt m n)) [
   | inl a ↦ rw a (sym (ne_eqb m n (λ e. omega (arith, ltb-true m n a, e))))
   | inr a ↦ elim (cases_Bool (nat_lt n m)) [
-      | inl b ↦ rw (a, b) (sym (ne_eqb m n (λ e. omega (arith, ltb-true n m b, e))))
-      | inr b ↦ rw (a, b) (sym (eq-eqb m n (omega (arith, ltb-false m n a, ltb-false n m b))))
-    ]
+    | inl b ↦ rw (a, b) (sym (ne_eqb m n (λ e. omega (arith, ltb-true n m b, e))))
+    | inr b ↦ rw (a, b) (sym (eq-eqb m n (omega (arith, ltb-false m n a, ltb-false n m b))))
+  ]
 ]
 
 pub same_number : (m n : ℕ) → is_true (binary (Compare Eq Binary) (Int (pos m)) (Int (pos n))) ≡ (m == n)

@@ -15,6 +15,8 @@ returns-in-Ok g c clean =
     let unbroken : v.is_broken ≡ false = sym (c.is_broken.ensures honest) ∙ c.if-is_broken.false in
     let opened = c.in-Ok.ensures.opens clean in
     let same = c.in-Ok.ensures.trees clean in
-    let sound : IsSound c.in-Ok.conn.schema v.trees = subst (IsSound c.in-Ok.conn.schema) same (opened.1 opened.0.is_open).0 in
-    ((opened.1 opened.0.is_open).0, subst (λ (trees : Trees). AllByRecursion (λ t. IsSheet (trees t.tree)) c.in-Ok.conn.schema.tables) (sym same)
-    (sheets_of v c.in-Ok.conn.schema (g.met.S.Store.ordered store unbroken) (g.met.S.Alter.listed store unbroken) sound))
+    let sound : IsSound c.in-Ok.conn.schema v.trees = subst (IsSound c.in-Ok.conn.schema) same (opened.1 opened.0.is_open).0 in (
+      (opened.1 opened.0.is_open).0,
+      subst (λ (trees : Trees). AllByRecursion (λ t. IsSheet (trees t.tree)) c.in-Ok.conn.schema.tables) (sym same)
+          (sheets_of v c.in-Ok.conn.schema (g.met.S.Store.ordered store unbroken) (g.met.S.Alter.listed store unbroken) sound),
+    )

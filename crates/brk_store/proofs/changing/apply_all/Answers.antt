@@ -13,9 +13,8 @@ returns-in-Ok-clause-applied g c =
     let old = c.args.conn.now in
     let mid = c.make_all.new.tx.conn.now in
     let end = c.commit.new.self.0 in
-    let same : end ≡ c.conn-2-1.given.0 = search rules in
     let after = after_changes c.args.changes.now in
-    subst (λ h. IsApplied {V = Unit {0}} {E = Fault} g.S.Store old h (Ok tt) after) same
+    subst (λ h. IsApplied {V = Unit {0}} {E = Fault} g.S.Store old h (Ok tt) after) (search rules)
     (applies g.S.Store old mid end (c.is_autocommit-settled.ensures.settled (search rules)) (Turns desk after) (rw c.transaction-tx.ensures.begun at c.in_ok-make_all.ensures.step) c.in-Ok.ensures.survives c.in-Ok.ensures.ok after (λ a b h. h))
 
 pub returns-in-Err-clause-applied : goal.returns-in-Err-clause-applied
@@ -23,7 +22,6 @@ returns-in-Err-clause-applied g c =
     let old = c.args.conn.now in
     let mid = c.make_all.new.tx.conn.now in
     let end = c.commit.new.self.0 in
-    let same : end ≡ c.conn-2-1.given.0 = search rules in
     let after = after_changes c.args.changes.now in
-    subst (λ h. IsApplied {V = Unit {0}} {E = Fault} g.S.Store old h (Err Store) after) same
+    subst (λ h. IsApplied {V = Unit {0}} {E = Fault} g.S.Store old h (Err Store) after) (search rules)
     (applies_none g.S.Store old mid end (c.is_autocommit-settled.ensures.settled (search rules)) (Turns desk after) (rw c.transaction-tx.ensures.begun at c.in_ok-make_all.ensures.step) c.in-Err.ensures.survives c.in-Err.field-0 c.in-Err.ensures.err Store after (λ a b h. h))

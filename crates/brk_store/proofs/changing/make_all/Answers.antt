@@ -20,8 +20,8 @@ loop-change-preserved g c =
       same = c.make.ensures.same_reference ∙ c.loop-change.invariant.same;
       step = step_then a b d tt (Ok tt) (λ _ x y. Turns desk (after_changes (take i xs)) x.now y.now) (λ _ x y. Turns desk (after_change c.change-item.result) x.now y.now) (λ _ x y. Turns desk (after_changes (take (i + 1) xs)) x.now y.now)
           (λ v p q t tree h.
-            let e : after_changes (take (i + 1) xs) t ≡ after_change c.change-item.result (after_changes (take i xs) t) =
-                fold_more (λ (u : Tables) (k : Change). after_change k u) t xs i c.change-item.result c.loop-change-test.true ∙ ap (λ (k : Change). after_change k (after_changes (take i xs) t)) (sym c.change-item.is) in
-            subst (λ u. HasTables desk u tree d.now) (sym e) (q (after_changes (take i xs) t) tree (p t tree h)))
+          let e : after_changes (take (i + 1) xs) t ≡ after_change c.change-item.result (after_changes (take i xs) t) =
+          fold_more (λ (u : Tables) (k : Change). after_change k u) t xs i c.change-item.result c.loop-change-test.true ∙ ap (λ (k : Change). after_change k (after_changes (take i xs) t)) (sym c.change-item.is) in
+          subst (λ u. HasTables desk u tree d.now) (sym e) (q (after_changes (take i xs) t) tree (p t tree h)))
           c.loop-change.invariant.step c.in_ok-make.ensures.step;
     }

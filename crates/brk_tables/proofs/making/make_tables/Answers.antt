@@ -39,5 +39,5 @@ returns-clause-step g c =
     let three = step_then a d e tt (Ok tt) (λ _ x y. First x.now b.now × Second b.now y.now) (λ _ x y. Third x.now y.now) (λ _ x y. First x.now b.now × Second b.now d.now × Third d.now y.now) (λ _ p q. (p.0, p.1, q)) two c.in_ok-make_rate_tables.ensures.step in
     let four = step_then a e f tt (Ok tt) (λ _ x y. First x.now b.now × Second b.now d.now × Third d.now y.now) (λ _ x y. Fourth x.now y.now) (λ _ x y. First x.now b.now × Second b.now d.now × Third d.now e.now × Fourth e.now y.now) (λ _ p q. (p.0, p.1, p.2, q)) three c.in_ok-make_trade_tables.ensures.step in
     let five = step_then a f h tt (Ok tt) (λ _ x y. First x.now b.now × Second b.now d.now × Third d.now e.now × Fourth e.now y.now) (λ _ x y. Fifth x.now y.now) (λ _ x y. Founds wide bare x.now y.now)
-        (λ _ p q. founds_bare a.now b.now d.now e.now f.now h.now p.0 p.1 p.2 p.3 q) four c.in_ok-make_last_tables.ensures.step in
+    (λ _ p q. founds_bare a.now b.now d.now e.now f.now h.now p.0 p.1 p.2 p.3 q) four c.in_ok-make_last_tables.ensures.step in
     step_then a h k tt c.add_desk_row.result (λ _ x y. Founds wide bare x.now y.now) (λ _. Ran desk_row_text []) (λ _ _ y. HasRows no_rows y.now) (λ _ p ran. founds_desk a.now h k p ran) five c.add_desk_row.ensures.step

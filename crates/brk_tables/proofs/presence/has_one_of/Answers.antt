@@ -20,7 +20,7 @@ returns-then-branch-clause-step g c =
     step_read old new c.in_ok-is_understood.field-0 (Ok true) made (λ has a b. (b.now ≡ a.now) × HasOne (texts_in texts) has a.now.schema)
     (λ w e p. let f : true ≡ w = cc in (p.0, subst (λ w. HasOne (texts_in texts) w old.now.schema) f (found_at old.now.schema d texts i c.loop-text-test.true p.1 (subst (λ h. Probes (get_or texts i d).now h old.now.schema) c.if-branch.true p.2))))
     (step_then old mid new tt (Ok c.in_ok-is_understood.field-0) (λ _ a b. (b.now ≡ a.now) × HasOne (texts_in (take i texts)) false a.now.schema) (λ has a b. (b.now ≡ a.now) × Probes (get_or texts i d).now has a.now.schema) made
-      (λ v p q. (q.0 ∙ p.0, p.1, subst (λ s. Probes (get_or texts i d).now v s.schema) p.0 q.1)) c.loop-text.invariant.step c.in_ok-is_understood.ensures.step)
+    (λ v p q. (q.0 ∙ p.0, p.1, subst (λ s. Probes (get_or texts i d).now v s.schema) p.0 q.1)) c.loop-text.invariant.step c.in_ok-is_understood.ensures.step)
 
 pub loop-text-preserved : goal.loop-text-preserved
 loop-text-preserved g c =
@@ -36,5 +36,5 @@ loop-text-preserved g c =
       step = step_read old new c.in_ok-is_understood.field-0 (Ok tt) made _
           (λ w e p. (p.0, none_at old.now.schema d texts i c.loop-text-test.true p.1 (subst (λ h. Probes (get_or texts i d).now h old.now.schema) c.if-branch.false p.2)))
           (step_then old mid new tt (Ok c.in_ok-is_understood.field-0) (λ _ a b. (b.now ≡ a.now) × HasOne (texts_in (take i texts)) false a.now.schema) (λ has a b. (b.now ≡ a.now) × Probes (get_or texts i d).now has a.now.schema) made
-            (λ v p q. (q.0 ∙ p.0, p.1, subst (λ s. Probes (get_or texts i d).now v s.schema) p.0 q.1)) c.loop-text.invariant.step c.in_ok-is_understood.ensures.step);
+          (λ v p q. (q.0 ∙ p.0, p.1, subst (λ s. Probes (get_or texts i d).now v s.schema) p.0 q.1)) c.loop-text.invariant.step c.in_ok-is_understood.ensures.step);
     }

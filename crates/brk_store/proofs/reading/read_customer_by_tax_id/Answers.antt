@@ -1,0 +1,17 @@
+use Rattle.std.proofs.Common.{◌≡◌, ◌==◌, filter, find, map, option_map, subst, rules}
+use Rattle.std.specs.Prelude.{bytes_eq}
+use Rattle.brk_model.specs.Records.{Customer}
+use Rattle.brk_model.specs.Tables.{Tables, BrokerRow, AccountRow}
+use Rattle.brk_ref.specs.Records.{customer_of}
+use Rattle.brk_tables.specs.Records.{broker_row_of, account_row_of}
+use Rattle.brk_store.specs.Holds.{IsRead}
+use Rattle.brk_store.proofs.Ending.{is_read}
+use Rattle.brk_store.proofs.reading.read_customer_by_tax_id.Goals as goal
+
+pub returns-clause-read : goal.returns-clause-read
+returns-clause-read g c =
+    let old = c.args.conn.now in
+    let mid = c.customer_by_tax_id.new.tx.conn.now in
+    let end = c.drop-tx.new.self.0 in
+    subst (λ h. IsRead g.S.Store old h c.customer_by_tax_id.result (λ o (t : Tables). option_map customer_of o ≡ find (λ (r : Customer). bytes_eq r.tax_id c.args.tax_id.now) t.customers)) (search rules)
+    (is_read g.S.Store old mid end (c.is_autocommit-settled.ensures.settled (search rules)) c.customer_by_tax_id.result (λ o (t : Tables). option_map customer_of o ≡ find (λ (r : Customer). bytes_eq r.tax_id c.args.tax_id.now) t.customers) (rw c.transaction-tx.ensures.begun at c.customer_by_tax_id.ensures.step) c.drop-tx.ensures.survives c.drop-tx.ensures.undone)
