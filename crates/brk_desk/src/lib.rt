@@ -12,6 +12,3 @@ pub use command::Command;
 pub use desk::Desk;
 pub use line::line_text;
 pub use parse::parse_row;
-
-#[cfg(test)]
-mod tests;

@@ -6,6 +6,3 @@ mod reading;
 pub mod store;
 
 pub use store::Store;
-
-#[cfg(test)]
-mod tests;

@@ -1,0 +1,91 @@
+-- A plan of a record is refused as the definitions refuse its command, and its changes do the command.
+use Rattle.std.proofs.Common.{◌≡◌, ◌≤◌, ℕ, not, [], ◌∷◌, ◌++◌, refl, sym, ◌∙◌, ap, Option, Some, None}
+use Rattle.std.specs.Prelude.{nat_le, nat_lt, is_none, Ok, Err}
+use Rattle.brk_money.specs.Moments.{last_stamp, stamp_after}
+use Rattle.brk_money.specs.declared.refusal.Refusal.{Refusal}
+use Rattle.brk_money.specs.declared.refusal.Refusal.TheVariants.{NoCustomer, NoBroker, Range, ClockEnd}
+use Rattle.brk_money.specs.declared.refusal.Limit.TheVariants as limit
+use Rattle.brk_model.specs.Limits.{most_accounts}
+use Rattle.brk_model.specs.Base.{Base}
+use Rattle.brk_model.specs.Sheets.{sheets}
+use Rattle.brk_model.specs.Commands.{Booked}
+use Rattle.brk_model.specs.Tests.{tests, refusal_of, first_refusal, exists_if, next_stamp}
+use Rattle.brk_model.specs.Step.{reply_to, step, unless}
+use Rattle.brk_trade.specs.Changes.{after_changes}
+use Rattle.brk_trade.specs.Reference.{IsPlanned, clock_test, row_added, tests_of}
+use Rattle.brk_trade.specs.declared.change.Change.TheVariants as change
+use Rattle.brk_trade.specs.declared.plan.Plan.{Plan}
+use Rattle.brk_trade.specs.declared.reference.Found.{Found}
+use Rattle.brk_trade.specs.declared.reference.Reference.{Reference}
+use Rattle.brk_trade.specs.declared.reference.Reference.TheVariants as reference
+use Rattle.brk_ref.specs.Records.{broker_of, customer_of, account_of}
+use Rattle.brk_books.specs.Books.{IsBooks}
+use Rattle.brk_books.specs.Commands.{command_of, reply_of}
+use Rattle.brk_books.specs.Plans.{base_then, LeavesBooks, IsRead, DoesCommand}
+use Rattle.brk_books.proofs.Reading.{reads_has_broker, reads_has_customer, reads_same_customer, reads_tax_id, reads_has_account, reads_count, reads_last}
+use Rattle.brk_books.proofs.Stamps.{stamp_left, stamp_is, moved_past}
+use Rattle.brk_books.proofs.Steps.{step_broker, step_customer, step_account, books_broker, books_customer, books_account}
+
+clock_read : (base : Base) (last : Option ℕ) (now : ℕ) → IsBooks base → last ≡ (sheets base).last → now ≤ last_stamp
+    → is_none (stamp_after last now) ≡ nat_lt last_stamp (next_stamp base now)
+clock_read base last now books l h = ap (λ o. is_none (stamp_after o now)) (l ∙ reads_last base) ∙ stamp_left base.last now books.clock h
+
+pub refusal_read : (base : Base) (r : Reference) (found : Found) (last : Option ℕ) (now : ℕ) → IsRead base r found last now
+    → first_refusal (tests_of r found ++ clock_test last now ∷ []) ≡ refusal_of base now (command_of r)
+unfolding refusal_of tests
+refusal_read base (reference.Broker b) found last now k =
+    let same = k.looked_up ∙ reads_has_broker base b.id in
+    let clock = clock_read base last now k.books k.last_read k.moment in
+    λ i. first_refusal (exists_if (same i) ∷ (clock i, ClockEnd) ∷ [])
+refusal_read base (reference.Customer c) found last now k =
+    let same = k.looked_up.0 ∙ reads_same_customer base c.id in
+    let tax = k.looked_up.1 ∙ reads_tax_id base c.tax_id in
+    let clock = clock_read base last now k.books k.last_read k.moment in
+    λ i. first_refusal (exists_if (same i) ∷ exists_if (tax i) ∷ (clock i, ClockEnd) ∷ [])
+refusal_read base (reference.Account a) found last now k =
+    let customer = k.looked_up.customer_there ∙ reads_has_customer base a.customer in
+    let broker = k.looked_up.broker_there ∙ reads_has_broker base a.broker in
+    let same = k.looked_up.same_id ∙ reads_has_account base a.id in
+    let count = k.looked_up.count ∙ reads_count base a.customer in
+    let clock = clock_read base last now k.books k.last_read k.moment in
+    λ i. first_refusal ((not (customer i), NoCustomer) ∷ (not (broker i), NoBroker) ∷ exists_if (same i) ∷ (nat_le most_accounts (count i), Range limit.Accounts) ∷ (clock i, ClockEnd) ∷ [])
+
+-- the rows and the books after the command of a record
+reference_rows : (base : Base) (now : ℕ) (r : Reference) → IsBooks base → refusal_of base now (command_of r) ≡ None
+    → sheets (base_then base now (command_of r)) ≡ after_changes (row_added r ∷ change.SetLast (next_stamp base now) ∷ []) (sheets base)
+reference_rows base now (reference.Broker b) books e = step_broker base now (broker_of b) books e
+reference_rows base now (reference.Customer c) books e = step_customer base now (customer_of c) books e
+reference_rows base now (reference.Account a) books e = step_account base now (account_of a) books e
+
+reference_books : (base : Base) (now : ℕ) (r : Reference) → LeavesBooks base now (command_of r)
+reference_books base now (reference.Broker b) = books_broker base now (broker_of b)
+reference_books base now (reference.Customer c) = books_customer base now (customer_of c)
+reference_books base now (reference.Account a) = books_account base now (account_of a)
+
+reference_reply : (base : Base) (stamp : ℕ) (r : Reference) → reply_to base stamp (command_of r) ≡ Booked stamp
+unfolding reply_to
+reference_reply base stamp (reference.Broker b) = refl
+reference_reply base stamp (reference.Customer c) = refl
+reference_reply base stamp (reference.Account a) = refl
+
+pub plan_does : (base : Base) (r : Reference) (found : Found) (last : Option ℕ) (now : ℕ) (plan : Plan) → IsRead base r found last now → IsPlanned r found last now plan
+    → DoesCommand base now (command_of r) plan
+unfolding step
+plan_does base r found last now plan k p =
+    let e : refusal_of base now (command_of r) ≡ None = sym (refusal_read base r found last now k) ∙ p.accepted in
+    let s : p.stamp ≡ next_stamp base now = stamp_is last now p.stamp p.stamped ∙ ap (λ o. moved_past o now) (k.last_read ∙ reads_last base) in
+    record {
+      steps = ap (λ o. unless o (reply_to base (next_stamp base now) (command_of r), base_then base now (command_of r))) e
+          ∙ ap (λ reply. Ok (reply, base_then base now (command_of r)))
+          (reference_reply base (next_stamp base now) r ∙ sym (ap Booked s) ∙ sym (ap reply_of p.told));
+      rows = reference_rows base now r k.books e
+          ∙ ap (λ stamp. after_changes (row_added r ∷ change.SetLast stamp ∷ []) (sheets base)) (sym s)
+          ∙ ap (λ changes. after_changes changes (sheets base)) (sym p.changes);
+      kept = reference_books base now r k.books e;
+    }
+
+pub refusal_does : (base : Base) (r : Reference) (found : Found) (last : Option ℕ) (now : ℕ) (refusal : Refusal) → IsRead base r found last now
+    → first_refusal (tests_of r found ++ clock_test last now ∷ []) ≡ Some refusal → step base now (command_of r) ≡ Err refusal
+unfolding step
+refusal_does base r found last now refusal k e =
+    ap (λ o. unless o (reply_to base (next_stamp base now) (command_of r), base_then base now (command_of r))) (sym (refusal_read base r found last now k) ∙ e)

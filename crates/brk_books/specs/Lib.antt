@@ -1,0 +1,4 @@
+pub mod Books
+pub mod Commands
+pub mod Reads
+pub mod Plans

@@ -1,0 +1,53 @@
+-- What a plan of a command is worth: its changes lead from the tables to those after the command.
+use Rattle.std.specs.Prelude.{◌≡◌, ◌≤◌, ℕ, Option, None, Ok}
+use Rattle.brk_money.specs.Moments.{last_stamp}
+use Rattle.brk_model.specs.Records.{Key, Kept}
+use Rattle.brk_model.specs.Base.{Base}
+use Rattle.brk_model.specs.Tables.{Tables}
+use Rattle.brk_model.specs.Sheets.{sheets}
+use Rattle.brk_model.specs.Commands.{Command, Reply}
+use Rattle.brk_model.specs.Keys.{insert_row, kept_key}
+use Rattle.brk_model.specs.Rows.{row_text, line_text}
+use Rattle.brk_model.specs.Tests.{next_stamp, refusal_of}
+use Rattle.brk_model.specs.Step.{base_after, step}
+use Rattle.brk_trade.specs.Changes.{after_changes, with_last}
+use Rattle.brk_trade.specs.declared.plan.Plan.{Plan}
+use Rattle.brk_trade.specs.declared.reference.Found.{Found}
+use Rattle.brk_trade.specs.declared.reference.Reference.{Reference}
+use Rattle.brk_books.specs.Books.{IsBooks}
+use Rattle.brk_books.specs.Commands.{reply_of}
+use Rattle.brk_books.specs.Reads.{IsFound}
+
+-- the base after a command that is accepted at a moment
+abbrev pub base_then : Base → ℕ → Command → Base
+base_then base now command = base_after base (next_stamp base now) command
+
+-- a command that is accepted leaves a base in order
+abbrev pub LeavesBooks : Base → ℕ → Command → Type 0
+LeavesBooks base now command = IsBooks base → refusal_of base now command ≡ None → IsBooks (base_then base now command)
+
+-- a command that is accepted makes a change of the tables, and its stamp the last one
+abbrev pub ChangesRows : Base → ℕ → Command → (Tables → Tables) → Type 0
+ChangesRows base now command change =
+    IsBooks base → refusal_of base now command ≡ None → sheets (base_then base now command) ≡ with_last (next_stamp base now) (change (sheets base))
+
+-- the row that keeps an accepted command under its key
+abbrev pub kept_row : Key → Command → Reply → Kept
+kept_row key command reply = record { key = key; row_text = row_text command; line = line_text reply }
+
+-- a kept row more
+abbrev pub with_kept : Kept → Tables → Tables
+with_kept k t = record t { kept = insert_row kept_key k t.kept }
+
+-- what is known where a record is planned: the base is in order, and its tables were looked up at a moment that there is
+pub record IsRead (base : Base) (reference : Reference) (found : Found) (last : Option ℕ) (now : ℕ) : Type 0 where
+  pub books : IsBooks base
+  pub looked_up : IsFound (sheets base) reference found
+  pub last_read : last ≡ (sheets base).last
+  pub moment : now ≤ last_stamp
+
+-- a plan does a command: it tells its reply, its changes lead to the tables after it, and the base after it is in order
+pub record DoesCommand (base : Base) (now : ℕ) (command : Command) (plan : Plan) : Type 0 where
+  pub steps : step base now command ≡ Ok (reply_of plan.reply, base_then base now command)
+  pub rows : sheets (base_then base now command) ≡ after_changes plan.changes.items (sheets base)
+  pub kept : IsBooks (base_then base now command)

@@ -1,0 +1,26 @@
+//! The base stays in order.
+
+ghost use Rattle.std.specs.Prelude.{ℕ, Option};
+ghost use Rattle.brk_model.specs.Base.{Base, empty_base};
+ghost use Rattle.brk_model.specs.Commands.{AddAccount, AddBroker, AddCustomer, Command, Reply};
+ghost use Rattle.brk_model.specs.Keyed.{keeping};
+ghost use Rattle.brk_model.specs.Records.{Account, Broker, Customer, Key};
+ghost use Rattle.brk_books.specs.Books.{IsBooks};
+ghost use Rattle.brk_books.specs.Plans.{LeavesBooks};
+
+/// The base that everything begins with is in order.
+pub fn the_empty_base_is_in_order()
+    ensures { IsBooks empty_base }
+{}
+
+/// An accepted record leaves the base in order.
+pub fn records_keep_the_order()
+    ensures broker { (base : Base) (now : ℕ) (b : Broker) → LeavesBooks base now (AddBroker b) }
+    ensures customer { (base : Base) (now : ℕ) (c : Customer) → LeavesBooks base now (AddCustomer c) }
+    ensures account { (base : Base) (now : ℕ) (a : Account) → LeavesBooks base now (AddAccount a) }
+{}
+
+/// So does a row that is kept under its key.
+pub fn kept_rows_keep_the_order()
+    ensures { (base : Base) (key : Option Key) (command : Command) (reply : Reply) → IsBooks base → IsBooks (keeping key command reply base) }
+{}

@@ -1,0 +1,8 @@
+//! Laws that lead from the definitions to changes of rows: how the tables of a base follow each command, and what is
+//! read from them. There is no code to call.
+#![tactic(auto)]
+
+pub mod books;
+pub mod changes;
+pub mod plans;
+pub mod reads;
