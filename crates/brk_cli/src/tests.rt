@@ -44,17 +44,6 @@ fn refuses_wrong_words(rt: HostRuntime) -> Result<(), Fail> {
     Ok(())
 }
 
-#[test]
-fn shows_help(rt: HostRuntime) -> Result<(), Fail> {
-    match read(rt.alloc(), &["brk", "--help"])? {
-        Err(UsageFault::Help(text)) => assert!(rt;
-            text.as_str().starts_with("A brokerage back office")
-        ),
-        _ => assert!(rt; false, "no help"),
-    }
-    Ok(())
-}
-
 fn batch(kind: FaultKind) -> Ending {
     Ending::Batch(BatchFault { rows: 3, kind })
 }
