@@ -1,6 +1,6 @@
 use brk_desk::Desk;
 use brk_import::{BatchFault, Clock, Counts, FaultKind, run_batch};
-use brk_money::{Condition, Fault, Stamp};
+use brk_money::Stamp;
 use brk_store::Store;
 use sqlite::{Alter, Connection};
 use std::alloc::Global;
@@ -127,17 +127,4 @@ fn ten_accounts_and_no_more(rt: HostRuntime) -> Result<(), Fail> {
         b"1,ok,1709251200000\n2,ok,1709251200001\n3,ok,1709251200002\n4,ok,1709251200003\n5,ok,1709251200004\n6,ok,1709251200005\n7,ok,1709251200006\n8,ok,1709251200007\n9,ok,1709251200008\n10,ok,1709251200009\n11,ok,1709251200010\n12,ok,1709251200011\n13,no,14,accounts\n14,no,3\n15,no,15\nend,12,0,3\n",
         counts(12, 3),
     )
-}
-
-#[test]
-fn a_desk_is_not_made_over_another(rt: HostRuntime) -> Result<(), Fail> {
-    let store = Store::create(Connection::open_in_memory(rt.alloc())?).map_err(|_| "no store")?;
-    let mut desk = Desk::new(store);
-    let (_, ended) = answered(rt.alloc(), &mut desk, b"batch,A\nbroker,1,Bo\nend,1\n");
-    assert!(rt; ended == counts(1, 0));
-    match Store::create(desk.into_store().into_conn()) {
-        Ok(_) => assert!(rt; false, "made twice"),
-        Err((_, fault)) => assert!(rt; fault == Fault::Damaged(Condition::NotEmpty)),
-    }
-    Ok(())
 }
