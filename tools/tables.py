@@ -412,7 +412,7 @@ abbrev pub {t}_cells : {row} → Row
 def desk():
     both = lambda f: '\n'.join(f(d) for d in DATA)
     out = f"""-- Written by tools/tables.py: the tables of a desk, and the list of rows that each of them holds.
-use Rattle.std.specs.Prelude.{{◌≡◌, ℕ, List, [], ◌∷◌, Option, None, map, refl}}
+use Rattle.std.specs.Prelude.{{◌≡◌, ℕ, List, [], ◌∷◌, Option, map, refl}}
 use Rattle.std.specs.declared.cmp.Ordering.{{Ordering}}
 use Rattle.sqlite_value.specs.Order.{{Row}}
 use Rattle.sqlite_schema.specs.declared.schema.Table.{{Table}}
@@ -463,10 +463,6 @@ abbrev pub list : (w : Which) → Tables → List (Item w)
 -- all of them
 abbrev pub desk : Desk Which Tables
 desk = record {{ shape = shape; placed = placed; Item = Item; encode = encode; order = order; list = list }}
-
--- no row but that of DESK, and no stamp yet
-abbrev pub no_rows : Tables
-no_rows = record {{ last = None; {'; '.join(d[5][2:] + ' = []' for d in DATA[1:])} }}
 
 -- their names
 abbrev pub names : List (List ℕ)

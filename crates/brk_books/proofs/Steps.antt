@@ -12,10 +12,10 @@ use Rattle.brk_model.specs.Tests.{Test, tests, refusal_of, first_refusal, next_s
 use Rattle.brk_model.specs.Step.{records_after}
 use Rattle.brk_model.specs.Lists.{sort_by}
 use Rattle.brk_model.specs.Derived.{shares_in, summary_of, balance_of, trade_count_of, commissions_of}
-use Rattle.brk_model.specs.Tables.{tables_of}
+use Rattle.brk_model.specs.Tables.{no_rows, tables_of}
 use Rattle.brk_model.specs.Sheets.{sheets, sheets_of}
 use Rattle.brk_trade.specs.Changes.{with_broker, with_customer, with_account}
-use Rattle.brk_books.specs.Books.{IsBooks, KnowsBroker, empty_tables}
+use Rattle.brk_books.specs.Books.{IsBooks, KnowsBroker}
 use Rattle.brk_books.specs.Plans.{LeavesBooks, ChangesRows}
 use Rattle.brk_books.proofs.Same.{All-map, All-append, any-none, find-more}
 use Rattle.brk_books.proofs.References.{broker_rows, customer_rows, account_rows}
@@ -56,7 +56,7 @@ not_not false e = cc
 
 -- ---- the rows
 
-pub empty_rows : sheets empty_base ≡ empty_tables
+pub empty_rows : sheets empty_base ≡ no_rows
 unfolding empty_base tables_of sheets_of sort_by shares_in summary_of balance_of trade_count_of commissions_of
 empty_rows = refl
 

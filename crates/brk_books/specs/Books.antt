@@ -1,10 +1,9 @@
 -- What holds of the base of a brokerage that began empty and was moved by accepted commands: what the rows of the next command rest on.
-use Rattle.std.specs.Prelude.{◌≡◌, ◌≤◌, true, [], is_some, None, IfSome}
+use Rattle.std.specs.Prelude.{◌≡◌, ◌≤◌, true, is_some, IfSome}
 use Rattle.std.specs.List.{AllByRecursion}
 use Rattle.brk_money.specs.Moments.{last_stamp}
 use Rattle.brk_model.specs.Records.{Account, Trade}
 use Rattle.brk_model.specs.Base.{Base, broker_with, account_with}
-use Rattle.brk_model.specs.Tables.{Tables}
 
 -- the broker of an account is there
 abbrev pub KnowsBroker : Base → Account → Type 0
@@ -19,7 +18,3 @@ pub record IsBooks (base : Base) : Type 0 where
   pub brokers : AllByRecursion (KnowsBroker base) base.accounts
   pub accounts : AllByRecursion (KnowsAccount base) base.trades
   pub clock : IfSome base.last (λ last. last ≤ last_stamp)
-
--- the tables without rows
-abbrev pub empty_tables : Tables
-empty_tables = record { last = None; kept = []; brokers = []; customers = []; accounts = []; permissions = []; securities = []; last_trades = []; charges = []; bands = []; tax_rates = []; customer_taxes = []; trades = []; history = []; requests = []; holdings = []; summaries = []; holding_history = []; settlements = []; cash = [] }

@@ -6,13 +6,13 @@ ghost use Rattle.brk_model.specs.Commands.{AddAccount, AddBroker, AddCustomer, C
 ghost use Rattle.brk_model.specs.Keyed.{keeping, kept_under};
 ghost use Rattle.brk_model.specs.Records.{Account, Broker, Customer, Key};
 ghost use Rattle.brk_model.specs.Sheets.{sheets};
+ghost use Rattle.brk_model.specs.Tables.{no_rows};
 ghost use Rattle.brk_trade.specs.Changes.{with_account, with_broker, with_customer};
-ghost use Rattle.brk_books.specs.Books.{empty_tables};
 ghost use Rattle.brk_books.specs.Plans.{ChangesRows, kept_row, with_kept};
 
 /// The base that everything begins with has no rows.
 pub fn the_empty_base_has_no_rows()
-    ensures { sheets empty_base ≡ empty_tables }
+    ensures { sheets empty_base ≡ no_rows }
 {}
 
 /// A record that is accepted is one row more, and its stamp the last one; no other row changes.

@@ -40,6 +40,7 @@ fn grammar<'a>(alloc: Global) -> Result<Command<'a>, AllocError> {
         .about("Reads a batch from standard input and writes a line for each row")
         .arg(at)?;
     Command::new(alloc, "brk")
+        .bin_name("brk")?
         .about("A brokerage back office")
         .subcommand_required(true)
         .subcommand(batch)

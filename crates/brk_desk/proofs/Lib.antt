@@ -1,1 +1,4 @@
 pub mod Unknown
+pub mod Looking
+pub mod Calling
+pub mod Running

@@ -1,2 +1,3 @@
 pub mod Commands
-pub mod Replies
+pub mod Answers
+pub mod Keeping

@@ -1,15 +1,27 @@
 use crate::answer::Answer;
+use crate::booking::add;
+use crate::call::{Call, Outcome};
 use crate::command::Command;
 use brk_money::{Fault, Stamp};
-use brk_ref::{Account, Broker, Customer};
 use brk_store::Store;
-use brk_trade::{Found, Reference, plan_reference};
 use sqlite::Alter;
 use std::alloc::Global;
+use std::marker::Model;
 
-/// A desk over a store: it decides on commands and books those that it accepts.
+/// A desk over a store: it decides on commands and books those that it accepts. Contracts see it as what its store
+/// holds.
 pub struct Desk<S: Alter> {
     store: Store<S>,
+}
+
+impl<S: Alter> Model for Desk<S> {
+    ghost use Rattle.sqlite.specs.Held.{Held, held_code};
+
+    ghost Value = { Held S };
+
+    ghost coded = { held_code S.code };
+
+    ghost view = { λ d. d.store };
 }
 
 impl<S: Alter + Drop> Drop for Desk<S> {
@@ -18,89 +30,67 @@ impl<S: Alter + Drop> Drop for Desk<S> {
     }
 }
 
-// What is found where there is nothing.
-const NOTHING: Found = Found {
-    same_id: false,
-    same_tax_id: false,
-    customer: false,
-    broker: false,
-    accounts: 0,
-};
-
-// What the tables hold that decides on a broker.
-fn found_for_broker<S: Alter>(store: &mut Store<S>, broker: &Broker) -> Result<Found, Fault> {
-    let mut found = NOTHING;
-    found.same_id = store.broker(broker.id)?.is_some();
-    Ok(found)
-}
-
-// What the tables hold that decides on a customer.
-fn found_for_customer<S: Alter>(store: &mut Store<S>, customer: &Customer) -> Result<Found, Fault> {
-    let mut found = NOTHING;
-    found.same_id = store.customer(customer.id)?.is_some();
-    found.same_tax_id = store.customer_by_tax_id(&customer.tax_id)?.is_some();
-    Ok(found)
-}
-
-// What the tables hold that decides on an account.
-fn found_for_account<S: Alter>(
-    alloc: Global,
-    store: &mut Store<S>,
-    account: &Account,
-) -> Result<Found, Fault> {
-    let mut found = NOTHING;
-    found.same_id = store.account(account.id)?.is_some();
-    found.customer = store.customer(account.customer)?.is_some();
-    found.broker = store.broker(account.broker)?.is_some();
-    found.accounts = store.accounts_of(alloc, account.customer)?.len();
-    Ok(found)
-}
-
-// What the tables hold that decides on a record.
-fn found_for<S: Alter>(
-    alloc: Global,
-    store: &mut Store<S>,
-    reference: &Reference,
-) -> Result<Found, Fault> {
-    match reference {
-        Reference::Broker(broker) => found_for_broker(store, broker),
-        Reference::Customer(customer) => found_for_customer(store, customer),
-        Reference::Account(account) => found_for_account(alloc, store, account),
-    }
-}
-
-// Adds a record of reference data, where it is accepted.
-fn add<S: Alter>(
-    alloc: Global,
-    store: &mut Store<S>,
-    now: Stamp,
-    reference: &Reference,
-) -> Result<Answer, Fault> {
-    let last = store.last()?;
-    let found = found_for(alloc, store, reference)?;
-    match plan_reference(alloc, reference, found, last, now)? {
-        Ok(plan) => {
-            store.apply(&plan.changes)?;
-            Ok(Answer::Done(plan.reply))
-        }
-        Err(refusal) => Ok(Answer::Refused(refusal)),
-    }
-}
-
 impl<S: Alter> Desk<S> {
-    pub fn new(store: Store<S>) -> Desk<S> {
+    ghost use Rattle.std.specs.Prelude.{◌≡◌, ◌++◌, List, Err, OnOk, OnErr};
+    ghost use Rattle.brk_desk.specs.Commands.{command_of};
+    ghost use Rattle.brk_desk.specs.Keeping.{IsCalled, IsMade, IsRun};
+    ghost use Rattle.brk_desk.specs.declared.call.Outcome as came;
+    ghost use Rattle.brk_money.specs.declared.fault.Fault.TheVariants.{Memory};
+
+    /// A desk that keeps its books in a store, which `Store::create` made or an earlier desk gave back.
+    pub fn new(store: Store<S>) -> Desk<S>
+        ensures same { result ≡ store }
+    {
         Desk { store }
     }
 
     /// Decides on a command at a moment and books it where it is accepted: by one change of the tables, which is the
     /// last call of the database. At a refusal or a fault the tables are as they were.
-    pub fn call(&mut self, alloc: Global, now: Stamp, command: &Command) -> Result<Answer, Fault> {
+    pub fn call(&mut self, alloc: Global, now: Stamp, command: &Command) -> Result<Answer, Fault>
+        ensures called { IsCalled S.Store self.old self.new now (command_of command.now) result }
+    {
         match command {
             Command::Add(reference) => add(alloc, &mut self.store, now, reference),
         }
     }
 
-    pub fn into_store(self) -> Store<S> {
+    /// Makes the calls in turn, each at its moment, and adds an outcome for each; a call that is refused or fails
+    /// changes nothing, and the next one is made. The room for all outcomes is made before the first call: the only
+    /// fault is want of memory for them, and then no call was made.
+    pub fn run(
+        &mut self,
+        alloc: Global,
+        calls: &[(Stamp, Call)],
+        out: &mut Vec<Outcome>,
+    ) -> Result<(), Fault>
+        ensures ran { OnOk result ((outcomes : List came.Outcome) × (out.new.items ≡ out.old.items ++ outcomes) × IsRun S.Store self.old self.new calls.now outcomes) }
+        ensures fault { OnErr result (result ≡ Err Memory) }
+        ensures unmade { OnErr result ((self.new ≡ self.old) × (out.new.items ≡ out.old.items)) }
+    {
+        out.reserve(calls.len())?;
+        for made in calls {
+            let (now, call) = made;
+            let outcome = self.outcome(alloc, *now, call);
+            out.push(outcome).unwrap();
+        }
+        Ok(())
+    }
+
+    // What comes of a call.
+    fn outcome(&mut self, alloc: Global, now: Stamp, call: &Call) -> Outcome
+        ensures made { IsMade S.Store self.old self.new now call.now result }
+    {
+        let Call::Do(command) = call;
+        match self.call(alloc, now, command) {
+            Ok(answer) => Outcome::Did(answer),
+            Err(fault) => Outcome::Failed(fault),
+        }
+    }
+
+    /// The store, with the books of the calls that were accepted.
+    pub fn into_store(self) -> Store<S>
+        ensures same { result ≡ self }
+    {
         let Desk { store } = self;
         store
     }

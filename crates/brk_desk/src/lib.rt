@@ -2,12 +2,17 @@
 #![tactic(auto)]
 
 pub mod answer;
+pub mod beginning;
+mod booking;
+pub mod call;
 pub mod command;
 pub mod desk;
+mod finding;
 pub mod line;
 pub mod parse;
 
 pub use answer::Answer;
+pub use call::{Call, Outcome};
 pub use command::Command;
 pub use desk::Desk;
 pub use line::line_text;

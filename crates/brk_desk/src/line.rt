@@ -1,7 +1,7 @@
 ghost use Rattle.std.specs.Prelude.{◌≡◌, IfOk, OnErr, Err, string_bytes};
 ghost use Rattle.brk_model.specs.Rows as model;
 ghost use Rattle.brk_money.specs.declared.fault.Fault.TheVariants.{Memory};
-ghost use Rattle.brk_desk.specs.Replies.{reply_of};
+ghost use Rattle.brk_books.specs.Commands.{reply_of};
 
 use brk_money::Fault;
 use brk_trade::Reply;

@@ -1,10 +1,12 @@
-ghost use Rattle.std.specs.Prelude.{None};
 ghost use Rattle.brk_model.specs.Base.{Base};
 ghost use Rattle.brk_model.specs.Commands as model;
-ghost use Rattle.brk_model.specs.Keyed.{keyed_step};
 ghost use Rattle.brk_model.specs.Parse.{parse_by, party_readers};
+ghost use Rattle.brk_books.specs.Commands.{reply_of};
 ghost use Rattle.brk_desk.specs.Commands.{command_of};
-ghost use Rattle.brk_desk.specs.Replies.{reply_of};
+ghost use Rattle.brk_desk.specs.Keeping.{KeepsBase};
+ghost use Rattle.brk_import.specs.Desk.{row_step};
+ghost use Rattle.sqlite.specs.Held.{state};
+ghost use Rattle.sqlite.specs.State.{HasCleanDisk};
 
 use crate::answer::RowAnswer;
 use crate::rows::Rows;
@@ -23,9 +25,9 @@ impl<S: Alter> Rows for Desk<S> {
 
     ghost Asked = { model.Command };
 
-    ghost honest = { λ _. ⊥ };
+    ghost honest = { λ desk. HasCleanDisk (state S.Store desk) };
 
-    ghost stands = { λ _ _. ⊥ };
+    ghost stands = { λ desk. KeepsBase S.Store desk };
 
     ghost asked = { command_of };
 
@@ -33,7 +35,7 @@ impl<S: Alter> Rows for Desk<S> {
 
     ghost form = { parse_by party_readers };
 
-    ghost step = { λ base now command _. keyed_step base now command None };
+    ghost step = { row_step };
 
     fn parse(alloc: Global, row: &[&[u8]]) -> Planned<Command> {
         parse_row(alloc, row)

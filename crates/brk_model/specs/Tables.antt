@@ -1,5 +1,5 @@
 -- The tables: one list of rows for each, in the order of acceptance. Two that hold the same rows are the same table.
-use Rattle.std.specs.Prelude.{ℕ, Bool, not, List, [], ◌∷◌, map, filter, flat_map, Option, ℤ, pos, ◌-ℤ◌}
+use Rattle.std.specs.Prelude.{ℕ, Bool, not, List, [], ◌∷◌, map, filter, flat_map, Option, None, ℤ, pos, ◌-ℤ◌}
 use Rattle.std.specs.Option.{option_map_or}
 use Rattle.brk_money.specs.Spelling.{Text}
 use Rattle.brk_money.specs.declared.trade_type.TradeType.{TradeType}
@@ -217,6 +217,10 @@ settlement_row accounts t = record { trade = t.id; cash_type = t.cash_type; due_
 -- what a completed cash trade moved
 abbrev pub cash_row : List Account → Trade → CashRow
 cash_row accounts t = record { trade = t.id; stamp = moment_of t; amount = amount_of accounts t; name = t.cash_name }
+
+-- the tables without rows, where nothing was accepted yet
+abbrev pub no_rows : Tables
+no_rows = record { last = None; kept = []; brokers = []; customers = []; accounts = []; permissions = []; securities = []; last_trades = []; charges = []; bands = []; tax_rates = []; customer_taxes = []; trades = []; history = []; requests = []; holdings = []; summaries = []; holding_history = []; settlements = []; cash = [] }
 
 -- the rows of a base and those that follow from some completed trades
 abbrev pub tables_upon : Base → List Trade → Tables

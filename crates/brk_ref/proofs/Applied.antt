@@ -1,12 +1,14 @@
 -- Values that are read side by side, where a refusal can only be of text.
-use Rattle.std.proofs.Common.{◌≡◌, Bool, true, false, refl, cond, ◌&&◌}
+use Rattle.std.proofs.Common.{◌≡◌, Bool, true, false, refl, arith, cond, ◌&&◌}
 use Rattle.std.specs.Prelude.{Option, Some, None, Ok, Err, IfErr, nat_le, nat_abs}
-use Rattle.brk_money.specs.declared.refusal.Refusal.TheVariants.{BadText}
+use Rattle.brk_money.specs.declared.refusal.Refusal.{Refusal}
+use Rattle.brk_money.specs.declared.refusal.Refusal.TheVariants.{BadText, BadQty, BadPrice, BadType, TooMany, KeyReused, NoAccount, NoCustomer, NoBroker, NoSecurity, NoTrade, NoTax, WrongStatus, NotPermitted, Exists, Overlap, TaxSum, NoCharge, NoRate, Range, ClockEnd}
+use Rattle.std.proofs.lemmas.Bool.{le-leb}
 use Rattle.std.specs.Option.{option_and_then}
 use Rattle.brk_money.specs.Spelling.{Text, number_of, cents_of}
 use Rattle.brk_money.specs.Kinds.{tax_status_of}
 use Rattle.brk_model.specs.Limits.{greatest_id, greatest_amount}
-use Rattle.brk_model.specs.Forms.{Read, ◌⊛◌, read_if, read_id, read_name, read_tax_status, read_opening, is_name}
+use Rattle.brk_model.specs.Forms.{Read, form_rank, ◌⊛◌, read_if, read_id, read_name, read_tax_status, read_opening, is_name}
 
 -- a refusal is of text
 pub IsPlain : {A : Type 0} → Read A → Type 0
@@ -54,3 +56,56 @@ pub no_account_customer : {A B C D E F G : Type 0} (f : A → B → C → D → 
 no_account_customer f a x b c d e o g h pc pd pe po =
     refused_first (Ok f ⊛ a ⊛ b ⊛ c ⊛ d ⊛ e) o (refused_first (Ok f ⊛ a ⊛ b ⊛ c ⊛ d) e (refused_first (Ok f ⊛ a ⊛ b ⊛ c) d
     (refused_first (Ok f ⊛ a ⊛ b) c (rw g (refused_second (f x) b h)) pc) pd) pe) po
+
+-- a refusal of text stands before every other one
+least : (r : Refusal) → cond (nat_le (form_rank r) 0) r BadText ≡ BadText
+least BadText = refl
+least BadQty = refl
+least BadPrice = refl
+least BadType = refl
+least TooMany = refl
+least KeyReused = refl
+least NoAccount = refl
+least NoCustomer = refl
+least NoBroker = refl
+least NoSecurity = refl
+least NoTrade = refl
+least NoTax = refl
+least (WrongStatus x) = refl
+least NotPermitted = refl
+least Exists = refl
+least Overlap = refl
+least TaxSum = refl
+least NoCharge = refl
+least NoRate = refl
+least (Range x) = refl
+least ClockEnd = refl
+
+pub text_left : {A B : Type 0} (f : Read (A → B)) (x : Read A) → f ≡ Err BadText → f ⊛ x ≡ Err BadText
+text_left f (Ok x) e = rw e refl
+text_left f (Err s) e = rw (e, le-leb 0 (form_rank s) (omega arith)) refl
+
+pub text_right : {A B : Type 0} (f : Read (A → B)) (x : Read A) → x ≡ Err BadText → f ⊛ x ≡ Err BadText
+text_right (Ok f) x e = rw e refl
+text_right (Err r) x e = rw (e, least r) refl
+
+-- a charge of whose fields the tier or the amount is refused
+pub no_charge_tier : {A B C D : Type 0} (f : A → B → C → D) (a : Read A) (b : Read B) (c : Read C) → b ≡ Err BadText → Ok f ⊛ a ⊛ b ⊛ c ≡ Err BadText
+no_charge_tier f a b c h = text_left (Ok f ⊛ a ⊛ b) c (text_right (Ok f ⊛ a) b h)
+
+pub no_charge_amount : {A B C D : Type 0} (f : A → B → C → D) (a : Read A) (b : Read B) (c : Read C) → c ≡ Err BadText → Ok f ⊛ a ⊛ b ⊛ c ≡ Err BadText
+no_charge_amount f a b c h = text_right (Ok f ⊛ a ⊛ b) c h
+
+-- a band of whose fields the tier, the exchange or the rate is refused
+pub no_band_tier : {A B C D E F : Type 0} (f : A → B → C → D → E → F) (a : Read A) (b : Read B) (c : Read C) (d : Read D) (e : Read E)
+    → a ≡ Err BadText → Ok f ⊛ a ⊛ b ⊛ c ⊛ d ⊛ e ≡ Err BadText
+no_band_tier f a b c d e h =
+    text_left (Ok f ⊛ a ⊛ b ⊛ c ⊛ d) e (text_left (Ok f ⊛ a ⊛ b ⊛ c) d (text_left (Ok f ⊛ a ⊛ b) c (text_left (Ok f ⊛ a) b (text_right (Ok f) a h))))
+
+pub no_band_exchange : {A B C D E F : Type 0} (f : A → B → C → D → E → F) (a : Read A) (b : Read B) (c : Read C) (d : Read D) (e : Read E)
+    → c ≡ Err BadText → Ok f ⊛ a ⊛ b ⊛ c ⊛ d ⊛ e ≡ Err BadText
+no_band_exchange f a b c d e h = text_left (Ok f ⊛ a ⊛ b ⊛ c ⊛ d) e (text_left (Ok f ⊛ a ⊛ b ⊛ c) d (text_right (Ok f ⊛ a ⊛ b) c h))
+
+pub no_band_rate : {A B C D E F : Type 0} (f : A → B → C → D → E → F) (a : Read A) (b : Read B) (c : Read C) (d : Read D) (e : Read E)
+    → e ≡ Err BadText → Ok f ⊛ a ⊛ b ⊛ c ⊛ d ⊛ e ≡ Err BadText
+no_band_rate f a b c d e h = text_right (Ok f ⊛ a ⊛ b ⊛ c ⊛ d) e h

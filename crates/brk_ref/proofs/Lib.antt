@@ -1,3 +1,4 @@
 pub mod Applied
 pub mod Limits
+pub mod Lists
 pub mod Texts

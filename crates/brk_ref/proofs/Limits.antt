@@ -1,14 +1,15 @@
 -- Numbers that are read within two limits.
-use Rattle.std.proofs.Common.{◌≡◌, ◌≤◌, ℕ, Bool, true, false, refl, sym, ◌∙◌, ap, cond, arith, subst, ◌&&◌}
-use Rattle.std.specs.Prelude.{Option, Some, None, Result, Ok, Err, MatchOption, SomeIff, nat_le, ℤ, nat_abs, ◌^◌}
+use Rattle.std.proofs.Common.{◌≡◌, ◌≤◌, ◌≤ℤ◌, ◌<ℤ◌, ℕ, Bool, true, false, refl, ◌∙◌, ap, cond, arith, subst, ◌&&◌}
+use Rattle.std.specs.Prelude.{Option, Some, None, Ok, Err, MatchOption, SomeIff, nat_le, ℤ, pos, negsuc, nat_abs, ◌^◌}
 use Rattle.std.specs.Option.{ok_or, option_and_then}
+use Rattle.std.proofs.lemmas.Int.{ints}
 use Rattle.std.proofs.lemmas.Bool.{leb-true, leb-false, le-leb, ne_eqb}
-use Rattle.brk_money.specs.Spelling.{Text, at_most, within_limit, number_of, cents_of}
+use Rattle.brk_money.specs.Spelling.{Text, IsWithin, most_cents, at_most, within_limit, cents_of}
 use Rattle.brk_money.specs.Kinds.{tax_status_of}
 use Rattle.brk_money.specs.declared.refusal.Refusal.{Refusal}
 use Rattle.brk_money.specs.declared.refusal.Refusal.TheVariants.{BadText}
 use Rattle.brk_money.specs.declared.tax_status.TaxStatus.{TaxStatus}
-use Rattle.brk_model.specs.Forms.{Read, read_if, read_number, read_tax_status, read_opening}
+use Rattle.brk_model.specs.Forms.{unsigned, read_if, read_opening}
 
 -- what is not within both limits fails one of the tests
 fails_one : (low high n : ℕ) → ((low ≤ n) × (n ≤ high) → ⊥) → nat_le low n && nat_le n high ≡ false
@@ -28,22 +29,45 @@ tested : (low high n : ℕ) (refusal : Refusal) (answer : Option ℕ) → SomeIf
 tested low high n refusal (Some x) h = rw (le-leb low n h.0.0, le-leb n high h.0.1) (ap Ok h.1)
 tested low high n refusal None h = rw (fails_one low high n h) refl
 
--- a number that was found up to the high limit, tested for both
+-- a number that was found up to some limit, tested for both
+pub within_limits : (low high limit : ℕ) (refusal : Refusal) (o : Option ℕ) (found : Option ℕ) (answer : Option ℕ) → high ≤ limit → found ≡ at_most limit o
+    → MatchOption found (answer ≡ None) (λ n. SomeIff answer ((low ≤ n) × (n ≤ high)) n)
+    → ok_or answer refusal ≡ read_if (λ n. nat_le low n && nat_le n high) refusal o
+within_limits low high limit refusal None found answer g e h =
+    let h' = subst (λ (f : Option ℕ). MatchOption f (answer ≡ None) (λ n. SomeIff answer ((low ≤ n) × (n ≤ high)) n)) e h in
+    ap (λ (a : Option ℕ). ok_or a refusal) h'
+within_limits low high limit refusal (Some n) found answer g e h =
+    by_limit (nat_le n limit) refl (subst (λ (f : Option ℕ). MatchOption f (answer ≡ None) (λ n. SomeIff answer ((low ≤ n) × (n ≤ high)) n)) e h)
+  where
+    by_limit : (b : Bool) → nat_le n limit ≡ b → MatchOption (cond b (Some n) None) (answer ≡ None) (λ n. SomeIff answer ((low ≤ n) × (n ≤ high)) n)
+        → ok_or answer refusal ≡ cond (nat_le low n && nat_le n high) (Ok n) (Err refusal)
+    by_limit true e s = tested low high n refusal answer s
+    by_limit false e s =
+        let above = leb-false n limit e in
+        ap (λ (a : Option ℕ). ok_or a refusal) s ∙ rw (fails_one low high n (λ both. omega (arith, both.1, above))) refl
+
 pub within_both : (low high : ℕ) (refusal : Refusal) (o : Option ℕ) (found : Option ℕ) (answer : Option ℕ) → found ≡ at_most high o
     → MatchOption found (answer ≡ None) (λ n. SomeIff answer ((low ≤ n) × (n ≤ high)) n)
     → ok_or answer refusal ≡ read_if (λ n. nat_le low n && nat_le n high) refusal o
-within_both low high refusal None found answer e h =
-    let h' = subst (λ (f : Option ℕ). MatchOption f (answer ≡ None) (λ n. SomeIff answer ((low ≤ n) × (n ≤ high)) n)) e h in
-    ap (λ (a : Option ℕ). ok_or a refusal) h'
-within_both low high refusal (Some n) found answer e h =
-    by_high (nat_le n high) refl (subst (λ (f : Option ℕ). MatchOption f (answer ≡ None) (λ n. SomeIff answer ((low ≤ n) × (n ≤ high)) n)) e h)
-  where
-    by_high : (b : Bool) → nat_le n high ≡ b → MatchOption (cond b (Some n) None) (answer ≡ None) (λ n. SomeIff answer ((low ≤ n) × (n ≤ high)) n)
-        → ok_or answer refusal ≡ cond (nat_le low n && nat_le n high) (Ok n) (Err refusal)
-    by_high true e s = tested low high n refusal answer s
-    by_high false e s =
-        let above = leb-false n high e in
-        ap (λ (a : Option ℕ). ok_or a refusal) s ∙ rw (fails_one low high n (λ both. omega (arith, both.1, above))) refl
+within_both low high refusal o found answer e h = within_limits low high high refusal o found answer (omega arith) e h
+
+-- no low limit
+pub from_zero : (high n : ℕ) (answer : Option ℕ) → SomeIff answer (n ≤ high) n → SomeIff answer ((0 ≤ n) × (n ≤ high)) n
+from_zero high n (Some x) h = ((omega arith, h.0), h.1)
+from_zero high n None h = λ both. h both.1
+
+pub up_to : (high : ℕ) (refusal : Refusal) (o : Option ℕ) → read_if (λ n. nat_le 0 n && nat_le n high) refusal o ≡ read_if (λ n. nat_le n high) refusal o
+up_to high refusal None = refl
+up_to high refusal (Some n) = rw (le-leb 0 n (omega arith)) refl
+
+-- an amount that is not below 0
+pub below_zero : (o : Option ℤ) (z r : ℤ) → o ≡ Some z → r ≡ z → r <ℤ pos 0 → None ≡ at_most most_cents (unsigned o)
+below_zero o (pos n) r e f h = absurd (omega (arith, ints, f, h))
+below_zero o (negsuc n) r e f h = rw e refl
+
+pub from_zero_on : (o : Option ℤ) (z r : ℤ) → o ≡ Some z → r ≡ z → pos 0 ≤ℤ r → IsWithin z → Some (nat_abs r) ≡ at_most most_cents (unsigned o)
+from_zero_on o (pos n) r e f h w = rw (e, f, le-leb n most_cents w) refl
+from_zero_on o (negsuc n) r e f h w = absurd (omega (arith, ints, f, h))
 
 -- the tax status with a number up to 2
 pub status_read : (o : Option ℕ) (found : Option ℕ) (answer : Option TaxStatus) → found ≡ at_most 2 o

@@ -1,8 +1,19 @@
 -- What the records are in the abstract brokerage.
-use Rattle.brk_model.specs.Records.{Broker, Customer, Account}
+use Rattle.brk_model.specs.Records.{Broker, Customer, Account, Permission, Charge, Band, TaxRate, CustomerTax, Executor}
+use Rattle.brk_model.specs.Commands.{Listing}
+use Rattle.brk_model.specs.Tables.{SecurityRow, LastTradeRow}
 use Rattle.brk_ref.specs.declared.broker.Broker as broker
 use Rattle.brk_ref.specs.declared.customer.Customer as customer
 use Rattle.brk_ref.specs.declared.account.Account as account
+use Rattle.brk_ref.specs.declared.permission.Permission as permission
+use Rattle.brk_ref.specs.declared.executor.Executor as executor
+use Rattle.brk_ref.specs.declared.security.Security as security
+use Rattle.brk_ref.specs.declared.security.Listing as listing
+use Rattle.brk_ref.specs.declared.security.LastTrade as last_trade
+use Rattle.brk_ref.specs.declared.charge.Charge as charge
+use Rattle.brk_ref.specs.declared.band.Band as band
+use Rattle.brk_ref.specs.declared.tax.Tax as tax
+use Rattle.brk_ref.specs.declared.tax.CustomerTax as customer_tax
 
 abbrev pub broker_of : broker.Broker → Broker
 broker_of b = record { id = b.id; name = b.name }
@@ -12,3 +23,30 @@ customer_of c = record { id = c.id; tier = c.tier; tax_id = c.tax_id; last_name 
 
 abbrev pub account_of : account.Account → Account
 account_of a = record { id = a.id; customer = a.customer; broker = a.broker; name = a.name; tax_status = a.tax_status; opening = a.opening }
+
+abbrev pub permission_of : permission.Permission → Permission
+permission_of p = record { account = p.account; acl = p.acl; tax_id = p.tax_id; last_name = p.last_name; first_name = p.first_name }
+
+abbrev pub executor_of : executor.Executor → Executor
+executor_of e = record { first_name = e.first_name; last_name = e.last_name; tax_id = e.tax_id }
+
+abbrev pub security_of : security.Security → SecurityRow
+security_of s = record { symbol = s.symbol; name = s.name; exchange = s.exchange; sector = s.sector }
+
+abbrev pub listing_of : listing.Listing → Listing
+listing_of l = record { symbol = l.security.symbol; name = l.security.name; exchange = l.security.exchange; sector = l.security.sector; price = l.price }
+
+abbrev pub last_trade_of : last_trade.LastTrade → LastTradeRow
+last_trade_of l = record { symbol = l.symbol; stamp = l.stamp; price = l.price; volume = l.volume }
+
+abbrev pub charge_of : charge.Charge → Charge
+charge_of c = record { kind = c.kind; tier = c.tier; amount = c.amount }
+
+abbrev pub band_of : band.Band → Band
+band_of b = record { tier = b.tier; kind = b.kind; exchange = b.exchange; from_qty = b.from_qty; to_qty = b.to_qty; rate = b.rate }
+
+abbrev pub tax_of : tax.Tax → TaxRate
+tax_of t = record { id = t.id; name = t.name; rate = t.rate }
+
+abbrev pub customer_tax_of : customer_tax.CustomerTax → CustomerTax
+customer_tax_of x = record { customer = x.customer; tax = x.tax }

@@ -2,20 +2,47 @@
 #![tactic(auto)]
 
 pub mod account;
+pub mod acl;
+pub mod band;
 pub mod broker;
+pub mod charge;
+pub mod charge_amount;
 pub mod customer;
+pub mod exchange;
+pub mod executor;
 pub mod name;
 pub mod numbers;
+pub mod permission;
+pub mod security;
+pub mod symbol;
+pub mod tax;
 pub mod tax_id;
 pub mod tier;
+pub mod trade_type;
+pub mod volume;
 
 pub use account::{Account, AccountRow, check_account};
+pub use acl::Acl;
+pub use band::{Band, band_for, check_band, overlaps};
 pub use broker::{Broker, BrokerRow, check_broker};
+pub use charge::{Charge, check_charge};
+pub use charge_amount::ChargeAmount;
 pub use customer::{Customer, check_customer};
+pub use exchange::Exchange;
+pub use executor::Executor;
 pub use name::Name;
-pub use numbers::{parse_id, parse_opening, parse_tax_status};
+pub use numbers::{
+    parse_charge_amount, parse_id, parse_opening, parse_price, parse_qty, parse_rate,
+    parse_tax_rate, parse_tax_status,
+};
+pub use permission::{Permission, check_permission, permitted};
+pub use security::{LastTrade, Listing, Security, check_security};
+pub use symbol::Symbol;
+pub use tax::{CustomerTax, Tax, check_customer_tax, check_tax_rate, tax_sum};
 pub use tax_id::TaxId;
 pub use tier::Tier;
+pub use trade_type::parse_type;
+pub use volume::Volume;
 
 #[cfg(test)]
 mod tests;

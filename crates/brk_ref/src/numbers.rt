@@ -1,9 +1,11 @@
 ghost use Rattle.std.specs.Prelude.{◌≡◌};
 ghost use Rattle.std.specs.Option.{ok_or};
-ghost use Rattle.brk_model.specs.Forms.{read_id, read_opening, read_tax_status};
-ghost use Rattle.brk_money.specs.declared.refusal.Refusal.TheVariants.{BadText};
+ghost use Rattle.brk_money.specs.Spelling.{at_most, cents_of, most_cents};
+ghost use Rattle.brk_model.specs.Forms.{read_charge_amount, read_commission_rate, read_id, read_opening, read_price, read_qty, read_rate_of_tax, read_tax_status, unsigned};
+ghost use Rattle.brk_money.specs.declared.refusal.Refusal.TheVariants.{BadPrice, BadQty, BadText};
 
-use brk_money::{Cents, Id, TaxStatus, parse_cents, parse_whole};
+use crate::charge_amount::ChargeAmount;
+use brk_money::{Cents, Id, Price, Qty, Rate, TaxRate, TaxStatus, parse_cents, parse_whole};
 
 /// The id that the bytes spell.
 pub fn parse_id(bytes: &[u8]) -> Option<Id>
@@ -30,4 +32,74 @@ pub fn parse_opening(bytes: &[u8]) -> Option<Cents>
     ensures { ok_or result BadText ≡ read_opening bytes.now }
 {
     parse_cents(bytes)
+}
+
+/// The quantity that the bytes spell.
+pub fn parse_qty(bytes: &[u8]) -> Option<Qty>
+    ensures { ok_or result BadQty ≡ read_qty bytes.now }
+{
+    let Some(number) = parse_whole(bytes, Qty::GREATEST as u64) else {
+        return None;
+    };
+    Qty::new(number as u32)
+}
+
+/// The commission rate that the bytes spell, in hundredths of a percent.
+pub fn parse_rate(bytes: &[u8]) -> Option<Rate>
+    ensures { ok_or result BadText ≡ read_commission_rate bytes.now }
+{
+    let Some(number) = parse_whole(bytes, Rate::GREATEST as u64) else {
+        return None;
+    };
+    Rate::new(number as u32)
+}
+
+/// The rate of tax that the bytes spell, in hundred-thousandths.
+pub fn parse_tax_rate(bytes: &[u8]) -> Option<TaxRate>
+    ensures { ok_or result BadText ≡ read_rate_of_tax bytes.now }
+{
+    let Some(number) = parse_whole(bytes, TaxRate::GREATEST as u64) else {
+        return None;
+    };
+    TaxRate::new(number as u32)
+}
+
+// The cents that the bytes spell, not below 0.
+fn parse_unsigned(bytes: &[u8]) -> Option<u64>
+    ensures { result ≡ at_most most_cents (unsigned (cents_of bytes.now)) }
+{
+    let Some(cents) = parse_cents(bytes) else {
+        return None;
+    };
+    let cents = cents.get();
+    if cents < 0 {
+        return None;
+    }
+    Some(cents as u64)
+}
+
+/// The price that the bytes spell.
+pub fn parse_price(bytes: &[u8]) -> Option<Price>
+    ensures { ok_or result BadPrice ≡ read_price bytes.now }
+{
+    let Some(cents) = parse_unsigned(bytes) else {
+        return None;
+    };
+    if cents > Price::GREATEST as u64 {
+        return None;
+    }
+    Price::new(cents as u32)
+}
+
+/// The charge that the bytes spell.
+pub fn parse_charge_amount(bytes: &[u8]) -> Option<ChargeAmount>
+    ensures { ok_or result BadText ≡ read_charge_amount bytes.now }
+{
+    let Some(cents) = parse_unsigned(bytes) else {
+        return None;
+    };
+    if cents > ChargeAmount::GREATEST as u64 {
+        return None;
+    }
+    ChargeAmount::new(cents as u32)
 }

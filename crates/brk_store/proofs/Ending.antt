@@ -9,25 +9,19 @@ use Rattle.sqlite.specs.Steps.{FailsToCommit}
 use Rattle.sqlite.specs.declared.error.Error.{Error}
 use Rattle.sqlite.proofs.Callers.{survives_begin}
 use Rattle.sqlite.proofs.StateLemmas.{survives_then, survives_weaker}
-use Rattle.brk_model.specs.Tables.{Tables}
+use Rattle.brk_model.specs.Tables.{Tables, no_rows}
 use Rattle.brk_rows.specs.Desk.{Turns}
 use Rattle.brk_rows.specs.Model.{IsStep, Looks}
 use Rattle.brk_rows.proofs.Inside.{clean_before, commits_all, commits_crash}
 use Rattle.brk_money.specs.declared.fault.Condition.TheVariants.{NotEmpty}
 use Rattle.brk_money.specs.declared.fault.Fault.{Fault}
 use Rattle.brk_money.specs.declared.fault.Fault.TheVariants.{Damaged, Store}
-use Rattle.brk_tables.specs.Desk.{desk, no_rows}
+use Rattle.brk_tables.specs.Desk.{desk}
 use Rattle.brk_tables.specs.Made.{HasRows, has_table_of_desk}
-use Rattle.brk_store.specs.Holds.{Holds, IsRead, IsApplied, IsCreated}
+use Rattle.brk_store.specs.Holds.{Holds, IsSame, IsRead, IsApplied, IsCreated}
 
 abbrev pub begun : {S : Type 0} → Held S → Held S
 begun old = record old { in_transaction = true }
-
--- what is kept where nothing was committed
-pub record IsKept {S : Type 0} (g : Ghosts S) (old end : Held S) : Type 0 where
-  pub now : (state g end).now ≡ (state g old).now
-  pub committed : (state g end).committed ≡ (state g old).committed
-  pub was_open : IsTrue (state g old).is_open
 
 no_ok : {U F : Type 0} (o : Result U F) → IsErr o → (P : Type 0) → OnOk o P
 no_ok (Ok x) e P = absurd (let f = e in cc)
@@ -40,7 +34,7 @@ all_err (Err x) p = p
 module _ {S : Type 0} (g : Ghosts S) (old mid end : Held S) (settled : IsTrue (state g old).is_open → (state g old).now ≡ (state g old).committed) where
   -- rolled back
   pub rolled_back : {V E : Type 0} (r : Result V E) (Q : V → State → State → Type 0) (P : Trees → Type 0) → IsStep (state g (begun old)) (state g mid) r Q → (HasCleanDisk (state g end) → IsRolledBack (state g mid) (state g end))
-      → Survives (state g mid) (state g end) P → HasCleanDisk (state g end) → IsTrue (state g end).is_open → IsKept g old end
+      → Survives (state g mid) (state g end) P → HasCleanDisk (state g end) → IsTrue (state g end).is_open → IsSame (state g old) (state g end)
   rolled_back r Q P step back late clean o =
       let b = back clean in
       let kept = step.kept (clean_before (state g mid) (state g end) P late clean) in
@@ -48,7 +42,7 @@ module _ {S : Type 0} (g : Ghosts S) (old mid end : Held S) (settled : IsTrue (s
       let old_open = kept.was_open mid_open in
       record { now = (b.undone o).0 ∙ kept.committed mid_open ∙ sym (settled old_open); committed = (b.undone o).1 ∙ kept.committed mid_open; was_open = old_open }
 
-  still_holds : (P : Trees → Type 0) → Survives (state g old) (state g end) P → (HasCleanDisk (state g end) → IsTrue (state g end).is_open → IsKept g old end) → (t : Tables) → Holds g old t → Holds g end t
+  still_holds : (P : Trees → Type 0) → Survives (state g old) (state g end) P → (HasCleanDisk (state g end) → IsTrue (state g end).is_open → IsSame (state g old) (state g end)) → (t : Tables) → Holds g old t → Holds g end t
   still_holds P through kept t holds clean o =
       let k = kept clean o in
       subst (HasRows t) (sym k.now) (holds (clean_before (state g old) (state g end) P through clean) k.was_open)
@@ -65,7 +59,7 @@ module _ {S : Type 0} (g : Ghosts S) (old mid end : Held S) (settled : IsTrue (s
           made = no_ok out failed _;
           opened = λ clean. no_ok out failed _;
           kept = all_err out (still_holds _ through kept);
-          same = λ clean o. let k = kept clean o in all_err out (k.now, k.committed);
+          same = λ clean o. all_err out (kept clean o);
           survives = survives_weaker (state g old) (state g end) (λ _. ⊥) _ (λ _ db none. absurd none) through;
         }
 
@@ -78,7 +72,7 @@ module _ {S : Type 0} (g : Ghosts S) (old mid end : Held S) (settled : IsTrue (s
           opened = λ clean. no_ok out failed _;
           absent = λ clean. no_ok out failed _;
           taken = taken;
-          same = λ clean o. let k = kept clean o in all_err out (k.now, k.committed);
+          same = λ clean o. all_err out (kept clean o);
           survives = survives_weaker (state g old) (state g end) (λ _. ⊥) _ (λ _ db none. absurd none) through;
         }
 
@@ -92,7 +86,7 @@ module _ {S : Type 0} (g : Ghosts S) (old mid end : Held S) (settled : IsTrue (s
         told = λ clean. tells out (clean_before (state g old) (state g end) (λ _. ⊥) whole clean) (step.made (clean_before (state g mid) (state g end) (λ _. ⊥) late clean) refl);
         opened = λ clean. opens out (step.made (clean_before (state g mid) (state g end) (λ _. ⊥) late clean) refl);
         kept = still_holds _ whole kept;
-        same = λ clean o. let k = kept clean o in (k.now, k.committed);
+        same = kept;
         survives = whole;
       }
     where
@@ -118,7 +112,7 @@ module _ {S : Type 0} (g : Ghosts S) (old mid end : Held S) (settled : IsTrue (s
     | inr off ↦ absurd (let on = (step.made (clean_before (state g mid) (state g end) _ late clean) refl).0 in let f = off.1 in cc)
   ]
 
-  kept_at : (e : Error) → (HasCleanDisk (state g end) → FailsToCommit (state g mid) (state g end) e) → HasCleanDisk (state g end) → IsTrue (state g end).is_open → IsKept g old end
+  kept_at : (e : Error) → (HasCleanDisk (state g end) → FailsToCommit (state g mid) (state g end) e) → HasCleanDisk (state g end) → IsTrue (state g end).is_open → IsSame (state g old) (state g end)
   kept_at e fails = rolled_back g old mid end settled {V = Unit {0}} {E = Fault} (Ok tt) (λ _ a b. made a.now b.now) _ step (back e fails) late
 
   module _ (done : HasCleanDisk (state g end) → IsTrue (state g mid).in_transaction × Shows (state g mid) (state g end) (state g mid).now (state g mid).now false × KeepsCounts (state g mid) (state g end) × ((state g end).marks ≡ [])) where
@@ -153,7 +147,7 @@ module _ {S : Type 0} (g : Ghosts S) (old mid end : Held S) (settled : IsTrue (s
       made = tt;
       opened = λ clean. tt;
       kept = still_holds g old mid end settled _ whole (kept_at e fails);
-      same = λ clean o. let k = kept_at e fails clean o in (k.now, k.committed);
+      same = kept_at e fails;
       survives = survives_weaker (state g old) (state g end) _ _ (λ _ db h. (h.0, (λ t has. (has.0, turns _ _ h.1 t has.0 has.1)), h.2)) whole;
     }
 
@@ -163,6 +157,6 @@ module _ {S : Type 0} (g : Ghosts S) (old mid end : Held S) (settled : IsTrue (s
       opened = λ clean. tt;
       absent = λ clean. tt;
       taken = λ clean e. absurd (let f = e in cc);
-      same = λ clean o. let k = kept_at e fails clean o in (k.now, k.committed);
+      same = kept_at e fails;
       survives = survives_weaker (state g old) (state g end) _ _ (λ _ db h. (h.0, (tells _ _ h.1).1, h.2)) whole;
     }

@@ -3,17 +3,22 @@ use Rattle.std.specs.Prelude.{◌≡◌, true, false, Result, Err, IfOk, OnOk, O
 use Rattle.sqlite_trees.specs.declared.store.Store.{Ghosts}
 use Rattle.sqlite.specs.Effect.{Database}
 use Rattle.sqlite.specs.Held.{Held, state}
-use Rattle.sqlite.specs.State.{HasCleanDisk, Survives}
+use Rattle.sqlite.specs.State.{State, HasCleanDisk, Survives}
 use Rattle.brk_money.specs.declared.fault.Condition.TheVariants.{NotEmpty}
 use Rattle.brk_money.specs.declared.fault.Fault.{Fault}
 use Rattle.brk_money.specs.declared.fault.Fault.TheVariants.{Damaged}
-use Rattle.brk_model.specs.Tables.{Tables}
-use Rattle.brk_tables.specs.Desk.{no_rows}
+use Rattle.brk_model.specs.Tables.{Tables, no_rows}
 use Rattle.brk_tables.specs.Made.{HasRows, has_table_of_desk}
 
 -- as far as the disk has returned what was written and no fault has shut the store, the desk's tables have these rows
 abbrev pub Holds : {S : Type 0} → Ghosts S → Held S → Tables → Type 0
 Holds g store t = HasCleanDisk (state g store) → IsTrue (state g store).is_open → HasRows t (state g store).now
+
+-- the whole database is as it was, which was open
+pub record IsSame (old new : State) : Type 0 where
+  pub was_open : IsTrue old.is_open
+  pub now : new.now ≡ old.now
+  pub committed : new.committed ≡ old.committed
 
 -- a call that reads
 pub record IsRead {S V E : Type 0} (g : Ghosts S) (old new : Held S) (result : Result V E) (Told : V → Tables → Type 0) : Type 0 where
@@ -24,7 +29,7 @@ pub record IsRead {S V E : Type 0} (g : Ghosts S) (old new : Held S) (result : R
   -- it holds them still, whatever the answer
   pub kept : (t : Tables) → Holds g old t → Holds g new t
   -- the whole database is as it was
-  pub same : HasCleanDisk (state g new) → IsTrue (state g new).is_open → ((state g new).now ≡ (state g old).now) × ((state g new).committed ≡ (state g old).committed)
+  pub same : HasCleanDisk (state g new) → IsTrue (state g new).is_open → IsSame (state g old) (state g new)
   -- a crash leaves what it could leave before
   pub survives : Survives (state g old) (state g new) (λ _. ⊥)
 
@@ -35,7 +40,7 @@ pub record IsApplied {S V E : Type 0} (g : Ghosts S) (old new : Held S) (result 
   pub opened : HasCleanDisk (state g new) → OnOk result (IsTrue (state g old).is_open × IsTrue (state g new).is_open × ((state g new).committed ≡ (state g new).now))
   -- at a fault they are those from before, and the whole database is as it was
   pub kept : OnErr result ((t : Tables) → Holds g old t → Holds g new t)
-  pub same : HasCleanDisk (state g new) → IsTrue (state g new).is_open → OnErr result (((state g new).now ≡ (state g old).now) × ((state g new).committed ≡ (state g old).committed))
+  pub same : HasCleanDisk (state g new) → IsTrue (state g new).is_open → OnErr result (IsSame (state g old) (state g new))
   -- a crash leaves what it could leave before, or the changed rows
   pub survives : Survives (state g old) (state g new) (λ trees. (db : Database) × ((t : Tables) → HasRows t (state g old).now → HasRows (after t) db) × (trees ≡ db.trees))
 
@@ -48,6 +53,6 @@ pub record IsCreated {S : Type 0} (g : Ghosts S) (old new : Held S) (result : Re
   -- it is answered that one is there only where one is
   pub taken : HasCleanDisk (state g new) → result ≡ Err (Damaged NotEmpty) → has_table_of_desk (state g old).now.schema ≡ true
   -- at a fault the whole database is as it was
-  pub same : HasCleanDisk (state g new) → IsTrue (state g new).is_open → OnErr result (((state g new).now ≡ (state g old).now) × ((state g new).committed ≡ (state g old).committed))
+  pub same : HasCleanDisk (state g new) → IsTrue (state g new).is_open → OnErr result (IsSame (state g old) (state g new))
   -- a crash leaves what it could leave before, or the tables without rows
   pub survives : Survives (state g old) (state g new) (λ trees. (db : Database) × HasRows no_rows db × (trees ≡ db.trees))

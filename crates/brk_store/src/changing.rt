@@ -1,6 +1,8 @@
 //! Changes of rows, and the making of the tables, each in one transaction.
 
-ghost use Rattle.std.specs.Prelude.{◌≡◌, false};
+ghost use Rattle.std.specs.Prelude.{◌≡◌, ◌⊎◌, Err, IfErr, OnErr, false};
+ghost use Rattle.brk_money.specs.declared.fault.Condition.TheVariants.{NotEmpty};
+ghost use Rattle.brk_money.specs.declared.fault.Fault.TheVariants as fault;
 ghost use Rattle.sqlite.specs.Held.{state};
 ghost use Rattle.brk_rows.specs.Desk.{Turns};
 ghost use Rattle.brk_rows.specs.Model.{IsStep};
@@ -16,6 +18,7 @@ use sqlite::{Alter, Connection, Transaction};
 fn make<S: Alter>(tx: &mut Transaction<'_, S>, change: &Change) -> Result<(), Fault>
     ensures same_reference { tx.new.conn.ghost_name ≡ tx.old.conn.ghost_name }
     ensures step { IsStep (state S.Store tx.old.conn.now) (state S.Store tx.new.conn.now) result (λ _ a b. Turns desk (after_change change.now) a.now b.now) }
+    ensures fault { OnErr result (result ≡ Err fault.Store) }
 {
     match change {
         Change::AddBroker(broker) => brk_tables::add_broker(tx, broker),
@@ -28,6 +31,7 @@ fn make<S: Alter>(tx: &mut Transaction<'_, S>, change: &Change) -> Result<(), Fa
 fn make_all<S: Alter>(tx: &mut Transaction<'_, S>, changes: &[Change]) -> Result<(), Fault>
     ensures same_reference { tx.new.conn.ghost_name ≡ tx.old.conn.ghost_name }
     ensures step { IsStep (state S.Store tx.old.conn.now) (state S.Store tx.new.conn.now) result (λ _ a b. Turns desk (after_changes changes.now) a.now b.now) }
+    ensures fault { OnErr result (result ≡ Err fault.Store) }
 {
     for change in changes {
         make(tx, change)?;
@@ -40,6 +44,7 @@ pub(crate) fn apply_all<S: Alter>(conn: &mut Connection<S>, changes: &[Change]) 
     requires { conn.old.in_transaction ≡ false }
     ensures mode { conn.new.in_transaction ≡ false }
     ensures applied { IsApplied S.Store conn.old conn.new result (after_changes changes.now) }
+    ensures fault { OnErr result (result ≡ Err fault.Store) }
 {
     let _settled = conn.is_autocommit();
     let mut tx = conn.transaction();
@@ -55,6 +60,7 @@ pub(crate) fn make_desk<S: Alter>(conn: &mut Connection<S>) -> Result<(), Fault>
     requires { conn.old.in_transaction ≡ false }
     ensures mode { conn.new.in_transaction ≡ false }
     ensures created { IsCreated S.Store conn.old conn.new result }
+    ensures fault { IfErr result (λ f. (f ≡ fault.Store) ⊎ (f ≡ fault.Damaged NotEmpty)) }
 {
     let _settled = conn.is_autocommit();
     let mut tx = conn.transaction();

@@ -6,3 +6,6 @@ mod reading;
 pub mod store;
 
 pub use store::Store;
+
+#[cfg(test)]
+mod tests;

@@ -1,6 +1,8 @@
 //! Each read in a transaction of its own, which is rolled back.
 
-ghost use Rattle.std.specs.Prelude.{◌≡◌, ◌==◌, false, bytes_eq, filter, find, map, option_map};
+ghost use Rattle.std.specs.Prelude.{◌≡◌, ◌==◌, Err, IfErr, OnErr, bytes_eq, false, filter, find, map, option_map};
+ghost use Rattle.brk_money.specs.declared.fault.Fault.TheVariants as fault;
+ghost use Rattle.brk_model.specs.Run.{MayFail};
 ghost use Rattle.brk_ref.specs.Records.{customer_of};
 ghost use Rattle.brk_tables.specs.Records.{account_row_of, broker_row_of};
 ghost use Rattle.brk_store.specs.Holds.{IsRead};
@@ -14,6 +16,7 @@ pub(crate) fn read_last<S: Alter>(conn: &mut Connection<S>) -> Result<Option<Sta
     requires { conn.old.in_transaction ≡ false }
     ensures mode { conn.new.in_transaction ≡ false }
     ensures read { IsRead S.Store conn.old conn.new result (λ last t. last ≡ t.last) }
+    ensures fault { OnErr result (result ≡ Err fault.Store) }
 {
     let _settled = conn.is_autocommit();
     let mut tx = conn.transaction();
@@ -27,6 +30,7 @@ pub(crate) fn read_broker<S: Alter>(
     requires { conn.old.in_transaction ≡ false }
     ensures mode { conn.new.in_transaction ≡ false }
     ensures read { IsRead S.Store conn.old conn.new result (λ o t. option_map broker_row_of o ≡ find (λ r. r.id == id) t.brokers) }
+    ensures fault { OnErr result (result ≡ Err fault.Store) }
 {
     let _settled = conn.is_autocommit();
     let mut tx = conn.transaction();
@@ -40,6 +44,7 @@ pub(crate) fn read_customer<S: Alter>(
     requires { conn.old.in_transaction ≡ false }
     ensures mode { conn.new.in_transaction ≡ false }
     ensures read { IsRead S.Store conn.old conn.new result (λ o t. option_map customer_of o ≡ find (λ r. r.id == id) t.customers) }
+    ensures fault { OnErr result (result ≡ Err fault.Store) }
 {
     let _settled = conn.is_autocommit();
     let mut tx = conn.transaction();
@@ -53,6 +58,7 @@ pub(crate) fn read_customer_by_tax_id<S: Alter>(
     requires { conn.old.in_transaction ≡ false }
     ensures mode { conn.new.in_transaction ≡ false }
     ensures read { IsRead S.Store conn.old conn.new result (λ o t. option_map customer_of o ≡ find (λ r. bytes_eq r.tax_id tax_id.now) t.customers) }
+    ensures fault { OnErr result (result ≡ Err fault.Store) }
 {
     let _settled = conn.is_autocommit();
     let mut tx = conn.transaction();
@@ -66,6 +72,7 @@ pub(crate) fn read_account<S: Alter>(
     requires { conn.old.in_transaction ≡ false }
     ensures mode { conn.new.in_transaction ≡ false }
     ensures read { IsRead S.Store conn.old conn.new result (λ o t. option_map account_row_of o ≡ find (λ r. r.id == id) t.accounts) }
+    ensures fault { OnErr result (result ≡ Err fault.Store) }
 {
     let _settled = conn.is_autocommit();
     let mut tx = conn.transaction();
@@ -80,6 +87,7 @@ pub(crate) fn read_accounts_of<S: Alter>(
     requires { conn.old.in_transaction ≡ false }
     ensures mode { conn.new.in_transaction ≡ false }
     ensures read { IsRead S.Store conn.old conn.new result (λ all t. map account_row_of all.items ≡ filter (λ r. r.customer == customer) t.accounts) }
+    ensures fault { IfErr result MayFail }
 {
     let _settled = conn.is_autocommit();
     let mut tx = conn.transaction();

@@ -35,9 +35,10 @@ impl<S: Alter + Drop> Drop for Store<S> {
 }
 
 impl<S: Alter> Store<S> {
-    ghost use Rattle.std.specs.Prelude.{◌≡◌, false, ◌==◌, ◌∷◌, [], Ok, Err, IfOk, IfErr, IsTrue, MatchResult, bytes_eq, filter, find, map, option_map};
+    ghost use Rattle.std.specs.Prelude.{◌≡◌, ◌==◌, ◌⊎◌, Err, IfErr, MatchResult, Ok, OnErr, bytes_eq, false, filter, find, map, option_map};
     ghost use Rattle.brk_money.specs.declared.fault.Condition.TheVariants.{NotEmpty};
-    ghost use Rattle.brk_money.specs.declared.fault.Fault.TheVariants.{Damaged};
+    ghost use Rattle.brk_money.specs.declared.fault.Fault.TheVariants as fault;
+    ghost use Rattle.brk_model.specs.Run.{MayFail};
     ghost use Rattle.brk_ref.specs.Records.{customer_of};
     ghost use Rattle.brk_tables.specs.Records.{account_row_of, broker_row_of};
     ghost use Rattle.brk_trade.specs.Changes.{after_changes};
@@ -48,6 +49,7 @@ impl<S: Alter> Store<S> {
     /// back. A connection on which a transaction is open is refused with `Store`.
     pub fn create(mut conn: Connection<S>) -> Result<Store<S>, (Connection<S>, Fault)>
         ensures created { MatchResult result (λ store. IsCreated S.Store conn store (Ok tt)) (λ e. IsCreated S.Store conn e.0 (Err e.1)) }
+        ensures fault { IfErr result (λ e. (e.1 ≡ fault.Store) ⊎ (e.1 ≡ fault.Damaged NotEmpty)) }
     {
         if !conn.is_autocommit() {
             return Err((conn, Fault::Store));
@@ -61,6 +63,7 @@ impl<S: Alter> Store<S> {
     /// Makes the changes in turn, all of them in one transaction, or none at a fault.
     pub fn apply(&mut self, changes: &[Change]) -> Result<(), Fault>
         ensures applied { IsApplied S.Store self.old self.new result (after_changes changes.now) }
+        ensures fault { OnErr result (result ≡ Err fault.Store) }
     {
         apply_all(&mut self.conn, changes)
     }
@@ -68,6 +71,7 @@ impl<S: Alter> Store<S> {
     /// The stamp of the last accepted command.
     pub fn last(&mut self) -> Result<Option<Stamp>, Fault>
         ensures read { IsRead S.Store self.old self.new result (λ last t. last ≡ t.last) }
+        ensures fault { OnErr result (result ≡ Err fault.Store) }
     {
         read_last(&mut self.conn)
     }
@@ -75,6 +79,7 @@ impl<S: Alter> Store<S> {
     /// The broker with an id.
     pub fn broker(&mut self, id: Id) -> Result<Option<BrokerRow>, Fault>
         ensures read { IsRead S.Store self.old self.new result (λ o t. option_map broker_row_of o ≡ find (λ r. r.id == id) t.brokers) }
+        ensures fault { OnErr result (result ≡ Err fault.Store) }
     {
         read_broker(&mut self.conn, id)
     }
@@ -82,6 +87,7 @@ impl<S: Alter> Store<S> {
     /// The customer with an id.
     pub fn customer(&mut self, id: Id) -> Result<Option<Customer>, Fault>
         ensures read { IsRead S.Store self.old self.new result (λ o t. option_map customer_of o ≡ find (λ r. r.id == id) t.customers) }
+        ensures fault { OnErr result (result ≡ Err fault.Store) }
     {
         read_customer(&mut self.conn, id)
     }
@@ -89,6 +95,7 @@ impl<S: Alter> Store<S> {
     /// The customer with a tax id.
     pub fn customer_by_tax_id(&mut self, tax_id: &TaxId) -> Result<Option<Customer>, Fault>
         ensures read { IsRead S.Store self.old self.new result (λ o t. option_map customer_of o ≡ find (λ r. bytes_eq r.tax_id tax_id.now) t.customers) }
+        ensures fault { OnErr result (result ≡ Err fault.Store) }
     {
         read_customer_by_tax_id(&mut self.conn, tax_id)
     }
@@ -96,6 +103,7 @@ impl<S: Alter> Store<S> {
     /// The account with an id.
     pub fn account(&mut self, id: Id) -> Result<Option<AccountRow>, Fault>
         ensures read { IsRead S.Store self.old self.new result (λ o t. option_map account_row_of o ≡ find (λ r. r.id == id) t.accounts) }
+        ensures fault { OnErr result (result ≡ Err fault.Store) }
     {
         read_account(&mut self.conn, id)
     }
@@ -103,6 +111,7 @@ impl<S: Alter> Store<S> {
     /// The accounts of a customer, by rising id.
     pub fn accounts_of(&mut self, alloc: Global, customer: Id) -> Result<Vec<AccountRow>, Fault>
         ensures read { IsRead S.Store self.old self.new result (λ all t. map account_row_of all.items ≡ filter (λ r. r.customer == customer) t.accounts) }
+        ensures fault { IfErr result MayFail }
     {
         read_accounts_of(&mut self.conn, alloc, customer)
     }

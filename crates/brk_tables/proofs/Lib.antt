@@ -3,6 +3,7 @@ pub mod Which
 pub mod Wide
 pub mod Tests
 pub mod Columns
+pub mod Unique
 pub mod Places
 pub mod Back
 pub mod Makes
@@ -13,6 +14,13 @@ pub mod AddDesk
 pub mod AddBroker
 pub mod AddCustomer
 pub mod AddAccount
+pub mod AddPermission
+pub mod AddSecurity
+pub mod AddLastTrade
+pub mod AddCharge
+pub mod AddBand
+pub mod AddTaxRate
+pub mod AddCustomerTax
 pub mod SetLast
 pub mod DeskRows
 pub mod BrokerById
@@ -20,4 +28,13 @@ pub mod CustomerById
 pub mod CustomerByTaxId
 pub mod AccountById
 pub mod AccountsOfCustomer
+pub mod PermissionByKey
+pub mod SecurityBySymbol
+pub mod ChargeByKey
+pub mod TaxRateById
+pub mod CustomerTaxByKey
+pub mod BandsFor
+pub mod CustomerTaxesOf
 pub mod Steps
+pub mod ReferenceAdds
+pub mod ReferenceReads

@@ -42,7 +42,7 @@ use Rattle.brk_tables.proofs.AccountsOfCustomer
 -- ---- changes
 
 -- a row is put where its key goes
-added : (w : Which) (place : Place desk w) (x : Item w) (old new : Database) → Turns desk (λ t. place.put (insert_sorted (order w) x (list w t)) t) old new → Turns desk (λ t. place.put (insert_row (key w) x (list w t)) t) old new
+pub added : (w : Which) (place : Place desk w) (x : Item w) (old new : Database) → Turns desk (λ t. place.put (insert_sorted (order w) x (list w t)) t) old new → Turns desk (λ t. place.put (insert_row (key w) x (list w t)) t) old new
 added w place x old new turns = λ t tree h. subst (λ xs. HasTables desk (place.put xs t) tree new) (sym (inserted (key w) x (list w t))) (turns t tree h)
 
 pub adds_broker : (old new : State) (b : Broker) → Ran AddBroker.statement (nat b.id ∷ Words b.name ∷ []) old new → Turns desk (with_broker b) old.now new.now

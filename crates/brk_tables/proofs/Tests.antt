@@ -8,6 +8,9 @@ use Rattle.sqlite_value.specs.declared.keys.Collation.TheVariants.{Binary}
 use Rattle.sqlite_sql.specs.declared.ops.BinaryOp.TheVariants.{Compare}
 use Rattle.sqlite_sql.specs.declared.ops.CompareOp.TheVariants.{Eq}
 use Rattle.sqlite_sql.specs.Ops.{binary, is_true}
+use Rattle.brk_money.specs.Kinds.{type_code, same_type}
+use Rattle.brk_money.specs.declared.trade_type.TradeType.{TradeType}
+use Rattle.brk_money.specs.declared.trade_type.TradeType.TheVariants.{MarketBuy, MarketSell, StopLoss, LimitSell, LimitBuy}
 use Rattle.brk_rows.proofs.Values.{equal_ints, equal_texts}
 
 numbers_tie : (m n : ℕ) → is_eq (int_cmp (pos m) (pos n)) ≡ (m == n)
@@ -24,3 +27,33 @@ same_number m n = equal_ints (pos m) (pos n) ∙ numbers_tie m n
 
 pub same_text : (s t : List ℕ) → is_true (binary (Compare Eq Binary) (Words s) (Words t)) ≡ bytes_eq s t
 same_text s t = equal_texts s t ∙ is_eq-slice_cmp s t
+
+codes_tie : (j k : TradeType) → bytes_eq (type_code j) (type_code k) ≡ same_type j k
+codes_tie MarketBuy MarketBuy = refl
+codes_tie MarketBuy MarketSell = refl
+codes_tie MarketBuy StopLoss = refl
+codes_tie MarketBuy LimitSell = refl
+codes_tie MarketBuy LimitBuy = refl
+codes_tie MarketSell MarketBuy = refl
+codes_tie MarketSell MarketSell = refl
+codes_tie MarketSell StopLoss = refl
+codes_tie MarketSell LimitSell = refl
+codes_tie MarketSell LimitBuy = refl
+codes_tie StopLoss MarketBuy = refl
+codes_tie StopLoss MarketSell = refl
+codes_tie StopLoss StopLoss = refl
+codes_tie StopLoss LimitSell = refl
+codes_tie StopLoss LimitBuy = refl
+codes_tie LimitSell MarketBuy = refl
+codes_tie LimitSell MarketSell = refl
+codes_tie LimitSell StopLoss = refl
+codes_tie LimitSell LimitSell = refl
+codes_tie LimitSell LimitBuy = refl
+codes_tie LimitBuy MarketBuy = refl
+codes_tie LimitBuy MarketSell = refl
+codes_tie LimitBuy StopLoss = refl
+codes_tie LimitBuy LimitSell = refl
+codes_tie LimitBuy LimitBuy = refl
+
+pub same_code : (j k : TradeType) → is_true (binary (Compare Eq Binary) (Words (type_code j)) (Words (type_code k))) ≡ same_type j k
+same_code j k = same_text (type_code j) (type_code k) ∙ codes_tie j k

@@ -1,5 +1,5 @@
 -- Written by tools/tables.py: the tables of a desk, and the list of rows that each of them holds.
-use Rattle.std.specs.Prelude.{◌≡◌, ℕ, List, [], ◌∷◌, Option, None, map, refl}
+use Rattle.std.specs.Prelude.{◌≡◌, ℕ, List, [], ◌∷◌, Option, map, refl}
 use Rattle.std.specs.declared.cmp.Ordering.{Ordering}
 use Rattle.sqlite_value.specs.Order.{Row}
 use Rattle.sqlite_schema.specs.declared.schema.Table.{Table}
@@ -183,10 +183,6 @@ list CashRows t = t.cash
 -- all of them
 abbrev pub desk : Desk Which Tables
 desk = record { shape = shape; placed = placed; Item = Item; encode = encode; order = order; list = list }
-
--- no row but that of DESK, and no stamp yet
-abbrev pub no_rows : Tables
-no_rows = record { last = None; kept = []; brokers = []; customers = []; accounts = []; permissions = []; securities = []; last_trades = []; charges = []; bands = []; tax_rates = []; customer_taxes = []; trades = []; history = []; requests = []; holdings = []; summaries = []; holding_history = []; settlements = []; cash = [] }
 
 -- their names
 abbrev pub names : List (List ℕ)

@@ -1,7 +1,9 @@
-ghost use Rattle.std.specs.Prelude.{◌≡◌, ◌==◌, IfOk, filter, find, map, option_map, slice_get};
+ghost use Rattle.std.specs.Prelude.{◌≡◌, ◌==◌, Err, IfErr, IfOk, OnErr, filter, find, map, option_map, slice_get};
+ghost use Rattle.brk_money.specs.declared.fault.Fault.TheVariants.{Store};
 ghost use Rattle.sqlite.specs.Held.{state};
 ghost use Rattle.brk_rows.specs.Desk.{Turns};
 ghost use Rattle.brk_rows.specs.Model.{IsStep, Looks};
+ghost use Rattle.brk_model.specs.Run.{MayFail};
 ghost use Rattle.brk_ref.specs.Records.{account_of};
 ghost use Rattle.brk_trade.specs.Changes.{with_account};
 ghost use Rattle.brk_tables.specs.Cells.{account_cells};
@@ -20,6 +22,7 @@ use std::alloc::Global;
 pub fn add_account<S: Alter>(tx: &mut Transaction<'_, S>, account: &Account) -> Result<(), Fault>
     ensures same_reference { tx.new.conn.ghost_name ≡ tx.old.conn.ghost_name }
     ensures step { IsStep (state S.Store tx.old.conn.now) (state S.Store tx.new.conn.now) result (λ _ a b. Turns desk (with_account (account_of account.now)) a.now b.now) }
+    ensures fault { OnErr result (result ≡ Err Store) }
 {
     run(
         tx,
@@ -36,7 +39,8 @@ pub fn add_account<S: Alter>(tx: &mut Transaction<'_, S>, account: &Account) -> 
 }
 
 fn account_in(row: &Row) -> Result<AccountRow, Fault>
-    ensures { IfOk result (λ r. account_cells (account_row_of r) ≡ row.now) }
+    ensures value { IfOk result (λ r. account_cells (account_row_of r) ≡ row.now) }
+    ensures fault { OnErr result (result ≡ Err Store) }
 {
     has_columns(row, 7)?;
     Ok(AccountRow {
@@ -53,7 +57,8 @@ fn account_in(row: &Row) -> Result<AccountRow, Fault>
 }
 
 fn first_account(rows: &[Row]) -> Result<Option<AccountRow>, Fault>
-    ensures { IfOk result (λ o. option_map (λ r. account_cells (account_row_of r)) o ≡ slice_get rows.now 0) }
+    ensures value { IfOk result (λ o. option_map (λ r. account_cells (account_row_of r)) o ≡ slice_get rows.now 0) }
+    ensures fault { OnErr result (result ≡ Err Store) }
 {
     match rows.first() {
         Some(row) => Ok(Some(account_in(row)?)),
@@ -62,7 +67,8 @@ fn first_account(rows: &[Row]) -> Result<Option<AccountRow>, Fault>
 }
 
 fn all_accounts(alloc: Global, rows: &[Row]) -> Result<Vec<AccountRow>, Fault>
-    ensures { IfOk result (λ all. map (λ r. account_cells (account_row_of r)) all.items ≡ rows.now) }
+    ensures value { IfOk result (λ all. map (λ r. account_cells (account_row_of r)) all.items ≡ rows.now) }
+    ensures fault { IfErr result MayFail }
 {
     let mut all = Vec::new(alloc);
     for row in rows {
@@ -78,6 +84,7 @@ pub fn account_by_id<S: Alter>(
 ) -> Result<Option<AccountRow>, Fault>
     ensures same_reference { tx.new.conn.ghost_name ≡ tx.old.conn.ghost_name }
     ensures step { IsStep (state S.Store tx.old.conn.now) (state S.Store tx.new.conn.now) result (λ o. Looks desk (λ t. option_map account_row_of o ≡ find (λ r. r.id == id) t.accounts)) }
+    ensures fault { OnErr result (result ≡ Err Store) }
 {
     let rows = select(
         tx,
@@ -95,6 +102,7 @@ pub fn accounts_of_customer<S: Alter>(
 ) -> Result<Vec<AccountRow>, Fault>
     ensures same_reference { tx.new.conn.ghost_name ≡ tx.old.conn.ghost_name }
     ensures step { IsStep (state S.Store tx.old.conn.now) (state S.Store tx.new.conn.now) result (λ all. Looks desk (λ t. map account_row_of all.items ≡ filter (λ r. r.customer == customer) t.accounts)) }
+    ensures fault { IfErr result MayFail }
 {
     let rows = select(
         tx,

@@ -1,4 +1,5 @@
-ghost use Rattle.std.specs.Prelude.{◌≡◌, ◌==◌, IfOk, find, option_map, slice_get};
+ghost use Rattle.std.specs.Prelude.{◌≡◌, ◌==◌, Err, IfOk, OnErr, find, option_map, slice_get};
+ghost use Rattle.brk_money.specs.declared.fault.Fault.TheVariants.{Store};
 ghost use Rattle.sqlite.specs.Held.{state};
 ghost use Rattle.brk_rows.specs.Desk.{Turns};
 ghost use Rattle.brk_rows.specs.Model.{IsStep, Looks};
@@ -19,6 +20,7 @@ use sqlite::{Alter, Row, Transaction};
 pub fn add_broker<S: Alter>(tx: &mut Transaction<'_, S>, broker: &Broker) -> Result<(), Fault>
     ensures same_reference { tx.new.conn.ghost_name ≡ tx.old.conn.ghost_name }
     ensures step { IsStep (state S.Store tx.old.conn.now) (state S.Store tx.new.conn.now) result (λ _ a b. Turns desk (with_broker (broker_of broker.now)) a.now b.now) }
+    ensures fault { OnErr result (result ≡ Err Store) }
 {
     run(
         tx,
@@ -28,7 +30,8 @@ pub fn add_broker<S: Alter>(tx: &mut Transaction<'_, S>, broker: &Broker) -> Res
 }
 
 fn broker_in(row: &Row) -> Result<BrokerRow, Fault>
-    ensures { IfOk result (λ r. broker_cells (broker_row_of r) ≡ row.now) }
+    ensures value { IfOk result (λ r. broker_cells (broker_row_of r) ≡ row.now) }
+    ensures fault { OnErr result (result ≡ Err Store) }
 {
     has_columns(row, 4)?;
     Ok(BrokerRow {
@@ -42,7 +45,8 @@ fn broker_in(row: &Row) -> Result<BrokerRow, Fault>
 }
 
 fn first_broker(rows: &[Row]) -> Result<Option<BrokerRow>, Fault>
-    ensures { IfOk result (λ o. option_map (λ r. broker_cells (broker_row_of r)) o ≡ slice_get rows.now 0) }
+    ensures value { IfOk result (λ o. option_map (λ r. broker_cells (broker_row_of r)) o ≡ slice_get rows.now 0) }
+    ensures fault { OnErr result (result ≡ Err Store) }
 {
     match rows.first() {
         Some(row) => Ok(Some(broker_in(row)?)),
@@ -57,6 +61,7 @@ pub fn broker_by_id<S: Alter>(
 ) -> Result<Option<BrokerRow>, Fault>
     ensures same_reference { tx.new.conn.ghost_name ≡ tx.old.conn.ghost_name }
     ensures step { IsStep (state S.Store tx.old.conn.now) (state S.Store tx.new.conn.now) result (λ o. Looks desk (λ t. option_map broker_row_of o ≡ find (λ r. r.id == id) t.brokers)) }
+    ensures fault { OnErr result (result ≡ Err Store) }
 {
     let rows = select(
         tx,

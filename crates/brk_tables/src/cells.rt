@@ -1,18 +1,20 @@
 //! The columns of a row as typed values. One that breaks its form is the fault `Store`.
 
-ghost use Rattle.std.specs.Prelude.{◌≡◌, pos, length, unsigned_abs, IfOk, OnOk, string_bytes};
+ghost use Rattle.std.specs.Prelude.{◌≡◌, Err, IfOk, OnErr, OnOk, length, pos, string_bytes, unsigned_abs};
 ghost use Rattle.sqlite_value.specs.declared.value.Value.TheVariants.{Int, Text};
 ghost use Rattle.sqlite_value.specs.Order.{column};
-ghost use Rattle.brk_money.specs.Kinds.{tax_status_number};
+ghost use Rattle.brk_money.specs.Kinds.{tax_status_number, type_code};
+ghost use Rattle.brk_money.specs.declared.fault.Fault.TheVariants.{Store};
 ghost use Rattle.brk_tables.specs.Cells.{maybe};
 
-use brk_money::{Cents, Fault, Id, Stamp, TaxStatus};
-use brk_ref::{Name, TaxId, Tier};
+use brk_money::{Cents, Fault, Id, Qty, Rate, Stamp, TaxRate, TaxStatus, TradeType};
+use brk_ref::{Acl, ChargeAmount, Exchange, Name, Symbol, TaxId, Tier, parse_type};
 use sqlite::Row;
 
 /// A row with so many columns.
 pub(crate) fn has_columns(row: &Row, count: usize) -> Result<(), Fault>
-    ensures { OnOk result (length row.now ≡ count) }
+    ensures columns { OnOk result (length row.now ≡ count) }
+    ensures fault { OnErr result (result ≡ Err Store) }
 {
     if row.column_count() == count {
         Ok(())
@@ -23,7 +25,8 @@ pub(crate) fn has_columns(row: &Row, count: usize) -> Result<(), Fault>
 
 /// A whole number.
 pub(crate) fn number_in(row: &Row, at: usize) -> Result<i64, Fault>
-    ensures { IfOk result (λ number. column row.now at ≡ Int number) }
+    ensures value { IfOk result (λ number. column row.now at ≡ Int number) }
+    ensures fault { OnErr result (result ≡ Err Store) }
 {
     match row.get(at) {
         Ok(number) => Ok(number),
@@ -33,7 +36,19 @@ pub(crate) fn number_in(row: &Row, at: usize) -> Result<i64, Fault>
 
 /// A whole number that is not below 0.
 pub(crate) fn natural_in(row: &Row, at: usize) -> Result<u64, Fault>
-    ensures { IfOk result (λ number. column row.now at ≡ Int (pos number)) }
+    ensures value { IfOk result (λ number. column row.now at ≡ Int (pos number)) }
+    ensures fault { OnErr result (result ≡ Err Store) }
+{
+    match row.get(at) {
+        Ok(number) => Ok(number),
+        Err(_) => Err(Fault::Store),
+    }
+}
+
+/// A whole number that is not below 0 and fits 32 bits.
+fn small_in(row: &Row, at: usize) -> Result<u32, Fault>
+    ensures value { IfOk result (λ number. column row.now at ≡ Int (pos number)) }
+    ensures fault { OnErr result (result ≡ Err Store) }
 {
     match row.get(at) {
         Ok(number) => Ok(number),
@@ -42,7 +57,8 @@ pub(crate) fn natural_in(row: &Row, at: usize) -> Result<u64, Fault>
 }
 
 fn text_in(row: &Row, at: usize) -> Result<String, Fault>
-    ensures { IfOk result (λ text. column row.now at ≡ Text (string_bytes text)) }
+    ensures value { IfOk result (λ text. column row.now at ≡ Text (string_bytes text)) }
+    ensures fault { OnErr result (result ≡ Err Store) }
 {
     match row.get(at) {
         Ok(text) => Ok(text),
@@ -51,7 +67,8 @@ fn text_in(row: &Row, at: usize) -> Result<String, Fault>
 }
 
 pub(crate) fn id_in(row: &Row, at: usize) -> Result<Id, Fault>
-    ensures { IfOk result (λ id. column row.now at ≡ Int (pos id)) }
+    ensures value { IfOk result (λ id. column row.now at ≡ Int (pos id)) }
+    ensures fault { OnErr result (result ≡ Err Store) }
 {
     match Id::new(natural_in(row, at)?) {
         Some(id) => Ok(id),
@@ -60,7 +77,8 @@ pub(crate) fn id_in(row: &Row, at: usize) -> Result<Id, Fault>
 }
 
 pub(crate) fn name_in(row: &Row, at: usize) -> Result<Name, Fault>
-    ensures { IfOk result (λ name. column row.now at ≡ Text name) }
+    ensures value { IfOk result (λ name. column row.now at ≡ Text name) }
+    ensures fault { OnErr result (result ≡ Err Store) }
 {
     match Name::new(text_in(row, at)?) {
         Some(name) => Ok(name),
@@ -69,7 +87,8 @@ pub(crate) fn name_in(row: &Row, at: usize) -> Result<Name, Fault>
 }
 
 pub(crate) fn tax_id_in(row: &Row, at: usize) -> Result<TaxId, Fault>
-    ensures { IfOk result (λ tax_id. column row.now at ≡ Text tax_id) }
+    ensures value { IfOk result (λ tax_id. column row.now at ≡ Text tax_id) }
+    ensures fault { OnErr result (result ≡ Err Store) }
 {
     match TaxId::new(text_in(row, at)?) {
         Some(tax_id) => Ok(tax_id),
@@ -77,8 +96,91 @@ pub(crate) fn tax_id_in(row: &Row, at: usize) -> Result<TaxId, Fault>
     }
 }
 
+pub(crate) fn acl_in(row: &Row, at: usize) -> Result<Acl, Fault>
+    ensures value { IfOk result (λ acl. column row.now at ≡ Text acl) }
+    ensures fault { OnErr result (result ≡ Err Store) }
+{
+    match Acl::new(text_in(row, at)?) {
+        Some(acl) => Ok(acl),
+        None => Err(Fault::Store),
+    }
+}
+
+pub(crate) fn symbol_in(row: &Row, at: usize) -> Result<Symbol, Fault>
+    ensures value { IfOk result (λ symbol. column row.now at ≡ Text symbol) }
+    ensures fault { OnErr result (result ≡ Err Store) }
+{
+    match Symbol::new(text_in(row, at)?) {
+        Some(symbol) => Ok(symbol),
+        None => Err(Fault::Store),
+    }
+}
+
+pub(crate) fn exchange_in(row: &Row, at: usize) -> Result<Exchange, Fault>
+    ensures value { IfOk result (λ exchange. column row.now at ≡ Text exchange) }
+    ensures fault { OnErr result (result ≡ Err Store) }
+{
+    match Exchange::new(text_in(row, at)?) {
+        Some(exchange) => Ok(exchange),
+        None => Err(Fault::Store),
+    }
+}
+
+/// The type of trade whose code the column is.
+pub(crate) fn type_in(row: &Row, at: usize) -> Result<TradeType, Fault>
+    ensures value { IfOk result (λ kind. column row.now at ≡ Text (type_code kind)) }
+    ensures fault { OnErr result (result ≡ Err Store) }
+{
+    let code = text_in(row, at)?;
+    match parse_type(code.as_str().as_bytes()) {
+        Some(kind) => Ok(kind),
+        None => Err(Fault::Store),
+    }
+}
+
+pub(crate) fn qty_in(row: &Row, at: usize) -> Result<Qty, Fault>
+    ensures value { IfOk result (λ qty. column row.now at ≡ Int (pos qty)) }
+    ensures fault { OnErr result (result ≡ Err Store) }
+{
+    match Qty::new(small_in(row, at)?) {
+        Some(qty) => Ok(qty),
+        None => Err(Fault::Store),
+    }
+}
+
+pub(crate) fn rate_in(row: &Row, at: usize) -> Result<Rate, Fault>
+    ensures value { IfOk result (λ rate. column row.now at ≡ Int (pos rate)) }
+    ensures fault { OnErr result (result ≡ Err Store) }
+{
+    match Rate::new(small_in(row, at)?) {
+        Some(rate) => Ok(rate),
+        None => Err(Fault::Store),
+    }
+}
+
+pub(crate) fn tax_rate_in(row: &Row, at: usize) -> Result<TaxRate, Fault>
+    ensures value { IfOk result (λ rate. column row.now at ≡ Int (pos rate)) }
+    ensures fault { OnErr result (result ≡ Err Store) }
+{
+    match TaxRate::new(small_in(row, at)?) {
+        Some(rate) => Ok(rate),
+        None => Err(Fault::Store),
+    }
+}
+
+pub(crate) fn charge_amount_in(row: &Row, at: usize) -> Result<ChargeAmount, Fault>
+    ensures value { IfOk result (λ amount. column row.now at ≡ Int (pos amount)) }
+    ensures fault { OnErr result (result ≡ Err Store) }
+{
+    match ChargeAmount::new(small_in(row, at)?) {
+        Some(amount) => Ok(amount),
+        None => Err(Fault::Store),
+    }
+}
+
 pub(crate) fn tier_in(row: &Row, at: usize) -> Result<Tier, Fault>
-    ensures { IfOk result (λ tier. column row.now at ≡ Int (pos tier)) }
+    ensures value { IfOk result (λ tier. column row.now at ≡ Int (pos tier)) }
+    ensures fault { OnErr result (result ≡ Err Store) }
 {
     match Tier::new(natural_in(row, at)?) {
         Some(tier) => Ok(tier),
@@ -87,7 +189,8 @@ pub(crate) fn tier_in(row: &Row, at: usize) -> Result<Tier, Fault>
 }
 
 pub(crate) fn tax_status_in(row: &Row, at: usize) -> Result<TaxStatus, Fault>
-    ensures { IfOk result (λ tax_status. column row.now at ≡ Int (pos (tax_status_number tax_status))) }
+    ensures value { IfOk result (λ tax_status. column row.now at ≡ Int (pos (tax_status_number tax_status))) }
+    ensures fault { OnErr result (result ≡ Err Store) }
 {
     match TaxStatus::from_number(natural_in(row, at)?) {
         Some(tax_status) => Ok(tax_status),
@@ -96,7 +199,8 @@ pub(crate) fn tax_status_in(row: &Row, at: usize) -> Result<TaxStatus, Fault>
 }
 
 pub(crate) fn cents_in(row: &Row, at: usize) -> Result<Cents, Fault>
-    ensures { IfOk result (λ cents. column row.now at ≡ Int cents) }
+    ensures value { IfOk result (λ cents. column row.now at ≡ Int cents) }
+    ensures fault { OnErr result (result ≡ Err Store) }
 {
     match Cents::new(number_in(row, at)?) {
         Some(cents) => Ok(cents),
@@ -106,7 +210,8 @@ pub(crate) fn cents_in(row: &Row, at: usize) -> Result<Cents, Fault>
 
 /// Cents that are not below 0.
 pub(crate) fn total_in(row: &Row, at: usize) -> Result<Cents, Fault>
-    ensures { IfOk result (λ cents. column row.now at ≡ Int (pos (unsigned_abs cents))) }
+    ensures value { IfOk result (λ cents. column row.now at ≡ Int (pos (unsigned_abs cents))) }
+    ensures fault { OnErr result (result ≡ Err Store) }
 {
     let cents = cents_in(row, at)?;
     if cents.get() < 0 {
@@ -117,7 +222,8 @@ pub(crate) fn total_in(row: &Row, at: usize) -> Result<Cents, Fault>
 
 /// A stamp, or none where the column is null.
 pub(crate) fn maybe_stamp_in(row: &Row, at: usize) -> Result<Option<Stamp>, Fault>
-    ensures { IfOk result (λ stamp. column row.now at ≡ maybe stamp) }
+    ensures value { IfOk result (λ stamp. column row.now at ≡ maybe stamp) }
+    ensures fault { OnErr result (result ≡ Err Store) }
 {
     let millis: Option<i64> = match row.get(at) {
         Ok(millis) => millis,

@@ -1,4 +1,5 @@
-ghost use Rattle.std.specs.Prelude.{◌≡◌, ◌==◌, IfOk, bytes_eq, find, option_map, slice_get};
+ghost use Rattle.std.specs.Prelude.{◌≡◌, ◌==◌, Err, IfOk, OnErr, bytes_eq, find, option_map, slice_get};
+ghost use Rattle.brk_money.specs.declared.fault.Fault.TheVariants.{Store};
 ghost use Rattle.sqlite.specs.Held.{state};
 ghost use Rattle.brk_rows.specs.Desk.{Turns};
 ghost use Rattle.brk_rows.specs.Model.{IsStep, Looks};
@@ -18,6 +19,7 @@ use sqlite::{Alter, Row, Transaction};
 pub fn add_customer<S: Alter>(tx: &mut Transaction<'_, S>, customer: &Customer) -> Result<(), Fault>
     ensures same_reference { tx.new.conn.ghost_name ≡ tx.old.conn.ghost_name }
     ensures step { IsStep (state S.Store tx.old.conn.now) (state S.Store tx.new.conn.now) result (λ _ a b. Turns desk (with_customer (customer_of customer.now)) a.now b.now) }
+    ensures fault { OnErr result (result ≡ Err Store) }
 {
     run(
         tx,
@@ -33,7 +35,8 @@ pub fn add_customer<S: Alter>(tx: &mut Transaction<'_, S>, customer: &Customer) 
 }
 
 fn customer_in(row: &Row) -> Result<Customer, Fault>
-    ensures { IfOk result (λ r. customer_cells (customer_of r) ≡ row.now) }
+    ensures value { IfOk result (λ r. customer_cells (customer_of r) ≡ row.now) }
+    ensures fault { OnErr result (result ≡ Err Store) }
 {
     has_columns(row, 5)?;
     Ok(Customer {
@@ -46,7 +49,8 @@ fn customer_in(row: &Row) -> Result<Customer, Fault>
 }
 
 fn first_customer(rows: &[Row]) -> Result<Option<Customer>, Fault>
-    ensures { IfOk result (λ o. option_map (λ r. customer_cells (customer_of r)) o ≡ slice_get rows.now 0) }
+    ensures value { IfOk result (λ o. option_map (λ r. customer_cells (customer_of r)) o ≡ slice_get rows.now 0) }
+    ensures fault { OnErr result (result ≡ Err Store) }
 {
     match rows.first() {
         Some(row) => Ok(Some(customer_in(row)?)),
@@ -61,6 +65,7 @@ pub fn customer_by_id<S: Alter>(
 ) -> Result<Option<Customer>, Fault>
     ensures same_reference { tx.new.conn.ghost_name ≡ tx.old.conn.ghost_name }
     ensures step { IsStep (state S.Store tx.old.conn.now) (state S.Store tx.new.conn.now) result (λ o. Looks desk (λ t. option_map customer_of o ≡ find (λ r. r.id == id) t.customers)) }
+    ensures fault { OnErr result (result ≡ Err Store) }
 {
     let rows = select(
         tx,
@@ -77,6 +82,7 @@ pub fn customer_by_tax_id<S: Alter>(
 ) -> Result<Option<Customer>, Fault>
     ensures same_reference { tx.new.conn.ghost_name ≡ tx.old.conn.ghost_name }
     ensures step { IsStep (state S.Store tx.old.conn.now) (state S.Store tx.new.conn.now) result (λ o. Looks desk (λ t. option_map customer_of o ≡ find (λ r. bytes_eq r.tax_id tax_id.now) t.customers)) }
+    ensures fault { OnErr result (result ≡ Err Store) }
 {
     let rows = select(
         tx,

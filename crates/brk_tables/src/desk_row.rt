@@ -31,6 +31,7 @@ pub(crate) fn add_desk_row<S: Alter>(tx: &mut Transaction<'_, S>) -> Result<(), 
 pub fn set_last_stamp<S: Alter>(tx: &mut Transaction<'_, S>, stamp: Stamp) -> Result<(), Fault>
     ensures same_reference { tx.new.conn.ghost_name ≡ tx.old.conn.ghost_name }
     ensures step { IsStep (state S.Store tx.old.conn.now) (state S.Store tx.new.conn.now) result (λ _ a b. Turns desk (with_last stamp) a.now b.now) }
+    ensures fault { OnErr result (result ≡ Err Store) }
 {
     run(
         tx,
@@ -40,7 +41,8 @@ pub fn set_last_stamp<S: Alter>(tx: &mut Transaction<'_, S>, stamp: Stamp) -> Re
 }
 
 fn stamp_of_row(row: &Row) -> Result<Option<Stamp>, Fault>
-    ensures { IfOk result (λ last. map desk_row_cells (desk_rows last) ≡ row.now ∷ []) }
+    ensures value { IfOk result (λ last. map desk_row_cells (desk_rows last) ≡ row.now ∷ []) }
+    ensures fault { OnErr result (result ≡ Err Store) }
 {
     has_columns(row, 3)?;
     if natural_in(row, 0)? != 1 || natural_in(row, 1)? != 1 {
@@ -50,7 +52,8 @@ fn stamp_of_row(row: &Row) -> Result<Option<Stamp>, Fault>
 }
 
 fn only_stamp(rows: &[Row]) -> Result<Option<Stamp>, Fault>
-    ensures { IfOk result (λ last. map desk_row_cells (desk_rows last) ≡ rows.now) }
+    ensures value { IfOk result (λ last. map desk_row_cells (desk_rows last) ≡ rows.now) }
+    ensures fault { OnErr result (result ≡ Err Store) }
 {
     match rows {
         [row] => stamp_of_row(row),
@@ -62,6 +65,7 @@ fn only_stamp(rows: &[Row]) -> Result<Option<Stamp>, Fault>
 pub fn last_stamp<S: Alter>(tx: &mut Transaction<'_, S>) -> Result<Option<Stamp>, Fault>
     ensures same_reference { tx.new.conn.ghost_name ≡ tx.old.conn.ghost_name }
     ensures step { IsStep (state S.Store tx.old.conn.now) (state S.Store tx.new.conn.now) result (λ last. Looks desk (λ t. last ≡ t.last)) }
+    ensures fault { OnErr result (result ≡ Err Store) }
 {
     let rows = select(
         tx,

@@ -2,7 +2,7 @@ ghost use Rattle.std.specs.Prelude.{◌≡◌, Err, OnErr};
 ghost use Rattle.brk_money.specs.declared.fault.Fault.TheVariants.{Store};
 ghost use Rattle.sqlite.specs.Held.{state};
 ghost use Rattle.brk_rows.specs.Model.{IsStep};
-ghost use Rattle.brk_tables.specs.Desk.{no_rows};
+ghost use Rattle.brk_model.specs.Tables.{no_rows};
 ghost use Rattle.brk_tables.specs.Made.{HasRows, MakesFour};
 ghost use Rattle.brk_tables.specs.Shapes as shape;
 

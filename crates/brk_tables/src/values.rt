@@ -3,10 +3,10 @@
 ghost use Rattle.std.specs.Prelude.{◌≡◌, pos};
 ghost use Rattle.sqlite_value.specs.Value.{owned};
 ghost use Rattle.sqlite_value.specs.declared.value.Value.TheVariants.{Int, Text};
-ghost use Rattle.brk_money.specs.Kinds.{tax_status_number};
+ghost use Rattle.brk_money.specs.Kinds.{tax_status_number, type_code};
 
-use brk_money::{Cents, Id, Stamp, TaxStatus};
-use brk_ref::Tier;
+use brk_money::{Cents, Id, Price, Qty, Rate, Stamp, TaxRate, TaxStatus, TradeType};
+use brk_ref::{ChargeAmount, Tier, Volume};
 use sqlite_value::value::ValueRef;
 
 pub(crate) fn number_value<'a>(number: i64) -> ValueRef<'a>
@@ -43,6 +43,48 @@ pub(crate) fn stamp_value<'a>(stamp: Stamp) -> ValueRef<'a>
     ensures { owned result ≡ Int (pos stamp) }
 {
     ValueRef::Int(stamp.get())
+}
+
+pub(crate) fn price_value<'a>(price: Price) -> ValueRef<'a>
+    ensures { owned result ≡ Int (pos price) }
+{
+    ValueRef::Int(price.get() as i64)
+}
+
+pub(crate) fn qty_value<'a>(qty: Qty) -> ValueRef<'a>
+    ensures { owned result ≡ Int (pos qty) }
+{
+    ValueRef::Int(qty.get() as i64)
+}
+
+pub(crate) fn rate_value<'a>(rate: Rate) -> ValueRef<'a>
+    ensures { owned result ≡ Int (pos rate) }
+{
+    ValueRef::Int(rate.get() as i64)
+}
+
+pub(crate) fn tax_rate_value<'a>(rate: TaxRate) -> ValueRef<'a>
+    ensures { owned result ≡ Int (pos rate) }
+{
+    ValueRef::Int(rate.get() as i64)
+}
+
+pub(crate) fn charge_amount_value<'a>(amount: ChargeAmount) -> ValueRef<'a>
+    ensures { owned result ≡ Int (pos amount) }
+{
+    ValueRef::Int(amount.get() as i64)
+}
+
+pub(crate) fn volume_value<'a>(volume: Volume) -> ValueRef<'a>
+    ensures { owned result ≡ Int (pos volume) }
+{
+    ValueRef::Int(volume.get() as i64)
+}
+
+pub(crate) fn type_value<'a>(kind: TradeType) -> ValueRef<'a>
+    ensures { owned result ≡ Text (type_code kind) }
+{
+    ValueRef::Text(kind.code().as_bytes())
 }
 
 pub(crate) fn text_value(text: &str) -> ValueRef<'_>

@@ -1,5 +1,7 @@
-//! Tests that cross crates: batches over a desk in memory, from bytes to bytes.
+//! Tests that cross crates: batches and runs over a desk in memory.
 #![tactic(auto)]
 
 #[cfg(test)]
 mod batches;
+#[cfg(test)]
+mod calls;

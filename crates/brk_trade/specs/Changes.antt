@@ -1,8 +1,8 @@
 -- What a change of one row makes of the tables, whose rows stand by rising key.
 use Rattle.std.specs.Prelude.{ℕ, pos, List, fold, Some}
-use Rattle.brk_model.specs.Records.{Broker, Customer, Account}
-use Rattle.brk_model.specs.Tables.{Tables}
-use Rattle.brk_model.specs.Keys.{insert_row, broker_key, customer_key, account_key}
+use Rattle.brk_model.specs.Records.{Broker, Customer, Account, Permission, Charge, Band, TaxRate, CustomerTax}
+use Rattle.brk_model.specs.Tables.{Tables, SecurityRow, LastTradeRow}
+use Rattle.brk_model.specs.Keys.{insert_row, broker_key, customer_key, account_key, permission_key, security_key, last_trade_key, charge_key, band_key, tax_rate_key, customer_tax_key}
 use Rattle.brk_ref.specs.Records.{broker_of, customer_of, account_of}
 use Rattle.brk_trade.specs.declared.change.Change.{Change}
 use Rattle.brk_trade.specs.declared.change.Change.TheVariants.{AddBroker, AddCustomer, AddAccount, SetLast}
@@ -22,6 +22,34 @@ with_account a t = record t {
       (record { id = a.id; customer = a.customer; broker = a.broker; name = a.name; tax_status = a.tax_status; opening = a.opening; balance = a.opening })
       t.accounts;
 }
+
+-- a permission more
+abbrev pub with_permission : Permission → Tables → Tables
+with_permission p t = record t { permissions = insert_row permission_key p t.permissions }
+
+-- a security more
+abbrev pub with_security : SecurityRow → Tables → Tables
+with_security s t = record t { securities = insert_row security_key s t.securities }
+
+-- the last trade of a security more
+abbrev pub with_last_trade : LastTradeRow → Tables → Tables
+with_last_trade l t = record t { last_trades = insert_row last_trade_key l t.last_trades }
+
+-- a charge more
+abbrev pub with_charge : Charge → Tables → Tables
+with_charge c t = record t { charges = insert_row charge_key c t.charges }
+
+-- a band more
+abbrev pub with_band : Band → Tables → Tables
+with_band b t = record t { bands = insert_row band_key b t.bands }
+
+-- a tax rate more
+abbrev pub with_tax_rate : TaxRate → Tables → Tables
+with_tax_rate r t = record t { tax_rates = insert_row tax_rate_key r t.tax_rates }
+
+-- a tax more that a customer pays
+abbrev pub with_customer_tax : CustomerTax → Tables → Tables
+with_customer_tax x t = record t { customer_taxes = insert_row customer_tax_key x t.customer_taxes }
 
 -- another last stamp
 abbrev pub with_last : ℕ → Tables → Tables

@@ -3,7 +3,7 @@ use Rattle.sqlite.specs.Effect.{Database}
 use Rattle.sqlite.specs.Held.{state}
 use Rattle.brk_money.specs.declared.fault.Fault.TheVariants.{Store}
 use Rattle.brk_rows.proofs.Inside.{step_then}
-use Rattle.brk_tables.specs.Desk.{no_rows}
+use Rattle.brk_model.specs.Tables.{no_rows}
 use Rattle.brk_tables.specs.Made.{HasRows, has_table_of_desk}
 use Rattle.brk_store.specs.Holds.{IsCreated}
 use Rattle.brk_store.proofs.Ending.{begun, creates, commits_none}

@@ -5,7 +5,7 @@ use Rattle.brk_rows.specs.Desk.{Founds}
 use Rattle.brk_rows.specs.Model.{Ran}
 use Rattle.brk_rows.proofs.Inside.{step_then}
 use Rattle.brk_tables.specs.Shapes.{desk_row, kept, broker, customer, account, permission, security, last_trade, charge, band, tax_rate, customer_tax, trade, history, request, holding, summary, holding_history, settlement, cash}
-use Rattle.brk_tables.specs.Desk.{no_rows}
+use Rattle.brk_model.specs.Tables.{no_rows}
 use Rattle.brk_tables.specs.Made.{MakesFour, HasRows, desk_row_text}
 use Rattle.brk_tables.proofs.Wide.{wide}
 use Rattle.brk_tables.proofs.Founding.{bare, founds_bare, founds_desk}

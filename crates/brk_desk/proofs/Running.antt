@@ -1,0 +1,53 @@
+-- A run of calls, with one call more.
+use Rattle.std.proofs.Common.{◌≡◌, ◌∙◌, ◌+◌, ℕ, List, [], ◌∷◌, ◌++◌, map, length, Result, Ok, Err, IsTrue, refl, sym, ap, subst, arith}
+use Rattle.std.proofs.lemmas.List.{length-append}
+use Rattle.sqlite_trees.specs.declared.store.Store.{Ghosts}
+use Rattle.sqlite.specs.Held.{Held, state}
+use Rattle.sqlite.specs.State.{HasCleanDisk}
+use Rattle.brk_money.specs.declared.fault.Fault.{Fault}
+use Rattle.brk_model.specs.Base.{Base}
+use Rattle.brk_model.specs.Run.{Answers, Run}
+use Rattle.brk_desk.specs.Answers.{outcome_for, outcome_of}
+use Rattle.brk_desk.specs.Commands.{call_of, command_of}
+use Rattle.brk_desk.specs.Keeping.{IsCalled, IsMade, IsRun, KeepsBase}
+use Rattle.brk_desk.specs.declared.answer.Answer as desk
+use Rattle.brk_desk.specs.declared.call.Call.{Call}
+use Rattle.brk_desk.specs.declared.call.Call.TheVariants as call
+use Rattle.brk_desk.specs.declared.call.Outcome.{Outcome}
+
+run_more : (base mid after : Base) (calls : List (ℕ × Call)) (outcomes : List Outcome) (x : ℕ × Call) (o : Outcome) → Run base (map call_of calls) (map outcome_of outcomes) mid
+    → Answers mid (call_of x).0 (call_of x).1 (outcome_of o) after → Run base (map call_of (calls ++ x ∷ [])) (map outcome_of (outcomes ++ o ∷ [])) after
+run_more base mid after [] [] x o r a = (after, subst (λ b. Answers b (call_of x).0 (call_of x).1 (outcome_of o) after) r a, refl)
+run_more base mid after (c ∷ cs) (p ∷ ps) x o r a = (r.0, r.1, run_more r.0 mid after cs ps x o r.2 a)
+run_more base mid after [] (p ∷ ps) x o r a = absurd r
+run_more base mid after (c ∷ cs) [] x o r a = absurd r
+
+as_many : {A B : Type 0} (xs : List A) (ys : List B) (x : A) (y : B) → length xs ≡ length ys → length (xs ++ x ∷ []) ≡ length (ys ++ y ∷ [])
+as_many xs ys x y e = length-append xs (x ∷ []) ∙ ap (λ n. n + 1) e ∙ sym (length-append ys (y ∷ []))
+
+module _ {S : Type 0} (g : Ghosts S) where
+  pub runs_none : (store : Held S) → IsRun g store store [] []
+  runs_none store = record { count = refl; ran = λ clean base keeps. (base, keeps, refl); clean = λ clean. clean }
+
+  module _ (a b c : Held S) (calls : List (ℕ × Call)) (outcomes : List Outcome) (run : IsRun g a b calls outcomes) (now : ℕ) where
+    by_result : (command : _) (result : Result desk.Answer Fault) → IsCalled g b c now (command_of command) result
+        → IsRun g a c (calls ++ (now, call.Do command) ∷ []) (outcomes ++ outcome_for result ∷ [])
+    by_result command (Ok answer) called = record {
+      count = as_many outcomes calls (outcome_for (Ok answer)) (now, call.Do command) run.count;
+      ran = λ clean base keeps.
+          let r = run.ran (called.clean clean) base keeps in
+          let s = called.answered clean r.0 r.1 in
+          (s.0, s.1, run_more base r.0 s.0 calls outcomes (now, call.Do command) (outcome_for (Ok answer)) r.2 s.2);
+      clean = λ clean. run.clean (called.clean clean);
+    }
+    by_result command (Err fault) called = record {
+      count = as_many outcomes calls (outcome_for (Err fault)) (now, call.Do command) run.count;
+      ran = λ clean base keeps.
+          let r = run.ran (called.clean clean) base keeps in
+          (r.0, called.kept r.0 r.1, run_more base r.0 r.0 calls outcomes (now, call.Do command) (outcome_for (Err fault)) r.2 (called.fault, refl));
+      clean = λ clean. run.clean (called.clean clean);
+    }
+
+    pub runs_more : (made : Call) (outcome : Outcome) → IsMade g b c now made outcome → IsRun g a c (calls ++ (now, made) ∷ []) (outcomes ++ outcome ∷ [])
+    runs_more (call.Do command) outcome it =
+        subst (λ o. IsRun g a c (calls ++ (now, call.Do command) ∷ []) (outcomes ++ o ∷ [])) (sym it.1) (by_result command it.0 it.2)

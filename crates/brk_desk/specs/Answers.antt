@@ -1,0 +1,31 @@
+-- What answers and outcomes are in the abstract brokerage.
+use Rattle.std.specs.Prelude.{Result, Ok, Err, string_bytes}
+use Rattle.brk_money.specs.declared.fault.Fault.{Fault}
+use Rattle.brk_model.specs.Commands.{Answer, Done, Again, Refused}
+use Rattle.brk_model.specs.Run as run
+use Rattle.brk_books.specs.Commands.{reply_of}
+use Rattle.brk_desk.specs.declared.answer.Answer as desk
+use Rattle.brk_desk.specs.declared.answer.Answer.TheVariants as given
+use Rattle.brk_desk.specs.declared.call.Outcome.{Outcome}
+use Rattle.brk_desk.specs.declared.call.Outcome.TheVariants as came
+
+abbrev pub answer_of : desk.Answer → Answer
+answer_of (given.Done reply) = Done (reply_of reply)
+answer_of (given.Again line) = Again (string_bytes line)
+answer_of (given.Refused refusal) = Refused refusal
+
+abbrev pub outcome_of : Outcome → run.Outcome
+outcome_of (came.Did answer) = run.Did (answer_of answer)
+outcome_of (came.Failed fault) = run.Failed fault
+
+-- what came of a call is its answer or its fault
+abbrev pub outcome_for : Result desk.Answer Fault → Outcome
+outcome_for (Ok answer) = came.Did answer
+outcome_for (Err fault) = came.Failed fault
+
+-- nothing was booked: the call was refused or failed, or had been answered before
+abbrev pub BookedNothing : Result desk.Answer Fault → Type 0
+BookedNothing (Ok (given.Done reply)) = ⊥
+BookedNothing (Ok (given.Again line)) = Unit {0}
+BookedNothing (Ok (given.Refused refusal)) = Unit {0}
+BookedNothing (Err fault) = Unit {0}

@@ -1,0 +1,56 @@
+-- The books behind a desk, and what its calls do to them.
+use Rattle.std.specs.Prelude.{◌≡◌, ℕ, List, map, length, Result, None, IfOk, IfErr, OnErr, IsTrue}
+use Rattle.sqlite_trees.specs.declared.store.Store.{Ghosts}
+use Rattle.sqlite.specs.Held.{Held, state}
+use Rattle.sqlite.specs.State.{HasCleanDisk}
+use Rattle.brk_money.specs.declared.fault.Fault.{Fault}
+use Rattle.brk_model.specs.Base.{Base}
+use Rattle.brk_model.specs.Sheets.{sheets}
+use Rattle.brk_model.specs.Commands.{Command}
+use Rattle.brk_model.specs.Keyed.{keyed_step}
+use Rattle.brk_model.specs.Run.{MayFail, Run}
+use Rattle.brk_books.specs.Books.{IsBooks}
+use Rattle.brk_store.specs.Holds.{Holds, IsSame}
+use Rattle.brk_desk.specs.Answers.{BookedNothing, answer_of, outcome_for, outcome_of}
+use Rattle.brk_desk.specs.Commands.{call_of, command_of}
+use Rattle.brk_desk.specs.declared.answer.Answer as desk
+use Rattle.brk_desk.specs.declared.call.Call.{Call}
+use Rattle.brk_desk.specs.declared.call.Call.TheVariants as call
+use Rattle.brk_desk.specs.declared.call.Outcome.{Outcome}
+
+-- a store keeps the books of a base: the base is in order, and the rows are its tables
+pub record KeepsBase {S : Type 0} (g : Ghosts S) (store : Held S) (base : Base) : Type 0 where
+  pub books : IsBooks base
+  pub rows : Holds g store (sheets base)
+
+-- over each base whose books were kept, the command is answered by its step, and the books of the base after it are kept
+abbrev pub Steps : {S : Type 0} → Ghosts S → Held S → Held S → ℕ → Command → desk.Answer → Type 0
+Steps g old new now command answer =
+    (base : Base) → KeepsBase g old base → (after : Base) × KeepsBase g new after × (keyed_step base now command None ≡ (answer_of answer, after))
+
+-- the books that were kept still are
+abbrev pub StillKeeps : {S : Type 0} → Ghosts S → Held S → Held S → Type 0
+StillKeeps g old new = (base : Base) → KeepsBase g old base → KeepsBase g new base
+
+-- a command at a moment is answered, or fails and changes nothing; all of it as far as the disk returns what was written
+pub record IsCalled {S : Type 0} (g : Ghosts S) (old new : Held S) (now : ℕ) (command : Command) (result : Result desk.Answer Fault) : Type 0 where
+  pub answered : HasCleanDisk (state g new) → IfOk result (Steps g old new now command)
+  pub kept : OnErr result (StillKeeps g old new)
+  -- it fails for want of memory or for its store
+  pub fault : IfErr result MayFail
+  -- where nothing was booked the whole database is as it was
+  pub same : HasCleanDisk (state g new) → IsTrue (state g new).is_open → BookedNothing result → IsSame (state g old) (state g new)
+  -- a disk that returned what was written had done so before
+  pub clean : HasCleanDisk (state g new) → HasCleanDisk (state g old)
+
+-- a call at a moment has this outcome
+abbrev pub IsMade : {S : Type 0} → Ghosts S → Held S → Held S → ℕ → Call → Outcome → Type 0
+IsMade g old new now (call.Do command) outcome =
+    (result : Result desk.Answer Fault) × (outcome ≡ outcome_for result) × IsCalled g old new now (command_of command) result
+
+-- calls at their moments have these outcomes, one each: over each base whose books were kept those of a run, and the books of the base that it leads to are kept
+pub record IsRun {S : Type 0} (g : Ghosts S) (old new : Held S) (calls : List (ℕ × Call)) (outcomes : List Outcome) : Type 0 where
+  pub count : length outcomes ≡ length calls
+  pub ran : HasCleanDisk (state g new) → (base : Base) → KeepsBase g old base
+      → (after : Base) × KeepsBase g new after × Run base (map call_of calls) (map outcome_of outcomes) after
+  pub clean : HasCleanDisk (state g new) → HasCleanDisk (state g old)

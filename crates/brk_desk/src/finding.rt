@@ -1,0 +1,119 @@
+//! What the tables hold that decides on a record.
+
+ghost use Rattle.std.specs.Prelude.{◌≡◌, IfErr};
+ghost use Rattle.brk_model.specs.Run.{MayFail};
+ghost use Rattle.brk_books.specs.Reads.{IsFound, IsFoundForAccount, accounts_of, has_account, has_broker, has_customer, has_tax_id};
+ghost use Rattle.brk_store.specs.Holds.{IsRead};
+
+use brk_money::{Fault, Id};
+use brk_ref::{Account, Broker, Customer, TaxId};
+use brk_store::Store;
+use brk_trade::{Found, Reference};
+use sqlite::Alter;
+use std::alloc::Global;
+
+// What is found where there is nothing.
+const NOTHING: Found = Found {
+    same_id: false,
+    same_tax_id: false,
+    customer: false,
+    broker: false,
+    accounts: 0,
+};
+
+fn is_broker_there<S: Alter>(store: &mut Store<S>, id: Id) -> Result<bool, Fault>
+    ensures read { IsRead S.Store store.old store.new result (λ there t. there ≡ has_broker t id) }
+    ensures fault { IfErr result MayFail }
+{
+    Ok(store.broker(id)?.is_some())
+}
+
+fn is_customer_there<S: Alter>(store: &mut Store<S>, id: Id) -> Result<bool, Fault>
+    ensures read { IsRead S.Store store.old store.new result (λ there t. there ≡ has_customer t id) }
+    ensures fault { IfErr result MayFail }
+{
+    Ok(store.customer(id)?.is_some())
+}
+
+fn is_tax_id_there<S: Alter>(store: &mut Store<S>, tax_id: &TaxId) -> Result<bool, Fault>
+    ensures read { IsRead S.Store store.old store.new result (λ there t. there ≡ has_tax_id t tax_id.now) }
+    ensures fault { IfErr result MayFail }
+{
+    Ok(store.customer_by_tax_id(tax_id)?.is_some())
+}
+
+fn is_account_there<S: Alter>(store: &mut Store<S>, id: Id) -> Result<bool, Fault>
+    ensures read { IsRead S.Store store.old store.new result (λ there t. there ≡ has_account t id) }
+    ensures fault { IfErr result MayFail }
+{
+    Ok(store.account(id)?.is_some())
+}
+
+fn count_accounts<S: Alter>(
+    alloc: Global,
+    store: &mut Store<S>,
+    customer: Id,
+) -> Result<usize, Fault>
+    ensures read { IsRead S.Store store.old store.new result (λ count t. count ≡ accounts_of t customer) }
+    ensures fault { IfErr result MayFail }
+{
+    Ok(store.accounts_of(alloc, customer)?.len())
+}
+
+fn find_for_broker<S: Alter>(store: &mut Store<S>, broker: &Broker) -> Result<Found, Fault>
+    ensures read { IsRead S.Store store.old store.new result (λ found t. found.same_id ≡ has_broker t broker.now.id) }
+    ensures fault { IfErr result MayFail }
+{
+    let same_id = is_broker_there(store, broker.id)?;
+    Ok(Found { same_id, ..NOTHING })
+}
+
+fn find_for_customer<S: Alter>(store: &mut Store<S>, customer: &Customer) -> Result<Found, Fault>
+    ensures read { IsRead S.Store store.old store.new result (λ found t. (found.same_id ≡ has_customer t customer.now.id) × (found.same_tax_id ≡ has_tax_id t customer.now.tax_id)) }
+    ensures fault { IfErr result MayFail }
+{
+    let same_id = is_customer_there(store, customer.id)?;
+    let same_tax_id = is_tax_id_there(store, &customer.tax_id)?;
+    Ok(Found {
+        same_id,
+        same_tax_id,
+        ..NOTHING
+    })
+}
+
+fn find_for_account<S: Alter>(
+    alloc: Global,
+    store: &mut Store<S>,
+    account: &Account,
+) -> Result<Found, Fault>
+    ensures read { IsRead S.Store store.old store.new result (λ found t. IsFoundForAccount t account.now.id account.now.customer account.now.broker found) }
+    ensures fault { IfErr result MayFail }
+{
+    let same_id = is_account_there(store, account.id)?;
+    let customer = is_customer_there(store, account.customer)?;
+    let broker = is_broker_there(store, account.broker)?;
+    let accounts = count_accounts(alloc, store, account.customer)?;
+    Ok(Found {
+        same_id,
+        customer,
+        broker,
+        accounts,
+        ..NOTHING
+    })
+}
+
+/// What the tables hold that decides on a record.
+pub(crate) fn find_for<S: Alter>(
+    alloc: Global,
+    store: &mut Store<S>,
+    reference: &Reference,
+) -> Result<Found, Fault>
+    ensures read { IsRead S.Store store.old store.new result (λ found t. IsFound t reference.now found) }
+    ensures fault { IfErr result MayFail }
+{
+    match reference {
+        Reference::Broker(broker) => find_for_broker(store, broker),
+        Reference::Customer(customer) => find_for_customer(store, customer),
+        Reference::Account(account) => find_for_account(alloc, store, account),
+    }
+}

@@ -1,0 +1,161 @@
+ghost use Rattle.std.specs.Prelude.{◌≡◌, ◌&&◌, ◌∷◌, [], IfOk, OnErr, Err, find, map, nat_le, option_map};
+ghost use Rattle.std.specs.List.{list_any};
+ghost use Rattle.std.specs.Option.{ok_or};
+ghost use Rattle.brk_model.specs.Parse.{read_band, read_bounds};
+ghost use Rattle.brk_model.specs.Tests.{bands_meet};
+ghost use Rattle.brk_money.specs.declared.fault.Fault.TheVariants.{Memory};
+ghost use Rattle.brk_money.specs.declared.refusal.Refusal.TheVariants.{BadQty};
+ghost use Rattle.brk_ref.specs.Records.{band_of};
+ghost use Rattle.brk_ref.specs.Fields.{Reads, texts};
+
+use crate::exchange::Exchange;
+use crate::numbers::{parse_qty, parse_rate};
+use crate::tier::Tier;
+use crate::trade_type::parse_type;
+use brk_money::{Planned, Qty, Rate, Refusal, TradeType};
+use std::alloc::{AllocError, Global};
+
+/// The commission rate of a tier, a type and an exchange for quantities within two bounds, both included (a row of
+/// COMMISSION_RATE).
+#[derive(Debug, Drop)]
+pub struct Band {
+    pub tier: Tier,
+    pub kind: TradeType,
+    pub exchange: Exchange,
+    pub from_qty: Qty,
+    pub to_qty: Qty,
+    pub rate: Rate,
+}
+
+impl Clone for Band {
+    ghost is_clone = { λ one other. other ≡ one };
+
+    fn clone(&self) -> Result<Band, AllocError> {
+        Ok(Band {
+            tier: self.tier,
+            kind: self.kind,
+            exchange: self.exchange.clone()?,
+            from_qty: self.from_qty,
+            to_qty: self.to_qty,
+            rate: self.rate,
+        })
+    }
+}
+
+// The bounds that these texts are, in order.
+fn parse_bounds(low: &[u8], high: &[u8]) -> Option<(Qty, Qty)>
+    ensures { ok_or result BadQty ≡ read_bounds low.now high.now }
+{
+    let Some(low) = parse_qty(low) else {
+        return None;
+    };
+    let Some(high) = parse_qty(high) else {
+        return None;
+    };
+    if low.get() <= high.get() {
+        Some((low, high))
+    } else {
+        None
+    }
+}
+
+// The band that these texts are.
+fn band_from(
+    alloc: Global,
+    tier: &[u8],
+    kind: &[u8],
+    exchange: &[u8],
+    low: &[u8],
+    high: &[u8],
+    rate: &[u8],
+) -> Planned<Band>
+    ensures read { IfOk result (λ read. Reads band_of read (read_band (tier.now ∷ kind.now ∷ exchange.now ∷ low.now ∷ high.now ∷ rate.now ∷ []))) }
+    ensures fault { OnErr result (result ≡ Err Memory) }
+{
+    let Some(tier) = Tier::parse(tier) else {
+        return Ok(Err(Refusal::BadText));
+    };
+    let Some(exchange) = Exchange::parse(alloc, exchange)? else {
+        return Ok(Err(Refusal::BadText));
+    };
+    let Some(rate) = parse_rate(rate) else {
+        return Ok(Err(Refusal::BadText));
+    };
+    let Some((from_qty, to_qty)) = parse_bounds(low, high) else {
+        return Ok(Err(Refusal::BadQty));
+    };
+    let Some(kind) = parse_type(kind) else {
+        return Ok(Err(Refusal::BadType));
+    };
+    Ok(Ok(Band {
+        tier,
+        kind,
+        exchange,
+        from_qty,
+        to_qty,
+        rate,
+    }))
+}
+
+// The band of a tier, a type and an exchange, with the rest of its fields.
+fn band_on(
+    alloc: Global,
+    tier: &[u8],
+    kind: &[u8],
+    exchange: &[u8],
+    terms: &[&[u8]],
+) -> Planned<Band>
+    ensures read { IfOk result (λ read. Reads band_of read (read_band (tier.now ∷ kind.now ∷ exchange.now ∷ texts terms.now))) }
+    ensures fault { OnErr result (result ≡ Err Memory) }
+{
+    let [low, high, rate] = terms else {
+        return Ok(Err(Refusal::BadText));
+    };
+    band_from(alloc, tier, kind, exchange, low, high, rate)
+}
+
+/// The band that the fields TIER, TYPE, EXCHANGE, FROM, TO and RATE are, or the refusal of their form.
+pub fn check_band(alloc: Global, fields: &[&[u8]]) -> Planned<Band>
+    ensures read { IfOk result (λ read. Reads band_of read (read_band (texts fields.now))) }
+    ensures fault { OnErr result (result ≡ Err Memory) }
+{
+    let [tier, kind, exchange, terms @ ..] = fields else {
+        return Ok(Err(Refusal::BadText));
+    };
+    band_on(alloc, tier, kind, exchange, terms)
+}
+
+// Whether the quantity is within the band's bounds.
+fn holds(band: &Band, qty: Qty) -> bool
+    ensures { result ≡ nat_le band.now.from_qty qty && nat_le qty band.now.to_qty }
+{
+    band.from_qty.get() <= qty.get() && qty.get() <= band.to_qty.get()
+}
+
+// Whether two bands of a tier, a type and an exchange share a quantity.
+fn meet(one: &Band, other: &Band) -> bool
+    ensures { result ≡ bands_meet (band_of one.now) (band_of other.now) }
+{
+    one.tier == other.tier
+        && one.kind == other.kind
+        && one.exchange.as_str() == other.exchange.as_str()
+        && one.from_qty.get() <= other.to_qty.get()
+        && other.from_qty.get() <= one.to_qty.get()
+}
+
+/// The rate of the first of the bands that a quantity is within. The bands are those of a tier, a type and an exchange.
+pub fn band_for(bands: &[Band], qty: Qty) -> Option<Rate>
+    ensures { result ≡ option_map (λ b. b.rate) (find (λ b. nat_le b.from_qty qty && nat_le qty b.to_qty) (map band_of bands.now)) }
+{
+    let Some(band) = bands.iter().find(|band| holds(band, qty)) else {
+        return None;
+    };
+    Some(band.rate)
+}
+
+/// Whether a band shares a quantity with one of the bands that is of its tier, its type and its exchange.
+pub fn overlaps(bands: &[Band], band: &Band) -> bool
+    ensures { result ≡ list_any (bands_meet (band_of band.now)) (map band_of bands.now) }
+{
+    bands.iter().any(|other| meet(band, other))
+}

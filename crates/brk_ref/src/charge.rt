@@ -1,0 +1,44 @@
+ghost use Rattle.std.specs.Prelude.{◌≡◌, ◌∷◌, []};
+ghost use Rattle.brk_model.specs.Parse.{read_charge};
+ghost use Rattle.brk_ref.specs.Records.{charge_of};
+ghost use Rattle.brk_ref.specs.Fields.{Reads, texts};
+
+use crate::charge_amount::ChargeAmount;
+use crate::numbers::parse_charge_amount;
+use crate::tier::Tier;
+use crate::trade_type::parse_type;
+use brk_money::{Refusal, TradeType};
+
+/// What an order of a type costs a customer of a tier (a row of CHARGE).
+#[derive(Clone, Copy, Debug, PartialEq, Eq)]
+pub struct Charge {
+    pub kind: TradeType,
+    pub tier: Tier,
+    pub amount: ChargeAmount,
+}
+
+// The charge that these texts are.
+fn charge_from(kind: &[u8], tier: &[u8], amount: &[u8]) -> Result<Charge, Refusal>
+    ensures { Reads charge_of result (read_charge (kind.now ∷ tier.now ∷ amount.now ∷ [])) }
+{
+    let Some(tier) = Tier::parse(tier) else {
+        return Err(Refusal::BadText);
+    };
+    let Some(amount) = parse_charge_amount(amount) else {
+        return Err(Refusal::BadText);
+    };
+    let Some(kind) = parse_type(kind) else {
+        return Err(Refusal::BadType);
+    };
+    Ok(Charge { kind, tier, amount })
+}
+
+/// The charge that the fields TYPE, TIER and AMOUNT are, or the refusal of their form. It takes no memory.
+pub fn check_charge(fields: &[&[u8]]) -> Result<Charge, Refusal>
+    ensures { Reads charge_of result (read_charge (texts fields.now)) }
+{
+    let [kind, tier, amount] = fields else {
+        return Err(Refusal::BadText);
+    };
+    charge_from(kind, tier, amount)
+}

@@ -1,0 +1,40 @@
+ghost use Rattle.std.specs.Prelude.{◌≡◌, ℕ, ◌≤◌, SomeIff};
+
+use std::marker::Model;
+
+/// What an order costs beside its commission (CH_CHRG), in cents, 0 to 1,000,000.
+#[derive(Clone, Copy, Debug, PartialEq, Eq)]
+pub struct ChargeAmount(u32);
+
+impl Model for ChargeAmount {
+    ghost Value = { ℕ };
+
+    ghost view = { λ amount. amount.0 };
+
+    ghost inverse = { λ n. record { 0 = n } };
+
+    ghost invariant = { λ amount. amount.0 ≤ 1000000 };
+}
+
+impl ChargeAmount {
+    /// The greatest charge, in cents.
+    pub const GREATEST: u32 = 1_000_000;
+
+    /// The charge of so many cents, where it is within the limit.
+    pub fn new(cents: u32) -> Option<ChargeAmount>
+        ensures { SomeIff result (cents ≤ 1000000) cents }
+    {
+        if cents <= ChargeAmount::GREATEST {
+            Some(ChargeAmount(cents))
+        } else {
+            None
+        }
+    }
+
+    pub fn get(self) -> u32
+        ensures value { result ≡ self }
+        ensures high { self ≤ 1000000 }
+    {
+        self.0
+    }
+}

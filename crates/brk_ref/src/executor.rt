@@ -1,0 +1,10 @@
+use crate::name::Name;
+use crate::tax_id::TaxId;
+
+/// Who places an order.
+#[derive(Debug, Drop)]
+pub struct Executor {
+    pub first_name: Name,
+    pub last_name: Name,
+    pub tax_id: TaxId,
+}

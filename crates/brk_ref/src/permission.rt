@@ -1,0 +1,122 @@
+ghost use Rattle.std.specs.Prelude.{◌≡◌, ◌∷◌, [], IfOk, OnErr, Err, map};
+ghost use Rattle.brk_model.specs.Orders as orders;
+ghost use Rattle.brk_model.specs.Parse.{read_permission};
+ghost use Rattle.brk_money.specs.declared.fault.Fault.TheVariants.{Memory};
+ghost use Rattle.brk_ref.specs.Records.{customer_of, executor_of, permission_of};
+ghost use Rattle.brk_ref.specs.Fields.{Reads, texts};
+
+use crate::acl::Acl;
+use crate::customer::Customer;
+use crate::executor::Executor;
+use crate::name::Name;
+use crate::numbers::parse_id;
+use crate::tax_id::TaxId;
+use brk_money::{Id, Planned, Refusal};
+use std::alloc::{AllocError, Global};
+
+/// Somebody other than the customer who may order for an account (a row of ACCOUNT_PERMISSION).
+#[derive(Debug, Drop)]
+pub struct Permission {
+    pub account: Id,
+    pub acl: Acl,
+    pub tax_id: TaxId,
+    pub last_name: Name,
+    pub first_name: Name,
+}
+
+impl Clone for Permission {
+    ghost is_clone = { λ one other. other ≡ one };
+
+    fn clone(&self) -> Result<Permission, AllocError> {
+        Ok(Permission {
+            account: self.account,
+            acl: self.acl.clone()?,
+            tax_id: self.tax_id.clone()?,
+            last_name: self.last_name.clone()?,
+            first_name: self.first_name.clone()?,
+        })
+    }
+}
+
+// The permission that these texts are.
+fn permission_from(
+    alloc: Global,
+    account: &[u8],
+    acl: &[u8],
+    tax_id: &[u8],
+    last_name: &[u8],
+    first_name: &[u8],
+) -> Planned<Permission>
+    ensures read { IfOk result (λ read. Reads permission_of read (read_permission (account.now ∷ acl.now ∷ tax_id.now ∷ last_name.now ∷ first_name.now ∷ []))) }
+    ensures fault { OnErr result (result ≡ Err Memory) }
+{
+    let Some(account) = parse_id(account) else {
+        return Ok(Err(Refusal::BadText));
+    };
+    let Some(acl) = Acl::parse(alloc, acl)? else {
+        return Ok(Err(Refusal::BadText));
+    };
+    let Some(tax_id) = TaxId::parse(alloc, tax_id)? else {
+        return Ok(Err(Refusal::BadText));
+    };
+    let Some(last_name) = Name::parse(alloc, last_name)? else {
+        return Ok(Err(Refusal::BadText));
+    };
+    let Some(first_name) = Name::parse(alloc, first_name)? else {
+        return Ok(Err(Refusal::BadText));
+    };
+    Ok(Ok(Permission {
+        account,
+        acl,
+        tax_id,
+        last_name,
+        first_name,
+    }))
+}
+
+/// The permission that the fields ACCOUNT, ACL, TAXID, LAST and FIRST are, or the refusal of their form.
+pub fn check_permission(alloc: Global, fields: &[&[u8]]) -> Planned<Permission>
+    ensures read { IfOk result (λ read. Reads permission_of read (read_permission (texts fields.now))) }
+    ensures fault { OnErr result (result ≡ Err Memory) }
+{
+    let [account, acl, tax_id, last_name, first_name] = fields else {
+        return Ok(Err(Refusal::BadText));
+    };
+    permission_from(alloc, account, acl, tax_id, last_name, first_name)
+}
+
+// Whether the executor has the three names of a person.
+fn is_person(executor: &Executor, first_name: &Name, last_name: &Name, tax_id: &TaxId) -> bool
+    ensures { result ≡ orders.is_person (executor_of executor.now) first_name.now last_name.now tax_id.now }
+{
+    executor.first_name.as_str() == first_name.as_str()
+        && executor.last_name.as_str() == last_name.as_str()
+        && executor.tax_id.as_str() == tax_id.as_str()
+}
+
+// Whether a permission names the executor.
+fn names(permission: &Permission, executor: &Executor) -> bool
+    ensures { result ≡ orders.is_person (executor_of executor.now) permission.now.first_name permission.now.last_name permission.now.tax_id }
+{
+    is_person(
+        executor,
+        &permission.first_name,
+        &permission.last_name,
+        &permission.tax_id,
+    )
+}
+
+/// Whether the executor may order for an account of the customer: first name, last name and tax id are the customer's,
+/// or those of one of the account's permissions (Trade-Order).
+pub fn permitted(customer: &Customer, permissions: &[Permission], executor: &Executor) -> bool
+    ensures { result ≡ orders.permitted (customer_of customer.now) (map permission_of permissions.now) (executor_of executor.now) }
+{
+    is_person(
+        executor,
+        &customer.first_name,
+        &customer.last_name,
+        &customer.tax_id,
+    ) || permissions
+        .iter()
+        .any(|permission| names(permission, executor))
+}

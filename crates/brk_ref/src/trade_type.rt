@@ -1,0 +1,36 @@
+ghost use Rattle.std.specs.Prelude.{◌≡◌, bytes_eq};
+ghost use Rattle.std.specs.Option.{ok_or};
+ghost use Rattle.brk_model.specs.Forms.{read_type};
+ghost use Rattle.brk_money.specs.Kinds.{type_code};
+ghost use Rattle.brk_money.specs.declared.refusal.Refusal.TheVariants.{BadType};
+
+use brk_money::TradeType;
+
+// Whether the bytes are the code of a type.
+fn is_code_of(kind: TradeType, bytes: &[u8]) -> bool
+    ensures { result ≡ bytes_eq (type_code kind) bytes.now }
+{
+    kind.code().as_bytes() == bytes
+}
+
+/// The type of trade whose code the bytes are.
+pub fn parse_type(bytes: &[u8]) -> Option<TradeType>
+    ensures { ok_or result BadType ≡ read_type bytes.now }
+{
+    if is_code_of(TradeType::MarketBuy, bytes) {
+        return Some(TradeType::MarketBuy);
+    }
+    if is_code_of(TradeType::MarketSell, bytes) {
+        return Some(TradeType::MarketSell);
+    }
+    if is_code_of(TradeType::StopLoss, bytes) {
+        return Some(TradeType::StopLoss);
+    }
+    if is_code_of(TradeType::LimitSell, bytes) {
+        return Some(TradeType::LimitSell);
+    }
+    if is_code_of(TradeType::LimitBuy, bytes) {
+        return Some(TradeType::LimitBuy);
+    }
+    None
+}

@@ -1,0 +1,47 @@
+ghost use Rattle.std.specs.Prelude.{◌≡◌, ℕ, ◌≤◌, SomeIff};
+
+use std::marker::Model;
+
+/// How many shares of a security were traded on the market (LT_VOL), 0 to 10^17.
+#[derive(Clone, Copy, Debug, PartialEq, Eq)]
+pub struct Volume(u64);
+
+impl Model for Volume {
+    ghost Value = { ℕ };
+
+    ghost view = { λ volume. volume.0 };
+
+    ghost inverse = { λ n. record { 0 = n } };
+
+    ghost invariant = { λ volume. volume.0 ≤ 100000000000000000 };
+}
+
+impl Volume {
+    /// The greatest volume.
+    pub const GREATEST: u64 = 100_000_000_000_000_000;
+
+    /// The volume of so many shares, where it is within the limit.
+    pub fn new(shares: u64) -> Option<Volume>
+        ensures { SomeIff result (shares ≤ 100000000000000000) shares }
+    {
+        if shares <= Volume::GREATEST {
+            Some(Volume(shares))
+        } else {
+            None
+        }
+    }
+
+    /// The volume before anything was traded.
+    pub fn none() -> Volume
+        ensures { result ≡ 0 }
+    {
+        Volume(0)
+    }
+
+    pub fn get(self) -> u64
+        ensures value { result ≡ self }
+        ensures high { self ≤ 100000000000000000 }
+    {
+        self.0
+    }
+}
