@@ -564,6 +564,7 @@ if __name__ == '__main__':
     probing()
     for line in [create_text(d) for d in DATA] + [
         insert('AddDesk', 'desk_row', [('lit', 1), ('lit', 1), 'null']),
+        insert('AddKept', 'kept', [1, 2, 3, 4]),
         insert('AddBroker', 'broker', [1, 2, ('lit', 0), ('lit', 0)]),
         insert('AddCustomer', 'customer', [1, 2, 3, 4, 5]),
         insert('AddAccount', 'account', [1, 2, 3, 4, 5, 6, 6]),
@@ -576,6 +577,7 @@ if __name__ == '__main__':
         insert('AddCustomerTax', 'customer_tax', [1, 2]),
         update('SetLast', 'desk_row', [('D_LAST', 1)], [('D_ID', 2)]),
         select('DeskRows', 'desk_row', [], [('D_ID', False)]),
+        select('KeptByKey', 'kept', [('K_BATCH', 1), ('K_N', 2)], [('K_BATCH', False), ('K_N', False)]),
         select('BrokerById', 'broker', [('B_ID', 1)], [('B_ID', False)]),
         select('CustomerById', 'customer', [('C_ID', 1)], [('C_ID', False)]),
         select('CustomerByTaxId', 'customer', [('C_TAX_ID', 1)], [('C_ID', False)]),

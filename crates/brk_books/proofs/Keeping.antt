@@ -12,7 +12,8 @@ use Rattle.brk_model.specs.Keys.{KeyPart, number, word, key_before, kept_key}
 use Rattle.brk_model.specs.Sheets.{sheets, sheets_of}
 use Rattle.brk_model.specs.Commands.{Command, Reply}
 use Rattle.brk_model.specs.Keyed.{kept_under, keeping}
-use Rattle.brk_books.specs.Plans.{kept_row, with_kept}
+use Rattle.brk_trade.specs.Changes.{with_kept}
+use Rattle.brk_books.specs.Plans.{kept_row}
 use Rattle.brk_books.proofs.Order.{NewKey, key_one_way, by_key-append}
 use Rattle.brk_books.proofs.Same.{NonePass, All-map, find-none}
 use Rattle.brk_books.proofs.Reading.{find-sorted}

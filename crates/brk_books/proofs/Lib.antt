@@ -1,7 +1,10 @@
 pub mod Order
 pub mod Same
 pub mod Reading
+pub mod NewKeys
+pub mod TermReading
 pub mod References
+pub mod Terms
 pub mod Stamps
 pub mod Steps
 pub mod Planning

@@ -10,7 +10,7 @@ use Rattle.brk_model.specs.Keys.{KeyPart, number, key_before, row_before, by_key
 use Rattle.brk_model.specs.Tables.{tables_of, broker_row, account_row}
 use Rattle.brk_model.specs.Sheets.{sheets, sheets_of}
 use Rattle.brk_books.specs.Reads.{has_broker, has_customer, has_tax_id, has_account, accounts_of}
-use Rattle.brk_books.proofs.Order.{by_key-filter}
+use Rattle.brk_books.proofs.Order.{key_one_way, by_key-filter}
 
 -- ---- in sorted rows
 
@@ -32,14 +32,27 @@ unfolding sort_by
 find-sorted key p [] h = refl
 find-sorted key p (x ∷ xs) h = find-insert (row_before key) p x (by_key key xs) (h x) ∙ ap (λ o. cond (p x) (Some x) o) (find-sorted key p xs h)
 
+-- a key doesn't go before itself
+not_itself : (j k : List KeyPart) → j ≡ k → key_before j k ≡ true → ⊥
+not_itself j k p e = let f : true ≡ false = sym e ∙ (λ i. key_before (p i) (sym p i)) ∙ key_one_way j k e in absurd (cc)
+
+-- by what is of one key alone
+pub find-key : {Row : Type 0} (key : Row → List KeyPart) (p : Row → Bool) (k : List KeyPart) (xs : List Row) → ((x : Row) → p x ≡ true → key x ≡ k)
+    → find p (by_key key xs) ≡ find p xs
+find-key {Row = Row} key p k xs h = find-sorted key p xs (λ x y e f. other x y (p y) refl e f)
+  where
+    other : (x y : Row) (b : Bool) → p y ≡ b → p x ≡ true → key_before (key y) (key x) ≡ true → p y ≡ false
+    other x y false g e f = g
+    other x y true g e f = absurd (not_itself (key y) (key x) (h y g ∙ sym (h x e)) f)
+
 -- by a number that is the key
-find-id : {Row : Type 0} (id : Row → ℕ) (n : ℕ) (xs : List Row) → find (λ r. id r == n) (by_key (λ r. number (id r) ∷ []) xs) ≡ find (λ r. id r == n) xs
+pub find-id : {Row : Type 0} (id : Row → ℕ) (n : ℕ) (xs : List Row) → find (λ r. id r == n) (by_key (λ r. number (id r) ∷ []) xs) ≡ find (λ r. id r == n) xs
 find-id id n xs = find-sorted (λ r. number (id r) ∷ []) (λ r. id r == n) xs (λ x y e f. other (id x) (id y) n e f)
   where
     other : (a b n : ℕ) → (a == n) ≡ true → key_before (number b ∷ []) (number a ∷ []) ≡ true → (b == n) ≡ false
     other a b n e f = grind (arith, nat_tests)
 
-find-map : {X Y : Type 0} (p : Y → Bool) (f : X → Y) (xs : List X) → find p (map f xs) ≡ option_map f (find (λ x. p (f x)) xs)
+pub find-map : {X Y : Type 0} (p : Y → Bool) (f : X → Y) (xs : List X) → find p (map f xs) ≡ option_map f (find (λ x. p (f x)) xs)
 find-map p f [] = refl
 find-map p f (x ∷ xs) = by_test (p (f x)) (find-map p f xs)
   where
@@ -47,7 +60,7 @@ find-map p f (x ∷ xs) = by_test (p (f x)) (find-map p f xs)
     by_test true e = refl
     by_test false e = e
 
-is_some-map : {X Y : Type 0} (f : X → Y) (o : Option X) → is_some (option_map f o) ≡ is_some o
+pub is_some-map : {X Y : Type 0} (f : X → Y) (o : Option X) → is_some (option_map f o) ≡ is_some o
 is_some-map f None = refl
 is_some-map f (Some x) = refl
 
@@ -84,10 +97,18 @@ some-insert {X = X} before p x (y ∷ ys) = by_test (before y x) (some-insert be
         some-cond (p y) y (find p (insert_by before x ys)) ∙ ap (λ b. p y || b) e ∙ swap (p y) (p x) (is_some (find p ys)) ∙ sym (ap (λ b. p x || b) (some-cond (p y) y (find p ys)))
     by_test false e = some-cond (p x) x (find p (y ∷ ys))
 
-some-any : {Row : Type 0} (key : Row → List KeyPart) (p : Row → Bool) (xs : List Row) → is_some (find p (by_key key xs)) ≡ list_any p xs
+pub some-any : {Row : Type 0} (key : Row → List KeyPart) (p : Row → Bool) (xs : List Row) → is_some (find p (by_key key xs)) ≡ list_any p xs
 unfolding sort_by
 some-any key p [] = refl
 some-any key p (x ∷ xs) = some-insert (row_before key) p x (by_key key xs) ∙ ap (λ b. p x || b) (some-any key p xs)
+
+-- nor is whether one passes
+pub some-is-any : {X : Type 0} (p : X → Bool) (xs : List X) → is_some (find p xs) ≡ list_any p xs
+some-is-any p [] = refl
+some-is-any p (x ∷ xs) = some-cond (p x) x (find p xs) ∙ ap (λ b. p x || b) (some-is-any p xs)
+
+pub any-sorted : {Row : Type 0} (key : Row → List KeyPart) (p : Row → Bool) (xs : List Row) → list_any p (by_key key xs) ≡ list_any p xs
+any-sorted key p xs = sym (some-is-any p (by_key key xs)) ∙ some-any key p xs
 
 length-insert_by : {X : Type 0} (before : X → X → Bool) (x : X) (ys : List X) → length (insert_by before x ys) ≡ length ys + 1
 length-insert_by before x [] = omega arith

@@ -24,11 +24,11 @@ use Rattle.brk_books.proofs.Same.{NonePass, All-map, All-of, All-mapped, All-fil
 -- ---- rows whose key is new
 
 -- a map of rows with one more
-row_last : {X Row : Type 0} (key : Row → List KeyPart) (row : X → Row) (xs : List X) (x : X) → NewKey key (row x) (map row xs)
+pub row_last : {X Row : Type 0} (key : Row → List KeyPart) (row : X → Row) (xs : List X) (x : X) → NewKey key (row x) (map row xs)
     → by_key key (map row (xs ++ x ∷ [])) ≡ insert_row key (row x) (by_key key (map row xs))
 row_last key row xs x h = ap (by_key key) (map-last row xs x) ∙ by_key-append key (map row xs) (row x) h
 
-new_number : {X : Type 0} (id : X → ℕ) (y : X) (xs : List X) → NonePass (λ x. id x == id y) xs → NewKey (λ r. number (id r) ∷ []) y xs
+pub new_number : {X : Type 0} (id : X → ℕ) (y : X) (xs : List X) → NonePass (λ x. id x == id y) xs → NewKey (λ r. number (id r) ∷ []) y xs
 new_number id y xs h = All-map xs (λ x k e. eqb-false (id x) (id y) k (number_of_key (id x) (id y) e)) h
   where
     number_of_key : (m n : ℕ) → number m ∷ [] ≡ number n ∷ [] → m ≡ n
@@ -100,11 +100,11 @@ no_trades_of base id books h =
     (All-map (completed base) (λ t k. other_id (account_with base) id t.account h k) (known_completed base books))
 
 -- an account that no completed trade of a symbol is of has no summary
-no_summary : (done : List Trade) (account : ℕ) (symbol : Text) → of_position done account symbol ≡ [] → summary_rows done account symbol ≡ []
+pub no_summary : (done : List Trade) (account : ℕ) (symbol : Text) → of_position done account symbol ≡ [] → summary_rows done account symbol ≡ []
 unfolding summary_of total_by
 no_summary done account symbol e = rw e refl
 
-append_nil : {X : Type 0} (xs : List X) → xs ++ [] ≡ xs
+pub append_nil : {X : Type 0} (xs : List X) → xs ++ [] ≡ xs
 append_nil [] = refl
 append_nil (x ∷ xs) = ap (λ ys. x ∷ ys) (append_nil xs)
 

@@ -50,6 +50,10 @@ flat_map-append f (x ∷ xs) ys = ap (λ zs. f x ++ zs) (flat_map-append f xs ys
     append_thrice [] bs cs = refl
     append_thrice (a ∷ us) bs cs = ap (λ zs. a ∷ zs) (append_thrice us bs cs)
 
+pub flat_map-same : {X Y : Type 0} (f g : X → List Y) (xs : List X) → AllByRecursion (λ x. f x ≡ g x) xs → flat_map f xs ≡ flat_map g xs
+flat_map-same f g [] h = refl
+flat_map-same f g (x ∷ xs) h = λ i. h.0 i ++ flat_map-same f g xs h.1 i
+
 pub flat_map-empty : {X Y : Type 0} (f : X → List Y) (xs : List X) → AllByRecursion (λ x. f x ≡ []) xs → flat_map f xs ≡ []
 flat_map-empty f [] h = refl
 flat_map-empty f (x ∷ xs) h = rw h.0 (flat_map-empty f xs h.1)

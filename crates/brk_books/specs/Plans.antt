@@ -3,14 +3,13 @@ use Rattle.std.specs.Prelude.{◌≡◌, ◌≤◌, ℕ, Option, None, Ok}
 use Rattle.brk_money.specs.Moments.{last_stamp}
 use Rattle.brk_model.specs.Records.{Key, Kept}
 use Rattle.brk_model.specs.Base.{Base}
-use Rattle.brk_model.specs.Tables.{Tables}
+use Rattle.brk_model.specs.Tables.{Tables, security_row, last_trade_row}
 use Rattle.brk_model.specs.Sheets.{sheets}
-use Rattle.brk_model.specs.Commands.{Command, Reply}
-use Rattle.brk_model.specs.Keys.{insert_row, kept_key}
+use Rattle.brk_model.specs.Commands.{Command, Listing, Reply}
 use Rattle.brk_model.specs.Rows.{row_text, line_text}
 use Rattle.brk_model.specs.Tests.{next_stamp, refusal_of}
-use Rattle.brk_model.specs.Step.{base_after, step}
-use Rattle.brk_trade.specs.Changes.{after_changes, with_last}
+use Rattle.brk_model.specs.Step.{base_after, listed, step}
+use Rattle.brk_trade.specs.Changes.{after_changes, with_last, with_last_trade, with_security}
 use Rattle.brk_trade.specs.declared.plan.Plan.{Plan}
 use Rattle.brk_trade.specs.declared.reference.Found.{Found}
 use Rattle.brk_trade.specs.declared.reference.Reference.{Reference}
@@ -31,13 +30,13 @@ abbrev pub ChangesRows : Base → ℕ → Command → (Tables → Tables) → Ty
 ChangesRows base now command change =
     IsBooks base → refusal_of base now command ≡ None → sheets (base_then base now command) ≡ with_last (next_stamp base now) (change (sheets base))
 
+-- a security more, with its last trade
+abbrev pub with_listing : ℕ → Listing → Tables → Tables
+with_listing stamp l t = with_last_trade (last_trade_row (listed stamp l)) (with_security (security_row (listed stamp l)) t)
+
 -- the row that keeps an accepted command under its key
 abbrev pub kept_row : Key → Command → Reply → Kept
 kept_row key command reply = record { key = key; row_text = row_text command; line = line_text reply }
-
--- a kept row more
-abbrev pub with_kept : Kept → Tables → Tables
-with_kept k t = record t { kept = insert_row kept_key k t.kept }
 
 -- what is known where a record is planned: the base is in order, and its tables were looked up at a moment that there is
 pub record IsRead (base : Base) (reference : Reference) (found : Found) (last : Option ℕ) (now : ℕ) : Type 0 where

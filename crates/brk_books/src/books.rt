@@ -2,9 +2,9 @@
 
 ghost use Rattle.std.specs.Prelude.{ℕ, Option};
 ghost use Rattle.brk_model.specs.Base.{Base, empty_base};
-ghost use Rattle.brk_model.specs.Commands.{AddAccount, AddBroker, AddCustomer, Command, Reply};
+ghost use Rattle.brk_model.specs.Commands.{AddAccount, AddBand, AddBroker, AddCharge, AddCustomer, AddCustomerTax, AddPermission, AddSecurity, AddTaxRate, Command, Listing, Reply};
 ghost use Rattle.brk_model.specs.Keyed.{keeping};
-ghost use Rattle.brk_model.specs.Records.{Account, Broker, Customer, Key};
+ghost use Rattle.brk_model.specs.Records.{Account, Band, Broker, Charge, Customer, CustomerTax, Key, Permission, TaxRate};
 ghost use Rattle.brk_books.specs.Books.{IsBooks};
 ghost use Rattle.brk_books.specs.Plans.{LeavesBooks};
 
@@ -18,6 +18,12 @@ pub fn records_keep_the_order()
     ensures broker { (base : Base) (now : ℕ) (b : Broker) → LeavesBooks base now (AddBroker b) }
     ensures customer { (base : Base) (now : ℕ) (c : Customer) → LeavesBooks base now (AddCustomer c) }
     ensures account { (base : Base) (now : ℕ) (a : Account) → LeavesBooks base now (AddAccount a) }
+    ensures permission { (base : Base) (now : ℕ) (p : Permission) → LeavesBooks base now (AddPermission p) }
+    ensures security { (base : Base) (now : ℕ) (l : Listing) → LeavesBooks base now (AddSecurity l) }
+    ensures charge { (base : Base) (now : ℕ) (c : Charge) → LeavesBooks base now (AddCharge c) }
+    ensures band { (base : Base) (now : ℕ) (b : Band) → LeavesBooks base now (AddBand b) }
+    ensures tax_rate { (base : Base) (now : ℕ) (r : TaxRate) → LeavesBooks base now (AddTaxRate r) }
+    ensures customer_tax { (base : Base) (now : ℕ) (x : CustomerTax) → LeavesBooks base now (AddCustomerTax x) }
 {}
 
 /// So does a row that is kept under its key.

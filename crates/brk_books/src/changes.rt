@@ -2,24 +2,31 @@
 
 ghost use Rattle.std.specs.Prelude.{◌≡◌, ℕ, None, Some};
 ghost use Rattle.brk_model.specs.Base.{Base, empty_base};
-ghost use Rattle.brk_model.specs.Commands.{AddAccount, AddBroker, AddCustomer, Command, Reply};
+ghost use Rattle.brk_model.specs.Commands.{AddAccount, AddBand, AddBroker, AddCharge, AddCustomer, AddCustomerTax, AddPermission, AddSecurity, AddTaxRate, Command, Listing, Reply};
 ghost use Rattle.brk_model.specs.Keyed.{keeping, kept_under};
-ghost use Rattle.brk_model.specs.Records.{Account, Broker, Customer, Key};
+ghost use Rattle.brk_model.specs.Records.{Account, Band, Broker, Charge, Customer, CustomerTax, Key, Permission, TaxRate};
 ghost use Rattle.brk_model.specs.Sheets.{sheets};
 ghost use Rattle.brk_model.specs.Tables.{no_rows};
-ghost use Rattle.brk_trade.specs.Changes.{with_account, with_broker, with_customer};
-ghost use Rattle.brk_books.specs.Plans.{ChangesRows, kept_row, with_kept};
+ghost use Rattle.brk_model.specs.Tests.{next_stamp};
+ghost use Rattle.brk_trade.specs.Changes.{with_account, with_band, with_broker, with_charge, with_customer, with_customer_tax, with_kept, with_permission, with_tax_rate};
+ghost use Rattle.brk_books.specs.Plans.{ChangesRows, kept_row, with_listing};
 
 /// The base that everything begins with has no rows.
 pub fn the_empty_base_has_no_rows()
     ensures { sheets empty_base ≡ no_rows }
 {}
 
-/// A record that is accepted is one row more, and its stamp the last one; no other row changes.
+/// A record that is accepted is one row more, a security two, and its stamp the last one; no other row changes.
 pub fn records_are_rows()
     ensures broker { (base : Base) (now : ℕ) (b : Broker) → ChangesRows base now (AddBroker b) (with_broker b) }
     ensures customer { (base : Base) (now : ℕ) (c : Customer) → ChangesRows base now (AddCustomer c) (with_customer c) }
     ensures account { (base : Base) (now : ℕ) (a : Account) → ChangesRows base now (AddAccount a) (with_account a) }
+    ensures permission { (base : Base) (now : ℕ) (p : Permission) → ChangesRows base now (AddPermission p) (with_permission p) }
+    ensures security { (base : Base) (now : ℕ) (l : Listing) → ChangesRows base now (AddSecurity l) (with_listing (next_stamp base now) l) }
+    ensures charge { (base : Base) (now : ℕ) (c : Charge) → ChangesRows base now (AddCharge c) (with_charge c) }
+    ensures band { (base : Base) (now : ℕ) (b : Band) → ChangesRows base now (AddBand b) (with_band b) }
+    ensures tax_rate { (base : Base) (now : ℕ) (r : TaxRate) → ChangesRows base now (AddTaxRate r) (with_tax_rate r) }
+    ensures customer_tax { (base : Base) (now : ℕ) (x : CustomerTax) → ChangesRows base now (AddCustomerTax x) (with_customer_tax x) }
 {}
 
 /// A row that is kept under a new key is one row more; no other row changes.

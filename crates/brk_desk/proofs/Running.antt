@@ -8,7 +8,7 @@ use Rattle.brk_money.specs.declared.fault.Fault.{Fault}
 use Rattle.brk_model.specs.Base.{Base}
 use Rattle.brk_model.specs.Run.{Answers, Run}
 use Rattle.brk_desk.specs.Answers.{outcome_for, outcome_of}
-use Rattle.brk_desk.specs.Commands.{call_of, command_of}
+use Rattle.brk_desk.specs.Commands.{call_of, command_of, key_for}
 use Rattle.brk_desk.specs.Keeping.{IsCalled, IsMade, IsRun, KeepsBase}
 use Rattle.brk_desk.specs.declared.answer.Answer as desk
 use Rattle.brk_desk.specs.declared.call.Call.{Call}
@@ -30,24 +30,24 @@ module _ {S : Type 0} (g : Ghosts S) where
   runs_none store = record { count = refl; ran = λ clean base keeps. (base, keeps, refl); clean = λ clean. clean }
 
   module _ (a b c : Held S) (calls : List (ℕ × Call)) (outcomes : List Outcome) (run : IsRun g a b calls outcomes) (now : ℕ) where
-    by_result : (command : _) (result : Result desk.Answer Fault) → IsCalled g b c now (command_of command) result
-        → IsRun g a c (calls ++ (now, call.Do command) ∷ []) (outcomes ++ outcome_for result ∷ [])
-    by_result command (Ok answer) called = record {
-      count = as_many outcomes calls (outcome_for (Ok answer)) (now, call.Do command) run.count;
+    by_result : (command : _) (key : _) (result : Result desk.Answer Fault) → IsCalled g b c now (command_of command) (key_for key) result
+        → IsRun g a c (calls ++ (now, call.Do command key) ∷ []) (outcomes ++ outcome_for result ∷ [])
+    by_result command key (Ok answer) called = record {
+      count = as_many outcomes calls (outcome_for (Ok answer)) (now, call.Do command key) run.count;
       ran = λ clean base keeps.
           let r = run.ran (called.clean clean) base keeps in
           let s = called.answered clean r.0 r.1 in
-          (s.0, s.1, run_more base r.0 s.0 calls outcomes (now, call.Do command) (outcome_for (Ok answer)) r.2 s.2);
+          (s.0, s.1, run_more base r.0 s.0 calls outcomes (now, call.Do command key) (outcome_for (Ok answer)) r.2 s.2);
       clean = λ clean. run.clean (called.clean clean);
     }
-    by_result command (Err fault) called = record {
-      count = as_many outcomes calls (outcome_for (Err fault)) (now, call.Do command) run.count;
+    by_result command key (Err fault) called = record {
+      count = as_many outcomes calls (outcome_for (Err fault)) (now, call.Do command key) run.count;
       ran = λ clean base keeps.
           let r = run.ran (called.clean clean) base keeps in
-          (r.0, called.kept r.0 r.1, run_more base r.0 r.0 calls outcomes (now, call.Do command) (outcome_for (Err fault)) r.2 (called.fault, refl));
+          (r.0, called.kept r.0 r.1, run_more base r.0 r.0 calls outcomes (now, call.Do command key) (outcome_for (Err fault)) r.2 (called.fault, refl));
       clean = λ clean. run.clean (called.clean clean);
     }
 
     pub runs_more : (made : Call) (outcome : Outcome) → IsMade g b c now made outcome → IsRun g a c (calls ++ (now, made) ∷ []) (outcomes ++ outcome ∷ [])
-    runs_more (call.Do command) outcome it =
-        subst (λ o. IsRun g a c (calls ++ (now, call.Do command) ∷ []) (outcomes ++ o ∷ [])) (sym it.1) (by_result command it.0 it.2)
+    runs_more (call.Do command key) outcome it =
+        subst (λ o. IsRun g a c (calls ++ (now, call.Do command key) ∷ []) (outcomes ++ o ∷ [])) (sym it.1) (by_result command key it.0 it.2)

@@ -5,16 +5,22 @@ use Rattle.std.proofs.lemmas.Bool.{false_from_ne_true}
 use Rattle.std.proofs.lemmas.Slice.Eq.{bytes_eq-Decides}
 use Rattle.brk_money.specs.Spelling.{Text}
 use Rattle.brk_money.specs.declared.refusal.Refusal.TheVariants.{BadText}
-use Rattle.brk_model.specs.Parse.{parse_by, party_readers}
+use Rattle.brk_model.specs.Parse.{parse_by, reference_readers, term_readers}
 
 -- another text is told apart
 other : (known kind : Text) → kind ≢ known → bytes_eq known kind ≡ false
 other known kind h = false_from_ne_true (bytes_eq known kind) (λ e. h (sym ((bytes_eq-Decides known kind).0 e)))
 
--- a row of an unknown kind is refused
-pub unknown_kind : (kind : Text) (fields : List Text) → kind ≢ codes "broker" → kind ≢ codes "customer" → kind ≢ codes "account"
-    → parse_by party_readers (kind ∷ fields) ≡ Err BadText
-unknown_kind kind fields b c a = rw (other (codes "broker") kind b, other (codes "customer") kind c, other (codes "account") kind a) refl
+-- a row that is of none of the parties' kinds is read as one of what they agree on
+pub no_party : (kind : Text) (fields : List Text) → kind ≢ codes "broker" → kind ≢ codes "customer" → kind ≢ codes "account"
+    → parse_by reference_readers (kind ∷ fields) ≡ parse_by term_readers (kind ∷ fields)
+no_party kind fields b c a = rw (other (codes "broker") kind b, other (codes "customer") kind c, other (codes "account") kind a) refl
+
+-- a row of another kind is refused
+pub unknown_kind : (kind : Text) (fields : List Text) → kind ≢ codes "permission" → kind ≢ codes "security" → kind ≢ codes "charge"
+    → kind ≢ codes "band" → kind ≢ codes "taxrate" → kind ≢ codes "custtax" → parse_by term_readers (kind ∷ fields) ≡ Err BadText
+unknown_kind kind fields p s c b t x =
+    rw (other (codes "permission") kind p, other (codes "security") kind s, other (codes "charge") kind c, other (codes "band") kind b, other (codes "taxrate") kind t, other (codes "custtax") kind x) refl
 
 -- what a comparison with a known text tells
 pub same_text : (kind slice known : Text) (r : Bool) → r ≡ bytes_eq kind slice → slice ≡ known → r ≡ true → kind ≡ known

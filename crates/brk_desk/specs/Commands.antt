@@ -1,8 +1,11 @@
 -- What commands and calls are in the abstract brokerage.
-use Rattle.std.specs.Prelude.{ℕ, None}
+use Rattle.std.specs.Prelude.{ℕ, Option, option_map}
 use Rattle.brk_model.specs.Commands.{Command}
+use Rattle.brk_model.specs.Records as records
 use Rattle.brk_model.specs.Run as run
 use Rattle.brk_books.specs.Commands as books
+use Rattle.brk_ref.specs.Records.{key_of}
+use Rattle.brk_ref.specs.declared.key.Key.{Key}
 use Rattle.brk_desk.specs.declared.call.Call.{Call}
 use Rattle.brk_desk.specs.declared.call.Call.TheVariants as call
 use Rattle.brk_desk.specs.declared.command.Command as desk
@@ -11,6 +14,10 @@ use Rattle.brk_desk.specs.declared.command.Command.TheVariants as command
 abbrev pub command_of : desk.Command → Command
 command_of (command.Add reference) = books.command_of reference
 
+-- the key of a call, if it has one
+abbrev pub key_for : Option Key → Option records.Key
+key_for key = option_map key_of key
+
 -- a call at its moment
 abbrev pub call_of : ℕ × Call → ℕ × run.Call
-call_of (now, call.Do command) = (now, run.Do (command_of command) None)
+call_of (now, call.Do command key) = (now, run.Do (command_of command) (key_for key))

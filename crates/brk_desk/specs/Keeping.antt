@@ -1,5 +1,5 @@
 -- The books behind a desk, and what its calls do to them.
-use Rattle.std.specs.Prelude.{◌≡◌, ℕ, List, map, length, Result, None, IfOk, IfErr, OnErr, IsTrue}
+use Rattle.std.specs.Prelude.{◌≡◌, ℕ, List, Option, map, length, Result, IfOk, IfErr, OnErr, IsTrue}
 use Rattle.sqlite_trees.specs.declared.store.Store.{Ghosts}
 use Rattle.sqlite.specs.Held.{Held, state}
 use Rattle.sqlite.specs.State.{HasCleanDisk}
@@ -7,12 +7,13 @@ use Rattle.brk_money.specs.declared.fault.Fault.{Fault}
 use Rattle.brk_model.specs.Base.{Base}
 use Rattle.brk_model.specs.Sheets.{sheets}
 use Rattle.brk_model.specs.Commands.{Command}
+use Rattle.brk_model.specs.Records.{Key}
 use Rattle.brk_model.specs.Keyed.{keyed_step}
 use Rattle.brk_model.specs.Run.{MayFail, Run}
 use Rattle.brk_books.specs.Books.{IsBooks}
 use Rattle.brk_store.specs.Holds.{Holds, IsSame}
 use Rattle.brk_desk.specs.Answers.{BookedNothing, answer_of, outcome_for, outcome_of}
-use Rattle.brk_desk.specs.Commands.{call_of, command_of}
+use Rattle.brk_desk.specs.Commands.{call_of, command_of, key_for}
 use Rattle.brk_desk.specs.declared.answer.Answer as desk
 use Rattle.brk_desk.specs.declared.call.Call.{Call}
 use Rattle.brk_desk.specs.declared.call.Call.TheVariants as call
@@ -23,18 +24,18 @@ pub record KeepsBase {S : Type 0} (g : Ghosts S) (store : Held S) (base : Base) 
   pub books : IsBooks base
   pub rows : Holds g store (sheets base)
 
--- over each base whose books were kept, the command is answered by its step, and the books of the base after it are kept
-abbrev pub Steps : {S : Type 0} → Ghosts S → Held S → Held S → ℕ → Command → desk.Answer → Type 0
-Steps g old new now command answer =
-    (base : Base) → KeepsBase g old base → (after : Base) × KeepsBase g new after × (keyed_step base now command None ≡ (answer_of answer, after))
+-- over each base whose books were kept, the command is answered by its step under its key, and the books of the base after it are kept
+abbrev pub Steps : {S : Type 0} → Ghosts S → Held S → Held S → ℕ → Command → Option Key → desk.Answer → Type 0
+Steps g old new now command key answer =
+    (base : Base) → KeepsBase g old base → (after : Base) × KeepsBase g new after × (keyed_step base now command key ≡ (answer_of answer, after))
 
 -- the books that were kept still are
 abbrev pub StillKeeps : {S : Type 0} → Ghosts S → Held S → Held S → Type 0
 StillKeeps g old new = (base : Base) → KeepsBase g old base → KeepsBase g new base
 
 -- a command at a moment is answered, or fails and changes nothing; all of it as far as the disk returns what was written
-pub record IsCalled {S : Type 0} (g : Ghosts S) (old new : Held S) (now : ℕ) (command : Command) (result : Result desk.Answer Fault) : Type 0 where
-  pub answered : HasCleanDisk (state g new) → IfOk result (Steps g old new now command)
+pub record IsCalled {S : Type 0} (g : Ghosts S) (old new : Held S) (now : ℕ) (command : Command) (key : Option Key) (result : Result desk.Answer Fault) : Type 0 where
+  pub answered : HasCleanDisk (state g new) → IfOk result (Steps g old new now command key)
   pub kept : OnErr result (StillKeeps g old new)
   -- it fails for want of memory or for its store
   pub fault : IfErr result MayFail
@@ -45,8 +46,8 @@ pub record IsCalled {S : Type 0} (g : Ghosts S) (old new : Held S) (now : ℕ) (
 
 -- a call at a moment has this outcome
 abbrev pub IsMade : {S : Type 0} → Ghosts S → Held S → Held S → ℕ → Call → Outcome → Type 0
-IsMade g old new now (call.Do command) outcome =
-    (result : Result desk.Answer Fault) × (outcome ≡ outcome_for result) × IsCalled g old new now (command_of command) result
+IsMade g old new now (call.Do command key) outcome =
+    (result : Result desk.Answer Fault) × (outcome ≡ outcome_for result) × IsCalled g old new now (command_of command) (key_for key) result
 
 -- calls at their moments have these outcomes, one each: over each base whose books were kept those of a run, and the books of the base that it leads to are kept
 pub record IsRun {S : Type 0} (g : Ghosts S) (old new : Held S) (calls : List (ℕ × Call)) (outcomes : List Outcome) : Type 0 where

@@ -1,12 +1,13 @@
 use crate::answer::Answer;
 use crate::command::Command;
 use brk_money::Fault;
+use brk_ref::Key;
 
 /// One call of a run.
 #[derive(Debug, Drop)]
 pub enum Call {
-    /// A command is decided on, and booked where it is accepted.
-    Do(Command),
+    /// A command is decided on, and booked where it is accepted; under a key it acts once.
+    Do(Command, Option<Key>),
 }
 
 /// What came of a call.

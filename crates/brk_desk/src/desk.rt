@@ -3,6 +3,7 @@ use crate::booking::add;
 use crate::call::{Call, Outcome};
 use crate::command::Command;
 use brk_money::{Fault, Stamp};
+use brk_ref::Key;
 use brk_store::Store;
 use sqlite::Alter;
 use std::alloc::Global;
@@ -32,7 +33,8 @@ impl<S: Alter + Drop> Drop for Desk<S> {
 
 impl<S: Alter> Desk<S> {
     ghost use Rattle.std.specs.Prelude.{◌≡◌, ◌++◌, List, Err, OnOk, OnErr};
-    ghost use Rattle.brk_desk.specs.Commands.{command_of};
+    ghost use Rattle.std.specs.Option.{option_copied};
+    ghost use Rattle.brk_desk.specs.Commands.{command_of, key_for};
     ghost use Rattle.brk_desk.specs.Keeping.{IsCalled, IsMade, IsRun};
     ghost use Rattle.brk_desk.specs.declared.call.Outcome as came;
     ghost use Rattle.brk_money.specs.declared.fault.Fault.TheVariants.{Memory};
@@ -45,12 +47,20 @@ impl<S: Alter> Desk<S> {
     }
 
     /// Decides on a command at a moment and books it where it is accepted: by one change of the tables, which is the
-    /// last call of the database. At a refusal or a fault the tables are as they were.
-    pub fn call(&mut self, alloc: Global, now: Stamp, command: &Command) -> Result<Answer, Fault>
-        ensures called { IsCalled S.Store self.old self.new now (command_of command.now) result }
+    /// last call of the database. Under a key a command acts once: accepted it is kept, and where the key is kept the
+    /// same command is answered with its line, and another is refused with 19. At a refusal or a fault the tables are as
+    /// they were, and no key is kept.
+    pub fn call(
+        &mut self,
+        alloc: Global,
+        now: Stamp,
+        command: &Command,
+        key: Option<&Key>,
+    ) -> Result<Answer, Fault>
+        ensures called { IsCalled S.Store self.old self.new now (command_of command.now) (key_for (option_copied key.entry)) result }
     {
         match command {
-            Command::Add(reference) => add(alloc, &mut self.store, now, reference),
+            Command::Add(reference) => add(alloc, &mut self.store, now, reference, key),
         }
     }
 
@@ -80,8 +90,8 @@ impl<S: Alter> Desk<S> {
     fn outcome(&mut self, alloc: Global, now: Stamp, call: &Call) -> Outcome
         ensures made { IsMade S.Store self.old self.new now call.now result }
     {
-        let Call::Do(command) = call;
-        match self.call(alloc, now, command) {
+        let Call::Do(command, key) = call;
+        match self.call(alloc, now, command, key.as_ref()) {
             Ok(answer) => Outcome::Did(answer),
             Err(fault) => Outcome::Failed(fault),
         }

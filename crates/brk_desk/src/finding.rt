@@ -2,23 +2,31 @@
 
 ghost use Rattle.std.specs.Prelude.{◌≡◌, IfErr};
 ghost use Rattle.brk_model.specs.Run.{MayFail};
-ghost use Rattle.brk_books.specs.Reads.{IsFound, IsFoundForAccount, accounts_of, has_account, has_broker, has_customer, has_tax_id};
+ghost use Rattle.brk_books.specs.Reads.{IsFound, IsFoundForAccount, accounts_of, has_account, has_broker, has_customer, has_security, has_tax_id, has_tax_rate};
 ghost use Rattle.brk_store.specs.Holds.{IsRead};
 
+use crate::terms::{
+    find_for_band, find_for_charge, find_for_customer_tax, find_for_permission, is_security_there,
+    is_tax_there,
+};
 use brk_money::{Fault, Id};
-use brk_ref::{Account, Broker, Customer, TaxId};
+use brk_ref::{Account, Broker, Customer, Symbol, TaxId};
 use brk_store::Store;
 use brk_trade::{Found, Reference};
 use sqlite::Alter;
 use std::alloc::Global;
 
 // What is found where there is nothing.
-const NOTHING: Found = Found {
+pub(crate) const NOTHING: Found = Found {
     same_id: false,
     same_tax_id: false,
     customer: false,
     broker: false,
     accounts: 0,
+    account: false,
+    overlaps: false,
+    rate: None,
+    rates: None,
 };
 
 fn is_broker_there<S: Alter>(store: &mut Store<S>, id: Id) -> Result<bool, Fault>
@@ -28,7 +36,7 @@ fn is_broker_there<S: Alter>(store: &mut Store<S>, id: Id) -> Result<bool, Fault
     Ok(store.broker(id)?.is_some())
 }
 
-fn is_customer_there<S: Alter>(store: &mut Store<S>, id: Id) -> Result<bool, Fault>
+pub(crate) fn is_customer_there<S: Alter>(store: &mut Store<S>, id: Id) -> Result<bool, Fault>
     ensures read { IsRead S.Store store.old store.new result (λ there t. there ≡ has_customer t id) }
     ensures fault { IfErr result MayFail }
 {
@@ -42,7 +50,7 @@ fn is_tax_id_there<S: Alter>(store: &mut Store<S>, tax_id: &TaxId) -> Result<boo
     Ok(store.customer_by_tax_id(tax_id)?.is_some())
 }
 
-fn is_account_there<S: Alter>(store: &mut Store<S>, id: Id) -> Result<bool, Fault>
+pub(crate) fn is_account_there<S: Alter>(store: &mut Store<S>, id: Id) -> Result<bool, Fault>
     ensures read { IsRead S.Store store.old store.new result (λ there t. there ≡ has_account t id) }
     ensures fault { IfErr result MayFail }
 {
@@ -102,6 +110,22 @@ fn find_for_account<S: Alter>(
     })
 }
 
+fn find_for_security<S: Alter>(store: &mut Store<S>, symbol: &Symbol) -> Result<Found, Fault>
+    ensures read { IsRead S.Store store.old store.new result (λ found t. found.same_id ≡ has_security t symbol.now) }
+    ensures fault { IfErr result MayFail }
+{
+    let same_id = is_security_there(store, symbol)?;
+    Ok(Found { same_id, ..NOTHING })
+}
+
+fn find_for_tax<S: Alter>(store: &mut Store<S>, id: Id) -> Result<Found, Fault>
+    ensures read { IsRead S.Store store.old store.new result (λ found t. found.same_id ≡ has_tax_rate t id) }
+    ensures fault { IfErr result MayFail }
+{
+    let same_id = is_tax_there(store, id)?;
+    Ok(Found { same_id, ..NOTHING })
+}
+
 /// What the tables hold that decides on a record.
 pub(crate) fn find_for<S: Alter>(
     alloc: Global,
@@ -115,5 +139,11 @@ pub(crate) fn find_for<S: Alter>(
         Reference::Broker(broker) => find_for_broker(store, broker),
         Reference::Customer(customer) => find_for_customer(store, customer),
         Reference::Account(account) => find_for_account(alloc, store, account),
+        Reference::Permission(permission) => find_for_permission(store, permission),
+        Reference::Security(listing) => find_for_security(store, &listing.security.symbol),
+        Reference::Charge(charge) => find_for_charge(store, charge),
+        Reference::Band(band) => find_for_band(alloc, store, band),
+        Reference::TaxRate(tax) => find_for_tax(store, tax.id),
+        Reference::CustomerTax(pays) => find_for_customer_tax(alloc, store, pays),
     }
 }

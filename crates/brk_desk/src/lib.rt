@@ -8,8 +8,11 @@ pub mod call;
 pub mod command;
 pub mod desk;
 mod finding;
+mod keeping;
 pub mod line;
 pub mod parse;
+pub mod row;
+mod terms;
 
 pub use answer::Answer;
 pub use call::{Call, Outcome};
@@ -17,3 +20,4 @@ pub use command::Command;
 pub use desk::Desk;
 pub use line::line_text;
 pub use parse::parse_row;
+pub use row::row_text;

@@ -15,6 +15,7 @@ use Rattle.brk_model.specs.Commands.{Answer, Refused}
 use Rattle.brk_model.specs.Forms.{Read}
 use Rattle.brk_model.specs.Input.{AreAll, Begins, IsEnd, IsName, end_of, header_of}
 use Rattle.brk_model.specs.Lines.{answer_line, end_line, lines_from}
+use Rattle.brk_model.specs.Run.{MayFail}
 use Rattle.brk_import.specs.Batch.{BatchGives, EndsRight, Faulted, IsUntouched, Span, Stopped}
 use Rattle.brk_import.specs.Counts.{counts_line}
 use Rattle.brk_import.specs.Moments.{AskedOnce}
@@ -148,10 +149,10 @@ header_failed form step gives text base clock old kinds.BadEnd h = absurd h
 -- the row was not answered
 pub answer_failed : {S X C R : Type 0} (form : Fields → Read X) (step : RowStep S X) (gives : C → ℕ → C → Type 0) (rem : R → Option Text)
     (start : Start S C R) (now : At S C R) (later : C) (new : Option Text) (text : Option Text) (p : Progress form step gives rem start now) (f : Fault)
-    → Appends start.old new (lines_from 1 p.answers) → AskedOnce gives now.later later
+    → Appends start.old new (lines_from 1 p.answers) → AskedOnce gives now.later later → MayFail f
     → StandsAt rem text (header_of start.name ∷ []) start.reader → Faulted form step gives text (span_of start now later new) now.settled (kinds.Desk f)
-answer_failed form step gives rem start now later new text p f wrote asked h =
-    inr (inl (stopped_of form step gives rem start now later new text p h, asked, refl, wrote))
+answer_failed form step gives rem start now later new text p f wrote asked may h =
+    inr (inl (stopped_of form step gives rem start now later new text p h, asked, may, refl, wrote))
 
 -- the line of the row that was answered last was not written
 pub tell_failed : {S X C R : Type 0} (form : Fields → Read X) (step : RowStep S X) (gives : C → ℕ → C → Type 0) (rem : R → Option Text)

@@ -9,6 +9,7 @@ use Rattle.brk_model.specs.Commands.{Answer}
 use Rattle.brk_model.specs.Forms.{Read}
 use Rattle.brk_model.specs.Input.{Begins, end_of, header_of}
 use Rattle.brk_model.specs.Lines.{answer_line, end_line, lines_from}
+use Rattle.brk_model.specs.Run.{MayFail}
 use Rattle.brk_import.specs.Answers.{scripted}
 use Rattle.brk_import.specs.Counts.{counts_of}
 use Rattle.brk_import.specs.Moments.{AskedOnce, Moments}
@@ -98,7 +99,7 @@ Faulted form step gives text span count kinds.Write =
     ⊎ ((s.told ≡ s.answers) × EndsRight text s.name s.rows × WroteToEnd span.old span.new s.told))
 Faulted form step gives text span count (kinds.Desk fault) =
     ((fault ≡ Memory) × (count ≡ 0) × IsUntouched span)
-    ⊎ (((s : Stopped form step gives text span count) × AskedOnce gives s.mid span.later × (s.told ≡ s.answers) × Appends span.old span.new (lines_from 1 s.told))
+    ⊎ (((s : Stopped form step gives text span count) × AskedOnce gives s.mid span.later × MayFail fault × (s.told ≡ s.answers) × Appends span.old span.new (lines_from 1 s.told))
     ⊎ ((s : Stopped form step gives text span count) × (span.later ≡ s.mid) × (fault ≡ Memory)
     × EndsThere text s.name s.rows s.answers s.told × WroteLines span.old span.new s.told))
 

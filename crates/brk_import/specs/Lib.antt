@@ -4,4 +4,3 @@ pub mod Answers
 pub mod Reading
 pub mod Batch
 pub mod Parts
-pub mod Desk

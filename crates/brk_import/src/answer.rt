@@ -1,6 +1,6 @@
-ghost use Rattle.std.specs.Prelude.{◌≤◌, IfOk, OnErr};
+ghost use Rattle.std.specs.Prelude.{◌≤◌, IfErr, IfOk, OnErr};
 ghost use Rattle.csv.specs.Records.{fields_of};
-ghost use Rattle.brk_model.specs.Input.{IsName};
+ghost use Rattle.brk_model.specs.Run.{MayFail};
 ghost use Rattle.brk_import.specs.Answers.{AnsweredBy, Keeps, answer_of};
 ghost use Rattle.brk_import.specs.Moments.{AskedOnce};
 
@@ -8,6 +8,7 @@ use crate::clock::Clock;
 use crate::records::fields_list;
 use crate::rows::Rows;
 use brk_money::{Fault, Refusal};
+use brk_ref::BatchName;
 use csv::ByteRecord;
 use std::alloc::Global;
 
@@ -27,11 +28,10 @@ pub fn answer_row<C: Clock, D: Rows>(
     alloc: Global,
     desk: &mut D,
     clock: &mut C,
-    batch: &[u8],
+    batch: &BatchName,
     n: u64,
     row: &ByteRecord,
 ) -> Result<RowAnswer<D::Reply>, Fault>
-    requires batch { IsName batch.now }
     requires first { 1 ≤ n }
     requires last { n ≤ 67108864 }
     ensures earlier { D.honest desk.new → D.honest desk.old }
@@ -39,6 +39,7 @@ pub fn answer_row<C: Clock, D: Rows>(
         (answer_of D.told answer) desk.old desk.new clock.old clock.new) }
     ensures kept { OnErr result (Keeps D.honest D.stands desk.old desk.new) }
     ensures asked { OnErr result (AskedOnce C.gives clock.old clock.new) }
+    ensures fault { IfErr result MayFail }
 {
     let Ok(fields) = fields_list(alloc, row) else {
         return Err(Fault::Memory);

@@ -1,9 +1,9 @@
 ghost use Rattle.std.specs.Prelude.{option_map};
+ghost use Rattle.brk_model.specs.Batch.{row_step};
 ghost use Rattle.brk_model.specs.Input.{text_of};
-ghost use Rattle.brk_model.specs.Parse.{parse_by, party_readers};
+ghost use Rattle.brk_model.specs.Parse.{parse_by, reference_readers};
 ghost use Rattle.brk_desk.specs.Keeping.{KeepsBase};
 ghost use Rattle.brk_import.specs.Batch.{KeepsBooks, TellsAnswers};
-ghost use Rattle.brk_import.specs.Desk.{row_step};
 ghost use Rattle.sqlite.specs.Held.{state};
 ghost use Rattle.sqlite.specs.State.{HasCleanDisk};
 
@@ -20,10 +20,10 @@ use std::io::{Read, Write};
 ///
 /// The input is comma-separated: first `batch,NAME`, then the rows, then `end,N` with the number of rows. Of an input
 /// the first 67,108,864 bytes are read. A row acts once the record after it was read, so that the last row of a cut
-/// input never acts: it is refused with 18. The clock is asked once for each row that is in form and has a record after
-/// it. The lines are `n,ok,FIELDS`, `n,again,FIELDS` or `n,no,FIELDS`, and after the right end record
-/// `end,OK,AGAIN,NO`. At a fault the rows before stand. An error of the reader or the writer, an interrupted one too,
-/// ends the batch.
+/// input never acts: it is refused with 18. Row n of batch NAME has the key (NAME, n), under which it acts once. The
+/// clock is asked once for each row that is in form and has a record after it. The lines are `n,ok,FIELDS`,
+/// `n,again,FIELDS` or `n,no,FIELDS`, and after the right end record `end,OK,AGAIN,NO`. At a fault the rows before
+/// stand. An error of the reader or the writer, an interrupted one too, ends the batch.
 pub fn run_batch<R: Read + Drop, W: Write, C: Clock, S: Alter>(
     alloc: Global,
     reader: R,
@@ -32,11 +32,11 @@ pub fn run_batch<R: Read + Drop, W: Write, C: Clock, S: Alter>(
     desk: &mut Desk<S>,
 ) -> Result<Counts, BatchFault>
     // Whatever the desk answers to the rows that are in form, the lines are those of its answers.
-    ensures told { TellsAnswers (parse_by party_readers) C.gives (option_map text_of (R.remaining reader))
+    ensures told { TellsAnswers (parse_by reference_readers) C.gives (option_map text_of (R.remaining reader))
         (record { clock = clock.old; later = clock.new; old = W.contents writer.old; new = W.contents writer.new }) result }
     // As far as the disk returns what was written, the answers are those of the steps, from each base whose books the
     // desk kept, and it keeps those of the base after them.
-    ensures kept { KeepsBooks (λ desk. HasCleanDisk (state S.Store desk)) (λ desk. KeepsBase S.Store desk) (parse_by party_readers) row_step C.gives
+    ensures kept { KeepsBooks (λ desk. HasCleanDisk (state S.Store desk)) (λ desk. KeepsBase S.Store desk) (parse_by reference_readers) row_step C.gives
         (option_map text_of (R.remaining reader)) desk.old desk.new
         (record { clock = clock.old; later = clock.new; old = W.contents writer.old; new = W.contents writer.new }) result }
 {

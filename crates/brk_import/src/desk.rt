@@ -1,10 +1,13 @@
+ghost use Rattle.std.specs.Prelude.{◌≡◌, ◌≤◌, IfOk, OnErr, Err};
+ghost use Rattle.brk_money.specs.declared.fault.Fault.TheVariants.{Memory};
+ghost use Rattle.brk_ref.specs.Records.{key_of};
 ghost use Rattle.brk_model.specs.Base.{Base};
+ghost use Rattle.brk_model.specs.Batch.{row_step};
 ghost use Rattle.brk_model.specs.Commands as model;
-ghost use Rattle.brk_model.specs.Parse.{parse_by, party_readers};
+ghost use Rattle.brk_model.specs.Parse.{parse_by, reference_readers};
 ghost use Rattle.brk_books.specs.Commands.{reply_of};
 ghost use Rattle.brk_desk.specs.Commands.{command_of};
 ghost use Rattle.brk_desk.specs.Keeping.{KeepsBase};
-ghost use Rattle.brk_import.specs.Desk.{row_step};
 ghost use Rattle.sqlite.specs.Held.{state};
 ghost use Rattle.sqlite.specs.State.{HasCleanDisk};
 
@@ -12,9 +15,22 @@ use crate::answer::RowAnswer;
 use crate::rows::Rows;
 use brk_desk::{Answer, Command, Desk, line_text, parse_row};
 use brk_money::{Fault, Planned, Stamp};
+use brk_ref::{BatchName, Key, RowNumber};
 use brk_trade::Reply;
 use sqlite::Alter;
 use std::alloc::{AllocError, Global};
+
+// The key of row n of a batch.
+fn row_key(batch: &BatchName, n: u64) -> Result<Key, Fault>
+    requires first { 1 ≤ n }
+    requires last { n ≤ 67108864 }
+    ensures key { IfOk result (λ key. key_of key ≡ record { batch = batch.now; row = n }) }
+    ensures fault { OnErr result (result ≡ Err Memory) }
+{
+    let batch = batch.clone()?;
+    let row = RowNumber::new(n).unwrap();
+    Ok(Key { batch, row })
+}
 
 impl<S: Alter> Rows for Desk<S> {
     type Command = Command;
@@ -33,7 +49,7 @@ impl<S: Alter> Rows for Desk<S> {
 
     ghost told = { reply_of };
 
-    ghost form = { parse_by party_readers };
+    ghost form = { parse_by reference_readers };
 
     ghost step = { row_step };
 
@@ -46,10 +62,11 @@ impl<S: Alter> Rows for Desk<S> {
         alloc: Global,
         now: Stamp,
         command: &Command,
-        _batch: &[u8],
-        _n: u64,
+        batch: &BatchName,
+        n: u64,
     ) -> Result<RowAnswer<Reply>, Fault> {
-        match Desk::call(self, alloc, now, command)? {
+        let key = row_key(batch, n)?;
+        match Desk::call(self, alloc, now, command, Some(&key))? {
             Answer::Done(reply) => Ok(RowAnswer::Done(reply)),
             Answer::Again(line) => Ok(RowAnswer::Again(line)),
             Answer::Refused(refusal) => Ok(RowAnswer::Refused(refusal)),

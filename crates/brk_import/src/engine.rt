@@ -20,6 +20,7 @@ use crate::lines::{last_line, line_of, write_out};
 use crate::records::{MOST_BYTES, header_name, is_end, is_end_of, open_records, read_record};
 use crate::rows::Rows;
 use brk_money::{Fault, Refusal};
+use brk_ref::BatchName;
 use csv::{ByteRecord, Reader};
 use std::alloc::Global;
 use std::io::{Read, Write};
@@ -79,12 +80,12 @@ fn finish<W: Write>(
 }
 
 // Reads the header, for the name of the batch.
-fn read_header<R: Read>(alloc: Global, records: &mut Reader<R>) -> Result<Vec<u8>, FaultKind>
+fn read_header<R: Read>(alloc: Global, records: &mut Reader<R>) -> Result<BatchName, FaultKind>
     requires { ReadsBatch records.old }
     ensures setup { OnOk result (ReadsBatch records.new) }
-    ensures named { IfOk result (λ name. IsName name.items) }
+    ensures named { IfOk result (λ name. IsName name) }
     ensures ok { IfOk result (λ name. (text : Option (List ℕ)) → Stands text [] (reader_state records.old) (source_of R.remaining records.old)
-        → Stands text (header_of name.items ∷ []) (reader_state records.new) (source_of R.remaining records.new)) }
+        → Stands text (header_of name ∷ []) (reader_state records.new) (source_of R.remaining records.new)) }
     ensures err { IfErr result (λ kind. (text : Option (List ℕ)) → Stands text [] (reader_state records.old) (source_of R.remaining records.old)
         → HeaderPart text kind) }
 {
@@ -104,7 +105,7 @@ fn read_header<R: Read>(alloc: Global, records: &mut Reader<R>) -> Result<Vec<u8
 fn run_rows<R: Read, W: Write, C: Clock, D: Rows>(
     alloc: Global,
     records: &mut Reader<R>,
-    name: &[u8],
+    name: &BatchName,
     writer: &mut W,
     clock: &mut C,
     desk: &mut D,
@@ -188,7 +189,7 @@ pub fn run<R: Read + Drop, W: Write, C: Clock, D: Rows>(
 {
     let mut records = open_records(alloc, reader);
     match read_header(alloc, &mut records) {
-        Ok(name) => run_rows(alloc, &mut records, name.as_slice(), writer, clock, desk),
+        Ok(name) => run_rows(alloc, &mut records, &name, writer, clock, desk),
         Err(kind) => Err(BatchFault { rows: 0, kind }),
     }
 }

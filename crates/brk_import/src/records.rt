@@ -1,17 +1,16 @@
-ghost use Rattle.std.specs.Char.{is_ascii_alphanumeric};
-ghost use Rattle.std.specs.List.{list_all};
-ghost use Rattle.std.specs.Prelude.{◌≡◌, ◌⊎◌, ◌↔◌, ◌∷◌, ◌++◌, [], ℕ, List, Option, Some, IsTrue, IfOk, IfErr, OnOk, MatchBool, MatchOption, option_map, ◌||◌, ◌==◌};
+ghost use Rattle.std.specs.Prelude.{◌≡◌, ◌⊎◌, ◌↔◌, ◌∷◌, ◌++◌, [], ℕ, List, Option, Some, IsTrue, IfOk, IfErr, OnOk, MatchBool, MatchOption, option_map, OnErr, Err};
 ghost use Rattle.std.specs.Io.Take.{take_remaining};
 ghost use Rattle.csv.specs.Reading.{reader_state, source_of};
 ghost use Rattle.csv.specs.Records.{field_at, fields_of};
 ghost use Rattle.brk_model.specs.Answers.{Fields};
-ghost use Rattle.brk_model.specs.Forms.{is_batch_name};
+ghost use Rattle.brk_money.specs.declared.fault.Fault.TheVariants.{Memory};
 ghost use Rattle.brk_model.specs.Input.{AreAll, IsEnd, IsName, end_of, header_of, text_of};
 ghost use Rattle.brk_ref.specs.Fields.{texts};
 ghost use Rattle.brk_import.specs.Reading.{ReadsBatch, Stands};
 
 use crate::batch_fault::FaultKind;
 use brk_money::Fault;
+use brk_ref::BatchName;
 use csv::{ByteRecord, Reader, ReaderBuilder};
 use itoa::Buffer;
 use std::alloc::{AllocError, Global};
@@ -107,36 +106,19 @@ pub fn is_end_of(row: &ByteRecord, n: u64) -> bool
     is_pair(row, b"end", buffer.format(n).as_bytes())
 }
 
-// Whether a batch's name may have all of these bytes.
-fn has_name_bytes(name: &[u8]) -> bool
-    ensures { result ≡ list_all (λ c. is_ascii_alphanumeric c || (c == 46) || (c == 45) || (c == 95)) name.now }
-{
-    name.iter().all(|c| c.is_ascii_alphanumeric() || *c == b'.' || *c == b'-' || *c == b'_')
-}
-
-/// Whether the bytes are a batch's name: 1 to 40 ASCII letters, digits, points, hyphens and underscores.
-pub fn is_batch_name(name: &[u8]) -> bool
-    ensures { result ≡ is_batch_name name.now }
-{
-    1 <= name.len() && name.len() <= 40 && has_name_bytes(name)
-}
-
 /// The name that a header gives its batch, if the record is a header.
 #[tactic(auto, using(crate::proofs::Reading::header_name_is))]
-pub fn header_name(alloc: Global, row: &ByteRecord) -> Result<Option<Vec<u8>>, AllocError>
-    ensures { IfOk result (λ found. MatchOption found
+pub fn header_name(alloc: Global, row: &ByteRecord) -> Result<Option<BatchName>, Fault>
+    ensures header { IfOk result (λ found. MatchOption found
         ((name : List ℕ) → IsName name → fields_of row.now ≡ header_of name → ⊥)
-        (λ name. IsName name.items × (fields_of row.now ≡ header_of name.items))) }
+        (λ name. IsName name × (fields_of row.now ≡ header_of name))) }
+    ensures fault { OnErr result (result ≡ Err Memory) }
 {
     let Some(name) = row.get(1) else {
         return Ok(None);
     };
-    if !is_batch_name(name) {
-        return Ok(None);
-    }
     if !is_pair(row, b"batch", name) {
         return Ok(None);
     }
-    let copy = Vec::from_slice(alloc, name)?;
-    Ok(Some(copy))
+    BatchName::parse(alloc, name)
 }

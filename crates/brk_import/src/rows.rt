@@ -1,14 +1,16 @@
-ghost use Rattle.std.specs.Prelude.{◌≡◌, ◌≤◌, IfOk, OnErr, string_bytes};
+ghost use Rattle.std.specs.Prelude.{◌≡◌, ◌≤◌, Err, IfErr, IfOk, OnErr, string_bytes};
+ghost use Rattle.brk_money.specs.declared.fault.Fault.TheVariants.{Memory};
 ghost use Rattle.brk_model.specs.Answers.{Fields, RowStep};
 ghost use Rattle.brk_model.specs.Commands.{Reply};
 ghost use Rattle.brk_model.specs.Forms.{Read};
-ghost use Rattle.brk_model.specs.Input.{IsName};
 ghost use Rattle.brk_model.specs.Rows.{line_text};
+ghost use Rattle.brk_model.specs.Run.{MayFail};
 ghost use Rattle.brk_ref.specs.Fields.{Reads, texts};
 ghost use Rattle.brk_import.specs.Answers.{Acts, Keeps, answer_of};
 
 use crate::answer::RowAnswer;
 use brk_money::{Fault, Planned, Stamp};
+use brk_ref::BatchName;
 use std::alloc::{AllocError, Global};
 
 /// What answers the rows of a batch.
@@ -43,7 +45,8 @@ pub trait Rows {
 
     /// Reads the fields of a row.
     fn parse(alloc: Global, row: &[&[u8]]) -> Planned<Self::Command>
-        ensures { IfOk result (λ read. Reads asked read (form (texts row.now))) };
+        ensures read { IfOk result (λ read. Reads asked read (form (texts row.now))) }
+        ensures fault { OnErr result (result ≡ Err Memory) };
 
     /// Runs a command, row n of a batch, at a moment.
     fn call(
@@ -51,16 +54,16 @@ pub trait Rows {
         alloc: Global,
         now: Stamp,
         command: &Self::Command,
-        batch: &[u8],
+        batch: &BatchName,
         n: u64,
     ) -> Result<RowAnswer<Self::Reply>, Fault>
-        requires batch { IsName batch.now }
         requires first { 1 ≤ n }
         requires last { n ≤ 67108864 }
         ensures earlier { honest self.new → honest self.old }
         ensures ok { IfOk result (λ answer.
             Acts honest stands step self.old self.new now (asked command.now) (record { batch = batch.now; row = n }) (answer_of told answer)) }
-        ensures err { OnErr result (Keeps honest stands self.old self.new) };
+        ensures err { OnErr result (Keeps honest stands self.old self.new) }
+        ensures fault { IfErr result MayFail };
 
     /// The fields of a reply, joined by commas.
     fn reply_line(alloc: Global, reply: &Self::Reply) -> Result<String, AllocError>

@@ -11,6 +11,7 @@ use crate::rows::Rows;
 use crate::{BatchFault, Clock, Counts, FaultKind, MOST_BYTES, run_batch};
 use brk_desk::Desk;
 use brk_money::{Fault, Limit, Planned, Refusal, Stamp};
+use brk_ref::BatchName;
 use brk_store::Store;
 use sqlite::Connection;
 use std::alloc::{AllocError, Global};
@@ -96,7 +97,7 @@ impl Rows for Last {
         alloc: Global,
         now: Stamp,
         command: &Asked,
-        _batch: &[u8],
+        _batch: &BatchName,
         _n: u64,
     ) -> Result<RowAnswer<u64>, Fault> {
         match *command {

@@ -27,7 +27,7 @@ done-inj {x = x} e = ap (reply_in x) e
 
 -- ---- what is found under a key
 
-matches : Key → Kept → Bool
+abbrev pub matches : Key → Kept → Bool
 matches key k = bytes_eq k.key.batch key.batch && (k.key.row == key.row)
 
 same_key : (key : Key) (row line : Text) → (bytes_eq key.batch key.batch && (key.row == key.row)) ≡ true
@@ -95,7 +95,6 @@ keeps base now command key reply after e = by_kept base now command key reply af
 
 -- and it is found again
 pub found_again : (base : Base) (command : Command) (key : Key) (reply : Reply) (after : Base) → Keeps base key command reply after → kept_under after key ≡ Some (row_kept key command reply)
-unfolding matches
 found_again base command key reply after k =
     ap (find (matches key)) k.kept ∙ find-last (matches key) base.kept (row_kept key command reply) k.fresh (same_key key (row_text command) (line_text reply))
 

@@ -2,6 +2,9 @@ pub mod BatchLaws
 pub mod Steps
 pub mod KeyLaws
 pub mod RunLaws
+pub mod KeptLaws
+pub mod AgainLaws
+pub mod FreeLaws
 pub mod Reached
 pub mod NameLaws
 pub mod Sums

@@ -1,9 +1,16 @@
--- Words for the laws: what is accepted, which stamps rise, and what a base begins with.
-use Rattle.std.specs.Prelude.{⊤, ℕ, ◌<◌, ◌++◌, List, [], ◌∷◌, Option, Some, IfSome}
+-- Words for the laws: what is accepted, which stamps rise, what a base begins with, and what comes again.
+use Rattle.std.specs.Prelude.{◌≡◌, ⊤, ℕ, ◌<◌, ◌++◌, List, [], ◌∷◌, Option, Some, IfSome}
+use Rattle.brk_money.specs.Spelling.{Text}
+use Rattle.brk_model.specs.Records.{Key}
 use Rattle.brk_model.specs.Base.{Base, empty_base}
 use Rattle.brk_model.specs.Commands.{Command, Reply, Booked, Ordered, Ticked, CanceledTrade, CompletedTrade, Changed, Answer, Done, Again, Refused}
+use Rattle.brk_model.specs.Rows.{line_text}
+use Rattle.brk_model.specs.Parse.{parse_row}
 use Rattle.brk_model.specs.Keyed.{keyed_step}
 use Rattle.brk_model.specs.Answers.{RowCall}
+use Rattle.brk_model.specs.Input.{text_of}
+use Rattle.brk_model.specs.Lines.{count_refused}
+use Rattle.brk_model.specs.Batch.{Batch, EndedWell, IsAnswered, row_step}
 use Rattle.brk_model.specs.Run.{Call, Do, Ask, Outcome, Did, Saw, NoView, Failed, Run}
 
 -- the stamp of a reply
@@ -57,6 +64,33 @@ accepted_after base (call ∷ calls) (outcome ∷ outcomes) = accepted_after (mo
 abbrev pub call_of : RowCall Command → ℕ × Call
 call_of call = (call.now, Do call.command (Some call.key))
 
+-- a row under this key was accepted
+abbrev pub IsDoneUnder : Key → Call → Outcome → Type 0
+IsDoneUnder key (Do command (Some other)) (Did (Done reply)) = other ≡ key
+IsDoneUnder key call outcome = ⊥
+
+-- none of the rows under this key was accepted
+abbrev pub NoneDoneUnder : Key → List (ℕ × Call) → List Outcome → Type 0
+NoneDoneUnder key (call ∷ calls) (outcome ∷ outcomes) = ¬ (IsDoneUnder key call.1 outcome) × NoneDoneUnder key calls outcomes
+NoneDoneUnder key calls outcomes = ⊤
+
+-- some calls lead from a base to another one
+abbrev pub LeadsTo : Base → Base → Type 0
+LeadsTo base after = (calls : List (ℕ × Call)) × (outcomes : List Outcome) × Run base calls outcomes after
+
 -- a base that some calls lead to from the empty one
 abbrev pub IsReached : Base → Type 0
-IsReached base = (calls : List (ℕ × Call)) × (outcomes : List Outcome) × Run empty_base calls outcomes base
+IsReached base = LeadsTo empty_base base
+
+-- a batch ended well and answered its rows so, and refused none
+pub record WentThrough (base : Base) (moments : List ℕ) (input : Text) (answers : List Answer) (batch : Batch Base) : Type 0 where
+  pub answered : IsAnswered parse_row row_step base moments (Some (text_of input)) batch
+  pub ended : batch.ending ≡ EndedWell
+  pub these : answered.answers ≡ answers
+  pub none_refused : count_refused answers ≡ 0
+
+-- the answer to a row that comes again: the kept line of what was accepted
+abbrev pub again_of : Answer → Answer
+again_of (Done reply) = Again (line_text reply)
+again_of (Again line) = Again line
+again_of (Refused refusal) = Refused refusal

@@ -6,10 +6,10 @@ ghost use Rattle.brk_model.specs.Base.{Base};
 ghost use Rattle.brk_model.specs.Commands.{Answer, Command};
 ghost use Rattle.brk_model.specs.Answers.{InTurn, RowCall};
 ghost use Rattle.brk_model.specs.Input.{text_of};
-ghost use Rattle.brk_model.specs.Batch.{IsBatch, row_step};
-ghost use Rattle.brk_model.specs.Computed.{batch};
+ghost use Rattle.brk_model.specs.Batch.{Batch, IsBatch, row_step};
+ghost use Rattle.brk_model.specs.Computed.{batch, told_whole};
 ghost use Rattle.brk_model.specs.Run.{Did, Run};
-ghost use Rattle.brk_laws.specs.Laws.{call_of};
+ghost use Rattle.brk_laws.specs.Laws.{LeadsTo, WentThrough, again_of, call_of};
 
 /// The function that computes a batch gives its batch text, where there are moments enough, and takes the first of them.
 pub fn batch_is_computed()
@@ -21,4 +21,10 @@ pub fn batch_is_computed()
 pub fn rows_are_calls()
     ensures { (base after : Base) (calls : List (RowCall Command)) (answers : List Answer) → InTurn row_step base calls answers after
         → Run base (map call_of calls) (map Did answers) after }
+{}
+
+/// A batch that went through, sent again over the base that it led to or any later one, at any moments, changes nothing and is answered with its kept lines.
+pub fn a_batch_sent_again_changes_nothing()
+    ensures { (base later : Base) (moments others : List ℕ) (input : List ℕ) (answers : List Answer) (first second : Batch Base) → WentThrough base moments input answers first
+        → LeadsTo first.base later → IsBatch later others input second → second ≡ told_whole (map again_of answers, later) }
 {}

@@ -1,3 +1,4 @@
 pub mod Digits
 pub mod Plain
+pub mod Printed
 pub mod Spellings

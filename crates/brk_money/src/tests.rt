@@ -58,6 +58,8 @@ fn writes_amounts(rt: HostRuntime) -> Result<(), Fail> {
     let mut zero = Vec::new(rt.alloc());
     write_cents(&mut zero, Wide::from(Cents::new(0).ok_or("cents")?))?;
     assert!(rt; zero.as_slice() == b"0.00".as_slice());
+    let printed = format!(in rt.alloc(); "{} {}", Wide::new(-1_205), Wide::new(7))?;
+    assert!(rt; printed.as_str() == "-12.05 0.07");
     Ok(())
 }
 

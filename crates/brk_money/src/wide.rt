@@ -1,10 +1,11 @@
-ghost use Rattle.std.specs.Prelude.{◌≡◌, ◌++◌, ℤ, OnOk, OnErr, Err};
+ghost use Rattle.std.specs.Prelude.{◌≡◌, ◌++◌, ℤ, OnOk, OnErr, Err, Some};
 ghost use Rattle.brk_money.specs.Spelling.{cents_text};
 ghost use Rattle.brk_money.specs.declared.fault.Fault.TheVariants.{Memory};
 
 use crate::cents::Cents;
 use crate::fault::Fault;
 use itoa::Buffer;
+use std::fmt;
 use std::marker::Model;
 
 /// An amount of cents that may go beyond the limits of a balance, as an asset total does.
@@ -38,6 +39,24 @@ impl From<Cents> for Wide {
 
     fn from(cents: Cents) -> Wide {
         Wide(i128::from(cents.get()))
+    }
+}
+
+/// Prints the one spelling of an amount, as `-12.05`.
+impl fmt::Display for Wide {
+    ghost output = { λ amount. Some (cents_text amount) };
+
+    fn fmt<W: fmt::Write>(&self, f: &mut fmt::Formatter<W>) -> fmt::Result {
+        let amount = self.get();
+        let cents = amount.unsigned_abs();
+        let sign = if amount < 0 { "-" } else { "" };
+        write!(
+            f,
+            "{sign}{}.{}{}",
+            cents / 100,
+            cents % 100 / 10,
+            cents % 10
+        )
     }
 }
 

@@ -11,7 +11,7 @@ use Rattle.std.specs.Prelude.{Err}
 use Rattle.brk_money.specs.declared.refusal.Refusal.TheVariants.{BadText}
 use Rattle.brk_model.specs.Parse.{read_account, read_charge, read_permission, read_security, read_band}
 use Rattle.brk_ref.specs.Fields.{texts}
-use Rattle.brk_model.specs.Forms.{is_name, is_tax_id, is_symbol, is_exchange, is_acl, is_word}
+use Rattle.brk_model.specs.Forms.{is_name, is_tax_id, is_symbol, is_exchange, is_acl, is_batch_name, is_word}
 
 -- a name is text
 pub utf8_only : (text : List ℕ) → is_name text ≡ true → IsUtf8 text
@@ -108,7 +108,7 @@ tax_id_utf8 text h = IsUtf8-from_ascii text (ascii_by (λ c. is_ascii_alphanumer
     third true false c h = absurd (cc)
     third false b c h = absurd (cc)
 
--- so is a symbol, an exchange and what a permission allows
+-- so is a symbol, an exchange, a batch's name and what a permission allows
 both_of : (a b : Bool) → a && b ≡ true → b ≡ true
 both_of true b h = h
 both_of false b h = absurd (cc)
@@ -121,6 +121,18 @@ symbol_low c h =
     one_of (is_ascii_uppercase c) (is_ascii_digit c) (c == 46) (c == 45) (c < 128) (upper_low c)
     (λ d. let k = leb-true c 57 (both_of (nat_le 48 c) (nat_le c 57) d) in omega arith)
     (λ d. let k : c ≡ 46 = eqb-true c 46 d in omega arith) (λ d. let k : c ≡ 45 = eqb-true c 45 d in omega arith) h
+  where
+    one_of : (a b d e : Bool) (P : Type 0) → (a ≡ true → P) → (b ≡ true → P) → (d ≡ true → P) → (e ≡ true → P) → a || b || d || e ≡ true → P
+    one_of true b d e P p q r s h = p refl
+    one_of false true d e P p q r s h = q refl
+    one_of false false true e P p q r s h = r refl
+    one_of false false false e P p q r s h = s h
+
+batch_low : (c : ℕ) → is_ascii_alphanumeric c || (c == 46) || (c == 45) || (c == 95) ≡ true → c < 128
+batch_low c h =
+    one_of (is_ascii_alphanumeric c) (c == 46) (c == 45) (c == 95) (c < 128) (λ a. letter_low c (rw a refl))
+    (λ d. let k : c ≡ 46 = eqb-true c 46 d in omega arith) (λ d. let k : c ≡ 45 = eqb-true c 45 d in omega arith)
+    (λ d. let k : c ≡ 95 = eqb-true c 95 d in omega arith) h
   where
     one_of : (a b d e : Bool) (P : Type 0) → (a ≡ true → P) → (b ≡ true → P) → (d ≡ true → P) → (e ≡ true → P) → a || b || d || e ≡ true → P
     one_of true b d e P p q r s h = p refl
@@ -148,6 +160,11 @@ symbol_utf8 text h =
 
 pub exchange_utf8 : (text : List ℕ) → is_exchange text ≡ true → IsUtf8 text
 exchange_utf8 text h = IsUtf8-from_ascii text (ascii_by is_ascii_uppercase upper_low text (last_of (nat_le 1 (length text)) (nat_le (length text) 6) _ h))
+
+pub batch_name_utf8 : (text : List ℕ) → is_batch_name text ≡ true → IsUtf8 text
+batch_name_utf8 text h =
+    IsUtf8-from_ascii text (ascii_by (λ c. is_ascii_alphanumeric c || (c == 46) || (c == 45) || (c == 95)) batch_low text
+    (last_of (nat_le 1 (length text)) (nat_le (length text) 40) _ h))
 
 pub acl_utf8 : (text : List ℕ) → is_acl text ≡ true → IsUtf8 text
 acl_utf8 text h = IsUtf8-from_ascii text (ascii_by (λ c. (c == 48) || (c == 49)) bit_low text (both_of (length text == 4) _ h))

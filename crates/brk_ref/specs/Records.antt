@@ -1,5 +1,6 @@
 -- What the records are in the abstract brokerage.
-use Rattle.brk_model.specs.Records.{Broker, Customer, Account, Permission, Charge, Band, TaxRate, CustomerTax, Executor}
+use Rattle.std.specs.Prelude.{string_bytes}
+use Rattle.brk_model.specs.Records.{Broker, Customer, Account, Permission, Charge, Band, TaxRate, CustomerTax, Key, Kept, Executor}
 use Rattle.brk_model.specs.Commands.{Listing}
 use Rattle.brk_model.specs.Tables.{SecurityRow, LastTradeRow}
 use Rattle.brk_ref.specs.declared.broker.Broker as broker
@@ -14,6 +15,8 @@ use Rattle.brk_ref.specs.declared.charge.Charge as charge
 use Rattle.brk_ref.specs.declared.band.Band as band
 use Rattle.brk_ref.specs.declared.tax.Tax as tax
 use Rattle.brk_ref.specs.declared.tax.CustomerTax as customer_tax
+use Rattle.brk_ref.specs.declared.key.Key as key
+use Rattle.brk_ref.specs.declared.key.Kept as kept
 
 abbrev pub broker_of : broker.Broker → Broker
 broker_of b = record { id = b.id; name = b.name }
@@ -50,3 +53,9 @@ tax_of t = record { id = t.id; name = t.name; rate = t.rate }
 
 abbrev pub customer_tax_of : customer_tax.CustomerTax → CustomerTax
 customer_tax_of x = record { customer = x.customer; tax = x.tax }
+
+abbrev pub key_of : key.Key → Key
+key_of k = record { batch = k.batch; row = k.row }
+
+abbrev pub kept_of : kept.Kept → Kept
+kept_of k = record { key = key_of k.key; row_text = string_bytes k.row_text; line = string_bytes k.line }

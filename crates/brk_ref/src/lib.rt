@@ -4,15 +4,18 @@
 pub mod account;
 pub mod acl;
 pub mod band;
+pub mod batch_name;
 pub mod broker;
 pub mod charge;
 pub mod charge_amount;
 pub mod customer;
 pub mod exchange;
 pub mod executor;
+pub mod key;
 pub mod name;
 pub mod numbers;
 pub mod permission;
+pub mod row_number;
 pub mod security;
 pub mod symbol;
 pub mod tax;
@@ -24,18 +27,21 @@ pub mod volume;
 pub use account::{Account, AccountRow, check_account};
 pub use acl::Acl;
 pub use band::{Band, band_for, check_band, overlaps};
+pub use batch_name::BatchName;
 pub use broker::{Broker, BrokerRow, check_broker};
 pub use charge::{Charge, check_charge};
 pub use charge_amount::ChargeAmount;
 pub use customer::{Customer, check_customer};
 pub use exchange::Exchange;
 pub use executor::Executor;
+pub use key::{Kept, Key};
 pub use name::Name;
 pub use numbers::{
     parse_charge_amount, parse_id, parse_opening, parse_price, parse_qty, parse_rate,
     parse_tax_rate, parse_tax_status,
 };
 pub use permission::{Permission, check_permission, permitted};
+pub use row_number::RowNumber;
 pub use security::{LastTrade, Listing, Security, check_security};
 pub use symbol::Symbol;
 pub use tax::{CustomerTax, Tax, check_customer_tax, check_tax_rate, tax_sum};

@@ -1,7 +1,7 @@
 use crate::{
-    Band, Customer, Executor, Permission, Tax, band_for, check_band, check_broker, check_charge,
-    check_customer, check_customer_tax, check_permission, check_security, check_tax_rate, overlaps,
-    permitted, tax_sum,
+    Band, BatchName, Customer, Executor, Key, Permission, RowNumber, Tax, band_for, check_band,
+    check_broker, check_charge, check_customer, check_customer_tax, check_permission,
+    check_security, check_tax_rate, overlaps, permitted, tax_sum,
 };
 use brk_money::{Qty, Refusal};
 use std::alloc::Global;
@@ -57,6 +57,22 @@ fn permits_who_is_named(rt: HostRuntime) -> Result<(), Fail> {
     let executor = executor(&permission)?;
     assert!(rt; !permitted(&customer, &[], &executor));
     assert!(rt; permitted(&customer, &[permission], &executor));
+    Ok(())
+}
+
+#[test]
+fn names_a_row(rt: HostRuntime) -> Result<(), Fail> {
+    let alloc = rt.alloc();
+    let key = Key {
+        batch: BatchName::parse(alloc, b"A.b-C_9")?.ok_or("a batch's name")?,
+        row: RowNumber::new(7).ok_or("a row's number")?,
+    };
+    let key = key.clone()?;
+    assert_eq!(rt; key.batch.as_str(), "A.b-C_9");
+    assert_eq!(rt; key.row.get(), 7);
+    let name = BatchName::new(String::from_str(alloc, "A/b")?);
+    assert!(rt; name.is_none());
+    assert!(rt; RowNumber::new(0).is_none());
     Ok(())
 }
 

@@ -24,6 +24,14 @@ fn make<S: Alter>(tx: &mut Transaction<'_, S>, change: &Change) -> Result<(), Fa
         Change::AddBroker(broker) => brk_tables::add_broker(tx, broker),
         Change::AddCustomer(customer) => brk_tables::add_customer(tx, customer),
         Change::AddAccount(account) => brk_tables::add_account(tx, account),
+        Change::AddPermission(permission) => brk_tables::add_permission(tx, permission),
+        Change::AddSecurity(security) => brk_tables::add_security(tx, security),
+        Change::AddLastTrade(last_trade) => brk_tables::add_last_trade(tx, last_trade),
+        Change::AddCharge(charge) => brk_tables::add_charge(tx, charge),
+        Change::AddBand(band) => brk_tables::add_band(tx, band),
+        Change::AddTaxRate(tax) => brk_tables::add_tax_rate(tx, tax),
+        Change::AddCustomerTax(pays) => brk_tables::add_customer_tax(tx, pays),
+        Change::Keep(kept) => brk_tables::add_kept(tx, kept),
         Change::SetLast(stamp) => brk_tables::set_last_stamp(tx, *stamp),
     }
 }

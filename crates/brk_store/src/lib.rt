@@ -2,8 +2,10 @@
 #![tactic(auto)]
 
 mod changing;
+mod keys;
 mod reading;
 pub mod store;
+mod terms;
 
 pub use store::Store;
 

@@ -1,9 +1,17 @@
 use crate::changing::{apply_all, make_desk};
+use crate::keys::read_kept;
 use crate::reading::{
     read_account, read_accounts_of, read_broker, read_customer, read_customer_by_tax_id, read_last,
 };
-use brk_money::{Fault, Id, Stamp};
-use brk_ref::{AccountRow, BrokerRow, Customer, TaxId};
+use crate::terms::{
+    read_bands_for, read_charge, read_customer_tax, read_customer_taxes_of, read_permission,
+    read_security, read_tax_rate,
+};
+use brk_money::{Fault, Id, Stamp, TradeType};
+use brk_ref::{
+    AccountRow, Band, BrokerRow, Charge, Customer, CustomerTax, Exchange, Kept, Key, Permission,
+    Security, Symbol, Tax, TaxId, Tier,
+};
 use brk_trade::Change;
 use sqlite::{Alter, Connection};
 use std::alloc::Global;
@@ -35,11 +43,12 @@ impl<S: Alter + Drop> Drop for Store<S> {
 }
 
 impl<S: Alter> Store<S> {
-    ghost use Rattle.std.specs.Prelude.{◌≡◌, ◌==◌, ◌⊎◌, Err, IfErr, MatchResult, Ok, OnErr, bytes_eq, false, filter, find, map, option_map};
+    ghost use Rattle.std.specs.Prelude.{◌≡◌, ◌==◌, ◌&&◌, ◌⊎◌, Err, IfErr, MatchResult, Ok, OnErr, bytes_eq, false, filter, find, map, option_map};
     ghost use Rattle.brk_money.specs.declared.fault.Condition.TheVariants.{NotEmpty};
     ghost use Rattle.brk_money.specs.declared.fault.Fault.TheVariants as fault;
     ghost use Rattle.brk_model.specs.Run.{MayFail};
-    ghost use Rattle.brk_ref.specs.Records.{customer_of};
+    ghost use Rattle.brk_money.specs.Kinds.{same_type};
+    ghost use Rattle.brk_ref.specs.Records.{band_of, charge_of, customer_of, customer_tax_of, kept_of, permission_of, security_of, tax_of};
     ghost use Rattle.brk_tables.specs.Records.{account_row_of, broker_row_of};
     ghost use Rattle.brk_trade.specs.Changes.{after_changes};
     ghost use Rattle.brk_store.specs.Holds.{IsApplied, IsCreated, IsRead};
@@ -114,6 +123,80 @@ impl<S: Alter> Store<S> {
         ensures fault { IfErr result MayFail }
     {
         read_accounts_of(&mut self.conn, alloc, customer)
+    }
+
+    /// The permission of an account for a tax id.
+    pub fn permission(&mut self, account: Id, tax_id: &TaxId) -> Result<Option<Permission>, Fault>
+        ensures read { IsRead S.Store self.old self.new result (λ o t. option_map permission_of o ≡ find (λ r. (r.account == account) && bytes_eq r.tax_id tax_id.now) t.permissions) }
+        ensures fault { OnErr result (result ≡ Err fault.Store) }
+    {
+        read_permission(&mut self.conn, account, tax_id)
+    }
+
+    /// The security with a symbol.
+    pub fn security(&mut self, symbol: &Symbol) -> Result<Option<Security>, Fault>
+        ensures read { IsRead S.Store self.old self.new result (λ o t. option_map security_of o ≡ find (λ r. bytes_eq r.symbol symbol.now) t.securities) }
+        ensures fault { OnErr result (result ≡ Err fault.Store) }
+    {
+        read_security(&mut self.conn, symbol)
+    }
+
+    /// The charge of a type and a tier.
+    pub fn charge(&mut self, kind: TradeType, tier: Tier) -> Result<Option<Charge>, Fault>
+        ensures read { IsRead S.Store self.old self.new result (λ o t. option_map charge_of o ≡ find (λ r. same_type r.kind kind && (r.tier == tier)) t.charges) }
+        ensures fault { OnErr result (result ≡ Err fault.Store) }
+    {
+        read_charge(&mut self.conn, kind, tier)
+    }
+
+    /// The bands of a tier, a type and an exchange, by rising lower bound.
+    pub fn bands_for(
+        &mut self,
+        alloc: Global,
+        tier: Tier,
+        kind: TradeType,
+        exchange: &Exchange,
+    ) -> Result<Vec<Band>, Fault>
+        ensures read { IsRead S.Store self.old self.new result (λ all t. map band_of all.items ≡ filter (λ r. (r.tier == tier) && same_type r.kind kind && bytes_eq r.exchange exchange.now) t.bands) }
+        ensures fault { IfErr result MayFail }
+    {
+        read_bands_for(&mut self.conn, alloc, tier, kind, exchange)
+    }
+
+    /// The tax with an id.
+    pub fn tax_rate(&mut self, id: Id) -> Result<Option<Tax>, Fault>
+        ensures read { IsRead S.Store self.old self.new result (λ o t. option_map tax_of o ≡ find (λ r. r.id == id) t.tax_rates) }
+        ensures fault { OnErr result (result ≡ Err fault.Store) }
+    {
+        read_tax_rate(&mut self.conn, id)
+    }
+
+    /// The row of a customer and a tax, where the customer pays it.
+    pub fn customer_tax(&mut self, customer: Id, tax: Id) -> Result<Option<CustomerTax>, Fault>
+        ensures read { IsRead S.Store self.old self.new result (λ o t. option_map customer_tax_of o ≡ find (λ r. (r.customer == customer) && (r.tax == tax)) t.customer_taxes) }
+        ensures fault { OnErr result (result ≡ Err fault.Store) }
+    {
+        read_customer_tax(&mut self.conn, customer, tax)
+    }
+
+    /// The taxes that a customer pays, by rising id of the tax.
+    pub fn customer_taxes_of(
+        &mut self,
+        alloc: Global,
+        customer: Id,
+    ) -> Result<Vec<CustomerTax>, Fault>
+        ensures read { IsRead S.Store self.old self.new result (λ all t. map customer_tax_of all.items ≡ filter (λ r. r.customer == customer) t.customer_taxes) }
+        ensures fault { IfErr result MayFail }
+    {
+        read_customer_taxes_of(&mut self.conn, alloc, customer)
+    }
+
+    /// The row that is kept under a key.
+    pub fn kept(&mut self, key: &Key) -> Result<Option<Kept>, Fault>
+        ensures read { IsRead S.Store self.old self.new result (λ o t. option_map kept_of o ≡ find (λ k. bytes_eq k.key.batch key.now.batch && (k.key.row == key.now.row)) t.kept) }
+        ensures fault { OnErr result (result ≡ Err fault.Store) }
+    {
+        read_kept(&mut self.conn, key)
     }
 
     /// The connection, on which no transaction is open.

@@ -10,10 +10,10 @@ use Rattle.brk_money.specs.declared.tax_status.TaxStatus.TheVariants.{Untaxed, W
 use Rattle.brk_money.specs.declared.trade_type.TradeType.{TradeType}
 use Rattle.brk_money.specs.declared.trade_type.TradeType.TheVariants.{MarketBuy, MarketSell, StopLoss, LimitSell, LimitBuy}
 use Rattle.brk_model.specs.Forms.{type_of}
-use Rattle.brk_model.specs.Records.{Customer, Permission, Charge, Band, TaxRate, CustomerTax}
+use Rattle.brk_model.specs.Records.{Customer, Permission, Charge, Band, TaxRate, CustomerTax, Kept}
 use Rattle.brk_model.specs.Tables.{BrokerRow, AccountRow, SecurityRow}
 use Rattle.brk_rows.proofs.Decode.{text_in}
-use Rattle.brk_tables.specs.Cells.{DeskRow, maybe, desk_row_cells, broker_cells, customer_cells, account_cells, permission_cells, security_cells, charge_cells, band_cells, tax_rate_cells, customer_tax_cells}
+use Rattle.brk_tables.specs.Cells.{DeskRow, maybe, desk_row_cells, kept_cells, broker_cells, customer_cells, account_cells, permission_cells, security_cells, charge_cells, band_cells, tax_rate_cells, customer_tax_cells}
 
 abbrev natural : ℤ → ℕ
 natural (pos n) = n
@@ -46,6 +46,13 @@ desk_back r = record { id = number_in (column r 0); schema = number_in (column r
 pub desk_is_back : (r : DeskRow) → desk_back (desk_row_cells r) ≡ r
 unfolding desk_back
 desk_is_back r = ap (λ o. let d : DeskRow = record r { last = o } in d) (maybe_back r.last)
+
+pub kept_back : Row → Kept
+kept_back r = record { key = record { batch = text_in (column r 0); row = number_in (column r 1) }; row_text = text_in (column r 2); line = text_in (column r 3) }
+
+pub kept_is_back : (k : Kept) → kept_back (kept_cells k) ≡ k
+unfolding kept_back text_in
+kept_is_back k = refl
 
 pub broker_back : Row → BrokerRow
 broker_back r = record { id = number_in (column r 0); name = text_in (column r 1); trades = id_in (column r 2); commissions = number_in (column r 3) }

@@ -11,6 +11,7 @@ pub mod Founding
 pub mod Probing
 pub mod Told
 pub mod AddDesk
+pub mod AddKept
 pub mod AddBroker
 pub mod AddCustomer
 pub mod AddAccount
@@ -23,6 +24,7 @@ pub mod AddTaxRate
 pub mod AddCustomerTax
 pub mod SetLast
 pub mod DeskRows
+pub mod KeptByKey
 pub mod BrokerById
 pub mod CustomerById
 pub mod CustomerByTaxId
@@ -38,3 +40,4 @@ pub mod CustomerTaxesOf
 pub mod Steps
 pub mod ReferenceAdds
 pub mod ReferenceReads
+pub mod Keeping

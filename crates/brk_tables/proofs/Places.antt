@@ -3,16 +3,16 @@ use Rattle.std.proofs.Common.{◌≡◌, ◌≢◌, ℕ, pos, List, [], ◌∷�
 use Rattle.sqlite_value.specs.declared.value.Value.TheVariants.{Int}
 use Rattle.sqlite_value.specs.Order.{Row, column, value_cmp}
 use Rattle.sqlite_value.proofs.OrderLemmas.{then-Equal}
-use Rattle.brk_model.specs.Records.{Customer, Permission, Charge, Band, TaxRate, CustomerTax}
+use Rattle.brk_model.specs.Records.{Customer, Permission, Charge, Band, TaxRate, CustomerTax, Kept}
 use Rattle.brk_model.specs.Tables.{Tables, BrokerRow, AccountRow, SecurityRow, LastTradeRow}
-use Rattle.brk_model.specs.Keys.{broker_key, customer_key, account_key, permission_key, security_key, last_trade_key, charge_key, band_key, tax_rate_key, customer_tax_key}
+use Rattle.brk_model.specs.Keys.{kept_key, broker_key, customer_key, account_key, permission_key, security_key, last_trade_key, charge_key, band_key, tax_rate_key, customer_tax_key}
 use Rattle.brk_rows.proofs.Writes.{Place, IsRowidKey}
 use Rattle.brk_tables.specs.Shapes.{desk_row, broker, customer, account, tax_rate}
 use Rattle.brk_tables.specs.Cells.{DeskRow, desk_row_cells, broker_cells, customer_cells, account_cells, tax_rate_cells}
-use Rattle.brk_tables.specs.Desk.{Which, TheDesk, Brokers, Customers, Accounts, Permissions, Securities, LastTrades, Charges, Bands, TaxRates, CustomerTaxes, order, list, desk, desk_key}
+use Rattle.brk_tables.specs.Desk.{Which, TheDesk, KeptRows, Brokers, Customers, Accounts, Permissions, Securities, LastTrades, Charges, Bands, TaxRates, CustomerTaxes, order, list, desk, desk_key}
 use Rattle.brk_tables.proofs.Order.{key_total}
-use Rattle.brk_tables.proofs.Which.{is_desk_row, is_broker, is_customer, is_account, is_permission, is_security, is_last_trade, is_charge, is_band, is_tax_rate, is_customer_tax}
-use Rattle.brk_tables.proofs.Unique.{permission_keyed, security_keyed, last_trade_keyed, charge_keyed, band_keyed, customer_tax_keyed}
+use Rattle.brk_tables.proofs.Which.{is_desk_row, is_kept, is_broker, is_customer, is_account, is_permission, is_security, is_last_trade, is_charge, is_band, is_tax_rate, is_customer_tax}
+use Rattle.brk_tables.proofs.Unique.{kept_keyed, permission_keyed, security_keyed, last_trade_keyed, charge_keyed, band_keyed, customer_tax_keyed}
 use Rattle.brk_tables.proofs.Wide.{Wide, wide, wide_list}
 
 pub desk_keyed : IsRowidKey desk_row desk_row_cells (order TheDesk)
@@ -33,6 +33,10 @@ tax_rate_keyed tree r s x y e f = let a : column r 0 ≡ Int (pos x.id) = cc in 
 pub desk_alone : (v : Which) → v ≢ TheDesk → (xs : List DeskRow) (p : Wide) → wide_list v (record p { rows = xs }) ≡ wide_list v p
 desk_alone TheDesk other xs p = absurd (other refl)
 desk_alone v other xs p = refl
+
+pub kept_alone : (v : Which) → v ≢ KeptRows → (xs : List Kept) (t : Tables) → list v (record t { kept = xs }) ≡ list v t
+kept_alone KeptRows other xs t = absurd (other refl)
+kept_alone v other xs t = refl
 
 pub brokers_alone : (v : Which) → v ≢ Brokers → (xs : List BrokerRow) (t : Tables) → list v (record t { brokers = xs }) ≡ list v t
 brokers_alone Brokers other xs t = absurd (other refl)
@@ -76,6 +80,9 @@ customer_taxes_alone v other xs t = refl
 
 abbrev pub the_desk : Place wide TheDesk
 the_desk = record { split = is_desk_row; put = λ xs p. record p { rows = xs }; put_this = λ xs p. refl; put_others = desk_alone; total = key_total desk_key; keyed = inl desk_keyed; uncounted = λ tree. refl }
+
+abbrev pub kept_rows : Place desk KeptRows
+kept_rows = record { split = is_kept; put = λ xs t. record t { kept = xs }; put_this = λ xs t. refl; put_others = kept_alone; total = key_total kept_key; keyed = inr kept_keyed; uncounted = λ tree. refl }
 
 abbrev pub brokers : Place desk Brokers
 brokers = record { split = is_broker; put = λ xs t. record t { brokers = xs }; put_this = λ xs t. refl; put_others = brokers_alone; total = key_total broker_key; keyed = inl broker_keyed; uncounted = λ tree. refl }

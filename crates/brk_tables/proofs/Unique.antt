@@ -8,12 +8,12 @@ use Rattle.sqlite_value.specs.Order.{Row, column, value_cmp}
 use Rattle.sqlite_value.proofs.OrderLemmas.{value_cmp-Int, value_cmp-Text}
 use Rattle.sqlite_schema.specs.Rules.{agree, equal}
 use Rattle.sqlite_sql.specs.Ops.{binary}
-use Rattle.brk_model.specs.Keys.{KeyPart, number, word, permission_key, security_key, last_trade_key, charge_key, band_key, customer_tax_key}
+use Rattle.brk_model.specs.Keys.{KeyPart, number, word, kept_key, permission_key, security_key, last_trade_key, charge_key, band_key, customer_tax_key}
 use Rattle.brk_rows.proofs.Values.{equal_ints, equal_texts}
 use Rattle.brk_rows.proofs.Writes.{IsUniqueKey}
-use Rattle.brk_tables.specs.Shapes.{permission, security, last_trade, charge, band, customer_tax}
-use Rattle.brk_tables.specs.Cells.{permission_cells, security_cells, last_trade_cells, charge_cells, band_cells, customer_tax_cells}
-use Rattle.brk_tables.specs.Desk.{Permissions, Securities, LastTrades, Charges, Bands, CustomerTaxes, order}
+use Rattle.brk_tables.specs.Shapes.{kept, permission, security, last_trade, charge, band, customer_tax}
+use Rattle.brk_tables.specs.Cells.{kept_cells, permission_cells, security_cells, last_trade_cells, charge_cells, band_cells, customer_tax_cells}
+use Rattle.brk_tables.specs.Desk.{KeptRows, Permissions, Securities, LastTrades, Charges, Bands, CustomerTaxes, order}
 use Rattle.brk_tables.specs.Order.{part_value, key_values}
 
 same_part : (j k : KeyPart) → equal Binary (part_value j) (part_value k) ≡ is_eq (value_cmp (part_value j) (part_value k))
@@ -42,6 +42,9 @@ same_key (j ∷ js) (k ∷ ks) (p ∷ places) r s e f =
     let c : map (column r) places ≡ key_values js = cc in
     let d : map (column s) places ≡ key_values ks = cc in
     rw (a, b, same_part j k) (eq_then (value_cmp (part_value j) (part_value k)) _ ∙ ap (λ rest. is_eq (value_cmp (part_value j) (part_value k)) && rest) (same_key js ks places r s c d))
+
+pub kept_keyed : IsUniqueKey kept kept_cells (order KeptRows)
+kept_keyed = record { key = 1 ∷ 2 ∷ []; first = λ tree. refl; tied = λ tree r s x y e f. same_key (kept_key x) (kept_key y) (1 ∷ 2 ∷ []) r s (ap (take 2) e) (ap (take 2) f) }
 
 pub permission_keyed : IsUniqueKey permission permission_cells (order Permissions)
 permission_keyed = record { key = 1 ∷ 2 ∷ []; first = λ tree. refl; tied = λ tree r s x y e f. same_key (permission_key x) (permission_key y) (1 ∷ 2 ∷ []) r s (ap (take 2) e) (ap (take 2) f) }

@@ -8,7 +8,9 @@ ghost use Rattle.brk_money.specs.declared.fault.Fault.TheVariants.{Store};
 ghost use Rattle.brk_tables.specs.Cells.{maybe};
 
 use brk_money::{Cents, Fault, Id, Qty, Rate, Stamp, TaxRate, TaxStatus, TradeType};
-use brk_ref::{Acl, ChargeAmount, Exchange, Name, Symbol, TaxId, Tier, parse_type};
+use brk_ref::{
+    Acl, BatchName, ChargeAmount, Exchange, Name, RowNumber, Symbol, TaxId, Tier, parse_type,
+};
 use sqlite::Row;
 
 /// A row with so many columns.
@@ -56,13 +58,33 @@ fn small_in(row: &Row, at: usize) -> Result<u32, Fault>
     }
 }
 
-fn text_in(row: &Row, at: usize) -> Result<String, Fault>
+pub(crate) fn text_in(row: &Row, at: usize) -> Result<String, Fault>
     ensures value { IfOk result (λ text. column row.now at ≡ Text (string_bytes text)) }
     ensures fault { OnErr result (result ≡ Err Store) }
 {
     match row.get(at) {
         Ok(text) => Ok(text),
         Err(_) => Err(Fault::Store),
+    }
+}
+
+pub(crate) fn batch_name_in(row: &Row, at: usize) -> Result<BatchName, Fault>
+    ensures value { IfOk result (λ name. column row.now at ≡ Text name) }
+    ensures fault { OnErr result (result ≡ Err Store) }
+{
+    match BatchName::new(text_in(row, at)?) {
+        Some(name) => Ok(name),
+        None => Err(Fault::Store),
+    }
+}
+
+pub(crate) fn row_number_in(row: &Row, at: usize) -> Result<RowNumber, Fault>
+    ensures value { IfOk result (λ number. column row.now at ≡ Int (pos number)) }
+    ensures fault { OnErr result (result ≡ Err Store) }
+{
+    match RowNumber::new(natural_in(row, at)?) {
+        Some(number) => Ok(number),
+        None => Err(Fault::Store),
     }
 }
 

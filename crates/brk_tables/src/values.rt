@@ -6,7 +6,7 @@ ghost use Rattle.sqlite_value.specs.declared.value.Value.TheVariants.{Int, Text}
 ghost use Rattle.brk_money.specs.Kinds.{tax_status_number, type_code};
 
 use brk_money::{Cents, Id, Price, Qty, Rate, Stamp, TaxRate, TaxStatus, TradeType};
-use brk_ref::{ChargeAmount, Tier, Volume};
+use brk_ref::{ChargeAmount, RowNumber, Tier, Volume};
 use sqlite_value::value::ValueRef;
 
 pub(crate) fn number_value<'a>(number: i64) -> ValueRef<'a>
@@ -19,6 +19,12 @@ pub(crate) fn id_value<'a>(id: Id) -> ValueRef<'a>
     ensures { owned result ≡ Int (pos id) }
 {
     ValueRef::Int(id.get() as i64)
+}
+
+pub(crate) fn row_number_value<'a>(number: RowNumber) -> ValueRef<'a>
+    ensures { owned result ≡ Int (pos number) }
+{
+    ValueRef::Int(number.get() as i64)
 }
 
 pub(crate) fn tier_value<'a>(tier: Tier) -> ValueRef<'a>

@@ -5,3 +5,17 @@
 mod batches;
 #[cfg(test)]
 mod calls;
+#[cfg(test)]
+mod desks;
+#[cfg(test)]
+mod keys;
+#[cfg(test)]
+mod limits;
+#[cfg(test)]
+mod reference_rows;
+#[cfg(test)]
+mod refusals;
+#[cfg(test)]
+mod row_texts;
+#[cfg(test)]
+mod settings;

@@ -1,11 +1,11 @@
 -- What a change of one row makes of the tables, whose rows stand by rising key.
 use Rattle.std.specs.Prelude.{ℕ, pos, List, fold, Some}
-use Rattle.brk_model.specs.Records.{Broker, Customer, Account, Permission, Charge, Band, TaxRate, CustomerTax}
+use Rattle.brk_model.specs.Records.{Broker, Customer, Account, Permission, Charge, Band, TaxRate, CustomerTax, Kept}
 use Rattle.brk_model.specs.Tables.{Tables, SecurityRow, LastTradeRow}
-use Rattle.brk_model.specs.Keys.{insert_row, broker_key, customer_key, account_key, permission_key, security_key, last_trade_key, charge_key, band_key, tax_rate_key, customer_tax_key}
-use Rattle.brk_ref.specs.Records.{broker_of, customer_of, account_of}
+use Rattle.brk_model.specs.Keys.{insert_row, broker_key, customer_key, account_key, permission_key, security_key, last_trade_key, charge_key, band_key, tax_rate_key, customer_tax_key, kept_key}
+use Rattle.brk_ref.specs.Records.{broker_of, customer_of, account_of, permission_of, security_of, last_trade_of, charge_of, band_of, tax_of, customer_tax_of, kept_of}
 use Rattle.brk_trade.specs.declared.change.Change.{Change}
-use Rattle.brk_trade.specs.declared.change.Change.TheVariants.{AddBroker, AddCustomer, AddAccount, SetLast}
+use Rattle.brk_trade.specs.declared.change.Change.TheVariants.{AddBroker, AddCustomer, AddAccount, AddPermission, AddSecurity, AddLastTrade, AddCharge, AddBand, AddTaxRate, AddCustomerTax, Keep, SetLast}
 
 -- a broker more, without trades and commissions
 abbrev pub with_broker : Broker → Tables → Tables
@@ -51,6 +51,10 @@ with_tax_rate r t = record t { tax_rates = insert_row tax_rate_key r t.tax_rates
 abbrev pub with_customer_tax : CustomerTax → Tables → Tables
 with_customer_tax x t = record t { customer_taxes = insert_row customer_tax_key x t.customer_taxes }
 
+-- a kept row more
+abbrev pub with_kept : Kept → Tables → Tables
+with_kept k t = record t { kept = insert_row kept_key k t.kept }
+
 -- another last stamp
 abbrev pub with_last : ℕ → Tables → Tables
 with_last stamp t = record t { last = Some stamp }
@@ -60,6 +64,14 @@ abbrev pub after_change : Change → Tables → Tables
 after_change (AddBroker broker) = with_broker (broker_of broker)
 after_change (AddCustomer customer) = with_customer (customer_of customer)
 after_change (AddAccount account) = with_account (account_of account)
+after_change (AddPermission permission) = with_permission (permission_of permission)
+after_change (AddSecurity security) = with_security (security_of security)
+after_change (AddLastTrade row) = with_last_trade (last_trade_of row)
+after_change (AddCharge charge) = with_charge (charge_of charge)
+after_change (AddBand band) = with_band (band_of band)
+after_change (AddTaxRate tax) = with_tax_rate (tax_of tax)
+after_change (AddCustomerTax pays) = with_customer_tax (customer_tax_of pays)
+after_change (Keep kept) = with_kept (kept_of kept)
 after_change (SetLast stamp) = with_last stamp
 
 -- the tables after some changes, one after another

@@ -1,33 +1,72 @@
-use Rattle.std.proofs.Common.{◌≡◌, ap, subst}
-use Rattle.brk_money.specs.declared.fault.Fault.{Fault}
-use Rattle.brk_model.specs.Tables.{Tables}
-use Rattle.brk_trade.specs.Changes.{after_changes}
-use Rattle.brk_books.specs.Reads.{IsFound}
-use Rattle.brk_store.specs.Holds.{IsApplied, IsRead}
-use Rattle.brk_desk.proofs.Looking.{read_both}
-use Rattle.brk_desk.proofs.Calling.{Known, books_it, refuses}
+use Rattle.std.proofs.Common.{inl, inr, refl}
+use Rattle.std.proofs.lemmas.Result.{err_from_is_err_and}
+use Rattle.std.specs.Option.{option_copied}
+use Rattle.brk_ref.specs.Records.{kept_of}
+use Rattle.brk_desk.specs.Commands.{key_for}
+use Rattle.brk_desk.proofs.Calling.{Known, books_it, books_none, fails, known, refuses, repeats_or_fails, same_fault}
+use Rattle.brk_desk.proofs.Seen.{sought_some}
 use Rattle.brk_desk.proofs.booking.add.Goals as goal
+
+pub returns-in-Some : goal.returns-in-Some
+returns-in-Some g c =
+    let old = c.args.store.now in
+    let key = key_for (option_copied c.args.key) in
+    let sought = rw c.in-Some.is at c.in_ok-kept.ensures.sought in
+    record {
+      called = repeats_or_fails g.S.Store old c.find_kept.new.store c.args.now c.get-moment.ensures.high c.args.reference.now key (kept_of c.in-Some.kept) c.repeat.result
+          c.repeat.ensures.answer c.repeat.ensures.fault (sought_some g.S.Store old c.find_kept.new.store key c.in-Some.kept sought);
+    }
+
+pub returns-in_err-plan-in-Ok : goal.returns-in_err-plan-in-Ok
+returns-in_err-plan-in-Ok g c =
+    let old = c.args.store.now in
+    let mid = c.find_for.new.store in
+    let key = key_for (option_copied c.args.key) in
+    let last = c.in_ok-last.last in
+    let found = c.in_ok-found.found in
+    let r = c.args.reference.now in
+    let sought = rw c.in_default.is at c.in_ok-kept.ensures.sought in
+    let seen = known g.S.Store old c.find_kept.new.store c.last.new.self mid r key found last sought c.in_ok-last.ensures.read c.in_ok-found.ensures.read in
+    let p = err_from_is_err_and c.from_residual-in_err-plan-in-Ok.result c.from_residual-in_err-plan-in-Ok.ensures.1 in
+    record { called = rw (p.1, p.2) (fails g.S.Store old mid c.args.now c.get-moment.ensures.high r key (Known r key found last) seen _ (inl (same_fault _ _ _ refl c.in_err-plan-in-Ok.ensures.fault))) }
+
+pub returns-in_err-apply-in-Ok : goal.returns-in_err-apply-in-Ok
+returns-in_err-apply-in-Ok g c =
+    let old = c.args.store.now in
+    let mid = c.find_for.new.store in
+    let key = key_for (option_copied c.args.key) in
+    let last = c.in_ok-last.last in
+    let found = c.in_ok-found.found in
+    let r = c.args.reference.now in
+    let sought = rw c.in_default.is at c.in_ok-kept.ensures.sought in
+    let seen = known g.S.Store old c.find_kept.new.store c.last.new.self mid r key found last sought c.in_ok-last.ensures.read c.in_ok-found.ensures.read in
+    let planned = rw c.in-Ok.is at c.in_ok-plan.ensures.planned in
+    let p = err_from_is_err_and c.from_residual-in_err-apply-in-Ok.result c.from_residual-in_err-apply-in-Ok.ensures.1 in
+    let applied = rw c.deref.ensures.value at c.in_err-apply-in-Ok.ensures.applied in
+    record { called = rw (p.1, p.2) (books_none g.S.Store old mid c.args.now c.get-moment.ensures.high r key found last seen c.apply.new.self c.in-Ok.plan c.in_ok-plan-in-Ok.plan planned c.in_ok-plan-in-Ok.ensures.reply c.in_ok-plan-in-Ok.ensures.rows _ (inr (same_fault _ _ _ refl c.in_err-apply-in-Ok.ensures.fault)) applied) }
 
 pub returns-in_ok-apply-in-Ok : goal.returns-in_ok-apply-in-Ok
 returns-in_ok-apply-in-Ok g c =
     let old = c.args.store.now in
     let mid = c.find_for.new.store in
+    let key = key_for (option_copied c.args.key) in
     let last = c.in_ok-last.last in
     let found = c.in_ok-found.found in
-    let reference = c.args.reference.now in
-    let read = read_both g.S.Store old c.last.new.self mid {H = Fault} last found tt (λ o (t : Tables). o ≡ t.last) (λ f t. IsFound t reference f) (λ _. Known reference found last)
-    (λ t p q. (p, q)) c.in_ok-last.ensures.read c.in_ok-found.ensures.read in
+    let r = c.args.reference.now in
+    let sought = rw c.in_default.is at c.in_ok-kept.ensures.sought in
+    let seen = known g.S.Store old c.find_kept.new.store c.last.new.self mid r key found last sought c.in_ok-last.ensures.read c.in_ok-found.ensures.read in
     let planned = rw c.in-Ok.is at c.in_ok-plan.ensures.planned in
     let applied = rw c.deref.ensures.value at c.in_ok-apply-in-Ok.ensures.applied in
-    record { called = books_it g.S.Store old mid c.args.now c.get-moment.ensures.high reference found last read c.apply.new.self c.in-Ok.plan planned c.in_ok-apply-in-Ok.field-0 applied }
+    record { called = books_it g.S.Store old mid c.args.now c.get-moment.ensures.high r key found last seen c.apply.new.self c.in-Ok.plan c.in_ok-plan-in-Ok.plan planned c.in_ok-plan-in-Ok.ensures.reply c.in_ok-plan-in-Ok.ensures.rows c.in_ok-apply-in-Ok.field-0 applied }
 
 pub returns-in-Err : goal.returns-in-Err
 returns-in-Err g c =
     let old = c.args.store.now in
     let mid = c.find_for.new.store in
+    let key = key_for (option_copied c.args.key) in
     let last = c.in_ok-last.last in
     let found = c.in_ok-found.found in
-    let reference = c.args.reference.now in
-    let read = read_both g.S.Store old c.last.new.self mid {H = Fault} last found tt (λ o (t : Tables). o ≡ t.last) (λ f t. IsFound t reference f) (λ _. Known reference found last)
-    (λ t p q. (p, q)) c.in_ok-last.ensures.read c.in_ok-found.ensures.read in
-    record { called = refuses g.S.Store old mid c.args.now c.get-moment.ensures.high reference found last read c.in-Err.refusal (rw c.in-Err.is at c.in_ok-plan.ensures.planned) }
+    let r = c.args.reference.now in
+    let sought = rw c.in_default.is at c.in_ok-kept.ensures.sought in
+    let seen = known g.S.Store old c.find_kept.new.store c.last.new.self mid r key found last sought c.in_ok-last.ensures.read c.in_ok-found.ensures.read in
+    record { called = refuses g.S.Store old mid c.args.now c.get-moment.ensures.high r key found last seen c.in-Err.refusal (rw c.in-Err.is at c.in_ok-plan.ensures.planned) }

@@ -1,5 +1,4 @@
 use Rattle.std.proofs.Common.{◌≡◌, ◌==◌, ◌∙◌, find, option_map}
-use Rattle.std.specs.Prelude.{bytes_eq}
 use Rattle.brk_model.specs.Tables.{Tables}
 use Rattle.brk_tables.specs.Records.{account_row_of}
 use Rattle.brk_books.specs.Reads.{has_account}

@@ -1,4 +1,4 @@
-use Rattle.std.proofs.Common.{◌≡◌, ◌==◌, ◌∙◌, find, option_map}
+use Rattle.std.proofs.Common.{◌≡◌, ◌∙◌, find, option_map}
 use Rattle.std.specs.Prelude.{bytes_eq}
 use Rattle.brk_model.specs.Tables.{Tables}
 use Rattle.brk_ref.specs.Records.{customer_of}

@@ -56,7 +56,7 @@ returns-in-Err-answer_row g c = λ text h.
     let r = c.loop-settled.invariant.reached in
     comes _ _ _ _ _ _ _ _ _ _ r _ text _ _ c.in-Err-answer_row.ensures.earlier c.in-Err-answer_row.ensures.kept (λ T other base after turns.
     answer_failed _ _ _ _ _ _ _ _ text (progress_of _ _ _ _ _ _ _ _ _ _ r other base after turns) c.in-Err-answer_row.fault c.loop-settled.invariant.written
-    c.in-Err-answer_row.ensures.asked h)
+    c.in-Err-answer_row.ensures.asked c.in-Err-answer_row.ensures.fault h)
 
 pub returns-in-Err-tell : goal.returns-in-Err-tell
 returns-in-Err-tell g c =

@@ -1,0 +1,16 @@
+use Rattle.std.proofs.Common.{◌≡◌, ◌==◌, find, option_map, subst, rules}
+use Rattle.std.specs.Prelude.{◌&&◌, bytes_eq}
+use Rattle.brk_model.specs.Records.{Kept}
+use Rattle.brk_model.specs.Tables.{Tables}
+use Rattle.brk_ref.specs.Records.{kept_of}
+use Rattle.brk_store.specs.Holds.{IsRead}
+use Rattle.brk_store.proofs.Ending.{is_read}
+use Rattle.brk_store.proofs.keys.read_kept.Goals as goal
+
+pub returns-clause-read : goal.returns-clause-read
+returns-clause-read g c =
+    let old = c.args.conn.now in
+    let mid = c.kept_by_key.new.tx.conn.now in
+    let end = c.drop-tx.new.self.0 in
+    subst (λ h. IsRead g.S.Store old h c.kept_by_key.result (λ o (t : Tables). option_map kept_of o ≡ find (λ (k : Kept). bytes_eq k.key.batch c.args.key.now.batch && (k.key.row == c.args.key.now.row)) t.kept)) (search rules)
+    (is_read g.S.Store old mid end (c.is_autocommit-settled.ensures.settled (search rules)) c.kept_by_key.result (λ o (t : Tables). option_map kept_of o ≡ find (λ (k : Kept). bytes_eq k.key.batch c.args.key.now.batch && (k.key.row == c.args.key.now.row)) t.kept) (rw c.transaction-tx.ensures.begun at c.kept_by_key.ensures.step) c.drop-tx.ensures.survives c.drop-tx.ensures.undone)

@@ -1,0 +1,17 @@
+use Rattle.std.proofs.Common.{◌≡◌, ◌==◌, filter, find, map, option_map, subst, rules}
+use Rattle.std.specs.Prelude.{◌&&◌, bytes_eq}
+use Rattle.brk_money.specs.Kinds.{same_type}
+use Rattle.brk_model.specs.Records.{Permission, Charge, Band, TaxRate, CustomerTax}
+use Rattle.brk_model.specs.Tables.{Tables, SecurityRow}
+use Rattle.brk_ref.specs.Records.{band_of, charge_of, customer_tax_of, permission_of, security_of, tax_of}
+use Rattle.brk_store.specs.Holds.{IsRead}
+use Rattle.brk_store.proofs.Ending.{is_read}
+use Rattle.brk_store.proofs.terms.read_customer_taxes_of.Goals as goal
+
+pub returns-clause-read : goal.returns-clause-read
+returns-clause-read g c =
+    let old = c.args.conn.now in
+    let mid = c.customer_taxes_of.new.tx.conn.now in
+    let end = c.drop-tx.new.self.0 in
+    subst (λ h. IsRead g.S.Store old h c.customer_taxes_of.result (λ all (t : Tables). map customer_tax_of all.items ≡ filter (λ (r : CustomerTax). r.customer == c.args.customer) t.customer_taxes)) (search rules)
+    (is_read g.S.Store old mid end (c.is_autocommit-settled.ensures.settled (search rules)) c.customer_taxes_of.result (λ all (t : Tables). map customer_tax_of all.items ≡ filter (λ (r : CustomerTax). r.customer == c.args.customer) t.customer_taxes) (rw c.transaction-tx.ensures.begun at c.customer_taxes_of.ensures.step) c.drop-tx.ensures.survives c.drop-tx.ensures.undone)

@@ -1,0 +1,99 @@
+#!/usr/bin/env python3
+"""Sends a batch to `brk batch` through a pipe, and tells what came of each of its rows.
+
+    python3 examples/client.py [--at MS]
+
+The words are handed on to `brk batch`, and its exit status is answered. docs/FORMATS.md says what the rows and the
+lines mean.
+"""
+
+import csv
+import io
+import pathlib
+import subprocess
+import sys
+
+BRK = pathlib.Path(__file__).resolve().parent.parent / "brk"
+
+REFUSALS = {
+    1: "no such account",
+    2: "no such customer",
+    3: "no such broker",
+    7: "no such type of trade",
+    8: "a quantity is out of form or limits",
+    9: "a price is out of form or limits",
+    12: "no such tax rate",
+    14: "out of range",
+    15: "it is there already",
+    16: "the band meets another one",
+    17: "the customer's tax rates would come to more than the whole",
+    18: "a field is out of form, or the kind or the number of fields is wrong",
+    19: "another row is kept under the key",
+    21: "no later stamp is left",
+}
+
+
+def amount(cents):
+    """The one spelling of an amount: cents, and never a float."""
+    sign = "-" if cents < 0 else ""
+    return f"{sign}{abs(cents) // 100}.{abs(cents) % 100:02}"
+
+
+ROWS = [
+    ("broker", 1, "Smith, Jones & Co"),
+    ("customer", 10, 1, "T10", "Lee", 'Ann "Nan"'),
+    ("account", 100, 10, 1, "Main", 1, amount(1_000_000)),
+    ("account", 101, 11, 1, "Side", 0, amount(0)),
+    ("security", "ABC", "Acme", "NYSE", "Tech", amount(1000)),
+    ("charge", "TMB", 1, amount(500)),
+    ("band", 1, "TMB", "NYSE", 1, 999_999, 100),
+    ("band", 1, "TMB", "NYSE", 1000, 2000, 50),
+]
+
+
+def batch_of(name, rows):
+    """The bytes of a batch: the header, the rows, and the end with their number."""
+    text = io.StringIO(newline="")
+    out = csv.writer(text)
+    out.writerow(("batch", name))
+    out.writerows(rows)
+    out.writerow(("end", len(rows)))
+    return text.getvalue().encode("utf-8")
+
+
+def send(name, rows, words):
+    """Runs brk on a batch; answers its exit status, and its lines as lists of fields."""
+    # This reads lines while it writes rows: to write all first would stand still as soon as both pipes are full.
+    done = subprocess.run([BRK, "batch", *words], input=batch_of(name, rows), stdout=subprocess.PIPE)
+    # A line counts once its line feed is there.
+    whole, _, _ = done.stdout.rpartition(b"\n")
+    return done.returncode, [line.split(",") for line in whole.decode("ascii").splitlines()]
+
+
+def told(answer):
+    """What an answer says, without the row's number."""
+    if answer is None:
+        return "not answered"
+    word, *fields = answer
+    if word == "ok":
+        return f"accepted at {fields[0]}"
+    if word == "again":
+        return f"repeated, first accepted at {fields[0]}"
+    return f"refused with {','.join(fields)}: {REFUSALS.get(int(fields[0]), 'see docs/FORMATS.md')}"
+
+
+def main():
+    status, lines = send("CLIENT-1", ROWS, sys.argv[1:])
+    answers = {int(line[0]): line[1:] for line in lines if line[0] != "end"}
+    for number, row in enumerate(ROWS, start=1):
+        print(f"{number} {row[0]}: {told(answers.get(number))}")
+    if lines and lines[-1][0] == "end":
+        ok, again, no = lines[-1][1:]
+        print(f"{ok} accepted, {again} repeated, {no} refused")
+    else:
+        print("the batch did not end well")
+    return status
+
+
+if __name__ == "__main__":
+    sys.exit(main())
