@@ -12,8 +12,6 @@ mod keys;
 #[cfg(test)]
 mod limits;
 #[cfg(test)]
-mod reference_rows;
-#[cfg(test)]
 mod refusals;
 #[cfg(test)]
 mod row_texts;
