@@ -8,13 +8,12 @@ use Rattle.brk_money.specs.Spelling.{Text}
 use Rattle.brk_model.specs.Records.{Key}
 use Rattle.brk_model.specs.Base.{Base}
 use Rattle.brk_model.specs.Forms.{Read}
-use Rattle.brk_model.specs.Parse.{parse_row}
 use Rattle.brk_model.specs.Commands.{Command, Answer, Refused}
 use Rattle.brk_model.specs.Keyed.{keyed_step}
 use Rattle.brk_model.specs.Answers.{Fields, RowCall, InTurn, call_step, with_formed, formed_from, calls_of, woven, woven_one, AreAnswered}
 use Rattle.brk_model.specs.Input.{text_of, IsName, IsEnd, header_of, end_of}
 use Rattle.brk_model.specs.Lines.{lines_from, end_line, is_refused, count_refused}
-use Rattle.brk_model.specs.Batch.{Batch, Ending, EndedWell, BadHeader, NoEnd, BadEnd, AreSettled, HasNoHeader, Ends, IsAnswered, IsBatch, row_step}
+use Rattle.brk_model.specs.Batch.{Batch, Ending, EndedWell, BadHeader, NoEnd, BadEnd, AreSettled, BatchText, HasNoHeader, Ends, IsAnswered, row_step}
 use Rattle.brk_model.specs.Computed.{told_whole}
 use Rattle.brk_laws.specs.Laws.{LeadsTo, WentThrough, again_of}
 use Rattle.brk_laws.proofs.KeptLaws.{Grows, grows-on, run-grows, still, remembers, answers-again}
@@ -101,26 +100,26 @@ none-woven form n (row ∷ rows) replies l h = one (form row) n (formed_from for
     one (Err refusal) n rest more replies each l h = let k = none-first (Refused refusal) (more replies) h in absurd (cc)
 
 -- the rows of a batch settled again
-pub settled-again : (name : Text) (moments others : List ℕ) (rows : List Fields) (answers told : List Answer) (base after later last : Base) → count_refused answers ≡ 0
-    → AreSettled parse_row row_step name base moments rows answers after → Grows after later → AreSettled parse_row row_step name later others rows told last
+pub settled-again : (form : Fields → Read Command) (name : Text) (moments others : List ℕ) (rows : List Fields) (answers told : List Answer) (base after later last : Base) → count_refused answers ≡ 0
+    → AreSettled form row_step name base moments rows answers after → Grows after later → AreSettled form row_step name later others rows told last
     → (told ≡ map again_of answers) × (last ≡ later)
-settled-again name moments others rows answers told base after later last none first g second =
-    (two.all ∙ ap (woven parse_row rows) again.0 ∙ woven-again parse_row rows one.replies ∙ ap (map again_of) (sym one.all), again.1)
+settled-again form name moments others rows answers told base after later last none first g second =
+    (two.all ∙ ap (woven form rows) again.0 ∙ woven-again form rows one.replies ∙ ap (map again_of) (sym one.all), again.1)
   where
-    one : AreAnswered parse_row row_step name base moments rows answers after
+    one : AreAnswered form row_step name base moments rows answers after
     one = first.answered
 
-    two : AreAnswered parse_row row_step name later others rows told last
+    two : AreAnswered form row_step name later others rows told last
     two = second.answered
 
     formed : List (ℕ × Command)
-    formed = formed_from parse_row 1 rows
+    formed = formed_from form 1 rows
 
     each : length one.replies ≡ length formed
     each = length-turned (calls_of name moments formed) one.replies base after one.run ∙ length-calls name moments formed (omega (one.one_each, arith))
 
     done : NoneRefused one.replies
-    done = none-woven parse_row 1 rows one.replies each (ap count_refused (sym one.all) ∙ none)
+    done = none-woven form 1 rows one.replies each (ap count_refused (sym one.all) ∙ none)
 
     again : (two.replies ≡ map again_of one.replies) × (last ≡ later)
     again = in-turn-again name formed moments others one.replies two.replies base after later last one.one_each two.one_each done one.run g two.run
@@ -231,31 +230,31 @@ no-header : (input name : Text) (rest : List Fields) → IsName name → records
 no-header input name rest named e (inl empty) = let no = sym empty ∙ e in absurd (cc)
 no-header input name rest named e (inr begins) = begins.2 name named (first-same begins.0 (header_of name) begins.1.0 rest (sym begins.1.1 ∙ e))
 
-by_kind : (base later : Base) (moments others : List ℕ) (input : Text) (answers : List Answer) (first second : Batch Base)
-    (one : IsAnswered parse_row row_step base moments (Some (text_of input)) first) → one.answers ≡ answers → count_refused answers ≡ 0 → HasRecords input one.name one.rows
-    → Grows first.base later → IsBatch later others input second → second ≡ told_whole {B = Base} (map again_of answers, later)
-by_kind base later moments others input answers first second one these none has g (inr two) = absurd (no-header input one.name _ one.settled.named has.1 two.headless)
-by_kind base later moments others input answers first second one these none has g (inl two) =
+by_kind : (form : Fields → Read Command) (base later : Base) (moments others : List ℕ) (input : Text) (answers : List Answer) (first second : Batch Base)
+    (one : IsAnswered form row_step base moments (Some (text_of input)) first) → one.answers ≡ answers → count_refused answers ≡ 0 → HasRecords input one.name one.rows
+    → Grows first.base later → BatchText form row_step later others input second → second ≡ told_whole {B = Base} (map again_of answers, later)
+by_kind form base later moments others input answers first second one these none has g (inr two) = absurd (no-header input one.name _ one.settled.named has.1 two.headless)
+by_kind form base later moments others input answers first second one these none has g (inl two) =
     by_parts second (map again_of answers) later (k.4 ∙ ap (λ a. lines_from 1 a ++ end_line a) same) again.1 k.0 (two.counted ∙ ap length (k.3 ∙ same))
   where
     k : (second.ending ≡ EndedWell) × (one.name ≡ two.name) × (one.rows ≡ two.rows) × (two.told ≡ two.answers) × (second.text ≡ lines_from 1 two.answers ++ end_line two.answers)
     k = by_ending input one.name two.name one.rows two.rows two.answers two.told second.ending second.text one.settled.rows_only two.settled.rows_only has two.ends
 
-    named : AreSettled parse_row row_step one.name later others two.rows two.answers second.base
-    named = subst (λ n. AreSettled parse_row row_step n later others two.rows two.answers second.base) (sym k.1) two.settled
+    named : AreSettled form row_step one.name later others two.rows two.answers second.base
+    named = subst (λ n. AreSettled form row_step n later others two.rows two.answers second.base) (sym k.1) two.settled
 
-    settled : AreSettled parse_row row_step one.name later others one.rows two.answers second.base
-    settled = subst (λ rs. AreSettled parse_row row_step one.name later others rs two.answers second.base) (sym k.2) named
+    settled : AreSettled form row_step one.name later others one.rows two.answers second.base
+    settled = subst (λ rs. AreSettled form row_step one.name later others rs two.answers second.base) (sym k.2) named
 
     again : (two.answers ≡ map again_of one.answers) × (second.base ≡ later)
-    again = settled-again one.name moments others one.rows one.answers two.answers base first.base later second.base (ap count_refused these ∙ none) one.settled g settled
+    again = settled-again form one.name moments others one.rows one.answers two.answers base first.base later second.base (ap count_refused these ∙ none) one.settled g settled
 
     same : two.answers ≡ map again_of answers
     same = again.0 ∙ ap (map again_of) these
 
-pub comes-again : (base later : Base) (moments others : List ℕ) (input : Text) (answers : List Answer) (first second : Batch Base) → WentThrough base moments input answers first
-    → LeadsTo first.base later → IsBatch later others input second → second ≡ told_whole {B = Base} (map again_of answers, later)
-comes-again base later moments others input answers first second went leads two =
-    let one : IsAnswered parse_row row_step base moments (Some (text_of input)) first = went.answered in
+pub comes-again : (form : Fields → Read Command) (base later : Base) (moments others : List ℕ) (input : Text) (answers : List Answer) (first second : Batch Base) → WentThrough form base moments input answers first
+    → LeadsTo first.base later → BatchText form row_step later others input second → second ≡ told_whole {B = Base} (map again_of answers, later)
+comes-again form base later moments others input answers first second went leads two =
+    let one : IsAnswered form row_step base moments (Some (text_of input)) first = went.answered in
     let has = by_first input one.name one.rows one.answers one.told first.ending first.text went.ended one.ends in
-    by_kind base later moments others input answers first second one went.these went.none_refused has (run-grows leads.0 leads.1 first.base later leads.2) two
+    by_kind form base later moments others input answers first second one went.these went.none_refused has (run-grows leads.0 leads.1 first.base later leads.2) two

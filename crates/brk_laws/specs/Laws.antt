@@ -5,9 +5,9 @@ use Rattle.brk_model.specs.Records.{Key}
 use Rattle.brk_model.specs.Base.{Base, empty_base}
 use Rattle.brk_model.specs.Commands.{Command, Reply, Booked, Ordered, Ticked, CanceledTrade, CompletedTrade, Changed, Answer, Done, Again, Refused}
 use Rattle.brk_model.specs.Rows.{line_text}
-use Rattle.brk_model.specs.Parse.{parse_row}
 use Rattle.brk_model.specs.Keyed.{keyed_step}
-use Rattle.brk_model.specs.Answers.{RowCall}
+use Rattle.brk_model.specs.Answers.{Fields, RowCall}
+use Rattle.brk_model.specs.Forms.{Read}
 use Rattle.brk_model.specs.Input.{text_of}
 use Rattle.brk_model.specs.Lines.{count_refused}
 use Rattle.brk_model.specs.Batch.{Batch, EndedWell, IsAnswered, row_step}
@@ -82,9 +82,9 @@ LeadsTo base after = (calls : List (ℕ × Call)) × (outcomes : List Outcome) �
 abbrev pub IsReached : Base → Type 0
 IsReached base = LeadsTo empty_base base
 
--- a batch ended well and answered its rows so, and refused none
-pub record WentThrough (base : Base) (moments : List ℕ) (input : Text) (answers : List Answer) (batch : Batch Base) : Type 0 where
-  pub answered : IsAnswered parse_row row_step base moments (Some (text_of input)) batch
+-- a batch, by whatever tests of form, ended well and answered its rows so, and refused none
+pub record WentThrough (form : Fields → Read Command) (base : Base) (moments : List ℕ) (input : Text) (answers : List Answer) (batch : Batch Base) : Type 0 where
+  pub answered : IsAnswered form row_step base moments (Some (text_of input)) batch
   pub ended : batch.ending ≡ EndedWell
   pub these : answered.answers ≡ answers
   pub none_refused : count_refused answers ≡ 0

@@ -4,9 +4,10 @@ ghost use Rattle.std.specs.Prelude.{◌≡◌, ◌≤◌, ℕ, List, length, map
 ghost use Rattle.csv.specs.Reading.{records, default_config};
 ghost use Rattle.brk_model.specs.Base.{Base};
 ghost use Rattle.brk_model.specs.Commands.{Answer, Command};
-ghost use Rattle.brk_model.specs.Answers.{InTurn, RowCall};
+ghost use Rattle.brk_model.specs.Answers.{Fields, InTurn, RowCall};
+ghost use Rattle.brk_model.specs.Forms.{Read};
 ghost use Rattle.brk_model.specs.Input.{text_of};
-ghost use Rattle.brk_model.specs.Batch.{Batch, IsBatch, row_step};
+ghost use Rattle.brk_model.specs.Batch.{Batch, BatchText, IsBatch, row_step};
 ghost use Rattle.brk_model.specs.Computed.{batch, told_whole};
 ghost use Rattle.brk_model.specs.Run.{Did, Run};
 ghost use Rattle.brk_laws.specs.Laws.{LeadsTo, WentThrough, again_of, call_of};
@@ -23,8 +24,8 @@ pub fn rows_are_calls()
         → Run base (map call_of calls) (map Did answers) after }
 {}
 
-/// A batch that went through, sent again over the base that it led to or any later one, at any moments, changes nothing and is answered with its kept lines.
+/// A batch that went through, by whatever tests of form, sent again over the base that it led to or any later one, at any moments, changes nothing and is answered with its kept lines.
 pub fn a_batch_sent_again_changes_nothing()
-    ensures { (base later : Base) (moments others : List ℕ) (input : List ℕ) (answers : List Answer) (first second : Batch Base) → WentThrough base moments input answers first
-        → LeadsTo first.base later → IsBatch later others input second → second ≡ told_whole (map again_of answers, later) }
+    ensures { (form : Fields → Read Command) (base later : Base) (moments others : List ℕ) (input : List ℕ) (answers : List Answer) (first second : Batch Base) → WentThrough form base moments input answers first
+        → LeadsTo first.base later → BatchText form row_step later others input second → second ≡ told_whole (map again_of answers, later) }
 {}
