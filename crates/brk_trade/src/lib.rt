@@ -10,6 +10,3 @@ pub use change::Change;
 pub use plan::Plan;
 pub use reference::{Found, Reference, plan_reference};
 pub use reply::Reply;
-
-#[cfg(test)]
-mod tests;
