@@ -1,6 +1,6 @@
 use crate::Store;
 use brk_money::{Cents, Condition, Fault, Id, Stamp, TaxStatus};
-use brk_ref::{Account, BatchName, Broker, Customer, Kept, Key, Name, RowNumber, TaxId, Tier};
+use brk_ref::{Account, Broker, Customer, Name, TaxId, Tier};
 use brk_trade::Change;
 use sqlite::{Connection, MemStore};
 use std::alloc::Global;
@@ -116,36 +116,6 @@ fn the_last_stamp_is_kept(rt: HostRuntime) -> Result<(), Fail> {
     assert_eq!(rt; store.last()?, None);
     store.apply(&[Change::SetLast(stamp(16)?)])?;
     assert_eq!(rt; store.last()?, Some(stamp(16)?));
-    Ok(())
-}
-
-fn key(alloc: Global, batch: &[u8], row: u64) -> Result<Key, Fail> {
-    Ok(Key {
-        batch: BatchName::parse(alloc, batch)?.ok_or("a batch's name")?,
-        row: RowNumber::new(row).ok_or("a row's number")?,
-    })
-}
-
-fn keep(alloc: Global, row: u64) -> Result<Change, Fail> {
-    Ok(Change::Keep(Kept {
-        key: key(alloc, b"A", row)?,
-        row_text: String::from_str(alloc, "broker")?,
-        line: String::from_str(alloc, "16")?,
-    }))
-}
-
-#[test]
-fn a_row_is_kept_under_its_key(rt: HostRuntime) -> Result<(), Fail> {
-    let alloc = rt.alloc();
-    let mut store = changed(alloc, &[keep(alloc, 1)?])?;
-    let kept = store.kept(&key(alloc, b"A", 1)?)?.ok_or("no row")?;
-    assert_eq!(rt; kept.key.batch.as_str(), "A");
-    assert_eq!(rt; kept.key.row.get(), 1);
-    assert_eq!(rt; kept.row_text.as_str(), "broker");
-    assert_eq!(rt; kept.line.as_str(), "16");
-    assert!(rt; store.kept(&key(alloc, b"A", 2)?)?.is_none());
-    assert!(rt; store.kept(&key(alloc, b"a", 1)?)?.is_none());
-    assert_eq!(rt; store.apply(&[keep(alloc, 1)?]), Err(Fault::Store));
     Ok(())
 }
 
