@@ -12,6 +12,8 @@ mod keys;
 #[cfg(test)]
 mod limits;
 #[cfg(test)]
+mod order_forms;
+#[cfg(test)]
 mod refusals;
 #[cfg(test)]
 mod row_texts;

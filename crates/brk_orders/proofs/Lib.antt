@@ -1,0 +1,4 @@
+mod Counts
+mod Refused
+mod Joined
+mod OrderFields

@@ -1,0 +1,31 @@
+-- What is asked for, in the abstract brokerage.
+use Rattle.std.specs.Prelude.{List, [], ◌∷◌, map}
+use Rattle.std.specs.Global.{Vec}
+use Rattle.brk_money.specs.Spelling.{Text}
+use Rattle.brk_model.specs.Commands.{Order, Tick}
+use Rattle.brk_ref.specs.Records.{executor_of}
+use Rattle.brk_orders.specs.declared.order.Order as order
+use Rattle.brk_orders.specs.declared.order.Told as told
+use Rattle.brk_orders.specs.declared.tick.Tick as tick
+
+abbrev pub order_of : order.Order → Order
+order_of o = record { account = o.account; kind = o.kind; symbol = o.symbol; qty = o.qty; price = o.price; is_cash = o.is_cash; is_lifo = o.is_lifo; executor = executor_of o.executor }
+
+-- the texts of an order's fields in their order
+abbrev pub told_texts : told.Told → List Text
+told_texts t =
+    t.account.now ∷ t.kind.now ∷ t.symbol.now ∷ t.qty.now ∷ t.price.now ∷ t.cash.now ∷ t.end.now ∷ t.first_name.now ∷ t.last_name.now ∷ t.tax_id.now ∷ []
+
+abbrev pub tick_of : tick.Tick → Tick
+tick_of t = record { symbol = t.symbol; price = t.price; qty = t.qty }
+
+-- a feed of one tick
+abbrev pub alone : tick.Tick → List Tick
+alone t = tick_of t ∷ []
+
+abbrev pub ticks_of : List tick.Tick → List Tick
+ticks_of ticks = map tick_of ticks
+
+-- the ticks that were taken so far
+abbrev pub items_of : Vec tick.Tick → List Tick
+items_of ticks = ticks_of ticks.items

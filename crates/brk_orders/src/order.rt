@@ -1,0 +1,201 @@
+ghost use Rattle.std.specs.Prelude.{◌≡◌, ◌≢◌, ◌∷◌, [], IfOk, OnErr, Err, Some, option_map};
+ghost use Rattle.std.specs.Option.{ok_or};
+ghost use Rattle.brk_model.specs.Forms.{no_price_for, price_for, read_either, read_price};
+ghost use Rattle.brk_model.specs.Parse.{read_executor, read_order};
+ghost use Rattle.brk_money.specs.declared.fault.Fault.TheVariants.{Memory};
+ghost use Rattle.brk_money.specs.declared.refusal.Refusal.TheVariants.{BadText};
+ghost use Rattle.brk_orders.specs.Records.{order_of, told_texts};
+ghost use Rattle.brk_ref.specs.Records.{executor_of};
+ghost use Rattle.brk_ref.specs.Fields.{Reads, texts};
+
+use brk_money::{Fault, Id, Planned, Price, Qty, Refusal, TradeType};
+use brk_ref::{Executor, Name, Symbol, TaxId, parse_id, parse_price, parse_qty, parse_type};
+use std::alloc::Global;
+
+/// An order, as it is asked for (Trade-Order).
+#[derive(Debug, Drop)]
+pub struct Order {
+    /// The account that it is for.
+    pub account: Id,
+    pub kind: TradeType,
+    pub symbol: Symbol,
+    /// How many shares.
+    pub qty: Qty,
+    /// The price of a share that it asks for; none for a market type.
+    pub price: Option<Price>,
+    /// Whether it is of the cash account, else it is on margin.
+    pub is_cash: bool,
+    /// Whether the last lots are closed first, else the first.
+    pub is_lifo: bool,
+    /// Who places it.
+    pub executor: Executor,
+}
+
+// The fields of an order, as they are told.
+#[derive(Clone, Copy)]
+struct Told<'a> {
+    account: &'a [u8],
+    kind: &'a [u8],
+    symbol: &'a [u8],
+    qty: &'a [u8],
+    price: &'a [u8],
+    cash: &'a [u8],
+    end: &'a [u8],
+    first_name: &'a [u8],
+    last_name: &'a [u8],
+    tax_id: &'a [u8],
+}
+
+// Which of two words the bytes are.
+fn parse_either(yes: &str, no: &str, bytes: &[u8]) -> Option<bool>
+    ensures { ok_or result BadText ≡ read_either yes.now no.now bytes.now }
+{
+    if bytes == yes.as_bytes() {
+        return Some(true);
+    }
+    if bytes == no.as_bytes() {
+        return Some(false);
+    }
+    None
+}
+
+// Who places an order.
+fn parse_executor(
+    alloc: Global,
+    first_name: &[u8],
+    last_name: &[u8],
+    tax_id: &[u8],
+) -> Result<Option<Executor>, Fault>
+    ensures read { IfOk result (λ executor. ok_or (option_map executor_of executor) BadText ≡ read_executor first_name.now last_name.now tax_id.now) }
+    ensures fault { OnErr result (result ≡ Err Memory) }
+{
+    let Some(first_name) = Name::parse(alloc, first_name)? else {
+        return Ok(None);
+    };
+    let Some(last_name) = Name::parse(alloc, last_name)? else {
+        return Ok(None);
+    };
+    let Some(tax_id) = TaxId::parse(alloc, tax_id)? else {
+        return Ok(None);
+    };
+    Ok(Some(Executor {
+        first_name,
+        last_name,
+        tax_id,
+    }))
+}
+
+// No price, which stands for a market type or one that is not known.
+fn no_price(kind: Option<TradeType>) -> Result<Option<Price>, Refusal>
+    ensures { result ≡ no_price_for kind }
+{
+    match kind {
+        Some(kind) if !kind.is_market() => Err(Refusal::BadPrice),
+        _ => Ok(None),
+    }
+}
+
+// The price that the bytes spell, which stands for a type that is no market type or not known.
+fn given_price(kind: Option<TradeType>, price: &[u8]) -> Result<Option<Price>, Refusal>
+    ensures { result ≡ price_for kind (read_price price.now) }
+{
+    let Some(price) = parse_price(price) else {
+        return Err(Refusal::BadPrice);
+    };
+    match kind {
+        Some(kind) if kind.is_market() => Err(Refusal::BadPrice),
+        _ => Ok(Some(price)),
+    }
+}
+
+// The price of an order of a type, if the type is known.
+fn order_price(kind: Option<TradeType>, price: &[u8]) -> Result<Option<Price>, Refusal>
+    ensures empty { price.now ≡ [] → result ≡ no_price_for kind }
+    ensures given { price.now ≢ [] → result ≡ price_for kind (read_price price.now) }
+{
+    if price.is_empty() {
+        no_price(kind)
+    } else {
+        given_price(kind, price)
+    }
+}
+
+// The order that these texts are.
+fn order_from(alloc: Global, told: Told<'_>) -> Planned<Order>
+    ensures read { IfOk result (λ read. Reads order_of read (read_order (told_texts told.entry))) }
+    ensures fault { OnErr result (result ≡ Err Memory) }
+{
+    let Some(account) = parse_id(told.account) else {
+        return Ok(Err(Refusal::BadText));
+    };
+    let Some(symbol) = Symbol::parse(alloc, told.symbol)? else {
+        return Ok(Err(Refusal::BadText));
+    };
+    let Some(is_cash) = parse_either("cash", "margin", told.cash) else {
+        return Ok(Err(Refusal::BadText));
+    };
+    let Some(is_lifo) = parse_either("lifo", "fifo", told.end) else {
+        return Ok(Err(Refusal::BadText));
+    };
+    let Some(executor) = parse_executor(alloc, told.first_name, told.last_name, told.tax_id)? else {
+        return Ok(Err(Refusal::BadText));
+    };
+    let Some(qty) = parse_qty(told.qty) else {
+        return Ok(Err(Refusal::BadQty));
+    };
+    let kind = parse_type(told.kind);
+    let price = match order_price(kind, told.price) {
+        Ok(price) => price,
+        Err(refusal) => return Ok(Err(refusal)),
+    };
+    let Some(kind) = kind else {
+        return Ok(Err(Refusal::BadType));
+    };
+    Ok(Ok(Order {
+        account,
+        kind,
+        symbol,
+        qty,
+        price,
+        is_cash,
+        is_lifo,
+        executor,
+    }))
+}
+
+/// The order that the fields ACCOUNT, TYPE, SYMBOL, QTY, PRICE, CASH, END, FIRST, LAST and TAXID are, or the refusal of
+/// their form. PRICE is empty for a market type, a price for the others, and either where there is no such type. Of
+/// several refusals that of a text stands (18), else the quantity's (8), the price's (9), the type's (7).
+pub fn check_order(alloc: Global, fields: &[&[u8]]) -> Planned<Order>
+    ensures read { IfOk result (λ read. Reads order_of read (read_order (texts fields.now))) }
+    ensures fault { OnErr result (result ≡ Err Memory) }
+{
+    let [
+        account,
+        kind,
+        symbol,
+        qty,
+        price,
+        cash,
+        end,
+        first_name,
+        last_name,
+        tax_id,
+    ] = fields
+    else {
+        return Ok(Err(Refusal::BadText));
+    };
+    let told = Told {
+        account,
+        kind,
+        symbol,
+        qty,
+        price,
+        cash,
+        end,
+        first_name,
+        last_name,
+        tax_id,
+    };
+    order_from(alloc, told)
+}

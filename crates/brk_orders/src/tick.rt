@@ -1,0 +1,36 @@
+ghost use Rattle.std.specs.Prelude.{◌≡◌, ◌∷◌, [], IfOk, OnErr, Err};
+ghost use Rattle.brk_model.specs.Parse.{read_ticks};
+ghost use Rattle.brk_money.specs.declared.fault.Fault.TheVariants.{Memory};
+ghost use Rattle.brk_orders.specs.Records.{alone};
+ghost use Rattle.brk_ref.specs.Fields.{Reads};
+
+use brk_money::{Planned, Price, Qty, Refusal};
+use brk_ref::{Symbol, parse_price, parse_qty};
+use std::alloc::Global;
+
+/// A trade on the market, as a feed tells of it (Market-Feed).
+#[derive(Debug, Drop)]
+pub struct Tick {
+    pub symbol: Symbol,
+    /// The price of a share.
+    pub price: Price,
+    /// How many shares were traded.
+    pub qty: Qty,
+}
+
+// The tick that these texts are, or the refusal of their form.
+pub(crate) fn tick_from(alloc: Global, symbol: &[u8], price: &[u8], qty: &[u8]) -> Planned<Tick>
+    ensures read { IfOk result (λ read. Reads alone read (read_ticks (symbol.now ∷ price.now ∷ qty.now ∷ []))) }
+    ensures fault { OnErr result (result ≡ Err Memory) }
+{
+    let Some(symbol) = Symbol::parse(alloc, symbol)? else {
+        return Ok(Err(Refusal::BadText));
+    };
+    let Some(qty) = parse_qty(qty) else {
+        return Ok(Err(Refusal::BadQty));
+    };
+    let Some(price) = parse_price(price) else {
+        return Ok(Err(Refusal::BadPrice));
+    };
+    Ok(Ok(Tick { symbol, price, qty }))
+}
