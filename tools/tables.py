@@ -1,10 +1,10 @@
 #!/usr/bin/env python3
-"""Writes the parts of crates/brk_tables that follow from the list of tables and statements below: the shapes and cells
-of the tables, what each SQL text means over any schema, and which text makes which table. Run it at the top of the
-repository after a change of the list. What it writes is checked like any other file."""
+"""Writes the parts of crates/brk_tables and of crates/brk_trades that follow from the list of tables and statements
+below: the shapes and cells of the tables and which text makes which table (brk_tables), and what each SQL text means over
+any schema (in the crate of the statement). Run it at the top of the repository after a change of the list. What it writes
+is checked like any other file."""
 OUT = 'crates/brk_tables/proofs'
 SPECS = 'crates/brk_tables/specs'
-CRATE = 'brk_tables'
 
 # For each table: the SQL name, its name among the tables, the type of its rows, the key of a row, the list of its rows,
 # whether its key is the rowid, and its columns: name, kind, how a row r shows it, the table and column it names.
@@ -113,14 +113,14 @@ use Rattle.brk_rows.proofs.Meant.{{meant, inserts, updates_or, deletes_or, reads
 use Rattle.brk_rows.proofs.Pick.{{selection, whole_page}}
 use Rattle.brk_rows.proofs.Scoped.{{over_one, column_is, heading_is}}
 use Rattle.brk_rows.proofs.Texts.{{read}}
-use Rattle.{crate}.specs.Shapes.{{{table}}}
+use Rattle.brk_tables.specs.Shapes.{{{table}}}
 '''
 
-def write(name, what, table, body):
-    text = HEAD.format(what=what, crate=CRATE, table=table) + body
-    open(f'{OUT}/{name}.antt', 'w').write(text)
+def write(crate, name, what, table, body):
+    text = HEAD.format(what=what, table=table) + body
+    open(f'crates/{crate}/proofs/{name}.antt', 'w').write(text)
 
-def insert(name, t, values):
+def insert(crate, name, t, values):
     """values: for each column a parameter's number, ('lit', n) or 'null'"""
     sql, cols, rowkey = TABLES[t]
     shown = ', '.join(f'?{v}' if isinstance(v, int) else 'NULL' if v == 'null' else str(v[1]) for v in values)
@@ -128,7 +128,7 @@ def insert(name, t, values):
     term = lambda v: f'col 0 {v - 1}' if isinstance(v, int) else 'lit Null' if v == 'null' else f'lit (Int (pos {v[1]}))'
     terms = [term(v) for v in values]
     terms = [terms[0], 'lit Null'] + terms[1:] if rowkey else ['lit Null'] + terms
-    write(name, 'an INSERT', t, f'''
+    write(crate, name, 'an INSERT', t, f'''
 abbrev pub statement : List ℕ
 statement = codes "{text}"
 
@@ -141,7 +141,7 @@ understood_as schema at tree h = inserts schema statement (read statement) refl 
 ''')
     return text
 
-def update(name, t, sets, tests):
+def update(crate, name, t, sets, tests):
     sql, cols, rowkey = TABLES[t]
     text = f'UPDATE {sql} SET {", ".join(f"{c} = ?{n}" for c, n in sets)} WHERE {" AND ".join(f"{c} = ?{n}" for c, n in tests)}'
     new = dict(sets)
@@ -150,7 +150,7 @@ def update(name, t, sets, tests):
         if rowkey and i == 0:
             continue
         project.append(f'col 0 {new[c] - 1}' if c in new else f'col 1 {i + 1}')
-    write(name, 'an UPDATE', t, f'''
+    write(crate, name, 'an UPDATE', t, f'''
 abbrev pub statement : List ℕ
 statement = codes "{text}"
 
@@ -180,10 +180,10 @@ understood_as schema at tree h = updates_or schema statement (read statement) re
 ''')
     return text
 
-def delete(name, t, tests):
+def delete(crate, name, t, tests):
     sql, cols, rowkey = TABLES[t]
     text = f'DELETE FROM {sql} WHERE {" AND ".join(f"{c} = ?{n}" for c, n in tests)}'
-    write(name, 'a DELETE', t, f'''
+    write(crate, name, 'a DELETE', t, f'''
 abbrev pub statement : List ℕ
 statement = codes "{text}"
 
@@ -232,10 +232,10 @@ use Rattle.sqlite_resolve.specs.declared.compiled.Compiled.{Compiled}
 use Rattle.sqlite.specs.Listing.{understood}
 '''
 
-def select(name, t, tests, order, limit=None):
-    """order: [(column, falls)]; limit: a parameter's number or ('lit', n). All columns are shown, in their order."""
+def select(crate, name, t, tests, order, limit=None, shown=None):
+    """order: [(column, falls)]; limit: a parameter's number or ('lit', n); shown: columns, and else all of them."""
     sql, cols, rowkey = TABLES[t]
-    names = [c for c, _ in cols]
+    names = shown or [c for c, _ in cols]
     text = f'SELECT {", ".join(names)} FROM {sql}'
     if tests:
         text += f' WHERE {" AND ".join(f"{c} = ?{n}" for c, n in tests)}'
@@ -245,7 +245,7 @@ def select(name, t, tests, order, limit=None):
     lim_e = 'None' if limit is None else ('Some (e.Parameter %d)' % limit if isinstance(limit, int) else f'Some (e.Integer ({q(limit[1])}))')
     lim_t = 'lit (Int (negsuc 0))' if limit is None else (f'col 0 {limit - 1}' if isinstance(limit, int) else f'lit (Int (pos {limit[1]}))')
     b = lambda x: 'true' if x else 'false'
-    n1 = len(cols)
+    n1 = len(names)
     n2 = n1 + (4 * len(tests) - 1 if tests else 0)
     n3 = n2 + len(order)
     carry = lambda c: 'nothing' if place(t, c) == 0 else 'binary'
@@ -344,7 +344,7 @@ pub plain : (schema : Schema) (c : Compiled) → understood schema statement ≡
 unfolding everything
 plain = no_returning statement (read statement) select refl refl refl
 '''
-    write(name, 'a SELECT', t, body)
+    write(crate, name, 'a SELECT', t, body)
     return text
 
 
@@ -555,6 +555,53 @@ all_probed = {'('.join(f'({d[0]}_probed, ' for d in DATA).replace('((','(')}tt{'
 """
     open(f'{OUT}/Probing.antt', 'w').write(out)
 
+# for each crate: its statements, each with its name, its table, and what it takes
+STATEMENTS = {
+    'brk_tables': [
+        (insert, 'AddDesk', 'desk_row', [('lit', 1), ('lit', 1), 'null']),
+        (insert, 'AddKept', 'kept', [1, 2, 3, 4]),
+        (insert, 'AddBroker', 'broker', [1, 2, ('lit', 0), ('lit', 0)]),
+        (insert, 'AddCustomer', 'customer', [1, 2, 3, 4, 5]),
+        (insert, 'AddAccount', 'account', [1, 2, 3, 4, 5, 6, 6]),
+        (insert, 'AddPermission', 'permission', [1, 2, 3, 4, 5]),
+        (insert, 'AddSecurity', 'security', [1, 2, 3, 4]),
+        (insert, 'AddLastTrade', 'last_trade', [1, 2, 3, 4]),
+        (insert, 'AddCharge', 'charge', [1, 2, 3]),
+        (insert, 'AddBand', 'band', [1, 2, 3, 4, 5, 6]),
+        (insert, 'AddTaxRate', 'tax_rate', [1, 2, 3]),
+        (insert, 'AddCustomerTax', 'customer_tax', [1, 2]),
+        (update, 'SetLast', 'desk_row', [('D_LAST', 1)], [('D_ID', 2)]),
+        (select, 'DeskRows', 'desk_row', [], [('D_ID', False)]),
+        (select, 'KeptByKey', 'kept', [('K_BATCH', 1), ('K_N', 2)], [('K_BATCH', False), ('K_N', False)]),
+        (select, 'BrokerById', 'broker', [('B_ID', 1)], [('B_ID', False)]),
+        (select, 'CustomerById', 'customer', [('C_ID', 1)], [('C_ID', False)]),
+        (select, 'CustomerByTaxId', 'customer', [('C_TAX_ID', 1)], [('C_ID', False)]),
+        (select, 'AccountById', 'account', [('CA_ID', 1)], [('CA_ID', False)]),
+        (select, 'AccountsOfCustomer', 'account', [('CA_C_ID', 1)], [('CA_ID', False)]),
+        (select, 'PermissionByKey', 'permission', [('AP_CA_ID', 1), ('AP_TAX_ID', 2)], [('AP_CA_ID', False), ('AP_TAX_ID', False)]),
+        (select, 'SecurityBySymbol', 'security', [('S_SYMB', 1)], [('S_SYMB', False)]),
+        (select, 'ChargeByKey', 'charge', [('CH_TT_ID', 1), ('CH_C_TIER', 2)], [('CH_TT_ID', False), ('CH_C_TIER', False)]),
+        (select, 'TaxRateById', 'tax_rate', [('TX_ID', 1)], [('TX_ID', False)]),
+        (select, 'CustomerTaxByKey', 'customer_tax', [('CX_C_ID', 1), ('CX_TX_ID', 2)], [('CX_C_ID', False), ('CX_TX_ID', False)]),
+        (select, 'BandsFor', 'band', [('CR_C_TIER', 1), ('CR_TT_ID', 2), ('CR_EX_ID', 3)], [('CR_C_TIER', False), ('CR_TT_ID', False), ('CR_EX_ID', False), ('CR_FROM_QTY', False)]),
+        (select, 'CustomerTaxesOf', 'customer_tax', [('CX_C_ID', 1)], [('CX_C_ID', False), ('CX_TX_ID', False)]),
+    ],
+    'brk_trades': [
+        (insert, 'AddTrade', 'trade', [1, 2, 3, 4, 5, 6, 7, 8, 9, 10, 11, 12, 13, 14, 15]),
+        (insert, 'AddTradeHistory', 'history', [1, 2, 3]),
+        (insert, 'AddRequest', 'request', [1, 2, 3, 4, 5, 6]),
+        (delete, 'RemoveRequest', 'request', [('TR_T_ID', 1)]),
+        (select, 'TradeById', 'trade', [('T_ID', 1)], [('T_ID', False)]),
+        (select, 'LastTradeId', 'trade', [], [('T_ID', True)], ('lit', 1), ['T_ID']),
+        (select, 'RequestsOf', 'request', [('TR_S_SYMB', 1)], [('TR_T_ID', False)]),
+        (select, 'LastTradeBySymbol', 'last_trade', [('LT_S_SYMB', 1)], [('LT_S_SYMB', False)]),
+        (update, 'SetLastTrade', 'last_trade', [('LT_DTS', 1), ('LT_PRICE', 2), ('LT_VOL', 3)], [('LT_S_SYMB', 4)]),
+        (update, 'SetStatus', 'trade', [('T_ST_ID', 1), ('T_DTS', 2)], [('T_ID', 3)]),
+        (select, 'LotsOf', 'holding', [('H_CA_ID', 1), ('H_S_SYMB', 2)], [('H_DTS', False), ('H_T_ID', False)]),
+        (select, 'SummariesOf', 'summary', [('HS_CA_ID', 1)], [('HS_CA_ID', False), ('HS_S_SYMB', False)]),
+    ],
+}
+
 if __name__ == '__main__':
     shapes()
     cells()
@@ -562,33 +609,8 @@ if __name__ == '__main__':
     splits()
     making()
     probing()
-    for line in [create_text(d) for d in DATA] + [
-        insert('AddDesk', 'desk_row', [('lit', 1), ('lit', 1), 'null']),
-        insert('AddKept', 'kept', [1, 2, 3, 4]),
-        insert('AddBroker', 'broker', [1, 2, ('lit', 0), ('lit', 0)]),
-        insert('AddCustomer', 'customer', [1, 2, 3, 4, 5]),
-        insert('AddAccount', 'account', [1, 2, 3, 4, 5, 6, 6]),
-        insert('AddPermission', 'permission', [1, 2, 3, 4, 5]),
-        insert('AddSecurity', 'security', [1, 2, 3, 4]),
-        insert('AddLastTrade', 'last_trade', [1, 2, 3, 4]),
-        insert('AddCharge', 'charge', [1, 2, 3]),
-        insert('AddBand', 'band', [1, 2, 3, 4, 5, 6]),
-        insert('AddTaxRate', 'tax_rate', [1, 2, 3]),
-        insert('AddCustomerTax', 'customer_tax', [1, 2]),
-        update('SetLast', 'desk_row', [('D_LAST', 1)], [('D_ID', 2)]),
-        select('DeskRows', 'desk_row', [], [('D_ID', False)]),
-        select('KeptByKey', 'kept', [('K_BATCH', 1), ('K_N', 2)], [('K_BATCH', False), ('K_N', False)]),
-        select('BrokerById', 'broker', [('B_ID', 1)], [('B_ID', False)]),
-        select('CustomerById', 'customer', [('C_ID', 1)], [('C_ID', False)]),
-        select('CustomerByTaxId', 'customer', [('C_TAX_ID', 1)], [('C_ID', False)]),
-        select('AccountById', 'account', [('CA_ID', 1)], [('CA_ID', False)]),
-        select('AccountsOfCustomer', 'account', [('CA_C_ID', 1)], [('CA_ID', False)]),
-        select('PermissionByKey', 'permission', [('AP_CA_ID', 1), ('AP_TAX_ID', 2)], [('AP_CA_ID', False), ('AP_TAX_ID', False)]),
-        select('SecurityBySymbol', 'security', [('S_SYMB', 1)], [('S_SYMB', False)]),
-        select('ChargeByKey', 'charge', [('CH_TT_ID', 1), ('CH_C_TIER', 2)], [('CH_TT_ID', False), ('CH_C_TIER', False)]),
-        select('TaxRateById', 'tax_rate', [('TX_ID', 1)], [('TX_ID', False)]),
-        select('CustomerTaxByKey', 'customer_tax', [('CX_C_ID', 1), ('CX_TX_ID', 2)], [('CX_C_ID', False), ('CX_TX_ID', False)]),
-        select('BandsFor', 'band', [('CR_C_TIER', 1), ('CR_TT_ID', 2), ('CR_EX_ID', 3)], [('CR_C_TIER', False), ('CR_TT_ID', False), ('CR_EX_ID', False), ('CR_FROM_QTY', False)]),
-        select('CustomerTaxesOf', 'customer_tax', [('CX_C_ID', 1)], [('CX_C_ID', False), ('CX_TX_ID', False)]),
-    ]:
-        print(line)
+    for table in DATA:
+        print(create_text(table))
+    for crate, statements in STATEMENTS.items():
+        for write_one, *parts in statements:
+            print(write_one(crate, *parts))

@@ -68,7 +68,7 @@ new_pair m n j k e = (cc, cc)
 new_word : (s t : Text) (j k : List KeyPart) → word s ∷ j ≡ word t ∷ k → (s ≡ t) × (j ≡ k)
 new_word s t j k e = (cc, cc)
 
-not_both : (b : Bool) → b ≡ true → b ≡ false → ⊥
+pub not_both : (b : Bool) → b ≡ true → b ≡ false → ⊥
 not_both b e f = let k : true ≡ false = sym e ∙ f in absurd (cc)
 
 -- ---- the kinds

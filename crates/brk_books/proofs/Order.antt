@@ -1,5 +1,5 @@
 -- Keys stand in one order, and rows that are sorted by it: a row that is put in, changed rows, and rows left out.
-use Rattle.std.proofs.Common.{◌≡◌, Bool, true, false, not, cond, List, [], ◌∷◌, ◌++◌, refl, sym, ◌∙◌, ap, filter, arith}
+use Rattle.std.proofs.Common.{◌≡◌, Bool, true, false, not, cond, List, [], ◌∷◌, ◌++◌, refl, sym, ◌∙◌, ap, map, filter, arith}
 use Rattle.std.specs.Prelude.{⊤, ◌&&◌, ◌||◌, nat_lt}
 use Rattle.std.specs.List.{AllByRecursion}
 use Rattle.std.proofs.lemmas.Bool.Decides.{nat_tests}
@@ -210,7 +210,23 @@ pub by_key-append : {Row : Type 0} (key : Row → List KeyPart) (xs : List Row) 
     → by_key key (xs ++ x ∷ []) ≡ insert_by (row_before key) x (by_key key xs)
 by_key-append key xs x h = by_key-middle key xs x [] h ∙ ap (λ ys. insert_by (row_before key) x (by_key key ys)) (append_nil xs)
 
--- ---- rows left out
+-- ---- rows changed, and rows left out
+
+-- a change that leaves the key leaves where a row stands
+map-insert_by : {X Y : Type 0} (before : X → X → Bool) (before' : Y → Y → Bool) (f : X → Y) (x : X) (ys : List X)
+    → ((a b : X) → before' (f a) (f b) ≡ before a b) → map f (insert_by before x ys) ≡ insert_by before' (f x) (map f ys)
+map-insert_by before before' f x [] h = refl
+map-insert_by before before' f x (y ∷ ys) h =
+    rw (h y x) (elim (before y x) as (λ b. map f (cond b (y ∷ insert_by before x ys) (x ∷ y ∷ ys)) ≡ cond b (f y ∷ insert_by before' (f x) (map f ys)) (f x ∷ f y ∷ map f ys))
+    [ true ↦ ap (λ zs. f y ∷ zs) (map-insert_by before before' f x ys h) | false ↦ refl ])
+
+pub by_key-map : {X Y : Type 0} (key : X → List KeyPart) (key' : Y → List KeyPart) (f : X → Y) (xs : List X)
+    → ((x : X) → key' (f x) ≡ key x) → by_key key' (map f xs) ≡ map f (by_key key xs)
+unfolding sort_by
+by_key-map key key' f [] h = refl
+by_key-map key key' f (x ∷ xs) h =
+    ap (insert_by (row_before key') (f x)) (by_key-map key key' f xs h)
+    ∙ sym (map-insert_by (row_before key) (row_before key') f x (by_key key xs) (λ a b. ap (λ k. key_before k (key' (f b))) (h a) ∙ ap (key_before (key a)) (h b)))
 
 -- each goes no later than those after it
 abbrev pub NoneBefore : {X : Type 0} → (X → X → Bool) → X → List X → Type 0
@@ -228,7 +244,7 @@ none_through before x y (w ∷ ws) s e h = (not_before (before w x) refl, none_t
     not_before false i = i
     not_before true i = absurd (cc (s x y w i h.0))
 
-All-insert : {X : Type 0} (P : X → Type 0) (before : X → X → Bool) (x : X) (ys : List X) → P x → AllByRecursion P ys → AllByRecursion P (insert_by before x ys)
+pub All-insert : {X : Type 0} (P : X → Type 0) (before : X → X → Bool) (x : X) (ys : List X) → P x → AllByRecursion P ys → AllByRecursion P (insert_by before x ys)
 All-insert P before x [] p h = (p, tt)
 All-insert P before x (y ∷ ys) p h =
     elim (before y x) as (λ b. AllByRecursion P (cond b (y ∷ insert_by before x ys) (x ∷ y ∷ ys)))
@@ -295,3 +311,15 @@ by_key-filter key p (x ∷ xs) =
     put : by_key key (filter p xs) ≡ filter p (by_key key xs) → (b : Bool) → p x ≡ b → by_key key (filter p (x ∷ xs)) ≡ cond (p x) (insert_by (row_before key) x (filter p (by_key key xs))) (filter p (by_key key xs))
     put ih true e = rw e (ap (insert_by (row_before key) x) ih)
     put ih false e = rw e ih
+
+-- what stands in order stays as it is
+pub sort_sorted : {X : Type 0} (before : X → X → Bool) (xs : List X) → Sorted before xs → sort_by before xs ≡ xs
+unfolding sort_by
+sort_sorted before [] h = refl
+sort_sorted before (x ∷ xs) h = ap (insert_by before x) (sort_sorted before xs h.1) ∙ insert_front before x xs h.0
+
+pub sorted_filter : {X : Type 0} (before : X → X → Bool) (p : X → Bool) (xs : List X) → Sorted before xs → Sorted before (filter p xs)
+sorted_filter before p [] h = tt
+sorted_filter before p (x ∷ xs) h =
+    elim (p x) as (λ b. Sorted before (cond b (x ∷ filter p xs) (filter p xs)))
+    [ true ↦ (All-filter (λ y. before y x ≡ false) p xs h.0, sorted_filter before p xs h.1) | false ↦ sorted_filter before p xs h.1 ]

@@ -1,6 +1,6 @@
 -- A plan of a record is refused as the definitions refuse its command, and its changes do the command.
 use Rattle.std.proofs.Common.{◌≡◌, ◌≤◌, ℕ, ◌+◌, true, not, [], ◌∷◌, ◌++◌, refl, sym, ◌∙◌, ap, arith, Option, Some, None}
-use Rattle.std.specs.Prelude.{nat_le, nat_lt, is_none, unwrap_or, option_map, SomeIff, Ok, Err}
+use Rattle.std.specs.Prelude.{nat_le, nat_lt, is_none, unwrap_or, SomeIff, Ok, Err}
 use Rattle.std.proofs.lemmas.Bool.Decides.{nat_tests}
 use Rattle.brk_money.specs.Moments.{last_stamp, stamp_after}
 use Rattle.brk_money.specs.declared.refusal.Refusal.{Refusal}
@@ -8,7 +8,6 @@ use Rattle.brk_money.specs.declared.refusal.Refusal.TheVariants.{BadQty, NoAccou
 use Rattle.brk_money.specs.declared.refusal.Limit.TheVariants as limit
 use Rattle.brk_model.specs.Limits.{most_accounts, greatest_tax_rate}
 use Rattle.brk_model.specs.Base as base_spec
-use Rattle.brk_model.specs.Records.{TaxRate}
 use Rattle.brk_model.specs.Base.{Base, tax_rate_with}
 use Rattle.brk_model.specs.Sheets.{sheets}
 use Rattle.brk_model.specs.Commands.{Booked}
@@ -24,14 +23,16 @@ use Rattle.brk_trade.specs.declared.reference.Reference.TheVariants as reference
 use Rattle.brk_ref.specs.Records.{broker_of, customer_of, account_of, permission_of, listing_of, charge_of, band_of, tax_of, customer_tax_of}
 use Rattle.brk_books.specs.Books.{IsBooks}
 use Rattle.brk_books.specs.Reads.{rates_of}
-use Rattle.brk_books.specs.Commands.{command_of, reply_of}
+use Rattle.brk_trade.specs.Replies.{reply_of}
+use Rattle.brk_books.specs.Commands.{command_of}
 use Rattle.brk_books.specs.Plans.{base_then, LeavesBooks, IsRead, DoesCommand}
-use Rattle.brk_books.proofs.Reading.{reads_has_broker, reads_has_customer, reads_same_customer, reads_tax_id, reads_has_account, reads_count, reads_last}
+use Rattle.brk_books.proofs.Reading.{is_none-map, reads_has_broker, reads_has_customer, reads_same_customer, reads_tax_id, reads_has_account, reads_count, reads_last}
 use Rattle.brk_books.proofs.TermReading.{reads_has_permission, reads_has_security, reads_has_charge, reads_overlap, reads_has_tax_rate, reads_pays_tax, reads_rate, reads_rates, map-or}
 use Rattle.brk_books.proofs.Stamps.{stamp_left, stamp_is, moved_past}
-use Rattle.brk_books.proofs.Steps.{step_broker, step_customer, step_account, step_permission, step_security, step_charge, step_band, step_tax_rate, step_customer_tax, books_broker, books_customer, books_account, books_permission, books_security, books_charge, books_band, books_tax_rate, books_customer_tax}
+use Rattle.brk_books.proofs.Steps.{step_broker, step_customer, step_account, step_permission, step_security, step_charge, step_band, step_tax_rate, step_customer_tax}
+use Rattle.brk_books.proofs.Keepers.{books_broker, books_customer, books_account, books_permission, books_security, books_charge, books_band, books_tax_rate, books_customer_tax}
 
-clock_read : (base : Base) (last : Option ℕ) (now : ℕ) → IsBooks base → last ≡ (sheets base).last → now ≤ last_stamp
+pub clock_read : (base : Base) (last : Option ℕ) (now : ℕ) → IsBooks base → last ≡ (sheets base).last → now ≤ last_stamp
     → is_none (stamp_after last now) ≡ nat_lt last_stamp (next_stamp base now)
 clock_read base last now books l h = ap (λ o. is_none (stamp_after o now)) (l ∙ reads_last base) ∙ stamp_left base.last now books.clock h
 
@@ -42,10 +43,6 @@ exceeds_read None sum rate h = above sum (unwrap_or rate 0) h
     above : (m n : ℕ) → (m ≤ greatest_tax_rate → ⊥) → true ≡ nat_lt greatest_tax_rate (m + n)
     above m n h = grind (arith, nat_tests)
 exceeds_read (Some r) sum rate h = ap (λ n. nat_lt greatest_tax_rate (n + unwrap_or rate 0)) h.1
-
-none-map : (o : Option TaxRate) → is_none (option_map (λ r. r.rate) o) ≡ is_none o
-none-map None = refl
-none-map (Some r) = refl
 
 pub refusal_read : (base : Base) (r : Reference) (found : Found) (last : Option ℕ) (now : ℕ) → IsRead base r found last now
     → first_refusal (tests_of r found ++ clock_test last now ∷ []) ≡ refusal_of base now (command_of r)
@@ -90,7 +87,7 @@ refusal_read base (reference.TaxRate r) found last now k =
 refusal_read base (reference.CustomerTax x) found last now k =
     let customer = k.looked_up.customer_there ∙ reads_has_customer base x.customer in
     let rate = k.looked_up.rate_there ∙ reads_rate base x.tax in
-    let none = ap is_none rate ∙ none-map (tax_rate_with base x.tax) in
+    let none = ap is_none rate ∙ is_none-map (λ r. r.rate) (tax_rate_with base x.tax) in
     let same = k.looked_up.same_id ∙ reads_pays_tax base x.customer x.tax in
     let sum = exceeds_read found.rates (rates_of (sheets base) x.customer) found.rate k.looked_up.sum
     ∙ (λ i. nat_lt greatest_tax_rate (reads_rates base x.customer i + unwrap_or (rate i) 0))

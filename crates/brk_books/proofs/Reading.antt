@@ -1,6 +1,6 @@
 -- What is read from the tables of a base is what the definitions find in the base.
 use Rattle.std.proofs.Common.{◌≡◌, ℕ, ◌+◌, ◌==◌, Bool, true, false, cond, List, [], ◌∷◌, refl, sym, ◌∙◌, ap, map, filter, length, arith, Option, Some, None}
-use Rattle.std.specs.Prelude.{◌||◌, find, is_some, option_map, bytes_eq}
+use Rattle.std.specs.Prelude.{◌||◌, find, is_none, is_some, option_map, bytes_eq}
 use Rattle.std.specs.List.{list_any}
 use Rattle.std.proofs.lemmas.Bool.Decides.{nat_tests}
 use Rattle.brk_money.specs.Spelling.{Text}
@@ -63,6 +63,10 @@ find-map p f (x ∷ xs) = by_test (p (f x)) (find-map p f xs)
 pub is_some-map : {X Y : Type 0} (f : X → Y) (o : Option X) → is_some (option_map f o) ≡ is_some o
 is_some-map f None = refl
 is_some-map f (Some x) = refl
+
+pub is_none-map : {X Y : Type 0} (f : X → Y) (o : Option X) → is_none (option_map f o) ≡ is_none o
+is_none-map f None = refl
+is_none-map f (Some x) = refl
 
 -- what a look-up gave, seen as a row, tells whether the row is there
 pub is_there : {X Row : Type 0} (view : X → Row) (o : Option X) (row : Option Row) → option_map view o ≡ row → is_some o ≡ is_some row

@@ -1,13 +1,20 @@
 -- What holds of the base of a brokerage that began empty and was moved by accepted commands: what the rows of the next command rest on.
-use Rattle.std.specs.Prelude.{◌≡◌, ◌≤◌, true, is_some, nat_le, IfSome}
+use Rattle.std.specs.Prelude.{◌≡◌, ◌≤◌, ⊤, ℕ, ◌+◌, ◌==◌, true, false, List, [], ◌∷◌, is_some, nat_le, IfSome, bytes_eq}
 use Rattle.std.specs.List.{AllByRecursion}
 use Rattle.brk_money.specs.Moments.{last_stamp}
-use Rattle.brk_model.specs.Records.{Account, Band, Trade}
-use Rattle.brk_model.specs.Base.{Base, broker_with, account_with, security_with}
+use Rattle.brk_money.specs.declared.status.Status.TheVariants.{Pending}
+use Rattle.brk_model.specs.Limits.{greatest_amount}
+use Rattle.brk_model.specs.Records.{Account, Band, Mark, Security, Trade}
+use Rattle.brk_model.specs.Base.{Base, broker_with, customer_with, account_with, security_with, has_status}
+use Rattle.brk_model.specs.Tests.{bands_meet}
 
 -- the broker of an account is there
 abbrev pub KnowsBroker : Base → Account → Type 0
 KnowsBroker base a = is_some (broker_with base a.broker) ≡ true
+
+-- the customer of an account is there
+abbrev pub KnowsCustomer : Base → Account → Type 0
+KnowsCustomer base a = is_some (customer_with base a.customer) ≡ true
 
 -- the account of a trade is there
 abbrev pub KnowsAccount : Base → Trade → Type 0
@@ -17,14 +24,63 @@ KnowsAccount base t = is_some (account_with base t.account) ≡ true
 abbrev pub KnowsSecurity : Base → Trade → Type 0
 KnowsSecurity base t = is_some (security_with base t.symbol) ≡ true
 
+-- no two accounts have one id
+abbrev pub DistinctAccounts : List Account → Type 0
+DistinctAccounts [] = ⊤
+DistinctAccounts (a ∷ rest) = AllByRecursion (λ b. (b.id == a.id) ≡ false) rest × DistinctAccounts rest
+
+-- no two securities have one symbol
+abbrev pub DistinctSymbols : List Security → Type 0
+DistinctSymbols [] = ⊤
+DistinctSymbols (s ∷ ss) = AllByRecursion (λ u. bytes_eq u.symbol s.symbol ≡ false) ss × DistinctSymbols ss
+
+-- the volume of a security is within its limit
+abbrev pub HasVolume : Security → Type 0
+HasVolume s = s.volume ≤ greatest_amount
+
+-- the ids of trades rise by 1 from a number on
+abbrev pub NumberedFrom : ℕ → List Trade → Type 0
+NumberedFrom n [] = ⊤
+NumberedFrom n (t ∷ ts) = (t.id ≡ n) × NumberedFrom (n + 1) ts
+
+-- one mark and no other
+abbrev pub IsOne : List Mark → Type 0
+IsOne [] = ⊥
+IsOne (m ∷ []) = ⊤
+IsOne (m ∷ n ∷ marks) = ⊥
+
+-- a trade that waits for a price came to no other status before
+abbrev pub WaitsFirst : Trade → Type 0
+WaitsFirst t = has_status Pending t ≡ true → IsOne t.marks
+
 -- the bounds of a band are in order
 abbrev pub HasBounds : Band → Type 0
 HasBounds b = nat_le b.from_qty b.to_qty ≡ true
 
--- a base that is in order: what accounts and trades name is there, the bounds of bands are in order, and the last stamp is one that there is
+-- no two bands of a tier, a type and an exchange share a quantity
+abbrev pub BandsApart : List Band → Type 0
+BandsApart [] = ⊤
+BandsApart (b ∷ bs) = AllByRecursion (λ c. bands_meet b c ≡ false) bs × BandsApart bs
+
+-- a base that is in order
 pub record IsBooks (base : Base) : Type 0 where
+  -- what accounts and trades name is there
   pub brokers : AllByRecursion (KnowsBroker base) base.accounts
+  pub customers : AllByRecursion (KnowsCustomer base) base.accounts
   pub accounts : AllByRecursion (KnowsAccount base) base.trades
   pub securities : AllByRecursion (KnowsSecurity base) base.trades
+  -- an id is of one account, so that its summaries are its own
+  pub owners : DistinctAccounts base.accounts
+  -- a symbol is of one security, so that a tick changes one last trade
+  pub symbols : DistinctSymbols base.securities
+  -- what was traded of it is within the limit, so that a feed is tested by the symbols of its ticks
+  pub volumes : AllByRecursion HasVolume base.securities
+  -- trades are numbered in the order of their acceptance, from 1, so that the next number is new
+  pub numbered : NumberedFrom 1 base.trades
+  -- a trade that waits has one status in its history, so that the next one is new
+  pub ways : AllByRecursion WaitsFirst base.trades
+  -- the bounds of bands are in order, and a quantity is of one band
   pub bands : AllByRecursion HasBounds base.bands
+  pub apart : BandsApart base.bands
+  -- the last stamp is one that there is
   pub clock : IfSome base.last (λ last. last ≤ last_stamp)

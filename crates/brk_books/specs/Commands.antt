@@ -1,10 +1,8 @@
--- What the commands that add records, and the replies to them, are in the abstract brokerage.
-use Rattle.brk_model.specs.Commands.{Command, Reply, Booked, AddBroker, AddCustomer, AddAccount, AddPermission, AddSecurity, AddCharge, AddBand, AddTaxRate, AddCustomerTax}
+-- What the commands that add records are in the abstract brokerage.
+use Rattle.brk_model.specs.Commands.{Command, AddBroker, AddCustomer, AddAccount, AddPermission, AddSecurity, AddCharge, AddBand, AddTaxRate, AddCustomerTax}
 use Rattle.brk_ref.specs.Records.{broker_of, customer_of, account_of, permission_of, listing_of, charge_of, band_of, tax_of, customer_tax_of}
 use Rattle.brk_trade.specs.declared.reference.Reference.{Reference}
 use Rattle.brk_trade.specs.declared.reference.Reference.TheVariants as reference
-use Rattle.brk_trade.specs.declared.reply.Reply as trade
-use Rattle.brk_trade.specs.declared.reply.Reply.TheVariants as reply
 
 -- the command that adds a record
 abbrev pub command_of : Reference → Command
@@ -17,7 +15,3 @@ command_of (reference.Charge charge) = AddCharge (charge_of charge)
 command_of (reference.Band band) = AddBand (band_of band)
 command_of (reference.TaxRate tax) = AddTaxRate (tax_of tax)
 command_of (reference.CustomerTax pays) = AddCustomerTax (customer_tax_of pays)
-
--- what is told of it
-abbrev pub reply_of : trade.Reply → Reply
-reply_of (reply.Booked stamp) = Booked stamp

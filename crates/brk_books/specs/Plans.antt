@@ -14,7 +14,7 @@ use Rattle.brk_trade.specs.declared.plan.Plan.{Plan}
 use Rattle.brk_trade.specs.declared.reference.Found.{Found}
 use Rattle.brk_trade.specs.declared.reference.Reference.{Reference}
 use Rattle.brk_books.specs.Books.{IsBooks}
-use Rattle.brk_books.specs.Commands.{reply_of}
+use Rattle.brk_trade.specs.Replies.{reply_of}
 use Rattle.brk_books.specs.Reads.{IsFound}
 
 -- the base after a command that is accepted at a moment
@@ -49,4 +49,11 @@ pub record IsRead (base : Base) (reference : Reference) (found : Found) (last : 
 pub record DoesCommand (base : Base) (now : ℕ) (command : Command) (plan : Plan) : Type 0 where
   pub steps : step base now command ≡ Ok (reply_of plan.reply, base_then base now command)
   pub rows : sheets (base_then base now command) ≡ after_changes plan.changes.items (sheets base)
+  pub kept : IsBooks (base_then base now command)
+
+-- a change of the tables does a command that is accepted with a stamp: its reply is told, the tables after it are the changed ones with that
+-- stamp as the last one, and the base after it is in order
+pub record IsDone (base : Base) (now : ℕ) (command : Command) (stamp : ℕ) (reply : Reply) (change : Tables → Tables) : Type 0 where
+  pub steps : step base now command ≡ Ok (reply, base_then base now command)
+  pub rows : sheets (base_then base now command) ≡ with_last stamp (change (sheets base))
   pub kept : IsBooks (base_then base now command)

@@ -1,8 +1,8 @@
 //! The base stays in order.
 
-ghost use Rattle.std.specs.Prelude.{ℕ, Option};
+ghost use Rattle.std.specs.Prelude.{ℕ, List, Option};
 ghost use Rattle.brk_model.specs.Base.{Base, empty_base};
-ghost use Rattle.brk_model.specs.Commands.{AddAccount, AddBand, AddBroker, AddCharge, AddCustomer, AddCustomerTax, AddPermission, AddSecurity, AddTaxRate, Command, Listing, Reply};
+ghost use Rattle.brk_model.specs.Commands.{AddAccount, AddBand, AddBroker, AddCharge, AddCustomer, AddCustomerTax, AddPermission, AddSecurity, AddTaxRate, CancelTrade, Command, FeedTicks, Listing, Order, PlaceOrder, Reply, Tick};
 ghost use Rattle.brk_model.specs.Keyed.{keeping};
 ghost use Rattle.brk_model.specs.Records.{Account, Band, Broker, Charge, Customer, CustomerTax, Key, Permission, TaxRate};
 ghost use Rattle.brk_books.specs.Books.{IsBooks};
@@ -24,6 +24,21 @@ pub fn records_keep_the_order()
     ensures band { (base : Base) (now : ℕ) (b : Band) → LeavesBooks base now (AddBand b) }
     ensures tax_rate { (base : Base) (now : ℕ) (r : TaxRate) → LeavesBooks base now (AddTaxRate r) }
     ensures customer_tax { (base : Base) (now : ℕ) (x : CustomerTax) → LeavesBooks base now (AddCustomerTax x) }
+{}
+
+/// So does an accepted order.
+pub fn orders_keep_the_order()
+    ensures { (base : Base) (now : ℕ) (o : Order) → LeavesBooks base now (PlaceOrder o) }
+{}
+
+/// So does an accepted cancel.
+pub fn cancels_keep_the_order()
+    ensures { (base : Base) (now id : ℕ) → LeavesBooks base now (CancelTrade id) }
+{}
+
+/// So does an accepted feed.
+pub fn feeds_keep_the_order()
+    ensures { (base : Base) (now : ℕ) (ticks : List Tick) → LeavesBooks base now (FeedTicks ticks) }
 {}
 
 /// So does a row that is kept under its key.

@@ -6,3 +6,4 @@ pub mod books;
 pub mod changes;
 pub mod plans;
 pub mod reads;
+pub mod trading;

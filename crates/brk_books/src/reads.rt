@@ -1,20 +1,31 @@
 //! What is found in the tables is what the definitions find in the base.
 
-ghost use Rattle.std.specs.Prelude.{◌&&◌, ◌≡◌, ◌==◌, ℕ, List, Some, bytes_eq, filter, find, length, map, option_map, sum_by};
+ghost use Rattle.std.specs.Prelude.{◌&&◌, ◌+ℤ◌, ◌≡◌, ◌==◌, ℕ, List, Some, bytes_eq, filter, find, flat_map, length, map, option_map, sum_by, true};
 ghost use Rattle.std.specs.List.{list_any};
 ghost use Rattle.brk_money.specs.Kinds.{same_type};
 ghost use Rattle.brk_money.specs.Spelling.{Text};
 ghost use Rattle.brk_money.specs.declared.trade_type.TradeType.{TradeType};
 ghost use Rattle.brk_model.specs.Base as base_spec;
-ghost use Rattle.brk_model.specs.Base.{Base, account_with, broker_with, charge_with, completed, customer_with, security_with, tax_rate_with};
+ghost use Rattle.brk_model.specs.Base.{Base, account_with, band_with, broker_with, charge_with, completed, customer_with, security_with, tax_rate_with, trade_with};
+ghost use Rattle.brk_model.specs.Commands.{Tick};
+ghost use Rattle.brk_model.specs.Derived.{shares_in};
+ghost use Rattle.brk_model.specs.Feed.{is_triggered};
+ghost use Rattle.brk_model.specs.Joins.{account_in, trade_in};
 ghost use Rattle.brk_model.specs.Keyed.{kept_under};
-ghost use Rattle.brk_model.specs.Records.{Band, Key};
+ghost use Rattle.brk_model.specs.Lists.{all_distinct};
+ghost use Rattle.brk_model.specs.Orders.{assets_of, permitted};
+ghost use Rattle.brk_model.specs.PositionView.{asset_total};
+ghost use Rattle.brk_model.specs.Records.{Band, Customer, Executor, Key};
 ghost use Rattle.brk_model.specs.Sheets.{sheets};
 ghost use Rattle.brk_model.specs.Tests.{bands_meet};
-ghost use Rattle.brk_model.specs.Tables.{Tables, account_row, broker_row, last_trade_row, security_row};
+ghost use Rattle.brk_model.specs.Tables.{AccountRow, Tables, account_row, broker_row, last_trade_row, security_row, trade_row};
+ghost use Rattle.brk_model.specs.Ways.{is_rising};
 ghost use Rattle.brk_ref.specs.Records.{tax_of};
 ghost use Rattle.brk_ref.specs.declared.tax.Tax.{Tax};
+ghost use Rattle.brk_books.specs.Books.{IsBooks};
 ghost use Rattle.brk_books.specs.Reads.{accounts_of, has_overlap, has_tax_id, rates_of, tax_rate_of};
+ghost use Rattle.brk_books.specs.TradeReads.{band_in, last_number, lot_shares, lots_in, permissions_of};
+ghost use Rattle.brk_books.specs.Trading.{hit_trades};
 
 /// The row that has an id is that of the record that has it.
 pub fn rows_are_found_by_id()
@@ -69,4 +80,46 @@ pub fn the_last_stamp_is_read()
 /// The row that is kept under a key is found.
 pub fn kept_rows_are_found()
     ensures { (base : Base) (key : Key) → find (λ k. bytes_eq k.key.batch key.batch && (k.key.row == key.row)) (sheets base).kept ≡ kept_under base key }
+{}
+
+/// The row of a trade's number is that of the trade as it stands.
+pub fn trades_are_found_by_id()
+    ensures { (base : Base) (id : ℕ) → trade_in (sheets base) id ≡ option_map trade_row (trade_with base id) }
+{}
+
+/// The number of the last row is the number of trades.
+pub fn trades_are_counted()
+    ensures { (base : Base) → IsBooks base → last_number (sheets base) ≡ length base.trades }
+{}
+
+/// The requests of a symbol that a tick triggers are of the trades that it triggers, by rising number.
+pub fn triggered_requests_are_found()
+    ensures trades { (base : Base) (tick : Tick) → IsBooks base → hit_trades tick (sheets base) ≡ map (λ t. t.id) (filter (is_triggered tick) base.trades) }
+    ensures rising { (base : Base) (tick : Tick) → IsBooks base → is_rising (hit_trades tick (sheets base)) ≡ true }
+{}
+
+/// No two requests are of one trade.
+pub fn requests_are_of_different_trades()
+    ensures { (base : Base) → IsBooks base → all_distinct (map (λ r. r.trade) (sheets base).requests) ≡ true }
+{}
+
+/// By the permissions of an account an executor is permitted or not, in whatever order they stand.
+pub fn permissions_of_an_account_are_found()
+    ensures { (base : Base) (account : ℕ) (c : Customer) (e : Executor)
+        → permitted c (permissions_of (sheets base) account) e ≡ permitted c (filter (λ p. p.account == account) base.permissions) e }
+{}
+
+/// Among the rows of its tier, its type and its exchange the band of a quantity is found.
+pub fn bands_are_found()
+    ensures { (base : Base) (tier : ℕ) (kind : TradeType) (exchange : Text) (qty : ℕ) → IsBooks base → band_in (sheets base) tier kind exchange qty ≡ band_with base tier kind exchange qty }
+{}
+
+/// What an account has is its balance and the worth of its summaries at the last prices.
+pub fn assets_are_found()
+    ensures { (base : Base) (id : ℕ) (r : AccountRow) → IsBooks base → account_in (sheets base) id ≡ Some r → r.balance +ℤ asset_total (sheets base) r ≡ assets_of base id }
+{}
+
+/// The shares that an account holds of a symbol are those of its lots, the oldest first.
+pub fn lots_are_found()
+    ensures { (base : Base) (account : ℕ) (symbol : Text) → IsBooks base → flat_map lot_shares (lots_in (sheets base) account symbol) ≡ shares_in (completed base) account symbol }
 {}

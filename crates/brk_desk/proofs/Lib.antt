@@ -1,6 +1,5 @@
-pub mod Unknown
-pub mod Looking
 pub mod Seen
+pub mod Leaving
 pub mod Kept
 pub mod Calling
 pub mod Running

@@ -1,15 +1,15 @@
 -- A run of calls, with one call more.
-use Rattle.std.proofs.Common.{◌≡◌, ◌∙◌, ◌+◌, ℕ, List, [], ◌∷◌, ◌++◌, map, length, Result, Ok, Err, IsTrue, refl, sym, ap, subst, arith}
+use Rattle.std.proofs.Common.{◌≡◌, ◌∙◌, ◌+◌, ℕ, List, [], ◌∷◌, ◌++◌, map, length, Result, Ok, Err, refl, sym, ap, subst}
 use Rattle.std.proofs.lemmas.List.{length-append}
 use Rattle.sqlite_trees.specs.declared.store.Store.{Ghosts}
-use Rattle.sqlite.specs.Held.{Held, state}
-use Rattle.sqlite.specs.State.{HasCleanDisk}
+use Rattle.sqlite.specs.Held.{Held}
 use Rattle.brk_money.specs.declared.fault.Fault.{Fault}
 use Rattle.brk_model.specs.Base.{Base}
 use Rattle.brk_model.specs.Run.{Answers, Run}
 use Rattle.brk_desk.specs.Answers.{outcome_for, outcome_of}
-use Rattle.brk_desk.specs.Commands.{call_of, command_of, key_for}
-use Rattle.brk_desk.specs.Keeping.{IsCalled, IsMade, IsRun, KeepsBase}
+use Rattle.brk_commands.specs.Commands.{command_of}
+use Rattle.brk_desk.specs.Commands.{call_of, key_for}
+use Rattle.brk_desk.specs.Keeping.{IsCalled, IsMade, IsRun}
 use Rattle.brk_desk.specs.declared.answer.Answer as desk
 use Rattle.brk_desk.specs.declared.call.Call.{Call}
 use Rattle.brk_desk.specs.declared.call.Call.TheVariants as call

@@ -1,5 +1,5 @@
 -- What is known after reads of a store, one after another: nothing was changed, and something is so of the rows.
-use Rattle.std.proofs.Common.{◌≡◌, ◌∙◌, Option, Some, None, Result, Ok, Err, IsTrue, refl, sym, subst}
+use Rattle.std.proofs.Common.{◌≡◌, Option, Some, None, Ok, IsTrue, refl, sym, subst}
 use Rattle.std.specs.Prelude.{option_map}
 use Rattle.sqlite_trees.specs.declared.store.Store.{Ghosts}
 use Rattle.sqlite.specs.Held.{Held, state}
@@ -10,8 +10,8 @@ use Rattle.brk_ref.specs.Records.{kept_of}
 use Rattle.brk_ref.specs.declared.key.Kept as row
 use Rattle.brk_rows.proofs.Inside.{clean_before}
 use Rattle.brk_store.specs.Holds.{Holds, IsRead, IsSame}
+use Rattle.brk_decisions.proofs.Looking.{same_then}
 use Rattle.brk_desk.specs.Keys.{IsSought, kept_in}
-use Rattle.brk_desk.proofs.Looking.{same_then}
 
 module _ {S : Type 0} (g : Ghosts S) where
   -- nothing was changed, and this is so of whatever rows the store holds

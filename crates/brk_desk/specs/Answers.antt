@@ -3,7 +3,7 @@ use Rattle.std.specs.Prelude.{Result, Ok, Err, string_bytes}
 use Rattle.brk_money.specs.declared.fault.Fault.{Fault}
 use Rattle.brk_model.specs.Commands.{Answer, Done, Again, Refused}
 use Rattle.brk_model.specs.Run as run
-use Rattle.brk_books.specs.Commands.{reply_of}
+use Rattle.brk_trade.specs.Replies.{reply_of}
 use Rattle.brk_desk.specs.declared.answer.Answer as desk
 use Rattle.brk_desk.specs.declared.answer.Answer.TheVariants as given
 use Rattle.brk_desk.specs.declared.call.Outcome.{Outcome}

@@ -1,18 +1,12 @@
--- What commands and calls are in the abstract brokerage.
+-- What calls are in the abstract brokerage.
 use Rattle.std.specs.Prelude.{ℕ, Option, option_map}
-use Rattle.brk_model.specs.Commands.{Command}
+use Rattle.brk_commands.specs.Commands.{command_of}
 use Rattle.brk_model.specs.Records as records
 use Rattle.brk_model.specs.Run as run
-use Rattle.brk_books.specs.Commands as books
 use Rattle.brk_ref.specs.Records.{key_of}
 use Rattle.brk_ref.specs.declared.key.Key.{Key}
 use Rattle.brk_desk.specs.declared.call.Call.{Call}
 use Rattle.brk_desk.specs.declared.call.Call.TheVariants as call
-use Rattle.brk_desk.specs.declared.command.Command as desk
-use Rattle.brk_desk.specs.declared.command.Command.TheVariants as command
-
-abbrev pub command_of : desk.Command → Command
-command_of (command.Add reference) = books.command_of reference
 
 -- the key of a call, if it has one
 abbrev pub key_for : Option Key → Option records.Key

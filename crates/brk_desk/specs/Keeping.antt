@@ -13,7 +13,8 @@ use Rattle.brk_model.specs.Run.{MayFail, Run}
 use Rattle.brk_books.specs.Books.{IsBooks}
 use Rattle.brk_store.specs.Holds.{Holds, IsSame}
 use Rattle.brk_desk.specs.Answers.{BookedNothing, answer_of, outcome_for, outcome_of}
-use Rattle.brk_desk.specs.Commands.{call_of, command_of, key_for}
+use Rattle.brk_commands.specs.Commands.{command_of}
+use Rattle.brk_desk.specs.Commands.{call_of, key_for}
 use Rattle.brk_desk.specs.declared.answer.Answer as desk
 use Rattle.brk_desk.specs.declared.call.Call.{Call}
 use Rattle.brk_desk.specs.declared.call.Call.TheVariants as call

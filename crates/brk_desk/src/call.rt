@@ -1,5 +1,5 @@
 use crate::answer::Answer;
-use crate::command::Command;
+use brk_commands::Command;
 use brk_money::Fault;
 use brk_ref::Key;
 

@@ -1,7 +1,7 @@
 use crate::answer::Answer;
-use crate::booking::add;
+use crate::booking::book;
 use crate::call::{Call, Outcome};
-use crate::command::Command;
+use brk_commands::Command;
 use brk_money::{Fault, Stamp};
 use brk_ref::Key;
 use brk_store::Store;
@@ -34,7 +34,8 @@ impl<S: Alter + Drop> Drop for Desk<S> {
 impl<S: Alter> Desk<S> {
     ghost use Rattle.std.specs.Prelude.{◌≡◌, ◌++◌, List, Err, OnOk, OnErr};
     ghost use Rattle.std.specs.Option.{option_copied};
-    ghost use Rattle.brk_desk.specs.Commands.{command_of, key_for};
+    ghost use Rattle.brk_commands.specs.Commands.{command_of};
+    ghost use Rattle.brk_desk.specs.Commands.{key_for};
     ghost use Rattle.brk_desk.specs.Keeping.{IsCalled, IsMade, IsRun};
     ghost use Rattle.brk_desk.specs.declared.call.Outcome as came;
     ghost use Rattle.brk_money.specs.declared.fault.Fault.TheVariants.{Memory};
@@ -59,9 +60,7 @@ impl<S: Alter> Desk<S> {
     ) -> Result<Answer, Fault>
         ensures called { IsCalled S.Store self.old self.new now (command_of command.now) (key_for (option_copied key.entry)) result }
     {
-        match command {
-            Command::Add(reference) => add(alloc, &mut self.store, now, reference, key),
-        }
+        book(alloc, &mut self.store, now, command, key)
     }
 
     /// Makes the calls in turn, each at its moment, and adds an outcome for each; a call that is refused or fails

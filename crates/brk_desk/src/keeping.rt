@@ -2,7 +2,7 @@
 
 ghost use Rattle.std.specs.Prelude.{◌≡◌, IfOk, IfErr, OnErr, Err};
 ghost use Rattle.std.specs.Option.{option_copied};
-ghost use Rattle.brk_books.specs.Commands.{command_of, reply_of};
+ghost use Rattle.brk_commands.specs.Commands.{command_of};
 ghost use Rattle.brk_desk.specs.Answers.{answer_of};
 ghost use Rattle.brk_desk.specs.Commands.{key_for};
 ghost use Rattle.brk_desk.specs.Keys.{IsSought, with_key};
@@ -12,15 +12,15 @@ ghost use Rattle.brk_model.specs.Run.{MayFail};
 ghost use Rattle.brk_model.specs.Tables.{Tables};
 ghost use Rattle.brk_money.specs.declared.fault.Fault.TheVariants.{Memory};
 ghost use Rattle.brk_trade.specs.Changes.{after_changes};
+ghost use Rattle.brk_trade.specs.Replies.{reply_of};
 ghost use Rattle.brk_ref.specs.Records.{kept_of};
 
 use crate::answer::Answer;
-use crate::line::line_text;
-use crate::row::reference_text;
+use brk_commands::{Command, line_text, row_text};
 use brk_money::{Fault, Refusal};
 use brk_ref::{Kept, Key};
 use brk_store::Store;
-use brk_trade::{Change, Plan, Reference};
+use brk_trade::{Change, Plan};
 use sqlite::Alter;
 use std::alloc::Global;
 
@@ -38,12 +38,12 @@ pub(crate) fn find_kept<S: Alter>(
     }
 }
 
-// The answer to a record whose key is kept already.
-pub(crate) fn repeat(alloc: Global, reference: &Reference, kept: Kept) -> Result<Answer, Fault>
-    ensures answer { IfOk result (λ answer. (base : Base) → repeated base (command_of reference.now) (kept_of kept) ≡ (answer_of answer, base)) }
+// The answer to a command whose key is kept already.
+pub(crate) fn repeat(alloc: Global, command: &Command, kept: Kept) -> Result<Answer, Fault>
+    ensures answer { IfOk result (λ answer. (base : Base) → repeated base (command_of command.now) (kept_of kept) ≡ (answer_of answer, base)) }
     ensures fault { OnErr result (result ≡ Err Memory) }
 {
-    let row = reference_text(alloc, reference)?;
+    let row = row_text(alloc, command)?;
     if kept.row_text == row {
         Ok(Answer::Again(kept.line))
     } else {
@@ -51,23 +51,23 @@ pub(crate) fn repeat(alloc: Global, reference: &Reference, kept: Kept) -> Result
     }
 }
 
-// The plan of a record with the row that keeps it under its key, where it has one.
+// The plan of a command with the row that keeps it under its key, where it has one.
 pub(crate) fn keep(
     alloc: Global,
     plan: Plan,
-    reference: &Reference,
+    command: &Command,
     key: Option<&Key>,
 ) -> Result<Plan, Fault>
     ensures reply { IfOk result (λ kept. kept.reply ≡ plan.reply) }
     ensures rows { IfOk result (λ kept. (t : Tables) → after_changes kept.changes.items t
-        ≡ with_key (key_for (option_copied key.entry)) (command_of reference.now) (reply_of plan.reply) (after_changes plan.changes.items t)) }
+        ≡ with_key (key_for (option_copied key.entry)) (command_of command.now) (reply_of plan.reply) (after_changes plan.changes.items t)) }
     ensures fault { OnErr result (result ≡ Err Memory) }
 {
     let Some(key) = key else {
         return Ok(plan);
     };
     let key = key.clone()?;
-    let row_text = reference_text(alloc, reference)?;
+    let row_text = row_text(alloc, command)?;
     let line = line_text(alloc, &plan.reply)?;
     let mut plan = plan;
     plan.changes.push(Change::Keep(Kept {

@@ -1,23 +1,15 @@
-//! The desk: commands read from the fields of rows, decided on and booked.
+//! The desk: commands booked as they are decided on, with or without keys.
 #![tactic(auto)]
 
 pub mod answer;
 pub mod beginning;
 mod booking;
 pub mod call;
-pub mod command;
+mod deciding;
 pub mod desk;
-mod finding;
 mod keeping;
-pub mod line;
-pub mod parse;
-pub mod row;
-mod terms;
 
 pub use answer::Answer;
+pub use brk_commands::{Command, line_text, parse_row, row_text};
 pub use call::{Call, Outcome};
-pub use command::Command;
 pub use desk::Desk;
-pub use line::line_text;
-pub use parse::parse_row;
-pub use row::row_text;

@@ -28,9 +28,9 @@ abbrev pub is_permitted : Base → ℕ → Executor → Bool
 is_permitted base account e =
     option_map_or (λ c. permitted c (filter (λ p. p.account == account) base.permissions) e) (customer_with base (customer_of base account)) true
 
--- the market's price for a market type, and else the order's (Trade-Order, frame 3)
+-- the market's price for a market type, and else the order's (Trade-Order, frame 3); one that is owed and not named is the market's too, which no order in form is
 abbrev pub requested_price : Base → Order → ℕ
-requested_price base o = if is_market o.kind then last_price base o.symbol else unwrap_or o.price 0
+requested_price base o = if is_market o.kind then last_price base o.symbol else unwrap_or o.price (last_price base o.symbol)
 
 -- the commission of a quantity at a price, where a band has it
 abbrev pub commission_of : Base → ℕ → TradeType → Text → ℕ → ℕ → Option ℕ

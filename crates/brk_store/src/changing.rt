@@ -31,6 +31,16 @@ fn make<S: Alter>(tx: &mut Transaction<'_, S>, change: &Change) -> Result<(), Fa
         Change::AddBand(band) => brk_tables::add_band(tx, band),
         Change::AddTaxRate(tax) => brk_tables::add_tax_rate(tx, tax),
         Change::AddCustomerTax(pays) => brk_tables::add_customer_tax(tx, pays),
+        Change::AddTrade(trade) => brk_trades::add_trade(tx, trade),
+        Change::SetStatus {
+            trade,
+            status,
+            stamp,
+        } => brk_trades::set_status(tx, *trade, *status, *stamp),
+        Change::AddHistory(mark) => brk_trades::add_trade_history(tx, mark),
+        Change::AddRequest(request) => brk_trades::add_request(tx, request),
+        Change::RemoveRequest(trade) => brk_trades::remove_request(tx, *trade),
+        Change::SetLastTrade(last_trade) => brk_trades::set_last_trade(tx, last_trade),
         Change::Keep(kept) => brk_tables::add_kept(tx, kept),
         Change::SetLast(stamp) => brk_tables::set_last_stamp(tx, *stamp),
     }

@@ -6,6 +6,7 @@ mod keys;
 mod reading;
 pub mod store;
 mod terms;
+mod trades;
 
 pub use store::Store;
 

@@ -7,12 +7,16 @@ use crate::terms::{
     read_bands_for, read_charge, read_customer_tax, read_customer_taxes_of, read_permission,
     read_security, read_tax_rate,
 };
+use crate::trades::{
+    read_last_trade, read_last_trade_id, read_lots_of, read_requests_of, read_summaries_of,
+    read_trade,
+};
 use brk_money::{Fault, Id, Stamp, TradeType};
 use brk_ref::{
-    AccountRow, Band, BrokerRow, Charge, Customer, CustomerTax, Exchange, Kept, Key, Permission,
-    Security, Symbol, Tax, TaxId, Tier,
+    AccountRow, Band, BrokerRow, Charge, Customer, CustomerTax, Exchange, Kept, Key, LastTrade,
+    Permission, Security, Symbol, Tax, TaxId, Tier,
 };
-use brk_trade::Change;
+use brk_trade::{Change, HoldingRow, RequestRow, SummaryRow, TradeRow};
 use sqlite::{Alter, Connection};
 use std::alloc::Global;
 use std::marker::Model;
@@ -43,14 +47,15 @@ impl<S: Alter + Drop> Drop for Store<S> {
 }
 
 impl<S: Alter> Store<S> {
-    ghost use Rattle.std.specs.Prelude.{◌≡◌, ◌==◌, ◌&&◌, ◌⊎◌, Err, IfErr, MatchResult, Ok, OnErr, bytes_eq, false, filter, find, map, option_map};
+    ghost use Rattle.std.specs.Prelude.{◌≡◌, ◌==◌, ◌&&◌, ◌⊎◌, Err, IfErr, MatchResult, Ok, OnErr, bytes_eq, false, filter, find, map, option_map, reverse, slice_get};
     ghost use Rattle.brk_money.specs.declared.fault.Condition.TheVariants.{NotEmpty};
     ghost use Rattle.brk_money.specs.declared.fault.Fault.TheVariants as fault;
     ghost use Rattle.brk_model.specs.Run.{MayFail};
     ghost use Rattle.brk_money.specs.Kinds.{same_type};
-    ghost use Rattle.brk_ref.specs.Records.{band_of, charge_of, customer_of, customer_tax_of, kept_of, permission_of, security_of, tax_of};
+    ghost use Rattle.brk_ref.specs.Records.{band_of, charge_of, customer_of, customer_tax_of, kept_of, last_trade_of, permission_of, security_of, tax_of};
     ghost use Rattle.brk_tables.specs.Records.{account_row_of, broker_row_of};
     ghost use Rattle.brk_trade.specs.Changes.{after_changes};
+    ghost use Rattle.brk_trade.specs.Rows.{holding_row_of, oldest_lots_first, request_row_of, summary_row_of, trade_row_of};
     ghost use Rattle.brk_store.specs.Holds.{IsApplied, IsCreated, IsRead};
 
     /// Makes the tables of a desk in a database that has none of them, whatever others it has, or answers
@@ -197,6 +202,59 @@ impl<S: Alter> Store<S> {
         ensures fault { OnErr result (result ≡ Err fault.Store) }
     {
         read_kept(&mut self.conn, key)
+    }
+
+    /// The trade with an id.
+    pub fn trade(&mut self, id: Id) -> Result<Option<TradeRow>, Fault>
+        ensures read { IsRead S.Store self.old self.new result (λ o t. option_map trade_row_of o ≡ find (λ r. r.id == id) t.trades) }
+        ensures fault { OnErr result (result ≡ Err fault.Store) }
+    {
+        read_trade(&mut self.conn, id)
+    }
+
+    /// The greatest id of a trade, where there is a trade.
+    pub fn last_trade_id(&mut self) -> Result<Option<Id>, Fault>
+        ensures read { IsRead S.Store self.old self.new result (λ o t. o ≡ option_map (λ r. r.id) (slice_get (reverse t.trades) 0)) }
+        ensures fault { OnErr result (result ≡ Err fault.Store) }
+    {
+        read_last_trade_id(&mut self.conn)
+    }
+
+    /// The requests of a symbol, by rising trade.
+    pub fn requests_of(&mut self, alloc: Global, symbol: &Symbol) -> Result<Vec<RequestRow>, Fault>
+        ensures read { IsRead S.Store self.old self.new result (λ all t. map request_row_of all.items ≡ filter (λ r. bytes_eq r.symbol symbol.now) t.requests) }
+        ensures fault { IfErr result MayFail }
+    {
+        read_requests_of(&mut self.conn, alloc, symbol)
+    }
+
+    /// The last trade of the security with a symbol.
+    pub fn last_trade(&mut self, symbol: &Symbol) -> Result<Option<LastTrade>, Fault>
+        ensures read { IsRead S.Store self.old self.new result (λ o t. option_map last_trade_of o ≡ find (λ r. bytes_eq r.symbol symbol.now) t.last_trades) }
+        ensures fault { OnErr result (result ≡ Err fault.Store) }
+    {
+        read_last_trade(&mut self.conn, symbol)
+    }
+
+    /// The lots of an account in a security, by the moment of opening and then by trade, the oldest first.
+    pub fn lots_of(
+        &mut self,
+        alloc: Global,
+        account: Id,
+        symbol: &Symbol,
+    ) -> Result<Vec<HoldingRow>, Fault>
+        ensures read { IsRead S.Store self.old self.new result (λ all t. map holding_row_of all.items ≡ oldest_lots_first (filter (λ r. (r.account == account) && bytes_eq r.symbol symbol.now) t.holdings)) }
+        ensures fault { IfErr result MayFail }
+    {
+        read_lots_of(&mut self.conn, alloc, account, symbol)
+    }
+
+    /// How many shares an account holds of each security, by rising symbol.
+    pub fn summaries_of(&mut self, alloc: Global, account: Id) -> Result<Vec<SummaryRow>, Fault>
+        ensures read { IsRead S.Store self.old self.new result (λ all t. map summary_row_of all.items ≡ filter (λ r. r.account == account) t.summaries) }
+        ensures fault { IfErr result MayFail }
+    {
+        read_summaries_of(&mut self.conn, alloc, account)
     }
 
     /// The connection, on which no transaction is open.

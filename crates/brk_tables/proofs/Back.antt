@@ -15,14 +15,14 @@ use Rattle.brk_model.specs.Tables.{BrokerRow, AccountRow, SecurityRow}
 use Rattle.brk_rows.proofs.Decode.{text_in}
 use Rattle.brk_tables.specs.Cells.{DeskRow, maybe, desk_row_cells, kept_cells, broker_cells, customer_cells, account_cells, permission_cells, security_cells, charge_cells, band_cells, tax_rate_cells, customer_tax_cells}
 
-abbrev natural : ℤ → ℕ
+abbrev pub natural : ℤ → ℕ
 natural (pos n) = n
 natural (negsuc n) = 0
 
-abbrev number_in : Value → ℕ
+abbrev pub number_in : Value → ℕ
 number_in v = natural (id_in v)
 
-abbrev maybe_in : Value → Option ℕ
+abbrev pub maybe_in : Value → Option ℕ
 maybe_in (Int z) = Some (natural z)
 maybe_in _ = None
 
@@ -31,7 +31,7 @@ status_at zero = Untaxed
 status_at (suc zero) = Withheld
 status_at (suc (suc n)) = Reported
 
-maybe_back : (o : Option ℕ) → maybe_in (maybe o) ≡ o
+pub maybe_back : (o : Option ℕ) → maybe_in (maybe o) ≡ o
 maybe_back None = refl
 maybe_back (Some n) = refl
 
@@ -83,10 +83,10 @@ pub account_is_back : (a : AccountRow) → account_back (account_cells a) ≡ a
 unfolding account_back text_in
 account_is_back a = ap (λ s. let r : AccountRow = record a { tax_status = s } in r) (status_back a.tax_status)
 
-abbrev type_at : List ℕ → TradeType
+abbrev pub type_at : List ℕ → TradeType
 type_at code = unwrap_or (type_of code) MarketBuy
 
-type_back : (k : TradeType) → type_at (type_code k) ≡ k
+pub type_back : (k : TradeType) → type_at (type_code k) ≡ k
 type_back MarketBuy = refl
 type_back MarketSell = refl
 type_back StopLoss = refl

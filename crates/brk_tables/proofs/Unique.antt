@@ -28,7 +28,7 @@ eq_then Less b = refl
 eq_then Equal b = refl
 eq_then Greater b = refl
 
-same_key : (js ks : List KeyPart) (places : List ℕ) (r s : Row) → map (column r) places ≡ key_values js → map (column s) places ≡ key_values ks
+pub same_key : (js ks : List KeyPart) (places : List ℕ) (r s : Row) → map (column r) places ≡ key_values js → map (column s) places ≡ key_values ks
     → is_eq (slice_cmp value_cmp (key_values js) (key_values ks)) ≡ agree plain places r places s
 unfolding first_key
 same_key [] [] [] r s e f = refl

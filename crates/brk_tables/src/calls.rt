@@ -15,7 +15,7 @@ use sqlite::{Alter, Row, Transaction};
 use sqlite_value::value::ValueRef;
 
 /// Runs a statement that makes a table or changes rows.
-pub(crate) fn run<S: Alter>(
+pub fn run<S: Alter>(
     tx: &mut Transaction<'_, S>,
     text: &str,
     params: &[ValueRef<'_>],
@@ -31,7 +31,7 @@ pub(crate) fn run<S: Alter>(
 }
 
 /// The rows that a statement selects.
-pub(crate) fn select<S: Alter>(
+pub fn select<S: Alter>(
     tx: &mut Transaction<'_, S>,
     text: &str,
     params: &[ValueRef<'_>],

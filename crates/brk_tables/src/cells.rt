@@ -14,7 +14,7 @@ use brk_ref::{
 use sqlite::Row;
 
 /// A row with so many columns.
-pub(crate) fn has_columns(row: &Row, count: usize) -> Result<(), Fault>
+pub fn has_columns(row: &Row, count: usize) -> Result<(), Fault>
     ensures columns { OnOk result (length row.now ≡ count) }
     ensures fault { OnErr result (result ≡ Err Store) }
 {
@@ -26,7 +26,7 @@ pub(crate) fn has_columns(row: &Row, count: usize) -> Result<(), Fault>
 }
 
 /// A whole number.
-pub(crate) fn number_in(row: &Row, at: usize) -> Result<i64, Fault>
+pub fn number_in(row: &Row, at: usize) -> Result<i64, Fault>
     ensures value { IfOk result (λ number. column row.now at ≡ Int number) }
     ensures fault { OnErr result (result ≡ Err Store) }
 {
@@ -37,7 +37,7 @@ pub(crate) fn number_in(row: &Row, at: usize) -> Result<i64, Fault>
 }
 
 /// A whole number that is not below 0.
-pub(crate) fn natural_in(row: &Row, at: usize) -> Result<u64, Fault>
+pub fn natural_in(row: &Row, at: usize) -> Result<u64, Fault>
     ensures value { IfOk result (λ number. column row.now at ≡ Int (pos number)) }
     ensures fault { OnErr result (result ≡ Err Store) }
 {
@@ -48,7 +48,7 @@ pub(crate) fn natural_in(row: &Row, at: usize) -> Result<u64, Fault>
 }
 
 /// A whole number that is not below 0 and fits 32 bits.
-fn small_in(row: &Row, at: usize) -> Result<u32, Fault>
+pub fn small_in(row: &Row, at: usize) -> Result<u32, Fault>
     ensures value { IfOk result (λ number. column row.now at ≡ Int (pos number)) }
     ensures fault { OnErr result (result ≡ Err Store) }
 {
@@ -58,7 +58,7 @@ fn small_in(row: &Row, at: usize) -> Result<u32, Fault>
     }
 }
 
-pub(crate) fn text_in(row: &Row, at: usize) -> Result<String, Fault>
+pub fn text_in(row: &Row, at: usize) -> Result<String, Fault>
     ensures value { IfOk result (λ text. column row.now at ≡ Text (string_bytes text)) }
     ensures fault { OnErr result (result ≡ Err Store) }
 {
@@ -88,7 +88,7 @@ pub(crate) fn row_number_in(row: &Row, at: usize) -> Result<RowNumber, Fault>
     }
 }
 
-pub(crate) fn id_in(row: &Row, at: usize) -> Result<Id, Fault>
+pub fn id_in(row: &Row, at: usize) -> Result<Id, Fault>
     ensures value { IfOk result (λ id. column row.now at ≡ Int (pos id)) }
     ensures fault { OnErr result (result ≡ Err Store) }
 {
@@ -128,7 +128,7 @@ pub(crate) fn acl_in(row: &Row, at: usize) -> Result<Acl, Fault>
     }
 }
 
-pub(crate) fn symbol_in(row: &Row, at: usize) -> Result<Symbol, Fault>
+pub fn symbol_in(row: &Row, at: usize) -> Result<Symbol, Fault>
     ensures value { IfOk result (λ symbol. column row.now at ≡ Text symbol) }
     ensures fault { OnErr result (result ≡ Err Store) }
 {
@@ -149,7 +149,7 @@ pub(crate) fn exchange_in(row: &Row, at: usize) -> Result<Exchange, Fault>
 }
 
 /// The type of trade whose code the column is.
-pub(crate) fn type_in(row: &Row, at: usize) -> Result<TradeType, Fault>
+pub fn type_in(row: &Row, at: usize) -> Result<TradeType, Fault>
     ensures value { IfOk result (λ kind. column row.now at ≡ Text (type_code kind)) }
     ensures fault { OnErr result (result ≡ Err Store) }
 {
@@ -160,7 +160,7 @@ pub(crate) fn type_in(row: &Row, at: usize) -> Result<TradeType, Fault>
     }
 }
 
-pub(crate) fn qty_in(row: &Row, at: usize) -> Result<Qty, Fault>
+pub fn qty_in(row: &Row, at: usize) -> Result<Qty, Fault>
     ensures value { IfOk result (λ qty. column row.now at ≡ Int (pos qty)) }
     ensures fault { OnErr result (result ≡ Err Store) }
 {
@@ -190,7 +190,7 @@ pub(crate) fn tax_rate_in(row: &Row, at: usize) -> Result<TaxRate, Fault>
     }
 }
 
-pub(crate) fn charge_amount_in(row: &Row, at: usize) -> Result<ChargeAmount, Fault>
+pub fn charge_amount_in(row: &Row, at: usize) -> Result<ChargeAmount, Fault>
     ensures value { IfOk result (λ amount. column row.now at ≡ Int (pos amount)) }
     ensures fault { OnErr result (result ≡ Err Store) }
 {
@@ -231,7 +231,7 @@ pub(crate) fn cents_in(row: &Row, at: usize) -> Result<Cents, Fault>
 }
 
 /// Cents that are not below 0.
-pub(crate) fn total_in(row: &Row, at: usize) -> Result<Cents, Fault>
+pub fn total_in(row: &Row, at: usize) -> Result<Cents, Fault>
     ensures value { IfOk result (λ cents. column row.now at ≡ Int (pos (unsigned_abs cents))) }
     ensures fault { OnErr result (result ≡ Err Store) }
 {

@@ -6,8 +6,8 @@
 pub mod accounts;
 pub mod bands;
 pub mod brokers;
-mod calls;
-mod cells;
+pub mod calls;
+pub mod cells;
 pub mod charges;
 pub mod customers;
 pub mod desk_row;
@@ -17,7 +17,7 @@ pub mod permissions;
 pub mod presence;
 pub mod securities;
 pub mod tax_rates;
-mod values;
+pub mod values;
 
 pub use accounts::{account_by_id, accounts_of_customer, add_account};
 pub use bands::{add_band, bands_for};

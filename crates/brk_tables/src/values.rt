@@ -9,13 +9,13 @@ use brk_money::{Cents, Id, Price, Qty, Rate, Stamp, TaxRate, TaxStatus, TradeTyp
 use brk_ref::{ChargeAmount, RowNumber, Tier, Volume};
 use sqlite_value::value::ValueRef;
 
-pub(crate) fn number_value<'a>(number: i64) -> ValueRef<'a>
+pub fn number_value<'a>(number: i64) -> ValueRef<'a>
     ensures { owned result ≡ Int number }
 {
     ValueRef::Int(number)
 }
 
-pub(crate) fn id_value<'a>(id: Id) -> ValueRef<'a>
+pub fn id_value<'a>(id: Id) -> ValueRef<'a>
     ensures { owned result ≡ Int (pos id) }
 {
     ValueRef::Int(id.get() as i64)
@@ -39,25 +39,25 @@ pub(crate) fn tax_status_value<'a>(tax_status: TaxStatus) -> ValueRef<'a>
     ValueRef::Int(tax_status.number() as i64)
 }
 
-pub(crate) fn cents_value<'a>(cents: Cents) -> ValueRef<'a>
+pub fn cents_value<'a>(cents: Cents) -> ValueRef<'a>
     ensures { owned result ≡ Int cents }
 {
     ValueRef::Int(cents.get())
 }
 
-pub(crate) fn stamp_value<'a>(stamp: Stamp) -> ValueRef<'a>
+pub fn stamp_value<'a>(stamp: Stamp) -> ValueRef<'a>
     ensures { owned result ≡ Int (pos stamp) }
 {
     ValueRef::Int(stamp.get())
 }
 
-pub(crate) fn price_value<'a>(price: Price) -> ValueRef<'a>
+pub fn price_value<'a>(price: Price) -> ValueRef<'a>
     ensures { owned result ≡ Int (pos price) }
 {
     ValueRef::Int(price.get() as i64)
 }
 
-pub(crate) fn qty_value<'a>(qty: Qty) -> ValueRef<'a>
+pub fn qty_value<'a>(qty: Qty) -> ValueRef<'a>
     ensures { owned result ≡ Int (pos qty) }
 {
     ValueRef::Int(qty.get() as i64)
@@ -75,25 +75,25 @@ pub(crate) fn tax_rate_value<'a>(rate: TaxRate) -> ValueRef<'a>
     ValueRef::Int(rate.get() as i64)
 }
 
-pub(crate) fn charge_amount_value<'a>(amount: ChargeAmount) -> ValueRef<'a>
+pub fn charge_amount_value<'a>(amount: ChargeAmount) -> ValueRef<'a>
     ensures { owned result ≡ Int (pos amount) }
 {
     ValueRef::Int(amount.get() as i64)
 }
 
-pub(crate) fn volume_value<'a>(volume: Volume) -> ValueRef<'a>
+pub fn volume_value<'a>(volume: Volume) -> ValueRef<'a>
     ensures { owned result ≡ Int (pos volume) }
 {
     ValueRef::Int(volume.get() as i64)
 }
 
-pub(crate) fn type_value<'a>(kind: TradeType) -> ValueRef<'a>
+pub fn type_value<'a>(kind: TradeType) -> ValueRef<'a>
     ensures { owned result ≡ Text (type_code kind) }
 {
     ValueRef::Text(kind.code().as_bytes())
 }
 
-pub(crate) fn text_value(text: &str) -> ValueRef<'_>
+pub fn text_value(text: &str) -> ValueRef<'_>
     ensures { owned result ≡ Text text.now }
 {
     ValueRef::Text(text.as_bytes())

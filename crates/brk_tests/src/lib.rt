@@ -14,6 +14,8 @@ mod limits;
 #[cfg(test)]
 mod order_forms;
 #[cfg(test)]
+mod queries;
+#[cfg(test)]
 mod refusals;
 #[cfg(test)]
 mod row_texts;

@@ -1,11 +1,14 @@
 -- What a change of one row makes of the tables, whose rows stand by rising key.
-use Rattle.std.specs.Prelude.{ℕ, pos, List, fold, Some}
+use Rattle.std.specs.Prelude.{ℕ, ◌==◌, not, filter, bytes_eq, pos, List, fold, Some}
+use Rattle.brk_money.specs.declared.status.Status.{Status}
+use Rattle.brk_model.specs.Lists.{update_where}
 use Rattle.brk_model.specs.Records.{Broker, Customer, Account, Permission, Charge, Band, TaxRate, CustomerTax, Kept}
-use Rattle.brk_model.specs.Tables.{Tables, SecurityRow, LastTradeRow}
-use Rattle.brk_model.specs.Keys.{insert_row, broker_key, customer_key, account_key, permission_key, security_key, last_trade_key, charge_key, band_key, tax_rate_key, customer_tax_key, kept_key}
+use Rattle.brk_model.specs.Tables.{Tables, SecurityRow, LastTradeRow, TradeRow, HistoryRow, RequestRow}
+use Rattle.brk_model.specs.Keys.{insert_row, broker_key, customer_key, account_key, permission_key, security_key, last_trade_key, charge_key, band_key, tax_rate_key, customer_tax_key, kept_key, trade_key, history_key, request_key}
 use Rattle.brk_ref.specs.Records.{broker_of, customer_of, account_of, permission_of, security_of, last_trade_of, charge_of, band_of, tax_of, customer_tax_of, kept_of}
+use Rattle.brk_trade.specs.Rows.{trade_row_of, history_row_of, request_row_of}
 use Rattle.brk_trade.specs.declared.change.Change.{Change}
-use Rattle.brk_trade.specs.declared.change.Change.TheVariants.{AddBroker, AddCustomer, AddAccount, AddPermission, AddSecurity, AddLastTrade, AddCharge, AddBand, AddTaxRate, AddCustomerTax, Keep, SetLast}
+use Rattle.brk_trade.specs.declared.change.Change.TheVariants.{AddBroker, AddCustomer, AddAccount, AddPermission, AddSecurity, AddLastTrade, AddCharge, AddBand, AddTaxRate, AddCustomerTax, AddTrade, SetStatus, AddHistory, AddRequest, RemoveRequest, SetLastTrade, Keep, SetLast}
 
 -- a broker more, without trades and commissions
 abbrev pub with_broker : Broker → Tables → Tables
@@ -51,6 +54,31 @@ with_tax_rate r t = record t { tax_rates = insert_row tax_rate_key r t.tax_rates
 abbrev pub with_customer_tax : CustomerTax → Tables → Tables
 with_customer_tax x t = record t { customer_taxes = insert_row customer_tax_key x t.customer_taxes }
 
+-- a trade more
+abbrev pub with_trade : TradeRow → Tables → Tables
+with_trade r t = record t { trades = insert_row trade_key r t.trades }
+
+-- another status of a trade, and the moment at which it came to it
+abbrev pub with_status : ℕ → Status → ℕ → Tables → Tables
+with_status id status stamp t = record t { trades = update_where (λ r. r.id == id) (λ r. record r { status = status; stamp = stamp }) t.trades }
+
+-- a status more that a trade came to
+abbrev pub with_history : HistoryRow → Tables → Tables
+with_history r t = record t { history = insert_row history_key r t.history }
+
+-- a request more
+abbrev pub with_request : RequestRow → Tables → Tables
+with_request r t = record t { requests = insert_row request_key r t.requests }
+
+-- without the request of a trade
+abbrev pub without_request : ℕ → Tables → Tables
+without_request trade t = record t { requests = filter (λ r. not (r.trade == trade)) t.requests }
+
+-- another last trade of a security, which had one
+abbrev pub with_last_trade_set : LastTradeRow → Tables → Tables
+with_last_trade_set l t =
+    record t { last_trades = update_where (λ r. bytes_eq r.symbol l.symbol) (λ r. record r { stamp = l.stamp; price = l.price; volume = l.volume }) t.last_trades }
+
 -- a kept row more
 abbrev pub with_kept : Kept → Tables → Tables
 with_kept k t = record t { kept = insert_row kept_key k t.kept }
@@ -71,6 +99,12 @@ after_change (AddCharge charge) = with_charge (charge_of charge)
 after_change (AddBand band) = with_band (band_of band)
 after_change (AddTaxRate tax) = with_tax_rate (tax_of tax)
 after_change (AddCustomerTax pays) = with_customer_tax (customer_tax_of pays)
+after_change (AddTrade row) = with_trade (trade_row_of row)
+after_change (SetStatus trade status stamp) = with_status trade status stamp
+after_change (AddHistory row) = with_history (history_row_of row)
+after_change (AddRequest row) = with_request (request_row_of row)
+after_change (RemoveRequest trade) = without_request trade
+after_change (SetLastTrade row) = with_last_trade_set (last_trade_of row)
 after_change (Keep kept) = with_kept (kept_of kept)
 after_change (SetLast stamp) = with_last stamp
 

@@ -1,2 +1,8 @@
+pub mod Rows
 pub mod Changes
+pub mod Replies
 pub mod Reference
+pub mod Waiting
+pub mod Cancel
+pub mod Feed
+pub mod Orders

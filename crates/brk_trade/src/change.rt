@@ -1,4 +1,7 @@
-use brk_money::Stamp;
+use crate::history_row::HistoryRow;
+use crate::request_row::RequestRow;
+use crate::trade_row::TradeRow;
+use brk_money::{Id, Stamp, Status};
 use brk_ref::{
     Account, Band, Broker, Charge, Customer, CustomerTax, Kept, LastTrade, Permission, Security,
     Tax,
@@ -27,6 +30,22 @@ pub enum Change {
     AddTaxRate(Tax),
     /// A tax that a customer pays.
     AddCustomerTax(CustomerTax),
+    /// A trade.
+    AddTrade(TradeRow),
+    /// Another status of a trade, and the moment at which it came to it.
+    SetStatus {
+        trade: Id,
+        status: Status,
+        stamp: Stamp,
+    },
+    /// A status that a trade came to.
+    AddHistory(HistoryRow),
+    /// The request of a trade that waits for its price.
+    AddRequest(RequestRow),
+    /// The request of a trade, taken away.
+    RemoveRequest(Id),
+    /// Another last trade of a security, which had one.
+    SetLastTrade(LastTrade),
     /// An accepted row under its key.
     Keep(Kept),
     /// The stamp of the last accepted command (D_LAST).

@@ -1,8 +1,27 @@
-use brk_money::Stamp;
+use brk_estimates::Estimate;
+use brk_money::{Id, Stamp, Status};
 
-/// What is told of an accepted command.
+/// What is told of an accepted order (Trade-Order).
 #[derive(Clone, Copy, Debug, PartialEq, Eq)]
+pub struct Ordered {
+    pub stamp: Stamp,
+    /// The trade that the order became.
+    pub trade: Id,
+    /// Whether it was sent to the market or waits for its price.
+    pub status: Status,
+    /// What it comes to, in cents.
+    pub estimate: Estimate,
+}
+
+/// What is told of an accepted command, with its stamp.
+#[derive(Debug, Drop)]
 pub enum Reply {
     /// A row of reference data was added.
     Booked(Stamp),
+    /// An order was placed.
+    Ordered(Ordered),
+    /// Ticks were taken; the trades that they triggered, tick by tick, and by rising id within one.
+    Ticked(Stamp, Vec<Id>),
+    /// A trade that waited for its price was canceled.
+    Canceled(Stamp),
 }

@@ -1,4 +1,4 @@
-use Rattle.brk_books.proofs.Steps.{books_broker, books_customer, books_account, books_permission, books_security, books_charge, books_band, books_tax_rate, books_customer_tax}
+use Rattle.brk_books.proofs.Keepers.{books_broker, books_customer, books_account, books_permission, books_security, books_charge, books_band, books_tax_rate, books_customer_tax}
 use Rattle.brk_books.proofs.books.records_keep_the_order.Goals as goal
 
 pub returns-clause-broker : goal.returns-clause-broker

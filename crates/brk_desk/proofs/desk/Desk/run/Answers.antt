@@ -1,8 +1,8 @@
-use Rattle.std.proofs.Common.{◌≡◌, ◌∙◌, ◌<◌, ◌+◌, ◌++◌, ◌∷◌, [], List, Result, Ok, Err, cond, ap, sym, subst, take, length, refl, arith, vec_len}
+use Rattle.std.proofs.Common.{◌≡◌, ◌∙◌, ◌<◌, ◌+◌, ◌++◌, ◌∷◌, [], Result, cond, ap, sym, subst, take, arith, vec_len}
 use Rattle.std.specs.Result.{IsOk, is_ok}
 use Rattle.std.specs.Vec.{vec_capacity}
 use Rattle.std.proofs.lemmas.List.{append_assoc, take_more}
-use Rattle.brk_desk.specs.Keeping.{IsMade, IsRun}
+use Rattle.brk_desk.specs.Keeping.{IsRun}
 use Rattle.brk_desk.proofs.Running.{runs_more}
 use Rattle.brk_desk.proofs.desk.Desk.run.Goals as goal
 

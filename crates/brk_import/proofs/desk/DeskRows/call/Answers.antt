@@ -1,6 +1,6 @@
 use Rattle.std.proofs.Common.{◌≡◌}
 use Rattle.brk_ref.specs.Records.{key_of}
-use Rattle.brk_desk.specs.Commands.{command_of}
+use Rattle.brk_commands.specs.Commands.{command_of}
 use Rattle.brk_desk.specs.declared.answer.Answer.TheVariants as given
 use Rattle.brk_import.proofs.Under.{under}
 use Rattle.brk_import.proofs.desk.DeskRows.call.Goals as goal

@@ -1,0 +1,42 @@
+-- What an accepted command was tested for.
+use Rattle.std.proofs.Common.{◌≡◌, ◌≤◌, ℕ, Bool, true, false, not, List, [], ◌∷◌, ◌++◌, refl, Some, None}
+use Rattle.std.specs.Prelude.{nat_lt}
+use Rattle.std.specs.List.{AllByRecursion}
+use Rattle.std.proofs.lemmas.Bool.{ltb-false}
+use Rattle.brk_money.specs.Moments.{last_stamp}
+use Rattle.brk_money.specs.declared.refusal.Refusal.TheVariants.{ClockEnd}
+use Rattle.brk_model.specs.Base.{Base}
+use Rattle.brk_model.specs.Commands.{Command}
+use Rattle.brk_model.specs.Tests.{Test, tests, refusal_of, first_refusal, next_stamp}
+
+none_refuse : (ts : List Test) → first_refusal ts ≡ None → AllByRecursion (λ t. t.0 ≡ false) ts
+none_refuse [] e = tt
+none_refuse (t ∷ ts) e = by_test (none_refuse ts) t.0 refl
+  where
+    by_test : (first_refusal ts ≡ None → AllByRecursion (λ t. t.0 ≡ false) ts) → (b : Bool) → t.0 ≡ b → AllByRecursion (λ t. t.0 ≡ false) (t ∷ ts)
+    by_test ih true f = let k : Some t.1 ≡ None = rw f at e in absurd (cc)
+    by_test ih false f = (f, ih (rw f at e))
+
+All-front : {X : Type 0} (P : X → Type 0) (xs ys : List X) → AllByRecursion P (xs ++ ys) → AllByRecursion P xs
+All-front P [] ys h = tt
+All-front P (x ∷ xs) ys h = (h.0, All-front P xs ys h.1)
+
+All-back : {X : Type 0} (P : X → Type 0) (xs ys : List X) → AllByRecursion P (xs ++ ys) → AllByRecursion P ys
+All-back P [] ys h = h
+All-back P (x ∷ xs) ys h = All-back P xs ys h.1
+
+-- none of its tests found anything wrong
+pub passed : (base : Base) (now : ℕ) (command : Command) → refusal_of base now command ≡ None → AllByRecursion (λ t. t.0 ≡ false) (tests base (next_stamp base now) command)
+unfolding refusal_of
+passed base now command e = All-front _ (tests base (next_stamp base now) command) _ (none_refuse _ e)
+
+-- and its stamp is no later than the last one that there is
+pub in_time : (base : Base) (now : ℕ) (command : Command) → refusal_of base now command ≡ None → next_stamp base now ≤ last_stamp
+unfolding refusal_of
+in_time base now command e =
+    ltb-false last_stamp (next_stamp base now)
+    (All-back (λ t. t.0 ≡ false) (tests base (next_stamp base now) command) ((nat_lt last_stamp (next_stamp base now), ClockEnd) ∷ []) (none_refuse _ e)).0
+
+pub not_not : (b : Bool) → not b ≡ false → b ≡ true
+not_not true e = refl
+not_not false e = cc

@@ -1,0 +1,42 @@
+-- What is looked up in tables before an order, a cancel or a feed.
+use Rattle.std.specs.Prelude.{ℕ, ◌==◌, ◌&&◌, nat_le, List, filter, find, reverse, slice_get, Option, option_map, unwrap_or, bytes_eq, [], ◌∷◌, replicate, ℤ, pos, negsuc}
+use Rattle.std.specs.Int.RustNames.{unsigned_abs}
+use Rattle.std.specs.Option.{option_map_or}
+use Rattle.brk_money.specs.Spelling.{Text}
+use Rattle.brk_money.specs.declared.side.Side.{Side}
+use Rattle.brk_money.specs.declared.side.Side.TheVariants.{Buy, Sell}
+use Rattle.brk_money.specs.declared.trade_type.TradeType.{TradeType}
+use Rattle.brk_model.specs.Records.{Band, Permission}
+use Rattle.brk_model.specs.Keys.{number, by_key}
+use Rattle.brk_model.specs.Shares.{Share}
+use Rattle.brk_model.specs.Tables.{Tables, HoldingRow}
+use Rattle.brk_books.specs.Reads.{bands_of}
+
+-- the number of the last trade, and 0 where there is none
+abbrev pub last_number : Tables → ℕ
+last_number t = unwrap_or (option_map (λ r. r.id) (slice_get (reverse t.trades) 0)) 0
+
+-- the permissions of an account
+abbrev pub permissions_of : Tables → ℕ → List Permission
+permissions_of t account = filter (λ r. r.account == account) t.permissions
+
+-- the band of a quantity, among those of its tier, its type and its exchange
+abbrev pub band_in : Tables → ℕ → TradeType → Text → ℕ → Option Band
+band_in t tier kind exchange qty = find (λ r. nat_le r.from_qty qty && nat_le qty r.to_qty) (bands_of t tier kind exchange)
+
+-- the volume of a symbol, and 0 where it has no last trade
+abbrev pub volume_in : Tables → Text → ℕ
+volume_in t symbol = option_map_or (λ r. r.volume) (find (λ r. bytes_eq r.symbol symbol) t.last_trades) 0
+
+-- the lots of an account in a symbol, the oldest first
+abbrev pub lots_in : Tables → ℕ → Text → List HoldingRow
+lots_in t account symbol = by_key (λ r. number r.stamp ∷ number r.trade ∷ []) (filter (λ r. (r.account == account) && bytes_eq r.symbol symbol) t.holdings)
+
+-- the side of a signed number of shares
+abbrev pub side_of_qty : ℤ → Side
+side_of_qty (pos n) = Buy
+side_of_qty (negsuc n) = Sell
+
+-- the shares of a lot, all alike
+abbrev pub lot_shares : HoldingRow → List Share
+lot_shares r = replicate (unsigned_abs r.qty) (record { side = side_of_qty r.qty; trade = r.trade; price = r.price; stamp = r.stamp })

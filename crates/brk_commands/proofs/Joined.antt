@@ -1,0 +1,42 @@
+-- Fields joined by a separator, and added one after another.
+use Rattle.std.proofs.Common.{◌≡◌, ℕ, List, [], ◌∷◌, ◌++◌, refl, sym, ap, ◌∙◌, append_assoc, take, length, get_or, ◌+◌, ◌<◌}
+use Rattle.std.proofs.lemmas.List.{append-nil, flat_map_more, take_more}
+use Rattle.std.specs.Prelude.{map, flat_map, decimal}
+use Rattle.std.specs.List.{join_with_byte}
+use Rattle.brk_money.specs.Spelling.{Text}
+use Rattle.brk_model.specs.Commands.{Ticked}
+use Rattle.brk_model.specs.Rows.{reply_fields, line_text}
+use Rattle.brk_commands.specs.Fields.{more_fields}
+
+-- joined fields are the first, and the others each with the separator before it
+pub joined : (separator : ℕ) (first : Text) (fields : List Text) → join_with_byte separator (first ∷ fields) ≡ first ++ more_fields separator fields
+joined separator first [] = sym (append-nil first)
+joined separator first (field ∷ fields) = ap (λ (text : Text). first ++ separator ∷ text) (joined separator field fields)
+
+-- fields after fields
+pub more_append : (separator : ℕ) (xs ys : List Text) → more_fields separator (xs ++ ys) ≡ more_fields separator xs ++ more_fields separator ys
+more_append separator [] ys = refl
+more_append separator (x ∷ xs) ys = ap (λ (text : Text). separator ∷ x ++ text) (more_append separator xs ys) ∙ sym (append_assoc (separator ∷ x) (more_fields separator xs) (more_fields separator ys))
+
+-- a stamp and trades
+pub trades_line : (stamp : ℕ) (trades : List ℕ) → decimal stamp ++ flat_map (λ trade. 44 ∷ decimal trade) trades ≡ line_text (Ticked stamp trades)
+unfolding reply_fields
+trades_line stamp trades = ap (λ (text : Text). decimal stamp ++ text) (sym (each trades)) ∙ sym (joined 44 (decimal stamp) (map decimal trades))
+  where
+    each : (trades : List ℕ) → more_fields 44 (map decimal trades) ≡ flat_map (λ trade. 44 ∷ decimal trade) trades
+    each [] = refl
+    each (trade ∷ trades) = ap (λ (text : Text). (44 ∷ decimal trade) ++ text) (each trades)
+
+-- fields that were added after others
+pub added : (separator : ℕ) (first : Text) (xs ys : List Text) (was now : Text) → was ≡ join_with_byte separator (first ∷ xs) → now ≡ was ++ more_fields separator ys
+    → now ≡ join_with_byte separator (first ∷ xs ++ ys)
+added separator first xs ys was now w n =
+    n ∙ ap (λ (text : Text). text ++ more_fields separator ys) (w ∙ joined separator first xs) ∙ append_assoc first (more_fields separator xs) (more_fields separator ys)
+    ∙ ap (λ (text : Text). first ++ text) (sym (more_append separator xs ys)) ∙ sym (joined separator first (xs ++ ys))
+
+-- one text more
+pub next_text : {X : Type 0} (text : X → Text) (first was now : Text) (xs : List X) (i : ℕ) (x : X) → i < length xs → x ≡ get_or xs i x
+    → was ≡ first ++ flat_map text (take i xs) → now ≡ was ++ text x → now ≡ first ++ flat_map text (take (i + 1) xs)
+next_text text first was now xs i x h e w n =
+    n ∙ ap (λ (t : Text). t ++ text x) w ∙ flat_map_more text first (take i xs) x
+    ∙ ap (λ ys. first ++ flat_map text ys) (ap (λ y. take i xs ++ y ∷ []) e ∙ sym (take_more xs i x h))

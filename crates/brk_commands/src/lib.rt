@@ -1,0 +1,12 @@
+//! The texts of commands: what the fields of a row tell, the row that is kept of a command, and the line of its reply.
+#![tactic(auto)]
+
+pub mod command;
+pub mod line;
+pub mod parse;
+pub mod row;
+
+pub use command::Command;
+pub use line::line_text;
+pub use parse::parse_row;
+pub use row::row_text;

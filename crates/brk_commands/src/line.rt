@@ -1,0 +1,105 @@
+//! The lines of replies.
+#![tactic(auto, unfolding(brk_model::specs::Rows::reply_fields))]
+
+ghost use Rattle.std.specs.Prelude.{◌≡◌, ◌∷◌, ◌++◌, [], IfOk, OnOk, OnErr, Err, decimal, nat_abs, pos, string_bytes};
+ghost use Rattle.brk_model.specs.Commands as replies;
+ghost use Rattle.brk_model.specs.Rows as model;
+ghost use Rattle.brk_commands.specs.Fields.{more_fields};
+ghost use Rattle.brk_money.specs.Kinds.{status_code};
+ghost use Rattle.brk_money.specs.declared.fault.Fault.TheVariants.{Memory};
+ghost use Rattle.brk_trade.specs.Replies.{estimate_of, reply_of};
+
+use crate::row::amount;
+use brk_estimates::Estimate;
+use brk_money::{Cents, Fault, Id, Stamp, Wide};
+use brk_trade::{Ordered, Reply};
+use itoa::Buffer;
+use std::alloc::{AllocError, Global};
+
+fn stamp_text(alloc: Global, stamp: Stamp) -> Result<String, AllocError>
+    ensures { IfOk result (λ line. string_bytes line ≡ model.line_text (replies.Booked stamp)) }
+{
+    let mut digits = Buffer::new();
+    String::from_str(alloc, digits.format(stamp.get().unsigned_abs()))
+}
+
+// An amount without its sign: no part of an estimate but the assets is below 0.
+fn magnitude(cents: Cents) -> Wide
+    ensures { result ≡ pos (nat_abs cents) }
+{
+    Wide::new(i128::from(cents.get().unsigned_abs()))
+}
+
+// Adds the seven numbers of an order.
+fn add_estimate(line: &mut String, estimate: &Estimate) -> Result<(), AllocError>
+    ensures { OnOk result (string_bytes line.new ≡ string_bytes line.old ++ more_fields 44 (model.estimate_fields (estimate_of estimate.now))) }
+{
+    write!(
+        line,
+        ",{},{},{},{},{},{},{}",
+        amount(estimate.price.get()),
+        magnitude(estimate.buy_value),
+        magnitude(estimate.sell_value),
+        magnitude(estimate.tax),
+        magnitude(estimate.commission),
+        magnitude(estimate.charge),
+        estimate.assets
+    )
+}
+
+// The stamp of an order, its trade and the status of that.
+fn placed_text(alloc: Global, ordered: &Ordered) -> Result<String, AllocError>
+    ensures { IfOk result (λ line. string_bytes line ≡ model.line_of (decimal ordered.now.stamp ∷ decimal ordered.now.trade ∷ status_code ordered.now.status ∷ [])) }
+{
+    format!(in alloc;
+        "{},{},{}",
+        ordered.stamp.get().unsigned_abs(),
+        ordered.trade.get(),
+        ordered.status.code()
+    )
+}
+
+fn ordered_text(alloc: Global, ordered: &Ordered) -> Result<String, AllocError>
+    ensures { IfOk result (λ line. string_bytes line ≡ model.line_text (replies.Ordered ordered.now.stamp ordered.now.trade ordered.now.status (estimate_of ordered.now.estimate))) }
+{
+    let mut line = placed_text(alloc, ordered)?;
+    add_estimate(&mut line, &ordered.estimate)?;
+    Ok(line)
+}
+
+// Adds the field of a trade.
+fn add_trade(line: &mut String, trade: Id) -> Result<(), AllocError>
+    ensures { OnOk result (string_bytes line.new ≡ string_bytes line.old ++ (44 ∷ decimal trade)) }
+{
+    write!(line, ",{}", trade.get())
+}
+
+fn ticked_text(alloc: Global, stamp: Stamp, triggered: &[Id]) -> Result<String, AllocError>
+    ensures { IfOk result (λ line. string_bytes line ≡ model.line_text (replies.Ticked stamp triggered.now)) }
+{
+    let mut line = stamp_text(alloc, stamp)?;
+    for trade in triggered {
+        add_trade(&mut line, *trade)?;
+    }
+    Ok(line)
+}
+
+fn canceled_text(alloc: Global, stamp: Stamp) -> Result<String, AllocError>
+    ensures { IfOk result (λ line. string_bytes line ≡ model.line_text (replies.CanceledTrade stamp)) }
+{
+    format!(in alloc; "{},CNCL", stamp.get().unsigned_abs())
+}
+
+/// The fields that are told of a reply, joined by commas: the stamp first. No field holds a comma.
+pub fn line_text(alloc: Global, reply: &Reply) -> Result<String, Fault>
+    ensures line { IfOk result (λ line. string_bytes line ≡ model.line_text (reply_of reply.now)) }
+    ensures fault { OnErr result (result ≡ Err Memory) }
+{
+    let line = match reply {
+        Reply::Booked(stamp) => stamp_text(alloc, *stamp),
+        Reply::Ordered(ordered) => ordered_text(alloc, ordered),
+        Reply::Ticked(stamp, triggered) => ticked_text(alloc, *stamp, triggered),
+        Reply::Canceled(stamp) => canceled_text(alloc, *stamp),
+    };
+    Ok(line?)
+}

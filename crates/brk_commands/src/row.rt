@@ -1,0 +1,152 @@
+//! The texts of commands that are kept with their keys.
+#![tactic(auto, unfolding(brk_model::specs::Rows::row_fields))]
+
+ghost use Rattle.std.specs.Prelude.{◌≡◌, IfOk, OnErr, Err, pos, string_bytes};
+ghost use Rattle.brk_books.specs.Commands as books;
+ghost use Rattle.brk_commands.specs.Commands.{command_of};
+ghost use Rattle.brk_model.specs.Commands.{AddAccount, AddBand, AddBroker, AddCharge, AddCustomer, AddCustomerTax, AddPermission, AddSecurity, AddTaxRate};
+ghost use Rattle.brk_model.specs.Rows as model;
+ghost use Rattle.brk_money.specs.declared.fault.Fault.TheVariants.{Memory};
+ghost use Rattle.brk_ref.specs.Records.{account_of, band_of, broker_of, charge_of, customer_of, customer_tax_of, listing_of, permission_of, tax_of};
+
+use crate::command::Command;
+use brk_money::{Fault, Wide};
+use brk_ref::{Account, Band, Broker, Charge, Customer, CustomerTax, Listing, Permission, Tax};
+use brk_trade::Reference;
+use std::alloc::{AllocError, Global};
+
+fn broker_text(alloc: Global, broker: &Broker) -> Result<String, AllocError>
+    ensures { IfOk result (λ row. string_bytes row ≡ model.row_text (AddBroker (broker_of broker.now))) }
+{
+    format!(in alloc; "broker\x1f{}\x1f{}", broker.id.get(), broker.name.as_str())
+}
+
+fn customer_text(alloc: Global, customer: &Customer) -> Result<String, AllocError>
+    ensures { IfOk result (λ row. string_bytes row ≡ model.row_text (AddCustomer (customer_of customer.now))) }
+{
+    format!(in alloc;
+        "customer\x1f{}\x1f{}\x1f{}\x1f{}\x1f{}",
+        customer.id.get(),
+        customer.tier.get(),
+        customer.tax_id.as_str(),
+        customer.last_name.as_str(),
+        customer.first_name.as_str()
+    )
+}
+
+fn account_text(alloc: Global, account: &Account) -> Result<String, AllocError>
+    ensures { IfOk result (λ row. string_bytes row ≡ model.row_text (AddAccount (account_of account.now))) }
+{
+    format!(in alloc;
+        "account\x1f{}\x1f{}\x1f{}\x1f{}\x1f{}\x1f{}",
+        account.id.get(),
+        account.customer.get(),
+        account.broker.get(),
+        account.name.as_str(),
+        account.tax_status.number(),
+        Wide::from(account.opening)
+    )
+}
+
+fn permission_text(alloc: Global, permission: &Permission) -> Result<String, AllocError>
+    ensures { IfOk result (λ row. string_bytes row ≡ model.row_text (AddPermission (permission_of permission.now))) }
+{
+    format!(in alloc;
+        "permission\x1f{}\x1f{}\x1f{}\x1f{}\x1f{}",
+        permission.account.get(),
+        permission.acl.as_str(),
+        permission.tax_id.as_str(),
+        permission.last_name.as_str(),
+        permission.first_name.as_str()
+    )
+}
+
+// An amount of cents that is not below 0, as it is printed.
+pub(crate) fn amount(cents: u32) -> Wide
+    ensures { result ≡ pos cents }
+{
+    Wide::new(i128::from(cents))
+}
+
+fn security_text(alloc: Global, listing: &Listing) -> Result<String, AllocError>
+    ensures { IfOk result (λ row. string_bytes row ≡ model.row_text (AddSecurity (listing_of listing.now))) }
+{
+    let security = &listing.security;
+    format!(in alloc;
+        "security\x1f{}\x1f{}\x1f{}\x1f{}\x1f{}",
+        security.symbol.as_str(),
+        security.name.as_str(),
+        security.exchange.as_str(),
+        security.sector.as_str(),
+        amount(listing.price.get())
+    )
+}
+
+fn charge_text(alloc: Global, charge: &Charge) -> Result<String, AllocError>
+    ensures { IfOk result (λ row. string_bytes row ≡ model.row_text (AddCharge (charge_of charge.now))) }
+{
+    format!(in alloc;
+        "charge\x1f{}\x1f{}\x1f{}",
+        charge.kind.code(),
+        charge.tier.get(),
+        amount(charge.amount.get())
+    )
+}
+
+fn band_text(alloc: Global, band: &Band) -> Result<String, AllocError>
+    ensures { IfOk result (λ row. string_bytes row ≡ model.row_text (AddBand (band_of band.now))) }
+{
+    format!(in alloc;
+        "band\x1f{}\x1f{}\x1f{}\x1f{}\x1f{}\x1f{}",
+        band.tier.get(),
+        band.kind.code(),
+        band.exchange.as_str(),
+        band.from_qty.get(),
+        band.to_qty.get(),
+        band.rate.get()
+    )
+}
+
+fn tax_rate_text(alloc: Global, tax: &Tax) -> Result<String, AllocError>
+    ensures { IfOk result (λ row. string_bytes row ≡ model.row_text (AddTaxRate (tax_of tax.now))) }
+{
+    format!(in alloc;
+        "taxrate\x1f{}\x1f{}\x1f{}",
+        tax.id.get(),
+        tax.name.as_str(),
+        tax.rate.get()
+    )
+}
+
+fn customer_tax_text(alloc: Global, pays: &CustomerTax) -> Result<String, AllocError>
+    ensures { IfOk result (λ row. string_bytes row ≡ model.row_text (AddCustomerTax (customer_tax_of pays.now))) }
+{
+    format!(in alloc; "custtax\x1f{}\x1f{}", pays.customer.get(), pays.tax.get())
+}
+
+// The text of a record that is added.
+pub(crate) fn reference_text(alloc: Global, reference: &Reference) -> Result<String, AllocError>
+    ensures { IfOk result (λ row. string_bytes row ≡ model.row_text (books.command_of reference.now)) }
+{
+    match reference {
+        Reference::Broker(broker) => broker_text(alloc, broker),
+        Reference::Customer(customer) => customer_text(alloc, customer),
+        Reference::Account(account) => account_text(alloc, account),
+        Reference::Permission(permission) => permission_text(alloc, permission),
+        Reference::Security(listing) => security_text(alloc, listing),
+        Reference::Charge(charge) => charge_text(alloc, charge),
+        Reference::Band(band) => band_text(alloc, band),
+        Reference::TaxRate(tax) => tax_rate_text(alloc, tax),
+        Reference::CustomerTax(pays) => customer_tax_text(alloc, pays),
+    }
+}
+
+/// The fields of a command's row, the kind first, joined by byte 31: the text that is kept with a key. No field holds
+/// that byte.
+pub fn row_text(alloc: Global, command: &Command) -> Result<String, Fault>
+    ensures row { IfOk result (λ row. string_bytes row ≡ model.row_text (command_of command.now)) }
+    ensures fault { OnErr result (result ≡ Err Memory) }
+{
+    let Command::Add(reference) = command;
+    Ok(reference_text(alloc, reference)?)
+}

@@ -1,0 +1,54 @@
+-- Reads of a store one after another.
+use Rattle.std.proofs.Common.{◌∙◌, Ok, Err}
+use Rattle.sqlite_trees.specs.declared.store.Store.{Ghosts}
+use Rattle.sqlite.specs.Held.{Held, state}
+use Rattle.sqlite.specs.State.{State, Survives}
+use Rattle.sqlite.proofs.StateLemmas.{survives_then}
+use Rattle.brk_model.specs.Tables.{Tables}
+use Rattle.brk_rows.proofs.Inside.{clean_before}
+use Rattle.brk_store.specs.Holds.{IsRead, IsSame}
+
+pub same_then : (a b c : State) → IsSame a b → IsSame b c → IsSame a c
+same_then a b c f s = record { was_open = f.was_open; now = s.now ∙ f.now; committed = s.committed ∙ f.committed }
+
+pub none_then : (a b c : State) (P : _) → Survives a b (λ _. ⊥) → Survives b c P → Survives a c P
+none_then a b c P f s = survives_then a b c (λ _. ⊥) P P (λ _ db none. absurd none) (λ _ db p. p) f s
+
+module _ {S : Type 0} (g : Ghosts S) where
+  -- what was read tells this too
+  pub retold : (old end : Held S) {V X E H : Type 0} (v : V) (x : X) (P : V → Tables → Type 0) (R : X → Tables → Type 0)
+      → ((t : Tables) → P v t → R x t) → IsRead {E = E} g old end (Ok v) P → IsRead {E = H} g old end (Ok x) R
+  retold old end v x P R tell read = record {
+    told = λ clean t holds. tell t (read.told clean t holds);
+    opened = read.opened;
+    kept = read.kept;
+    same = read.same;
+    survives = read.survives;
+  }
+
+  module _ (old mid end : Held S) where
+    -- two reads are a read of both
+    pub read_both : {V W X E F H : Type 0} (v : V) (w : W) (x : X) (P : V → Tables → Type 0) (Q : W → Tables → Type 0) (R : X → Tables → Type 0)
+        → ((t : Tables) → P v t → Q w t → R x t) → IsRead {E = E} g old mid (Ok v) P → IsRead {E = F} g mid end (Ok w) Q → IsRead {E = H} g old end (Ok x) R
+    read_both v w x P Q R tell first second =
+        let before = clean_before (state g mid) (state g end) (λ _. ⊥) second.survives in
+        record {
+          told = λ clean t holds. tell t (first.told (before clean) t holds) (second.told clean t (first.kept t holds));
+          opened = λ clean. first.opened (before clean);
+          kept = λ t holds. second.kept t (first.kept t holds);
+          same = λ clean o. let s = second.same clean o in same_then (state g old) (state g mid) (state g end) (first.same (before clean) s.was_open) s;
+          survives = none_then (state g old) (state g mid) (state g end) (λ _. ⊥) first.survives second.survives;
+        }
+
+    -- a read that fails after another leaves all as it was
+    pub read_fails : {V W X E F H : Type 0} (v : V) (e : F) (h : H) (P : V → Tables → Type 0) (Q : W → Tables → Type 0) (R : X → Tables → Type 0)
+        → IsRead {E = E} g old mid (Ok v) P → IsRead {E = F} g mid end (Err e) Q → IsRead {E = H} g old end (Err h) R
+    read_fails v e h P Q R first second =
+        let before = clean_before (state g mid) (state g end) (λ _. ⊥) second.survives in
+        record {
+          told = λ clean. tt;
+          opened = λ clean. tt;
+          kept = λ t holds. second.kept t (first.kept t holds);
+          same = λ clean o. let s = second.same clean o in same_then (state g old) (state g mid) (state g end) (first.same (before clean) s.was_open) s;
+          survives = none_then (state g old) (state g mid) (state g end) (λ _. ⊥) first.survives second.survives;
+        }

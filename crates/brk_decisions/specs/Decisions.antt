@@ -1,0 +1,16 @@
+-- What it is to decide on a command.
+use Rattle.std.specs.Prelude.{◌≡◌, ℕ, Result, Err, MatchResult}
+use Rattle.brk_money.specs.declared.refusal.Refusal.{Refusal}
+use Rattle.brk_model.specs.Base.{Base}
+use Rattle.brk_model.specs.Commands.{Command}
+use Rattle.brk_model.specs.Sheets.{sheets}
+use Rattle.brk_model.specs.Step.{step}
+use Rattle.brk_model.specs.Tables.{Tables}
+use Rattle.brk_trade.specs.declared.plan.Plan.{Plan}
+use Rattle.brk_books.specs.Books.{IsBooks}
+use Rattle.brk_books.specs.Plans.{DoesCommand}
+
+-- where the rows are the tables of a base in order, a command at a moment is decided on as its step is: its plan does it, or it is refused for the same reason
+abbrev pub Decides : ℕ → Command → Result Plan Refusal → Tables → Type 0
+Decides now command planned t =
+    (base : Base) → IsBooks base → t ≡ sheets base → MatchResult planned (DoesCommand base now command) (λ refusal. step base now command ≡ Err refusal)

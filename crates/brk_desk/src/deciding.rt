@@ -1,0 +1,30 @@
+//! Commands that are decided on, each kind by its own function.
+
+ghost use Rattle.std.specs.Prelude.{IfErr};
+ghost use Rattle.brk_commands.specs.Commands.{command_of};
+ghost use Rattle.brk_decisions.specs.Decisions.{Decides};
+ghost use Rattle.brk_model.specs.Run.{MayFail};
+ghost use Rattle.brk_store.specs.Holds.{IsRead};
+
+use brk_commands::Command;
+use brk_decisions::decide_reference;
+use brk_money::{Planned, Stamp};
+use brk_store::Store;
+use brk_trade::Plan;
+use sqlite::Alter;
+use std::alloc::Global;
+
+// Decides on a command at a moment: why it is refused, or its plan.
+pub(crate) fn decide<S: Alter>(
+    alloc: Global,
+    store: &mut Store<S>,
+    now: Stamp,
+    command: &Command,
+) -> Planned<Plan>
+    ensures read { IsRead S.Store store.old store.new result (Decides now (command_of command.now)) }
+    ensures fault { IfErr result MayFail }
+{
+    match command {
+        Command::Add(reference) => decide_reference(alloc, store, now, reference),
+    }
+}

@@ -1,0 +1,148 @@
+-- Orders: what is tested, what they are estimated by, and what an accepted one comes to.
+use Rattle.std.specs.Prelude.{◌≡◌, ℕ, ◌+◌, ◌≤◌, Bool, pos, not, nat_le, is_none, unwrap_or, if◌then◌else◌, List, [], ◌∷◌, ◌++◌, length, map, Option, Some, None, option_to_list}
+use Rattle.std.specs.Option.{option_map_or}
+use Rattle.brk_estimates.specs.Estimates.{AreTerms, told}
+use Rattle.brk_estimates.specs.declared.estimate.Estimate.{Estimate}
+use Rattle.brk_estimates.specs.declared.estimate.Terms.{Terms}
+use Rattle.brk_lots.specs.Lots.{from_end, shares_of}
+use Rattle.brk_lots.specs.Position.{IsNew}
+use Rattle.brk_lots.specs.declared.lot.Lot.{Lot}
+use Rattle.brk_model.specs.Base.{Base, completed}
+use Rattle.brk_model.specs.Commands as model
+use Rattle.brk_model.specs.Derived.{shares_in}
+use Rattle.brk_model.specs.Orders as model_orders
+use Rattle.brk_model.specs.Limits.{greatest_id}
+use Rattle.brk_model.specs.Shares.{Deal, touches}
+use Rattle.brk_model.specs.Tables as tables
+use Rattle.brk_model.specs.Tests.{Test, first_refusal}
+use Rattle.brk_money.specs.Amounts.{commission}
+use Rattle.brk_money.specs.Kinds.{side_of, is_market}
+use Rattle.brk_money.specs.Moments.{stamp_after}
+use Rattle.brk_money.specs.Spelling.{Text}
+use Rattle.brk_money.specs.declared.refusal.Limit.TheVariants as limit
+use Rattle.brk_money.specs.declared.refusal.Refusal.TheVariants.{NoAccount, NoSecurity, NotPermitted, NoCharge, NoRate, Range}
+use Rattle.brk_money.specs.declared.tax_status.TaxStatus.TheVariants.{Untaxed}
+use Rattle.brk_orders.specs.declared.order.Order.{Order}
+use Rattle.brk_ref.specs.Records.{executor_of}
+use Rattle.brk_trade.specs.Reference.{clock_test}
+use Rattle.brk_trade.specs.Rows.{trade_row_of}
+use Rattle.brk_trade.specs.declared.change.Change.{Change}
+use Rattle.brk_trade.specs.declared.change.Change.TheVariants as change
+use Rattle.brk_trade.specs.declared.order.Accepted.{Accepted}
+use Rattle.brk_trade.specs.declared.order.OrderFound.{OrderFound}
+use Rattle.brk_trade.specs.declared.plan.Plan.{Plan}
+use Rattle.brk_trade.specs.declared.reply.Reply.TheVariants.{Ordered}
+use Rattle.brk_trade.specs.declared.request_row.RequestRow.{RequestRow}
+use Rattle.brk_trade.specs.declared.trade_row.TradeRow.{TradeRow}
+
+-- what an order is tested for, by what was found in the tables
+abbrev pub order_tests : OrderFound → List Test
+order_tests found =
+    (is_none found.account, NoAccount) ∷ (is_none found.last_price, NoSecurity) ∷ (not found.is_permitted, NotPermitted)
+    ∷ (is_none found.charge, NoCharge) ∷ (is_none found.rate, NoRate) ∷ []
+
+-- the market's last price for a market type, and else the order's; an order of another type that names none has the market's
+abbrev pub requested_price : Order → ℕ → ℕ
+requested_price order last = if is_market order.kind then last else unwrap_or order.price last
+
+-- what an order is estimated by; 0 and no tax stand for what was not found
+abbrev pub terms_of : Order → OrderFound → Terms
+terms_of order found = record {
+  side = side_of order.kind;
+  qty = order.qty;
+  price = requested_price order (unwrap_or found.last_price 0);
+  tax_status = option_map_or (λ a. a.tax_status) found.account Untaxed;
+  rates = found.rates;
+  rate = unwrap_or found.rate 0;
+  charge = pos (unwrap_or found.charge 0);
+  assets = found.assets;
+}
+
+-- an order that nothing refuses, with what was found
+pub record IsAccepted (order : Order) (found : OrderFound) (accepted : Accepted) : Type 0 where
+  pub tested : first_refusal (order_tests found) ≡ None
+  pub terms : accepted.terms ≡ terms_of order found
+  pub broker : accepted.broker ≡ option_map_or (λ a. a.broker) found.account 0
+  pub charge : accepted.charge ≡ unwrap_or found.charge 0
+
+-- the estimate by some terms over lots: of a base that has these terms, upon the shares that it has, it is that of the definitions
+abbrev pub IsEstimate : Terms → List Lot → Estimate → Type 0
+IsEstimate terms lots estimate =
+    (base : Base) (o : model.Order) (ls : List Lot) → AreTerms base o terms → shares_in (completed base) o.account o.symbol ≡ shares_of ls
+    → lots ≡ from_end o.is_lifo ls → estimate ≡ told (model_orders.estimate base o)
+
+-- the estimate of an order that nothing refuses
+pub record IsEstimated (order : Order) (found : OrderFound) (lots : List Lot) (estimate : Estimate) : Type 0 where
+  pub accepted : first_refusal (order_tests found) ≡ None
+  pub estimated : IsEstimate (terms_of order found) lots estimate
+
+-- an order by its terms as a deal
+abbrev pub deal_by : Terms → (trade stamp : ℕ) → Bool → Deal
+deal_by terms trade stamp lifo = record { trade = trade; side = terms.side; qty = terms.qty; price = terms.price; stamp = stamp; is_lifo = lifo }
+
+-- a source is asked for at most one lot more than the order would touch
+abbrev pub AsksFew : Terms → List Lot → (before after : ℕ) → Type 0
+AsksFew terms lots before after =
+    (ls : List Lot) (trade stamp : ℕ) (lifo : Bool) → lots ≡ from_end lifo ls → IsNew trade ls
+    → after ≤ before + length (touches (deal_by terms trade stamp lifo) (shares_of ls)) + 1
+
+-- an id has to be left for the trade; trades are numbered from 1 without a gap
+abbrev pub trades_test : Option ℕ → Test
+trades_test last = (nat_le greatest_id (unwrap_or last 0), Range limit.Trades)
+
+-- the number of the next trade
+abbrev pub next_trade : Option ℕ → ℕ
+next_trade last = unwrap_or last 0 + 1
+
+-- the row of a trade that an order makes by some terms, under these texts: no price, no tax yet
+abbrev pub row_named : Order → Terms → (charge trade stamp : ℕ) → (symbol executor : Text) → tables.TradeRow
+row_named order terms charge trade stamp symbol executor = record {
+  id = trade;
+  stamp = stamp;
+  status = model_orders.first_status order.kind;
+  kind = order.kind;
+  is_cash = order.is_cash;
+  symbol = symbol;
+  qty = order.qty;
+  bid = terms.price;
+  account = order.account;
+  executor = executor;
+  price = None;
+  charge = charge;
+  commission = commission terms.rate terms.qty terms.price;
+  tax = 0;
+  is_lifo = order.is_lifo;
+}
+
+-- the row of a trade that an order makes by some terms
+abbrev pub trade_row : Order → Terms → (charge trade stamp : ℕ) → tables.TradeRow
+trade_row order terms charge trade stamp = row_named order terms charge trade stamp order.symbol (model_orders.executor_name (executor_of order.executor))
+
+-- the request of the trade of an order that waits for its price, by the account's broker
+abbrev pub request_row : Order → Terms → (broker trade : ℕ) → Option RequestRow
+request_row order terms broker trade =
+    if is_market order.kind then None
+    else Some (record { trade = trade; kind = order.kind; symbol = order.symbol; qty = order.qty; bid = terms.price; broker = broker })
+
+-- the changes that add a trade: its row, its first status, its request if it waits, and the last stamp
+abbrev pub changes_of : TradeRow → Option RequestRow → List Change
+changes_of row request =
+    change.AddTrade row ∷ change.AddHistory (record { trade = row.id; status = row.status; stamp = row.stamp })
+    ∷ map change.AddRequest (option_to_list request) ++ change.SetLast row.stamp ∷ []
+
+-- the changes that an order makes by some terms
+pub record AreChanges (order : Order) (terms : Terms) (broker charge trade stamp : ℕ) (changes : List Change) : Type 0 where
+  pub row : TradeRow
+  pub added : trade_row_of row ≡ trade_row order terms charge trade stamp
+  pub changed : changes ≡ changes_of row (request_row order terms broker trade)
+
+-- the plan of an order that is accepted: its trade is added, with its first status, and with a request where it waits; the
+-- last stamp is moved; its number, its status and what it is estimated at are told
+pub record IsOrdered (order : Order) (found : OrderFound) (lots : List Lot) (last : Option ℕ) (now : ℕ) (plan : Plan) : Type 0 where
+  pub stamp : ℕ
+  pub estimate : Estimate
+  pub accepted : first_refusal (order_tests found ++ trades_test found.last_trade ∷ clock_test last now ∷ []) ≡ None
+  pub stamped : stamp_after last now ≡ Some stamp
+  pub estimated : IsEstimate (terms_of order found) lots estimate
+  pub told : plan.reply ≡ Ordered (record { stamp = stamp; trade = next_trade found.last_trade; status = model_orders.first_status order.kind; estimate = estimate })
+  pub changes : AreChanges order (terms_of order found) (option_map_or (λ a. a.broker) found.account 0) (unwrap_or found.charge 0) (next_trade found.last_trade) stamp plan.changes.items

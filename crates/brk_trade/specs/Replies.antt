@@ -1,0 +1,26 @@
+-- What replies are in the abstract brokerage.
+use Rattle.std.specs.Prelude.{nat_abs}
+use Rattle.brk_model.specs.Commands as model
+use Rattle.brk_model.specs.Commands.{Reply, Booked, Ordered, Ticked, CanceledTrade}
+use Rattle.brk_estimates.specs.declared.estimate.Estimate.{Estimate}
+use Rattle.brk_trade.specs.declared.reply.Reply as trade
+use Rattle.brk_trade.specs.declared.reply.Reply.TheVariants as reply
+
+-- the numbers of an order; none but the assets is ever below 0
+abbrev pub estimate_of : Estimate → model.Estimate
+estimate_of e = record {
+  price = e.price;
+  buy_value = nat_abs e.buy_value;
+  sell_value = nat_abs e.sell_value;
+  tax = nat_abs e.tax;
+  commission = nat_abs e.commission;
+  charge = nat_abs e.charge;
+  assets = e.assets;
+}
+
+-- what is told of a command
+abbrev pub reply_of : trade.Reply → Reply
+reply_of (reply.Booked stamp) = Booked stamp
+reply_of (reply.Ordered ordered) = Ordered ordered.stamp ordered.trade ordered.status (estimate_of ordered.estimate)
+reply_of (reply.Ticked stamp triggered) = Ticked stamp triggered.items
+reply_of (reply.Canceled stamp) = CanceledTrade stamp

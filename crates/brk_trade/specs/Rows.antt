@@ -1,0 +1,48 @@
+-- What the rows of trades are in the abstract brokerage.
+use Rattle.std.specs.Prelude.{List, [], ◌∷◌, string_bytes}
+use Rattle.brk_model.specs.Keys.{KeyPart, number, by_key}
+use Rattle.brk_model.specs.Tables.{TradeRow, HistoryRow, RequestRow, HoldingRow, SummaryRow}
+use Rattle.brk_trade.specs.declared.trade_row.TradeRow as trade
+use Rattle.brk_trade.specs.declared.history_row.HistoryRow as history
+use Rattle.brk_trade.specs.declared.request_row.RequestRow as request
+use Rattle.brk_trade.specs.declared.holding_row.HoldingRow as holding
+use Rattle.brk_trade.specs.declared.summary_row.SummaryRow as summary
+
+abbrev pub trade_row_of : trade.TradeRow → TradeRow
+trade_row_of r = record {
+  id = r.id;
+  stamp = r.stamp;
+  status = r.status;
+  kind = r.kind;
+  is_cash = r.is_cash;
+  symbol = r.symbol;
+  qty = r.qty;
+  bid = r.bid;
+  account = r.account;
+  executor = string_bytes r.executor;
+  price = r.price;
+  charge = r.charge;
+  commission = r.commission;
+  tax = r.tax;
+  is_lifo = r.is_lifo;
+}
+
+abbrev pub history_row_of : history.HistoryRow → HistoryRow
+history_row_of r = record { trade = r.trade; status = r.status; stamp = r.stamp }
+
+abbrev pub request_row_of : request.RequestRow → RequestRow
+request_row_of r = record { trade = r.trade; kind = r.kind; symbol = r.symbol; qty = r.qty; bid = r.bid; broker = r.broker }
+
+abbrev pub holding_row_of : holding.HoldingRow → HoldingRow
+holding_row_of r = record { trade = r.trade; account = r.account; symbol = r.symbol; stamp = r.stamp; price = r.price; qty = r.qty }
+
+abbrev pub summary_row_of : summary.SummaryRow → SummaryRow
+summary_row_of r = record { account = r.account; symbol = r.symbol; qty = r.qty }
+
+-- the moment of opening, and then the trade
+abbrev pub age_key : HoldingRow → List KeyPart
+age_key r = number r.stamp ∷ number r.trade ∷ []
+
+-- lots, the oldest first
+abbrev pub oldest_lots_first : List HoldingRow → List HoldingRow
+oldest_lots_first = by_key age_key

@@ -1,0 +1,343 @@
+ghost use Rattle.std.specs.Prelude.{◌≡◌, ◌⊎◌, ◌++◌, ◌∷◌, [], ℕ, pos, drop, IfOk, IfErr, OnOk, OnErr, MatchResult, MatchOption, Some, None, string_bytes};
+ghost use Rattle.brk_lots.specs.Position.{IsWalk};
+ghost use Rattle.brk_model.specs.Orders as model;
+ghost use Rattle.brk_model.specs.Tests.{first_refusal};
+ghost use Rattle.brk_money.specs.Amounts as amounts;
+ghost use Rattle.brk_money.specs.declared.fault.Fault.{Fault};
+ghost use Rattle.brk_ref.specs.Records.{executor_of};
+ghost use Rattle.brk_money.specs.declared.refusal.Limit.TheVariants as limit;
+ghost use Rattle.brk_money.specs.declared.refusal.Refusal.TheVariants.{Range};
+ghost use Rattle.brk_trade.specs.Orders as spec;
+ghost use Rattle.brk_trade.specs.Reference.{clock_test};
+ghost use Rattle.brk_trade.specs.Rows.{trade_row_of};
+ghost use Rattle.brk_trade.specs.Orders.{AreChanges, AsksFew, IsAccepted, IsEstimated, IsOrdered, order_tests, terms_of, trades_test};
+
+use crate::amount::Amount;
+use crate::change::Change;
+use crate::history_row::HistoryRow;
+use crate::plan::Plan;
+use crate::reply::{Ordered, Reply};
+use crate::request_row::RequestRow;
+use crate::trade_row::TradeRow;
+use brk_estimates::{Estimate, Terms, estimate_order};
+use brk_lots::LotSource;
+use brk_money::{
+    Cents, Fault, Id, Limit, Planned, Price, Rate, Refusal, Stamp, Status, TaxRate, TaxStatus,
+    TradeType, Wide, commission, stamp_after,
+};
+use brk_orders::Order;
+use brk_ref::{ChargeAmount, Executor, Symbol};
+use std::alloc::{AllocError, Global};
+
+/// What decides on an order of the account that it is for.
+#[derive(Clone, Copy, Debug, PartialEq, Eq)]
+pub struct OrderAccount {
+    /// The broker who looks after it.
+    pub broker: Id,
+    /// How its gains are taxed.
+    pub tax_status: TaxStatus,
+}
+
+/// What the tables hold that decides on an order. What is not needed after an earlier refusal is not looked at.
+#[derive(Clone, Copy, Debug, PartialEq, Eq)]
+pub struct OrderFound {
+    /// The account that it is for, where there is one.
+    pub account: Option<OrderAccount>,
+    /// The last price of its security on the market, where there is such a security.
+    pub last_price: Option<Price>,
+    /// Whether its executor is the account's customer or has a permission of the account.
+    pub is_permitted: bool,
+    /// The charge of its type and the customer's tier, where there is one.
+    pub charge: Option<ChargeAmount>,
+    /// The rate of the band that its quantity is in, where there is one.
+    pub rate: Option<Rate>,
+    /// The sum of the tax rates that the account's customer pays.
+    pub rates: TaxRate,
+    /// The account's balance and the worth of what it holds, in cents.
+    pub assets: Wide,
+    /// The greatest id of a trade, which is the number of trades; none where there is no trade.
+    pub last_trade: Option<Id>,
+}
+
+// An order that nothing refuses: its terms, and what else its rows are made of.
+#[derive(Clone, Copy)]
+struct Accepted {
+    terms: Terms,
+    broker: Id,
+    charge: ChargeAmount,
+}
+
+// The price that an order is estimated at: the market's for a market type, and else its own.
+fn requested_price(order: &Order, last: Price) -> Price
+    ensures { result ≡ spec.requested_price order.now last }
+{
+    if order.kind.is_market() {
+        return last;
+    }
+    order.price.unwrap_or(last)
+}
+
+// A charge as an amount.
+fn charge_of(charge: ChargeAmount) -> Cents
+    ensures { result ≡ pos charge }
+{
+    Cents::new(i64::from(charge.get())).unwrap()
+}
+
+// The order with what was found, or the first refusal that there is cause for.
+fn accept(order: &Order, found: &OrderFound) -> Result<Accepted, Refusal>
+    ensures { MatchResult result
+        (IsAccepted order.now found.now)
+        (λ refusal. first_refusal (order_tests found.now) ≡ Some refusal) }
+{
+    let Some(account) = found.account else {
+        return Err(Refusal::NoAccount);
+    };
+    let Some(last) = found.last_price else {
+        return Err(Refusal::NoSecurity);
+    };
+    if !found.is_permitted {
+        return Err(Refusal::NotPermitted);
+    }
+    let Some(charge) = found.charge else {
+        return Err(Refusal::NoCharge);
+    };
+    let Some(rate) = found.rate else {
+        return Err(Refusal::NoRate);
+    };
+    Ok(Accepted {
+        terms: Terms {
+            side: order.kind.side(),
+            qty: order.qty,
+            price: requested_price(order, last),
+            tax_status: account.tax_status,
+            rates: found.rates,
+            rate,
+            charge: charge_of(charge),
+            assets: found.assets,
+        },
+        broker: account.broker,
+        charge,
+    })
+}
+
+/// Plans the estimate of an order, by what was found in the tables and the lots of its account and symbol that a source
+/// gives from the order's end (Trade-Order). It is refused with the first of `NoAccount`, `NoSecurity`, `NotPermitted`,
+/// `NoCharge` and `NoRate` that there is cause for, and then asks the source for nothing. It takes no memory; a fault is
+/// the source's.
+pub fn plan_estimate<L: LotSource>(
+    order: &Order,
+    found: &OrderFound,
+    source: &mut L,
+) -> Planned<Estimate>
+    requires { IsWalk (L.rest source.old) }
+    ensures planned { IfOk result (λ planned. MatchResult planned
+        (IsEstimated order.now found.now (L.rest source.old))
+        (λ refusal. first_refusal (order_tests found.now) ≡ Some refusal)) }
+    ensures refused { IfOk result (λ planned. OnErr planned (source.new ≡ source.old)) }
+    ensures asked { IfOk result (λ planned. OnOk planned (AsksFew (terms_of order.now found.now) (L.rest source.old) (L.asked source.old) (L.asked source.new))) }
+    // No fault of the source is passed over, and each is answered as it came.
+    ensures faulted { IfOk result (λ planned. L.faulted source.new ≡ L.faulted source.old) }
+    ensures fault { IfErr result (λ fault. (before : L) × L.fails before fault source.new) }
+    ensures rest { (n : ℕ) × (L.rest source.new ≡ drop n (L.rest source.old)) }
+{
+    let accepted = match accept(order, found) {
+        Ok(accepted) => accepted,
+        Err(refusal) => return Ok(Err(refusal)),
+    };
+    let estimate = estimate_order(source, &accepted.terms)?;
+    Ok(Ok(estimate))
+}
+
+// The id of the next trade, where one is left.
+fn next_trade(last: Option<Id>) -> Option<Id>
+    ensures { MatchOption result
+        (first_refusal (trades_test last ∷ []) ≡ Some (Range limit.Trades))
+        (λ trade. (first_refusal (trades_test last ∷ []) ≡ None) × (trade ≡ spec.next_trade last)) }
+{
+    match last {
+        Some(last) => Id::new(last.get() + 1),
+        None => Id::new(1),
+    }
+}
+
+// The status that an order of a type begins with: a market type goes to the market, another one waits for its price.
+fn first_status(kind: TradeType) -> Status
+    ensures { result ≡ model.first_status kind }
+{
+    if kind.is_market() {
+        Status::Submitted
+    } else {
+        Status::Pending
+    }
+}
+
+// The name that a trade keeps of its executor: first name, one space, last name.
+fn executor_name(alloc: Global, executor: &Executor) -> Result<String, AllocError>
+    ensures { IfOk result (λ name. string_bytes name ≡ model.executor_name (executor_of executor.now)) }
+{
+    let mut name = String::from_str(alloc, executor.first_name.as_str())?;
+    name.push_str(" ")?;
+    name.push_str(executor.last_name.as_str())?;
+    Ok(name)
+}
+
+// The commission that is estimated by some terms.
+fn estimated_commission(terms: &Terms) -> Amount
+    ensures { result ≡ amounts.commission terms.now.rate terms.now.qty terms.now.price }
+{
+    let cents = commission(terms.rate, terms.qty, terms.price);
+    Amount::new(cents.get() as u64).unwrap()
+}
+
+// The row of a trade under these texts.
+fn row_named(
+    order: &Order,
+    accepted: &Accepted,
+    trade: Id,
+    stamp: Stamp,
+    symbol: Symbol,
+    executor: String,
+) -> TradeRow
+    ensures { trade_row_of result ≡ spec.row_named order.now accepted.now.terms accepted.now.charge trade stamp symbol (string_bytes executor) }
+{
+    TradeRow {
+        id: trade,
+        stamp,
+        status: first_status(order.kind),
+        kind: order.kind,
+        is_cash: order.is_cash,
+        symbol,
+        qty: order.qty,
+        bid: accepted.terms.price,
+        account: order.account,
+        executor,
+        price: None,
+        charge: accepted.charge,
+        commission: estimated_commission(&accepted.terms),
+        tax: Amount::new(0).unwrap(),
+        is_lifo: order.is_lifo,
+    }
+}
+
+// The row of the trade that an order makes.
+fn trade_row(
+    alloc: Global,
+    order: &Order,
+    accepted: &Accepted,
+    trade: Id,
+    stamp: Stamp,
+) -> Result<TradeRow, AllocError>
+    ensures { IfOk result (λ row. trade_row_of row ≡ spec.trade_row order.now accepted.now.terms accepted.now.charge trade stamp) }
+{
+    let symbol = order.symbol.clone()?;
+    let executor = executor_name(alloc, &order.executor)?;
+    Ok(row_named(order, accepted, trade, stamp, symbol, executor))
+}
+
+// The request of a trade that has to wait for its price.
+fn request_row(
+    order: &Order,
+    accepted: &Accepted,
+    trade: Id,
+) -> Result<Option<RequestRow>, AllocError>
+    ensures { IfOk result (λ request. request ≡ spec.request_row order.now accepted.now.terms accepted.now.broker trade) }
+{
+    if order.kind.is_market() {
+        return Ok(None);
+    }
+    Ok(Some(RequestRow {
+        trade,
+        kind: order.kind,
+        symbol: order.symbol.clone()?,
+        qty: order.qty,
+        bid: accepted.terms.price,
+        broker: accepted.broker,
+    }))
+}
+
+// The changes of a trade that is made: its row, its first status, its request if it waits, and the last stamp.
+fn changes_of(
+    alloc: Global,
+    row: TradeRow,
+    request: Option<RequestRow>,
+) -> Result<Vec<Change>, AllocError>
+    ensures { IfOk result (λ changes. changes.items ≡ spec.changes_of row request) }
+{
+    let stamp = row.stamp;
+    let history = HistoryRow {
+        trade: row.id,
+        status: row.status,
+        stamp,
+    };
+    let mut changes = Vec::new(alloc);
+    changes.push(Change::AddTrade(row))?;
+    changes.push(Change::AddHistory(history))?;
+    if let Some(request) = request {
+        changes.push(Change::AddRequest(request))?;
+    }
+    changes.push(Change::SetLast(stamp))?;
+    Ok(changes)
+}
+
+// The changes of an accepted order.
+fn order_changes(
+    alloc: Global,
+    order: &Order,
+    accepted: &Accepted,
+    trade: Id,
+    stamp: Stamp,
+) -> Result<Vec<Change>, AllocError>
+    ensures { IfOk result (λ changes. AreChanges order.now accepted.now.terms accepted.now.broker accepted.now.charge trade stamp changes.items) }
+{
+    let row = trade_row(alloc, order, accepted, trade, stamp)?;
+    let request = request_row(order, accepted, trade)?;
+    let changes = changes_of(alloc, row, request)?;
+    Ok(changes)
+}
+
+/// Plans an order, by what was found in the tables, the lots of its account and symbol that a source gives from the
+/// order's end, and the stamp of the last accepted command (Trade-Order). It is refused with the first of `NoAccount`,
+/// `NoSecurity`, `NotPermitted`, `NoCharge`, `NoRate`, `Range(Trades)` (no id is left) and `ClockEnd` (no later stamp is
+/// left) that there is cause for, and then asks the source for nothing. Else its trade is added with its first status, and
+/// with a request where it has to wait for its price, and the last stamp is moved; what it is estimated at is told. A
+/// fault is the source's or want of memory.
+pub fn plan_order<L: LotSource>(
+    alloc: Global,
+    order: &Order,
+    found: &OrderFound,
+    source: &mut L,
+    last: Option<Stamp>,
+    now: Stamp,
+) -> Planned<Plan>
+    requires { IsWalk (L.rest source.old) }
+    ensures planned { IfOk result (λ planned. MatchResult planned
+        (IsOrdered order.now found.now (L.rest source.old) last now)
+        (λ refusal. first_refusal (order_tests found.now ++ trades_test found.now.last_trade ∷ clock_test last now ∷ []) ≡ Some refusal)) }
+    ensures refused { IfOk result (λ planned. OnErr planned (source.new ≡ source.old)) }
+    ensures asked { IfOk result (λ planned. OnOk planned (AsksFew (terms_of order.now found.now) (L.rest source.old) (L.asked source.old) (L.asked source.new))) }
+    // No fault of the source is passed over, and each is answered as it came.
+    ensures faulted { IfOk result (λ planned. L.faulted source.new ≡ L.faulted source.old) }
+    ensures fault { IfErr result (λ fault. (fault ≡ Fault.Memory) ⊎ ((before : L) × L.fails before fault source.new)) }
+    ensures rest { (n : ℕ) × (L.rest source.new ≡ drop n (L.rest source.old)) }
+{
+    let accepted = match accept(order, found) {
+        Ok(accepted) => accepted,
+        Err(refusal) => return Ok(Err(refusal)),
+    };
+    let Some(trade) = next_trade(found.last_trade) else {
+        return Ok(Err(Refusal::Range(Limit::Trades)));
+    };
+    let Some(stamp) = stamp_after(last, now) else {
+        return Ok(Err(Refusal::ClockEnd));
+    };
+    let estimate = estimate_order(source, &accepted.terms)?;
+    let changes = order_changes(alloc, order, &accepted, trade, stamp)?;
+    let reply = Reply::Ordered(Ordered {
+        stamp,
+        trade,
+        status: first_status(order.kind),
+        estimate,
+    });
+    Ok(Ok(Plan { changes, reply }))
+}

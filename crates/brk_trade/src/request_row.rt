@@ -1,0 +1,13 @@
+use brk_money::{Id, Price, Qty, TradeType};
+use brk_ref::Symbol;
+
+/// A trade that waits for its price (a row of TRADE_REQUEST).
+#[derive(Debug, Drop)]
+pub struct RequestRow {
+    pub trade: Id,
+    pub kind: TradeType,
+    pub symbol: Symbol,
+    pub qty: Qty,
+    pub bid: Price,
+    pub broker: Id,
+}

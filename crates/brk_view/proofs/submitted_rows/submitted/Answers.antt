@@ -1,0 +1,12 @@
+use Rattle.std.proofs.Common.{◌∙◌, ap, map}
+use Rattle.std.proofs.lemmas.List.{take_all}
+use Rattle.brk_trade.specs.Rows.{trade_row_of}
+use Rattle.brk_view.specs.Views.{submitted_record}
+use Rattle.brk_view.proofs.ById.{shown_of_sheets}
+use Rattle.brk_view.proofs.submitted_rows.submitted.Goals as goal
+
+pub returns-clause-view : goal.returns-clause-view
+returns-clause-view c = λ t are_submitted.
+    c.loop-row.invariant
+    ∙ ap (λ rows. map submitted_record (map trade_row_of rows)) (take_all c.loop-row.row-index c.args.rows.now c.loop-row-test.false)
+    ∙ ap (map submitted_record) are_submitted ∙ shown_of_sheets t

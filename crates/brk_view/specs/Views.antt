@@ -1,0 +1,43 @@
+-- What a view is in the abstract brokerage: its records of texts.
+use Rattle.std.specs.Prelude.{Bool, List, [], ◌∷◌, map, decimal, String, string_bytes}
+use Rattle.std.specs.Global.{Global, Vec}
+use Rattle.brk_estimates.specs.declared.estimate.Estimate as estimate
+use Rattle.brk_money.specs.Kinds.{type_code, same_status}
+use Rattle.brk_money.specs.Spelling.{Text, cents_text}
+use Rattle.brk_money.specs.declared.status.Status.TheVariants.{Submitted}
+use Rattle.brk_model.specs.Queries as model
+use Rattle.brk_model.specs.Rows.{price_text}
+use Rattle.brk_model.specs.Tables.{TradeRow}
+use Rattle.brk_view.specs.declared.view.SubmittedTrade.{SubmittedTrade}
+use Rattle.brk_view.specs.declared.view.View.{View}
+use Rattle.brk_view.specs.declared.view.View.TheVariants as view
+
+-- whether a trade is at the market
+abbrev pub is_submitted : TradeRow → Bool
+is_submitted row = same_status row.status Submitted
+
+-- what is shown of a row of TRADE that is at the market
+abbrev pub submitted_record : TradeRow → List Text
+submitted_record row = decimal row.id ∷ type_code row.kind ∷ row.symbol ∷ decimal row.qty ∷ price_text row.bid ∷ []
+
+-- the record of a trade that is at the market
+abbrev pub trade_record : SubmittedTrade → List Text
+trade_record trade = decimal trade.id ∷ type_code trade.kind ∷ trade.symbol ∷ decimal trade.qty ∷ price_text trade.bid ∷ []
+
+-- the record of an estimate
+abbrev pub estimate_record : estimate.Estimate → List Text
+estimate_record e =
+    price_text e.price ∷ cents_text e.buy_value ∷ cents_text e.sell_value ∷ cents_text e.tax ∷ cents_text e.commission ∷ cents_text e.charge ∷ cents_text e.assets ∷ []
+
+-- the records of a view
+abbrev pub fields_of : View → model.View
+fields_of (view.Submitted trades) = map trade_record trades.items
+fields_of (view.Estimate estimate) = estimate_record estimate ∷ []
+
+-- the texts of a record
+abbrev pub record_of : Vec (String Global) → List Text
+record_of texts = map string_bytes texts.items
+
+-- the texts of some records
+abbrev pub records_of : Vec (Vec (String Global)) → model.View
+records_of records = map record_of records.items

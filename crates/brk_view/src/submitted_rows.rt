@@ -1,0 +1,45 @@
+//! The trades that are at the market, from their rows.
+
+ghost use Rattle.std.specs.Prelude.{◌≡◌, IfOk, OnErr, Err, filter, map};
+ghost use Rattle.brk_model.specs.Sheets.{sheets_of};
+ghost use Rattle.brk_model.specs.StatusView.{submitted_view};
+ghost use Rattle.brk_model.specs.Tables.{Tables};
+ghost use Rattle.brk_money.specs.declared.fault.Fault.TheVariants.{Memory};
+ghost use Rattle.brk_trade.specs.Rows.{trade_row_of};
+ghost use Rattle.brk_view.specs.Views.{fields_of, is_submitted, submitted_record, trade_record};
+
+use crate::view::{SubmittedTrade, View};
+use brk_money::Fault;
+use brk_trade::TradeRow;
+use std::alloc::Global;
+
+// What is shown of a trade.
+fn submitted_trade(row: &TradeRow) -> Result<SubmittedTrade, Fault>
+    ensures shown { IfOk result (λ trade. trade_record trade ≡ submitted_record (trade_row_of row.now)) }
+    ensures fault { OnErr result (result ≡ Err Memory) }
+{
+    let symbol = row.symbol.clone()?;
+    Ok(SubmittedTrade {
+        id: row.id,
+        kind: row.kind,
+        symbol,
+        qty: row.qty,
+        bid: row.bid,
+    })
+}
+
+/// The view of trades that are at the market, given their rows of TRADE (Trade-Order). It shows each row in its turn and
+/// leaves out none, so the caller gives just those that are submitted, by rising id.
+pub fn submitted(alloc: Global, rows: &[TradeRow]) -> Result<View, Fault>
+    ensures shown { IfOk result (λ view. fields_of view ≡ map submitted_record (map trade_row_of rows.now)) }
+    // Of the submitted rows of a table, as a store reads them, it is the view of the definitions.
+    ensures view { IfOk result (λ view. (t : Tables) → map trade_row_of rows.now ≡ filter is_submitted (sheets_of t).trades → fields_of view ≡ submitted_view t) }
+    ensures fault { OnErr result (result ≡ Err Memory) }
+{
+    let mut trades = Vec::new(alloc);
+    for row in rows {
+        let trade = submitted_trade(row)?;
+        trades.push(trade)?;
+    }
+    Ok(View::Submitted(trades))
+}
