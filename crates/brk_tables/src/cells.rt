@@ -42,7 +42,7 @@ pub fn natural_in(row: &Row, at: usize) -> Result<u64, Fault>
     ensures fault { OnErr result (result ≡ Err Store) }
 {
     match row.get(at) {
-        Ok(number) => Ok(number),
+        Ok(natural) => Ok(natural),
         Err(_) => Err(Fault::Store),
     }
 }
@@ -53,7 +53,7 @@ pub fn small_in(row: &Row, at: usize) -> Result<u32, Fault>
     ensures fault { OnErr result (result ≡ Err Store) }
 {
     match row.get(at) {
-        Ok(number) => Ok(number),
+        Ok(small) => Ok(small),
         Err(_) => Err(Fault::Store),
     }
 }
