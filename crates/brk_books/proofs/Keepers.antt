@@ -1,5 +1,5 @@
 -- An accepted record leaves the base in order.
-use Rattle.std.proofs.Common.{◌≡◌, ◌≤◌, ℕ, ◌==◌, Bool, true, false, List, [], ◌∷◌, ◌++◌, refl, sym, ◌∙◌, ap, arith, Option, Some, None}
+use Rattle.std.proofs.Common.{◌≡◌, ◌≤◌, ℕ, ◌==◌, ◌&&◌, Bool, true, false, List, [], ◌∷◌, ◌++◌, refl, sym, ◌∙◌, ap, arith, Option, Some, None}
 use Rattle.std.specs.Prelude.{is_some, find, nat_le, bytes_eq}
 use Rattle.std.proofs.lemmas.Bool.{eqb-true, eq-eqb}
 use Rattle.std.proofs.lemmas.Slice.Eq.{bytes_eq-Decides}
@@ -12,7 +12,7 @@ use Rattle.brk_model.specs.Commands.{Command, Listing, Reply, AddBroker, AddCust
 use Rattle.brk_model.specs.Keyed.{keeping}
 use Rattle.brk_model.specs.Tests.{tests, next_stamp, bands_meet}
 use Rattle.brk_model.specs.Step.{listed, records_after}
-use Rattle.brk_books.specs.Books.{IsBooks, KnowsBroker, KnowsCustomer, HasVolume, HasBounds, DistinctAccounts, DistinctSymbols, BandsApart}
+use Rattle.brk_books.specs.Books.{IsBooks, KnowsBroker, KnowsCustomer, HasVolume, HasBounds, DistinctAccounts, DistinctSymbols, PermissionsApart, BandsApart}
 use Rattle.brk_books.specs.Plans.{LeavesBooks}
 use Rattle.brk_books.proofs.Bools.{numbers_back, texts_back}
 use Rattle.brk_books.proofs.Same.{NonePass, All-map, All-append, any-none, find-more, find-none}
@@ -32,6 +32,7 @@ books_last base stamp h k = record {
   accounts = k.accounts;
   securities = k.securities;
   owners = k.owners;
+  permissions = k.permissions;
   symbols = k.symbols;
   volumes = k.volumes;
   numbered = k.numbered;
@@ -41,14 +42,15 @@ books_last base stamp h k = record {
   clock = h;
 }
 
-books_terms : (base : Base) (permissions : List Permission) (charges : List Charge) (tax_rates : List TaxRate) (customer_taxes : List CustomerTax) (kept : List Kept) → IsBooks base
-    → IsBooks (record base { permissions = permissions; charges = charges; tax_rates = tax_rates; customer_taxes = customer_taxes; kept = kept })
-books_terms base permissions charges tax_rates customer_taxes kept k = record {
+books_terms : (base : Base) (charges : List Charge) (tax_rates : List TaxRate) (customer_taxes : List CustomerTax) (kept : List Kept) → IsBooks base
+    → IsBooks (record base { charges = charges; tax_rates = tax_rates; customer_taxes = customer_taxes; kept = kept })
+books_terms base charges tax_rates customer_taxes kept k = record {
   brokers = k.brokers;
   customers = k.customers;
   accounts = k.accounts;
   securities = k.securities;
   owners = k.owners;
+  permissions = k.permissions;
   symbols = k.symbols;
   volumes = k.volumes;
   numbered = k.numbered;
@@ -61,31 +63,55 @@ books_terms base permissions charges tax_rates customer_taxes kept k = record {
 pub books_kept : (base : Base) (key : Option Key) (command : Command) (reply : Reply) → IsBooks base → IsBooks (keeping key command reply base)
 books_kept base None command reply k = k
 books_kept base (Some key) command reply k =
-    books_terms base base.permissions base.charges base.tax_rates base.customer_taxes (keeping (Some key) command reply base).kept k
-
-pub books_permission : (base : Base) (now : ℕ) (p : Permission) → LeavesBooks base now (AddPermission p)
-unfolding records_after
-books_permission base now p k e =
-    books_last _ (next_stamp base now) (in_time base now (AddPermission p) e)
-    (books_terms base (base.permissions ++ p ∷ []) base.charges base.tax_rates base.customer_taxes base.kept k)
+    books_terms base base.charges base.tax_rates base.customer_taxes (keeping (Some key) command reply base).kept k
 
 pub books_charge : (base : Base) (now : ℕ) (c : Charge) → LeavesBooks base now (AddCharge c)
 unfolding records_after
 books_charge base now c k e =
     books_last _ (next_stamp base now) (in_time base now (AddCharge c) e)
-    (books_terms base base.permissions (base.charges ++ c ∷ []) base.tax_rates base.customer_taxes base.kept k)
+    (books_terms base (base.charges ++ c ∷ []) base.tax_rates base.customer_taxes base.kept k)
 
 pub books_tax_rate : (base : Base) (now : ℕ) (r : TaxRate) → LeavesBooks base now (AddTaxRate r)
 unfolding records_after
 books_tax_rate base now r k e =
     books_last _ (next_stamp base now) (in_time base now (AddTaxRate r) e)
-    (books_terms base base.permissions base.charges (base.tax_rates ++ r ∷ []) base.customer_taxes base.kept k)
+    (books_terms base base.charges (base.tax_rates ++ r ∷ []) base.customer_taxes base.kept k)
 
 pub books_customer_tax : (base : Base) (now : ℕ) (x : CustomerTax) → LeavesBooks base now (AddCustomerTax x)
 unfolding records_after
 books_customer_tax base now x k e =
     books_last _ (next_stamp base now) (in_time base now (AddCustomerTax x) e)
-    (books_terms base base.permissions base.charges base.tax_rates (base.customer_taxes ++ x ∷ []) base.kept k)
+    (books_terms base base.charges base.tax_rates (base.customer_taxes ++ x ∷ []) base.kept k)
+
+-- ---- permissions
+
+permissions_more : (ps : List Permission) (p : Permission) → NonePass (λ q. (q.account == p.account) && bytes_eq q.tax_id p.tax_id) ps → PermissionsApart ps → PermissionsApart (ps ++ p ∷ [])
+permissions_more [] p h d = (tt, tt)
+permissions_more (q ∷ ps) p h d = (
+  All-append (λ r. ((r.account == q.account) && bytes_eq r.tax_id q.tax_id) ≡ false) ps (p ∷ []) d.0
+      ((λ i. numbers_back p.account q.account i && texts_back p.tax_id q.tax_id i) ∙ h.0, tt),
+  permissions_more ps p h.1 d.1,
+)
+
+pub books_permission : (base : Base) (now : ℕ) (p : Permission) → LeavesBooks base now (AddPermission p)
+unfolding records_after tests
+books_permission base now p k e =
+    let f = passed base now (AddPermission p) e in
+    record {
+      brokers = k.brokers;
+      customers = k.customers;
+      accounts = k.accounts;
+      securities = k.securities;
+      owners = k.owners;
+      permissions = permissions_more base.permissions p (any-none (λ q. (q.account == p.account) && bytes_eq q.tax_id p.tax_id) base.permissions f.1.0) k.permissions;
+      symbols = k.symbols;
+      volumes = k.volumes;
+      numbered = k.numbered;
+      ways = k.ways;
+      bands = k.bands;
+      apart = k.apart;
+      clock = in_time base now (AddPermission p) e;
+    }
 
 -- ---- brokers, customers and accounts
 
@@ -98,6 +124,7 @@ books_broker base now b k e = record {
   accounts = k.accounts;
   securities = k.securities;
   owners = k.owners;
+  permissions = k.permissions;
   symbols = k.symbols;
   volumes = k.volumes;
   numbered = k.numbered;
@@ -115,6 +142,7 @@ books_customer base now c k e = record {
   accounts = k.accounts;
   securities = k.securities;
   owners = k.owners;
+  permissions = k.permissions;
   symbols = k.symbols;
   volumes = k.volumes;
   numbered = k.numbered;
@@ -141,6 +169,7 @@ books_account base now a k e =
       accounts = All-map base.trades (λ t h. found_more (λ x. x.id == t.account) base.accounts (a ∷ []) h) k.accounts;
       securities = k.securities;
       owners = owners_more base.accounts a (find-none (λ x. x.id == a.id) base.accounts p.1.1.0) k.owners;
+      permissions = k.permissions;
       symbols = k.symbols;
       volumes = k.volumes;
       numbered = k.numbered;
@@ -173,6 +202,7 @@ books_security base now l k e =
       accounts = k.accounts;
       securities = All-map base.trades (λ t h. found_more (λ s. bytes_eq s.symbol t.symbol) base.securities (s ∷ []) h) k.securities;
       owners = k.owners;
+      permissions = k.permissions;
       symbols = symbols_more base.securities s (find-none (λ s. bytes_eq s.symbol l.symbol) base.securities p.0) k.symbols;
       volumes = All-append HasVolume base.securities (s ∷ []) k.volumes (no_volume, tt);
       numbered = k.numbered;
@@ -214,6 +244,7 @@ books_band base now b k e =
       accounts = k.accounts;
       securities = k.securities;
       owners = k.owners;
+      permissions = k.permissions;
       symbols = k.symbols;
       volumes = k.volumes;
       numbered = k.numbered;

@@ -14,6 +14,7 @@ pub mod Keepers
 pub mod Numbering
 pub mod TradeReading
 pub mod BandReading
+pub mod Permitting
 pub mod Moving
 pub mod Ordering
 pub mod Feeding
@@ -26,4 +27,13 @@ pub mod TradeKeepers
 pub mod Planning
 pub mod TradePlanning
 pub mod OrderPlanning
+pub mod Holding
+pub mod OrderFinding
+pub mod OrderDoing
 pub mod Keeping
+pub mod Ticks
+pub mod CancelPlanning
+pub mod Quotes
+pub mod QuotedTicks
+pub mod QuotedVolumes
+pub mod FeedPlanning

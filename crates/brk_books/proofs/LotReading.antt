@@ -17,7 +17,8 @@ use Rattle.brk_model.specs.Shares.{Share, lot_qty, opened_share, signed}
 use Rattle.brk_model.specs.Sheets.{sheets, sheets_of}
 use Rattle.brk_model.specs.Tables.{HoldingRow, tables_of, holding_row}
 use Rattle.brk_books.specs.Books.{IsBooks, NumberedFrom}
-use Rattle.brk_books.specs.TradeReads.{lot_shares, lots_in, side_of_qty}
+use Rattle.brk_lots.specs.Lots.{side_of_qty}
+use Rattle.brk_books.specs.TradeReads.{lot_shares, lots_in}
 use Rattle.brk_books.proofs.Bools.{numbers_back, same_text}
 use Rattle.brk_books.proofs.Order.{All-insert, by_key-filter, by_key-map, sort_sorted, sorted_filter}
 use Rattle.brk_books.proofs.Same.{NonePass, All-filter, All-map}
@@ -117,7 +118,7 @@ rows_told whole (t ∷ ts) shares d r h =
 
 -- ---- the rows of a position
 
-filter-swap : {X : Type 0} (p q : X → Bool) (xs : List X) → filter p (filter q xs) ≡ filter q (filter p xs)
+pub filter-swap : {X : Type 0} (p q : X → Bool) (xs : List X) → filter p (filter q xs) ≡ filter q (filter p xs)
 filter-swap p q [] = refl
 filter-swap {X = X} p q (x ∷ xs) = by_test (p x) (q x) refl refl (filter-swap p q xs)
   where

@@ -10,7 +10,7 @@ use Rattle.brk_money.specs.declared.side.Side.{Side}
 use Rattle.brk_money.specs.declared.side.Side.TheVariants.{Buy, Sell}
 use Rattle.brk_model.specs.Lists.{total_by}
 use Rattle.brk_model.specs.Shares.{Share, Deal, closed_count, kept_shares, lot_qty, net, opened_by, opened_share, replay, shares_after, signed}
-use Rattle.brk_books.specs.TradeReads.{side_of_qty}
+use Rattle.brk_lots.specs.Lots.{side_of_qty}
 use Rattle.brk_books.proofs.References.{append_nil}
 use Rattle.brk_books.proofs.Places.{append_assoc}
 

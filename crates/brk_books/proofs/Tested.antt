@@ -9,7 +9,7 @@ use Rattle.brk_model.specs.Base.{Base}
 use Rattle.brk_model.specs.Commands.{Command}
 use Rattle.brk_model.specs.Tests.{Test, tests, refusal_of, first_refusal, next_stamp}
 
-none_refuse : (ts : List Test) → first_refusal ts ≡ None → AllByRecursion (λ t. t.0 ≡ false) ts
+pub none_refuse : (ts : List Test) → first_refusal ts ≡ None → AllByRecursion (λ t. t.0 ≡ false) ts
 none_refuse [] e = tt
 none_refuse (t ∷ ts) e = by_test (none_refuse ts) t.0 refl
   where

@@ -12,7 +12,7 @@ use Rattle.brk_model.specs.Orders.{ordered_trade}
 use Rattle.brk_model.specs.Feed.{is_triggered, with_tick, with_ticks}
 use Rattle.brk_model.specs.Tests.{tests, next_stamp}
 use Rattle.brk_model.specs.Step.{records_after}
-use Rattle.brk_books.specs.Books.{BandsApart, DistinctAccounts, HasBounds, HasVolume, KnowsAccount, KnowsBroker, KnowsCustomer, KnowsSecurity, WaitsFirst}
+use Rattle.brk_books.specs.Books.{BandsApart, DistinctAccounts, HasBounds, HasVolume, KnowsAccount, KnowsBroker, KnowsCustomer, KnowsSecurity, PermissionsApart, WaitsFirst}
 use Rattle.brk_books.specs.Plans.{LeavesBooks}
 use Rattle.brk_books.proofs.Same.{All-append, All-map, any-none}
 use Rattle.brk_books.proofs.Places.{All-updated}
@@ -37,6 +37,7 @@ books_order base now o k e =
       accounts = All-append (KnowsAccount base) base.trades (t ∷ []) k.accounts (not_not (is_some (account_with base o.account)) p.0, tt);
       securities = All-append (KnowsSecurity base) base.trades (t ∷ []) k.securities (not_not (is_some (security_with base o.symbol)) p.1.0, tt);
       owners = k.owners;
+      permissions = k.permissions;
       symbols = k.symbols;
       volumes = k.volumes;
       numbered = numbered_more 1 base.trades t (next_number (length base.trades)) k.numbered;
@@ -58,6 +59,7 @@ books_cancel base now id k e =
       accounts = All-updated (KnowsAccount base) (λ t. t.id == id) (marked stamp Canceled) base.trades (λ t h. h) k.accounts;
       securities = All-updated (KnowsSecurity base) (λ t. t.id == id) (marked stamp Canceled) base.trades (λ t h. h) k.securities;
       owners = k.owners;
+      permissions = k.permissions;
       symbols = k.symbols;
       volumes = k.volumes;
       numbered = numbered_updated 1 (λ t. t.id == id) (marked stamp Canceled) base.trades (λ t. refl) k.numbered;
@@ -76,6 +78,7 @@ record Between (base : Base) : Type 0 where
   pub accounts : AllByRecursion (KnowsAccount base) base.trades
   pub securities : AllByRecursion (KnowsSecurity base) base.trades
   pub owners : DistinctAccounts base.accounts
+  pub permissions : PermissionsApart base.permissions
   pub rest : Ready base
   pub bands : AllByRecursion HasBounds base.bands
   pub apart : BandsApart base.bands
@@ -88,6 +91,7 @@ between_tick base stamp tick k = record {
   securities = All-updated (KnowsSecurity (with_tick stamp base tick)) (is_triggered tick) (marked stamp Submitted) base.trades (λ t h. h)
       (All-map base.trades (λ t h. known_after base stamp tick t.symbol h) k.securities);
   owners = k.owners;
+  permissions = k.permissions;
   rest = ready_tick base stamp tick k.rest;
   bands = k.bands;
   apart = k.apart;
@@ -107,13 +111,14 @@ books_feed base now ticks k e =
     let p = passed base now (FeedTicks ticks) e in
     let after : Base = with_ticks (next_stamp base now) base ticks in
     let b : Between after = between_ticks base (next_stamp base now) ticks
-    (record { brokers = k.brokers; customers = k.customers; accounts = k.accounts; securities = k.securities; owners = k.owners; rest = ready base k; bands = k.bands; apart = k.apart }) in
+    (record { brokers = k.brokers; customers = k.customers; accounts = k.accounts; securities = k.securities; owners = k.owners; permissions = k.permissions; rest = ready base k; bands = k.bands; apart = k.apart }) in
     record {
       brokers = b.brokers;
       customers = b.customers;
       accounts = b.accounts;
       securities = b.securities;
       owners = b.owners;
+      permissions = b.permissions;
       symbols = b.rest.symbols;
       volumes = within_limit after.securities p.1.0;
       numbered = b.rest.numbered;

@@ -175,7 +175,7 @@ reads_exceeds base stamp ticks books known =
 
 -- ---- the volume of a symbol after ticks
 
-find-updated : {X : Type 0} (p q : X → Bool) (f : X → X) (xs : List X) → ((x : X) → p (f x) ≡ p x) → find p (update_where q f xs) ≡ option_map (λ x. cond (q x) (f x) x) (find p xs)
+pub find-updated : {X : Type 0} (p q : X → Bool) (f : X → X) (xs : List X) → ((x : X) → p (f x) ≡ p x) → find p (update_where q f xs) ≡ option_map (λ x. cond (q x) (f x) x) (find p xs)
 find-updated p q f [] h = refl
 find-updated {X = X} p q f (x ∷ xs) h = ap (λ b. cond b (Some (cond (q x) (f x) x)) (find p (update_where q f xs))) (unseen (q x)) ∙ by_test (p x) (find-updated p q f xs h)
   where

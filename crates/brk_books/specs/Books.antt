@@ -1,10 +1,10 @@
 -- What holds of the base of a brokerage that began empty and was moved by accepted commands: what the rows of the next command rest on.
-use Rattle.std.specs.Prelude.{◌≡◌, ◌≤◌, ⊤, ℕ, ◌+◌, ◌==◌, true, false, List, [], ◌∷◌, is_some, nat_le, IfSome, bytes_eq}
+use Rattle.std.specs.Prelude.{◌≡◌, ◌≤◌, ⊤, ℕ, ◌+◌, ◌==◌, ◌&&◌, true, false, List, [], ◌∷◌, is_some, nat_le, IfSome, bytes_eq}
 use Rattle.std.specs.List.{AllByRecursion}
 use Rattle.brk_money.specs.Moments.{last_stamp}
 use Rattle.brk_money.specs.declared.status.Status.TheVariants.{Pending}
 use Rattle.brk_model.specs.Limits.{greatest_amount}
-use Rattle.brk_model.specs.Records.{Account, Band, Mark, Security, Trade}
+use Rattle.brk_model.specs.Records.{Account, Band, Mark, Permission, Security, Trade}
 use Rattle.brk_model.specs.Base.{Base, broker_with, customer_with, account_with, security_with, has_status}
 use Rattle.brk_model.specs.Tests.{bands_meet}
 
@@ -28,6 +28,11 @@ KnowsSecurity base t = is_some (security_with base t.symbol) ≡ true
 abbrev pub DistinctAccounts : List Account → Type 0
 DistinctAccounts [] = ⊤
 DistinctAccounts (a ∷ rest) = AllByRecursion (λ b. (b.id == a.id) ≡ false) rest × DistinctAccounts rest
+
+-- no account has two permissions for one tax id
+abbrev pub PermissionsApart : List Permission → Type 0
+PermissionsApart [] = ⊤
+PermissionsApart (p ∷ ps) = AllByRecursion (λ q. ((q.account == p.account) && bytes_eq q.tax_id p.tax_id) ≡ false) ps × PermissionsApart ps
 
 -- no two securities have one symbol
 abbrev pub DistinctSymbols : List Security → Type 0
@@ -71,6 +76,8 @@ pub record IsBooks (base : Base) : Type 0 where
   pub securities : AllByRecursion (KnowsSecurity base) base.trades
   -- an id is of one account, so that its summaries are its own
   pub owners : DistinctAccounts base.accounts
+  -- a tax id is of one permission of an account, so that this one alone permits whoever has it
+  pub permissions : PermissionsApart base.permissions
   -- a symbol is of one security, so that a tick changes one last trade
   pub symbols : DistinctSymbols base.securities
   -- what was traded of it is within the limit, so that a feed is tested by the symbols of its ticks

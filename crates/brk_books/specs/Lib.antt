@@ -5,3 +5,5 @@ pub mod Trading
 pub mod TradeReads
 pub mod TradeTests
 pub mod Plans
+pub mod TradePlans
+pub mod OrderPlans

@@ -1,15 +1,14 @@
 -- What is looked up in tables before an order, a cancel or a feed.
-use Rattle.std.specs.Prelude.{ℕ, ◌==◌, ◌&&◌, nat_le, List, filter, find, reverse, slice_get, Option, option_map, unwrap_or, bytes_eq, [], ◌∷◌, replicate, ℤ, pos, negsuc}
+use Rattle.std.specs.Prelude.{ℕ, ◌==◌, ◌&&◌, nat_le, List, filter, find, reverse, slice_get, Option, option_map, option_to_list, unwrap_or, bytes_eq, [], ◌∷◌, replicate}
 use Rattle.std.specs.Int.RustNames.{unsigned_abs}
 use Rattle.std.specs.Option.{option_map_or}
 use Rattle.brk_money.specs.Spelling.{Text}
-use Rattle.brk_money.specs.declared.side.Side.{Side}
-use Rattle.brk_money.specs.declared.side.Side.TheVariants.{Buy, Sell}
 use Rattle.brk_money.specs.declared.trade_type.TradeType.{TradeType}
 use Rattle.brk_model.specs.Records.{Band, Permission}
 use Rattle.brk_model.specs.Keys.{number, by_key}
 use Rattle.brk_model.specs.Shares.{Share}
-use Rattle.brk_model.specs.Tables.{Tables, HoldingRow}
+use Rattle.brk_lots.specs.Lots.{side_of_qty}
+use Rattle.brk_model.specs.Tables.{Tables, HoldingRow, LastTradeRow, RequestRow}
 use Rattle.brk_books.specs.Reads.{bands_of}
 
 -- the number of the last trade, and 0 where there is none
@@ -20,6 +19,10 @@ last_number t = unwrap_or (option_map (λ r. r.id) (slice_get (reverse t.trades)
 abbrev pub permissions_of : Tables → ℕ → List Permission
 permissions_of t account = filter (λ r. r.account == account) t.permissions
 
+-- the permission of an account for a tax id, where there is one
+abbrev pub permission_in : Tables → ℕ → Text → List Permission
+permission_in t account tax_id = option_to_list (find (λ r. (r.account == account) && bytes_eq r.tax_id tax_id) t.permissions)
+
 -- the band of a quantity, among those of its tier, its type and its exchange
 abbrev pub band_in : Tables → ℕ → TradeType → Text → ℕ → Option Band
 band_in t tier kind exchange qty = find (λ r. nat_le r.from_qty qty && nat_le qty r.to_qty) (bands_of t tier kind exchange)
@@ -28,14 +31,17 @@ band_in t tier kind exchange qty = find (λ r. nat_le r.from_qty qty && nat_le q
 abbrev pub volume_in : Tables → Text → ℕ
 volume_in t symbol = option_map_or (λ r. r.volume) (find (λ r. bytes_eq r.symbol symbol) t.last_trades) 0
 
+-- the last trade of a symbol, where it has one
+abbrev pub last_trade_in : Tables → Text → Option LastTradeRow
+last_trade_in t symbol = find (λ r. bytes_eq r.symbol symbol) t.last_trades
+
+-- the requests of a symbol, by rising trade as requests stand
+abbrev pub requests_of : Tables → Text → List RequestRow
+requests_of t symbol = filter (λ r. bytes_eq r.symbol symbol) t.requests
+
 -- the lots of an account in a symbol, the oldest first
 abbrev pub lots_in : Tables → ℕ → Text → List HoldingRow
 lots_in t account symbol = by_key (λ r. number r.stamp ∷ number r.trade ∷ []) (filter (λ r. (r.account == account) && bytes_eq r.symbol symbol) t.holdings)
-
--- the side of a signed number of shares
-abbrev pub side_of_qty : ℤ → Side
-side_of_qty (pos n) = Buy
-side_of_qty (negsuc n) = Sell
 
 -- the shares of a lot, all alike
 abbrev pub lot_shares : HoldingRow → List Share

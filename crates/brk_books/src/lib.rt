@@ -4,6 +4,8 @@
 
 pub mod books;
 pub mod changes;
+pub mod order_plans;
 pub mod plans;
 pub mod reads;
+pub mod trade_plans;
 pub mod trading;

@@ -24,7 +24,7 @@ ghost use Rattle.brk_ref.specs.Records.{tax_of};
 ghost use Rattle.brk_ref.specs.declared.tax.Tax.{Tax};
 ghost use Rattle.brk_books.specs.Books.{IsBooks};
 ghost use Rattle.brk_books.specs.Reads.{accounts_of, has_overlap, has_tax_id, rates_of, tax_rate_of};
-ghost use Rattle.brk_books.specs.TradeReads.{band_in, last_number, lot_shares, lots_in, permissions_of};
+ghost use Rattle.brk_books.specs.TradeReads.{band_in, last_number, lot_shares, lots_in, permission_in, permissions_of};
 ghost use Rattle.brk_books.specs.Trading.{hit_trades};
 
 /// The row that has an id is that of the record that has it.
@@ -101,6 +101,12 @@ pub fn triggered_requests_are_found()
 /// No two requests are of one trade.
 pub fn requests_are_of_different_trades()
     ensures { (base : Base) → IsBooks base → all_distinct (map (λ r. r.trade) (sheets base).requests) ≡ true }
+{}
+
+/// By the permission of an account for the executor's tax id alone an executor is permitted or not.
+pub fn one_permission_decides()
+    ensures { (base : Base) (account : ℕ) (c : Customer) (e : Executor) → IsBooks base
+        → permitted c (permission_in (sheets base) account e.tax_id) e ≡ permitted c (filter (λ p. p.account == account) base.permissions) e }
 {}
 
 /// By the permissions of an account an executor is permitted or not, in whatever order they stand.

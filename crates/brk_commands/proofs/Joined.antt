@@ -1,11 +1,13 @@
 -- Fields joined by a separator, and added one after another.
-use Rattle.std.proofs.Common.{◌≡◌, ℕ, List, [], ◌∷◌, ◌++◌, refl, sym, ap, ◌∙◌, append_assoc, take, length, get_or, ◌+◌, ◌<◌}
+use Rattle.std.proofs.Common.{◌≡◌, ℕ, List, [], ◌∷◌, ◌++◌, refl, sym, ap, ◌∙◌, append_assoc, codes, take, length, get_or, ◌+◌, ◌<◌}
 use Rattle.std.proofs.lemmas.List.{append-nil, flat_map_more, take_more}
 use Rattle.std.specs.Prelude.{map, flat_map, decimal}
 use Rattle.std.specs.List.{join_with_byte}
 use Rattle.brk_money.specs.Spelling.{Text}
-use Rattle.brk_model.specs.Commands.{Ticked}
-use Rattle.brk_model.specs.Rows.{reply_fields, line_text}
+use Rattle.brk_model.specs.Commands.{FeedTicks, Ticked}
+use Rattle.brk_model.specs.Rows.{tick_fields, row_fields, reply_fields, row_text, line_text}
+use Rattle.brk_orders.specs.Records.{tick_of, ticks_of}
+use Rattle.brk_orders.specs.declared.tick.Tick as tick
 use Rattle.brk_commands.specs.Fields.{more_fields}
 
 -- joined fields are the first, and the others each with the separator before it
@@ -17,6 +19,17 @@ joined separator first (field ∷ fields) = ap (λ (text : Text). first ++ separ
 pub more_append : (separator : ℕ) (xs ys : List Text) → more_fields separator (xs ++ ys) ≡ more_fields separator xs ++ more_fields separator ys
 more_append separator [] ys = refl
 more_append separator (x ∷ xs) ys = ap (λ (text : Text). separator ∷ x ++ text) (more_append separator xs ys) ∙ sym (append_assoc (separator ∷ x) (more_fields separator xs) (more_fields separator ys))
+
+-- the fields of ticks, tick by tick
+pub tick_row : (ticks : List tick.Tick) → codes "feed" ++ flat_map (λ tick. more_fields 31 (tick_fields (tick_of tick))) ticks ≡ row_text (FeedTicks (ticks_of ticks))
+unfolding row_fields
+tick_row ticks = ap (λ (text : Text). codes "feed" ++ text) (sym (each ticks)) ∙ sym (joined 31 (codes "feed") (flat_map tick_fields (ticks_of ticks)))
+  where
+    each : (ticks : List tick.Tick) → more_fields 31 (flat_map tick_fields (ticks_of ticks)) ≡ flat_map (λ tick. more_fields 31 (tick_fields (tick_of tick))) ticks
+    each [] = refl
+    each (tick ∷ ticks) =
+        more_append 31 (tick_fields (tick_of tick)) (flat_map tick_fields (ticks_of ticks))
+        ∙ ap (λ (text : Text). more_fields 31 (tick_fields (tick_of tick)) ++ text) (each ticks)
 
 -- a stamp and trades
 pub trades_line : (stamp : ℕ) (trades : List ℕ) → decimal stamp ++ flat_map (λ trade. 44 ∷ decimal trade) trades ≡ line_text (Ticked stamp trades)

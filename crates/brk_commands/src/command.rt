@@ -1,3 +1,5 @@
+use brk_money::Id;
+use brk_orders::{Feed, Order};
 use brk_trade::Reference;
 
 /// What the desk is told. A command is in form.
@@ -5,4 +7,10 @@ use brk_trade::Reference;
 pub enum Command {
     /// A record of reference data is added.
     Add(Reference),
+    /// An order is placed (Trade-Order).
+    Order(Order),
+    /// Trades on the market are told of (Market-Feed).
+    Feed(Feed),
+    /// The trade with this id is to be canceled.
+    Cancel(Id),
 }

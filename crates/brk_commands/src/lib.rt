@@ -3,10 +3,13 @@
 
 pub mod command;
 pub mod line;
+pub mod order_row;
 pub mod parse;
+mod parse_order;
 pub mod row;
 
 pub use command::Command;
 pub use line::line_text;
+pub use order_row::{cancel_text, feed_text, order_text};
 pub use parse::parse_row;
-pub use row::row_text;
+pub use row::{reference_text, row_text};

@@ -10,6 +10,7 @@ ghost use Rattle.brk_money.specs.declared.fault.Fault.TheVariants.{Memory};
 ghost use Rattle.brk_ref.specs.Records.{account_of, band_of, broker_of, charge_of, customer_of, customer_tax_of, listing_of, permission_of, tax_of};
 
 use crate::command::Command;
+use crate::order_row::{cancel_text, feed_text, order_text};
 use brk_money::{Fault, Wide};
 use brk_ref::{Account, Band, Broker, Charge, Customer, CustomerTax, Listing, Permission, Tax};
 use brk_trade::Reference;
@@ -124,8 +125,8 @@ fn customer_tax_text(alloc: Global, pays: &CustomerTax) -> Result<String, AllocE
     format!(in alloc; "custtax\x1f{}\x1f{}", pays.customer.get(), pays.tax.get())
 }
 
-// The text of a record that is added.
-pub(crate) fn reference_text(alloc: Global, reference: &Reference) -> Result<String, AllocError>
+/// The row of a record that is added.
+pub fn reference_text(alloc: Global, reference: &Reference) -> Result<String, AllocError>
     ensures { IfOk result (λ row. string_bytes row ≡ model.row_text (books.command_of reference.now)) }
 {
     match reference {
@@ -147,6 +148,11 @@ pub fn row_text(alloc: Global, command: &Command) -> Result<String, Fault>
     ensures row { IfOk result (λ row. string_bytes row ≡ model.row_text (command_of command.now)) }
     ensures fault { OnErr result (result ≡ Err Memory) }
 {
-    let Command::Add(reference) = command;
-    Ok(reference_text(alloc, reference)?)
+    let row = match command {
+        Command::Add(reference) => reference_text(alloc, reference),
+        Command::Order(order) => order_text(alloc, order),
+        Command::Feed(feed) => feed_text(alloc, feed.ticks()),
+        Command::Cancel(trade) => cancel_text(alloc, *trade),
+    };
+    Ok(row?)
 }

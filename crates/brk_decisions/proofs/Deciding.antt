@@ -1,64 +1,16 @@
 -- What was read of the tables decides on a command.
-use Rattle.std.proofs.Common.{◌≡◌, ◌≤◌, ◌∙◌, ℕ, Option, Result, Ok, Err, IfOk, ap, subst}
-use Rattle.std.specs.Prelude.{MatchResult, ◌∷◌, ◌++◌, [], Some}
+use Rattle.std.proofs.Common.{Result, Ok, Err, IfOk}
 use Rattle.sqlite_trees.specs.declared.store.Store.{Ghosts}
 use Rattle.sqlite.specs.Held.{Held}
-use Rattle.brk_money.specs.Moments.{last_stamp}
 use Rattle.brk_money.specs.declared.fault.Fault.{Fault}
-use Rattle.brk_money.specs.declared.refusal.Refusal.{Refusal}
-use Rattle.brk_model.specs.Base.{Base}
-use Rattle.brk_model.specs.Commands.{Command}
-use Rattle.brk_model.specs.Sheets.{sheets}
 use Rattle.brk_model.specs.Tables.{Tables}
-use Rattle.brk_model.specs.Tests.{first_refusal}
-use Rattle.brk_trade.specs.Reference.{IsPlanned, clock_test, tests_of}
-use Rattle.brk_trade.specs.declared.plan.Plan.{Plan}
-use Rattle.brk_trade.specs.declared.reference.Found.{Found}
-use Rattle.brk_trade.specs.declared.reference.Reference.{Reference}
-use Rattle.brk_books.specs.Books.{IsBooks}
-use Rattle.brk_books.specs.Commands.{command_of}
-use Rattle.brk_books.specs.Plans.{IsRead as IsLookedUp}
-use Rattle.brk_books.specs.Reads.{IsFound}
-use Rattle.brk_books.proofs.Planning.{plan_does, refusal_does}
 use Rattle.brk_store.specs.Holds.{IsRead}
-use Rattle.brk_decisions.specs.Decisions.{Decides}
-use Rattle.brk_decisions.proofs.Looking.{read_both, retold}
+use Rattle.brk_decisions.proofs.Looking.{retold}
 
 module _ {S : Type 0} (g : Ghosts S) (old mid : Held S) where
-  -- a plan, or a refusal, that follows from what was read; or no memory for it
-  pub decided : {V E : Type 0} (v : V) (P : V → Tables → Type 0) (now : ℕ) (command : Command) (result : Result (Result Plan Refusal) Fault) → IsRead {E = E} g old mid (Ok v) P
-      → IfOk result (λ planned. (t : Tables) → P v t → Decides now command planned t) → IsRead g old mid result (Decides now command)
-  decided v P now command (Ok planned) read tell = retold g old mid v planned P (Decides now command) tell read
-  decided v P now command (Err fault) read none =
+  -- an answer that follows from what was read; or no memory for it
+  pub decided : {V X E : Type 0} (v : V) (P : V → Tables → Type 0) (R : X → Tables → Type 0) (result : Result X Fault) → IsRead {E = E} g old mid (Ok v) P
+      → IfOk result (λ x. (t : Tables) → P v t → R x t) → IsRead g old mid result R
+  decided v P R (Ok x) read tell = retold g old mid v x P R tell read
+  decided v P R (Err fault) read none =
       record { told = λ clean. tt; opened = λ clean. tt; kept = read.kept; same = read.same; survives = read.survives }
-
--- the last stamp, and what is found for a record
-abbrev pub Known : Reference → Found → Option ℕ → Tables → Type 0
-Known r found last t = (last ≡ t.last) × IsFound t r found
-
--- they are known after two reads
-pub last_and_found : {S E F : Type 0} (g : Ghosts S) (old mid end : Held S) (r : Reference) (found : Found) (last : Option ℕ) → IsRead {E = E} g old mid (Ok last) (λ last t. last ≡ t.last)
-    → IsRead {E = F} g mid end (Ok found) (λ found t. IsFound t r found) → IsRead {E = Fault} g old end (Ok found) (λ f. Known r f last)
-last_and_found g old mid end r found last at_last at_found =
-    read_both g old mid end {H = Fault} last found found (λ last t. last ≡ t.last) (λ found t. IsFound t r found) (λ f. Known r f last) (λ t e f. (e, f)) at_last at_found
-
--- a record's plan does its command, and its refusal is that of the command
-module _ (r : Reference) (found : Found) (last : Option ℕ) (now : ℕ) (moment : now ≤ last_stamp) where
-  looked_up : (t : Tables) → Known r found last t → (base : Base) → IsBooks base → t ≡ sheets base → IsLookedUp base r found last now
-  looked_up t known base books e = record {
-    books = books;
-    looked_up = subst (λ x. IsFound x r found) e known.1;
-    last_read = known.0 ∙ ap (λ x. x.last) e;
-    moment = moment;
-  }
-
-  record_decided : (planned : Result Plan Refusal) → MatchResult planned (IsPlanned r found last now) (λ refusal. first_refusal (tests_of r found ++ clock_test last now ∷ []) ≡ Some refusal)
-      → (t : Tables) → Known r found last t → Decides now (command_of r) planned t
-  record_decided (Ok plan) p t known base books e = plan_does base r found last now plan (looked_up t known base books e) p
-  record_decided (Err refusal) p t known base books e = refusal_does base r found last now refusal (looked_up t known base books e) p
-
-  pub reference_decided : (result : Result (Result Plan Refusal) Fault)
-      → IfOk result (λ planned. MatchResult planned (IsPlanned r found last now) (λ refusal. first_refusal (tests_of r found ++ clock_test last now ∷ []) ≡ Some refusal))
-      → IfOk result (λ planned. (t : Tables) → Known r found last t → Decides now (command_of r) planned t)
-  reference_decided (Ok planned) p = record_decided planned p
-  reference_decided (Err fault) p = tt

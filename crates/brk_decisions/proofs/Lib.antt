@@ -1,2 +1,7 @@
 pub mod Looking
 pub mod Deciding
+pub mod References
+pub mod Cancels
+pub mod Feeds
+pub mod OrderFinds
+pub mod Ordering

@@ -1,11 +1,18 @@
 -- What it is to decide on a command.
-use Rattle.std.specs.Prelude.{◌≡◌, ℕ, Result, Err, MatchResult}
+use Rattle.std.specs.Prelude.{◌≡◌, ℕ, [], ◌∷◌, Result, Ok, Err, MatchResult}
 use Rattle.brk_money.specs.declared.refusal.Refusal.{Refusal}
 use Rattle.brk_model.specs.Base.{Base}
-use Rattle.brk_model.specs.Commands.{Command}
+use Rattle.brk_model.specs.Commands.{Command, Order}
+use Rattle.brk_model.specs.Ask.{ask}
+use Rattle.brk_model.specs.Orders.{estimate}
+use Rattle.brk_model.specs.Queries.{EstimateOf}
+use Rattle.brk_model.specs.Rows.{estimate_fields}
 use Rattle.brk_model.specs.Sheets.{sheets}
 use Rattle.brk_model.specs.Step.{step}
 use Rattle.brk_model.specs.Tables.{Tables}
+use Rattle.brk_estimates.specs.Estimates.{told}
+use Rattle.brk_estimates.specs.declared.estimate.Estimate.{Estimate}
+use Rattle.brk_trade.specs.Replies.{estimate_of}
 use Rattle.brk_trade.specs.declared.plan.Plan.{Plan}
 use Rattle.brk_books.specs.Books.{IsBooks}
 use Rattle.brk_books.specs.Plans.{DoesCommand}
@@ -14,3 +21,12 @@ use Rattle.brk_books.specs.Plans.{DoesCommand}
 abbrev pub Decides : ℕ → Command → Result Plan Refusal → Tables → Type 0
 Decides now command planned t =
     (base : Base) → IsBooks base → t ≡ sheets base → MatchResult planned (DoesCommand base now command) (λ refusal. step base now command ≡ Err refusal)
+
+-- where the rows are the tables of a base in order, an order is estimated at what the definitions say, which is the answer to the query for it; or the
+-- query is refused for the same reason
+abbrev pub Tells : Order → Result Estimate Refusal → Tables → Type 0
+Tells order planned t =
+    (base : Base) → IsBooks base → t ≡ sheets base
+    → MatchResult planned
+    (λ e. (e ≡ told (estimate base order)) × (ask base (EstimateOf order) ≡ Ok (estimate_fields (estimate_of e) ∷ [])))
+    (λ refusal. ask base (EstimateOf order) ≡ Err refusal)

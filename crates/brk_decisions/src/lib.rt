@@ -1,8 +1,19 @@
 //! What is decided on a command: the tables are read, and the command is refused or planned.
 #![tactic(auto)]
 
+mod amounts;
+pub mod cancel;
+pub mod estimate;
+pub mod feed;
 mod finding;
+pub mod order;
+mod order_finding;
 pub mod reference;
 mod terms;
+mod tested;
 
+pub use cancel::decide_cancel;
+pub use estimate::decide_estimate;
+pub use feed::decide_feed;
+pub use order::decide_order;
 pub use reference::decide_reference;

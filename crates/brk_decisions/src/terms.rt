@@ -101,7 +101,7 @@ fn taxes_of<S: Alter>(alloc: Global, store: &mut Store<S>, customer: Id) -> Resu
 }
 
 // The sum of the rates that a customer pays.
-fn sum_rates<S: Alter>(
+pub(crate) fn sum_rates<S: Alter>(
     alloc: Global,
     store: &mut Store<S>,
     customer: Id,

@@ -1,7 +1,8 @@
 ghost use Rattle.std.specs.Prelude.{option_map};
 ghost use Rattle.brk_model.specs.Batch.{row_step};
 ghost use Rattle.brk_model.specs.Input.{text_of};
-ghost use Rattle.brk_model.specs.Parse.{parse_by, reference_readers};
+ghost use Rattle.brk_commands.specs.Kinds.{known_readers};
+ghost use Rattle.brk_model.specs.Parse.{parse_by};
 ghost use Rattle.brk_desk.specs.Keeping.{KeepsBase};
 ghost use Rattle.brk_import.specs.Batch.{KeepsBooks, TellsAnswers};
 ghost use Rattle.sqlite.specs.Held.{state};
@@ -32,11 +33,11 @@ pub fn run_batch<R: Read + Drop, W: Write, C: Clock, S: Alter>(
     desk: &mut Desk<S>,
 ) -> Result<Counts, BatchFault>
     // Whatever the desk answers to the rows that are in form, the lines are those of its answers.
-    ensures told { TellsAnswers (parse_by reference_readers) C.gives (option_map text_of (R.remaining reader))
+    ensures told { TellsAnswers (parse_by known_readers) C.gives (option_map text_of (R.remaining reader))
         (record { clock = clock.old; later = clock.new; old = W.contents writer.old; new = W.contents writer.new }) result }
     // As far as the disk returns what was written, the answers are those of the steps, from each base whose books the
     // desk kept, and it keeps those of the base after them.
-    ensures kept { KeepsBooks (λ desk. HasCleanDisk (state S.Store desk)) (λ desk. KeepsBase S.Store desk) (parse_by reference_readers) row_step C.gives
+    ensures kept { KeepsBooks (λ desk. HasCleanDisk (state S.Store desk)) (λ desk. KeepsBase S.Store desk) (parse_by known_readers) row_step C.gives
         (option_map text_of (R.remaining reader)) desk.old desk.new
         (record { clock = clock.old; later = clock.new; old = W.contents writer.old; new = W.contents writer.new }) result }
 {

@@ -4,8 +4,9 @@ ghost use Rattle.brk_ref.specs.Records.{key_of};
 ghost use Rattle.brk_model.specs.Base.{Base};
 ghost use Rattle.brk_model.specs.Batch.{row_step};
 ghost use Rattle.brk_model.specs.Commands as model;
-ghost use Rattle.brk_model.specs.Parse.{parse_by, reference_readers};
+ghost use Rattle.brk_model.specs.Parse.{parse_by};
 ghost use Rattle.brk_commands.specs.Commands.{command_of};
+ghost use Rattle.brk_commands.specs.Kinds.{known_readers};
 ghost use Rattle.brk_trade.specs.Replies.{reply_of};
 ghost use Rattle.brk_desk.specs.Keeping.{KeepsBase};
 ghost use Rattle.sqlite.specs.Held.{state};
@@ -49,7 +50,7 @@ impl<S: Alter> Rows for Desk<S> {
 
     ghost told = { reply_of };
 
-    ghost form = { parse_by reference_readers };
+    ghost form = { parse_by known_readers };
 
     ghost step = { row_step };
 

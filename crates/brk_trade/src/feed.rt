@@ -41,8 +41,8 @@ fn is_quote_of(quote: &Quote, symbol: &Symbol) -> bool
     quote.last.symbol.as_str() == symbol.as_str()
 }
 
-// Whether a tick's symbol has no quote.
-fn has_no_quote(quotes: &[Quote], tick: &Tick) -> bool
+/// Whether a tick's symbol has no quote among those that were found.
+pub fn has_no_quote(quotes: &[Quote], tick: &Tick) -> bool
     ensures { result ≡ lacks_quote (held quotes.now) tick.now }
 {
     !quotes.iter().any(|quote| is_quote_of(quote, &tick.symbol))

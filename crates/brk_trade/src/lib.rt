@@ -20,7 +20,7 @@ mod waiting;
 pub use amount::Amount;
 pub use cancel::plan_cancel;
 pub use change::Change;
-pub use feed::{plan_feed, triggers};
+pub use feed::{has_no_quote, plan_feed, triggers};
 pub use history_row::HistoryRow;
 pub use holding_row::HoldingRow;
 pub use order::{OrderAccount, OrderFound, plan_estimate, plan_order};

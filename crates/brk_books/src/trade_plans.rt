@@ -1,0 +1,56 @@
+//! What is planned of cancels and feeds from what was read is what the definitions say.
+
+ghost use Rattle.std.specs.Prelude.{◌≡◌, ◌∷◌, ◌++◌, [], true, false, ℕ, Err, List, None, Option, Some, map};
+ghost use Rattle.std.specs.List.{list_any};
+ghost use Rattle.brk_money.specs.declared.refusal.Refusal.{Refusal};
+ghost use Rattle.brk_money.specs.declared.status.Status.{Status};
+ghost use Rattle.brk_model.specs.Base.{Base};
+ghost use Rattle.brk_model.specs.Commands.{CancelTrade, FeedTicks};
+ghost use Rattle.brk_model.specs.Step.{step};
+ghost use Rattle.brk_model.specs.Tables.{Tables};
+ghost use Rattle.brk_model.specs.Tests.{first_refusal, refusal_of};
+ghost use Rattle.brk_orders.specs.Records.{ticks_of};
+ghost use Rattle.brk_orders.specs.declared.tick.Tick.{Tick};
+ghost use Rattle.brk_ref.specs.Records.{last_trade_of};
+ghost use Rattle.brk_trade.specs.Cancel.{IsCancel, cancel_tests};
+ghost use Rattle.brk_trade.specs.Feed.{Held, IsFeed, feed_tests, held, is_of};
+ghost use Rattle.brk_trade.specs.Reference.{clock_test};
+ghost use Rattle.brk_trade.specs.Rows.{request_row_of};
+ghost use Rattle.brk_trade.specs.declared.plan.Plan.{Plan};
+ghost use Rattle.brk_trade.specs.declared.quote.Quote.{Quote};
+ghost use Rattle.brk_books.specs.Plans.{DoesCommand};
+ghost use Rattle.brk_books.specs.TradePlans.{AreQuotes, IsReadForCancel, IsReadForFeed};
+ghost use Rattle.brk_books.specs.TradeReads.{last_trade_in, requests_of};
+
+/// A cancel is refused by the status of its trade as by the base; the plan of one that is not does the cancel.
+pub fn cancel_plans_do_commands()
+    ensures first { (base : Base) (id : ℕ) (found : Option Status) (last : Option ℕ) (now : ℕ) → IsReadForCancel base id found last now
+        → first_refusal (cancel_tests found ++ clock_test last now ∷ []) ≡ refusal_of base now (CancelTrade id) }
+    ensures refused { (base : Base) (id : ℕ) (found : Option Status) (last : Option ℕ) (now : ℕ) (refusal : Refusal) → IsReadForCancel base id found last now
+        → first_refusal (cancel_tests found ++ clock_test last now ∷ []) ≡ Some refusal → step base now (CancelTrade id) ≡ Err refusal }
+    ensures done { (base : Base) (id : ℕ) (found : Option Status) (last : Option ℕ) (now : ℕ) (plan : Plan) → IsReadForCancel base id found last now
+        → IsCancel id found last now plan → DoesCommand base now (CancelTrade id) plan }
+{}
+
+/// A feed is refused by the quotes of its ticks as by the base, at whatever stamp they are tried; the plan of one that is not does the feed.
+pub fn feed_plans_do_commands()
+    ensures first { (base : Base) (stamp : ℕ) (ticks : List Tick) (quotes : List Held) (last : Option ℕ) (now : ℕ) → IsReadForFeed base ticks quotes last now
+        → first_refusal (feed_tests stamp ticks quotes ++ clock_test last now ∷ []) ≡ refusal_of base now (FeedTicks (ticks_of ticks)) }
+    ensures refused { (base : Base) (stamp : ℕ) (ticks : List Tick) (quotes : List Held) (last : Option ℕ) (now : ℕ) (refusal : Refusal) → IsReadForFeed base ticks quotes last now
+        → first_refusal (feed_tests stamp ticks quotes ++ clock_test last now ∷ []) ≡ Some refusal → step base now (FeedTicks (ticks_of ticks)) ≡ Err refusal }
+    ensures done { (base : Base) (ticks : List Tick) (quotes : List Held) (last : Option ℕ) (now : ℕ) (plan : Plan) → IsReadForFeed base ticks quotes last now
+        → IsFeed ticks quotes last now plan → DoesCommand base now (FeedTicks (ticks_of ticks)) plan }
+{}
+
+/// Quotes are read tick by tick: of a tick whose symbol has a quote nothing is read, of one whose symbol has no last trade nothing comes, and
+/// of any other a quote more.
+pub fn quotes_are_read_tick_by_tick()
+    ensures none { (t : Tables) → AreQuotes t [] [] }
+    ensures again { (t : Tables) (ticks : List Tick) (tick : Tick) (quotes : List Quote) → AreQuotes t ticks (held quotes)
+        → list_any (is_of tick.symbol) (held quotes) ≡ true → AreQuotes t (ticks ++ tick ∷ []) (held quotes) }
+    ensures not_listed { (t : Tables) (ticks : List Tick) (tick : Tick) (quotes : List Quote) → AreQuotes t ticks (held quotes)
+        → last_trade_in t tick.symbol ≡ None → AreQuotes t (ticks ++ tick ∷ []) (held quotes) }
+    ensures read { (t : Tables) (ticks : List Tick) (tick : Tick) (quotes : List Quote) (quote : Quote) → AreQuotes t ticks (held quotes)
+        → list_any (is_of tick.symbol) (held quotes) ≡ false → last_trade_in t tick.symbol ≡ Some (last_trade_of quote.last)
+        → map request_row_of quote.requests.items ≡ requests_of t tick.symbol → AreQuotes t (ticks ++ tick ∷ []) (held (quotes ++ quote ∷ [])) }
+{}

@@ -1,0 +1,102 @@
+-- What was found of an account's order is what is found for its estimate.
+use Rattle.std.proofs.Common.{◌≡◌, ℕ, ◌==◌, ◌+ℤ◌, ℤ, pos, List, [], ◌∷◌, ◌++◌, Option, Some, None, refl, sym, subst, ap, ◌∙◌, arith, find, map, option_map, ◌+◌, ◌<◌, get_or, length, take}
+use Rattle.std.proofs.lemmas.List.{map-append, take_more}
+use Rattle.std.proofs.lemmas.Int.{ints}
+use Rattle.std.specs.Prelude.{IfSome, MatchOption, option_to_list}
+use Rattle.std.specs.Option.{option_map_or}
+use Rattle.brk_model.specs.Joins.{account_in, security_in}
+use Rattle.brk_model.specs.Lists.{total_by}
+use Rattle.brk_model.specs.PositionView.{asset_total}
+use Rattle.brk_model.specs.Records.{Customer}
+use Rattle.brk_model.specs.Tables.{AccountRow, LastTradeRow, Tables}
+use Rattle.brk_money.specs.declared.refusal.Refusal.TheVariants.{NoAccount}
+use Rattle.brk_orders.specs.declared.order.Order.{Order}
+use Rattle.brk_model.specs.Orders.{permitted}
+use Rattle.brk_ref.specs.Records.{customer_of, executor_of}
+use Rattle.brk_ref.specs.declared.account.AccountRow as ref
+use Rattle.brk_ref.specs.declared.customer.Customer as customer
+use Rattle.brk_tables.specs.Records.{account_row_of}
+use Rattle.brk_trade.specs.Rows.{summary_row_of}
+use Rattle.brk_trade.specs.declared.order.OrderFound.{OrderFound}
+use Rattle.brk_trade.specs.declared.summary_row.SummaryRow.{SummaryRow}
+use Rattle.brk_books.specs.OrderPlans.{IfCustomer, IsFoundForEstimate, charge_in, order_account}
+use Rattle.brk_books.specs.Reads.{rates_of}
+use Rattle.brk_books.specs.TradeReads.{band_in, permission_in}
+use Rattle.brk_decisions.specs.Finds.{AreAmounts, AreTested, IsCustomer, IsFoundOf, found_of, nothing, worth_in}
+use Rattle.brk_decisions.specs.declared.tested.Tested.{Tested}
+use Rattle.brk_decisions.specs.declared.amounts.Amounts.{Amounts}
+
+not_none : {X : Type 0} (x : X) → Some x ≡ None → ⊥
+not_none x e = absurd (cc)
+
+pub no_account : (t : Tables) (order : Order) → None ≡ account_in t order.account → IsFoundForEstimate t order nothing
+no_account t order e = record {
+  account = ap (option_map order_account) e;
+  last_price = λ p. absurd (not_none NoAccount p);
+  is_permitted = λ p. absurd (not_none NoAccount p);
+  charge = λ p. absurd (not_none NoAccount p);
+  rate = λ p. absurd (not_none NoAccount p);
+  rates = λ p. absurd (not_none NoAccount p);
+  assets = λ p. absurd (not_none NoAccount p);
+}
+
+module _ (t : Tables) (account : ℕ) (a : ref.AccountRow) (c : customer.Customer) (there : Some (account_row_of a) ≡ account_in t account) (k : IsCustomer t a.account.customer c) where
+  if_account : (holds : AccountRow → Type 0) → holds (account_row_of a) → IfSome (account_in t account) holds
+  if_account holds h = subst (λ x. IfSome x holds) there h
+
+  if_customer : (holds : Customer → Type 0) → holds (customer_of c) → IfCustomer t account holds
+  if_customer holds h = if_account (λ a. IfSome (find (λ r. r.id == a.customer) t.customers) holds) (subst (λ x. IfSome x holds) (sym k) h)
+
+pub all_found : (t : Tables) (order : Order) (a : ref.AccountRow) (c : customer.Customer) (tested : Tested) (amounts : Amounts) → IsCustomer t a.account.customer c
+    → AreTested t order c tested → AreAmounts t a amounts → IsFoundOf t order a (found_of a tested amounts)
+all_found t order a c tested amounts k x y there = record {
+  account = ap (option_map order_account) there;
+  last_price = λ p. x.last_price;
+  is_permitted = λ p. if_customer t order.account a c there k
+      (λ c. tested.is_permitted ≡ permitted c (permission_in t order.account order.executor.tax_id) (executor_of order.executor)) x.is_permitted;
+  charge = λ p. if_customer t order.account a c there k (λ c. tested.charge ≡ charge_in t order.kind c.tier) x.charge;
+  rate = λ p. if_customer t order.account a c there k
+      (λ c. IfSome (security_in t order.symbol) (λ s. tested.rate ≡ option_map (λ b. b.rate) (band_in t c.tier order.kind s.exchange order.qty))) x.rate;
+  rates = λ p. if_account t order.account a c there k (λ a. amounts.rates ≡ rates_of t a.customer) y.rates;
+  assets = λ p. if_account t order.account a c there k (λ a. amounts.assets ≡ a.balance +ℤ asset_total t a) y.assets;
+}
+
+-- the last trade is no part of an estimate
+pub with_last_trade : (t : Tables) (order : Order) (found : OrderFound) (last : Option ℕ) → IsFoundForEstimate t order found → IsFoundForEstimate t order (record found { last_trade = last })
+with_last_trade t order found last k = record {
+  account = k.account;
+  last_price = k.last_price;
+  is_permitted = k.is_permitted;
+  charge = k.charge;
+  rate = k.rate;
+  rates = k.rates;
+  assets = k.assets;
+}
+
+-- ---- sums
+
+pub total_by-more : {X : Type 0} (f : X → ℤ) (xs : List X) (x : X) → total_by f (xs ++ x ∷ []) ≡ total_by f xs +ℤ f x
+unfolding total_by
+total_by-more f [] x = omega (arith, ints)
+total_by-more f (y ∷ xs) x = let h = total_by-more f xs x in omega (h, arith, ints)
+
+pub total_by-none : {X : Type 0} (f : X → ℤ) → total_by f [] ≡ pos 0
+unfolding total_by
+total_by-none f = refl
+
+pub worth_more : (t : Tables) (rows : List SummaryRow) (i : ℕ) (row : SummaryRow) → i < length rows → row ≡ get_or rows i row
+    → total_by (worth_in t) (map summary_row_of (take i rows)) +ℤ worth_in t (summary_row_of row) ≡ total_by (worth_in t) (map summary_row_of (take (i + 1) rows))
+worth_more t rows i row inside is =
+    sym (total_by-more (worth_in t) (map summary_row_of (take i rows)) (summary_row_of row))
+    ∙ ap (total_by (worth_in t)) (sym (map-append summary_row_of (take i rows) (row ∷ []))
+    ∙ ap (map summary_row_of) (ap (λ z. take i rows ++ z ∷ []) is ∙ sym (take_more rows i row inside)))
+
+-- a price that was found
+pub price_there : (o : Option LastTradeRow) (price : ℕ) → Some price ≡ option_map (λ r. r.price) o → option_map_or (λ r. r.price) o 0 ≡ price
+price_there None price e = absurd (cc)
+price_there (Some r) price e = cc
+
+-- what is there as a list
+pub listed : {X Y : Type 0} (f : X → Y) (o : Option X) (xs : List X) → MatchOption o (xs ≡ []) (λ x. xs ≡ x ∷ []) → map f xs ≡ option_to_list (option_map f o)
+listed f None xs e = ap (map f) e
+listed f (Some x) xs e = ap (map f) e

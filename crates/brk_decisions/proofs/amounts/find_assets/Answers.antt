@@ -1,0 +1,13 @@
+use Rattle.std.proofs.Common.{◌≡◌, ◌∙◌, ◌+ℤ◌, ap}
+use Rattle.brk_model.specs.Tables.{Tables}
+use Rattle.brk_decisions.specs.Finds.{worth_of}
+use Rattle.brk_decisions.proofs.Looking.{retold}
+use Rattle.brk_decisions.proofs.amounts.find_assets.Goals as goal
+
+pub returns-in-Some-clause-read : goal.returns-in-Some-clause-read
+returns-in-Some-clause-read g c =
+    let account = c.args.account.now in
+    retold g.S.Store c.args.store.now c.sum_worth.new.store c.in_ok-worth.worth c.in-Some.assets
+    (λ worth (t : Tables). worth ≡ worth_of t account.account.id) (λ assets (t : Tables). assets ≡ account.balance +ℤ worth_of t account.account.id)
+    (λ t e. (rw c.in-Some.is at c.with_balance.ensures) ∙ ap (λ worth. account.balance +ℤ worth) e)
+    c.in_ok-worth.ensures.read

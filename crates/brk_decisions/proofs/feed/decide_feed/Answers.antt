@@ -1,0 +1,16 @@
+use Rattle.brk_model.specs.Commands.{FeedTicks}
+use Rattle.brk_orders.specs.Records.{ticks_of}
+use Rattle.brk_trade.specs.Feed.{held}
+use Rattle.brk_decisions.specs.Decisions.{Decides}
+use Rattle.brk_decisions.proofs.Deciding.{decided}
+use Rattle.brk_decisions.proofs.Feeds.{Known, feed_decided}
+use Rattle.brk_decisions.proofs.feed.decide_feed.Goals as goal
+
+pub returns-clause-read : goal.returns-clause-read
+returns-clause-read g c =
+    let ticks = c.args.feed.now in
+    let last = c.in_ok-last.last in
+    let quotes = c.in_ok-last.quotes in
+    decided g.S.Store c.args.store.now c.read_market.new.store (last, quotes) (λ market. Known ticks (held market.1.items) market.0) (Decides c.args.now (FeedTicks (ticks_of ticks))) c.plan_feed.result
+    (rw c.ticks.ensures at c.in_ok-last.ensures.read)
+    (feed_decided ticks (held quotes.items) last c.args.now c.get-moment.ensures.high c.plan_feed.result c.plan_feed.ensures.planned)

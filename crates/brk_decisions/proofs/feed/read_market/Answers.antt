@@ -1,0 +1,67 @@
+use Rattle.std.proofs.Common.{◌≡◌, ◌∙◌, ◌+◌, ◌<◌, ℕ, List, [], ◌∷◌, ◌++◌, Ok, Some, None, Option, ap, get_or, length, subst, sym, take}
+use Rattle.std.proofs.lemmas.List.{take_all, take_more}
+use Rattle.brk_money.specs.declared.fault.Fault.{Fault}
+use Rattle.brk_model.specs.Tables.{Tables}
+use Rattle.brk_orders.specs.declared.tick.Tick.{Tick}
+use Rattle.brk_trade.specs.Feed.{held, lacks_quote}
+use Rattle.brk_trade.specs.declared.quote.Quote.{Quote}
+use Rattle.brk_books.specs.TradePlans.{AreQuotes}
+use Rattle.brk_books.proofs.Quotes.{no_quotes}
+use Rattle.brk_store.specs.Holds.{IsRead}
+use Rattle.brk_decisions.proofs.Feeds.{IsQuoteOf, Known, one_quoted, one_not_listed, one_read}
+use Rattle.brk_decisions.proofs.Looking.{read_both, retold}
+use Rattle.brk_decisions.proofs.feed.read_market.Goals as goal
+use Rattle.brk_decisions.proofs.feed.read_market.Goals.{then-has_no_quote+in_ok-quote+in-Some+in_ok-push, then-has_no_quote+in_ok-quote+in_default, else-has_no_quote}
+
+one_more : (ticks : List Tick) (i : ℕ) (tick : Tick) → i < length ticks → tick ≡ get_or ticks i tick → take i ticks ++ tick ∷ [] ≡ take (i + 1) ticks
+one_more ticks i tick inside is = ap (λ x. take i ticks ++ x ∷ []) is ∙ sym (take_more ticks i tick inside)
+
+pub loop-tick-init : goal.loop-tick-init
+loop-tick-init g c =
+    retold g.S.Store c.args.store.now c.last.new.self c.in_ok-last.last tt
+    (λ last (t : Tables). last ≡ t.last) (λ _. Known [] (held c.new-quotes.result.items) c.in_ok-last.last)
+    (λ t e. (e, subst (λ quotes. AreQuotes t [] (held quotes)) (sym c.new-quotes.ensures.items) (no_quotes t)))
+    c.in_ok-last.ensures.read
+
+pub loop-tick-preserved : goal.loop-tick-preserved
+loop-tick-preserved g c =
+    let ticks = c.args.ticks.now in
+    let i = c.loop-tick.tick-index in
+    let tick = c.tick-item.result in
+    let last = c.in_ok-last.last in
+    let before = c.loop-tick.quotes.items in
+    let lacks : lacks_quote (held before) tick ≡ c.has_no_quote.result = sym (ap (λ quotes. lacks_quote (held quotes) tick) c.deref.ensures.value) ∙ sym c.has_no_quote.ensures in
+    let after : IsRead {V = Unit {0}} {E = Fault} g.S.Store c.args.store.now c.if-has_no_quote.store (Ok tt) (λ _. Known (take i ticks ++ tick ∷ []) (held c.if-has_no_quote.quotes.items) last) =
+    elim c.if-has_no_quote.branch [
+      | then-has_no_quote+in_ok-quote+in-Some+in_ok-push w ↦
+          rw (w.store-is, w.quotes-is, w.in_ok-push.ensures.items)
+          (read_both g.S.Store c.args.store.now c.loop-tick.store w.quote_of.new.store {X = Unit {0}} {H = Fault} tt (Some w.in-Some.quote) tt
+          (λ _. Known (take i ticks) (held before) last) (IsQuoteOf tick.symbol) (λ _. Known (take i ticks ++ tick ∷ []) (held (before ++ w.in-Some.quote ∷ [])) last)
+          (one_read (take i ticks) tick before last w.in-Some.quote (lacks ∙ w.if-has_no_quote.true))
+          c.loop-tick.invariant (rw w.in-Some.is at w.in_ok-quote.ensures.read))
+      | then-has_no_quote+in_ok-quote+in_default w ↦
+          rw (w.store-is, w.quotes-is)
+          (read_both g.S.Store c.args.store.now c.loop-tick.store w.quote_of.new.store {W = Option Quote} {X = Unit {0}} {H = Fault} tt None tt
+          (λ _. Known (take i ticks) (held before) last) (IsQuoteOf tick.symbol) (λ _. Known (take i ticks ++ tick ∷ []) (held before) last)
+          (one_not_listed (take i ticks) tick before last)
+          c.loop-tick.invariant (rw w.in_default.is at w.in_ok-quote.ensures.read))
+      | else-has_no_quote w ↦
+          rw (w.store-is, w.quotes-is)
+          (retold g.S.Store c.args.store.now c.loop-tick.store {X = Unit {0}} {H = Fault} tt tt
+          (λ _. Known (take i ticks) (held before) last) (λ _. Known (take i ticks ++ tick ∷ []) (held before) last)
+          (one_quoted (take i ticks) tick before last (lacks ∙ w.if-has_no_quote.false))
+          c.loop-tick.invariant)
+    ] in
+    subst (λ us. IsRead {V = Unit {0}} {E = Fault} g.S.Store c.args.store.now c.if-has_no_quote.store (Ok tt) (λ _. Known us (held c.if-has_no_quote.quotes.items) last))
+    (one_more ticks i tick c.loop-tick-test.true c.tick-item.is) after
+
+pub returns-clause-read : goal.returns-clause-read
+returns-clause-read g c =
+    let ticks = c.args.ticks.now in
+    let i = c.loop-tick.tick-index in
+    let last = c.in_ok-last.last in
+    let quotes = c.loop-tick.quotes in
+    retold g.S.Store c.args.store.now c.loop-tick.store tt (last, quotes)
+    (λ _. Known (take i ticks) (held quotes.items) last) (λ market. Known ticks (held market.1.items) market.0)
+    (λ t k. subst (λ us. Known us (held quotes.items) last t) (take_all i ticks c.loop-tick-test.false) k)
+    c.loop-tick.invariant

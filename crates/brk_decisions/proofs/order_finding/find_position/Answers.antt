@@ -1,0 +1,21 @@
+use Rattle.std.proofs.Common.{◌≡◌, ◌==◌, ◌∙◌, ap, filter, map}
+use Rattle.std.specs.Prelude.{◌&&◌, bytes_eq}
+use Rattle.brk_model.specs.Tables.{HoldingRow, Tables}
+use Rattle.brk_trade.specs.Rows.{holding_row_of, oldest_lots_first}
+use Rattle.brk_books.specs.OrderPlans.{lot_in}
+use Rattle.brk_decisions.specs.Finds.{HeldLots}
+use Rattle.brk_decisions.proofs.Looking.{retold}
+use Rattle.brk_decisions.proofs.order_finding.find_position.Goals as goal
+
+pub returns-in-Some-clause-read : goal.returns-in-Some-clause-read
+returns-in-Some-clause-read g c =
+    let rows = c.in_ok-rows.rows in
+    retold g.S.Store c.args.store.now c.lots_of.new.self rows c.in-Some.position
+    (λ all (t : Tables). map holding_row_of all.items ≡ oldest_lots_first (filter (λ (r : HoldingRow). (r.account == c.args.account) && bytes_eq r.symbol c.args.symbol.now) t.holdings))
+    (λ position (t : Tables). HeldLots t c.args.account c.args.symbol.now position)
+    (λ t e. record {
+      held = rows.items;
+      rows = e;
+      given = (rw c.in-Some.is at c.from_lots.ensures).0 ∙ c.in_ok-lots.ensures ∙ ap (map lot_in) c.deref.ensures.value;
+    })
+    c.in_ok-rows.ensures.read

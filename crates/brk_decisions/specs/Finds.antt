@@ -1,0 +1,72 @@
+-- What is found in the tables for an order.
+use Rattle.std.specs.Prelude.{◌≡◌, ℕ, ◌==◌, ◌+ℤ◌, ◌*ℤ◌, ℤ, pos, false, List, filter, find, map, Some, None, IfSome, option_map}
+use Rattle.brk_lots.specs.declared.lot.Lot.{Lot}
+use Rattle.brk_model.specs.Joins.{account_in, price_in, security_in}
+use Rattle.brk_model.specs.Lists.{total_by}
+use Rattle.brk_model.specs.Orders.{permitted}
+use Rattle.brk_model.specs.Tables.{SummaryRow, Tables}
+use Rattle.brk_money.specs.Spelling.{Text}
+use Rattle.brk_orders.specs.declared.order.Order.{Order}
+use Rattle.brk_ref.specs.Records.{customer_of, executor_of}
+use Rattle.brk_ref.specs.declared.account.AccountRow.{AccountRow}
+use Rattle.brk_ref.specs.declared.customer.Customer.{Customer}
+use Rattle.brk_tables.specs.Records.{account_row_of}
+use Rattle.brk_trade.specs.Rows.{holding_row_of}
+use Rattle.brk_trade.specs.declared.order.OrderFound.{OrderFound}
+use Rattle.brk_trade.specs.declared.holding_row.HoldingRow.{HoldingRow}
+use Rattle.brk_books.specs.OrderPlans.{IsFoundForEstimate, charge_in, last_price_in, lot_in}
+use Rattle.brk_books.specs.Reads.{rates_of}
+use Rattle.brk_books.specs.TradeReads.{band_in, lots_in, permission_in}
+use Rattle.brk_decisions.specs.declared.tested.Tested.{Tested}
+use Rattle.brk_decisions.specs.declared.amounts.Amounts.{Amounts}
+
+-- the customer with an id
+abbrev pub IsCustomer : Tables → ℕ → Customer → Type 0
+IsCustomer t id customer = find (λ r. r.id == id) t.customers ≡ Some (customer_of customer)
+
+-- what an order of a customer's account is tested for
+pub record AreTested (t : Tables) (order : Order) (customer : Customer) (tested : Tested) : Type 0 where
+  pub last_price : tested.last_price ≡ last_price_in t order.symbol
+  pub is_permitted : tested.is_permitted ≡ permitted (customer_of customer) (permission_in t order.account order.executor.tax_id) (executor_of order.executor)
+  pub charge : tested.charge ≡ charge_in t order.kind customer.tier
+  pub rate : IfSome (security_in t order.symbol) (λ s. tested.rate ≡ option_map (λ b. b.rate) (band_in t customer.tier order.kind s.exchange order.qty))
+
+-- the worth of a summary at the last price of its symbol
+abbrev pub worth_in : Tables → SummaryRow → ℤ
+worth_in t row = row.qty *ℤ pos (price_in t row.symbol)
+
+-- the worth of what an account holds
+abbrev pub worth_of : Tables → ℕ → ℤ
+worth_of t account = total_by (worth_in t) (filter (λ row. row.account == account) t.summaries)
+
+-- the amounts that an account's orders are estimated by
+pub record AreAmounts (t : Tables) (account : AccountRow) (amounts : Amounts) : Type 0 where
+  pub rates : amounts.rates ≡ rates_of t account.account.customer
+  pub assets : amounts.assets ≡ account.balance +ℤ worth_of t account.account.id
+
+-- the lots that an account holds of a symbol, the oldest first
+pub record HeldLots (t : Tables) (account : ℕ) (symbol : Text) (lots : List Lot) : Type 0 where
+  pub held : List HoldingRow
+  pub rows : map holding_row_of held ≡ lots_in t account symbol
+  pub given : lots ≡ map lot_in held
+
+-- what is found for an order of no account
+abbrev pub nothing : OrderFound
+nothing = record { account = None; last_price = None; is_permitted = false; charge = None; rate = None; rates = 0; assets = pos 0; last_trade = None }
+
+-- what is found for an order of an account, but for the last trade
+abbrev pub found_of : AccountRow → Tested → Amounts → OrderFound
+found_of account tested amounts = record {
+  account = Some (record { broker = account.account.broker; tax_status = account.account.tax_status });
+  last_price = tested.last_price;
+  is_permitted = tested.is_permitted;
+  charge = tested.charge;
+  rate = tested.rate;
+  rates = amounts.rates;
+  assets = amounts.assets;
+  last_trade = None;
+}
+
+-- what is found of an account's row, where this is the row of the order's account
+abbrev pub IsFoundOf : Tables → Order → AccountRow → OrderFound → Type 0
+IsFoundOf t order account found = Some (account_row_of account) ≡ account_in t order.account → IsFoundForEstimate t order found

@@ -1,0 +1,128 @@
+//! The amounts that an account's orders are estimated by.
+
+ghost use Rattle.std.specs.Prelude.{◌≡◌, ◌+ℤ◌, ◌*ℤ◌, IfErr, IfSome, pos};
+ghost use Rattle.brk_books.specs.Reads.{rates_of};
+ghost use Rattle.brk_decisions.specs.Finds.{AreAmounts, worth_in, worth_of};
+ghost use Rattle.brk_model.specs.Joins.{price_in};
+ghost use Rattle.brk_model.specs.Run.{MayFail};
+ghost use Rattle.brk_store.specs.Holds.{IsRead};
+ghost use Rattle.brk_trade.specs.Rows.{summary_row_of};
+
+use crate::terms::sum_rates;
+use crate::tested::find_price;
+use brk_money::{Cents, Fault, Id, Price, TaxRate, Wide};
+use brk_ref::{AccountRow, Symbol};
+use brk_store::Store;
+use brk_trade::SummaryRow;
+use sqlite::Alter;
+use std::alloc::Global;
+
+/// The amounts that an account's orders are estimated by.
+#[derive(Clone, Copy)]
+pub struct Amounts {
+    /// The sum of the tax rates that its customer pays.
+    pub rates: TaxRate,
+    /// Its balance and the worth of what it holds, in cents.
+    pub assets: Wide,
+}
+
+// The rates that a customer pays; a sum beyond the whole is a fault of the store.
+fn find_rates<S: Alter>(alloc: Global, store: &mut Store<S>, customer: Id) -> Result<TaxRate, Fault>
+    ensures read { IsRead S.Store store.old store.new result (λ rates t. rates ≡ rates_of t customer) }
+    ensures fault { IfErr result MayFail }
+{
+    match sum_rates(alloc, store, customer)? {
+        Some(rates) => Ok(rates),
+        None => Err(Fault::Store),
+    }
+}
+
+// An amount with the worth of a summary at a price.
+fn with_worth(amount: Wide, row: &SummaryRow, price: Price) -> Option<Wide>
+    ensures { IfSome result (λ sum. sum ≡ amount +ℤ row.now.qty *ℤ pos price) }
+{
+    let Some(worth) = i128::from(row.qty).checked_mul(i128::from(price.get())) else {
+        return None;
+    };
+    match amount.get().checked_add(worth) {
+        Some(sum) => Some(Wide::new(sum)),
+        None => None,
+    }
+}
+
+// The last price of a symbol; a symbol of none is a fault of the store.
+fn known_price<S: Alter>(store: &mut Store<S>, symbol: &Symbol) -> Result<Price, Fault>
+    ensures read { IsRead S.Store store.old store.new result (λ price t. price ≡ price_in t symbol.now) }
+    ensures fault { IfErr result MayFail }
+{
+    match find_price(store, symbol)? {
+        Some(price) => Ok(price),
+        None => Err(Fault::Store),
+    }
+}
+
+// An amount with the worth of a summary at the last price of its symbol.
+fn add_worth<S: Alter>(store: &mut Store<S>, amount: Wide, row: &SummaryRow) -> Result<Wide, Fault>
+    ensures read { IsRead S.Store store.old store.new result (λ sum t. sum ≡ amount +ℤ worth_in t (summary_row_of row.now)) }
+    ensures fault { IfErr result MayFail }
+{
+    let price = known_price(store, &row.symbol)?;
+    match with_worth(amount, row, price) {
+        Some(sum) => Ok(sum),
+        None => Err(Fault::Store),
+    }
+}
+
+// The worth of what an account holds at the last prices, in cents.
+fn sum_worth<S: Alter>(alloc: Global, store: &mut Store<S>, account: Id) -> Result<Wide, Fault>
+    ensures read { IsRead S.Store store.old store.new result (λ worth t. worth ≡ worth_of t account) }
+    ensures fault { IfErr result MayFail }
+{
+    let mut total = Wide::new(0);
+    let rows = store.summaries_of(alloc, account)?;
+    for row in &rows {
+        let sum = add_worth(store, total, row)?;
+        total = sum;
+    }
+    Ok(total)
+}
+
+// A balance with the worth of what is held.
+fn with_balance(balance: Cents, worth: Wide) -> Option<Wide>
+    ensures { IfSome result (λ assets. assets ≡ balance +ℤ worth) }
+{
+    match i128::from(balance.get()).checked_add(worth.get()) {
+        Some(assets) => Some(Wide::new(assets)),
+        None => None,
+    }
+}
+
+// An account's balance and the worth of what it holds.
+fn find_assets<S: Alter>(
+    alloc: Global,
+    store: &mut Store<S>,
+    account: &AccountRow,
+) -> Result<Wide, Fault>
+    ensures read { IsRead S.Store store.old store.new result (λ assets t. assets ≡ account.now.balance +ℤ worth_of t account.now.account.id) }
+    ensures fault { IfErr result MayFail }
+{
+    let worth = sum_worth(alloc, store, account.account.id)?;
+    match with_balance(account.balance, worth) {
+        Some(assets) => Ok(assets),
+        None => Err(Fault::Store),
+    }
+}
+
+// The amounts that an account's orders are estimated by.
+pub(crate) fn find_amounts<S: Alter>(
+    alloc: Global,
+    store: &mut Store<S>,
+    account: &AccountRow,
+) -> Result<Amounts, Fault>
+    ensures read { IsRead S.Store store.old store.new result (λ amounts t. AreAmounts t account.now amounts) }
+    ensures fault { IfErr result MayFail }
+{
+    let rates = find_rates(alloc, store, account.account.customer)?;
+    let assets = find_assets(alloc, store, account)?;
+    Ok(Amounts { rates, assets })
+}

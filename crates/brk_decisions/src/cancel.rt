@@ -1,0 +1,42 @@
+//! Cancels of trades, decided on.
+
+ghost use Rattle.std.specs.Prelude.{◌≡◌, IfErr, option_map};
+ghost use Rattle.brk_decisions.specs.Decisions.{Decides};
+ghost use Rattle.brk_model.specs.Commands.{CancelTrade};
+ghost use Rattle.brk_model.specs.Joins.{trade_in};
+ghost use Rattle.brk_model.specs.Run.{MayFail};
+ghost use Rattle.brk_store.specs.Holds.{IsRead};
+
+use brk_money::{Fault, Id, Planned, Stamp, Status};
+use brk_store::Store;
+use brk_trade::{Plan, plan_cancel};
+use sqlite::Alter;
+use std::alloc::Global;
+
+// The status of a trade, where there is such a trade.
+fn status_of<S: Alter>(store: &mut Store<S>, trade: Id) -> Result<Option<Status>, Fault>
+    ensures read { IsRead S.Store store.old store.new result (λ status t. status ≡ option_map (λ r. r.status) (trade_in t trade)) }
+    ensures fault { IfErr result MayFail }
+{
+    match store.trade(trade)? {
+        Some(row) => Ok(Some(row.status)),
+        None => Ok(None),
+    }
+}
+
+/// Decides on the cancel of a trade at a moment: why it is refused, or its plan. Nothing is changed; the only faults are
+/// want of memory and the store's.
+pub fn decide_cancel<S: Alter>(
+    alloc: Global,
+    store: &mut Store<S>,
+    now: Stamp,
+    trade: Id,
+) -> Planned<Plan>
+    ensures read { IsRead S.Store store.old store.new result (Decides now (CancelTrade trade)) }
+    ensures fault { IfErr result MayFail }
+{
+    let _moment = now.get();
+    let last = store.last()?;
+    let status = status_of(store, trade)?;
+    plan_cancel(alloc, trade, status, last, now)
+}

@@ -1,0 +1,32 @@
+//! Estimates of orders, decided on.
+
+ghost use Rattle.std.specs.Prelude.{IfErr};
+ghost use Rattle.brk_decisions.specs.Decisions.{Tells};
+ghost use Rattle.brk_model.specs.Run.{MayFail};
+ghost use Rattle.brk_orders.specs.Records.{order_of};
+ghost use Rattle.brk_store.specs.Holds.{IsRead};
+
+use crate::order_finding::{find_for_estimate, find_position};
+use brk_estimates::Estimate;
+use brk_money::Planned;
+use brk_orders::Order;
+use brk_store::Store;
+use brk_trade::plan_estimate;
+use sqlite::Alter;
+use std::alloc::Global;
+
+/// Tells what an order is estimated at (Trade-Order), or why it is refused. Nothing is changed; the only faults are want
+/// of memory and the store's, which tables that are not those of a desk are too.
+pub fn decide_estimate<S: Alter>(
+    alloc: Global,
+    store: &mut Store<S>,
+    order: &Order,
+) -> Planned<Estimate>
+    ensures read { IsRead S.Store store.old store.new result (Tells (order_of order.now)) }
+    ensures fault { IfErr result MayFail }
+{
+    let found = find_for_estimate(alloc, store, order)?;
+    let position = find_position(alloc, store, order.account, &order.symbol)?;
+    let mut lots = position.from_end(order.is_lifo);
+    plan_estimate(order, &found, &mut lots)
+}

@@ -1,0 +1,76 @@
+//! Feeds of the market, decided on.
+
+ghost use Rattle.std.specs.Prelude.{◌≡◌, IfErr, IfSome, map, option_map};
+ghost use Rattle.brk_books.specs.TradePlans.{AreQuotes};
+ghost use Rattle.brk_books.specs.TradeReads.{last_trade_in, requests_of};
+ghost use Rattle.brk_decisions.specs.Decisions.{Decides};
+ghost use Rattle.brk_model.specs.Commands.{FeedTicks};
+ghost use Rattle.brk_model.specs.Run.{MayFail};
+ghost use Rattle.brk_orders.specs.Records.{ticks_of};
+ghost use Rattle.brk_ref.specs.Records.{last_trade_of};
+ghost use Rattle.brk_store.specs.Holds.{IsRead};
+ghost use Rattle.brk_trade.specs.Feed.{held};
+ghost use Rattle.brk_trade.specs.Rows.{request_row_of};
+
+use brk_money::{Fault, Planned, Stamp};
+use brk_orders::{Feed, Tick};
+use brk_ref::Symbol;
+use brk_store::Store;
+use brk_trade::{Plan, Quote, has_no_quote, plan_feed};
+use sqlite::Alter;
+use std::alloc::Global;
+
+// The quote of a symbol, where it has a last trade.
+fn quote_of<S: Alter>(
+    alloc: Global,
+    store: &mut Store<S>,
+    symbol: &Symbol,
+) -> Result<Option<Quote>, Fault>
+    ensures read { IsRead S.Store store.old store.new result (λ quote t.
+        (option_map (λ q. last_trade_of q.last) quote ≡ last_trade_in t symbol.now)
+        × IfSome quote (λ q. map request_row_of q.requests.items ≡ requests_of t symbol.now)) }
+    ensures fault { IfErr result MayFail }
+{
+    let Some(last) = store.last_trade(symbol)? else {
+        return Ok(None);
+    };
+    let requests = store.requests_of(alloc, symbol)?;
+    Ok(Some(Quote { last, requests }))
+}
+
+// The last stamp, and the quotes of the symbols of ticks, one for each symbol that has a last trade.
+fn read_market<S: Alter>(
+    alloc: Global,
+    store: &mut Store<S>,
+    ticks: &[Tick],
+) -> Result<(Option<Stamp>, Vec<Quote>), Fault>
+    ensures read { IsRead S.Store store.old store.new result (λ market t. (market.0 ≡ t.last) × AreQuotes t ticks.now (held market.1.items)) }
+    ensures fault { IfErr result MayFail }
+{
+    let last = store.last()?;
+    let mut quotes = Vec::new(alloc);
+    for tick in ticks {
+        if has_no_quote(&quotes, tick) {
+            if let Some(quote) = quote_of(alloc, store, &tick.symbol)? {
+                quotes.push(quote)?;
+            }
+        }
+    }
+    Ok((last, quotes))
+}
+
+/// Decides on a feed at a moment: why it is refused, or its plan. Nothing is changed; the only faults are want of memory
+/// and the store's.
+pub fn decide_feed<S: Alter>(
+    alloc: Global,
+    store: &mut Store<S>,
+    now: Stamp,
+    feed: &Feed,
+) -> Planned<Plan>
+    ensures read { IsRead S.Store store.old store.new result (Decides now (FeedTicks (ticks_of feed.now))) }
+    ensures fault { IfErr result MayFail }
+{
+    let _moment = now.get();
+    let (last, quotes) = read_market(alloc, store, feed.ticks())?;
+    plan_feed(alloc, feed, quotes, last, now)
+}

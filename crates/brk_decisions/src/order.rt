@@ -1,0 +1,35 @@
+//! Orders, decided on.
+
+ghost use Rattle.std.specs.Prelude.{IfErr};
+ghost use Rattle.brk_decisions.specs.Decisions.{Decides};
+ghost use Rattle.brk_model.specs.Commands.{PlaceOrder};
+ghost use Rattle.brk_model.specs.Run.{MayFail};
+ghost use Rattle.brk_orders.specs.Records.{order_of};
+ghost use Rattle.brk_store.specs.Holds.{IsRead};
+
+use crate::order_finding::{find_for_order, find_position};
+use brk_money::{Planned, Stamp};
+use brk_orders::Order;
+use brk_store::Store;
+use brk_trade::{Plan, plan_order};
+use sqlite::Alter;
+use std::alloc::Global;
+
+/// Decides on an order at a moment (Trade-Order): why it is refused, or its plan. Nothing is changed; the only faults
+/// are want of memory and the store's, which tables that are not those of a desk are too.
+pub fn decide_order<S: Alter>(
+    alloc: Global,
+    store: &mut Store<S>,
+    now: Stamp,
+    order: &Order,
+) -> Planned<Plan>
+    ensures read { IsRead S.Store store.old store.new result (Decides now (PlaceOrder (order_of order.now))) }
+    ensures fault { IfErr result MayFail }
+{
+    let _moment = now.get();
+    let last = store.last()?;
+    let found = find_for_order(alloc, store, order)?;
+    let position = find_position(alloc, store, order.account, &order.symbol)?;
+    let mut lots = position.from_end(order.is_lifo);
+    plan_order(alloc, order, &found, &mut lots, last, now)
+}

@@ -1,0 +1,149 @@
+//! What the tables hold that decides on an order.
+
+ghost use Rattle.std.specs.Prelude.{◌≡◌, IfErr, IfOk, map};
+ghost use Rattle.brk_books.specs.OrderPlans.{IsFoundForEstimate, IsFoundForOrder, lot_in};
+ghost use Rattle.brk_decisions.specs.Finds.{HeldLots, IsCustomer, IsFoundOf, found_of, nothing};
+ghost use Rattle.brk_model.specs.Run.{MayFail};
+ghost use Rattle.brk_store.specs.Holds.{IsRead};
+
+use crate::amounts::{Amounts, find_amounts};
+use crate::tested::{Tested, find_tested};
+use brk_lots::{Lot, Position};
+use brk_money::{Fault, Id, TaxRate, Wide};
+use brk_orders::Order;
+use brk_ref::{AccountRow, Customer, Symbol};
+use brk_store::Store;
+use brk_trade::{HoldingRow, OrderAccount, OrderFound};
+use sqlite::Alter;
+use std::alloc::{AllocError, Global};
+
+// What is found where there is no account.
+fn nothing() -> OrderFound
+    ensures { result ≡ nothing }
+{
+    OrderFound {
+        account: None,
+        last_price: None,
+        is_permitted: false,
+        charge: None,
+        rate: None,
+        rates: TaxRate::new(0).unwrap(),
+        assets: Wide::new(0),
+        last_trade: None,
+    }
+}
+
+// What is found for an order of an account, but for the last trade.
+fn found_of(account: &AccountRow, tested: Tested, amounts: Amounts) -> OrderFound
+    ensures { result ≡ found_of account.now tested amounts }
+{
+    OrderFound {
+        account: Some(OrderAccount {
+            broker: account.account.broker,
+            tax_status: account.account.tax_status,
+        }),
+        last_price: tested.last_price,
+        is_permitted: tested.is_permitted,
+        charge: tested.charge,
+        rate: tested.rate,
+        rates: amounts.rates,
+        assets: amounts.assets,
+        last_trade: None,
+    }
+}
+
+// The customer with an id; an id of none is a fault of the store.
+fn known_customer<S: Alter>(store: &mut Store<S>, id: Id) -> Result<Customer, Fault>
+    ensures read { IsRead S.Store store.old store.new result (λ customer t. IsCustomer t id customer) }
+    ensures fault { IfErr result MayFail }
+{
+    match store.customer(id)? {
+        Some(customer) => Ok(customer),
+        None => Err(Fault::Store),
+    }
+}
+
+// What decides on the estimate of an order of an account.
+fn find_of_account<S: Alter>(
+    alloc: Global,
+    store: &mut Store<S>,
+    order: &Order,
+    account: &AccountRow,
+) -> Result<OrderFound, Fault>
+    ensures read { IsRead S.Store store.old store.new result (λ found t. IsFoundOf t order.now account.now found) }
+    ensures fault { IfErr result MayFail }
+{
+    let customer = known_customer(store, account.account.customer)?;
+    let tested = find_tested(alloc, store, order, &customer)?;
+    let amounts = find_amounts(alloc, store, account)?;
+    Ok(found_of(account, tested, amounts))
+}
+
+/// What the tables hold that decides on the estimate of an order.
+pub(crate) fn find_for_estimate<S: Alter>(
+    alloc: Global,
+    store: &mut Store<S>,
+    order: &Order,
+) -> Result<OrderFound, Fault>
+    ensures read { IsRead S.Store store.old store.new result (λ found t. IsFoundForEstimate t order.now found) }
+    ensures fault { IfErr result MayFail }
+{
+    match store.account(order.account)? {
+        Some(account) => {
+            let found = find_of_account(alloc, store, order, &account)?;
+            Ok(found)
+        }
+        None => Ok(nothing()),
+    }
+}
+
+/// What the tables hold that decides on an order.
+pub(crate) fn find_for_order<S: Alter>(
+    alloc: Global,
+    store: &mut Store<S>,
+    order: &Order,
+) -> Result<OrderFound, Fault>
+    ensures read { IsRead S.Store store.old store.new result (λ found t. IsFoundForOrder t order.now found) }
+    ensures fault { IfErr result MayFail }
+{
+    let found = find_for_estimate(alloc, store, order)?;
+    let last_trade = store.last_trade_id()?;
+    Ok(OrderFound {
+        last_trade,
+        ..found
+    })
+}
+
+// The lots of rows.
+fn lots_from(alloc: Global, rows: &[HoldingRow]) -> Result<Vec<Lot>, AllocError>
+    ensures { IfOk result (λ lots. lots.items ≡ map lot_in rows.now) }
+{
+    let mut lots = Vec::new(alloc);
+    for row in rows {
+        lots.push(Lot {
+            trade: row.trade,
+            price: row.price,
+            qty: row.qty,
+            stamp: row.stamp,
+        })?;
+    }
+    Ok(lots)
+}
+
+/// The lots that an account holds of a symbol; lots that are those of no position are a fault of the store.
+pub(crate) fn find_position<S: Alter>(
+    alloc: Global,
+    store: &mut Store<S>,
+    account: Id,
+    symbol: &Symbol,
+) -> Result<Position, Fault>
+    ensures read { IsRead S.Store store.old store.new result (λ position t. HeldLots t account symbol.now position) }
+    ensures fault { IfErr result MayFail }
+{
+    let rows = store.lots_of(alloc, account, symbol)?;
+    let lots = lots_from(alloc, &rows)?;
+    match Position::from_lots(lots) {
+        Some(position) => Ok(position),
+        None => Err(Fault::Store),
+    }
+}

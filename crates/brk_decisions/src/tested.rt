@@ -1,0 +1,141 @@
+//! What an order of an account that is there is tested for.
+
+ghost use Rattle.std.specs.Prelude.{◌≡◌, IfErr, IfSome, option_map};
+ghost use Rattle.brk_books.specs.OrderPlans.{charge_in, last_price_in};
+ghost use Rattle.brk_books.specs.TradeReads.{band_in, permission_in};
+ghost use Rattle.brk_decisions.specs.Finds.{AreTested};
+ghost use Rattle.brk_model.specs.Joins.{security_in};
+ghost use Rattle.brk_model.specs.Orders.{permitted};
+ghost use Rattle.brk_model.specs.Run.{MayFail};
+ghost use Rattle.brk_ref.specs.Records.{customer_of, executor_of};
+ghost use Rattle.brk_store.specs.Holds.{IsRead};
+
+use brk_money::{Fault, Id, Price, Qty, Rate, TradeType};
+use brk_orders::Order;
+use brk_ref::{ChargeAmount, Customer, Exchange, Executor, Symbol, Tier, band_for, permitted};
+use brk_store::Store;
+use sqlite::Alter;
+use std::alloc::Global;
+
+/// What an order of an account that is there is tested for.
+#[derive(Clone, Copy)]
+pub struct Tested {
+    /// The last price of its security, where there is such a security.
+    pub last_price: Option<Price>,
+    /// Whether its executor may order for the account.
+    pub is_permitted: bool,
+    /// The charge of its type and the customer's tier, where there is one.
+    pub charge: Option<ChargeAmount>,
+    /// The rate of the band that its quantity is in, where there is one.
+    pub rate: Option<Rate>,
+}
+
+// The last price of a symbol.
+pub(crate) fn find_price<S: Alter>(
+    store: &mut Store<S>,
+    symbol: &Symbol,
+) -> Result<Option<Price>, Fault>
+    ensures read { IsRead S.Store store.old store.new result (λ price t. price ≡ last_price_in t symbol.now) }
+    ensures fault { IfErr result MayFail }
+{
+    match store.last_trade(symbol)? {
+        Some(last) => Ok(Some(last.price)),
+        None => Ok(None),
+    }
+}
+
+// Whether an executor may order for an account of a customer.
+fn find_permission<S: Alter>(
+    store: &mut Store<S>,
+    account: Id,
+    customer: &Customer,
+    executor: &Executor,
+) -> Result<bool, Fault>
+    ensures read { IsRead S.Store store.old store.new result (λ is_permitted t.
+        is_permitted ≡ permitted (customer_of customer.now) (permission_in t account executor.now.tax_id) (executor_of executor.now)) }
+    ensures fault { IfErr result MayFail }
+{
+    let permission = store.permission(account, &executor.tax_id)?;
+    Ok(permitted(customer, permission.as_slice(), executor))
+}
+
+// The charge of a type and a tier.
+fn find_charge<S: Alter>(
+    store: &mut Store<S>,
+    kind: TradeType,
+    tier: Tier,
+) -> Result<Option<ChargeAmount>, Fault>
+    ensures read { IsRead S.Store store.old store.new result (λ charge t. charge ≡ charge_in t kind tier) }
+    ensures fault { IfErr result MayFail }
+{
+    match store.charge(kind, tier)? {
+        Some(charge) => Ok(Some(charge.amount)),
+        None => Ok(None),
+    }
+}
+
+// The rate of a quantity for a tier, a type and an exchange.
+fn find_band_rate<S: Alter>(
+    alloc: Global,
+    store: &mut Store<S>,
+    tier: Tier,
+    kind: TradeType,
+    exchange: &Exchange,
+    qty: Qty,
+) -> Result<Option<Rate>, Fault>
+    ensures read { IsRead S.Store store.old store.new result (λ rate t. rate ≡ option_map (λ b. b.rate) (band_in t tier kind exchange.now qty)) }
+    ensures fault { IfErr result MayFail }
+{
+    let bands = store.bands_for(alloc, tier, kind, exchange)?;
+    Ok(band_for(&bands, qty))
+}
+
+// The rate of an order of a tier, where its security is listed.
+fn find_order_rate<S: Alter>(
+    alloc: Global,
+    store: &mut Store<S>,
+    order: &Order,
+    tier: Tier,
+) -> Result<Option<Rate>, Fault>
+    ensures read { IsRead S.Store store.old store.new result (λ rate t.
+        IfSome (security_in t order.now.symbol) (λ s. rate ≡ option_map (λ b. b.rate) (band_in t tier order.now.kind s.exchange order.now.qty))) }
+    ensures fault { IfErr result MayFail }
+{
+    match store.security(&order.symbol)? {
+        Some(security) => {
+            let rate = find_band_rate(
+                alloc,
+                store,
+                tier,
+                order.kind,
+                &security.exchange,
+                order.qty,
+            )?;
+            Ok(rate)
+        }
+        None => Ok(None),
+    }
+}
+
+// What an order of an account is tested for.
+pub(crate) fn find_tested<S: Alter>(
+    alloc: Global,
+    store: &mut Store<S>,
+    order: &Order,
+    customer: &Customer,
+) -> Result<Tested, Fault>
+    ensures read { IsRead S.Store store.old store.new result (λ tested t. AreTested t order.now customer.now tested) }
+    ensures fault { IfErr result MayFail }
+{
+    let tier = customer.tier;
+    let last_price = find_price(store, &order.symbol)?;
+    let is_permitted = find_permission(store, order.account, customer, &order.executor)?;
+    let charge = find_charge(store, order.kind, tier)?;
+    let rate = find_order_rate(alloc, store, order, tier)?;
+    Ok(Tested {
+        last_price,
+        is_permitted,
+        charge,
+        rate,
+    })
+}
