@@ -19,16 +19,23 @@ REFUSALS = {
     1: "no such account",
     2: "no such customer",
     3: "no such broker",
+    4: "no such security",
+    5: "no such trade",
+    6: "neither the customer nor anybody that a permission names",
     7: "no such type of trade",
     8: "a quantity is out of form or limits",
     9: "a price is out of form or limits",
+    10: "no charge for the type and the tier",
+    11: "no band has the quantity",
     12: "no such tax rate",
+    13: "the trade's status is another one",
     14: "out of range",
     15: "it is there already",
     16: "the band meets another one",
     17: "the customer's tax rates would come to more than the whole",
     18: "a field is out of form, or the kind or the number of fields is wrong",
     19: "another row is kept under the key",
+    20: "too many ticks",
     21: "no later stamp is left",
 }
 
@@ -48,6 +55,8 @@ ROWS = [
     ("charge", "TMB", 1, amount(500)),
     ("band", 1, "TMB", "NYSE", 1, 999_999, 100),
     ("band", 1, "TMB", "NYSE", 1000, 2000, 50),
+    ("order", 100, "TMB", "ABC", 100, "", "cash", "fifo", 'Ann "Nan"', "Lee", "T10"),
+    ("cancel", 1),
 ]
 
 
@@ -75,10 +84,10 @@ def told(answer):
     if answer is None:
         return "not answered"
     word, *fields = answer
-    if word == "ok":
-        return f"accepted at {fields[0]}"
-    if word == "again":
-        return f"repeated, first accepted at {fields[0]}"
+    if word in ("ok", "again"):
+        stamp, *numbers = fields
+        accepted = "accepted" if word == "ok" else "repeated, first accepted"
+        return " ".join([f"{accepted} at {stamp}", *numbers])
     return f"refused with {','.join(fields)}: {REFUSALS.get(int(fields[0]), 'see docs/FORMATS.md')}"
 
 
