@@ -593,6 +593,7 @@ STATEMENTS = {
         (delete, 'RemoveRequest', 'request', [('TR_T_ID', 1)]),
         (select, 'TradeById', 'trade', [('T_ID', 1)], [('T_ID', False)]),
         (select, 'LastTradeId', 'trade', [], [('T_ID', True)], ('lit', 1), ['T_ID']),
+        (select, 'SubmittedTrades', 'trade', [('T_ST_ID', 1)], [('T_ID', False)]),
         (select, 'RequestsOf', 'request', [('TR_S_SYMB', 1)], [('TR_T_ID', False)]),
         (select, 'LastTradeBySymbol', 'last_trade', [('LT_S_SYMB', 1)], [('LT_S_SYMB', False)]),
         (update, 'SetLastTrade', 'last_trade', [('LT_DTS', 1), ('LT_PRICE', 2), ('LT_VOL', 3)], [('LT_S_SYMB', 4)]),

@@ -2,4 +2,5 @@ pub mod Seen
 pub mod Leaving
 pub mod Kept
 pub mod Calling
+pub mod Asked
 pub mod Running

@@ -1,9 +1,13 @@
 -- What answers and outcomes are in the abstract brokerage.
 use Rattle.std.specs.Prelude.{Result, Ok, Err, string_bytes}
 use Rattle.brk_money.specs.declared.fault.Fault.{Fault}
+use Rattle.brk_money.specs.declared.refusal.Refusal.{Refusal}
 use Rattle.brk_model.specs.Commands.{Answer, Done, Again, Refused}
+use Rattle.brk_model.specs.Queries as model
 use Rattle.brk_model.specs.Run as run
 use Rattle.brk_trade.specs.Replies.{reply_of}
+use Rattle.brk_view.specs.Views.{fields_of}
+use Rattle.brk_view.specs.declared.view.View.{View}
 use Rattle.brk_desk.specs.declared.answer.Answer as desk
 use Rattle.brk_desk.specs.declared.answer.Answer.TheVariants as given
 use Rattle.brk_desk.specs.declared.call.Outcome.{Outcome}
@@ -16,12 +20,25 @@ answer_of (given.Refused refusal) = Refused refusal
 
 abbrev pub outcome_of : Outcome → run.Outcome
 outcome_of (came.Did answer) = run.Did (answer_of answer)
+outcome_of (came.Saw view) = run.Saw (fields_of view)
+outcome_of (came.NoView refusal) = run.NoView refusal
 outcome_of (came.Failed fault) = run.Failed fault
 
--- what came of a call is its answer or its fault
+-- what a query is answered with: its view as records of texts, or the refusal
+abbrev pub seen_of : Result View Refusal → Result model.View Refusal
+seen_of (Ok view) = Ok (fields_of view)
+seen_of (Err refusal) = Err refusal
+
+-- what came of a command is its answer or its fault
 abbrev pub outcome_for : Result desk.Answer Fault → Outcome
 outcome_for (Ok answer) = came.Did answer
 outcome_for (Err fault) = came.Failed fault
+
+-- what came of a query is its view, its refusal or its fault
+abbrev pub outcome_seen : Result (Result View Refusal) Fault → Outcome
+outcome_seen (Ok (Ok view)) = came.Saw view
+outcome_seen (Ok (Err refusal)) = came.NoView refusal
+outcome_seen (Err fault) = came.Failed fault
 
 -- nothing was booked: the call was refused or failed, or had been answered before
 abbrev pub BookedNothing : Result desk.Answer Fault → Type 0

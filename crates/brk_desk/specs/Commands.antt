@@ -5,6 +5,7 @@ use Rattle.brk_model.specs.Records as records
 use Rattle.brk_model.specs.Run as run
 use Rattle.brk_ref.specs.Records.{key_of}
 use Rattle.brk_ref.specs.declared.key.Key.{Key}
+use Rattle.brk_view.specs.Queries.{query_of}
 use Rattle.brk_desk.specs.declared.call.Call.{Call}
 use Rattle.brk_desk.specs.declared.call.Call.TheVariants as call
 
@@ -15,3 +16,4 @@ key_for key = option_map key_of key
 -- a call at its moment
 abbrev pub call_of : ℕ × Call → ℕ × run.Call
 call_of (now, call.Do command key) = (now, run.Do (command_of command) (key_for key))
+call_of (now, call.Ask query) = (now, run.Ask (query_of query))

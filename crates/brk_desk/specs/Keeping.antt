@@ -4,15 +4,20 @@ use Rattle.sqlite_trees.specs.declared.store.Store.{Ghosts}
 use Rattle.sqlite.specs.Held.{Held, state}
 use Rattle.sqlite.specs.State.{HasCleanDisk}
 use Rattle.brk_money.specs.declared.fault.Fault.{Fault}
+use Rattle.brk_money.specs.declared.refusal.Refusal.{Refusal}
+use Rattle.brk_model.specs.Ask.{ask}
 use Rattle.brk_model.specs.Base.{Base}
 use Rattle.brk_model.specs.Sheets.{sheets}
 use Rattle.brk_model.specs.Commands.{Command}
 use Rattle.brk_model.specs.Records.{Key}
 use Rattle.brk_model.specs.Keyed.{keyed_step}
+use Rattle.brk_model.specs.Queries.{Query}
 use Rattle.brk_model.specs.Run.{MayFail, Run}
 use Rattle.brk_books.specs.Books.{IsBooks}
 use Rattle.brk_store.specs.Holds.{Holds, IsSame}
-use Rattle.brk_desk.specs.Answers.{BookedNothing, answer_of, outcome_for, outcome_of}
+use Rattle.brk_view.specs.Queries.{query_of}
+use Rattle.brk_view.specs.declared.view.View.{View}
+use Rattle.brk_desk.specs.Answers.{BookedNothing, answer_of, outcome_for, outcome_of, outcome_seen, seen_of}
 use Rattle.brk_commands.specs.Commands.{command_of}
 use Rattle.brk_desk.specs.Commands.{call_of, key_for}
 use Rattle.brk_desk.specs.declared.answer.Answer as desk
@@ -45,10 +50,23 @@ pub record IsCalled {S : Type 0} (g : Ghosts S) (old new : Held S) (now : ℕ) (
   -- a disk that returned what was written had done so before
   pub clean : HasCleanDisk (state g new) → HasCleanDisk (state g old)
 
+-- a query is answered with its view of each base whose books were kept, or fails; nothing is changed, whatever the answer; all of it as far as the disk returns what was written
+pub record IsAsked {S : Type 0} (g : Ghosts S) (old new : Held S) (query : Query) (result : Result (Result View Refusal) Fault) : Type 0 where
+  pub answered : HasCleanDisk (state g new) → IfOk result (λ seen. (base : Base) → KeepsBase g old base → ask base query ≡ seen_of seen)
+  pub kept : StillKeeps g old new
+  -- it fails for want of memory or for its store
+  pub fault : IfErr result MayFail
+  -- the whole database is as it was
+  pub same : HasCleanDisk (state g new) → IsTrue (state g new).is_open → IsSame (state g old) (state g new)
+  -- a disk that returned what was written had done so before
+  pub clean : HasCleanDisk (state g new) → HasCleanDisk (state g old)
+
 -- a call at a moment has this outcome
 abbrev pub IsMade : {S : Type 0} → Ghosts S → Held S → Held S → ℕ → Call → Outcome → Type 0
 IsMade g old new now (call.Do command key) outcome =
     (result : Result desk.Answer Fault) × (outcome ≡ outcome_for result) × IsCalled g old new now (command_of command) (key_for key) result
+IsMade g old new now (call.Ask query) outcome =
+    (result : Result (Result View Refusal) Fault) × (outcome ≡ outcome_seen result) × IsAsked g old new (query_of query) result
 
 -- calls at their moments have these outcomes, one each: over each base whose books were kept those of a run, and the books of the base that it leads to are kept
 pub record IsRun {S : Type 0} (g : Ghosts S) (old new : Held S) (calls : List (ℕ × Call)) (outcomes : List Outcome) : Type 0 where

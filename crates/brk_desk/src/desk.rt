@@ -1,16 +1,18 @@
 use crate::answer::Answer;
+use crate::asking::look;
 use crate::booking::book;
 use crate::call::{Call, Outcome};
 use brk_commands::Command;
-use brk_money::{Fault, Stamp};
+use brk_money::{Fault, Planned, Stamp};
 use brk_ref::Key;
 use brk_store::Store;
+use brk_view::{Query, View};
 use sqlite::Alter;
 use std::alloc::Global;
 use std::marker::Model;
 
-/// A desk over a store: it decides on commands and books those that it accepts. Contracts see it as what its store
-/// holds.
+/// A desk over a store: it decides on commands, books those that it accepts, and answers queries. Contracts see it as
+/// what its store holds.
 pub struct Desk<S: Alter> {
     store: Store<S>,
 }
@@ -36,9 +38,10 @@ impl<S: Alter> Desk<S> {
     ghost use Rattle.std.specs.Option.{option_copied};
     ghost use Rattle.brk_commands.specs.Commands.{command_of};
     ghost use Rattle.brk_desk.specs.Commands.{key_for};
-    ghost use Rattle.brk_desk.specs.Keeping.{IsCalled, IsMade, IsRun};
+    ghost use Rattle.brk_desk.specs.Keeping.{IsAsked, IsCalled, IsMade, IsRun};
     ghost use Rattle.brk_desk.specs.declared.call.Outcome as came;
     ghost use Rattle.brk_money.specs.declared.fault.Fault.TheVariants.{Memory};
+    ghost use Rattle.brk_view.specs.Queries.{query_of};
 
     /// A desk that keeps its books in a store, which `Store::create` made or an earlier desk gave back.
     pub fn new(store: Store<S>) -> Desk<S>
@@ -63,9 +66,17 @@ impl<S: Alter> Desk<S> {
         book(alloc, &mut self.store, now, command, key)
     }
 
-    /// Makes the calls in turn, each at its moment, and adds an outcome for each; a call that is refused or fails
-    /// changes nothing, and the next one is made. The room for all outcomes is made before the first call: the only
-    /// fault is want of memory for them, and then no call was made.
+    /// Answers a query with its view of the books, or says why it is refused. Nothing is changed, whatever the answer;
+    /// the only faults are want of memory and the store's.
+    pub fn ask(&mut self, alloc: Global, query: &Query) -> Planned<View>
+        ensures asked { IsAsked S.Store self.old self.new (query_of query.now) result }
+    {
+        look(alloc, &mut self.store, query)
+    }
+
+    /// Makes the calls in turn, each at its moment, and adds an outcome for each; a query, and a call that is refused
+    /// or fails, changes nothing, and the next one is made. The room for all outcomes is made before the first call: the
+    /// only fault is want of memory for them, and then no call was made.
     pub fn run(
         &mut self,
         alloc: Global,
@@ -89,10 +100,11 @@ impl<S: Alter> Desk<S> {
     fn outcome(&mut self, alloc: Global, now: Stamp, call: &Call) -> Outcome
         ensures made { IsMade S.Store self.old self.new now call.now result }
     {
-        let Call::Do(command, key) = call;
-        match self.call(alloc, now, command, key.as_ref()) {
-            Ok(answer) => Outcome::Did(answer),
-            Err(fault) => Outcome::Failed(fault),
+        match call {
+            Call::Do(command, key) => {
+                Outcome::of_command(self.call(alloc, now, command, key.as_ref()))
+            }
+            Call::Ask(query) => Outcome::of_query(self.ask(alloc, query)),
         }
     }
 

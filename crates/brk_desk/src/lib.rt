@@ -1,7 +1,8 @@
-//! The desk: commands booked as they are decided on, with or without keys.
+//! The desk: commands booked as they are decided on, with or without keys, and queries answered.
 #![tactic(auto)]
 
 pub mod answer;
+mod asking;
 pub mod beginning;
 mod booking;
 pub mod call;
@@ -11,5 +12,6 @@ mod keeping;
 
 pub use answer::Answer;
 pub use brk_commands::{Command, line_text, parse_row, row_text};
+pub use brk_view::{Query, View, parse_query, view_fields};
 pub use call::{Call, Outcome};
 pub use desk::Desk;

@@ -8,8 +8,8 @@ use crate::terms::{
     read_security, read_tax_rate,
 };
 use crate::trades::{
-    read_last_trade, read_last_trade_id, read_lots_of, read_requests_of, read_summaries_of,
-    read_trade,
+    read_last_trade, read_last_trade_id, read_lots_of, read_requests_of, read_submitted_trades,
+    read_summaries_of, read_trade,
 };
 use brk_money::{Fault, Id, Stamp, TradeType};
 use brk_ref::{
@@ -51,7 +51,8 @@ impl<S: Alter> Store<S> {
     ghost use Rattle.brk_money.specs.declared.fault.Condition.TheVariants.{NotEmpty};
     ghost use Rattle.brk_money.specs.declared.fault.Fault.TheVariants as fault;
     ghost use Rattle.brk_model.specs.Run.{MayFail};
-    ghost use Rattle.brk_money.specs.Kinds.{same_type};
+    ghost use Rattle.brk_money.specs.Kinds.{same_status, same_type};
+    ghost use Rattle.brk_money.specs.declared.status.Status.TheVariants.{Submitted};
     ghost use Rattle.brk_ref.specs.Records.{band_of, charge_of, customer_of, customer_tax_of, kept_of, last_trade_of, permission_of, security_of, tax_of};
     ghost use Rattle.brk_tables.specs.Records.{account_row_of, broker_row_of};
     ghost use Rattle.brk_trade.specs.Changes.{after_changes};
@@ -218,6 +219,14 @@ impl<S: Alter> Store<S> {
         ensures fault { OnErr result (result ≡ Err fault.Store) }
     {
         read_last_trade_id(&mut self.conn)
+    }
+
+    /// The trades that are at the market, by rising id.
+    pub fn submitted_trades(&mut self, alloc: Global) -> Result<Vec<TradeRow>, Fault>
+        ensures read { IsRead S.Store self.old self.new result (λ all t. map trade_row_of all.items ≡ filter (λ r. same_status r.status Submitted) t.trades) }
+        ensures fault { IfErr result MayFail }
+    {
+        read_submitted_trades(&mut self.conn, alloc)
     }
 
     /// The requests of a symbol, by rising trade.

@@ -1,7 +1,9 @@
 //! Reads of trades and of what follows from them, each in a transaction of its own, which is rolled back.
 
 ghost use Rattle.std.specs.Prelude.{◌≡◌, ◌==◌, ◌&&◌, Err, IfErr, OnErr, bytes_eq, false, filter, find, map, option_map, reverse, slice_get};
+ghost use Rattle.brk_money.specs.Kinds.{same_status};
 ghost use Rattle.brk_money.specs.declared.fault.Fault.TheVariants.{Store};
+ghost use Rattle.brk_money.specs.declared.status.Status.TheVariants.{Submitted};
 ghost use Rattle.brk_model.specs.Run.{MayFail};
 ghost use Rattle.brk_ref.specs.Records.{last_trade_of};
 ghost use Rattle.brk_trade.specs.Rows.{holding_row_of, oldest_lots_first, request_row_of, summary_row_of, trade_row_of};
@@ -36,6 +38,20 @@ pub(crate) fn read_last_trade_id<S: Alter>(conn: &mut Connection<S>) -> Result<O
     let _settled = conn.is_autocommit();
     let mut tx = conn.transaction();
     brk_trades::last_trade_id(&mut tx)
+}
+
+pub(crate) fn read_submitted_trades<S: Alter>(
+    conn: &mut Connection<S>,
+    alloc: Global,
+) -> Result<Vec<TradeRow>, Fault>
+    requires { conn.old.in_transaction ≡ false }
+    ensures mode { conn.new.in_transaction ≡ false }
+    ensures read { IsRead S.Store conn.old conn.new result (λ all t. map trade_row_of all.items ≡ filter (λ r. same_status r.status Submitted) t.trades) }
+    ensures fault { IfErr result MayFail }
+{
+    let _settled = conn.is_autocommit();
+    let mut tx = conn.transaction();
+    brk_trades::submitted_trades(&mut tx, alloc)
 }
 
 pub(crate) fn read_requests_of<S: Alter>(

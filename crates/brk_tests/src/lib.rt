@@ -12,7 +12,15 @@ mod keys;
 #[cfg(test)]
 mod limits;
 #[cfg(test)]
+mod order_batches;
+#[cfg(test)]
+mod order_fields;
+#[cfg(test)]
 mod order_forms;
+#[cfg(test)]
+mod order_refusals;
+#[cfg(test)]
+mod orders;
 #[cfg(test)]
 mod queries;
 #[cfg(test)]
@@ -21,3 +29,5 @@ mod refusals;
 mod row_texts;
 #[cfg(test)]
 mod settings;
+#[cfg(test)]
+mod triggers;

@@ -7,6 +7,7 @@ pub mod AddRequest
 pub mod RemoveRequest
 pub mod TradeById
 pub mod LastTradeId
+pub mod SubmittedTrades
 pub mod RequestsOf
 pub mod LastTradeBySymbol
 pub mod LotsOf

@@ -6,6 +6,9 @@ use Rattle.sqlite_value.specs.declared.value.Value.TheVariants.{Text as Words}
 use Rattle.sqlite_value.specs.Order.{Row, column}
 use Rattle.sqlite_tied.proofs.RuleLemmas.{and_true}
 use Rattle.sqlite.specs.State.{State, Shown}
+use Rattle.brk_money.specs.Kinds.{same_status, status_code}
+use Rattle.brk_money.specs.declared.status.Status.{Status}
+use Rattle.brk_money.specs.declared.status.Status.TheVariants.{Completed, Active, Submitted, Pending, Canceled}
 use Rattle.brk_model.specs.Tables.{TradeRow, RequestRow, LastTradeRow}
 use Rattle.brk_model.specs.Keys.{trade_key, request_key, last_trade_key}
 use Rattle.brk_rows.specs.Desk.{Tells}
@@ -19,6 +22,7 @@ use Rattle.brk_tables.proofs.Order.{key_total}
 use Rattle.brk_tables.proofs.Tests.{same_number, same_text}
 use Rattle.brk_trades.proofs.TradeById
 use Rattle.brk_trades.proofs.LastTradeId
+use Rattle.brk_trades.proofs.SubmittedTrades
 use Rattle.brk_trades.proofs.RequestsOf
 use Rattle.brk_trades.proofs.LastTradeBySymbol
 
@@ -42,6 +46,22 @@ tells_last_id old new rows shown = λ t tree h.
     twice : (xs : List TradeRow) → map (λ r. id_cells r.id) xs ≡ map id_cells (map (λ r. r.id) xs)
     twice [] = refl
     twice (x ∷ xs) = ap (λ l. id_cells x.id ∷ l) (twice xs)
+
+-- a code is that of what is at the market where the status is
+at_market : (s : Status) → bytes_eq (status_code s) (status_code Submitted) ≡ same_status s Submitted
+at_market Completed = refl
+at_market Active = refl
+at_market Submitted = refl
+at_market Pending = refl
+at_market Canceled = refl
+
+pub tells_submitted : (old new : State) (rows : List Row) → Shown SubmittedTrades.statement (Words (status_code Submitted) ∷ []) old new rows → Tells desk (λ t. rows ≡ map trade_cells (filter (λ r. same_status r.status Submitted) t.trades)) old.now
+tells_submitted old new rows shown =
+    tells_rising desk Trades SubmittedTrades.statement (Words (status_code Submitted) ∷ []) (read SubmittedTrades.statement) SubmittedTrades.terms SubmittedTrades.project SubmittedTrades.order SubmittedTrades.paging SubmittedTrades.names SubmittedTrades.understood_as
+    (λ (r : TradeRow). same_status r.status Submitted)
+    (λ tree r x e. let a : column r 3 ≡ Words (status_code x.status) = ap (λ row. column row 2) e in rw (a, same_text (status_code x.status) (status_code Submitted), at_market x.status) (and_true _))
+    trade_cells (λ tree r x e. e) (order Trades) (key_total trade_key)
+    (λ tree a b x y e f. let p : column a 0 ≡ nat x.id = cc in let q : column b 0 ≡ nat y.id = cc in rw (p, q) refl) old new rows shown (λ x y. refl)
 
 pub tells_requests : (old new : State) (symbol : List ℕ) (rows : List Row) → Shown RequestsOf.statement (Words symbol ∷ []) old new rows → Tells desk (λ t. rows ≡ map request_cells (filter (λ r. bytes_eq r.symbol symbol) t.requests)) old.now
 tells_requests old new symbol rows shown =

@@ -1,8 +1,11 @@
-ghost use Rattle.std.specs.Prelude.{◌≡◌, ◌==◌, ◌∷◌, [], Err, IfOk, OnErr, find, option_map, pos, reverse, slice_get};
+ghost use Rattle.std.specs.Prelude.{◌≡◌, ◌==◌, ◌∷◌, [], Err, IfErr, IfOk, OnErr, filter, find, map, option_map, pos, reverse, slice_get};
+ghost use Rattle.brk_money.specs.Kinds.{same_status};
 ghost use Rattle.brk_money.specs.declared.fault.Fault.TheVariants.{Store};
+ghost use Rattle.brk_money.specs.declared.status.Status.TheVariants.{Submitted};
 ghost use Rattle.sqlite.specs.Held.{state};
 ghost use Rattle.brk_rows.specs.Desk.{Turns};
 ghost use Rattle.brk_rows.specs.Model.{IsStep, Looks};
+ghost use Rattle.brk_model.specs.Run.{MayFail};
 ghost use Rattle.brk_tables.specs.Cells.{nat, trade_cells};
 ghost use Rattle.brk_tables.specs.Desk.{desk};
 ghost use Rattle.brk_trade.specs.Changes.{with_status, with_trade};
@@ -20,6 +23,7 @@ use brk_tables::values::{
 };
 use brk_trade::TradeRow;
 use sqlite::{Alter, Row, Transaction};
+use std::alloc::Global;
 
 /// Adds a trade, whose id is new.
 pub fn add_trade<S: Alter>(tx: &mut Transaction<'_, S>, trade: &TradeRow) -> Result<(), Fault>
@@ -142,4 +146,32 @@ pub fn last_trade_id<S: Alter>(tx: &mut Transaction<'_, S>) -> Result<Option<Id>
 {
     let rows = select(tx, "SELECT T_ID FROM TRADE ORDER BY T_ID DESC LIMIT 1", &[])?;
     first_id(&rows)
+}
+
+fn all_trades(alloc: Global, rows: &[Row]) -> Result<Vec<TradeRow>, Fault>
+    ensures value { IfOk result (λ all. map (λ r. trade_cells (trade_row_of r)) all.items ≡ rows.now) }
+    ensures fault { IfErr result MayFail }
+{
+    let mut all = Vec::new(alloc);
+    for row in rows {
+        all.push(trade_in(row)?)?;
+    }
+    Ok(all)
+}
+
+/// The trades that are at the market, by rising id.
+pub fn submitted_trades<S: Alter>(
+    tx: &mut Transaction<'_, S>,
+    alloc: Global,
+) -> Result<Vec<TradeRow>, Fault>
+    ensures same_reference { tx.new.conn.ghost_name ≡ tx.old.conn.ghost_name }
+    ensures step { IsStep (state S.Store tx.old.conn.now) (state S.Store tx.new.conn.now) result (λ all. Looks desk (λ t. map trade_row_of all.items ≡ filter (λ r. same_status r.status Submitted) t.trades)) }
+    ensures fault { IfErr result MayFail }
+{
+    let rows = select(
+        tx,
+        "SELECT T_ID, T_DTS, T_ST_ID, T_TT_ID, T_IS_CASH, T_S_SYMB, T_QTY, T_BID_PRICE, T_CA_ID, T_EXEC_NAME, T_TRADE_PRICE, T_CHRG, T_COMM, T_TAX, T_LIFO FROM TRADE WHERE T_ST_ID = ?1 ORDER BY T_ID",
+        &[status_value(Status::Submitted)],
+    )?;
+    all_trades(alloc, &rows)
 }
