@@ -26,7 +26,6 @@ pub mod Trades
 pub mod TradeKeepers
 pub mod Planning
 pub mod TradePlanning
-pub mod OrderPlanning
 pub mod Holding
 pub mod OrderFinding
 pub mod OrderDoing

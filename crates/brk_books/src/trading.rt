@@ -1,40 +1,25 @@
-//! What is planned of orders, cancels and feeds from the tables is what the definitions say.
+//! What is planned of cancels and feeds from the tables is what the definitions say.
 
-ghost use Rattle.std.specs.Prelude.{◌+◌, ◌≡◌, ◌≤◌, ℕ, Err, List, None, Some, is_some, not, true};
+ghost use Rattle.std.specs.Prelude.{◌+◌, ◌≡◌, ◌≤◌, ℕ, Err, List, None, Some, is_some, true};
 ghost use Rattle.std.specs.List.{AllByRecursion};
-ghost use Rattle.brk_money.specs.Kinds.{is_market};
 ghost use Rattle.brk_money.specs.Moments.{last_stamp, stamp_after};
 ghost use Rattle.brk_money.specs.Spelling.{Text};
 ghost use Rattle.brk_money.specs.declared.refusal.Refusal.{Refusal};
 ghost use Rattle.brk_model.specs.Base.{Base, security_with};
-ghost use Rattle.brk_model.specs.Commands.{CancelTrade, CanceledTrade, Command, FeedTicks, Order, Ordered, PlaceOrder, Tick, Ticked};
+ghost use Rattle.brk_model.specs.Commands.{CancelTrade, CanceledTrade, Command, FeedTicks, Tick, Ticked};
 ghost use Rattle.brk_model.specs.Joins.{trade_in};
-ghost use Rattle.brk_model.specs.Orders.{estimate, first_status};
 ghost use Rattle.brk_model.specs.Sheets.{sheets};
 ghost use Rattle.brk_model.specs.Step.{step};
 ghost use Rattle.brk_model.specs.Tests.{first_refusal, refusal_of};
 ghost use Rattle.brk_books.specs.Books.{IsBooks};
 ghost use Rattle.brk_books.specs.Plans.{IsDone};
 ghost use Rattle.brk_books.specs.TradeReads.{volume_in};
-ghost use Rattle.brk_books.specs.TradeTests.{IsEstimatedBy, IsReadForOrder, OrderReads, broker_read, cancel_tests, feed_tests, order_tests, qty_fed, row_read};
-ghost use Rattle.brk_books.specs.Trading.{cancel_rows, fed_trades, feed_rows, order_rows};
+ghost use Rattle.brk_books.specs.TradeTests.{cancel_tests, feed_tests, qty_fed};
+ghost use Rattle.brk_books.specs.Trading.{cancel_rows, fed_trades, feed_rows};
 
 /// A command that is refused steps to its refusal.
 pub fn refused_commands_step_to_refusals()
     ensures { (base : Base) (now : ℕ) (command : Command) (refusal : Refusal) → refusal_of base now command ≡ Some refusal → step base now command ≡ Err refusal }
-{}
-
-/// An order is refused by what was read for it as by the base; where it is not, it is done by the rows
-/// that follow from what was read, and estimated by it.
-pub fn orders_follow_from_the_tables()
-    ensures first { (base : Base) (o : Order) (reads : OrderReads) (now : ℕ) → IsBooks base → IsReadForOrder (sheets base) o reads → now ≤ last_stamp
-        → first_refusal (order_tests o reads now) ≡ refusal_of base now (PlaceOrder o) }
-    ensures done { (base : Base) (o : Order) (reads : OrderReads) (now stamp : ℕ) → IsBooks base → IsReadForOrder (sheets base) o reads → now ≤ last_stamp
-        → first_refusal (order_tests o reads now) ≡ None → stamp_after reads.last now ≡ Some stamp
-        → IsDone base now (PlaceOrder o) stamp (Ordered stamp (reads.trades + 1) (first_status o.kind) (estimate base o))
-        (order_rows (row_read stamp o reads) (not (is_market o.kind)) (broker_read reads)) }
-    ensures estimated { (base : Base) (o : Order) (reads : OrderReads) (now : ℕ) → IsBooks base → IsReadForOrder (sheets base) o reads → now ≤ last_stamp
-        → first_refusal (order_tests o reads now) ≡ None → IsEstimatedBy base (sheets base) o reads }
 {}
 
 /// A cancel is refused by the row of its trade as by the base; where it is not, its rows do it.

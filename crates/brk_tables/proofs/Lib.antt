@@ -2,7 +2,6 @@ pub mod Order
 pub mod Which
 pub mod Wide
 pub mod Tests
-pub mod Columns
 pub mod Unique
 pub mod Places
 pub mod Back
