@@ -2,9 +2,13 @@
 #![tactic(auto)]
 
 #[cfg(test)]
+mod asks;
+#[cfg(test)]
 mod batches;
 #[cfg(test)]
 mod calls;
+#[cfg(test)]
+mod decisions;
 #[cfg(test)]
 mod desks;
 #[cfg(test)]
@@ -18,9 +22,15 @@ mod order_fields;
 #[cfg(test)]
 mod order_forms;
 #[cfg(test)]
+mod order_lines;
+#[cfg(test)]
+mod order_plans;
+#[cfg(test)]
 mod order_refusals;
 #[cfg(test)]
 mod orders;
+#[cfg(test)]
+mod plans;
 #[cfg(test)]
 mod queries;
 #[cfg(test)]
@@ -29,5 +39,9 @@ mod refusals;
 mod row_texts;
 #[cfg(test)]
 mod settings;
+#[cfg(test)]
+mod told;
+#[cfg(test)]
+mod trade_tables;
 #[cfg(test)]
 mod triggers;
