@@ -1,4 +1,7 @@
+pub mod Calendar
+pub mod DayTexts
 pub mod Digits
+pub mod Padded
 pub mod Plain
 pub mod Printed
 pub mod Spellings

@@ -58,6 +58,12 @@ padded_decimal places n = replicate (places - length (decimal n)) 48 ++ decimal 
 abbrev pub date_text : Civil → Text
 date_text d = padded_decimal 4 d.year ++ 45 ∷ padded_decimal 2 d.month ++ 45 ∷ padded_decimal 2 d.day
 
+-- the digits of a year, a month and a day, for the contracts of private helpers
+abbrev pub date_digits : ℕ → ℕ → ℕ → Text
+date_digits y m d =
+    (48 + y / 100 / 10) ∷ (48 + y / 100 % 10) ∷ (48 + y % 100 / 10) ∷ (48 + y % 100 % 10) ∷ 45 ∷ (48 + m / 10) ∷ (48 + m % 10) ∷ 45 ∷ (48 + d / 10)
+    ∷ (48 + d % 10) ∷ []
+
 -- the text of a day
 abbrev pub day_text : ℕ → Text
 day_text day = date_text (civil_of day)

@@ -4,6 +4,8 @@
 
 pub mod amounts;
 pub mod cents;
+pub mod dates;
+pub mod day;
 pub mod fault;
 pub mod id;
 pub mod price;
@@ -21,6 +23,8 @@ pub mod wide;
 
 pub use amounts::{commission, half_up, tax};
 pub use cents::{Cents, parse_cents};
+pub use dates::{parse_day, write_day};
+pub use day::{Day, day_of};
 pub use fault::{Condition, Fault};
 pub use id::Id;
 pub use price::Price;

@@ -1,6 +1,7 @@
 use crate::{
-    Cents, Id, Limit, Price, Qty, Rate, Refusal, Stamp, Status, TaxRate, TaxStatus, Wide,
-    commission, half_up, parse_cents, parse_whole, stamp_after, tax, write_cents,
+    Cents, Day, Id, Limit, Price, Qty, Rate, Refusal, Stamp, Status, TaxRate, TaxStatus, Wide,
+    commission, day_of, half_up, parse_cents, parse_day, parse_whole, stamp_after, tax,
+    write_cents, write_day,
 };
 use std::test::Fail;
 
@@ -121,5 +122,74 @@ fn taxes_a_gain_once(rt: HostRuntime) -> Result<(), Fail> {
     let loss = Cents::new(-34_000).ok_or("loss")?;
     assert_eq!(rt; tax(gain, rates).get(), 6800);
     assert_eq!(rt; tax(loss, rates).get(), 0);
+    Ok(())
+}
+
+#[test]
+fn knows_the_days_of_the_calendar(rt: HostRuntime) -> Result<(), Fail> {
+    let days: [(i32, &[u8]); 16] = [
+        (0, b"1970-01-01"),
+        (30, b"1970-01-31"),
+        (31, b"1970-02-01"),
+        (364, b"1970-12-31"),
+        (365, b"1971-01-01"),
+        (789, b"1972-02-29"),
+        (790, b"1972-03-01"),
+        (10_956, b"1999-12-31"),
+        (11_016, b"2000-02-29"),
+        (11_017, b"2000-03-01"),
+        (19_782, b"2024-02-29"),
+        (19_783, b"2024-03-01"),
+        (47_540, b"2100-02-28"),
+        (47_541, b"2100-03-01"),
+        (157_113, b"2400-02-29"),
+        (2_932_896, b"9999-12-31"),
+    ];
+    for (number, text) in days {
+        let day = Day::new(number).ok_or("a day")?;
+        let mut written = Vec::new(rt.alloc());
+        write_day(&mut written, day)?;
+        assert!(rt; written.as_slice() == text);
+        assert!(rt; parse_day(text) == Some(day), "of {number}");
+    }
+    Ok(())
+}
+
+#[test]
+fn refuses_other_texts_for_days(rt: HostRuntime) {
+    let texts: [&[u8]; 18] = [
+        b"",
+        b"1969-12-31",
+        b"2023-02-29",
+        b"2100-02-29",
+        b"2024-04-31",
+        b"2024-13-01",
+        b"2024-00-10",
+        b"2024-01-00",
+        b"2024-3-01",
+        b"2024-03-1",
+        b"2024/03/01",
+        b"20240301",
+        b"+2024-03-01",
+        b"02024-03-01",
+        b"10000-01-01",
+        b"2024-03-01 ",
+        b"2024-03-0a",
+        b"0000-01-01",
+    ];
+    for text in texts {
+        assert!(rt; parse_day(text).is_none(), "of {text:?}");
+    }
+}
+
+#[test]
+fn counts_days_up_to_the_last(rt: HostRuntime) -> Result<(), Fail> {
+    let stamp = |millis: i64| Stamp::new(millis).ok_or("a stamp");
+    assert!(rt; day_of(stamp(86_399_999)?) == Day::new(0).ok_or("a day")?);
+    assert!(rt; day_of(stamp(86_400_000)?) == Day::new(1).ok_or("a day")?);
+    assert!(rt; day_of(stamp(Stamp::GREATEST)?).get() == Day::GREATEST);
+    let early = Day::new(Day::GREATEST - 2).ok_or("a day")?;
+    assert!(rt; early.later(2) == Day::new(Day::GREATEST));
+    assert!(rt; early.later(3).is_none());
     Ok(())
 }

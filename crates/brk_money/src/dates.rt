@@ -1,0 +1,123 @@
+ghost use Rattle.std.specs.Prelude.{◌≡◌, ◌≢◌, ◌++◌, ◌+◌, ◌/◌, ◌%◌, ◌<◌, ◌≤◌, ◌≤ℤ◌, ℕ, pos, unsigned_abs, IfSome, IfNone, OnOk, OnErr, Err};
+ghost use Rattle.jiff.specs.Words.{IsDate, epoch_day};
+ghost use Rattle.brk_money.specs.Moments.{last_day};
+ghost use Rattle.brk_money.specs.Spelling.{date_digits, day_text};
+ghost use Rattle.brk_money.specs.declared.fault.Fault.TheVariants.{Memory};
+
+use crate::day::Day;
+use crate::fault::Fault;
+use jiff::ToSpan;
+use jiff::civil::{Date, date};
+
+// The date of a day.
+fn date_of(day: Day) -> Date
+    ensures { epoch_day result ≡ pos day }
+{
+    date(1970, 1, 1)
+        .checked_add(i64::from(day.get()).days())
+        .unwrap()
+}
+
+// The number below 100 that two digits spell.
+fn two_digits(tens: u8, ones: u8) -> Option<u8>
+    ensures found { IfSome result (λ n. (n < 100) × (tens ≡ 48 + n / 10) × (ones ≡ 48 + n % 10)) }
+    ensures none { IfNone result ((n : ℕ) → n < 100 → tens ≡ 48 + n / 10 → ones ≢ 48 + n % 10) }
+{
+    if tens < b'0' || tens > b'9' || ones < b'0' || ones > b'9' {
+        return None;
+    }
+    Some((tens - b'0') * 10 + (ones - b'0'))
+}
+
+// The date of a year, a month and a day of the month, where the calendar has it.
+fn calendar_date(year: u16, month: u8, day: u8) -> Option<Date>
+    requires year { year < 10000 }
+    requires month { month < 100 }
+    requires day { day < 100 }
+    ensures found { IfSome result (λ date. (date.year ≡ pos year) × (date.month ≡ month) × (date.day ≡ day)) }
+    ensures none { IfNone result (¬ (IsDate (pos year) (pos month) (pos day))) }
+{
+    match Date::new(year as i16, month as i8, day as i8) {
+        Ok(date) => Some(date),
+        Err(_) => None,
+    }
+}
+
+// The date that the bytes spell, with four digits of a year, two of a month and two of a day.
+#[tactic(auto, using(crate::proofs::DayTexts::spelled, crate::proofs::DayTexts::parts_spelled))]
+fn date_spelled(bytes: &[u8]) -> Option<Date>
+    ensures found { IfSome result (λ date. (pos 0 ≤ℤ date.year) × (bytes.now ≡ date_digits (unsigned_abs date.year) date.month date.day)) }
+    ensures none { IfNone result ((y m d : ℕ) → IsDate (pos y) (pos m) (pos d) → bytes.now ≢ date_digits y m d) }
+{
+    if bytes.len() != 10 || bytes[4] != b'-' || bytes[7] != b'-' {
+        return None;
+    }
+    let Some(century) = two_digits(bytes[0], bytes[1]) else {
+        return None;
+    };
+    let Some(year) = two_digits(bytes[2], bytes[3]) else {
+        return None;
+    };
+    let Some(month) = two_digits(bytes[5], bytes[6]) else {
+        return None;
+    };
+    let Some(day) = two_digits(bytes[8], bytes[9]) else {
+        return None;
+    };
+    calendar_date(u16::from(century) * 100 + u16::from(year), month, day)
+}
+
+/// The day that the bytes spell, as `2024-03-01`: four digits of a year, two of a month and two of a day of it, from
+/// 1970-01-01 to 9999-12-31.
+pub fn parse_day(bytes: &[u8]) -> Option<Day>
+    ensures found { IfSome result (λ day. bytes.now ≡ day_text day) }
+    ensures none { IfNone result ((n : ℕ) → n ≤ last_day → bytes.now ≢ day_text n) }
+{
+    let Some(date) = date_spelled(bytes) else {
+        return None;
+    };
+    Day::new(date.to_plain().to_unix_epoch_day())
+}
+
+// The digits of a date from the year 0 on.
+fn date_bytes(date: Date) -> [u8; 10]
+    requires { pos 0 ≤ℤ date.year }
+    ensures { result ≡ date_digits (unsigned_abs date.year) date.month date.day }
+{
+    let year = date.year() as u16;
+    let month = date.month() as u8;
+    let day = date.day() as u8;
+    let century = (year / 100) as u8;
+    let year = (year % 100) as u8;
+    [
+        b'0' + century / 10,
+        b'0' + century % 10,
+        b'0' + year / 10,
+        b'0' + year % 10,
+        b'-',
+        b'0' + month / 10,
+        b'0' + month % 10,
+        b'-',
+        b'0' + day / 10,
+        b'0' + day % 10,
+    ]
+}
+
+/// Adds the one spelling of a day, as `2024-03-01`. Where memory is refused the vector stays as it was.
+#[tactic(auto, using(crate::proofs::DayTexts::text_of, crate::proofs::Calendar::from_zero))]
+pub fn write_day(out: &mut Vec<u8>, day: Day) -> Result<(), Fault>
+    ensures ok { OnOk result (out.new.items ≡ out.old.items ++ day_text day) }
+    ensures err { OnErr result (out.new.items ≡ out.old.items) }
+    ensures fault { OnErr result (result ≡ Err Memory) }
+{
+    let text = date_bytes(date_of(day));
+    match out.extend_from_slice(&text) {
+        Ok(()) => Ok(()),
+        Err(_) => Err(Fault::Memory),
+    }
+}
+
+/// No two days are spelled alike.
+pub fn one_day_spelling()
+    ensures { (m n : ℕ) → m ≤ last_day → n ≤ last_day → day_text m ≡ day_text n → m ≡ n }
+{}
