@@ -9,7 +9,7 @@ const STRANGERS: &[u8] = b"batch,R\n\
     order,100,TMB,ABC,100,,cash,fifo,Lee,Ann,T10\n\
     order,100,TMB,ABC,100,,cash,fifo,ann,Lee,T10\n\
     order,100,TMB,ABC,100,,cash,fifo,Ann,Lee,t10\n\
-    order,100,TMB,ABC,100,,cash,fifo,Ann,Lee,T1\n\
+    order,100,TMB,ABC,100,,cash,fifo,Ann,Lee,T\n\
     end,7\n";
 
 #[test]
