@@ -68,14 +68,15 @@ fn gain(values: Values) -> Cents
     Cents::new(values.sell_value.get() - values.buy_value.get()).unwrap()
 }
 
-// The tax on what shares gain.
-fn tax_on(values: Values, terms: &Terms) -> Cents
+/// The tax on what shares gain, by an account's tax status and the sum of the rates that its customer pays. The values are
+/// not below 0.
+pub fn tax_on(values: Values, status: TaxStatus, rates: TaxRate) -> Cents
     requires bought { pos 0 ≤ℤ values.buy_value }
     requires sold { pos 0 ≤ℤ values.sell_value }
-    ensures { result ≡ pos (tax_at terms.now.tax_status terms.now.rates values) }
+    ensures { result ≡ pos (tax_at status rates values) }
 {
-    if bears_tax(terms.tax_status) {
-        tax(gain(values), terms.rates)
+    if bears_tax(status) {
+        tax(gain(values), rates)
     } else {
         amount(0)
     }
@@ -103,7 +104,7 @@ pub fn estimate_order<L: LotSource>(source: &mut L, terms: &Terms) -> Result<Est
         price: terms.price,
         buy_value: values.buy_value,
         sell_value: values.sell_value,
-        tax: tax_on(values, terms),
+        tax: tax_on(values, terms.tax_status, terms.rates),
         commission: commission(terms.rate, terms.qty, terms.price),
         charge: terms.charge,
         assets: terms.assets,

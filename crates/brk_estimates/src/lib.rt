@@ -5,7 +5,7 @@
 pub mod estimate;
 pub mod values;
 
-pub use estimate::{Estimate, Terms, estimate_order};
+pub use estimate::{Estimate, Terms, estimate_order, tax_on};
 pub use values::{Values, estimate_values};
 
 #[cfg(test)]

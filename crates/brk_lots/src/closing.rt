@@ -1,4 +1,4 @@
-ghost use Rattle.std.specs.Prelude.{◌≡◌, ◌+◌, ◌≤◌, ℕ, List, Bool, drop, map, IfOk, IfErr, vec_len, ◌⊎◌, replicate, pos};
+ghost use Rattle.std.specs.Prelude.{◌≡◌, ◌+◌, ◌*◌, ◌≤◌, ◌≤ℤ◌, ℕ, List, Bool, drop, map, IfOk, IfErr, vec_len, ◌⊎◌, replicate, pos};
 ghost use Rattle.std.specs.Option.{option_to_list};
 ghost use Rattle.brk_model.specs.Shares.{lots};
 ghost use Rattle.brk_lots.specs.declared.lot.Lot.{Lot};
@@ -44,6 +44,7 @@ fn take_lots<L: LotSource>(
     ensures left { IfOk result (λ taken. taken.left + met side qty (L.rest source.old) ≡ qty) }
     ensures touched { IfOk result (λ taken. taken.touched.items ≡ rows_taken (met side qty (L.rest source.old)) (L.rest source.old)) }
     ensures cost { IfOk result (λ taken. taken.cost ≡ paid (met side qty (L.rest source.old)) (L.rest source.old)) }
+    ensures limit { IfOk result (λ taken. taken.cost ≤ qty * 9999999) }
     ensures asked { IfOk result (λ taken. L.asked source.new ≤ L.asked source.old + vec_len taken.touched + 1) }
     ensures faulted { IfOk result (λ taken. L.faulted source.new ≡ L.faulted source.old) }
     ensures fault { IfErr result (λ fault. (fault ≡ Fault.Memory) ⊎ ((before : L) × L.fails before fault source.new)) }
@@ -121,6 +122,9 @@ pub fn close<L: LotSource>(
     // Over the lots of a position from the trade's end it is what the trade does to the shares of that position.
     ensures closing { IfOk result (λ closing. (ls : List Lot) (lifo : Bool) → L.rest source.old ≡ from_end lifo ls →
         IsClosing (record { trade = trade; side = side; qty = qty; price = price; stamp = stamp; is_lifo = lifo }) ls closing) }
+    // Neither value is below 0, and neither is above that of the quantity at the greatest price.
+    ensures bought { IfOk result (λ closing. (pos 0 ≤ℤ closing.buy_value) × (closing.buy_value ≤ℤ pos (qty * 9999999))) }
+    ensures sold { IfOk result (λ closing. (pos 0 ≤ℤ closing.sell_value) × (closing.sell_value ≤ℤ pos (qty * 9999999))) }
     ensures asked { IfOk result (λ closing. L.asked source.new ≤ L.asked source.old + vec_len closing.touched + 1) }
     // No fault of the source is passed over, and each is answered as it came.
     ensures faulted { IfOk result (λ closing. L.faulted source.new ≡ L.faulted source.old) }

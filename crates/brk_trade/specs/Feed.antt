@@ -110,6 +110,7 @@ tells stamp ids (reply.Ticked at told) = (at ≡ stamp) × (told.items ≡ ids)
 tells stamp ids (reply.Booked at) = ⊥
 tells stamp ids (reply.Ordered ordered) = ⊥
 tells stamp ids (reply.Canceled at) = ⊥
+tells stamp ids (reply.Completed completed) = ⊥
 
 -- the plan of a feed that is accepted: the changes of its ticks are made, the last stamp is moved, and the trades that
 -- were triggered are told with the stamp

@@ -6,3 +6,5 @@ pub mod Waiting
 pub mod Cancel
 pub mod Feed
 pub mod Orders
+pub mod Outcomes
+pub mod Results

@@ -1,8 +1,9 @@
 -- What replies are in the abstract brokerage.
 use Rattle.std.specs.Prelude.{nat_abs}
 use Rattle.brk_model.specs.Commands as model
-use Rattle.brk_model.specs.Commands.{Reply, Booked, Ordered, Ticked, CanceledTrade}
+use Rattle.brk_model.specs.Commands.{Reply, Booked, Ordered, Ticked, CanceledTrade, CompletedTrade}
 use Rattle.brk_estimates.specs.declared.estimate.Estimate.{Estimate}
+use Rattle.brk_trade.specs.declared.reply.Completed.{Completed}
 use Rattle.brk_trade.specs.declared.reply.Reply as trade
 use Rattle.brk_trade.specs.declared.reply.Reply.TheVariants as reply
 
@@ -18,9 +19,22 @@ estimate_of e = record {
   assets = e.assets;
 }
 
+-- the numbers of a completion; none but what settles and the balance is ever below 0
+abbrev pub completion_of : Completed → model.Completion
+completion_of c = record {
+  commission = nat_abs c.commission;
+  tax = nat_abs c.tax;
+  amount = c.amount;
+  due_day = c.due_day;
+  buy_value = nat_abs c.buy_value;
+  sell_value = nat_abs c.sell_value;
+  balance = c.balance;
+}
+
 -- what is told of a command
 abbrev pub reply_of : trade.Reply → Reply
 reply_of (reply.Booked stamp) = Booked stamp
 reply_of (reply.Ordered ordered) = Ordered ordered.stamp ordered.trade ordered.status (estimate_of ordered.estimate)
 reply_of (reply.Ticked stamp triggered) = Ticked stamp triggered.items
 reply_of (reply.Canceled stamp) = CanceledTrade stamp
+reply_of (reply.Completed completed) = CompletedTrade completed.stamp (completion_of completed)

@@ -1,12 +1,18 @@
 -- What the rows of trades are in the abstract brokerage.
-use Rattle.std.specs.Prelude.{List, [], ◌∷◌, string_bytes}
+use Rattle.std.specs.Prelude.{List, [], ◌∷◌, codes, string_bytes}
+use Rattle.brk_money.specs.Spelling.{Text}
 use Rattle.brk_model.specs.Keys.{KeyPart, number, by_key}
-use Rattle.brk_model.specs.Tables.{TradeRow, HistoryRow, RequestRow, HoldingRow, SummaryRow}
+use Rattle.brk_model.specs.Tables.{TradeRow, HistoryRow, RequestRow, HoldingRow, SummaryRow, HoldingHistoryRow, SettlementRow, CashRow}
 use Rattle.brk_trade.specs.declared.trade_row.TradeRow as trade
 use Rattle.brk_trade.specs.declared.history_row.HistoryRow as history
 use Rattle.brk_trade.specs.declared.request_row.RequestRow as request
 use Rattle.brk_trade.specs.declared.holding_row.HoldingRow as holding
 use Rattle.brk_trade.specs.declared.summary_row.SummaryRow as summary
+use Rattle.brk_trade.specs.declared.lot_change.LotChange as lot_change
+use Rattle.brk_trade.specs.declared.settlement_row.SettlementRow as settlement
+use Rattle.brk_trade.specs.declared.cash_row.CashRow as cash
+use Rattle.brk_trade.specs.declared.cash_type.CashType.{CashType}
+use Rattle.brk_trade.specs.declared.cash_type.CashType.TheVariants.{CashAccount, Cash, Margin, MarginAccount}
 
 abbrev pub trade_row_of : trade.TradeRow → TradeRow
 trade_row_of r = record {
@@ -38,6 +44,22 @@ holding_row_of r = record { trade = r.trade; account = r.account; symbol = r.sym
 
 abbrev pub summary_row_of : summary.SummaryRow → SummaryRow
 summary_row_of r = record { account = r.account; symbol = r.symbol; qty = r.qty }
+
+abbrev pub lot_change_of : lot_change.LotChange → HoldingHistoryRow
+lot_change_of r = record { lot = r.lot; trade = r.trade; before = r.before; after = r.after }
+
+-- SE_CASH_TYPE
+abbrev pub cash_type_word : CashType → Text
+cash_type_word CashAccount = codes "Cash Account"
+cash_type_word Cash = codes "Cash"
+cash_type_word Margin = codes "Margin"
+cash_type_word MarginAccount = codes "Margin Account"
+
+abbrev pub settlement_row_of : settlement.SettlementRow → SettlementRow
+settlement_row_of r = record { trade = r.trade; cash_type = cash_type_word r.cash_type; due_day = r.due_day; amount = r.amount }
+
+abbrev pub cash_row_of : cash.CashRow → CashRow
+cash_row_of r = record { trade = r.trade; stamp = r.stamp; amount = r.amount; name = string_bytes r.name }
 
 -- the moment of opening, and then the trade
 abbrev pub age_key : HoldingRow → List KeyPart

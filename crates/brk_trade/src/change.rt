@@ -1,10 +1,16 @@
+use crate::amount::Amount;
+use crate::cash_row::CashRow;
 use crate::history_row::HistoryRow;
+use crate::holding_row::HoldingRow;
+use crate::lot_change::LotChange;
 use crate::request_row::RequestRow;
+use crate::settlement_row::SettlementRow;
+use crate::summary_row::SummaryRow;
 use crate::trade_row::TradeRow;
-use brk_money::{Id, Stamp, Status};
+use brk_money::{Cents, Id, Price, Stamp, Status};
 use brk_ref::{
     Account, Band, Broker, Charge, Customer, CustomerTax, Kept, LastTrade, Permission, Security,
-    Tax,
+    Symbol, Tax,
 };
 
 /// The change of one row.
@@ -46,6 +52,49 @@ pub enum Change {
     RemoveRequest(Id),
     /// Another last trade of a security, which had one.
     SetLastTrade(LastTrade),
+    /// A trade that was completed, with what its completion records in its row.
+    CompleteTrade {
+        trade: Id,
+        stamp: Stamp,
+        price: Price,
+        commission: Amount,
+        tax: Amount,
+    },
+    /// A lot that a trade opened.
+    AddLot(HoldingRow),
+    /// Another quantity of the lot that a trade opened.
+    SetLot {
+        trade: Id,
+        qty: i64,
+    },
+    /// The lot that a trade opened, taken away.
+    RemoveLot(Id),
+    /// What a trade made of a lot.
+    AddLotChange(LotChange),
+    /// How many shares of a security an account holds, where it held none.
+    AddSummary(SummaryRow),
+    /// Another number of shares of a security that an account holds.
+    SetSummary(SummaryRow),
+    /// The number of shares of a security that an account holds no more, taken away.
+    RemoveSummary {
+        account: Id,
+        symbol: Symbol,
+    },
+    /// What a completed trade settles for.
+    AddSettlement(SettlementRow),
+    /// What a completed cash trade moved.
+    AddCash(CashRow),
+    /// Another balance of an account.
+    SetBalance {
+        account: Id,
+        balance: Cents,
+    },
+    /// Another number of a broker's completed trades, and another sum of their commissions.
+    SetBrokerNumbers {
+        broker: Id,
+        trades: i64,
+        commissions: Amount,
+    },
     /// An accepted row under its key.
     Keep(Kept),
     /// The stamp of the last accepted command (D_LAST).

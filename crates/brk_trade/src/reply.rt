@@ -1,5 +1,5 @@
 use brk_estimates::Estimate;
-use brk_money::{Id, Stamp, Status};
+use brk_money::{Cents, Day, Id, Stamp, Status};
 
 /// What is told of an accepted order (Trade-Order).
 #[derive(Clone, Copy, Debug, PartialEq, Eq)]
@@ -13,6 +13,25 @@ pub struct Ordered {
     pub estimate: Estimate,
 }
 
+/// What is told of a trade that was completed (Trade-Result), in cents.
+#[derive(Clone, Copy, Debug, PartialEq, Eq)]
+pub struct Completed {
+    pub stamp: Stamp,
+    pub commission: Cents,
+    /// The tax on what the closed shares gained.
+    pub tax: Cents,
+    /// What the trade settles for, below 0 where the account pays.
+    pub amount: Cents,
+    /// The day on which it settles.
+    pub due_day: Day,
+    /// What the closed shares were bought for.
+    pub buy_value: Cents,
+    /// What they were sold for.
+    pub sell_value: Cents,
+    /// The account's balance after it.
+    pub balance: Cents,
+}
+
 /// What is told of an accepted command, with its stamp.
 #[derive(Debug, Drop)]
 pub enum Reply {
@@ -24,4 +43,6 @@ pub enum Reply {
     Ticked(Stamp, Vec<Id>),
     /// A trade that waited for its price was canceled.
     Canceled(Stamp),
+    /// A submitted trade was completed.
+    Completed(Completed),
 }

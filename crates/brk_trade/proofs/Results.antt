@@ -1,0 +1,71 @@
+-- What a result comes to does not hang on the moment, and what is closed tells it.
+use Rattle.std.proofs.Common.{◌≡◌, ℕ, Bool, true, false, List, [], ◌∷◌, ◌++◌, length, refl, sym, ap, ◌∙◌, Some, None}
+use Rattle.std.proofs.lemmas.List.{append_assoc, length-map, length-reverse}
+use Rattle.brk_estimates.specs.Estimates.{values_of}
+use Rattle.brk_lots.specs.Closing.{IsClosing}
+use Rattle.brk_lots.specs.Lots.{from_end, plain_touch, shares_of}
+use Rattle.brk_lots.specs.declared.closing.Closing.{Closing}
+use Rattle.brk_lots.specs.declared.lot.Lot.{Lot}
+use Rattle.brk_model.specs.Shares.{Deal, Share, buy_value, buy_value_by, sell_value, sell_value_by, touches}
+use Rattle.brk_model.specs.Tests.{Test, first_refusal}
+use Rattle.brk_money.specs.Kinds.{side_of}
+use Rattle.brk_money.specs.declared.refusal.Refusal.{Refusal}
+use Rattle.brk_money.specs.declared.side.Side.{Side}
+use Rattle.brk_money.specs.declared.side.Side.TheVariants.{Buy, Sell}
+use Rattle.brk_trade.specs.Outcomes.{deal_of, first_tests, last_tests, result_tests, values_in}
+use Rattle.brk_trade.specs.declared.outcome.ResultFound.{ResultFound}
+use Rattle.brk_trade.specs.declared.trade_row.TradeRow.{TradeRow}
+
+-- the first refusal among more tests, where the first ones find no cause
+pub first_after : (ts us : List Test) → first_refusal ts ≡ None → first_refusal (ts ++ us) ≡ first_refusal us
+first_after [] us e = refl
+first_after (t ∷ ts) us e = by_test (first_after ts us) t.0 refl
+  where
+    by_test : (first_refusal ts ≡ None → first_refusal (ts ++ us) ≡ first_refusal us) → (b : Bool) → t.0 ≡ b → first_refusal (t ∷ ts ++ us) ≡ first_refusal us
+    by_test more true f = absurd (let k : Some t.1 ≡ None = rw f at e in cc)
+    by_test more false f = rw f (more (rw f at e))
+
+-- the values of the shares that a trade closes are the same at any moment
+same_bought : (side : Side) (t : TradeRow) (price stamp other : ℕ) (us : List Share)
+    → buy_value_by side (deal_of t price stamp) us ≡ buy_value_by side (deal_of t price other) us
+same_bought Buy t price stamp other us = refl
+same_bought Sell t price stamp other us = refl
+
+same_sold : (side : Side) (t : TradeRow) (price stamp other : ℕ) (us : List Share)
+    → sell_value_by side (deal_of t price stamp) us ≡ sell_value_by side (deal_of t price other) us
+same_sold Buy t price stamp other us = refl
+same_sold Sell t price stamp other us = refl
+
+pub at_any_moment : (t : TradeRow) (price stamp other : ℕ) (us : List Share) → values_of (deal_of t price stamp) us ≡ values_of (deal_of t price other) us
+unfolding buy_value sell_value
+at_any_moment t price stamp other us = rw (same_bought (side_of t.kind) t price stamp other us, same_sold (side_of t.kind) t price stamp other us) refl
+
+-- what is closed has these values
+pub closing_values : (d : Deal) (ls : List Lot) (closing : Closing) → IsClosing d ls closing → values_in closing ≡ values_of d (shares_of ls)
+closing_values d ls closing k = rw (k.bought, k.sold) refl
+
+same_length : {X : Type 0} (lifo : Bool) (xs : List X) → length (from_end lifo xs) ≡ length xs
+same_length true xs = length-reverse xs
+same_length false xs = refl
+
+-- as many lots are touched as the trade touches
+pub touched_count : (d : Deal) (ls : List Lot) (closing : Closing) → IsClosing d ls closing → length closing.touched.items ≡ length (touches d (shares_of ls))
+touched_count d ls closing k = sym (length-map closing.touched.items plain_touch) ∙ ap length k.touched ∙ same_length d.is_lifo (touches d (shares_of ls))
+
+-- a refusal that the values tell, over the lots of a position, after the first tests found no cause
+pub refused_by_values : (found : ResultFound) (price : ℕ) (ls : List Lot) (at stamp : ℕ) (closing : Closing) (clock : _) (refusal : Refusal)
+    → IsClosing (deal_of found.trade price at) ls closing → first_refusal (first_tests found) ≡ None
+    → first_refusal (last_tests found price (values_in closing) clock) ≡ Some refusal
+    → first_refusal (result_tests found price (values_of (deal_of found.trade price stamp) (shares_of ls)) clock) ≡ Some refusal
+refused_by_values found price ls at stamp closing clock refusal k first last =
+    let same = closing_values (deal_of found.trade price at) ls closing k ∙ at_any_moment found.trade price at stamp (shares_of ls) in
+    first_after (first_tests found) (last_tests found price (values_of (deal_of found.trade price stamp) (shares_of ls)) clock) first
+    ∙ ap (λ values. first_refusal (last_tests found price values clock)) (sym same) ∙ last
+
+-- three elements added one after another
+pub three_added : {X : Type 0} (old one two three : List X) (x y z a b d : X) → one ≡ old ++ x ∷ [] → two ≡ one ++ y ∷ [] → three ≡ two ++ z ∷ []
+    → x ≡ a → y ≡ b → z ≡ d → three ≡ old ++ a ∷ b ∷ d ∷ []
+three_added {X} old one two three x y z a b d e f g p q r =
+    let both : two ≡ (old ++ x ∷ []) ++ y ∷ [] = f ∙ ap (λ (l : List X). l ++ y ∷ []) e in
+    let all : three ≡ old ++ x ∷ y ∷ z ∷ [] = g ∙ ap (λ (l : List X). l ++ z ∷ []) (both ∙ append_assoc old (x ∷ []) (y ∷ [])) ∙ append_assoc old (x ∷ y ∷ []) (z ∷ []) in
+    all ∙ rw (p, q, r) refl

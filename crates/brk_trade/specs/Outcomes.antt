@@ -1,0 +1,96 @@
+-- What a result comes to for a trade that it completes, and what is tested of it.
+use Rattle.std.specs.Prelude.{ℕ, ◌+◌, ◌*◌, ◌&&◌, true, not, nat_lt, nat_abs, is_none, unwrap_or, if◌then◌else◌, ℤ, pos, ◌+ℤ◌, ◌-ℤ◌, List, [], ◌∷◌, ◌++◌, Option}
+use Rattle.std.specs.Option.{option_map_or}
+use Rattle.brk_estimates.specs.Estimates.{tax_at}
+use Rattle.brk_estimates.specs.declared.values.Values.{Values}
+use Rattle.brk_lots.specs.declared.closing.Closing.{Closing}
+use Rattle.brk_model.specs.Base.{takes_tax_off}
+use Rattle.brk_model.specs.Derived.{proceeds, settlement_days}
+use Rattle.brk_model.specs.Limits.{greatest_amount, greatest_summary}
+use Rattle.brk_model.specs.Shares.{Deal, signed}
+use Rattle.brk_model.specs.Tests.{Test}
+use Rattle.brk_money.specs.Amounts.{commission}
+use Rattle.brk_money.specs.Kinds.{same_status, side_of}
+use Rattle.brk_money.specs.Moments.{day_of, last_day}
+use Rattle.brk_money.specs.declared.refusal.Limit.TheVariants as limit
+use Rattle.brk_money.specs.declared.refusal.Refusal.TheVariants.{WrongStatus, NoRate, Range, ClockEnd}
+use Rattle.brk_money.specs.declared.status.Status.TheVariants.{Submitted}
+use Rattle.brk_trade.specs.declared.outcome.Outcome.{Outcome}
+use Rattle.brk_trade.specs.declared.outcome.ResultFound.{ResultFound}
+use Rattle.brk_trade.specs.declared.trade_row.TradeRow.{TradeRow}
+
+-- a trade as it meets the lots of its account and symbol
+abbrev pub deal_of : TradeRow → (price stamp : ℕ) → Deal
+deal_of t price stamp = record { trade = t.id; side = side_of t.kind; qty = t.qty; price = price; stamp = stamp; is_lifo = t.is_lifo }
+
+-- how many shares of the symbol the account holds after the trade
+abbrev pub summary_after : ResultFound → ℤ
+summary_after found = unwrap_or found.summary (pos 0) +ℤ signed (side_of found.trade.kind) found.trade.qty
+
+-- the commission of the trade, by the band of now
+abbrev pub commission_at : ResultFound → ℕ → ℕ
+commission_at found price = commission (unwrap_or found.rate 0) found.trade.qty price
+
+-- the tax on what the closed shares gained
+abbrev pub tax_upon : ResultFound → Values → ℕ
+tax_upon found values = tax_at found.account.tax_status found.rates values
+
+-- the tax that is taken off what is settled, at one tax status alone
+abbrev pub withheld : ResultFound → Values → ℕ
+withheld found values = if takes_tax_off found.account.tax_status then tax_upon found values else 0
+
+-- what the trade settles for
+abbrev pub amount_of : ResultFound → ℕ → Values → ℤ
+amount_of found price values =
+    proceeds (side_of found.trade.kind) (found.trade.qty * price) -ℤ pos (found.trade.charge + commission_at found price + withheld found values)
+
+-- the account's balance with an amount, which a trade on margin does not change
+abbrev pub balance_with : ResultFound → ℤ → ℤ
+balance_with found amount = if found.trade.is_cash then found.account.balance +ℤ amount else found.account.balance
+
+-- the account's balance after the trade
+abbrev pub balance_after : ResultFound → ℕ → Values → ℤ
+balance_after found price values = balance_with found (amount_of found price values)
+
+-- the sum of the commissions of the broker after the trade
+abbrev pub commissions_after : ResultFound → ℕ → ℕ
+commissions_after found price = found.broker.commissions + commission_at found price
+
+-- what is tested before the lots are looked at
+abbrev pub first_tests : ResultFound → List Test
+first_tests found =
+    (not (same_status found.trade.status Submitted), WrongStatus found.trade.status) ∷ (is_none found.rate, NoRate)
+    ∷ (nat_lt greatest_summary (nat_abs (summary_after found)), Range limit.Summary) ∷ []
+
+-- a stamp has to be left, and the day on which the trade settles has to be one
+abbrev pub due_test : Option ℕ → Test
+due_test stamp = (option_map_or (λ s. nat_lt last_day (day_of s + settlement_days)) stamp true, ClockEnd)
+
+-- what is tested by the values of the shares that are closed
+abbrev pub last_tests : ResultFound → ℕ → Values → Option ℕ → List Test
+last_tests found price values stamp =
+    (found.trade.is_cash && nat_lt greatest_amount (nat_abs (balance_after found price values)), Range limit.Balance)
+    ∷ (nat_lt greatest_amount (commissions_after found price), Range limit.Broker) ∷ due_test stamp ∷ []
+
+-- what a result of a trade is tested for
+abbrev pub result_tests : ResultFound → ℕ → Values → Option ℕ → List Test
+result_tests found price values stamp = first_tests found ++ last_tests found price values stamp
+
+-- what the shares that are closed were bought for and sold for
+abbrev pub values_in : Closing → Values
+values_in closing = record { buy_value = closing.buy_value; sell_value = closing.sell_value }
+
+-- what a completion comes to
+abbrev pub outcome_of : ResultFound → ℕ → Values → ℕ → Outcome
+outcome_of found price values stamp = record {
+  stamp = stamp;
+  due_day = day_of stamp + settlement_days;
+  commission = commission_at found price;
+  tax = tax_upon found values;
+  amount = amount_of found price values;
+  summary = summary_after found;
+  balance = balance_after found price values;
+  commissions = commissions_after found price;
+  buy_value = values.buy_value;
+  sell_value = values.sell_value;
+}

@@ -1,0 +1,163 @@
+-- Results of submitted trades: the changes of a completion, and what a result comes to.
+use Rattle.std.specs.Prelude.{◌≡◌, ℕ, ◌+◌, ◌≤◌, Bool, ℤ, pos, if◌then◌else◌, List, [], ◌∷◌, ◌++◌, codes, decimal, length, flat_map, Option, Some, None, option_map, option_to_list, unwrap_or}
+use Rattle.brk_estimates.specs.Estimates.{values_of}
+use Rattle.brk_lots.specs.Closing.{IsClosing}
+use Rattle.brk_lots.specs.Lots.{from_end, shares_of}
+use Rattle.brk_lots.specs.declared.closing.Closing.{Closing}
+use Rattle.brk_lots.specs.declared.lot.Lot.{Lot}
+use Rattle.brk_lots.specs.declared.lot.Touch.{Touch}
+use Rattle.brk_model.specs.Lists.{is_zero}
+use Rattle.brk_model.specs.Shares.{touches}
+use Rattle.brk_model.specs.Tables as tables
+use Rattle.brk_model.specs.Tests.{first_refusal}
+use Rattle.brk_money.specs.Kinds.{type_name}
+use Rattle.brk_money.specs.Moments.{stamp_after}
+use Rattle.brk_money.specs.Spelling.{Text}
+use Rattle.brk_money.specs.declared.refusal.Refusal.{Refusal}
+use Rattle.brk_money.specs.declared.refusal.Refusal.TheVariants.{NoTrade}
+use Rattle.brk_money.specs.declared.status.Status.TheVariants as status
+use Rattle.brk_trade.specs.Rows.{cash_row_of}
+use Rattle.brk_trade.specs.Outcomes.{deal_of, result_tests, outcome_of, values_in}
+use Rattle.brk_trade.specs.declared.cash_row.CashRow.{CashRow}
+use Rattle.brk_trade.specs.declared.cash_type.CashType.{CashType}
+use Rattle.brk_trade.specs.declared.cash_type.CashType.TheVariants as cash_type
+use Rattle.brk_trade.specs.declared.change.Change.{Change}
+use Rattle.brk_trade.specs.declared.change.Change.TheVariants as change
+use Rattle.brk_trade.specs.declared.outcome.Outcome.{Outcome}
+use Rattle.brk_trade.specs.declared.outcome.ResultFound.{ResultFound}
+use Rattle.brk_trade.specs.declared.plan.Plan.{Plan}
+use Rattle.brk_trade.specs.declared.reply.Completed.{Completed}
+use Rattle.brk_trade.specs.declared.reply.Reply.TheVariants as reply
+use Rattle.brk_trade.specs.declared.trade_row.TradeRow.{TradeRow}
+
+-- a touched lot made smaller, or taken away where nothing is left of it
+abbrev pub lot_left : Touch → Change
+lot_left touch = if is_zero touch.after then change.RemoveLot touch.lot else change.SetLot touch.lot touch.after
+
+-- the history of a lot that a trade touches
+abbrev pub lot_change : ℕ → Touch → Change
+lot_change trade touch = change.AddLotChange (record { lot = touch.lot; trade = trade; before = touch.before; after = touch.after })
+
+-- the changes of a lot that a trade touches, with its history
+abbrev pub touched_changes : ℕ → Touch → List Change
+touched_changes trade touch = lot_left touch ∷ lot_change trade touch ∷ []
+
+-- the changes of a lot that a trade opens, with its history
+abbrev pub opened_changes : TradeRow → Lot → List Change
+opened_changes t lot =
+    change.AddLot (record { trade = lot.trade; account = t.account; symbol = t.symbol; stamp = lot.stamp; price = lot.price; qty = lot.qty })
+    ∷ change.AddLotChange (record { lot = lot.trade; trade = lot.trade; before = pos 0; after = lot.qty }) ∷ []
+
+-- the change of the summary of an account and a symbol, where there was one or none; at 0 there is none
+abbrev pub summary_change : Option ℤ → TradeRow → ℤ → Change
+summary_change None t qty = change.AddSummary (record { account = t.account; symbol = t.symbol; qty = qty })
+summary_change (Some held) t qty =
+    if is_zero qty then change.RemoveSummary t.account t.symbol
+    else change.SetSummary (record { account = t.account; symbol = t.symbol; qty = qty })
+
+-- how a trade is settled at first
+abbrev pub first_cash_type : Bool → CashType
+first_cash_type is_cash = if is_cash then cash_type.CashAccount else cash_type.Margin
+
+-- the middle of the text of a cash trade
+abbrev pub shares_text : ℕ → Text
+shares_text qty = 32 ∷ decimal qty ++ codes " shares of "
+
+-- the text of a cash trade, with the name of its security
+abbrev pub cash_name : TradeRow → Text → Text
+cash_name t security = type_name t.kind ++ 32 ∷ decimal t.qty ++ codes " shares of " ++ security
+
+-- what a cash trade moves, if it is one
+abbrev pub cash_row : ResultFound → Outcome → Option tables.CashRow
+cash_row found outcome =
+    if found.trade.is_cash
+    then Some (record { trade = found.trade.id; stamp = outcome.stamp; amount = outcome.amount; name = cash_name found.trade found.security })
+    else None
+
+-- the changes of what a cash trade moves
+abbrev pub cash_changes : ℕ → ℤ → CashRow → List Change
+cash_changes account balance row = change.AddCash row ∷ change.SetBalance account balance ∷ []
+
+-- the changes of a completed trade's own row and of its status
+abbrev pub trade_changes : ℕ → ℕ → Outcome → List Change
+trade_changes trade price outcome =
+    change.CompleteTrade trade outcome.stamp price outcome.commission outcome.tax
+    ∷ change.AddHistory (record { trade = trade; status = status.Completed; stamp = outcome.stamp }) ∷ []
+
+-- the change of the numbers of a broker, of whom one more trade is completed
+abbrev pub broker_change : ResultFound → ℕ → Change
+broker_change found commissions = change.SetBrokerNumbers found.account.broker (pos (found.broker.trades + 1)) commissions
+
+-- the change that adds a settlement
+abbrev pub settlement_change : TradeRow → Outcome → Change
+settlement_change t outcome =
+    change.AddSettlement (record { trade = t.id; cash_type = first_cash_type t.is_cash; due_day = outcome.due_day; amount = outcome.amount })
+
+-- the changes of the account's summary, of the broker's numbers and of the settlement
+abbrev pub sum_changes : ResultFound → Outcome → List Change
+sum_changes found outcome =
+    summary_change found.summary found.trade outcome.summary ∷ broker_change found outcome.commissions ∷ settlement_change found.trade outcome ∷ []
+
+-- the changes that complete a trade: its own; the lots that it touches and the one that it opens; what follows of sums; what it
+-- moves, if it is a cash trade; and the last stamp
+abbrev pub changes_of : ResultFound → ℕ → Closing → Outcome → Option CashRow → List Change
+changes_of found price closing outcome cash =
+    trade_changes found.trade.id price outcome
+    ++ flat_map (touched_changes found.trade.id) closing.touched.items
+    ++ flat_map (opened_changes found.trade) (option_to_list closing.opened)
+    ++ sum_changes found outcome
+    ++ flat_map (cash_changes found.trade.account outcome.balance) (option_to_list cash)
+    ++ change.SetLast outcome.stamp ∷ []
+
+-- the changes that complete a trade, by the lots that are closed and what it comes to
+pub record AreChanges (found : ResultFound) (price : ℕ) (closing : Closing) (outcome : Outcome) (changes : List Change) : Type 0 where
+  pub cash : Option CashRow
+  pub moved : option_map cash_row_of cash ≡ cash_row found outcome
+  pub changed : changes ≡ changes_of found price closing outcome cash
+
+-- what is told of a completion
+abbrev pub told_of : Outcome → Completed
+told_of outcome = record {
+  stamp = outcome.stamp;
+  commission = pos outcome.commission;
+  tax = pos outcome.tax;
+  amount = outcome.amount;
+  due_day = outcome.due_day;
+  buy_value = outcome.buy_value;
+  sell_value = outcome.sell_value;
+  balance = outcome.balance;
+}
+
+-- the plan of a result that is accepted, by the lots of the account and symbol from the trade's end: what `closing` closes and
+-- opens of them, and what follows from its values
+pub record IsCompletion (found : ResultFound) (price : ℕ) (lots : List Lot) (last : Option ℕ) (now : ℕ) (plan : Plan) : Type 0 where
+  pub stamp : ℕ
+  pub closing : Closing
+  pub stamped : stamp_after last now ≡ Some stamp
+  pub closes : (ls : List Lot) → lots ≡ from_end found.trade.is_lifo ls → IsClosing (deal_of found.trade price stamp) ls closing
+  pub accepted : first_refusal (result_tests found price (values_in closing) (Some stamp)) ≡ None
+  pub told : plan.reply ≡ reply.Completed (told_of (outcome_of found price (values_in closing) stamp))
+  pub changes : AreChanges found price closing (outcome_of found price (values_in closing) stamp) plan.changes.items
+
+-- the plan of a result of a trade that is there
+abbrev pub IsCompleted : Option ResultFound → ℕ → List Lot → Option ℕ → ℕ → Plan → Type 0
+IsCompleted None price lots last now plan = ⊥
+IsCompleted (Some found) price lots last now plan = IsCompletion found price lots last now plan
+
+-- why a result is refused: there is no such trade, or the first test of it that finds a cause, by the values of the shares of
+-- those lots that it would close
+abbrev pub IsRefused : Option ResultFound → ℕ → List Lot → Option ℕ → ℕ → Refusal → Type 0
+IsRefused None price lots last now refusal = refusal ≡ NoTrade
+IsRefused (Some found) price lots last now refusal =
+    (ls : List Lot) (stamp : ℕ) → lots ≡ from_end found.trade.is_lifo ls
+    → first_refusal (result_tests found price (values_of (deal_of found.trade price stamp) (shares_of ls)) (stamp_after last now)) ≡ Some refusal
+
+-- the moment that an opened lot has: the stamp, or while none is left the moment at hand
+abbrev pub moment_of : Option ℕ → ℕ → ℕ
+moment_of stamp now = unwrap_or stamp now
+
+-- a source is asked for at most one lot more than the trade touches, and for none where there is no trade
+abbrev pub AsksFew : Option ResultFound → ℕ → ℕ → List Lot → (before after : ℕ) → Type 0
+AsksFew None price stamp lots before after = after ≤ before
+AsksFew (Some found) price stamp lots before after =
+    (ls : List Lot) → lots ≡ from_end found.trade.is_lifo ls → after ≤ before + length (touches (deal_of found.trade price stamp) (shares_of ls)) + 1

@@ -1,0 +1,10 @@
+use brk_money::{Cents, Id, Stamp};
+
+/// What a completed cash trade moved on its account (a row of CASH_TRANSACTION), under a text that tells what was traded.
+#[derive(Debug, Drop)]
+pub struct CashRow {
+    pub trade: Id,
+    pub stamp: Stamp,
+    pub amount: Cents,
+    pub name: String,
+}

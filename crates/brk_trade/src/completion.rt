@@ -1,0 +1,287 @@
+//! The changes of rows that complete a trade.
+
+ghost use Rattle.std.specs.Prelude.{◌≡◌, ◌∷◌, ◌++◌, [], ℕ, flat_map, option_map, option_to_list, string_bytes, IfOk, OnOk, OnErr, Err};
+ghost use Rattle.brk_money.specs.declared.fault.Fault.TheVariants.{Memory};
+ghost use Rattle.brk_trade.specs.Results as spec;
+ghost use Rattle.brk_trade.specs.Results.{AreChanges};
+ghost use Rattle.brk_trade.specs.Rows.{cash_row_of};
+
+use crate::amount::Amount;
+use crate::cash_row::CashRow;
+use crate::cash_type::CashType;
+use crate::change::Change;
+use crate::history_row::HistoryRow;
+use crate::holding_row::HoldingRow;
+use crate::lot_change::LotChange;
+use crate::outcome::{Outcome, ResultFound};
+use crate::settlement_row::SettlementRow;
+use crate::summary_row::SummaryRow;
+use crate::trade_row::TradeRow;
+use brk_lots::{Closing, Lot, Touch};
+use brk_money::{Fault, Id, Price, Qty, Status};
+use brk_ref::Name;
+use std::alloc::{AllocError, Global};
+
+// Adds the changes of a trade's own row and of its status.
+fn complete_trade(
+    trade: Id,
+    price: Price,
+    outcome: &Outcome,
+    changes: &mut Vec<Change>,
+) -> Result<(), Fault>
+    ensures changes { OnOk result (changes.new.items ≡ changes.old.items ++ spec.trade_changes trade price outcome.now) }
+    ensures fault { OnErr result (result ≡ Err Memory) }
+{
+    changes.push(Change::CompleteTrade {
+        trade,
+        stamp: outcome.stamp,
+        price,
+        commission: outcome.commission,
+        tax: outcome.tax,
+    })?;
+    changes.push(Change::AddHistory(HistoryRow {
+        trade,
+        status: Status::Completed,
+        stamp: outcome.stamp,
+    }))?;
+    Ok(())
+}
+
+// A touched lot made smaller, or taken away where nothing is left of it.
+fn lot_left(touch: &Touch) -> Change
+    ensures { result ≡ spec.lot_left touch.now }
+{
+    if touch.after == 0 {
+        Change::RemoveLot(touch.lot)
+    } else {
+        Change::SetLot {
+            trade: touch.lot,
+            qty: touch.after,
+        }
+    }
+}
+
+// The history of a lot that a trade touches.
+fn lot_change(trade: Id, touch: &Touch) -> Change
+    ensures { result ≡ spec.lot_change trade touch.now }
+{
+    Change::AddLotChange(LotChange {
+        lot: touch.lot,
+        trade,
+        before: touch.before,
+        after: touch.after,
+    })
+}
+
+// Adds the changes of a lot that a trade touches, with its history.
+fn touch_lot(trade: Id, touch: &Touch, changes: &mut Vec<Change>) -> Result<(), Fault>
+    ensures changes { OnOk result (changes.new.items ≡ changes.old.items ++ spec.touched_changes trade touch.now) }
+    ensures fault { OnErr result (result ≡ Err Memory) }
+{
+    changes.push(lot_left(touch))?;
+    changes.push(lot_change(trade, touch))?;
+    Ok(())
+}
+
+// Adds the changes of the lots that a trade touches.
+fn close_lots(trade: Id, touched: &[Touch], changes: &mut Vec<Change>) -> Result<(), Fault>
+    ensures changes { OnOk result (changes.new.items ≡ changes.old.items ++ flat_map (spec.touched_changes trade) touched.now) }
+    ensures fault { OnErr result (result ≡ Err Memory) }
+{
+    for touch in touched {
+        touch_lot(trade, touch, changes)?;
+    }
+    Ok(())
+}
+
+// Adds the changes of the lot that a trade opens, if it opens one, with its history.
+fn open_lot(trade: &TradeRow, opened: Option<Lot>, changes: &mut Vec<Change>) -> Result<(), Fault>
+    ensures changes { OnOk result (changes.new.items ≡ changes.old.items ++ flat_map (spec.opened_changes trade.now) (option_to_list opened)) }
+    ensures fault { OnErr result (result ≡ Err Memory) }
+{
+    let Some(lot) = opened else {
+        return Ok(());
+    };
+    changes.push(Change::AddLot(HoldingRow {
+        trade: lot.trade,
+        account: trade.account,
+        symbol: trade.symbol.clone()?,
+        stamp: lot.stamp,
+        price: lot.price,
+        qty: lot.qty,
+    }))?;
+    changes.push(Change::AddLotChange(LotChange {
+        lot: lot.trade,
+        trade: lot.trade,
+        before: 0,
+        after: lot.qty,
+    }))?;
+    Ok(())
+}
+
+// The change of the account's summary, which was there or not.
+fn summary_change(found: &ResultFound, outcome: &Outcome) -> Result<Change, Fault>
+    ensures change { IfOk result (λ change. change ≡ spec.summary_change found.now.summary found.now.trade outcome.now.summary) }
+    ensures fault { OnErr result (result ≡ Err Memory) }
+{
+    let account = found.trade.account;
+    let symbol = found.trade.symbol.clone()?;
+    let qty = outcome.summary;
+    if found.summary.is_none() {
+        return Ok(Change::AddSummary(SummaryRow {
+            account,
+            symbol,
+            qty,
+        }));
+    }
+    if qty == 0 {
+        return Ok(Change::RemoveSummary { account, symbol });
+    }
+    Ok(Change::SetSummary(SummaryRow {
+        account,
+        symbol,
+        qty,
+    }))
+}
+
+// How a trade is settled at first.
+fn first_cash_type(is_cash: bool) -> CashType
+    ensures { result ≡ spec.first_cash_type is_cash }
+{
+    if is_cash {
+        CashType::CashAccount
+    } else {
+        CashType::Margin
+    }
+}
+
+// The change of the numbers of the broker, of whom one more trade is completed.
+fn broker_change(found: &ResultFound, commissions: Amount) -> Change
+    ensures { result ≡ spec.broker_change found.now commissions }
+{
+    Change::SetBrokerNumbers {
+        broker: found.account.broker,
+        trades: found.broker.trades.get() as i64 + 1,
+        commissions,
+    }
+}
+
+// The change that adds the settlement.
+fn settlement_change(trade: &TradeRow, outcome: &Outcome) -> Change
+    ensures { result ≡ spec.settlement_change trade.now outcome.now }
+{
+    Change::AddSettlement(SettlementRow {
+        trade: trade.id,
+        cash_type: first_cash_type(trade.is_cash),
+        due_day: outcome.due_day,
+        amount: outcome.amount,
+    })
+}
+
+// Adds the changes of the account's summary, the broker's numbers and the settlement.
+fn settle(found: &ResultFound, outcome: &Outcome, changes: &mut Vec<Change>) -> Result<(), Fault>
+    ensures changes { OnOk result (changes.new.items ≡ changes.old.items ++ spec.sum_changes found.now outcome.now) }
+    ensures fault { OnErr result (result ≡ Err Memory) }
+{
+    let summary = summary_change(found, outcome)?;
+    changes.push(summary)?;
+    changes.push(broker_change(found, outcome.commissions))?;
+    changes.push(settlement_change(&found.trade, outcome))?;
+    Ok(())
+}
+
+// Adds how many shares were traded, to the text of a cash trade.
+fn add_shares(name: &mut String, qty: Qty) -> Result<(), AllocError>
+    ensures { OnOk result (string_bytes name.new ≡ string_bytes name.old ++ spec.shares_text qty) }
+{
+    write!(name, " {} shares of ", qty.get())
+}
+
+// The text of a cash trade, with the name of its security.
+fn cash_name(alloc: Global, trade: &TradeRow, security: &Name) -> Result<String, AllocError>
+    ensures { IfOk result (λ name. string_bytes name ≡ spec.cash_name trade.now security.now) }
+{
+    let mut name = String::from_str(alloc, trade.kind.name())?;
+    add_shares(&mut name, trade.qty)?;
+    name.push_str(security.as_str())?;
+    Ok(name)
+}
+
+// What a cash trade moves, if it is one.
+fn cash_row(
+    alloc: Global,
+    found: &ResultFound,
+    outcome: &Outcome,
+) -> Result<Option<CashRow>, AllocError>
+    ensures { IfOk result (λ cash. option_map cash_row_of cash ≡ spec.cash_row found.now outcome.now) }
+{
+    if !found.trade.is_cash {
+        return Ok(None);
+    }
+    Ok(Some(CashRow {
+        trade: found.trade.id,
+        stamp: outcome.stamp,
+        amount: outcome.amount,
+        name: cash_name(alloc, &found.trade, &found.security)?,
+    }))
+}
+
+// Adds the changes of what a cash trade moves, if it is one.
+fn move_cash(
+    account: Id,
+    outcome: &Outcome,
+    cash: Option<CashRow>,
+    changes: &mut Vec<Change>,
+) -> Result<(), Fault>
+    ensures changes { OnOk result (changes.new.items ≡ changes.old.items ++ flat_map (spec.cash_changes account outcome.now.balance) (option_to_list cash)) }
+    ensures fault { OnErr result (result ≡ Err Memory) }
+{
+    let Some(row) = cash else {
+        return Ok(());
+    };
+    changes.push(Change::AddCash(row))?;
+    changes.push(Change::SetBalance {
+        account,
+        balance: outcome.balance,
+    })?;
+    Ok(())
+}
+
+// The changes of a completion, with what a cash trade moves.
+fn changes_of(
+    alloc: Global,
+    found: &ResultFound,
+    price: Price,
+    closing: &Closing,
+    outcome: &Outcome,
+    cash: Option<CashRow>,
+) -> Result<Vec<Change>, Fault>
+    ensures changes { IfOk result (λ changes. changes.items ≡ spec.changes_of found.now price closing.now outcome.now cash) }
+    ensures fault { OnErr result (result ≡ Err Memory) }
+{
+    let trade = &found.trade;
+    let mut changes = Vec::new(alloc);
+    complete_trade(trade.id, price, outcome, &mut changes)?;
+    close_lots(trade.id, &closing.touched, &mut changes)?;
+    open_lot(trade, closing.opened, &mut changes)?;
+    settle(found, outcome, &mut changes)?;
+    move_cash(trade.account, outcome, cash, &mut changes)?;
+    changes.push(Change::SetLast(outcome.stamp))?;
+    Ok(changes)
+}
+
+// The changes that complete a trade, by the lots that are closed and what it comes to.
+pub(crate) fn completion_changes(
+    alloc: Global,
+    found: &ResultFound,
+    price: Price,
+    closing: &Closing,
+    outcome: &Outcome,
+) -> Result<Vec<Change>, Fault>
+    ensures changes { IfOk result (λ changes. AreChanges found.now price closing.now outcome.now changes.items) }
+    ensures fault { OnErr result (result ≡ Err Memory) }
+{
+    let cash = cash_row(alloc, found, outcome)?;
+    let changes = changes_of(alloc, found, price, closing, outcome, cash)?;
+    Ok(changes)
+}

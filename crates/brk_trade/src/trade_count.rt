@@ -1,0 +1,40 @@
+ghost use Rattle.std.specs.Prelude.{◌≡◌, ℕ, ◌≤◌, SomeIff};
+
+use std::marker::Model;
+
+/// How many trades of a broker's accounts are completed (B_NUM_TRADES), 0 to 10^12.
+#[derive(Clone, Copy, Debug, PartialEq, Eq)]
+pub struct TradeCount(u64);
+
+impl Model for TradeCount {
+    ghost Value = { ℕ };
+
+    ghost view = { λ count. count.0 };
+
+    ghost inverse = { λ n. record { 0 = n } };
+
+    ghost invariant = { λ count. count.0 ≤ 1000000000000 };
+}
+
+impl TradeCount {
+    /// The greatest count: no more trades have an id.
+    pub const GREATEST: u64 = 1_000_000_000_000;
+
+    /// So many trades, where they are within the limit.
+    pub fn new(trades: u64) -> Option<TradeCount>
+        ensures { SomeIff result (trades ≤ 1000000000000) trades }
+    {
+        if trades <= TradeCount::GREATEST {
+            Some(TradeCount(trades))
+        } else {
+            None
+        }
+    }
+
+    pub fn get(self) -> u64
+        ensures value { result ≡ self }
+        ensures high { self ≤ 1000000000000 }
+    {
+        self.0
+    }
+}
