@@ -14,7 +14,7 @@ use Rattle.brk_books.specs.OrderPlans.{AreLots, lot_in}
 use Rattle.brk_books.specs.TradeReads.{lot_shares}
 use Rattle.brk_books.proofs.LotReading.{reads_lots}
 
-shares_held : (rows : List HoldingRow) → shares_of (map lot_in rows) ≡ flat_map lot_shares (map holding_row_of rows)
+pub shares_held : (rows : List HoldingRow) → shares_of (map lot_in rows) ≡ flat_map lot_shares (map holding_row_of rows)
 shares_held [] = refl
 shares_held (r ∷ rows) = ap (λ shares. lot_shares (holding_row_of r) ++ shares) (shares_held rows)
 

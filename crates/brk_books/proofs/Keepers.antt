@@ -18,6 +18,7 @@ use Rattle.brk_books.proofs.Bools.{numbers_back, texts_back}
 use Rattle.brk_books.proofs.Same.{NonePass, All-map, All-append, any-none, find-more, find-none}
 use Rattle.brk_books.proofs.NewKeys.{both, and_both, not_both, same_bytes, same_codes, code_same}
 use Rattle.brk_books.proofs.Tested.{passed, in_time, not_not}
+use Rattle.brk_books.proofs.Completions.{later}
 use Rattle.brk_books.proofs.Steps.{in_order}
 
 pub found_more : {X : Type 0} (p : X → Bool) (xs ys : List X) → is_some (find p xs) ≡ true → is_some (find p (xs ++ ys)) ≡ true
@@ -25,8 +26,8 @@ found_more p xs ys h = ap is_some (find-more p xs ys h) ∙ h
 
 -- ---- kinds that the order does not speak of
 
-pub books_last : (base : Base) (stamp : ℕ) → stamp ≤ last_stamp → IsBooks base → IsBooks (record base { last = Some stamp })
-books_last base stamp h k = record {
+pub books_last : (base : Base) (now : ℕ) → next_stamp base now ≤ last_stamp → IsBooks base → IsBooks (record base { last = Some (next_stamp base now) })
+books_last base now h k = record {
   brokers = k.brokers;
   customers = k.customers;
   accounts = k.accounts;
@@ -37,6 +38,9 @@ books_last base stamp h k = record {
   volumes = k.volumes;
   numbered = k.numbered;
   ways = k.ways;
+  completions = k.completions;
+  early = later base now k.early;
+  moments = k.moments;
   bands = k.bands;
   apart = k.apart;
   clock = h;
@@ -55,6 +59,9 @@ books_terms base charges tax_rates customer_taxes kept k = record {
   volumes = k.volumes;
   numbered = k.numbered;
   ways = k.ways;
+  completions = k.completions;
+  early = k.early;
+  moments = k.moments;
   bands = k.bands;
   apart = k.apart;
   clock = k.clock;
@@ -68,19 +75,19 @@ books_kept base (Some key) command reply k =
 pub books_charge : (base : Base) (now : ℕ) (c : Charge) → LeavesBooks base now (AddCharge c)
 unfolding records_after
 books_charge base now c k e =
-    books_last _ (next_stamp base now) (in_time base now (AddCharge c) e)
+    books_last _ now (in_time base now (AddCharge c) e)
     (books_terms base (base.charges ++ c ∷ []) base.tax_rates base.customer_taxes base.kept k)
 
 pub books_tax_rate : (base : Base) (now : ℕ) (r : TaxRate) → LeavesBooks base now (AddTaxRate r)
 unfolding records_after
 books_tax_rate base now r k e =
-    books_last _ (next_stamp base now) (in_time base now (AddTaxRate r) e)
+    books_last _ now (in_time base now (AddTaxRate r) e)
     (books_terms base base.charges (base.tax_rates ++ r ∷ []) base.customer_taxes base.kept k)
 
 pub books_customer_tax : (base : Base) (now : ℕ) (x : CustomerTax) → LeavesBooks base now (AddCustomerTax x)
 unfolding records_after
 books_customer_tax base now x k e =
-    books_last _ (next_stamp base now) (in_time base now (AddCustomerTax x) e)
+    books_last _ now (in_time base now (AddCustomerTax x) e)
     (books_terms base base.charges base.tax_rates (base.customer_taxes ++ x ∷ []) base.kept k)
 
 -- ---- permissions
@@ -108,6 +115,9 @@ books_permission base now p k e =
       volumes = k.volumes;
       numbered = k.numbered;
       ways = k.ways;
+      completions = k.completions;
+      early = later base now k.early;
+      moments = k.moments;
       bands = k.bands;
       apart = k.apart;
       clock = in_time base now (AddPermission p) e;
@@ -129,6 +139,9 @@ books_broker base now b k e = record {
   volumes = k.volumes;
   numbered = k.numbered;
   ways = k.ways;
+  completions = k.completions;
+  early = later base now k.early;
+  moments = k.moments;
   bands = k.bands;
   apart = k.apart;
   clock = in_time base now (AddBroker b) e;
@@ -147,6 +160,9 @@ books_customer base now c k e = record {
   volumes = k.volumes;
   numbered = k.numbered;
   ways = k.ways;
+  completions = k.completions;
+  early = later base now k.early;
+  moments = k.moments;
   bands = k.bands;
   apart = k.apart;
   clock = in_time base now (AddCustomer c) e;
@@ -174,6 +190,9 @@ books_account base now a k e =
       volumes = k.volumes;
       numbered = k.numbered;
       ways = k.ways;
+      completions = k.completions;
+      early = later base now k.early;
+      moments = k.moments;
       bands = k.bands;
       apart = k.apart;
       clock = in_time base now (AddAccount a) e;
@@ -207,6 +226,9 @@ books_security base now l k e =
       volumes = All-append HasVolume base.securities (s ∷ []) k.volumes (no_volume, tt);
       numbered = k.numbered;
       ways = k.ways;
+      completions = k.completions;
+      early = later base now k.early;
+      moments = k.moments;
       bands = k.bands;
       apart = k.apart;
       clock = in_time base now (AddSecurity l) e;
@@ -249,6 +271,9 @@ books_band base now b k e =
       volumes = k.volumes;
       numbered = k.numbered;
       ways = k.ways;
+      completions = k.completions;
+      early = later base now k.early;
+      moments = k.moments;
       bands = All-append HasBounds base.bands (b ∷ []) k.bands (in_order b.from_qty b.to_qty p.0, tt);
       apart = apart_more base.bands b (any-none (bands_meet b) base.bands p.1.0) k.apart;
       clock = in_time base now (AddBand b) e;

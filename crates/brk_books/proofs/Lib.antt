@@ -12,6 +12,7 @@ pub mod Tested
 pub mod Steps
 pub mod Keepers
 pub mod Numbering
+pub mod Completions
 pub mod TradeReading
 pub mod BandReading
 pub mod Permitting
@@ -22,6 +23,19 @@ pub mod Volumes
 pub mod Worth
 pub mod Runs
 pub mod LotReading
+pub mod Positions
+pub mod LotOrder
+pub mod Touching
+pub mod Each
+pub mod Completing
+pub mod LotSetting
+pub mod Holdings
+pub mod Histories
+pub mod Summaries
+pub mod Sums
+pub mod ResultRows
+pub mod ResultKeeping
+pub mod ResultSums
 pub mod Trades
 pub mod TradeKeepers
 pub mod Planning
@@ -36,3 +50,9 @@ pub mod Quotes
 pub mod QuotedTicks
 pub mod QuotedVolumes
 pub mod FeedPlanning
+pub mod ResultFinding
+pub mod ResultRefusing
+pub mod ResultDoing
+pub mod SumReading
+pub mod RunKeeping
+pub mod RunLaws

@@ -27,16 +27,16 @@ use Rattle.brk_books.proofs.TradeReading.{ids_rise, trades_stand}
 
 -- ---- trades of different ids
 
-abbrev IdsApart : List Trade → Type 0
+abbrev pub IdsApart : List Trade → Type 0
 IdsApart [] = ⊤
 IdsApart (t ∷ ts) = NonePass (λ u. u.id == t.id) ts × IdsApart ts
 
 -- ids that rise
-abbrev IdsRise : List Trade → Type 0
+abbrev pub IdsRise : List Trade → Type 0
 IdsRise [] = ⊤
 IdsRise (t ∷ ts) = AllByRecursion (λ u. nat_lt t.id u.id ≡ true) ts × IdsRise ts
 
-All-sort : {X : Type 0} (P : X → Type 0) (before : X → X → Bool) (xs : List X) → AllByRecursion P xs → AllByRecursion P (sort_by before xs)
+pub All-sort : {X : Type 0} (P : X → Type 0) (before : X → X → Bool) (xs : List X) → AllByRecursion P xs → AllByRecursion P (sort_by before xs)
 unfolding sort_by
 All-sort P before [] h = tt
 All-sort P before (x ∷ xs) h = All-insert P before x (sort_by before xs) h.0 (All-sort P before xs h.1)
@@ -47,23 +47,23 @@ apart_insert before t (u ∷ ts) h d =
     elim (before u t) as (λ b. IdsApart (cond b (u ∷ insert_by before t ts) (t ∷ u ∷ ts)))
     [ true ↦ (All-insert (λ v. (v.id == u.id) ≡ false) before t ts (numbers_back t.id u.id ∙ h.0) d.0, apart_insert before t ts h.1 d.1) | false ↦ (h, d) ]
 
-apart_sort : (before : Trade → Trade → Bool) (ts : List Trade) → IdsApart ts → IdsApart (sort_by before ts)
+pub apart_sort : (before : Trade → Trade → Bool) (ts : List Trade) → IdsApart ts → IdsApart (sort_by before ts)
 unfolding sort_by
 apart_sort before [] d = tt
 apart_sort before (t ∷ ts) d = apart_insert before t (sort_by before ts) (All-sort (λ u. (u.id == t.id) ≡ false) before ts d.0) (apart_sort before ts d.1)
 
-rise_apart : (ts : List Trade) → IdsRise ts → IdsApart ts
+pub rise_apart : (ts : List Trade) → IdsRise ts → IdsApart ts
 rise_apart [] r = tt
 rise_apart (t ∷ ts) r = (All-map ts (λ u h. other t.id u.id h) r.0, rise_apart ts r.1)
   where
     other : (m n : ℕ) → nat_lt m n ≡ true → (n == m) ≡ false
     other m n h = grind (arith, nat_tests)
 
-numbered_rise : (n : ℕ) (ts : List Trade) → NumberedFrom n ts → IdsRise ts
+pub numbered_rise : (n : ℕ) (ts : List Trade) → NumberedFrom n ts → IdsRise ts
 numbered_rise n [] k = tt
 numbered_rise n (t ∷ ts) k = (ids_rise t.id (n + 1) ts (omega (arith, k.0)) k.1, numbered_rise (n + 1) ts k.1)
 
-rise_filter : (p : Trade → Bool) (ts : List Trade) → IdsRise ts → IdsRise (filter p ts)
+pub rise_filter : (p : Trade → Bool) (ts : List Trade) → IdsRise ts → IdsRise (filter p ts)
 rise_filter p [] r = tt
 rise_filter p (t ∷ ts) r =
     elim (p t) as (λ b. IdsRise (cond b (t ∷ filter p ts) (filter p ts)))
@@ -134,7 +134,7 @@ filter-swap {X = X} p q (x ∷ xs) = by_test (p x) (q x) refl refl (filter-swap 
         ∙ sym (ap (λ b. filter q (cond b (x ∷ filter p xs) (filter p xs))) e)
     by_test false false e f h = ap (λ b. filter p (cond b (x ∷ filter q xs) (filter q xs))) f ∙ h ∙ sym (ap (λ b. filter q (cond b (x ∷ filter p xs) (filter p xs))) e)
 
-filter-map : {X Y : Type 0} (p : Y → Bool) (f : X → Y) (xs : List X) → filter p (map f xs) ≡ map f (filter (λ x. p (f x)) xs)
+pub filter-map : {X Y : Type 0} (p : Y → Bool) (f : X → Y) (xs : List X) → filter p (map f xs) ≡ map f (filter (λ x. p (f x)) xs)
 filter-map p f [] = refl
 filter-map p f (x ∷ xs) = by_test (p (f x)) (filter-map p f xs)
   where
@@ -143,7 +143,7 @@ filter-map p f (x ∷ xs) = by_test (p (f x)) (filter-map p f xs)
     by_test true e = ap (λ ys. f x ∷ ys) e
     by_test false e = e
 
-filter-both : {X : Type 0} (p q : X → Bool) (xs : List X) → filter (λ x. p x && q x) xs ≡ filter q (filter p xs)
+pub filter-both : {X : Type 0} (p q : X → Bool) (xs : List X) → filter (λ x. p x && q x) xs ≡ filter q (filter p xs)
 filter-both p q [] = refl
 filter-both {X = X} p q (x ∷ xs) = by_test (p x) (filter-both p q xs)
   where
@@ -152,7 +152,7 @@ filter-both {X = X} p q (x ∷ xs) = by_test (p x) (filter-both p q xs)
     by_test true e = ap (λ ys. cond (q x) (x ∷ ys) ys) e
     by_test false e = e
 
-all_pass : {X : Type 0} (p : X → Bool) (xs : List X) → AllByRecursion (λ x. p x ≡ true) (filter p xs)
+pub all_pass : {X : Type 0} (p : X → Bool) (xs : List X) → AllByRecursion (λ x. p x ≡ true) (filter p xs)
 all_pass p [] = tt
 all_pass p (x ∷ xs) = by_test (p x) refl (all_pass p xs)
   where
@@ -161,10 +161,10 @@ all_pass p (x ∷ xs) = by_test (p x) refl (all_pass p xs)
     by_test false e h = h
 
 -- whether a lot is left of a row
-abbrev is_left : HoldingRow → Bool
+abbrev pub is_left : HoldingRow → Bool
 is_left r = not (is_zero r.qty)
 
-holdings_in_order : (base : Base) → NumberedFrom 1 base.trades → (sheets base).holdings ≡ filter is_left (map (holding_row (completed base)) (completed base))
+pub holdings_in_order : (base : Base) → NumberedFrom 1 base.trades → (sheets base).holdings ≡ filter is_left (map (holding_row (completed base)) (completed base))
 unfolding tables_of sheets_of
 holdings_in_order base n =
     by_key-filter holding_key is_left (map (holding_row (completed base)) (completed base))
@@ -175,12 +175,12 @@ holdings_in_order base n =
 abbrev age_row : HoldingRow → List KeyPart
 age_row r = number r.stamp ∷ number r.trade ∷ []
 
-position_rise : (base : Base) (account : ℕ) (symbol : Text) → NumberedFrom 1 base.trades → IdsRise (of_position (completed base) account symbol)
+pub position_rise : (base : Base) (account : ℕ) (symbol : Text) → NumberedFrom 1 base.trades → IdsRise (of_position (completed base) account symbol)
 position_rise base account symbol n =
     rise_filter (λ t. bytes_eq t.symbol symbol) (of_account (completed base) account)
     (rise_filter (λ t. t.account == account) (completed base) (rise_filter is_completed base.trades (numbered_rise 1 base.trades n)))
 
-lots_are : (base : Base) (account : ℕ) (symbol : Text) → NumberedFrom 1 base.trades
+pub lots_are : (base : Base) (account : ℕ) (symbol : Text) → NumberedFrom 1 base.trades
     → lots_in (sheets base) account symbol ≡ filter is_left (map (holding_row (completed base)) (sort_by_key moment_of (of_position (completed base) account symbol)))
 lots_are base account symbol n =
     let done : List Trade = completed base in

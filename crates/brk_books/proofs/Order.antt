@@ -202,6 +202,13 @@ by_key-middle key (y ∷ xs) x ys h =
     ∙ insert_commute (row_before key) x y (by_key key (xs ++ ys)) (λ a b c. key_splits (key a) (key b) (key c))
     (first_of_two (key y) (key x) h.0 (key_before (key y) (key x)) (key_before (key x) (key y)) refl refl)
 
+-- two rows of different keys can be put in either way round
+pub rows_commute : {Row : Type 0} (key : Row → List KeyPart) (x y : Row) (rows : List Row) → (key x ≡ key y → ⊥)
+    → insert_by (row_before key) x (insert_by (row_before key) y rows) ≡ insert_by (row_before key) y (insert_by (row_before key) x rows)
+rows_commute key x y rows h =
+    insert_commute (row_before key) y x rows (λ a b c. key_splits (key a) (key b) (key c))
+    (first_of_two (key x) (key y) h (key_before (key x) (key y)) (key_before (key y) (key x)) refl refl)
+
 append_nil : {X : Type 0} (xs : List X) → xs ++ [] ≡ xs
 append_nil [] = refl
 append_nil (x ∷ xs) = ap (λ ys. x ∷ ys) (append_nil xs)
@@ -213,7 +220,7 @@ by_key-append key xs x h = by_key-middle key xs x [] h ∙ ap (λ ys. insert_by 
 -- ---- rows changed, and rows left out
 
 -- a change that leaves the key leaves where a row stands
-map-insert_by : {X Y : Type 0} (before : X → X → Bool) (before' : Y → Y → Bool) (f : X → Y) (x : X) (ys : List X)
+pub map-insert_by : {X Y : Type 0} (before : X → X → Bool) (before' : Y → Y → Bool) (f : X → Y) (x : X) (ys : List X)
     → ((a b : X) → before' (f a) (f b) ≡ before a b) → map f (insert_by before x ys) ≡ insert_by before' (f x) (map f ys)
 map-insert_by before before' f x [] h = refl
 map-insert_by before before' f x (y ∷ ys) h =

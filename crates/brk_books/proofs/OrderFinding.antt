@@ -37,7 +37,7 @@ use Rattle.brk_books.proofs.Worth.{reads_assets}
 
 -- ---- an account that is there, with its customer
 
-record OwnerFound (base : Base) (account : ℕ) : Type 0 where
+pub record OwnerFound (base : Base) (account : ℕ) : Type 0 where
   pub a : Account
   pub c : Customer
   pub there : account_with base account ≡ Some a
@@ -45,7 +45,7 @@ record OwnerFound (base : Base) (account : ℕ) : Type 0 where
   pub customer_row : find (λ r. r.id == a.customer) (sheets base).customers ≡ Some c
   pub customer_is : customer_with base (customer_of base account) ≡ Some c
 
-owner_found : (base : Base) (account : ℕ) → IsBooks base → is_some (account_with base account) ≡ true → OwnerFound base account
+pub owner_found : (base : Base) (account : ℕ) → IsBooks base → is_some (account_with base account) ≡ true → OwnerFound base account
 owner_found base account books h =
     let found = some_of (account_with base account) h in
     let a : Account = found.0 in
@@ -59,15 +59,15 @@ owner_found base account books h =
       customer_is = ap (λ x. customer_with base (option_map_or (λ a. a.customer) x 0)) found.1 ∙ of_account.1;
     }
 
-of_account : (base : Base) (account : ℕ) (holds : AccountRow → Type 0) (f : OwnerFound base account) → IfSome (account_in (sheets base) account) holds
+pub of_account : (base : Base) (account : ℕ) (holds : AccountRow → Type 0) (f : OwnerFound base account) → IfSome (account_in (sheets base) account) holds
     → holds (account_row base.accounts (completed base) f.a)
 of_account base account holds f h = subst (λ x. IfSome x holds) f.row h
 
-of_customer : (base : Base) (account : ℕ) (holds : Customer → Type 0) (f : OwnerFound base account) → IfCustomer (sheets base) account holds → holds f.c
+pub of_customer : (base : Base) (account : ℕ) (holds : Customer → Type 0) (f : OwnerFound base account) → IfCustomer (sheets base) account holds → holds f.c
 of_customer base account holds f h =
     subst (λ x. IfSome x holds) f.customer_row (of_account base account (λ a. IfSome (find (λ r. r.id == a.customer) (sheets base).customers) holds) f h)
 
-tier_found : (base : Base) (account : ℕ) (f : OwnerFound base account) → tier_of base account ≡ f.c.tier
+pub tier_found : (base : Base) (account : ℕ) (f : OwnerFound base account) → tier_of base account ≡ f.c.tier
 tier_found base account f = ap (λ x. option_map_or (λ c. c.tier) x 0) f.customer_is
 
 -- ---- what was found of it
@@ -123,11 +123,11 @@ rate_read base order found books k f s p =
 -- ---- the refusal
 
 -- tests that come to the same refusal
-record Alike (xs ys : List Test) : Type 0 where
+pub record Alike (xs ys : List Test) : Type 0 where
   pub first : first_refusal xs ≡ first_refusal ys
 
 -- the first ones do, and the later ones too where those find nothing wrong
-same_first : (b c : Bool) (refusal : Refusal) (xs ys : List Test) → b ≡ c → (b ≡ false → Alike xs ys) → Alike ((b, refusal) ∷ xs) ((c, refusal) ∷ ys)
+pub same_first : (b c : Bool) (refusal : Refusal) (xs ys : List Test) → b ≡ c → (b ≡ false → Alike xs ys) → Alike ((b, refusal) ∷ xs) ((c, refusal) ∷ ys)
 same_first true c refusal xs ys e h = record { first = ap (λ c. first_refusal ((c, refusal) ∷ ys)) e }
 same_first false c refusal xs ys e h = record { first = (h refl).first ∙ ap (λ c. first_refusal ((c, refusal) ∷ ys)) e }
 

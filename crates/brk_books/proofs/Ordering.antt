@@ -6,7 +6,7 @@ use Rattle.brk_money.specs.declared.status.Status.TheVariants.{Completed, Submit
 use Rattle.brk_money.specs.declared.trade_type.TradeType.{TradeType}
 use Rattle.brk_money.specs.declared.trade_type.TradeType.TheVariants.{MarketBuy, MarketSell, StopLoss, LimitSell, LimitBuy}
 use Rattle.brk_model.specs.Records.{Trade}
-use Rattle.brk_model.specs.Base.{Base, broker_of, has_status, is_completed}
+use Rattle.brk_model.specs.Base.{Base, broker_of, completed, has_status, is_completed}
 use Rattle.brk_model.specs.Derived.{pending, shares_in, summary_of, balance_of, trade_count_of, commissions_of}
 use Rattle.brk_model.specs.Tables.{HistoryRow, Tables, tables_of, tables_upon, trade_row, history_rows, request_row}
 use Rattle.brk_model.specs.Keys.{by_key, insert_row, trade_key, history_key, request_key}
@@ -22,7 +22,7 @@ use Rattle.brk_books.proofs.References.{append_nil, new_number, row_last}
 use Rattle.brk_books.proofs.Numbering.{ids_other, numbered_below}
 use Rattle.brk_books.proofs.Moving.{history_of_others}
 
-first_not_completed : (kind : TradeType) → same_status (first_status kind) Completed ≡ false
+pub first_not_completed : (kind : TradeType) → same_status (first_status kind) Completed ≡ false
 first_not_completed MarketBuy = refl
 first_not_completed MarketSell = refl
 first_not_completed StopLoss = refl
@@ -32,6 +32,10 @@ first_not_completed LimitBuy = refl
 -- the rows of an order
 abbrev pub rows_ordered : Base → ℕ → Order → Bool → Tables
 rows_ordered base stamp o waits = order_rows (trade_row (ordered_trade base stamp o)) waits (broker_of base o.account) (sheets base)
+
+-- an order completes nothing
+pub ordered_done : (base : Base) (stamp : ℕ) (o : Order) → completed (with_order base stamp o) ≡ completed base
+ordered_done base stamp o = filter-not_one is_completed base.trades (ordered_trade base stamp o) [] (first_not_completed o.kind) ∙ append_nil (filter is_completed base.trades)
 
 pub ordered_rows : (base : Base) (stamp : ℕ) (o : Order) → NumberedFrom 1 base.trades → sheets (with_order base stamp o) ≡ rows_ordered base stamp o (not (is_market o.kind))
 unfolding tables_of sheets_of shares_in summary_of balance_of trade_count_of commissions_of
@@ -49,8 +53,8 @@ ordered_rows base stamp o n = by_market (is_market o.kind) refl
     others : ids_other (length base.trades + 1) base.trades
     others = let e : 1 + length base.trades ≡ length base.trades + 1 = omega arith in subst (λ m. ids_other m base.trades) e (numbered_below 1 base.trades n)
 
-    done : filter is_completed (base.trades ++ t ∷ []) ≡ filter is_completed base.trades
-    done = filter-not_one is_completed base.trades t [] (first_not_completed o.kind) ∙ append_nil (filter is_completed base.trades)
+    done : completed (with_order base stamp o) ≡ completed base
+    done = ordered_done base stamp o
 
     trades : by_key trade_key (map trade_row (base.trades ++ t ∷ [])) ≡ insert_row trade_key (trade_row t) (by_key trade_key (map trade_row base.trades))
     trades = row_last trade_key trade_row base.trades t (All-mapped _ trade_row base.trades (new_number (λ u. u.id) t base.trades others))

@@ -17,11 +17,11 @@ none_refuse (t ∷ ts) e = by_test (none_refuse ts) t.0 refl
     by_test ih true f = let k : Some t.1 ≡ None = rw f at e in absurd (cc)
     by_test ih false f = (f, ih (rw f at e))
 
-All-front : {X : Type 0} (P : X → Type 0) (xs ys : List X) → AllByRecursion P (xs ++ ys) → AllByRecursion P xs
+pub All-front : {X : Type 0} (P : X → Type 0) (xs ys : List X) → AllByRecursion P (xs ++ ys) → AllByRecursion P xs
 All-front P [] ys h = tt
 All-front P (x ∷ xs) ys h = (h.0, All-front P xs ys h.1)
 
-All-back : {X : Type 0} (P : X → Type 0) (xs ys : List X) → AllByRecursion P (xs ++ ys) → AllByRecursion P ys
+pub All-back : {X : Type 0} (P : X → Type 0) (xs ys : List X) → AllByRecursion P (xs ++ ys) → AllByRecursion P ys
 All-back P [] ys h = h
 All-back P (x ∷ xs) ys h = All-back P xs ys h.1
 

@@ -1,22 +1,24 @@
 -- An accepted order, cancel or feed leaves the base in order.
-use Rattle.std.proofs.Common.{◌≡◌, ℕ, ◌+◌, ◌==◌, false, List, [], ◌∷◌, refl, length, arith}
+use Rattle.std.proofs.Common.{◌≡◌, ℕ, ◌+◌, ◌==◌, false, List, [], ◌∷◌, Some, refl, sym, subst, length, arith}
 use Rattle.std.specs.Prelude.{is_some, nat_lt}
 use Rattle.std.specs.List.{AllByRecursion, list_any}
 use Rattle.std.proofs.lemmas.Bool.{ltb-false}
-use Rattle.brk_money.specs.declared.status.Status.TheVariants.{Submitted, Canceled}
+use Rattle.brk_money.specs.declared.status.Status.TheVariants.{Completed, Submitted, Canceled}
 use Rattle.brk_model.specs.Limits.{greatest_amount}
 use Rattle.brk_model.specs.Records.{Security, Trade}
-use Rattle.brk_model.specs.Base.{Base, account_with, security_with, marked}
+use Rattle.brk_model.specs.Base.{Base, account_with, completed, security_with, marked, trade_with, with_trades}
 use Rattle.brk_model.specs.Commands.{Order, Tick, PlaceOrder, FeedTicks, CancelTrade}
-use Rattle.brk_model.specs.Orders.{ordered_trade}
+use Rattle.brk_model.specs.Orders.{first_status, ordered_trade}
 use Rattle.brk_model.specs.Feed.{is_triggered, with_tick, with_ticks}
 use Rattle.brk_model.specs.Tests.{tests, next_stamp}
 use Rattle.brk_model.specs.Step.{records_after}
-use Rattle.brk_books.specs.Books.{BandsApart, DistinctAccounts, HasBounds, HasVolume, KnowsAccount, KnowsBroker, KnowsCustomer, KnowsSecurity, PermissionsApart, WaitsFirst}
+use Rattle.brk_books.specs.Books.{BandsApart, CompletesFirst, DistinctAccounts, HasBounds, HasVolume, IsEarly, KnowsAccount, KnowsBroker, KnowsCustomer, KnowsSecurity, MomentsApart, PermissionsApart, WaitsFirst}
 use Rattle.brk_books.specs.Plans.{LeavesBooks}
 use Rattle.brk_books.proofs.Same.{All-append, All-map, any-none}
 use Rattle.brk_books.proofs.Places.{All-updated}
-use Rattle.brk_books.proofs.Numbering.{moved_way, numbered_more, numbered_updated}
+use Rattle.brk_books.proofs.Numbering.{moved_way, numbered_more, numbered_updated, status_of_marked}
+use Rattle.brk_books.proofs.Completions.{completed_ticks, completed_unseen, completions_tick, first_mark, later, moved_elsewhere, named_waits}
+use Rattle.brk_books.proofs.Ordering.{first_not_completed, ordered_done}
 use Rattle.brk_books.proofs.Feeding.{Ready, ready_tick, known_after}
 use Rattle.brk_books.proofs.Tested.{passed, in_time, not_not}
 use Rattle.brk_books.proofs.Trades.{ready}
@@ -42,6 +44,9 @@ books_order base now o k e =
       volumes = k.volumes;
       numbered = numbered_more 1 base.trades t (next_number (length base.trades)) k.numbered;
       ways = All-append WaitsFirst base.trades (t ∷ []) k.ways ((λ waits. tt), tt);
+      completions = All-append CompletesFirst base.trades (t ∷ []) k.completions (first_mark t (record { stamp = next_stamp base now; status = first_status o.kind }) refl (first_not_completed o.kind), tt);
+      early = subst (AllByRecursion (IsEarly (Some (next_stamp base now)))) (sym (ordered_done base (next_stamp base now) o)) (later base now k.early);
+      moments = subst MomentsApart (sym (ordered_done base (next_stamp base now) o)) k.moments;
       bands = k.bands;
       apart = k.apart;
       clock = in_time base now (PlaceOrder o) e;
@@ -50,9 +55,12 @@ books_order base now o k e =
 -- ---- a cancel
 
 pub books_cancel : (base : Base) (now id : ℕ) → LeavesBooks base now (CancelTrade id)
-unfolding records_after
+unfolding records_after tests
 books_cancel base now id k e =
     let stamp : ℕ = next_stamp base now in
+    let done : completed (with_trades (λ t. t.id == id) (marked stamp Canceled) base) ≡ completed base =
+    completed_unseen (λ t. t.id == id) (marked stamp Canceled) base.trades (λ t. status_of_marked stamp Canceled Completed t)
+    (named_waits base id (trade_with base id) k.numbered refl (passed base now (CancelTrade id) e)) in
     record {
       brokers = k.brokers;
       customers = k.customers;
@@ -64,6 +72,9 @@ books_cancel base now id k e =
       volumes = k.volumes;
       numbered = numbered_updated 1 (λ t. t.id == id) (marked stamp Canceled) base.trades (λ t. refl) k.numbered;
       ways = All-updated WaitsFirst (λ t. t.id == id) (marked stamp Canceled) base.trades (λ t h. moved_way stamp Canceled t refl) k.ways;
+      completions = All-updated CompletesFirst (λ t. t.id == id) (marked stamp Canceled) base.trades (λ t h. moved_elsewhere stamp Canceled t refl) k.completions;
+      early = subst (AllByRecursion (IsEarly (Some stamp))) (sym done) (later base now k.early);
+      moments = subst MomentsApart (sym done) k.moments;
       bands = k.bands;
       apart = k.apart;
       clock = in_time base now (CancelTrade id) e;
@@ -80,6 +91,7 @@ record Between (base : Base) : Type 0 where
   pub owners : DistinctAccounts base.accounts
   pub permissions : PermissionsApart base.permissions
   pub rest : Ready base
+  pub completions : AllByRecursion CompletesFirst base.trades
   pub bands : AllByRecursion HasBounds base.bands
   pub apart : BandsApart base.bands
 
@@ -93,6 +105,7 @@ between_tick base stamp tick k = record {
   owners = k.owners;
   permissions = k.permissions;
   rest = ready_tick base stamp tick k.rest;
+  completions = completions_tick stamp tick base.trades k.rest.ways k.completions;
   bands = k.bands;
   apart = k.apart;
 }
@@ -110,8 +123,9 @@ unfolding records_after tests
 books_feed base now ticks k e =
     let p = passed base now (FeedTicks ticks) e in
     let after : Base = with_ticks (next_stamp base now) base ticks in
+    let done : completed after ≡ completed base = completed_ticks base (next_stamp base now) ticks in
     let b : Between after = between_ticks base (next_stamp base now) ticks
-    (record { brokers = k.brokers; customers = k.customers; accounts = k.accounts; securities = k.securities; owners = k.owners; permissions = k.permissions; rest = ready base k; bands = k.bands; apart = k.apart }) in
+    (record { brokers = k.brokers; customers = k.customers; accounts = k.accounts; securities = k.securities; owners = k.owners; permissions = k.permissions; rest = ready base k; completions = k.completions; bands = k.bands; apart = k.apart }) in
     record {
       brokers = b.brokers;
       customers = b.customers;
@@ -123,6 +137,9 @@ books_feed base now ticks k e =
       volumes = within_limit after.securities p.1.0;
       numbered = b.rest.numbered;
       ways = b.rest.ways;
+      completions = b.completions;
+      early = subst (AllByRecursion (IsEarly (Some (next_stamp base now)))) (sym done) (later base now k.early);
+      moments = subst MomentsApart (sym done) k.moments;
       bands = b.bands;
       apart = b.apart;
       clock = in_time base now (FeedTicks ticks) e;

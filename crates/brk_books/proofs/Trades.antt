@@ -31,7 +31,7 @@ unfolding tables_of sheets_of shares_in summary_of balance_of trade_count_of com
 last_set base stamp = refl
 
 -- from the records to the whole
-whole : (after : Base) (stamp : ℕ) (t : Tables) → sheets after ≡ t → sheets (record after { last = Some stamp }) ≡ with_last stamp t
+pub whole : (after : Base) (stamp : ℕ) (t : Tables) → sheets after ≡ t → sheets (record after { last = Some stamp }) ≡ with_last stamp t
 whole after stamp t e = last_set after stamp ∙ ap (with_last stamp) e
 
 pub step_order : (base : Base) (now : ℕ) (o : Order)

@@ -39,12 +39,12 @@ total-insert {X = X} f before x (y ∷ ys) = by_test (total-insert f before x ys
     by_test e true = ap (λ n. f y +ℤ n) e ∙ swap (f x) (f y) (total_by f ys)
     by_test e false = refl
 
-total-sorted : {Row : Type 0} (key : Row → List KeyPart) (f : Row → ℤ) (xs : List Row) → total_by f (by_key key xs) ≡ total_by f xs
+pub total-sorted : {Row : Type 0} (key : Row → List KeyPart) (f : Row → ℤ) (xs : List Row) → total_by f (by_key key xs) ≡ total_by f xs
 unfolding total_by sort_by
 total-sorted key f [] = refl
 total-sorted key f (x ∷ xs) = total-insert f (row_before key) x (by_key key xs) ∙ ap (λ n. f x +ℤ n) (total-sorted key f xs)
 
-total-append : {X : Type 0} (f : X → ℤ) (xs ys : List X) → total_by f (xs ++ ys) ≡ total_by f xs +ℤ total_by f ys
+pub total-append : {X : Type 0} (f : X → ℤ) (xs ys : List X) → total_by f (xs ++ ys) ≡ total_by f xs +ℤ total_by f ys
 unfolding total_by
 total-append f [] ys = sym (+ℤ_idl (total_by f ys))
 total-append f (x ∷ xs) ys = ap (λ n. f x +ℤ n) (total-append f xs ys) ∙ sym (+ℤ_assoc (f x) (total_by f xs) (total_by f ys))
@@ -52,7 +52,7 @@ total-append f (x ∷ xs) ys = ap (λ n. f x +ℤ n) (total-append f xs ys) ∙ 
 -- ---- the summaries of one account
 
 -- an account's summaries in the symbols of some securities
-abbrev summaries_in : List Trade → List Security → ℕ → List SummaryRow
+abbrev pub summaries_in : List Trade → List Security → ℕ → List SummaryRow
 summaries_in done ss account = flat_map (λ s. summary_rows done account s.symbol) ss
 
 -- they are of the account
@@ -79,7 +79,7 @@ of_one done (s ∷ ss) account id =
     ∙ (λ i. own done account id (account == id) refl s.symbol (is_zero (summary_of done account s.symbol)) i ++ of_one done ss account id i)
     ∙ none_appended (account == id) (summary_rows done account s.symbol) (summaries_in done ss account)
 
-of_all : (done : List Trade) (ss : List Security) (accounts : List Account) (id : ℕ)
+pub of_all : (done : List Trade) (ss : List Security) (accounts : List Account) (id : ℕ)
     → filter (λ r. r.account == id) (flat_map (λ a. summaries_in done ss a.id) accounts) ≡ flat_map (λ a. cond (a.id == id) (summaries_in done ss a.id) []) accounts
 of_all done ss [] id = refl
 of_all done ss (a ∷ accounts) id =
@@ -90,7 +90,7 @@ accounts_after : (xs : List Account) (a : Account) (ys : List Account) → Disti
 accounts_after [] a ys d = d.0
 accounts_after (x ∷ xs) a ys d = accounts_after xs a ys d.1
 
-of_account_alone : (done : List Trade) (ss : List Security) (accounts : List Account) (id : ℕ) (a : Account) → DistinctAccounts accounts → find (λ a. a.id == id) accounts ≡ Some a
+pub of_account_alone : (done : List Trade) (ss : List Security) (accounts : List Account) (id : ℕ) (a : Account) → DistinctAccounts accounts → find (λ a. a.id == id) accounts ≡ Some a
     → flat_map (λ a. cond (a.id == id) (summaries_in done ss a.id) []) accounts ≡ summaries_in done ss id
 of_account_alone done ss accounts id a d e =
     let f : FoundAt Account (λ a. a.id == id) a accounts = find-at (λ a. a.id == id) accounts a e in

@@ -1,11 +1,12 @@
 -- What holds of the base of a brokerage that began empty and was moved by accepted commands: what the rows of the next command rest on.
-use Rattle.std.specs.Prelude.{◌≡◌, ◌≤◌, ⊤, ℕ, ◌+◌, ◌==◌, ◌&&◌, true, false, List, [], ◌∷◌, is_some, nat_le, IfSome, bytes_eq}
+use Rattle.std.specs.Prelude.{◌≡◌, ◌≤◌, ⊤, ℕ, ◌+◌, ◌==◌, ◌&&◌, true, false, List, [], ◌∷◌, Option, Some, None, is_some, nat_le, IfSome, bytes_eq}
 use Rattle.std.specs.List.{AllByRecursion}
 use Rattle.brk_money.specs.Moments.{last_stamp}
-use Rattle.brk_money.specs.declared.status.Status.TheVariants.{Pending}
+use Rattle.brk_money.specs.Kinds.{same_status}
+use Rattle.brk_money.specs.declared.status.Status.TheVariants.{Completed, Pending, Submitted}
 use Rattle.brk_model.specs.Limits.{greatest_amount}
 use Rattle.brk_model.specs.Records.{Account, Band, Mark, Permission, Security, Trade}
-use Rattle.brk_model.specs.Base.{Base, broker_with, customer_with, account_with, security_with, has_status}
+use Rattle.brk_model.specs.Base.{Base, broker_with, customer_with, account_with, security_with, completed, has_status, moment_of}
 use Rattle.brk_model.specs.Tests.{bands_meet}
 
 -- the broker of an account is there
@@ -58,6 +59,24 @@ IsOne (m ∷ n ∷ marks) = ⊥
 abbrev pub WaitsFirst : Trade → Type 0
 WaitsFirst t = has_status Pending t ≡ true → IsOne t.marks
 
+-- a status that is no completion
+abbrev pub IsNoCompletion : Mark → Type 0
+IsNoCompletion m = same_status m.status Completed ≡ false
+
+-- a trade at the market was never completed
+abbrev pub CompletesFirst : Trade → Type 0
+CompletesFirst t = has_status Submitted t ≡ true → AllByRecursion IsNoCompletion t.marks
+
+-- a trade came to its last status no later than at the last stamp
+abbrev pub IsEarly : Option ℕ → Trade → Type 0
+IsEarly None t = ⊥
+IsEarly (Some last) t = moment_of t ≤ last
+
+-- no two trades came to their last status at one moment
+abbrev pub MomentsApart : List Trade → Type 0
+MomentsApart [] = ⊤
+MomentsApart (t ∷ ts) = AllByRecursion (λ u. (moment_of u == moment_of t) ≡ false) ts × MomentsApart ts
+
 -- the bounds of a band are in order
 abbrev pub HasBounds : Band → Type 0
 HasBounds b = nat_le b.from_qty b.to_qty ≡ true
@@ -86,6 +105,12 @@ pub record IsBooks (base : Base) : Type 0 where
   pub numbered : NumberedFrom 1 base.trades
   -- a trade that waits has one status in its history, so that the next one is new
   pub ways : AllByRecursion WaitsFirst base.trades
+  -- a trade at the market was never completed, so that its completion is new in its history
+  pub completions : AllByRecursion CompletesFirst base.trades
+  -- no trade was completed after the last stamp, so that the next completion is the last one of its position
+  pub early : AllByRecursion (IsEarly base.last) (completed base)
+  -- no two were at one moment, so that the lots of a position stand in one order
+  pub moments : MomentsApart (completed base)
   -- the bounds of bands are in order, and a quantity is of one band
   pub bands : AllByRecursion HasBounds base.bands
   pub apart : BandsApart base.bands

@@ -7,3 +7,7 @@ pub mod TradeTests
 pub mod Plans
 pub mod TradePlans
 pub mod OrderPlans
+pub mod Results
+pub mod ResultPlans
+pub mod Runs
+pub mod Sums

@@ -2,7 +2,7 @@
 
 ghost use Rattle.std.specs.Prelude.{ℕ, List, Option};
 ghost use Rattle.brk_model.specs.Base.{Base, empty_base};
-ghost use Rattle.brk_model.specs.Commands.{AddAccount, AddBand, AddBroker, AddCharge, AddCustomer, AddCustomerTax, AddPermission, AddSecurity, AddTaxRate, CancelTrade, Command, FeedTicks, Listing, Order, PlaceOrder, Reply, Tick};
+ghost use Rattle.brk_model.specs.Commands.{AddAccount, AddBand, AddBroker, AddCharge, AddCustomer, AddCustomerTax, AddPermission, AddSecurity, AddTaxRate, CancelTrade, Command, CompleteTrade, FeedTicks, Listing, Order, PlaceOrder, Reply, Tick};
 ghost use Rattle.brk_model.specs.Keyed.{keeping};
 ghost use Rattle.brk_model.specs.Records.{Account, Band, Broker, Charge, Customer, CustomerTax, Key, Permission, TaxRate};
 ghost use Rattle.brk_books.specs.Books.{IsBooks};
@@ -39,6 +39,11 @@ pub fn cancels_keep_the_order()
 /// So does an accepted feed.
 pub fn feeds_keep_the_order()
     ensures { (base : Base) (now : ℕ) (ticks : List Tick) → LeavesBooks base now (FeedTicks ticks) }
+{}
+
+/// So does an accepted result.
+pub fn results_keep_the_order()
+    ensures { (base : Base) (now id price : ℕ) → LeavesBooks base now (CompleteTrade id price) }
 {}
 
 /// So does a row that is kept under its key.

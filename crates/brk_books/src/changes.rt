@@ -2,18 +2,19 @@
 
 ghost use Rattle.std.specs.Prelude.{◌≡◌, ℕ, List, None, Some, not};
 ghost use Rattle.brk_money.specs.Kinds.{is_market};
-ghost use Rattle.brk_model.specs.Base.{Base, broker_of, empty_base};
-ghost use Rattle.brk_model.specs.Commands.{AddAccount, AddBand, AddBroker, AddCharge, AddCustomer, AddCustomerTax, AddPermission, AddSecurity, AddTaxRate, CancelTrade, Command, FeedTicks, Listing, Order, PlaceOrder, Reply, Tick};
+ghost use Rattle.brk_model.specs.Base.{Base, broker_of, empty_base, trade_with};
+ghost use Rattle.brk_model.specs.Commands.{AddAccount, AddBand, AddBroker, AddCharge, AddCustomer, AddCustomerTax, AddPermission, AddSecurity, AddTaxRate, CancelTrade, Command, CompleteTrade, FeedTicks, Listing, Order, PlaceOrder, Reply, Tick};
 ghost use Rattle.brk_model.specs.Feed.{triggered_by};
 ghost use Rattle.brk_model.specs.Keyed.{keeping, kept_under};
 ghost use Rattle.brk_model.specs.Orders.{ordered_trade};
-ghost use Rattle.brk_model.specs.Records.{Account, Band, Broker, Charge, Customer, CustomerTax, Key, Permission, TaxRate};
+ghost use Rattle.brk_model.specs.Records.{Account, Band, Broker, Charge, Customer, CustomerTax, Key, Permission, TaxRate, Trade};
 ghost use Rattle.brk_model.specs.Sheets.{sheets};
 ghost use Rattle.brk_model.specs.Tables.{no_rows, trade_row};
 ghost use Rattle.brk_model.specs.Tests.{next_stamp, refusal_of};
 ghost use Rattle.brk_trade.specs.Changes.{with_account, with_band, with_broker, with_charge, with_customer, with_customer_tax, with_kept, with_permission, with_tax_rate};
 ghost use Rattle.brk_books.specs.Books.{IsBooks};
 ghost use Rattle.brk_books.specs.Plans.{ChangesRows, kept_row, with_listing};
+ghost use Rattle.brk_books.specs.Results.{result_rows, rows_of_result};
 ghost use Rattle.brk_books.specs.Trading.{cancel_rows, fed_trades, feed_rows, order_rows};
 
 /// The base that everything begins with has no rows.
@@ -52,6 +53,14 @@ pub fn feeds_are_rows()
     ensures rows { (base : Base) (now : ℕ) (ticks : List Tick) → ChangesRows base now (FeedTicks ticks) (feed_rows (next_stamp base now) ticks) }
     ensures triggered { (base : Base) (now : ℕ) (ticks : List Tick) → IsBooks base → refusal_of base now (FeedTicks ticks) ≡ None
         → triggered_by (next_stamp base now) base ticks ≡ fed_trades (next_stamp base now) ticks (sheets base) }
+{}
+
+/// A result that is accepted completes its trade, which its history tells; changes the lots that it closes from and the one that it opens,
+/// with their history; moves the summary of its position; settles the trade; moves the cash of a cash trade and the balance of its account;
+/// and counts for the broker. No other row changes.
+pub fn results_are_rows()
+    ensures { (base : Base) (now id price : ℕ) (t : Trade) → trade_with base id ≡ Some t
+        → ChangesRows base now (CompleteTrade id price) (result_rows (rows_of_result base (next_stamp base now) price t)) }
 {}
 
 /// A row that is kept under a new key is one row more; no other row changes.

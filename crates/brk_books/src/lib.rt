@@ -9,3 +9,4 @@ pub mod plans;
 pub mod reads;
 pub mod trade_plans;
 pub mod trading;
+pub mod whole_runs;

@@ -1,30 +1,33 @@
 //! What is found in the tables is what the definitions find in the base.
 
-ghost use Rattle.std.specs.Prelude.{◌&&◌, ◌+ℤ◌, ◌≡◌, ◌==◌, ℕ, List, Some, bytes_eq, filter, find, flat_map, length, map, option_map, sum_by, true};
+ghost use Rattle.std.specs.Prelude.{◌&&◌, ◌+ℤ◌, ◌≡◌, ◌==◌, ℕ, List, Some, bytes_eq, false, filter, find, flat_map, is_some, length, map, option_map, pos, sum_by, true};
 ghost use Rattle.std.specs.List.{list_any};
 ghost use Rattle.brk_money.specs.Kinds.{same_type};
 ghost use Rattle.brk_money.specs.Spelling.{Text};
 ghost use Rattle.brk_money.specs.declared.trade_type.TradeType.{TradeType};
+ghost use Rattle.brk_lots.specs.Lots.{shares_of};
+ghost use Rattle.brk_lots.specs.Position.{AreOlder, IsNew, IsPosition};
 ghost use Rattle.brk_model.specs.Base as base_spec;
-ghost use Rattle.brk_model.specs.Base.{Base, account_with, band_with, broker_with, charge_with, completed, customer_with, security_with, tax_rate_with, trade_with};
+ghost use Rattle.brk_model.specs.Base.{Base, account_with, band_with, broker_with, charge_with, completed, customer_with, is_completed, security_with, tax_rate_with, trade_with};
 ghost use Rattle.brk_model.specs.Commands.{Tick};
-ghost use Rattle.brk_model.specs.Derived.{shares_in};
+ghost use Rattle.brk_model.specs.Derived.{shares_in, summary_of};
 ghost use Rattle.brk_model.specs.Feed.{is_triggered};
 ghost use Rattle.brk_model.specs.Joins.{account_in, trade_in};
 ghost use Rattle.brk_model.specs.Keyed.{kept_under};
-ghost use Rattle.brk_model.specs.Lists.{all_distinct};
+ghost use Rattle.brk_model.specs.Lists.{all_distinct, total_by};
 ghost use Rattle.brk_model.specs.Orders.{assets_of, permitted};
 ghost use Rattle.brk_model.specs.PositionView.{asset_total};
-ghost use Rattle.brk_model.specs.Records.{Band, Customer, Executor, Key};
+ghost use Rattle.brk_model.specs.Records.{Band, Customer, Executor, Key, Trade};
 ghost use Rattle.brk_model.specs.Sheets.{sheets};
-ghost use Rattle.brk_model.specs.Tests.{bands_meet};
-ghost use Rattle.brk_model.specs.Tables.{AccountRow, Tables, account_row, broker_row, last_trade_row, security_row, trade_row};
+ghost use Rattle.brk_model.specs.Tests.{bands_meet, next_stamp};
+ghost use Rattle.brk_model.specs.Tables.{AccountRow, BrokerRow, Tables, account_row, broker_row, last_trade_row, security_row, trade_row};
 ghost use Rattle.brk_model.specs.Ways.{is_rising};
 ghost use Rattle.brk_ref.specs.Records.{tax_of};
 ghost use Rattle.brk_ref.specs.declared.tax.Tax.{Tax};
 ghost use Rattle.brk_books.specs.Books.{IsBooks};
 ghost use Rattle.brk_books.specs.Reads.{accounts_of, has_overlap, has_tax_id, rates_of, tax_rate_of};
-ghost use Rattle.brk_books.specs.TradeReads.{band_in, last_number, lot_shares, lots_in, permission_in, permissions_of};
+ghost use Rattle.brk_books.specs.Sums.{cash_of_account, done_of_broker};
+ghost use Rattle.brk_books.specs.TradeReads.{band_in, last_number, lot_shares, lots_in, permission_in, permissions_of, position_in, row_of_summary, summary_held, summary_in};
 ghost use Rattle.brk_books.specs.Trading.{hit_trades};
 
 /// The row that has an id is that of the record that has it.
@@ -128,4 +131,36 @@ pub fn assets_are_found()
 /// The shares that an account holds of a symbol are those of its lots, the oldest first.
 pub fn lots_are_found()
     ensures { (base : Base) (account : ℕ) (symbol : Text) → IsBooks base → flat_map lot_shares (lots_in (sheets base) account symbol) ≡ shares_in (completed base) account symbol }
+{}
+
+/// The lots of an account in a symbol, the oldest first, are those of a position, each opened before the next stamp, none of them by a trade
+/// that is not completed; their shares are those that the account holds.
+pub fn lots_are_a_position()
+    ensures position { (base : Base) (account : ℕ) (symbol : Text) → IsBooks base → IsPosition (position_in (sheets base) account symbol) }
+    ensures shares { (base : Base) (account : ℕ) (symbol : Text) → IsBooks base → shares_of (position_in (sheets base) account symbol) ≡ shares_in (completed base) account symbol }
+    ensures later { (base : Base) (now account : ℕ) (symbol : Text) → IsBooks base → AreOlder (next_stamp base now) (position_in (sheets base) account symbol) }
+    ensures fresh { (base : Base) (id account : ℕ) (symbol : Text) (t : Trade) → IsBooks base → trade_with base id ≡ Some t → is_completed t ≡ false
+        → IsNew id (position_in (sheets base) account symbol) }
+{}
+
+/// The summary of a known account in a known symbol is its row's, and no row stands where it is 0.
+pub fn summaries_are_found()
+    ensures row { (base : Base) (account : ℕ) (symbol : Text) → IsBooks base → is_some (account_with base account) ≡ true → is_some (security_with base symbol) ≡ true
+        → summary_in (sheets base) account symbol ≡ row_of_summary account symbol (summary_of (completed base) account symbol) }
+    ensures number { (base : Base) (account : ℕ) (symbol : Text) → IsBooks base → is_some (account_with base account) ≡ true → is_some (security_with base symbol) ≡ true
+        → summary_held (summary_in (sheets base) account symbol) ≡ summary_of (completed base) account symbol }
+{}
+
+/// The balance of an account is its opening and what its cash trades moved.
+pub fn balances_are_sums()
+    ensures { (base : Base) (id : ℕ) (r : AccountRow) → IsBooks base → account_in (sheets base) id ≡ Some r
+        → r.balance ≡ r.opening +ℤ total_by (λ c. c.amount) (cash_of_account (sheets base) id) }
+{}
+
+/// The numbers of a broker are those of the completed trades of the broker's accounts: how many, and their commissions added up.
+pub fn brokers_are_sums()
+    ensures trades { (base : Base) (id : ℕ) (r : BrokerRow) → IsBooks base → find (λ r. r.id == id) (sheets base).brokers ≡ Some r
+        → r.trades ≡ pos (length (done_of_broker (sheets base) id)) }
+    ensures commissions { (base : Base) (id : ℕ) (r : BrokerRow) → IsBooks base → find (λ r. r.id == id) (sheets base).brokers ≡ Some r
+        → r.commissions ≡ sum_by (λ t. t.commission) (done_of_broker (sheets base) id) }
 {}
