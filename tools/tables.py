@@ -1,8 +1,8 @@
 #!/usr/bin/env python3
-"""Writes the parts of crates/brk_tables and of crates/brk_trades that follow from the list of tables and statements
-below: the shapes and cells of the tables and which text makes which table (brk_tables), and what each SQL text means over
-any schema (in the crate of the statement). Run it at the top of the repository after a change of the list. What it writes
-is checked like any other file."""
+"""Writes the parts of crates/brk_tables, crates/brk_trades and crates/brk_results that follow from the list of tables and
+statements below: the shapes and cells of the tables and which text makes which table (brk_tables), and what each SQL text
+means over any schema (in the crate of the statement). Run it at the top of the repository after a change of the list. What
+it writes is checked like any other file."""
 OUT = 'crates/brk_tables/proofs'
 SPECS = 'crates/brk_tables/specs'
 
@@ -598,8 +598,23 @@ STATEMENTS = {
         (select, 'LastTradeBySymbol', 'last_trade', [('LT_S_SYMB', 1)], [('LT_S_SYMB', False)]),
         (update, 'SetLastTrade', 'last_trade', [('LT_DTS', 1), ('LT_PRICE', 2), ('LT_VOL', 3)], [('LT_S_SYMB', 4)]),
         (update, 'SetStatus', 'trade', [('T_ST_ID', 1), ('T_DTS', 2)], [('T_ID', 3)]),
+        (update, 'CompleteTrade', 'trade', [('T_ST_ID', 1), ('T_DTS', 2), ('T_TRADE_PRICE', 3), ('T_COMM', 4), ('T_TAX', 5)], [('T_ID', 6)]),
         (select, 'LotsOf', 'holding', [('H_CA_ID', 1), ('H_S_SYMB', 2)], [('H_DTS', False), ('H_T_ID', False)]),
+        (select, 'SummaryOf', 'summary', [('HS_CA_ID', 1), ('HS_S_SYMB', 2)], [('HS_CA_ID', False), ('HS_S_SYMB', False)]),
         (select, 'SummariesOf', 'summary', [('HS_CA_ID', 1)], [('HS_CA_ID', False), ('HS_S_SYMB', False)]),
+    ],
+    'brk_results': [
+        (insert, 'AddLot', 'holding', [1, 2, 3, 4, 5, 6]),
+        (update, 'SetLot', 'holding', [('H_QTY', 1)], [('H_T_ID', 2)]),
+        (delete, 'RemoveLot', 'holding', [('H_T_ID', 1)]),
+        (insert, 'AddLotChange', 'holding_history', [1, 2, 3, 4]),
+        (insert, 'AddSummary', 'summary', [1, 2, 3]),
+        (update, 'SetSummary', 'summary', [('HS_QTY', 1)], [('HS_CA_ID', 2), ('HS_S_SYMB', 3)]),
+        (delete, 'RemoveSummary', 'summary', [('HS_CA_ID', 1), ('HS_S_SYMB', 2)]),
+        (insert, 'AddSettlement', 'settlement', [1, 2, 3, 4]),
+        (insert, 'AddCash', 'cash', [1, 2, 3, 4]),
+        (update, 'SetBalance', 'account', [('CA_BAL', 1)], [('CA_ID', 2)]),
+        (update, 'SetBrokerNumbers', 'broker', [('B_NUM_TRADES', 1), ('B_COMM_TOTAL', 2)], [('B_ID', 3)]),
     ],
 }
 

@@ -3,6 +3,7 @@
 
 mod changing;
 mod keys;
+mod numbers;
 mod reading;
 pub mod store;
 mod terms;
@@ -10,5 +11,7 @@ mod trades;
 
 pub use store::Store;
 
+#[cfg(test)]
+mod completion_rows;
 #[cfg(test)]
 mod tests;

@@ -1,5 +1,6 @@
 use crate::changing::{apply_all, make_desk};
 use crate::keys::read_kept;
+use crate::numbers::{read_balance, read_broker_numbers};
 use crate::reading::{
     read_account, read_accounts_of, read_broker, read_customer, read_customer_by_tax_id, read_last,
 };
@@ -9,14 +10,14 @@ use crate::terms::{
 };
 use crate::trades::{
     read_last_trade, read_last_trade_id, read_lots_of, read_requests_of, read_submitted_trades,
-    read_summaries_of, read_trade,
+    read_summaries_of, read_summary_of, read_trade,
 };
-use brk_money::{Fault, Id, Stamp, TradeType};
+use brk_money::{Cents, Fault, Id, Stamp, TradeType};
 use brk_ref::{
     AccountRow, Band, BrokerRow, Charge, Customer, CustomerTax, Exchange, Kept, Key, LastTrade,
     Permission, Security, Symbol, Tax, TaxId, Tier,
 };
-use brk_trade::{Change, HoldingRow, RequestRow, SummaryRow, TradeRow};
+use brk_trade::{BrokerNumbers, Change, HoldingRow, RequestRow, SummaryRow, TradeRow};
 use sqlite::{Alter, Connection};
 use std::alloc::Global;
 use std::marker::Model;
@@ -58,6 +59,7 @@ impl<S: Alter> Store<S> {
     ghost use Rattle.brk_trade.specs.Changes.{after_changes};
     ghost use Rattle.brk_trade.specs.Rows.{holding_row_of, oldest_lots_first, request_row_of, summary_row_of, trade_row_of};
     ghost use Rattle.brk_store.specs.Holds.{IsApplied, IsCreated, IsRead};
+    ghost use Rattle.brk_store.specs.Numbers.{AreNumbers};
 
     /// Makes the tables of a desk in a database that has none of them, whatever others it has, or answers
     /// `Damaged(NotEmpty)` where it has one of them. At a fault the database is as it was, and the connection comes
@@ -99,6 +101,14 @@ impl<S: Alter> Store<S> {
         read_broker(&mut self.conn, id)
     }
 
+    /// The numbers of a broker, where there is such a broker. Numbers beyond their limits are a fault.
+    pub fn broker_numbers(&mut self, broker: Id) -> Result<Option<BrokerNumbers>, Fault>
+        ensures read { IsRead S.Store self.old self.new result (λ numbers t. AreNumbers numbers (find (λ r. r.id == broker) t.brokers)) }
+        ensures fault { OnErr result (result ≡ Err fault.Store) }
+    {
+        read_broker_numbers(&mut self.conn, broker)
+    }
+
     /// The customer with an id.
     pub fn customer(&mut self, id: Id) -> Result<Option<Customer>, Fault>
         ensures read { IsRead S.Store self.old self.new result (λ o t. option_map customer_of o ≡ find (λ r. r.id == id) t.customers) }
@@ -121,6 +131,14 @@ impl<S: Alter> Store<S> {
         ensures fault { OnErr result (result ≡ Err fault.Store) }
     {
         read_account(&mut self.conn, id)
+    }
+
+    /// The balance of an account in cents (CA_BAL), where there is such an account.
+    pub fn balance_of(&mut self, account: Id) -> Result<Option<Cents>, Fault>
+        ensures read { IsRead S.Store self.old self.new result (λ balance t. balance ≡ option_map (λ r. r.balance) (find (λ r. r.id == account) t.accounts)) }
+        ensures fault { OnErr result (result ≡ Err fault.Store) }
+    {
+        read_balance(&mut self.conn, account)
     }
 
     /// The accounts of a customer, by rising id.
@@ -264,6 +282,14 @@ impl<S: Alter> Store<S> {
         ensures fault { IfErr result MayFail }
     {
         read_summaries_of(&mut self.conn, alloc, account)
+    }
+
+    /// How many shares an account holds of a security, where it holds some.
+    pub fn summary_of(&mut self, account: Id, symbol: &Symbol) -> Result<Option<SummaryRow>, Fault>
+        ensures read { IsRead S.Store self.old self.new result (λ o t. option_map summary_row_of o ≡ find (λ r. (r.account == account) && bytes_eq r.symbol symbol.now) t.summaries) }
+        ensures fault { OnErr result (result ≡ Err fault.Store) }
+    {
+        read_summary_of(&mut self.conn, account, symbol)
     }
 
     /// The connection, on which no transaction is open.

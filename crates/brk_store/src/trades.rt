@@ -113,3 +113,18 @@ pub(crate) fn read_summaries_of<S: Alter>(
     let mut tx = conn.transaction();
     brk_trades::summaries_of(&mut tx, alloc, account)
 }
+
+pub(crate) fn read_summary_of<S: Alter>(
+    conn: &mut Connection<S>,
+    account: Id,
+    symbol: &Symbol,
+) -> Result<Option<SummaryRow>, Fault>
+    requires { conn.old.in_transaction ≡ false }
+    ensures mode { conn.new.in_transaction ≡ false }
+    ensures read { IsRead S.Store conn.old conn.new result (λ o t. option_map summary_row_of o ≡ find (λ r. (r.account == account) && bytes_eq r.symbol symbol.now) t.summaries) }
+    ensures fault { OnErr result (result ≡ Err Store) }
+{
+    let _settled = conn.is_autocommit();
+    let mut tx = conn.transaction();
+    brk_trades::summary_of(&mut tx, account, symbol)
+}

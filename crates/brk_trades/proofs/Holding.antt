@@ -23,6 +23,7 @@ use Rattle.brk_tables.proofs.Tests.{same_number, same_text}
 use Rattle.brk_trade.specs.Rows.{age_key, oldest_lots_first}
 use Rattle.brk_trades.proofs.LotsOf
 use Rattle.brk_trades.proofs.SummariesOf
+use Rattle.brk_trades.proofs.SummaryOf
 
 -- ---- the records that rows show
 
@@ -75,6 +76,20 @@ pub tells_summaries : (old new : State) (account : ℕ) (rows : List Row) → Sh
 tells_summaries old new account rows shown =
     tells_rising desk Summaries SummariesOf.statement (nat account ∷ []) (read SummariesOf.statement) SummariesOf.terms SummariesOf.project SummariesOf.order SummariesOf.paging SummariesOf.names SummariesOf.understood_as
     (λ (r : SummaryRow). r.account == account) (λ tree r x e. let a0 : column r 1 ≡ nat x.account = cc in rw (a0, same_number x.account account) (and_true _)) summary_cells (λ tree r x e. e) (order Summaries) (key_total summary_key)
+    (λ tree a b x y e f.
+    let p0 : column a 1 ≡ nat x.account = cc in
+    let q0 : column b 1 ≡ nat y.account = cc in
+    let p1 : column a 2 ≡ Words x.symbol = cc in
+    let q1 : column b 2 ≡ Words y.symbol = cc in
+    rw (p0, q0, p1, q1) refl) old new rows shown (λ x y. refl)
+
+pub tells_summary : (old new : State) (account : ℕ) (symbol : List ℕ) (rows : List Row) → Shown SummaryOf.statement (nat account ∷ Words symbol ∷ []) old new rows
+    → Tells desk (λ t. rows ≡ map summary_cells (filter (λ r. (r.account == account) && bytes_eq r.symbol symbol) t.summaries)) old.now
+tells_summary old new account symbol rows shown =
+    tells_rising desk Summaries SummaryOf.statement (nat account ∷ Words symbol ∷ []) (read SummaryOf.statement) SummaryOf.terms SummaryOf.project SummaryOf.order SummaryOf.paging SummaryOf.names SummaryOf.understood_as
+    (λ (r : SummaryRow). (r.account == account) && bytes_eq r.symbol symbol)
+    (λ tree r x e. let a0 : column r 1 ≡ nat x.account = cc in let a1 : column r 2 ≡ Words x.symbol = cc in rw (a0, a1, same_number x.account account, same_text x.symbol symbol) (ap (λ c. (x.account == account) && c) (and_true _)))
+    summary_cells (λ tree r x e. e) (order Summaries) (key_total summary_key)
     (λ tree a b x y e f.
     let p0 : column a 1 ≡ nat x.account = cc in
     let q0 : column b 1 ≡ nat y.account = cc in

@@ -12,8 +12,10 @@ pub mod RequestsOf
 pub mod LastTradeBySymbol
 pub mod LotsOf
 pub mod SummariesOf
+pub mod SummaryOf
 pub mod SetLastTrade
 pub mod SetStatus
+pub mod CompleteTrade
 pub mod Writes
 pub mod Tells
 pub mod Holding

@@ -9,6 +9,7 @@ use Rattle.sqlite.specs.Cast.{cast}
 use Rattle.sqlite.specs.State.{State}
 use Rattle.brk_money.specs.Kinds.{type_code, status_code}
 use Rattle.brk_money.specs.declared.status.Status.{Status}
+use Rattle.brk_money.specs.declared.status.Status.TheVariants.{Completed}
 use Rattle.brk_model.specs.Tables.{TradeRow, HistoryRow, RequestRow, LastTradeRow}
 use Rattle.brk_rows.specs.Desk.{Turns}
 use Rattle.brk_rows.specs.Model.{Ran}
@@ -20,7 +21,7 @@ use Rattle.brk_tables.specs.Desk.{Trades, TradeHistory, Requests, LastTrades, de
 use Rattle.brk_tables.proofs.Places.{last_trades}
 use Rattle.brk_tables.proofs.Steps.{added}
 use Rattle.brk_tables.proofs.Tests.{same_number, same_text}
-use Rattle.brk_trade.specs.Changes.{with_trade, with_history, with_request, without_request, with_last_trade_set, with_status}
+use Rattle.brk_trade.specs.Changes.{with_trade, with_history, with_request, without_request, with_last_trade_set, with_status, with_completion}
 use Rattle.brk_trades.proofs.Places.{trades, trade_history, requests}
 use Rattle.brk_trades.proofs.AddTrade
 use Rattle.brk_trades.proofs.AddTradeHistory
@@ -28,6 +29,7 @@ use Rattle.brk_trades.proofs.AddRequest
 use Rattle.brk_trades.proofs.RemoveRequest
 use Rattle.brk_trades.proofs.SetLastTrade
 use Rattle.brk_trades.proofs.SetStatus
+use Rattle.brk_trades.proofs.CompleteTrade
 
 cast_maybe : (o : Option ℕ) → cast Integer (maybe o) ≡ maybe o
 cast_maybe None = cast_null
@@ -146,3 +148,57 @@ sets_status old new id status stamp ran =
     let a14 : column r 14 ≡ nat x.tax = cc in
     let a15 : column r 15 ≡ flag x.is_lifo = cc in
     rw (a0, a4, a5, a6, a7, a8, a9, a10, a11, a12, a13, a14, a15) refl) old new ran.0 ran.1
+
+pub completes_trade : (old new : State) (id stamp price commission tax : ℕ) → Ran CompleteTrade.statement (Words (status_code Completed) ∷ nat stamp ∷ nat price ∷ nat commission ∷ nat tax ∷ nat id ∷ []) old new → Turns desk (with_completion id stamp price commission tax) old.now new.now
+completes_trade old new id stamp price commission tax ran =
+    updates_as desk Trades trades CompleteTrade.statement (Words (status_code Completed) ∷ nat stamp ∷ nat price ∷ nat commission ∷ nat tax ∷ nat id ∷ []) (read CompleteTrade.statement) CompleteTrade.terms CompleteTrade.project (λ (r : TradeRow). r.id == id)
+    (λ tree r x e. let a : column r 0 ≡ nat x.id = cc in rw (a, same_number x.id id) (and_true _)) (λ r. refl) CompleteTrade.understood_as
+    (λ r.
+    column r 0 ∷ Null ∷ nat stamp ∷ Words (status_code Completed) ∷ column r 4 ∷ column r 5 ∷ column r 6 ∷ column r 7 ∷ column r 8 ∷ column r 9 ∷ column r 10 ∷ nat price ∷ column r 12 ∷ nat commission ∷ nat tax ∷ column r 15 ∷ [])
+    (λ (r : TradeRow). record r { status = Completed; stamp = stamp; price = Some price; commission = commission; tax = tax }) (λ x y. refl) (λ x y. refl) (λ r. refl)
+    (λ tree r x whole e.
+    let a4 : column r 4 ≡ Words (type_code x.kind) = cc in
+    let a5 : column r 5 ≡ flag x.is_cash = cc in
+    let a6 : column r 6 ≡ Words x.symbol = cc in
+    let a7 : column r 7 ≡ nat x.qty = cc in
+    let a8 : column r 8 ≡ nat x.bid = cc in
+    let a9 : column r 9 ≡ nat x.account = cc in
+    let a10 : column r 10 ≡ Words x.executor = cc in
+    let a12 : column r 12 ≡ nat x.charge = cc in
+    let a15 : column r 15 ≡ flag x.is_lifo = cc in
+    rw (
+      a4,
+      a5,
+      a6,
+      a7,
+      a8,
+      a9,
+      a10,
+      a12,
+      a15,
+      cast_null,
+      cast_int (pos stamp),
+      cast_int (pos (if x.is_cash then 1 else 0)),
+      cast_int (pos x.qty),
+      cast_int (pos x.bid),
+      cast_int (pos x.account),
+      cast_int (pos price),
+      cast_int (pos x.charge),
+      cast_int (pos commission),
+      cast_int (pos tax),
+      cast_int (pos (if x.is_lifo then 1 else 0)),
+    )
+    (ap (λ v. v ∷ Null ∷ drop 1 (trade_cells (record x { status = Completed; stamp = stamp; price = Some price; commission = commission; tax = tax })))
+    (cast_whole (column r 0) whole)))
+    (λ tree r x e.
+    let a0 : column r 0 ≡ nat x.id = cc in
+    let a4 : column r 4 ≡ Words (type_code x.kind) = cc in
+    let a5 : column r 5 ≡ flag x.is_cash = cc in
+    let a6 : column r 6 ≡ Words x.symbol = cc in
+    let a7 : column r 7 ≡ nat x.qty = cc in
+    let a8 : column r 8 ≡ nat x.bid = cc in
+    let a9 : column r 9 ≡ nat x.account = cc in
+    let a10 : column r 10 ≡ Words x.executor = cc in
+    let a12 : column r 12 ≡ nat x.charge = cc in
+    let a15 : column r 15 ≡ flag x.is_lifo = cc in
+    rw (a0, a4, a5, a6, a7, a8, a9, a10, a12, a15) refl) old new ran.0 ran.1

@@ -1,6 +1,6 @@
 //! What accounts hold: their lots, and how many shares of each security in all.
 
-ghost use Rattle.std.specs.Prelude.{◌≡◌, ◌==◌, ◌&&◌, Err, IfErr, IfOk, OnErr, bytes_eq, filter, map};
+ghost use Rattle.std.specs.Prelude.{◌≡◌, ◌==◌, ◌&&◌, Err, IfErr, IfOk, OnErr, bytes_eq, filter, find, map, option_map, slice_get};
 ghost use Rattle.brk_money.specs.declared.fault.Fault.TheVariants.{Store};
 ghost use Rattle.sqlite.specs.Held.{state};
 ghost use Rattle.brk_rows.specs.Model.{IsStep, Looks};
@@ -103,4 +103,32 @@ pub fn summaries_of<S: Alter>(
         &[id_value(account)],
     )?;
     all_summaries(alloc, &rows)
+}
+
+fn first_summary(rows: &[Row]) -> Result<Option<SummaryRow>, Fault>
+    ensures value { IfOk result (λ o. option_map (λ r. summary_cells (summary_row_of r)) o ≡ slice_get rows.now 0) }
+    ensures fault { OnErr result (result ≡ Err Store) }
+{
+    match rows.first() {
+        Some(row) => Ok(Some(summary_in(row)?)),
+        None => Ok(None),
+    }
+}
+
+/// How many shares an account holds of a security, where it holds some.
+pub fn summary_of<S: Alter>(
+    tx: &mut Transaction<'_, S>,
+    account: Id,
+    symbol: &Symbol,
+) -> Result<Option<SummaryRow>, Fault>
+    ensures same_reference { tx.new.conn.ghost_name ≡ tx.old.conn.ghost_name }
+    ensures step { IsStep (state S.Store tx.old.conn.now) (state S.Store tx.new.conn.now) result (λ o. Looks desk (λ t. option_map summary_row_of o ≡ find (λ r. (r.account == account) && bytes_eq r.symbol symbol.now) t.summaries)) }
+    ensures fault { OnErr result (result ≡ Err Store) }
+{
+    let rows = select(
+        tx,
+        "SELECT HS_CA_ID, HS_S_SYMB, HS_QTY FROM HOLDING_SUMMARY WHERE HS_CA_ID = ?1 AND HS_S_SYMB = ?2 ORDER BY HS_CA_ID, HS_S_SYMB",
+        &[id_value(account), text_value(symbol.as_str())],
+    )?;
+    first_summary(&rows)
 }

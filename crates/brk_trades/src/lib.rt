@@ -12,7 +12,9 @@ pub mod trades;
 mod values;
 
 pub use history::add_trade_history;
-pub use holdings::{lots_of, summaries_of};
+pub use holdings::{lots_of, summaries_of, summary_of};
 pub use last_trades::{last_trade_by_symbol, set_last_trade};
 pub use requests::{add_request, remove_request, requests_of};
-pub use trades::{add_trade, last_trade_id, set_status, submitted_trades, trade_by_id};
+pub use trades::{
+    add_trade, complete_trade, last_trade_id, set_status, submitted_trades, trade_by_id,
+};

@@ -8,12 +8,12 @@ ghost use Rattle.brk_rows.specs.Model.{IsStep, Looks};
 ghost use Rattle.brk_model.specs.Run.{MayFail};
 ghost use Rattle.brk_tables.specs.Cells.{nat, trade_cells};
 ghost use Rattle.brk_tables.specs.Desk.{desk};
-ghost use Rattle.brk_trade.specs.Changes.{with_status, with_trade};
+ghost use Rattle.brk_trade.specs.Changes.{with_completion, with_status, with_trade};
 ghost use Rattle.brk_trade.specs.Rows.{trade_row_of};
 
 use crate::cells::{amount_in, flag_in, maybe_price_in, price_in, stamp_in, status_in};
 use crate::values::{amount_value, flag_value, maybe_price_value, status_value};
-use brk_money::{Fault, Id, Stamp, Status};
+use brk_money::{Fault, Id, Price, Stamp, Status};
 use brk_tables::calls::{run, select};
 use brk_tables::cells::{
     charge_amount_in, has_columns, id_in, qty_in, symbol_in, text_in, type_in,
@@ -21,7 +21,7 @@ use brk_tables::cells::{
 use brk_tables::values::{
     charge_amount_value, id_value, price_value, qty_value, stamp_value, text_value, type_value,
 };
-use brk_trade::TradeRow;
+use brk_trade::{Amount, TradeRow};
 use sqlite::{Alter, Row, Transaction};
 use std::alloc::Global;
 
@@ -69,6 +69,33 @@ pub fn set_status<S: Alter>(
         tx,
         "UPDATE TRADE SET T_ST_ID = ?1, T_DTS = ?2 WHERE T_ID = ?3",
         &[status_value(status), stamp_value(stamp), id_value(id)],
+    )
+}
+
+/// Sets a trade to completed at a moment, with the price of its shares, its commission and its tax.
+pub fn complete_trade<S: Alter>(
+    tx: &mut Transaction<'_, S>,
+    trade: Id,
+    stamp: Stamp,
+    price: Price,
+    commission: Amount,
+    tax: Amount,
+) -> Result<(), Fault>
+    ensures same_reference { tx.new.conn.ghost_name ≡ tx.old.conn.ghost_name }
+    ensures step { IsStep (state S.Store tx.old.conn.now) (state S.Store tx.new.conn.now) result (λ _ a b. Turns desk (with_completion trade stamp price commission tax) a.now b.now) }
+    ensures fault { OnErr result (result ≡ Err Store) }
+{
+    run(
+        tx,
+        "UPDATE TRADE SET T_ST_ID = ?1, T_DTS = ?2, T_TRADE_PRICE = ?3, T_COMM = ?4, T_TAX = ?5 WHERE T_ID = ?6",
+        &[
+            status_value(Status::Completed),
+            stamp_value(stamp),
+            price_value(price),
+            amount_value(commission),
+            amount_value(tax),
+            id_value(trade),
+        ],
     )
 }
 

@@ -1,0 +1,13 @@
+pub mod Places
+pub mod AddLot
+pub mod SetLot
+pub mod RemoveLot
+pub mod AddLotChange
+pub mod AddSummary
+pub mod SetSummary
+pub mod RemoveSummary
+pub mod AddSettlement
+pub mod AddCash
+pub mod SetBalance
+pub mod SetBrokerNumbers
+pub mod Writes
