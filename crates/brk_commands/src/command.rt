@@ -1,5 +1,5 @@
 use brk_money::Id;
-use brk_orders::{Feed, Order};
+use brk_orders::{Completion, Feed, Order};
 use brk_trade::Reference;
 
 /// What the desk is told. A command is in form.
@@ -13,4 +13,6 @@ pub enum Command {
     Feed(Feed),
     /// The trade with this id is to be canceled.
     Cancel(Id),
+    /// A submitted trade is completed (Trade-Result).
+    Complete(Completion),
 }

@@ -10,6 +10,6 @@ pub mod row;
 
 pub use command::Command;
 pub use line::line_text;
-pub use order_row::{cancel_text, feed_text, order_text};
+pub use order_row::{cancel_text, feed_text, order_text, result_text};
 pub use parse::parse_row;
 pub use row::{reference_text, row_text};

@@ -1,18 +1,19 @@
 //! The lines of replies.
 #![tactic(auto, unfolding(brk_model::specs::Rows::reply_fields))]
 
-ghost use Rattle.std.specs.Prelude.{◌≡◌, ◌∷◌, ◌++◌, [], IfOk, OnOk, OnErr, Err, decimal, nat_abs, pos, string_bytes};
+ghost use Rattle.std.specs.Prelude.{◌≡◌, ◌∷◌, ◌++◌, [], IfOk, OnOk, OnErr, Err, decimal, drop, nat_abs, pos, string_bytes, take};
 ghost use Rattle.brk_model.specs.Commands as replies;
 ghost use Rattle.brk_model.specs.Rows as model;
 ghost use Rattle.brk_commands.specs.Fields.{more_fields};
 ghost use Rattle.brk_money.specs.Kinds.{status_code};
+ghost use Rattle.brk_money.specs.Spelling as spelling;
 ghost use Rattle.brk_money.specs.declared.fault.Fault.TheVariants.{Memory};
-ghost use Rattle.brk_trade.specs.Replies.{estimate_of, reply_of};
+ghost use Rattle.brk_trade.specs.Replies.{completion_of, estimate_of, reply_of};
 
 use crate::row::amount;
 use brk_estimates::Estimate;
-use brk_money::{Cents, Fault, Id, Stamp, Wide};
-use brk_trade::{Ordered, Reply};
+use brk_money::{Cents, Day, Fault, Id, Stamp, Wide, write_day};
+use brk_trade::{Completed, Ordered, Reply};
 use itoa::Buffer;
 use std::alloc::{AllocError, Global};
 
@@ -23,7 +24,8 @@ fn stamp_text(alloc: Global, stamp: Stamp) -> Result<String, AllocError>
     String::from_str(alloc, digits.format(stamp.get().unsigned_abs()))
 }
 
-// An amount without its sign: no part of an estimate but the assets is below 0.
+// An amount without its sign: no part of an estimate but the assets is below 0, and none of a completion but what
+// settles and the balance.
 fn magnitude(cents: Cents) -> Wide
     ensures { result ≡ pos (nat_abs cents) }
 {
@@ -90,16 +92,74 @@ fn canceled_text(alloc: Global, stamp: Stamp) -> Result<String, AllocError>
     format!(in alloc; "{},CNCL", stamp.get().unsigned_abs())
 }
 
+// The text of a day.
+fn day_text(alloc: Global, day: Day) -> Result<String, Fault>
+    ensures text { IfOk result (λ text. string_bytes text ≡ spelling.day_text day) }
+    ensures fault { OnErr result (result ≡ Err Memory) }
+{
+    let _days = day.get();
+    let mut bytes = Vec::new(alloc);
+    write_day(&mut bytes, day)?;
+    let text = String::from_utf8(bytes).unwrap();
+    Ok(text)
+}
+
+// Adds the commission, the tax and what settles.
+fn add_dues(line: &mut String, completed: &Completed) -> Result<(), AllocError>
+    ensures { OnOk result (string_bytes line.new ≡ string_bytes line.old ++ more_fields 44 (take 3 (model.completion_fields (completion_of completed.now)))) }
+{
+    write!(
+        line,
+        ",{},{},{}",
+        magnitude(completed.commission),
+        magnitude(completed.tax),
+        Wide::from(completed.amount)
+    )
+}
+
+// Adds the field of a day.
+fn add_day(line: &mut String, day: &str) -> Result<(), AllocError>
+    ensures { OnOk result (string_bytes line.new ≡ string_bytes line.old ++ more_fields 44 (day.now ∷ [])) }
+{
+    write!(line, ",{day}")
+}
+
+// Adds the values of the shares that were closed, and the balance.
+fn add_values(line: &mut String, completed: &Completed) -> Result<(), AllocError>
+    ensures { OnOk result (string_bytes line.new ≡ string_bytes line.old ++ more_fields 44 (drop 4 (model.completion_fields (completion_of completed.now)))) }
+{
+    write!(
+        line,
+        ",{},{},{}",
+        magnitude(completed.buy_value),
+        magnitude(completed.sell_value),
+        Wide::from(completed.balance)
+    )
+}
+
+fn completed_text(alloc: Global, completed: &Completed) -> Result<String, Fault>
+    ensures line { IfOk result (λ line. string_bytes line ≡ model.line_text (replies.CompletedTrade completed.now.stamp (completion_of completed.now))) }
+    ensures fault { OnErr result (result ≡ Err Memory) }
+{
+    let due_day = day_text(alloc, completed.due_day)?;
+    let mut line = stamp_text(alloc, completed.stamp)?;
+    add_dues(&mut line, completed)?;
+    add_day(&mut line, due_day.as_str())?;
+    add_values(&mut line, completed)?;
+    Ok(line)
+}
+
 /// The fields that are told of a reply, joined by commas: the stamp first. No field holds a comma.
 pub fn line_text(alloc: Global, reply: &Reply) -> Result<String, Fault>
     ensures line { IfOk result (λ line. string_bytes line ≡ model.line_text (reply_of reply.now)) }
     ensures fault { OnErr result (result ≡ Err Memory) }
 {
     let line = match reply {
-        Reply::Booked(stamp) => stamp_text(alloc, *stamp),
-        Reply::Ordered(ordered) => ordered_text(alloc, ordered),
-        Reply::Ticked(stamp, triggered) => ticked_text(alloc, *stamp, triggered),
-        Reply::Canceled(stamp) => canceled_text(alloc, *stamp),
+        Reply::Booked(stamp) => stamp_text(alloc, *stamp)?,
+        Reply::Ordered(ordered) => ordered_text(alloc, ordered)?,
+        Reply::Ticked(stamp, triggered) => ticked_text(alloc, *stamp, triggered)?,
+        Reply::Canceled(stamp) => canceled_text(alloc, *stamp)?,
+        Reply::Completed(completed) => completed_text(alloc, completed)?,
     };
-    Ok(line?)
+    Ok(line)
 }

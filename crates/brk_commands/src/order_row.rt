@@ -1,4 +1,4 @@
-//! The texts of orders, feeds and cancels that are kept with their keys.
+//! The texts of orders, feeds, cancels and results that are kept with their keys.
 #![tactic(auto, unfolding(brk_model::specs::Rows::row_fields))]
 
 ghost use Rattle.std.specs.Prelude.{◌≡◌, ◌∷◌, ◌++◌, [], IfOk, OnOk, codes, drop, string_bytes, take};
@@ -6,12 +6,12 @@ ghost use Rattle.std.specs.List.{join_with_byte};
 ghost use Rattle.std.specs.Option.{option_map_or};
 ghost use Rattle.brk_model.specs.Commands.{CancelTrade, FeedTicks, PlaceOrder};
 ghost use Rattle.brk_model.specs.Rows as model;
-ghost use Rattle.brk_orders.specs.Records.{order_of, tick_of, ticks_of};
+ghost use Rattle.brk_orders.specs.Records.{order_of, result_of, tick_of, ticks_of};
 ghost use Rattle.brk_commands.specs.Fields.{more_fields};
 
 use crate::row::amount;
 use brk_money::{Id, Price};
-use brk_orders::{Order, Tick};
+use brk_orders::{Completion, Order, Tick};
 use std::alloc::{AllocError, Global};
 
 // The word of a trade's cash account or margin.
@@ -105,4 +105,15 @@ pub fn cancel_text(alloc: Global, trade: Id) -> Result<String, AllocError>
     ensures { IfOk result (λ row. string_bytes row ≡ model.row_text (CancelTrade trade)) }
 {
     format!(in alloc; "cancel\x1f{}", trade.get())
+}
+
+/// The row that completes a trade.
+pub fn result_text(alloc: Global, completion: &Completion) -> Result<String, AllocError>
+    ensures { IfOk result (λ row. string_bytes row ≡ model.row_text (result_of completion.now)) }
+{
+    format!(in alloc;
+        "result\x1f{}\x1f{}",
+        completion.trade.get(),
+        amount(completion.price.get())
+    )
 }

@@ -1,13 +1,13 @@
-ghost use Rattle.std.specs.Prelude.{◌≡◌, ◌∷◌, IfOk, OnErr, Err};
+ghost use Rattle.std.specs.Prelude.{◌≡◌, ◌∷◌, ◌++◌, IfOk, OnErr, Err};
 ghost use Rattle.brk_model.specs.Commands.{CancelTrade, FeedTicks, PlaceOrder};
-ghost use Rattle.brk_model.specs.Parse.{order_readers, parse_by, read_as, read_cancel, read_feed, read_order};
+ghost use Rattle.brk_model.specs.Parse.{order_readers, parse_by, read_as, read_cancel, read_feed, read_order, read_result, result_readers};
 ghost use Rattle.brk_money.specs.declared.fault.Fault.TheVariants.{Memory};
 ghost use Rattle.brk_ref.specs.Fields.{Reads, texts};
 ghost use Rattle.brk_commands.specs.Commands.{command_of};
 
 use crate::command::Command;
 use brk_money::{Planned, Refusal};
-use brk_orders::{check_cancel, check_feed, check_order};
+use brk_orders::{check_cancel, check_feed, check_order, check_result};
 use std::alloc::Global;
 
 fn parse_order(alloc: Global, fields: &[&[u8]]) -> Planned<Command>
@@ -39,9 +39,18 @@ fn parse_cancel(fields: &[&[u8]]) -> Result<Command, Refusal>
     }
 }
 
+fn parse_result(fields: &[&[u8]]) -> Result<Command, Refusal>
+    ensures { Reads command_of result (read_result (texts fields.now)) }
+{
+    match check_result(fields) {
+        Ok(completion) => Ok(Command::Complete(completion)),
+        Err(refusal) => Err(refusal),
+    }
+}
+
 // The command of one of the kinds of orders, and of what comes of them.
 pub(crate) fn parse_trading(alloc: Global, kind: &[u8], fields: &[&[u8]]) -> Planned<Command>
-    ensures read { IfOk result (λ read. Reads command_of read (parse_by order_readers (kind.now ∷ texts fields.now))) }
+    ensures read { IfOk result (λ read. Reads command_of read (parse_by (order_readers ++ result_readers) (kind.now ∷ texts fields.now))) }
     ensures fault { OnErr result (result ≡ Err Memory) }
 {
     if kind == b"order".as_slice() {
@@ -52,6 +61,9 @@ pub(crate) fn parse_trading(alloc: Global, kind: &[u8], fields: &[&[u8]]) -> Pla
     }
     if kind == b"cancel".as_slice() {
         return Ok(parse_cancel(fields));
+    }
+    if kind == b"result".as_slice() {
+        return Ok(parse_result(fields));
     }
     Ok(Err(Refusal::BadText))
 }

@@ -10,7 +10,7 @@ ghost use Rattle.brk_money.specs.declared.fault.Fault.TheVariants.{Memory};
 ghost use Rattle.brk_ref.specs.Records.{account_of, band_of, broker_of, charge_of, customer_of, customer_tax_of, listing_of, permission_of, tax_of};
 
 use crate::command::Command;
-use crate::order_row::{cancel_text, feed_text, order_text};
+use crate::order_row::{cancel_text, feed_text, order_text, result_text};
 use brk_money::{Fault, Wide};
 use brk_ref::{Account, Band, Broker, Charge, Customer, CustomerTax, Listing, Permission, Tax};
 use brk_trade::Reference;
@@ -153,6 +153,7 @@ pub fn row_text(alloc: Global, command: &Command) -> Result<String, Fault>
         Command::Order(order) => order_text(alloc, order),
         Command::Feed(feed) => feed_text(alloc, feed.ticks()),
         Command::Cancel(trade) => cancel_text(alloc, *trade),
+        Command::Complete(completion) => result_text(alloc, completion),
     };
     Ok(row?)
 }

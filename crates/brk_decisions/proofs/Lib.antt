@@ -5,3 +5,5 @@ pub mod Cancels
 pub mod Feeds
 pub mod OrderFinds
 pub mod Ordering
+pub mod ResultReading
+pub mod Resulting

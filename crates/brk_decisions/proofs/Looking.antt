@@ -15,17 +15,6 @@ pub none_then : (a b c : State) (P : _) → Survives a b (λ _. ⊥) → Survive
 none_then a b c P f s = survives_then a b c (λ _. ⊥) P P (λ _ db none. absurd none) (λ _ db p. p) f s
 
 module _ {S : Type 0} (g : Ghosts S) where
-  -- what was read tells this too
-  pub retold : (old end : Held S) {V X E H : Type 0} (v : V) (x : X) (P : V → Tables → Type 0) (R : X → Tables → Type 0)
-      → ((t : Tables) → P v t → R x t) → IsRead {E = E} g old end (Ok v) P → IsRead {E = H} g old end (Ok x) R
-  retold old end v x P R tell read = record {
-    told = λ clean t holds. tell t (read.told clean t holds);
-    opened = read.opened;
-    kept = read.kept;
-    same = read.same;
-    survives = read.survives;
-  }
-
   module _ (old mid end : Held S) where
     -- two reads are a read of both
     pub read_both : {V W X E F H : Type 0} (v : V) (w : W) (x : X) (P : V → Tables → Type 0) (Q : W → Tables → Type 0) (R : X → Tables → Type 0)

@@ -27,7 +27,11 @@ pub struct Amounts {
 }
 
 // The rates that a customer pays; a sum beyond the whole is a fault of the store.
-fn find_rates<S: Alter>(alloc: Global, store: &mut Store<S>, customer: Id) -> Result<TaxRate, Fault>
+pub(crate) fn find_rates<S: Alter>(
+    alloc: Global,
+    store: &mut Store<S>,
+    customer: Id,
+) -> Result<TaxRate, Fault>
     ensures read { IsRead S.Store store.old store.new result (λ rates t. rates ≡ rates_of t customer) }
     ensures fault { IfErr result MayFail }
 {

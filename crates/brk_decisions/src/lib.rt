@@ -8,7 +8,10 @@ pub mod feed;
 mod finding;
 pub mod order;
 mod order_finding;
+mod parties;
 pub mod reference;
+pub mod result;
+mod result_finding;
 mod terms;
 mod tested;
 
@@ -17,3 +20,4 @@ pub use estimate::decide_estimate;
 pub use feed::decide_feed;
 pub use order::decide_order;
 pub use reference::decide_reference;
+pub use result::decide_result;

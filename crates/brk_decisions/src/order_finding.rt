@@ -53,7 +53,7 @@ fn found_of(account: &AccountRow, tested: Tested, amounts: Amounts) -> OrderFoun
 }
 
 // The customer with an id; an id of none is a fault of the store.
-fn known_customer<S: Alter>(store: &mut Store<S>, id: Id) -> Result<Customer, Fault>
+pub(crate) fn known_customer<S: Alter>(store: &mut Store<S>, id: Id) -> Result<Customer, Fault>
     ensures read { IsRead S.Store store.old store.new result (λ customer t. IsCustomer t id customer) }
     ensures fault { IfErr result MayFail }
 {

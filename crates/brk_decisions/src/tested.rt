@@ -75,7 +75,7 @@ fn find_charge<S: Alter>(
 }
 
 // The rate of a quantity for a tier, a type and an exchange.
-fn find_band_rate<S: Alter>(
+pub(crate) fn find_band_rate<S: Alter>(
     alloc: Global,
     store: &mut Store<S>,
     tier: Tier,

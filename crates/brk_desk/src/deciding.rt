@@ -7,7 +7,7 @@ ghost use Rattle.brk_model.specs.Run.{MayFail};
 ghost use Rattle.brk_store.specs.Holds.{IsRead};
 
 use brk_commands::Command;
-use brk_decisions::{decide_cancel, decide_feed, decide_order, decide_reference};
+use brk_decisions::{decide_cancel, decide_feed, decide_order, decide_reference, decide_result};
 use brk_money::{Planned, Stamp};
 use brk_store::Store;
 use brk_trade::Plan;
@@ -29,5 +29,6 @@ pub(crate) fn decide<S: Alter>(
         Command::Order(order) => decide_order(alloc, store, now, order),
         Command::Feed(feed) => decide_feed(alloc, store, now, feed),
         Command::Cancel(trade) => decide_cancel(alloc, store, now, *trade),
+        Command::Complete(completion) => decide_result(alloc, store, now, completion),
     }
 }

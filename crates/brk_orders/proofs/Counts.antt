@@ -1,16 +1,34 @@
--- How many fields a cancel and an order have.
+-- How many fields a cancel, a result and an order have.
 use Rattle.std.proofs.Common.{◌≡◌, ℕ, refl, length, List, [], ◌∷◌, get_or, arith}
 use Rattle.std.specs.Borrow.{Bor}
-use Rattle.std.specs.Prelude.{Err}
+use Rattle.std.specs.Prelude.{Ok, Err}
 use Rattle.brk_money.specs.declared.refusal.Refusal.TheVariants.{BadText}
-use Rattle.brk_model.specs.Parse.{read_cancel, read_order}
+use Rattle.brk_model.specs.Commands.{CompleteTrade}
+use Rattle.brk_model.specs.Forms.{◌⊛◌, read_id, read_price}
+use Rattle.brk_model.specs.Parse.{read_cancel, read_order, read_result}
 use Rattle.brk_ref.specs.Fields.{texts}
+use Rattle.brk_ref.proofs.Applied.{text_left, text_right}
 
 -- a cancel has one field
 pub not_cancel : (fields : List (Bor (List ℕ))) → (length fields ≡ 1 → ⊥) → read_cancel (texts fields) ≡ Err BadText
 not_cancel [] h = refl
 not_cancel (a ∷ []) h = absurd (h refl)
 not_cancel (a ∷ b ∷ rest) h = refl
+
+-- a result has two
+pub not_result : (fields : List (Bor (List ℕ))) → (length fields ≡ 2 → ⊥) → read_result (texts fields) ≡ Err BadText
+not_result [] h = refl
+not_result (a ∷ []) h = refl
+not_result (a ∷ b ∷ []) h = absurd (h refl)
+not_result (a ∷ b ∷ c ∷ rest) h = refl
+
+-- and where its trade is refused, it is
+pub no_trade : (fields : List (Bor (List ℕ))) (d : Bor (List ℕ)) → length fields ≡ 2 → read_id (get_or fields 0 d).now ≡ Err BadText → read_result (texts fields) ≡ Err BadText
+no_trade [] d h e = absurd (omega (arith, h))
+no_trade (a ∷ []) d h e = absurd (omega (arith, h))
+no_trade (a ∷ b ∷ []) d h e =
+    text_left (Ok (λ t p. CompleteTrade t p) ⊛ read_id a.now) (read_price b.now) (text_right (Ok (λ t p. CompleteTrade t p)) (read_id a.now) e)
+no_trade (a ∷ b ∷ c ∷ rest) d h e = absurd (omega (arith, h))
 
 -- an order has ten
 pub not_order : (fields : List (Bor (List ℕ))) → (length fields ≡ 10 → ⊥) → read_order (texts fields) ≡ Err BadText

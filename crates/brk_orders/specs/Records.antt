@@ -2,8 +2,9 @@
 use Rattle.std.specs.Prelude.{List, [], ◌∷◌, map}
 use Rattle.std.specs.Global.{Vec}
 use Rattle.brk_money.specs.Spelling.{Text}
-use Rattle.brk_model.specs.Commands.{Order, Tick}
+use Rattle.brk_model.specs.Commands.{Command, Order, Tick, CompleteTrade}
 use Rattle.brk_ref.specs.Records.{executor_of}
+use Rattle.brk_orders.specs.declared.completion.Completion as completion
 use Rattle.brk_orders.specs.declared.order.Order as order
 use Rattle.brk_orders.specs.declared.order.Told as told
 use Rattle.brk_orders.specs.declared.tick.Tick as tick
@@ -29,3 +30,7 @@ ticks_of ticks = map tick_of ticks
 -- the ticks that were taken so far
 abbrev pub items_of : Vec tick.Tick → List Tick
 items_of ticks = ticks_of ticks.items
+
+-- a trade that is completed, and its price
+abbrev pub result_of : completion.Completion → Command
+result_of c = CompleteTrade c.trade c.price

@@ -1,7 +1,7 @@
 use Rattle.std.proofs.Common.{◌≡◌, ◌∙◌, ◌+ℤ◌, ap}
 use Rattle.brk_model.specs.Tables.{Tables}
 use Rattle.brk_decisions.specs.Finds.{worth_of}
-use Rattle.brk_decisions.proofs.Looking.{retold}
+use Rattle.brk_store.proofs.Retelling.{retold}
 use Rattle.brk_decisions.proofs.amounts.find_assets.Goals as goal
 
 pub returns-in-Some-clause-read : goal.returns-in-Some-clause-read

@@ -7,7 +7,8 @@ use Rattle.brk_model.specs.Tables.{Tables}
 use Rattle.brk_trade.specs.Rows.{summary_row_of}
 use Rattle.brk_trade.specs.declared.summary_row.SummaryRow.{SummaryRow}
 use Rattle.brk_decisions.specs.Finds.{worth_in, worth_of}
-use Rattle.brk_decisions.proofs.Looking.{read_both, retold}
+use Rattle.brk_store.proofs.Retelling.{retold}
+use Rattle.brk_decisions.proofs.Looking.{read_both}
 use Rattle.brk_decisions.proofs.OrderFinds.{total_by-none, worth_more}
 use Rattle.brk_decisions.proofs.amounts.sum_worth.Goals as goal
 

@@ -4,7 +4,7 @@ use Rattle.brk_model.specs.Joins.{trade_in}
 use Rattle.brk_model.specs.Tables.{Tables, TradeRow}
 use Rattle.brk_trade.specs.Rows.{trade_row_of}
 use Rattle.brk_trade.specs.declared.trade_row.TradeRow as trade
-use Rattle.brk_decisions.proofs.Looking.{retold}
+use Rattle.brk_store.proofs.Retelling.{retold}
 use Rattle.brk_decisions.proofs.cancel.status_of.Goals as goal
 
 pub returns-in-Some-clause-read : goal.returns-in-Some-clause-read

@@ -7,7 +7,8 @@ use Rattle.brk_trade.specs.Rows.{request_row_of}
 use Rattle.brk_trade.specs.declared.quote.Quote.{Quote}
 use Rattle.brk_books.specs.TradeReads.{last_trade_in, requests_of}
 use Rattle.brk_decisions.proofs.Feeds.{IsQuoteOf}
-use Rattle.brk_decisions.proofs.Looking.{read_both, retold}
+use Rattle.brk_store.proofs.Retelling.{retold}
+use Rattle.brk_decisions.proofs.Looking.{read_both}
 use Rattle.brk_decisions.proofs.feed.quote_of.Goals as goal
 
 pub returns-in_default-clause-read : goal.returns-in_default-clause-read

@@ -9,7 +9,8 @@ use Rattle.brk_books.specs.TradePlans.{AreQuotes}
 use Rattle.brk_books.proofs.Quotes.{no_quotes}
 use Rattle.brk_store.specs.Holds.{IsRead}
 use Rattle.brk_decisions.proofs.Feeds.{IsQuoteOf, Known, one_quoted, one_not_listed, one_read}
-use Rattle.brk_decisions.proofs.Looking.{read_both, retold}
+use Rattle.brk_store.proofs.Retelling.{retold}
+use Rattle.brk_decisions.proofs.Looking.{read_both}
 use Rattle.brk_decisions.proofs.feed.read_market.Goals as goal
 use Rattle.brk_decisions.proofs.feed.read_market.Goals.{then-has_no_quote+in_ok-quote+in-Some+in_ok-push, then-has_no_quote+in_ok-quote+in_default, else-has_no_quote}
 

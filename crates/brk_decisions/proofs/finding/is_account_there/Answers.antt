@@ -3,7 +3,7 @@ use Rattle.brk_model.specs.Tables.{Tables}
 use Rattle.brk_tables.specs.Records.{account_row_of}
 use Rattle.brk_books.specs.Reads.{has_account}
 use Rattle.brk_books.proofs.Reading.{is_there}
-use Rattle.brk_decisions.proofs.Looking.{retold}
+use Rattle.brk_store.proofs.Retelling.{retold}
 use Rattle.brk_decisions.proofs.finding.is_account_there.Goals as goal
 
 pub returns : goal.returns

@@ -6,7 +6,8 @@ use Rattle.brk_ref.specs.declared.account.AccountRow.{AccountRow}
 use Rattle.brk_tables.specs.Records.{account_row_of}
 use Rattle.brk_books.specs.OrderPlans.{IsFoundForEstimate}
 use Rattle.brk_decisions.specs.Finds.{IsFoundOf}
-use Rattle.brk_decisions.proofs.Looking.{read_both, retold}
+use Rattle.brk_store.proofs.Retelling.{retold}
+use Rattle.brk_decisions.proofs.Looking.{read_both}
 use Rattle.brk_decisions.proofs.OrderFinds.{no_account}
 use Rattle.brk_decisions.proofs.order_finding.find_for_estimate.Goals as goal
 

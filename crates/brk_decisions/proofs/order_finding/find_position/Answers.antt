@@ -4,7 +4,7 @@ use Rattle.brk_model.specs.Tables.{HoldingRow, Tables}
 use Rattle.brk_trade.specs.Rows.{holding_row_of, oldest_lots_first}
 use Rattle.brk_books.specs.OrderPlans.{lot_in}
 use Rattle.brk_decisions.specs.Finds.{HeldLots}
-use Rattle.brk_decisions.proofs.Looking.{retold}
+use Rattle.brk_store.proofs.Retelling.{retold}
 use Rattle.brk_decisions.proofs.order_finding.find_position.Goals as goal
 
 pub returns-in-Some-clause-read : goal.returns-in-Some-clause-read

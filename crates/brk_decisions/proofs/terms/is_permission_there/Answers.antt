@@ -4,7 +4,7 @@ use Rattle.brk_model.specs.Tables.{Tables}
 use Rattle.brk_ref.specs.Records.{permission_of}
 use Rattle.brk_books.specs.Reads.{has_permission}
 use Rattle.brk_books.proofs.Reading.{is_there}
-use Rattle.brk_decisions.proofs.Looking.{retold}
+use Rattle.brk_store.proofs.Retelling.{retold}
 use Rattle.brk_decisions.proofs.terms.is_permission_there.Goals as goal
 
 pub returns : goal.returns

@@ -7,7 +7,8 @@ use Rattle.brk_ref.specs.Records.{customer_tax_of, tax_of}
 use Rattle.brk_ref.specs.declared.tax.CustomerTax as ref
 use Rattle.brk_ref.specs.declared.tax.Tax.{Tax}
 use Rattle.brk_books.specs.Reads.{tax_rate_of}
-use Rattle.brk_decisions.proofs.Looking.{read_both, retold}
+use Rattle.brk_store.proofs.Retelling.{retold}
+use Rattle.brk_decisions.proofs.Looking.{read_both}
 use Rattle.brk_decisions.proofs.terms.taxes_of.Goals as goal
 
 -- the taxes that were read are those of the first rows, which are a customer's

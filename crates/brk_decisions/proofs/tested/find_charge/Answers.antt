@@ -6,7 +6,7 @@ use Rattle.brk_money.specs.Kinds.{same_type}
 use Rattle.brk_ref.specs.Records.{charge_of}
 use Rattle.brk_ref.specs.declared.charge.Charge as ref
 use Rattle.brk_books.specs.OrderPlans.{charge_in}
-use Rattle.brk_decisions.proofs.Looking.{retold}
+use Rattle.brk_store.proofs.Retelling.{retold}
 use Rattle.brk_decisions.proofs.tested.find_charge.Goals as goal
 
 pub returns-in-Some-clause-read : goal.returns-in-Some-clause-read

@@ -7,7 +7,8 @@ use Rattle.brk_model.specs.Tables.{SecurityRow, Tables}
 use Rattle.brk_ref.specs.Records.{security_of}
 use Rattle.brk_ref.specs.declared.security.Security.{Security}
 use Rattle.brk_books.specs.TradeReads.{band_in}
-use Rattle.brk_decisions.proofs.Looking.{read_both, retold}
+use Rattle.brk_store.proofs.Retelling.{retold}
+use Rattle.brk_decisions.proofs.Looking.{read_both}
 use Rattle.brk_decisions.proofs.tested.find_order_rate.Goals as goal
 
 pub returns-in_ok-rate-in-Some-clause-read : goal.returns-in_ok-rate-in-Some-clause-read

@@ -4,7 +4,7 @@ use Rattle.brk_model.specs.Tables.{LastTradeRow, Tables}
 use Rattle.brk_ref.specs.Records.{last_trade_of}
 use Rattle.brk_ref.specs.declared.security.LastTrade.{LastTrade}
 use Rattle.brk_books.specs.OrderPlans.{last_price_in}
-use Rattle.brk_decisions.proofs.Looking.{retold}
+use Rattle.brk_store.proofs.Retelling.{retold}
 use Rattle.brk_decisions.proofs.tested.find_price.Goals as goal
 
 pub returns-in-Some-clause-read : goal.returns-in-Some-clause-read

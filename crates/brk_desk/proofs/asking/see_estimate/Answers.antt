@@ -2,7 +2,7 @@ use Rattle.std.proofs.Common.{Err, Ok}
 use Rattle.brk_model.specs.Queries.{EstimateOf}
 use Rattle.brk_orders.specs.Records.{order_of}
 use Rattle.brk_view.specs.declared.view.View.TheVariants as views
-use Rattle.brk_decisions.proofs.Looking.{retold}
+use Rattle.brk_store.proofs.Retelling.{retold}
 use Rattle.brk_decisions.specs.Decisions.{Tells}
 use Rattle.brk_desk.specs.Asking.{Shows}
 use Rattle.brk_desk.proofs.Asked.{estimate_refused, estimate_shown}

@@ -4,7 +4,7 @@ use Rattle.brk_money.specs.declared.status.Status.TheVariants.{Submitted}
 use Rattle.brk_model.specs.Queries.{SubmittedTrades}
 use Rattle.brk_model.specs.Tables.{Tables, TradeRow}
 use Rattle.brk_trade.specs.Rows.{trade_row_of}
-use Rattle.brk_decisions.proofs.Looking.{retold}
+use Rattle.brk_store.proofs.Retelling.{retold}
 use Rattle.brk_desk.specs.Asking.{Shows}
 use Rattle.brk_desk.proofs.Asked.{submitted_shown}
 use Rattle.brk_desk.proofs.asking.see_submitted.Goals as goal

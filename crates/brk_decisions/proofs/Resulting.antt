@@ -1,0 +1,80 @@
+-- What was read for a result decides on it.
+use Rattle.std.proofs.Common.{◌≡◌, ◌≤◌, ◌<◌, ◌∙◌, ℕ, List, Option, Result, Ok, Err, IfOk, None, Some, ap, subst, sym}
+use Rattle.std.specs.Prelude.{IfSome, MatchResult}
+use Rattle.sqlite_trees.specs.declared.store.Store.{Ghosts}
+use Rattle.sqlite.specs.Held.{Held}
+use Rattle.brk_lots.specs.Lots.{from_end}
+use Rattle.brk_lots.specs.declared.lot.Lot.{Lot}
+use Rattle.brk_model.specs.Base.{Base}
+use Rattle.brk_model.specs.Commands.{CompleteTrade}
+use Rattle.brk_model.specs.Joins.{trade_in}
+use Rattle.brk_model.specs.Sheets.{sheets}
+use Rattle.brk_model.specs.Tables.{Tables}
+use Rattle.brk_money.specs.Moments.{last_stamp}
+use Rattle.brk_money.specs.declared.fault.Fault.{Fault}
+use Rattle.brk_money.specs.declared.refusal.Refusal.{Refusal}
+use Rattle.brk_trade.specs.Results.{IsCompleted, IsRefused}
+use Rattle.brk_trade.specs.declared.outcome.ResultFound.{ResultFound}
+use Rattle.brk_trade.specs.declared.plan.Plan.{Plan}
+use Rattle.brk_books.specs.Books.{IsBooks}
+use Rattle.brk_books.specs.ResultPlans.{AreLotsOfTrade, IsFoundForResult, IsReadForResult}
+use Rattle.brk_books.proofs.ResultDoing.{result_plan_does}
+use Rattle.brk_books.proofs.ResultRefusing.{result_refused}
+use Rattle.brk_store.specs.Holds.{IsRead}
+use Rattle.brk_decisions.specs.Decisions.{Decides}
+use Rattle.brk_decisions.specs.ResultFinds.{IsFoundAt, IsFoundOf, found_in, lots_met}
+use Rattle.brk_decisions.proofs.Looking.{read_both}
+
+-- the last stamp, and what was found for a result
+abbrev pub Known : ℕ → Option ℕ → Option (ResultFound × List Lot) → Tables → Type 0
+Known id last found t = (last ≡ t.last) × IsFoundAt t id found
+
+-- they are known after two reads
+pub last_and_found : {S E F : Type 0} (g : Ghosts S) (old mid end : Held S) (id : ℕ) (last : Option ℕ) (found : Option (ResultFound × List Lot))
+    → IsRead {E = E} g old mid (Ok last) (λ last t. last ≡ t.last) → IsRead {E = F} g mid end (Ok found) (λ found t. IsFoundAt t id found) → IsRead {E = Fault} g old end (Ok found) (Known id last)
+last_and_found g old mid end id last found at_last at_found =
+    read_both g old mid end {H = Fault} last found found (λ last t. last ≡ t.last) (λ found t. IsFoundAt t id found) (Known id last) (λ t e f. (e, f)) at_last at_found
+
+-- a trade that was found is of some shares
+abbrev pub HasShares : Option (ResultFound × List Lot) → Type 0
+HasShares found = IfSome found (λ f. 0 < f.0.trade.qty)
+
+-- a result's plan does it, and its refusal is that of the command
+module _ (id price : ℕ) (last : Option ℕ) (now : ℕ) (moment : now ≤ last_stamp) where
+  looked_up : (found : Option (ResultFound × List Lot)) → HasShares found → (t : Tables) → Known id last found t → (base : Base) → IsBooks base → t ≡ sheets base
+      → IsReadForResult base id (found_in found) (lots_met found) last now
+  looked_up None shares t known base books e = record {
+    books = books;
+    trade_read = ap (λ x. trade_in x id) (sym e) ∙ known.1.trade;
+    looked_up = tt;
+    lots_read = tt;
+    some_shares = tt;
+    last_read = known.0 ∙ ap (λ x. x.last) e;
+    moment = moment;
+  }
+  looked_up (Some f) shares t known base books e =
+      let k : IsFoundOf t f.0.trade f.0 f.1 = known.1.read in
+      record {
+        books = books;
+        trade_read = ap (λ x. trade_in x id) (sym e) ∙ known.1.trade;
+        looked_up = subst (λ x. IsFoundForResult x f.0) e k.read;
+        lots_read = λ p. subst (λ x. AreLotsOfTrade x f.0.trade (from_end f.0.trade.is_lifo f.1)) e
+            (let h = k.met p in record { held = h.held; rows = h.rows; given = ap (from_end f.0.trade.is_lifo) h.given });
+        some_shares = shares;
+        last_read = known.0 ∙ ap (λ x. x.last) e;
+        moment = moment;
+      }
+
+  planned : (found : Option (ResultFound × List Lot)) → HasShares found → (result : Result Plan Refusal)
+      → MatchResult result (IsCompleted (found_in found) price (lots_met found) last now) (IsRefused (found_in found) price (lots_met found) last now)
+      → (t : Tables) → Known id last found t → Decides now (CompleteTrade id price) result t
+  planned found shares (Ok plan) p t known base books e =
+      result_plan_does base id price (found_in found) (lots_met found) last now plan (looked_up found shares t known base books e) p
+  planned found shares (Err refusal) p t known base books e =
+      result_refused base id price (found_in found) (lots_met found) last now refusal (looked_up found shares t known base books e) p
+
+  pub result_decided : (found : Option (ResultFound × List Lot)) → HasShares found → (result : Result (Result Plan Refusal) Fault)
+      → IfOk result (λ planned. MatchResult planned (IsCompleted (found_in found) price (lots_met found) last now) (IsRefused (found_in found) price (lots_met found) last now))
+      → IfOk result (λ planned. (t : Tables) → Known id last found t → Decides now (CompleteTrade id price) planned t)
+  result_decided found shares (Ok result) p = planned found shares result p
+  result_decided found shares (Err fault) p = tt

@@ -1,0 +1,24 @@
+use Rattle.std.proofs.Common.{◌≡◌, option_map, refl, subst, sym}
+use Rattle.std.specs.Prelude.{IfSome}
+use Rattle.brk_money.specs.declared.fault.Fault.{Fault}
+use Rattle.brk_model.specs.Joins.{security_in}
+use Rattle.brk_model.specs.Records.{Band}
+use Rattle.brk_model.specs.Tables.{SecurityRow, Tables}
+use Rattle.brk_books.specs.TradeReads.{band_in}
+use Rattle.brk_decisions.specs.ResultFinds.{IsListedAs, IsSecurity}
+use Rattle.brk_decisions.specs.declared.result_finding.Listed.{Listed}
+use Rattle.brk_decisions.proofs.Looking.{read_both}
+use Rattle.brk_decisions.proofs.result_finding.find_listed.Goals as goal
+
+pub returns-clause-read : goal.returns-clause-read
+returns-clause-read g c =
+    let trade = c.args.trade.now in
+    let security = c.in_ok-security.security in
+    let rate = c.in_ok-rate.rate in
+    let listed : Listed = record { name = security.name; rate = rate } in
+    read_both g.S.Store c.args.store.now c.known_security.new.store c.find_band_rate.new.store {H = Fault} security rate listed
+    (λ security (t : Tables). IsSecurity t trade.symbol security)
+    (λ rate (t : Tables). rate ≡ option_map (λ (b : Band). b.rate) (band_in t c.args.tier trade.kind security.exchange trade.qty))
+    (λ listed (t : Tables). IfSome (security_in t trade.symbol) (λ s. IsListedAs t trade c.args.tier s listed))
+    (λ t e r. subst (λ x. IfSome x (λ (s : SecurityRow). IsListedAs t trade c.args.tier s listed)) (sym e) (record { name = refl; rate = r }))
+    c.in_ok-security.ensures.read c.in_ok-rate.ensures.read

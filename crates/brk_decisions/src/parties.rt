@@ -1,0 +1,90 @@
+//! The account of a trade, with what its customer and its broker tell of its results.
+
+ghost use Rattle.std.specs.Prelude.{◌≡◌, IfErr, IfSome};
+ghost use Rattle.brk_decisions.specs.ResultFinds.{AreNumbers, AreParties, IsAccount};
+ghost use Rattle.brk_model.specs.Joins.{account_in};
+ghost use Rattle.brk_model.specs.Run.{MayFail};
+ghost use Rattle.brk_store.specs.Holds.{IsRead};
+ghost use Rattle.brk_tables.specs.Records.{account_row_of};
+
+use crate::amounts::find_rates;
+use crate::order_finding::known_customer;
+use brk_money::{Fault, Id, TaxRate};
+use brk_ref::{AccountRow, Tier};
+use brk_store::Store;
+use brk_trade::{BrokerNumbers, ResultAccount};
+use sqlite::Alter;
+use std::alloc::Global;
+
+/// The account of a trade, with what its customer and its broker tell of its results.
+#[derive(Clone, Copy)]
+pub struct Parties {
+    pub account: ResultAccount,
+    /// The numbers of the account's broker.
+    pub broker: BrokerNumbers,
+    /// The tier of the account's customer.
+    pub tier: Tier,
+    /// The sum of the tax rates that the customer pays.
+    pub rates: TaxRate,
+}
+
+// The account with an id; an id of none is a fault of the store.
+fn known_account<S: Alter>(store: &mut Store<S>, id: Id) -> Result<AccountRow, Fault>
+    ensures read { IsRead S.Store store.old store.new result (λ account t. IsAccount t id account) }
+    ensures fault { IfErr result MayFail }
+{
+    match store.account(id)? {
+        Some(account) => Ok(account),
+        None => Err(Fault::Store),
+    }
+}
+
+// The numbers of the broker with an id; an id of none is a fault of the store.
+fn known_numbers<S: Alter>(store: &mut Store<S>, id: Id) -> Result<BrokerNumbers, Fault>
+    ensures read { IsRead S.Store store.old store.new result (λ numbers t. AreNumbers t id numbers) }
+    ensures fault { IfErr result MayFail }
+{
+    match store.broker_numbers(id)? {
+        Some(numbers) => Ok(numbers),
+        None => Err(Fault::Store),
+    }
+}
+
+// An account with what its customer and its broker tell of the results of its trades.
+fn parties_of<S: Alter>(
+    alloc: Global,
+    store: &mut Store<S>,
+    row: &AccountRow,
+) -> Result<Parties, Fault>
+    ensures read { IsRead S.Store store.old store.new result (λ parties t. AreParties t (account_row_of row.now) parties) }
+    ensures fault { IfErr result MayFail }
+{
+    let customer = known_customer(store, row.account.customer)?;
+    let rates = find_rates(alloc, store, row.account.customer)?;
+    let broker = known_numbers(store, row.account.broker)?;
+    let account = ResultAccount {
+        broker: row.account.broker,
+        tax_status: row.account.tax_status,
+        balance: row.balance,
+    };
+    Ok(Parties {
+        account,
+        broker,
+        tier: customer.tier,
+        rates,
+    })
+}
+
+/// The account with an id, with what its customer and its broker tell of the results of its trades.
+pub(crate) fn find_parties<S: Alter>(
+    alloc: Global,
+    store: &mut Store<S>,
+    account: Id,
+) -> Result<Parties, Fault>
+    ensures read { IsRead S.Store store.old store.new result (λ parties t. IfSome (account_in t account) (λ a. AreParties t a parties)) }
+    ensures fault { IfErr result MayFail }
+{
+    let row = known_account(store, account)?;
+    let parties = parties_of(alloc, store, &row)?;
+    Ok(parties)
+}

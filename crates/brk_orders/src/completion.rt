@@ -1,0 +1,32 @@
+ghost use Rattle.brk_model.specs.Parse.{read_result};
+ghost use Rattle.brk_orders.specs.Records.{result_of};
+ghost use Rattle.brk_ref.specs.Fields.{Reads, texts};
+
+use brk_money::{Id, Price, Refusal};
+use brk_ref::{parse_id, parse_price};
+
+/// The completion of a submitted trade, as it is told of (Trade-Result).
+#[derive(Clone, Copy, Debug, PartialEq, Eq)]
+pub struct Completion {
+    /// The trade that is completed.
+    pub trade: Id,
+    /// The price of a share that it was made at.
+    pub price: Price,
+}
+
+/// The completion that the fields TRADE and PRICE are, or the refusal of their form: of both refusals that of the trade
+/// stands (18), else the price's (9). It takes no memory.
+pub fn check_result(fields: &[&[u8]]) -> Result<Completion, Refusal>
+    ensures { Reads result_of result (read_result (texts fields.now)) }
+{
+    let [trade, price] = fields else {
+        return Err(Refusal::BadText);
+    };
+    let Some(trade) = parse_id(trade) else {
+        return Err(Refusal::BadText);
+    };
+    let Some(price) = parse_price(price) else {
+        return Err(Refusal::BadPrice);
+    };
+    Ok(Completion { trade, price })
+}
