@@ -77,6 +77,19 @@ pub fn set_desk(rt: &impl Abort, alloc: Global) -> Result<Desk<MemStore>, Fail> 
     Ok(desk)
 }
 
+/// Answers a batch at a moment: its lines and how it ends.
+pub fn answer_at(
+    alloc: Global,
+    desk: &mut Desk<MemStore>,
+    at: Stamp,
+    input: &[u8],
+) -> (Vec<u8>, Result<Counts, BatchFault>) {
+    let mut lines = Vec::new(alloc);
+    let mut clock = Still { at };
+    let ended = run_batch(alloc, input, &mut lines, &mut clock, desk);
+    (lines, ended)
+}
+
 /// Answers a batch at a moment, and compares its lines and how it ends.
 pub fn expect_at(
     rt: &impl Abort,
@@ -87,9 +100,7 @@ pub fn expect_at(
     wanted: &[u8],
     ending: Result<Counts, BatchFault>,
 ) -> Result<(), Fail> {
-    let mut lines = Vec::new(alloc);
-    let mut clock = Still { at };
-    let ended = run_batch(alloc, input, &mut lines, &mut clock, desk);
+    let (lines, ended) = answer_at(alloc, desk, at, input);
     assert!(rt; lines.as_slice() == wanted);
     assert!(rt; ended == ending);
     Ok(())

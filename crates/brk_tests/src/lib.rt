@@ -6,6 +6,8 @@ mod asks;
 #[cfg(test)]
 mod batches;
 #[cfg(test)]
+mod booked;
+#[cfg(test)]
 mod calls;
 #[cfg(test)]
 mod decisions;
@@ -15,6 +17,8 @@ mod desks;
 mod keys;
 #[cfg(test)]
 mod limits;
+#[cfg(test)]
+mod many_results;
 #[cfg(test)]
 mod order_batches;
 #[cfg(test)]
@@ -36,9 +40,19 @@ mod queries;
 #[cfg(test)]
 mod refusals;
 #[cfg(test)]
+mod result_plans;
+#[cfg(test)]
+mod result_refusals;
+#[cfg(test)]
+mod results;
+#[cfg(test)]
 mod row_texts;
 #[cfg(test)]
 mod settings;
+#[cfg(test)]
+mod settlements;
+#[cfg(test)]
+mod tables;
 #[cfg(test)]
 mod told;
 #[cfg(test)]

@@ -1,5 +1,5 @@
 use brk_money::Refusal;
-use brk_orders::{check_cancel, check_feed, check_order};
+use brk_orders::{check_cancel, check_feed, check_order, check_result};
 use std::alloc::{AllocError, Global};
 use std::test::Fail;
 
@@ -61,5 +61,17 @@ fn reads_a_cancel(rt: HostRuntime) -> Result<(), Fail> {
     assert!(rt; check_cancel(&fields).ok().map(|trade| trade.get()) == Some(7));
     let fields: [&[u8]; 1] = [b"07"];
     assert!(rt; check_cancel(&fields).err() == Some(Refusal::BadText));
+    Ok(())
+}
+
+#[test]
+fn reads_a_result(rt: HostRuntime) -> Result<(), Fail> {
+    let fields: [&[u8]; 2] = [b"7", b"10.10"];
+    let completion = check_result(&fields).map_err(|_| "a result")?;
+    assert!(rt; completion.trade.get() == 7 && completion.price.get() == 1010);
+    let fields: [&[u8]; 2] = [b"7", b"0.00"];
+    assert!(rt; check_result(&fields).err() == Some(Refusal::BadPrice));
+    let fields: [&[u8]; 2] = [b"07", b"0.00"];
+    assert!(rt; check_result(&fields).err() == Some(Refusal::BadText));
     Ok(())
 }
