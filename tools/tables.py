@@ -1,8 +1,10 @@
 #!/usr/bin/env python3
 """Writes the parts of crates/brk_tables, crates/brk_trades and crates/brk_results that follow from the list of tables and
 statements below: the shapes and cells of the tables and which text makes which table (brk_tables), and what each SQL text
-means over any schema (in the crate of the statement). Run it at the top of the repository after a change of the list. What
-it writes is checked like any other file."""
+means over any schema (in the crate of the statement). Run it at the top of the repository after a change of the list, and
+then `rt fmt` in the three crates. What it writes is checked like any other file."""
+import re
+
 OUT = 'crates/brk_tables/proofs'
 SPECS = 'crates/brk_tables/specs'
 
@@ -116,9 +118,32 @@ use Rattle.brk_rows.proofs.Texts.{{read}}
 use Rattle.brk_tables.specs.Shapes.{{{table}}}
 '''
 
+def is_named(name, body):
+    """Whether the body has the name, other than in a path or before the value of a field, or each sign of an operator"""
+    if '◌' in name:
+        return all(sign in body for sign in name.split('◌') if sign)
+    return re.search(rf'(?<![\w.-]){re.escape(name)}(?![\w-])(?! =)', body) is not None
+
+def of_use(line, body):
+    """The line of a head without the names that the body does without, and nothing where none is left"""
+    alias = re.fullmatch(r'use [\w.]+ as (\w+)', line)
+    if alias:
+        return [line] if is_named(alias[1], body) else []
+    names = re.fullmatch(r'(use [\w.]+\.){(.*)}', line)
+    if not names:
+        return [line]
+    kept = [name for name in names[2].split(', ') if is_named(name.split(' as ')[-1], body)]
+    return [f'{names[1]}{{{", ".join(kept)}}}'] if kept else []
+
+def save(path, text):
+    """Writes a file without the names that its head imports and its body does without"""
+    head, body = text.split('\n\n', 1)
+    kept = [one for line in head.splitlines() for one in of_use(line, body)]
+    with open(path, 'w') as file:
+        file.write('\n'.join(kept) + '\n\n' + body)
+
 def write(crate, name, what, table, body):
-    text = HEAD.format(what=what, table=table) + body
-    open(f'crates/{crate}/proofs/{name}.antt', 'w').write(text)
+    save(f'crates/{crate}/proofs/{name}.antt', HEAD.format(what=what, table=table) + body)
 
 def insert(crate, name, t, values):
     """values: for each column a parameter's number, ('lit', n) or 'null'"""
@@ -367,7 +392,7 @@ abbrev pub {t} : ℕ → Table
 {t} tree = table_of ({q(sql)}) tree ({cs})
     {'(Some 0)' if rowkey else 'None'} ({primary}) ({lst(uniques)}) ({refs})
 """
-    open(f'{SPECS}/Shapes.antt', 'w').write(out)
+    save(f'{SPECS}/Shapes.antt', out)
 
 ROWS = 'BrokerRow, AccountRow, SecurityRow, LastTradeRow, TradeRow, HistoryRow, RequestRow, HoldingRow, SummaryRow, HoldingHistoryRow, SettlementRow, CashRow'
 RECORDS = 'Customer, Permission, Charge, Band, TaxRate, CustomerTax, Kept'
@@ -407,7 +432,7 @@ flag b = Int (pos (if b then 1 else 0))
 abbrev pub {t}_cells : {row} → Row
 {t}_cells r = {lst(e for _, _, e, _ in cols)}
 """
-    open(f'{SPECS}/Cells.antt', 'w').write(out)
+    save(f'{SPECS}/Cells.antt', out)
 
 def desk():
     both = lambda f: '\n'.join(f(d) for d in DATA)
@@ -468,7 +493,7 @@ desk = record {{ shape = shape; placed = placed; Item = Item; encode = encode; o
 abbrev pub names : List (List ℕ)
 names = map (λ w. (shape w 0).name) ({lst(d[2] for d in DATA)})
 """
-    open(f'{SPECS}/Desk.antt', 'w').write(out)
+    save(f'{SPECS}/Desk.antt', out)
 
 def splits():
     out = f"""-- Written by tools/tables.py: whether a table is a certain one.
@@ -481,7 +506,7 @@ pub is_{d[0]} : (v : Which) → (v ≡ {d[2]}) ⊎ (v ≢ {d[2]})
 is_{d[0]} {d[2]} = inl refl
 is_{d[0]} v = inr (λ e. absurd (let f = e in cc))
 """
-    open(f'{OUT}/Which.antt', 'w').write(out)
+    save(f'{OUT}/Which.antt', out)
 
 def create_text(d):
     t, sql, w, row, key, rows, rowkey, cols = d
@@ -522,7 +547,7 @@ pub makes_{d[0]} : (old new : State) (count : ℕ) → Executes {d[0]}_text [] o
 unfolding everything
 makes_{d[0]} = makes {d[0]}_text {d[0]} refl (λ tree. refl) (λ tree. refl) refl (read {d[0]}_text) _ refl refl refl refl refl refl refl refl
 """
-    open(f'{OUT}/Makes.antt', 'w').write(out)
+    save(f'{OUT}/Makes.antt', out)
 
 def probing():
     out = f"""-- Written by tools/tables.py: what a statement that is looked at, and not run, tells of a table.
@@ -553,7 +578,7 @@ pairs = {lst(f'({d[0]}_probe, {q(d[1])})' for d in DATA)}
 pub all_probed : AllByRecursion (λ (p : List ℕ × List ℕ). (schema : Schema) (has : Bool) → Probes p.0 has schema → has ≡ is_some (table_named schema p.1)) pairs
 all_probed = {'('.join(f'({d[0]}_probed, ' for d in DATA).replace('((','(')}tt{')' * len(DATA)}
 """
-    open(f'{OUT}/Probing.antt', 'w').write(out)
+    save(f'{OUT}/Probing.antt', out)
 
 # for each crate: its statements, each with its name, its table, and what it takes
 STATEMENTS = {

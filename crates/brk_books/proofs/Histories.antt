@@ -11,7 +11,7 @@ use Rattle.brk_model.specs.Records.{Trade}
 use Rattle.brk_model.specs.Base.{Base, completed}
 use Rattle.brk_model.specs.Derived.{deal_of, deals_in, of_position, shares_in}
 use Rattle.brk_model.specs.Shares as model
-use Rattle.brk_model.specs.Shares.{Deal, Share, Touch, closed_count, is_change, lot_qty, lots, opened_shares, replay, shares_after, signed, touches}
+use Rattle.brk_model.specs.Shares.{Deal, Share, Touch, closed_count, is_change, lot_qty, lots, opened_shares, shares_after, signed, touches}
 use Rattle.brk_model.specs.Keys.{number, by_key, holding_history_key, insert_row}
 use Rattle.brk_model.specs.Tables.{HoldingHistoryRow, lot_history, lot_rows}
 use Rattle.brk_lots.specs.Lots.{from_end}

@@ -11,7 +11,7 @@ use Rattle.brk_model.specs.Records.{Trade}
 use Rattle.brk_model.specs.Base.{Base, completed, is_completed}
 use Rattle.brk_model.specs.Derived.{deal_of, of_position, shares_in}
 use Rattle.brk_model.specs.Shares as model
-use Rattle.brk_model.specs.Shares.{Deal, Share, Touch, closed_count, is_change, lot_qty, lots, opened_share, opened_shares, shares_after, signed, touches}
+use Rattle.brk_model.specs.Shares.{Deal, Touch, closed_count, is_change, lot_qty, lots, opened_share, opened_shares, signed, touches}
 use Rattle.brk_model.specs.Keys.{number, by_key, holding_key, insert_row, row_before}
 use Rattle.brk_model.specs.Sheets.{sheets}
 use Rattle.brk_model.specs.Tables.{HoldingRow, holding_row, trade_row}

@@ -18,7 +18,7 @@ use Rattle.brk_model.specs.Records.{Trade}
 use Rattle.brk_model.specs.Results as results
 use Rattle.brk_model.specs.Results.{completed_trade, completion, result_deal, with_result}
 use Rattle.brk_model.specs.Shares as shares
-use Rattle.brk_model.specs.Shares.{Deal, Share, lots, opened_shares, signed, touches}
+use Rattle.brk_model.specs.Shares.{lots, opened_shares, signed, touches}
 use Rattle.brk_model.specs.Sheets.{sheets}
 use Rattle.brk_model.specs.Step.{reply_to}
 use Rattle.brk_model.specs.Tables as tables
@@ -34,7 +34,7 @@ use Rattle.brk_trade.specs.Changes.{after_change, after_changes, with_balance, w
 use Rattle.brk_trade.specs.Outcomes.{deal_of, outcome_of, result_tests, summary_after, values_in}
 use Rattle.brk_trade.specs.Replies.{reply_of}
 use Rattle.brk_trade.specs.Results as planner
-use Rattle.brk_trade.specs.Results.{IsCompleted, IsRefused, cash_changes, changes_of, first_cash_type, lot_left, opened_changes, sum_changes, summary_change, touched_changes, told_of, trade_changes}
+use Rattle.brk_trade.specs.Results.{IsCompleted, cash_changes, changes_of, first_cash_type, opened_changes, sum_changes, summary_change, touched_changes, told_of, trade_changes}
 use Rattle.brk_trade.specs.Rows.{cash_row_of, cash_type_word, trade_row_of}
 use Rattle.brk_trade.specs.declared.cash_row.CashRow.{CashRow}
 use Rattle.brk_trade.specs.declared.change.Change.{Change}

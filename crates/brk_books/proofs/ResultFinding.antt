@@ -6,7 +6,7 @@ use Rattle.std.proofs.lemmas.Bool.{eqb-true}
 use Rattle.brk_estimates.specs.Estimates.{values_of}
 use Rattle.brk_estimates.specs.declared.values.Values.{Values}
 use Rattle.brk_model.specs.Base as base_spec
-use Rattle.brk_model.specs.Base.{Base, account_with, band_with, bears_tax, broker_in, broker_of, broker_with, completed, customer_of, exchange_of, has_status, is_taxed, last_mark, security_name, security_with, takes_tax_off, tax_status_in, tier_of, trade_with}
+use Rattle.brk_model.specs.Base.{Base, band_with, bears_tax, broker_of, broker_with, completed, customer_of, exchange_of, has_status, last_mark, security_name, security_with, takes_tax_off, tax_status_in, tier_of, trade_with}
 use Rattle.brk_model.specs.Commands.{CompleteTrade}
 use Rattle.brk_model.specs.Derived as derived
 use Rattle.brk_model.specs.Derived.{balance_of, commissions_of, proceeds, settlement_days, shares_in, summary_of, trade_count_of}
@@ -18,7 +18,7 @@ use Rattle.brk_model.specs.Shares.{gain, signed}
 use Rattle.brk_model.specs.Sheets.{sheets}
 use Rattle.brk_model.specs.Tables.{SummaryRow, TradeRow, broker_row, security_row, status_of, trade_row}
 use Rattle.brk_model.specs.Tests as model
-use Rattle.brk_model.specs.Tests.{Test, first_refusal, next_stamp, refusal_of, tests, tests_of_trade}
+use Rattle.brk_model.specs.Tests.{Test, first_refusal, next_stamp, refusal_of, tests}
 use Rattle.brk_money.specs.Amounts.{commission, tax}
 use Rattle.brk_money.specs.Kinds.{same_status, side_of}
 use Rattle.brk_money.specs.Moments.{day_of, last_day, last_stamp, stamp_after}

@@ -1,6 +1,6 @@
 //! The account of a trade, with what its customer and its broker tell of its results.
 
-ghost use Rattle.std.specs.Prelude.{◌≡◌, IfErr, IfSome};
+ghost use Rattle.std.specs.Prelude.{IfErr, IfSome};
 ghost use Rattle.brk_decisions.specs.ResultFinds.{AreNumbers, AreParties, IsAccount};
 ghost use Rattle.brk_model.specs.Joins.{account_in};
 ghost use Rattle.brk_model.specs.Run.{MayFail};

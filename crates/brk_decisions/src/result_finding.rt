@@ -8,18 +8,16 @@ ghost use Rattle.brk_decisions.specs.ResultFinds.{IsFoundAt, IsFoundOf, IsHoldin
 ghost use Rattle.brk_lots.specs.Position.{IsNew};
 ghost use Rattle.brk_model.specs.Joins.{security_in};
 ghost use Rattle.brk_model.specs.Run.{MayFail};
-ghost use Rattle.brk_money.specs.Kinds.{same_status};
-ghost use Rattle.brk_money.specs.declared.status.Status.TheVariants.{Submitted};
 ghost use Rattle.brk_store.specs.Holds.{IsRead};
 
 use crate::order_finding::find_position;
 use crate::parties::find_parties;
 use crate::tested::find_band_rate;
 use brk_lots::{Lot, Position};
-use brk_money::{Fault, Id, Rate, Status};
+use brk_money::{Fault, Id, Rate};
 use brk_ref::{Name, Security, Symbol, Tier};
 use brk_store::Store;
-use brk_trade::{ResultFound, SummaryRow, TradeRow};
+use brk_trade::{ResultFound, SummaryRow, TradeRow, is_submitted};
 use sqlite::Alter;
 use std::alloc::Global;
 
@@ -133,13 +131,6 @@ fn known_lots<S: Alter>(
     } else {
         Err(Fault::Store)
     }
-}
-
-// Whether a trade is at the market.
-fn is_submitted(trade: &TradeRow) -> bool
-    ensures { result ≡ same_status trade.now.status Submitted }
-{
-    trade.status == Status::Submitted
 }
 
 // What an account holds of its trade's security. The lots of a trade that is not at the market are not looked at.

@@ -31,9 +31,6 @@ as_many : {A B : Type 0} (xs : List A) (ys : List B) (x : A) (y : B) → length 
 as_many xs ys x y e = length-append xs (x ∷ []) ∙ ap (λ n. n + 1) e ∙ sym (length-append ys (y ∷ []))
 
 module _ {S : Type 0} (g : Ghosts S) where
-  pub runs_none : (store : Held S) → IsRun g store store [] []
-  runs_none store = record { count = refl; ran = λ clean base keeps. (base, keeps, refl); clean = λ clean. clean }
-
   -- what came of a query is its answer over each base whose books were kept
   by_answer : (old new : Held S) (query : model.Query) (result : Result (Result View Refusal) Fault) (now : ℕ) (base : Base) → IsAsked g old new query result
       → HasCleanDisk (state g new) → KeepsBase g old base → Answers base now (Ask query) (outcome_of (outcome_seen result)) base

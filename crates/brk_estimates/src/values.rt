@@ -1,13 +1,12 @@
 ghost use Rattle.std.specs.Prelude.{◌≡◌, ◌+◌, ◌*◌, ◌≤◌, ◌≤ℤ◌, ℕ, List, Bool, drop, length, IfOk, IfErr, pos};
-ghost use Rattle.brk_money.specs.Kinds.{same_side};
 ghost use Rattle.brk_model.specs.Shares.{touches};
 ghost use Rattle.brk_lots.specs.declared.lot.Lot.{Lot};
-ghost use Rattle.brk_lots.specs.Lots.{from_end, shares_of, side_of_qty};
+ghost use Rattle.brk_lots.specs.Lots.{from_end, shares_of};
 ghost use Rattle.brk_lots.specs.Position.{IsWalk, IsNew};
 ghost use Rattle.brk_lots.specs.Walks.{met, rows_taken, paid};
 ghost use Rattle.brk_estimates.specs.Estimates.{values_by, values_of};
 
-use brk_lots::{Lot, LotSource};
+use brk_lots::{LotSource, is_same};
 use brk_money::{Cents, Fault, Price, Qty, Side};
 
 /// What the shares that an order would close were bought for and sold for, in cents.
@@ -22,16 +21,6 @@ pub struct Values {
 struct Walked {
     left: u32,
     cost: u64,
-}
-
-// Whether the lot has shares of the side.
-fn is_of(lot: &Lot, side: Side) -> bool
-    ensures { result ≡ same_side (side_of_qty lot.now.qty) side }
-{
-    match (lot.side(), side) {
-        (Side::Buy, Side::Buy) | (Side::Sell, Side::Sell) => true,
-        _ => false,
-    }
 }
 
 // Walks over lots of the other side until the quantity is used up.
@@ -52,7 +41,7 @@ fn walk_lots<L: LotSource>(source: &mut L, side: Side, qty: Qty) -> Result<Walke
         let Some(lot) = source.next()? else {
             break;
         };
-        if is_of(&lot, side) {
+        if is_same(lot.side(), side) {
             break;
         }
         let shares = lot.size().min(u64::from(left)) as u32;

@@ -6,7 +6,7 @@ use Rattle.brk_money.specs.Kinds.{same_side}
 use Rattle.brk_money.specs.declared.side.Side.{Side}
 use Rattle.brk_money.specs.declared.side.Side.TheVariants.{Buy, Sell}
 use Rattle.brk_model.specs.Shares as model
-use Rattle.brk_model.specs.Shares.{Share, Deal, signed, firsts, lots, lot_qty, touches, touch_of, is_change, opened_share, opened_shares, closed_count, shares_after, opening_value, buy_value, sell_value}
+use Rattle.brk_model.specs.Shares.{Share, Deal, signed, firsts, lots, lot_qty, touches, touch_of, is_change, opened_share, closed_count, shares_after, opening_value, buy_value, sell_value}
 use Rattle.brk_lots.specs.declared.lot.Lot.{Lot}
 use Rattle.brk_lots.specs.Lots.{side_of_qty, share_of, shares_of, from_end, plain_lot, plain_touch}
 use Rattle.brk_lots.specs.Position.{IsWalk}

@@ -6,7 +6,7 @@ use Rattle.std.proofs.lemmas.List.{map-append}
 use Rattle.std.proofs.lemmas.List.Elements.{filter-append}
 use Rattle.std.proofs.lemmas.List.Sums.{sum_by-append}
 use Rattle.brk_model.specs.Shares as model
-use Rattle.brk_model.specs.Shares.{Share, Deal, firsts, lots, touches, opened_share, opened_shares, closed_count, shares_after}
+use Rattle.brk_model.specs.Shares.{Share, Deal, firsts, lots, touches, opened_share, closed_count, shares_after}
 use Rattle.brk_lots.specs.declared.closing.Closing.{Closing}
 use Rattle.brk_lots.specs.declared.lot.Lot.{Lot}
 use Rattle.brk_lots.specs.declared.lot.Touch.{Touch}

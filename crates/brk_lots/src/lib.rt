@@ -15,7 +15,7 @@ pub mod source;
 pub use closing::{Closing, close};
 pub use deal::Deal;
 pub use end::PositionEnd;
-pub use lot::{Lot, Touch};
+pub use lot::{Lot, Touch, is_same};
 pub use position::Position;
 pub use source::LotSource;
 

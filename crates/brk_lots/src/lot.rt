@@ -68,8 +68,8 @@ impl Lot {
     }
 }
 
-// Whether the two sides are the same.
-pub(crate) fn is_same(a: Side, b: Side) -> bool
+/// Whether two sides are the same.
+pub fn is_same(a: Side, b: Side) -> bool
     ensures { result ≡ same_side a b }
 {
     match (a, b) {

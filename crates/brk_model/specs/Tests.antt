@@ -47,10 +47,6 @@ lacks_broker base id = (is_none (broker_with base id), NoBroker)
 abbrev pub lacks_security : Base → Text → Test
 lacks_security base symbol = (is_none (security_with base symbol), NoSecurity)
 
--- a trade is there
-abbrev pub lacks_trade : Base → ℕ → Test
-lacks_trade base id = (is_none (trade_with base id), NoTrade)
-
 -- what it adds may not be there yet
 abbrev pub exists_if : Bool → Test
 exists_if found = (found, Exists)

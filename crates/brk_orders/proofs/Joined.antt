@@ -1,7 +1,7 @@
 -- Ticks that are read one after another.
 use Rattle.std.proofs.Common.{◌≡◌, Bool, true, false, refl, sym, ◌∙◌, ap, arith, cond, List, [], ◌∷◌, ◌++◌, append_assoc, length, get_or, take, drop, ◌-◌, ◌≤◌, ◌<◌, nat_eq}
 use Rattle.std.proofs.lemmas.Bool.{leb-true, leb-false, le-leb, lt-leb}
-use Rattle.std.proofs.lemmas.List.{append-nil, take_rest}
+use Rattle.std.proofs.lemmas.List.{take_rest}
 use Rattle.std.specs.Borrow.{Bor}
 use Rattle.std.specs.Prelude.{ℕ, Result, Ok, Err, nat_le}
 use Rattle.brk_money.specs.Spelling.{Text}
@@ -52,15 +52,6 @@ joined_assoc (Err r) (Ok ys) (Ok zs) = refl
 joined_assoc (Err r) (Ok ys) (Err t) = refl
 joined_assoc (Err r) (Err s) (Ok zs) = refl
 joined_assoc (Err r) (Err s) (Err t) = ap Err (earlier_assoc r s t)
-
--- nothing before, and nothing after
-pub joined_first : {X : Type 0} (a : Read (List X)) → a ≡ joined (Ok []) a
-joined_first (Ok xs) = refl
-joined_first (Err r) = refl
-
-pub joined_last : {A X : Type 0} (view : A → List X) (r : Result A Refusal) (all : Read (List X)) → all ≡ joined (seen view r) (Ok []) → Reads view r all
-joined_last view (Ok x) all e = e ∙ ap Ok (append-nil (view x))
-joined_last view (Err refusal) all e = e
 
 -- the ticks of a feed are its first and the others
 first_tick : (s : Read Text) (p q : Read ℕ) (ticks : Read (List Tick))

@@ -42,17 +42,6 @@ too_long most test text h = by_low (nat_le 1 (length text))
 pub word_is : (most : ℕ) (test : ℕ → Bool) (text : List ℕ) (all : Bool) → 1 ≤ length text → length text ≤ most → all ≡ list_all test text → all ≡ is_word most test text
 word_is most test text all low high e = sym (rw (le-leb 1 (length text) low, le-leb (length text) most high) (sym e))
 
--- the same of names
-pub name_short : (text : List ℕ) → length text ≡ 0 → false ≡ is_name text
-name_short text e = sym (rw (lt-leb 1 (length text) (omega arith)) refl)
-
-pub name_long : (text : List ℕ) → 60 < length text → false ≡ is_name text
-name_long text h = by_low (nat_le 1 (length text))
-  where
-    by_low : (b : Bool) → false ≡ b && nat_le (length text) 60 && is_utf8 text && list_all (λ c. not (is_control c)) (chars text)
-    by_low true = sym (rw (lt-leb (length text) 60 h) refl)
-    by_low false = refl
-
 -- what is no text is no name
 pub name_utf8 : (text : List ℕ) → (IsUtf8 text → ⊥) → is_name text ≡ false
 name_utf8 text h = by_test (is_name text) refl

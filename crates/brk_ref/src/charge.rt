@@ -1,4 +1,4 @@
-ghost use Rattle.std.specs.Prelude.{◌≡◌, ◌∷◌, []};
+ghost use Rattle.std.specs.Prelude.{◌∷◌, []};
 ghost use Rattle.brk_model.specs.Parse.{read_charge};
 ghost use Rattle.brk_ref.specs.Records.{charge_of};
 ghost use Rattle.brk_ref.specs.Fields.{Reads, texts};

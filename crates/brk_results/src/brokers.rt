@@ -6,10 +6,9 @@ ghost use Rattle.brk_rows.specs.Model.{IsStep};
 ghost use Rattle.brk_tables.specs.Desk.{desk};
 ghost use Rattle.brk_trade.specs.Changes.{with_broker_numbers};
 
-use crate::values::amount_value;
 use brk_money::{Fault, Id};
 use brk_tables::calls::run;
-use brk_tables::values::{id_value, number_value};
+use brk_tables::values::{amount_value, id_value, number_value};
 use brk_trade::Amount;
 use sqlite::{Alter, Transaction};
 

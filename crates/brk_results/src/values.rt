@@ -6,14 +6,8 @@ ghost use Rattle.sqlite_value.specs.declared.value.Value.TheVariants.{Int, Text}
 ghost use Rattle.brk_trade.specs.Rows.{cash_type_word};
 
 use brk_money::Day;
-use brk_trade::{Amount, CashType};
+use brk_trade::CashType;
 use sqlite_value::value::ValueRef;
-
-pub(crate) fn amount_value<'a>(amount: Amount) -> ValueRef<'a>
-    ensures { owned result ≡ Int (pos amount) }
-{
-    ValueRef::Int(amount.get() as i64)
-}
 
 pub(crate) fn cash_type_value<'a>(cash_type: CashType) -> ValueRef<'a>
     ensures { owned result ≡ Text (cash_type_word cash_type) }

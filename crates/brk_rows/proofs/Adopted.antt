@@ -1,21 +1,21 @@
 -- A table of any database is that of some records, where the program has read its rows and tested them.
-use Rattle.std.proofs.Common.{◌≡◌, ◌≢◌, ◌⊎◌, inl, inr, ℕ, ℤ, List, [], ◌∷◌, map, filter, Bool, true, false, not, ◌&&◌, Some, None, Option, Ordering, Less, Equal, Greater, is_eq, is_lt, int_cmp, refl, sym, ap, ap₂, subst, ◌∙◌, IsTrue}
+use Rattle.std.proofs.Common.{◌≡◌, inl, inr, ℕ, ℤ, List, [], ◌∷◌, map, true, false, not, Some, None, Ordering, Less, Equal, Greater, is_eq, is_lt, int_cmp, refl, sym, ap, ap₂, subst, ◌∙◌, IsTrue}
 use Rattle.std.specs.List.{AllByRecursion, IsDistinct}
 use Rattle.std.specs.List.Sorted.{IsPermutation}
 use Rattle.std.proofs.lemmas.Cmp.{int_cmp_total}
 use Rattle.std.proofs.lemmas.Bool.{and_parts}
-use Rattle.std.proofs.lemmas.List.Sorted.{IsPermutation-refl, IsPermutation-sym, IsPermutation-map}
+use Rattle.std.proofs.lemmas.List.Sorted.{IsPermutation-sym, IsPermutation-map}
 use Rattle.sqlite_value.specs.declared.value.Value.TheVariants.{Int}
 use Rattle.sqlite_value.specs.declared.keys.Key.{Key}
-use Rattle.sqlite_value.specs.Order.{Row, column, value_cmp}
+use Rattle.sqlite_value.specs.Order.{Row, value_cmp}
 use Rattle.sqlite_value.proofs.OrderLemmas.{value_cmp-Int}
 use Rattle.sqlite_trees.specs.Tree.{rowid, IsTable, IsAscending}
 use Rattle.sqlite_trees.specs.View.{is_int}
 use Rattle.sqlite_sql.specs.Term.{Term, eval_all}
 use Rattle.sqlite_sql.specs.Query.{Query, page}
-use Rattle.sqlite_rules.proofs.ListLemmas.{all_from, all_has}
+use Rattle.sqlite_rules.proofs.ListLemmas.{all_has}
 use Rattle.sqlite.specs.Table.{Table}
-use Rattle.brk_rows.specs.Rows.{cells, same_rowid, Rises, Holds, IsSheet, is_above, climbs_from}
+use Rattle.brk_rows.specs.Rows.{cells, same_rowid, Rises, Holds, IsSheet, climbs_from}
 use Rattle.brk_rows.proofs.Decode.{filter_true}
 use Rattle.brk_rows.proofs.Order.{map_on}
 use Rattle.brk_rows.proofs.Pick.{Picks, Keyed, Apart, keyed_permuted, apart_permuted, int_is, sorted_by}

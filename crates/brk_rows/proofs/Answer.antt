@@ -1,11 +1,8 @@
 -- A read that is decoded is a step that tells of the tables.
-use Rattle.std.proofs.Common.{◌≡◌, ◌⊎◌, ℕ, zero, suc, List, [], ◌∷◌, map, take, slice_get, Some, None, Option, option_map, Ok, Err, Result, IfOk, refl, sym, ap, ◌∙◌, subst}
+use Rattle.std.proofs.Common.{◌≡◌, ℕ, zero, suc, List, [], ◌∷◌, map, take, slice_get, Some, None, Option, option_map, Ok, Err, Result, IfOk, refl, ap, ◌∙◌, subst}
 use Rattle.sqlite_value.specs.Order.{Row}
 use Rattle.sqlite_sql.specs.Query.{limited}
-use Rattle.sqlite_resolve.specs.declared.compiled.Compiled.{Compiled}
-use Rattle.sqlite.specs.Listing.{understood}
-use Rattle.sqlite.specs.declared.error.Error.{Error}
-use Rattle.sqlite.specs.State.{State, HasCleanDisk, Survives, Shown}
+use Rattle.sqlite.specs.State.{State, Shown}
 use Rattle.brk_rows.specs.Desk.{Desk, Tells}
 use Rattle.brk_rows.specs.Model.{IsStep, Looks, Selected}
 use Rattle.brk_rows.proofs.Inside.{step_read}

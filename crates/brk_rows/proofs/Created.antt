@@ -1,10 +1,9 @@
 -- CREATE TABLE over a schema of which nothing is known.
-use Rattle.std.proofs.Common.{◌≡◌, ◌≢◌, ◌⊎◌, inl, inr, ℕ, zero, suc, ◌+◌, ◌==◌, List, [], ◌∷◌, ◌++◌, codes, length, slice_get, cond, Bool, true, false, ◌||◌, is_some, Some, None, Option, Ok, Err, Result, refl, sym, ap, subst, ◌∙◌, arith}
+use Rattle.std.proofs.Common.{◌≡◌, ◌≢◌, ◌⊎◌, inl, inr, ℕ, zero, suc, ◌+◌, ◌==◌, List, [], ◌∷◌, ◌++◌, length, slice_get, cond, Bool, true, false, ◌||◌, is_some, Some, None, Option, Ok, Err, refl, sym, ap, subst, ◌∙◌, arith}
 use Rattle.std.specs.List.{position_from, AllByRecursion}
 use Rattle.sqlite_trees.specs.Tree.{Trees}
 use Rattle.sqlite_schema.specs.declared.schema.Schema.{Schema}
 use Rattle.sqlite_schema.specs.declared.schema.Table.{Table}
-use Rattle.sqlite_schema.specs.declared.schema.Index.{Index}
 use Rattle.sqlite_schema.specs.Names.{same_name, table_named, index_named, view_named}
 use Rattle.sqlite_catalog.specs.Change.{created, next_tree, is_used, KeepsRows}
 use Rattle.brk_rows.specs.Desk.{Stands, Makes, is_inert}

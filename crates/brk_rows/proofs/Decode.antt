@@ -1,10 +1,9 @@
 -- The records of the program are those that the rows show.
-use Rattle.std.proofs.Common.{◌≡◌, ℕ, List, [], ◌∷◌, map, slice_get, Some, None, Option, option_map, refl, sym, ap, ap₂, ◌∙◌}
+use Rattle.std.proofs.Common.{◌≡◌, ℕ, List, [], ◌∷◌, map, slice_get, Some, None, Option, option_map, refl, sym, ap, ◌∙◌}
 use Rattle.sqlite_value.specs.declared.value.Value.{Value}
-use Rattle.sqlite_value.specs.declared.value.Value.TheVariants.{Null, Int, Real, Text, Blob}
+use Rattle.sqlite_value.specs.declared.value.Value.TheVariants.{Text}
 use Rattle.sqlite_value.specs.Order.{Row}
 use Rattle.sqlite_keyed.proofs.ListLemmas.{map_back}
-use Rattle.brk_rows.proofs.Order.{map_twice}
 
 unfoldable pub text_in : Value → List ℕ
 text_in (Text t) = t

@@ -1,6 +1,6 @@
 -- What a statement does to the trees, whatever else the schema has.
-use Rattle.std.proofs.Common.{◌≡◌, ◌⊎◌, inl, inr, ℕ, ℤ, if◌then◌else◌, ◌==◌, ◌/◌, List, [], ◌∷◌, length, slice_get, Bool, true, false, not, ◌&&◌, ◌||◌, is_some, Some, None, Option, Ok, Err, Result, refl, sym, ap, subst, subst₂, ◌∙◌}
-use Rattle.std.specs.List.{list_all, list_any, filter_map, flat_map}
+use Rattle.std.proofs.Common.{◌≡◌, ◌⊎◌, inl, inr, ℕ, ℤ, if◌then◌else◌, ◌==◌, ◌/◌, List, [], ◌∷◌, length, slice_get, Bool, true, false, not, ◌&&◌, Some, None, Option, Ok, Err, Result, refl, sym, ap, subst, subst₂, ◌∙◌}
+use Rattle.std.specs.List.{list_all, filter_map, flat_map}
 use Rattle.std.specs.Prelude.{MatchBool}
 use Rattle.sqlite_value.specs.Order.{Row}
 use Rattle.sqlite_trees.specs.Tree.{Trees}
@@ -15,7 +15,7 @@ use Rattle.sqlite_schema.specs.declared.command.Source.TheVariants.{Values}
 use Rattle.sqlite_schema.specs.declared.command.Command.{Command}
 use Rattle.sqlite_schema.specs.declared.command.Command.TheVariants.{Insert, Update, Delete}
 use Rattle.sqlite_schema.specs.Rules.{ParentKey, parent_key}
-use Rattle.sqlite_rules.specs.Action.{Work, works, work_for, work_by, pairs, deed_for}
+use Rattle.sqlite_rules.specs.Action.{works, work_by, deed_for}
 use Rattle.sqlite_rules.specs.Edit.{Edit, edit_of, taken_by, Applies}
 use Rattle.sqlite_rules.specs.Calls.{ids_of}
 use Rattle.sqlite_rules.specs.declared.action.Deed.{Deed}
@@ -23,8 +23,8 @@ use Rattle.sqlite_rules.specs.declared.error.Rowids.TheVariants.{Chosen, Given}
 use Rattle.sqlite_syntax.specs.declared.statement.Parsed.{Parsed}
 use Rattle.sqlite_resolve.specs.Compile.{compiled}
 use Rattle.sqlite.specs.Effect.{Database, Answers, IsDatabase, value_rows}
-use Rattle.sqlite.specs.Does.{Tally, Does, OnRows, WritesRows, AtPlace}
-use Rattle.sqlite.specs.Rows.{Part, Then, Task, Written, stamped, rowids_for, count_of}
+use Rattle.sqlite.specs.Does.{Tally, OnRows, WritesRows, AtPlace}
+use Rattle.sqlite.specs.Rows.{Task, Written, stamped, rowids_for, count_of}
 use Rattle.sqlite.specs.State.{State, mode_of, Writes, Runs, Executes}
 use Rattle.sqlite.proofs.Callers.{IsPlain, command_of, statement_of, runs_as, one_step}
 use Rattle.sqlite.specs.Listing.{understood}

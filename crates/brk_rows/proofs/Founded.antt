@@ -1,12 +1,11 @@
 -- The tables of a desk, made one after the other in a database that has others.
-use Rattle.std.proofs.Common.{◌≡◌, ◌≢◌, ◌⊎◌, inl, inr, ℕ, ◌==◌, List, [], ◌∷◌, ◌++◌, Bool, true, false, not, ◌||◌, ◌&&◌, ne_eqb, refl, sym, ap, subst, ◌∙◌}
+use Rattle.std.proofs.Common.{◌≡◌, ◌≢◌, ◌⊎◌, inl, inr, ℕ, ◌==◌, List, [], ◌∷◌, ◌++◌, Bool, true, false, not, ◌||◌, ne_eqb, refl, sym, ap, subst, ◌∙◌}
 use Rattle.std.specs.List.{AllByRecursion, list_all}
 use Rattle.sqlite_trees.specs.Tree.{Trees}
 use Rattle.sqlite_catalog.specs.Change.{KeepsRows}
-use Rattle.sqlite_schema.specs.declared.schema.Schema.{Schema}
 use Rattle.sqlite_schema.specs.declared.schema.Table.{Table}
 use Rattle.sqlite.specs.Effect.{Database}
-use Rattle.brk_rows.specs.Desk.{Desk, Stands, Makes, is_inert, is_calm_at, IsCalm, HasTables, Founds}
+use Rattle.brk_rows.specs.Desk.{Desk, Stands, Makes, is_inert, is_calm_at, IsCalm, Founds}
 use Rattle.brk_rows.proofs.Created.{all_at}
 use Rattle.brk_rows.proofs.Effects.{split}
 use Rattle.brk_rows.proofs.Kept.{none_held}

@@ -1,5 +1,5 @@
 -- A statement inside a transaction.
-use Rattle.std.proofs.Common.{◌≡◌, ◌⊎◌, ℕ, List, Bool, true, false, None, Ok, Err, Result, OnOk, IfOk, IsErr, IsTrue, refl, sym, ap, subst, inl, inr, arith, [], ◌∙◌}
+use Rattle.std.proofs.Common.{◌≡◌, ◌⊎◌, ℕ, List, true, false, None, Ok, Err, Result, OnOk, IfOk, IsErr, IsTrue, refl, sym, subst, inl, inr, arith, [], ◌∙◌}
 use Rattle.std.proofs.lemmas.Bool.{cases_Bool}
 use Rattle.sqlite.specs.Order.{Row}
 use Rattle.sqlite.specs.Effect.{Database}
@@ -13,7 +13,7 @@ use Rattle.sqlite.specs.Tree.{Trees}
 use Rattle.sqlite.proofs.Callers.{survives_begin}
 use Rattle.sqlite.proofs.InsideLemmas.{keeps_then}
 use Rattle.sqlite.proofs.StateLemmas.{survives_then}
-use Rattle.brk_rows.specs.Model.{IsStep, Ran, Selected}
+use Rattle.brk_rows.specs.Model.{IsStep, Selected}
 
 on_err : {V E : Type 0} (out : Result V E) (P : V → Type 0) → IsErr out → IfOk out P
 on_err (Ok x) P h = absurd (let e = h in cc)
@@ -68,13 +68,6 @@ module _ {S V E : Type 0} (g : Ghosts S) (sql : List ℕ) (params : Row) (old ne
 pub clean_before : (a b : State) (P : Trees → Type 0) → Survives a b P → HasCleanDisk b → HasCleanDisk a
 clean_before a b P s clean = omega (arith, s.clean)
 
-pub step_none : {V E : Type 0} (s : State) (out : V) (made : V → State → State → Type 0) → made out s s → IsStep {V = V} {E = E} s s (Ok out) made
-step_none s out made h = record {
-  kept = λ _. record { was_open = λ o. o; committed = λ _. refl };
-  made = λ _ on. (on, h);
-  survives = record { clean = omega arith; shield = λ x. x; counts = omega arith; limit = refl; closes = λ _ o. inl o; crash = λ _ db may. inl may };
-}
-
 pub step_then : {U V E F : Type 0} (a b c : State) (u : U) (r : Result V F) (P : U → State → State → Type 0) (Q R : V → State → State → Type 0)
     → ((v : V) → P u a b → Q v b c → R v a c) → IsStep {V = U} {E = E} a b (Ok u) P → IsStep b c r Q → IsStep a c r R
 step_then {U} {V} {E} {F} a b c u r P Q R joins first next = record {
@@ -102,9 +95,6 @@ step_read {U} {V} {E} {F} a b u r P Q tells step = record { kept = step.kept; ma
     go : (r : Result V F) → IsTrue b.in_transaction × P u a b → ((v : V) → r ≡ Ok v → P u a b → Q v a b) → IfOk r (λ v. IsTrue b.in_transaction × Q v a b)
     go (Ok v) h more = (h.0, more v refl h.1)
     go (Err e) h more = tt
-
-pub step_failed : {U V E F : Type 0} (a b : State) (r : Result U E) (out : Result V F) (P : U → State → State → Type 0) (Q : V → State → State → Type 0) → IsErr out → IsStep a b r P → IsStep a b out Q
-step_failed a b r out P Q failed step = record { kept = step.kept; made = λ clean on. on_err out _ failed; survives = step.survives }
 
 -- ---- a transaction
 

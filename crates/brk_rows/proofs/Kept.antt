@@ -1,5 +1,5 @@
 -- The rows of a table as a list of records: what each statement makes of it, and what a SELECT shows of it.
-use Rattle.std.proofs.Common.{◌≡◌, ◌≢◌, ◌⊎◌, ℕ, ℤ, List, [], ◌∷◌, ◌++◌, length, map, filter, take, reverse, Bool, true, false, not, cond, if◌then◌else◌, Ordering, Less, Equal, Greater, is_lt, is_eq, refl, sym, ap, ap₂, subst, ◌∙◌, inl, inr, arith, IsTrue}
+use Rattle.std.proofs.Common.{◌≡◌, List, [], ◌∷◌, ◌++◌, map, filter, reverse, Bool, true, false, not, if◌then◌else◌, Ordering, Less, is_eq, refl, sym, ap, ap₂, subst, ◌∙◌, inl, inr, IsTrue}
 use mathlib.Core.List.{reverse-cons}
 use Rattle.std.specs.Cmp.{IsTotalOrder}
 use Rattle.std.specs.List.{AllByRecursion, IsDistinct}
@@ -12,16 +12,16 @@ use Rattle.sqlite_trees.specs.Tree.{rowid, IsAscending, put_row}
 use Rattle.sqlite_trees.specs.View.{is_int}
 use Rattle.sqlite_sql.specs.Term.{Term, eval_all}
 use Rattle.sqlite_sql.specs.Query.{Query, page}
-use Rattle.sqlite_rules.specs.Edit.{is_taken, are_fresh, put_all}
+use Rattle.sqlite_rules.specs.Edit.{is_taken}
 use Rattle.sqlite_rules.specs.Lists.{Has}
-use Rattle.sqlite_rules.proofs.ListLemmas.{all_has, all_from, has_filtered}
+use Rattle.sqlite_rules.proofs.ListLemmas.{all_has, all_from}
 use Rattle.sqlite_keyed.specs.Lists.{insert_sorted, update_where, delete_where, sort_by}
 use Rattle.sqlite_keyed.proofs.ListLemmas.{ascending-filter, IsPermutation-filter, all_weaker}
 use Rattle.sqlite_keyed.proofs.SortLemmas.{sorted_unique, sorted_is-sort_by}
 use Rattle.sqlite.specs.Table.{Table}
-use Rattle.brk_rows.specs.Rows.{cells, same_rowid, Rises, Holds}
-use Rattle.brk_rows.proofs.Order.{unmapped, filtered, mapped, ordered, encoded, has_permuted, map_on, IsPermutation-insert_sorted, rises-insert_sorted, rises-update_where, all_pushed}
-use Rattle.brk_rows.proofs.Pick.{Picks, passes, sorted_by, put_is, put_all_is, apart_put, apart_filter, apart_map, apart_permuted, keyed_map, keyed_filter, keyed_permuted, changed_is}
+use Rattle.brk_rows.specs.Rows.{cells, Rises, Holds}
+use Rattle.brk_rows.proofs.Order.{unmapped, filtered, mapped, ordered, encoded, has_permuted, IsPermutation-insert_sorted, rises-insert_sorted, rises-update_where, all_pushed}
+use Rattle.brk_rows.proofs.Pick.{Picks, passes, sorted_by, put_is, apart_put, apart_filter, apart_map, apart_permuted, keyed_map, keyed_filter, keyed_permuted}
 
 module _ {X : Type 0} (table : Table) (encode : X → Row) (cmp : X → X → Ordering) where
   -- the records in the order of the tree

@@ -1,5 +1,5 @@
 -- What a SELECT over one table tells of the records, whatever else the schema has.
-use Rattle.std.proofs.Common.{◌≡◌, ◌≢◌, ◌⊎◌, ℕ, List, [], ◌∷◌, map, filter, reverse, take, slice_get, Bool, true, false, Some, None, Option, option_map, Ok, Err, Result, Ordering, is_eq, refl, sym, ap, subst, ◌∙◌, inl, inr}
+use Rattle.std.proofs.Common.{◌≡◌, ◌⊎◌, ℕ, List, [], ◌∷◌, map, filter, reverse, Bool, true, false, None, Ok, Err, Ordering, is_eq, refl, sym, ap, subst, ◌∙◌, inl, inr}
 use Rattle.std.specs.Prelude.{if◌then◌else◌}
 use Rattle.std.specs.Cmp.{IsTotalOrder}
 use Rattle.sqlite_value.specs.declared.value.Value.TheVariants.{Null}
@@ -8,7 +8,6 @@ use Rattle.sqlite_value.specs.Order.{Row}
 use Rattle.sqlite_sql.specs.Term.{Term, eval_all}
 use Rattle.sqlite_sql.specs.Query.{page}
 use Rattle.sqlite_schema.specs.declared.schema.Schema.{Schema}
-use Rattle.sqlite_schema.specs.declared.schema.Table.{Table}
 use Rattle.sqlite_schema.specs.declared.command.Command.{Command}
 use Rattle.sqlite_schema.specs.declared.command.Command.TheVariants.{Select}
 use Rattle.sqlite_ast.specs.declared.Statement.TheVariants as written
@@ -25,11 +24,11 @@ use Rattle.sqlite.specs.Effect.{Answers}
 use Rattle.sqlite.specs.State.{State, Shown}
 use Rattle.sqlite.proofs.Callers.{IsPlain, command_of, reads_as}
 use Rattle.brk_rows.specs.Rows.{cells}
-use Rattle.brk_rows.specs.Desk.{Desk, Stands, HasTables, Tells}
+use Rattle.brk_rows.specs.Desk.{Desk, Stands, Tells}
 use Rattle.brk_rows.proofs.Effects.{same_value}
-use Rattle.brk_rows.proofs.Kept.{reads_some, reads_rising, reads_falling, reads_sorted}
+use Rattle.brk_rows.proofs.Kept.{reads_rising, reads_falling, reads_sorted}
 use Rattle.brk_rows.proofs.Meant.{meant, known, when_understood}
-use Rattle.brk_rows.proofs.Pick.{Picks, passes, picks, selection, sorted_by}
+use Rattle.brk_rows.proofs.Pick.{passes, picks, selection, sorted_by}
 
 -- ---- a SELECT has no RETURNING, whatever the schema is
 
@@ -98,16 +97,3 @@ module _ {W T : Type 0} (desk : Desk W T) (w : W) (text : List ℕ) (params : Ro
   tells_sorted ties = λ t tree h.
       reads_sorted (desk.shape w (tree w)) (desk.encode w) (desk.order w) (desk.list w t) (old.now.trees (tree w)) (h.rows w) _ params terms project order rows
       (picks Null (tree w) terms project order paging old.now.trees params rows ((answers (h.place w) (tree w) (h.stands w)).answer Null)) q (same (tree w)) show (shows (tree w)) C (sorts (tree w)) total ties
-
--- what is shown of the rows, whatever they are
-module _ {W T : Type 0} (desk : Desk W T) (w : W) (text : List ℕ) (params : Row) (p : Parsed) (terms project : List Term) (order : List (Term × Key)) (paging : Term × Term) (names : List (List ℕ))
-    (either : (schema : Schema) (at tree : ℕ) → Stands schema (desk.shape w tree) at
-    → (compiled schema text ≡ Ok (meant p [] (Select (record { lets = []; body = selection tree terms project order paging }) names))) ⊎ (compiled schema text ≡ Err Mismatch))
-    (old new : State) (rows : List Row) (shown : Shown text params old new rows) where
-  pub shows_rows : (at tree : ℕ) → Stands old.now.schema (desk.shape w tree) at → Picks (selection tree terms project order paging) params terms project order (old.now.trees tree) rows
-  unfolding Shown
-  shows_rows at tree h =
-      let c = meant p [] (Select (record { lets = []; body = selection tree terms project order paging }) names) in
-      let sure = known old.now.schema text c (when_understood old.now.schema text shown.0 c shown.1.is (either old.now.schema at tree h)) in
-      let a = reads_as text params old new old.now.schema refl _ (ap command_of sure.0) (subst IsPlain (sym sure.0) (refl, refl)) sure.1 rows shown in
-      picks Null tree terms project order paging old.now.trees params rows (a.answer Null)

@@ -1,18 +1,18 @@
 -- Lists up to order.
-use Rattle.std.proofs.Common.{◌≡◌, ◌≢◌, ◌⊎◌, ℕ, zero, suc, ◌+◌, ◌<◌, ◌≤◌, List, [], ◌∷◌, ◌++◌, length, map, filter, get_or, set, Bool, true, false, not, cond, if◌then◌else◌, Ordering, Less, Equal, Greater, is_lt, is_eq, is_gt, refl, sym, ap, ap₂, subst, ◌∙◌, inl, inr, arith, true≢false, reverse}
-use Rattle.std.specs.Ordering.{ordering_reverse, match_ordering}
+use Rattle.std.proofs.Common.{◌≡◌, ◌≢◌, ℕ, ◌+◌, ◌<◌, List, [], ◌∷◌, ◌++◌, length, map, filter, get_or, set, Bool, true, false, cond, if◌then◌else◌, Ordering, Less, Equal, Greater, is_lt, is_eq, is_gt, refl, sym, ap, ap₂, subst, ◌∙◌, inl, inr, arith, true≢false}
+use Rattle.std.specs.Ordering.{ordering_reverse}
 use Rattle.std.specs.Cmp.{IsTotalOrder}
-use Rattle.std.specs.List.{AllByRecursion, IsDistinct, list_all, list_any, swap}
+use Rattle.std.specs.List.{AllByRecursion, swap}
 use Rattle.std.specs.List.Sorted.{IsPermutation, IsSorted}
 use Rattle.std.proofs.lemmas.Bool.{cases_Bool}
 use Rattle.std.proofs.lemmas.List.{get_or-map, map-set, length-map}
-use Rattle.std.proofs.lemmas.List.Sorted.{IsPermutation-refl, IsPermutation-sym, IsPermutation-swap, IsPermutation-trans, IsPermutation-keeps, IsPermutation-cons, IsPermutation-middle, IsPermutation-reverse, length_permutation}
+use Rattle.std.proofs.lemmas.List.Sorted.{IsPermutation-refl, IsPermutation-sym, IsPermutation-swap, IsPermutation-trans, IsPermutation-keeps, IsPermutation-cons, IsPermutation-middle}
 use Rattle.std.proofs.ByRecursion.{all_shuffled}
 use Rattle.sqlite_trees.specs.Tree.{IsAscending}
 use Rattle.sqlite_rules.specs.Lists.{Has}
-use Rattle.sqlite_rules.proofs.ListLemmas.{all_has, all_from, has_filtered}
-use Rattle.sqlite_keyed.specs.Lists.{insert_sorted, update_where, delete_where, sort_by}
-use Rattle.sqlite_keyed.proofs.ListLemmas.{all_weaker, ascending-append, all-append}
+use Rattle.sqlite_rules.proofs.ListLemmas.{all_has, all_from}
+use Rattle.sqlite_keyed.specs.Lists.{insert_sorted, update_where, sort_by}
+use Rattle.sqlite_keyed.proofs.ListLemmas.{all_weaker}
 use Rattle.sqlite_keyed.proofs.SortLemmas.{sorted_is-sort_by}
 use Rattle.brk_rows.specs.Rows.{Rises}
 

@@ -1,21 +1,21 @@
 -- What a selection reads, and the rows that a step leaves, whatever the order of the tree is.
-use Rattle.std.proofs.Common.{◌≡◌, ◌≢◌, ◌⊎◌, ℕ, zero, suc, ◌+◌, ◌<◌, ◌≤◌, ◌^◌, ◌-◌, ℤ, pos, negsuc, List, [], ◌∷◌, ◌++◌, length, map, filter, flat_map, get_or, slice_get, nat_le, Bool, true, false, not, cond, Some, None, Option, Ordering, Less, Equal, Greater, is_lt, is_eq, refl, sym, ap, ap₂, subst, ◌∙◌, inl, inr, arith, unwrap_or, IsTrue, ◌||◌, ◌&&◌, if◌then◌else◌}
+use Rattle.std.proofs.Common.{◌≡◌, ℕ, ◌+◌, ◌^◌, ◌-◌, ℤ, pos, negsuc, List, [], ◌∷◌, ◌++◌, length, map, filter, flat_map, nat_le, Bool, true, false, not, cond, None, Ordering, Less, Equal, Greater, is_eq, refl, sym, ap, subst, ◌∙◌, inl, inr, arith, IsTrue, ◌||◌, ◌&&◌, if◌then◌else◌}
 use Rattle.std.specs.Ordering.{ordering_reverse, match_ordering}
 use Rattle.std.specs.List.{AllByRecursion, IsDistinct, list_all, list_any}
 use Rattle.std.specs.List.Sorted.{IsPermutation, IsSorted}
-use Rattle.std.proofs.lemmas.Bool.{cases_Bool, not_from_true, not_from_false, and_parts}
-use Rattle.std.proofs.lemmas.Cmp.{tied_back, tied_itself}
+use Rattle.std.proofs.lemmas.Bool.{cases_Bool}
+use Rattle.std.proofs.lemmas.Cmp.{tied_itself}
 use Rattle.std.proofs.lemmas.List.{get_or-map, length-map}
-use Rattle.std.proofs.lemmas.List.Sorted.{IsPermutation-refl, IsPermutation-sym, IsPermutation-trans, IsPermutation-cons, IsPermutation-middle, IsPermutation-map, IsPermutation-append}
+use Rattle.std.proofs.lemmas.List.Sorted.{IsPermutation-refl, IsPermutation-sym, IsPermutation-trans, IsPermutation-cons, IsPermutation-middle, IsPermutation-append}
 use Rattle.std.proofs.lemmas.Map.Keys.{IsDistinct-IsPermutation}
 use Rattle.sqlite_trees.specs.Tree.{Trees, rowid, has_rowid, put_row, without_rowid}
 use Rattle.sqlite_value.specs.declared.value.Value.{Value}
 use Rattle.sqlite_value.specs.declared.value.Value.TheVariants.{Null, Int, Real, Text, Blob}
 use Rattle.sqlite_value.specs.declared.keys.Key.{Key}
-use Rattle.sqlite_value.specs.Order.{Row, column, value_cmp}
+use Rattle.sqlite_value.specs.Order.{Row, value_cmp}
 use Rattle.sqlite_value.proofs.OrderLemmas.{value_cmp_total}
-use Rattle.sqlite_sql.specs.Term.{Term, Env, eval_all, holds, lit, col}
-use Rattle.sqlite_sql.specs.Query.{Query, inner, end, IsAnswerAs, output, Output, output_cmp, key_cmp, page}
+use Rattle.sqlite_sql.specs.Term.{Term, eval_all, holds, lit}
+use Rattle.sqlite_sql.specs.Query.{Query, inner, end, IsAnswerAs, output, Output, key_cmp, page}
 use Rattle.sqlite_sql.specs.Program.{overlay}
 use Rattle.sqlite_trees.specs.View.{is_int}
 use Rattle.sqlite_rules.specs.Edit.{id_in, without_all, put_all, are_fresh, is_taken}

@@ -1,5 +1,5 @@
 -- Whether a table is there, by preparing a DELETE of it that is never run.
-use Rattle.std.proofs.Common.{◌≡◌, ◌⊎◌, inl, inr, ℕ, List, [], ◌∷◌, is_some, length, slice_get, Bool, true, false, None, Some, Option, Ok, Err, Result, refl, sym, ap, ◌∙◌, arith, subst, IsTrue}
+use Rattle.std.proofs.Common.{◌≡◌, inl, inr, ℕ, List, [], ◌∷◌, is_some, slice_get, Bool, true, false, None, Some, Option, Ok, Err, Result, refl, sym, ◌∙◌, arith, subst, IsTrue}
 use Rattle.sqlite_schema.specs.declared.schema.Schema.{Schema}
 use Rattle.sqlite_schema.specs.declared.schema.Table.{Table}
 use Rattle.sqlite_schema.specs.Names.{table_named}
@@ -7,7 +7,7 @@ use Rattle.sqlite_rules.proofs.RowLemmas.{position_within}
 use Rattle.sqlite_sql.specs.Term.{col}
 use Rattle.sqlite_draft.specs.declared.join.Step.TheVariants.{Inner}
 use Rattle.sqlite_resolve.specs.declared.error.CompileError.{CompileError}
-use Rattle.sqlite_resolve.specs.declared.error.CompileError.TheVariants.{NoSuchTable, Mismatch}
+use Rattle.sqlite_resolve.specs.declared.error.CompileError.TheVariants.{NoSuchTable}
 use Rattle.sqlite_resolve.specs.declared.compiled.Compiled.{Compiled}
 use Rattle.sqlite_resolve.specs.Write.{deleted, picked, simple}
 use Rattle.sqlite_resolve.specs.Body.{tests}
@@ -21,14 +21,13 @@ use Rattle.sqlite_trees.specs.declared.error.StoreError.{StoreError}
 use Rattle.sqlite_trees.specs.declared.error.StoreError.TheVariants as store
 use Rattle.sqlite.specs.Steps.{Outlines}
 use Rattle.sqlite.specs.Outline.{Outline}
-use Rattle.sqlite.specs.Effect.{Database}
 use Rattle.sqlite.specs.declared.error.Error.{Error}
 use Rattle.sqlite.specs.declared.error.Error.TheVariants.{SqlInputError}
 use Rattle.sqlite.specs.State.{State, HasCleanDisk, KeepsCommit, Survives, IsUnchanged, IsNotRun, store_error}
 use Rattle.brk_rows.specs.Model.{IsStep}
 use Rattle.brk_rows.specs.Desk.{Probes}
 use Rattle.brk_rows.proofs.Inside.{kept_unchanged, kept_rolled}
-use Rattle.brk_rows.proofs.Meant.{meant, deletes_or}
+use Rattle.brk_rows.proofs.Meant.{deletes_or}
 
 module _ (text : List ℕ) (p : Parsed) (name : Name) (is : first text ≡ Ok p) (statement : p.statement ≡ written.Delete name None []) (untimed : p.formats ≡ []) (unlisted : compiled listing_schema text ≡ Err NoSuchTable) where
   missing : (schema : Schema) → table_named schema name ≡ None → compiled schema text ≡ Err NoSuchTable

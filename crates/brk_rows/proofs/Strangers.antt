@@ -1,5 +1,5 @@
 -- A stranger's foreign key may act on the stranger's own rows, and on no table whose own references do not act.
-use Rattle.std.proofs.Common.{◌≡◌, ◌≢◌, ◌⊎◌, inl, inr, ℕ, ℤ, zero, suc, ◌+◌, ◌==◌, List, [], ◌∷◌, ◌++◌, length, slice_get, cond, nat_lt, Bool, true, false, not, ◌&&◌, ◌||◌, is_some, Some, None, Option, Ok, Err, Result, refl, sym, ap, subst, ◌∙◌, eq-eqb, arith}
+use Rattle.std.proofs.Common.{◌≡◌, ◌≢◌, inl, inr, ℕ, ℤ, zero, suc, ◌+◌, ◌==◌, List, [], ◌∷◌, ◌++◌, length, slice_get, cond, nat_lt, Bool, true, false, not, ◌&&◌, ◌||◌, is_some, Some, None, Option, Ok, refl, sym, ap, subst, ◌∙◌, eq-eqb}
 use Rattle.std.specs.Prelude.{MatchBool}
 use Rattle.std.specs.List.{list_all, list_any, filter_map, flat_map, cons_option, AllByRecursion}
 use Rattle.sqlite_value.specs.Order.{Row}
@@ -9,7 +9,7 @@ use Rattle.sqlite_schema.specs.declared.schema.Table.{Table}
 use Rattle.sqlite_schema.specs.declared.schema.Reference.{Reference}
 use Rattle.sqlite_schema.specs.declared.schema.Keys.TheVariants.{Enforced}
 use Rattle.sqlite_schema.specs.Rules.{ParentKey, parent_key}
-use Rattle.sqlite_rules.specs.Action.{Work, works, work_for, work_by, pairs, deed_for, Acts, ActsOn, Goes, Leads, Writes, action_edit, refuses, max_depth}
+use Rattle.sqlite_rules.specs.Action.{Work, work_for, work_by, pairs, deed_for, Acts, ActsOn, Goes, Leads, Writes, action_edit, refuses, max_depth}
 use Rattle.sqlite_rules.specs.Edit.{Edit, Applies, taken_by}
 use Rattle.sqlite_rules.specs.declared.action.Deed.{Deed}
 use Rattle.brk_rows.specs.Desk.{acts, is_calm_at, IsCalm}

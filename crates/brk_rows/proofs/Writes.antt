@@ -1,15 +1,15 @@
 -- What INSERT, UPDATE and DELETE make of the tables, whatever else the schema has.
-use Rattle.std.proofs.Common.{◌≡◌, ◌≢◌, ◌⊎◌, ◌/◌, ℕ, ℤ, List, [], ◌∷◌, length, map, filter, drop, slice_get, Bool, true, false, not, ◌&&◌, ◌||◌, cond, if◌then◌else◌, Some, None, Ok, Err, Result, Ordering, is_eq, refl, sym, ap, ap₂, subst, ◌∙◌, inl, inr, IsTrue}
+use Rattle.std.proofs.Common.{◌≡◌, ◌≢◌, ◌⊎◌, ◌/◌, ℕ, List, [], ◌∷◌, length, map, filter, drop, slice_get, Bool, true, false, not, ◌||◌, if◌then◌else◌, Some, Ok, Err, Ordering, is_eq, refl, sym, ap, ap₂, subst, ◌∙◌, inl, inr, IsTrue}
 use Rattle.std.specs.Prelude.{slice_index_or}
 use Rattle.std.specs.Cmp.{IsTotalOrder}
 use Rattle.std.specs.List.{AllByRecursion}
 use Rattle.std.specs.List.Sorted.{IsPermutation}
 use Rattle.std.proofs.lemmas.Bool.{and_parts}
 use Rattle.std.proofs.lemmas.List.Sorted.{IsPermutation-refl, IsPermutation-sym, IsPermutation-trans, IsPermutation-map, IsPermutation-append}
-use Rattle.sqlite_value.specs.declared.value.Value.TheVariants.{Null, Int}
+use Rattle.sqlite_value.specs.declared.value.Value.TheVariants.{Null}
 use Rattle.sqlite_value.specs.Keys.{plain}
 use Rattle.sqlite_value.specs.Order.{Row, value_cmp}
-use Rattle.sqlite_trees.specs.Tree.{Trees, rowid, put_row}
+use Rattle.sqlite_trees.specs.Tree.{rowid, put_row}
 use Rattle.sqlite_trees.specs.View.{is_int}
 use Rattle.sqlite_sql.specs.Term.{Term, eval_all}
 use Rattle.sqlite_schema.specs.declared.schema.Schema.{Schema}
@@ -30,7 +30,7 @@ use Rattle.sqlite_syntax.specs.declared.statement.Parsed.{Parsed}
 use Rattle.sqlite_resolve.specs.Compile.{compiled}
 use Rattle.sqlite_resolve.specs.declared.error.CompileError.TheVariants.{Mismatch}
 use Rattle.sqlite_keyed.specs.Lists.{insert_sorted, update_where, delete_where}
-use Rattle.sqlite.specs.Effect.{Database, IsDatabase, value_rows}
+use Rattle.sqlite.specs.Effect.{Database, value_rows}
 use Rattle.sqlite.specs.Rows.{stamped}
 use Rattle.sqlite.specs.State.{State, Executes}
 use Rattle.brk_rows.specs.Rows.{cells, same_rowid, Holds}
@@ -40,7 +40,7 @@ use Rattle.brk_rows.proofs.Effects.{inserted, took, altered}
 use Rattle.brk_rows.proofs.Kept.{held_with, held_without, held_changed, row_of, record_of}
 use Rattle.brk_rows.proofs.Meant.{meant}
 use Rattle.brk_rows.proofs.Order.{map_twice, map_on, has_permuted}
-use Rattle.brk_rows.proofs.Pick.{Picks, passes, picks, selection, whole_page, remains, put_is, put_all_is, changed_is, int_is, same_rowid_sym}
+use Rattle.brk_rows.proofs.Pick.{passes, picks, selection, whole_page, remains, put_is, put_all_is, changed_is, int_is, same_rowid_sym}
 use Rattle.brk_rows.proofs.Strangers.{keeps_ours, writes_ours}
 use Rattle.brk_rows.proofs.Unique.{unique_rows}
 use Rattle.brk_rows.proofs.Values.{differ_ints}

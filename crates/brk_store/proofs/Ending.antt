@@ -1,10 +1,10 @@
 -- How a transaction ends: rolled back, or committed.
-use Rattle.std.proofs.Common.{◌≡◌, ◌⊎◌, inl, inr, ℕ, Bool, true, false, Result, Ok, Err, IfOk, OnOk, OnErr, IsErr, IsTrue, List, [], refl, sym, ap, subst, ◌∙◌, arith}
+use Rattle.std.proofs.Common.{◌≡◌, inl, inr, true, false, Result, Ok, Err, IfOk, OnOk, IsTrue, [], refl, sym, subst, ◌∙◌}
 use Rattle.sqlite_trees.specs.declared.store.Store.{Ghosts}
 use Rattle.sqlite_trees.specs.Tree.{Trees}
 use Rattle.sqlite.specs.Effect.{Database}
 use Rattle.sqlite.specs.Held.{Held, state}
-use Rattle.sqlite.specs.State.{State, HasCleanDisk, Survives, IsRolledBack, IsUnchanged, Shows, KeepsCounts}
+use Rattle.sqlite.specs.State.{State, HasCleanDisk, Survives, IsRolledBack, Shows, KeepsCounts}
 use Rattle.sqlite.specs.Steps.{FailsToCommit}
 use Rattle.sqlite.specs.declared.error.Error.{Error}
 use Rattle.sqlite.proofs.Callers.{survives_begin}
@@ -13,23 +13,14 @@ use Rattle.brk_model.specs.Tables.{Tables, no_rows}
 use Rattle.brk_rows.specs.Desk.{Turns}
 use Rattle.brk_rows.specs.Model.{IsStep, Looks}
 use Rattle.brk_rows.proofs.Inside.{clean_before, commits_all, commits_crash}
-use Rattle.brk_money.specs.declared.fault.Condition.TheVariants.{NotEmpty}
 use Rattle.brk_money.specs.declared.fault.Fault.{Fault}
-use Rattle.brk_money.specs.declared.fault.Fault.TheVariants.{Damaged, Store}
+use Rattle.brk_money.specs.declared.fault.Fault.TheVariants.{Store}
 use Rattle.brk_tables.specs.Desk.{desk}
 use Rattle.brk_tables.specs.Made.{HasRows, has_table_of_desk}
 use Rattle.brk_store.specs.Holds.{Holds, IsSame, IsRead, IsApplied, IsCreated}
 
 abbrev pub begun : {S : Type 0} → Held S → Held S
 begun old = record old { in_transaction = true }
-
-no_ok : {U F : Type 0} (o : Result U F) → IsErr o → (P : Type 0) → OnOk o P
-no_ok (Ok x) e P = absurd (let f = e in cc)
-no_ok (Err x) e P = tt
-
-all_err : {U F : Type 0} (o : Result U F) {P : Type 0} → P → OnErr o P
-all_err (Ok x) p = tt
-all_err (Err x) p = p
 
 module _ {S : Type 0} (g : Ghosts S) (old mid end : Held S) (settled : IsTrue (state g old).is_open → (state g old).now ≡ (state g old).committed) where
   -- rolled back
@@ -50,31 +41,6 @@ module _ {S : Type 0} (g : Ghosts S) (old mid end : Held S) (settled : IsTrue (s
   module _ {V E : Type 0} (r : Result V E) (Q : V → State → State → Type 0) (step : IsStep (state g (begun old)) (state g mid) r Q) (late : Survives (state g mid) (state g end) (λ _. ⊥)) where
     pub through : Survives (state g old) (state g end) (λ _. ⊥)
     through = survives_then (state g old) (state g mid) (state g end) (λ _. ⊥) (λ _. ⊥) (λ _. ⊥) (λ _ db none. none) (λ _ db none. none) (survives_begin g old (state g mid) (λ _. ⊥) step.survives) late
-
-    -- a call that changes gave up
-    pub gives_up : {U F : Type 0} (out : Result U F) (after : Tables → Tables) → IsErr out → (HasCleanDisk (state g end) → IsRolledBack (state g mid) (state g end)) → IsApplied g old end out after
-    gives_up {U} {F} out after failed back =
-        let kept = rolled_back r Q (λ _. ⊥) step back late in
-        record {
-          made = no_ok out failed _;
-          opened = λ clean. no_ok out failed _;
-          kept = all_err out (still_holds _ through kept);
-          same = λ clean o. all_err out (kept clean o);
-          survives = survives_weaker (state g old) (state g end) (λ _. ⊥) _ (λ _ db none. absurd none) through;
-        }
-
-    -- the making of the tables gave up
-    pub creates_none : (out : Result (Unit {0}) Fault) → IsErr out → (HasCleanDisk (state g end) → out ≡ Err (Damaged NotEmpty) → has_table_of_desk (state g old).now.schema ≡ true) → (HasCleanDisk (state g end) → IsRolledBack (state g mid) (state g end)) → IsCreated g old end out
-    creates_none out failed taken back =
-        let kept = rolled_back r Q (λ _. ⊥) step back late in
-        record {
-          made = no_ok out failed _;
-          opened = λ clean. no_ok out failed _;
-          absent = λ clean. no_ok out failed _;
-          taken = taken;
-          same = λ clean o. all_err out (kept clean o);
-          survives = survives_weaker (state g old) (state g end) (λ _. ⊥) _ (λ _ db none. absurd none) through;
-        }
 
   -- a read, whose transaction is dropped
   pub is_read : {V E : Type 0} (out : Result V E) (P : V → Tables → Type 0) → IsStep (state g (begun old)) (state g mid) out (λ v. Looks desk (P v)) → Survives (state g mid) (state g end) (λ _. ⊥)

@@ -1,30 +1,25 @@
 -- Written by tools/tables.py: what a SELECT means.
 use Rattle.std.proofs.Common.{◌≡◌, ◌⊎◌, ℕ, ◌-◌, pos, negsuc, List, [], ◌∷◌, codes, true, false, None, Some, Ok, Err, refl, slice_get}
 use Rattle.sqlite_value.specs.declared.keys.Collation.TheVariants.{Binary}
-use Rattle.sqlite.specs.declared.types.Value.TheVariants.{Null, Int, Text}
+use Rattle.sqlite.specs.declared.types.Value.TheVariants.{Int}
 use Rattle.sqlite_sql.specs.declared.ops.BinaryOp.TheVariants.{Compare}
 use Rattle.sqlite_sql.specs.declared.ops.CompareOp.TheVariants.{Eq}
 use Rattle.sqlite_value.specs.declared.keys.Key.{Key}
 use Rattle.sqlite.specs.Term.{Term, lit, col, op2}
 use Rattle.sqlite.specs.Schema.{Schema}
-use Rattle.sqlite.specs.Source.TheVariants.{Values}
-use Rattle.sqlite.specs.Command.TheVariants.{Insert, Update, Delete, Select}
-use Rattle.sqlite_ast.specs.declared.Expr.{Expr, out-Expr}
+use Rattle.sqlite.specs.Command.TheVariants.{Select}
 use Rattle.sqlite_ast.specs.declared.Expr.TheVariants as e
 use Rattle.sqlite_ast.specs.declared.Binary.TheVariants as operator
-use Rattle.sqlite_resolve.specs.Scope.{Name}
-use Rattle.sqlite_resolve.specs.Write.{updated, deleted, simple}
-use Rattle.sqlite_resolve.specs.Compile.{compiled, first}
+use Rattle.sqlite_resolve.specs.Compile.{compiled}
 use Rattle.sqlite_resolve.specs.declared.error.CompileError.TheVariants.{Mismatch}
 use Rattle.sqlite_draft.specs.declared.join.Step.TheVariants.{Inner}
 use Rattle.sqlite_draft.specs.declared.query.Draft.{Draft}
-use Rattle.sqlite_draft.specs.Query.{query_of}
 use Rattle.sqlite_tied.specs.Compute.{everything}
 use Rattle.brk_rows.specs.Partly.{lowering}
-use Rattle.brk_rows.specs.Desk.{whole, text, perhaps, Stands}
-use Rattle.brk_rows.proofs.Meant.{meant, inserts, updates_or, deletes_or, reads_or}
-use Rattle.brk_rows.proofs.Pick.{selection, whole_page}
-use Rattle.brk_rows.proofs.Scoped.{over_one, column_is, heading_is}
+use Rattle.brk_rows.specs.Desk.{whole, text, Stands}
+use Rattle.brk_rows.proofs.Meant.{meant, reads_or}
+use Rattle.brk_rows.proofs.Pick.{selection}
+use Rattle.brk_rows.proofs.Scoped.{column_is, heading_is}
 use Rattle.brk_rows.proofs.Texts.{read}
 use Rattle.brk_tables.specs.Shapes.{customer}
 use Rattle.sqlite_ast.specs.declared.Shown.TheVariants.{One}

@@ -1,22 +1,20 @@
 -- The tables from their texts, and the row of DESK.
-use Rattle.std.proofs.Common.{◌≡◌, ◌≢◌, ◌⊎◌, inl, inr, ℕ, pos, List, [], ◌∷◌, None, Ok, Err, Result, refl, sym}
+use Rattle.std.proofs.Common.{◌≡◌, ◌⊎◌, inl, inr, ℕ, pos, List, [], ◌∷◌, None, Ok, Result, refl}
 use Rattle.sqlite_schema.specs.declared.schema.Table.{Table}
 use Rattle.sqlite.specs.Effect.{Database}
 use Rattle.sqlite.specs.State.{State, Executes}
 use Rattle.sqlite_value.specs.declared.value.Value.TheVariants.{Null, Int}
-use Rattle.sqlite_keyed.specs.Lists.{insert_sorted}
 use Rattle.brk_money.specs.declared.fault.Fault.{Fault}
 use Rattle.brk_model.specs.Tables.{no_rows}
-use Rattle.brk_rows.specs.Desk.{Makes, Founds, HasTables}
+use Rattle.brk_rows.specs.Desk.{Makes, Founds}
 use Rattle.brk_rows.specs.Model.{IsStep, Ran}
-use Rattle.brk_rows.proofs.Founded.{Part, part_none, part_more, founded}
-use Rattle.brk_rows.proofs.Inside.{step_then, step_weaker}
+use Rattle.brk_rows.proofs.Founded.{part_none, part_more, founded}
+use Rattle.brk_rows.proofs.Inside.{step_then}
 use Rattle.brk_rows.proofs.Texts.{read}
 use Rattle.brk_rows.proofs.Values.{cast_int, cast_null}
 use Rattle.brk_rows.proofs.Writes.{inserts_as}
 use Rattle.brk_tables.specs.Shapes.{desk_row, kept, broker, customer, account, permission, security, last_trade, charge, band, tax_rate, customer_tax, trade, history, request, holding, summary, holding_history, settlement, cash}
-use Rattle.brk_tables.specs.Cells.{DeskRow}
-use Rattle.brk_tables.specs.Desk.{Which, TheDesk, KeptRows, Brokers, Customers, Accounts, Permissions, Securities, LastTrades, Charges, Bands, TaxRates, CustomerTaxes, Trades, TradeHistory, Requests, Holdings, Summaries, HoldingHistory, Settlements, CashRows, desk, desk_rows}
+use Rattle.brk_tables.specs.Desk.{Which, TheDesk, KeptRows, Brokers, Customers, Accounts, Permissions, Securities, LastTrades, Charges, Bands, TaxRates, CustomerTaxes, Trades, TradeHistory, Requests, Holdings, Summaries, HoldingHistory, Settlements, CashRows, desk_rows}
 use Rattle.brk_tables.specs.Made.{MakesFour, HasRows}
 use Rattle.brk_tables.proofs.Which.{is_desk_row, is_kept, is_broker, is_customer, is_account, is_permission, is_security, is_last_trade, is_charge, is_band, is_tax_rate, is_customer_tax, is_trade, is_history, is_request, is_holding, is_summary, is_holding_history, is_settlement, is_cash}
 use Rattle.brk_tables.proofs.Wide.{Wide, wide, wide_list, narrowed}

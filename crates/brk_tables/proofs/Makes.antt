@@ -1,5 +1,5 @@
 -- Written by tools/tables.py: which table each text makes.
-use Rattle.std.proofs.Common.{◌≡◌, ℕ, List, [], ◌∷◌, codes, Ok, refl}
+use Rattle.std.proofs.Common.{ℕ, List, [], codes, Ok, refl}
 use Rattle.sqlite.specs.State.{State, Executes}
 use Rattle.sqlite_tied.specs.Compute.{everything}
 use Rattle.brk_rows.specs.Desk.{Makes}

@@ -1,17 +1,16 @@
 -- Rising keys: the order of the model and that of the database are one.
-use Rattle.std.proofs.Common.{◌≡◌, ℕ, pos, List, [], ◌∷◌, Bool, true, false, not, ◌&&◌, ◌||◌, cond, if◌then◌else◌, ◌==◌, Ordering, Less, Equal, Greater, is_eq, int_cmp, nat_cmp, refl, sym, ap, ap₂, ◌∙◌, inl, inr, arith, eq-eqb, ne_eqb}
+use Rattle.std.proofs.Common.{◌≡◌, ℕ, pos, List, [], ◌∷◌, Bool, true, false, not, ◌&&◌, ◌||◌, if◌then◌else◌, ◌==◌, Ordering, Less, Equal, Greater, int_cmp, nat_cmp, refl, sym, ap, ap₂, ◌∙◌, inl, inr, arith, eq-eqb, ne_eqb}
 use Rattle.std.specs.Prelude.{nat_lt}
 use Rattle.std.specs.Ordering.{is_gt, ordering_then, ordering_reverse}
 use Rattle.std.specs.Cmp.{IsTotalOrder}
 use Rattle.std.specs.Cmp.Lexicographic.{slice_cmp}
 use Rattle.std.proofs.lemmas.Cmp.{on_total, lists_total}
 use Rattle.std.proofs.lemmas.Bool.{cases_Bool, ltb-true, ltb-false}
-use Rattle.sqlite_value.specs.declared.value.Value.TheVariants.{Int, Text as Words}
-use Rattle.sqlite_value.specs.Order.{Row, value_cmp}
+use Rattle.sqlite_value.specs.Order.{value_cmp}
 use Rattle.sqlite_value.proofs.OrderLemmas.{value_cmp_total, value_cmp-Int, value_cmp-Text}
 use Rattle.sqlite_keyed.specs.Lists.{insert_sorted}
-use Rattle.brk_model.specs.Lists.{text_before, insert_by}
-use Rattle.brk_model.specs.Keys.{KeyPart, number, word, part_before, key_before, row_before, insert_row}
+use Rattle.brk_model.specs.Lists.{text_before}
+use Rattle.brk_model.specs.Keys.{KeyPart, number, word, part_before, key_before, insert_row}
 use Rattle.brk_tables.specs.Order.{part_value, key_values, by_key_values}
 
 pub key_total : {X : Type 0} (key : X → List KeyPart) → IsTotalOrder (by_key_values key)

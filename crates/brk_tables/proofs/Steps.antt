@@ -1,32 +1,28 @@
 -- What each statement makes of the tables, or tells of them.
-use Rattle.std.proofs.Common.{◌≡◌, ◌≢◌, ℕ, pos, List, [], ◌∷◌, map, filter, Bool, true, ◌==◌, Some, Ok, refl, sym, ap, subst, ◌∙◌}
+use Rattle.std.proofs.Common.{◌≡◌, ◌≢◌, ℕ, pos, List, [], ◌∷◌, map, filter, true, ◌==◌, Some, refl, sym, ap, subst}
 use Rattle.std.specs.Prelude.{bytes_eq}
-use Rattle.sqlite_value.specs.declared.value.Value.{Value}
 use Rattle.sqlite_value.specs.declared.value.Value.TheVariants.{Null, Int, Text as Words}
 use Rattle.sqlite_value.specs.Order.{Row, column}
 use Rattle.sqlite_tied.proofs.RuleLemmas.{and_true}
-use Rattle.sqlite_keyed.specs.Lists.{insert_sorted, update_where}
+use Rattle.sqlite_keyed.specs.Lists.{insert_sorted}
 use Rattle.sqlite.specs.Effect.{Database}
 use Rattle.sqlite.specs.State.{State, Shown}
 use Rattle.brk_money.specs.Kinds.{tax_status_number}
 use Rattle.brk_model.specs.Records.{Broker, Customer, Account}
 use Rattle.brk_model.specs.Tables.{Tables, BrokerRow, AccountRow}
 use Rattle.brk_model.specs.Keys.{insert_row, broker_key, customer_key, account_key}
-use Rattle.brk_rows.specs.Rows.{cells}
 use Rattle.brk_rows.specs.Desk.{HasTables, Turns, Tells}
 use Rattle.brk_rows.specs.Model.{Ran}
-use Rattle.brk_rows.proofs.Decode.{filter_true}
-use Rattle.brk_rows.proofs.Pick.{passes}
 use Rattle.brk_rows.proofs.Texts.{read}
 use Rattle.brk_rows.proofs.Values.{cast_int, cast_null, cast_whole}
 use Rattle.brk_rows.proofs.Writes.{Place, inserts_as, updates_as}
 use Rattle.brk_rows.proofs.Looks.{tells_rising}
-use Rattle.brk_tables.specs.Cells.{DeskRow, nat, maybe, desk_row_cells, broker_cells, customer_cells, account_cells}
+use Rattle.brk_tables.specs.Cells.{DeskRow, nat, desk_row_cells, broker_cells, customer_cells, account_cells}
 use Rattle.brk_tables.specs.Desk.{Which, TheDesk, Brokers, Customers, Accounts, Item, desk, desk_rows, desk_key, key, order, list}
 use Rattle.brk_trade.specs.Changes.{with_broker, with_customer, with_account, with_last}
 use Rattle.brk_tables.proofs.Order.{inserted, key_total}
 use Rattle.brk_tables.proofs.Tests.{same_number, same_text}
-use Rattle.brk_tables.proofs.Wide.{Wide, wide, widened, narrowed}
+use Rattle.brk_tables.proofs.Wide.{wide, widened, narrowed}
 use Rattle.brk_tables.proofs.Places.{the_desk, brokers, customers, accounts}
 use Rattle.brk_tables.proofs.AddBroker
 use Rattle.brk_tables.proofs.AddCustomer

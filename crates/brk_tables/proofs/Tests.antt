@@ -1,5 +1,5 @@
 -- A comparison of a column with a parameter is that of its value.
-use Rattle.std.proofs.Common.{◌≡◌, ℕ, pos, List, Bool, true, false, ◌==◌, is_eq, int_cmp, nat_cmp, refl, sym, ap, ◌∙◌, inl, inr, arith, eq-eqb, ne_eqb}
+use Rattle.std.proofs.Common.{◌≡◌, ℕ, pos, List, ◌==◌, is_eq, int_cmp, refl, sym, ◌∙◌, inl, inr, arith, eq-eqb, ne_eqb}
 use Rattle.std.specs.Prelude.{nat_lt, bytes_eq}
 use Rattle.std.proofs.lemmas.Bool.{cases_Bool, ltb-true, ltb-false}
 use Rattle.std.proofs.lemmas.Map.Text.{is_eq-slice_cmp}

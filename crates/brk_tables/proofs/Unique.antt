@@ -1,5 +1,5 @@
 -- Keys of several columns: two rows have one key where their columns agree.
-use Rattle.std.proofs.Common.{◌≡◌, ℕ, pos, List, [], ◌∷◌, map, take, Bool, ◌&&◌, Ordering, Less, Equal, Greater, is_eq, refl, sym, ap, ◌∙◌}
+use Rattle.std.proofs.Common.{◌≡◌, ℕ, pos, List, [], ◌∷◌, map, take, ◌&&◌, Ordering, Less, Equal, Greater, is_eq, refl, sym, ap, ◌∙◌}
 use Rattle.std.specs.Ordering.{ordering_then}
 use Rattle.std.specs.Cmp.Lexicographic.{slice_cmp}
 use Rattle.sqlite_value.specs.declared.keys.Collation.TheVariants.{Binary}

@@ -1,5 +1,5 @@
 -- The tables with any rows of DESK, as they are while they are made.
-use Rattle.std.proofs.Common.{◌≡◌, ◌≢◌, ◌⊎◌, ℕ, List, [], ◌∷◌, Option, refl, sym, subst, inl, inr}
+use Rattle.std.proofs.Common.{◌≡◌, ◌≢◌, ℕ, List, refl, sym, subst}
 use Rattle.sqlite.specs.Effect.{Database}
 use Rattle.brk_model.specs.Tables.{Tables}
 use Rattle.brk_rows.specs.Rows.{Holds}

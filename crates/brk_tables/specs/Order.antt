@@ -1,5 +1,5 @@
 -- Keys as the database compares them.
-use Rattle.std.specs.Prelude.{ℕ, pos, List, map}
+use Rattle.std.specs.Prelude.{pos, List, map}
 use Rattle.std.specs.declared.cmp.Ordering.{Ordering}
 use Rattle.std.specs.Cmp.Lexicographic.{slice_cmp}
 use Rattle.sqlite_value.specs.declared.value.Value.{Value}

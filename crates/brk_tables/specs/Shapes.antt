@@ -1,5 +1,5 @@
 -- Written by tools/tables.py: what the tables are made of, each at any tree.
-use Rattle.std.specs.Prelude.{ℕ, List, [], ◌∷◌, codes, Some, None}
+use Rattle.std.specs.Prelude.{ℕ, [], ◌∷◌, codes, Some, None}
 use Rattle.sqlite_schema.specs.declared.schema.Table.{Table}
 use Rattle.brk_rows.specs.Desk.{text, whole, perhaps, refers, table_of}
 

@@ -7,6 +7,7 @@ ghost use Rattle.brk_money.specs.Kinds.{tax_status_number, type_code};
 
 use brk_money::{Cents, Id, Price, Qty, Rate, Stamp, TaxRate, TaxStatus, TradeType};
 use brk_ref::{ChargeAmount, RowNumber, Tier, Volume};
+use brk_trade::Amount;
 use sqlite_value::value::ValueRef;
 
 pub fn number_value<'a>(number: i64) -> ValueRef<'a>
@@ -75,10 +76,16 @@ pub(crate) fn tax_rate_value<'a>(rate: TaxRate) -> ValueRef<'a>
     ValueRef::Int(rate.get() as i64)
 }
 
-pub fn charge_amount_value<'a>(amount: ChargeAmount) -> ValueRef<'a>
+pub fn amount_value<'a>(amount: Amount) -> ValueRef<'a>
     ensures { owned result ≡ Int (pos amount) }
 {
     ValueRef::Int(amount.get() as i64)
+}
+
+pub fn charge_amount_value<'a>(charge: ChargeAmount) -> ValueRef<'a>
+    ensures { owned result ≡ Int (pos charge) }
+{
+    ValueRef::Int(charge.get() as i64)
 }
 
 pub fn volume_value<'a>(volume: Volume) -> ValueRef<'a>

@@ -45,4 +45,4 @@ pub use result::plan_result;
 pub use settlement_row::SettlementRow;
 pub use summary_row::SummaryRow;
 pub use trade_count::TradeCount;
-pub use trade_row::TradeRow;
+pub use trade_row::{TradeRow, is_submitted};

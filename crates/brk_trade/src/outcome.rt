@@ -7,21 +7,20 @@ ghost use Rattle.brk_model.specs.Limits.{greatest_amount, greatest_summary};
 ghost use Rattle.brk_model.specs.Shares as shares;
 ghost use Rattle.brk_model.specs.Tests.{first_refusal};
 ghost use Rattle.brk_money.specs.Amounts as amounts;
-ghost use Rattle.brk_money.specs.Kinds.{same_status, side_of};
+ghost use Rattle.brk_money.specs.Kinds.{side_of};
 ghost use Rattle.brk_money.specs.Moments as moments;
 ghost use Rattle.brk_money.specs.Moments.{last_day};
-ghost use Rattle.brk_money.specs.declared.status.Status.TheVariants.{Submitted};
 ghost use Rattle.brk_trade.specs.Outcomes as spec;
 ghost use Rattle.brk_trade.specs.Outcomes.{first_tests, last_tests, outcome_of, values_in};
 
 use crate::amount::Amount;
 use crate::trade_count::TradeCount;
-use crate::trade_row::TradeRow;
+use crate::trade_row::{TradeRow, is_submitted};
 use brk_estimates::{Values, tax_on};
 use brk_lots::Closing;
 use brk_money::{
-    Cents, Day, Id, Limit, Price, Qty, Rate, Refusal, Side, Stamp, Status, TaxRate, TaxStatus,
-    Wide, commission, day_of,
+    Cents, Day, Id, Limit, Price, Qty, Rate, Refusal, Side, Stamp, TaxRate, TaxStatus, Wide,
+    commission, day_of,
 };
 use brk_ref::Name;
 
@@ -121,13 +120,6 @@ fn summary_after(found: &ResultFound) -> Option<i64>
         return None;
     }
     Some(after as i64)
-}
-
-// Whether a trade was sent to the market, and nothing came of it yet.
-fn is_submitted(trade: &TradeRow) -> bool
-    ensures { result ≡ same_status trade.now.status Submitted }
-{
-    trade.status == Status::Submitted
 }
 
 // The first cause to refuse a result that is told without the lots.

@@ -1,3 +1,7 @@
+ghost use Rattle.std.specs.Prelude.{◌≡◌};
+ghost use Rattle.brk_money.specs.Kinds.{same_status};
+ghost use Rattle.brk_money.specs.declared.status.Status.TheVariants.{Submitted};
+
 use crate::amount::Amount;
 use brk_money::{Id, Price, Qty, Stamp, Status, TradeType};
 use brk_ref::{ChargeAmount, Symbol};
@@ -20,4 +24,11 @@ pub struct TradeRow {
     pub commission: Amount,
     pub tax: Amount,
     pub is_lifo: bool,
+}
+
+/// Whether a trade was sent to the market, and nothing came of it yet.
+pub fn is_submitted(trade: &TradeRow) -> bool
+    ensures { result ≡ same_status trade.now.status Submitted }
+{
+    trade.status == Status::Submitted
 }

@@ -1,4 +1,4 @@
-ghost use Rattle.std.specs.Prelude.{◌≡◌, ◌==◌, ◌∷◌, [], Err, IfErr, IfOk, OnErr, filter, find, map, option_map, pos, reverse, slice_get};
+ghost use Rattle.std.specs.Prelude.{◌≡◌, ◌==◌, ◌∷◌, [], Err, IfErr, IfOk, OnErr, filter, find, map, option_map, reverse, slice_get};
 ghost use Rattle.brk_money.specs.Kinds.{same_status};
 ghost use Rattle.brk_money.specs.declared.fault.Fault.TheVariants.{Store};
 ghost use Rattle.brk_money.specs.declared.status.Status.TheVariants.{Submitted};
@@ -12,14 +12,15 @@ ghost use Rattle.brk_trade.specs.Changes.{with_completion, with_status, with_tra
 ghost use Rattle.brk_trade.specs.Rows.{trade_row_of};
 
 use crate::cells::{amount_in, flag_in, maybe_price_in, price_in, stamp_in, status_in};
-use crate::values::{amount_value, flag_value, maybe_price_value, status_value};
+use crate::values::{flag_value, maybe_price_value, status_value};
 use brk_money::{Fault, Id, Price, Stamp, Status};
 use brk_tables::calls::{run, select};
 use brk_tables::cells::{
     charge_amount_in, has_columns, id_in, qty_in, symbol_in, text_in, type_in,
 };
 use brk_tables::values::{
-    charge_amount_value, id_value, price_value, qty_value, stamp_value, text_value, type_value,
+    amount_value, charge_amount_value, id_value, price_value, qty_value, stamp_value, text_value,
+    type_value,
 };
 use brk_trade::{Amount, TradeRow};
 use sqlite::{Alter, Row, Transaction};

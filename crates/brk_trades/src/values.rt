@@ -7,14 +7,7 @@ ghost use Rattle.brk_money.specs.Kinds.{status_code};
 ghost use Rattle.brk_tables.specs.Cells.{flag, maybe};
 
 use brk_money::{Price, Status};
-use brk_trade::Amount;
 use sqlite_value::value::ValueRef;
-
-pub(crate) fn amount_value<'a>(amount: Amount) -> ValueRef<'a>
-    ensures { owned result ≡ Int (pos amount) }
-{
-    ValueRef::Int(amount.get() as i64)
-}
 
 pub(crate) fn flag_value<'a>(is: bool) -> ValueRef<'a>
     ensures { owned result ≡ flag is }

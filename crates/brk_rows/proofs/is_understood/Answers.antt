@@ -1,7 +1,6 @@
-use Rattle.std.proofs.Common.{◌≡◌, [], ap, ◌∙◌}
+use Rattle.std.proofs.Common.{[], ap, ◌∙◌}
 use Rattle.sqlite.specs.Held.{state}
 use Rattle.sqlite.specs.declared.error.Error.TheVariants.{SqlInputError}
-use Rattle.sqlite_resolve.specs.declared.error.CompileError.TheVariants.{NoSuchTable}
 use Rattle.brk_rows.proofs.Probe.{says_there, says_absent, says_neither}
 use Rattle.brk_rows.proofs.is_understood.Goals.{in-Ok, in-Err-SqlInputError-NoSuchTable, in-Err+in-Err}
 use Rattle.brk_rows.proofs.is_understood.Goals as goal

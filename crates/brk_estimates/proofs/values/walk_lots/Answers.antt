@@ -50,8 +50,8 @@ returns-after-loop-left-clause-cost g c =
     let z : paid (met c.args.side c.loop-left.left rest) rest ≡ 0 = rw e (rw (met_none c.args.side rest) (paid_none rest)) in
     omega (arith, z, c.loop-left.invariant.paid)
 
-pub returns-then-is_of-clause-cost : goal.returns-then-is_of-clause-cost
-returns-then-is_of-clause-cost g c =
+pub returns-then-is_same-clause-cost : goal.returns-then-is_same-clause-cost
+returns-then-is_same-clause-cost g c =
     let lot = c.in-Some.lot in
     let ls = g.L.LotSource.rest c.next.new.self in
     let e : g.L.LotSource.rest c.loop-left.source ≡ lot ∷ ls = rw c.in-Some.is at c.in_ok-lot.ensures.given in
@@ -60,8 +60,8 @@ returns-then-is_of-clause-cost g c =
     let i : c.loop-left.cost + paid (met c.args.side c.loop-left.left (lot ∷ ls)) (lot ∷ ls) ≡ paid (met c.args.side c.args.qty (g.L.LotSource.rest c.args.source.now)) (g.L.LotSource.rest c.args.source.now) = rw e at c.loop-left.invariant.paid in
     omega (arith, z, i)
 
-pub returns-then-is_of-clause-rest : goal.returns-then-is_of-clause-rest
-returns-then-is_of-clause-rest g c =
+pub returns-then-is_same-clause-rest : goal.returns-then-is_same-clause-rest
+returns-then-is_same-clause-rest g c =
     let n = c.loop-left.invariant.given in
     let all = g.L.LotSource.rest c.args.source.now in
     let e = rw c.in-Some.is at c.in_ok-lot.ensures.given in

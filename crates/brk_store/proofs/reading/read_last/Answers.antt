@@ -1,9 +1,5 @@
-use Rattle.std.proofs.Common.{◌≡◌, ◌==◌, filter, find, map, option_map, subst, rules}
-use Rattle.std.specs.Prelude.{bytes_eq}
-use Rattle.brk_model.specs.Records.{Customer}
-use Rattle.brk_model.specs.Tables.{Tables, BrokerRow, AccountRow}
-use Rattle.brk_ref.specs.Records.{customer_of}
-use Rattle.brk_tables.specs.Records.{broker_row_of, account_row_of}
+use Rattle.std.proofs.Common.{◌≡◌, subst, rules}
+use Rattle.brk_model.specs.Tables.{Tables}
 use Rattle.brk_store.specs.Holds.{IsRead}
 use Rattle.brk_store.proofs.Ending.{is_read}
 use Rattle.brk_store.proofs.reading.read_last.Goals as goal

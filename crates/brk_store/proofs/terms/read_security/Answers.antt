@@ -1,9 +1,7 @@
-use Rattle.std.proofs.Common.{◌≡◌, ◌==◌, filter, find, map, option_map, subst, rules}
-use Rattle.std.specs.Prelude.{◌&&◌, bytes_eq}
-use Rattle.brk_money.specs.Kinds.{same_type}
-use Rattle.brk_model.specs.Records.{Permission, Charge, Band, TaxRate, CustomerTax}
+use Rattle.std.proofs.Common.{◌≡◌, find, option_map, subst, rules}
+use Rattle.std.specs.Prelude.{bytes_eq}
 use Rattle.brk_model.specs.Tables.{Tables, SecurityRow}
-use Rattle.brk_ref.specs.Records.{band_of, charge_of, customer_tax_of, permission_of, security_of, tax_of}
+use Rattle.brk_ref.specs.Records.{security_of}
 use Rattle.brk_store.specs.Holds.{IsRead}
 use Rattle.brk_store.proofs.Ending.{is_read}
 use Rattle.brk_store.proofs.terms.read_security.Goals as goal

@@ -1,15 +1,11 @@
-use Rattle.std.proofs.Common.{◌≡◌, ◌==◌, ℕ, pos, [], ◌∷◌, find, filter, slice_get}
-use Rattle.std.specs.Prelude.{bytes_eq}
-use Rattle.sqlite_value.specs.declared.value.Value.TheVariants.{Int, Text}
-use Rattle.sqlite_keyed.proofs.ListLemmas.{slice_get-filter}
+use Rattle.std.proofs.Common.{◌==◌, pos, [], ◌∷◌, filter}
+use Rattle.sqlite_value.specs.declared.value.Value.TheVariants.{Int}
 use Rattle.sqlite.specs.Held.{state}
-use Rattle.brk_ref.specs.Records.{customer_of}
-use Rattle.brk_model.specs.Records.{Customer}
-use Rattle.brk_model.specs.Tables.{Tables, BrokerRow, AccountRow}
-use Rattle.brk_rows.proofs.Answer.{look_all, look_first}
+use Rattle.brk_model.specs.Tables.{AccountRow}
+use Rattle.brk_rows.proofs.Answer.{look_all}
 use Rattle.brk_tables.specs.Cells.{account_cells}
 use Rattle.brk_tables.specs.Desk.{desk}
-use Rattle.brk_tables.specs.Records.{broker_row_of, account_row_of}
+use Rattle.brk_tables.specs.Records.{account_row_of}
 use Rattle.brk_tables.proofs.Back.{account_back, account_is_back}
 use Rattle.brk_tables.proofs.AccountsOfCustomer
 use Rattle.brk_tables.proofs.AccountsOfCustomer.{plain}

@@ -1,5 +1,5 @@
 use Rattle.sqlite.specs.Held.{state}
-use Rattle.brk_ref.specs.Records.{broker_of, customer_of, account_of}
+use Rattle.brk_ref.specs.Records.{account_of}
 use Rattle.brk_rows.proofs.Inside.{step_weaker}
 use Rattle.brk_tables.proofs.Steps.{adds_account}
 use Rattle.brk_tables.proofs.accounts.add_account.Goals as goal

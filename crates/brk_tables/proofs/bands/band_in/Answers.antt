@@ -1,4 +1,4 @@
-use Rattle.std.proofs.Common.{◌≡◌, ◌∷◌, [], length, refl, sym, arith, ◌∙◌}
+use Rattle.std.proofs.Common.{◌≡◌, ◌∷◌, [], length, refl, sym, arith}
 use Rattle.sqlite_value.specs.Order.{Row, column}
 use Rattle.brk_tables.proofs.bands.band_in.Goals as goal
 

@@ -1,15 +1,12 @@
-use Rattle.std.proofs.Common.{◌≡◌, ◌==◌, ℕ, pos, [], ◌∷◌, find, filter, slice_get}
-use Rattle.std.specs.Prelude.{bytes_eq}
-use Rattle.sqlite_value.specs.declared.value.Value.TheVariants.{Int, Text}
+use Rattle.std.proofs.Common.{◌==◌, pos, [], ◌∷◌, find, filter}
+use Rattle.sqlite_value.specs.declared.value.Value.TheVariants.{Int}
 use Rattle.sqlite_keyed.proofs.ListLemmas.{slice_get-filter}
 use Rattle.sqlite.specs.Held.{state}
-use Rattle.brk_ref.specs.Records.{customer_of}
-use Rattle.brk_model.specs.Records.{Customer}
-use Rattle.brk_model.specs.Tables.{Tables, BrokerRow, AccountRow}
-use Rattle.brk_rows.proofs.Answer.{look_all, look_first}
+use Rattle.brk_model.specs.Tables.{BrokerRow}
+use Rattle.brk_rows.proofs.Answer.{look_first}
 use Rattle.brk_tables.specs.Cells.{broker_cells}
 use Rattle.brk_tables.specs.Desk.{desk}
-use Rattle.brk_tables.specs.Records.{broker_row_of, account_row_of}
+use Rattle.brk_tables.specs.Records.{broker_row_of}
 use Rattle.brk_tables.proofs.Back.{broker_back, broker_is_back}
 use Rattle.brk_tables.proofs.BrokerById
 use Rattle.brk_tables.proofs.BrokerById.{plain}

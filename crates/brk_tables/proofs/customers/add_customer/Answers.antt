@@ -1,5 +1,5 @@
 use Rattle.sqlite.specs.Held.{state}
-use Rattle.brk_ref.specs.Records.{broker_of, customer_of, account_of}
+use Rattle.brk_ref.specs.Records.{customer_of}
 use Rattle.brk_rows.proofs.Inside.{step_weaker}
 use Rattle.brk_tables.proofs.Steps.{adds_customer}
 use Rattle.brk_tables.proofs.customers.add_customer.Goals as goal

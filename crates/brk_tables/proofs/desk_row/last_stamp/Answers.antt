@@ -1,8 +1,6 @@
-use Rattle.std.proofs.Common.{◌≡◌, ℕ, List, [], ◌∷◌, Option, None, map, ap}
+use Rattle.std.proofs.Common.{ℕ, List, [], ◌∷◌, Option, None, ap}
 use Rattle.sqlite.specs.Held.{state}
 use Rattle.brk_model.specs.Tables.{Tables}
-use Rattle.brk_rows.specs.Desk.{Tells}
-use Rattle.brk_rows.specs.Model.{Looks}
 use Rattle.brk_rows.proofs.Answer.{look_all}
 use Rattle.brk_rows.proofs.Inside.{step_weaker}
 use Rattle.brk_tables.specs.Cells.{DeskRow, desk_row_cells}

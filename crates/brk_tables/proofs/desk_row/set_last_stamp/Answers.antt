@@ -1,5 +1,4 @@
 use Rattle.sqlite.specs.Held.{state}
-use Rattle.brk_ref.specs.Records.{broker_of, customer_of, account_of}
 use Rattle.brk_rows.proofs.Inside.{step_weaker}
 use Rattle.brk_tables.proofs.Steps.{sets_last}
 use Rattle.brk_tables.proofs.desk_row.set_last_stamp.Goals as goal

@@ -1,4 +1,4 @@
-use Rattle.std.proofs.Common.{◌≡◌, ℕ, List, Bool, false, map, take, Ok}
+use Rattle.std.proofs.Common.{◌≡◌, ℕ, List, false, map, take, Ok}
 use Rattle.std.specs.Borrow.{Bor}
 use Rattle.sqlite.specs.Held.{state}
 use Rattle.brk_money.specs.declared.fault.Fault.{Fault}

@@ -1,4 +1,3 @@
-use Rattle.std.proofs.Common.{◌≡◌}
 use Rattle.brk_ref.specs.Records.{key_of}
 use Rattle.brk_commands.specs.Commands.{command_of}
 use Rattle.brk_desk.specs.declared.answer.Answer.TheVariants as given
