@@ -1,12 +1,12 @@
 #!/usr/bin/env python3
-"""Writes the parts of crates/brk_tables, crates/brk_trades and crates/brk_results that follow from the list of tables and
-statements below: the shapes and cells of the tables and which text makes which table (brk_tables), and what each SQL text
-means over any schema (in the crate of the statement). Run it at the top of the repository after a change of the list, and
-then `rt fmt` in the three crates. What it writes is checked like any other file."""
+"""Writes the parts of the crates brk_tables_form, brk_tables_reference and brk_tables_trading that follow from the list of
+tables and statements below: the shapes and cells of the tables and which text makes which table (brk_tables_form), and what
+each SQL text means over any schema (in the crate of the statement). Run it at the top of the repository after a change of the
+list; `.ci/run` does so first. What it writes is checked like any other file."""
 import re
 
-OUT = 'crates/brk_tables/proofs'
-SPECS = 'crates/brk_tables/specs'
+OUT = 'crates/brk_tables_form/proofs'
+SPECS = 'crates/brk_tables_form/specs'
 
 # For each table: the SQL name, its name among the tables, the type of its rows, the key of a row, the list of its rows,
 # whether its key is the rowid, and its columns: name, kind, how a row r shows it, the table and column it names.
@@ -115,7 +115,7 @@ use Rattle.brk_rows.proofs.Meant.{{meant, inserts, updates_or, deletes_or, reads
 use Rattle.brk_rows.proofs.Pick.{{selection, whole_page}}
 use Rattle.brk_rows.proofs.Scoped.{{over_one, column_is, heading_is}}
 use Rattle.brk_rows.proofs.Texts.{{read}}
-use Rattle.brk_tables.specs.Shapes.{{{table}}}
+use Rattle.brk_tables_form.specs.Shapes.{{{table}}}
 '''
 
 def is_named(name, body):
@@ -445,9 +445,9 @@ use Rattle.brk_model.specs.Records.{{{RECORDS}}}
 use Rattle.brk_model.specs.Tables.{{Tables, {ROWS}}}
 use Rattle.brk_model.specs.Keys.{{KeyPart, number, {', '.join(d[4] for d in DATA[1:])}}}
 use Rattle.brk_rows.specs.Desk.{{Desk}}
-use Rattle.brk_tables.specs.Shapes.{{{', '.join(d[0] for d in DATA)}}}
-use Rattle.brk_tables.specs.Cells.{{DeskRow, {', '.join(d[0] + '_cells' for d in DATA)}}}
-use Rattle.brk_tables.specs.Order.{{by_key_values}}
+use Rattle.brk_tables_form.specs.Shapes.{{{', '.join(d[0] for d in DATA)}}}
+use Rattle.brk_tables_form.specs.Cells.{{DeskRow, {', '.join(d[0] + '_cells' for d in DATA)}}}
+use Rattle.brk_tables_form.specs.Order.{{by_key_values}}
 
 -- the tables by name
 pub data Which : Type 0 where
@@ -498,7 +498,7 @@ names = map (λ w. (shape w 0).name) ({lst(d[2] for d in DATA)})
 def splits():
     out = f"""-- Written by tools/tables.py: whether a table is a certain one.
 use Rattle.std.proofs.Common.{{◌≡◌, ◌≢◌, ◌⊎◌, refl, inl, inr}}
-use Rattle.brk_tables.specs.Desk.{{Which, {', '.join(d[2] for d in DATA)}}}
+use Rattle.brk_tables_form.specs.Desk.{{Which, {', '.join(d[2] for d in DATA)}}}
 """
     for d in DATA:
         out += f"""
@@ -536,7 +536,7 @@ use Rattle.sqlite_tied.specs.Compute.{{everything}}
 use Rattle.brk_rows.specs.Desk.{{Makes}}
 use Rattle.brk_rows.proofs.Texts.{{read}}
 use Rattle.brk_rows.proofs.Created.{{makes}}
-use Rattle.brk_tables.specs.Shapes.{{{', '.join(d[0] for d in DATA)}}}
+use Rattle.brk_tables_form.specs.Shapes.{{{', '.join(d[0] for d in DATA)}}}
 """
     for d in DATA:
         out += f"""
@@ -582,9 +582,14 @@ all_probed = {'('.join(f'({d[0]}_probed, ' for d in DATA).replace('((','(')}tt{'
 
 # for each crate: its statements, each with its name, its table, and what it takes
 STATEMENTS = {
-    'brk_tables': [
+    'brk_tables_form': [
         (insert, 'AddDesk', 'desk_row', [('lit', 1), ('lit', 1), 'null']),
         (insert, 'AddKept', 'kept', [1, 2, 3, 4]),
+        (update, 'SetLast', 'desk_row', [('D_LAST', 1)], [('D_ID', 2)]),
+        (select, 'DeskRows', 'desk_row', [], [('D_ID', False)]),
+        (select, 'KeptByKey', 'kept', [('K_BATCH', 1), ('K_N', 2)], [('K_BATCH', False), ('K_N', False)]),
+    ],
+    'brk_tables_reference': [
         (insert, 'AddBroker', 'broker', [1, 2, ('lit', 0), ('lit', 0)]),
         (insert, 'AddCustomer', 'customer', [1, 2, 3, 4, 5]),
         (insert, 'AddAccount', 'account', [1, 2, 3, 4, 5, 6, 6]),
@@ -595,9 +600,6 @@ STATEMENTS = {
         (insert, 'AddBand', 'band', [1, 2, 3, 4, 5, 6]),
         (insert, 'AddTaxRate', 'tax_rate', [1, 2, 3]),
         (insert, 'AddCustomerTax', 'customer_tax', [1, 2]),
-        (update, 'SetLast', 'desk_row', [('D_LAST', 1)], [('D_ID', 2)]),
-        (select, 'DeskRows', 'desk_row', [], [('D_ID', False)]),
-        (select, 'KeptByKey', 'kept', [('K_BATCH', 1), ('K_N', 2)], [('K_BATCH', False), ('K_N', False)]),
         (select, 'BrokerById', 'broker', [('B_ID', 1)], [('B_ID', False)]),
         (select, 'CustomerById', 'customer', [('C_ID', 1)], [('C_ID', False)]),
         (select, 'CustomerByTaxId', 'customer', [('C_TAX_ID', 1)], [('C_ID', False)]),
@@ -611,7 +613,7 @@ STATEMENTS = {
         (select, 'BandsFor', 'band', [('CR_C_TIER', 1), ('CR_TT_ID', 2), ('CR_EX_ID', 3)], [('CR_C_TIER', False), ('CR_TT_ID', False), ('CR_EX_ID', False), ('CR_FROM_QTY', False)]),
         (select, 'CustomerTaxesOf', 'customer_tax', [('CX_C_ID', 1)], [('CX_C_ID', False), ('CX_TX_ID', False)]),
     ],
-    'brk_trades': [
+    'brk_tables_trading': [
         (insert, 'AddTrade', 'trade', [1, 2, 3, 4, 5, 6, 7, 8, 9, 10, 11, 12, 13, 14, 15]),
         (insert, 'AddTradeHistory', 'history', [1, 2, 3]),
         (insert, 'AddRequest', 'request', [1, 2, 3, 4, 5, 6]),
@@ -627,8 +629,6 @@ STATEMENTS = {
         (select, 'LotsOf', 'holding', [('H_CA_ID', 1), ('H_S_SYMB', 2)], [('H_DTS', False), ('H_T_ID', False)]),
         (select, 'SummaryOf', 'summary', [('HS_CA_ID', 1), ('HS_S_SYMB', 2)], [('HS_CA_ID', False), ('HS_S_SYMB', False)]),
         (select, 'SummariesOf', 'summary', [('HS_CA_ID', 1)], [('HS_CA_ID', False), ('HS_S_SYMB', False)]),
-    ],
-    'brk_results': [
         (insert, 'AddLot', 'holding', [1, 2, 3, 4, 5, 6]),
         (update, 'SetLot', 'holding', [('H_QTY', 1)], [('H_T_ID', 2)]),
         (delete, 'RemoveLot', 'holding', [('H_T_ID', 1)]),

@@ -8,12 +8,11 @@ ghost use Rattle.brk_commands.specs.Fields.{more_fields};
 ghost use Rattle.brk_money.specs.Kinds.{status_code};
 ghost use Rattle.brk_money.specs.Spelling as spelling;
 ghost use Rattle.brk_money.specs.declared.fault.Fault.TheVariants.{Memory};
-ghost use Rattle.brk_trade.specs.Replies.{completion_of, estimate_of, reply_of};
+ghost use Rattle.brk_plans.specs.Replies.{completion_of, estimate_of, reply_of};
 
 use crate::row::amount;
-use brk_estimates::Estimate;
 use brk_money::{Cents, Day, Fault, Id, Stamp, Wide, write_day};
-use brk_trade::{Completed, Ordered, Reply};
+use brk_trade::{Completed, Estimate, Ordered, Reply};
 use itoa::Buffer;
 use std::alloc::{AllocError, Global};
 

@@ -2,7 +2,7 @@
 #![tactic(auto, unfolding(brk_model::specs::Rows::row_fields))]
 
 ghost use Rattle.std.specs.Prelude.{◌≡◌, IfOk, OnErr, Err, pos, string_bytes};
-ghost use Rattle.brk_books.specs.Commands as books;
+ghost use Rattle.brk_trade_laws.specs.Commands as books;
 ghost use Rattle.brk_commands.specs.Commands.{command_of};
 ghost use Rattle.brk_model.specs.Commands.{AddAccount, AddBand, AddBroker, AddCharge, AddCustomer, AddCustomerTax, AddPermission, AddSecurity, AddTaxRate};
 ghost use Rattle.brk_model.specs.Rows as model;

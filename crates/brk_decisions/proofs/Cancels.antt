@@ -13,12 +13,12 @@ use Rattle.brk_model.specs.Joins.{trade_in}
 use Rattle.brk_model.specs.Sheets.{sheets}
 use Rattle.brk_model.specs.Tables.{Tables}
 use Rattle.brk_model.specs.Tests.{first_refusal}
-use Rattle.brk_trade.specs.Cancel.{IsCancel, cancel_tests}
-use Rattle.brk_trade.specs.Reference.{clock_test}
-use Rattle.brk_trade.specs.declared.plan.Plan.{Plan}
-use Rattle.brk_books.specs.Books.{IsBooks}
-use Rattle.brk_books.specs.TradePlans.{IsReadForCancel}
-use Rattle.brk_books.proofs.CancelPlanning.{cancel_plan_does, cancel_refused}
+use Rattle.brk_plans.specs.Cancel.{IsCancel, cancel_tests}
+use Rattle.brk_plans.specs.Reference.{clock_test}
+use Rattle.brk_plans.specs.declared.plan.Plan.{Plan}
+use Rattle.brk_trade_laws.specs.Books.{IsBooks}
+use Rattle.brk_trade_laws.specs.TradePlans.{IsReadForCancel}
+use Rattle.brk_trade_laws.proofs.CancelPlanning.{cancel_plan_does, cancel_refused}
 use Rattle.brk_store.specs.Holds.{IsRead}
 use Rattle.brk_decisions.specs.Decisions.{Decides}
 use Rattle.brk_decisions.proofs.Looking.{read_both}

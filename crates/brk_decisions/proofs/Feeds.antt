@@ -14,17 +14,17 @@ use Rattle.brk_model.specs.Tests.{first_refusal}
 use Rattle.brk_orders.specs.Records.{ticks_of}
 use Rattle.brk_orders.specs.declared.tick.Tick.{Tick}
 use Rattle.brk_ref.specs.Records.{last_trade_of}
-use Rattle.brk_trade.specs.Feed.{Held, IsFeed, feed_tests, held, is_of, lacks_quote}
-use Rattle.brk_trade.specs.Reference.{clock_test}
-use Rattle.brk_trade.specs.Rows.{request_row_of}
-use Rattle.brk_trade.specs.declared.plan.Plan.{Plan}
-use Rattle.brk_trade.specs.declared.quote.Quote.{Quote}
-use Rattle.brk_books.specs.Books.{IsBooks}
-use Rattle.brk_books.specs.TradePlans.{AreQuotes, IsReadForFeed}
-use Rattle.brk_books.specs.TradeReads.{last_trade_in, requests_of}
-use Rattle.brk_books.proofs.FeedPlanning.{feed_plan_does, feed_refused}
-use Rattle.brk_books.proofs.Quotes.{quoted_before, not_listed, quote_read}
-use Rattle.brk_books.proofs.Tested.{not_not}
+use Rattle.brk_plans.specs.Feed.{Held, IsFeed, feed_tests, held, is_of, lacks_quote}
+use Rattle.brk_plans.specs.Reference.{clock_test}
+use Rattle.brk_changes.specs.Rows.{request_row_of}
+use Rattle.brk_plans.specs.declared.plan.Plan.{Plan}
+use Rattle.brk_plans.specs.declared.quote.Quote.{Quote}
+use Rattle.brk_trade_laws.specs.Books.{IsBooks}
+use Rattle.brk_trade_laws.specs.TradePlans.{AreQuotes, IsReadForFeed}
+use Rattle.brk_trade_laws.specs.TradeReads.{last_trade_in, requests_of}
+use Rattle.brk_trade_laws.proofs.FeedPlanning.{feed_plan_does, feed_refused}
+use Rattle.brk_trade_laws.proofs.Quotes.{quoted_before, not_listed, quote_read}
+use Rattle.brk_trade_laws.proofs.Tested.{not_not}
 use Rattle.brk_decisions.specs.Decisions.{Decides}
 
 -- the quote of a symbol, where it has a last trade

@@ -3,7 +3,7 @@ use Rattle.std.proofs.Common.{◌≡◌, ◌≤◌, ◌∙◌, ℕ, List, Option
 use Rattle.std.specs.Prelude.{MatchResult, ◌∷◌, ◌++◌, [], Some}
 use Rattle.sqlite_trees.specs.declared.store.Store.{Ghosts}
 use Rattle.sqlite.specs.Held.{Held}
-use Rattle.brk_estimates.specs.declared.estimate.Estimate.{Estimate}
+use Rattle.brk_plans.specs.declared.estimate.Estimate.{Estimate}
 use Rattle.brk_lots.specs.Lots.{from_end}
 use Rattle.brk_lots.specs.declared.lot.Lot.{Lot}
 use Rattle.brk_model.specs.Base.{Base}
@@ -17,12 +17,12 @@ use Rattle.brk_money.specs.declared.refusal.Refusal.{Refusal}
 use Rattle.brk_orders.specs.Records.{order_of}
 use Rattle.brk_orders.specs.declared.order.Order.{Order}
 use Rattle.brk_trade.specs.Orders.{IsEstimated, IsOrdered, order_tests, trades_test}
-use Rattle.brk_trade.specs.Reference.{clock_test}
+use Rattle.brk_plans.specs.Reference.{clock_test}
 use Rattle.brk_trade.specs.declared.order.OrderFound.{OrderFound}
-use Rattle.brk_trade.specs.declared.plan.Plan.{Plan}
-use Rattle.brk_books.specs.Books.{IsBooks}
-use Rattle.brk_books.specs.OrderPlans.{AreLots, IsFoundForEstimate, IsFoundForOrder, IsReadForPlan}
-use Rattle.brk_books.proofs.OrderDoing.{estimate_answered, estimate_refused, estimate_told, order_refused, plan_order_does}
+use Rattle.brk_plans.specs.declared.plan.Plan.{Plan}
+use Rattle.brk_trade_laws.specs.Books.{IsBooks}
+use Rattle.brk_trade_laws.specs.OrderPlans.{AreLots, IsFoundForEstimate, IsFoundForOrder, IsReadForPlan}
+use Rattle.brk_trade_laws.proofs.OrderDoing.{estimate_answered, estimate_refused, estimate_told, order_refused, plan_order_does}
 use Rattle.brk_store.specs.Holds.{IsRead}
 use Rattle.brk_decisions.specs.Decisions.{Decides, Tells}
 use Rattle.brk_decisions.specs.Finds.{HeldLots}

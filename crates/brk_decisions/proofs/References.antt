@@ -10,15 +10,15 @@ use Rattle.brk_model.specs.Base.{Base}
 use Rattle.brk_model.specs.Sheets.{sheets}
 use Rattle.brk_model.specs.Tables.{Tables}
 use Rattle.brk_model.specs.Tests.{first_refusal}
-use Rattle.brk_trade.specs.Reference.{IsPlanned, clock_test, tests_of}
-use Rattle.brk_trade.specs.declared.plan.Plan.{Plan}
-use Rattle.brk_trade.specs.declared.reference.Found.{Found}
-use Rattle.brk_trade.specs.declared.reference.Reference.{Reference}
-use Rattle.brk_books.specs.Books.{IsBooks}
-use Rattle.brk_books.specs.Commands.{command_of}
-use Rattle.brk_books.specs.Plans.{IsRead as IsLookedUp}
-use Rattle.brk_books.specs.Reads.{IsFound}
-use Rattle.brk_books.proofs.Planning.{plan_does, refusal_does}
+use Rattle.brk_plans.specs.Reference.{IsPlanned, clock_test, tests_of}
+use Rattle.brk_plans.specs.declared.plan.Plan.{Plan}
+use Rattle.brk_plans.specs.declared.reference.Found.{Found}
+use Rattle.brk_plans.specs.declared.reference.Reference.{Reference}
+use Rattle.brk_trade_laws.specs.Books.{IsBooks}
+use Rattle.brk_trade_laws.specs.Commands.{command_of}
+use Rattle.brk_trade_laws.specs.Plans.{IsRead as IsLookedUp}
+use Rattle.brk_trade_laws.specs.Reads.{IsFound}
+use Rattle.brk_trade_laws.proofs.Planning.{plan_does, refusal_does}
 use Rattle.brk_store.specs.Holds.{IsRead}
 use Rattle.brk_decisions.specs.Decisions.{Decides}
 use Rattle.brk_decisions.proofs.Looking.{read_both}

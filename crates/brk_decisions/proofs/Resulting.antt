@@ -15,11 +15,11 @@ use Rattle.brk_money.specs.declared.fault.Fault.{Fault}
 use Rattle.brk_money.specs.declared.refusal.Refusal.{Refusal}
 use Rattle.brk_trade.specs.Results.{IsCompleted, IsRefused}
 use Rattle.brk_trade.specs.declared.outcome.ResultFound.{ResultFound}
-use Rattle.brk_trade.specs.declared.plan.Plan.{Plan}
-use Rattle.brk_books.specs.Books.{IsBooks}
-use Rattle.brk_books.specs.ResultPlans.{AreLotsOfTrade, IsFoundForResult, IsReadForResult}
-use Rattle.brk_books.proofs.ResultDoing.{result_plan_does}
-use Rattle.brk_books.proofs.ResultRefusing.{result_refused}
+use Rattle.brk_plans.specs.declared.plan.Plan.{Plan}
+use Rattle.brk_trade_laws.specs.Books.{IsBooks}
+use Rattle.brk_trade_laws.specs.ResultPlans.{AreLotsOfTrade, IsFoundForResult, IsReadForResult}
+use Rattle.brk_trade_laws.proofs.ResultDoing.{result_plan_does}
+use Rattle.brk_trade_laws.proofs.ResultRefusing.{result_refused}
 use Rattle.brk_store.specs.Holds.{IsRead}
 use Rattle.brk_decisions.specs.Decisions.{Decides}
 use Rattle.brk_decisions.specs.ResultFinds.{IsFoundAt, IsFoundOf, found_in, lots_met}

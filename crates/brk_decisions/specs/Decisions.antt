@@ -10,12 +10,12 @@ use Rattle.brk_model.specs.Rows.{estimate_fields}
 use Rattle.brk_model.specs.Sheets.{sheets}
 use Rattle.brk_model.specs.Step.{step}
 use Rattle.brk_model.specs.Tables.{Tables}
-use Rattle.brk_estimates.specs.Estimates.{told}
-use Rattle.brk_estimates.specs.declared.estimate.Estimate.{Estimate}
-use Rattle.brk_trade.specs.Replies.{estimate_of}
-use Rattle.brk_trade.specs.declared.plan.Plan.{Plan}
-use Rattle.brk_books.specs.Books.{IsBooks}
-use Rattle.brk_books.specs.Plans.{DoesCommand}
+use Rattle.brk_plans.specs.Replies.{told}
+use Rattle.brk_plans.specs.declared.estimate.Estimate.{Estimate}
+use Rattle.brk_plans.specs.Replies.{estimate_of}
+use Rattle.brk_plans.specs.declared.plan.Plan.{Plan}
+use Rattle.brk_trade_laws.specs.Books.{IsBooks}
+use Rattle.brk_trade_laws.specs.Plans.{DoesCommand}
 
 -- where the rows are the tables of a base in order, a command at a moment is decided on as its step is: its plan does it, or it is refused for the same reason
 abbrev pub Decides : ℕ → Command → Result Plan Refusal → Tables → Type 0

@@ -10,13 +10,13 @@ use Rattle.brk_orders.specs.declared.order.Order.{Order}
 use Rattle.brk_ref.specs.Records.{customer_of, executor_of}
 use Rattle.brk_ref.specs.declared.account.AccountRow.{AccountRow}
 use Rattle.brk_ref.specs.declared.customer.Customer.{Customer}
-use Rattle.brk_tables.specs.Records.{account_row_of}
-use Rattle.brk_trade.specs.Rows.{holding_row_of}
+use Rattle.brk_tables_form.specs.Records.{account_row_of}
+use Rattle.brk_changes.specs.Rows.{holding_row_of}
 use Rattle.brk_trade.specs.declared.order.OrderFound.{OrderFound}
-use Rattle.brk_trade.specs.declared.holding_row.HoldingRow.{HoldingRow}
-use Rattle.brk_books.specs.OrderPlans.{IsFoundForEstimate, charge_in, last_price_in, lot_in}
-use Rattle.brk_books.specs.Reads.{rates_of}
-use Rattle.brk_books.specs.TradeReads.{band_in, lots_in, permission_in}
+use Rattle.brk_changes.specs.declared.holding_row.HoldingRow.{HoldingRow}
+use Rattle.brk_trade_laws.specs.OrderPlans.{IsFoundForEstimate, charge_in, last_price_in, lot_in}
+use Rattle.brk_trade_laws.specs.Reads.{rates_of}
+use Rattle.brk_trade_laws.specs.TradeReads.{band_in, lots_in, permission_in}
 use Rattle.brk_decisions.specs.declared.tested.Tested.{Tested}
 use Rattle.brk_decisions.specs.declared.amounts.Amounts.{Amounts}
 

@@ -10,14 +10,14 @@ use Rattle.brk_money.specs.declared.status.Status.TheVariants.{Submitted}
 use Rattle.brk_ref.specs.Records.{security_of}
 use Rattle.brk_ref.specs.declared.account.AccountRow as ref
 use Rattle.brk_ref.specs.declared.security.Security.{Security}
-use Rattle.brk_tables.specs.Records.{account_row_of}
-use Rattle.brk_trade.specs.Rows.{trade_row_of}
-use Rattle.brk_trade.specs.declared.outcome.BrokerNumbers.{BrokerNumbers}
+use Rattle.brk_tables_form.specs.Records.{account_row_of}
+use Rattle.brk_changes.specs.Rows.{trade_row_of}
+use Rattle.brk_changes.specs.declared.broker_numbers.BrokerNumbers.{BrokerNumbers}
 use Rattle.brk_trade.specs.declared.outcome.ResultFound.{ResultFound}
-use Rattle.brk_trade.specs.declared.trade_row.TradeRow.{TradeRow}
-use Rattle.brk_books.specs.Reads.{rates_of}
-use Rattle.brk_books.specs.ResultPlans.{IsFoundForResult, PassesFirst, result_account}
-use Rattle.brk_books.specs.TradeReads.{band_in, summary_in}
+use Rattle.brk_changes.specs.declared.trade_row.TradeRow.{TradeRow}
+use Rattle.brk_trade_laws.specs.Reads.{rates_of}
+use Rattle.brk_trade_laws.specs.ResultPlans.{IsFoundForResult, PassesFirst, result_account}
+use Rattle.brk_trade_laws.specs.TradeReads.{band_in, summary_in}
 use Rattle.brk_decisions.specs.Finds.{HeldLots}
 use Rattle.brk_decisions.specs.declared.parties.Parties.{Parties}
 use Rattle.brk_decisions.specs.declared.result_finding.Holding.{Holding}

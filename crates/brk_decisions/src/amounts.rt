@@ -1,12 +1,12 @@
 //! The amounts that an account's orders are estimated by.
 
 ghost use Rattle.std.specs.Prelude.{◌≡◌, ◌+ℤ◌, ◌*ℤ◌, IfErr, IfSome, pos};
-ghost use Rattle.brk_books.specs.Reads.{rates_of};
+ghost use Rattle.brk_trade_laws.specs.Reads.{rates_of};
 ghost use Rattle.brk_decisions.specs.Finds.{AreAmounts, worth_in, worth_of};
 ghost use Rattle.brk_model.specs.Joins.{price_in};
 ghost use Rattle.brk_model.specs.Run.{MayFail};
 ghost use Rattle.brk_store.specs.Holds.{IsRead};
-ghost use Rattle.brk_trade.specs.Rows.{summary_row_of};
+ghost use Rattle.brk_changes.specs.Rows.{summary_row_of};
 
 use crate::terms::sum_rates;
 use crate::tested::find_price;

@@ -7,11 +7,10 @@ ghost use Rattle.brk_orders.specs.Records.{order_of};
 ghost use Rattle.brk_store.specs.Holds.{IsRead};
 
 use crate::order_finding::{find_for_estimate, find_position};
-use brk_estimates::Estimate;
 use brk_money::Planned;
 use brk_orders::Order;
 use brk_store::Store;
-use brk_trade::plan_estimate;
+use brk_trade::{Estimate, plan_estimate};
 use sqlite::Alter;
 use std::alloc::Global;
 

@@ -1,16 +1,16 @@
 //! Feeds of the market, decided on.
 
 ghost use Rattle.std.specs.Prelude.{◌≡◌, IfErr, IfSome, map, option_map};
-ghost use Rattle.brk_books.specs.TradePlans.{AreQuotes};
-ghost use Rattle.brk_books.specs.TradeReads.{last_trade_in, requests_of};
+ghost use Rattle.brk_trade_laws.specs.TradePlans.{AreQuotes};
+ghost use Rattle.brk_trade_laws.specs.TradeReads.{last_trade_in, requests_of};
 ghost use Rattle.brk_decisions.specs.Decisions.{Decides};
 ghost use Rattle.brk_model.specs.Commands.{FeedTicks};
 ghost use Rattle.brk_model.specs.Run.{MayFail};
 ghost use Rattle.brk_orders.specs.Records.{ticks_of};
 ghost use Rattle.brk_ref.specs.Records.{last_trade_of};
 ghost use Rattle.brk_store.specs.Holds.{IsRead};
-ghost use Rattle.brk_trade.specs.Feed.{held};
-ghost use Rattle.brk_trade.specs.Rows.{request_row_of};
+ghost use Rattle.brk_plans.specs.Feed.{held};
+ghost use Rattle.brk_changes.specs.Rows.{request_row_of};
 
 use brk_money::{Fault, Planned, Stamp};
 use brk_orders::{Feed, Tick};

@@ -1,7 +1,7 @@
 //! What the tables hold that decides on an order.
 
 ghost use Rattle.std.specs.Prelude.{◌≡◌, IfErr, IfOk, map};
-ghost use Rattle.brk_books.specs.OrderPlans.{IsFoundForEstimate, IsFoundForOrder, lot_in};
+ghost use Rattle.brk_trade_laws.specs.OrderPlans.{IsFoundForEstimate, IsFoundForOrder, lot_in};
 ghost use Rattle.brk_decisions.specs.Finds.{HeldLots, IsCustomer, IsFoundOf, found_of, nothing};
 ghost use Rattle.brk_model.specs.Run.{MayFail};
 ghost use Rattle.brk_store.specs.Holds.{IsRead};

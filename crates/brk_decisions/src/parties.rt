@@ -5,7 +5,7 @@ ghost use Rattle.brk_decisions.specs.ResultFinds.{AreNumbers, AreParties, IsAcco
 ghost use Rattle.brk_model.specs.Joins.{account_in};
 ghost use Rattle.brk_model.specs.Run.{MayFail};
 ghost use Rattle.brk_store.specs.Holds.{IsRead};
-ghost use Rattle.brk_tables.specs.Records.{account_row_of};
+ghost use Rattle.brk_tables_form.specs.Records.{account_row_of};
 
 use crate::amounts::find_rates;
 use crate::order_finding::known_customer;

@@ -2,7 +2,7 @@
 
 ghost use Rattle.std.specs.Prelude.{◌≡◌, ◌≢◌, ◌<◌, ◌↔◌, IfErr, IfOk, IfSome, IsTrue, option_map};
 ghost use Rattle.std.specs.List.{All};
-ghost use Rattle.brk_books.specs.TradeReads.{summary_in};
+ghost use Rattle.brk_trade_laws.specs.TradeReads.{summary_in};
 ghost use Rattle.brk_decisions.specs.Finds.{HeldLots};
 ghost use Rattle.brk_decisions.specs.ResultFinds.{IsFoundAt, IsFoundOf, IsHolding, IsListedAs, IsSecurity};
 ghost use Rattle.brk_lots.specs.Position.{IsNew};

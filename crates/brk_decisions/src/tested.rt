@@ -1,8 +1,8 @@
 //! What an order of an account that is there is tested for.
 
 ghost use Rattle.std.specs.Prelude.{◌≡◌, IfErr, IfSome, option_map};
-ghost use Rattle.brk_books.specs.OrderPlans.{charge_in, last_price_in};
-ghost use Rattle.brk_books.specs.TradeReads.{band_in, permission_in};
+ghost use Rattle.brk_trade_laws.specs.OrderPlans.{charge_in, last_price_in};
+ghost use Rattle.brk_trade_laws.specs.TradeReads.{band_in, permission_in};
 ghost use Rattle.brk_decisions.specs.Finds.{AreTested};
 ghost use Rattle.brk_model.specs.Joins.{security_in};
 ghost use Rattle.brk_model.specs.Orders.{permitted};

@@ -2,8 +2,8 @@
 use Rattle.std.proofs.Common.{◌≡◌, ◌∙◌, List, [], ◌∷◌, Result, Ok, Err, IfErr, refl, sym, ap, filter, map}
 use Rattle.sqlite_trees.specs.declared.store.Store.{Ghosts}
 use Rattle.sqlite.specs.Held.{Held, state}
-use Rattle.brk_estimates.specs.Estimates.{told}
-use Rattle.brk_estimates.specs.declared.estimate.Estimate.{Estimate}
+use Rattle.brk_plans.specs.Replies.{told}
+use Rattle.brk_plans.specs.declared.estimate.Estimate.{Estimate}
 use Rattle.brk_money.specs.Kinds.{same_status}
 use Rattle.brk_money.specs.declared.fault.Fault.{Fault}
 use Rattle.brk_money.specs.declared.refusal.Refusal.{Refusal}
@@ -18,9 +18,9 @@ use Rattle.brk_model.specs.Sheets.{sheets, sheets_of}
 use Rattle.brk_model.specs.StatusView.{submitted_view}
 use Rattle.brk_model.specs.Tables.{Tables, tables_of}
 use Rattle.brk_model.specs.Views.{view_of}
-use Rattle.brk_trade.specs.Replies.{estimate_of}
-use Rattle.brk_trade.specs.Rows.{trade_row_of}
-use Rattle.brk_trade.specs.declared.trade_row.TradeRow.{TradeRow}
+use Rattle.brk_plans.specs.Replies.{estimate_of}
+use Rattle.brk_changes.specs.Rows.{trade_row_of}
+use Rattle.brk_changes.specs.declared.trade_row.TradeRow.{TradeRow}
 use Rattle.brk_view.specs.Views.{estimate_record, fields_of, is_submitted}
 use Rattle.brk_view.specs.declared.view.View.{View}
 use Rattle.brk_view.specs.declared.view.View.TheVariants as views

@@ -14,12 +14,12 @@ use Rattle.brk_model.specs.Tests.{next_stamp}
 use Rattle.brk_model.specs.Records.{Key, Kept}
 use Rattle.brk_model.specs.Run.{MayFail}
 use Rattle.brk_model.specs.Keyed.{acted, keeping, repeated}
-use Rattle.brk_trade.specs.Changes.{after_changes}
-use Rattle.brk_trade.specs.declared.plan.Plan.{Plan}
+use Rattle.brk_changes.specs.Changes.{after_changes}
+use Rattle.brk_plans.specs.declared.plan.Plan.{Plan}
 use Rattle.brk_rows.proofs.Inside.{clean_before}
-use Rattle.brk_trade.specs.Replies.{reply_of}
-use Rattle.brk_books.specs.Plans.{DoesCommand, base_then}
-use Rattle.brk_books.proofs.Keepers.{books_kept}
+use Rattle.brk_plans.specs.Replies.{reply_of}
+use Rattle.brk_trade_laws.specs.Plans.{DoesCommand, base_then}
+use Rattle.brk_trade_laws.proofs.Keepers.{books_kept}
 use Rattle.brk_store.specs.Holds.{Holds, IsApplied, IsRead}
 use Rattle.brk_decisions.specs.Decisions.{Decides}
 use Rattle.brk_decisions.proofs.Looking.{same_then}

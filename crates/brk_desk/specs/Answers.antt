@@ -5,7 +5,7 @@ use Rattle.brk_money.specs.declared.refusal.Refusal.{Refusal}
 use Rattle.brk_model.specs.Commands.{Answer, Done, Again, Refused}
 use Rattle.brk_model.specs.Queries as model
 use Rattle.brk_model.specs.Run as run
-use Rattle.brk_trade.specs.Replies.{reply_of}
+use Rattle.brk_plans.specs.Replies.{reply_of}
 use Rattle.brk_view.specs.Views.{fields_of}
 use Rattle.brk_view.specs.declared.view.View.{View}
 use Rattle.brk_desk.specs.declared.answer.Answer as desk

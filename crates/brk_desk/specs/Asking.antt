@@ -6,7 +6,7 @@ use Rattle.brk_model.specs.Base.{Base}
 use Rattle.brk_model.specs.Queries.{Query}
 use Rattle.brk_model.specs.Sheets.{sheets}
 use Rattle.brk_model.specs.Tables.{Tables}
-use Rattle.brk_books.specs.Books.{IsBooks}
+use Rattle.brk_trade_laws.specs.Books.{IsBooks}
 use Rattle.brk_view.specs.declared.view.View.{View}
 use Rattle.brk_desk.specs.Answers.{seen_of}
 

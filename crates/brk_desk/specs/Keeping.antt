@@ -13,7 +13,7 @@ use Rattle.brk_model.specs.Records.{Key}
 use Rattle.brk_model.specs.Keyed.{keyed_step}
 use Rattle.brk_model.specs.Queries.{Query}
 use Rattle.brk_model.specs.Run.{MayFail, Run}
-use Rattle.brk_books.specs.Books.{IsBooks}
+use Rattle.brk_trade_laws.specs.Books.{IsBooks}
 use Rattle.brk_store.specs.Holds.{Holds, IsSame}
 use Rattle.brk_view.specs.Queries.{query_of}
 use Rattle.brk_view.specs.declared.view.View.{View}

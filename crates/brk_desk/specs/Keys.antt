@@ -6,11 +6,11 @@ use Rattle.brk_money.specs.declared.fault.Fault.{Fault}
 use Rattle.brk_model.specs.Commands.{Command, Reply}
 use Rattle.brk_model.specs.Records.{Key, Kept}
 use Rattle.brk_model.specs.Tables.{Tables}
-use Rattle.brk_books.specs.Plans.{kept_row}
+use Rattle.brk_trade_laws.specs.Plans.{kept_row}
 use Rattle.brk_ref.specs.Records.{kept_of}
 use Rattle.brk_ref.specs.declared.key.Kept as row
 use Rattle.brk_store.specs.Holds.{IsRead}
-use Rattle.brk_trade.specs.Changes.{with_kept}
+use Rattle.brk_changes.specs.Changes.{with_kept}
 
 -- the row that is kept under a key, if there is a key
 abbrev pub kept_in : Tables → Option Key → Option Kept

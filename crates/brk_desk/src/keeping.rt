@@ -11,8 +11,8 @@ ghost use Rattle.brk_model.specs.Keyed.{repeated};
 ghost use Rattle.brk_model.specs.Run.{MayFail};
 ghost use Rattle.brk_model.specs.Tables.{Tables};
 ghost use Rattle.brk_money.specs.declared.fault.Fault.TheVariants.{Memory};
-ghost use Rattle.brk_trade.specs.Changes.{after_changes};
-ghost use Rattle.brk_trade.specs.Replies.{reply_of};
+ghost use Rattle.brk_changes.specs.Changes.{after_changes};
+ghost use Rattle.brk_plans.specs.Replies.{reply_of};
 ghost use Rattle.brk_ref.specs.Records.{kept_of};
 
 use crate::answer::Answer;

@@ -6,6 +6,7 @@ pub mod Counts
 pub mod Plain
 pub mod Deals
 pub mod Upon
+pub mod Closed
 pub mod Left
 pub mod Books
 pub mod Chains

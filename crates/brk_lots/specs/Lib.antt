@@ -5,4 +5,5 @@ pub mod Deals
 pub mod Books
 pub mod Chains
 pub mod Walks
+pub mod Values
 pub mod Order

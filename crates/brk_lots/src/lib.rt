@@ -11,6 +11,7 @@ pub mod position;
 mod remaining;
 pub mod replay;
 pub mod source;
+pub mod values;
 
 pub use closing::{Closing, close};
 pub use deal::Deal;
@@ -18,6 +19,7 @@ pub use end::PositionEnd;
 pub use lot::{Lot, Touch, is_same};
 pub use position::Position;
 pub use source::LotSource;
+pub use values::{Values, estimate_values};
 
 #[cfg(test)]
 mod slow_tests;

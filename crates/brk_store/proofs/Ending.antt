@@ -15,8 +15,8 @@ use Rattle.brk_rows.specs.Model.{IsStep, Looks}
 use Rattle.brk_rows.proofs.Inside.{clean_before, commits_all, commits_crash}
 use Rattle.brk_money.specs.declared.fault.Fault.{Fault}
 use Rattle.brk_money.specs.declared.fault.Fault.TheVariants.{Store}
-use Rattle.brk_tables.specs.Desk.{desk}
-use Rattle.brk_tables.specs.Made.{HasRows, has_table_of_desk}
+use Rattle.brk_tables_form.specs.Desk.{desk}
+use Rattle.brk_tables_form.specs.Made.{HasRows, has_table_of_desk}
 use Rattle.brk_store.specs.Holds.{Holds, IsSame, IsRead, IsApplied, IsCreated}
 
 abbrev pub begun : {S : Type 0} → Held S → Held S

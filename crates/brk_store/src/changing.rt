@@ -6,12 +6,12 @@ ghost use Rattle.brk_money.specs.declared.fault.Fault.TheVariants as fault;
 ghost use Rattle.sqlite.specs.Held.{state};
 ghost use Rattle.brk_rows.specs.Desk.{Turns};
 ghost use Rattle.brk_rows.specs.Model.{IsStep};
-ghost use Rattle.brk_tables.specs.Desk.{desk};
-ghost use Rattle.brk_trade.specs.Changes.{after_change, after_changes};
+ghost use Rattle.brk_tables_form.specs.Desk.{desk};
+ghost use Rattle.brk_changes.specs.Changes.{after_change, after_changes};
 ghost use Rattle.brk_store.specs.Holds.{IsApplied, IsCreated};
 
+use brk_changes::Change;
 use brk_money::{Condition, Fault};
-use brk_trade::Change;
 use sqlite::{Alter, Connection, Transaction};
 
 // Makes one change of one row.
@@ -31,40 +31,40 @@ fn make<S: Alter>(tx: &mut Transaction<'_, S>, change: &Change) -> Result<(), Fa
         Change::AddBand(band) => brk_tables::add_band(tx, band),
         Change::AddTaxRate(tax) => brk_tables::add_tax_rate(tx, tax),
         Change::AddCustomerTax(pays) => brk_tables::add_customer_tax(tx, pays),
-        Change::AddTrade(trade) => brk_trades::add_trade(tx, trade),
+        Change::AddTrade(trade) => brk_tables::add_trade(tx, trade),
         Change::SetStatus {
             trade,
             status,
             stamp,
-        } => brk_trades::set_status(tx, *trade, *status, *stamp),
-        Change::AddHistory(mark) => brk_trades::add_trade_history(tx, mark),
-        Change::AddRequest(request) => brk_trades::add_request(tx, request),
-        Change::RemoveRequest(trade) => brk_trades::remove_request(tx, *trade),
-        Change::SetLastTrade(last_trade) => brk_trades::set_last_trade(tx, last_trade),
+        } => brk_tables::set_status(tx, *trade, *status, *stamp),
+        Change::AddHistory(mark) => brk_tables::add_trade_history(tx, mark),
+        Change::AddRequest(request) => brk_tables::add_request(tx, request),
+        Change::RemoveRequest(trade) => brk_tables::remove_request(tx, *trade),
+        Change::SetLastTrade(last_trade) => brk_tables::set_last_trade(tx, last_trade),
         Change::CompleteTrade {
             trade,
             stamp,
             price,
             commission,
             tax,
-        } => brk_trades::complete_trade(tx, *trade, *stamp, *price, *commission, *tax),
-        Change::AddLot(lot) => brk_results::add_lot(tx, lot),
-        Change::SetLot { trade, qty } => brk_results::set_lot(tx, *trade, *qty),
-        Change::RemoveLot(trade) => brk_results::remove_lot(tx, *trade),
-        Change::AddLotChange(made) => brk_results::add_lot_change(tx, made),
-        Change::AddSummary(summary) => brk_results::add_summary(tx, summary),
-        Change::SetSummary(summary) => brk_results::set_summary(tx, summary),
-        Change::RemoveSummary { account, symbol } => brk_results::remove_summary(
+        } => brk_tables::complete_trade(tx, *trade, *stamp, *price, *commission, *tax),
+        Change::AddLot(lot) => brk_tables::add_lot(tx, lot),
+        Change::SetLot { trade, qty } => brk_tables::set_lot(tx, *trade, *qty),
+        Change::RemoveLot(trade) => brk_tables::remove_lot(tx, *trade),
+        Change::AddLotChange(made) => brk_tables::add_lot_change(tx, made),
+        Change::AddSummary(summary) => brk_tables::add_summary(tx, summary),
+        Change::SetSummary(summary) => brk_tables::set_summary(tx, summary),
+        Change::RemoveSummary { account, symbol } => brk_tables::remove_summary(
             tx, *account, symbol,
         ),
-        Change::AddSettlement(settlement) => brk_results::add_settlement(tx, settlement),
-        Change::AddCash(cash) => brk_results::add_cash(tx, cash),
-        Change::SetBalance { account, balance } => brk_results::set_balance(tx, *account, *balance),
+        Change::AddSettlement(settlement) => brk_tables::add_settlement(tx, settlement),
+        Change::AddCash(cash) => brk_tables::add_cash(tx, cash),
+        Change::SetBalance { account, balance } => brk_tables::set_balance(tx, *account, *balance),
         Change::SetBrokerNumbers {
             broker,
             trades,
             commissions,
-        } => brk_results::set_broker_numbers(tx, *broker, *trades, *commissions),
+        } => brk_tables::set_broker_numbers(tx, *broker, *trades, *commissions),
         Change::Keep(kept) => brk_tables::add_kept(tx, kept),
         Change::SetLast(stamp) => brk_tables::set_last_stamp(tx, *stamp),
     }

@@ -6,9 +6,9 @@ ghost use Rattle.brk_store.specs.Holds.{IsRead};
 ghost use Rattle.brk_store.specs.Numbers.{AreNumbers};
 
 use crate::reading::{read_account, read_broker};
+use brk_changes::{Amount, BrokerNumbers, TradeCount};
 use brk_money::{Cents, Fault, Id};
 use brk_ref::BrokerRow;
-use brk_trade::{Amount, BrokerNumbers, TradeCount};
 use sqlite::{Alter, Connection};
 
 pub(crate) fn read_balance<S: Alter>(

@@ -4,7 +4,7 @@ ghost use Rattle.std.specs.Prelude.{◌≡◌, ◌==◌, Err, IfErr, OnErr, byte
 ghost use Rattle.brk_money.specs.declared.fault.Fault.TheVariants as fault;
 ghost use Rattle.brk_model.specs.Run.{MayFail};
 ghost use Rattle.brk_ref.specs.Records.{customer_of};
-ghost use Rattle.brk_tables.specs.Records.{account_row_of, broker_row_of};
+ghost use Rattle.brk_tables_form.specs.Records.{account_row_of, broker_row_of};
 ghost use Rattle.brk_store.specs.Holds.{IsRead};
 
 use brk_money::{Fault, Id, Stamp};

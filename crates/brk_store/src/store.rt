@@ -12,12 +12,12 @@ use crate::trades::{
     read_last_trade, read_last_trade_id, read_lots_of, read_requests_of, read_submitted_trades,
     read_summaries_of, read_summary_of, read_trade,
 };
+use brk_changes::{BrokerNumbers, Change, HoldingRow, RequestRow, SummaryRow, TradeRow};
 use brk_money::{Cents, Fault, Id, Stamp, TradeType};
 use brk_ref::{
     AccountRow, Band, BrokerRow, Charge, Customer, CustomerTax, Exchange, Kept, Key, LastTrade,
     Permission, Security, Symbol, Tax, TaxId, Tier,
 };
-use brk_trade::{BrokerNumbers, Change, HoldingRow, RequestRow, SummaryRow, TradeRow};
 use sqlite::{Alter, Connection};
 use std::alloc::Global;
 use std::marker::Model;
@@ -55,9 +55,9 @@ impl<S: Alter> Store<S> {
     ghost use Rattle.brk_money.specs.Kinds.{same_status, same_type};
     ghost use Rattle.brk_money.specs.declared.status.Status.TheVariants.{Submitted};
     ghost use Rattle.brk_ref.specs.Records.{band_of, charge_of, customer_of, customer_tax_of, kept_of, last_trade_of, permission_of, security_of, tax_of};
-    ghost use Rattle.brk_tables.specs.Records.{account_row_of, broker_row_of};
-    ghost use Rattle.brk_trade.specs.Changes.{after_changes};
-    ghost use Rattle.brk_trade.specs.Rows.{holding_row_of, oldest_lots_first, request_row_of, summary_row_of, trade_row_of};
+    ghost use Rattle.brk_tables_form.specs.Records.{account_row_of, broker_row_of};
+    ghost use Rattle.brk_changes.specs.Changes.{after_changes};
+    ghost use Rattle.brk_changes.specs.Rows.{holding_row_of, oldest_lots_first, request_row_of, summary_row_of, trade_row_of};
     ghost use Rattle.brk_store.specs.Holds.{IsApplied, IsCreated, IsRead};
     ghost use Rattle.brk_store.specs.Numbers.{AreNumbers};
 

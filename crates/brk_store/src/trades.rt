@@ -6,12 +6,12 @@ ghost use Rattle.brk_money.specs.declared.fault.Fault.TheVariants.{Store};
 ghost use Rattle.brk_money.specs.declared.status.Status.TheVariants.{Submitted};
 ghost use Rattle.brk_model.specs.Run.{MayFail};
 ghost use Rattle.brk_ref.specs.Records.{last_trade_of};
-ghost use Rattle.brk_trade.specs.Rows.{holding_row_of, oldest_lots_first, request_row_of, summary_row_of, trade_row_of};
+ghost use Rattle.brk_changes.specs.Rows.{holding_row_of, oldest_lots_first, request_row_of, summary_row_of, trade_row_of};
 ghost use Rattle.brk_store.specs.Holds.{IsRead};
 
+use brk_changes::{HoldingRow, RequestRow, SummaryRow, TradeRow};
 use brk_money::{Fault, Id};
 use brk_ref::{LastTrade, Symbol};
-use brk_trade::{HoldingRow, RequestRow, SummaryRow, TradeRow};
 use sqlite::{Alter, Connection};
 use std::alloc::Global;
 
@@ -26,7 +26,7 @@ pub(crate) fn read_trade<S: Alter>(
 {
     let _settled = conn.is_autocommit();
     let mut tx = conn.transaction();
-    brk_trades::trade_by_id(&mut tx, id)
+    brk_tables::trade_by_id(&mut tx, id)
 }
 
 pub(crate) fn read_last_trade_id<S: Alter>(conn: &mut Connection<S>) -> Result<Option<Id>, Fault>
@@ -37,7 +37,7 @@ pub(crate) fn read_last_trade_id<S: Alter>(conn: &mut Connection<S>) -> Result<O
 {
     let _settled = conn.is_autocommit();
     let mut tx = conn.transaction();
-    brk_trades::last_trade_id(&mut tx)
+    brk_tables::last_trade_id(&mut tx)
 }
 
 pub(crate) fn read_submitted_trades<S: Alter>(
@@ -51,7 +51,7 @@ pub(crate) fn read_submitted_trades<S: Alter>(
 {
     let _settled = conn.is_autocommit();
     let mut tx = conn.transaction();
-    brk_trades::submitted_trades(&mut tx, alloc)
+    brk_tables::submitted_trades(&mut tx, alloc)
 }
 
 pub(crate) fn read_requests_of<S: Alter>(
@@ -66,7 +66,7 @@ pub(crate) fn read_requests_of<S: Alter>(
 {
     let _settled = conn.is_autocommit();
     let mut tx = conn.transaction();
-    brk_trades::requests_of(&mut tx, alloc, symbol)
+    brk_tables::requests_of(&mut tx, alloc, symbol)
 }
 
 pub(crate) fn read_last_trade<S: Alter>(
@@ -80,7 +80,7 @@ pub(crate) fn read_last_trade<S: Alter>(
 {
     let _settled = conn.is_autocommit();
     let mut tx = conn.transaction();
-    brk_trades::last_trade_by_symbol(&mut tx, symbol)
+    brk_tables::last_trade_by_symbol(&mut tx, symbol)
 }
 
 pub(crate) fn read_lots_of<S: Alter>(
@@ -96,7 +96,7 @@ pub(crate) fn read_lots_of<S: Alter>(
 {
     let _settled = conn.is_autocommit();
     let mut tx = conn.transaction();
-    brk_trades::lots_of(&mut tx, alloc, account, symbol)
+    brk_tables::lots_of(&mut tx, alloc, account, symbol)
 }
 
 pub(crate) fn read_summaries_of<S: Alter>(
@@ -111,7 +111,7 @@ pub(crate) fn read_summaries_of<S: Alter>(
 {
     let _settled = conn.is_autocommit();
     let mut tx = conn.transaction();
-    brk_trades::summaries_of(&mut tx, alloc, account)
+    brk_tables::summaries_of(&mut tx, alloc, account)
 }
 
 pub(crate) fn read_summary_of<S: Alter>(
@@ -126,5 +126,5 @@ pub(crate) fn read_summary_of<S: Alter>(
 {
     let _settled = conn.is_autocommit();
     let mut tx = conn.transaction();
-    brk_trades::summary_of(&mut tx, account, symbol)
+    brk_tables::summary_of(&mut tx, account, symbol)
 }

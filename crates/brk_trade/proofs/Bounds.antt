@@ -1,8 +1,8 @@
 -- Commissions and taxes of trades within their limits.
 use Rattle.std.proofs.Common.{ℕ, ◌*◌, ◌^◌, ◌≤◌, ℤ, pos, negsuc, ◌-ℤ◌, ◌≤ℤ◌, arith, mul-le-mul}
 use Rattle.std.proofs.lemmas.Int.{ints}
-use Rattle.brk_estimates.specs.Estimates.{tax_at}
-use Rattle.brk_estimates.specs.declared.values.Values.{Values}
+use Rattle.brk_trade.specs.Estimates.{tax_at}
+use Rattle.brk_lots.specs.declared.values.Values.{Values}
 use Rattle.brk_money.specs.Amounts.{commission, half_up, tax}
 use Rattle.brk_money.specs.declared.tax_status.TaxStatus.{TaxStatus}
 use Rattle.brk_money.specs.declared.tax_status.TaxStatus.TheVariants.{Untaxed, Withheld, Reported}

@@ -1,4 +1,3 @@
 pub mod Bounds
-pub mod Refusals
+pub mod Estimating
 pub mod Results
-pub mod Volumes

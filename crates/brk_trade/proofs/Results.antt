@@ -1,7 +1,7 @@
 -- What a result comes to does not hang on the moment, and what is closed tells it.
 use Rattle.std.proofs.Common.{◌≡◌, ℕ, Bool, true, false, List, [], ◌∷◌, ◌++◌, length, refl, sym, ap, ◌∙◌, Some, None}
 use Rattle.std.proofs.lemmas.List.{append_assoc, length-map, length-reverse}
-use Rattle.brk_estimates.specs.Estimates.{values_of}
+use Rattle.brk_lots.specs.Values.{values_of}
 use Rattle.brk_lots.specs.Closing.{IsClosing}
 use Rattle.brk_lots.specs.Lots.{from_end, plain_touch, shares_of}
 use Rattle.brk_lots.specs.declared.closing.Closing.{Closing}
@@ -14,7 +14,7 @@ use Rattle.brk_money.specs.declared.side.Side.{Side}
 use Rattle.brk_money.specs.declared.side.Side.TheVariants.{Buy, Sell}
 use Rattle.brk_trade.specs.Outcomes.{deal_of, first_tests, last_tests, result_tests, values_in}
 use Rattle.brk_trade.specs.declared.outcome.ResultFound.{ResultFound}
-use Rattle.brk_trade.specs.declared.trade_row.TradeRow.{TradeRow}
+use Rattle.brk_changes.specs.declared.trade_row.TradeRow.{TradeRow}
 
 -- the first refusal among more tests, where the first ones find no cause
 pub first_after : (ts us : List Test) → first_refusal ts ≡ None → first_refusal (ts ++ us) ≡ first_refusal us

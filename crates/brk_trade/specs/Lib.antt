@@ -1,10 +1,4 @@
-pub mod Rows
-pub mod Changes
-pub mod Replies
-pub mod Reference
-pub mod Waiting
-pub mod Cancel
-pub mod Feed
+pub mod Estimates
 pub mod Orders
 pub mod Outcomes
 pub mod Results

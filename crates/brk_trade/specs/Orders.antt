@@ -1,9 +1,10 @@
 -- Orders: what is tested, what they are estimated by, and what an accepted one comes to.
 use Rattle.std.specs.Prelude.{◌≡◌, ℕ, ◌+◌, ◌≤◌, Bool, pos, not, nat_le, is_none, unwrap_or, if◌then◌else◌, List, [], ◌∷◌, ◌++◌, length, map, Option, Some, None, option_to_list}
 use Rattle.std.specs.Option.{option_map_or}
-use Rattle.brk_estimates.specs.Estimates.{AreTerms, told}
-use Rattle.brk_estimates.specs.declared.estimate.Estimate.{Estimate}
-use Rattle.brk_estimates.specs.declared.estimate.Terms.{Terms}
+use Rattle.brk_trade.specs.Estimates.{AreTerms}
+use Rattle.brk_plans.specs.Replies.{told}
+use Rattle.brk_plans.specs.declared.estimate.Estimate.{Estimate}
+use Rattle.brk_trade.specs.declared.estimate.Terms.{Terms}
 use Rattle.brk_lots.specs.Lots.{from_end, shares_of}
 use Rattle.brk_lots.specs.Position.{IsNew}
 use Rattle.brk_lots.specs.declared.lot.Lot.{Lot}
@@ -24,16 +25,16 @@ use Rattle.brk_money.specs.declared.refusal.Refusal.TheVariants.{NoAccount, NoSe
 use Rattle.brk_money.specs.declared.tax_status.TaxStatus.TheVariants.{Untaxed}
 use Rattle.brk_orders.specs.declared.order.Order.{Order}
 use Rattle.brk_ref.specs.Records.{executor_of}
-use Rattle.brk_trade.specs.Reference.{clock_test}
-use Rattle.brk_trade.specs.Rows.{trade_row_of}
-use Rattle.brk_trade.specs.declared.change.Change.{Change}
-use Rattle.brk_trade.specs.declared.change.Change.TheVariants as change
+use Rattle.brk_plans.specs.Reference.{clock_test}
+use Rattle.brk_changes.specs.Rows.{trade_row_of}
+use Rattle.brk_changes.specs.declared.change.Change.{Change}
+use Rattle.brk_changes.specs.declared.change.Change.TheVariants as change
 use Rattle.brk_trade.specs.declared.order.Accepted.{Accepted}
 use Rattle.brk_trade.specs.declared.order.OrderFound.{OrderFound}
-use Rattle.brk_trade.specs.declared.plan.Plan.{Plan}
-use Rattle.brk_trade.specs.declared.reply.Reply.TheVariants.{Ordered}
-use Rattle.brk_trade.specs.declared.request_row.RequestRow.{RequestRow}
-use Rattle.brk_trade.specs.declared.trade_row.TradeRow.{TradeRow}
+use Rattle.brk_plans.specs.declared.plan.Plan.{Plan}
+use Rattle.brk_plans.specs.declared.reply.Reply.TheVariants.{Ordered}
+use Rattle.brk_changes.specs.declared.request_row.RequestRow.{RequestRow}
+use Rattle.brk_changes.specs.declared.trade_row.TradeRow.{TradeRow}
 
 -- what an order is tested for, by what was found in the tables
 abbrev pub order_tests : OrderFound → List Test

@@ -1,8 +1,8 @@
 -- What a result comes to for a trade that it completes, and what is tested of it.
 use Rattle.std.specs.Prelude.{ℕ, ◌+◌, ◌*◌, ◌&&◌, true, not, nat_lt, nat_abs, is_none, unwrap_or, if◌then◌else◌, ℤ, pos, ◌+ℤ◌, ◌-ℤ◌, List, [], ◌∷◌, ◌++◌, Option}
 use Rattle.std.specs.Option.{option_map_or}
-use Rattle.brk_estimates.specs.Estimates.{tax_at}
-use Rattle.brk_estimates.specs.declared.values.Values.{Values}
+use Rattle.brk_trade.specs.Estimates.{tax_at}
+use Rattle.brk_lots.specs.declared.values.Values.{Values}
 use Rattle.brk_lots.specs.declared.closing.Closing.{Closing}
 use Rattle.brk_model.specs.Base.{takes_tax_off}
 use Rattle.brk_model.specs.Derived.{proceeds, settlement_days}
@@ -17,7 +17,7 @@ use Rattle.brk_money.specs.declared.refusal.Refusal.TheVariants.{WrongStatus, No
 use Rattle.brk_money.specs.declared.status.Status.TheVariants.{Submitted}
 use Rattle.brk_trade.specs.declared.outcome.Outcome.{Outcome}
 use Rattle.brk_trade.specs.declared.outcome.ResultFound.{ResultFound}
-use Rattle.brk_trade.specs.declared.trade_row.TradeRow.{TradeRow}
+use Rattle.brk_changes.specs.declared.trade_row.TradeRow.{TradeRow}
 
 -- a trade as it meets the lots of its account and symbol
 abbrev pub deal_of : TradeRow → (price stamp : ℕ) → Deal

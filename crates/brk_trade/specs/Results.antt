@@ -1,6 +1,6 @@
 -- Results of submitted trades: the changes of a completion, and what a result comes to.
 use Rattle.std.specs.Prelude.{◌≡◌, ℕ, ◌+◌, ◌≤◌, Bool, ℤ, pos, if◌then◌else◌, List, [], ◌∷◌, ◌++◌, codes, decimal, length, flat_map, Option, Some, None, option_map, option_to_list, unwrap_or}
-use Rattle.brk_estimates.specs.Estimates.{values_of}
+use Rattle.brk_lots.specs.Values.{values_of}
 use Rattle.brk_lots.specs.Closing.{IsClosing}
 use Rattle.brk_lots.specs.Lots.{from_end, shares_of}
 use Rattle.brk_lots.specs.declared.closing.Closing.{Closing}
@@ -16,19 +16,19 @@ use Rattle.brk_money.specs.Spelling.{Text}
 use Rattle.brk_money.specs.declared.refusal.Refusal.{Refusal}
 use Rattle.brk_money.specs.declared.refusal.Refusal.TheVariants.{NoTrade}
 use Rattle.brk_money.specs.declared.status.Status.TheVariants as status
-use Rattle.brk_trade.specs.Rows.{cash_row_of}
+use Rattle.brk_changes.specs.Rows.{cash_row_of}
 use Rattle.brk_trade.specs.Outcomes.{deal_of, result_tests, outcome_of, values_in}
-use Rattle.brk_trade.specs.declared.cash_row.CashRow.{CashRow}
-use Rattle.brk_trade.specs.declared.cash_type.CashType.{CashType}
-use Rattle.brk_trade.specs.declared.cash_type.CashType.TheVariants as cash_type
-use Rattle.brk_trade.specs.declared.change.Change.{Change}
-use Rattle.brk_trade.specs.declared.change.Change.TheVariants as change
+use Rattle.brk_changes.specs.declared.cash_row.CashRow.{CashRow}
+use Rattle.brk_changes.specs.declared.cash_type.CashType.{CashType}
+use Rattle.brk_changes.specs.declared.cash_type.CashType.TheVariants as cash_type
+use Rattle.brk_changes.specs.declared.change.Change.{Change}
+use Rattle.brk_changes.specs.declared.change.Change.TheVariants as change
 use Rattle.brk_trade.specs.declared.outcome.Outcome.{Outcome}
 use Rattle.brk_trade.specs.declared.outcome.ResultFound.{ResultFound}
-use Rattle.brk_trade.specs.declared.plan.Plan.{Plan}
-use Rattle.brk_trade.specs.declared.reply.Completed.{Completed}
-use Rattle.brk_trade.specs.declared.reply.Reply.TheVariants as reply
-use Rattle.brk_trade.specs.declared.trade_row.TradeRow.{TradeRow}
+use Rattle.brk_plans.specs.declared.plan.Plan.{Plan}
+use Rattle.brk_plans.specs.declared.reply.Completed.{Completed}
+use Rattle.brk_plans.specs.declared.reply.Reply.TheVariants as reply
+use Rattle.brk_changes.specs.declared.trade_row.TradeRow.{TradeRow}
 
 -- a touched lot made smaller, or taken away where nothing is left of it
 abbrev pub lot_left : Touch → Change

@@ -4,19 +4,13 @@ ghost use Rattle.std.specs.Prelude.{◌≡◌, ◌++◌, flat_map, option_map, o
 ghost use Rattle.brk_money.specs.declared.fault.Fault.TheVariants.{Memory};
 ghost use Rattle.brk_trade.specs.Results as spec;
 ghost use Rattle.brk_trade.specs.Results.{AreChanges};
-ghost use Rattle.brk_trade.specs.Rows.{cash_row_of};
+ghost use Rattle.brk_changes.specs.Rows.{cash_row_of};
 
-use crate::amount::Amount;
-use crate::cash_row::CashRow;
-use crate::cash_type::CashType;
-use crate::change::Change;
-use crate::history_row::HistoryRow;
-use crate::holding_row::HoldingRow;
-use crate::lot_change::LotChange;
 use crate::outcome::{Outcome, ResultFound};
-use crate::settlement_row::SettlementRow;
-use crate::summary_row::SummaryRow;
-use crate::trade_row::TradeRow;
+use brk_changes::{
+    Amount, CashRow, CashType, Change, HistoryRow, HoldingRow, LotChange, SettlementRow,
+    SummaryRow, TradeRow,
+};
 use brk_lots::{Closing, Lot, Touch};
 use brk_money::{Fault, Id, Price, Qty, Status};
 use brk_ref::Name;

@@ -8,24 +8,19 @@ ghost use Rattle.brk_ref.specs.Records.{executor_of};
 ghost use Rattle.brk_money.specs.declared.refusal.Limit.TheVariants as limit;
 ghost use Rattle.brk_money.specs.declared.refusal.Refusal.TheVariants.{Range};
 ghost use Rattle.brk_trade.specs.Orders as spec;
-ghost use Rattle.brk_trade.specs.Reference.{clock_test};
-ghost use Rattle.brk_trade.specs.Rows.{trade_row_of};
+ghost use Rattle.brk_plans.specs.Reference.{clock_test};
+ghost use Rattle.brk_changes.specs.Rows.{trade_row_of};
 ghost use Rattle.brk_trade.specs.Orders.{AreChanges, AsksFew, IsAccepted, IsEstimated, IsOrdered, order_tests, terms_of, trades_test};
 
-use crate::amount::Amount;
-use crate::change::Change;
-use crate::history_row::HistoryRow;
-use crate::plan::Plan;
-use crate::reply::{Ordered, Reply};
-use crate::request_row::RequestRow;
-use crate::trade_row::TradeRow;
-use brk_estimates::{Estimate, Terms, estimate_order};
+use crate::estimate::{Terms, estimate_order};
+use brk_changes::{Amount, Change, HistoryRow, RequestRow, TradeRow};
 use brk_lots::LotSource;
 use brk_money::{
     Cents, Fault, Id, Limit, Planned, Price, Rate, Refusal, Stamp, Status, TaxRate, TaxStatus,
     TradeType, Wide, commission, stamp_after,
 };
 use brk_orders::Order;
+use brk_plans::{Estimate, Ordered, Plan, Reply};
 use brk_ref::{ChargeAmount, Executor, Symbol};
 use std::alloc::{AllocError, Global};
 

@@ -13,11 +13,9 @@ ghost use Rattle.brk_money.specs.Moments.{last_day};
 ghost use Rattle.brk_trade.specs.Outcomes as spec;
 ghost use Rattle.brk_trade.specs.Outcomes.{first_tests, last_tests, outcome_of, values_in};
 
-use crate::amount::Amount;
-use crate::trade_count::TradeCount;
-use crate::trade_row::{TradeRow, is_submitted};
-use brk_estimates::{Values, tax_on};
-use brk_lots::Closing;
+use crate::estimate::tax_on;
+use brk_changes::{Amount, BrokerNumbers, TradeRow, is_submitted};
+use brk_lots::{Closing, Values};
 use brk_money::{
     Cents, Day, Id, Limit, Price, Qty, Rate, Refusal, Side, Stamp, TaxRate, TaxStatus, Wide,
     commission, day_of,
@@ -39,15 +37,6 @@ pub struct ResultAccount {
     pub tax_status: TaxStatus,
     /// Its balance (CA_BAL).
     pub balance: Cents,
-}
-
-/// The numbers of a broker.
-#[derive(Clone, Copy, Debug, PartialEq, Eq)]
-pub struct BrokerNumbers {
-    /// How many trades of the broker's accounts are completed (B_NUM_TRADES).
-    pub trades: TradeCount,
-    /// The sum of their commissions (B_COMM_TOTAL).
-    pub commissions: Amount,
 }
 
 /// What the tables hold that decides on a result of a trade. What is not needed after an earlier refusal is not looked at.

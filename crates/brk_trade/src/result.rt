@@ -4,13 +4,12 @@ ghost use Rattle.brk_money.specs.Moments as moments;
 ghost use Rattle.brk_money.specs.declared.fault.Fault.{Fault};
 ghost use Rattle.brk_trade.specs.Results.{AsksFew, IsCompleted, IsRefused, moment_of, told_of};
 
-use crate::amount::Amount;
 use crate::completion::completion_changes;
 use crate::outcome::{Outcome, ResultFound, accept, complete};
-use crate::plan::Plan;
-use crate::reply::{Completed, Reply};
+use brk_changes::Amount;
 use brk_lots::{LotSource, close};
 use brk_money::{Cents, Fault, Planned, Price, Refusal, Stamp, stamp_after};
+use brk_plans::{Completed, Plan, Reply};
 use std::alloc::Global;
 
 // A commission or a tax as an amount.

@@ -1,7 +1,7 @@
 -- What a view is in the abstract brokerage: its records of texts.
 use Rattle.std.specs.Prelude.{Bool, List, [], ◌∷◌, map, decimal, String, string_bytes}
 use Rattle.std.specs.Global.{Global, Vec}
-use Rattle.brk_estimates.specs.declared.estimate.Estimate as estimate
+use Rattle.brk_plans.specs.declared.estimate.Estimate as estimate
 use Rattle.brk_money.specs.Kinds.{type_code, same_status}
 use Rattle.brk_money.specs.Spelling.{Text, cents_text}
 use Rattle.brk_money.specs.declared.status.Status.TheVariants.{Submitted}

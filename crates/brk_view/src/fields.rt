@@ -1,7 +1,7 @@
 //! The texts of a view.
 
 ghost use Rattle.std.specs.Prelude.{◌≡◌, ◌∷◌, [], IfOk, OnErr, Err, decimal, map, pos, string_bytes};
-ghost use Rattle.brk_estimates.specs.Estimates.{told};
+ghost use Rattle.brk_plans.specs.Replies.{told};
 ghost use Rattle.brk_model.specs.Commands as model;
 ghost use Rattle.brk_model.specs.Rows.{estimate_fields};
 ghost use Rattle.brk_money.specs.Spelling.{cents_text};
@@ -10,8 +10,8 @@ ghost use Rattle.brk_view.specs.Views.{estimate_record, fields_of, record_of, re
 ghost use Rattle.brk_view.specs.declared.view.View.TheVariants as views;
 
 use crate::view::{SubmittedTrade, View};
-use brk_estimates::Estimate;
 use brk_money::{Fault, Price, Wide};
+use brk_trade::Estimate;
 use std::alloc::Global;
 
 // A price as an amount.

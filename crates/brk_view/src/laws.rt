@@ -1,7 +1,7 @@
 //! What views are, over tables and estimates of the definitions. There is no code to call.
 
 ghost use Rattle.std.specs.Prelude.{◌≡◌, ◌∷◌, [], filter, map, true};
-ghost use Rattle.brk_estimates.specs.Estimates.{told};
+ghost use Rattle.brk_plans.specs.Replies.{told};
 ghost use Rattle.brk_model.specs.Commands.{Estimate};
 ghost use Rattle.brk_model.specs.Form.{rises};
 ghost use Rattle.brk_model.specs.Keys.{trade_key};

@@ -5,7 +5,7 @@ ghost use Rattle.brk_model.specs.Sheets.{sheets_of};
 ghost use Rattle.brk_model.specs.StatusView.{submitted_view};
 ghost use Rattle.brk_model.specs.Tables.{Tables};
 ghost use Rattle.brk_money.specs.declared.fault.Fault.TheVariants.{Memory};
-ghost use Rattle.brk_trade.specs.Rows.{trade_row_of};
+ghost use Rattle.brk_changes.specs.Rows.{trade_row_of};
 ghost use Rattle.brk_view.specs.Views.{fields_of, is_submitted, submitted_record, trade_record};
 
 use crate::view::{SubmittedTrade, View};

@@ -1,6 +1,6 @@
-use brk_estimates::Estimate;
 use brk_money::{Id, Price, Qty, TradeType};
 use brk_ref::Symbol;
+use brk_trade::Estimate;
 
 /// A trade that is at the market: it was sent there, and neither completed nor canceled.
 #[derive(Debug, Drop)]

@@ -3,7 +3,7 @@ use Rattle.std.specs.List.{join_with_byte}
 use Rattle.std.specs.Prelude.{decimal, drop, take}
 use Rattle.brk_money.specs.Spelling.{Text}
 use Rattle.brk_model.specs.Rows.{completion_fields, reply_fields}
-use Rattle.brk_trade.specs.Replies.{completion_of}
+use Rattle.brk_plans.specs.Replies.{completion_of}
 use Rattle.brk_commands.proofs.Joined.{added}
 use Rattle.brk_commands.proofs.line.completed_text.Goals as goal
 

@@ -2,7 +2,7 @@ use Rattle.std.proofs.Common.{[], ◌∷◌}
 use Rattle.std.specs.Prelude.{decimal}
 use Rattle.brk_money.specs.Kinds.{status_code}
 use Rattle.brk_model.specs.Rows.{estimate_fields, reply_fields}
-use Rattle.brk_trade.specs.Replies.{estimate_of}
+use Rattle.brk_plans.specs.Replies.{estimate_of}
 use Rattle.brk_commands.proofs.Joined.{added}
 use Rattle.brk_commands.proofs.line.ordered_text.Goals as goal
 

@@ -1,7 +1,7 @@
 use Rattle.std.proofs.Common.{◌≡◌, ◌∙◌, ◌+ℤ◌, ◌*ℤ◌, ap, pos}
 use Rattle.brk_model.specs.Joins.{price_in}
 use Rattle.brk_model.specs.Tables.{Tables}
-use Rattle.brk_trade.specs.Rows.{summary_row_of}
+use Rattle.brk_changes.specs.Rows.{summary_row_of}
 use Rattle.brk_decisions.specs.Finds.{worth_in}
 use Rattle.brk_store.proofs.Retelling.{retold}
 use Rattle.brk_decisions.proofs.amounts.add_worth.Goals as goal

@@ -4,8 +4,8 @@ use Rattle.brk_money.specs.declared.fault.Fault.{Fault}
 use Rattle.brk_model.specs.Lists.{total_by}
 use Rattle.brk_model.specs.Tables as tables
 use Rattle.brk_model.specs.Tables.{Tables}
-use Rattle.brk_trade.specs.Rows.{summary_row_of}
-use Rattle.brk_trade.specs.declared.summary_row.SummaryRow.{SummaryRow}
+use Rattle.brk_changes.specs.Rows.{summary_row_of}
+use Rattle.brk_changes.specs.declared.summary_row.SummaryRow.{SummaryRow}
 use Rattle.brk_decisions.specs.Finds.{worth_in, worth_of}
 use Rattle.brk_store.proofs.Retelling.{retold}
 use Rattle.brk_decisions.proofs.Looking.{read_both}

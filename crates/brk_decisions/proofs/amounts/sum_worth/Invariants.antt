@@ -1,7 +1,7 @@
 use Rattle.std.proofs.Common.{◌≡◌, ◌==◌, Ok, filter, map, take}
 use Rattle.brk_money.specs.declared.fault.Fault.{Fault}
 use Rattle.brk_model.specs.Lists.{total_by}
-use Rattle.brk_trade.specs.Rows.{summary_row_of}
+use Rattle.brk_changes.specs.Rows.{summary_row_of}
 use Rattle.brk_store.specs.Holds.{IsRead}
 use Rattle.brk_decisions.specs.Finds.{worth_in}
 use Rattle.brk_decisions.proofs.amounts.sum_worth.Given as goal

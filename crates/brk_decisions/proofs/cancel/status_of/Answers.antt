@@ -2,8 +2,8 @@ use Rattle.std.proofs.Common.{◌≡◌, ◌==◌, Some, None, Option, ap, find,
 use Rattle.brk_money.specs.declared.status.Status.{Status}
 use Rattle.brk_model.specs.Joins.{trade_in}
 use Rattle.brk_model.specs.Tables.{Tables, TradeRow}
-use Rattle.brk_trade.specs.Rows.{trade_row_of}
-use Rattle.brk_trade.specs.declared.trade_row.TradeRow as trade
+use Rattle.brk_changes.specs.Rows.{trade_row_of}
+use Rattle.brk_changes.specs.declared.trade_row.TradeRow as trade
 use Rattle.brk_store.proofs.Retelling.{retold}
 use Rattle.brk_decisions.proofs.cancel.status_of.Goals as goal
 

@@ -1,6 +1,6 @@
 use Rattle.brk_model.specs.Commands.{FeedTicks}
 use Rattle.brk_orders.specs.Records.{ticks_of}
-use Rattle.brk_trade.specs.Feed.{held}
+use Rattle.brk_plans.specs.Feed.{held}
 use Rattle.brk_decisions.specs.Decisions.{Decides}
 use Rattle.brk_decisions.proofs.Deciding.{decided}
 use Rattle.brk_decisions.proofs.Feeds.{Known, feed_decided}

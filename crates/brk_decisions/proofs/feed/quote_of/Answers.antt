@@ -3,9 +3,9 @@ use Rattle.brk_money.specs.declared.fault.Fault.{Fault}
 use Rattle.brk_model.specs.Tables.{Tables}
 use Rattle.brk_ref.specs.Records.{last_trade_of}
 use Rattle.brk_ref.specs.declared.security.LastTrade.{LastTrade}
-use Rattle.brk_trade.specs.Rows.{request_row_of}
-use Rattle.brk_trade.specs.declared.quote.Quote.{Quote}
-use Rattle.brk_books.specs.TradeReads.{last_trade_in, requests_of}
+use Rattle.brk_changes.specs.Rows.{request_row_of}
+use Rattle.brk_plans.specs.declared.quote.Quote.{Quote}
+use Rattle.brk_trade_laws.specs.TradeReads.{last_trade_in, requests_of}
 use Rattle.brk_decisions.proofs.Feeds.{IsQuoteOf}
 use Rattle.brk_store.proofs.Retelling.{retold}
 use Rattle.brk_decisions.proofs.Looking.{read_both}

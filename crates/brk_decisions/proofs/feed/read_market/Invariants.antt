@@ -1,7 +1,7 @@
 use Rattle.std.proofs.Common.{Ok, take}
 use Rattle.brk_money.specs.declared.fault.Fault.{Fault}
 use Rattle.brk_store.specs.Holds.{IsRead}
-use Rattle.brk_trade.specs.Feed.{held}
+use Rattle.brk_plans.specs.Feed.{held}
 use Rattle.brk_decisions.proofs.Feeds.{Known}
 use Rattle.brk_decisions.proofs.feed.read_market.Given as goal
 

@@ -1,8 +1,8 @@
 use Rattle.std.proofs.Common.{◌≡◌, ◌==◌, ◌∙◌, ap, filter, map}
 use Rattle.std.specs.Prelude.{◌&&◌, bytes_eq}
 use Rattle.brk_model.specs.Tables.{HoldingRow, Tables}
-use Rattle.brk_trade.specs.Rows.{holding_row_of, oldest_lots_first}
-use Rattle.brk_books.specs.OrderPlans.{lot_in}
+use Rattle.brk_changes.specs.Rows.{holding_row_of, oldest_lots_first}
+use Rattle.brk_trade_laws.specs.OrderPlans.{lot_in}
 use Rattle.brk_decisions.specs.Finds.{HeldLots}
 use Rattle.brk_store.proofs.Retelling.{retold}
 use Rattle.brk_decisions.proofs.order_finding.find_position.Goals as goal

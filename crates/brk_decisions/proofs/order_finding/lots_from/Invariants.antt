@@ -1,5 +1,5 @@
 use Rattle.std.proofs.Common.{◌≡◌, map, take}
-use Rattle.brk_books.specs.OrderPlans.{lot_in}
+use Rattle.brk_trade_laws.specs.OrderPlans.{lot_in}
 use Rattle.brk_decisions.proofs.order_finding.lots_from.Given as goal
 
 abbrev pub invariant-loop-row : goal.invariant-loop-row

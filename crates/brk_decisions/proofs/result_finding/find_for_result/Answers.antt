@@ -3,9 +3,9 @@ use Rattle.brk_lots.specs.declared.lot.Lot.{Lot}
 use Rattle.brk_money.specs.declared.fault.Fault.{Fault}
 use Rattle.brk_model.specs.Tables as tables
 use Rattle.brk_model.specs.Tables.{Tables}
-use Rattle.brk_trade.specs.Rows.{trade_row_of}
+use Rattle.brk_changes.specs.Rows.{trade_row_of}
 use Rattle.brk_trade.specs.declared.outcome.ResultFound.{ResultFound}
-use Rattle.brk_trade.specs.declared.trade_row.TradeRow.{TradeRow}
+use Rattle.brk_changes.specs.declared.trade_row.TradeRow.{TradeRow}
 use Rattle.brk_decisions.specs.ResultFinds.{IsFoundAt, IsFoundOf}
 use Rattle.brk_store.proofs.Retelling.{retold}
 use Rattle.brk_decisions.proofs.Looking.{read_both}

@@ -2,7 +2,7 @@ use Rattle.std.proofs.Common.{◌≡◌, ◌∙◌, option_map, subst, sym}
 use Rattle.brk_lots.specs.Position.{IsNew}
 use Rattle.brk_money.specs.declared.fault.Fault.{Fault}
 use Rattle.brk_model.specs.Tables.{SummaryRow, Tables}
-use Rattle.brk_books.specs.TradeReads.{summary_in}
+use Rattle.brk_trade_laws.specs.TradeReads.{summary_in}
 use Rattle.brk_decisions.specs.Finds.{HeldLots}
 use Rattle.brk_decisions.specs.ResultFinds.{IsHolding}
 use Rattle.brk_decisions.specs.declared.result_finding.Holding.{Holding}

@@ -1,8 +1,8 @@
 use Rattle.std.proofs.Common.{◌≡◌, ◌==◌, ◌∙◌, ap, find, option_map}
 use Rattle.std.specs.Prelude.{◌&&◌, bytes_eq}
 use Rattle.brk_model.specs.Tables.{SummaryRow, Tables}
-use Rattle.brk_trade.specs.Rows.{summary_row_of}
-use Rattle.brk_books.specs.TradeReads.{summary_in}
+use Rattle.brk_changes.specs.Rows.{summary_row_of}
+use Rattle.brk_trade_laws.specs.TradeReads.{summary_in}
 use Rattle.brk_store.proofs.Retelling.{retold}
 use Rattle.brk_decisions.proofs.ResultReading.{number_in}
 use Rattle.brk_decisions.proofs.result_finding.find_summary.Goals as goal

@@ -3,7 +3,7 @@ use Rattle.brk_money.specs.Kinds.{same_status}
 use Rattle.brk_money.specs.declared.status.Status.TheVariants.{Submitted}
 use Rattle.brk_model.specs.Queries.{SubmittedTrades}
 use Rattle.brk_model.specs.Tables.{Tables, TradeRow}
-use Rattle.brk_trade.specs.Rows.{trade_row_of}
+use Rattle.brk_changes.specs.Rows.{trade_row_of}
 use Rattle.brk_store.proofs.Retelling.{retold}
 use Rattle.brk_desk.specs.Asking.{Shows}
 use Rattle.brk_desk.proofs.Asked.{submitted_shown}

@@ -2,8 +2,8 @@ use Rattle.std.proofs.Common.{Ok, Err, subst, rules}
 use Rattle.brk_money.specs.declared.fault.Fault.{Fault}
 use Rattle.brk_money.specs.declared.fault.Fault.TheVariants.{Store}
 use Rattle.brk_rows.specs.Desk.{Turns}
-use Rattle.brk_tables.specs.Desk.{desk}
-use Rattle.brk_trade.specs.Changes.{after_changes}
+use Rattle.brk_tables_form.specs.Desk.{desk}
+use Rattle.brk_changes.specs.Changes.{after_changes}
 use Rattle.brk_store.specs.Holds.{IsApplied}
 use Rattle.brk_store.proofs.Ending.{applies, applies_none}
 use Rattle.brk_store.proofs.changing.apply_all.Goals as goal

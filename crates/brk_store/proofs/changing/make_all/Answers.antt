@@ -4,9 +4,9 @@ use Rattle.sqlite.specs.Held.{state}
 use Rattle.brk_model.specs.Tables.{Tables}
 use Rattle.brk_rows.proofs.Inside.{step_then}
 use Rattle.brk_rows.specs.Desk.{HasTables, Turns}
-use Rattle.brk_tables.specs.Desk.{desk}
-use Rattle.brk_trade.specs.Changes.{after_change, after_changes}
-use Rattle.brk_trade.specs.declared.change.Change.{Change}
+use Rattle.brk_tables_form.specs.Desk.{desk}
+use Rattle.brk_changes.specs.Changes.{after_change, after_changes}
+use Rattle.brk_changes.specs.declared.change.Change.{Change}
 use Rattle.brk_store.proofs.changing.make_all.Goals as goal
 
 pub loop-change-preserved : goal.loop-change-preserved

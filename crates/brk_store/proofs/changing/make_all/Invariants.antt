@@ -3,8 +3,8 @@ use Rattle.sqlite.specs.Held.{state}
 use Rattle.brk_money.specs.declared.fault.Fault.{Fault}
 use Rattle.brk_rows.specs.Model.{IsStep}
 use Rattle.brk_rows.specs.Desk.{Turns}
-use Rattle.brk_tables.specs.Desk.{desk}
-use Rattle.brk_trade.specs.Changes.{after_changes}
+use Rattle.brk_tables_form.specs.Desk.{desk}
+use Rattle.brk_changes.specs.Changes.{after_changes}
 use Rattle.brk_store.proofs.changing.make_all.Given as goal
 
 abbrev pub invariant-loop-change : goal.invariant-loop-change

@@ -4,7 +4,7 @@ use Rattle.sqlite.specs.Held.{state}
 use Rattle.brk_money.specs.declared.fault.Fault.TheVariants.{Store}
 use Rattle.brk_rows.proofs.Inside.{step_then}
 use Rattle.brk_model.specs.Tables.{no_rows}
-use Rattle.brk_tables.specs.Made.{HasRows, has_table_of_desk}
+use Rattle.brk_tables_form.specs.Made.{HasRows, has_table_of_desk}
 use Rattle.brk_store.specs.Holds.{IsCreated}
 use Rattle.brk_store.proofs.Ending.{begun, creates, commits_none}
 use Rattle.brk_store.proofs.changing.make_desk.Goals as goal

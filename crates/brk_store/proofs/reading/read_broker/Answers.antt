@@ -1,6 +1,6 @@
 use Rattle.std.proofs.Common.{◌≡◌, ◌==◌, find, option_map, subst, rules}
 use Rattle.brk_model.specs.Tables.{Tables, BrokerRow}
-use Rattle.brk_tables.specs.Records.{broker_row_of}
+use Rattle.brk_tables_form.specs.Records.{broker_row_of}
 use Rattle.brk_store.specs.Holds.{IsRead}
 use Rattle.brk_store.proofs.Ending.{is_read}
 use Rattle.brk_store.proofs.reading.read_broker.Goals as goal

@@ -1,7 +1,7 @@
 use Rattle.std.proofs.Common.{◌≡◌, map, filter, ◌==◌, subst, rules}
 use Rattle.std.specs.Prelude.{bytes_eq, ◌&&◌}
 use Rattle.brk_model.specs.Tables.{Tables, HoldingRow}
-use Rattle.brk_trade.specs.Rows.{holding_row_of, oldest_lots_first}
+use Rattle.brk_changes.specs.Rows.{holding_row_of, oldest_lots_first}
 use Rattle.brk_store.specs.Holds.{IsRead}
 use Rattle.brk_store.proofs.Ending.{is_read}
 use Rattle.brk_store.proofs.trades.read_lots_of.Goals as goal

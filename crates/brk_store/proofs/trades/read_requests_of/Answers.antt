@@ -1,7 +1,7 @@
 use Rattle.std.proofs.Common.{◌≡◌, map, filter, subst, rules}
 use Rattle.std.specs.Prelude.{bytes_eq}
 use Rattle.brk_model.specs.Tables.{Tables, RequestRow}
-use Rattle.brk_trade.specs.Rows.{request_row_of}
+use Rattle.brk_changes.specs.Rows.{request_row_of}
 use Rattle.brk_store.specs.Holds.{IsRead}
 use Rattle.brk_store.proofs.Ending.{is_read}
 use Rattle.brk_store.proofs.trades.read_requests_of.Goals as goal

@@ -2,7 +2,7 @@ use Rattle.std.proofs.Common.{◌≡◌, map, filter, subst, rules}
 use Rattle.brk_money.specs.Kinds.{same_status}
 use Rattle.brk_money.specs.declared.status.Status.TheVariants.{Submitted}
 use Rattle.brk_model.specs.Tables.{Tables, TradeRow}
-use Rattle.brk_trade.specs.Rows.{trade_row_of}
+use Rattle.brk_changes.specs.Rows.{trade_row_of}
 use Rattle.brk_store.specs.Holds.{IsRead}
 use Rattle.brk_store.proofs.Ending.{is_read}
 use Rattle.brk_store.proofs.trades.read_submitted_trades.Goals as goal

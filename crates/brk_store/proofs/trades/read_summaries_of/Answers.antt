@@ -1,6 +1,6 @@
 use Rattle.std.proofs.Common.{◌≡◌, map, filter, ◌==◌, subst, rules}
 use Rattle.brk_model.specs.Tables.{Tables, SummaryRow}
-use Rattle.brk_trade.specs.Rows.{summary_row_of}
+use Rattle.brk_changes.specs.Rows.{summary_row_of}
 use Rattle.brk_store.specs.Holds.{IsRead}
 use Rattle.brk_store.proofs.Ending.{is_read}
 use Rattle.brk_store.proofs.trades.read_summaries_of.Goals as goal

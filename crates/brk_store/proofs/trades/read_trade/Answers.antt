@@ -1,6 +1,6 @@
 use Rattle.std.proofs.Common.{◌≡◌, find, option_map, ◌==◌, subst, rules}
 use Rattle.brk_model.specs.Tables.{Tables, TradeRow}
-use Rattle.brk_trade.specs.Rows.{trade_row_of}
+use Rattle.brk_changes.specs.Rows.{trade_row_of}
 use Rattle.brk_store.specs.Holds.{IsRead}
 use Rattle.brk_store.proofs.Ending.{is_read}
 use Rattle.brk_store.proofs.trades.read_trade.Goals as goal

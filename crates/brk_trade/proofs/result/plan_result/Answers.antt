@@ -4,8 +4,8 @@ use Rattle.brk_money.specs.Moments.{stamp_after}
 use Rattle.brk_trade.specs.Outcomes.{deal_of, first_tests, last_tests, values_in}
 use Rattle.brk_trade.specs.Results.{AreChanges, IsCompletion, moment_of, told_of}
 use Rattle.brk_trade.specs.declared.outcome.Outcome.{Outcome}
-use Rattle.brk_trade.specs.declared.plan.Plan.{Plan}
-use Rattle.brk_trade.specs.declared.reply.Reply.TheVariants.{Completed}
+use Rattle.brk_plans.specs.declared.plan.Plan.{Plan}
+use Rattle.brk_plans.specs.declared.reply.Reply.TheVariants.{Completed}
 use Rattle.brk_trade.proofs.Results.{first_after, refused_by_values, touched_count}
 use Rattle.brk_trade.proofs.result.plan_result.Goals as goal
 use Rattle.brk_trade.proofs.result.plan_result.Goals.{in-Some-moved, in-None}

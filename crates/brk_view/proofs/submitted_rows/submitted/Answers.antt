@@ -1,6 +1,6 @@
 use Rattle.std.proofs.Common.{◌∙◌, ap, map}
 use Rattle.std.proofs.lemmas.List.{take_all}
-use Rattle.brk_trade.specs.Rows.{trade_row_of}
+use Rattle.brk_changes.specs.Rows.{trade_row_of}
 use Rattle.brk_view.specs.Views.{submitted_record}
 use Rattle.brk_view.proofs.ById.{shown_of_sheets}
 use Rattle.brk_view.proofs.submitted_rows.submitted.Goals as goal

@@ -1,5 +1,5 @@
 use Rattle.std.proofs.Common.{◌≡◌, map, take}
-use Rattle.brk_trade.specs.Rows.{trade_row_of}
+use Rattle.brk_changes.specs.Rows.{trade_row_of}
 use Rattle.brk_view.specs.Views.{submitted_record, trade_record}
 use Rattle.brk_view.proofs.submitted_rows.submitted.Given as goal
 

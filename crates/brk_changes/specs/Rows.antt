@@ -1,0 +1,70 @@
+-- What the rows of trades are in the abstract brokerage.
+use Rattle.std.specs.Prelude.{List, [], ◌∷◌, codes, string_bytes}
+use Rattle.brk_money.specs.Spelling.{Text}
+use Rattle.brk_model.specs.Keys.{KeyPart, number, by_key}
+use Rattle.brk_model.specs.Tables.{TradeRow, HistoryRow, RequestRow, HoldingRow, SummaryRow, HoldingHistoryRow, SettlementRow, CashRow}
+use Rattle.brk_changes.specs.declared.trade_row.TradeRow as trade
+use Rattle.brk_changes.specs.declared.history_row.HistoryRow as history
+use Rattle.brk_changes.specs.declared.request_row.RequestRow as request
+use Rattle.brk_changes.specs.declared.holding_row.HoldingRow as holding
+use Rattle.brk_changes.specs.declared.summary_row.SummaryRow as summary
+use Rattle.brk_changes.specs.declared.lot_change.LotChange as lot_change
+use Rattle.brk_changes.specs.declared.settlement_row.SettlementRow as settlement
+use Rattle.brk_changes.specs.declared.cash_row.CashRow as cash
+use Rattle.brk_changes.specs.declared.cash_type.CashType.{CashType}
+use Rattle.brk_changes.specs.declared.cash_type.CashType.TheVariants.{CashAccount, Cash, Margin, MarginAccount}
+
+abbrev pub trade_row_of : trade.TradeRow → TradeRow
+trade_row_of r = record {
+  id = r.id;
+  stamp = r.stamp;
+  status = r.status;
+  kind = r.kind;
+  is_cash = r.is_cash;
+  symbol = r.symbol;
+  qty = r.qty;
+  bid = r.bid;
+  account = r.account;
+  executor = string_bytes r.executor;
+  price = r.price;
+  charge = r.charge;
+  commission = r.commission;
+  tax = r.tax;
+  is_lifo = r.is_lifo;
+}
+
+abbrev pub history_row_of : history.HistoryRow → HistoryRow
+history_row_of r = record { trade = r.trade; status = r.status; stamp = r.stamp }
+
+abbrev pub request_row_of : request.RequestRow → RequestRow
+request_row_of r = record { trade = r.trade; kind = r.kind; symbol = r.symbol; qty = r.qty; bid = r.bid; broker = r.broker }
+
+abbrev pub holding_row_of : holding.HoldingRow → HoldingRow
+holding_row_of r = record { trade = r.trade; account = r.account; symbol = r.symbol; stamp = r.stamp; price = r.price; qty = r.qty }
+
+abbrev pub summary_row_of : summary.SummaryRow → SummaryRow
+summary_row_of r = record { account = r.account; symbol = r.symbol; qty = r.qty }
+
+abbrev pub lot_change_of : lot_change.LotChange → HoldingHistoryRow
+lot_change_of r = record { lot = r.lot; trade = r.trade; before = r.before; after = r.after }
+
+-- SE_CASH_TYPE
+abbrev pub cash_type_word : CashType → Text
+cash_type_word CashAccount = codes "Cash Account"
+cash_type_word Cash = codes "Cash"
+cash_type_word Margin = codes "Margin"
+cash_type_word MarginAccount = codes "Margin Account"
+
+abbrev pub settlement_row_of : settlement.SettlementRow → SettlementRow
+settlement_row_of r = record { trade = r.trade; cash_type = cash_type_word r.cash_type; due_day = r.due_day; amount = r.amount }
+
+abbrev pub cash_row_of : cash.CashRow → CashRow
+cash_row_of r = record { trade = r.trade; stamp = r.stamp; amount = r.amount; name = string_bytes r.name }
+
+-- the moment of opening, and then the trade
+abbrev pub age_key : HoldingRow → List KeyPart
+age_key r = number r.stamp ∷ number r.trade ∷ []
+
+-- lots, the oldest first
+abbrev pub oldest_lots_first : List HoldingRow → List HoldingRow
+oldest_lots_first = by_key age_key

@@ -1,0 +1,31 @@
+//! The rows of trades and of what trades make of holdings, settlements and cash, and the changes of rows that a store makes in
+//! one transaction.
+#![tactic(auto)]
+
+pub mod amount;
+pub mod broker_numbers;
+pub mod cash_row;
+pub mod cash_type;
+pub mod change;
+pub mod history_row;
+pub mod holding_row;
+pub mod lot_change;
+pub mod request_row;
+pub mod settlement_row;
+pub mod summary_row;
+pub mod trade_count;
+pub mod trade_row;
+
+pub use amount::Amount;
+pub use broker_numbers::BrokerNumbers;
+pub use cash_row::CashRow;
+pub use cash_type::CashType;
+pub use change::Change;
+pub use history_row::HistoryRow;
+pub use holding_row::HoldingRow;
+pub use lot_change::LotChange;
+pub use request_row::RequestRow;
+pub use settlement_row::SettlementRow;
+pub use summary_row::SummaryRow;
+pub use trade_count::TradeCount;
+pub use trade_row::{TradeRow, is_submitted};

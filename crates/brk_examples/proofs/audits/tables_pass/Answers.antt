@@ -1,7 +1,0 @@
-use Rattle.std.proofs.Common.{inl, refl}
-use Rattle.brk_examples.proofs.OnLiterals.{model_on_literals}
-use Rattle.brk_examples.proofs.audits.tables_pass.Goals as goal
-
-pub returns : goal.returns
-unfolding model_on_literals
-returns c = inl (refl, inl (refl, inl (refl, inl (refl, inl (refl, inl (refl, inl (refl, inl (refl, inl (refl, inl (refl, inl (refl, refl)))))))))))

@@ -1,5 +1,0 @@
-use Rattle.brk_laws.proofs.NameLaws.{is_named}
-use Rattle.brk_laws.proofs.names.named_records_are_there.Goals as goal
-
-pub returns : goal.returns
-returns c = is_named

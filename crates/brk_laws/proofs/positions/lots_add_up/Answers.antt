@@ -1,5 +1,0 @@
-use Rattle.brk_laws.proofs.LotLaws.{lots-total}
-use Rattle.brk_laws.proofs.positions.lots_add_up.Goals as goal
-
-pub returns : goal.returns
-returns c = lots-total

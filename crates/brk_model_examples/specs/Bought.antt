@@ -1,0 +1,128 @@
+-- The tables after the first purchase, row by row, and the same with something that another program changed.
+use Rattle.std.specs.Prelude.{map, pos, negsuc, true, false, Some, [], ◌∷◌, codes}
+use Rattle.brk_money.specs.declared.trade_type.TradeType.TheVariants.{MarketBuy, MarketSell, StopLoss, LimitSell, LimitBuy}
+use Rattle.brk_money.specs.declared.status.Status.TheVariants.{Completed, Submitted}
+use Rattle.brk_money.specs.declared.tax_status.TaxStatus.TheVariants.{Withheld}
+use Rattle.brk_model.specs.Tables.{Tables, TradeRow, HoldingRow, SettlementRow, CashRow}
+use Rattle.brk_model_examples.specs.Setting.{setting}
+
+-- by rising key
+unfoldable pub bought_tables : Tables
+bought_tables = record {
+  last = Some 1709251200017;
+  kept = [];
+  brokers = record { id = 1; name = codes "Bo"; trades = pos 1; commissions = 1010 } ∷ [];
+  customers = setting.customers;
+  accounts = record { id = 100; customer = 10; broker = 1; name = codes "Main"; tax_status = Withheld; opening = pos 1000000; balance = pos 897490 } ∷ [];
+  permissions = [];
+  securities = record { symbol = codes "ABC"; name = codes "Acme"; exchange = codes "NYSE"; sector = codes "Tech" } ∷ [];
+  last_trades = record { symbol = codes "ABC"; stamp = 1709251200003; price = 1000; volume = 0 } ∷ [];
+  charges =
+      record { kind = LimitBuy; tier = 1; amount = 500 }
+      ∷ record { kind = LimitSell; tier = 1; amount = 500 }
+      ∷ record { kind = MarketBuy; tier = 1; amount = 500 }
+      ∷ record { kind = MarketSell; tier = 1; amount = 500 }
+      ∷ record { kind = StopLoss; tier = 1; amount = 500 } ∷ [];
+  bands =
+      record { tier = 1; kind = LimitBuy; exchange = codes "NYSE"; from_qty = 1; to_qty = 999999; rate = 100 }
+      ∷ record { tier = 1; kind = LimitSell; exchange = codes "NYSE"; from_qty = 1; to_qty = 999999; rate = 100 }
+      ∷ record { tier = 1; kind = MarketBuy; exchange = codes "NYSE"; from_qty = 1; to_qty = 999999; rate = 100 }
+      ∷ record { tier = 1; kind = MarketSell; exchange = codes "NYSE"; from_qty = 1; to_qty = 999999; rate = 100 }
+      ∷ record { tier = 1; kind = StopLoss; exchange = codes "NYSE"; from_qty = 1; to_qty = 999999; rate = 100 } ∷ [];
+  tax_rates = setting.tax_rates;
+  customer_taxes = setting.customer_taxes;
+  trades = record {
+    id = 1;
+    stamp = 1709251200017;
+    status = Completed;
+    kind = MarketBuy;
+    is_cash = true;
+    symbol = codes "ABC";
+    qty = 100;
+    bid = 1000;
+    account = 100;
+    executor = codes "Ann Lee";
+    price = Some 1010;
+    charge = 500;
+    commission = 1010;
+    tax = 0;
+    is_lifo = false;
+  } ∷ [];
+  history = record { trade = 1; status = Completed; stamp = 1709251200017 } ∷ record { trade = 1; status = Submitted; stamp = 1709251200016 } ∷ [];
+  requests = [];
+  holdings = record { trade = 1; account = 100; symbol = codes "ABC"; stamp = 1709251200017; price = 1010; qty = pos 100 } ∷ [];
+  summaries = record { account = 100; symbol = codes "ABC"; qty = pos 100 } ∷ [];
+  holding_history = record { lot = 1; trade = 1; before = pos 0; after = pos 100 } ∷ [];
+  settlements = record { trade = 1; cash_type = codes "Cash Account"; due_day = 19785; amount = negsuc 102509 } ∷ [];
+  cash = record { trade = 1; stamp = 1709251200017; amount = negsuc 102509; name = codes "Market-Buy 100 shares of Acme" } ∷ [];
+}
+
+-- ---- changed by another program
+
+-- a quantity of 0
+unfoldable pub no_quantity : Tables
+no_quantity = record bought_tables { trades = map {B = TradeRow} (λ t. record t { qty = 0 }) bought_tables.trades }
+
+-- no last trade on the market
+unfoldable pub no_last_trade : Tables
+no_last_trade = record bought_tables { last_trades = [] }
+
+-- the row of the submission gone
+unfoldable pub no_submission : Tables
+no_submission = record bought_tables { history = record { trade = 1; status = Completed; stamp = 1709251200017 } ∷ [] }
+
+-- another last status
+unfoldable pub other_status : Tables
+other_status = record bought_tables { trades = map {B = TradeRow} (λ t. record t { status = Submitted }) bought_tables.trades }
+
+-- a request of a trade that is completed
+unfoldable pub a_request : Tables
+a_request = record bought_tables { requests = record { trade = 1; kind = MarketBuy; symbol = codes "ABC"; qty = 100; bid = 1000; broker = 1 } ∷ [] }
+
+-- a share less in a lot
+unfoldable pub other_lot : Tables
+other_lot = record bought_tables { holdings = map {B = HoldingRow} (λ h. record h { qty = pos 99 }) bought_tables.holdings }
+
+-- another price of a lot
+unfoldable pub other_lot_price : Tables
+other_lot_price = record bought_tables { holdings = map {B = HoldingRow} (λ h. record h { price = 1011 }) bought_tables.holdings }
+
+-- another price of the trade
+unfoldable pub other_trade_price : Tables
+other_trade_price = record bought_tables { trades = map {B = TradeRow} (λ t. record t { price = Some 1011 }) bought_tables.trades }
+
+-- another quantity in the history of a lot
+unfoldable pub other_history : Tables
+other_history = record bought_tables { holding_history = record { lot = 1; trade = 1; before = pos 0; after = pos 99 } ∷ [] }
+
+-- a share more in a summary
+unfoldable pub other_summary : Tables
+other_summary = record bought_tables { summaries = record { account = 100; symbol = codes "ABC"; qty = pos 101 } ∷ [] }
+
+-- a trade more of the broker
+unfoldable pub other_count : Tables
+other_count = record bought_tables { brokers = record { id = 1; name = codes "Bo"; trades = pos 2; commissions = 1010 } ∷ [] }
+
+-- a cent more of the broker
+unfoldable pub other_commissions : Tables
+other_commissions = record bought_tables { brokers = record { id = 1; name = codes "Bo"; trades = pos 1; commissions = 1011 } ∷ [] }
+
+-- a cent more of the trade
+unfoldable pub other_commission : Tables
+other_commission = record bought_tables { trades = map {B = TradeRow} (λ t. record t { commission = 1011 }) bought_tables.trades }
+
+-- a cent less settled
+unfoldable pub other_settlement : Tables
+other_settlement = record bought_tables { settlements = map {B = SettlementRow} (λ s. record s { amount = negsuc 102508 }) bought_tables.settlements }
+
+-- a cent less moved
+unfoldable pub other_cash : Tables
+other_cash = record bought_tables { cash = map {B = CashRow} (λ c. record c { amount = negsuc 102508 }) bought_tables.cash }
+
+-- a cent more of balance
+unfoldable pub other_balance : Tables
+other_balance = record bought_tables { accounts = record { id = 100; customer = 10; broker = 1; name = codes "Main"; tax_status = Withheld; opening = pos 1000000; balance = pos 897491 } ∷ [] }
+
+-- a lot and a summary changed
+unfoldable pub two_changes : Tables
+two_changes = record bought_tables { holdings = []; summaries = [] }

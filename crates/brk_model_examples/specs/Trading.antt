@@ -1,0 +1,179 @@
+-- What six trades come to, one after another: two purchases, a sale, a sale that turns the position short, a purchase that turns it back, a sale of all.
+use Rattle.std.specs.Prelude.{ℕ, true, false, Some, List, [], ◌∷◌, codes}
+use Rattle.brk_money.specs.declared.trade_type.TradeType.TheVariants.{MarketBuy, MarketSell}
+use Rattle.brk_money.specs.declared.status.Status.TheVariants.{Completed, Submitted}
+use Rattle.brk_model.specs.Records.{Trade}
+use Rattle.brk_model.specs.Base.{Base}
+use Rattle.brk_model_examples.specs.Setting.{setting}
+
+-- a hundred bought at 10.10
+abbrev pub first_purchase : Trade
+first_purchase = record {
+  id = 1;
+  account = 100;
+  kind = MarketBuy;
+  symbol = codes "ABC";
+  qty = 100;
+  bid = 1000;
+  is_cash = true;
+  is_lifo = false;
+  executor = codes "Ann Lee";
+  charge = 500;
+  commission = 1010;
+  tax = 0;
+  price = Some 1010;
+  marks = record { stamp = 1709251200016; status = Submitted } ∷ record { stamp = 1709251200017; status = Completed } ∷ [];
+  cash_type = codes "Cash Account";
+  cash_name = codes "Market-Buy 100 shares of Acme";
+}
+
+-- two hundred bought at 12.00
+abbrev pub second_purchase : Trade
+second_purchase = record {
+  id = 2;
+  account = 100;
+  kind = MarketBuy;
+  symbol = codes "ABC";
+  qty = 200;
+  bid = 1000;
+  is_cash = true;
+  is_lifo = false;
+  executor = codes "Ann Lee";
+  charge = 500;
+  commission = 2400;
+  tax = 0;
+  price = Some 1200;
+  marks = record { stamp = 1709251200018; status = Submitted } ∷ record { stamp = 1709251200019; status = Completed } ∷ [];
+  cash_type = codes "Cash Account";
+  cash_name = codes "Market-Buy 200 shares of Acme";
+}
+
+-- a hundred and fifty sold at 13.00, the first shares first
+abbrev pub first_sale : Trade
+first_sale = record {
+  id = 3;
+  account = 100;
+  kind = MarketSell;
+  symbol = codes "ABC";
+  qty = 150;
+  bid = 1000;
+  is_cash = true;
+  is_lifo = false;
+  executor = codes "Ann Lee";
+  charge = 500;
+  commission = 1950;
+  tax = 6800;
+  price = Some 1300;
+  marks = record { stamp = 1709251200020; status = Submitted } ∷ record { stamp = 1709251200021; status = Completed } ∷ [];
+  cash_type = codes "Cash Account";
+  cash_name = codes "Market-Sell 150 shares of Acme";
+}
+
+-- the same with the last shares first
+abbrev pub last_sale : Trade
+last_sale = record {
+  id = 3;
+  account = 100;
+  kind = MarketSell;
+  symbol = codes "ABC";
+  qty = 150;
+  bid = 1000;
+  is_cash = true;
+  is_lifo = true;
+  executor = codes "Ann Lee";
+  charge = 500;
+  commission = 1950;
+  tax = 3000;
+  price = Some 1300;
+  marks = record { stamp = 1709251200020; status = Submitted } ∷ record { stamp = 1709251200021; status = Completed } ∷ [];
+  cash_type = codes "Cash Account";
+  cash_name = codes "Market-Sell 150 shares of Acme";
+}
+
+-- four hundred sold at 13.00
+abbrev pub short_sale : Trade
+short_sale = record {
+  id = 4;
+  account = 100;
+  kind = MarketSell;
+  symbol = codes "ABC";
+  qty = 400;
+  bid = 1000;
+  is_cash = true;
+  is_lifo = false;
+  executor = codes "Ann Lee";
+  charge = 500;
+  commission = 5200;
+  tax = 3000;
+  price = Some 1300;
+  marks = record { stamp = 1709251200022; status = Submitted } ∷ record { stamp = 1709251200023; status = Completed } ∷ [];
+  cash_type = codes "Cash Account";
+  cash_name = codes "Market-Sell 400 shares of Acme";
+}
+
+-- three hundred bought at 11.00
+abbrev pub cover : Trade
+cover = record {
+  id = 5;
+  account = 100;
+  kind = MarketBuy;
+  symbol = codes "ABC";
+  qty = 300;
+  bid = 1000;
+  is_cash = true;
+  is_lifo = false;
+  executor = codes "Ann Lee";
+  charge = 500;
+  commission = 3300;
+  tax = 10000;
+  price = Some 1100;
+  marks = record { stamp = 1709251200024; status = Submitted } ∷ record { stamp = 1709251200025; status = Completed } ∷ [];
+  cash_type = codes "Cash Account";
+  cash_name = codes "Market-Buy 300 shares of Acme";
+}
+
+-- fifty sold at 11.00
+abbrev pub sale_of_all : Trade
+sale_of_all = record {
+  id = 6;
+  account = 100;
+  kind = MarketSell;
+  symbol = codes "ABC";
+  qty = 50;
+  bid = 1000;
+  is_cash = true;
+  is_lifo = false;
+  executor = codes "Ann Lee";
+  charge = 500;
+  commission = 550;
+  tax = 0;
+  price = Some 1100;
+  marks = record { stamp = 1709251200026; status = Submitted } ∷ record { stamp = 1709251200027; status = Completed } ∷ [];
+  cash_type = codes "Cash Account";
+  cash_name = codes "Market-Sell 50 shares of Acme";
+}
+
+-- the setting with some trades and a last stamp
+abbrev pub traded : List Trade → ℕ → Base
+traded trades last = record setting { trades = trades; last = Some last }
+
+unfoldable pub bought : Base
+bought = traded (first_purchase ∷ []) 1709251200017
+
+unfoldable pub bought_twice : Base
+bought_twice = traded (first_purchase ∷ second_purchase ∷ []) 1709251200019
+
+unfoldable pub sold : Base
+sold = traded (first_purchase ∷ second_purchase ∷ first_sale ∷ []) 1709251200021
+
+unfoldable pub sold_last_first : Base
+sold_last_first = traded (first_purchase ∷ second_purchase ∷ last_sale ∷ []) 1709251200021
+
+unfoldable pub flipped : Base
+flipped = traded (first_purchase ∷ second_purchase ∷ first_sale ∷ short_sale ∷ []) 1709251200023
+
+unfoldable pub covered : Base
+covered = traded (first_purchase ∷ second_purchase ∷ first_sale ∷ short_sale ∷ cover ∷ []) 1709251200025
+
+unfoldable pub closed : Base
+closed = traded (first_purchase ∷ second_purchase ∷ first_sale ∷ short_sale ∷ cover ∷ sale_of_all ∷ []) 1709251200027

@@ -1,0 +1,51 @@
+//! The forms of fields, and the order in which their refusals stand.
+#![tactic(auto, unfolding(crate::proofs::OnLiterals::model_on_literals))]
+
+ghost use Rattle.std.specs.Prelude.{◌≡◌, ◌∷◌, [], Err, Some, None, pos, negsuc, codes};
+ghost use Rattle.std.specs.List.{repeat};
+ghost use Rattle.brk_money.specs.Spelling.{cents_of, number_of};
+ghost use Rattle.brk_money.specs.declared.refusal.Refusal.TheVariants.{BadText, BadQty, BadPrice, BadType, TooMany};
+ghost use Rattle.brk_model.specs.Parse.{parse_row};
+ghost use Rattle.brk_model_examples.specs.Batches.{Gives};
+ghost use Rattle.brk_model_examples.specs.Setting.{setting};
+
+/// Of several fields that break their form, the refusal is the first in the order text, quantity, price, type; the number of ticks comes last.
+pub fn order_of_forms()
+    ensures text_first { parse_row (codes "charge" ∷ codes "TMX" ∷ codes "9" ∷ codes "5.00" ∷ []) ≡ Err BadText }
+    ensures qty_then { parse_row (codes "order" ∷ codes "1" ∷ codes "TMX" ∷ codes "ABC" ∷ codes "0" ∷ codes "x" ∷ codes "cash" ∷ codes "fifo" ∷ codes "A" ∷ codes "B" ∷ codes "C" ∷ []) ≡ Err BadQty }
+    ensures price_then { parse_row (codes "order" ∷ codes "1" ∷ codes "TMX" ∷ codes "ABC" ∷ codes "1" ∷ codes "x" ∷ codes "cash" ∷ codes "fifo" ∷ codes "A" ∷ codes "B" ∷ codes "C" ∷ []) ≡ Err BadPrice }
+    ensures type_then { parse_row (codes "order" ∷ codes "1" ∷ codes "TMX" ∷ codes "ABC" ∷ codes "1" ∷ [] ∷ codes "cash" ∷ codes "fifo" ∷ codes "A" ∷ codes "B" ∷ codes "C" ∷ []) ≡ Err BadType }
+    ensures market_price { parse_row (codes "order" ∷ codes "1" ∷ codes "TMB" ∷ codes "ABC" ∷ codes "1" ∷ codes "1.00" ∷ codes "cash" ∷ codes "fifo" ∷ codes "A" ∷ codes "B" ∷ codes "C" ∷ []) ≡ Err BadPrice }
+    ensures no_price { parse_row (codes "order" ∷ codes "1" ∷ codes "TLB" ∷ codes "ABC" ∷ codes "1" ∷ [] ∷ codes "cash" ∷ codes "fifo" ∷ codes "A" ∷ codes "B" ∷ codes "C" ∷ []) ≡ Err BadPrice }
+    ensures ticks { parse_row (codes "feed" ∷ repeat 21 (codes "ABC" ∷ codes "1.00" ∷ codes "1" ∷ [])) ≡ Err TooMany }
+    ensures bad_tick { parse_row (codes "feed" ∷ codes "ABC" ∷ codes "x" ∷ codes "1" ∷ repeat 20 (codes "ABC" ∷ codes "1.00" ∷ codes "1" ∷ [])) ≡ Err BadPrice }
+    ensures no_tick { parse_row (codes "feed" ∷ []) ≡ Err BadText }
+    ensures unknown { parse_row (codes "fead" ∷ codes "1" ∷ []) ≡ Err BadText }
+    ensures no_field { parse_row [] ≡ Err BadText }
+{}
+
+/// An amount and a number have one spelling.
+pub fn spellings()
+    ensures cents { cents_of (codes "10000.00") ≡ Some (pos 1000000) }
+    ensures minus { cents_of (codes "-0.01") ≡ Some (negsuc 0) }
+    ensures minus_zero { cents_of (codes "-0.00") ≡ None }
+    ensures needless_zero { cents_of (codes "010.00") ≡ None }
+    ensures one_place { cents_of (codes "10.0") ≡ None }
+    ensures number { number_of (codes "120") ≡ Some 120 }
+    ensures zero { number_of (codes "0") ≡ Some 0 }
+    ensures zeros { number_of (codes "00") ≡ None }
+    ensures sign { number_of (codes "+1") ≡ None }
+    ensures empty { number_of [] ≡ None }
+{}
+
+/// An account whose opening balance is spelled otherwise is refused.
+pub fn opening_spelled_otherwise()
+    ensures { Gives setting
+        (codes "account,101,10,1,Main,1,-0.00"
+        ∷ codes "account,101,10,1,Main,1,010.00"
+        ∷ codes "account,101,10,1,Main,1,10.0" ∷ [])
+        (codes "1,no,18"
+        ∷ codes "2,no,18"
+        ∷ codes "3,no,18"
+        ∷ codes "end,0,0,3" ∷ []) }
+{}

@@ -1,0 +1,86 @@
+//! Feeds, triggers and cancels (Market-Feed).
+#![tactic(auto, unfolding(crate::proofs::OnLiterals::model_on_literals))]
+
+ghost use Rattle.std.specs.Prelude.{◌≡◌, ◌∷◌, ◌==◌, [], ℕ, Ok, map, filter, codes};
+ghost use Rattle.brk_model.specs.Shares.{history};
+ghost use Rattle.brk_model.specs.Tables.{tables_of};
+ghost use Rattle.brk_model_examples.specs.Batches.{after, Gives, unkept, view};
+ghost use Rattle.brk_model_examples.specs.Setting.{setting};
+ghost use Rattle.brk_model_examples.specs.Waiting.{waiting, waiting_rows};
+ghost use Rattle.brk_model_examples.specs.Extremes.{full_volume};
+
+/// A feed of two ticks of one symbol triggers two of three orders that wait, one each; its last tick is the last price.
+pub fn triggers()
+    ensures waiting { Gives setting waiting_rows
+        (codes "1,ok,1709251200016,1,PNDG,9.50,0.00,0.00,0.00,0.95,5.00,10000.00"
+        ∷ codes "2,ok,1709251200017,2,PNDG,10.00,0.00,0.00,0.00,1.00,5.00,10000.00"
+        ∷ codes "3,ok,1709251200018,3,PNDG,10.50,0.00,0.00,0.00,1.05,5.00,10000.00"
+        ∷ codes "end,3,0,0" ∷ []) }
+    ensures base { unkept (after setting waiting_rows) ≡ waiting }
+    ensures lines { Gives waiting
+        (codes "feed,ABC,10.01,100,ABC,9.50,200" ∷ [])
+        (codes "1,ok,1709251200019,1,2"
+        ∷ codes "end,1,0,0" ∷ []) }
+    ensures one_tick { Gives waiting
+        (codes "feed,ABC,10.01,100" ∷ [])
+        (codes "1,ok,1709251200019"
+        ∷ codes "end,1,0,0" ∷ []) }
+    ensures before { view waiting (codes "volume") (codes "Tech" ∷ codes "Bo" ∷ [])
+        ≡ Ok ((codes "Bo" ∷ codes "1" ∷ codes "300.00" ∷ [])
+        ∷ []) }
+    ensures after { view (after waiting
+        (codes "feed,ABC,10.01,100,ABC,9.50,200" ∷ [])) (codes "volume") (codes "Tech" ∷ codes "Bo" ∷ [])
+        ≡ Ok ((codes "Bo" ∷ codes "1" ∷ codes "105.00" ∷ [])
+        ∷ []) }
+    ensures prices { (tables_of (after waiting
+        (codes "feed,ABC,10.01,100,ABC,9.50,200" ∷ []))).last_trades
+        ≡ record { symbol = codes "ABC"; stamp = 1709251200019; price = 950; volume = 300 } ∷ [] }
+    ensures requests { map {B = ℕ} (λ r. r.trade) (tables_of (after waiting
+        (codes "feed,ABC,10.01,100,ABC,9.50,200" ∷ []))).requests ≡ 3 ∷ [] }
+    ensures history { map {B = ℕ} (λ h. h.trade) (filter (λ h. h.stamp == 1709251200019) (tables_of (after waiting
+        (codes "feed,ABC,10.01,100,ABC,9.50,200" ∷ []))).history) ≡ 1 ∷ 2 ∷ [] }
+{}
+
+/// Cancels need a pending trade, and a feed securities that are known; then what is submitted, and an estimate at the new price.
+pub fn cancels()
+    ensures lines { Gives waiting
+        (codes "cancel,1"
+        ∷ codes "cancel,1"
+        ∷ codes "feed,ABC,9.50,100"
+        ∷ codes "cancel,2"
+        ∷ codes "cancel,9"
+        ∷ codes "feed,ABC,9.60,1,QQQ,1.00,1"
+        ∷ codes "feed,ABC,9.60" ∷ [])
+        (codes "1,ok,1709251200019,CNCL"
+        ∷ codes "2,no,13,CNCL"
+        ∷ codes "3,ok,1709251200020,2"
+        ∷ codes "4,no,13,SBMT"
+        ∷ codes "5,no,5"
+        ∷ codes "6,no,4"
+        ∷ codes "7,no,18"
+        ∷ codes "end,2,0,5" ∷ []) }
+    ensures submitted { view (after waiting
+        (codes "cancel,1"
+        ∷ codes "feed,ABC,9.50,100" ∷ [])) (codes "submitted") ([])
+        ≡ Ok ((codes "2" ∷ codes "TLB" ∷ codes "ABC" ∷ codes "10" ∷ codes "10.00" ∷ [])
+        ∷ []) }
+    ensures estimate { view (after waiting
+        (codes "cancel,1"
+        ∷ codes "feed,ABC,9.50,100" ∷ [])) (codes "estimate") (codes "100" ∷ codes "TMB" ∷ codes "ABC" ∷ codes "100" ∷ [] ∷ codes "cash" ∷ codes "fifo" ∷ codes "Ann" ∷ codes "Lee" ∷ codes "T10" ∷ [])
+        ≡ Ok ((codes "9.50" ∷ codes "0.00" ∷ codes "0.00" ∷ codes "0.00" ∷ codes "9.50" ∷ codes "5.00" ∷ codes "10000.00" ∷ [])
+        ∷ []) }
+{}
+
+/// A volume at its end takes no more, also where two ticks of one feed pass it together.
+pub fn volume_at_its_end()
+    ensures room { Gives full_volume
+        (codes "feed,ABC,10.00,100" ∷ [])
+        (codes "1,ok,1709251200016"
+        ∷ codes "end,1,0,0" ∷ []) }
+    ensures none { Gives full_volume
+        (codes "feed,ABC,10.00,101"
+        ∷ codes "feed,ABC,10.00,100,ABC,10.00,1" ∷ [])
+        (codes "1,no,14,volume"
+        ∷ codes "2,no,14,volume"
+        ∷ codes "end,0,0,2" ∷ []) }
+{}

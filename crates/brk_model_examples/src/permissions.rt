@@ -1,0 +1,52 @@
+//! Who may order for an account.
+#![tactic(auto, unfolding(crate::proofs::OnLiterals::model_on_literals))]
+
+ghost use Rattle.std.specs.Prelude.{◌∷◌, [], codes};
+ghost use Rattle.brk_model_examples.specs.Batches.{Gives};
+ghost use Rattle.brk_model_examples.specs.Setting.{setting};
+
+/// An executor whose tax id differs is refused, until a permission names all three.
+pub fn permission()
+    ensures refused { Gives setting
+        (codes "order,100,TMB,ABC,100,,cash,fifo,Ann,Lee,T11" ∷ [])
+        (codes "1,no,6"
+        ∷ codes "end,0,0,1" ∷ []) }
+    ensures allowed { Gives setting
+        (codes "permission,100,0000,T11,Lee,Ann"
+        ∷ codes "order,100,TMB,ABC,100,,cash,fifo,Ann,Lee,T11" ∷ [])
+        (codes "1,ok,1709251200016"
+        ∷ codes "2,ok,1709251200017,1,SBMT,10.00,0.00,0.00,0.00,10.00,5.00,10000.00"
+        ∷ codes "end,2,0,0" ∷ []) }
+    ensures other_name { Gives setting
+        (codes "permission,100,0000,T11,Lee,Ann"
+        ∷ codes "order,100,TMB,ABC,100,,cash,fifo,Kim,Lee,T11" ∷ [])
+        (codes "1,ok,1709251200016"
+        ∷ codes "2,no,6"
+        ∷ codes "end,1,0,1" ∷ []) }
+{}
+
+/// A customer of another tier needs a charge, then a band of commission.
+pub fn charge_and_rate()
+    ensures { Gives setting
+        (codes "customer,11,2,T11,Kay,Kim"
+        ∷ codes "account,101,11,1,Side,0,0.00"
+        ∷ codes "order,101,TMB,ABC,100,,cash,fifo,Kim,Kay,T11"
+        ∷ codes "charge,TMB,2,5.00"
+        ∷ codes "order,101,TMB,ABC,100,,cash,fifo,Kim,Kay,T11" ∷ [])
+        (codes "1,ok,1709251200016"
+        ∷ codes "2,ok,1709251200017"
+        ∷ codes "3,no,10"
+        ∷ codes "4,ok,1709251200018"
+        ∷ codes "5,no,11"
+        ∷ codes "end,3,0,2" ∷ []) }
+{}
+
+/// An order names an account and a security that are there.
+pub fn unknown_names()
+    ensures { Gives setting
+        (codes "order,999,TMB,QQQ,100,,cash,fifo,Ann,Lee,T10"
+        ∷ codes "order,100,TMB,QQQ,100,,cash,fifo,Kim,Kay,T11" ∷ [])
+        (codes "1,no,1"
+        ∷ codes "2,no,4"
+        ∷ codes "end,0,0,2" ∷ []) }
+{}

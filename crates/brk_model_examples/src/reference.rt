@@ -1,0 +1,115 @@
+//! Reference rows: brokers, customers, accounts, and what trades cost.
+#![tactic(auto, unfolding(crate::proofs::OnLiterals::model_on_literals))]
+
+ghost use Rattle.std.specs.Prelude.{◌≡◌, ◌∷◌, [], ℕ, map, codes};
+ghost use Rattle.brk_model.specs.Base.{empty_base};
+ghost use Rattle.brk_model_examples.specs.Batches.{after, Gives, unkept};
+ghost use Rattle.brk_model_examples.specs.Setting.{setting, setting_rows};
+ghost use Rattle.brk_model_examples.specs.Extremes.{ten_accounts};
+
+/// A broker, a customer and two accounts, of which the second names no customer: it is refused, and its key is not kept.
+pub fn first_run()
+    ensures rows { Gives empty_base
+        (codes "broker,1,Bo"
+        ∷ codes "customer,10,1,T10,Lee,Ann"
+        ∷ codes "account,100,10,1,Main,1,10000.00"
+        ∷ codes "account,101,11,1,Side,0,0.00" ∷ [])
+        (codes "1,ok,1709251200000"
+        ∷ codes "2,ok,1709251200001"
+        ∷ codes "3,ok,1709251200002"
+        ∷ codes "4,no,2"
+        ∷ codes "end,3,0,1" ∷ []) }
+    ensures kept { map {B = ℕ} (λ k. k.key.row) (after empty_base
+        (codes "broker,1,Bo"
+        ∷ codes "customer,10,1,T10,Lee,Ann"
+        ∷ codes "account,100,10,1,Main,1,10000.00"
+        ∷ codes "account,101,11,1,Side,0,0.00" ∷ [])).kept ≡ 1 ∷ 2 ∷ 3 ∷ [] }
+    ensures none { Gives empty_base
+        []
+        (codes "end,0,0,0" ∷ []) }
+{}
+
+/// The sixteen rows of the setting, and the base that they come to.
+pub fn setting_is_told()
+    ensures lines { Gives empty_base setting_rows
+        (codes "1,ok,1709251200000"
+        ∷ codes "2,ok,1709251200001"
+        ∷ codes "3,ok,1709251200002"
+        ∷ codes "4,ok,1709251200003"
+        ∷ codes "5,ok,1709251200004"
+        ∷ codes "6,ok,1709251200005"
+        ∷ codes "7,ok,1709251200006"
+        ∷ codes "8,ok,1709251200007"
+        ∷ codes "9,ok,1709251200008"
+        ∷ codes "10,ok,1709251200009"
+        ∷ codes "11,ok,1709251200010"
+        ∷ codes "12,ok,1709251200011"
+        ∷ codes "13,ok,1709251200012"
+        ∷ codes "14,ok,1709251200013"
+        ∷ codes "15,ok,1709251200014"
+        ∷ codes "16,ok,1709251200015"
+        ∷ codes "end,16,0,0" ∷ []) }
+    ensures base { unkept (after empty_base setting_rows) ≡ setting }
+{}
+
+/// What reference rows are refused for.
+pub fn refused_rows()
+    ensures { Gives setting
+        (codes "band,1,TMB,NYSE,999999,999999,50"
+        ∷ codes "band,1,TMB,NYSE,2,1,50"
+        ∷ codes "taxrate,2,Fed,80001"
+        ∷ codes "custtax,10,2"
+        ∷ codes "custtax,10,3"
+        ∷ codes "custtax,11,1"
+        ∷ codes "customer,11,1,T10,Kay,Kim"
+        ∷ codes "permission,100,0002,T12,Lee,Ann"
+        ∷ codes "security,XYZ,Xyz,NYSE,Tech,0.00"
+        ∷ codes "charge,TMX,1,5.00"
+        ∷ codes "charge,TMB,2,10000.01" ∷ [])
+        (codes "1,no,16"
+        ∷ codes "2,no,8"
+        ∷ codes "3,ok,1709251200016"
+        ∷ codes "4,no,17"
+        ∷ codes "5,no,12"
+        ∷ codes "6,no,2"
+        ∷ codes "7,no,15"
+        ∷ codes "8,no,18"
+        ∷ codes "9,no,9"
+        ∷ codes "10,no,7"
+        ∷ codes "11,no,18"
+        ∷ codes "end,1,0,10" ∷ []) }
+{}
+
+/// A customer has ten accounts at most; that the broker is there is tested before.
+pub fn eleventh_account()
+    ensures { Gives ten_accounts
+        (codes "account,110,10,1,Main,1,0.00"
+        ∷ codes "account,110,10,2,Main,1,0.00" ∷ [])
+        (codes "1,no,14,accounts"
+        ∷ codes "2,no,3"
+        ∷ codes "end,0,0,2" ∷ []) }
+{}
+
+/// A name that is there already is refused: each table has one row to a key.
+pub fn names_twice()
+    ensures { Gives setting
+        (codes "broker,1,Bob"
+        ∷ codes "customer,10,2,T11,Lee,Ann"
+        ∷ codes "account,100,10,1,Main,1,0.00"
+        ∷ codes "security,ABC,Acme,NYSE,Tech,10.00"
+        ∷ codes "charge,TMB,1,6.00"
+        ∷ codes "taxrate,1,Fed,1"
+        ∷ codes "custtax,10,1"
+        ∷ codes "permission,100,0000,T11,Lee,Ann"
+        ∷ codes "permission,100,0001,T11,Kay,Kim" ∷ [])
+        (codes "1,no,15"
+        ∷ codes "2,no,15"
+        ∷ codes "3,no,15"
+        ∷ codes "4,no,15"
+        ∷ codes "5,no,15"
+        ∷ codes "6,no,15"
+        ∷ codes "7,no,15"
+        ∷ codes "8,ok,1709251200016"
+        ∷ codes "9,no,15"
+        ∷ codes "end,1,0,8" ∷ []) }
+{}

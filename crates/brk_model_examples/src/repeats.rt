@@ -1,0 +1,175 @@
+//! Rows that come again, and inputs that are cut.
+#![tactic(auto, unfolding(crate::proofs::OnLiterals::model_on_literals))]
+
+ghost use Rattle.std.specs.Prelude.{◌≡◌, ◌∷◌, [], ℕ, map, codes};
+ghost use Rattle.brk_model.specs.Base.{empty_base};
+ghost use Rattle.brk_model.specs.Batch.{NoEnd, BadEnd, BadHeader, EndedWell};
+ghost use Rattle.brk_model.specs.Computed.{batch};
+ghost use Rattle.brk_model_examples.specs.Batches.{clock, batch_text, in_lines, after, Gives};
+ghost use Rattle.brk_model_examples.specs.Setting.{setting, setting_rows};
+
+/// A batch sent again is answered with its kept lines at any moment, and a changed row is refused; neither changes the base.
+pub fn repeats()
+    ensures once { Gives setting
+        (codes "order,100,TMB,ABC,100,,cash,fifo,Ann,Lee,T10"
+        ∷ codes "result,1,10.10"
+        ∷ codes "order,100,TMB,ABC,200,,cash,fifo,Ann,Lee,T10"
+        ∷ codes "result,2,12.00"
+        ∷ codes "order,100,TMS,ABC,150,,cash,fifo,Ann,Lee,T10"
+        ∷ codes "result,3,13.00" ∷ [])
+        (codes "1,ok,1709251200016,1,SBMT,10.00,0.00,0.00,0.00,10.00,5.00,10000.00"
+        ∷ codes "2,ok,1709251200017,10.10,0.00,-1025.10,2024-03-03,0.00,0.00,8974.90"
+        ∷ codes "3,ok,1709251200018,2,SBMT,10.00,0.00,0.00,0.00,20.00,5.00,9974.90"
+        ∷ codes "4,ok,1709251200019,24.00,0.00,-2429.00,2024-03-03,0.00,0.00,6545.90"
+        ∷ codes "5,ok,1709251200020,3,SBMT,10.00,1610.00,1500.00,0.00,15.00,5.00,9545.90"
+        ∷ codes "6,ok,1709251200021,19.50,68.00,1857.50,2024-03-03,1610.00,1950.00,8403.40"
+        ∷ codes "end,6,0,0" ∷ []) }
+    ensures again { Gives (after setting
+        (codes "order,100,TMB,ABC,100,,cash,fifo,Ann,Lee,T10"
+        ∷ codes "result,1,10.10"
+        ∷ codes "order,100,TMB,ABC,200,,cash,fifo,Ann,Lee,T10"
+        ∷ codes "result,2,12.00"
+        ∷ codes "order,100,TMS,ABC,150,,cash,fifo,Ann,Lee,T10"
+        ∷ codes "result,3,13.00" ∷ []))
+        (codes "order,100,TMB,ABC,100,,cash,fifo,Ann,Lee,T10"
+        ∷ codes "result,1,10.10"
+        ∷ codes "order,100,TMB,ABC,200,,cash,fifo,Ann,Lee,T10"
+        ∷ codes "result,2,12.00"
+        ∷ codes "order,100,TMS,ABC,150,,cash,fifo,Ann,Lee,T10"
+        ∷ codes "result,3,13.00" ∷ [])
+        (codes "1,again,1709251200016,1,SBMT,10.00,0.00,0.00,0.00,10.00,5.00,10000.00"
+        ∷ codes "2,again,1709251200017,10.10,0.00,-1025.10,2024-03-03,0.00,0.00,8974.90"
+        ∷ codes "3,again,1709251200018,2,SBMT,10.00,0.00,0.00,0.00,20.00,5.00,9974.90"
+        ∷ codes "4,again,1709251200019,24.00,0.00,-2429.00,2024-03-03,0.00,0.00,6545.90"
+        ∷ codes "5,again,1709251200020,3,SBMT,10.00,1610.00,1500.00,0.00,15.00,5.00,9545.90"
+        ∷ codes "6,again,1709251200021,19.50,68.00,1857.50,2024-03-03,1610.00,1950.00,8403.40"
+        ∷ codes "end,0,6,0" ∷ []) }
+    ensures other { Gives (after setting
+        (codes "order,100,TMB,ABC,100,,cash,fifo,Ann,Lee,T10"
+        ∷ codes "result,1,10.10"
+        ∷ codes "order,100,TMB,ABC,200,,cash,fifo,Ann,Lee,T10"
+        ∷ codes "result,2,12.00"
+        ∷ codes "order,100,TMS,ABC,150,,cash,fifo,Ann,Lee,T10"
+        ∷ codes "result,3,13.00" ∷ []))
+        (codes "order,101,TMB,ABC,100,,cash,fifo,Ann,Lee,T10"
+        ∷ codes "result,1,10.10"
+        ∷ codes "order,100,TMB,ABC,200,,cash,fifo,Ann,Lee,T10"
+        ∷ codes "result,2,12.00"
+        ∷ codes "order,100,TMS,ABC,150,,cash,fifo,Ann,Lee,T10"
+        ∷ codes "result,3,13.00" ∷ [])
+        (codes "1,no,19"
+        ∷ codes "2,again,1709251200017,10.10,0.00,-1025.10,2024-03-03,0.00,0.00,8974.90"
+        ∷ codes "3,again,1709251200018,2,SBMT,10.00,0.00,0.00,0.00,20.00,5.00,9974.90"
+        ∷ codes "4,again,1709251200019,24.00,0.00,-2429.00,2024-03-03,0.00,0.00,6545.90"
+        ∷ codes "5,again,1709251200020,3,SBMT,10.00,1610.00,1500.00,0.00,15.00,5.00,9545.90"
+        ∷ codes "6,again,1709251200021,19.50,68.00,1857.50,2024-03-03,1610.00,1950.00,8403.40"
+        ∷ codes "end,0,5,1" ∷ []) }
+    ensures base { after (after setting
+        (codes "order,100,TMB,ABC,100,,cash,fifo,Ann,Lee,T10"
+        ∷ codes "result,1,10.10"
+        ∷ codes "order,100,TMB,ABC,200,,cash,fifo,Ann,Lee,T10"
+        ∷ codes "result,2,12.00"
+        ∷ codes "order,100,TMS,ABC,150,,cash,fifo,Ann,Lee,T10"
+        ∷ codes "result,3,13.00" ∷ []))
+        (codes "order,100,TMB,ABC,100,,cash,fifo,Ann,Lee,T10"
+        ∷ codes "result,1,10.10"
+        ∷ codes "order,100,TMB,ABC,200,,cash,fifo,Ann,Lee,T10"
+        ∷ codes "result,2,12.00"
+        ∷ codes "order,100,TMS,ABC,150,,cash,fifo,Ann,Lee,T10"
+        ∷ codes "result,3,13.00" ∷ []) ≡ after setting
+        (codes "order,100,TMB,ABC,100,,cash,fifo,Ann,Lee,T10"
+        ∷ codes "result,1,10.10"
+        ∷ codes "order,100,TMB,ABC,200,,cash,fifo,Ann,Lee,T10"
+        ∷ codes "result,2,12.00"
+        ∷ codes "order,100,TMS,ABC,150,,cash,fifo,Ann,Lee,T10"
+        ∷ codes "result,3,13.00" ∷ []) }
+{}
+
+/// The setting sent again, and with another first row.
+pub fn setting_again()
+    ensures again { Gives (after empty_base setting_rows) setting_rows
+        (codes "1,again,1709251200000"
+        ∷ codes "2,again,1709251200001"
+        ∷ codes "3,again,1709251200002"
+        ∷ codes "4,again,1709251200003"
+        ∷ codes "5,again,1709251200004"
+        ∷ codes "6,again,1709251200005"
+        ∷ codes "7,again,1709251200006"
+        ∷ codes "8,again,1709251200007"
+        ∷ codes "9,again,1709251200008"
+        ∷ codes "10,again,1709251200009"
+        ∷ codes "11,again,1709251200010"
+        ∷ codes "12,again,1709251200011"
+        ∷ codes "13,again,1709251200012"
+        ∷ codes "14,again,1709251200013"
+        ∷ codes "15,again,1709251200014"
+        ∷ codes "16,again,1709251200015"
+        ∷ codes "end,0,16,0" ∷ []) }
+    ensures other { Gives (after empty_base setting_rows)
+        (codes "broker,1,Bob"
+        ∷ codes "customer,10,1,T10,Lee,Ann"
+        ∷ codes "account,100,10,1,Main,1,10000.00"
+        ∷ codes "security,ABC,Acme,NYSE,Tech,10.00"
+        ∷ codes "charge,TMB,1,5.00"
+        ∷ codes "charge,TMS,1,5.00"
+        ∷ codes "charge,TSL,1,5.00"
+        ∷ codes "charge,TLS,1,5.00"
+        ∷ codes "charge,TLB,1,5.00"
+        ∷ codes "band,1,TMB,NYSE,1,999999,100"
+        ∷ codes "band,1,TMS,NYSE,1,999999,100"
+        ∷ codes "band,1,TSL,NYSE,1,999999,100"
+        ∷ codes "band,1,TLS,NYSE,1,999999,100"
+        ∷ codes "band,1,TLB,NYSE,1,999999,100"
+        ∷ codes "taxrate,1,State,20000"
+        ∷ codes "custtax,10,1" ∷ [])
+        (codes "1,no,19"
+        ∷ codes "2,again,1709251200001"
+        ∷ codes "3,again,1709251200002"
+        ∷ codes "4,again,1709251200003"
+        ∷ codes "5,again,1709251200004"
+        ∷ codes "6,again,1709251200005"
+        ∷ codes "7,again,1709251200006"
+        ∷ codes "8,again,1709251200007"
+        ∷ codes "9,again,1709251200008"
+        ∷ codes "10,again,1709251200009"
+        ∷ codes "11,again,1709251200010"
+        ∷ codes "12,again,1709251200011"
+        ∷ codes "13,again,1709251200012"
+        ∷ codes "14,again,1709251200013"
+        ∷ codes "15,again,1709251200014"
+        ∷ codes "16,again,1709251200015"
+        ∷ codes "end,0,15,1" ∷ []) }
+{}
+
+/// A row that is refused keeps no key: after its cause is gone it is accepted.
+pub fn refused_then_accepted()
+    ensures { (batch (batch (after setting
+        (codes "account,101,11,1,Side,0,0.00" ∷ [])) clock (batch_text (codes "U") (codes "customer,11,1,T11,Kay,Kim" ∷ []))).base clock
+        (batch_text (codes "T") (codes "account,101,11,1,Side,0,0.00" ∷ []))).text
+        ≡ in_lines (codes "1,ok,1709251200017"
+        ∷ codes "end,1,0,0" ∷ []) }
+{}
+
+/// An input that is cut acts on no row that has no record after it.
+pub fn cut_input()
+    ensures text { (batch setting clock (codes "batch,C\nbroker,2,Cy\nbroker,3\nbroker,4,D")).text ≡ in_lines (codes "1,ok,1709251200016"
+        ∷ codes "2,no,18"
+        ∷ codes "3,no,18" ∷ []) }
+    ensures ending { (batch setting clock (codes "batch,C\nbroker,2,Cy\nbroker,3\nbroker,4,D")).ending ≡ NoEnd }
+    ensures rows { (batch setting clock (codes "batch,C\nbroker,2,Cy\nbroker,3\nbroker,4,D")).rows ≡ 3 }
+    ensures brokers { map {B = ℕ} (λ b. b.id) (batch setting clock (codes "batch,C\nbroker,2,Cy\nbroker,3\nbroker,4,D")).base.brokers ≡ 1 ∷ 2 ∷ [] }
+    ensures header_alone { (batch setting clock (codes "batch,C\n")).ending ≡ NoEnd }
+{}
+
+/// What is no header, and what is no right end; the row before a wrong end acts.
+pub fn headers_and_ends()
+    ensures nothing { (batch setting clock []).ending ≡ BadHeader }
+    ensures no_name { (batch setting clock (codes "batch,\nend,0\n")).ending ≡ BadHeader }
+    ensures more { (batch setting clock (codes "batch,A,B\nend,0\n")).ending ≡ BadHeader }
+    ensures other_count { (batch setting clock (codes "batch,C\nbroker,2,Cy\nend,2\n")).ending ≡ BadEnd }
+    ensures zero { (batch setting clock (codes "batch,C\nend,00\n")).ending ≡ BadEnd }
+    ensures field_more { (batch setting clock (codes "batch,C\nend,0,\n")).ending ≡ BadEnd }
+    ensures no_count { (batch setting clock (codes "batch,C\nend\n")).ending ≡ BadEnd }
+    ensures acted { (batch setting clock (codes "batch,C\nbroker,2,Cy\nend,2\n")).text ≡ in_lines (codes "1,ok,1709251200016" ∷ []) }
+    ensures well { (batch setting clock (codes "batch,C\nbroker,2,Cy\nend,1\nbroker,3,Di\n")).ending ≡ EndedWell }
+{}

@@ -1,0 +1,65 @@
+//! Single rules, each at its edge.
+#![tactic(auto, unfolding(crate::proofs::OnLiterals::model_on_literals))]
+
+ghost use Rattle.std.specs.Prelude.{◌≡◌, ◌∷◌, [], ℕ, ℤ, pos, negsuc, map, true, false, codes};
+ghost use Rattle.brk_money.specs.Amounts.{commission, tax};
+ghost use Rattle.brk_money.specs.declared.trade_type.TradeType.TheVariants.{LimitBuy, LimitSell, MarketBuy, MarketSell, StopLoss};
+ghost use Rattle.brk_money.specs.declared.tax_status.TaxStatus.TheVariants.{Reported, Untaxed, Withheld};
+ghost use Rattle.brk_model.specs.Derived.{amount_of, balance_of};
+ghost use Rattle.brk_model.specs.Feed.{triggers};
+ghost use Rattle.brk_model.specs.Orders.{permitted};
+ghost use Rattle.brk_model.specs.Tests.{next_stamp};
+ghost use Rattle.brk_model_examples.specs.Batches.{after};
+ghost use Rattle.brk_model_examples.specs.Rules.{account_at, ann, her_permission, herself, namesake, on_margin, other_permission};
+ghost use Rattle.brk_model_examples.specs.Setting.{setting};
+ghost use Rattle.brk_model_examples.specs.Trading.{closed, first_purchase, first_sale};
+
+/// Half a cent is rounded upwards, and a loss bears no tax.
+pub fn rounding()
+    ensures half { commission 100 1 50 ≡ 1 }
+    ensures less { commission 100 1 49 ≡ 0 }
+    ensures gain { tax (pos 34000) 20000 ≡ 6800 }
+    ensures loss { tax (negsuc 9999) 20000 ≡ 0 }
+{}
+
+/// A stop loss is triggered at its bid or below, a limit to sell at its bid or above, a limit to buy at its bid or below.
+pub fn triggers_at_the_bid()
+    ensures stop_loss { map (triggers StopLoss 950) (949 ∷ 950 ∷ 951 ∷ []) ≡ true ∷ true ∷ false ∷ [] }
+    ensures limit_sell { map (triggers LimitSell 1050) (1049 ∷ 1050 ∷ 1051 ∷ []) ≡ false ∷ true ∷ true ∷ [] }
+    ensures limit_buy { map (triggers LimitBuy 1000) (999 ∷ 1000 ∷ 1001 ∷ []) ≡ true ∷ true ∷ false ∷ [] }
+    ensures market { triggers MarketBuy 1000 1000 ≡ false }
+    ensures market_sell { triggers MarketSell 1000 1000 ≡ false }
+{}
+
+/// The tax is taken off what a sale settles for at one tax status alone.
+pub fn settled_amounts()
+    ensures { map {B = ℤ} (λ status. amount_of (account_at status ∷ []) first_sale) (Untaxed ∷ Withheld ∷ Reported ∷ []) ≡ pos 192550 ∷ pos 185750 ∷ pos 192550 ∷ [] }
+{}
+
+/// A cash trade moves the balance, and a margin trade does not.
+pub fn balances()
+    ensures cash { balance_of (account_at Withheld ∷ []) (first_purchase ∷ []) 100 ≡ pos 897490 }
+    ensures margin { balance_of (account_at Withheld ∷ []) (on_margin ∷ []) 100 ≡ pos 1000000 }
+{}
+
+/// First name, last name and tax id are the customer's, or one permission names all three.
+pub fn permissions()
+    ensures herself { permitted ann [] herself ≡ true }
+    ensures namesake { permitted ann [] namesake ≡ false }
+    ensures named { permitted ann (her_permission ∷ []) namesake ≡ true }
+    ensures other { permitted ann (other_permission ∷ []) namesake ≡ false }
+{}
+
+/// A stamp is above the last one, whatever the moment is.
+pub fn stamps()
+    ensures behind { next_stamp closed 0 ≡ 1709251200028 }
+    ensures at_it { next_stamp closed 1709251200027 ≡ 1709251200028 }
+    ensures ahead { next_stamp closed 1709337600000 ≡ 1709337600000 }
+{}
+
+/// An order that comes again under its key is no second trade.
+pub fn one_trade_to_a_key()
+    ensures { map {B = ℕ} (λ t. t.id) (after (after setting
+        (codes "order,100,TMB,ABC,100,,cash,fifo,Ann,Lee,T10" ∷ []))
+        (codes "order,100,TMB,ABC,100,,cash,fifo,Ann,Lee,T10" ∷ [])).trades ≡ 1 ∷ [] }
+{}

@@ -1,0 +1,46 @@
+//! Statements.
+#![tactic(auto, unfolding(crate::proofs::OnLiterals::model_on_literals))]
+
+ghost use Rattle.std.specs.Prelude.{◌≡◌, ◌∷◌, [], Ok, Err, Some, None, codes};
+ghost use Rattle.brk_money.specs.Spelling.{day_text, day_of_text};
+ghost use Rattle.brk_money.specs.Moments.{last_day};
+ghost use Rattle.brk_money.specs.declared.refusal.Refusal.TheVariants.{BadText, NoAccount};
+ghost use Rattle.brk_model.specs.Tables.{tables_of};
+ghost use Rattle.brk_model.specs.Statement.{statement};
+ghost use Rattle.brk_model_examples.specs.Batches.{in_lines};
+ghost use Rattle.brk_model_examples.specs.Trading.{sold};
+
+/// The statement after a sale, of that month and of the days after it.
+pub fn statement_after_a_sale()
+    ensures month { statement (tables_of sold) 100 19783 19813 ≡ Ok (in_lines (codes "Statement of account 100"
+        ∷ codes "Main"
+        ∷ codes "From 2024-03-01 to 2024-03-31"
+        ∷ codes "Opening                  10000.00"
+        ∷ codes "2024-03-01               -1025.10 Market-Buy 100 shares of Acme"
+        ∷ codes "2024-03-01               -2429.00 Market-Buy 200 shares of Acme"
+        ∷ codes "2024-03-01                1857.50 Market-Sell 150 shares of Acme"
+        ∷ codes "Closing                   8403.40"
+        ∷ codes "ABC                         2         150      12.00"
+        ∷ codes "Holdings                  1500.00"
+        ∷ codes "Cash rows 3, lots 1" ∷ [])) }
+    ensures later { statement (tables_of sold) 100 19784 19813 ≡ Ok (in_lines (codes "Statement of account 100"
+        ∷ codes "Main"
+        ∷ codes "From 2024-03-02 to 2024-03-31"
+        ∷ codes "Opening                   8403.40"
+        ∷ codes "Closing                   8403.40"
+        ∷ codes "ABC                         2         150      12.00"
+        ∷ codes "Holdings                  1500.00"
+        ∷ codes "Cash rows 0, lots 1" ∷ [])) }
+    ensures turned { statement (tables_of sold) 999 19784 19783 ≡ Err BadText }
+    ensures unknown { statement (tables_of sold) 999 19783 19813 ≡ Err NoAccount }
+{}
+
+/// Days and the numbers that they stand for.
+pub fn days()
+    ensures march { day_of_text (codes "2024-03-01") ≡ Some 19783 }
+    ensures leap { day_of_text (codes "2024-02-29") ≡ Some 19782 }
+    ensures no_leap { day_of_text (codes "2023-02-29") ≡ None }
+    ensures first { day_text 0 ≡ codes "1970-01-01" }
+    ensures last { day_text last_day ≡ codes "9999-12-31" }
+    ensures short { day_of_text (codes "2024-3-01") ≡ None }
+{}

@@ -1,0 +1,89 @@
+//! Wrong statuses, limits, and the end of the clock.
+#![tactic(auto, unfolding(crate::proofs::OnLiterals::model_on_literals))]
+
+ghost use Rattle.std.specs.Prelude.{◌≡◌, ◌∷◌, [], Ok, codes};
+ghost use Rattle.brk_model.specs.Tables.{tables_of};
+ghost use Rattle.brk_model.specs.Computed.{batch};
+ghost use Rattle.brk_model_examples.specs.Batches.{batch_text, in_lines, after, Gives, view};
+ghost use Rattle.brk_model_examples.specs.Setting.{setting};
+ghost use Rattle.brk_model_examples.specs.Trading.{bought, closed};
+ghost use Rattle.brk_model_examples.specs.Waiting.{waiting};
+ghost use Rattle.brk_model_examples.specs.Extremes.{at_the_end, commissions_before};
+
+/// A result needs a submitted trade.
+pub fn wrong_status()
+    ensures completed { Gives bought
+        (codes "result,1,11.00"
+        ∷ codes "result,9,11.00" ∷ [])
+        (codes "1,no,13,CMPT"
+        ∷ codes "2,no,5"
+        ∷ codes "end,0,0,2" ∷ []) }
+    ensures pending { Gives waiting
+        (codes "result,1,11.00" ∷ [])
+        (codes "1,no,13,PNDG"
+        ∷ codes "end,0,0,1" ∷ []) }
+{}
+
+/// A balance at its end takes no more: the trade stays submitted, and there is no lot.
+pub fn balance_at_its_end()
+    ensures lines { Gives setting
+        (codes "account,102,10,1,Rich,0,1000000000000000.00"
+        ∷ codes "order,102,TMS,ABC,100,,cash,fifo,Ann,Lee,T10"
+        ∷ codes "result,1,10.00" ∷ [])
+        (codes "1,ok,1709251200016"
+        ∷ codes "2,ok,1709251200017,1,SBMT,10.00,0.00,0.00,0.00,10.00,5.00,1000000000000000.00"
+        ∷ codes "3,no,14,balance"
+        ∷ codes "end,2,0,1" ∷ []) }
+    ensures lots { (tables_of (after setting
+        (codes "account,102,10,1,Rich,0,1000000000000000.00"
+        ∷ codes "order,102,TMS,ABC,100,,cash,fifo,Ann,Lee,T10"
+        ∷ codes "result,1,10.00" ∷ []))).holdings ≡ [] }
+    ensures submitted { view (after setting
+        (codes "account,102,10,1,Rich,0,1000000000000000.00"
+        ∷ codes "order,102,TMS,ABC,100,,cash,fifo,Ann,Lee,T10"
+        ∷ codes "result,1,10.00" ∷ [])) (codes "submitted") ([])
+        ≡ Ok ((codes "1" ∷ codes "TMS" ∷ codes "ABC" ∷ codes "100" ∷ codes "10.00" ∷ [])
+        ∷ []) }
+{}
+
+/// The commissions of a broker at their end take no more.
+pub fn commissions_at_their_end()
+    ensures room { Gives (commissions_before 99999999999998990)
+        (codes "order,100,TMB,ABC,100,,cash,fifo,Ann,Lee,T10"
+        ∷ codes "result,2,10.10" ∷ [])
+        (codes "1,ok,1709251200016,2,SBMT,10.00,0.00,0.00,0.00,10.00,5.00,10000.00"
+        ∷ codes "2,ok,1709251200017,10.10,0.00,-1025.10,2024-03-03,0.00,0.00,8974.90"
+        ∷ codes "end,2,0,0" ∷ []) }
+    ensures none { Gives (commissions_before 99999999999998991)
+        (codes "order,100,TMB,ABC,100,,cash,fifo,Ann,Lee,T10"
+        ∷ codes "result,2,10.10" ∷ [])
+        (codes "1,ok,1709251200016,2,SBMT,10.00,0.00,0.00,0.00,10.00,5.00,10000.00"
+        ∷ codes "2,no,14,broker"
+        ∷ codes "end,1,0,1" ∷ []) }
+{}
+
+/// The stamp goes on from the last one where the clock goes back.
+pub fn clock_behind()
+    ensures { (batch closed (0 ∷ []) (batch_text (codes "Y") (codes "broker,7,Cy" ∷ []))).text ≡ in_lines (codes "1,ok,1709251200028"
+        ∷ codes "end,1,0,0" ∷ []) }
+{}
+
+/// No stamp is left after the greatest one: all that passes the other tests is refused.
+pub fn clock_at_its_end()
+    ensures { Gives at_the_end
+        (codes "broker,7,Cy"
+        ∷ codes "broker,1,Bo" ∷ [])
+        (codes "1,no,21"
+        ∷ codes "2,no,15"
+        ∷ codes "end,0,0,2" ∷ []) }
+{}
+
+/// A result is refused where its due day would leave the calendar.
+pub fn due_day_at_its_end()
+    ensures { (batch setting (253402300799000 ∷ 0 ∷ []) (batch_text (codes "Y")
+        (codes "order,100,TMB,ABC,100,,cash,fifo,Ann,Lee,T10"
+        ∷ codes "result,1,10.00" ∷ []))).text
+        ≡ in_lines (codes "1,ok,253402300799000,1,SBMT,10.00,0.00,0.00,0.00,10.00,5.00,10000.00"
+        ∷ codes "2,no,21"
+        ∷ codes "end,1,0,1" ∷ []) }
+{}

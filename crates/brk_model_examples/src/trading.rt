@@ -1,0 +1,165 @@
+//! Orders and their results: positions, values, taxes, balances and broker numbers (Trade-Order, Trade-Result).
+#![tactic(auto, unfolding(crate::proofs::OnLiterals::model_on_literals))]
+
+ghost use Rattle.std.specs.Prelude.{◌≡◌, ◌∷◌, [], pos, negsuc, map, codes};
+ghost use Rattle.brk_model.specs.Tables.{tables_of};
+ghost use Rattle.brk_model_examples.specs.Batches.{after, Gives, unkept};
+ghost use Rattle.brk_model_examples.specs.Setting.{setting};
+ghost use Rattle.brk_model_examples.specs.Trading.{bought, bought_twice, sold, sold_last_first, flipped, covered, closed};
+ghost use Rattle.brk_model_examples.specs.Standing.{standing};
+
+/// A purchase at the market and its result. The commission is that of the price it was completed at, and not the estimate.
+pub fn purchase()
+    ensures lines { Gives setting
+        (codes "order,100,TMB,ABC,100,,cash,fifo,Ann,Lee,T10"
+        ∷ codes "result,1,10.10" ∷ [])
+        (codes "1,ok,1709251200016,1,SBMT,10.00,0.00,0.00,0.00,10.00,5.00,10000.00"
+        ∷ codes "2,ok,1709251200017,10.10,0.00,-1025.10,2024-03-03,0.00,0.00,8974.90"
+        ∷ codes "end,2,0,0" ∷ []) }
+    ensures base { unkept (after setting
+        (codes "order,100,TMB,ABC,100,,cash,fifo,Ann,Lee,T10"
+        ∷ codes "result,1,10.10" ∷ [])) ≡ bought }
+    ensures standing { standing bought 1 ≡ record {
+      lots = (1, pos 100) ∷ [];
+      changes = (1, pos 0, pos 100) ∷ [];
+      summaries = pos 100 ∷ [];
+      balances = pos 897490 ∷ [];
+      brokers = (pos 1, 1010) ∷ [];
+    } }
+{}
+
+/// A second purchase opens a lot of its own.
+pub fn second_lot()
+    ensures lines { Gives bought
+        (codes "order,100,TMB,ABC,200,,cash,fifo,Ann,Lee,T10"
+        ∷ codes "result,2,12.00" ∷ [])
+        (codes "1,ok,1709251200018,2,SBMT,10.00,0.00,0.00,0.00,20.00,5.00,9974.90"
+        ∷ codes "2,ok,1709251200019,24.00,0.00,-2429.00,2024-03-03,0.00,0.00,6545.90"
+        ∷ codes "end,2,0,0" ∷ []) }
+    ensures base { unkept (after bought
+        (codes "order,100,TMB,ABC,200,,cash,fifo,Ann,Lee,T10"
+        ∷ codes "result,2,12.00" ∷ [])) ≡ bought_twice }
+    ensures standing { standing bought_twice 2 ≡ record {
+      lots = (1, pos 100) ∷ (2, pos 200) ∷ [];
+      changes = (2, pos 0, pos 200) ∷ [];
+      summaries = pos 300 ∷ [];
+      balances = pos 654590 ∷ [];
+      brokers = (pos 2, 3410) ∷ [];
+    } }
+{}
+
+/// A sale first in first out closes the first lot and a part of the second, and is taxed on its gain.
+pub fn first_in_first_out()
+    ensures lines { Gives bought_twice
+        (codes "order,100,TMS,ABC,150,,cash,fifo,Ann,Lee,T10"
+        ∷ codes "result,3,13.00" ∷ [])
+        (codes "1,ok,1709251200020,3,SBMT,10.00,1610.00,1500.00,0.00,15.00,5.00,9545.90"
+        ∷ codes "2,ok,1709251200021,19.50,68.00,1857.50,2024-03-03,1610.00,1950.00,8403.40"
+        ∷ codes "end,2,0,0" ∷ []) }
+    ensures base { unkept (after bought_twice
+        (codes "order,100,TMS,ABC,150,,cash,fifo,Ann,Lee,T10"
+        ∷ codes "result,3,13.00" ∷ [])) ≡ sold }
+    ensures standing { standing sold 3 ≡ record {
+      lots = (2, pos 150) ∷ [];
+      changes = (1, pos 100, pos 0) ∷ (2, pos 200, pos 150) ∷ [];
+      summaries = pos 150 ∷ [];
+      balances = pos 840340 ∷ [];
+      brokers = (pos 3, 5360) ∷ [];
+    } }
+{}
+
+/// The same sale last in first out closes a part of the second lot alone.
+pub fn last_in_first_out()
+    ensures lines { Gives bought_twice
+        (codes "order,100,TMS,ABC,150,,cash,lifo,Ann,Lee,T10"
+        ∷ codes "result,3,13.00" ∷ [])
+        (codes "1,ok,1709251200020,3,SBMT,10.00,1800.00,1500.00,0.00,15.00,5.00,9545.90"
+        ∷ codes "2,ok,1709251200021,19.50,30.00,1895.50,2024-03-03,1800.00,1950.00,8441.40"
+        ∷ codes "end,2,0,0" ∷ []) }
+    ensures base { unkept (after bought_twice
+        (codes "order,100,TMS,ABC,150,,cash,lifo,Ann,Lee,T10"
+        ∷ codes "result,3,13.00" ∷ [])) ≡ sold_last_first }
+    ensures standing { standing sold_last_first 3 ≡ record {
+      lots = (1, pos 100) ∷ (2, pos 50) ∷ [];
+      changes = (2, pos 200, pos 50) ∷ [];
+      summaries = pos 150 ∷ [];
+      balances = pos 844140 ∷ [];
+      brokers = (pos 3, 5360) ∷ [];
+    } }
+{}
+
+/// A sale of more than there is closes what there is, and opens a lot of the other sign.
+pub fn sign_flips()
+    ensures lines { Gives sold
+        (codes "order,100,TMS,ABC,400,,cash,fifo,Ann,Lee,T10"
+        ∷ codes "result,4,13.00" ∷ [])
+        (codes "1,ok,1709251200022,4,SBMT,10.00,1800.00,1500.00,0.00,40.00,5.00,9903.40"
+        ∷ codes "2,ok,1709251200023,52.00,30.00,5113.00,2024-03-03,1800.00,1950.00,13516.40"
+        ∷ codes "end,2,0,0" ∷ []) }
+    ensures base { unkept (after sold
+        (codes "order,100,TMS,ABC,400,,cash,fifo,Ann,Lee,T10"
+        ∷ codes "result,4,13.00" ∷ [])) ≡ flipped }
+    ensures standing { standing flipped 4 ≡ record {
+      lots = (4, negsuc 249) ∷ [];
+      changes = (2, pos 150, pos 0) ∷ (4, pos 0, negsuc 249) ∷ [];
+      summaries = negsuc 249 ∷ [];
+      balances = pos 1351640 ∷ [];
+      brokers = (pos 4, 10560) ∷ [];
+    } }
+{}
+
+/// A purchase covers the short lot, is taxed on its gain, and opens a long lot again.
+pub fn cover_and_flip_back()
+    ensures lines { Gives flipped
+        (codes "order,100,TMB,ABC,300,,cash,fifo,Ann,Lee,T10"
+        ∷ codes "result,5,11.00" ∷ [])
+        (codes "1,ok,1709251200024,5,SBMT,10.00,2500.00,3250.00,150.00,30.00,5.00,11016.40"
+        ∷ codes "2,ok,1709251200025,33.00,100.00,-3438.00,2024-03-03,2750.00,3250.00,10078.40"
+        ∷ codes "end,2,0,0" ∷ []) }
+    ensures base { unkept (after flipped
+        (codes "order,100,TMB,ABC,300,,cash,fifo,Ann,Lee,T10"
+        ∷ codes "result,5,11.00" ∷ [])) ≡ covered }
+    ensures standing { standing covered 5 ≡ record {
+      lots = (5, pos 50) ∷ [];
+      changes = (4, negsuc 249, pos 0) ∷ (5, pos 0, pos 50) ∷ [];
+      summaries = pos 50 ∷ [];
+      balances = pos 1007840 ∷ [];
+      brokers = (pos 5, 13860) ∷ [];
+    } }
+{}
+
+/// A sale of exactly all leaves no lot and no summary.
+pub fn exactly_all()
+    ensures lines { Gives covered
+        (codes "order,100,TMS,ABC,50,,cash,fifo,Ann,Lee,T10"
+        ∷ codes "result,6,11.00" ∷ [])
+        (codes "1,ok,1709251200026,6,SBMT,10.00,550.00,500.00,0.00,5.00,5.00,10578.40"
+        ∷ codes "2,ok,1709251200027,5.50,0.00,539.50,2024-03-03,550.00,550.00,10617.90"
+        ∷ codes "end,2,0,0" ∷ []) }
+    ensures base { unkept (after covered
+        (codes "order,100,TMS,ABC,50,,cash,fifo,Ann,Lee,T10"
+        ∷ codes "result,6,11.00" ∷ [])) ≡ closed }
+    ensures standing { standing closed 6 ≡ record {
+      lots = [];
+      changes = (5, pos 50, pos 0) ∷ [];
+      summaries = [];
+      balances = pos 1061790 ∷ [];
+      brokers = (pos 6, 14410) ∷ [];
+    } }
+{}
+
+/// A margin trade settles, and moves no cash.
+pub fn margin_trade()
+    ensures lines { Gives setting
+        (codes "order,100,TMB,ABC,100,,margin,fifo,Ann,Lee,T10"
+        ∷ codes "result,1,10.10" ∷ [])
+        (codes "1,ok,1709251200016,1,SBMT,10.00,0.00,0.00,0.00,10.00,5.00,10000.00"
+        ∷ codes "2,ok,1709251200017,10.10,0.00,-1025.10,2024-03-03,0.00,0.00,10000.00"
+        ∷ codes "end,2,0,0" ∷ []) }
+    ensures settled { map (λ row. row.cash_type) (tables_of (after setting
+        (codes "order,100,TMB,ABC,100,,margin,fifo,Ann,Lee,T10"
+        ∷ codes "result,1,10.10" ∷ []))).settlements ≡ codes "Margin" ∷ [] }
+    ensures no_cash { (tables_of (after setting
+        (codes "order,100,TMB,ABC,100,,margin,fifo,Ann,Lee,T10"
+        ∷ codes "result,1,10.10" ∷ []))).cash ≡ [] }
+{}

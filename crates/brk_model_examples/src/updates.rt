@@ -1,0 +1,78 @@
+//! Changed words (Trade-Update, by name alone).
+#![tactic(auto, unfolding(crate::proofs::OnLiterals::model_on_literals))]
+
+ghost use Rattle.std.specs.Prelude.{◌≡◌, ◌∷◌, [], Ok, map, codes};
+ghost use Rattle.brk_model.specs.Tables.{tables_of};
+ghost use Rattle.brk_model.specs.Updates.{changed_executor};
+ghost use Rattle.brk_model_examples.specs.Batches.{after, Gives, view};
+ghost use Rattle.brk_model_examples.specs.Setting.{setting};
+ghost use Rattle.brk_model_examples.specs.Trading.{sold};
+
+/// The three updates after a sale.
+pub fn updates()
+    ensures lines { Gives sold
+        (codes "upname,1"
+        ∷ codes "upname,1,1"
+        ∷ codes "upname,1,9"
+        ∷ codes "upcash,100,0,253402300799999"
+        ∷ codes "uptext,ABC,0,253402300799999"
+        ∷ codes "upcash,100,5,4" ∷ [])
+        (codes "1,ok,1709251200022,1"
+        ∷ codes "2,no,18"
+        ∷ codes "3,no,5"
+        ∷ codes "4,ok,1709251200023,3"
+        ∷ codes "5,ok,1709251200024,3"
+        ∷ codes "6,ok,1709251200025,0"
+        ∷ codes "end,4,0,2" ∷ []) }
+    ensures words { view (after sold
+        (codes "upname,1"
+        ∷ codes "upname,1,1"
+        ∷ codes "upname,1,9"
+        ∷ codes "upcash,100,0,253402300799999"
+        ∷ codes "uptext,ABC,0,253402300799999"
+        ∷ codes "upcash,100,5,4" ∷ [])) (codes "trades") (codes "1" ∷ [])
+        ≡ Ok ((codes "trade" ∷ codes "1" ∷ codes "1709251200017" ∷ codes "CMPT" ∷ codes "TMB" ∷ codes "ABC" ∷ codes "100" ∷ codes "10.00" ∷ codes "Ann X Lee" ∷ codes "10.10" ∷ codes "5.00" ∷ codes "10.10" ∷ codes "0.00" ∷ codes "cash" ∷ codes "fifo" ∷ [])
+        ∷ (codes "settlement" ∷ codes "Cash" ∷ codes "2024-03-03" ∷ codes "-1025.10" ∷ [])
+        ∷ (codes "cash" ∷ codes "1709251200017" ∷ codes "-1025.10" ∷ codes "Market-Buy 100 Shares of Acme" ∷ [])
+        ∷ (codes "history" ∷ codes "1709251200016" ∷ codes "SBMT" ∷ [])
+        ∷ (codes "history" ∷ codes "1709251200017" ∷ codes "CMPT" ∷ [])
+        ∷ []) }
+    ensures all { map (λ row. row.cash_type) (tables_of (after sold
+        (codes "upname,1"
+        ∷ codes "upname,1,1"
+        ∷ codes "upname,1,9"
+        ∷ codes "upcash,100,0,253402300799999"
+        ∷ codes "uptext,ABC,0,253402300799999"
+        ∷ codes "upcash,100,5,4" ∷ []))).settlements ≡ codes "Cash" ∷ codes "Cash" ∷ codes "Cash" ∷ [] }
+{}
+
+/// The name goes in and out again; of two it leaves one.
+pub fn names()
+    ensures in_it { map (λ t. t.executor) (after sold
+        (codes "upname,1" ∷ [])).trades ≡ codes "Ann X Lee" ∷ codes "Ann Lee" ∷ codes "Ann Lee" ∷ [] }
+    ensures out { map (λ t. t.executor) (after sold
+        (codes "upname,1"
+        ∷ codes "upname,1" ∷ [])).trades ≡ codes "Ann Lee" ∷ codes "Ann Lee" ∷ codes "Ann Lee" ∷ [] }
+    ensures twice { changed_executor (codes "Ann X X Lee") ≡ codes "Ann X Lee" }
+{}
+
+/// The words of a margin trade: it has no cash row, and uptext does not choose it.
+pub fn margin_words()
+    ensures once { map (λ t. t.cash_type) (after setting
+        (codes "order,100,TMB,ABC,100,,margin,fifo,Ann,Lee,T10"
+        ∷ codes "result,1,10.10"
+        ∷ codes "upcash,100,0,253402300799999" ∷ [])).trades ≡ codes "Margin Account" ∷ [] }
+    ensures twice { map (λ t. t.cash_type) (after setting
+        (codes "order,100,TMB,ABC,100,,margin,fifo,Ann,Lee,T10"
+        ∷ codes "result,1,10.10"
+        ∷ codes "upcash,100,0,253402300799999"
+        ∷ codes "upcash,100,0,253402300799999" ∷ [])).trades ≡ codes "Margin" ∷ [] }
+    ensures text { Gives setting
+        (codes "order,100,TMB,ABC,100,,margin,fifo,Ann,Lee,T10"
+        ∷ codes "result,1,10.10"
+        ∷ codes "uptext,ABC,0,253402300799999" ∷ [])
+        (codes "1,ok,1709251200016,1,SBMT,10.00,0.00,0.00,0.00,10.00,5.00,10000.00"
+        ∷ codes "2,ok,1709251200017,10.10,0.00,-1025.10,2024-03-03,0.00,0.00,10000.00"
+        ∷ codes "3,ok,1709251200018,0"
+        ∷ codes "end,3,0,0" ∷ []) }
+{}

@@ -1,0 +1,94 @@
+//! The views (Customer-Position, Trade-Status, Trade-Lookup by name alone).
+#![tactic(auto, unfolding(crate::proofs::OnLiterals::model_on_literals))]
+
+ghost use Rattle.std.specs.Prelude.{◌≡◌, ◌∷◌, [], Ok, Err, codes};
+ghost use Rattle.brk_money.specs.declared.refusal.Refusal.TheVariants.{BadText, NoCustomer, NoTrade, NotPermitted};
+ghost use Rattle.brk_model_examples.specs.Batches.{view};
+ghost use Rattle.brk_model_examples.specs.Trading.{bought, bought_twice, sold};
+
+/// What a customer has, by id and by tax id.
+pub fn customer_position()
+    ensures by_id { view sold (codes "customer") (codes "10" ∷ [])
+        ≡ Ok ((codes "100" ∷ codes "8403.40" ∷ codes "1500.00" ∷ [])
+        ∷ []) }
+    ensures by_tax_id { view sold (codes "taxid") (codes "T10" ∷ [])
+        ≡ Ok ((codes "100" ∷ codes "8403.40" ∷ codes "1500.00" ∷ [])
+        ∷ []) }
+    ensures unknown { view sold (codes "customer") (codes "11" ∷ [])
+        ≡ Err NoCustomer }
+{}
+
+/// The last trades of an account, with their statuses.
+pub fn recent_trades()
+    ensures { view bought (codes "recent") (codes "100" ∷ [])
+        ≡ Ok ((codes "trade" ∷ codes "1" ∷ codes "ABC" ∷ codes "100" ∷ [])
+        ∷ (codes "history" ∷ codes "1" ∷ codes "Completed" ∷ codes "1709251200017" ∷ [])
+        ∷ (codes "history" ∷ codes "1" ∷ codes "Submitted" ∷ codes "1709251200016" ∷ [])
+        ∷ []) }
+{}
+
+/// Whose account it is, and its trades, the last first.
+pub fn trade_status()
+    ensures { view sold (codes "status") (codes "100" ∷ [])
+        ≡ Ok ((codes "Lee" ∷ codes "Ann" ∷ codes "Bo" ∷ [])
+        ∷ (codes "3" ∷ codes "1709251200021" ∷ codes "Completed" ∷ codes "Market-Sell" ∷ codes "ABC" ∷ codes "150" ∷ codes "Ann Lee" ∷ codes "5.00" ∷ codes "Acme" ∷ codes "NYSE" ∷ [])
+        ∷ (codes "2" ∷ codes "1709251200019" ∷ codes "Completed" ∷ codes "Market-Buy" ∷ codes "ABC" ∷ codes "200" ∷ codes "Ann Lee" ∷ codes "5.00" ∷ codes "Acme" ∷ codes "NYSE" ∷ [])
+        ∷ (codes "1" ∷ codes "1709251200017" ∷ codes "Completed" ∷ codes "Market-Buy" ∷ codes "ABC" ∷ codes "100" ∷ codes "Ann Lee" ∷ codes "5.00" ∷ codes "Acme" ∷ codes "NYSE" ∷ [])
+        ∷ []) }
+{}
+
+/// A trade by its id, by its account and by its symbol.
+pub fn trade_lookup()
+    ensures by_id { view sold (codes "trades") (codes "3" ∷ [])
+        ≡ Ok ((codes "trade" ∷ codes "3" ∷ codes "1709251200021" ∷ codes "CMPT" ∷ codes "TMS" ∷ codes "ABC" ∷ codes "150" ∷ codes "10.00" ∷ codes "Ann Lee" ∷ codes "13.00" ∷ codes "5.00" ∷ codes "19.50" ∷ codes "68.00" ∷ codes "cash" ∷ codes "fifo" ∷ [])
+        ∷ (codes "settlement" ∷ codes "Cash Account" ∷ codes "2024-03-03" ∷ codes "1857.50" ∷ [])
+        ∷ (codes "cash" ∷ codes "1709251200021" ∷ codes "1857.50" ∷ codes "Market-Sell 150 shares of Acme" ∷ [])
+        ∷ (codes "history" ∷ codes "1709251200020" ∷ codes "SBMT" ∷ [])
+        ∷ (codes "history" ∷ codes "1709251200021" ∷ codes "CMPT" ∷ [])
+        ∷ []) }
+    ensures by_account { view sold (codes "accounttrades") (codes "100" ∷ codes "1709251200021" ∷ codes "1709251200021" ∷ [])
+        ≡ Ok ((codes "trade" ∷ codes "3" ∷ codes "1709251200021" ∷ codes "CMPT" ∷ codes "TMS" ∷ codes "ABC" ∷ codes "150" ∷ codes "10.00" ∷ codes "Ann Lee" ∷ codes "13.00" ∷ codes "5.00" ∷ codes "19.50" ∷ codes "68.00" ∷ codes "cash" ∷ codes "fifo" ∷ [])
+        ∷ (codes "settlement" ∷ codes "Cash Account" ∷ codes "2024-03-03" ∷ codes "1857.50" ∷ [])
+        ∷ (codes "cash" ∷ codes "1709251200021" ∷ codes "1857.50" ∷ codes "Market-Sell 150 shares of Acme" ∷ [])
+        ∷ (codes "history" ∷ codes "1709251200020" ∷ codes "SBMT" ∷ [])
+        ∷ (codes "history" ∷ codes "1709251200021" ∷ codes "CMPT" ∷ [])
+        ∷ []) }
+    ensures by_symbol { view sold (codes "symboltrades") (codes "ABC" ∷ codes "1709251200021" ∷ codes "1709251200021" ∷ [])
+        ≡ Ok ((codes "trade" ∷ codes "3" ∷ codes "1709251200021" ∷ codes "CMPT" ∷ codes "TMS" ∷ codes "ABC" ∷ codes "150" ∷ codes "10.00" ∷ codes "Ann Lee" ∷ codes "13.00" ∷ codes "5.00" ∷ codes "19.50" ∷ codes "68.00" ∷ codes "cash" ∷ codes "fifo" ∷ [])
+        ∷ (codes "settlement" ∷ codes "Cash Account" ∷ codes "2024-03-03" ∷ codes "1857.50" ∷ [])
+        ∷ (codes "cash" ∷ codes "1709251200021" ∷ codes "1857.50" ∷ codes "Market-Sell 150 shares of Acme" ∷ [])
+        ∷ (codes "history" ∷ codes "1709251200020" ∷ codes "SBMT" ∷ [])
+        ∷ (codes "history" ∷ codes "1709251200021" ∷ codes "CMPT" ∷ [])
+        ∷ []) }
+    ensures unknown { view sold (codes "trades") (codes "9" ∷ [])
+        ≡ Err NoTrade }
+    ensures twice { view sold (codes "trades") (codes "3" ∷ codes "3" ∷ [])
+        ≡ Err BadText }
+{}
+
+/// The changes of all lots that the oldest trade from a stamp on touched.
+pub fn touched_lots()
+    ensures last { view sold (codes "lots") (codes "100" ∷ codes "1709251200021" ∷ [])
+        ≡ Ok ((codes "3" ∷ [])
+        ∷ (codes "1" ∷ codes "1" ∷ codes "0" ∷ codes "100" ∷ [])
+        ∷ (codes "2" ∷ codes "2" ∷ codes "0" ∷ codes "200" ∷ [])
+        ∷ (codes "1" ∷ codes "3" ∷ codes "100" ∷ codes "0" ∷ [])
+        ∷ (codes "2" ∷ codes "3" ∷ codes "200" ∷ codes "150" ∷ [])
+        ∷ []) }
+    ensures first { view sold (codes "lots") (codes "100" ∷ codes "0" ∷ [])
+        ≡ Ok ((codes "1" ∷ [])
+        ∷ (codes "1" ∷ codes "1" ∷ codes "0" ∷ codes "100" ∷ [])
+        ∷ (codes "1" ∷ codes "3" ∷ codes "100" ∷ codes "0" ∷ [])
+        ∷ []) }
+    ensures none { view sold (codes "lots") (codes "100" ∷ codes "1709251200022" ∷ [])
+        ≡ Ok ([]) }
+{}
+
+/// An estimate gives the numbers of an order without the order, and is refused as the order.
+pub fn estimates()
+    ensures numbers { view bought_twice (codes "estimate") (codes "100" ∷ codes "TMS" ∷ codes "ABC" ∷ codes "150" ∷ [] ∷ codes "cash" ∷ codes "fifo" ∷ codes "Ann" ∷ codes "Lee" ∷ codes "T10" ∷ [])
+        ≡ Ok ((codes "10.00" ∷ codes "1610.00" ∷ codes "1500.00" ∷ codes "0.00" ∷ codes "15.00" ∷ codes "5.00" ∷ codes "9545.90" ∷ [])
+        ∷ []) }
+    ensures refused { view bought_twice (codes "estimate") (codes "100" ∷ codes "TMS" ∷ codes "ABC" ∷ codes "150" ∷ [] ∷ codes "cash" ∷ codes "fifo" ∷ codes "Ann" ∷ codes "Lee" ∷ codes "T11" ∷ [])
+        ≡ Err NotPermitted }
+{}

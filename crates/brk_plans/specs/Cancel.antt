@@ -1,0 +1,31 @@
+-- Trades that are canceled: what is tested, and what an accepted cancel comes to.
+use Rattle.std.specs.Prelude.{◌≡◌, ℕ, true, not, List, [], ◌∷◌, ◌++◌, Option, Some, None}
+use Rattle.brk_money.specs.Kinds.{same_status}
+use Rattle.brk_money.specs.Moments.{stamp_after}
+use Rattle.brk_money.specs.declared.refusal.Refusal.TheVariants.{NoTrade, WrongStatus}
+use Rattle.brk_money.specs.declared.status.Status.{Status}
+use Rattle.brk_money.specs.declared.status.Status.TheVariants.{Pending, Canceled}
+use Rattle.brk_model.specs.Tests.{Test, first_refusal}
+use Rattle.brk_plans.specs.Reference.{clock_test}
+use Rattle.brk_plans.specs.Waiting.{left_waiting}
+use Rattle.brk_changes.specs.declared.change.Change.{Change}
+use Rattle.brk_changes.specs.declared.change.Change.TheVariants.{SetLast}
+use Rattle.brk_plans.specs.declared.plan.Plan.{Plan}
+use Rattle.brk_plans.specs.declared.reply.Reply.TheVariants as reply
+
+-- what is tested of the trade that is named, by its status, where there is one: it has to wait for its price
+abbrev pub cancel_tests : Option Status → List Test
+cancel_tests None = (true, NoTrade) ∷ []
+cancel_tests (Some status) = (not (same_status status Pending), WrongStatus status) ∷ []
+
+-- the changes of a trade that is canceled, with the last stamp
+abbrev pub cancel_changes : ℕ → ℕ → List Change
+cancel_changes trade stamp = left_waiting trade Canceled stamp ++ SetLast stamp ∷ []
+
+-- the plan of a cancel that is accepted: the trade leaves the requests, the last stamp is moved, and the stamp is told
+pub record IsCancel (trade : ℕ) (found : Option Status) (last : Option ℕ) (now : ℕ) (plan : Plan) : Type 0 where
+  pub stamp : ℕ
+  pub accepted : first_refusal (cancel_tests found ++ clock_test last now ∷ []) ≡ None
+  pub stamped : stamp_after last now ≡ Some stamp
+  pub told : plan.reply ≡ reply.Canceled stamp
+  pub changes : plan.changes.items ≡ cancel_changes trade stamp

@@ -1,0 +1,5 @@
+pub mod Replies
+pub mod Reference
+pub mod Waiting
+pub mod Cancel
+pub mod Feed

@@ -1,0 +1,52 @@
+-- What replies are in the abstract brokerage.
+use Rattle.std.specs.Prelude.{nat_abs, pos}
+use Rattle.brk_model.specs.Commands as model
+use Rattle.brk_model.specs.Commands.{Reply, Booked, Ordered, Ticked, CanceledTrade, CompletedTrade}
+use Rattle.brk_plans.specs.declared.estimate.Estimate.{Estimate}
+use Rattle.brk_plans.specs.declared.reply.Completed.{Completed}
+use Rattle.brk_plans.specs.declared.reply.Reply as trade
+use Rattle.brk_plans.specs.declared.reply.Reply.TheVariants as reply
+
+-- the numbers of an order; none but the assets is ever below 0
+abbrev pub estimate_of : Estimate → model.Estimate
+estimate_of e = record {
+  price = e.price;
+  buy_value = nat_abs e.buy_value;
+  sell_value = nat_abs e.sell_value;
+  tax = nat_abs e.tax;
+  commission = nat_abs e.commission;
+  charge = nat_abs e.charge;
+  assets = e.assets;
+}
+
+-- the numbers of a completion; none but what settles and the balance is ever below 0
+abbrev pub completion_of : Completed → model.Completion
+completion_of c = record {
+  commission = nat_abs c.commission;
+  tax = nat_abs c.tax;
+  amount = c.amount;
+  due_day = c.due_day;
+  buy_value = nat_abs c.buy_value;
+  sell_value = nat_abs c.sell_value;
+  balance = c.balance;
+}
+
+-- what is told of a command
+abbrev pub reply_of : trade.Reply → Reply
+reply_of (reply.Booked stamp) = Booked stamp
+reply_of (reply.Ordered ordered) = Ordered ordered.stamp ordered.trade ordered.status (estimate_of ordered.estimate)
+reply_of (reply.Ticked stamp triggered) = Ticked stamp triggered.items
+reply_of (reply.Canceled stamp) = CanceledTrade stamp
+reply_of (reply.Completed completed) = CompletedTrade completed.stamp (completion_of completed)
+
+-- an estimate of the definitions, with its amounts as the program has them
+abbrev pub told : model.Estimate → Estimate
+told e = record {
+  price = e.price;
+  buy_value = pos e.buy_value;
+  sell_value = pos e.sell_value;
+  tax = pos e.tax;
+  commission = pos e.commission;
+  charge = pos e.charge;
+  assets = e.assets;
+}

@@ -1,0 +1,63 @@
+ghost use Rattle.std.specs.Prelude.{◌≡◌, ◌∷◌, ◌++◌, [], IfOk, OnErr, Err, MatchResult, Some};
+ghost use Rattle.brk_model.specs.Tests.{first_refusal};
+ghost use Rattle.brk_money.specs.declared.fault.Fault.TheVariants.{Memory};
+ghost use Rattle.brk_plans.specs.Cancel.{IsCancel, cancel_changes, cancel_tests};
+ghost use Rattle.brk_plans.specs.Reference.{clock_test};
+
+use crate::plan::Plan;
+use crate::reply::Reply;
+use crate::waiting::leave_waiting;
+use brk_changes::Change;
+use brk_money::{Fault, Id, Planned, Refusal, Stamp, Status, stamp_after};
+use std::alloc::Global;
+
+// The first cause to refuse a cancel of a trade of this status.
+fn refusal_of(found: Option<Status>) -> Option<Refusal>
+    ensures { result ≡ first_refusal (cancel_tests found) }
+{
+    match found {
+        None => Some(Refusal::NoTrade),
+        Some(Status::Pending) => None,
+        Some(status) => Some(Refusal::WrongStatus(status)),
+    }
+}
+
+// The changes of a trade that is canceled, with the last stamp.
+fn changes_of(alloc: Global, trade: Id, stamp: Stamp) -> Result<Vec<Change>, Fault>
+    ensures changes { IfOk result (λ changes. changes.items ≡ cancel_changes trade stamp) }
+    ensures fault { OnErr result (result ≡ Err Memory) }
+{
+    let mut changes = Vec::new(alloc);
+    leave_waiting(trade, Status::Canceled, stamp, &mut changes)?;
+    changes.push(Change::SetLast(stamp))?;
+    Ok(changes)
+}
+
+/// Plans the cancel of a trade, by its status, where there is such a trade, and the stamp of the last accepted command.
+/// It is refused with the first of `NoTrade` and `WrongStatus` (it does not wait for its price) that there is cause for,
+/// and with `ClockEnd` where no later stamp is left; else the trade is canceled with a row of history, its request is
+/// taken away, and the last stamp is moved.
+pub fn plan_cancel(
+    alloc: Global,
+    trade: Id,
+    found: Option<Status>,
+    last: Option<Stamp>,
+    now: Stamp,
+) -> Planned<Plan>
+    ensures planned { IfOk result (λ planned. MatchResult planned
+        (IsCancel trade found last now)
+        (λ refusal. first_refusal (cancel_tests found ++ clock_test last now ∷ []) ≡ Some refusal)) }
+    ensures fault { OnErr result (result ≡ Err Memory) }
+{
+    if let Some(refusal) = refusal_of(found) {
+        return Ok(Err(refusal));
+    }
+    let Some(stamp) = stamp_after(last, now) else {
+        return Ok(Err(Refusal::ClockEnd));
+    };
+    let changes = changes_of(alloc, trade, stamp)?;
+    Ok(Ok(Plan {
+        changes,
+        reply: Reply::Canceled(stamp),
+    }))
+}

@@ -1,0 +1,10 @@
+use brk_changes::RequestRow;
+use brk_ref::LastTrade;
+
+/// What the tables hold of the market of one security: its last trade, and the trades that wait for a price of it, by
+/// rising trade.
+#[derive(Debug, Drop)]
+pub struct Quote {
+    pub last: LastTrade,
+    pub requests: Vec<RequestRow>,
+}

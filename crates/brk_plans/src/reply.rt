@@ -1,0 +1,48 @@
+use crate::estimate::Estimate;
+use brk_money::{Cents, Day, Id, Stamp, Status};
+
+/// What is told of an accepted order (Trade-Order).
+#[derive(Clone, Copy, Debug, PartialEq, Eq)]
+pub struct Ordered {
+    pub stamp: Stamp,
+    /// The trade that the order became.
+    pub trade: Id,
+    /// Whether it was sent to the market or waits for its price.
+    pub status: Status,
+    /// What it comes to, in cents.
+    pub estimate: Estimate,
+}
+
+/// What is told of a trade that was completed (Trade-Result), in cents.
+#[derive(Clone, Copy, Debug, PartialEq, Eq)]
+pub struct Completed {
+    pub stamp: Stamp,
+    pub commission: Cents,
+    /// The tax on what the closed shares gained.
+    pub tax: Cents,
+    /// What the trade settles for, below 0 where the account pays.
+    pub amount: Cents,
+    /// The day on which it settles.
+    pub due_day: Day,
+    /// What the closed shares were bought for.
+    pub buy_value: Cents,
+    /// What they were sold for.
+    pub sell_value: Cents,
+    /// The account's balance after it.
+    pub balance: Cents,
+}
+
+/// What is told of an accepted command, with its stamp.
+#[derive(Debug, Drop)]
+pub enum Reply {
+    /// A row of reference data was added.
+    Booked(Stamp),
+    /// An order was placed.
+    Ordered(Ordered),
+    /// Ticks were taken; the trades that they triggered, tick by tick, and by rising id within one.
+    Ticked(Stamp, Vec<Id>),
+    /// A trade that waited for its price was canceled.
+    Canceled(Stamp),
+    /// A submitted trade was completed.
+    Completed(Completed),
+}

@@ -1,0 +1,31 @@
+ghost use Rattle.std.specs.Prelude.{◌≡◌, ◌++◌, OnOk, OnErr, Err};
+ghost use Rattle.brk_money.specs.declared.fault.Fault.TheVariants.{Memory};
+ghost use Rattle.brk_plans.specs.Waiting.{left_waiting};
+
+use brk_changes::{Change, HistoryRow};
+use brk_money::{Fault, Id, Stamp, Status};
+
+// Adds the changes by which a trade that waited for its price comes to another status.
+pub(crate) fn leave_waiting(
+    trade: Id,
+    status: Status,
+    stamp: Stamp,
+    changes: &mut Vec<Change>,
+) -> Result<(), Fault>
+    ensures changes { OnOk result (changes.new.items ≡ changes.old.items ++ left_waiting trade status stamp) }
+    ensures fault { OnErr result (result ≡ Err Memory) }
+{
+    let row = HistoryRow {
+        trade,
+        status,
+        stamp,
+    };
+    changes.push(Change::SetStatus {
+        trade,
+        status,
+        stamp,
+    })?;
+    changes.push(Change::AddHistory(row))?;
+    changes.push(Change::RemoveRequest(trade))?;
+    Ok(())
+}

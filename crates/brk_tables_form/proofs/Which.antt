@@ -1,0 +1,83 @@
+-- Written by tools/tables.py: whether a table is a certain one.
+use Rattle.std.proofs.Common.{◌≡◌, ◌≢◌, ◌⊎◌, refl, inl, inr}
+use Rattle.brk_tables_form.specs.Desk.{Which, TheDesk, KeptRows, Brokers, Customers, Accounts, Permissions, Securities, LastTrades, Charges, Bands, TaxRates, CustomerTaxes, Trades, TradeHistory, Requests, Holdings, Summaries, HoldingHistory, Settlements, CashRows}
+
+pub is_desk_row : (v : Which) → (v ≡ TheDesk) ⊎ (v ≢ TheDesk)
+is_desk_row TheDesk = inl refl
+is_desk_row v = inr (λ e. absurd (let f = e in cc))
+
+pub is_kept : (v : Which) → (v ≡ KeptRows) ⊎ (v ≢ KeptRows)
+is_kept KeptRows = inl refl
+is_kept v = inr (λ e. absurd (let f = e in cc))
+
+pub is_broker : (v : Which) → (v ≡ Brokers) ⊎ (v ≢ Brokers)
+is_broker Brokers = inl refl
+is_broker v = inr (λ e. absurd (let f = e in cc))
+
+pub is_customer : (v : Which) → (v ≡ Customers) ⊎ (v ≢ Customers)
+is_customer Customers = inl refl
+is_customer v = inr (λ e. absurd (let f = e in cc))
+
+pub is_account : (v : Which) → (v ≡ Accounts) ⊎ (v ≢ Accounts)
+is_account Accounts = inl refl
+is_account v = inr (λ e. absurd (let f = e in cc))
+
+pub is_permission : (v : Which) → (v ≡ Permissions) ⊎ (v ≢ Permissions)
+is_permission Permissions = inl refl
+is_permission v = inr (λ e. absurd (let f = e in cc))
+
+pub is_security : (v : Which) → (v ≡ Securities) ⊎ (v ≢ Securities)
+is_security Securities = inl refl
+is_security v = inr (λ e. absurd (let f = e in cc))
+
+pub is_last_trade : (v : Which) → (v ≡ LastTrades) ⊎ (v ≢ LastTrades)
+is_last_trade LastTrades = inl refl
+is_last_trade v = inr (λ e. absurd (let f = e in cc))
+
+pub is_charge : (v : Which) → (v ≡ Charges) ⊎ (v ≢ Charges)
+is_charge Charges = inl refl
+is_charge v = inr (λ e. absurd (let f = e in cc))
+
+pub is_band : (v : Which) → (v ≡ Bands) ⊎ (v ≢ Bands)
+is_band Bands = inl refl
+is_band v = inr (λ e. absurd (let f = e in cc))
+
+pub is_tax_rate : (v : Which) → (v ≡ TaxRates) ⊎ (v ≢ TaxRates)
+is_tax_rate TaxRates = inl refl
+is_tax_rate v = inr (λ e. absurd (let f = e in cc))
+
+pub is_customer_tax : (v : Which) → (v ≡ CustomerTaxes) ⊎ (v ≢ CustomerTaxes)
+is_customer_tax CustomerTaxes = inl refl
+is_customer_tax v = inr (λ e. absurd (let f = e in cc))
+
+pub is_trade : (v : Which) → (v ≡ Trades) ⊎ (v ≢ Trades)
+is_trade Trades = inl refl
+is_trade v = inr (λ e. absurd (let f = e in cc))
+
+pub is_history : (v : Which) → (v ≡ TradeHistory) ⊎ (v ≢ TradeHistory)
+is_history TradeHistory = inl refl
+is_history v = inr (λ e. absurd (let f = e in cc))
+
+pub is_request : (v : Which) → (v ≡ Requests) ⊎ (v ≢ Requests)
+is_request Requests = inl refl
+is_request v = inr (λ e. absurd (let f = e in cc))
+
+pub is_holding : (v : Which) → (v ≡ Holdings) ⊎ (v ≢ Holdings)
+is_holding Holdings = inl refl
+is_holding v = inr (λ e. absurd (let f = e in cc))
+
+pub is_summary : (v : Which) → (v ≡ Summaries) ⊎ (v ≢ Summaries)
+is_summary Summaries = inl refl
+is_summary v = inr (λ e. absurd (let f = e in cc))
+
+pub is_holding_history : (v : Which) → (v ≡ HoldingHistory) ⊎ (v ≢ HoldingHistory)
+is_holding_history HoldingHistory = inl refl
+is_holding_history v = inr (λ e. absurd (let f = e in cc))
+
+pub is_settlement : (v : Which) → (v ≡ Settlements) ⊎ (v ≢ Settlements)
+is_settlement Settlements = inl refl
+is_settlement v = inr (λ e. absurd (let f = e in cc))
+
+pub is_cash : (v : Which) → (v ≡ CashRows) ⊎ (v ≢ CashRows)
+is_cash CashRows = inl refl
+is_cash v = inr (λ e. absurd (let f = e in cc))

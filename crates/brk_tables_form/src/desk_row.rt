@@ -1,0 +1,76 @@
+ghost use Rattle.std.specs.Prelude.{◌≡◌, ◌∷◌, [], IfOk, map, Err, OnErr};
+ghost use Rattle.brk_money.specs.declared.fault.Fault.TheVariants.{Store};
+ghost use Rattle.sqlite.specs.Held.{state};
+ghost use Rattle.brk_rows.specs.Desk.{Turns};
+ghost use Rattle.brk_rows.specs.Model.{IsStep, Looks, Ran};
+ghost use Rattle.brk_changes.specs.Changes.{with_last};
+ghost use Rattle.brk_tables_form.specs.Cells.{desk_row_cells};
+ghost use Rattle.brk_tables_form.specs.Desk.{desk, desk_rows};
+ghost use Rattle.brk_tables_form.specs.Made.{desk_row_text};
+
+use crate::calls::{run, select};
+use crate::cells::{has_columns, maybe_stamp_in, natural_in};
+use crate::values::{number_value, stamp_value};
+use brk_money::{Fault, Stamp};
+use sqlite::{Alter, Row, Transaction};
+
+/// Adds the one row of DESK, of the first schema and with no stamp yet.
+pub(crate) fn add_desk_row<S: Alter>(tx: &mut Transaction<'_, S>) -> Result<(), Fault>
+    ensures same_reference { tx.new.conn.ghost_name ≡ tx.old.conn.ghost_name }
+    ensures step { IsStep (state S.Store tx.old.conn.now) (state S.Store tx.new.conn.now) result (λ _. Ran desk_row_text []) }
+    ensures fault { OnErr result (result ≡ Err Store) }
+{
+    run(
+        tx,
+        "INSERT INTO DESK (D_ID, D_SCHEMA, D_LAST) VALUES (1, 1, NULL)",
+        &[],
+    )
+}
+
+/// Sets the stamp of the last accepted command (D_LAST).
+pub fn set_last_stamp<S: Alter>(tx: &mut Transaction<'_, S>, stamp: Stamp) -> Result<(), Fault>
+    ensures same_reference { tx.new.conn.ghost_name ≡ tx.old.conn.ghost_name }
+    ensures step { IsStep (state S.Store tx.old.conn.now) (state S.Store tx.new.conn.now) result (λ _ a b. Turns desk (with_last stamp) a.now b.now) }
+    ensures fault { OnErr result (result ≡ Err Store) }
+{
+    run(
+        tx,
+        "UPDATE DESK SET D_LAST = ?1 WHERE D_ID = ?2",
+        &[stamp_value(stamp), number_value(1)],
+    )
+}
+
+fn stamp_of_row(row: &Row) -> Result<Option<Stamp>, Fault>
+    ensures value { IfOk result (λ last. map desk_row_cells (desk_rows last) ≡ row.now ∷ []) }
+    ensures fault { OnErr result (result ≡ Err Store) }
+{
+    has_columns(row, 3)?;
+    if natural_in(row, 0)? != 1 || natural_in(row, 1)? != 1 {
+        return Err(Fault::Store);
+    }
+    maybe_stamp_in(row, 2)
+}
+
+fn only_stamp(rows: &[Row]) -> Result<Option<Stamp>, Fault>
+    ensures value { IfOk result (λ last. map desk_row_cells (desk_rows last) ≡ rows.now) }
+    ensures fault { OnErr result (result ≡ Err Store) }
+{
+    match rows {
+        [row] => stamp_of_row(row),
+        _ => Err(Fault::Store),
+    }
+}
+
+/// The stamp of the last accepted command, where there is one (D_LAST).
+pub fn last_stamp<S: Alter>(tx: &mut Transaction<'_, S>) -> Result<Option<Stamp>, Fault>
+    ensures same_reference { tx.new.conn.ghost_name ≡ tx.old.conn.ghost_name }
+    ensures step { IsStep (state S.Store tx.old.conn.now) (state S.Store tx.new.conn.now) result (λ last. Looks desk (λ t. last ≡ t.last)) }
+    ensures fault { OnErr result (result ≡ Err Store) }
+{
+    let rows = select(
+        tx,
+        "SELECT D_ID, D_SCHEMA, D_LAST FROM DESK ORDER BY D_ID",
+        &[],
+    )?;
+    only_stamp(&rows)
+}

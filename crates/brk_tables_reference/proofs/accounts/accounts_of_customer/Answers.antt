@@ -1,0 +1,23 @@
+use Rattle.std.proofs.Common.{◌==◌, pos, [], ◌∷◌, filter}
+use Rattle.sqlite_value.specs.declared.value.Value.TheVariants.{Int}
+use Rattle.sqlite.specs.Held.{state}
+use Rattle.brk_model.specs.Tables.{AccountRow}
+use Rattle.brk_rows.proofs.Answer.{look_all}
+use Rattle.brk_tables_form.specs.Cells.{account_cells}
+use Rattle.brk_tables_form.specs.Desk.{desk}
+use Rattle.brk_tables_form.specs.Records.{account_row_of}
+use Rattle.brk_tables_form.proofs.Back.{account_back, account_is_back}
+use Rattle.brk_tables_reference.proofs.AccountsOfCustomer
+use Rattle.brk_tables_reference.proofs.AccountsOfCustomer.{plain}
+use Rattle.brk_tables_reference.proofs.Steps.{tells_accounts}
+use Rattle.brk_tables_reference.proofs.accounts.accounts_of_customer.Goals as goal
+
+pub select-requires : goal.select-requires
+select-requires g c = record { plain = plain }
+
+pub returns-clause-step : goal.returns-clause-step
+returns-clause-step g c =
+    let old = state g.S.Store c.args.tx.now.conn.now in
+    let new = state g.S.Store c.select.new.tx.conn.now in
+    look_all desk account_cells account_back account_is_back account_row_of AccountsOfCustomer.statement (Int (pos c.args.customer) ∷ []) old new c.in_ok-rows.rows (λ rows. rows.items) _ c.deref.ensures.value (rw (c.id_value.ensures) at c.in_ok-rows.ensures.step)
+    (λ all. all.items) c.all_accounts.result c.all_accounts.ensures.value (λ t. filter (λ (r : AccountRow). r.customer == c.args.customer) t.accounts) (tells_accounts old new c.args.customer _)

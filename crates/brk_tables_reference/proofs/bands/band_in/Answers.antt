@@ -1,0 +1,13 @@
+use Rattle.std.proofs.Common.{◌≡◌, ◌∷◌, [], length, refl, sym, arith}
+use Rattle.sqlite_value.specs.Order.{Row, column}
+use Rattle.brk_tables_reference.proofs.bands.band_in.Goals as goal
+
+six_columns : (row : Row) → length row ≡ 6 → column row 0 ∷ column row 1 ∷ column row 2 ∷ column row 3 ∷ column row 4 ∷ column row 5 ∷ [] ≡ row
+six_columns (a ∷ b ∷ c ∷ d ∷ e ∷ f ∷ []) h = refl
+six_columns (a ∷ b ∷ c ∷ d ∷ e ∷ f ∷ g ∷ more) h = absurd (omega (arith, h))
+six_columns _ h = absurd (omega (arith, h))
+
+pub returns-clause-value : goal.returns-clause-value
+returns-clause-value c =
+    rw (sym c.in_ok-tier_in.ensures.value, sym c.in_ok-type_in.ensures.value, sym c.in_ok-exchange_in.ensures.value, sym c.in_ok-qty_in.ensures.value, sym c.in_ok-qty_in-2.ensures.value, sym c.in_ok-rate_in.ensures.value)
+    (six_columns c.args.row.now c.in_ok-has_columns.ensures.columns)

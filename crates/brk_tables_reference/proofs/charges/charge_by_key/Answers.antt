@@ -1,0 +1,25 @@
+use Rattle.std.proofs.Common.{pos, [], ◌∷◌, ◌==◌, ◌&&◌, find, filter}
+use Rattle.sqlite_value.specs.declared.value.Value.TheVariants.{Int, Text}
+use Rattle.sqlite_keyed.proofs.ListLemmas.{slice_get-filter}
+use Rattle.sqlite.specs.Held.{state}
+use Rattle.brk_money.specs.Kinds.{type_code, same_type}
+use Rattle.brk_ref.specs.Records.{charge_of}
+use Rattle.brk_model.specs.Records.{Charge}
+use Rattle.brk_rows.proofs.Answer.{look_first}
+use Rattle.brk_tables_form.specs.Cells.{charge_cells}
+use Rattle.brk_tables_form.specs.Desk.{desk}
+use Rattle.brk_tables_form.proofs.Back.{charge_back, charge_is_back}
+use Rattle.brk_tables_reference.proofs.ChargeByKey
+use Rattle.brk_tables_reference.proofs.ChargeByKey.{plain}
+use Rattle.brk_tables_reference.proofs.ReferenceReads.{tells_charge}
+use Rattle.brk_tables_reference.proofs.charges.charge_by_key.Goals as goal
+
+pub select-requires : goal.select-requires
+select-requires g c = record { plain = plain }
+
+pub returns-clause-step : goal.returns-clause-step
+returns-clause-step g c =
+    let old = state g.S.Store c.args.tx.now.conn.now in
+    let new = state g.S.Store c.select.new.tx.conn.now in
+    look_first desk charge_cells charge_back charge_is_back charge_of ChargeByKey.statement (Text (type_code c.args.kind) ∷ Int (pos c.args.tier) ∷ []) old new c.in_ok-rows.rows (λ rows. rows.items) _ c.deref.ensures.value (rw (c.type_value.ensures, c.tier_value.ensures) at c.in_ok-rows.ensures.step)
+    c.first_charge.result c.first_charge.ensures.value (λ t. filter (λ (r : Charge). same_type r.kind c.args.kind && (r.tier == c.args.tier)) t.charges) (λ t. find (λ (r : Charge). same_type r.kind c.args.kind && (r.tier == c.args.tier)) t.charges) (λ t. slice_get-filter (λ (r : Charge). same_type r.kind c.args.kind && (r.tier == c.args.tier)) t.charges) (tells_charge old new c.args.kind c.args.tier _)

@@ -1,0 +1,25 @@
+use Rattle.std.proofs.Common.{pos, [], ◌∷◌, ◌==◌, ◌&&◌, find, filter}
+use Rattle.std.specs.Prelude.{bytes_eq}
+use Rattle.sqlite_value.specs.declared.value.Value.TheVariants.{Int, Text}
+use Rattle.sqlite_keyed.proofs.ListLemmas.{slice_get-filter}
+use Rattle.sqlite.specs.Held.{state}
+use Rattle.brk_ref.specs.Records.{permission_of}
+use Rattle.brk_model.specs.Records.{Permission}
+use Rattle.brk_rows.proofs.Answer.{look_first}
+use Rattle.brk_tables_form.specs.Cells.{permission_cells}
+use Rattle.brk_tables_form.specs.Desk.{desk}
+use Rattle.brk_tables_form.proofs.Back.{permission_back, permission_is_back}
+use Rattle.brk_tables_reference.proofs.PermissionByKey
+use Rattle.brk_tables_reference.proofs.PermissionByKey.{plain}
+use Rattle.brk_tables_reference.proofs.ReferenceReads.{tells_permission}
+use Rattle.brk_tables_reference.proofs.permissions.permission_by_key.Goals as goal
+
+pub select-requires : goal.select-requires
+select-requires g c = record { plain = plain }
+
+pub returns-clause-step : goal.returns-clause-step
+returns-clause-step g c =
+    let old = state g.S.Store c.args.tx.now.conn.now in
+    let new = state g.S.Store c.select.new.tx.conn.now in
+    look_first desk permission_cells permission_back permission_is_back permission_of PermissionByKey.statement (Int (pos c.args.account) ∷ Text c.args.tax_id.now ∷ []) old new c.in_ok-rows.rows (λ rows. rows.items) _ c.deref.ensures.value (rw (c.id_value.ensures, c.text_value.ensures, c.as_str.ensures) at c.in_ok-rows.ensures.step)
+    c.first_permission.result c.first_permission.ensures.value (λ t. filter (λ (r : Permission). (r.account == c.args.account) && bytes_eq r.tax_id c.args.tax_id.now) t.permissions) (λ t. find (λ (r : Permission). (r.account == c.args.account) && bytes_eq r.tax_id c.args.tax_id.now) t.permissions) (λ t. slice_get-filter (λ (r : Permission). (r.account == c.args.account) && bytes_eq r.tax_id c.args.tax_id.now) t.permissions) (tells_permission old new c.args.account c.args.tax_id.now _)

@@ -1,0 +1,11 @@
+use Rattle.sqlite.specs.Held.{state}
+use Rattle.brk_ref.specs.Records.{customer_tax_of}
+use Rattle.brk_rows.proofs.Inside.{step_weaker}
+use Rattle.brk_tables_reference.proofs.ReferenceAdds.{adds_customer_tax}
+use Rattle.brk_tables_reference.proofs.tax_rates.add_customer_tax.Goals as goal
+
+pub returns-clause-step : goal.returns-clause-step
+returns-clause-step g c =
+    let old = state g.S.Store c.args.tx.now.conn.now in
+    let new = state g.S.Store c.run.new.tx.conn.now in
+    step_weaker old new c.run.result _ _ (λ _ ran. adds_customer_tax old new (customer_tax_of c.args.pays.now) (rw (c.id_value.ensures, c.id_value-2.ensures) at ran)) c.run.ensures.step

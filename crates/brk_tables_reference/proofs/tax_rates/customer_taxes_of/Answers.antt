@@ -1,0 +1,23 @@
+use Rattle.std.proofs.Common.{pos, [], ◌∷◌, ◌==◌, filter}
+use Rattle.sqlite_value.specs.declared.value.Value.TheVariants.{Int}
+use Rattle.sqlite.specs.Held.{state}
+use Rattle.brk_ref.specs.Records.{customer_tax_of}
+use Rattle.brk_model.specs.Records.{CustomerTax}
+use Rattle.brk_rows.proofs.Answer.{look_all}
+use Rattle.brk_tables_form.specs.Cells.{customer_tax_cells}
+use Rattle.brk_tables_form.specs.Desk.{desk}
+use Rattle.brk_tables_form.proofs.Back.{customer_tax_back, customer_tax_is_back}
+use Rattle.brk_tables_reference.proofs.CustomerTaxesOf
+use Rattle.brk_tables_reference.proofs.CustomerTaxesOf.{plain}
+use Rattle.brk_tables_reference.proofs.ReferenceReads.{tells_customer_taxes}
+use Rattle.brk_tables_reference.proofs.tax_rates.customer_taxes_of.Goals as goal
+
+pub select-requires : goal.select-requires
+select-requires g c = record { plain = plain }
+
+pub returns-clause-step : goal.returns-clause-step
+returns-clause-step g c =
+    let old = state g.S.Store c.args.tx.now.conn.now in
+    let new = state g.S.Store c.select.new.tx.conn.now in
+    look_all desk customer_tax_cells customer_tax_back customer_tax_is_back customer_tax_of CustomerTaxesOf.statement (Int (pos c.args.customer) ∷ []) old new c.in_ok-rows.rows (λ rows. rows.items) _ c.deref.ensures.value (rw (c.id_value.ensures) at c.in_ok-rows.ensures.step)
+    (λ all. all.items) c.all_customer_taxes.result c.all_customer_taxes.ensures.value (λ t. filter (λ (r : CustomerTax). r.customer == c.args.customer) t.customer_taxes) (tells_customer_taxes old new c.args.customer _)

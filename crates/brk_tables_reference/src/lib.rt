@@ -1,0 +1,23 @@
+//! The statements on the nine kinds of reference rows: one function for each. Each is called within an open transaction. An error
+//! that the database answers, and a row that breaks its form, are the fault `Store`.
+#![tactic(auto)]
+
+pub mod accounts;
+pub mod bands;
+pub mod brokers;
+pub mod charges;
+pub mod customers;
+pub mod permissions;
+pub mod securities;
+pub mod tax_rates;
+
+pub use accounts::{account_by_id, accounts_of_customer, add_account};
+pub use bands::{add_band, bands_for};
+pub use brokers::{add_broker, broker_by_id};
+pub use charges::{add_charge, charge_by_key};
+pub use customers::{add_customer, customer_by_id, customer_by_tax_id};
+pub use permissions::{add_permission, permission_by_key};
+pub use securities::{add_last_trade, add_security, security_by_symbol};
+pub use tax_rates::{
+    add_customer_tax, add_tax_rate, customer_tax_by_key, customer_taxes_of, tax_rate_by_id,
+};

@@ -1,0 +1,76 @@
+-- What the statements that read tell of the tables.
+use Rattle.std.proofs.Common.{◌≡◌, ℕ, List, [], ◌∷◌, true, Some, map, filter, take, reverse, ◌==◌, refl, ap, ◌∙◌}
+use Rattle.std.specs.Prelude.{bytes_eq}
+use Rattle.std.proofs.lemmas.Cmp.{back_total}
+use Rattle.sqlite_value.specs.declared.value.Value.TheVariants.{Text as Words}
+use Rattle.sqlite_value.specs.Order.{Row, column}
+use Rattle.sqlite_tied.proofs.RuleLemmas.{and_true}
+use Rattle.sqlite.specs.State.{State, Shown}
+use Rattle.brk_money.specs.Kinds.{same_status, status_code}
+use Rattle.brk_money.specs.declared.status.Status.{Status}
+use Rattle.brk_money.specs.declared.status.Status.TheVariants.{Completed, Active, Submitted, Pending, Canceled}
+use Rattle.brk_model.specs.Tables.{TradeRow, RequestRow, LastTradeRow}
+use Rattle.brk_model.specs.Keys.{trade_key, request_key, last_trade_key}
+use Rattle.brk_rows.specs.Desk.{Tells}
+use Rattle.brk_rows.proofs.Answer.{limited_map}
+use Rattle.brk_rows.proofs.Decode.{filter_true}
+use Rattle.brk_rows.proofs.Looks.{tells_rising, tells_falling}
+use Rattle.brk_rows.proofs.Texts.{read}
+use Rattle.brk_tables_form.specs.Cells.{nat, trade_cells, request_cells, last_trade_cells}
+use Rattle.brk_tables_form.specs.Desk.{Trades, Requests, LastTrades, desk, order}
+use Rattle.brk_tables_form.proofs.Order.{key_total}
+use Rattle.brk_tables_form.proofs.Tests.{same_number, same_text}
+use Rattle.brk_tables_trading.proofs.TradeById
+use Rattle.brk_tables_trading.proofs.LastTradeId
+use Rattle.brk_tables_trading.proofs.SubmittedTrades
+use Rattle.brk_tables_trading.proofs.RequestsOf
+use Rattle.brk_tables_trading.proofs.LastTradeBySymbol
+
+pub tells_trade : (old new : State) (id : ℕ) (rows : List Row) → Shown TradeById.statement (nat id ∷ []) old new rows → Tells desk (λ t. rows ≡ map trade_cells (filter (λ r. r.id == id) t.trades)) old.now
+tells_trade old new id rows shown =
+    tells_rising desk Trades TradeById.statement (nat id ∷ []) (read TradeById.statement) TradeById.terms TradeById.project TradeById.order TradeById.paging TradeById.names TradeById.understood_as
+    (λ (r : TradeRow). r.id == id) (λ tree r x e. let a : column r 0 ≡ nat x.id = cc in rw (a, same_number x.id id) (and_true _)) trade_cells (λ tree r x e. e) (order Trades) (key_total trade_key)
+    (λ tree a b x y e f. let p : column a 0 ≡ nat x.id = cc in let q : column b 0 ≡ nat y.id = cc in rw (p, q) refl) old new rows shown (λ x y. refl)
+
+abbrev pub id_cells : ℕ → Row
+id_cells n = nat n ∷ []
+
+pub tells_last_id : (old new : State) (rows : List Row) → Shown LastTradeId.statement [] old new rows → Tells desk (λ t. rows ≡ map id_cells (map (λ r. r.id) (take 1 (reverse t.trades)))) old.now
+tells_last_id old new rows shown = λ t tree h.
+    tells_falling desk Trades LastTradeId.statement [] (read LastTradeId.statement) LastTradeId.terms LastTradeId.project LastTradeId.order LastTradeId.paging LastTradeId.names LastTradeId.understood_as
+    (λ _. true) (λ tree r x e. refl) (λ (r : TradeRow). id_cells r.id) (λ tree r x e. let a : column r 0 ≡ nat x.id = cc in rw a refl)
+    (λ x y. order Trades y x) (back_total (key_total trade_key))
+    (λ tree a b x y e f. let p : column a 0 ≡ nat x.id = cc in let q : column b 0 ≡ nat y.id = cc in rw (p, q) refl) old new rows shown (λ x y. refl) t tree h
+    ∙ ap (λ xs. take 1 (map (λ (r : TradeRow). id_cells r.id) (reverse xs))) (filter_true t.trades) ∙ limited_map (λ (r : TradeRow). id_cells r.id) (Some 1) (reverse t.trades) ∙ twice (take 1 (reverse t.trades))
+  where
+    twice : (xs : List TradeRow) → map (λ r. id_cells r.id) xs ≡ map id_cells (map (λ r. r.id) xs)
+    twice [] = refl
+    twice (x ∷ xs) = ap (λ l. id_cells x.id ∷ l) (twice xs)
+
+-- a code is that of what is at the market where the status is
+at_market : (s : Status) → bytes_eq (status_code s) (status_code Submitted) ≡ same_status s Submitted
+at_market Completed = refl
+at_market Active = refl
+at_market Submitted = refl
+at_market Pending = refl
+at_market Canceled = refl
+
+pub tells_submitted : (old new : State) (rows : List Row) → Shown SubmittedTrades.statement (Words (status_code Submitted) ∷ []) old new rows → Tells desk (λ t. rows ≡ map trade_cells (filter (λ r. same_status r.status Submitted) t.trades)) old.now
+tells_submitted old new rows shown =
+    tells_rising desk Trades SubmittedTrades.statement (Words (status_code Submitted) ∷ []) (read SubmittedTrades.statement) SubmittedTrades.terms SubmittedTrades.project SubmittedTrades.order SubmittedTrades.paging SubmittedTrades.names SubmittedTrades.understood_as
+    (λ (r : TradeRow). same_status r.status Submitted)
+    (λ tree r x e. let a : column r 3 ≡ Words (status_code x.status) = ap (λ row. column row 2) e in rw (a, same_text (status_code x.status) (status_code Submitted), at_market x.status) (and_true _))
+    trade_cells (λ tree r x e. e) (order Trades) (key_total trade_key)
+    (λ tree a b x y e f. let p : column a 0 ≡ nat x.id = cc in let q : column b 0 ≡ nat y.id = cc in rw (p, q) refl) old new rows shown (λ x y. refl)
+
+pub tells_requests : (old new : State) (symbol : List ℕ) (rows : List Row) → Shown RequestsOf.statement (Words symbol ∷ []) old new rows → Tells desk (λ t. rows ≡ map request_cells (filter (λ r. bytes_eq r.symbol symbol) t.requests)) old.now
+tells_requests old new symbol rows shown =
+    tells_rising desk Requests RequestsOf.statement (Words symbol ∷ []) (read RequestsOf.statement) RequestsOf.terms RequestsOf.project RequestsOf.order RequestsOf.paging RequestsOf.names RequestsOf.understood_as
+    (λ (r : RequestRow). bytes_eq r.symbol symbol) (λ tree r x e. let a : column r 3 ≡ Words x.symbol = cc in rw (a, same_text x.symbol symbol) (and_true _)) request_cells (λ tree r x e. e) (order Requests) (key_total request_key)
+    (λ tree a b x y e f. let p : column a 0 ≡ nat x.trade = cc in let q : column b 0 ≡ nat y.trade = cc in rw (p, q) refl) old new rows shown (λ x y. refl)
+
+pub tells_last_trade : (old new : State) (symbol : List ℕ) (rows : List Row) → Shown LastTradeBySymbol.statement (Words symbol ∷ []) old new rows → Tells desk (λ t. rows ≡ map last_trade_cells (filter (λ r. bytes_eq r.symbol symbol) t.last_trades)) old.now
+tells_last_trade old new symbol rows shown =
+    tells_rising desk LastTrades LastTradeBySymbol.statement (Words symbol ∷ []) (read LastTradeBySymbol.statement) LastTradeBySymbol.terms LastTradeBySymbol.project LastTradeBySymbol.order LastTradeBySymbol.paging LastTradeBySymbol.names LastTradeBySymbol.understood_as
+    (λ (r : LastTradeRow). bytes_eq r.symbol symbol) (λ tree r x e. let a : column r 1 ≡ Words x.symbol = cc in rw (a, same_text x.symbol symbol) (and_true _)) last_trade_cells (λ tree r x e. e) (order LastTrades) (key_total last_trade_key)
+    (λ tree a b x y e f. let p : column a 1 ≡ Words x.symbol = cc in let q : column b 1 ≡ Words y.symbol = cc in rw (p, q) refl) old new rows shown (λ x y. refl)

@@ -1,0 +1,23 @@
+use Rattle.std.proofs.Common.{pos, [], ◌∷◌, ◌==◌, filter}
+use Rattle.std.specs.Prelude.{◌&&◌, bytes_eq}
+use Rattle.sqlite_value.specs.declared.value.Value.TheVariants.{Int, Text}
+use Rattle.sqlite.specs.Held.{state}
+use Rattle.brk_model.specs.Tables.{HoldingRow}
+use Rattle.brk_rows.proofs.Answer.{look_all}
+use Rattle.brk_tables_form.specs.Cells.{holding_cells}
+use Rattle.brk_tables_form.specs.Desk.{desk}
+use Rattle.brk_changes.specs.Rows.{holding_row_of, oldest_lots_first}
+use Rattle.brk_tables_trading.proofs.Holding.{holding_back, holding_is_back, tells_lots}
+use Rattle.brk_tables_trading.proofs.LotsOf
+use Rattle.brk_tables_trading.proofs.LotsOf.{plain}
+use Rattle.brk_tables_trading.proofs.holdings.lots_of.Goals as goal
+
+pub select-requires : goal.select-requires
+select-requires g c = record { plain = plain }
+
+pub returns-clause-step : goal.returns-clause-step
+returns-clause-step g c =
+    let old = state g.S.Store c.args.tx.now.conn.now in
+    let new = state g.S.Store c.select.new.tx.conn.now in
+    look_all desk holding_cells holding_back holding_is_back holding_row_of LotsOf.statement (Int (pos c.args.account) ∷ Text c.args.symbol.now ∷ []) old new c.in_ok-rows.rows (λ rows. rows.items) _ c.deref.ensures.value (rw (c.id_value.ensures, c.text_value.ensures, c.as_str.ensures) at c.in_ok-rows.ensures.step)
+    (λ all. all.items) c.all_holdings.result c.all_holdings.ensures.value (λ t. oldest_lots_first (filter (λ (r : HoldingRow). (r.account == c.args.account) && bytes_eq r.symbol c.args.symbol.now) t.holdings)) (tells_lots old new c.args.account c.args.symbol.now _)

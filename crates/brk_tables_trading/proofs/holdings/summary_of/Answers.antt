@@ -1,0 +1,24 @@
+use Rattle.std.proofs.Common.{pos, [], ◌∷◌, ◌==◌, find, filter}
+use Rattle.std.specs.Prelude.{◌&&◌, bytes_eq}
+use Rattle.sqlite_value.specs.declared.value.Value.TheVariants.{Int, Text}
+use Rattle.sqlite_keyed.proofs.ListLemmas.{slice_get-filter}
+use Rattle.sqlite.specs.Held.{state}
+use Rattle.brk_model.specs.Tables.{SummaryRow}
+use Rattle.brk_rows.proofs.Answer.{look_first}
+use Rattle.brk_tables_form.specs.Cells.{summary_cells}
+use Rattle.brk_tables_form.specs.Desk.{desk}
+use Rattle.brk_changes.specs.Rows.{summary_row_of}
+use Rattle.brk_tables_trading.proofs.Holding.{summary_back, summary_is_back, tells_summary}
+use Rattle.brk_tables_trading.proofs.SummaryOf
+use Rattle.brk_tables_trading.proofs.SummaryOf.{plain}
+use Rattle.brk_tables_trading.proofs.holdings.summary_of.Goals as goal
+
+pub select-requires : goal.select-requires
+select-requires g c = record { plain = plain }
+
+pub returns-clause-step : goal.returns-clause-step
+returns-clause-step g c =
+    let old = state g.S.Store c.args.tx.now.conn.now in
+    let new = state g.S.Store c.select.new.tx.conn.now in
+    look_first desk summary_cells summary_back summary_is_back summary_row_of SummaryOf.statement (Int (pos c.args.account) ∷ Text c.args.symbol.now ∷ []) old new c.in_ok-rows.rows (λ rows. rows.items) _ c.deref.ensures.value (rw (c.id_value.ensures, c.text_value.ensures, c.as_str.ensures) at c.in_ok-rows.ensures.step)
+    c.first_summary.result c.first_summary.ensures.value (λ t. filter (λ (r : SummaryRow). (r.account == c.args.account) && bytes_eq r.symbol c.args.symbol.now) t.summaries) (λ t. find (λ (r : SummaryRow). (r.account == c.args.account) && bytes_eq r.symbol c.args.symbol.now) t.summaries) (λ t. slice_get-filter (λ (r : SummaryRow). (r.account == c.args.account) && bytes_eq r.symbol c.args.symbol.now) t.summaries) (tells_summary old new c.args.account c.args.symbol.now _)

@@ -1,0 +1,24 @@
+use Rattle.std.proofs.Common.{◌==◌, pos, [], ◌∷◌, find, filter}
+use Rattle.sqlite_value.specs.declared.value.Value.TheVariants.{Int}
+use Rattle.sqlite_keyed.proofs.ListLemmas.{slice_get-filter}
+use Rattle.sqlite.specs.Held.{state}
+use Rattle.brk_model.specs.Tables.{TradeRow}
+use Rattle.brk_rows.proofs.Answer.{look_first}
+use Rattle.brk_tables_form.specs.Cells.{trade_cells}
+use Rattle.brk_tables_form.specs.Desk.{desk}
+use Rattle.brk_changes.specs.Rows.{trade_row_of}
+use Rattle.brk_tables_trading.proofs.Back.{trade_back, trade_is_back}
+use Rattle.brk_tables_trading.proofs.TradeById
+use Rattle.brk_tables_trading.proofs.TradeById.{plain}
+use Rattle.brk_tables_trading.proofs.Tells.{tells_trade}
+use Rattle.brk_tables_trading.proofs.trades.trade_by_id.Goals as goal
+
+pub select-requires : goal.select-requires
+select-requires g c = record { plain = plain }
+
+pub returns-clause-step : goal.returns-clause-step
+returns-clause-step g c =
+    let old = state g.S.Store c.args.tx.now.conn.now in
+    let new = state g.S.Store c.select.new.tx.conn.now in
+    look_first desk trade_cells trade_back trade_is_back trade_row_of TradeById.statement (Int (pos c.args.id) ∷ []) old new c.in_ok-rows.rows (λ rows. rows.items) _ c.deref.ensures.value (rw (c.id_value.ensures) at c.in_ok-rows.ensures.step)
+    c.first_trade.result c.first_trade.ensures.value (λ t. filter (λ (r : TradeRow). r.id == c.args.id) t.trades) (λ t. find (λ (r : TradeRow). r.id == c.args.id) t.trades) (λ t. slice_get-filter (λ (r : TradeRow). r.id == c.args.id) t.trades) (tells_trade old new c.args.id _)

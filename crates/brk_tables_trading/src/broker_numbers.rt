@@ -1,0 +1,35 @@
+ghost use Rattle.std.specs.Prelude.{◌≡◌, Err, OnErr};
+ghost use Rattle.brk_money.specs.declared.fault.Fault.TheVariants.{Store};
+ghost use Rattle.sqlite.specs.Held.{state};
+ghost use Rattle.brk_rows.specs.Desk.{Turns};
+ghost use Rattle.brk_rows.specs.Model.{IsStep};
+ghost use Rattle.brk_tables_form.specs.Desk.{desk};
+ghost use Rattle.brk_changes.specs.Changes.{with_broker_numbers};
+
+use brk_changes::Amount;
+use brk_money::{Fault, Id};
+use brk_tables_form::calls::run;
+use brk_tables_form::values::{amount_value, id_value, number_value};
+use sqlite::{Alter, Transaction};
+
+/// Sets the number of a broker's completed trades and the sum of their commissions.
+pub fn set_broker_numbers<S: Alter>(
+    tx: &mut Transaction<'_, S>,
+    broker: Id,
+    trades: i64,
+    commissions: Amount,
+) -> Result<(), Fault>
+    ensures same_reference { tx.new.conn.ghost_name ≡ tx.old.conn.ghost_name }
+    ensures step { IsStep (state S.Store tx.old.conn.now) (state S.Store tx.new.conn.now) result (λ _ a b. Turns desk (with_broker_numbers broker trades commissions) a.now b.now) }
+    ensures fault { OnErr result (result ≡ Err Store) }
+{
+    run(
+        tx,
+        "UPDATE BROKER SET B_NUM_TRADES = ?1, B_COMM_TOTAL = ?2 WHERE B_ID = ?3",
+        &[
+            number_value(trades),
+            amount_value(commissions),
+            id_value(broker),
+        ],
+    )
+}

@@ -1,0 +1,34 @@
+ghost use Rattle.std.specs.Prelude.{◌≡◌, Err, OnErr};
+ghost use Rattle.brk_money.specs.declared.fault.Fault.TheVariants.{Store};
+ghost use Rattle.sqlite.specs.Held.{state};
+ghost use Rattle.brk_rows.specs.Desk.{Turns};
+ghost use Rattle.brk_rows.specs.Model.{IsStep};
+ghost use Rattle.brk_tables_form.specs.Desk.{desk};
+ghost use Rattle.brk_changes.specs.Changes.{with_history};
+ghost use Rattle.brk_changes.specs.Rows.{history_row_of};
+
+use brk_changes::HistoryRow;
+use brk_money::Fault;
+use brk_tables_form::calls::run;
+use brk_tables_form::values::{id_value, stamp_value, status_value};
+use sqlite::{Alter, Transaction};
+
+/// Adds a status that a trade came to, which it did not have yet.
+pub fn add_trade_history<S: Alter>(
+    tx: &mut Transaction<'_, S>,
+    mark: &HistoryRow,
+) -> Result<(), Fault>
+    ensures same_reference { tx.new.conn.ghost_name ≡ tx.old.conn.ghost_name }
+    ensures step { IsStep (state S.Store tx.old.conn.now) (state S.Store tx.new.conn.now) result (λ _ a b. Turns desk (with_history (history_row_of mark.now)) a.now b.now) }
+    ensures fault { OnErr result (result ≡ Err Store) }
+{
+    run(
+        tx,
+        "INSERT INTO TRADE_HISTORY (TH_T_ID, TH_ST_ID, TH_DTS) VALUES (?1, ?2, ?3)",
+        &[
+            id_value(mark.trade),
+            status_value(mark.status),
+            stamp_value(mark.stamp),
+        ],
+    )
+}

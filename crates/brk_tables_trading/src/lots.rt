@@ -1,0 +1,83 @@
+//! The lots of accounts, and what trades made of them.
+
+ghost use Rattle.std.specs.Prelude.{◌≡◌, Err, OnErr};
+ghost use Rattle.brk_money.specs.declared.fault.Fault.TheVariants.{Store};
+ghost use Rattle.sqlite.specs.Held.{state};
+ghost use Rattle.brk_rows.specs.Desk.{Turns};
+ghost use Rattle.brk_rows.specs.Model.{IsStep};
+ghost use Rattle.brk_tables_form.specs.Desk.{desk};
+ghost use Rattle.brk_changes.specs.Changes.{with_lot, with_lot_change, with_lot_set, without_lot};
+ghost use Rattle.brk_changes.specs.Rows.{holding_row_of, lot_change_of};
+
+use brk_changes::{HoldingRow, LotChange};
+use brk_money::{Fault, Id};
+use brk_tables_form::calls::run;
+use brk_tables_form::values::{id_value, number_value, price_value, stamp_value, text_value};
+use sqlite::{Alter, Transaction};
+
+/// Adds the lot that a trade opened, which has none yet.
+pub fn add_lot<S: Alter>(tx: &mut Transaction<'_, S>, lot: &HoldingRow) -> Result<(), Fault>
+    ensures same_reference { tx.new.conn.ghost_name ≡ tx.old.conn.ghost_name }
+    ensures step { IsStep (state S.Store tx.old.conn.now) (state S.Store tx.new.conn.now) result (λ _ a b. Turns desk (with_lot (holding_row_of lot.now)) a.now b.now) }
+    ensures fault { OnErr result (result ≡ Err Store) }
+{
+    run(
+        tx,
+        "INSERT INTO HOLDING (H_T_ID, H_CA_ID, H_S_SYMB, H_DTS, H_PRICE, H_QTY) VALUES (?1, ?2, ?3, ?4, ?5, ?6)",
+        &[
+            id_value(lot.trade),
+            id_value(lot.account),
+            text_value(lot.symbol.as_str()),
+            stamp_value(lot.stamp),
+            price_value(lot.price),
+            number_value(lot.qty),
+        ],
+    )
+}
+
+/// Sets the quantity of the lot that a trade opened.
+pub fn set_lot<S: Alter>(tx: &mut Transaction<'_, S>, trade: Id, qty: i64) -> Result<(), Fault>
+    ensures same_reference { tx.new.conn.ghost_name ≡ tx.old.conn.ghost_name }
+    ensures step { IsStep (state S.Store tx.old.conn.now) (state S.Store tx.new.conn.now) result (λ _ a b. Turns desk (with_lot_set trade qty) a.now b.now) }
+    ensures fault { OnErr result (result ≡ Err Store) }
+{
+    run(
+        tx,
+        "UPDATE HOLDING SET H_QTY = ?1 WHERE H_T_ID = ?2",
+        &[number_value(qty), id_value(trade)],
+    )
+}
+
+/// Takes the lot that a trade opened away.
+pub fn remove_lot<S: Alter>(tx: &mut Transaction<'_, S>, trade: Id) -> Result<(), Fault>
+    ensures same_reference { tx.new.conn.ghost_name ≡ tx.old.conn.ghost_name }
+    ensures step { IsStep (state S.Store tx.old.conn.now) (state S.Store tx.new.conn.now) result (λ _ a b. Turns desk (without_lot trade) a.now b.now) }
+    ensures fault { OnErr result (result ≡ Err Store) }
+{
+    run(
+        tx,
+        "DELETE FROM HOLDING WHERE H_T_ID = ?1",
+        &[id_value(trade)],
+    )
+}
+
+/// Adds what a trade made of a lot, of which it has made nothing yet.
+pub fn add_lot_change<S: Alter>(
+    tx: &mut Transaction<'_, S>,
+    change: &LotChange,
+) -> Result<(), Fault>
+    ensures same_reference { tx.new.conn.ghost_name ≡ tx.old.conn.ghost_name }
+    ensures step { IsStep (state S.Store tx.old.conn.now) (state S.Store tx.new.conn.now) result (λ _ a b. Turns desk (with_lot_change (lot_change_of change.now)) a.now b.now) }
+    ensures fault { OnErr result (result ≡ Err Store) }
+{
+    run(
+        tx,
+        "INSERT INTO HOLDING_HISTORY (HH_H_T_ID, HH_T_ID, HH_BEFORE_QTY, HH_AFTER_QTY) VALUES (?1, ?2, ?3, ?4)",
+        &[
+            id_value(change.lot),
+            id_value(change.trade),
+            number_value(change.before),
+            number_value(change.after),
+        ],
+    )
+}

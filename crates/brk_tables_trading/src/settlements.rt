@@ -1,0 +1,57 @@
+//! What completed trades settle for, and what those in cash moved.
+
+ghost use Rattle.std.specs.Prelude.{◌≡◌, Err, OnErr};
+ghost use Rattle.brk_money.specs.declared.fault.Fault.TheVariants.{Store};
+ghost use Rattle.sqlite.specs.Held.{state};
+ghost use Rattle.brk_rows.specs.Desk.{Turns};
+ghost use Rattle.brk_rows.specs.Model.{IsStep};
+ghost use Rattle.brk_tables_form.specs.Desk.{desk};
+ghost use Rattle.brk_changes.specs.Changes.{with_cash, with_settlement};
+ghost use Rattle.brk_changes.specs.Rows.{cash_row_of, settlement_row_of};
+
+use brk_changes::{CashRow, SettlementRow};
+use brk_money::Fault;
+use brk_tables_form::calls::run;
+use brk_tables_form::values::{
+    cash_type_value, cents_value, day_value, id_value, stamp_value, text_value,
+};
+use sqlite::{Alter, Transaction};
+
+/// Adds what a trade settles for, which is not settled yet.
+pub fn add_settlement<S: Alter>(
+    tx: &mut Transaction<'_, S>,
+    settlement: &SettlementRow,
+) -> Result<(), Fault>
+    ensures same_reference { tx.new.conn.ghost_name ≡ tx.old.conn.ghost_name }
+    ensures step { IsStep (state S.Store tx.old.conn.now) (state S.Store tx.new.conn.now) result (λ _ a b. Turns desk (with_settlement (settlement_row_of settlement.now)) a.now b.now) }
+    ensures fault { OnErr result (result ≡ Err Store) }
+{
+    run(
+        tx,
+        "INSERT INTO SETTLEMENT (SE_T_ID, SE_CASH_TYPE, SE_CASH_DUE_DATE, SE_AMT) VALUES (?1, ?2, ?3, ?4)",
+        &[
+            id_value(settlement.trade),
+            cash_type_value(settlement.cash_type),
+            day_value(settlement.due_day),
+            cents_value(settlement.amount),
+        ],
+    )
+}
+
+/// Adds what a trade moved, which has moved nothing yet.
+pub fn add_cash<S: Alter>(tx: &mut Transaction<'_, S>, cash: &CashRow) -> Result<(), Fault>
+    ensures same_reference { tx.new.conn.ghost_name ≡ tx.old.conn.ghost_name }
+    ensures step { IsStep (state S.Store tx.old.conn.now) (state S.Store tx.new.conn.now) result (λ _ a b. Turns desk (with_cash (cash_row_of cash.now)) a.now b.now) }
+    ensures fault { OnErr result (result ≡ Err Store) }
+{
+    run(
+        tx,
+        "INSERT INTO CASH_TRANSACTION (CT_T_ID, CT_DTS, CT_AMT, CT_NAME) VALUES (?1, ?2, ?3, ?4)",
+        &[
+            id_value(cash.trade),
+            stamp_value(cash.stamp),
+            cents_value(cash.amount),
+            text_value(cash.name.as_str()),
+        ],
+    )
+}

@@ -1,0 +1,68 @@
+//! How many shares of each security accounts hold in all.
+
+ghost use Rattle.std.specs.Prelude.{◌≡◌, Err, OnErr};
+ghost use Rattle.brk_money.specs.declared.fault.Fault.TheVariants.{Store};
+ghost use Rattle.sqlite.specs.Held.{state};
+ghost use Rattle.brk_rows.specs.Desk.{Turns};
+ghost use Rattle.brk_rows.specs.Model.{IsStep};
+ghost use Rattle.brk_tables_form.specs.Desk.{desk};
+ghost use Rattle.brk_changes.specs.Changes.{with_summary, with_summary_set, without_summary};
+ghost use Rattle.brk_changes.specs.Rows.{summary_row_of};
+
+use brk_changes::SummaryRow;
+use brk_money::{Fault, Id};
+use brk_ref::Symbol;
+use brk_tables_form::calls::run;
+use brk_tables_form::values::{id_value, number_value, text_value};
+use sqlite::{Alter, Transaction};
+
+/// Adds how many shares of a security an account holds, which has no such row yet.
+pub fn add_summary<S: Alter>(tx: &mut Transaction<'_, S>, summary: &SummaryRow) -> Result<(), Fault>
+    ensures same_reference { tx.new.conn.ghost_name ≡ tx.old.conn.ghost_name }
+    ensures step { IsStep (state S.Store tx.old.conn.now) (state S.Store tx.new.conn.now) result (λ _ a b. Turns desk (with_summary (summary_row_of summary.now)) a.now b.now) }
+    ensures fault { OnErr result (result ≡ Err Store) }
+{
+    run(
+        tx,
+        "INSERT INTO HOLDING_SUMMARY (HS_CA_ID, HS_S_SYMB, HS_QTY) VALUES (?1, ?2, ?3)",
+        &[
+            id_value(summary.account),
+            text_value(summary.symbol.as_str()),
+            number_value(summary.qty),
+        ],
+    )
+}
+
+/// Sets how many shares of a security an account holds, by the account and the symbol.
+pub fn set_summary<S: Alter>(tx: &mut Transaction<'_, S>, summary: &SummaryRow) -> Result<(), Fault>
+    ensures same_reference { tx.new.conn.ghost_name ≡ tx.old.conn.ghost_name }
+    ensures step { IsStep (state S.Store tx.old.conn.now) (state S.Store tx.new.conn.now) result (λ _ a b. Turns desk (with_summary_set (summary_row_of summary.now)) a.now b.now) }
+    ensures fault { OnErr result (result ≡ Err Store) }
+{
+    run(
+        tx,
+        "UPDATE HOLDING_SUMMARY SET HS_QTY = ?1 WHERE HS_CA_ID = ?2 AND HS_S_SYMB = ?3",
+        &[
+            number_value(summary.qty),
+            id_value(summary.account),
+            text_value(summary.symbol.as_str()),
+        ],
+    )
+}
+
+/// Takes the row of an account's shares of a security away.
+pub fn remove_summary<S: Alter>(
+    tx: &mut Transaction<'_, S>,
+    account: Id,
+    symbol: &Symbol,
+) -> Result<(), Fault>
+    ensures same_reference { tx.new.conn.ghost_name ≡ tx.old.conn.ghost_name }
+    ensures step { IsStep (state S.Store tx.old.conn.now) (state S.Store tx.new.conn.now) result (λ _ a b. Turns desk (without_summary account symbol.now) a.now b.now) }
+    ensures fault { OnErr result (result ≡ Err Store) }
+{
+    run(
+        tx,
+        "DELETE FROM HOLDING_SUMMARY WHERE HS_CA_ID = ?1 AND HS_S_SYMB = ?2",
+        &[id_value(account), text_value(symbol.as_str())],
+    )
+}

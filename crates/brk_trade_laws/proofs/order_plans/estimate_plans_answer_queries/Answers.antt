@@ -1,0 +1,11 @@
+use Rattle.brk_trade_laws.proofs.OrderDoing.{estimate_refused, estimate_told, estimate_answered}
+use Rattle.brk_trade_laws.proofs.order_plans.estimate_plans_answer_queries.Goals as goal
+
+pub returns-clause-refused : goal.returns-clause-refused
+returns-clause-refused c = estimate_refused
+
+pub returns-clause-told : goal.returns-clause-told
+returns-clause-told c = estimate_told
+
+pub returns-clause-answered : goal.returns-clause-answered
+returns-clause-answered c = estimate_answered

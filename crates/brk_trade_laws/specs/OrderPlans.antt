@@ -1,0 +1,96 @@
+-- What is read from the tables before an order is planned or estimated.
+use Rattle.std.specs.Prelude.{◌≡◌, ◌≤◌, ℕ, ◌==◌, ◌&&◌, ◌+ℤ◌, List, find, map, reverse, slice_get, take, IfSome, Option, None, option_map, bytes_eq}
+use Rattle.brk_lots.specs.Lots.{from_end}
+use Rattle.brk_lots.specs.declared.lot.Lot.{Lot}
+use Rattle.brk_model.specs.Base.{Base}
+use Rattle.brk_model.specs.Joins.{account_in, security_in}
+use Rattle.brk_model.specs.Orders.{permitted}
+use Rattle.brk_model.specs.PositionView.{asset_total}
+use Rattle.brk_model.specs.Records.{Customer}
+use Rattle.brk_model.specs.Sheets.{sheets}
+use Rattle.brk_model.specs.Tables.{AccountRow, Tables}
+use Rattle.brk_model.specs.Tests.{first_refusal}
+use Rattle.brk_money.specs.Kinds.{same_type}
+use Rattle.brk_money.specs.Moments.{last_stamp}
+use Rattle.brk_money.specs.Spelling.{Text}
+use Rattle.brk_money.specs.declared.trade_type.TradeType.{TradeType}
+use Rattle.brk_orders.specs.declared.order.Order.{Order}
+use Rattle.brk_ref.specs.Records.{executor_of}
+use Rattle.brk_trade.specs.Orders.{order_tests}
+use Rattle.brk_changes.specs.Rows.{holding_row_of}
+use Rattle.brk_changes.specs.declared.holding_row.HoldingRow.{HoldingRow}
+use Rattle.brk_trade.specs.declared.order.OrderAccount.{OrderAccount}
+use Rattle.brk_trade.specs.declared.order.OrderFound.{OrderFound}
+use Rattle.brk_trade_laws.specs.Books.{IsBooks}
+use Rattle.brk_trade_laws.specs.Reads.{rates_of}
+use Rattle.brk_trade_laws.specs.TradeReads.{band_in, lots_in, permission_in}
+
+-- ---- look-ups
+
+-- what an account's row says of the orders for it
+abbrev pub order_account : AccountRow → OrderAccount
+order_account r = record { broker = r.broker; tax_status = r.tax_status }
+
+-- the last price of a symbol, where it is listed
+abbrev pub last_price_in : Tables → Text → Option ℕ
+last_price_in t symbol = option_map (λ r. r.price) (find (λ r. bytes_eq r.symbol symbol) t.last_trades)
+
+-- the charge of a type and a tier, where there is one
+abbrev pub charge_in : Tables → TradeType → ℕ → Option ℕ
+charge_in t kind tier = option_map (λ r. r.amount) (find (λ r. same_type r.kind kind && (r.tier == tier)) t.charges)
+
+-- the number of the last trade, where there is one
+abbrev pub last_trade_in : Tables → Option ℕ
+last_trade_in t = option_map (λ r. r.id) (slice_get (reverse t.trades) 0)
+
+-- what holds of the customer of an account, where both are there
+abbrev pub IfCustomer : Tables → ℕ → (Customer → Type 0) → Type 0
+IfCustomer t account holds = IfSome (account_in t account) (λ a. IfSome (find (λ r. r.id == a.customer) t.customers) holds)
+
+-- ---- what was found
+
+-- the first tests of an order (its account, its security, its executor, its charge, its band) find nothing wrong, so that more is looked up
+abbrev pub Passes : ℕ → OrderFound → Type 0
+Passes n found = first_refusal (take n (order_tests found)) ≡ None
+
+-- what was found for an estimate is what stands in the tables; of what is not needed after an earlier refusal nothing is said
+pub record IsFoundForEstimate (t : Tables) (order : Order) (found : OrderFound) : Type 0 where
+  pub account : found.account ≡ option_map order_account (account_in t order.account)
+  pub last_price : Passes 1 found → found.last_price ≡ last_price_in t order.symbol
+  -- the executor, by the customer's names and the account's permission for the executor's tax id
+  pub is_permitted : Passes 2 found → IfCustomer t order.account (λ c. found.is_permitted ≡ permitted c (permission_in t order.account order.executor.tax_id) (executor_of order.executor))
+  -- the charge of the customer's tier
+  pub charge : Passes 3 found → IfCustomer t order.account (λ c. found.charge ≡ charge_in t order.kind c.tier)
+  -- the rate of the band of the quantity, by the customer's tier and the security's exchange
+  pub rate : Passes 4 found
+      → IfCustomer t order.account (λ c. IfSome (security_in t order.symbol) (λ s. found.rate ≡ option_map (λ b. b.rate) (band_in t c.tier order.kind s.exchange order.qty)))
+  -- the rates that the customer pays
+  pub rates : Passes 5 found → IfSome (account_in t order.account) (λ a. found.rates ≡ rates_of t a.customer)
+  -- the balance and the worth of what is held
+  pub assets : Passes 5 found → IfSome (account_in t order.account) (λ a. found.assets ≡ a.balance +ℤ asset_total t a)
+
+-- what was found for an order is what was found for its estimate, and the number of the last trade
+pub record IsFoundForOrder (t : Tables) (order : Order) (found : OrderFound) : Type 0 where
+  pub estimate : IsFoundForEstimate t order found
+  pub last_trade : Passes 5 found → found.last_trade ≡ last_trade_in t
+
+-- ---- lots
+
+-- the lot of a row
+abbrev pub lot_in : HoldingRow → Lot
+lot_in r = record { trade = r.trade; price = r.price; qty = r.qty; stamp = r.stamp }
+
+-- the lots that are given for an order are those of its account and symbol from the order's end, where they stand with the oldest first
+pub record AreLots (t : Tables) (order : Order) (lots : List Lot) : Type 0 where
+  pub held : List HoldingRow
+  pub rows : map holding_row_of held ≡ lots_in t order.account order.symbol
+  pub given : lots ≡ from_end order.is_lifo (map lot_in held)
+
+-- ---- an order
+
+-- what is known where an order is planned: the base is in order, and its tables were looked up at a moment that there is
+pub record IsReadForPlan (base : Base) (order : Order) (found : OrderFound) (last : Option ℕ) (now : ℕ) : Type 0 where
+  pub books : IsBooks base
+  pub looked_up : IsFoundForOrder (sheets base) order found
+  pub last_read : last ≡ (sheets base).last
+  pub moment : now ≤ last_stamp

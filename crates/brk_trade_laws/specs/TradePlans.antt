@@ -1,0 +1,54 @@
+-- What is known where a cancel or a feed is planned: what was read from the tables of a base that is in order.
+use Rattle.std.specs.Prelude.{◌≡◌, ◌≤◌, ⊤, ℕ, true, false, is_some, List, [], ◌∷◌, map, Option, Some, option_map}
+use Rattle.std.specs.List.{AllByRecursion, list_any}
+use Rattle.brk_money.specs.Moments.{last_stamp}
+use Rattle.brk_money.specs.declared.status.Status.{Status}
+use Rattle.brk_model.specs.Base.{Base}
+use Rattle.brk_model.specs.Joins.{trade_in}
+use Rattle.brk_model.specs.Sheets.{sheets}
+use Rattle.brk_model.specs.Tables.{Tables}
+use Rattle.brk_orders.specs.declared.tick.Tick.{Tick}
+use Rattle.brk_ref.specs.Records.{last_trade_of}
+use Rattle.brk_plans.specs.Feed.{Held, is_of}
+use Rattle.brk_changes.specs.Rows.{request_row_of}
+use Rattle.brk_trade_laws.specs.Books.{IsBooks}
+use Rattle.brk_trade_laws.specs.TradeReads.{last_trade_in, requests_of}
+
+-- ---- a cancel
+
+-- what is known where a cancel is planned: the base is in order, and the status of the trade, where there is one, was read at a moment that
+-- there is
+pub record IsReadForCancel (base : Base) (id : ℕ) (found : Option Status) (last : Option ℕ) (now : ℕ) : Type 0 where
+  pub books : IsBooks base
+  pub status_read : found ≡ option_map (λ r. r.status) (trade_in (sheets base) id)
+  pub last_read : last ≡ (sheets base).last
+  pub moment : now ≤ last_stamp
+
+-- ---- a feed
+
+-- a quote is what stands in the tables of its symbol: the last trade, and the requests
+pub record IsQuote (t : Tables) (quote : Held) : Type 0 where
+  pub last_trade : last_trade_in t quote.last.symbol ≡ Some (last_trade_of quote.last)
+  pub requests : map request_row_of quote.requests ≡ requests_of t quote.last.symbol
+
+-- no two quotes are of one symbol
+abbrev pub QuotesApart : List Held → Type 0
+QuotesApart [] = ⊤
+QuotesApart (quote ∷ quotes) = AllByRecursion (λ other. is_of quote.last.symbol other ≡ false) quotes × QuotesApart quotes
+
+-- where the symbol of a tick has a last trade, some quote is of it
+abbrev pub IsQuoted : Tables → List Held → Tick → Type 0
+IsQuoted t quotes tick = is_some (last_trade_in t tick.symbol) ≡ true → list_any (is_of tick.symbol) quotes ≡ true
+
+-- quotes are what stands in the tables of the symbols of ticks, one quote for each symbol that has a last trade
+pub record AreQuotes (t : Tables) (ticks : List Tick) (quotes : List Held) : Type 0 where
+  pub read : AllByRecursion (IsQuote t) quotes
+  pub apart : QuotesApart quotes
+  pub quoted : AllByRecursion (IsQuoted t quotes) ticks
+
+-- what is known where a feed is planned: the base is in order, and the quotes of its ticks were read at a moment that there is
+pub record IsReadForFeed (base : Base) (ticks : List Tick) (quotes : List Held) (last : Option ℕ) (now : ℕ) : Type 0 where
+  pub books : IsBooks base
+  pub quotes_read : AreQuotes (sheets base) ticks quotes
+  pub last_read : last ≡ (sheets base).last
+  pub moment : now ≤ last_stamp
