@@ -3,15 +3,14 @@
 ghost use Rattle.std.specs.Prelude.{◌≡◌, ◌+ℤ◌, ◌*ℤ◌, IfErr, IfSome, pos};
 ghost use Rattle.brk_trade_laws.specs.Reads.{rates_of};
 ghost use Rattle.brk_decisions.specs.Finds.{AreAmounts, worth_in, worth_of};
-ghost use Rattle.brk_model.specs.Joins.{price_in};
 ghost use Rattle.brk_model.specs.Run.{MayFail};
 ghost use Rattle.brk_store.specs.Holds.{IsRead};
 ghost use Rattle.brk_changes.specs.Rows.{summary_row_of};
 
+use crate::known::known_price;
 use crate::terms::sum_rates;
-use crate::tested::find_price;
 use brk_money::{Cents, Fault, Id, Price, TaxRate, Wide};
-use brk_ref::{AccountRow, Symbol};
+use brk_ref::AccountRow;
 use brk_store::Store;
 use brk_trade::SummaryRow;
 use sqlite::Alter;
@@ -51,17 +50,6 @@ fn with_worth(amount: Wide, row: &SummaryRow, price: Price) -> Option<Wide>
     match amount.get().checked_add(worth) {
         Some(sum) => Some(Wide::new(sum)),
         None => None,
-    }
-}
-
-// The last price of a symbol; a symbol of none is a fault of the store.
-fn known_price<S: Alter>(store: &mut Store<S>, symbol: &Symbol) -> Result<Price, Fault>
-    ensures read { IsRead S.Store store.old store.new result (λ price t. price ≡ price_in t symbol.now) }
-    ensures fault { IfErr result MayFail }
-{
-    match find_price(store, symbol)? {
-        Some(price) => Ok(price),
-        None => Err(Fault::Store),
     }
 }
 

@@ -7,7 +7,8 @@ ghost use Rattle.brk_model.specs.Run.{MayFail};
 ghost use Rattle.brk_orders.specs.Records.{order_of};
 ghost use Rattle.brk_store.specs.Holds.{IsRead};
 
-use crate::order_finding::{find_for_order, find_position};
+use crate::order_finding::find_for_order;
+use crate::position_finding::find_position;
 use brk_money::{Planned, Stamp};
 use brk_orders::Order;
 use brk_store::Store;

@@ -1,21 +1,21 @@
 //! What the tables hold that decides on an order.
 
-ghost use Rattle.std.specs.Prelude.{◌≡◌, IfErr, IfOk, map};
-ghost use Rattle.brk_trade_laws.specs.OrderPlans.{IsFoundForEstimate, IsFoundForOrder, lot_in};
-ghost use Rattle.brk_decisions.specs.Finds.{HeldLots, IsCustomer, IsFoundOf, found_of, nothing};
+ghost use Rattle.std.specs.Prelude.{◌≡◌, IfErr};
+ghost use Rattle.brk_trade_laws.specs.OrderPlans.{IsFoundForEstimate, IsFoundForOrder};
+ghost use Rattle.brk_decisions.specs.Finds.{IsFoundOf, found_of, nothing};
 ghost use Rattle.brk_model.specs.Run.{MayFail};
 ghost use Rattle.brk_store.specs.Holds.{IsRead};
 
 use crate::amounts::{Amounts, find_amounts};
+use crate::known::known_customer;
 use crate::tested::{Tested, find_tested};
-use brk_lots::{Lot, Position};
-use brk_money::{Fault, Id, TaxRate, Wide};
+use brk_money::{Fault, TaxRate, Wide};
 use brk_orders::Order;
-use brk_ref::{AccountRow, Customer, Symbol};
+use brk_ref::AccountRow;
 use brk_store::Store;
-use brk_trade::{HoldingRow, OrderAccount, OrderFound};
+use brk_trade::{OrderAccount, OrderFound};
 use sqlite::Alter;
-use std::alloc::{AllocError, Global};
+use std::alloc::Global;
 
 // What is found where there is no account.
 fn nothing() -> OrderFound
@@ -49,17 +49,6 @@ fn found_of(account: &AccountRow, tested: Tested, amounts: Amounts) -> OrderFoun
         rates: amounts.rates,
         assets: amounts.assets,
         last_trade: None,
-    }
-}
-
-// The customer with an id; an id of none is a fault of the store.
-pub(crate) fn known_customer<S: Alter>(store: &mut Store<S>, id: Id) -> Result<Customer, Fault>
-    ensures read { IsRead S.Store store.old store.new result (λ customer t. IsCustomer t id customer) }
-    ensures fault { IfErr result MayFail }
-{
-    match store.customer(id)? {
-        Some(customer) => Ok(customer),
-        None => Err(Fault::Store),
     }
 }
 
@@ -112,38 +101,4 @@ pub(crate) fn find_for_order<S: Alter>(
         last_trade,
         ..found
     })
-}
-
-// The lots of rows.
-fn lots_from(alloc: Global, rows: &[HoldingRow]) -> Result<Vec<Lot>, AllocError>
-    ensures { IfOk result (λ lots. lots.items ≡ map lot_in rows.now) }
-{
-    let mut lots = Vec::new(alloc);
-    for row in rows {
-        lots.push(Lot {
-            trade: row.trade,
-            price: row.price,
-            qty: row.qty,
-            stamp: row.stamp,
-        })?;
-    }
-    Ok(lots)
-}
-
-/// The lots that an account holds of a symbol; lots that are those of no position are a fault of the store.
-pub(crate) fn find_position<S: Alter>(
-    alloc: Global,
-    store: &mut Store<S>,
-    account: Id,
-    symbol: &Symbol,
-) -> Result<Position, Fault>
-    ensures read { IsRead S.Store store.old store.new result (λ position t. HeldLots t account symbol.now position) }
-    ensures fault { IfErr result MayFail }
-{
-    let rows = store.lots_of(alloc, account, symbol)?;
-    let lots = lots_from(alloc, &rows)?;
-    match Position::from_lots(lots) {
-        Some(position) => Ok(position),
-        None => Err(Fault::Store),
-    }
 }

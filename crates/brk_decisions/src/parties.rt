@@ -1,14 +1,14 @@
 //! The account of a trade, with what its customer and its broker tell of its results.
 
 ghost use Rattle.std.specs.Prelude.{IfErr, IfSome};
-ghost use Rattle.brk_decisions.specs.ResultFinds.{AreNumbers, AreParties, IsAccount};
+ghost use Rattle.brk_decisions.specs.ResultFinds.{AreParties};
 ghost use Rattle.brk_model.specs.Joins.{account_in};
 ghost use Rattle.brk_model.specs.Run.{MayFail};
 ghost use Rattle.brk_store.specs.Holds.{IsRead};
 ghost use Rattle.brk_tables_form.specs.Records.{account_row_of};
 
 use crate::amounts::find_rates;
-use crate::order_finding::known_customer;
+use crate::known::{known_account, known_customer, known_numbers};
 use brk_money::{Fault, Id, TaxRate};
 use brk_ref::{AccountRow, Tier};
 use brk_store::Store;
@@ -26,28 +26,6 @@ pub struct Parties {
     pub tier: Tier,
     /// The sum of the tax rates that the customer pays.
     pub rates: TaxRate,
-}
-
-// The account with an id; an id of none is a fault of the store.
-fn known_account<S: Alter>(store: &mut Store<S>, id: Id) -> Result<AccountRow, Fault>
-    ensures read { IsRead S.Store store.old store.new result (λ account t. IsAccount t id account) }
-    ensures fault { IfErr result MayFail }
-{
-    match store.account(id)? {
-        Some(account) => Ok(account),
-        None => Err(Fault::Store),
-    }
-}
-
-// The numbers of the broker with an id; an id of none is a fault of the store.
-fn known_numbers<S: Alter>(store: &mut Store<S>, id: Id) -> Result<BrokerNumbers, Fault>
-    ensures read { IsRead S.Store store.old store.new result (λ numbers t. AreNumbers t id numbers) }
-    ensures fault { IfErr result MayFail }
-{
-    match store.broker_numbers(id)? {
-        Some(numbers) => Ok(numbers),
-        None => Err(Fault::Store),
-    }
 }
 
 // An account with what its customer and its broker tell of the results of its trades.

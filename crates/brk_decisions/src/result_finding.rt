@@ -4,18 +4,19 @@ ghost use Rattle.std.specs.Prelude.{◌≡◌, ◌≢◌, ◌<◌, ◌↔◌, If
 ghost use Rattle.std.specs.List.{All};
 ghost use Rattle.brk_trade_laws.specs.TradeReads.{summary_in};
 ghost use Rattle.brk_decisions.specs.Finds.{HeldLots};
-ghost use Rattle.brk_decisions.specs.ResultFinds.{IsFoundAt, IsFoundOf, IsHolding, IsListedAs, IsSecurity};
+ghost use Rattle.brk_decisions.specs.ResultFinds.{IsFoundAt, IsFoundOf, IsHolding, IsListedAs};
 ghost use Rattle.brk_lots.specs.Position.{IsNew};
 ghost use Rattle.brk_model.specs.Joins.{security_in};
 ghost use Rattle.brk_model.specs.Run.{MayFail};
 ghost use Rattle.brk_store.specs.Holds.{IsRead};
 
-use crate::order_finding::find_position;
+use crate::known::known_security;
 use crate::parties::find_parties;
+use crate::position_finding::find_position;
 use crate::tested::find_band_rate;
 use brk_lots::{Lot, Position};
 use brk_money::{Fault, Id, Rate};
-use brk_ref::{Name, Security, Symbol, Tier};
+use brk_ref::{Name, Symbol, Tier};
 use brk_store::Store;
 use brk_trade::{ResultFound, SummaryRow, TradeRow, is_submitted};
 use sqlite::Alter;
@@ -37,17 +38,6 @@ pub struct Holding {
     pub summary: Option<i64>,
     /// The lots that the trade meets, none where it is not at the market.
     pub lots: Position,
-}
-
-// The security with a symbol; a symbol of none is a fault of the store.
-fn known_security<S: Alter>(store: &mut Store<S>, symbol: &Symbol) -> Result<Security, Fault>
-    ensures read { IsRead S.Store store.old store.new result (λ security t. IsSecurity t symbol.now security) }
-    ensures fault { IfErr result MayFail }
-{
-    match store.security(symbol)? {
-        Some(security) => Ok(security),
-        None => Err(Fault::Store),
-    }
 }
 
 // What is told by its security of a trade whose customer has a tier.

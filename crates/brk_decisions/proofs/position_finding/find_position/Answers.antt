@@ -5,7 +5,7 @@ use Rattle.brk_changes.specs.Rows.{holding_row_of, oldest_lots_first}
 use Rattle.brk_trade_laws.specs.OrderPlans.{lot_in}
 use Rattle.brk_decisions.specs.Finds.{HeldLots}
 use Rattle.brk_store.proofs.Retelling.{retold}
-use Rattle.brk_decisions.proofs.order_finding.find_position.Goals as goal
+use Rattle.brk_decisions.proofs.position_finding.find_position.Goals as goal
 
 pub returns-in-Some-clause-read : goal.returns-in-Some-clause-read
 returns-in-Some-clause-read g c =

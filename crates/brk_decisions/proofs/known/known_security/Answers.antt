@@ -4,7 +4,7 @@ use Rattle.brk_model.specs.Tables.{SecurityRow, Tables}
 use Rattle.brk_ref.specs.Records.{security_of}
 use Rattle.brk_decisions.specs.ResultFinds.{IsSecurity}
 use Rattle.brk_store.proofs.Retelling.{retold}
-use Rattle.brk_decisions.proofs.result_finding.known_security.Goals as goal
+use Rattle.brk_decisions.proofs.known.known_security.Goals as goal
 
 pub returns-in-Some-clause-read : goal.returns-in-Some-clause-read
 returns-in-Some-clause-read g c =

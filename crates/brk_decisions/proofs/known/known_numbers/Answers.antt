@@ -4,7 +4,7 @@ use Rattle.brk_model.specs.Tables.{BrokerRow, Tables}
 use Rattle.brk_store.specs.Numbers as store
 use Rattle.brk_store.proofs.Retelling.{retold}
 use Rattle.brk_decisions.specs.ResultFinds.{AreNumbers}
-use Rattle.brk_decisions.proofs.parties.known_numbers.Goals as goal
+use Rattle.brk_decisions.proofs.known.known_numbers.Goals as goal
 
 pub returns-in-Some-clause-read : goal.returns-in-Some-clause-read
 returns-in-Some-clause-read g c =

@@ -5,7 +5,7 @@ use Rattle.brk_model.specs.Tables.{LastTradeRow, Tables}
 use Rattle.brk_trade_laws.specs.OrderPlans.{last_price_in}
 use Rattle.brk_store.proofs.Retelling.{retold}
 use Rattle.brk_decisions.proofs.OrderFinds.{price_there}
-use Rattle.brk_decisions.proofs.amounts.known_price.Goals as goal
+use Rattle.brk_decisions.proofs.known.known_price.Goals as goal
 
 pub returns-in-Some-clause-read : goal.returns-in-Some-clause-read
 returns-in-Some-clause-read g c =

@@ -3,7 +3,7 @@ use Rattle.brk_model.specs.Tables.{AccountRow, Tables}
 use Rattle.brk_tables_form.specs.Records.{account_row_of}
 use Rattle.brk_decisions.specs.ResultFinds.{IsAccount}
 use Rattle.brk_store.proofs.Retelling.{retold}
-use Rattle.brk_decisions.proofs.parties.known_account.Goals as goal
+use Rattle.brk_decisions.proofs.known.known_account.Goals as goal
 
 pub returns-in-Some-clause-read : goal.returns-in-Some-clause-read
 returns-in-Some-clause-read g c =

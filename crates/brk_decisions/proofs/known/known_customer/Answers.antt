@@ -4,7 +4,7 @@ use Rattle.brk_model.specs.Tables.{Tables}
 use Rattle.brk_ref.specs.Records.{customer_of}
 use Rattle.brk_decisions.specs.Finds.{IsCustomer}
 use Rattle.brk_store.proofs.Retelling.{retold}
-use Rattle.brk_decisions.proofs.order_finding.known_customer.Goals as goal
+use Rattle.brk_decisions.proofs.known.known_customer.Goals as goal
 
 pub returns-in-Some-clause-read : goal.returns-in-Some-clause-read
 returns-in-Some-clause-read g c =

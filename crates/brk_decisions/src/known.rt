@@ -1,0 +1,73 @@
+//! What a row names, which has to be there: where it is not, that is a fault of the store.
+
+ghost use Rattle.std.specs.Prelude.{◌≡◌, IfErr};
+ghost use Rattle.brk_decisions.specs.Finds.{IsCustomer};
+ghost use Rattle.brk_decisions.specs.ResultFinds.{AreNumbers, IsAccount, IsSecurity};
+ghost use Rattle.brk_model.specs.Joins.{price_in};
+ghost use Rattle.brk_model.specs.Run.{MayFail};
+ghost use Rattle.brk_store.specs.Holds.{IsRead};
+
+use crate::tested::find_price;
+use brk_money::{Fault, Id, Price};
+use brk_ref::{AccountRow, Customer, Security, Symbol};
+use brk_store::Store;
+use brk_trade::BrokerNumbers;
+use sqlite::Alter;
+
+// The customer with an id; an id of none is a fault of the store.
+pub(crate) fn known_customer<S: Alter>(store: &mut Store<S>, id: Id) -> Result<Customer, Fault>
+    ensures read { IsRead S.Store store.old store.new result (λ customer t. IsCustomer t id customer) }
+    ensures fault { IfErr result MayFail }
+{
+    match store.customer(id)? {
+        Some(customer) => Ok(customer),
+        None => Err(Fault::Store),
+    }
+}
+
+// The account with an id; an id of none is a fault of the store.
+pub(crate) fn known_account<S: Alter>(store: &mut Store<S>, id: Id) -> Result<AccountRow, Fault>
+    ensures read { IsRead S.Store store.old store.new result (λ account t. IsAccount t id account) }
+    ensures fault { IfErr result MayFail }
+{
+    match store.account(id)? {
+        Some(account) => Ok(account),
+        None => Err(Fault::Store),
+    }
+}
+
+// The numbers of the broker with an id; an id of none is a fault of the store.
+pub(crate) fn known_numbers<S: Alter>(store: &mut Store<S>, id: Id) -> Result<BrokerNumbers, Fault>
+    ensures read { IsRead S.Store store.old store.new result (λ numbers t. AreNumbers t id numbers) }
+    ensures fault { IfErr result MayFail }
+{
+    match store.broker_numbers(id)? {
+        Some(numbers) => Ok(numbers),
+        None => Err(Fault::Store),
+    }
+}
+
+// The last price of a symbol; a symbol of none is a fault of the store.
+pub(crate) fn known_price<S: Alter>(store: &mut Store<S>, symbol: &Symbol) -> Result<Price, Fault>
+    ensures read { IsRead S.Store store.old store.new result (λ price t. price ≡ price_in t symbol.now) }
+    ensures fault { IfErr result MayFail }
+{
+    match find_price(store, symbol)? {
+        Some(price) => Ok(price),
+        None => Err(Fault::Store),
+    }
+}
+
+// The security with a symbol; a symbol of none is a fault of the store.
+pub(crate) fn known_security<S: Alter>(
+    store: &mut Store<S>,
+    symbol: &Symbol,
+) -> Result<Security, Fault>
+    ensures read { IsRead S.Store store.old store.new result (λ security t. IsSecurity t symbol.now security) }
+    ensures fault { IfErr result MayFail }
+{
+    match store.security(symbol)? {
+        Some(security) => Ok(security),
+        None => Err(Fault::Store),
+    }
+}
