@@ -2,8 +2,13 @@
 """Writes the parts of the crates brk_tables_form, brk_tables_reference and brk_tables_trading that follow from the list of
 tables and statements below: the shapes and cells of the tables and which text makes which table (brk_tables_form), and what
 each SQL text means over any schema (in the crate of the statement). Run it at the top of the repository after a change of the
-list; `.ci/run` does so first. What it writes is checked like any other file."""
+list; `.ci/run` does so first. It lays out what it wrote by `rt fmt`, so where nothing changed it leaves the tree as it was, and
+it prints nothing. With `--texts` it prints the SQL texts as well, for the Rust code. What it writes is checked like any other
+file."""
+import os
 import re
+import subprocess
+import sys
 
 OUT = 'crates/brk_tables_form/proofs'
 SPECS = 'crates/brk_tables_form/specs'
@@ -135,10 +140,16 @@ def of_use(line, body):
     kept = [name for name in names[2].split(', ') if is_named(name.split(' as ')[-1], body)]
     return [f'{names[1]}{{{", ".join(kept)}}}'] if kept else []
 
+# what stood in the files that were written, and when it was written
+BEFORE = {}
+
 def save(path, text):
     """Writes a file without the names that its head imports and its body does without"""
     head, body = text.split('\n\n', 1)
     kept = [one for line in head.splitlines() for one in of_use(line, body)]
+    if os.path.exists(path):
+        with open(path) as file:
+            BEFORE[path] = (file.read(), os.stat(path))
     with open(path, 'w') as file:
         file.write('\n'.join(kept) + '\n\n' + body)
 
@@ -643,6 +654,18 @@ STATEMENTS = {
     ],
 }
 
+def lay_out():
+    """Lays out the crates that were written to, and gives each file that came out as it was its time again"""
+    for crate in STATEMENTS:
+        done = subprocess.run(['rt', 'fmt'], cwd=f'crates/{crate}', stdout=subprocess.PIPE, stderr=subprocess.STDOUT, text=True)
+        if done.returncode != 0:
+            sys.exit(f'tools/tables.py: rt fmt in crates/{crate}:\n{done.stdout}')
+    for path, (text, times) in BEFORE.items():
+        with open(path) as file:
+            same = file.read() == text
+        if same:
+            os.utime(path, ns=(times.st_atime_ns, times.st_mtime_ns))
+
 if __name__ == '__main__':
     shapes()
     cells()
@@ -650,8 +673,9 @@ if __name__ == '__main__':
     splits()
     making()
     probing()
-    for table in DATA:
-        print(create_text(table))
+    texts = [create_text(table) for table in DATA]
     for crate, statements in STATEMENTS.items():
-        for write_one, *parts in statements:
-            print(write_one(crate, *parts))
+        texts += [write_one(crate, *parts) for write_one, *parts in statements]
+    lay_out()
+    if '--texts' in sys.argv[1:]:
+        print('\n'.join(texts))

@@ -1,4 +1,6 @@
 -- The batch text: what a batch's bytes are answered with, and the base that they lead to.
+-- Computed has the same as a function, which is easier to read first. Here an input may be unknown (None), as a reader's is that tells
+-- nothing of what it gives: then any records may be its records.
 use Rattle.std.specs.Prelude.{◌≡◌, ◌⊎◌, ℕ, List, [], ◌∷◌, ◌++◌, length, Option, Some}
 use Rattle.std.specs.List.{AllByRecursion}
 use Rattle.brk_money.specs.Spelling.{Text}

@@ -1,0 +1,167 @@
+#!/usr/bin/env python3
+"""Writes the tables of docs/DEFINITIONS.md from the comments above the definitions of brk_money and brk_model. The headings
+of that page and the text that stands elsewhere in it are written by hand: under a heading '### FILE' the script writes what
+the file's head says and a row for each of its definitions, in their order. Run it at the top of the repository after a change
+of a definition; `.ci/run` does so first. It prints nothing where all is well."""
+import re
+import sys
+
+PAGE = 'docs/DEFINITIONS.md'
+CRATES = ['brk_money', 'brk_model']
+
+# What a file's definitions are from, where that is not this project's own profile.
+FILES = {
+    'Amounts': 'Trade-Result',
+    'Kinds': 'tables',
+    'Records': 'tables',
+    'Base': 'tables',
+    'Shares': 'Trade-Result',
+    'Derived': 'Trade-Result',
+    'Tables': 'tables',
+    'Keys': 'tables',
+    'Orders': 'Trade-Order',
+    'Feed': 'Market-Feed',
+    'Results': 'Trade-Result',
+    'Updates': 'own (named after Trade-Update)',
+    'PositionView': 'own (named after Customer-Position)',
+    'StatusView': 'own (named after Trade-Status)',
+    'LookupView': 'own (named after Trade-Lookup)',
+    'VolumeView': 'own (named after Broker-Volume)',
+    'Lists': '—',
+}
+
+# Definitions that are from elsewhere than their file.
+NAMES = {
+    'Amounts': {'own': 'half_up'},
+    'Kinds': {
+        'own': 'limit_word refusal_number refusal_words refusal_fields refusal_text condition_word',
+        '—': 'same_type same_status same_side',
+    },
+    'Records': {'own': 'Key Kept', 'Trade-Order': 'Executor'},
+    'Base': {
+        'own': 'empty_base marked with_trades',
+        'Trade-Order, Trade-Result': 'rates_of bears_tax is_taxed',
+        'Trade-Result': 'takes_tax_off',
+    },
+    'Shares': {
+        'Trade-Order, Trade-Result': 'buy_value_by buy_value sell_value_by sell_value gain touches',
+        'Trade-Result (HOLDING)': 'Lot lots',
+        'Trade-Result (HOLDING_HISTORY)': 'history',
+    },
+    'Derived': {
+        'Trade-Order': 'holdings_of pending',
+        'Trade-Result; calendar days are our own': 'settlement_days',
+        'consistency conditions': 'summary_of trade_count_of commissions_of',
+        'consistency conditions, with an opening of our own': 'balance_of',
+    },
+    'Tables': {'own': 'no_rows tables_upon tables_of'},
+    'Tests': {'Trade-Order': 'lacks_charge lacks_rate order_tests'},
+    'Audit': {'consistency conditions for Summary, Count and Commission; the others are our own': 'Holds'},
+}
+
+DEFINITION = re.compile(r'(?:(?:abbrev|unfoldable|pub|record|data)\s+)+([^\s:({]+)')
+
+
+def fail(text):
+    sys.exit(f'tools/definitions.py: {text}')
+
+
+def sentence(words):
+    """The words of a comment as a sentence"""
+    text = words[:1].upper() + words[1:]
+    return text if text.endswith('.') else text + '.'
+
+
+def files(crate):
+    """The files of a crate's definitions, in their order"""
+    with open(f'crates/{crate}/specs/Lib.antt') as file:
+        return re.findall(r'^pub mod (\w+)', file.read(), re.M)
+
+
+def definitions(crate, name):
+    """What the head of a file says, and its definitions, each with its comment or else that of the one before it"""
+    path = f'crates/{crate}/specs/{name}.antt'
+    with open(path) as file:
+        lines = file.read().splitlines()
+    head = []
+    while lines and lines[0].startswith('-- '):
+        head.append(lines.pop(0)[3:])
+    if not head:
+        fail(f'{path} has no comment at its head')
+    rows, comment, last = [], [], ''
+    for line in lines:
+        found = DEFINITION.match(line)
+        if line.startswith('-- '):
+            comment.append(line[3:])
+        elif found:
+            last = ' '.join(comment) or last
+            if not last:
+                fail(f'{path}: no comment above {found[1]}')
+            rows.append((found[1], last))
+            comment = []
+        elif not line.startswith('infix'):
+            comment = []
+    return ' '.join(head), rows
+
+
+def origin(name, word):
+    """What a definition is from"""
+    for family, words in NAMES.get(name, {}).items():
+        if word in words.split():
+            return family
+    return FILES.get(name, 'own')
+
+
+def section(crate, name):
+    """The text under a file's heading"""
+    head, rows = definitions(crate, name)
+    for word in ' '.join(NAMES.get(name, {}).values()).split():
+        if word not in dict(rows):
+            fail(f'{word} is listed here for {name}, which has no such definition')
+    table = [f'| `{word}` | {sentence(comment)} | {origin(name, word)} |' for word, comment in rows]
+    return [f'### {name}', '', sentence(head), '', '| Name | What it means | From |', '|---|---|---|', *table, '']
+
+
+def page(lines):
+    """The page with each file's section anew"""
+    owed = {(crate, name) for crate in CRATES for name in files(crate)}
+    out, crate, skips = [], None, False
+    for line in lines:
+        if line.startswith('#'):
+            skips = False
+        if line.startswith('# '):
+            named = re.search(r'\(`(\w+)`\)$', line)
+            crate = named[1] if named else None
+        if line.startswith('### ') and crate in CRATES:
+            name = line[4:]
+            if (crate, name) not in owed:
+                fail(f'{PAGE} has a heading {name}, which stands twice or is no file of {crate}')
+            owed.remove((crate, name))
+            out += section(crate, name)
+            skips = True
+        elif not skips:
+            out.append(line)
+    for crate, name in sorted(owed):
+        fail(f'{PAGE} has no heading for {name} of {crate}')
+    return out
+
+
+def cited(lines):
+    """Each definition that the table of rules names by its file stands there"""
+    known = {name: {word for word, _ in definitions(crate, name)[1]} for crate in CRATES for name in files(crate)}
+    for line in lines:
+        for words, name in re.findall(r'((?:`\w+`, )*`\w+`) \((\w+)\)', line):
+            for word in re.findall(r'`(\w+)`', words):
+                if name in known and word not in known[name]:
+                    fail(f'{PAGE} names {word} of {name}, which has no such definition')
+
+
+if __name__ == '__main__':
+    with open(PAGE) as file:
+        before = file.read()
+    after = page(before.splitlines())
+    cited(after)
+    text = '\n'.join(after).rstrip('\n') + '\n'
+    if text != before:
+        with open(PAGE, 'w') as file:
+            file.write(text)
