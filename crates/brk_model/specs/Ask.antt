@@ -1,5 +1,5 @@
 -- A query of a base: why it is refused, or the view. And from the arguments of a view to a query.
-use Rattle.std.specs.Prelude.{ℕ, List, [], ◌∷◌, ◌++◌, find, is_none, Result, Ok, Err, codes, bytes_eq}
+use Rattle.std.specs.Prelude.{ℕ, List, [], ◌∷◌, ◌++◌, find, is_none, unwrap_or, Result, Ok, Err, codes, bytes_eq}
 use Rattle.std.specs.List.{list_any}
 use Rattle.brk_money.specs.Spelling.{Text}
 use Rattle.brk_money.specs.declared.refusal.Refusal.{Refusal}
@@ -30,10 +30,10 @@ query_tests base (TradesOfSymbol symbol first last) = lacks_security base symbol
 query_tests base (LotsTouched account first) = lacks_account base account ∷ []
 query_tests base (VolumeOf sector names) = []
 
--- the view of a query that is not refused
+-- the view of a query: the rows that it selects, and of an estimate its numbers
 unfoldable pub answer_of : Base → Query → View
 answer_of base (EstimateOf order) = estimate_fields (estimate base order) ∷ []
-answer_of base query = view_of (tables_of base) query
+answer_of base query = unwrap_or (view_of (tables_of base) query) []
 
 -- a query: why it is refused, or its view
 unfoldable pub ask : Base → Query → Result View Refusal

@@ -3,6 +3,7 @@ pub mod Limits
 pub mod Records
 pub mod Base
 pub mod Shares
+pub mod Names
 pub mod Derived
 pub mod Tables
 pub mod Keys

@@ -1,9 +1,9 @@
 -- The tests of a command past those of form. The refusal is that of the first test that finds something wrong.
-use Rattle.std.specs.Prelude.{ℕ, ◌+◌, Bool, true, not, ◌&&◌, ◌==◌, nat_le, nat_lt, max, List, [], ◌∷◌, ◌++◌, length, filter, find, Option, option_map, is_some, is_none, nat_abs, bytes_eq}
+use Rattle.std.specs.Prelude.{ℕ, ◌+◌, Bool, true, not, ◌&&◌, ◌==◌, nat_le, nat_lt, List, [], ◌∷◌, ◌++◌, length, filter, find, Option, option_map, is_some, is_none, nat_abs, bytes_eq}
 use Rattle.std.specs.List.{list_any}
 use Rattle.std.specs.Option.{option_map_or}
 use Rattle.brk_money.specs.Spelling.{Text}
-use Rattle.brk_money.specs.Moments.{day_of, last_day, last_stamp}
+use Rattle.brk_money.specs.Moments.{day_of, last_day, last_stamp, moved_past}
 use Rattle.brk_money.specs.Kinds.{same_type}
 use Rattle.brk_money.specs.declared.refusal.Refusal.{Refusal}
 use Rattle.brk_money.specs.declared.refusal.Refusal.TheVariants.{BadQty, NoAccount, NoCustomer, NoBroker, NoSecurity, NoTrade, NoTax, WrongStatus, NotPermitted, Exists, Overlap, TaxSum, NoCharge, NoRate, Range, ClockEnd}
@@ -29,25 +29,25 @@ first_refusal tests = option_map (λ test. test.1) (find (λ test. test.0) tests
 
 -- the stamp of a command that is accepted: the moment, moved past the last stamp
 abbrev pub next_stamp : Base → ℕ → ℕ
-next_stamp base now = option_map_or (λ last. max now (last + 1)) base.last now
+next_stamp base now = option_map_or (λ last. moved_past last now) base.last now
 
--- no such account is there: what a command names has to be
+-- what a command names has to be there: no account has the id
 abbrev pub lacks_account : Base → ℕ → Test
 lacks_account base id = (is_none (account_with base id), NoAccount)
 
--- no such customer is there
+-- no customer has the id
 abbrev pub lacks_customer : Base → ℕ → Test
 lacks_customer base id = (is_none (customer_with base id), NoCustomer)
 
--- no such broker is there
+-- no broker has the id
 abbrev pub lacks_broker : Base → ℕ → Test
 lacks_broker base id = (is_none (broker_with base id), NoBroker)
 
--- no such security is there
+-- no security has the symbol
 abbrev pub lacks_security : Base → Text → Test
 lacks_security base symbol = (is_none (security_with base symbol), NoSecurity)
 
--- what it adds may not be there yet
+-- what a command adds may not be there yet
 abbrev pub exists_if : Bool → Test
 exists_if found = (found, Exists)
 

@@ -77,7 +77,7 @@ woven-again form (row ∷ rows) replies = one (form row) (woven form rows) repli
     one (Ok command) more (reply ∷ replies) each = ap (λ l. again_of reply ∷ l) (each replies)
     one (Err refusal) more replies each = ap (λ l. Refused refusal ∷ l) (each replies)
 
-none-first : (answer : Answer) (answers : List Answer) → count_refused (answer ∷ answers) ≡ 0 → (is_refused answer ≡ false) × (count_refused answers ≡ 0)
+pub none-first : (answer : Answer) (answers : List Answer) → count_refused (answer ∷ answers) ≡ 0 → (is_refused answer ≡ false) × (count_refused answers ≡ 0)
 none-first answer answers h = at (is_refused answer) (sym (sum_by-cons (λ a. cond (is_refused a) 1 0) answer answers) ∙ h)
   where
     at : (b : Bool) → cond b 1 0 + count_refused answers ≡ 0 → (b ≡ false) × (count_refused answers ≡ 0)
@@ -134,11 +134,11 @@ others_of : {X : Type 0} → List X → List X
 others_of [] = []
 others_of (x ∷ xs) = xs
 
-first-same : {X : Type 0} (x y : X) (xs ys : List X) → x ∷ xs ≡ y ∷ ys → x ≡ y
+pub first-same : {X : Type 0} (x y : X) (xs ys : List X) → x ∷ xs ≡ y ∷ ys → x ≡ y
 unfolding first_of
 first-same x y xs ys e = ap (first_of x) e
 
-others-same : {X : Type 0} (x y : X) (xs ys : List X) → x ∷ xs ≡ y ∷ ys → xs ≡ ys
+pub others-same : {X : Type 0} (x y : X) (xs ys : List X) → x ∷ xs ≡ y ∷ ys → xs ≡ ys
 unfolding others_of
 others-same x y xs ys e = ap others_of e
 
@@ -167,11 +167,11 @@ second_of [] = []
 second_of (word ∷ []) = []
 second_of (word ∷ name ∷ more) = name
 
-name-same : (name other : Text) (rows others : List Fields) → header_of name ∷ rows ≡ header_of other ∷ others → name ≡ other
+pub name-same : (name other : Text) (rows others : List Fields) → header_of name ∷ rows ≡ header_of other ∷ others → name ≡ other
 unfolding second_of
 name-same name other rows others e = ap second_of (first-same (header_of name) (header_of other) rows others e)
 
-right_end : (n : ℕ) → IsEnd (end_of n)
+pub right_end : (n : ℕ) → IsEnd (end_of n)
 unfolding field_at
 right_end n = refl
 
@@ -218,7 +218,7 @@ by_ending input name other rows others answers told NoEnd out only all has (inr 
 by_ending input name other rows others answers told BadHeader out only all has ends = absurd ends
 
 -- the records of the first one
-by_first : (input name : Text) (rows : List Fields) (answers told : List Answer) (ending : Ending) (out : Text) → ending ≡ EndedWell → Ends (Some (text_of input)) ending name rows answers told out
+pub by_first : (input name : Text) (rows : List Fields) (answers told : List Answer) (ending : Ending) (out : Text) → ending ≡ EndedWell → Ends (Some (text_of input)) ending name rows answers told out
     → HasRecords input name rows
 by_first input name rows answers told EndedWell out well ends = (ends.0.0, ends.0.1 ∙ ap (λ rs. header_of name ∷ rs) (append_assoc rows (end_of (length rows) ∷ []) ends.0.0))
 by_first input name rows answers told BadHeader out well ends = absurd ends

@@ -42,7 +42,7 @@ keyed-grows : (base : Base) (now : ℕ) (command : Command) (key : Option Key) (
 keyed-grows base now command key (Some k) = same-grows base base refl
 keyed-grows base now command key None = acted-grows base now key command (step base now command) refl
 
-keyed_step-grows : (base : Base) (now : ℕ) (command : Command) (key : Option Key) → Grows base (keyed_step base now command key).1
+pub keyed_step-grows : (base : Base) (now : ℕ) (command : Command) (key : Option Key) → Grows base (keyed_step base now command key).1
 unfolding keyed_step
 keyed_step-grows base now command key = keyed-grows base now command key (kept_of base key)
 

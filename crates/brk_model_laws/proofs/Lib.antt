@@ -10,3 +10,5 @@ pub mod NameLaws
 pub mod Sums
 pub mod Sides
 pub mod LotLaws
+pub mod PartLaws
+pub mod LeftLaws

@@ -15,7 +15,7 @@ use Rattle.brk_model.specs.Derived.{deal_of, of_account, of_position, shares_in,
 use Rattle.brk_model.specs.Tables.{HoldingRow, holding_row, tables_of}
 use Rattle.brk_model_laws.specs.Laws.{IsReached}
 use Rattle.brk_model_laws.specs.Positions.{in_position}
-use Rattle.brk_model_laws.specs.Names.{NumberedFrom}
+use Rattle.brk_model.specs.Names.{NumberedFrom}
 use Rattle.brk_model_laws.proofs.NameLaws.{is_named}
 use Rattle.brk_model_laws.proofs.Sums.{total_by-sum, total_by-zero, total_by-map, total_by-same, total_by-filter, total_by-left_out, total_by-sort, zero-is}
 use Rattle.brk_model_laws.proofs.Sides.{after-All, net-replay}

@@ -14,7 +14,8 @@ use Rattle.brk_model.specs.Results.{with_result, completed_trade}
 use Rattle.brk_model.specs.Tests.{next_stamp, tests, refusal_of}
 use Rattle.brk_model.specs.Step.{records_after, base_after}
 use Rattle.brk_model_laws.specs.Laws.{IsReached}
-use Rattle.brk_model_laws.specs.Names.{KnowsParties, KnowsAccount, KnowsTax, KnowsTrade, NumberedFrom, Names, IsNamed}
+use Rattle.brk_model.specs.Names.{NumberedFrom}
+use Rattle.brk_model_laws.specs.Names.{KnowsParties, KnowsPermitted, KnowsTax, KnowsTrade, Names, IsNamed}
 use Rattle.brk_model_laws.proofs.Reached.{passed, reached}
 
 -- ---- lists
@@ -184,7 +185,7 @@ names-kept base stamp (AddAccount a) k n =
     }
 names-kept base stamp (AddPermission p) k n =
     let m = grown base (records_after base stamp (AddPermission p)) base.accounts base.permissions base.customer_taxes base.trades (record { brokers = λ id h. h; customers = λ id h. h; accounts = λ id h. h; rates = λ id h. h; securities = λ symbol h. h }) n in
-    record { permitted = All-last (KnowsAccount (records_after base stamp (AddPermission p))) base.permissions p m.permitted (there (account_with base p.account) k.0); parties = m.parties; taxed = m.taxed; traded = m.traded; numbered = m.numbered }
+    record { permitted = All-last (KnowsPermitted (records_after base stamp (AddPermission p))) base.permissions p m.permitted (there (account_with base p.account) k.0); parties = m.parties; taxed = m.taxed; traded = m.traded; numbered = m.numbered }
 names-kept base stamp (AddSecurity l) k n =
     grown base (records_after base stamp (AddSecurity l)) base.accounts base.permissions base.customer_taxes base.trades
     (record { brokers = λ id h. h; customers = λ id h. h; accounts = λ id h. h; rates = λ id h. h; securities = λ symbol h. some-last (λ s. bytes_eq s.symbol symbol) base.securities _ h }) n

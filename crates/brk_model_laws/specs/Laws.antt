@@ -1,11 +1,11 @@
 -- Words for the laws: what is accepted, which stamps rise, what a base begins with, and what comes again.
-use Rattle.std.specs.Prelude.{◌≡◌, ⊤, ℕ, ◌<◌, ◌++◌, List, [], ◌∷◌, Option, Some, IfSome}
+use Rattle.std.specs.Prelude.{◌≡◌, ⊤, ℕ, ◌<◌, ◌++◌, if◌then◌else◌, List, [], ◌∷◌, filter, Option, Some, None, IfSome, is_none}
 use Rattle.brk_money.specs.Spelling.{Text}
-use Rattle.brk_model.specs.Records.{Key}
+use Rattle.brk_model.specs.Records.{Key, Kept}
 use Rattle.brk_model.specs.Base.{Base, empty_base}
 use Rattle.brk_model.specs.Commands.{Command, Reply, Booked, Ordered, Ticked, CanceledTrade, CompletedTrade, Changed, Answer, Done, Again, Refused}
 use Rattle.brk_model.specs.Rows.{line_text}
-use Rattle.brk_model.specs.Keyed.{keyed_step}
+use Rattle.brk_model.specs.Keyed.{kept_under, keyed_step, repeated}
 use Rattle.brk_model.specs.Answers.{Fields, RowCall}
 use Rattle.brk_model.specs.Forms.{Read}
 use Rattle.brk_model.specs.Input.{text_of}
@@ -94,3 +94,25 @@ abbrev pub again_of : Answer → Answer
 again_of (Done reply) = Again (line_text reply)
 again_of (Again line) = Again line
 again_of (Refused refusal) = Refused refusal
+
+-- ---- rows of which a base keeps some
+
+-- the calls whose keys a base does not keep
+abbrev pub calls_left : Base → List (RowCall Command) → List (RowCall Command)
+calls_left base calls = filter (λ call. is_none (kept_under base call.key)) calls
+
+-- their answers
+abbrev pub answers_left : Base → List (RowCall Command) → List Answer → List Answer
+answers_left base (call ∷ calls) (answer ∷ answers) =
+    if is_none (kept_under base call.key) then answer ∷ answers_left base calls answers else answers_left base calls answers
+answers_left base calls answers = []
+
+-- a call whose key is kept is answered with the kept line where it is the same row, and refused where it is another
+abbrev pub IsKeptAnswer : Base → Option Kept → RowCall Command → Answer → Type 0
+IsKeptAnswer base None call answer = ⊤
+IsKeptAnswer base (Some k) call answer = answer ≡ (repeated base call.command k).0
+
+-- so it is with each call whose key the base keeps
+abbrev pub AreKeptAnswers : Base → List (RowCall Command) → List Answer → Type 0
+AreKeptAnswers base (call ∷ calls) (answer ∷ answers) = IsKeptAnswer base (kept_under base call.key) call answer × AreKeptAnswers base calls answers
+AreKeptAnswers base calls answers = ⊤

@@ -1,16 +1,17 @@
 //! Laws of batches.
 
-ghost use Rattle.std.specs.Prelude.{◌≡◌, ◌≤◌, ℕ, List, length, map, take};
+ghost use Rattle.std.specs.Prelude.{◌≡◌, ◌≤◌, ◌∷◌, ◌++◌, ℕ, List, Some, drop, length, map, take};
 ghost use Rattle.csv.specs.Reading.{records, default_config};
 ghost use Rattle.brk_model.specs.Base.{Base};
 ghost use Rattle.brk_model.specs.Commands.{Answer, Command};
 ghost use Rattle.brk_model.specs.Answers.{Fields, InTurn, RowCall};
 ghost use Rattle.brk_model.specs.Forms.{Read};
-ghost use Rattle.brk_model.specs.Input.{text_of};
-ghost use Rattle.brk_model.specs.Batch.{Batch, BatchText, IsBatch, row_step};
+ghost use Rattle.brk_model.specs.Input.{Begins, header_of, text_of};
+ghost use Rattle.brk_model.specs.Batch.{AreSettled, Batch, BatchText, IsBatch, row_step};
+ghost use Rattle.brk_model.specs.Lines.{count_refused};
 ghost use Rattle.brk_model.specs.Computed.{batch, told_whole};
 ghost use Rattle.brk_model.specs.Run.{Did, Run};
-ghost use Rattle.brk_model_laws.specs.Laws.{LeadsTo, WentThrough, again_of, call_of};
+ghost use Rattle.brk_model_laws.specs.Laws.{AreKeptAnswers, LeadsTo, WentThrough, again_of, answers_left, call_of, calls_left};
 
 /// The function that computes a batch gives its batch text, where there are moments enough, and takes the first of them.
 pub fn batch_is_computed()
@@ -28,4 +29,32 @@ pub fn rows_are_calls()
 pub fn a_batch_sent_again_changes_nothing()
     ensures { (form : Fields → Read Command) (base later : Base) (moments others : List ℕ) (input : List ℕ) (answers : List Answer) (first second : Batch Base) → WentThrough form base moments input answers first
         → LeadsTo first.base later → BatchText form row_step later others input second → second ≡ told_whole (map again_of answers, later) }
+{}
+
+/// However a second sending of a batch that went through ends, by a fault too: the rows that were settled change nothing and are answered with
+/// their kept lines.
+pub fn rows_settled_again_change_nothing()
+    ensures { (form : Fields → Read Command) (base later last : Base) (moments others : List ℕ) (input : List ℕ) (answers told : List Answer)
+        (first : Batch Base) (name : List ℕ) (rows : List Fields) → WentThrough form base moments input answers first
+        → LeadsTo first.base later → Begins (Some (text_of input)) (header_of name ∷ rows)
+        → AreSettled form row_step name later others rows told last
+        → (told ≡ map again_of (take (length rows) answers)) × (last ≡ later) }
+{}
+
+/// Rows whose keys a base keeps change nothing: the others alone, in order, lead to the base after all of them, with the same answers. A row
+/// that is kept is answered with its line, and another one under its key is refused.
+pub fn kept_rows_change_nothing()
+    ensures { (base after : Base) (calls : List (RowCall Command)) (answers : List Answer) → InTurn row_step base calls answers after
+        → InTurn row_step base (calls_left base calls) (answers_left base calls answers) after × AreKeptAnswers base calls answers }
+{}
+
+/// Where some first rows of a batch were settled and none of them was refused, and then all of its rows are settled, this comes to one
+/// undisturbed sending, with the moments of the first one for those rows and those of the second one for the rest.
+pub fn a_batch_sent_again_is_completed()
+    ensures { (form : Fields → Read Command) (name : List ℕ) (base mid last : Base) (moments others : List ℕ) (front more : List Fields)
+        (answers told : List Answer) → count_refused answers ≡ 0 → AreSettled form row_step name base moments front answers mid
+        → AreSettled form row_step name mid others (front ++ more) told last
+        → (take (length front) told ≡ map again_of answers)
+        × AreSettled form row_step name base (moments ++ drop (length moments) others) (front ++ more)
+        (answers ++ drop (length front) told) last }
 {}

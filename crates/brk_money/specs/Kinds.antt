@@ -9,6 +9,8 @@ use Rattle.brk_money.specs.declared.tax_status.TaxStatus.{TaxStatus}
 use Rattle.brk_money.specs.declared.tax_status.TaxStatus.TheVariants.{Untaxed, Withheld, Reported}
 use Rattle.brk_money.specs.declared.fault.Condition.{Condition}
 use Rattle.brk_money.specs.declared.fault.Condition.TheVariants as condition
+use Rattle.brk_money.specs.declared.fault.Fault.{Fault}
+use Rattle.brk_money.specs.declared.fault.Fault.TheVariants.{Memory, Store, Damaged}
 use Rattle.brk_money.specs.declared.side.Side.{Side}
 use Rattle.brk_money.specs.declared.side.Side.TheVariants.{Buy, Sell}
 use Rattle.brk_money.specs.declared.refusal.Limit.{Limit}
@@ -133,6 +135,12 @@ refusal_fields refusal = decimal (refusal_number refusal) ∷ refusal_words refu
 -- the same, joined by commas
 abbrev pub refusal_text : Refusal → List ℕ
 refusal_text refusal = join_with_byte 44 (refusal_fields refusal)
+
+-- the number that stands for a fault
+abbrev pub fault_number : Fault → ℕ
+fault_number Memory = 90
+fault_number Store = 91
+fault_number (Damaged condition) = 92
 
 -- CA_TAX_ST
 abbrev pub tax_status_number : TaxStatus → ℕ

@@ -1,5 +1,5 @@
 ghost use Rattle.std.specs.Prelude.{◌≡◌};
-ghost use Rattle.brk_money.specs.Kinds.{condition_word};
+ghost use Rattle.brk_money.specs.Kinds.{condition_word, fault_number};
 ghost use Rattle.brk_money.specs.declared.fault.Fault.TheVariants.{Memory};
 
 use std::alloc::{AllocError, AllocFailed};
@@ -67,6 +67,19 @@ pub enum Fault {
     Store,
     /// The tables of a database are not those of a desk; only where one is made, adopted or audited.
     Damaged(Condition),
+}
+
+impl Fault {
+    /// The number that stands for it, whatever condition fails.
+    pub fn number(self) -> u8
+        ensures { result ≡ fault_number self }
+    {
+        match self {
+            Fault::Memory => 90,
+            Fault::Store => 91,
+            Fault::Damaged(_) => 92,
+        }
+    }
 }
 
 impl From<AllocError> for Fault {

@@ -14,7 +14,8 @@ use Rattle.brk_model.specs.Commands.{Tick}
 use Rattle.brk_model.specs.Feed.{is_triggered, triggers, with_tick, with_ticks}
 use Rattle.brk_model.specs.Tests.{next_stamp, wrong_status}
 use Rattle.brk_money.specs.declared.refusal.Refusal.TheVariants.{NoTrade}
-use Rattle.brk_trade_laws.specs.Books.{CompletesFirst, IsEarly, IsNoCompletion, IsOne, NumberedFrom, WaitsFirst}
+use Rattle.brk_model.specs.Names.{NumberedFrom}
+use Rattle.brk_trade_laws.specs.Books.{CompletesFirst, IsEarly, IsNoCompletion, IsOne, WaitsFirst}
 use Rattle.brk_trade_laws.proofs.Same.{All-append, All-map, All-of}
 use Rattle.brk_trade_laws.proofs.Places.{FoundAt, find-at}
 use Rattle.brk_trade_laws.proofs.Numbering.{numbered_after, pending_not_completed, status_of_marked}

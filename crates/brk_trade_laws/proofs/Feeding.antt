@@ -17,7 +17,8 @@ use Rattle.brk_model.specs.Sheets.{sheets, sheets_of}
 use Rattle.brk_model.specs.Commands.{Tick}
 use Rattle.brk_model.specs.Feed.{is_triggered, triggers, ticked, triggered_by, with_price, with_tick, with_ticks}
 use Rattle.brk_changes.specs.Changes.{with_last_trade_set}
-use Rattle.brk_trade_laws.specs.Books.{NumberedFrom, WaitsFirst, IsOne, DistinctSymbols}
+use Rattle.brk_model.specs.Names.{NumberedFrom}
+use Rattle.brk_trade_laws.specs.Books.{WaitsFirst, IsOne, DistinctSymbols}
 use Rattle.brk_trade_laws.specs.Trading.{cancel_rows, submitted_rows, row_after, with_price_of, tick_rows, feed_rows, fed_trades}
 use Rattle.brk_trade_laws.proofs.Order.{by_key-map}
 use Rattle.brk_trade_laws.proofs.Same.{NonePass, find-All, All-map, All-mapped, All-of, flat_map-same}

@@ -12,7 +12,8 @@ use Rattle.brk_model.specs.Commands.{Command, Listing, Reply, AddBroker, AddCust
 use Rattle.brk_model.specs.Keyed.{keeping}
 use Rattle.brk_model.specs.Tests.{tests, next_stamp, bands_meet}
 use Rattle.brk_model.specs.Step.{listed, records_after}
-use Rattle.brk_trade_laws.specs.Books.{IsBooks, KnowsBroker, KnowsCustomer, HasVolume, HasBounds, DistinctAccounts, DistinctSymbols, PermissionsApart, BandsApart}
+use Rattle.brk_model.specs.Names.{KnowsBroker, KnowsCustomer}
+use Rattle.brk_trade_laws.specs.Books.{IsBooks, HasVolume, HasBounds, DistinctAccounts, DistinctSymbols, PermissionsApart, BandsApart}
 use Rattle.brk_trade_laws.specs.Plans.{LeavesBooks}
 use Rattle.brk_trade_laws.proofs.Bools.{numbers_back, texts_back}
 use Rattle.brk_trade_laws.proofs.Same.{NonePass, All-map, All-append, any-none, find-more, find-none}

@@ -56,3 +56,5 @@ pub mod ResultDoing
 pub mod SumReading
 pub mod RunKeeping
 pub mod RunLaws
+pub mod AddingUp
+pub mod RunSums

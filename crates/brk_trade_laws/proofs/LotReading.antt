@@ -16,7 +16,8 @@ use Rattle.brk_model.specs.Keys.{KeyPart, number, by_key, key_before, row_before
 use Rattle.brk_model.specs.Shares.{Share, lot_qty, opened_share, signed}
 use Rattle.brk_model.specs.Sheets.{sheets, sheets_of}
 use Rattle.brk_model.specs.Tables.{HoldingRow, tables_of, holding_row}
-use Rattle.brk_trade_laws.specs.Books.{IsBooks, NumberedFrom}
+use Rattle.brk_model.specs.Names.{NumberedFrom}
+use Rattle.brk_trade_laws.specs.Books.{IsBooks}
 use Rattle.brk_lots.specs.Lots.{side_of_qty}
 use Rattle.brk_trade_laws.specs.TradeReads.{lot_shares, lots_in}
 use Rattle.brk_trade_laws.proofs.Bools.{numbers_back, same_text}

@@ -14,7 +14,8 @@ use Rattle.brk_model.specs.Derived.{pending, shares_in, summary_of, balance_of, 
 use Rattle.brk_model.specs.Tables.{Tables, TradeRow, HistoryRow, RequestRow, tables_of, tables_upon, trade_row, history_rows, request_row}
 use Rattle.brk_model.specs.Keys.{KeyPart, number, word, by_key, insert_row, trade_key, history_key, request_key}
 use Rattle.brk_model.specs.Sheets.{sheets, sheets_of}
-use Rattle.brk_trade_laws.specs.Books.{NumberedFrom, WaitsFirst, IsOne}
+use Rattle.brk_model.specs.Names.{NumberedFrom}
+use Rattle.brk_trade_laws.specs.Books.{WaitsFirst, IsOne}
 use Rattle.brk_trade_laws.specs.Trading.{status_row, moved_rows, submitted_rows}
 use Rattle.brk_trade_laws.proofs.Order.{NewKey, by_key-middle, by_key-map, by_key-filter}
 use Rattle.brk_trade_laws.proofs.Same.{All-map, All-of, All-append, All-mapped, All-filter, flat_map-append, map-last}

@@ -12,7 +12,8 @@ use Rattle.brk_model.specs.Records.{Permission, Security, Charge, Band, Customer
 use Rattle.brk_model.specs.Base.{Base, security_with}
 use Rattle.brk_model.specs.Tests.{bands_meet}
 use Rattle.brk_model.specs.Keys.{KeyPart, number, word, permission_key, charge_key, band_key, customer_tax_key}
-use Rattle.brk_trade_laws.specs.Books.{HasBounds, KnowsSecurity}
+use Rattle.brk_model.specs.Names.{KnowsSecurity}
+use Rattle.brk_trade_laws.specs.Books.{HasBounds}
 use Rattle.brk_trade_laws.proofs.Order.{NewKey}
 use Rattle.brk_trade_laws.proofs.Same.{NonePass, All-map}
 

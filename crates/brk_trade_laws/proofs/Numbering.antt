@@ -10,7 +10,8 @@ use Rattle.brk_money.specs.declared.status.Status.TheVariants.{Completed, Active
 use Rattle.brk_model.specs.Lists.{update_where}
 use Rattle.brk_model.specs.Records.{Mark, Trade}
 use Rattle.brk_model.specs.Base.{has_status, is_completed, marked, last_mark}
-use Rattle.brk_trade_laws.specs.Books.{NumberedFrom, WaitsFirst}
+use Rattle.brk_model.specs.Names.{NumberedFrom}
+use Rattle.brk_trade_laws.specs.Books.{WaitsFirst}
 use Rattle.brk_trade_laws.proofs.Same.{NonePass}
 
 -- ---- the last mark

@@ -22,7 +22,8 @@ use Rattle.brk_orders.specs.declared.order.Order.{Order}
 use Rattle.brk_ref.specs.Records.{executor_of}
 use Rattle.brk_trade.specs.Orders.{order_tests, terms_of}
 use Rattle.brk_trade.specs.declared.order.OrderFound.{OrderFound}
-use Rattle.brk_trade_laws.specs.Books.{IsBooks, KnowsCustomer}
+use Rattle.brk_model.specs.Names.{KnowsCustomer}
+use Rattle.brk_trade_laws.specs.Books.{IsBooks}
 use Rattle.brk_trade_laws.specs.OrderPlans.{IfCustomer, IsFoundForEstimate, Passes, charge_in, order_account}
 use Rattle.brk_trade_laws.specs.Reads.{rates_of}
 use Rattle.brk_trade_laws.specs.TradeReads.{band_in, permission_in}

@@ -13,7 +13,7 @@ use Rattle.brk_model.specs.Keys.{by_key, insert_row, trade_key, history_key, req
 use Rattle.brk_model.specs.Sheets.{sheets, sheets_of}
 use Rattle.brk_model.specs.Commands.{Order}
 use Rattle.brk_model.specs.Orders.{ordered_trade, first_status, with_order}
-use Rattle.brk_trade_laws.specs.Books.{NumberedFrom}
+use Rattle.brk_model.specs.Names.{NumberedFrom}
 use Rattle.brk_trade_laws.specs.Trading.{order_rows, status_row}
 use Rattle.brk_trade_laws.proofs.Order.{by_key-append}
 use Rattle.brk_trade_laws.proofs.Same.{All-mapped, All-filter, flat_map-append}

@@ -17,7 +17,8 @@ use Rattle.brk_model.specs.Sheets.{sheets, sheets_of}
 use Rattle.brk_model.specs.Commands.{AddBroker, AddCustomer, AddAccount}
 use Rattle.brk_model.specs.Step.{records_after, base_after}
 use Rattle.brk_changes.specs.Changes.{with_broker, with_customer, with_account, with_last}
-use Rattle.brk_trade_laws.specs.Books.{IsBooks, KnowsAccount, KnowsBroker}
+use Rattle.brk_model.specs.Names.{KnowsAccount, KnowsBroker}
+use Rattle.brk_trade_laws.specs.Books.{IsBooks}
 use Rattle.brk_trade_laws.proofs.Order.{NewKey, by_key-append}
 use Rattle.brk_trade_laws.proofs.Same.{NonePass, All-map, All-of, All-mapped, All-filter, map-same, map-last, filter-same, filter-none, total_by-same, flat_map-append, flat_map-empty, find-more, find-new, find-none, find-each, find-All}
 

@@ -30,7 +30,8 @@ use Rattle.brk_trade.specs.Outcomes.{amount_of, balance_after, commission_at, co
 use Rattle.brk_changes.specs.Rows.{trade_row_of}
 use Rattle.brk_trade.specs.declared.outcome.ResultAccount.{ResultAccount}
 use Rattle.brk_trade.specs.declared.outcome.ResultFound.{ResultFound}
-use Rattle.brk_trade_laws.specs.Books.{IsBooks, KnowsAccount, KnowsBroker, KnowsSecurity}
+use Rattle.brk_model.specs.Names.{KnowsAccount, KnowsBroker, KnowsSecurity}
+use Rattle.brk_trade_laws.specs.Books.{IsBooks}
 use Rattle.brk_trade_laws.specs.OrderPlans.{IfCustomer}
 use Rattle.brk_trade_laws.specs.Reads.{rates_of}
 use Rattle.brk_trade_laws.specs.ResultPlans.{IsFoundForResult, PassesFirst, result_account}

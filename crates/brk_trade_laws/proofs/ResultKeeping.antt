@@ -15,7 +15,8 @@ use Rattle.brk_model.specs.Sheets.{sheets}
 use Rattle.brk_model.specs.Step.{records_after, with_result_of}
 use Rattle.brk_model.specs.Tests.{next_stamp, refusal_of, result_tests, tests}
 use Rattle.brk_lots.specs.Position.{IsNew}
-use Rattle.brk_trade_laws.specs.Books.{CompletesFirst, IsBooks, IsEarly, IsNoCompletion, KnowsAccount, KnowsSecurity, MomentsApart, NumberedFrom, WaitsFirst}
+use Rattle.brk_model.specs.Names.{KnowsAccount, KnowsSecurity, NumberedFrom}
+use Rattle.brk_trade_laws.specs.Books.{CompletesFirst, IsBooks, IsEarly, IsNoCompletion, MomentsApart, WaitsFirst}
 use Rattle.brk_trade_laws.specs.Plans.{ChangesRows, LeavesBooks}
 use Rattle.brk_trade_laws.specs.Results.{result_rows, rows_of_result}
 use Rattle.brk_trade_laws.specs.TradeReads.{position_in}

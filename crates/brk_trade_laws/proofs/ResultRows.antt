@@ -17,7 +17,8 @@ use Rattle.brk_model.specs.Shares.{Touch}
 use Rattle.brk_model.specs.Tables.{BrokerRow, HistoryRow, SummaryRow, Tables, TradeRow, account_row, broker_row, cash_row, history_rows, holding_row, lot_history, request_row, settlement_row, tables_of, trade_row}
 use Rattle.brk_model.specs.Keys.{number, word, account_key, broker_key, by_key, cash_key, history_key, holding_history_key, holding_key, insert_row, request_key, settlement_key, summary_key, trade_key}
 use Rattle.brk_model.specs.Sheets.{sheets, sheets_of}
-use Rattle.brk_trade_laws.specs.Books.{IsBooks, IsNoCompletion, NumberedFrom}
+use Rattle.brk_model.specs.Names.{NumberedFrom}
+use Rattle.brk_trade_laws.specs.Books.{IsBooks, IsNoCompletion}
 use Rattle.brk_trade_laws.specs.Results.{ResultRows, cash_rows, change_of_lot, completed_rows, left_of_lot, opened_rows, result_rows, rows_of_result, rows_upon, summary_rows_moved, touched_rows}
 use Rattle.brk_changes.specs.Changes.{with_broker_numbers, with_lot_change, with_settlement}
 use Rattle.brk_trade_laws.specs.Trading.{status_row}

@@ -18,7 +18,8 @@ use Rattle.brk_model.specs.Run.{Answers, Ask, Call, Did, Do, Failed, IsSeen, NoV
 use Rattle.brk_model.specs.Step.{base_after, records_after, reply_to, step, unless}
 use Rattle.brk_model.specs.Tests.{next_stamp, refusal_of}
 use Rattle.brk_model.specs.Updates.{changed_cash_name, changed_cash_type, changed_executor, chosen_of_account, chosen_of_symbol}
-use Rattle.brk_trade_laws.specs.Books.{CompletesFirst, IsBooks, IsEarly, KnowsAccount, KnowsSecurity, MomentsApart, WaitsFirst}
+use Rattle.brk_model.specs.Names.{KnowsAccount, KnowsSecurity}
+use Rattle.brk_trade_laws.specs.Books.{CompletesFirst, IsBooks, IsEarly, MomentsApart, WaitsFirst}
 use Rattle.brk_trade_laws.specs.Plans.{LeavesBooks, base_then}
 use Rattle.brk_trade_laws.proofs.Completions.{later}
 use Rattle.brk_trade_laws.proofs.Keepers.{books_account, books_band, books_broker, books_charge, books_customer, books_customer_tax, books_kept, books_permission, books_security, books_tax_rate}

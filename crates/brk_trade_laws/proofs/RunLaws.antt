@@ -16,7 +16,6 @@ use Rattle.brk_model.specs.Base.{Base, completed, is_completed, marked, trade_wi
 use Rattle.brk_model.specs.Commands.{AddAccount, AddBand, AddBroker, AddCharge, AddCustomer, AddCustomerTax, AddPermission, AddSecurity, AddTaxRate, CancelTrade, ChangeCashNames, ChangeCashTypes, ChangeExecutors, Command, CompleteTrade, FeedTicks, PlaceOrder, Reply, Tick}
 use Rattle.brk_model.specs.Derived.{deal_of, deals_in, shares_in}
 use Rattle.brk_model.specs.Feed.{is_triggered, with_tick, with_ticks}
-use Rattle.brk_model.specs.Joins.{trade_in}
 use Rattle.brk_model.specs.Keyed.{keeping}
 use Rattle.brk_model.specs.Lists.{contains_number, update_where}
 use Rattle.brk_model.specs.Orders.{ordered_trade, tax_of}
@@ -26,12 +25,12 @@ use Rattle.brk_model.specs.Run.{Call, Outcome, Run}
 use Rattle.brk_model.specs.Shares.{lot_qty, replay}
 use Rattle.brk_model.specs.Sheets.{sheets}
 use Rattle.brk_model.specs.Step.{records_after}
-use Rattle.brk_model.specs.Tables.{TradeRow, trade_row}
+use Rattle.brk_model.specs.Tables.{trade_row}
 use Rattle.brk_model.specs.Tests.{next_stamp, refusal_of, tests}
 use Rattle.brk_model.specs.Updates.{changed_cash_name, changed_cash_type, changed_executor, chosen_of_account, chosen_of_symbol}
 use Rattle.brk_trade_laws.specs.Books.{IsBooks}
 use Rattle.brk_trade_laws.specs.Plans.{base_then}
-use Rattle.brk_trade_laws.specs.Runs.{IsTaxed}
+use Rattle.brk_trade_laws.specs.Runs.{HasTax, IsTaxed, tax_upon}
 use Rattle.brk_trade_laws.specs.TradeReads.{position_in}
 use Rattle.brk_trade_laws.proofs.Completions.{named_open, named_waits, triggered_waits}
 use Rattle.brk_trade_laws.proofs.Keepers.{books_kept}
@@ -202,7 +201,7 @@ taxed_command base now id tax (ChangeCashTypes account first last) books e k =
 taxed_command base now id tax (ChangeCashNames symbol first last) books e k =
     words_changed base (base_then base now (ChangeCashNames symbol first last)) id tax (λ t. contains_number t.id (chosen_of_symbol base symbol first last)) (λ t. record t { cash_name = changed_cash_name base t }) (cash_name_same base) refl k
 
-taxed_kept : (base : Base) (key : Option Key) (command : Command) (reply : Reply) (id tax : ℕ) → IsTaxed id tax base → IsTaxed id tax (keeping key command reply base)
+pub taxed_kept : (base : Base) (key : Option Key) (command : Command) (reply : Reply) (id tax : ℕ) → IsTaxed id tax base → IsTaxed id tax (keeping key command reply base)
 taxed_kept base None command reply id tax k = k
 taxed_kept base (Some key) command reply id tax k = same_trades base (keeping (Some key) command reply base) id tax refl k
 
@@ -219,7 +218,7 @@ unfolding completed_trade
 tax_is base stamp price t = refl
 
 pub result_taxed : (base : Base) (now id price : ℕ) (t : Trade) → IsBooks base → trade_with base id ≡ Some t → refusal_of base now (CompleteTrade id price) ≡ None
-    → IsTaxed id (tax_of base t.account (result_deal (next_stamp base now) price t) (shares_in (completed base) t.account t.symbol)) (base_then base now (CompleteTrade id price))
+    → IsTaxed id (tax_upon base now price t) (base_then base now (CompleteTrade id price))
 unfolding records_after
 result_taxed base now id price t books e accepted =
     let stamp : ℕ = next_stamp base now in
@@ -234,5 +233,5 @@ result_taxed base now id price t books e accepted =
       taxed = tax_is base stamp price t;
     }
 
-pub taxed_row : (base : Base) (id tax : ℕ) → IsTaxed id tax base → (r : TradeRow) × (trade_in (sheets base) id ≡ Some r) × (r.tax ≡ tax)
-taxed_row base id tax k = (trade_row k.trade, reads_trade base id ∙ ap (option_map trade_row) k.found, k.taxed)
+pub taxed_row : (base : Base) (id tax : ℕ) → IsTaxed id tax base → HasTax (sheets base) id tax
+taxed_row base id tax k = record { row = trade_row k.trade; found = reads_trade base id ∙ ap (option_map trade_row) k.found; taxed = k.taxed }

@@ -28,16 +28,16 @@ use Rattle.brk_trade_laws.proofs.Worth.{total-sorted}
 
 -- ---- sums over rows
 
-total-map : {X Y : Type 0} (f : Y → ℤ) (g : X → Y) (xs : List X) → total_by f (map g xs) ≡ total_by (λ x. f (g x)) xs
+pub total-map : {X Y : Type 0} (f : Y → ℤ) (g : X → Y) (xs : List X) → total_by f (map g xs) ≡ total_by (λ x. f (g x)) xs
 unfolding total_by
 total-map f g [] = refl
 total-map f g (x ∷ xs) = ap (λ n. f (g x) +ℤ n) (total-map f g xs)
 
-sum-map : {X Y : Type 0} (f : Y → ℕ) (g : X → Y) (xs : List X) → sum_by f (map g xs) ≡ sum_by (λ x. f (g x)) xs
+pub sum-map : {X Y : Type 0} (f : Y → ℕ) (g : X → Y) (xs : List X) → sum_by f (map g xs) ≡ sum_by (λ x. f (g x)) xs
 sum-map f g [] = refl
 sum-map f g (x ∷ xs) = sum_by-cons f (g x) (map g xs) ∙ ap (λ n. f (g x) + n) (sum-map f g xs) ∙ sym (sum_by-cons (λ x. f (g x)) x xs)
 
-length-map : {X Y : Type 0} (g : X → Y) (xs : List X) → length (map g xs) ≡ length xs
+pub length-map : {X Y : Type 0} (g : X → Y) (xs : List X) → length (map g xs) ≡ length xs
 length-map g [] = refl
 length-map g (x ∷ xs) = let h = length-map g xs in omega (arith, h)
 
@@ -54,7 +54,7 @@ broker_or accounts done (Some a) = refl
 broker_told : (base : Base) (account : ℕ) → option_map_or (λ r. r.broker) (account_in (sheets base) account) 0 ≡ broker_in base.accounts account
 broker_told base account = ap (λ o. option_map_or (λ r. r.broker) o 0) (reads_account base account) ∙ broker_or base.accounts (completed base) (account_with base account)
 
-broker_trades : (base : Base) (broker : ℕ) → IsBooks base → done_of_broker (sheets base) broker ≡ map trade_row (of_broker base.accounts (completed base) broker)
+pub broker_trades : (base : Base) (broker : ℕ) → IsBooks base → done_of_broker (sheets base) broker ≡ map trade_row (of_broker base.accounts (completed base) broker)
 broker_trades base broker books =
     ap (filter (is_of_broker (sheets base) broker)) (trades_in_order base books.numbered)
     ∙ filter-map (is_of_broker (sheets base) broker) trade_row base.trades
@@ -107,7 +107,7 @@ found_each (t ∷ ts) d = (
     behind [] h k = tt
     behind (u ∷ us) h k = (ap (λ b. cond b (Some t) (find (λ v. v.id == u.id) ts)) (numbers_back t.id u.id ∙ h.0) ∙ k.0, behind us h.1 k.1)
 
-cash_moves : (base : Base) (account : ℕ) → IsBooks base → total_by (λ c. c.amount) (cash_of_account (sheets base) account) ≡ total_by (amount_of base.accounts) (cash_trades (of_account (completed base) account))
+pub cash_moves : (base : Base) (account : ℕ) → IsBooks base → total_by (λ c. c.amount) (cash_of_account (sheets base) account) ≡ total_by (amount_of base.accounts) (cash_trades (of_account (completed base) account))
 unfolding tables_of sheets_of
 cash_moves base account books =
     let M : CashRow → Bool = moves_account (sheets base) account in

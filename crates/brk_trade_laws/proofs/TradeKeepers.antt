@@ -12,7 +12,8 @@ use Rattle.brk_model.specs.Orders.{first_status, ordered_trade}
 use Rattle.brk_model.specs.Feed.{is_triggered, with_tick, with_ticks}
 use Rattle.brk_model.specs.Tests.{tests, next_stamp}
 use Rattle.brk_model.specs.Step.{records_after}
-use Rattle.brk_trade_laws.specs.Books.{BandsApart, CompletesFirst, DistinctAccounts, HasBounds, HasVolume, IsEarly, KnowsAccount, KnowsBroker, KnowsCustomer, KnowsSecurity, MomentsApart, PermissionsApart, WaitsFirst}
+use Rattle.brk_model.specs.Names.{KnowsAccount, KnowsBroker, KnowsCustomer, KnowsSecurity}
+use Rattle.brk_trade_laws.specs.Books.{BandsApart, CompletesFirst, DistinctAccounts, HasBounds, HasVolume, IsEarly, MomentsApart, PermissionsApart, WaitsFirst}
 use Rattle.brk_trade_laws.specs.Plans.{LeavesBooks}
 use Rattle.brk_trade_laws.proofs.Same.{All-append, All-map, any-none}
 use Rattle.brk_trade_laws.proofs.Places.{All-updated}

@@ -18,7 +18,8 @@ use Rattle.brk_model.specs.Tables.{RequestRow, TradeRow, tables_of, trade_row, r
 use Rattle.brk_model.specs.Keys.{number, key_before, row_before, permission_key, trade_key, request_key}
 use Rattle.brk_model.specs.Sheets.{sheets, sheets_of}
 use Rattle.brk_model.specs.Ways.{is_rising}
-use Rattle.brk_trade_laws.specs.Books.{IsBooks, NumberedFrom}
+use Rattle.brk_model.specs.Names.{NumberedFrom}
+use Rattle.brk_trade_laws.specs.Books.{IsBooks}
 use Rattle.brk_trade_laws.specs.TradeReads.{last_number, permissions_of, volume_in}
 use Rattle.brk_trade_laws.specs.Trading.{hit_trades, is_hit}
 use Rattle.brk_trade_laws.proofs.Order.{Sorted, by_key-filter, by_key-map, sort_sorted, sorted_filter}

@@ -116,7 +116,7 @@ each_found (s ∷ ss) d = (
     behind [] g h = tt
     behind (u ∷ us) g h = (ap (λ b. cond b (Some s) (find (λ v. bytes_eq v.symbol u.symbol) ss)) (texts_back s.symbol u.symbol ∙ g.0) ∙ h.0, behind us g.1 h.1)
 
-All-both : {X : Type 0} (P Q : X → Type 0) (xs : List X) → AllByRecursion P xs → AllByRecursion Q xs → AllByRecursion (λ x. P x × Q x) xs
+pub All-both : {X : Type 0} (P Q : X → Type 0) (xs : List X) → AllByRecursion P xs → AllByRecursion Q xs → AllByRecursion (λ x. P x × Q x) xs
 All-both P Q [] g h = tt
 All-both P Q (x ∷ xs) g h = ((g.0, h.0), All-both P Q xs g.1 h.1)
 

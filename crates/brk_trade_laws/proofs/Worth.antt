@@ -27,7 +27,7 @@ use Rattle.brk_trade_laws.proofs.Volumes.{each_found}
 
 -- ---- sums
 
-total-insert : {X : Type 0} (f : X → ℤ) (before : X → X → Bool) (x : X) (ys : List X) → total_by f (insert_by before x ys) ≡ f x +ℤ total_by f ys
+pub total-insert : {X : Type 0} (f : X → ℤ) (before : X → X → Bool) (x : X) (ys : List X) → total_by f (insert_by before x ys) ≡ f x +ℤ total_by f ys
 unfolding total_by
 total-insert f before x [] = refl
 total-insert {X = X} f before x (y ∷ ys) = by_test (total-insert f before x ys) (before y x)

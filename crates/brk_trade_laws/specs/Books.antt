@@ -1,29 +1,14 @@
 -- What holds of the base of a brokerage that began empty and was moved by accepted commands: what the rows of the next command rest on.
-use Rattle.std.specs.Prelude.{◌≡◌, ◌≤◌, ⊤, ℕ, ◌+◌, ◌==◌, ◌&&◌, true, false, List, [], ◌∷◌, Option, Some, None, is_some, nat_le, IfSome, bytes_eq}
+use Rattle.std.specs.Prelude.{◌≡◌, ◌≤◌, ⊤, ℕ, ◌==◌, ◌&&◌, true, false, List, [], ◌∷◌, Option, Some, None, nat_le, IfSome, bytes_eq}
 use Rattle.std.specs.List.{AllByRecursion}
 use Rattle.brk_money.specs.Moments.{last_stamp}
 use Rattle.brk_money.specs.Kinds.{same_status}
 use Rattle.brk_money.specs.declared.status.Status.TheVariants.{Completed, Pending, Submitted}
 use Rattle.brk_model.specs.Limits.{greatest_amount}
 use Rattle.brk_model.specs.Records.{Account, Band, Mark, Permission, Security, Trade}
-use Rattle.brk_model.specs.Base.{Base, broker_with, customer_with, account_with, security_with, completed, has_status, moment_of}
+use Rattle.brk_model.specs.Base.{Base, completed, has_status, moment_of}
+use Rattle.brk_model.specs.Names.{KnowsAccount, KnowsBroker, KnowsCustomer, KnowsSecurity, NumberedFrom}
 use Rattle.brk_model.specs.Tests.{bands_meet}
-
--- the broker of an account is there
-abbrev pub KnowsBroker : Base → Account → Type 0
-KnowsBroker base a = is_some (broker_with base a.broker) ≡ true
-
--- the customer of an account is there
-abbrev pub KnowsCustomer : Base → Account → Type 0
-KnowsCustomer base a = is_some (customer_with base a.customer) ≡ true
-
--- the account of a trade is there
-abbrev pub KnowsAccount : Base → Trade → Type 0
-KnowsAccount base t = is_some (account_with base t.account) ≡ true
-
--- the security of a trade is there
-abbrev pub KnowsSecurity : Base → Trade → Type 0
-KnowsSecurity base t = is_some (security_with base t.symbol) ≡ true
 
 -- no two accounts have one id
 abbrev pub DistinctAccounts : List Account → Type 0
@@ -43,11 +28,6 @@ DistinctSymbols (s ∷ ss) = AllByRecursion (λ u. bytes_eq u.symbol s.symbol �
 -- the volume of a security is within its limit
 abbrev pub HasVolume : Security → Type 0
 HasVolume s = s.volume ≤ greatest_amount
-
--- the ids of trades rise by 1 from a number on
-abbrev pub NumberedFrom : ℕ → List Trade → Type 0
-NumberedFrom n [] = ⊤
-NumberedFrom n (t ∷ ts) = (t.id ≡ n) × NumberedFrom (n + 1) ts
 
 -- one mark and no other
 abbrev pub IsOne : List Mark → Type 0

@@ -1,0 +1,25 @@
+-- What a record names is there, and trades are numbered in turn.
+use Rattle.std.specs.Prelude.{◌≡◌, ⊤, ℕ, ◌+◌, true, List, [], ◌∷◌, is_some}
+use Rattle.brk_model.specs.Records.{Account, Trade}
+use Rattle.brk_model.specs.Base.{Base, broker_with, customer_with, account_with, security_with}
+
+-- the broker of an account is there
+abbrev pub KnowsBroker : Base → Account → Type 0
+KnowsBroker base a = is_some (broker_with base a.broker) ≡ true
+
+-- the customer of an account is there
+abbrev pub KnowsCustomer : Base → Account → Type 0
+KnowsCustomer base a = is_some (customer_with base a.customer) ≡ true
+
+-- the account of a trade is there
+abbrev pub KnowsAccount : Base → Trade → Type 0
+KnowsAccount base t = is_some (account_with base t.account) ≡ true
+
+-- the security of a trade is there
+abbrev pub KnowsSecurity : Base → Trade → Type 0
+KnowsSecurity base t = is_some (security_with base t.symbol) ≡ true
+
+-- the ids of trades rise by 1 from a number on
+abbrev pub NumberedFrom : ℕ → List Trade → Type 0
+NumberedFrom n [] = ⊤
+NumberedFrom n (t ∷ ts) = (t.id ≡ n) × NumberedFrom (n + 1) ts
