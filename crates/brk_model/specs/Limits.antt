@@ -1,13 +1,19 @@
 -- The limits of quantities, prices, amounts and ids.
-use Rattle.std.specs.Prelude.{ℕ, ◌^◌}
+use Rattle.std.specs.Prelude.{ℕ}
+use Rattle.brk_money.specs.declared.qty.TheConstants.Qty
+use Rattle.brk_money.specs.declared.price.TheConstants.Price
+use Rattle.brk_money.specs.declared.rate.TheConstants.Rate
+use Rattle.brk_money.specs.declared.tax_rate.TheConstants.TaxRate
+use Rattle.brk_money.specs.declared.cents.TheConstants.Cents
+use Rattle.brk_money.specs.declared.id.TheConstants.Id
 
 -- the greatest quantity
 abbrev pub greatest_qty : ℕ
-greatest_qty = 999999
+greatest_qty = Qty.GREATEST
 
 -- the greatest price, in cents
 abbrev pub greatest_price : ℕ
-greatest_price = 9999999
+greatest_price = Price.GREATEST
 
 -- the greatest charge
 abbrev pub greatest_charge : ℕ
@@ -15,15 +21,15 @@ greatest_charge = 1000000
 
 -- the greatest commission rate, in hundredths of a percent
 abbrev pub greatest_rate : ℕ
-greatest_rate = 10000
+greatest_rate = Rate.GREATEST
 
 -- the greatest tax rate, and the greatest sum of a customer's rates
 abbrev pub greatest_tax_rate : ℕ
-greatest_tax_rate = 100000
+greatest_tax_rate = TaxRate.GREATEST
 
 -- the greatest opening balance and balance, either way, and the greatest sum of commissions and volume
 abbrev pub greatest_amount : ℕ
-greatest_amount = 10 ^ 17
+greatest_amount = Cents.GREATEST
 
 -- the greatest holding summary, either way
 abbrev pub greatest_summary : ℕ
@@ -31,7 +37,7 @@ greatest_summary = 999999999
 
 -- the greatest id, and the greatest number of trades
 abbrev pub greatest_id : ℕ
-greatest_id = 10 ^ 12
+greatest_id = Id.GREATEST
 
 -- how many accounts a customer may have
 abbrev pub most_accounts : ℕ

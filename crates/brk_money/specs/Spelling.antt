@@ -1,6 +1,7 @@
 -- The one text of a number, an amount and a day. A text is read by spelling its value again.
-use Rattle.std.specs.Prelude.{ℕ, suc, ◌+◌, ◌-◌, ◌*◌, ◌/◌, ◌%◌, ◌^◌, ◌≤◌, if◌then◌else◌, List, [], ◌∷◌, ◌++◌, fold, filter, length, take, drop, replicate, ◌==◌, Option, Some, None, ℤ, pos, negsuc, neg_ℤ, nat_le, nat_abs, decimal, bytes_eq, slice_index}
+use Rattle.std.specs.Prelude.{ℕ, suc, ◌+◌, ◌-◌, ◌*◌, ◌/◌, ◌%◌, ◌≤◌, if◌then◌else◌, List, [], ◌∷◌, ◌++◌, fold, filter, length, take, drop, replicate, ◌==◌, Option, Some, None, ℤ, pos, negsuc, neg_ℤ, nat_le, nat_abs, decimal, bytes_eq, slice_index}
 use Rattle.std.specs.Char.{is_ascii_digit}
+use Rattle.brk_money.specs.declared.cents.TheConstants.Cents
 use Rattle.brk_money.specs.Moments.{Civil, civil_of, day_number}
 
 -- a text, as its bytes
@@ -26,7 +27,7 @@ at_most limit (Some n) = if nat_le n limit then Some n else None
 
 -- the greatest amount of cents, either way
 abbrev pub most_cents : ℕ
-most_cents = 10 ^ 17
+most_cents = Cents.GREATEST
 
 -- an amount within the limit, either way
 abbrev pub IsWithin : ℤ → Type 0

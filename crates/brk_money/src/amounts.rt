@@ -1,5 +1,6 @@
 ghost use Rattle.std.specs.Prelude.{◌≡◌, ◌+◌, ◌*◌, ◌<◌, ◌≤◌, ◌^◌, pos};
 ghost use Rattle.brk_money.specs.Amounts as spec;
+ghost use Rattle.brk_money.specs.declared.cents.TheConstants.Cents;
 
 use crate::cents::Cents;
 use crate::price::Price;
@@ -19,7 +20,7 @@ pub fn half_up(n: u128, d: u128) -> u128
 
 // An amount that is within the limit.
 fn natural(cents: u128) -> Cents
-    requires { cents ≤ 100000000000000000 }
+    requires { cents ≤ Cents.GREATEST }
     ensures { result ≡ pos cents }
 {
     Cents::new(cents as i64).unwrap()

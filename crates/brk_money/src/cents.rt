@@ -1,4 +1,5 @@
-ghost use Rattle.std.specs.Prelude.{◌≡◌, ◌≢◌, ◌≤◌, ◌+◌, ◌<◌, ◌^◌, ◌≤ℤ◌, ℕ, ℤ, pos, negsuc, SomeIff, IfSome, IfNone, Some};
+ghost use Rattle.std.specs.Prelude.{◌≡◌, ◌≢◌, ◌≤◌, ◌+◌, ◌<◌, ◌^◌, ◌≤ℤ◌, ℕ, ℤ, pos, neg_ℤ, SomeIff, IfSome, IfNone, Some};
+ghost use Rattle.brk_money.specs.declared.cents.TheConstants.Cents;
 ghost use Rattle.brk_money.specs.Spelling.{cents_text, magnitude_text, most_cents, IsWithin};
 
 use crate::whole::parse_whole;
@@ -15,7 +16,7 @@ impl Model for Cents {
 
     ghost inverse = { λ z. record { 0 = z } };
 
-    ghost invariant = { λ a. (negsuc 99999999999999999 ≤ℤ a.0) × (a.0 ≤ℤ pos 100000000000000000) };
+    ghost invariant = { λ a. (neg_ℤ (pos Cents.GREATEST) ≤ℤ a.0) × (a.0 ≤ℤ pos Cents.GREATEST) };
 }
 
 impl Cents {
@@ -24,9 +25,10 @@ impl Cents {
 
     /// The amount of so many cents, where it is within the limits.
     pub fn new(cents: i64) -> Option<Cents>
-        ensures { SomeIff result ((negsuc 99999999999999999 ≤ℤ cents) × (cents ≤ℤ pos 100000000000000000)) cents }
+        ensures { SomeIff result
+            ((neg_ℤ (pos Cents.GREATEST) ≤ℤ cents) × (cents ≤ℤ pos Cents.GREATEST)) cents }
     {
-        if -100_000_000_000_000_000 <= cents && cents <= 100_000_000_000_000_000 {
+        if cents.unsigned_abs() <= Cents::GREATEST {
             Some(Cents(cents))
         } else {
             None
@@ -35,8 +37,8 @@ impl Cents {
 
     pub fn get(self) -> i64
         ensures value { result ≡ self }
-        ensures low { negsuc 99999999999999999 ≤ℤ self }
-        ensures high { self ≤ℤ pos 100000000000000000 }
+        ensures low { neg_ℤ (pos Cents.GREATEST) ≤ℤ self }
+        ensures high { self ≤ℤ pos Cents.GREATEST }
     {
         self.0
     }

@@ -13,6 +13,7 @@ impl Model for Day {
     ghost use Rattle.std.specs.Prelude.{ℕ, pos, ◌≤ℤ◌};
     ghost use Rattle.std.specs.Int.RustNames.{unsigned_abs};
     ghost use Rattle.std.proofs.Common.{arith};
+    ghost use Rattle.brk_money.specs.Moments.{last_day};
 
     ghost Value = { ℕ };
 
@@ -20,7 +21,7 @@ impl Model for Day {
 
     ghost inverse = { λ n. record { 0 = pos n } };
 
-    ghost invariant = { λ a. (pos 0 ≤ℤ a.0) × (a.0 ≤ℤ pos 2932896) };
+    ghost invariant = { λ a. (pos 0 ≤ℤ a.0) × (a.0 ≤ℤ pos last_day) };
 }
 
 impl Day {
@@ -30,7 +31,7 @@ impl Day {
     /// The day that is so many days after 1970-01-01, where it is within the limits.
     pub fn new(days: i32) -> Option<Day>
         ensures found { IfSome result (λ day. days ≡ pos day) }
-        ensures limits { SomeIff (option_map (λ day. pos day) result) ((pos 0 ≤ℤ days) × (days ≤ℤ pos 2932896)) days }
+        ensures limits { SomeIff (option_map (λ day. pos day) result) ((pos 0 ≤ℤ days) × (days ≤ℤ pos spec.last_day)) days }
     {
         if 0 <= days && days <= Day::GREATEST {
             Some(Day(days))
@@ -41,14 +42,14 @@ impl Day {
 
     pub fn get(self) -> i32
         ensures value { result ≡ pos self }
-        ensures high { self ≤ 2932896 }
+        ensures high { self ≤ spec.last_day }
     {
         self.0
     }
 
     /// The day that is so many days later, where it is within the limits.
     pub fn later(self, days: u16) -> Option<Day>
-        ensures { SomeIff result (self + days ≤ 2932896) (self + days) }
+        ensures { SomeIff result (self + days ≤ spec.last_day) (self + days) }
     {
         Day::new(self.0 + i32::from(days))
     }

@@ -1,4 +1,5 @@
 ghost use Rattle.std.specs.Prelude.{◌≡◌, ℕ, ◌≤◌, ◌^◌, SomeIff};
+ghost use Rattle.brk_money.specs.declared.id.TheConstants.Id;
 
 use std::marker::Model;
 
@@ -13,7 +14,7 @@ impl Model for Id {
 
     ghost inverse = { λ n. record { 0 = n } };
 
-    ghost invariant = { λ id. (1 ≤ id.0) × (id.0 ≤ 1000000000000) };
+    ghost invariant = { λ id. (1 ≤ id.0) × (id.0 ≤ Id.GREATEST) };
 }
 
 impl Id {
@@ -22,7 +23,7 @@ impl Id {
 
     /// The id with a number, where the number is within the limits.
     pub fn new(number: u64) -> Option<Id>
-        ensures { SomeIff result ((1 ≤ number) × (number ≤ 1000000000000)) number }
+        ensures { SomeIff result ((1 ≤ number) × (number ≤ Id.GREATEST)) number }
     {
         if 1 <= number && number <= Id::GREATEST {
             Some(Id(number))
@@ -34,7 +35,7 @@ impl Id {
     pub fn get(self) -> u64
         ensures value { result ≡ self }
         ensures low { 1 ≤ self }
-        ensures high { self ≤ 1000000000000 }
+        ensures high { self ≤ Id.GREATEST }
     {
         self.0
     }

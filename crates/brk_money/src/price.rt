@@ -1,4 +1,5 @@
 ghost use Rattle.std.specs.Prelude.{◌≡◌, ◌≤◌, ℕ, SomeIff};
+ghost use Rattle.brk_money.specs.declared.price.TheConstants.Price;
 
 use std::marker::Model;
 
@@ -13,7 +14,7 @@ impl Model for Price {
 
     ghost inverse = { λ n. record { 0 = n } };
 
-    ghost invariant = { λ price. (1 ≤ price.0) × (price.0 ≤ 9999999) };
+    ghost invariant = { λ price. (1 ≤ price.0) × (price.0 ≤ Price.GREATEST) };
 }
 
 impl Price {
@@ -22,7 +23,7 @@ impl Price {
 
     /// The price of so many cents, where it is within the limits.
     pub fn new(cents: u32) -> Option<Price>
-        ensures { SomeIff result ((1 ≤ cents) × (cents ≤ 9999999)) cents }
+        ensures { SomeIff result ((1 ≤ cents) × (cents ≤ Price.GREATEST)) cents }
     {
         if 1 <= cents && cents <= Price::GREATEST {
             Some(Price(cents))
@@ -34,7 +35,7 @@ impl Price {
     pub fn get(self) -> u32
         ensures value { result ≡ self }
         ensures low { 1 ≤ self }
-        ensures high { self ≤ 9999999 }
+        ensures high { self ≤ Price.GREATEST }
     {
         self.0
     }

@@ -1,4 +1,5 @@
 ghost use Rattle.std.specs.Prelude.{◌≡◌, ◌≤◌, ℕ, SomeIff};
+ghost use Rattle.brk_money.specs.declared.qty.TheConstants.Qty;
 
 use std::marker::Model;
 
@@ -13,7 +14,7 @@ impl Model for Qty {
 
     ghost inverse = { λ n. record { 0 = n } };
 
-    ghost invariant = { λ qty. (1 ≤ qty.0) × (qty.0 ≤ 999999) };
+    ghost invariant = { λ qty. (1 ≤ qty.0) × (qty.0 ≤ Qty.GREATEST) };
 }
 
 impl Qty {
@@ -22,7 +23,7 @@ impl Qty {
 
     /// The quantity of so many shares, where it is within the limits.
     pub fn new(shares: u32) -> Option<Qty>
-        ensures { SomeIff result ((1 ≤ shares) × (shares ≤ 999999)) shares }
+        ensures { SomeIff result ((1 ≤ shares) × (shares ≤ Qty.GREATEST)) shares }
     {
         if 1 <= shares && shares <= Qty::GREATEST {
             Some(Qty(shares))
@@ -34,7 +35,7 @@ impl Qty {
     pub fn get(self) -> u32
         ensures value { result ≡ self }
         ensures low { 1 ≤ self }
-        ensures high { self ≤ 999999 }
+        ensures high { self ≤ Qty.GREATEST }
     {
         self.0
     }

@@ -1,4 +1,5 @@
 ghost use Rattle.std.specs.Prelude.{◌≡◌, ◌≤◌, ℕ, SomeIff};
+ghost use Rattle.brk_money.specs.declared.rate.TheConstants.Rate;
 
 use std::marker::Model;
 
@@ -13,7 +14,7 @@ impl Model for Rate {
 
     ghost inverse = { λ n. record { 0 = n } };
 
-    ghost invariant = { λ rate. rate.0 ≤ 10000 };
+    ghost invariant = { λ rate. rate.0 ≤ Rate.GREATEST };
 }
 
 impl Rate {
@@ -22,7 +23,7 @@ impl Rate {
 
     /// The rate of so many hundredths of a percent, where it is within the limit.
     pub fn new(hundredths: u32) -> Option<Rate>
-        ensures { SomeIff result (hundredths ≤ 10000) hundredths }
+        ensures { SomeIff result (hundredths ≤ Rate.GREATEST) hundredths }
     {
         if hundredths <= Rate::GREATEST {
             Some(Rate(hundredths))
@@ -33,7 +34,7 @@ impl Rate {
 
     pub fn get(self) -> u32
         ensures value { result ≡ self }
-        ensures high { self ≤ 10000 }
+        ensures high { self ≤ Rate.GREATEST }
     {
         self.0
     }

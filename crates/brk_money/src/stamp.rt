@@ -12,6 +12,7 @@ impl Model for Stamp {
     ghost use Rattle.std.specs.Prelude.{ℕ, pos, ◌≤ℤ◌};
     ghost use Rattle.std.specs.Int.RustNames.{unsigned_abs};
     ghost use Rattle.std.proofs.Common.{arith};
+    ghost use Rattle.brk_money.specs.Moments.{last_stamp};
 
     ghost Value = { ℕ };
 
@@ -19,7 +20,7 @@ impl Model for Stamp {
 
     ghost inverse = { λ n. record { 0 = pos n } };
 
-    ghost invariant = { λ a. (pos 0 ≤ℤ a.0) × (a.0 ≤ℤ pos 253402300799999) };
+    ghost invariant = { λ a. (pos 0 ≤ℤ a.0) × (a.0 ≤ℤ pos last_stamp) };
 }
 
 impl Stamp {
@@ -29,7 +30,7 @@ impl Stamp {
     /// The stamp of so many milliseconds, where it is within the limits.
     pub fn new(millis: i64) -> Option<Stamp>
         ensures found { IfSome result (λ stamp. millis ≡ pos stamp) }
-        ensures limits { SomeIff (option_map (λ stamp. pos stamp) result) ((pos 0 ≤ℤ millis) × (millis ≤ℤ pos 253402300799999)) millis }
+        ensures limits { SomeIff (option_map (λ stamp. pos stamp) result) ((pos 0 ≤ℤ millis) × (millis ≤ℤ pos spec.last_stamp)) millis }
     {
         if 0 <= millis && millis <= Stamp::GREATEST {
             Some(Stamp(millis))
@@ -40,16 +41,16 @@ impl Stamp {
 
     /// The stamp of so many milliseconds, or the nearest one where they are beyond the limits.
     pub fn nearest(millis: i64) -> Stamp
-        ensures within { pos 0 ≤ℤ millis → millis ≤ℤ pos 253402300799999 → pos result ≡ millis }
+        ensures within { pos 0 ≤ℤ millis → millis ≤ℤ pos spec.last_stamp → pos result ≡ millis }
         ensures below { millis ≤ℤ pos 0 → result ≡ 0 }
-        ensures above { pos 253402300799999 ≤ℤ millis → result ≡ 253402300799999 }
+        ensures above { pos spec.last_stamp ≤ℤ millis → result ≡ spec.last_stamp }
     {
         Stamp(millis.max(0).min(Stamp::GREATEST))
     }
 
     pub fn get(self) -> i64
         ensures value { result ≡ pos self }
-        ensures high { self ≤ 253402300799999 }
+        ensures high { self ≤ spec.last_stamp }
     {
         self.0
     }

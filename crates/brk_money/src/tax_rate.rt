@@ -1,4 +1,5 @@
 ghost use Rattle.std.specs.Prelude.{◌≡◌, ◌≤◌, ℕ, SomeIff};
+ghost use Rattle.brk_money.specs.declared.tax_rate.TheConstants.TaxRate;
 
 use std::marker::Model;
 
@@ -13,7 +14,7 @@ impl Model for TaxRate {
 
     ghost inverse = { λ n. record { 0 = n } };
 
-    ghost invariant = { λ rate. rate.0 ≤ 100000 };
+    ghost invariant = { λ rate. rate.0 ≤ TaxRate.GREATEST };
 }
 
 impl TaxRate {
@@ -22,7 +23,7 @@ impl TaxRate {
 
     /// The rate of so many hundred-thousandths, where it is within the limit.
     pub fn new(parts: u32) -> Option<TaxRate>
-        ensures { SomeIff result (parts ≤ 100000) parts }
+        ensures { SomeIff result (parts ≤ TaxRate.GREATEST) parts }
     {
         if parts <= TaxRate::GREATEST {
             Some(TaxRate(parts))
@@ -33,7 +34,7 @@ impl TaxRate {
 
     pub fn get(self) -> u32
         ensures value { result ≡ self }
-        ensures high { self ≤ 100000 }
+        ensures high { self ≤ TaxRate.GREATEST }
     {
         self.0
     }

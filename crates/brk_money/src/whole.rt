@@ -1,12 +1,12 @@
 ghost use Rattle.std.specs.Prelude.{◌≡◌, ◌≢◌, ◌+◌, ◌-◌, ◌*◌, ◌^◌, ◌<◌, ◌≤◌, ℕ, true, IfSome, IfNone};
 ghost use Rattle.std.specs.Fmt.{decimal};
 ghost use Rattle.std.specs.Str.{all_ascii_digits};
-ghost use Rattle.brk_money.specs.Spelling.{read_on};
+ghost use Rattle.brk_money.specs.Spelling.{most_cents, read_on};
 
 // What digits read as, unless it is above the limit.
 #[tactic(auto, using(crate::proofs::Digits::read_on_le))]
 fn read_digits(bytes: &[u8], limit: u64) -> Option<u64>
-    requires { limit ≤ 10 ^ 17 }
+    requires { limit ≤ most_cents }
     ensures found { IfSome result (λ n. (all_ascii_digits bytes.now ≡ true) × (read_on 0 bytes.now ≡ n) × (n ≤ limit)) }
     ensures none { IfNone result (all_ascii_digits bytes.now ≡ true → limit < read_on 0 bytes.now) }
 {
@@ -26,7 +26,7 @@ fn read_digits(bytes: &[u8], limit: u64) -> Option<u64>
 /// The whole number up to the limit that the bytes spell: digits without a sign and without a needless zero in front.
 #[tactic(auto, using(crate::proofs::Digits::whole_found, crate::proofs::Digits::whole_only))]
 pub fn parse_whole(bytes: &[u8], limit: u64) -> Option<u64>
-    requires { limit ≤ 10 ^ 17 }
+    requires { limit ≤ most_cents }
     ensures found { IfSome result (λ n. (n ≤ limit) × (bytes.now ≡ decimal n)) }
     ensures none { IfNone result ((n : ℕ) → n ≤ limit → bytes.now ≢ decimal n) }
 {

@@ -1,2 +1,3 @@
 pub mod Records
 pub mod Fields
+pub mod Utf8

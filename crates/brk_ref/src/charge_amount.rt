@@ -1,4 +1,5 @@
 ghost use Rattle.std.specs.Prelude.{◌≡◌, ℕ, ◌≤◌, SomeIff};
+ghost use Rattle.brk_ref.specs.declared.charge_amount.TheConstants.ChargeAmount;
 
 use std::marker::Model;
 
@@ -13,7 +14,7 @@ impl Model for ChargeAmount {
 
     ghost inverse = { λ n. record { 0 = n } };
 
-    ghost invariant = { λ amount. amount.0 ≤ 1000000 };
+    ghost invariant = { λ amount. amount.0 ≤ ChargeAmount.GREATEST };
 }
 
 impl ChargeAmount {
@@ -22,7 +23,7 @@ impl ChargeAmount {
 
     /// The charge of so many cents, where it is within the limit.
     pub fn new(cents: u32) -> Option<ChargeAmount>
-        ensures { SomeIff result (cents ≤ 1000000) cents }
+        ensures { SomeIff result (cents ≤ ChargeAmount.GREATEST) cents }
     {
         if cents <= ChargeAmount::GREATEST {
             Some(ChargeAmount(cents))
@@ -33,7 +34,7 @@ impl ChargeAmount {
 
     pub fn get(self) -> u32
         ensures value { result ≡ self }
-        ensures high { self ≤ 1000000 }
+        ensures high { self ≤ ChargeAmount.GREATEST }
     {
         self.0
     }

@@ -1,4 +1,5 @@
 ghost use Rattle.std.specs.Prelude.{◌≡◌, ℕ, ◌≤◌, SomeIff};
+ghost use Rattle.brk_ref.specs.declared.row_number.TheConstants.RowNumber;
 
 use std::marker::Model;
 
@@ -13,7 +14,7 @@ impl Model for RowNumber {
 
     ghost inverse = { λ n. record { 0 = n } };
 
-    ghost invariant = { λ number. (1 ≤ number.0) × (number.0 ≤ 1000000000000) };
+    ghost invariant = { λ number. (1 ≤ number.0) × (number.0 ≤ RowNumber.GREATEST) };
 }
 
 impl RowNumber {
@@ -22,7 +23,7 @@ impl RowNumber {
 
     /// The row with a number, where the number is within the limits.
     pub fn new(number: u64) -> Option<RowNumber>
-        ensures { SomeIff result ((1 ≤ number) × (number ≤ 1000000000000)) number }
+        ensures { SomeIff result ((1 ≤ number) × (number ≤ RowNumber.GREATEST)) number }
     {
         if 1 <= number && number <= RowNumber::GREATEST {
             Some(RowNumber(number))
@@ -34,7 +35,7 @@ impl RowNumber {
     pub fn get(self) -> u64
         ensures value { result ≡ self }
         ensures low { 1 ≤ self }
-        ensures high { self ≤ 1000000000000 }
+        ensures high { self ≤ RowNumber.GREATEST }
     {
         self.0
     }

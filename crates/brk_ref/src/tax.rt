@@ -3,6 +3,7 @@ ghost use Rattle.brk_model.specs.Parse.{read_customer_tax, read_tax_rate};
 ghost use Rattle.brk_money.specs.declared.fault.Fault.TheVariants.{Memory};
 ghost use Rattle.brk_ref.specs.Records.{customer_tax_of, tax_of};
 ghost use Rattle.brk_ref.specs.Fields.{Reads, texts};
+ghost use Rattle.brk_money.specs.declared.tax_rate.TheConstants.TaxRate;
 
 use crate::name::Name;
 use crate::numbers::{parse_id, parse_tax_rate};
@@ -74,7 +75,7 @@ pub fn check_customer_tax(fields: &[&[u8]]) -> Result<CustomerTax, Refusal>
 
 /// The sum of the rates, where it is no more than the whole.
 pub fn tax_sum(taxes: &[Tax]) -> Option<TaxRate>
-    ensures { SomeIff result (sum_by (λ tax. tax.rate) taxes.now ≤ 100000) (sum_by (λ tax. tax.rate) taxes.now) }
+    ensures { SomeIff result (sum_by (λ tax. tax.rate) taxes.now ≤ TaxRate.GREATEST) (sum_by (λ tax. tax.rate) taxes.now) }
 {
     let mut sum = 0;
     for tax in taxes {

@@ -1,5 +1,7 @@
 ghost use Rattle.std.specs.Prelude.{◌≡◌, ℕ, ◌≤◌, SomeIff};
+ghost use Rattle.brk_ref.specs.declared.volume.TheConstants.Volume;
 
+use brk_money::Cents;
 use std::marker::Model;
 
 /// How many shares of a security were traded on the market (LT_VOL), 0 to 10^17.
@@ -13,16 +15,16 @@ impl Model for Volume {
 
     ghost inverse = { λ n. record { 0 = n } };
 
-    ghost invariant = { λ volume. volume.0 ≤ 100000000000000000 };
+    ghost invariant = { λ volume. volume.0 ≤ Volume.GREATEST };
 }
 
 impl Volume {
     /// The greatest volume.
-    pub const GREATEST: u64 = 100_000_000_000_000_000;
+    pub const GREATEST: u64 = Cents::GREATEST;
 
     /// The volume of so many shares, where it is within the limit.
     pub fn new(shares: u64) -> Option<Volume>
-        ensures { SomeIff result (shares ≤ 100000000000000000) shares }
+        ensures { SomeIff result (shares ≤ Volume.GREATEST) shares }
     {
         if shares <= Volume::GREATEST {
             Some(Volume(shares))
@@ -40,7 +42,7 @@ impl Volume {
 
     pub fn get(self) -> u64
         ensures value { result ≡ self }
-        ensures high { self ≤ 100000000000000000 }
+        ensures high { self ≤ Volume.GREATEST }
     {
         self.0
     }

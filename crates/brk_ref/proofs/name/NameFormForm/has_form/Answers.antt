@@ -1,7 +1,7 @@
 use Rattle.std.proofs.Common.{arith, length, sym, ◌∙◌}
 use Rattle.std.proofs.lemmas.Bool.{eqb-false}
 use Rattle.brk_ref.proofs.Texts.{name_is}
-use Rattle.brk_ref.proofs.name.has_form.Goals as goal
+use Rattle.brk_ref.proofs.name.NameFormForm.has_form.Goals as goal
 
 pub returns : goal.returns
 returns c =

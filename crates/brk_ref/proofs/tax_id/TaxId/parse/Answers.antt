@@ -1,6 +1,0 @@
-use Rattle.std.proofs.Common.{sym, ◌∙◌}
-use Rattle.brk_ref.proofs.Texts.{tax_id_utf8}
-use Rattle.brk_ref.proofs.tax_id.TaxId.parse.Goals as goal
-
-pub returns-in_default-clause-read : goal.returns-in_default-clause-read
-returns-in_default-clause-read c = absurd (c.in_default.ensures.cases.0 (tax_id_utf8 c.args.bytes.now (sym c.has_form.ensures ∙ c.if-not-has_form.false)))

@@ -1,0 +1,69 @@
+-- Bytes that have one of the forms of text are UTF-8. These are facts for proofs, and no contract cites them.
+use Rattle.std.proofs.Common.{◌≡◌, ◌<◌, ℕ, List, [], ◌∷◌, Bool, true, false, refl, arith, ◌&&◌}
+use Rattle.std.specs.Prelude.{nat_le, zero, suc, ◌==◌, ◌||◌}
+use Rattle.std.specs.List.{list_all}
+use Rattle.std.specs.Str.{is_utf8, IsUtf8, IsAscii}
+use Rattle.std.specs.Char.{is_ascii_alphanumeric}
+use Rattle.std.proofs.lemmas.Str.{IsUtf8-from_ascii, IsUtf8-from_is_utf8}
+use Rattle.std.proofs.lemmas.Bool.{leb-true, eqb-true}
+use Rattle.brk_model.specs.Forms.{is_word, is_name, is_tax_id, is_symbol, is_exchange, is_acl, is_batch_name}
+
+-- tests that pass together, and one of two
+first_of : (a b : Bool) → a && b ≡ true → a ≡ true
+first_of true b h = refl
+first_of false b h = h
+
+second_of : (a b : Bool) → a && b ≡ true → b ≡ true
+second_of true b h = h
+second_of false b h = absurd (cc)
+
+either : (a b : Bool) (P : Type 0) → (a ≡ true → P) → (b ≡ true → P) → a || b ≡ true → P
+either true b P p q h = p refl
+either false b P p q h = q h
+
+-- letters, digits and marks are below 128
+between_low : (low high c : ℕ) → high < 128 → nat_le low c && nat_le c high ≡ true → c < 128
+between_low low high c below h = let k = leb-true c high (second_of (nat_le low c) (nat_le c high) h) in omega (arith, k, below)
+
+mark_low : (mark c : ℕ) → mark < 128 → c == mark ≡ true → c < 128
+mark_low mark c below h = let k : c ≡ mark = eqb-true c mark h in omega (arith, k, below)
+
+letter_low : (c : ℕ) → is_ascii_alphanumeric c ≡ true → c < 128
+letter_low c h =
+    either _ _ (c < 128) (either _ _ (c < 128) (between_low 48 57 c (omega arith)) (between_low 65 90 c (omega arith))) (between_low 97 122 c (omega arith)) h
+
+-- bytes that pass a test of what is below 128 are ASCII
+ascii_by : (test : ℕ → Bool) → ((c : ℕ) → test c ≡ true → c < 128) → (text : List ℕ) → list_all test text ≡ true → IsAscii text
+ascii_by test low [] h i = omega arith
+ascii_by test low (c ∷ cs) h zero = low c (first_of (test c) (list_all test cs) h)
+ascii_by test low (c ∷ cs) h (suc i) = ascii_by test low cs (second_of (test c) (list_all test cs) h) i
+
+word_utf8 : (most : ℕ) (test : ℕ → Bool) → ((c : ℕ) → test c ≡ true → c < 128) → (text : List ℕ) → is_word most test text ≡ true → IsUtf8 text
+word_utf8 most test low text h = IsUtf8-from_ascii text (ascii_by test low text (second_of _ (list_all test text) h))
+
+pub name_utf8 : (text : List ℕ) → is_name text ≡ true → IsUtf8 text
+name_utf8 text h = IsUtf8-from_is_utf8 text (second_of _ (is_utf8 text) (first_of _ _ h))
+
+pub tax_id_utf8 : (text : List ℕ) → is_tax_id text ≡ true → IsUtf8 text
+tax_id_utf8 = word_utf8 20 _ (λ c. either _ _ (c < 128) (letter_low c) (mark_low 45 c (omega arith)))
+
+pub symbol_utf8 : (text : List ℕ) → is_symbol text ≡ true → IsUtf8 text
+symbol_utf8 =
+    word_utf8 15 _
+    (λ c. either _ _ (c < 128)
+    (either _ _ (c < 128) (either _ _ (c < 128) (between_low 65 90 c (omega arith)) (between_low 48 57 c (omega arith))) (mark_low 46 c (omega arith)))
+    (mark_low 45 c (omega arith)))
+
+pub exchange_utf8 : (text : List ℕ) → is_exchange text ≡ true → IsUtf8 text
+exchange_utf8 = word_utf8 6 _ (λ c. between_low 65 90 c (omega arith))
+
+pub batch_name_utf8 : (text : List ℕ) → is_batch_name text ≡ true → IsUtf8 text
+batch_name_utf8 =
+    word_utf8 40 _
+    (λ c. either _ _ (c < 128)
+    (either _ _ (c < 128) (either _ _ (c < 128) (letter_low c) (mark_low 46 c (omega arith))) (mark_low 45 c (omega arith))) (mark_low 95 c (omega arith)))
+
+pub acl_utf8 : (text : List ℕ) → is_acl text ≡ true → IsUtf8 text
+acl_utf8 text h =
+    IsUtf8-from_ascii text
+    (ascii_by (λ c. (c == 48) || (c == 49)) (λ c. either _ _ (c < 128) (mark_low 48 c (omega arith)) (mark_low 49 c (omega arith))) text (second_of _ _ h))

@@ -1,0 +1,88 @@
+ghost use Rattle.std.specs.Prelude.{◌≡◌, ℕ, List, Bool, true, IfOk, OnErr, Err, string_bytes};
+ghost use Rattle.std.specs.Option.{ok_or};
+ghost use Rattle.std.specs.Str.{IsUtf8};
+ghost use Rattle.brk_model.specs.Forms.{read_text};
+ghost use Rattle.brk_money.specs.declared.fault.Fault.TheVariants.{Memory};
+ghost use Rattle.brk_money.specs.declared.refusal.Refusal.TheVariants.{BadText};
+
+use brk_money::Fault;
+use std::alloc::{AllocError, Global};
+use std::marker::{Model, PhantomData};
+
+/// A form of text, as that of a symbol or of a name.
+pub trait Form {
+    ghost form: { List ℕ → Bool };
+
+    /// Whether the text has the form.
+    fn has_form(text: &str) -> bool
+        ensures { result ≡ form text.now };
+
+    ghost is_utf8: { (bytes : List ℕ) → form bytes ≡ true → IsUtf8 bytes };
+}
+
+/// A text of a form, which contracts see as its bytes.
+#[derive(Debug, Drop)]
+pub struct Text<F: Form> {
+    text: String,
+    form: PhantomData<F>,
+}
+
+impl<F: Form> Model for Text<F> {
+    ghost Value = { List ℕ };
+
+    ghost view = { λ text. string_bytes text.text };
+
+    ghost invariant = { λ text. F.form (string_bytes text.text) ≡ true };
+}
+
+impl<F: Form> Text<F> {
+    /// The text, where it has the form.
+    pub fn new(text: String) -> Option<Text<F>>
+        ensures { ok_or result BadText ≡ read_text F.form (string_bytes text) }
+    {
+        if F::has_form(text.as_str()) {
+            Some(Text {
+                text,
+                form: PhantomData,
+            })
+        } else {
+            None
+        }
+    }
+
+    /// The text that the bytes are, where they have the form.
+    pub fn parse(alloc: Global, bytes: &[u8]) -> Result<Option<Text<F>>, Fault>
+        ensures read { IfOk result (λ text. ok_or text BadText ≡ read_text F.form bytes.now) }
+        ensures fault { OnErr result (result ≡ Err Memory) }
+    {
+        let Ok(text) = str::from_utf8(bytes) else {
+            return Ok(None);
+        };
+        if !F::has_form(text) {
+            return Ok(None);
+        }
+        let text = String::from_str(alloc, text)?;
+        Ok(Some(Text {
+            text,
+            form: PhantomData,
+        }))
+    }
+
+    pub fn as_str(&self) -> &str
+        ensures { result.now ≡ self.now }
+    {
+        self.text.as_str()
+    }
+}
+
+impl<F: Form> Clone for Text<F> {
+    ghost is_clone = { λ one other. other ≡ one };
+
+    fn clone(&self) -> Result<Text<F>, AllocError> {
+        let text = self.text.clone()?;
+        Ok(Text {
+            text,
+            form: PhantomData,
+        })
+    }
+}
