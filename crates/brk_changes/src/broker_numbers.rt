@@ -1,8 +1,8 @@
-use crate::amount::Amount;
 use crate::trade_count::TradeCount;
+use brk_money::Amount;
 
 /// The numbers of a broker.
-#[derive(Clone, Copy, Debug, PartialEq, Eq)]
+#[derive(Clone, Copy, PartialEq, Eq)]
 pub struct BrokerNumbers {
     /// How many trades of the broker's accounts are completed (B_NUM_TRADES).
     pub trades: TradeCount,

@@ -2,7 +2,7 @@ ghost use Rattle.std.specs.Prelude.{◌≡◌};
 ghost use Rattle.brk_changes.specs.Rows.{cash_type_word};
 
 /// How a trade is settled (SE_CASH_TYPE): each of the two ways has two words.
-#[derive(Clone, Copy, Debug, PartialEq, Eq)]
+#[derive(Clone, Copy, PartialEq, Eq)]
 pub enum CashType {
     /// In cash, as a completion says it.
     CashAccount,

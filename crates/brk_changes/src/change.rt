@@ -1,4 +1,3 @@
-use crate::amount::Amount;
 use crate::cash_row::CashRow;
 use crate::history_row::HistoryRow;
 use crate::holding_row::HoldingRow;
@@ -7,14 +6,14 @@ use crate::request_row::RequestRow;
 use crate::settlement_row::SettlementRow;
 use crate::summary_row::SummaryRow;
 use crate::trade_row::TradeRow;
-use brk_money::{Cents, Id, Price, Stamp, Status};
+use brk_money::{Amount, Cents, Id, Price, Stamp, Status};
 use brk_ref::{
     Account, Band, Broker, Charge, Customer, CustomerTax, Kept, LastTrade, Permission, Security,
     Symbol, Tax,
 };
 
 /// The change of one row.
-#[derive(Debug, Drop)]
+#[derive(Drop)]
 pub enum Change {
     /// A broker, with no trades and no commissions yet.
     AddBroker(Broker),

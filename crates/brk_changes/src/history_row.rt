@@ -1,7 +1,7 @@
 use brk_money::{Id, Stamp, Status};
 
 /// When a trade came to a status (a row of TRADE_HISTORY).
-#[derive(Clone, Copy, Debug)]
+#[derive(Clone, Copy)]
 pub struct HistoryRow {
     pub trade: Id,
     pub status: Status,

@@ -2,7 +2,6 @@
 //! one transaction.
 #![tactic(auto)]
 
-pub mod amount;
 pub mod broker_numbers;
 pub mod cash_row;
 pub mod cash_type;
@@ -16,7 +15,7 @@ pub mod summary_row;
 pub mod trade_count;
 pub mod trade_row;
 
-pub use amount::Amount;
+pub use brk_money::Amount;
 pub use broker_numbers::BrokerNumbers;
 pub use cash_row::CashRow;
 pub use cash_type::CashType;

@@ -2,7 +2,7 @@ use crate::cash_type::CashType;
 use brk_money::{Cents, Day, Id};
 
 /// What a completed trade settles for, and when (a row of SETTLEMENT). The amount is below 0 where the account pays.
-#[derive(Clone, Copy, Debug)]
+#[derive(Clone, Copy)]
 pub struct SettlementRow {
     pub trade: Id,
     pub cash_type: CashType,

@@ -3,7 +3,7 @@ ghost use Rattle.std.specs.Prelude.{◌≡◌, ℕ, ◌≤◌, SomeIff};
 use std::marker::Model;
 
 /// How many trades of a broker's accounts are completed (B_NUM_TRADES), 0 to 10^12.
-#[derive(Clone, Copy, Debug, PartialEq, Eq)]
+#[derive(Clone, Copy, PartialEq, Eq)]
 pub struct TradeCount(u64);
 
 impl Model for TradeCount {

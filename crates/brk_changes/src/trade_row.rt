@@ -2,12 +2,11 @@ ghost use Rattle.std.specs.Prelude.{◌≡◌};
 ghost use Rattle.brk_money.specs.Kinds.{same_status};
 ghost use Rattle.brk_money.specs.declared.status.Status.TheVariants.{Submitted};
 
-use crate::amount::Amount;
-use brk_money::{Id, Price, Qty, Stamp, Status, TradeType};
+use brk_money::{Amount, Id, Price, Qty, Stamp, Status, TradeType};
 use brk_ref::{ChargeAmount, Symbol};
 
 /// A trade as it stands (a row of TRADE). It has a price once it is completed.
-#[derive(Debug, Drop)]
+#[derive(Drop)]
 pub struct TradeRow {
     pub id: Id,
     pub stamp: Stamp,

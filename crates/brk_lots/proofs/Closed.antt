@@ -1,5 +1,5 @@
 -- What a walk over lots takes is what a deal closes of their shares.
-use Rattle.std.proofs.Common.{◌≡◌, ℕ, pos, ◌+◌, ◌*◌, ◌-◌, ◌<◌, min, Bool, true, false, List, ◌∷◌, length, take, unsigned_abs, refl, sym, ap, ◌∙◌, arith}
+use Rattle.std.proofs.Common.{◌≡◌, ℕ, ◌+◌, ◌*◌, ◌-◌, ◌<◌, min, Bool, true, false, List, ◌∷◌, length, take, unsigned_abs, refl, sym, ap, ◌∙◌, arith}
 use Rattle.std.proofs.lemmas.List.{length-reverse, length-map}
 use Rattle.brk_money.specs.Kinds.{same_side}
 use Rattle.brk_money.specs.declared.side.Side.{Side}
@@ -29,7 +29,7 @@ paid_is d ls w =
 
 -- two values
 abbrev both : ℕ → ℕ → Values
-both b s = record { buy_value = pos b; sell_value = pos s }
+both b s = record { buy_value = b; sell_value = s }
 
 -- the values of the walk are those of the deal
 pub values_are : (d : Deal) (ls : List Lot) → IsWalk ls → let walk = from_end d.is_lifo ls in let k = met d.side d.qty walk in

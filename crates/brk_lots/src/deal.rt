@@ -1,7 +1,7 @@
 use brk_money::{Id, Price, Qty, Side, Stamp};
 
 /// A completed trade as it meets the position of its account and security.
-#[derive(Clone, Copy, Debug, PartialEq, Eq)]
+#[derive(Clone, Copy, PartialEq, Eq)]
 pub struct Deal {
     pub trade: Id,
     pub side: Side,

@@ -10,8 +10,10 @@ pub mod lot;
 pub mod position;
 mod remaining;
 pub mod replay;
+mod rows;
 pub mod source;
 pub mod values;
+mod walk;
 
 pub use closing::{Closing, close};
 pub use deal::Deal;

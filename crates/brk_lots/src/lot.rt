@@ -8,7 +8,7 @@ use brk_money::{Id, Price, Side, Stamp};
 
 /// What is left of the shares that one trade opened (HOLDING): bought where the quantity is above 0, sold short where it
 /// is below.
-#[derive(Clone, Copy, Debug, PartialEq, Eq)]
+#[derive(Clone, Copy, PartialEq, Eq)]
 pub struct Lot {
     /// The trade that opened it.
     pub trade: Id,
@@ -20,7 +20,7 @@ pub struct Lot {
 }
 
 /// A lot that a trade made smaller or closed (HOLDING_HISTORY): its quantity before and after.
-#[derive(Clone, Copy, Debug, PartialEq, Eq)]
+#[derive(Clone, Copy, PartialEq, Eq)]
 pub struct Touch {
     /// The trade that opened the lot.
     pub lot: Id,

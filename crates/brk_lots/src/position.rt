@@ -16,7 +16,7 @@ use std::marker::Model;
 
 /// The lots of one account and security, the oldest first. They have one side, none is of 0 shares, no two are of one
 /// trade, and their stamps rise.
-#[derive(Debug, Drop)]
+#[derive(Drop)]
 pub struct Position {
     lots: Vec<Lot>,
 }

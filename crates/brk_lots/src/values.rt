@@ -1,79 +1,39 @@
-ghost use Rattle.std.specs.Prelude.{◌≡◌, ◌+◌, ◌*◌, ◌≤◌, ◌≤ℤ◌, ℕ, List, Bool, drop, length, IfOk, IfErr, pos};
+ghost use Rattle.std.specs.Prelude.{◌≡◌, ◌+◌, ◌≤◌, ℕ, List, Bool, drop, length, IfOk, IfErr};
+ghost use Rattle.brk_model.specs.Limits.{greatest_amount};
 ghost use Rattle.brk_model.specs.Shares.{touches};
 ghost use Rattle.brk_lots.specs.declared.lot.Lot.{Lot};
 ghost use Rattle.brk_lots.specs.Lots.{from_end, shares_of};
 ghost use Rattle.brk_lots.specs.Position.{IsWalk, IsNew};
-ghost use Rattle.brk_lots.specs.Walks.{met, rows_taken, paid};
 ghost use Rattle.brk_lots.specs.Values.{values_by, values_of};
 
-use crate::lot::is_same;
+use crate::rows::NoRows;
 use crate::source::LotSource;
-use brk_money::{Cents, Fault, Price, Qty, Side};
+use crate::walk::take_lots;
+use brk_money::{Amount, Fault, Price, Qty, Side};
 
-/// What the shares that an order would close were bought for and sold for, in cents.
-#[derive(Clone, Copy, Debug, PartialEq, Eq)]
+/// What the shares that an order would close were bought for and sold for.
+#[derive(Clone, Copy, PartialEq, Eq)]
 pub struct Values {
-    pub buy_value: Cents,
-    pub sell_value: Cents,
+    pub buy_value: Amount,
+    pub sell_value: Amount,
 }
 
-// How far an order went into the lots: what is left of its quantity, and what the shares cost, in cents.
-#[derive(Drop)]
-struct Walked {
-    left: u32,
-    cost: u64,
-}
-
-// Walks over lots of the other side until the quantity is used up.
-fn walk_lots<L: LotSource>(source: &mut L, side: Side, qty: Qty) -> Result<Walked, Fault>
-    requires { IsWalk (L.rest source.old) }
-    ensures left { IfOk result (λ walked. walked.left + met side qty (L.rest source.old) ≡ qty) }
-    ensures cost { IfOk result (λ walked. walked.cost ≡ paid (met side qty (L.rest source.old)) (L.rest source.old)) }
-    ensures limit { IfOk result (λ walked. walked.cost ≤ qty * 9999999) }
-    ensures asked { IfOk result (λ walked.
-        L.asked source.new ≤ L.asked source.old + length (rows_taken (met side qty (L.rest source.old)) (L.rest source.old)) + 1) }
-    ensures faulted { IfOk result (λ walked. L.faulted source.new ≡ L.faulted source.old) }
-    ensures fault { IfErr result (λ fault. (before : L) × L.fails before fault source.new) }
-    ensures rest { (n : ℕ) × (L.rest source.new ≡ drop n (L.rest source.old)) }
+// What shares were bought and sold for, which a trade closes at one value and which were opened at another.
+pub(crate) fn values_at(side: Side, traded: u64, opened: u64) -> Values
+    requires traded { traded ≤ greatest_amount }
+    requires opened { opened ≤ greatest_amount }
+    ensures { result ≡ values_by side traded opened }
 {
-    let mut left = qty.get();
-    let mut cost: u64 = 0;
-    while left > 0 {
-        let Some(lot) = source.next()? else {
-            break;
-        };
-        if is_same(lot.side(), side) {
-            break;
-        }
-        let shares = lot.size().min(u64::from(left)) as u32;
-        cost += u64::from(shares) * u64::from(lot.price.get());
-        left -= shares;
-    }
-    Ok(Walked { left, cost })
-}
-
-// An amount that is not below 0, and within the limit.
-pub fn amount(cents: u64) -> Cents
-    requires { cents ≤ 100000000000000000 }
-    ensures { result ≡ pos cents }
-{
-    Cents::new(cents as i64).unwrap()
-}
-
-// The values of shares that an order closes at one value and that were opened at another.
-fn bought_and_sold(side: Side, closed: u64, opened: u64) -> Values
-    requires closed { closed ≤ 100000000000000000 }
-    requires opened { opened ≤ 100000000000000000 }
-    ensures { result ≡ values_by side closed opened }
-{
+    let traded = Amount::new(traded).unwrap();
+    let opened = Amount::new(opened).unwrap();
     match side {
         Side::Buy => Values {
-            buy_value: amount(closed),
-            sell_value: amount(opened),
+            buy_value: traded,
+            sell_value: opened,
         },
         Side::Sell => Values {
-            buy_value: amount(opened),
-            sell_value: amount(closed),
+            buy_value: opened,
+            sell_value: traded,
         },
     }
 }
@@ -91,9 +51,6 @@ pub fn estimate_values<L: LotSource>(
     ensures values { IfOk result (λ values. (ls : List Lot) (trade stamp : ℕ) (lifo : Bool) →
         L.rest source.old ≡ from_end lifo ls →
         values ≡ values_of (record { trade = trade; side = side; qty = qty; price = price; stamp = stamp; is_lifo = lifo }) (shares_of ls)) }
-    // Neither is below 0.
-    ensures bought { IfOk result (λ values. pos 0 ≤ℤ values.buy_value) }
-    ensures sold { IfOk result (λ values. pos 0 ≤ℤ values.sell_value) }
     // It asks for at most one lot more than a trade that opened none of them would touch.
     ensures asked { IfOk result (λ values. (ls : List Lot) (trade stamp : ℕ) (lifo : Bool) →
         L.rest source.old ≡ from_end lifo ls → IsNew trade ls →
@@ -103,8 +60,6 @@ pub fn estimate_values<L: LotSource>(
     ensures fault { IfErr result (λ fault. (before : L) × L.fails before fault source.new) }
     ensures rest { (n : ℕ) × (L.rest source.new ≡ drop n (L.rest source.old)) }
 {
-    let walked = walk_lots(source, side, qty)?;
-    let closed = qty.get() - walked.left;
-    let value = u64::from(closed) * u64::from(price.get());
-    Ok(bought_and_sold(side, value, walked.cost))
+    let taken = take_lots(source, side, qty, price, &mut NoRows)?;
+    Ok(taken.values)
 }

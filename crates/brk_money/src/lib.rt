@@ -2,6 +2,7 @@
 //! layer names: the types and the statuses of trades, refusals and faults.
 #![tactic(auto)]
 
+pub mod amount;
 pub mod amounts;
 pub mod cents;
 pub mod dates;
@@ -21,6 +22,7 @@ pub mod trade_type;
 pub mod whole;
 pub mod wide;
 
+pub use amount::Amount;
 pub use amounts::{commission, half_up, tax};
 pub use cents::{Cents, parse_cents};
 pub use dates::{parse_day, write_day};

@@ -1,17 +1,24 @@
--- The first refusal among tests is the first among more.
-use Rattle.std.proofs.Common.{◌≡◌, Bool, true, false, List, [], ◌∷◌, ◌++◌, refl, Some}
+-- The first refusal of tests and of more tests.
+use Rattle.std.proofs.Common.{◌≡◌, Bool, true, false, List, [], ◌∷◌, ◌++◌, refl, Option, Some, None}
 use Rattle.brk_money.specs.declared.refusal.Limit.TheVariants as limit
 use Rattle.brk_money.specs.declared.refusal.Refusal.{Refusal}
 use Rattle.brk_money.specs.declared.refusal.Refusal.TheVariants.{NoSecurity, Range, ClockEnd}
 use Rattle.brk_model.specs.Tests.{Test, first_refusal}
 
-pub first_among_more : (ts us : List Test) (refusal : Refusal) → first_refusal ts ≡ Some refusal → first_refusal (ts ++ us) ≡ Some refusal
-first_among_more [] us refusal e = absurd (cc)
-first_among_more (t ∷ ts) us refusal e = by_test (first_among_more ts us refusal) t.0 refl
+-- the first of two refusals, where there is one
+abbrev pub first_of : Option Refusal → Option Refusal → Option Refusal
+first_of None later = later
+first_of (Some refusal) later = Some refusal
+
+-- the first refusal of tests and more tests is that of the first ones, or else that of the others
+pub first_joined : (ts us : List Test) → first_refusal (ts ++ us) ≡ first_of (first_refusal ts) (first_refusal us)
+first_joined [] us = refl
+first_joined (t ∷ ts) us = by_test (first_joined ts us) t.0 refl
   where
-    by_test : (first_refusal ts ≡ Some refusal → first_refusal (ts ++ us) ≡ Some refusal) → (b : Bool) → t.0 ≡ b → first_refusal (t ∷ ts ++ us) ≡ Some refusal
-    by_test ih true f = let k : Some t.1 ≡ Some refusal = rw f at e in rw f k
-    by_test ih false f = rw f (ih (rw f at e))
+    by_test : first_refusal (ts ++ us) ≡ first_of (first_refusal ts) (first_refusal us) → (b : Bool) → t.0 ≡ b
+        → first_refusal (t ∷ ts ++ us) ≡ first_of (first_refusal (t ∷ ts)) (first_refusal us)
+    by_test more true f = rw f refl
+    by_test more false f = rw f more
 
 -- of a feed whose symbols are there, a volume is refused, or else the clock
 pub volume_refused : (unknown beyond : Bool) (clock : Test) → unknown ≡ false → beyond ≡ true

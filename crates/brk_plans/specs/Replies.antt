@@ -1,5 +1,4 @@
 -- What replies are in the abstract brokerage.
-use Rattle.std.specs.Prelude.{nat_abs, pos}
 use Rattle.brk_model.specs.Commands as model
 use Rattle.brk_model.specs.Commands.{Reply, Booked, Ordered, Ticked, CanceledTrade, CompletedTrade}
 use Rattle.brk_plans.specs.declared.estimate.Estimate.{Estimate}
@@ -7,27 +6,27 @@ use Rattle.brk_plans.specs.declared.reply.Completed.{Completed}
 use Rattle.brk_plans.specs.declared.reply.Reply as trade
 use Rattle.brk_plans.specs.declared.reply.Reply.TheVariants as reply
 
--- the numbers of an order; none but the assets is ever below 0
+-- the numbers of an order
 abbrev pub estimate_of : Estimate → model.Estimate
 estimate_of e = record {
   price = e.price;
-  buy_value = nat_abs e.buy_value;
-  sell_value = nat_abs e.sell_value;
-  tax = nat_abs e.tax;
-  commission = nat_abs e.commission;
-  charge = nat_abs e.charge;
+  buy_value = e.buy_value;
+  sell_value = e.sell_value;
+  tax = e.tax;
+  commission = e.commission;
+  charge = e.charge;
   assets = e.assets;
 }
 
--- the numbers of a completion; none but what settles and the balance is ever below 0
+-- the numbers of a completion
 abbrev pub completion_of : Completed → model.Completion
 completion_of c = record {
-  commission = nat_abs c.commission;
-  tax = nat_abs c.tax;
+  commission = c.commission;
+  tax = c.tax;
   amount = c.amount;
   due_day = c.due_day;
-  buy_value = nat_abs c.buy_value;
-  sell_value = nat_abs c.sell_value;
+  buy_value = c.buy_value;
+  sell_value = c.sell_value;
   balance = c.balance;
 }
 
@@ -39,14 +38,14 @@ reply_of (reply.Ticked stamp triggered) = Ticked stamp triggered.items
 reply_of (reply.Canceled stamp) = CanceledTrade stamp
 reply_of (reply.Completed completed) = CompletedTrade completed.stamp (completion_of completed)
 
--- an estimate of the definitions, with its amounts as the program has them
+-- an estimate of the definitions, as the program has it
 abbrev pub told : model.Estimate → Estimate
 told e = record {
   price = e.price;
-  buy_value = pos e.buy_value;
-  sell_value = pos e.sell_value;
-  tax = pos e.tax;
-  commission = pos e.commission;
-  charge = pos e.charge;
+  buy_value = e.buy_value;
+  sell_value = e.sell_value;
+  tax = e.tax;
+  commission = e.commission;
+  charge = e.charge;
   assets = e.assets;
 }

@@ -17,7 +17,7 @@ use brk_ref::{
 use std::alloc::{AllocError, Global};
 
 /// A record of reference data that a command adds.
-#[derive(Debug, Drop)]
+#[derive(Drop)]
 pub enum Reference {
     Broker(Broker),
     Customer(Customer),
@@ -31,7 +31,7 @@ pub enum Reference {
 }
 
 /// What the tables hold that decides on a record. What a kind does not need is not looked at.
-#[derive(Clone, Copy, Debug, PartialEq, Eq)]
+#[derive(Clone, Copy, PartialEq, Eq)]
 pub struct Found {
     /// Whether a record has its id: of a permission its account and tax id, of a security its symbol, of a charge its
     /// type and tier, of a customer's tax both ids.

@@ -1,8 +1,8 @@
 use crate::estimate::Estimate;
-use brk_money::{Cents, Day, Id, Stamp, Status};
+use brk_money::{Amount, Cents, Day, Id, Stamp, Status};
 
 /// What is told of an accepted order (Trade-Order).
-#[derive(Clone, Copy, Debug, PartialEq, Eq)]
+#[derive(Clone, Copy, PartialEq, Eq)]
 pub struct Ordered {
     pub stamp: Stamp,
     /// The trade that the order became.
@@ -14,26 +14,26 @@ pub struct Ordered {
 }
 
 /// What is told of a trade that was completed (Trade-Result), in cents.
-#[derive(Clone, Copy, Debug, PartialEq, Eq)]
+#[derive(Clone, Copy, PartialEq, Eq)]
 pub struct Completed {
     pub stamp: Stamp,
-    pub commission: Cents,
+    pub commission: Amount,
     /// The tax on what the closed shares gained.
-    pub tax: Cents,
+    pub tax: Amount,
     /// What the trade settles for, below 0 where the account pays.
     pub amount: Cents,
     /// The day on which it settles.
     pub due_day: Day,
     /// What the closed shares were bought for.
-    pub buy_value: Cents,
+    pub buy_value: Amount,
     /// What they were sold for.
-    pub sell_value: Cents,
+    pub sell_value: Amount,
     /// The account's balance after it.
     pub balance: Cents,
 }
 
 /// What is told of an accepted command, with its stamp.
-#[derive(Debug, Drop)]
+#[derive(Drop)]
 pub enum Reply {
     /// A row of reference data was added.
     Booked(Stamp),

@@ -1,5 +1,5 @@
 -- What was found in a base makes the estimate that the definitions make of it.
-use Rattle.std.proofs.Common.{◌≡◌, ℕ, ◌+◌, ℤ, pos, List, length, refl, sym, ap, ◌∙◌}
+use Rattle.std.proofs.Common.{◌≡◌, ℕ, ◌+◌, List, length, refl, sym, ap, ◌∙◌}
 use Rattle.std.specs.Prelude.{Option, Some, None, unwrap_or, option_map}
 use Rattle.std.specs.Option.{option_map_or}
 use Rattle.brk_money.specs.Amounts.{commission}
@@ -11,7 +11,7 @@ use Rattle.brk_model.specs.Shares.{Share, Deal, buy_value, sell_value}
 use Rattle.brk_plans.specs.declared.estimate.Estimate.{Estimate}
 use Rattle.brk_trade.specs.declared.estimate.Terms.{Terms}
 use Rattle.brk_lots.specs.declared.values.Values.{Values}
-use Rattle.brk_trade.specs.Estimates.{AreTerms, tax_at}
+use Rattle.brk_trade.specs.Estimates.{AreTerms, commission_by, tax_at}
 use Rattle.brk_lots.specs.Values.{values_of}
 use Rattle.brk_plans.specs.Replies.{told}
 
@@ -20,9 +20,9 @@ rate_found : {X : Type 0} (f : X → ℕ) (h : ℕ → ℕ) (n : ℕ) (x : Optio
 rate_found f h n None e = cc
 rate_found f h n (Some a) e = let same : f a ≡ n = cc in ap h (sym same)
 
-amount_found : {X : Type 0} (f : X → ℕ) (z : ℤ) (x : Option X) → option_map (λ a. pos (f a)) x ≡ Some z → z ≡ pos (option_map_or f x 0)
-amount_found f z None e = cc
-amount_found f z (Some a) e = cc
+amount_found : {X : Type 0} (f : X → ℕ) (n : ℕ) (x : Option X) → option_map f x ≡ Some n → n ≡ option_map_or f x 0
+amount_found f n None e = cc
+amount_found f n (Some a) e = cc
 
 -- an order's deal by its terms
 abbrev pub deal_by : Base → Order → Terms → Deal
@@ -34,8 +34,8 @@ made_of terms values = record {
   price = terms.price;
   buy_value = values.buy_value;
   sell_value = values.sell_value;
-  tax = pos (tax_at terms.tax_status terms.rates values);
-  commission = pos (commission terms.rate terms.qty terms.price);
+  tax = tax_at terms.tax_status terms.rates values;
+  commission = commission_by terms;
   charge = terms.charge;
   assets = terms.assets;
 }
@@ -45,12 +45,12 @@ made_upon : (base : Base) (o : Order) (us : List Share) (terms : Terms) (values 
 made_upon base o us terms values h v =
     let same : deal_by base o terms ≡ deal_at base o = rw (h.side, h.qty, h.price) refl in
     let vs : values ≡ values_of (deal_at base o) us = v ∙ ap (λ d. values_of d us) same in
-    let bought : values.buy_value ≡ pos (buy_value (deal_at base o) us) = ap (λ (x : Values). x.buy_value) vs in
-    let sold : values.sell_value ≡ pos (sell_value (deal_at base o) us) = ap (λ (x : Values). x.sell_value) vs in
+    let bought : values.buy_value ≡ buy_value (deal_at base o) us = ap (λ (x : Values). x.buy_value) vs in
+    let sold : values.sell_value ≡ sell_value (deal_at base o) us = ap (λ (x : Values). x.sell_value) vs in
     let taxed : tax_at terms.tax_status terms.rates values ≡ tax_of base o.account (deal_at base o) us = rw (h.tax_status, h.rates, vs) refl in
-    let rated : commission terms.rate terms.qty terms.price ≡ unwrap_or (commission_of base o.account o.kind o.symbol o.qty (requested_price base o)) 0 =
+    let rated : commission_by terms ≡ unwrap_or (commission_of base o.account o.kind o.symbol o.qty (requested_price base o)) 0 =
     rw (h.qty, h.price) (rate_found (λ b. b.rate) (λ r. commission r o.qty (requested_price base o)) terms.rate (band_with base (tier_of base o.account) o.kind (exchange_of base o.symbol) o.qty) h.rate) in
-    let charged : terms.charge ≡ pos (option_map_or (λ c. c.amount) (charge_with base o.kind (tier_of base o.account)) 0) =
+    let charged : terms.charge ≡ option_map_or (λ c. c.amount) (charge_with base o.kind (tier_of base o.account)) 0 =
     amount_found (λ c. c.amount) terms.charge (charge_with base o.kind (tier_of base o.account)) h.charge in
     rw (taxed, rated, bought, sold, charged, h.price, h.assets) refl
 

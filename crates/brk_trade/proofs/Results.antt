@@ -1,5 +1,5 @@
 -- What a result comes to does not hang on the moment, and what is closed tells it.
-use Rattle.std.proofs.Common.{◌≡◌, ℕ, Bool, true, false, List, [], ◌∷◌, ◌++◌, length, refl, sym, ap, ◌∙◌, Some, None}
+use Rattle.std.proofs.Common.{◌≡◌, ℕ, nat_abs, Bool, true, false, List, [], ◌∷◌, ◌++◌, length, refl, sym, ap, ◌∙◌, Some, None}
 use Rattle.std.proofs.lemmas.List.{append_assoc, length-map, length-reverse}
 use Rattle.brk_lots.specs.Values.{values_of}
 use Rattle.brk_lots.specs.Closing.{IsClosing}
@@ -12,18 +12,14 @@ use Rattle.brk_money.specs.Kinds.{side_of}
 use Rattle.brk_money.specs.declared.refusal.Refusal.{Refusal}
 use Rattle.brk_money.specs.declared.side.Side.{Side}
 use Rattle.brk_money.specs.declared.side.Side.TheVariants.{Buy, Sell}
+use Rattle.brk_plans.proofs.Refusals.{first_joined, first_of}
 use Rattle.brk_trade.specs.Outcomes.{deal_of, first_tests, last_tests, result_tests, values_in}
-use Rattle.brk_trade.specs.declared.outcome.ResultFound.{ResultFound}
+use Rattle.brk_trade.specs.declared.result_found.ResultFound.{ResultFound}
 use Rattle.brk_changes.specs.declared.trade_row.TradeRow.{TradeRow}
 
--- the first refusal among more tests, where the first ones find no cause
+-- where the first tests find no cause, the first refusal is that of the others
 pub first_after : (ts us : List Test) → first_refusal ts ≡ None → first_refusal (ts ++ us) ≡ first_refusal us
-first_after [] us e = refl
-first_after (t ∷ ts) us e = by_test (first_after ts us) t.0 refl
-  where
-    by_test : (first_refusal ts ≡ None → first_refusal (ts ++ us) ≡ first_refusal us) → (b : Bool) → t.0 ≡ b → first_refusal (t ∷ ts ++ us) ≡ first_refusal us
-    by_test more true f = absurd (let k : Some t.1 ≡ None = rw f at e in cc)
-    by_test more false f = rw f (more (rw f at e))
+first_after ts us e = first_joined ts us ∙ ap (λ refusal. first_of refusal (first_refusal us)) e
 
 -- the values of the shares that a trade closes are the same at any moment
 same_bought : (side : Side) (t : TradeRow) (price stamp other : ℕ) (us : List Share)
@@ -42,7 +38,7 @@ at_any_moment t price stamp other us = rw (same_bought (side_of t.kind) t price 
 
 -- what is closed has these values
 pub closing_values : (d : Deal) (ls : List Lot) (closing : Closing) → IsClosing d ls closing → values_in closing ≡ values_of d (shares_of ls)
-closing_values d ls closing k = rw (k.bought, k.sold) refl
+closing_values d ls closing k = λ i. record { buy_value = nat_abs (k.bought i); sell_value = nat_abs (k.sold i) }
 
 same_length : {X : Type 0} (lifo : Bool) (xs : List X) → length (from_end lifo xs) ≡ length xs
 same_length true xs = length-reverse xs

@@ -1,6 +1,6 @@
 -- What an order is estimated by.
 use Rattle.std.specs.Prelude.{◌≡◌, ℕ, pos, ◌-ℤ◌, Some, option_map, if◌then◌else◌}
-use Rattle.brk_money.specs.Amounts.{tax}
+use Rattle.brk_money.specs.Amounts.{commission, tax}
 use Rattle.brk_money.specs.Kinds.{side_of}
 use Rattle.brk_money.specs.declared.tax_status.TaxStatus.{TaxStatus}
 use Rattle.brk_model.specs.Base.{Base, bears_tax, tax_status_in, rates_of, customer_of, tier_of, exchange_of, band_with, charge_with}
@@ -11,7 +11,11 @@ use Rattle.brk_lots.specs.declared.values.Values.{Values}
 
 -- the tax on a gain, where the status bears one
 abbrev pub tax_at : TaxStatus → ℕ → Values → ℕ
-tax_at status rates values = if bears_tax status then tax (values.sell_value -ℤ values.buy_value) rates else 0
+tax_at status rates values = if bears_tax status then tax (pos values.sell_value -ℤ pos values.buy_value) rates else 0
+
+-- the commission of an order by its terms
+abbrev pub commission_by : Terms → ℕ
+commission_by terms = commission terms.rate terms.qty terms.price
 
 -- what an order is estimated by is what the base has
 pub record AreTerms (base : Base) (o : Order) (terms : Terms) : Type 0 where
@@ -23,5 +27,5 @@ pub record AreTerms (base : Base) (o : Order) (terms : Terms) : Type 0 where
   -- the rate of the band that was found
   pub rate : option_map (λ b. b.rate) (band_with base (tier_of base o.account) o.kind (exchange_of base o.symbol) o.qty) ≡ Some terms.rate
   -- the charge that was found
-  pub charge : option_map (λ c. pos c.amount) (charge_with base o.kind (tier_of base o.account)) ≡ Some terms.charge
+  pub charge : option_map (λ c. c.amount) (charge_with base o.kind (tier_of base o.account)) ≡ Some terms.charge
   pub assets : terms.assets ≡ assets_of base o.account

@@ -1,7 +1,7 @@
 -- Orders: what is tested, what they are estimated by, and what an accepted one comes to.
-use Rattle.std.specs.Prelude.{◌≡◌, ℕ, ◌+◌, ◌≤◌, Bool, pos, not, nat_le, is_none, unwrap_or, if◌then◌else◌, List, [], ◌∷◌, ◌++◌, length, map, Option, Some, None, option_to_list}
+use Rattle.std.specs.Prelude.{◌≡◌, ℕ, ◌+◌, ◌≤◌, Bool, not, nat_le, is_none, unwrap_or, if◌then◌else◌, List, [], ◌∷◌, ◌++◌, length, map, Option, Some, None, option_to_list}
 use Rattle.std.specs.Option.{option_map_or}
-use Rattle.brk_trade.specs.Estimates.{AreTerms}
+use Rattle.brk_trade.specs.Estimates.{AreTerms, commission_by}
 use Rattle.brk_plans.specs.Replies.{told}
 use Rattle.brk_plans.specs.declared.estimate.Estimate.{Estimate}
 use Rattle.brk_trade.specs.declared.estimate.Terms.{Terms}
@@ -16,7 +16,6 @@ use Rattle.brk_model.specs.Limits.{greatest_id}
 use Rattle.brk_model.specs.Shares.{Deal, touches}
 use Rattle.brk_model.specs.Tables as tables
 use Rattle.brk_model.specs.Tests.{Test, first_refusal}
-use Rattle.brk_money.specs.Amounts.{commission}
 use Rattle.brk_money.specs.Kinds.{side_of, is_market}
 use Rattle.brk_money.specs.Moments.{stamp_after}
 use Rattle.brk_money.specs.Spelling.{Text}
@@ -29,7 +28,7 @@ use Rattle.brk_plans.specs.Reference.{clock_test}
 use Rattle.brk_changes.specs.Rows.{trade_row_of}
 use Rattle.brk_changes.specs.declared.change.Change.{Change}
 use Rattle.brk_changes.specs.declared.change.Change.TheVariants as change
-use Rattle.brk_trade.specs.declared.order.Accepted.{Accepted}
+use Rattle.brk_trade.specs.declared.order.Placement.{Placement}
 use Rattle.brk_trade.specs.declared.order.OrderFound.{OrderFound}
 use Rattle.brk_plans.specs.declared.plan.Plan.{Plan}
 use Rattle.brk_plans.specs.declared.reply.Reply.TheVariants.{Ordered}
@@ -55,16 +54,15 @@ terms_of order found = record {
   tax_status = option_map_or (λ a. a.tax_status) found.account Untaxed;
   rates = found.rates;
   rate = unwrap_or found.rate 0;
-  charge = pos (unwrap_or found.charge 0);
+  charge = unwrap_or found.charge 0;
   assets = found.assets;
 }
 
--- an order that nothing refuses, with what was found
-pub record IsAccepted (order : Order) (found : OrderFound) (accepted : Accepted) : Type 0 where
+-- what an order that nothing refuses is placed by, with what was found
+pub record IsPlacement (order : Order) (found : OrderFound) (placement : Placement) : Type 0 where
   pub tested : first_refusal (order_tests found) ≡ None
-  pub terms : accepted.terms ≡ terms_of order found
-  pub broker : accepted.broker ≡ option_map_or (λ a. a.broker) found.account 0
-  pub charge : accepted.charge ≡ unwrap_or found.charge 0
+  pub terms : placement.terms ≡ terms_of order found
+  pub broker : placement.broker ≡ option_map_or (λ a. a.broker) found.account 0
 
 -- the estimate by some terms over lots: of a base that has these terms, upon the shares that it has, it is that of the definitions
 abbrev pub IsEstimate : Terms → List Lot → Estimate → Type 0
@@ -96,8 +94,8 @@ abbrev pub next_trade : Option ℕ → ℕ
 next_trade last = unwrap_or last 0 + 1
 
 -- the row of a trade that an order makes by some terms, under these texts: no price, no tax yet
-abbrev pub row_named : Order → Terms → (charge trade stamp : ℕ) → (symbol executor : Text) → tables.TradeRow
-row_named order terms charge trade stamp symbol executor = record {
+abbrev pub row_named : Order → Terms → (trade stamp : ℕ) → (symbol executor : Text) → tables.TradeRow
+row_named order terms trade stamp symbol executor = record {
   id = trade;
   stamp = stamp;
   status = model_orders.first_status order.kind;
@@ -109,15 +107,15 @@ row_named order terms charge trade stamp symbol executor = record {
   account = order.account;
   executor = executor;
   price = None;
-  charge = charge;
-  commission = commission terms.rate terms.qty terms.price;
+  charge = terms.charge;
+  commission = commission_by terms;
   tax = 0;
   is_lifo = order.is_lifo;
 }
 
 -- the row of a trade that an order makes by some terms
-abbrev pub trade_row : Order → Terms → (charge trade stamp : ℕ) → tables.TradeRow
-trade_row order terms charge trade stamp = row_named order terms charge trade stamp order.symbol (model_orders.executor_name (executor_of order.executor))
+abbrev pub trade_row : Order → Terms → (trade stamp : ℕ) → tables.TradeRow
+trade_row order terms trade stamp = row_named order terms trade stamp order.symbol (model_orders.executor_name (executor_of order.executor))
 
 -- the request of the trade of an order that waits for its price, by the account's broker
 abbrev pub request_row : Order → Terms → (broker trade : ℕ) → Option RequestRow
@@ -132,9 +130,9 @@ changes_of row request =
     ∷ map change.AddRequest (option_to_list request) ++ change.SetLast row.stamp ∷ []
 
 -- the changes that an order makes by some terms
-pub record AreChanges (order : Order) (terms : Terms) (broker charge trade stamp : ℕ) (changes : List Change) : Type 0 where
+pub record AreChanges (order : Order) (terms : Terms) (broker trade stamp : ℕ) (changes : List Change) : Type 0 where
   pub row : TradeRow
-  pub added : trade_row_of row ≡ trade_row order terms charge trade stamp
+  pub added : trade_row_of row ≡ trade_row order terms trade stamp
   pub changed : changes ≡ changes_of row (request_row order terms broker trade)
 
 -- the plan of an order that is accepted: its trade is added, with its first status, and with a request where it waits; the
@@ -146,4 +144,4 @@ pub record IsOrdered (order : Order) (found : OrderFound) (lots : List Lot) (las
   pub stamped : stamp_after last now ≡ Some stamp
   pub estimated : IsEstimate (terms_of order found) lots estimate
   pub told : plan.reply ≡ Ordered (record { stamp = stamp; trade = next_trade found.last_trade; status = model_orders.first_status order.kind; estimate = estimate })
-  pub changes : AreChanges order (terms_of order found) (option_map_or (λ a. a.broker) found.account 0) (unwrap_or found.charge 0) (next_trade found.last_trade) stamp plan.changes.items
+  pub changes : AreChanges order (terms_of order found) (option_map_or (λ a. a.broker) found.account 0) (next_trade found.last_trade) stamp plan.changes.items

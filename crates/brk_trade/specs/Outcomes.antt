@@ -6,7 +6,7 @@ use Rattle.brk_lots.specs.declared.values.Values.{Values}
 use Rattle.brk_lots.specs.declared.closing.Closing.{Closing}
 use Rattle.brk_model.specs.Base.{takes_tax_off}
 use Rattle.brk_model.specs.Derived.{proceeds, settlement_days}
-use Rattle.brk_model.specs.Limits.{greatest_amount, greatest_summary}
+use Rattle.brk_model.specs.Limits.{greatest_amount, greatest_price, greatest_qty, greatest_summary}
 use Rattle.brk_model.specs.Shares.{Deal, signed}
 use Rattle.brk_model.specs.Tests.{Test}
 use Rattle.brk_money.specs.Amounts.{commission}
@@ -16,8 +16,12 @@ use Rattle.brk_money.specs.declared.refusal.Limit.TheVariants as limit
 use Rattle.brk_money.specs.declared.refusal.Refusal.TheVariants.{WrongStatus, NoRate, Range, ClockEnd}
 use Rattle.brk_money.specs.declared.status.Status.TheVariants.{Submitted}
 use Rattle.brk_trade.specs.declared.outcome.Outcome.{Outcome}
-use Rattle.brk_trade.specs.declared.outcome.ResultFound.{ResultFound}
+use Rattle.brk_trade.specs.declared.result_found.ResultFound.{ResultFound}
 use Rattle.brk_changes.specs.declared.trade_row.TradeRow.{TradeRow}
+
+-- the greatest value of a trade, above which no commission and no tax of it is
+abbrev pub greatest_value : ℕ
+greatest_value = greatest_qty * greatest_price
 
 -- a trade as it meets the lots of its account and symbol
 abbrev pub deal_of : TradeRow → (price stamp : ℕ) → Deal
@@ -76,9 +80,9 @@ last_tests found price values stamp =
 abbrev pub result_tests : ResultFound → ℕ → Values → Option ℕ → List Test
 result_tests found price values stamp = first_tests found ++ last_tests found price values stamp
 
--- what the shares that are closed were bought for and sold for
+-- what the shares that are closed were bought for and sold for, neither of which is below 0
 abbrev pub values_in : Closing → Values
-values_in closing = record { buy_value = closing.buy_value; sell_value = closing.sell_value }
+values_in closing = record { buy_value = nat_abs closing.buy_value; sell_value = nat_abs closing.sell_value }
 
 -- what a completion comes to
 abbrev pub outcome_of : ResultFound → ℕ → Values → ℕ → Outcome

@@ -24,7 +24,7 @@ use Rattle.brk_changes.specs.declared.cash_type.CashType.TheVariants as cash_typ
 use Rattle.brk_changes.specs.declared.change.Change.{Change}
 use Rattle.brk_changes.specs.declared.change.Change.TheVariants as change
 use Rattle.brk_trade.specs.declared.outcome.Outcome.{Outcome}
-use Rattle.brk_trade.specs.declared.outcome.ResultFound.{ResultFound}
+use Rattle.brk_trade.specs.declared.result_found.ResultFound.{ResultFound}
 use Rattle.brk_plans.specs.declared.plan.Plan.{Plan}
 use Rattle.brk_plans.specs.declared.reply.Completed.{Completed}
 use Rattle.brk_plans.specs.declared.reply.Reply.TheVariants as reply
@@ -119,8 +119,8 @@ pub record AreChanges (found : ResultFound) (price : ℕ) (closing : Closing) (o
 abbrev pub told_of : Outcome → Completed
 told_of outcome = record {
   stamp = outcome.stamp;
-  commission = pos outcome.commission;
-  tax = pos outcome.tax;
+  commission = outcome.commission;
+  tax = outcome.tax;
   amount = outcome.amount;
   due_day = outcome.due_day;
   buy_value = outcome.buy_value;

@@ -6,7 +6,8 @@ ghost use Rattle.brk_trade.specs.Results as spec;
 ghost use Rattle.brk_trade.specs.Results.{AreChanges};
 ghost use Rattle.brk_changes.specs.Rows.{cash_row_of};
 
-use crate::outcome::{Outcome, ResultFound};
+use crate::outcome::Outcome;
+use crate::result_found::ResultFound;
 use brk_changes::{
     Amount, CashRow, CashType, Change, HistoryRow, HoldingRow, LotChange, SettlementRow,
     SummaryRow, TradeRow,

@@ -1,4 +1,4 @@
-ghost use Rattle.std.specs.Prelude.{◌≡◌, ◌+◌, ◌≤◌, ◌≤ℤ◌, ◌-ℤ◌, ℕ, Bool, List, drop, length, IfOk, IfErr, pos};
+ghost use Rattle.std.specs.Prelude.{◌≡◌, ◌+◌, ◌≤◌, ◌-ℤ◌, ℕ, Bool, List, drop, length, IfOk, IfErr, pos};
 ghost use Rattle.brk_model.specs.Base as spec;
 ghost use Rattle.brk_model.specs.Base.{Base, completed};
 ghost use Rattle.brk_model.specs.Commands.{Order};
@@ -8,16 +8,18 @@ ghost use Rattle.brk_model.specs.Shares.{touches};
 ghost use Rattle.brk_lots.specs.declared.lot.Lot.{Lot};
 ghost use Rattle.brk_lots.specs.Lots.{from_end, shares_of};
 ghost use Rattle.brk_lots.specs.Position.{IsWalk, IsNew};
-ghost use Rattle.brk_trade.specs.Estimates.{AreTerms, tax_at};
+ghost use Rattle.brk_trade.specs.Estimates.{AreTerms, commission_by, tax_at};
 ghost use Rattle.brk_plans.specs.Replies.{told};
 
-use brk_lots::values::amount;
 use brk_lots::{LotSource, Values, estimate_values};
-use brk_money::{Cents, Fault, Price, Qty, Rate, Side, TaxRate, TaxStatus, Wide, commission, tax};
+use brk_money::{
+    Amount, Cents, Fault, Price, Qty, Rate, Side, TaxRate, TaxStatus, Wide, commission, tax,
+};
 use brk_plans::Estimate;
+use brk_ref::ChargeAmount;
 
 /// What an order is estimated by.
-#[derive(Clone, Copy, Debug, PartialEq, Eq)]
+#[derive(Clone, Copy, PartialEq, Eq)]
 pub struct Terms {
     pub side: Side,
     pub qty: Qty,
@@ -29,7 +31,7 @@ pub struct Terms {
     /// The rate of the band that the quantity is in.
     pub rate: Rate,
     /// The charge of the order's type and the customer's tier, in cents.
-    pub charge: Cents,
+    pub charge: ChargeAmount,
     /// The account's balance and the worth of what it holds, in cents.
     pub assets: Wide,
 }
@@ -46,24 +48,19 @@ fn bears_tax(status: TaxStatus) -> bool
 
 // What shares gain, in cents; below 0 where they lose.
 fn gain(values: Values) -> Cents
-    requires bought { pos 0 ≤ℤ values.buy_value }
-    requires sold { pos 0 ≤ℤ values.sell_value }
-    ensures { result ≡ values.sell_value -ℤ values.buy_value }
+    ensures { result ≡ pos values.sell_value -ℤ pos values.buy_value }
 {
-    Cents::new(values.sell_value.get() - values.buy_value.get()).unwrap()
+    Cents::new(values.sell_value.get() as i64 - values.buy_value.get() as i64).unwrap()
 }
 
-/// The tax on what shares gain, by an account's tax status and the sum of the rates that its customer pays. The values are
-/// not below 0.
-pub fn tax_on(values: Values, status: TaxStatus, rates: TaxRate) -> Cents
-    requires bought { pos 0 ≤ℤ values.buy_value }
-    requires sold { pos 0 ≤ℤ values.sell_value }
-    ensures { result ≡ pos (tax_at status rates values) }
+/// The tax on what shares gain, by an account's tax status and the sum of the rates that its customer pays.
+pub fn tax_on(values: Values, status: TaxStatus, rates: TaxRate) -> Amount
+    ensures { result ≡ tax_at status rates values }
 {
     if bears_tax(status) {
-        tax(gain(values), rates)
+        tax(gain(values), rates).unsigned_abs()
     } else {
-        amount(0)
+        Amount::new(0).unwrap()
     }
 }
 
@@ -75,6 +72,7 @@ pub fn estimate_order<L: LotSource>(source: &mut L, terms: &Terms) -> Result<Est
     ensures estimate { IfOk result (λ estimate. (base : Base) (o : Order) (ls : List Lot) →
         AreTerms base o terms.now → shares_in (completed base) o.account o.symbol ≡ shares_of ls → L.rest source.old ≡ from_end o.is_lifo ls →
         estimate ≡ told (spec_orders.estimate base o)) }
+    ensures commission { IfOk result (λ estimate. estimate.commission ≡ commission_by terms.now) }
     // It asks for at most one lot more than a trade that opened none of them would touch.
     ensures asked { IfOk result (λ estimate. (ls : List Lot) (trade stamp : ℕ) (lifo : Bool) →
         L.rest source.old ≡ from_end lifo ls → IsNew trade ls →
@@ -90,8 +88,8 @@ pub fn estimate_order<L: LotSource>(source: &mut L, terms: &Terms) -> Result<Est
         buy_value: values.buy_value,
         sell_value: values.sell_value,
         tax: tax_on(values, terms.tax_status, terms.rates),
-        commission: commission(terms.rate, terms.qty, terms.price),
-        charge: terms.charge,
+        commission: commission(terms.rate, terms.qty, terms.price).unsigned_abs(),
+        charge: Amount::new(u64::from(terms.charge.get())).unwrap(),
         assets: terms.assets,
     })
 }

@@ -7,6 +7,8 @@ pub mod estimate;
 pub mod order;
 pub mod outcome;
 pub mod result;
+pub mod result_found;
+mod settling;
 
 pub use brk_changes::{
     Amount, BrokerNumbers, CashRow, CashType, Change, HistoryRow, HoldingRow, LotChange,
@@ -18,8 +20,9 @@ pub use brk_plans::{
 };
 pub use estimate::{Terms, estimate_order, tax_on};
 pub use order::{OrderAccount, OrderFound, plan_estimate, plan_order};
-pub use outcome::{Outcome, ResultAccount, ResultFound};
+pub use outcome::Outcome;
 pub use result::plan_result;
+pub use result_found::{ResultAccount, ResultFound};
 
 #[cfg(test)]
 mod tests;

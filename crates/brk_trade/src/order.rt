@@ -1,23 +1,23 @@
-ghost use Rattle.std.specs.Prelude.{◌≡◌, ◌⊎◌, ◌++◌, ◌∷◌, [], ℕ, pos, drop, IfOk, IfErr, OnOk, OnErr, MatchResult, MatchOption, Some, None, string_bytes};
+ghost use Rattle.std.specs.Prelude.{◌≡◌, ◌⊎◌, ◌++◌, ◌∷◌, [], ℕ, drop, IfOk, IfErr, OnOk, OnErr, MatchResult, MatchOption, Some, None, string_bytes};
 ghost use Rattle.brk_lots.specs.Position.{IsWalk};
 ghost use Rattle.brk_model.specs.Orders as model;
 ghost use Rattle.brk_model.specs.Tests.{first_refusal};
-ghost use Rattle.brk_money.specs.Amounts as amounts;
 ghost use Rattle.brk_money.specs.declared.fault.Fault.{Fault};
 ghost use Rattle.brk_ref.specs.Records.{executor_of};
 ghost use Rattle.brk_money.specs.declared.refusal.Limit.TheVariants as limit;
 ghost use Rattle.brk_money.specs.declared.refusal.Refusal.TheVariants.{Range};
+ghost use Rattle.brk_trade.specs.Estimates.{commission_by};
 ghost use Rattle.brk_trade.specs.Orders as spec;
 ghost use Rattle.brk_plans.specs.Reference.{clock_test};
 ghost use Rattle.brk_changes.specs.Rows.{trade_row_of};
-ghost use Rattle.brk_trade.specs.Orders.{AreChanges, AsksFew, IsAccepted, IsEstimated, IsOrdered, order_tests, terms_of, trades_test};
+ghost use Rattle.brk_trade.specs.Orders.{AreChanges, AsksFew, IsEstimated, IsOrdered, IsPlacement, order_tests, terms_of, trades_test};
 
 use crate::estimate::{Terms, estimate_order};
 use brk_changes::{Amount, Change, HistoryRow, RequestRow, TradeRow};
 use brk_lots::LotSource;
 use brk_money::{
-    Cents, Fault, Id, Limit, Planned, Price, Rate, Refusal, Stamp, Status, TaxRate, TaxStatus,
-    TradeType, Wide, commission, stamp_after,
+    Fault, Id, Limit, Planned, Price, Rate, Refusal, Stamp, Status, TaxRate, TaxStatus, TradeType,
+    Wide, stamp_after,
 };
 use brk_orders::Order;
 use brk_plans::{Estimate, Ordered, Plan, Reply};
@@ -25,7 +25,7 @@ use brk_ref::{ChargeAmount, Executor, Symbol};
 use std::alloc::{AllocError, Global};
 
 /// What decides on an order of the account that it is for.
-#[derive(Clone, Copy, Debug, PartialEq, Eq)]
+#[derive(Clone, Copy, PartialEq, Eq)]
 pub struct OrderAccount {
     /// The broker who looks after it.
     pub broker: Id,
@@ -34,7 +34,7 @@ pub struct OrderAccount {
 }
 
 /// What the tables hold that decides on an order. What is not needed after an earlier refusal is not looked at.
-#[derive(Clone, Copy, Debug, PartialEq, Eq)]
+#[derive(Clone, Copy, PartialEq, Eq)]
 pub struct OrderFound {
     /// The account that it is for, where there is one.
     pub account: Option<OrderAccount>,
@@ -54,12 +54,11 @@ pub struct OrderFound {
     pub last_trade: Option<Id>,
 }
 
-// An order that nothing refuses: its terms, and what else its rows are made of.
+// What an order that nothing refuses is placed by: its terms, and the account's broker.
 #[derive(Clone, Copy)]
-struct Accepted {
+struct Placement {
     terms: Terms,
     broker: Id,
-    charge: ChargeAmount,
 }
 
 // The price that an order is estimated at: the market's for a market type, and else its own.
@@ -72,17 +71,10 @@ fn requested_price(order: &Order, last: Price) -> Price
     order.price.unwrap_or(last)
 }
 
-// A charge as an amount.
-fn charge_of(charge: ChargeAmount) -> Cents
-    ensures { result ≡ pos charge }
-{
-    Cents::new(i64::from(charge.get())).unwrap()
-}
-
-// The order with what was found, or the first refusal that there is cause for.
-fn accept(order: &Order, found: &OrderFound) -> Result<Accepted, Refusal>
+// What the order is placed by, or the first refusal that there is cause for.
+fn placement_of(order: &Order, found: &OrderFound) -> Result<Placement, Refusal>
     ensures { MatchResult result
-        (IsAccepted order.now found.now)
+        (IsPlacement order.now found.now)
         (λ refusal. first_refusal (order_tests found.now) ≡ Some refusal) }
 {
     let Some(account) = found.account else {
@@ -100,7 +92,7 @@ fn accept(order: &Order, found: &OrderFound) -> Result<Accepted, Refusal>
     let Some(rate) = found.rate else {
         return Err(Refusal::NoRate);
     };
-    Ok(Accepted {
+    Ok(Placement {
         terms: Terms {
             side: order.kind.side(),
             qty: order.qty,
@@ -108,11 +100,10 @@ fn accept(order: &Order, found: &OrderFound) -> Result<Accepted, Refusal>
             tax_status: account.tax_status,
             rates: found.rates,
             rate,
-            charge: charge_of(charge),
+            charge,
             assets: found.assets,
         },
         broker: account.broker,
-        charge,
     })
 }
 
@@ -136,11 +127,11 @@ pub fn plan_estimate<L: LotSource>(
     ensures fault { IfErr result (λ fault. (before : L) × L.fails before fault source.new) }
     ensures rest { (n : ℕ) × (L.rest source.new ≡ drop n (L.rest source.old)) }
 {
-    let accepted = match accept(order, found) {
-        Ok(accepted) => accepted,
+    let placement = match placement_of(order, found) {
+        Ok(placement) => placement,
         Err(refusal) => return Ok(Err(refusal)),
     };
-    let estimate = estimate_order(source, &accepted.terms)?;
+    let estimate = estimate_order(source, &placement.terms)?;
     Ok(Ok(estimate))
 }
 
@@ -177,24 +168,18 @@ fn executor_name(alloc: Global, executor: &Executor) -> Result<String, AllocErro
     Ok(name)
 }
 
-// The commission that is estimated by some terms.
-fn estimated_commission(terms: &Terms) -> Amount
-    ensures { result ≡ amounts.commission terms.now.rate terms.now.qty terms.now.price }
-{
-    let cents = commission(terms.rate, terms.qty, terms.price);
-    Amount::new(cents.get() as u64).unwrap()
-}
-
 // The row of a trade under these texts.
 fn row_named(
     order: &Order,
-    accepted: &Accepted,
+    terms: &Terms,
+    commission: Amount,
     trade: Id,
     stamp: Stamp,
     symbol: Symbol,
     executor: String,
 ) -> TradeRow
-    ensures { trade_row_of result ≡ spec.row_named order.now accepted.now.terms accepted.now.charge trade stamp symbol (string_bytes executor) }
+    requires { commission ≡ commission_by terms.now }
+    ensures { trade_row_of result ≡ spec.row_named order.now terms.now trade stamp symbol (string_bytes executor) }
 {
     TradeRow {
         id: trade,
@@ -204,12 +189,12 @@ fn row_named(
         is_cash: order.is_cash,
         symbol,
         qty: order.qty,
-        bid: accepted.terms.price,
+        bid: terms.price,
         account: order.account,
         executor,
         price: None,
-        charge: accepted.charge,
-        commission: estimated_commission(&accepted.terms),
+        charge: terms.charge,
+        commission,
         tax: Amount::new(0).unwrap(),
         is_lifo: order.is_lifo,
     }
@@ -219,24 +204,26 @@ fn row_named(
 fn trade_row(
     alloc: Global,
     order: &Order,
-    accepted: &Accepted,
+    terms: &Terms,
+    commission: Amount,
     trade: Id,
     stamp: Stamp,
 ) -> Result<TradeRow, AllocError>
-    ensures { IfOk result (λ row. trade_row_of row ≡ spec.trade_row order.now accepted.now.terms accepted.now.charge trade stamp) }
+    requires { commission ≡ commission_by terms.now }
+    ensures { IfOk result (λ row. trade_row_of row ≡ spec.trade_row order.now terms.now trade stamp) }
 {
     let symbol = order.symbol.clone()?;
     let executor = executor_name(alloc, &order.executor)?;
-    Ok(row_named(order, accepted, trade, stamp, symbol, executor))
+    Ok(row_named(order, terms, commission, trade, stamp, symbol, executor))
 }
 
 // The request of a trade that has to wait for its price.
 fn request_row(
     order: &Order,
-    accepted: &Accepted,
+    placement: &Placement,
     trade: Id,
 ) -> Result<Option<RequestRow>, AllocError>
-    ensures { IfOk result (λ request. request ≡ spec.request_row order.now accepted.now.terms accepted.now.broker trade) }
+    ensures { IfOk result (λ request. request ≡ spec.request_row order.now placement.now.terms placement.now.broker trade) }
 {
     if order.kind.is_market() {
         return Ok(None);
@@ -246,8 +233,8 @@ fn request_row(
         kind: order.kind,
         symbol: order.symbol.clone()?,
         qty: order.qty,
-        bid: accepted.terms.price,
-        broker: accepted.broker,
+        bid: placement.terms.price,
+        broker: placement.broker,
     }))
 }
 
@@ -279,14 +266,17 @@ fn changes_of(
 fn order_changes(
     alloc: Global,
     order: &Order,
-    accepted: &Accepted,
+    placement: &Placement,
+    commission: Amount,
     trade: Id,
     stamp: Stamp,
 ) -> Result<Vec<Change>, AllocError>
-    ensures { IfOk result (λ changes. AreChanges order.now accepted.now.terms accepted.now.broker accepted.now.charge trade stamp changes.items) }
+    requires { commission ≡ commission_by placement.now.terms }
+    ensures { IfOk result (λ changes. AreChanges order.now placement.now.terms placement.now.broker trade stamp changes.items) }
 {
-    let row = trade_row(alloc, order, accepted, trade, stamp)?;
-    let request = request_row(order, accepted, trade)?;
+    let terms = &placement.terms;
+    let row = trade_row(alloc, order, terms, commission, trade, stamp)?;
+    let request = request_row(order, placement, trade)?;
     let changes = changes_of(alloc, row, request)?;
     Ok(changes)
 }
@@ -316,8 +306,8 @@ pub fn plan_order<L: LotSource>(
     ensures fault { IfErr result (λ fault. (fault ≡ Fault.Memory) ⊎ ((before : L) × L.fails before fault source.new)) }
     ensures rest { (n : ℕ) × (L.rest source.new ≡ drop n (L.rest source.old)) }
 {
-    let accepted = match accept(order, found) {
-        Ok(accepted) => accepted,
+    let placement = match placement_of(order, found) {
+        Ok(placement) => placement,
         Err(refusal) => return Ok(Err(refusal)),
     };
     let Some(trade) = next_trade(found.last_trade) else {
@@ -326,8 +316,8 @@ pub fn plan_order<L: LotSource>(
     let Some(stamp) = stamp_after(last, now) else {
         return Ok(Err(Refusal::ClockEnd));
     };
-    let estimate = estimate_order(source, &accepted.terms)?;
-    let changes = order_changes(alloc, order, &accepted, trade, stamp)?;
+    let estimate = estimate_order(source, &placement.terms)?;
+    let changes = order_changes(alloc, order, &placement, estimate.commission, trade, stamp)?;
     let reply = Reply::Ordered(Ordered {
         stamp,
         trade,

@@ -1,23 +1,16 @@
-ghost use Rattle.std.specs.Prelude.{◌≡◌, ◌⊎◌, ℕ, drop, pos, option_map, IfOk, IfErr, IfSome, MatchResult};
+ghost use Rattle.std.specs.Prelude.{◌≡◌, ◌⊎◌, ℕ, drop, option_map, IfOk, IfErr, IfSome, MatchResult};
 ghost use Rattle.brk_lots.specs.Position.{IsNew, IsWalk};
 ghost use Rattle.brk_money.specs.Moments as moments;
 ghost use Rattle.brk_money.specs.declared.fault.Fault.{Fault};
 ghost use Rattle.brk_trade.specs.Results.{AsksFew, IsCompleted, IsRefused, moment_of, told_of};
 
 use crate::completion::completion_changes;
-use crate::outcome::{Outcome, ResultFound, accept, complete};
-use brk_changes::Amount;
+use crate::outcome::{Outcome, complete, rate_and_summary};
+use crate::result_found::ResultFound;
 use brk_lots::{LotSource, close};
-use brk_money::{Cents, Fault, Planned, Price, Refusal, Stamp, stamp_after};
+use brk_money::{Fault, Planned, Price, Refusal, Stamp, stamp_after};
 use brk_plans::{Completed, Plan, Reply};
 use std::alloc::Global;
-
-// A commission or a tax as an amount.
-fn cents_of(amount: Amount) -> Cents
-    ensures { result ≡ pos amount }
-{
-    Cents::new(amount.get() as i64).unwrap()
-}
 
 // What is told of a completion.
 fn told(outcome: &Outcome) -> Completed
@@ -25,8 +18,8 @@ fn told(outcome: &Outcome) -> Completed
 {
     Completed {
         stamp: outcome.stamp,
-        commission: cents_of(outcome.commission),
-        tax: cents_of(outcome.tax),
+        commission: outcome.commission,
+        tax: outcome.tax,
         amount: outcome.amount,
         due_day: outcome.due_day,
         buy_value: outcome.buy_value,
@@ -65,8 +58,8 @@ pub fn plan_result<L: LotSource>(
     let Some(found) = found else {
         return Ok(Err(Refusal::NoTrade));
     };
-    let accepted = match accept(found) {
-        Ok(accepted) => accepted,
+    let known = match rate_and_summary(found) {
+        Ok(known) => known,
         Err(refusal) => return Ok(Err(refusal)),
     };
     // The balance and the broker's sum are tested before the clock, and whatever the stamp.
@@ -84,7 +77,7 @@ pub fn plan_result<L: LotSource>(
         price,
         at,
     )?;
-    let outcome = match complete(found, price, &accepted, &closing, moved) {
+    let outcome = match complete(found, price, &known, &closing, moved) {
         Ok(outcome) => outcome,
         Err(refusal) => return Ok(Err(refusal)),
     };

@@ -1,6 +1,7 @@
 use crate::{Terms, estimate_order};
 use brk_lots::{Lot, Position};
-use brk_money::{Cents, Id, Price, Qty, Rate, Side, Stamp, TaxRate, TaxStatus, Wide};
+use brk_money::{Id, Price, Qty, Rate, Side, Stamp, TaxRate, TaxStatus, Wide};
+use brk_ref::ChargeAmount;
 use std::test::Fail;
 
 /// A sale of 100 at 9.50, at a rate of a hundredth and a tax of a quarter.
@@ -12,7 +13,7 @@ fn sale() -> Result<Terms, Fail> {
         tax_status: TaxStatus::Withheld,
         rates: TaxRate::new(25_000).ok_or("rates")?,
         rate: Rate::new(100).ok_or("rate")?,
-        charge: Cents::new(500).ok_or("charge")?,
+        charge: ChargeAmount::new(500).ok_or("charge")?,
         assets: Wide::new(1_000_000),
     })
 }

@@ -1,8 +1,10 @@
-use Rattle.std.proofs.Common.{arith, ◌≡◌, ◌*◌, ◌-◌, ◌≢◌, ℕ, pos, replicate, refl, ap, ◌∙◌, subst}
+use Rattle.std.proofs.Common.{arith, ◌≡◌, ◌*◌, ◌-◌, ◌≢◌, ℕ, pos, replicate, ap, ◌∙◌, subst}
 use Rattle.brk_model.specs.Shares.{Deal, Share, lots}
 use Rattle.brk_lots.specs.Lots.{from_end}
 use Rattle.brk_lots.specs.Position.{IsWalk, IsNew}
-use Rattle.brk_lots.specs.Walks.{met, paid, bought, sold}
+use Rattle.brk_lots.specs.Values.{values_by}
+use Rattle.brk_lots.specs.Walks.{met, paid}
+use Rattle.brk_lots.specs.declared.values.Values.{Values}
 use Rattle.brk_lots.proofs.Ends.{walk_back, all_back}
 use Rattle.brk_lots.proofs.Upon.{closes}
 use Rattle.brk_lots.proofs.closing.close.Goals as goal
@@ -17,11 +19,9 @@ returns-clause-closing g c ls lifo e =
     let u : Share = record { side = d.side; trade = d.trade; price = d.price; stamp = d.stamp } in
     let sum = rw e at c.in_ok-taken.ensures.left in
     let left : c.in_ok-taken.taken.left ≡ d.qty - k = omega (arith, sum) in
-    let closed : c.get.result - c.in_ok-taken.taken.left ≡ k = omega (arith, sum) in
-    let value : c.from.result * c.from-2.result ≡ k * d.price = rw (c.from.ensures, c.from-2.ensures, closed, c.get-2.ensures.value) refl in
-    let cost : c.in_ok-taken.taken.cost ≡ paid k walk = rw e at c.in_ok-taken.ensures.cost in
+    let values : c.in_ok-taken.taken.values ≡ values_by d.side (k * d.price) (paid k walk) = rw e at c.in_ok-taken.ensures.values in
     closes d ls _ w fresh
-    (rw e at c.in_ok-taken.ensures.touched)
+    (rw e at c.in_ok-taken.ensures.rows)
     (c.opened_lot.ensures ∙ ap (λ n. lots (replicate n u)) left)
-    (c.values-buy_value.ensures.bought ∙ ap (λ n. pos (bought d.side n c.in_ok-taken.taken.cost)) value ∙ ap (λ n. pos (bought d.side (k * d.price) n)) cost)
-    (c.values-buy_value.ensures.sold ∙ ap (λ n. pos (sold d.side n c.in_ok-taken.taken.cost)) value ∙ ap (λ n. pos (sold d.side (k * d.price) n)) cost)
+    (c.from.ensures ∙ ap (λ (v : Values). pos v.buy_value) values)
+    (c.from-2.ensures ∙ ap (λ (v : Values). pos v.sell_value) values)

@@ -1,9 +1,11 @@
-ghost use Rattle.std.specs.Prelude.{◌≡◌, ℕ, ◌≤◌, SomeIff};
+ghost use Rattle.std.specs.Prelude.{◌≡◌, ℕ, ◌≤◌, SomeIff, nat_abs, pos};
 
+use crate::cents::Cents;
+use crate::wide::Wide;
 use std::marker::Model;
 
-/// A commission or a tax (T_COMM, T_TAX), in cents, 0 to 10^17.
-#[derive(Clone, Copy, Debug, PartialEq, Eq)]
+/// An amount that is never below 0, such as a commission, a tax or the value of shares: whole cents, 0 to 10^17.
+#[derive(Clone, Copy, PartialEq, Eq)]
 pub struct Amount(u64);
 
 impl Model for Amount {
@@ -36,5 +38,22 @@ impl Amount {
         ensures high { self ≤ 100000000000000000 }
     {
         self.0
+    }
+}
+
+impl Cents {
+    /// How much it is, whichever its sign.
+    pub fn unsigned_abs(self) -> Amount
+        ensures { result ≡ nat_abs self }
+    {
+        Amount(self.get().unsigned_abs())
+    }
+}
+
+impl From<Amount> for Wide {
+    ghost from_gives = { λ amount wide. wide ≡ pos amount };
+
+    fn from(amount: Amount) -> Wide {
+        Wide::new(i128::from(amount.get()))
     }
 }

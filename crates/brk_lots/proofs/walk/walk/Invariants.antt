@@ -1,9 +1,11 @@
-use Rattle.std.proofs.Common.{◌≡◌, ◌+◌, ◌*◌, ◌≤◌, ℕ, drop, length}
+use Rattle.std.proofs.Common.{◌≡◌, ◌+◌, ◌*◌, ◌≤◌, ◌++◌, ℕ, List, drop, length}
+use Rattle.brk_model.specs.Limits.{greatest_price}
+use Rattle.brk_lots.specs.declared.lot.Touch.{Touch}
 use Rattle.brk_lots.specs.Position.{IsWalk}
 use Rattle.brk_lots.specs.Walks.{met, rows_taken, paid}
-use Rattle.brk_lots.proofs.values.walk_lots.Given as goal
+use Rattle.brk_lots.proofs.walk.walk.Given as goal
 
--- what was done so far and what is to be done with the lots that are left are what the whole order does
+-- what was done so far and what is to be done with the lots that are left are what the whole walk does
 abbrev pub invariant-loop-left : goal.invariant-loop-left
 invariant-loop-left g l =
     let rest = g.L.LotSource.rest l.source in
@@ -11,9 +13,9 @@ invariant-loop-left g l =
     record {
       walk : IsWalk rest;
       left : l.left + met l.side l.fn.qty all ≡ l.fn.qty + met l.side l.left rest;
+      rows : (given : List Touch) × g.R.Rows.holds l.rows given × (given ++ rows_taken (met l.side l.left rest) rest ≡ rows_taken (met l.side l.fn.qty all) all) × (g.L.LotSource.asked l.source ≤ g.L.LotSource.asked l.fn.source + length given);
       paid : l.cost + paid (met l.side l.left rest) rest ≡ paid (met l.side l.fn.qty all) all;
-      bound : l.cost + l.left * 9999999 ≤ l.fn.qty * 9999999;
-      asked : g.L.LotSource.asked l.source + length (rows_taken (met l.side l.left rest) rest) ≤ g.L.LotSource.asked l.fn.source + length (rows_taken (met l.side l.fn.qty all) all);
+      bound : l.cost + l.left * greatest_price ≤ l.fn.qty * greatest_price;
       faulted : g.L.LotSource.faulted l.source ≡ g.L.LotSource.faulted l.fn.source;
       given : (n : ℕ) × (rest ≡ drop n all);
     }

@@ -1,0 +1,140 @@
+//! The arithmetic of a settlement: what a completed trade costs and brings, and what is left after it.
+
+ghost use Rattle.std.specs.Prelude.{◌≡◌, ◌+◌, ◌*◌, ◌≤◌, ◌≤ℤ◌, ◌+ℤ◌, ◌-ℤ◌, ◌&&◌, true, false, nat_lt, nat_abs, pos, if◌then◌else◌, MatchOption};
+ghost use Rattle.brk_model.specs.Base.{takes_tax_off};
+ghost use Rattle.brk_model.specs.Derived.{proceeds, settlement_days};
+ghost use Rattle.brk_model.specs.Limits.{greatest_amount, greatest_price};
+ghost use Rattle.brk_money.specs.Amounts as amounts;
+ghost use Rattle.brk_money.specs.Kinds.{side_of};
+ghost use Rattle.brk_money.specs.Moments as moments;
+ghost use Rattle.brk_money.specs.Moments.{last_day};
+ghost use Rattle.brk_trade.specs.Outcomes as spec;
+ghost use Rattle.brk_trade.specs.Outcomes.{greatest_value, values_in};
+
+use crate::estimate::tax_on;
+use crate::result_found::ResultFound;
+use brk_changes::{Amount, BrokerNumbers, TradeRow};
+use brk_lots::{Closing, Values};
+use brk_money::{Cents, Day, Price, Qty, Rate, Side, Stamp, TaxStatus, Wide, commission, day_of};
+
+// How many days after its completion a trade settles.
+const SETTLEMENT_DAYS: u16 = 2;
+
+// The value of closed shares as an amount.
+fn amount(value: Wide) -> Amount
+    requires low { pos 0 ≤ℤ value }
+    requires high { value ≤ℤ pos greatest_value }
+    ensures { result ≡ nat_abs value }
+{
+    Amount::new(value.get() as u64).unwrap()
+}
+
+// What the closed shares of a quantity were bought for and sold for. It reads what the limit says of the quantity.
+pub(crate) fn values_of(qty: Qty, closing: &Closing) -> Values
+    requires bought { (pos 0 ≤ℤ closing.now.buy_value) × (closing.now.buy_value ≤ℤ pos (qty * greatest_price)) }
+    requires sold { (pos 0 ≤ℤ closing.now.sell_value) × (closing.now.sell_value ≤ℤ pos (qty * greatest_price)) }
+    ensures values { result ≡ values_in closing.now }
+    ensures sold { result.sell_value ≤ greatest_value }
+{
+    let _limit = qty.get();
+    Values {
+        buy_value: amount(closing.buy_value),
+        sell_value: amount(closing.sell_value),
+    }
+}
+
+// The commission of a trade, which is not above the greatest value of a trade. It reads what the limits say of that.
+#[tactic(auto, using(crate::proofs::Bounds::commission_high))]
+pub(crate) fn commission_at(trade: &TradeRow, price: Price, rate: Rate) -> Amount
+    ensures value { result ≡ amounts.commission rate trade.now.qty price }
+    ensures high { result ≤ greatest_value }
+{
+    let _limits = (rate.get(), trade.qty.get(), price.get());
+    commission(rate, trade.qty, price).unsigned_abs()
+}
+
+// The tax on what the closed shares gained, which is not above the greatest value of a trade.
+#[tactic(auto, using(crate::proofs::Bounds::tax_at_high))]
+pub(crate) fn tax_upon(found: &ResultFound, values: Values) -> Amount
+    requires { values.sell_value ≤ greatest_value }
+    ensures value { result ≡ spec.tax_upon found.now values }
+    ensures high { result ≤ greatest_value }
+{
+    let _limit = found.rates.get();
+    tax_on(values, found.account.tax_status, found.rates)
+}
+
+// The part of the tax that is taken off what is settled.
+fn withheld(status: TaxStatus, tax: Amount) -> u64
+    ensures { result ≡ (if takes_tax_off status then tax else 0) }
+{
+    match status {
+        TaxStatus::Withheld => tax.get(),
+        TaxStatus::Untaxed | TaxStatus::Reported => 0,
+    }
+}
+
+// What shares of this value bring, less what is taken off; a purchase costs them.
+fn settled(side: Side, value: u64, taken_off: u64) -> Cents
+    requires value { value ≤ greatest_value }
+    requires taken_off { taken_off ≤ 3 * greatest_value }
+    ensures { result ≡ proceeds side value -ℤ pos taken_off }
+{
+    let brought = match side {
+        Side::Buy => -(value as i64),
+        Side::Sell => value as i64,
+    };
+    Cents::new(brought - taken_off as i64).unwrap()
+}
+
+// What the trade settles for.
+pub(crate) fn amount_of(found: &ResultFound, price: Price, commission: Amount, tax: Amount) -> Cents
+    requires commission { commission ≤ greatest_value }
+    requires tax { tax ≤ greatest_value }
+    ensures { result ≡ proceeds (side_of found.now.trade.kind) (found.now.trade.qty * price) -ℤ pos (found.now.trade.charge + commission + (if takes_tax_off found.now.account.tax_status then tax else 0)) }
+{
+    let trade = &found.trade;
+    let value = u64::from(trade.qty.get()) * u64::from(price.get());
+    let charge = u64::from(trade.charge.get());
+    let taken_off = charge + commission.get() + withheld(found.account.tax_status, tax);
+    settled(trade.kind.side(), value, taken_off)
+}
+
+// The balance after an amount is added, where it is within the limit.
+fn added(balance: Cents, amount: Cents) -> Option<Cents>
+    ensures { MatchOption result
+        (nat_lt greatest_amount (nat_abs (balance +ℤ amount)) ≡ true)
+        (λ after. (after ≡ balance +ℤ amount) × (nat_lt greatest_amount (nat_abs (balance +ℤ amount)) ≡ false)) }
+{
+    Cents::new(balance.get() + amount.get())
+}
+
+// The account's balance after the trade, where it is within the limit; a trade on margin leaves it.
+pub(crate) fn balance_after(found: &ResultFound, amount: Cents) -> Option<Cents>
+    ensures { MatchOption result
+        (found.now.trade.is_cash && nat_lt greatest_amount (nat_abs (spec.balance_with found.now amount)) ≡ true)
+        (λ after. (after ≡ spec.balance_with found.now amount) × (found.now.trade.is_cash && nat_lt greatest_amount (nat_abs (spec.balance_with found.now amount)) ≡ false)) }
+{
+    if !found.trade.is_cash {
+        return Some(found.account.balance);
+    }
+    added(found.account.balance, amount)
+}
+
+// The sum of the broker's commissions after the trade, where it is within the limit.
+pub(crate) fn commissions_after(broker: BrokerNumbers, commission: Amount) -> Option<Amount>
+    ensures { MatchOption result
+        (nat_lt greatest_amount (broker.commissions + commission) ≡ true)
+        (λ after. (after ≡ broker.commissions + commission) × (nat_lt greatest_amount (broker.commissions + commission) ≡ false)) }
+{
+    Amount::new(broker.commissions.get() + commission.get())
+}
+
+// The day on which a trade settles that is completed at a stamp, where it is one.
+pub(crate) fn due_after(stamp: Stamp) -> Option<Day>
+    ensures { MatchOption result
+        (nat_lt last_day (moments.day_of stamp + settlement_days) ≡ true)
+        (λ day. (day ≡ moments.day_of stamp + settlement_days) × (nat_lt last_day (moments.day_of stamp + settlement_days) ≡ false)) }
+{
+    day_of(stamp).later(SETTLEMENT_DAYS)
+}
