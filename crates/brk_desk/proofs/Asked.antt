@@ -58,6 +58,7 @@ is_asked g old new query (Ok seen) read may = record {
   answered = λ clean base keeps. read.told clean (sheets base) keeps.rows base keeps.books refl;
   kept = λ base keeps. record { books = keeps.books; rows = read.kept (sheets base) keeps.rows };
   fault = may;
+  survives = read.survives;
   same = read.same;
   clean = clean_before (state g old) (state g new) (λ _. ⊥) read.survives;
 }
@@ -65,6 +66,7 @@ is_asked g old new query (Err fault) read may = record {
   answered = λ clean. tt;
   kept = λ base keeps. record { books = keeps.books; rows = read.kept (sheets base) keeps.rows };
   fault = may;
+  survives = read.survives;
   same = read.same;
   clean = clean_before (state g old) (state g new) (λ _. ⊥) read.survives;
 }

@@ -4,3 +4,4 @@ pub mod Kept
 pub mod Calling
 pub mod Asked
 pub mod Running
+pub mod Stopping

@@ -46,3 +46,10 @@ BookedNothing (Ok (given.Done reply)) = ⊥
 BookedNothing (Ok (given.Again line)) = Unit {0}
 BookedNothing (Ok (given.Refused refusal)) = Unit {0}
 BookedNothing (Err fault) = Unit {0}
+
+-- it was booked just now
+abbrev pub IsDone : Result desk.Answer Fault → Type 0
+IsDone (Ok (given.Done reply)) = Unit {0}
+IsDone (Ok (given.Again line)) = ⊥
+IsDone (Ok (given.Refused refusal)) = ⊥
+IsDone (Err fault) = ⊥

@@ -2,7 +2,8 @@
 use Rattle.std.specs.Prelude.{◌≡◌, ℕ, List, Option, map, length, Result, IfOk, IfErr, OnErr, IsTrue}
 use Rattle.sqlite_trees.specs.declared.store.Store.{Ghosts}
 use Rattle.sqlite.specs.Held.{Held, state}
-use Rattle.sqlite.specs.State.{HasCleanDisk}
+use Rattle.sqlite.specs.State.{HasCleanDisk, Survives}
+use Rattle.sqlite_trees.specs.Tree.{Trees}
 use Rattle.brk_money.specs.declared.fault.Fault.{Fault}
 use Rattle.brk_money.specs.declared.refusal.Refusal.{Refusal}
 use Rattle.brk_model.specs.Ask.{ask}
@@ -14,12 +15,13 @@ use Rattle.brk_model.specs.Keyed.{keyed_step}
 use Rattle.brk_model.specs.Queries.{Query}
 use Rattle.brk_model.specs.Run.{MayFail, Run}
 use Rattle.brk_trade_laws.specs.Books.{IsBooks}
-use Rattle.brk_store.specs.Holds.{Holds, IsSame}
+use Rattle.brk_store.specs.Holds.{AreTreesOf, Holds, IsSame, LeavesOnly}
 use Rattle.brk_view.specs.Queries.{query_of}
 use Rattle.brk_view.specs.declared.view.View.{View}
-use Rattle.brk_desk.specs.Answers.{BookedNothing, answer_of, outcome_for, outcome_of, outcome_seen, seen_of}
+use Rattle.brk_desk.specs.Answers.{BookedNothing, IsDone, answer_of, outcome_for, outcome_of, outcome_seen, seen_of}
 use Rattle.brk_commands.specs.Commands.{command_of}
 use Rattle.brk_desk.specs.Commands.{call_of, key_for}
+use Rattle.brk_desk.specs.Stops.{MayStand}
 use Rattle.brk_desk.specs.declared.answer.Answer as desk
 use Rattle.brk_desk.specs.declared.call.Call.{Call}
 use Rattle.brk_desk.specs.declared.call.Call.TheVariants as call
@@ -39,12 +41,27 @@ Steps g old new now command key answer =
 abbrev pub StillKeeps : {S : Type 0} → Ghosts S → Held S → Held S → Type 0
 StillKeeps g old new = (base : Base) → KeepsBase g old base → KeepsBase g new base
 
+-- the base after a command under its key
+abbrev pub base_after_call : Base → ℕ → Command → Option Key → Base
+base_after_call base now command key = (keyed_step base now command key).1
+
+-- these are the trees of the tables after the command, over each base whose books were kept in a store that was open
+abbrev pub MayCome : {S : Type 0} → Ghosts S → Held S → ℕ → Command → Option Key → Trees → Type 0
+MayCome g old now command key trees =
+    IsTrue (state g old).is_open × ((base : Base) → KeepsBase g old base → AreTreesOf (sheets (base_after_call base now command key)) trees)
+
 -- a command at a moment is answered, or fails and changes nothing; all of it as far as the disk returns what was written
 pub record IsCalled {S : Type 0} (g : Ghosts S) (old new : Held S) (now : ℕ) (command : Command) (key : Option Key) (result : Result desk.Answer Fault) : Type 0 where
   pub answered : HasCleanDisk (state g new) → IfOk result (Steps g old new now command key)
   pub kept : OnErr result (StillKeeps g old new)
   -- it fails for want of memory or for its store
   pub fault : IfErr result MayFail
+  -- a crash leaves what it could leave before, or the tables after the command
+  pub survives : Survives (state g old) (state g new) (MayCome g old now command key)
+  -- once the command is done it leaves those and nothing else
+  pub durable : HasCleanDisk (state g new) → IsDone result → (base : Base) → KeepsBase g old base → LeavesOnly g new (AreTreesOf (sheets (base_after_call base now command key)))
+  -- its store was open, is open, and has committed what it holds
+  pub opened : HasCleanDisk (state g new) → IsDone result → IsTrue (state g old).is_open × IsTrue (state g new).is_open × ((state g new).committed ≡ (state g new).now)
   -- where nothing was booked the whole database is as it was
   pub same : HasCleanDisk (state g new) → IsTrue (state g new).is_open → BookedNothing result → IsSame (state g old) (state g new)
   -- a disk that returned what was written had done so before
@@ -56,6 +73,8 @@ pub record IsAsked {S : Type 0} (g : Ghosts S) (old new : Held S) (query : Query
   pub kept : StillKeeps g old new
   -- it fails for want of memory or for its store
   pub fault : IfErr result MayFail
+  -- a crash leaves what it could leave before
+  pub survives : Survives (state g old) (state g new) (λ _. ⊥)
   -- the whole database is as it was
   pub same : HasCleanDisk (state g new) → IsTrue (state g new).is_open → IsSame (state g old) (state g new)
   -- a disk that returned what was written had done so before
@@ -73,4 +92,9 @@ pub record IsRun {S : Type 0} (g : Ghosts S) (old new : Held S) (calls : List (�
   pub count : length outcomes ≡ length calls
   pub ran : HasCleanDisk (state g new) → (base : Base) → KeepsBase g old base
       → (after : Base) × KeepsBase g new after × Run base (map call_of calls) (map outcome_of outcomes) after
+  -- no fault of the disk is forgotten, and nothing else shuts the store
+  pub survives : Survives (state g old) (state g new) (λ _. Unit {0})
+  -- where a crash before the calls leaves the tables of that base alone, one after them leaves those of a base with all that was acknowledged, and at most one command more, that was answered with a fault since
+  pub leaves : HasCleanDisk (state g new) → (base : Base) → KeepsBase g old base → LeavesOnly g old (AreTreesOf (sheets base))
+      → LeavesOnly g new (λ trees. (after : Base) × MayStand base (map call_of calls) (map outcome_of outcomes) after × AreTreesOf (sheets after) trees)
   pub clean : HasCleanDisk (state g new) → HasCleanDisk (state g old)

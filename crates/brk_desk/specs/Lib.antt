@@ -3,3 +3,4 @@ pub mod Answers
 pub mod Asking
 pub mod Keeping
 pub mod Keys
+pub mod Stops

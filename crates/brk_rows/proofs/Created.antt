@@ -12,7 +12,7 @@ use Rattle.std.proofs.Common.{append_assoc}
 use Rattle.sqlite_tied.specs.Compute.{everything}
 use Rattle.std.proofs.lemmas.Bool.{cases_Bool}
 use Rattle.std.specs.Prelude.{slice_range}
-use Rattle.sqlite.specs.Effect.{Database}
+use Rattle.sqlite.specs.Effect.{Database, IsDatabase}
 use Rattle.sqlite.specs.Does.{Tally, lacks_sequence, sequence_text}
 use Rattle.sqlite.specs.State.{State, Executes, ExecutesIn}
 use Rattle.sqlite.proofs.Callers.{IsPlain, command_of, statement_of, runs_as}
@@ -108,9 +108,37 @@ all_from P (x ∷ xs) f = (f x (inl refl), all_from P xs (λ y h. f y (inr h)))
 
 -- ---- one table
 
+-- what `Makes` says, but that the trees obey the schema
+record Comes (old new : Database) (shape : ℕ → Table) : Type 0 where
+  tree : ℕ
+  at : ℕ
+  stands : Stands new.schema (shape tree) at
+  empty : new.trees tree ≡ []
+  kept : (table : Table) (place : ℕ) → Stands old.schema table place → Stands new.schema table place
+  rows : AllByRecursion (λ t. new.trees t.tree ≡ old.trees t.tree) old.schema.tables
+  apart : AllByRecursion (λ t. t.tree ≢ tree) old.schema.tables
+  more : List Table
+  tables : new.schema.tables ≡ old.schema.tables ++ more
+  inert : list_all is_inert more ≡ true
+
+obeyed : (old new : Database) (shape : ℕ → Table) → Comes old new shape → IsDatabase new → Makes old new shape
+obeyed old new shape h sound = record {
+  tree = h.tree;
+  at = h.at;
+  stands = h.stands;
+  empty = h.empty;
+  kept = h.kept;
+  rows = h.rows;
+  apart = h.apart;
+  more = h.more;
+  tables = h.tables;
+  inert = h.inert;
+  sound = sound;
+}
+
 -- the text defines this table, at tree 0, and makes it at the next one
 module _ (text : List ℕ) (shape : ℕ → Table) (defined : table_defined_by text ≡ Ok (shape 0)) (moved : (tree : ℕ) → record (shape 0) { tree = tree } ≡ shape tree) (own : same_name (shape 0).name (shape 0).name ≡ true) (still : is_inert (shape 0) ≡ true) where
-  makes_one : (schema after : Schema) (db trees : Trees) → CreatesTable schema text db after trees → Makes (record { schema = schema; trees = db }) (record { schema = after; trees = trees }) shape
+  makes_one : (schema after : Schema) (db trees : Trees) → CreatesTable schema text db after trees → Comes (record { schema = schema; trees = db }) (record { schema = after; trees = trees }) shape
   makes_one schema after db trees made =
       let same : made.table ≡ shape 0 = same_value (sym made.defined ∙ defined) in
       let is : after ≡ created schema (shape 0) = made.is ∙ ap (created schema) same in
@@ -151,8 +179,8 @@ unfolding everything
 sequence_idle t h = let e : _ ≡ t = same_value h in subst (λ k. is_inert k ≡ true) e refl
 
 -- a second table leaves the first
-makes_more : (text : List ℕ) (shape : ℕ → Table) (placed : (tree : ℕ) → (shape tree).tree ≡ tree) (old mid new : Database) → Makes old mid shape → (table : Table) → mid.schema.tables ≡ old.schema.tables ++ table ∷ []
-    → ((t : Table) → table_defined_by text ≡ Ok t → is_inert t ≡ true) → CreatesTable mid.schema text mid.trees new.schema new.trees → Makes old new shape
+makes_more : (text : List ℕ) (shape : ℕ → Table) (placed : (tree : ℕ) → (shape tree).tree ≡ tree) (old mid new : Database) → Comes old mid shape → (table : Table) → mid.schema.tables ≡ old.schema.tables ++ table ∷ []
+    → ((t : Table) → table_defined_by text ≡ Ok t → is_inert t ≡ true) → CreatesTable mid.schema text mid.trees new.schema new.trees → Comes old new shape
 makes_more text shape placed old mid new one table tables idle made =
     let more : new.schema.tables ≡ mid.schema.tables ++ (record made.table { tree = next_tree mid.schema }) ∷ [] = ap (λ (s : Schema). s.tables) made.is in
     record {
@@ -185,8 +213,8 @@ module _ (text : List ℕ) (shape : ℕ → Table) (defined : table_defined_by t
       let made = subst (λ t. CreatesTable old.now.schema t old.now.trees first.0.schema first.0.trees) told first.1 in
       let one = makes_one text shape defined moved own still old.now.schema first.0.schema old.now.trees first.0.trees made in
       let now : new.now ≡ all.0 = ap (λ (q : Tally × Database). q.1) (same_value all.2) in
-      let after : Makes old.now all.0 shape = elim (cases_Bool (lacks_sequence first.0.schema)) [
+      let after : Comes old.now all.0 shape = elim (cases_Bool (lacks_sequence first.0.schema)) [
         | inl lacks ↦ makes_more sequence_text shape placed old.now first.0 all.0 one _ (ap (λ (s : Schema). s.tables) made.is) sequence_idle (rw lacks at first.2)
-        | inr plain ↦ subst (λ d. Makes old.now d shape) (sym (same_value (rw plain at first.2))) one
+        | inr plain ↦ subst (λ d. Comes old.now d shape) (sym (same_value (rw plain at first.2))) one
       ] in
-      subst (λ d. Makes old.now d shape) (sym now) after
+      obeyed old.now new.now shape (subst (λ d. Comes old.now d shape) (sym now) after) w.sound

@@ -136,7 +136,7 @@ module _ (sql : List ℕ) (params : Row) (old new : State) (p : Parsed) (at : �
 pub took : (sql : List ℕ) (params : Row) (old new : State) (p : Parsed) (at : ℕ) (table : Table) (found : slice_get old.now.schema.tables at ≡ Some table) (q : Program)
     → (compiled old.now.schema sql ≡ Ok (meant p [] (Delete at q))) ⊎ (compiled old.now.schema sql ≡ Err Mismatch) → (count : ℕ) → Executes sql params old new (Ok count)
     → (new.now.schema ≡ old.now.schema) × ((rows : List Row) × Answers old.now q params rows
-    × Rattle.sqlite_rules.specs.Action.Writes old.now.schema Enforced old.now.trees (edit_of old.now.trees table (ids_of rows) Given 0 []) (Ok new.now.trees))
+    × Rattle.sqlite_rules.specs.Action.Writes old.now.schema Enforced old.now.trees (edit_of old.now.trees table (ids_of rows) Given 0 []) (Ok new.now.trees)) × IsDatabase new.now
 unfolding ExecutesIn OnTable
 took sql params old new p at table found q either count h =
     let is = when_understood old.now.schema sql h.0 (meant p [] (Delete at q)) h.1.is either in
@@ -146,13 +146,13 @@ took sql params old new p at table found q either count h =
     let edit = went got.2 in
     let trees : new.now.trees ≡ edit.0 = it.2.1 ∙ ap (λ (x : Written). x.trees) (same_value edit.2) in
     let e : Edit = edit_of old.now.trees table (ids_of got.0) Given 0 [] in
-    (it.2.0, (got.0, got.1, subst (λ t. Rattle.sqlite_rules.specs.Action.Writes old.now.schema Enforced old.now.trees e (Ok t)) (sym trees) edit.1))
+    (it.2.0, (got.0, got.1, subst (λ t. Rattle.sqlite_rules.specs.Action.Writes old.now.schema Enforced old.now.trees e (Ok t)) (sym trees) edit.1), w.sound)
 
 -- what an UPDATE took out and put in, and all that it set off
 pub altered : (sql : List ℕ) (params : Row) (old new : State) (p : Parsed) (at : ℕ) (table : Table) (found : slice_get old.now.schema.tables at ≡ Some table) (q : Program)
     → (compiled old.now.schema sql ≡ Ok (meant p [] (Update at q))) ⊎ (compiled old.now.schema sql ≡ Err Mismatch) → (count : ℕ) → Executes sql params old new (Ok count)
     → (new.now.schema ≡ old.now.schema) × ((rows : List Row) × Answers old.now q params rows
-    × Rattle.sqlite_rules.specs.Action.Writes old.now.schema Enforced old.now.trees (edit_of old.now.trees table (ids_of rows) Given 1 rows) (Ok new.now.trees))
+    × Rattle.sqlite_rules.specs.Action.Writes old.now.schema Enforced old.now.trees (edit_of old.now.trees table (ids_of rows) Given 1 rows) (Ok new.now.trees)) × IsDatabase new.now
 unfolding ExecutesIn OnTable
 altered sql params old new p at table found q either count h =
     let is = when_understood old.now.schema sql h.0 (meant p [] (Update at q)) h.1.is either in
@@ -162,4 +162,4 @@ altered sql params old new p at table found q either count h =
     let edit = went got.2 in
     let trees : new.now.trees ≡ edit.0 = it.2.1 ∙ ap (λ (x : Written). x.trees) (same_value edit.2) in
     let e : Edit = edit_of old.now.trees table (ids_of got.0) Given 1 got.0 in
-    (it.2.0, (got.0, got.1, subst (λ t. Rattle.sqlite_rules.specs.Action.Writes old.now.schema Enforced old.now.trees e (Ok t)) (sym trees) edit.1))
+    (it.2.0, (got.0, got.1, subst (λ t. Rattle.sqlite_rules.specs.Action.Writes old.now.schema Enforced old.now.trees e (Ok t)) (sym trees) edit.1), w.sound)

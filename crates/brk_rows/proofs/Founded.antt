@@ -4,8 +4,8 @@ use Rattle.std.specs.List.{AllByRecursion, list_all}
 use Rattle.sqlite_trees.specs.Tree.{Trees}
 use Rattle.sqlite_catalog.specs.Change.{KeepsRows}
 use Rattle.sqlite_schema.specs.declared.schema.Table.{Table}
-use Rattle.sqlite.specs.Effect.{Database}
-use Rattle.brk_rows.specs.Desk.{Desk, Stands, Makes, is_inert, is_calm_at, IsCalm, Founds}
+use Rattle.sqlite.specs.Effect.{Database, IsDatabase}
+use Rattle.brk_rows.specs.Desk.{Desk, Stands, Makes, KeepsOthers, is_inert, is_calm_at, IsCalm, Founds}
 use Rattle.brk_rows.proofs.Created.{all_at}
 use Rattle.brk_rows.proofs.Effects.{split}
 use Rattle.brk_rows.proofs.Kept.{none_held}
@@ -32,7 +32,7 @@ still_calm old new m tree calm = rw (m.tables) (all_join (is_calm_at tree) old.s
 pub new_calm : {shape : ℕ → Table} (old new : Database) (m : Makes old new shape) → IsCalm new.schema m.tree
 new_calm old new m = rw (m.tables) (all_join (is_calm_at m.tree) old.schema.tables m.more (calm_of_apart old.schema.tables m.tree m.apart) (calm_of_inert m.tree m.more m.inert))
 
-all_left : {X : Type 0} (P : X → Type 0) (xs ys : List X) → AllByRecursion P (xs ++ ys) → AllByRecursion P xs
+pub all_left : {X : Type 0} (P : X → Type 0) (xs ys : List X) → AllByRecursion P (xs ++ ys) → AllByRecursion P xs
 all_left P [] ys all = tt
 all_left P (x ∷ xs) ys all = (all.0, all_left P xs ys all.1)
 
@@ -59,6 +59,7 @@ pub record Part {W T : Type 0} (desk : Desk W T) (In : W → Type 0) (old new : 
   pub more : List Table
   pub tables : new.schema.tables ≡ old.schema.tables ++ more
   pub rows : KeepsRows old.schema.tables old.trees new.trees
+  pub fresh : (w : W) → In w → AllByRecursion (λ t. t.tree ≢ tree w) old.schema.tables
 
 module _ {W T : Type 0} (desk : Desk W T) where
   pub part_none : (db : Database) → Part desk (λ _. ⊥) db db
@@ -72,6 +73,7 @@ module _ {W T : Type 0} (desk : Desk W T) where
     more = [];
     tables = sym (Rattle.std.proofs.Common.append-nil db.schema.tables);
     rows = kept_self db.trees db.schema.tables;
+    fresh = λ w h. absurd h;
   }
 
   module _ (In : W → Type 0) (old mid new : Database) (p : Part desk In old mid) (w : W) (is : (v : W) → (v ≡ w) ⊎ (v ≢ w)) (m : Makes mid new (desk.shape w)) where
@@ -92,6 +94,7 @@ module _ {W T : Type 0} (desk : Desk W T) where
       more = p.more ++ m.more;
       tables = m.tables ∙ ap (λ l. l ++ m.more) p.tables ∙ Rattle.std.proofs.Common.append_assoc old.schema.tables p.more m.more;
       rows = kept_twice old.trees mid.trees new.trees old.schema.tables p.rows (all_left (λ t. new.trees t.tree ≡ mid.trees t.tree) old.schema.tables p.more (subst (λ all. KeepsRows all mid.trees new.trees) p.tables m.rows));
+      fresh = λ v h. freshened v (is v) h;
     }
       where
         stood : (v : W) (s : (v ≡ w) ⊎ (v ≢ w)) → (v ≡ w) ⊎ In v → Stands new.schema (desk.shape v (chosen s m.tree (p.tree v))) (chosen s m.at (p.place v))
@@ -114,21 +117,28 @@ module _ {W T : Type 0} (desk : Desk W T) where
         calmed v (inr ne) (inl e) = absurd (ne e)
         calmed v (inr ne) (inr h) = still_calm mid new m (p.tree v) (p.calm v h)
 
+        freshened : (v : W) (s : (v ≡ w) ⊎ (v ≢ w)) → (v ≡ w) ⊎ In v → AllByRecursion (λ t. t.tree ≢ chosen s m.tree (p.tree v)) old.schema.tables
+        freshened v (inl e) h = all_left (λ t. t.tree ≢ m.tree) old.schema.tables p.more (subst (AllByRecursion (λ t. t.tree ≢ m.tree)) p.tables m.apart)
+        freshened v (inr ne) (inl e) = absurd (ne e)
+        freshened v (inr ne) (inr h) = p.fresh v h
+
         emptied : (v : W) (s : (v ≡ w) ⊎ (v ≢ w)) → (v ≡ w) ⊎ In v → new.trees (chosen s m.tree (p.tree v)) ≡ []
         emptied v (inl e) h = m.empty
         emptied v (inr ne) (inl e) = absurd (ne e)
         emptied v (inr ne) (inr h) = same_tree v h ∙ p.empty v h
 
   -- all of them are made
-  pub founded : (In : W → Type 0) (old new : Database) → Part desk In old new → ((w : W) → In w) → (t : T) → ((w : W) → desk.list w t ≡ []) → Founds desk t old new
-  founded In old new p all t none = record {
+  pub founded : (In : W → Type 0) (old new : Database) → Part desk In old new → IsDatabase new → ((w : W) → In w) → (t : T) → ((w : W) → desk.list w t ≡ []) → Founds desk t old new
+  founded In old new p sound all t none = record {
     tree = p.tree;
     tables = record {
       place = p.place;
       stands = λ w. p.stands w (all w);
       apart = λ v w. p.apart v w (all v) (all w);
       calm = λ w. p.calm w (all w);
+      sound = sound;
       rows = λ w. subst (λ xs. Rattle.brk_rows.specs.Rows.Holds (desk.shape w (p.tree w)) (desk.encode w) (desk.order w) xs (new.trees (p.tree w))) (sym (none w)) (none_held (desk.shape w (p.tree w)) (desk.encode w) (desk.order w) _ (p.empty w (all w)));
     };
-    rows = p.rows;
+    fresh = λ w. p.fresh w (all w);
+    others = record { more = p.more; tables = p.tables; rows = p.rows };
   }

@@ -30,7 +30,7 @@ use Rattle.sqlite_syntax.specs.declared.statement.Parsed.{Parsed}
 use Rattle.sqlite_resolve.specs.Compile.{compiled}
 use Rattle.sqlite_resolve.specs.declared.error.CompileError.TheVariants.{Mismatch}
 use Rattle.sqlite_keyed.specs.Lists.{insert_sorted, update_where, delete_where}
-use Rattle.sqlite.specs.Effect.{Database, value_rows}
+use Rattle.sqlite.specs.Effect.{Database, IsDatabase, value_rows}
 use Rattle.sqlite.specs.Rows.{stamped}
 use Rattle.sqlite.specs.State.{State, Executes}
 use Rattle.brk_rows.specs.Rows.{cells, same_rowid, Holds}
@@ -105,8 +105,8 @@ module _ {W T : Type 0} (desk : Desk W T) (w : W) (place : Place desk w) where
   -- ---- the other tables
 
   pub framed : (t : T) (xs : List Item) (tree : W → ℕ) (old new : Database) → HasTables desk t tree old → new.schema ≡ old.schema → ((v : W) → v ≢ w → new.trees (tree v) ≡ old.trees (tree v))
-      → Holds (shape (tree w)) (desk.encode w) (desk.order w) xs (new.trees (tree w)) → HasTables desk (place.put xs t) tree new
-  framed t xs tree old new h schema others this =
+      → Holds (shape (tree w)) (desk.encode w) (desk.order w) xs (new.trees (tree w)) → IsDatabase new → HasTables desk (place.put xs t) tree new
+  framed t xs tree old new h schema others this sound =
       let u = place.put xs t in
       let back = sym schema in
       record {
@@ -114,6 +114,7 @@ module _ {W T : Type 0} (desk : Desk W T) (w : W) (place : Place desk w) where
         stands = λ v. subst (λ s. Stands s (desk.shape v (tree v)) (h.place v)) back (h.stands v);
         apart = h.apart;
         calm = λ v. subst (λ s. IsCalm s (tree v)) back (h.calm v);
+        sound = sound;
         rows = λ v. elim (place.split v) [
           | inl same ↦ subst (λ v. Holds (desk.shape v (tree v)) (desk.encode v) (desk.order v) (desk.list v u) (new.trees (tree v))) (sym same)
               (subst (λ ys. Holds (shape (tree w)) (desk.encode w) (desk.order w) ys (new.trees (tree w))) (sym (place.put_this xs t)) this)
@@ -159,7 +160,7 @@ module _ {W T : Type 0} (desk : Desk W T) (w : W) (place : Place desk w) where
         let left : without_all (db table.tree) (ids_of it.1.0) ≡ filter (λ r. not (passes params terms r)) rows =
         ap₂ without_all (ap db at) named ∙ remains (passes params terms) rows k.picked held.keyed held.apart k.same in
         framed t _ tree old.now new.now h it.0 (step_others t tree old.now new.now h e refl it.1.2)
-        (subst (Holds table (desk.encode w) (desk.order w) (delete_where q (desk.list w t))) (sym (step.0 ∙ left)) (held_without table (desk.encode w) (desk.order w) (passes params terms) q (same (tree w)) (desk.list w t) rows held))
+        (subst (Holds table (desk.encode w) (desk.order w) (delete_where q (desk.list w t))) (sym (step.0 ∙ left)) (held_without table (desk.encode w) (desk.order w) (passes params terms) q (same (tree w)) (desk.list w t) rows held)) it.2
 
     -- ---- UPDATE of columns that are no key
 
@@ -198,7 +199,17 @@ module _ {W T : Type 0} (desk : Desk W T) (w : W) (place : Place desk w) where
         (IsPermutation-trans _ _ _ (IsPermutation-append _ _ _ _ (IsPermutation-map write (filter test rows) k.picked k.same) (IsPermutation-refl (filter (λ r. not (test r)) rows))) (put_all_is (map write k.picked) _ fresh)) in
         framed t _ tree old.now new.now h it.0 (step_others t tree old.now new.now h e refl it.1.2)
         (subst (Holds table (desk.encode w) (desk.order w) (update_where q to (desk.list w t))) (sym those)
-        (held_changed table (desk.encode w) (desk.order w) test write q to keeps before after (same (tree w)) (shows (tree w)) (desk.list w t) rows _ perm held))
+        (held_changed table (desk.encode w) (desk.order w) test write q to keeps before after (same (tree w)) (shows (tree w)) (desk.list w t) rows _ perm held)) it.2
+
+  -- ---- INSERT .. VALUES leaves the other tables, whosever they are
+
+  pub inserts_alone : (text : List ℕ) (params : Row) (p : Parsed) (terms : List Term) (width : ℕ)
+      → ((schema : Schema) (at tree : ℕ) → Stands schema (shape tree) at → compiled schema text ≡ Ok (meant p [] (Insert at (Values terms width))))
+      → (old new : State) (count : ℕ) → Executes text params old new (Ok count) → (t : T) (tree : W → ℕ) → HasTables desk t tree old.now
+      → (new.now.schema ≡ old.now.schema) × AllByRecursion (λ k. k.tree ≢ tree w → new.now.trees k.tree ≡ old.now.trees k.tree) old.now.schema.tables
+  inserts_alone text params p terms width is old new count ran t tree h =
+      let it = inserted text params old new p (h.place w) (shape (tree w)) (h.stands w).found (place.uncounted (tree w)) terms width (is old.now.schema (h.place w) (tree w) (h.stands w)) count ran in
+      (it.0, subst (λ n. AllByRecursion (λ k. k.tree ≢ n → new.now.trees k.tree ≡ old.now.trees k.tree) old.now.schema.tables) (desk.placed w (tree w)) it.1.tables)
 
   -- ---- INSERT .. VALUES of one row
 
@@ -233,7 +244,7 @@ module _ {W T : Type 0} (desk : Desk W T) (w : W) (place : Place desk w) where
       (λ v other. subst (λ n. n ≢ table.tree → new.now.trees n ≡ db n) (desk.placed v (tree v))
       (all_at (λ k. k.tree ≢ table.tree → new.now.trees k.tree ≡ db k.tree) old.now.schema.tables (h.place v) (desk.shape v (tree v)) (h.stands v).found a.tables) (λ same. other (h.apart v w (same ∙ at))))
       (subst (Holds table (desk.encode w) (desk.order w) (insert_sorted (desk.order w) x (desk.list w t))) (sym those)
-      (held_with table (desk.encode w) (desk.order w) place.total comer x (shows (tree w) rows) whole (desk.list w t) rows free absent held))
+      (held_with table (desk.encode w) (desk.order w) place.total comer x (shows (tree w) rows) whole (desk.list w t) rows free absent held)) it.2
     where
       not_not : (b : Bool) → not b ≡ true → b ≡ false
       not_not true h = absurd (let e = h in cc)

@@ -92,6 +92,7 @@ pub record Makes (old new : Database) (shape : ℕ → Table) : Type 0 where
   pub more : List Table
   pub tables : new.schema.tables ≡ old.schema.tables ++ more
   pub inert : list_all is_inert more ≡ true
+  pub sound : IsDatabase new
 
 -- ---- all of them
 
@@ -110,6 +111,8 @@ pub record HasTables {W T : Type 0} (desk : Desk W T) (t : T) (tree : W → ℕ)
   pub stands : (w : W) → Stands db.schema (desk.shape w (tree w)) (place w)
   pub apart : (v w : W) → tree v ≡ tree w → v ≡ w
   pub calm : (w : W) → IsCalm db.schema (tree w)
+  -- the trees list the schema and obey it, so that whoever opens them again finds it
+  pub sound : IsDatabase db
   pub rows : (w : W) → Holds (desk.shape w (tree w)) (desk.encode w) (desk.order w) (desk.list w t) (db.trees (tree w))
 
 -- whatever the tables hold before, they hold f of it after, at the same trees
@@ -120,11 +123,18 @@ Turns {W} {T} desk f old new = (t : T) (tree : W → ℕ) → HasTables desk t t
 abbrev pub Tells : {W T : Type 0} → Desk W T → (T → Type 0) → Database → Type 0
 Tells {W} {T} desk P db = (t : T) (tree : W → ℕ) → HasTables desk t tree db → P t
 
--- The tables are made, with these records, and each table that stood has its rows.
+-- each table that stood stands, with its rows
+pub record KeepsOthers (old new : Database) : Type 0 where
+  pub more : List Table
+  pub tables : new.schema.tables ≡ old.schema.tables ++ more
+  pub rows : AllByRecursion (λ t. new.trees t.tree ≡ old.trees t.tree) old.schema.tables
+
+-- the tables are made, with these records, at trees that no table had
 pub record Founds {W T : Type 0} (desk : Desk W T) (t : T) (old new : Database) : Type 0 where
   pub tree : W → ℕ
   pub tables : HasTables desk t tree new
-  pub rows : AllByRecursion (λ t. new.trees t.tree ≡ old.trees t.tree) old.schema.tables
+  pub fresh : (w : W) → AllByRecursion (λ t. t.tree ≢ tree w) old.schema.tables
+  pub others : KeepsOthers old new
 
 -- wherever this table stands, its rows are those of some records
 abbrev pub Adopts : {W T : Type 0} → Desk W T → W → Database → Type 0

@@ -1,5 +1,5 @@
 -- How a transaction ends: rolled back, or committed.
-use Rattle.std.proofs.Common.{◌≡◌, inl, inr, true, false, Result, Ok, Err, IfOk, OnOk, IsTrue, [], refl, sym, subst, ◌∙◌}
+use Rattle.std.proofs.Common.{◌≡◌, inl, inr, true, false, Result, Ok, Err, IfOk, OnOk, IsTrue, [], refl, sym, ap, subst, ◌∙◌}
 use Rattle.sqlite_trees.specs.declared.store.Store.{Ghosts}
 use Rattle.sqlite_trees.specs.Tree.{Trees}
 use Rattle.sqlite.specs.Effect.{Database}
@@ -10,13 +10,13 @@ use Rattle.sqlite.specs.declared.error.Error.{Error}
 use Rattle.sqlite.proofs.Callers.{survives_begin}
 use Rattle.sqlite.proofs.StateLemmas.{survives_then, survives_weaker}
 use Rattle.brk_model.specs.Tables.{Tables, no_rows}
-use Rattle.brk_rows.specs.Desk.{Turns}
+use Rattle.brk_rows.specs.Desk.{HasTables, Turns}
 use Rattle.brk_rows.specs.Model.{IsStep, Looks}
-use Rattle.brk_rows.proofs.Inside.{clean_before, commits_all, commits_crash}
+use Rattle.brk_rows.proofs.Inside.{clean_before, commits_all, commits_crash, step_then}
 use Rattle.brk_money.specs.declared.fault.Fault.{Fault}
 use Rattle.brk_money.specs.declared.fault.Fault.TheVariants.{Store}
 use Rattle.brk_tables_form.specs.Desk.{desk}
-use Rattle.brk_tables_form.specs.Made.{HasRows, has_table_of_desk}
+use Rattle.brk_tables_form.specs.Made.{HasRows, MakesDesk, has_table_of_desk}
 use Rattle.brk_store.specs.Holds.{Holds, IsSame, IsRead, IsApplied, IsCreated}
 
 abbrev pub begun : {S : Type 0} → Held S → Held S
@@ -64,6 +64,18 @@ module _ {S : Type 0} (g : Ghosts S) (old mid end : Held S) (settled : IsTrue (s
       opens (Ok v) h = h.1.0
       opens (Err e) h = tt
 
+-- ---- a look before the changes, which shows that the store is open
+
+module _ {S L E F : Type 0} (g : Ghosts S) (old first mid : Held S) (last : L) (P : L → Tables → Type 0) (look : IsStep {E = E} (state g (begun old)) (state g first) (Ok last) (λ l. Looks desk (P l)))
+    (r : Result (Unit {0}) F) (after : Tables → Tables) (changes : IsStep (state g first) (state g mid) r (λ _ a b. Turns desk after a.now b.now)) where
+  pub after_look : IsStep (state g (begun old)) (state g mid) r (λ _ a b. Turns desk after a.now b.now)
+  after_look =
+      step_then (state g (begun old)) (state g first) (state g mid) last r (λ l. Looks desk (P l)) (λ _ a b. Turns desk after a.now b.now) (λ _ a b. Turns desk after a.now b.now)
+      (λ _ p q t tree h. q t tree (subst (HasTables desk t tree) (sym p.1) h)) look changes
+
+  pub open_at_look : HasCleanDisk (state g mid) → IsTrue (state g old).is_open
+  open_at_look clean = (look.made (clean_before (state g first) (state g mid) (λ _. ⊥) changes.survives clean) refl).1.0
+
 -- ---- committed, or not
 
 module _ {S : Type 0} (g : Ghosts S) (old mid end : Held S) (settled : IsTrue (state g old).is_open → (state g old).now ≡ (state g old).committed) (made : Database → Database → Type 0)
@@ -85,8 +97,13 @@ module _ {S : Type 0} (g : Ghosts S) (old mid end : Held S) (settled : IsTrue (s
     all : HasCleanDisk (state g end) → IsTrue (state g old).is_open × IsTrue (state g end).is_open × made (state g old).now (state g end).now × ((state g end).committed ≡ (state g end).now)
     all clean = commits_all g old mid end made step late {F = Fault} (Ok tt) clean done
 
-    pub applies : (after : Tables → Tables) → ((a b : Database) → made a b → Turns desk after a b) → IsApplied {V = Unit {0}} {E = Fault} g old end (Ok tt) after
-    applies after turns = record {
+    -- while a store is open a crash leaves the last commit and nothing else
+    leaves_now : ((db : Trees) → IsTrue (state g end).is_open → (state g end).may_leave db → db ≡ (state g end).committed.trees) → HasCleanDisk (state g end) → (db : Trees) → (state g end).may_leave db → db ≡ (state g end).now.trees
+    leaves_now law clean db may = let it = all clean in law db it.1 may ∙ ap (λ (d : Database). d.trees) it.3
+
+    pub applies : ((db : Trees) → IsTrue (state g end).is_open → (state g end).may_leave db → db ≡ (state g end).committed.trees) → (after : Tables → Tables) → ((a b : Database) → made a b → Turns desk after a b)
+        → IsApplied {V = Unit {0}} {E = Fault} g old end (Ok tt) after
+    applies law after turns = record {
       made = λ t holds clean o.
           let it = all clean in
           let has = holds (clean_before (state g old) (state g end) _ whole clean) it.0 in
@@ -94,35 +111,47 @@ module _ {S : Type 0} (g : Ghosts S) (old mid end : Held S) (settled : IsTrue (s
       opened = λ clean. let it = all clean in (it.0, it.1, it.3);
       kept = tt;
       same = λ clean o. tt;
-      survives = survives_weaker (state g old) (state g end) _ _ (λ _ db h. (h.0, (λ t has. (has.0, turns _ _ h.1 t has.0 has.1)), h.2)) whole;
+      survives = survives_weaker (state g old) (state g end) _ _ (λ clean db h. ((all clean).0, (λ t has. (h.0, (has.0, turns _ _ h.1 t has.0 has.1), h.2)))) whole;
+      durable = λ clean t holds trees may.
+          let it = all clean in
+          let has = holds (clean_before (state g old) (state g end) _ whole clean) it.0 in
+          ((state g end).now, (has.0, turns _ _ it.2 t has.0 has.1), leaves_now law clean trees may);
     }
 
-    pub creates : ((a b : Database) → made a b → (has_table_of_desk a.schema ≡ false) × HasRows no_rows b) → IsCreated g old end (Ok tt)
-    creates tells = record {
-      made = λ clean o. (tells _ _ (all clean).2).1;
+    pub creates : ((db : Trees) → IsTrue (state g end).is_open → (state g end).may_leave db → db ≡ (state g end).committed.trees) → ((a b : Database) → made a b → (has_table_of_desk a.schema ≡ false) × MakesDesk a b)
+        → IsCreated g old end (Ok tt)
+    creates law tells = record {
+      made = λ clean o. (tells _ _ (all clean).2).1.rows;
       opened = λ clean. let it = all clean in (it.0, it.1, it.3);
       absent = λ clean. (tells _ _ (all clean).2).0;
+      others = λ clean. (tells _ _ (all clean).2).1.others;
       taken = λ clean e. absurd (let f = e in cc);
       same = λ clean o. tt;
-      survives = survives_weaker (state g old) (state g end) _ _ (λ _ db h. (h.0, (tells _ _ h.1).1, h.2)) whole;
+      survives = survives_weaker (state g old) (state g end) _ _ (λ _ db h. (h.0, (tells _ _ h.1).1.rows, h.2)) whole;
+      durable = λ clean trees may. ((state g end).now, (tells _ _ (all clean).2).1.rows, leaves_now law clean trees may);
     }
 
   module _ (e : Error) (fails : HasCleanDisk (state g end) → FailsToCommit (state g mid) (state g end) e) where
-    pub applies_none : (fault : Fault) (after : Tables → Tables) → ((a b : Database) → made a b → Turns desk after a b) → IsApplied {V = Unit {0}} {E = Fault} g old end (Err fault) after
-    applies_none fault after turns = record {
+    -- it was open where the changes began
+    pub applies_none : (HasCleanDisk (state g mid) → IsTrue (state g old).is_open) → (fault : Fault) (after : Tables → Tables) → ((a b : Database) → made a b → Turns desk after a b) → IsApplied {V = Unit {0}} {E = Fault} g old end (Err fault) after
+    applies_none was_open fault after turns = record {
       made = tt;
       opened = λ clean. tt;
       kept = still_holds g old mid end settled _ whole (kept_at e fails);
       same = kept_at e fails;
-      survives = survives_weaker (state g old) (state g end) _ _ (λ _ db h. (h.0, (λ t has. (has.0, turns _ _ h.1 t has.0 has.1)), h.2)) whole;
+      survives = survives_weaker (state g old) (state g end) _ _
+          (λ clean db h. (was_open (clean_before (state g mid) (state g end) _ late clean), (λ t has. (h.0, (has.0, turns _ _ h.1 t has.0 has.1), h.2)))) whole;
+      durable = λ clean. tt;
     }
 
-    pub commits_none : ((a b : Database) → made a b → (has_table_of_desk a.schema ≡ false) × HasRows no_rows b) → IsCreated g old end (Err Store)
+    pub commits_none : ((a b : Database) → made a b → (has_table_of_desk a.schema ≡ false) × MakesDesk a b) → IsCreated g old end (Err Store)
     commits_none tells = record {
       made = tt;
       opened = λ clean. tt;
       absent = λ clean. tt;
+      others = λ clean. tt;
       taken = λ clean e. absurd (let f = e in cc);
       same = kept_at e fails;
-      survives = survives_weaker (state g old) (state g end) _ _ (λ _ db h. (h.0, (tells _ _ h.1).1, h.2)) whole;
+      survives = survives_weaker (state g old) (state g end) _ _ (λ _ db h. (h.0, (tells _ _ h.1).1.rows, h.2)) whole;
+      durable = λ clean. tt;
     }

@@ -1,18 +1,28 @@
 -- What a store holds, and what its calls do to it.
 use Rattle.std.specs.Prelude.{◌≡◌, true, false, Result, Err, IfOk, OnOk, OnErr, IsTrue}
 use Rattle.sqlite_trees.specs.declared.store.Store.{Ghosts}
+use Rattle.sqlite_trees.specs.Tree.{Trees}
 use Rattle.sqlite.specs.Effect.{Database}
 use Rattle.sqlite.specs.Held.{Held, state}
-use Rattle.sqlite.specs.State.{State, HasCleanDisk, Survives}
+use Rattle.sqlite.specs.State.{State, HasCleanDisk, IsLive, Survives}
 use Rattle.brk_money.specs.declared.fault.Condition.TheVariants.{NotEmpty}
 use Rattle.brk_money.specs.declared.fault.Fault.{Fault}
 use Rattle.brk_money.specs.declared.fault.Fault.TheVariants.{Damaged}
 use Rattle.brk_model.specs.Tables.{Tables, no_rows}
+use Rattle.brk_rows.specs.Desk.{KeepsOthers}
 use Rattle.brk_tables_form.specs.Made.{HasRows, has_table_of_desk}
 
 -- as far as the disk has returned what was written and no fault has shut the store, the desk's tables have these rows
 abbrev pub Holds : {S : Type 0} → Ghosts S → Held S → Tables → Type 0
 Holds g store t = HasCleanDisk (state g store) → IsTrue (state g store).is_open → HasRows t (state g store).now
+
+-- These are the trees of a database whose desk's tables have these rows, under the schema that the trees themselves list.
+abbrev pub AreTreesOf : Tables → Trees → Type 0
+AreTreesOf t trees = (db : Database) × HasRows t db × (trees ≡ db.trees)
+
+-- all that a crash leaves are these trees
+abbrev pub LeavesOnly : {S : Type 0} → Ghosts S → Held S → (Trees → Type 0) → Type 0
+LeavesOnly g store P = (trees : Trees) → (state g store).may_leave trees → P trees
 
 -- the whole database is as it was, which was open
 pub record IsSame (old new : State) : Type 0 where
@@ -41,8 +51,10 @@ pub record IsApplied {S V E : Type 0} (g : Ghosts S) (old new : Held S) (result 
   -- at a fault they are those from before, and the whole database is as it was
   pub kept : OnErr result ((t : Tables) → Holds g old t → Holds g new t)
   pub same : HasCleanDisk (state g new) → IsTrue (state g new).is_open → OnErr result (IsSame (state g old) (state g new))
-  -- a crash leaves what it could leave before, or the changed rows
-  pub survives : Survives (state g old) (state g new) (λ trees. (db : Database) × ((t : Tables) → HasRows t (state g old).now → HasRows (after t) db) × (trees ≡ db.trees))
+  -- a crash leaves what it could leave before, or the changed rows, and these only where the store was open
+  pub survives : Survives (state g old) (state g new) (λ trees. IsTrue (state g old).is_open × ((t : Tables) → HasRows t (state g old).now → AreTreesOf (after t) trees))
+  -- at Ok it leaves the changed rows and nothing else
+  pub durable : HasCleanDisk (state g new) → OnOk result ((t : Tables) → Holds g old t → LeavesOnly g new (AreTreesOf (after t)))
 
 -- the making of the tables, wholly or not at all
 pub record IsCreated {S : Type 0} (g : Ghosts S) (old new : Held S) (result : Result (Unit {0}) Fault) : Type 0 where
@@ -50,9 +62,18 @@ pub record IsCreated {S : Type 0} (g : Ghosts S) (old new : Held S) (result : Re
   pub made : OnOk result (Holds g new no_rows)
   pub opened : HasCleanDisk (state g new) → OnOk result (IsTrue (state g old).is_open × IsTrue (state g new).is_open × ((state g new).committed ≡ (state g new).now))
   pub absent : HasCleanDisk (state g new) → OnOk result (has_table_of_desk (state g old).now.schema ≡ false)
+  -- each table that was there is there still, with its rows
+  pub others : HasCleanDisk (state g new) → OnOk result (KeepsOthers (state g old).now (state g new).now)
   -- it is answered that one is there only where one is
   pub taken : HasCleanDisk (state g new) → result ≡ Err (Damaged NotEmpty) → has_table_of_desk (state g old).now.schema ≡ true
   -- at a fault the whole database is as it was
   pub same : HasCleanDisk (state g new) → IsTrue (state g new).is_open → OnErr result (IsSame (state g old) (state g new))
   -- a crash leaves what it could leave before, or the tables without rows
-  pub survives : Survives (state g old) (state g new) (λ trees. (db : Database) × HasRows no_rows db × (trees ≡ db.trees))
+  pub survives : Survives (state g old) (state g new) (AreTreesOf no_rows)
+  -- at Ok it leaves the tables without rows and nothing else
+  pub durable : HasCleanDisk (state g new) → OnOk result (LeavesOnly g new (AreTreesOf no_rows))
+
+-- a connection that was opened over these trees, under the schema that they list
+pub record IsOpenedOver {S : Type 0} (g : Ghosts S) (trees : Trees) (conn : Held S) : Type 0 where
+  pub live : HasCleanDisk (state g conn) → IsLive (state g conn)
+  pub same : HasCleanDisk (state g conn) → (state g conn).now.trees ≡ trees

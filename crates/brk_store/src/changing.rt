@@ -90,6 +90,8 @@ pub(crate) fn apply_all<S: Alter>(conn: &mut Connection<S>, changes: &[Change]) 
 {
     let _settled = conn.is_autocommit();
     let mut tx = conn.transaction();
+    // What it tells is known already; that it answers shows that the store is open.
+    let _last = brk_tables::last_stamp(&mut tx)?;
     make_all(&mut tx, changes)?;
     match tx.commit() {
         Ok(()) => Ok(()),

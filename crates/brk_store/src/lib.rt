@@ -5,6 +5,7 @@ mod changing;
 mod keys;
 mod numbers;
 mod reading;
+pub mod reopening;
 pub mod store;
 mod terms;
 mod trades;

@@ -61,12 +61,13 @@ impl<S: Alter> Store<S> {
     ghost use Rattle.brk_store.specs.Holds.{IsApplied, IsCreated, IsRead};
     ghost use Rattle.brk_store.specs.Numbers.{AreNumbers};
 
-    /// Makes the tables of a desk in a database that has none of them, whatever others it has, or answers
-    /// `Damaged(NotEmpty)` where it has one of them. At a fault the database is as it was, and the connection comes
-    /// back. A connection on which a transaction is open is refused with `Store`.
+    /// Makes the tables of a desk in a database that has none of them, whatever others it has, which keep their rows, or
+    /// answers `Damaged(NotEmpty)` where it has one of them. At a fault the database is as it was, and the connection
+    /// comes back, with no transaction that it did not have. A connection on which one is open is refused with `Store`.
     pub fn create(mut conn: Connection<S>) -> Result<Store<S>, (Connection<S>, Fault)>
         ensures created { MatchResult result (λ store. IsCreated S.Store conn store (Ok tt)) (λ e. IsCreated S.Store conn e.0 (Err e.1)) }
         ensures fault { IfErr result (λ e. (e.1 ≡ fault.Store) ⊎ (e.1 ≡ fault.Damaged NotEmpty)) }
+        ensures ended { IfErr result (λ e. conn.in_transaction ≡ false → e.0.in_transaction ≡ false) }
     {
         if !conn.is_autocommit() {
             return Err((conn, Fault::Store));

@@ -1,5 +1,8 @@
 -- The tables from their texts, and the row of DESK.
-use Rattle.std.proofs.Common.{◌≡◌, ◌⊎◌, inl, inr, ℕ, pos, List, [], ◌∷◌, None, Ok, Result, refl}
+use Rattle.std.proofs.Common.{◌≡◌, ◌≢◌, ◌⊎◌, ◌∙◌, inl, inr, ℕ, pos, List, [], ◌∷◌, None, Ok, Result, refl, ap, subst}
+use Rattle.std.specs.List.{AllByRecursion}
+use Rattle.sqlite_trees.specs.Tree.{Trees}
+use Rattle.sqlite_schema.specs.declared.schema.Schema.{Schema}
 use Rattle.sqlite_schema.specs.declared.schema.Table.{Table}
 use Rattle.sqlite.specs.Effect.{Database}
 use Rattle.sqlite.specs.State.{State, Executes}
@@ -8,14 +11,14 @@ use Rattle.brk_money.specs.declared.fault.Fault.{Fault}
 use Rattle.brk_model.specs.Tables.{no_rows}
 use Rattle.brk_rows.specs.Desk.{Makes, Founds}
 use Rattle.brk_rows.specs.Model.{IsStep, Ran}
-use Rattle.brk_rows.proofs.Founded.{part_none, part_more, founded}
+use Rattle.brk_rows.proofs.Founded.{all_left, part_none, part_more, founded}
 use Rattle.brk_rows.proofs.Inside.{step_then}
 use Rattle.brk_rows.proofs.Texts.{read}
 use Rattle.brk_rows.proofs.Values.{cast_int, cast_null}
-use Rattle.brk_rows.proofs.Writes.{inserts_as}
+use Rattle.brk_rows.proofs.Writes.{inserts_alone, inserts_as}
 use Rattle.brk_tables_form.specs.Shapes.{desk_row, kept, broker, customer, account, permission, security, last_trade, charge, band, tax_rate, customer_tax, trade, history, request, holding, summary, holding_history, settlement, cash}
 use Rattle.brk_tables_form.specs.Desk.{Which, TheDesk, KeptRows, Brokers, Customers, Accounts, Permissions, Securities, LastTrades, Charges, Bands, TaxRates, CustomerTaxes, Trades, TradeHistory, Requests, Holdings, Summaries, HoldingHistory, Settlements, CashRows, desk_rows}
-use Rattle.brk_tables_form.specs.Made.{MakesFour, HasRows}
+use Rattle.brk_tables_form.specs.Made.{MakesDesk, MakesFour}
 use Rattle.brk_tables_form.proofs.Which.{is_desk_row, is_kept, is_broker, is_customer, is_account, is_permission, is_security, is_last_trade, is_charge, is_band, is_tax_rate, is_customer_tax, is_trade, is_history, is_request, is_holding, is_summary, is_holding_history, is_settlement, is_cash}
 use Rattle.brk_tables_form.proofs.Wide.{Wide, wide, wide_list, narrowed}
 use Rattle.brk_tables_form.proofs.Places.{the_desk}
@@ -62,7 +65,7 @@ founds_bare a b c d e f u v w x y =
     let p18 = part_more wide _ a y.one y.two p17 HoldingHistory is_holding_history y.makes_second in
     let p19 = part_more wide _ a y.two y.three p18 Settlements is_settlement y.makes_third in
     let p20 = part_more wide _ a y.three f p19 CashRows is_cash y.makes_fourth in
-    founded wide _ a f p20 (λ w. all w) bare (λ w. none w)
+    founded wide _ a f p20 y.makes_fourth.sound (λ w. all w) bare (λ w. none w)
   where
     all : (w : Which) → (w ≡ CashRows) ⊎ ((w ≡ Settlements) ⊎ ((w ≡ HoldingHistory) ⊎ ((w ≡ Summaries) ⊎ ((w ≡ Holdings) ⊎ ((w ≡ Requests) ⊎ ((w ≡ TradeHistory) ⊎ ((w ≡ Trades) ⊎ ((w ≡ CustomerTaxes) ⊎ ((w ≡ TaxRates)
         ⊎ ((w ≡ Bands) ⊎ ((w ≡ Charges) ⊎ ((w ≡ LastTrades) ⊎ ((w ≡ Securities) ⊎ ((w ≡ Permissions) ⊎ ((w ≡ Accounts) ⊎ ((w ≡ Customers) ⊎ ((w ≡ Brokers) ⊎ ((w ≡ KeptRows) ⊎ ((w ≡ TheDesk) ⊎ ⊥)))))))))))))))))))
@@ -110,9 +113,24 @@ founds_bare a b c d e f u v w x y =
     none CashRows = refl
 
 -- the row of DESK comes last
-pub founds_desk : (a : Database) (old new : State) → Founds wide bare a old.now → Ran AddDesk.statement [] old new → HasRows no_rows new.now
+kept_by : (a b c : Trees) (n : ℕ) (tables : List Table) → AllByRecursion (λ t. t.tree ≢ n) tables → AllByRecursion (λ t. b t.tree ≡ a t.tree) tables → AllByRecursion (λ t. t.tree ≢ n → c t.tree ≡ b t.tree) tables
+    → AllByRecursion (λ t. c t.tree ≡ a t.tree) tables
+kept_by a b c n [] fresh same left = tt
+kept_by a b c n (t ∷ tables) fresh same left = (left.0 fresh.0 ∙ same.0, kept_by a b c n tables fresh.1 same.1 left.1)
+
+pub founds_desk : (a : Database) (old new : State) → Founds wide bare a old.now → Ran AddDesk.statement [] old new → MakesDesk a new.now
 founds_desk a old new f ran =
     let turned = inserts_as wide TheDesk the_desk AddDesk.statement [] (read AddDesk.statement) AddDesk.terms 4
     (Int (pos 1) ∷ Null ∷ Int (pos 1) ∷ Null ∷ []) (record { id = 1; schema = 1; last = None })
     AddDesk.understood_as (λ tree. refl) (λ tree rows. rw (cast_int (pos 1), cast_null) refl) old new ran.0 ran.1 bare f.tree f.tables in
-    (f.tree, narrowed f.tree new.now (desk_rows None) no_rows no_rows refl (λ w other. refl) turned)
+    let alone = inserts_alone wide TheDesk the_desk AddDesk.statement [] (read AddDesk.statement) AddDesk.terms 4 AddDesk.understood_as old new ran.0 ran.1 bare f.tree f.tables in
+    let left = all_left (λ t. t.tree ≢ f.tree TheDesk → new.now.trees t.tree ≡ old.now.trees t.tree) a.schema.tables f.others.more
+    (subst (AllByRecursion (λ t. t.tree ≢ f.tree TheDesk → new.now.trees t.tree ≡ old.now.trees t.tree)) f.others.tables alone.1) in
+    record {
+      rows = (f.tree, narrowed f.tree new.now (desk_rows None) no_rows no_rows refl (λ w other. refl) turned);
+      others = record {
+        more = f.others.more;
+        tables = ap (λ (s : Schema). s.tables) alone.0 ∙ f.others.tables;
+        rows = kept_by a.trees old.now.trees new.now.trees (f.tree TheDesk) a.schema.tables (f.fresh TheDesk) f.others.rows left;
+      };
+    }

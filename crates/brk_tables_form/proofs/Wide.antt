@@ -29,6 +29,7 @@ module _ (tree : Which → ℕ) (db : Database) where
     stands = h.stands;
     apart = h.apart;
     calm = h.calm;
+    sound = h.sound;
     rows = λ w. subst (λ xs. Holds (shape w (tree w)) (encode w) (order w) xs (db.trees (tree w))) (same_lists w t (desk_rows t.last) refl) (h.rows w);
   }
 
@@ -39,6 +40,7 @@ module _ (tree : Which → ℕ) (db : Database) where
     stands = h.stands;
     apart = h.apart;
     calm = h.calm;
+    sound = h.sound;
     rows = λ w. subst (λ xs. Holds (shape w (tree w)) (encode w) (order w) xs (db.trees (tree w))) (back w) (h.rows w);
   }
     where

@@ -5,8 +5,8 @@ use Rattle.sqlite_schema.specs.declared.schema.Schema.{Schema}
 use Rattle.sqlite_schema.specs.declared.schema.Table.{Table}
 use Rattle.sqlite_schema.specs.Names.{table_named}
 use Rattle.sqlite.specs.Effect.{Database}
-use Rattle.brk_model.specs.Tables.{Tables}
-use Rattle.brk_rows.specs.Desk.{Makes, HasTables, Probes}
+use Rattle.brk_model.specs.Tables.{Tables, no_rows}
+use Rattle.brk_rows.specs.Desk.{Makes, HasTables, KeepsOthers, Probes}
 use Rattle.brk_tables_form.specs.Desk.{Which, desk, names}
 
 -- four tables are made, one after another
@@ -26,6 +26,11 @@ has_table_of_desk schema = list_any (λ name. is_some (table_named schema name))
 -- the database has the tables of a desk with these rows, beside whatever others
 abbrev pub HasRows : Tables → Database → Type 0
 HasRows t db = (tree : Which → ℕ) × HasTables desk t tree db
+
+-- the tables of a desk are made without rows, beside those that were there
+pub record MakesDesk (old new : Database) : Type 0 where
+  pub rows : HasRows no_rows new
+  pub others : KeepsOthers old new
 
 -- the text that adds the row of DESK
 abbrev pub desk_row_text : List ℕ

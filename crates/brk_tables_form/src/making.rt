@@ -2,8 +2,7 @@ ghost use Rattle.std.specs.Prelude.{◌≡◌, Err, OnErr};
 ghost use Rattle.brk_money.specs.declared.fault.Fault.TheVariants.{Store};
 ghost use Rattle.sqlite.specs.Held.{state};
 ghost use Rattle.brk_rows.specs.Model.{IsStep};
-ghost use Rattle.brk_model.specs.Tables.{no_rows};
-ghost use Rattle.brk_tables_form.specs.Made.{HasRows, MakesFour};
+ghost use Rattle.brk_tables_form.specs.Made.{MakesDesk, MakesFour};
 ghost use Rattle.brk_tables_form.specs.Shapes as shape;
 
 use crate::calls::run;
@@ -126,10 +125,10 @@ fn make_last_tables<S: Alter>(tx: &mut Transaction<'_, S>) -> Result<(), Fault>
     run(tx, CASH_TRANSACTION, &[])
 }
 
-/// Makes the tables, empty but for the one row of DESK, beside whatever tables there are.
+/// Makes the tables, empty but for the one row of DESK, beside whatever tables there are, which keep their rows.
 pub fn make_tables<S: Alter>(tx: &mut Transaction<'_, S>) -> Result<(), Fault>
     ensures same_reference { tx.new.conn.ghost_name ≡ tx.old.conn.ghost_name }
-    ensures step { IsStep (state S.Store tx.old.conn.now) (state S.Store tx.new.conn.now) result (λ _ a b. HasRows no_rows b.now) }
+    ensures step { IsStep (state S.Store tx.old.conn.now) (state S.Store tx.new.conn.now) result (λ _ a b. MakesDesk a.now b.now) }
     ensures fault { OnErr result (result ≡ Err Store) }
 {
     make_first_tables(tx)?;

@@ -5,8 +5,7 @@ use Rattle.brk_rows.specs.Desk.{Founds}
 use Rattle.brk_rows.specs.Model.{Ran}
 use Rattle.brk_rows.proofs.Inside.{step_then}
 use Rattle.brk_tables_form.specs.Shapes.{desk_row, kept, broker, customer, account, permission, security, last_trade, charge, band, tax_rate, customer_tax, trade, history, request, holding, summary, holding_history, settlement, cash}
-use Rattle.brk_model.specs.Tables.{no_rows}
-use Rattle.brk_tables_form.specs.Made.{MakesFour, HasRows, desk_row_text}
+use Rattle.brk_tables_form.specs.Made.{MakesDesk, MakesFour, desk_row_text}
 use Rattle.brk_tables_form.proofs.Wide.{wide}
 use Rattle.brk_tables_form.proofs.Founding.{bare, founds_bare, founds_desk}
 use Rattle.brk_tables_form.proofs.making.make_tables.Goals as goal
@@ -40,4 +39,4 @@ returns-clause-step g c =
     let four = step_then a e f tt (Ok tt) (λ _ x y. First x.now b.now × Second b.now d.now × Third d.now y.now) (λ _ x y. Fourth x.now y.now) (λ _ x y. First x.now b.now × Second b.now d.now × Third d.now e.now × Fourth e.now y.now) (λ _ p q. (p.0, p.1, p.2, q)) three c.in_ok-make_trade_tables.ensures.step in
     let five = step_then a f h tt (Ok tt) (λ _ x y. First x.now b.now × Second b.now d.now × Third d.now e.now × Fourth e.now y.now) (λ _ x y. Fifth x.now y.now) (λ _ x y. Founds wide bare x.now y.now)
     (λ _ p q. founds_bare a.now b.now d.now e.now f.now h.now p.0 p.1 p.2 p.3 q) four c.in_ok-make_last_tables.ensures.step in
-    step_then a h k tt c.add_desk_row.result (λ _ x y. Founds wide bare x.now y.now) (λ _. Ran desk_row_text []) (λ _ _ y. HasRows no_rows y.now) (λ _ p ran. founds_desk a.now h k p ran) five c.add_desk_row.ensures.step
+    step_then a h k tt c.add_desk_row.result (λ _ x y. Founds wide bare x.now y.now) (λ _. Ran desk_row_text []) (λ _ x y. MakesDesk x.now y.now) (λ _ p ran. founds_desk a.now h k p ran) five c.add_desk_row.ensures.step

@@ -1,9 +1,9 @@
-use Rattle.std.proofs.Common.{◌≡◌, ◌∙◌, ◌<◌, ◌+◌, ◌++◌, ◌∷◌, [], Result, cond, ap, sym, subst, take, arith, vec_len}
+use Rattle.std.proofs.Common.{◌≡◌, ◌∙◌, ◌<◌, ◌+◌, ◌++◌, ◌∷◌, [], Result, cond, ap, sym, subst, take, arith, rules, vec_len}
 use Rattle.std.specs.Result.{IsOk, is_ok}
 use Rattle.std.specs.Vec.{vec_capacity}
-use Rattle.std.proofs.lemmas.List.{append_assoc, take_more}
+use Rattle.std.proofs.lemmas.List.{append-nil, append_assoc, take_more}
 use Rattle.brk_desk.specs.Keeping.{IsRun}
-use Rattle.brk_desk.proofs.Running.{runs_more}
+use Rattle.brk_desk.proofs.Running.{runs_more, runs_none}
 use Rattle.brk_desk.proofs.desk.Desk.run.Goals as goal
 
 went_in : {A B L : Type 0} (r : Result A B) (x y : L) → IsOk r → cond (is_ok r) x y ≡ x
@@ -28,3 +28,9 @@ loop-made-preserved g c =
       );
       room = (let r = c.loop-made.invariant.room in let u = c.push.ensures.upper_bound in let k = c.push.ensures.capacity in omega arith);
     }
+
+pub loop-made-init : goal.loop-made-init
+loop-made-init g c = record {
+  ran = ([], c.reserve.ensures.items ∙ sym (append-nil c.args.out.now.items), runs_none g.S.Store c.args.self.now);
+  room = search rules;
+}
