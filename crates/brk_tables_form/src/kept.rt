@@ -1,12 +1,10 @@
-ghost use Rattle.std.specs.Prelude.{◌≡◌, ◌==◌, ◌&&◌, Err, IfOk, OnErr, bytes_eq, find, option_map, slice_get};
+ghost use Rattle.std.specs.Prelude.{◌≡◌, ◌==◌, ◌&&◌, Err, IfOk, OnErr, bytes_eq, option_map, slice_get};
 ghost use Rattle.brk_money.specs.declared.fault.Fault.TheVariants.{Store};
-ghost use Rattle.sqlite.specs.Held.{state};
-ghost use Rattle.brk_rows.specs.Desk.{Turns};
-ghost use Rattle.brk_rows.specs.Model.{IsStep, Looks};
 ghost use Rattle.brk_ref.specs.Records.{kept_of};
 ghost use Rattle.brk_changes.specs.Changes.{with_kept};
 ghost use Rattle.brk_tables_form.specs.Cells.{kept_cells};
-ghost use Rattle.brk_tables_form.specs.Desk.{desk};
+ghost use Rattle.brk_tables_form.specs.Desk.{KeptRows};
+ghost use Rattle.brk_tables_form.specs.Statements.{Finds, Writes};
 
 use crate::calls::{run, select};
 use crate::cells::{batch_name_in, has_columns, row_number_in, text_in};
@@ -18,7 +16,7 @@ use sqlite::{Alter, Row, Transaction};
 /// Adds an accepted row, whose key is new.
 pub fn add_kept<S: Alter>(tx: &mut Transaction<'_, S>, kept: &Kept) -> Result<(), Fault>
     ensures same_reference { tx.new.conn.ghost_name ≡ tx.old.conn.ghost_name }
-    ensures step { IsStep (state S.Store tx.old.conn.now) (state S.Store tx.new.conn.now) result (λ _ a b. Turns desk (with_kept (kept_of kept.now)) a.now b.now) }
+    ensures step { Writes S.Store tx.old tx.new result (with_kept (kept_of kept.now)) }
     ensures fault { OnErr result (result ≡ Err Store) }
 {
     run(
@@ -62,7 +60,7 @@ fn first_kept(rows: &[Row]) -> Result<Option<Kept>, Fault>
 /// The row that is kept under a key.
 pub fn kept_by_key<S: Alter>(tx: &mut Transaction<'_, S>, key: &Key) -> Result<Option<Kept>, Fault>
     ensures same_reference { tx.new.conn.ghost_name ≡ tx.old.conn.ghost_name }
-    ensures step { IsStep (state S.Store tx.old.conn.now) (state S.Store tx.new.conn.now) result (λ o. Looks desk (λ t. option_map kept_of o ≡ find (λ k. bytes_eq k.key.batch key.now.batch && (k.key.row == key.now.row)) t.kept)) }
+    ensures step { Finds S.Store tx.old tx.new result KeptRows kept_of (λ k. bytes_eq k.key.batch key.now.batch && (k.key.row == key.now.row)) }
     ensures fault { OnErr result (result ≡ Err Store) }
 {
     let rows = select(

@@ -1,14 +1,12 @@
-ghost use Rattle.std.specs.Prelude.{◌≡◌, ◌==◌, Err, IfErr, IfOk, OnErr, filter, find, map, option_map, slice_get};
+ghost use Rattle.std.specs.Prelude.{◌≡◌, ◌==◌, Err, IfErr, IfOk, OnErr, map, option_map, slice_get};
 ghost use Rattle.brk_money.specs.declared.fault.Fault.TheVariants.{Store};
-ghost use Rattle.sqlite.specs.Held.{state};
-ghost use Rattle.brk_rows.specs.Desk.{Turns};
-ghost use Rattle.brk_rows.specs.Model.{IsStep, Looks};
 ghost use Rattle.brk_model.specs.Run.{MayFail};
 ghost use Rattle.brk_ref.specs.Records.{account_of};
 ghost use Rattle.brk_changes.specs.Changes.{with_account};
 ghost use Rattle.brk_tables_form.specs.Cells.{account_cells};
-ghost use Rattle.brk_tables_form.specs.Desk.{desk};
 ghost use Rattle.brk_tables_form.specs.Records.{account_row_of};
+ghost use Rattle.brk_tables_form.specs.Desk.{Accounts};
+ghost use Rattle.brk_tables_form.specs.Statements.{Finds, Lists, Writes};
 
 use brk_money::{Fault, Id};
 use brk_ref::{Account, AccountRow};
@@ -21,7 +19,7 @@ use std::alloc::Global;
 /// Adds an account, whose balance is its opening.
 pub fn add_account<S: Alter>(tx: &mut Transaction<'_, S>, account: &Account) -> Result<(), Fault>
     ensures same_reference { tx.new.conn.ghost_name ≡ tx.old.conn.ghost_name }
-    ensures step { IsStep (state S.Store tx.old.conn.now) (state S.Store tx.new.conn.now) result (λ _ a b. Turns desk (with_account (account_of account.now)) a.now b.now) }
+    ensures step { Writes S.Store tx.old tx.new result (with_account (account_of account.now)) }
     ensures fault { OnErr result (result ≡ Err Store) }
 {
     run(
@@ -83,7 +81,7 @@ pub fn account_by_id<S: Alter>(
     id: Id,
 ) -> Result<Option<AccountRow>, Fault>
     ensures same_reference { tx.new.conn.ghost_name ≡ tx.old.conn.ghost_name }
-    ensures step { IsStep (state S.Store tx.old.conn.now) (state S.Store tx.new.conn.now) result (λ o. Looks desk (λ t. option_map account_row_of o ≡ find (λ r. r.id == id) t.accounts)) }
+    ensures step { Finds S.Store tx.old tx.new result Accounts account_row_of (λ r. r.id == id) }
     ensures fault { OnErr result (result ≡ Err Store) }
 {
     let rows = select(
@@ -101,7 +99,7 @@ pub fn accounts_of_customer<S: Alter>(
     customer: Id,
 ) -> Result<Vec<AccountRow>, Fault>
     ensures same_reference { tx.new.conn.ghost_name ≡ tx.old.conn.ghost_name }
-    ensures step { IsStep (state S.Store tx.old.conn.now) (state S.Store tx.new.conn.now) result (λ all. Looks desk (λ t. map account_row_of all.items ≡ filter (λ r. r.customer == customer) t.accounts)) }
+    ensures step { Lists S.Store tx.old tx.new result Accounts account_row_of (λ r. r.customer == customer) }
     ensures fault { IfErr result MayFail }
 {
     let rows = select(

@@ -1,14 +1,12 @@
-ghost use Rattle.std.specs.Prelude.{◌≡◌, ◌==◌, ◌&&◌, Err, IfErr, IfOk, OnErr, bytes_eq, filter, map};
+ghost use Rattle.std.specs.Prelude.{◌≡◌, ◌==◌, ◌&&◌, Err, IfErr, IfOk, OnErr, bytes_eq, map};
 ghost use Rattle.brk_money.specs.Kinds.{same_type};
 ghost use Rattle.brk_money.specs.declared.fault.Fault.TheVariants.{Store};
-ghost use Rattle.sqlite.specs.Held.{state};
-ghost use Rattle.brk_rows.specs.Desk.{Turns};
-ghost use Rattle.brk_rows.specs.Model.{IsStep, Looks};
 ghost use Rattle.brk_model.specs.Run.{MayFail};
 ghost use Rattle.brk_ref.specs.Records.{band_of};
 ghost use Rattle.brk_changes.specs.Changes.{with_band};
 ghost use Rattle.brk_tables_form.specs.Cells.{band_cells};
-ghost use Rattle.brk_tables_form.specs.Desk.{desk};
+ghost use Rattle.brk_tables_form.specs.Desk.{Bands};
+ghost use Rattle.brk_tables_form.specs.Statements.{Lists, Writes};
 
 use brk_money::{Fault, TradeType};
 use brk_ref::{Band, Exchange, Tier};
@@ -21,7 +19,7 @@ use std::alloc::Global;
 /// Adds a band, whose tier, type, exchange and lower bound are new together.
 pub fn add_band<S: Alter>(tx: &mut Transaction<'_, S>, band: &Band) -> Result<(), Fault>
     ensures same_reference { tx.new.conn.ghost_name ≡ tx.old.conn.ghost_name }
-    ensures step { IsStep (state S.Store tx.old.conn.now) (state S.Store tx.new.conn.now) result (λ _ a b. Turns desk (with_band (band_of band.now)) a.now b.now) }
+    ensures step { Writes S.Store tx.old tx.new result (with_band (band_of band.now)) }
     ensures fault { OnErr result (result ≡ Err Store) }
 {
     run(
@@ -73,7 +71,7 @@ pub fn bands_for<S: Alter>(
     exchange: &Exchange,
 ) -> Result<Vec<Band>, Fault>
     ensures same_reference { tx.new.conn.ghost_name ≡ tx.old.conn.ghost_name }
-    ensures step { IsStep (state S.Store tx.old.conn.now) (state S.Store tx.new.conn.now) result (λ all. Looks desk (λ t. map band_of all.items ≡ filter (λ r. (r.tier == tier) && same_type r.kind kind && bytes_eq r.exchange exchange.now) t.bands)) }
+    ensures step { Lists S.Store tx.old tx.new result Bands band_of (λ r. (r.tier == tier) && same_type r.kind kind && bytes_eq r.exchange exchange.now) }
     ensures fault { IfErr result MayFail }
 {
     let rows = select(

@@ -1,13 +1,11 @@
-ghost use Rattle.std.specs.Prelude.{◌≡◌, ◌==◌, Err, IfOk, OnErr, find, option_map, slice_get};
+ghost use Rattle.std.specs.Prelude.{◌≡◌, ◌==◌, Err, IfOk, OnErr, option_map, slice_get};
 ghost use Rattle.brk_money.specs.declared.fault.Fault.TheVariants.{Store};
-ghost use Rattle.sqlite.specs.Held.{state};
-ghost use Rattle.brk_rows.specs.Desk.{Turns};
-ghost use Rattle.brk_rows.specs.Model.{IsStep, Looks};
 ghost use Rattle.brk_ref.specs.Records.{broker_of};
 ghost use Rattle.brk_changes.specs.Changes.{with_broker};
 ghost use Rattle.brk_tables_form.specs.Cells.{broker_cells};
-ghost use Rattle.brk_tables_form.specs.Desk.{desk};
 ghost use Rattle.brk_tables_form.specs.Records.{broker_row_of};
+ghost use Rattle.brk_tables_form.specs.Desk.{Brokers};
+ghost use Rattle.brk_tables_form.specs.Statements.{Finds, Writes};
 
 use brk_money::{Fault, Id};
 use brk_ref::{Broker, BrokerRow};
@@ -19,7 +17,7 @@ use sqlite::{Alter, Row, Transaction};
 /// Adds a broker, with no trades and no commissions yet.
 pub fn add_broker<S: Alter>(tx: &mut Transaction<'_, S>, broker: &Broker) -> Result<(), Fault>
     ensures same_reference { tx.new.conn.ghost_name ≡ tx.old.conn.ghost_name }
-    ensures step { IsStep (state S.Store tx.old.conn.now) (state S.Store tx.new.conn.now) result (λ _ a b. Turns desk (with_broker (broker_of broker.now)) a.now b.now) }
+    ensures step { Writes S.Store tx.old tx.new result (with_broker (broker_of broker.now)) }
     ensures fault { OnErr result (result ≡ Err Store) }
 {
     run(
@@ -60,7 +58,7 @@ pub fn broker_by_id<S: Alter>(
     id: Id,
 ) -> Result<Option<BrokerRow>, Fault>
     ensures same_reference { tx.new.conn.ghost_name ≡ tx.old.conn.ghost_name }
-    ensures step { IsStep (state S.Store tx.old.conn.now) (state S.Store tx.new.conn.now) result (λ o. Looks desk (λ t. option_map broker_row_of o ≡ find (λ r. r.id == id) t.brokers)) }
+    ensures step { Finds S.Store tx.old tx.new result Brokers broker_row_of (λ r. r.id == id) }
     ensures fault { OnErr result (result ≡ Err Store) }
 {
     let rows = select(

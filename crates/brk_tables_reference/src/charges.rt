@@ -1,13 +1,11 @@
-ghost use Rattle.std.specs.Prelude.{◌≡◌, ◌==◌, ◌&&◌, Err, IfOk, OnErr, find, option_map, slice_get};
+ghost use Rattle.std.specs.Prelude.{◌≡◌, ◌==◌, ◌&&◌, Err, IfOk, OnErr, option_map, slice_get};
 ghost use Rattle.brk_money.specs.Kinds.{same_type};
 ghost use Rattle.brk_money.specs.declared.fault.Fault.TheVariants.{Store};
-ghost use Rattle.sqlite.specs.Held.{state};
-ghost use Rattle.brk_rows.specs.Desk.{Turns};
-ghost use Rattle.brk_rows.specs.Model.{IsStep, Looks};
 ghost use Rattle.brk_ref.specs.Records.{charge_of};
 ghost use Rattle.brk_changes.specs.Changes.{with_charge};
 ghost use Rattle.brk_tables_form.specs.Cells.{charge_cells};
-ghost use Rattle.brk_tables_form.specs.Desk.{desk};
+ghost use Rattle.brk_tables_form.specs.Desk.{Charges};
+ghost use Rattle.brk_tables_form.specs.Statements.{Finds, Writes};
 
 use brk_money::{Fault, TradeType};
 use brk_ref::{Charge, Tier};
@@ -19,7 +17,7 @@ use sqlite::{Alter, Row, Transaction};
 /// Adds a charge, whose type and tier are new together.
 pub fn add_charge<S: Alter>(tx: &mut Transaction<'_, S>, charge: &Charge) -> Result<(), Fault>
     ensures same_reference { tx.new.conn.ghost_name ≡ tx.old.conn.ghost_name }
-    ensures step { IsStep (state S.Store tx.old.conn.now) (state S.Store tx.new.conn.now) result (λ _ a b. Turns desk (with_charge (charge_of charge.now)) a.now b.now) }
+    ensures step { Writes S.Store tx.old tx.new result (with_charge (charge_of charge.now)) }
     ensures fault { OnErr result (result ≡ Err Store) }
 {
     run(
@@ -62,7 +60,7 @@ pub fn charge_by_key<S: Alter>(
     tier: Tier,
 ) -> Result<Option<Charge>, Fault>
     ensures same_reference { tx.new.conn.ghost_name ≡ tx.old.conn.ghost_name }
-    ensures step { IsStep (state S.Store tx.old.conn.now) (state S.Store tx.new.conn.now) result (λ o. Looks desk (λ t. option_map charge_of o ≡ find (λ r. same_type r.kind kind && (r.tier == tier)) t.charges)) }
+    ensures step { Finds S.Store tx.old tx.new result Charges charge_of (λ r. same_type r.kind kind && (r.tier == tier)) }
     ensures fault { OnErr result (result ≡ Err Store) }
 {
     let rows = select(

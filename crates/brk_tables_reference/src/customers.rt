@@ -1,12 +1,10 @@
-ghost use Rattle.std.specs.Prelude.{◌≡◌, ◌==◌, Err, IfOk, OnErr, bytes_eq, find, option_map, slice_get};
+ghost use Rattle.std.specs.Prelude.{◌≡◌, ◌==◌, Err, IfOk, OnErr, bytes_eq, option_map, slice_get};
 ghost use Rattle.brk_money.specs.declared.fault.Fault.TheVariants.{Store};
-ghost use Rattle.sqlite.specs.Held.{state};
-ghost use Rattle.brk_rows.specs.Desk.{Turns};
-ghost use Rattle.brk_rows.specs.Model.{IsStep, Looks};
 ghost use Rattle.brk_ref.specs.Records.{customer_of};
 ghost use Rattle.brk_changes.specs.Changes.{with_customer};
 ghost use Rattle.brk_tables_form.specs.Cells.{customer_cells};
-ghost use Rattle.brk_tables_form.specs.Desk.{desk};
+ghost use Rattle.brk_tables_form.specs.Desk.{Customers};
+ghost use Rattle.brk_tables_form.specs.Statements.{Finds, Writes};
 
 use brk_money::{Fault, Id};
 use brk_ref::{Customer, TaxId};
@@ -18,7 +16,7 @@ use sqlite::{Alter, Row, Transaction};
 /// Adds a customer, whose id and tax id are new.
 pub fn add_customer<S: Alter>(tx: &mut Transaction<'_, S>, customer: &Customer) -> Result<(), Fault>
     ensures same_reference { tx.new.conn.ghost_name ≡ tx.old.conn.ghost_name }
-    ensures step { IsStep (state S.Store tx.old.conn.now) (state S.Store tx.new.conn.now) result (λ _ a b. Turns desk (with_customer (customer_of customer.now)) a.now b.now) }
+    ensures step { Writes S.Store tx.old tx.new result (with_customer (customer_of customer.now)) }
     ensures fault { OnErr result (result ≡ Err Store) }
 {
     run(
@@ -64,7 +62,7 @@ pub fn customer_by_id<S: Alter>(
     id: Id,
 ) -> Result<Option<Customer>, Fault>
     ensures same_reference { tx.new.conn.ghost_name ≡ tx.old.conn.ghost_name }
-    ensures step { IsStep (state S.Store tx.old.conn.now) (state S.Store tx.new.conn.now) result (λ o. Looks desk (λ t. option_map customer_of o ≡ find (λ r. r.id == id) t.customers)) }
+    ensures step { Finds S.Store tx.old tx.new result Customers customer_of (λ r. r.id == id) }
     ensures fault { OnErr result (result ≡ Err Store) }
 {
     let rows = select(
@@ -81,7 +79,7 @@ pub fn customer_by_tax_id<S: Alter>(
     tax_id: &TaxId,
 ) -> Result<Option<Customer>, Fault>
     ensures same_reference { tx.new.conn.ghost_name ≡ tx.old.conn.ghost_name }
-    ensures step { IsStep (state S.Store tx.old.conn.now) (state S.Store tx.new.conn.now) result (λ o. Looks desk (λ t. option_map customer_of o ≡ find (λ r. bytes_eq r.tax_id tax_id.now) t.customers)) }
+    ensures step { Finds S.Store tx.old tx.new result Customers customer_of (λ r. bytes_eq r.tax_id tax_id.now) }
     ensures fault { OnErr result (result ≡ Err Store) }
 {
     let rows = select(

@@ -1,12 +1,10 @@
-ghost use Rattle.std.specs.Prelude.{◌≡◌, ◌==◌, ◌&&◌, Err, IfOk, OnErr, bytes_eq, find, option_map, slice_get};
+ghost use Rattle.std.specs.Prelude.{◌≡◌, ◌==◌, ◌&&◌, Err, IfOk, OnErr, bytes_eq, option_map, slice_get};
 ghost use Rattle.brk_money.specs.declared.fault.Fault.TheVariants.{Store};
-ghost use Rattle.sqlite.specs.Held.{state};
-ghost use Rattle.brk_rows.specs.Desk.{Turns};
-ghost use Rattle.brk_rows.specs.Model.{IsStep, Looks};
 ghost use Rattle.brk_ref.specs.Records.{permission_of};
 ghost use Rattle.brk_changes.specs.Changes.{with_permission};
 ghost use Rattle.brk_tables_form.specs.Cells.{permission_cells};
-ghost use Rattle.brk_tables_form.specs.Desk.{desk};
+ghost use Rattle.brk_tables_form.specs.Desk.{Permissions};
+ghost use Rattle.brk_tables_form.specs.Statements.{Finds, Writes};
 
 use brk_money::{Fault, Id};
 use brk_ref::{Permission, TaxId};
@@ -21,7 +19,7 @@ pub fn add_permission<S: Alter>(
     permission: &Permission,
 ) -> Result<(), Fault>
     ensures same_reference { tx.new.conn.ghost_name ≡ tx.old.conn.ghost_name }
-    ensures step { IsStep (state S.Store tx.old.conn.now) (state S.Store tx.new.conn.now) result (λ _ a b. Turns desk (with_permission (permission_of permission.now)) a.now b.now) }
+    ensures step { Writes S.Store tx.old tx.new result (with_permission (permission_of permission.now)) }
     ensures fault { OnErr result (result ≡ Err Store) }
 {
     run(
@@ -68,7 +66,7 @@ pub fn permission_by_key<S: Alter>(
     tax_id: &TaxId,
 ) -> Result<Option<Permission>, Fault>
     ensures same_reference { tx.new.conn.ghost_name ≡ tx.old.conn.ghost_name }
-    ensures step { IsStep (state S.Store tx.old.conn.now) (state S.Store tx.new.conn.now) result (λ o. Looks desk (λ t. option_map permission_of o ≡ find (λ r. (r.account == account) && bytes_eq r.tax_id tax_id.now) t.permissions)) }
+    ensures step { Finds S.Store tx.old tx.new result Permissions permission_of (λ r. (r.account == account) && bytes_eq r.tax_id tax_id.now) }
     ensures fault { OnErr result (result ≡ Err Store) }
 {
     let rows = select(

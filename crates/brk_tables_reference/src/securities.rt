@@ -1,12 +1,10 @@
-ghost use Rattle.std.specs.Prelude.{◌≡◌, Err, IfOk, OnErr, bytes_eq, find, option_map, slice_get};
+ghost use Rattle.std.specs.Prelude.{◌≡◌, Err, IfOk, OnErr, bytes_eq, option_map, slice_get};
 ghost use Rattle.brk_money.specs.declared.fault.Fault.TheVariants.{Store};
-ghost use Rattle.sqlite.specs.Held.{state};
-ghost use Rattle.brk_rows.specs.Desk.{Turns};
-ghost use Rattle.brk_rows.specs.Model.{IsStep, Looks};
 ghost use Rattle.brk_ref.specs.Records.{security_of, last_trade_of};
 ghost use Rattle.brk_changes.specs.Changes.{with_security, with_last_trade};
 ghost use Rattle.brk_tables_form.specs.Cells.{security_cells};
-ghost use Rattle.brk_tables_form.specs.Desk.{desk};
+ghost use Rattle.brk_tables_form.specs.Desk.{Securities};
+ghost use Rattle.brk_tables_form.specs.Statements.{Finds, Writes};
 
 use brk_money::Fault;
 use brk_ref::{LastTrade, Security, Symbol};
@@ -18,7 +16,7 @@ use sqlite::{Alter, Row, Transaction};
 /// Adds a security, whose symbol is new. Its last trade is a row of its own.
 pub fn add_security<S: Alter>(tx: &mut Transaction<'_, S>, security: &Security) -> Result<(), Fault>
     ensures same_reference { tx.new.conn.ghost_name ≡ tx.old.conn.ghost_name }
-    ensures step { IsStep (state S.Store tx.old.conn.now) (state S.Store tx.new.conn.now) result (λ _ a b. Turns desk (with_security (security_of security.now)) a.now b.now) }
+    ensures step { Writes S.Store tx.old tx.new result (with_security (security_of security.now)) }
     ensures fault { OnErr result (result ≡ Err Store) }
 {
     run(
@@ -39,7 +37,7 @@ pub fn add_last_trade<S: Alter>(
     last_trade: &LastTrade,
 ) -> Result<(), Fault>
     ensures same_reference { tx.new.conn.ghost_name ≡ tx.old.conn.ghost_name }
-    ensures step { IsStep (state S.Store tx.old.conn.now) (state S.Store tx.new.conn.now) result (λ _ a b. Turns desk (with_last_trade (last_trade_of last_trade.now)) a.now b.now) }
+    ensures step { Writes S.Store tx.old tx.new result (with_last_trade (last_trade_of last_trade.now)) }
     ensures fault { OnErr result (result ≡ Err Store) }
 {
     run(
@@ -83,7 +81,7 @@ pub fn security_by_symbol<S: Alter>(
     symbol: &Symbol,
 ) -> Result<Option<Security>, Fault>
     ensures same_reference { tx.new.conn.ghost_name ≡ tx.old.conn.ghost_name }
-    ensures step { IsStep (state S.Store tx.old.conn.now) (state S.Store tx.new.conn.now) result (λ o. Looks desk (λ t. option_map security_of o ≡ find (λ r. bytes_eq r.symbol symbol.now) t.securities)) }
+    ensures step { Finds S.Store tx.old tx.new result Securities security_of (λ r. bytes_eq r.symbol symbol.now) }
     ensures fault { OnErr result (result ≡ Err Store) }
 {
     let rows = select(

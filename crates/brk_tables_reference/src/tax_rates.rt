@@ -1,13 +1,11 @@
-ghost use Rattle.std.specs.Prelude.{◌≡◌, ◌==◌, ◌&&◌, Err, IfErr, IfOk, OnErr, filter, find, map, option_map, slice_get};
+ghost use Rattle.std.specs.Prelude.{◌≡◌, ◌==◌, ◌&&◌, Err, IfErr, IfOk, OnErr, map, option_map, slice_get};
 ghost use Rattle.brk_money.specs.declared.fault.Fault.TheVariants.{Store};
-ghost use Rattle.sqlite.specs.Held.{state};
-ghost use Rattle.brk_rows.specs.Desk.{Turns};
-ghost use Rattle.brk_rows.specs.Model.{IsStep, Looks};
 ghost use Rattle.brk_model.specs.Run.{MayFail};
 ghost use Rattle.brk_ref.specs.Records.{tax_of, customer_tax_of};
 ghost use Rattle.brk_changes.specs.Changes.{with_tax_rate, with_customer_tax};
 ghost use Rattle.brk_tables_form.specs.Cells.{customer_tax_cells, tax_rate_cells};
-ghost use Rattle.brk_tables_form.specs.Desk.{desk};
+ghost use Rattle.brk_tables_form.specs.Desk.{CustomerTaxes, TaxRates};
+ghost use Rattle.brk_tables_form.specs.Statements.{Finds, Lists, Writes};
 
 use brk_money::{Fault, Id};
 use brk_ref::{CustomerTax, Tax};
@@ -20,7 +18,7 @@ use std::alloc::Global;
 /// Adds a tax with its rate, whose id is new.
 pub fn add_tax_rate<S: Alter>(tx: &mut Transaction<'_, S>, tax: &Tax) -> Result<(), Fault>
     ensures same_reference { tx.new.conn.ghost_name ≡ tx.old.conn.ghost_name }
-    ensures step { IsStep (state S.Store tx.old.conn.now) (state S.Store tx.new.conn.now) result (λ _ a b. Turns desk (with_tax_rate (tax_of tax.now)) a.now b.now) }
+    ensures step { Writes S.Store tx.old tx.new result (with_tax_rate (tax_of tax.now)) }
     ensures fault { OnErr result (result ≡ Err Store) }
 {
     run(
@@ -40,7 +38,7 @@ pub fn add_customer_tax<S: Alter>(
     pays: &CustomerTax,
 ) -> Result<(), Fault>
     ensures same_reference { tx.new.conn.ghost_name ≡ tx.old.conn.ghost_name }
-    ensures step { IsStep (state S.Store tx.old.conn.now) (state S.Store tx.new.conn.now) result (λ _ a b. Turns desk (with_customer_tax (customer_tax_of pays.now)) a.now b.now) }
+    ensures step { Writes S.Store tx.old tx.new result (with_customer_tax (customer_tax_of pays.now)) }
     ensures fault { OnErr result (result ≡ Err Store) }
 {
     run(
@@ -75,7 +73,7 @@ fn first_tax(rows: &[Row]) -> Result<Option<Tax>, Fault>
 /// The tax with an id.
 pub fn tax_rate_by_id<S: Alter>(tx: &mut Transaction<'_, S>, id: Id) -> Result<Option<Tax>, Fault>
     ensures same_reference { tx.new.conn.ghost_name ≡ tx.old.conn.ghost_name }
-    ensures step { IsStep (state S.Store tx.old.conn.now) (state S.Store tx.new.conn.now) result (λ o. Looks desk (λ t. option_map tax_of o ≡ find (λ r. r.id == id) t.tax_rates)) }
+    ensures step { Finds S.Store tx.old tx.new result TaxRates tax_of (λ r. r.id == id) }
     ensures fault { OnErr result (result ≡ Err Store) }
 {
     let rows = select(
@@ -125,7 +123,7 @@ pub fn customer_tax_by_key<S: Alter>(
     tax: Id,
 ) -> Result<Option<CustomerTax>, Fault>
     ensures same_reference { tx.new.conn.ghost_name ≡ tx.old.conn.ghost_name }
-    ensures step { IsStep (state S.Store tx.old.conn.now) (state S.Store tx.new.conn.now) result (λ o. Looks desk (λ t. option_map customer_tax_of o ≡ find (λ r. (r.customer == customer) && (r.tax == tax)) t.customer_taxes)) }
+    ensures step { Finds S.Store tx.old tx.new result CustomerTaxes customer_tax_of (λ r. (r.customer == customer) && (r.tax == tax)) }
     ensures fault { OnErr result (result ≡ Err Store) }
 {
     let rows = select(
@@ -143,7 +141,7 @@ pub fn customer_taxes_of<S: Alter>(
     customer: Id,
 ) -> Result<Vec<CustomerTax>, Fault>
     ensures same_reference { tx.new.conn.ghost_name ≡ tx.old.conn.ghost_name }
-    ensures step { IsStep (state S.Store tx.old.conn.now) (state S.Store tx.new.conn.now) result (λ all. Looks desk (λ t. map customer_tax_of all.items ≡ filter (λ r. r.customer == customer) t.customer_taxes)) }
+    ensures step { Lists S.Store tx.old tx.new result CustomerTaxes customer_tax_of (λ r. r.customer == customer) }
     ensures fault { IfErr result MayFail }
 {
     let rows = select(

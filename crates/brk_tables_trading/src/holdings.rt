@@ -1,13 +1,12 @@
 //! What accounts hold: their lots, and how many shares of each security in all.
 
-ghost use Rattle.std.specs.Prelude.{◌≡◌, ◌==◌, ◌&&◌, Err, IfErr, IfOk, OnErr, bytes_eq, filter, find, map, option_map, slice_get};
+ghost use Rattle.std.specs.Prelude.{◌≡◌, ◌==◌, ◌&&◌, Err, IfErr, IfOk, OnErr, bytes_eq, filter, map, option_map, slice_get};
 ghost use Rattle.brk_money.specs.declared.fault.Fault.TheVariants.{Store};
-ghost use Rattle.sqlite.specs.Held.{state};
-ghost use Rattle.brk_rows.specs.Model.{IsStep, Looks};
 ghost use Rattle.brk_model.specs.Run.{MayFail};
 ghost use Rattle.brk_tables_form.specs.Cells.{holding_cells, summary_cells};
-ghost use Rattle.brk_tables_form.specs.Desk.{desk};
 ghost use Rattle.brk_changes.specs.Rows.{holding_row_of, oldest_lots_first, summary_row_of};
+ghost use Rattle.brk_tables_form.specs.Desk.{Summaries};
+ghost use Rattle.brk_tables_form.specs.Statements.{Finds, Lists, Reads};
 
 use brk_changes::{HoldingRow, SummaryRow};
 use brk_money::{Fault, Id};
@@ -52,7 +51,7 @@ pub fn lots_of<S: Alter>(
     symbol: &Symbol,
 ) -> Result<Vec<HoldingRow>, Fault>
     ensures same_reference { tx.new.conn.ghost_name ≡ tx.old.conn.ghost_name }
-    ensures step { IsStep (state S.Store tx.old.conn.now) (state S.Store tx.new.conn.now) result (λ all. Looks desk (λ t. map holding_row_of all.items ≡ oldest_lots_first (filter (λ r. (r.account == account) && bytes_eq r.symbol symbol.now) t.holdings))) }
+    ensures step { Reads S.Store tx.old tx.new result (λ all t. map holding_row_of all.items ≡ oldest_lots_first (filter (λ r. (r.account == account) && bytes_eq r.symbol symbol.now) t.holdings)) }
     ensures fault { IfErr result MayFail }
 {
     let rows = select(
@@ -93,7 +92,7 @@ pub fn summaries_of<S: Alter>(
     account: Id,
 ) -> Result<Vec<SummaryRow>, Fault>
     ensures same_reference { tx.new.conn.ghost_name ≡ tx.old.conn.ghost_name }
-    ensures step { IsStep (state S.Store tx.old.conn.now) (state S.Store tx.new.conn.now) result (λ all. Looks desk (λ t. map summary_row_of all.items ≡ filter (λ r. r.account == account) t.summaries)) }
+    ensures step { Lists S.Store tx.old tx.new result Summaries summary_row_of (λ r. r.account == account) }
     ensures fault { IfErr result MayFail }
 {
     let rows = select(
@@ -121,7 +120,7 @@ pub fn summary_of<S: Alter>(
     symbol: &Symbol,
 ) -> Result<Option<SummaryRow>, Fault>
     ensures same_reference { tx.new.conn.ghost_name ≡ tx.old.conn.ghost_name }
-    ensures step { IsStep (state S.Store tx.old.conn.now) (state S.Store tx.new.conn.now) result (λ o. Looks desk (λ t. option_map summary_row_of o ≡ find (λ r. (r.account == account) && bytes_eq r.symbol symbol.now) t.summaries)) }
+    ensures step { Finds S.Store tx.old tx.new result Summaries summary_row_of (λ r. (r.account == account) && bytes_eq r.symbol symbol.now) }
     ensures fault { OnErr result (result ≡ Err Store) }
 {
     let rows = select(

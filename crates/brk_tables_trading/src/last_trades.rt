@@ -1,12 +1,10 @@
-ghost use Rattle.std.specs.Prelude.{◌≡◌, Err, IfOk, OnErr, bytes_eq, find, option_map, slice_get};
+ghost use Rattle.std.specs.Prelude.{◌≡◌, Err, IfOk, OnErr, bytes_eq, option_map, slice_get};
 ghost use Rattle.brk_money.specs.declared.fault.Fault.TheVariants.{Store};
-ghost use Rattle.sqlite.specs.Held.{state};
-ghost use Rattle.brk_rows.specs.Desk.{Turns};
-ghost use Rattle.brk_rows.specs.Model.{IsStep, Looks};
 ghost use Rattle.brk_ref.specs.Records.{last_trade_of};
 ghost use Rattle.brk_tables_form.specs.Cells.{last_trade_cells};
-ghost use Rattle.brk_tables_form.specs.Desk.{desk};
 ghost use Rattle.brk_changes.specs.Changes.{with_last_trade_set};
+ghost use Rattle.brk_tables_form.specs.Desk.{LastTrades};
+ghost use Rattle.brk_tables_form.specs.Statements.{Finds, Writes};
 
 use brk_money::Fault;
 use brk_ref::{LastTrade, Symbol};
@@ -21,7 +19,7 @@ pub fn set_last_trade<S: Alter>(
     last_trade: &LastTrade,
 ) -> Result<(), Fault>
     ensures same_reference { tx.new.conn.ghost_name ≡ tx.old.conn.ghost_name }
-    ensures step { IsStep (state S.Store tx.old.conn.now) (state S.Store tx.new.conn.now) result (λ _ a b. Turns desk (with_last_trade_set (last_trade_of last_trade.now)) a.now b.now) }
+    ensures step { Writes S.Store tx.old tx.new result (with_last_trade_set (last_trade_of last_trade.now)) }
     ensures fault { OnErr result (result ≡ Err Store) }
 {
     run(
@@ -65,7 +63,7 @@ pub fn last_trade_by_symbol<S: Alter>(
     symbol: &Symbol,
 ) -> Result<Option<LastTrade>, Fault>
     ensures same_reference { tx.new.conn.ghost_name ≡ tx.old.conn.ghost_name }
-    ensures step { IsStep (state S.Store tx.old.conn.now) (state S.Store tx.new.conn.now) result (λ o. Looks desk (λ t. option_map last_trade_of o ≡ find (λ r. bytes_eq r.symbol symbol.now) t.last_trades)) }
+    ensures step { Finds S.Store tx.old tx.new result LastTrades last_trade_of (λ r. bytes_eq r.symbol symbol.now) }
     ensures fault { OnErr result (result ≡ Err Store) }
 {
     let rows = select(

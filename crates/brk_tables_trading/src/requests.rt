@@ -1,13 +1,11 @@
-ghost use Rattle.std.specs.Prelude.{◌≡◌, Err, IfErr, IfOk, OnErr, bytes_eq, filter, map};
+ghost use Rattle.std.specs.Prelude.{◌≡◌, Err, IfErr, IfOk, OnErr, bytes_eq, map};
 ghost use Rattle.brk_money.specs.declared.fault.Fault.TheVariants.{Store};
-ghost use Rattle.sqlite.specs.Held.{state};
-ghost use Rattle.brk_rows.specs.Desk.{Turns};
-ghost use Rattle.brk_rows.specs.Model.{IsStep, Looks};
 ghost use Rattle.brk_model.specs.Run.{MayFail};
 ghost use Rattle.brk_tables_form.specs.Cells.{request_cells};
-ghost use Rattle.brk_tables_form.specs.Desk.{desk};
 ghost use Rattle.brk_changes.specs.Changes.{with_request, without_request};
 ghost use Rattle.brk_changes.specs.Rows.{request_row_of};
+ghost use Rattle.brk_tables_form.specs.Desk.{Requests};
+ghost use Rattle.brk_tables_form.specs.Statements.{Lists, Writes};
 
 use brk_changes::RequestRow;
 use brk_money::{Fault, Id};
@@ -21,7 +19,7 @@ use std::alloc::Global;
 /// Adds the request of a trade, which has none yet.
 pub fn add_request<S: Alter>(tx: &mut Transaction<'_, S>, request: &RequestRow) -> Result<(), Fault>
     ensures same_reference { tx.new.conn.ghost_name ≡ tx.old.conn.ghost_name }
-    ensures step { IsStep (state S.Store tx.old.conn.now) (state S.Store tx.new.conn.now) result (λ _ a b. Turns desk (with_request (request_row_of request.now)) a.now b.now) }
+    ensures step { Writes S.Store tx.old tx.new result (with_request (request_row_of request.now)) }
     ensures fault { OnErr result (result ≡ Err Store) }
 {
     run(
@@ -41,7 +39,7 @@ pub fn add_request<S: Alter>(tx: &mut Transaction<'_, S>, request: &RequestRow) 
 /// Takes the request of a trade away.
 pub fn remove_request<S: Alter>(tx: &mut Transaction<'_, S>, trade: Id) -> Result<(), Fault>
     ensures same_reference { tx.new.conn.ghost_name ≡ tx.old.conn.ghost_name }
-    ensures step { IsStep (state S.Store tx.old.conn.now) (state S.Store tx.new.conn.now) result (λ _ a b. Turns desk (without_request trade) a.now b.now) }
+    ensures step { Writes S.Store tx.old tx.new result (without_request trade) }
     ensures fault { OnErr result (result ≡ Err Store) }
 {
     run(
@@ -84,7 +82,7 @@ pub fn requests_of<S: Alter>(
     symbol: &Symbol,
 ) -> Result<Vec<RequestRow>, Fault>
     ensures same_reference { tx.new.conn.ghost_name ≡ tx.old.conn.ghost_name }
-    ensures step { IsStep (state S.Store tx.old.conn.now) (state S.Store tx.new.conn.now) result (λ all. Looks desk (λ t. map request_row_of all.items ≡ filter (λ r. bytes_eq r.symbol symbol.now) t.requests)) }
+    ensures step { Lists S.Store tx.old tx.new result Requests request_row_of (λ r. bytes_eq r.symbol symbol.now) }
     ensures fault { IfErr result MayFail }
 {
     let rows = select(

@@ -1,15 +1,13 @@
-ghost use Rattle.std.specs.Prelude.{◌≡◌, ◌==◌, ◌∷◌, [], Err, IfErr, IfOk, OnErr, filter, find, map, option_map, reverse, slice_get};
+ghost use Rattle.std.specs.Prelude.{◌≡◌, ◌==◌, ◌∷◌, [], Err, IfErr, IfOk, OnErr, map, option_map, reverse, slice_get};
 ghost use Rattle.brk_money.specs.Kinds.{same_status};
 ghost use Rattle.brk_money.specs.declared.fault.Fault.TheVariants.{Store};
 ghost use Rattle.brk_money.specs.declared.status.Status.TheVariants.{Submitted};
-ghost use Rattle.sqlite.specs.Held.{state};
-ghost use Rattle.brk_rows.specs.Desk.{Turns};
-ghost use Rattle.brk_rows.specs.Model.{IsStep, Looks};
 ghost use Rattle.brk_model.specs.Run.{MayFail};
 ghost use Rattle.brk_tables_form.specs.Cells.{nat, trade_cells};
-ghost use Rattle.brk_tables_form.specs.Desk.{desk};
 ghost use Rattle.brk_changes.specs.Changes.{with_completion, with_status, with_trade};
 ghost use Rattle.brk_changes.specs.Rows.{trade_row_of};
+ghost use Rattle.brk_tables_form.specs.Desk.{Trades};
+ghost use Rattle.brk_tables_form.specs.Statements.{Finds, Lists, Reads, Writes};
 
 use brk_changes::{Amount, TradeRow};
 use brk_money::{Fault, Id, Price, Stamp, Status};
@@ -28,7 +26,7 @@ use std::alloc::Global;
 /// Adds a trade, whose id is new.
 pub fn add_trade<S: Alter>(tx: &mut Transaction<'_, S>, trade: &TradeRow) -> Result<(), Fault>
     ensures same_reference { tx.new.conn.ghost_name ≡ tx.old.conn.ghost_name }
-    ensures step { IsStep (state S.Store tx.old.conn.now) (state S.Store tx.new.conn.now) result (λ _ a b. Turns desk (with_trade (trade_row_of trade.now)) a.now b.now) }
+    ensures step { Writes S.Store tx.old tx.new result (with_trade (trade_row_of trade.now)) }
     ensures fault { OnErr result (result ≡ Err Store) }
 {
     run(
@@ -62,7 +60,7 @@ pub fn set_status<S: Alter>(
     stamp: Stamp,
 ) -> Result<(), Fault>
     ensures same_reference { tx.new.conn.ghost_name ≡ tx.old.conn.ghost_name }
-    ensures step { IsStep (state S.Store tx.old.conn.now) (state S.Store tx.new.conn.now) result (λ _ a b. Turns desk (with_status id status stamp) a.now b.now) }
+    ensures step { Writes S.Store tx.old tx.new result (with_status id status stamp) }
     ensures fault { OnErr result (result ≡ Err Store) }
 {
     run(
@@ -82,7 +80,7 @@ pub fn complete_trade<S: Alter>(
     tax: Amount,
 ) -> Result<(), Fault>
     ensures same_reference { tx.new.conn.ghost_name ≡ tx.old.conn.ghost_name }
-    ensures step { IsStep (state S.Store tx.old.conn.now) (state S.Store tx.new.conn.now) result (λ _ a b. Turns desk (with_completion trade stamp price commission tax) a.now b.now) }
+    ensures step { Writes S.Store tx.old tx.new result (with_completion trade stamp price commission tax) }
     ensures fault { OnErr result (result ≡ Err Store) }
 {
     run(
@@ -136,7 +134,7 @@ fn first_trade(rows: &[Row]) -> Result<Option<TradeRow>, Fault>
 /// The trade with an id.
 pub fn trade_by_id<S: Alter>(tx: &mut Transaction<'_, S>, id: Id) -> Result<Option<TradeRow>, Fault>
     ensures same_reference { tx.new.conn.ghost_name ≡ tx.old.conn.ghost_name }
-    ensures step { IsStep (state S.Store tx.old.conn.now) (state S.Store tx.new.conn.now) result (λ o. Looks desk (λ t. option_map trade_row_of o ≡ find (λ r. r.id == id) t.trades)) }
+    ensures step { Finds S.Store tx.old tx.new result Trades trade_row_of (λ r. r.id == id) }
     ensures fault { OnErr result (result ≡ Err Store) }
 {
     let rows = select(
@@ -168,7 +166,7 @@ fn first_id(rows: &[Row]) -> Result<Option<Id>, Fault>
 /// The greatest id of a trade, where there is a trade.
 pub fn last_trade_id<S: Alter>(tx: &mut Transaction<'_, S>) -> Result<Option<Id>, Fault>
     ensures same_reference { tx.new.conn.ghost_name ≡ tx.old.conn.ghost_name }
-    ensures step { IsStep (state S.Store tx.old.conn.now) (state S.Store tx.new.conn.now) result (λ o. Looks desk (λ t. o ≡ option_map (λ r. r.id) (slice_get (reverse t.trades) 0))) }
+    ensures step { Reads S.Store tx.old tx.new result (λ o t. o ≡ option_map (λ r. r.id) (slice_get (reverse t.trades) 0)) }
     ensures fault { OnErr result (result ≡ Err Store) }
 {
     let rows = select(tx, "SELECT T_ID FROM TRADE ORDER BY T_ID DESC LIMIT 1", &[])?;
@@ -192,7 +190,7 @@ pub fn submitted_trades<S: Alter>(
     alloc: Global,
 ) -> Result<Vec<TradeRow>, Fault>
     ensures same_reference { tx.new.conn.ghost_name ≡ tx.old.conn.ghost_name }
-    ensures step { IsStep (state S.Store tx.old.conn.now) (state S.Store tx.new.conn.now) result (λ all. Looks desk (λ t. map trade_row_of all.items ≡ filter (λ r. same_status r.status Submitted) t.trades)) }
+    ensures step { Lists S.Store tx.old tx.new result Trades trade_row_of (λ r. same_status r.status Submitted) }
     ensures fault { IfErr result MayFail }
 {
     let rows = select(
