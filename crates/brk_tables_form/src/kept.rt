@@ -1,4 +1,4 @@
-ghost use Rattle.std.specs.Prelude.{◌≡◌, ◌==◌, ◌&&◌, Err, IfOk, OnErr, bytes_eq, option_map, slice_get};
+ghost use Rattle.std.specs.Prelude.{◌≡◌, ◌==◌, ◌&&◌, Err, OnErr, bytes_eq};
 ghost use Rattle.brk_money.specs.declared.fault.Fault.TheVariants.{Store};
 ghost use Rattle.brk_ref.specs.Records.{kept_of};
 ghost use Rattle.brk_changes.specs.Changes.{with_kept};
@@ -8,6 +8,7 @@ ghost use Rattle.brk_tables_form.specs.Statements.{Finds, Writes};
 
 use crate::calls::{run, select};
 use crate::cells::{batch_name_in, has_columns, row_number_in, text_in};
+use crate::record::{Record, first_row};
 use crate::values::{row_number_value, text_value};
 use brk_money::Fault;
 use brk_ref::{Kept, Key};
@@ -31,29 +32,20 @@ pub fn add_kept<S: Alter>(tx: &mut Transaction<'_, S>, kept: &Kept) -> Result<()
     )
 }
 
-fn kept_in(row: &Row) -> Result<Kept, Fault>
-    ensures value { IfOk result (λ r. kept_cells (kept_of r) ≡ row.now) }
-    ensures fault { OnErr result (result ≡ Err Store) }
-{
-    has_columns(row, 4)?;
-    let key = Key {
-        batch: batch_name_in(row, 0)?,
-        row: row_number_in(row, 1)?,
-    };
-    Ok(Kept {
-        key,
-        row_text: text_in(row, 2)?,
-        line: text_in(row, 3)?,
-    })
-}
+impl Record for Kept {
+    ghost cells = { λ r. kept_cells (kept_of r) };
 
-fn first_kept(rows: &[Row]) -> Result<Option<Kept>, Fault>
-    ensures value { IfOk result (λ o. option_map (λ r. kept_cells (kept_of r)) o ≡ slice_get rows.now 0) }
-    ensures fault { OnErr result (result ≡ Err Store) }
-{
-    match rows.first() {
-        Some(row) => Ok(Some(kept_in(row)?)),
-        None => Ok(None),
+    fn from_row(row: &Row) -> Result<Kept, Fault> {
+        has_columns(row, 4)?;
+        let key = Key {
+            batch: batch_name_in(row, 0)?,
+            row: row_number_in(row, 1)?,
+        };
+        Ok(Kept {
+            key,
+            row_text: text_in(row, 2)?,
+            line: text_in(row, 3)?,
+        })
     }
 }
 
@@ -68,5 +60,5 @@ pub fn kept_by_key<S: Alter>(tx: &mut Transaction<'_, S>, key: &Key) -> Result<O
         "SELECT K_BATCH, K_N, K_ROW, K_LINE FROM KEPT WHERE K_BATCH = ?1 AND K_N = ?2 ORDER BY K_BATCH, K_N",
         &[text_value(key.batch.as_str()), row_number_value(key.row)],
     )?;
-    first_kept(&rows)
+    first_row(&rows)
 }

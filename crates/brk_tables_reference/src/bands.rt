@@ -1,19 +1,18 @@
-ghost use Rattle.std.specs.Prelude.{◌≡◌, ◌==◌, ◌&&◌, Err, IfErr, IfOk, OnErr, bytes_eq, map};
+ghost use Rattle.std.specs.Prelude.{◌≡◌, ◌==◌, ◌&&◌, Err, IfErr, OnErr, bytes_eq};
 ghost use Rattle.brk_money.specs.Kinds.{same_type};
 ghost use Rattle.brk_money.specs.declared.fault.Fault.TheVariants.{Store};
 ghost use Rattle.brk_model.specs.Run.{MayFail};
 ghost use Rattle.brk_ref.specs.Records.{band_of};
 ghost use Rattle.brk_changes.specs.Changes.{with_band};
-ghost use Rattle.brk_tables_form.specs.Cells.{band_cells};
 ghost use Rattle.brk_tables_form.specs.Desk.{Bands};
 ghost use Rattle.brk_tables_form.specs.Statements.{Lists, Writes};
 
 use brk_money::{Fault, TradeType};
 use brk_ref::{Band, Exchange, Tier};
 use brk_tables_form::calls::{run, select};
-use brk_tables_form::cells::{exchange_in, has_columns, qty_in, rate_in, tier_in, type_in};
+use brk_tables_form::record::all_rows;
 use brk_tables_form::values::{qty_value, rate_value, text_value, tier_value, type_value};
-use sqlite::{Alter, Row, Transaction};
+use sqlite::{Alter, Transaction};
 use std::alloc::Global;
 
 /// Adds a band, whose tier, type, exchange and lower bound are new together.
@@ -34,32 +33,6 @@ pub fn add_band<S: Alter>(tx: &mut Transaction<'_, S>, band: &Band) -> Result<()
             rate_value(band.rate),
         ],
     )
-}
-
-fn band_in(row: &Row) -> Result<Band, Fault>
-    ensures value { IfOk result (λ r. band_cells (band_of r) ≡ row.now) }
-    ensures fault { OnErr result (result ≡ Err Store) }
-{
-    has_columns(row, 6)?;
-    Ok(Band {
-        tier: tier_in(row, 0)?,
-        kind: type_in(row, 1)?,
-        exchange: exchange_in(row, 2)?,
-        from_qty: qty_in(row, 3)?,
-        to_qty: qty_in(row, 4)?,
-        rate: rate_in(row, 5)?,
-    })
-}
-
-fn all_bands(alloc: Global, rows: &[Row]) -> Result<Vec<Band>, Fault>
-    ensures value { IfOk result (λ all. map (λ r. band_cells (band_of r)) all.items ≡ rows.now) }
-    ensures fault { IfErr result MayFail }
-{
-    let mut all = Vec::new(alloc);
-    for row in rows {
-        all.push(band_in(row)?)?;
-    }
-    Ok(all)
 }
 
 /// The bands of a tier, a type and an exchange, by rising lower bound.
@@ -83,5 +56,5 @@ pub fn bands_for<S: Alter>(
             text_value(exchange.as_str()),
         ],
     )?;
-    all_bands(alloc, &rows)
+    all_rows(alloc, &rows)
 }

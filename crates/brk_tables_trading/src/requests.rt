@@ -1,7 +1,6 @@
-ghost use Rattle.std.specs.Prelude.{◌≡◌, Err, IfErr, IfOk, OnErr, bytes_eq, map};
+ghost use Rattle.std.specs.Prelude.{◌≡◌, Err, IfErr, OnErr, bytes_eq};
 ghost use Rattle.brk_money.specs.declared.fault.Fault.TheVariants.{Store};
 ghost use Rattle.brk_model.specs.Run.{MayFail};
-ghost use Rattle.brk_tables_form.specs.Cells.{request_cells};
 ghost use Rattle.brk_changes.specs.Changes.{with_request, without_request};
 ghost use Rattle.brk_changes.specs.Rows.{request_row_of};
 ghost use Rattle.brk_tables_form.specs.Desk.{Requests};
@@ -11,9 +10,9 @@ use brk_changes::RequestRow;
 use brk_money::{Fault, Id};
 use brk_ref::Symbol;
 use brk_tables_form::calls::{run, select};
-use brk_tables_form::cells::{has_columns, id_in, price_in, qty_in, symbol_in, type_in};
+use brk_tables_form::record::all_rows;
 use brk_tables_form::values::{id_value, price_value, qty_value, text_value, type_value};
-use sqlite::{Alter, Row, Transaction};
+use sqlite::{Alter, Transaction};
 use std::alloc::Global;
 
 /// Adds the request of a trade, which has none yet.
@@ -49,32 +48,6 @@ pub fn remove_request<S: Alter>(tx: &mut Transaction<'_, S>, trade: Id) -> Resul
     )
 }
 
-fn request_in(row: &Row) -> Result<RequestRow, Fault>
-    ensures value { IfOk result (λ r. request_cells (request_row_of r) ≡ row.now) }
-    ensures fault { OnErr result (result ≡ Err Store) }
-{
-    has_columns(row, 6)?;
-    Ok(RequestRow {
-        trade: id_in(row, 0)?,
-        kind: type_in(row, 1)?,
-        symbol: symbol_in(row, 2)?,
-        qty: qty_in(row, 3)?,
-        bid: price_in(row, 4)?,
-        broker: id_in(row, 5)?,
-    })
-}
-
-fn all_requests(alloc: Global, rows: &[Row]) -> Result<Vec<RequestRow>, Fault>
-    ensures value { IfOk result (λ all. map (λ r. request_cells (request_row_of r)) all.items ≡ rows.now) }
-    ensures fault { IfErr result MayFail }
-{
-    let mut all = Vec::new(alloc);
-    for row in rows {
-        all.push(request_in(row)?)?;
-    }
-    Ok(all)
-}
-
 /// The requests of a symbol, by rising trade.
 pub fn requests_of<S: Alter>(
     tx: &mut Transaction<'_, S>,
@@ -90,5 +63,5 @@ pub fn requests_of<S: Alter>(
         "SELECT TR_T_ID, TR_TT_ID, TR_S_SYMB, TR_QTY, TR_BID_PRICE, TR_B_ID FROM TRADE_REQUEST WHERE TR_S_SYMB = ?1 ORDER BY TR_T_ID",
         &[text_value(symbol.as_str())],
     )?;
-    all_requests(alloc, &rows)
+    all_rows(alloc, &rows)
 }
