@@ -9,7 +9,7 @@ ghost use Rattle.sqlite.specs.Effect.{IsDatabase};
 ghost use Rattle.sqlite.specs.Held.{state};
 ghost use Rattle.sqlite.specs.State.{HasCleanDisk};
 ghost use Rattle.brk_rows.specs.Rows.{climbs_from, IsSheet};
-ghost use Rattle.brk_rows.specs.Model.{IsStep};
+ghost use Rattle.brk_rows.specs.Model.{Steps};
 ghost use Rattle.brk_rows.specs.Desk.{Probes};
 
 use sqlite::{Alter, Connection, Error, Row, Transaction};
@@ -63,7 +63,7 @@ pub fn reopened<S: Alter + Drop>(
 /// Whether a text is understood, or names a table that is not there. It runs nothing.
 pub fn is_understood<S: Alter>(tx: &mut Transaction<'_, S>, text: &str) -> Result<bool, Error>
     ensures same_reference { tx.new.conn.ghost_name ≡ tx.old.conn.ghost_name }
-    ensures step { IsStep (state S.Store tx.old.conn.now) (state S.Store tx.new.conn.now) result (λ has old new. (new.now ≡ old.now) × Probes text.now has old.now.schema) }
+    ensures step { Steps S.Store tx.old tx.new result (λ has old new. (new.now ≡ old.now) × Probes text.now has old.now.schema) }
 {
     match tx.prepare(text) {
         Ok(_) => Ok(true),

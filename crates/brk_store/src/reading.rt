@@ -1,11 +1,13 @@
 //! Each read in a transaction of its own, which is rolled back.
 
-ghost use Rattle.std.specs.Prelude.{◌≡◌, ◌==◌, Err, IfErr, OnErr, bytes_eq, false, filter, find, map, option_map};
+ghost use Rattle.std.specs.Prelude.{◌≡◌, ◌==◌, Err, IfErr, OnErr, bytes_eq, false};
 ghost use Rattle.brk_money.specs.declared.fault.Fault.TheVariants as fault;
 ghost use Rattle.brk_model.specs.Run.{MayFail};
 ghost use Rattle.brk_ref.specs.Records.{customer_of};
 ghost use Rattle.brk_tables_form.specs.Records.{account_row_of, broker_row_of};
 ghost use Rattle.brk_store.specs.Holds.{IsRead};
+ghost use Rattle.brk_tables_form.specs.Desk.{Accounts, Brokers, Customers};
+ghost use Rattle.brk_tables_form.specs.Statements.{Found, Listed};
 
 use brk_money::{Fault, Id, Stamp};
 use brk_ref::{AccountRow, BrokerRow, Customer, TaxId};
@@ -29,7 +31,7 @@ pub(crate) fn read_broker<S: Alter>(
 ) -> Result<Option<BrokerRow>, Fault>
     requires { conn.old.in_transaction ≡ false }
     ensures mode { conn.new.in_transaction ≡ false }
-    ensures read { IsRead S.Store conn.old conn.new result (λ o t. option_map broker_row_of o ≡ find (λ r. r.id == id) t.brokers) }
+    ensures read { IsRead S.Store conn.old conn.new result (Found Brokers broker_row_of (λ r. r.id == id)) }
     ensures fault { OnErr result (result ≡ Err fault.Store) }
 {
     let _settled = conn.is_autocommit();
@@ -43,7 +45,7 @@ pub(crate) fn read_customer<S: Alter>(
 ) -> Result<Option<Customer>, Fault>
     requires { conn.old.in_transaction ≡ false }
     ensures mode { conn.new.in_transaction ≡ false }
-    ensures read { IsRead S.Store conn.old conn.new result (λ o t. option_map customer_of o ≡ find (λ r. r.id == id) t.customers) }
+    ensures read { IsRead S.Store conn.old conn.new result (Found Customers customer_of (λ r. r.id == id)) }
     ensures fault { OnErr result (result ≡ Err fault.Store) }
 {
     let _settled = conn.is_autocommit();
@@ -57,7 +59,7 @@ pub(crate) fn read_customer_by_tax_id<S: Alter>(
 ) -> Result<Option<Customer>, Fault>
     requires { conn.old.in_transaction ≡ false }
     ensures mode { conn.new.in_transaction ≡ false }
-    ensures read { IsRead S.Store conn.old conn.new result (λ o t. option_map customer_of o ≡ find (λ r. bytes_eq r.tax_id tax_id.now) t.customers) }
+    ensures read { IsRead S.Store conn.old conn.new result (Found Customers customer_of (λ r. bytes_eq r.tax_id tax_id.now)) }
     ensures fault { OnErr result (result ≡ Err fault.Store) }
 {
     let _settled = conn.is_autocommit();
@@ -71,7 +73,7 @@ pub(crate) fn read_account<S: Alter>(
 ) -> Result<Option<AccountRow>, Fault>
     requires { conn.old.in_transaction ≡ false }
     ensures mode { conn.new.in_transaction ≡ false }
-    ensures read { IsRead S.Store conn.old conn.new result (λ o t. option_map account_row_of o ≡ find (λ r. r.id == id) t.accounts) }
+    ensures read { IsRead S.Store conn.old conn.new result (Found Accounts account_row_of (λ r. r.id == id)) }
     ensures fault { OnErr result (result ≡ Err fault.Store) }
 {
     let _settled = conn.is_autocommit();
@@ -86,7 +88,7 @@ pub(crate) fn read_accounts_of<S: Alter>(
 ) -> Result<Vec<AccountRow>, Fault>
     requires { conn.old.in_transaction ≡ false }
     ensures mode { conn.new.in_transaction ≡ false }
-    ensures read { IsRead S.Store conn.old conn.new result (λ all t. map account_row_of all.items ≡ filter (λ r. r.customer == customer) t.accounts) }
+    ensures read { IsRead S.Store conn.old conn.new result (Listed Accounts account_row_of (λ r. r.customer == customer)) }
     ensures fault { IfErr result MayFail }
 {
     let _settled = conn.is_autocommit();

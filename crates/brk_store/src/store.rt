@@ -60,6 +60,8 @@ impl<S: Alter> Store<S> {
     ghost use Rattle.brk_changes.specs.Rows.{holding_row_of, oldest_lots_first, request_row_of, summary_row_of, trade_row_of};
     ghost use Rattle.brk_store.specs.Holds.{IsApplied, IsCreated, IsRead};
     ghost use Rattle.brk_store.specs.Numbers.{AreNumbers};
+    ghost use Rattle.brk_tables_form.specs.Desk.{Accounts, Bands, Brokers, Charges, CustomerTaxes, Customers, KeptRows, LastTrades, Permissions, Requests, Securities, Summaries, TaxRates, Trades};
+    ghost use Rattle.brk_tables_form.specs.Statements.{Found, Listed};
 
     /// Makes the tables of a desk in a database that has none of them, whatever others it has, which keep their rows, or
     /// answers `Damaged(NotEmpty)` where it has one of them. At a fault the database is as it was, and the connection
@@ -96,7 +98,7 @@ impl<S: Alter> Store<S> {
 
     /// The broker with an id.
     pub fn broker(&mut self, id: Id) -> Result<Option<BrokerRow>, Fault>
-        ensures read { IsRead S.Store self.old self.new result (λ o t. option_map broker_row_of o ≡ find (λ r. r.id == id) t.brokers) }
+        ensures read { IsRead S.Store self.old self.new result (Found Brokers broker_row_of (λ r. r.id == id)) }
         ensures fault { OnErr result (result ≡ Err fault.Store) }
     {
         read_broker(&mut self.conn, id)
@@ -112,7 +114,7 @@ impl<S: Alter> Store<S> {
 
     /// The customer with an id.
     pub fn customer(&mut self, id: Id) -> Result<Option<Customer>, Fault>
-        ensures read { IsRead S.Store self.old self.new result (λ o t. option_map customer_of o ≡ find (λ r. r.id == id) t.customers) }
+        ensures read { IsRead S.Store self.old self.new result (Found Customers customer_of (λ r. r.id == id)) }
         ensures fault { OnErr result (result ≡ Err fault.Store) }
     {
         read_customer(&mut self.conn, id)
@@ -120,7 +122,7 @@ impl<S: Alter> Store<S> {
 
     /// The customer with a tax id.
     pub fn customer_by_tax_id(&mut self, tax_id: &TaxId) -> Result<Option<Customer>, Fault>
-        ensures read { IsRead S.Store self.old self.new result (λ o t. option_map customer_of o ≡ find (λ r. bytes_eq r.tax_id tax_id.now) t.customers) }
+        ensures read { IsRead S.Store self.old self.new result (Found Customers customer_of (λ r. bytes_eq r.tax_id tax_id.now)) }
         ensures fault { OnErr result (result ≡ Err fault.Store) }
     {
         read_customer_by_tax_id(&mut self.conn, tax_id)
@@ -128,7 +130,7 @@ impl<S: Alter> Store<S> {
 
     /// The account with an id.
     pub fn account(&mut self, id: Id) -> Result<Option<AccountRow>, Fault>
-        ensures read { IsRead S.Store self.old self.new result (λ o t. option_map account_row_of o ≡ find (λ r. r.id == id) t.accounts) }
+        ensures read { IsRead S.Store self.old self.new result (Found Accounts account_row_of (λ r. r.id == id)) }
         ensures fault { OnErr result (result ≡ Err fault.Store) }
     {
         read_account(&mut self.conn, id)
@@ -144,7 +146,7 @@ impl<S: Alter> Store<S> {
 
     /// The accounts of a customer, by rising id.
     pub fn accounts_of(&mut self, alloc: Global, customer: Id) -> Result<Vec<AccountRow>, Fault>
-        ensures read { IsRead S.Store self.old self.new result (λ all t. map account_row_of all.items ≡ filter (λ r. r.customer == customer) t.accounts) }
+        ensures read { IsRead S.Store self.old self.new result (Listed Accounts account_row_of (λ r. r.customer == customer)) }
         ensures fault { IfErr result MayFail }
     {
         read_accounts_of(&mut self.conn, alloc, customer)
@@ -152,7 +154,7 @@ impl<S: Alter> Store<S> {
 
     /// The permission of an account for a tax id.
     pub fn permission(&mut self, account: Id, tax_id: &TaxId) -> Result<Option<Permission>, Fault>
-        ensures read { IsRead S.Store self.old self.new result (λ o t. option_map permission_of o ≡ find (λ r. (r.account == account) && bytes_eq r.tax_id tax_id.now) t.permissions) }
+        ensures read { IsRead S.Store self.old self.new result (Found Permissions permission_of (λ r. (r.account == account) && bytes_eq r.tax_id tax_id.now)) }
         ensures fault { OnErr result (result ≡ Err fault.Store) }
     {
         read_permission(&mut self.conn, account, tax_id)
@@ -160,7 +162,7 @@ impl<S: Alter> Store<S> {
 
     /// The security with a symbol.
     pub fn security(&mut self, symbol: &Symbol) -> Result<Option<Security>, Fault>
-        ensures read { IsRead S.Store self.old self.new result (λ o t. option_map security_of o ≡ find (λ r. bytes_eq r.symbol symbol.now) t.securities) }
+        ensures read { IsRead S.Store self.old self.new result (Found Securities security_of (λ r. bytes_eq r.symbol symbol.now)) }
         ensures fault { OnErr result (result ≡ Err fault.Store) }
     {
         read_security(&mut self.conn, symbol)
@@ -168,7 +170,7 @@ impl<S: Alter> Store<S> {
 
     /// The charge of a type and a tier.
     pub fn charge(&mut self, kind: TradeType, tier: Tier) -> Result<Option<Charge>, Fault>
-        ensures read { IsRead S.Store self.old self.new result (λ o t. option_map charge_of o ≡ find (λ r. same_type r.kind kind && (r.tier == tier)) t.charges) }
+        ensures read { IsRead S.Store self.old self.new result (Found Charges charge_of (λ r. same_type r.kind kind && (r.tier == tier))) }
         ensures fault { OnErr result (result ≡ Err fault.Store) }
     {
         read_charge(&mut self.conn, kind, tier)
@@ -182,7 +184,7 @@ impl<S: Alter> Store<S> {
         kind: TradeType,
         exchange: &Exchange,
     ) -> Result<Vec<Band>, Fault>
-        ensures read { IsRead S.Store self.old self.new result (λ all t. map band_of all.items ≡ filter (λ r. (r.tier == tier) && same_type r.kind kind && bytes_eq r.exchange exchange.now) t.bands) }
+        ensures read { IsRead S.Store self.old self.new result (Listed Bands band_of (λ r. (r.tier == tier) && same_type r.kind kind && bytes_eq r.exchange exchange.now)) }
         ensures fault { IfErr result MayFail }
     {
         read_bands_for(&mut self.conn, alloc, tier, kind, exchange)
@@ -190,7 +192,7 @@ impl<S: Alter> Store<S> {
 
     /// The tax with an id.
     pub fn tax_rate(&mut self, id: Id) -> Result<Option<Tax>, Fault>
-        ensures read { IsRead S.Store self.old self.new result (λ o t. option_map tax_of o ≡ find (λ r. r.id == id) t.tax_rates) }
+        ensures read { IsRead S.Store self.old self.new result (Found TaxRates tax_of (λ r. r.id == id)) }
         ensures fault { OnErr result (result ≡ Err fault.Store) }
     {
         read_tax_rate(&mut self.conn, id)
@@ -198,7 +200,7 @@ impl<S: Alter> Store<S> {
 
     /// The row of a customer and a tax, where the customer pays it.
     pub fn customer_tax(&mut self, customer: Id, tax: Id) -> Result<Option<CustomerTax>, Fault>
-        ensures read { IsRead S.Store self.old self.new result (λ o t. option_map customer_tax_of o ≡ find (λ r. (r.customer == customer) && (r.tax == tax)) t.customer_taxes) }
+        ensures read { IsRead S.Store self.old self.new result (Found CustomerTaxes customer_tax_of (λ r. (r.customer == customer) && (r.tax == tax))) }
         ensures fault { OnErr result (result ≡ Err fault.Store) }
     {
         read_customer_tax(&mut self.conn, customer, tax)
@@ -210,7 +212,7 @@ impl<S: Alter> Store<S> {
         alloc: Global,
         customer: Id,
     ) -> Result<Vec<CustomerTax>, Fault>
-        ensures read { IsRead S.Store self.old self.new result (λ all t. map customer_tax_of all.items ≡ filter (λ r. r.customer == customer) t.customer_taxes) }
+        ensures read { IsRead S.Store self.old self.new result (Listed CustomerTaxes customer_tax_of (λ r. r.customer == customer)) }
         ensures fault { IfErr result MayFail }
     {
         read_customer_taxes_of(&mut self.conn, alloc, customer)
@@ -218,7 +220,7 @@ impl<S: Alter> Store<S> {
 
     /// The row that is kept under a key.
     pub fn kept(&mut self, key: &Key) -> Result<Option<Kept>, Fault>
-        ensures read { IsRead S.Store self.old self.new result (λ o t. option_map kept_of o ≡ find (λ k. bytes_eq k.key.batch key.now.batch && (k.key.row == key.now.row)) t.kept) }
+        ensures read { IsRead S.Store self.old self.new result (Found KeptRows kept_of (λ k. bytes_eq k.key.batch key.now.batch && (k.key.row == key.now.row))) }
         ensures fault { OnErr result (result ≡ Err fault.Store) }
     {
         read_kept(&mut self.conn, key)
@@ -226,7 +228,7 @@ impl<S: Alter> Store<S> {
 
     /// The trade with an id.
     pub fn trade(&mut self, id: Id) -> Result<Option<TradeRow>, Fault>
-        ensures read { IsRead S.Store self.old self.new result (λ o t. option_map trade_row_of o ≡ find (λ r. r.id == id) t.trades) }
+        ensures read { IsRead S.Store self.old self.new result (Found Trades trade_row_of (λ r. r.id == id)) }
         ensures fault { OnErr result (result ≡ Err fault.Store) }
     {
         read_trade(&mut self.conn, id)
@@ -242,7 +244,7 @@ impl<S: Alter> Store<S> {
 
     /// The trades that are at the market, by rising id.
     pub fn submitted_trades(&mut self, alloc: Global) -> Result<Vec<TradeRow>, Fault>
-        ensures read { IsRead S.Store self.old self.new result (λ all t. map trade_row_of all.items ≡ filter (λ r. same_status r.status Submitted) t.trades) }
+        ensures read { IsRead S.Store self.old self.new result (Listed Trades trade_row_of (λ r. same_status r.status Submitted)) }
         ensures fault { IfErr result MayFail }
     {
         read_submitted_trades(&mut self.conn, alloc)
@@ -250,7 +252,7 @@ impl<S: Alter> Store<S> {
 
     /// The requests of a symbol, by rising trade.
     pub fn requests_of(&mut self, alloc: Global, symbol: &Symbol) -> Result<Vec<RequestRow>, Fault>
-        ensures read { IsRead S.Store self.old self.new result (λ all t. map request_row_of all.items ≡ filter (λ r. bytes_eq r.symbol symbol.now) t.requests) }
+        ensures read { IsRead S.Store self.old self.new result (Listed Requests request_row_of (λ r. bytes_eq r.symbol symbol.now)) }
         ensures fault { IfErr result MayFail }
     {
         read_requests_of(&mut self.conn, alloc, symbol)
@@ -258,7 +260,7 @@ impl<S: Alter> Store<S> {
 
     /// The last trade of the security with a symbol.
     pub fn last_trade(&mut self, symbol: &Symbol) -> Result<Option<LastTrade>, Fault>
-        ensures read { IsRead S.Store self.old self.new result (λ o t. option_map last_trade_of o ≡ find (λ r. bytes_eq r.symbol symbol.now) t.last_trades) }
+        ensures read { IsRead S.Store self.old self.new result (Found LastTrades last_trade_of (λ r. bytes_eq r.symbol symbol.now)) }
         ensures fault { OnErr result (result ≡ Err fault.Store) }
     {
         read_last_trade(&mut self.conn, symbol)
@@ -279,7 +281,7 @@ impl<S: Alter> Store<S> {
 
     /// How many shares an account holds of each security, by rising symbol.
     pub fn summaries_of(&mut self, alloc: Global, account: Id) -> Result<Vec<SummaryRow>, Fault>
-        ensures read { IsRead S.Store self.old self.new result (λ all t. map summary_row_of all.items ≡ filter (λ r. r.account == account) t.summaries) }
+        ensures read { IsRead S.Store self.old self.new result (Listed Summaries summary_row_of (λ r. r.account == account)) }
         ensures fault { IfErr result MayFail }
     {
         read_summaries_of(&mut self.conn, alloc, account)
@@ -287,7 +289,7 @@ impl<S: Alter> Store<S> {
 
     /// How many shares an account holds of a security, where it holds some.
     pub fn summary_of(&mut self, account: Id, symbol: &Symbol) -> Result<Option<SummaryRow>, Fault>
-        ensures read { IsRead S.Store self.old self.new result (λ o t. option_map summary_row_of o ≡ find (λ r. (r.account == account) && bytes_eq r.symbol symbol.now) t.summaries) }
+        ensures read { IsRead S.Store self.old self.new result (Found Summaries summary_row_of (λ r. (r.account == account) && bytes_eq r.symbol symbol.now)) }
         ensures fault { OnErr result (result ≡ Err fault.Store) }
     {
         read_summary_of(&mut self.conn, account, symbol)

@@ -1,12 +1,14 @@
 //! Each read of what is agreed (permissions, securities, charges, bands and taxes) in a transaction of its own, which is
 //! rolled back.
 
-ghost use Rattle.std.specs.Prelude.{◌≡◌, ◌==◌, ◌&&◌, false, Err, IfErr, OnErr, bytes_eq, filter, find, map, option_map};
+ghost use Rattle.std.specs.Prelude.{◌≡◌, ◌==◌, ◌&&◌, false, Err, IfErr, OnErr, bytes_eq};
 ghost use Rattle.brk_money.specs.Kinds.{same_type};
 ghost use Rattle.brk_money.specs.declared.fault.Fault.TheVariants.{Store};
 ghost use Rattle.brk_model.specs.Run.{MayFail};
 ghost use Rattle.brk_ref.specs.Records.{band_of, charge_of, customer_tax_of, permission_of, security_of, tax_of};
 ghost use Rattle.brk_store.specs.Holds.{IsRead};
+ghost use Rattle.brk_tables_form.specs.Desk.{Bands, Charges, CustomerTaxes, Permissions, Securities, TaxRates};
+ghost use Rattle.brk_tables_form.specs.Statements.{Found, Listed};
 
 use brk_money::{Fault, Id, TradeType};
 use brk_ref::{
@@ -22,7 +24,7 @@ pub(crate) fn read_permission<S: Alter>(
 ) -> Result<Option<Permission>, Fault>
     requires { conn.old.in_transaction ≡ false }
     ensures mode { conn.new.in_transaction ≡ false }
-    ensures read { IsRead S.Store conn.old conn.new result (λ o t. option_map permission_of o ≡ find (λ r. (r.account == account) && bytes_eq r.tax_id tax_id.now) t.permissions) }
+    ensures read { IsRead S.Store conn.old conn.new result (Found Permissions permission_of (λ r. (r.account == account) && bytes_eq r.tax_id tax_id.now)) }
     ensures fault { OnErr result (result ≡ Err Store) }
 {
     let _settled = conn.is_autocommit();
@@ -36,7 +38,7 @@ pub(crate) fn read_security<S: Alter>(
 ) -> Result<Option<Security>, Fault>
     requires { conn.old.in_transaction ≡ false }
     ensures mode { conn.new.in_transaction ≡ false }
-    ensures read { IsRead S.Store conn.old conn.new result (λ o t. option_map security_of o ≡ find (λ r. bytes_eq r.symbol symbol.now) t.securities) }
+    ensures read { IsRead S.Store conn.old conn.new result (Found Securities security_of (λ r. bytes_eq r.symbol symbol.now)) }
     ensures fault { OnErr result (result ≡ Err Store) }
 {
     let _settled = conn.is_autocommit();
@@ -51,7 +53,7 @@ pub(crate) fn read_charge<S: Alter>(
 ) -> Result<Option<Charge>, Fault>
     requires { conn.old.in_transaction ≡ false }
     ensures mode { conn.new.in_transaction ≡ false }
-    ensures read { IsRead S.Store conn.old conn.new result (λ o t. option_map charge_of o ≡ find (λ r. same_type r.kind kind && (r.tier == tier)) t.charges) }
+    ensures read { IsRead S.Store conn.old conn.new result (Found Charges charge_of (λ r. same_type r.kind kind && (r.tier == tier))) }
     ensures fault { OnErr result (result ≡ Err Store) }
 {
     let _settled = conn.is_autocommit();
@@ -68,7 +70,7 @@ pub(crate) fn read_bands_for<S: Alter>(
 ) -> Result<Vec<Band>, Fault>
     requires { conn.old.in_transaction ≡ false }
     ensures mode { conn.new.in_transaction ≡ false }
-    ensures read { IsRead S.Store conn.old conn.new result (λ all t. map band_of all.items ≡ filter (λ r. (r.tier == tier) && same_type r.kind kind && bytes_eq r.exchange exchange.now) t.bands) }
+    ensures read { IsRead S.Store conn.old conn.new result (Listed Bands band_of (λ r. (r.tier == tier) && same_type r.kind kind && bytes_eq r.exchange exchange.now)) }
     ensures fault { IfErr result MayFail }
 {
     let _settled = conn.is_autocommit();
@@ -82,7 +84,7 @@ pub(crate) fn read_tax_rate<S: Alter>(
 ) -> Result<Option<Tax>, Fault>
     requires { conn.old.in_transaction ≡ false }
     ensures mode { conn.new.in_transaction ≡ false }
-    ensures read { IsRead S.Store conn.old conn.new result (λ o t. option_map tax_of o ≡ find (λ r. r.id == id) t.tax_rates) }
+    ensures read { IsRead S.Store conn.old conn.new result (Found TaxRates tax_of (λ r. r.id == id)) }
     ensures fault { OnErr result (result ≡ Err Store) }
 {
     let _settled = conn.is_autocommit();
@@ -97,7 +99,7 @@ pub(crate) fn read_customer_tax<S: Alter>(
 ) -> Result<Option<CustomerTax>, Fault>
     requires { conn.old.in_transaction ≡ false }
     ensures mode { conn.new.in_transaction ≡ false }
-    ensures read { IsRead S.Store conn.old conn.new result (λ o t. option_map customer_tax_of o ≡ find (λ r. (r.customer == customer) && (r.tax == tax)) t.customer_taxes) }
+    ensures read { IsRead S.Store conn.old conn.new result (Found CustomerTaxes customer_tax_of (λ r. (r.customer == customer) && (r.tax == tax))) }
     ensures fault { OnErr result (result ≡ Err Store) }
 {
     let _settled = conn.is_autocommit();
@@ -112,7 +114,7 @@ pub(crate) fn read_customer_taxes_of<S: Alter>(
 ) -> Result<Vec<CustomerTax>, Fault>
     requires { conn.old.in_transaction ≡ false }
     ensures mode { conn.new.in_transaction ≡ false }
-    ensures read { IsRead S.Store conn.old conn.new result (λ all t. map customer_tax_of all.items ≡ filter (λ r. r.customer == customer) t.customer_taxes) }
+    ensures read { IsRead S.Store conn.old conn.new result (Listed CustomerTaxes customer_tax_of (λ r. r.customer == customer)) }
     ensures fault { IfErr result MayFail }
 {
     let _settled = conn.is_autocommit();

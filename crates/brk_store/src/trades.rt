@@ -1,6 +1,6 @@
 //! Reads of trades and of what follows from them, each in a transaction of its own, which is rolled back.
 
-ghost use Rattle.std.specs.Prelude.{◌≡◌, ◌==◌, ◌&&◌, Err, IfErr, OnErr, bytes_eq, false, filter, find, map, option_map, reverse, slice_get};
+ghost use Rattle.std.specs.Prelude.{◌≡◌, ◌==◌, ◌&&◌, Err, IfErr, OnErr, bytes_eq, false, filter, map, option_map, reverse, slice_get};
 ghost use Rattle.brk_money.specs.Kinds.{same_status};
 ghost use Rattle.brk_money.specs.declared.fault.Fault.TheVariants.{Store};
 ghost use Rattle.brk_money.specs.declared.status.Status.TheVariants.{Submitted};
@@ -8,6 +8,8 @@ ghost use Rattle.brk_model.specs.Run.{MayFail};
 ghost use Rattle.brk_ref.specs.Records.{last_trade_of};
 ghost use Rattle.brk_changes.specs.Rows.{holding_row_of, oldest_lots_first, request_row_of, summary_row_of, trade_row_of};
 ghost use Rattle.brk_store.specs.Holds.{IsRead};
+ghost use Rattle.brk_tables_form.specs.Desk.{LastTrades, Requests, Summaries, Trades};
+ghost use Rattle.brk_tables_form.specs.Statements.{Found, Listed};
 
 use brk_changes::{HoldingRow, RequestRow, SummaryRow, TradeRow};
 use brk_money::{Fault, Id};
@@ -21,7 +23,7 @@ pub(crate) fn read_trade<S: Alter>(
 ) -> Result<Option<TradeRow>, Fault>
     requires { conn.old.in_transaction ≡ false }
     ensures mode { conn.new.in_transaction ≡ false }
-    ensures read { IsRead S.Store conn.old conn.new result (λ o t. option_map trade_row_of o ≡ find (λ r. r.id == id) t.trades) }
+    ensures read { IsRead S.Store conn.old conn.new result (Found Trades trade_row_of (λ r. r.id == id)) }
     ensures fault { OnErr result (result ≡ Err Store) }
 {
     let _settled = conn.is_autocommit();
@@ -46,7 +48,7 @@ pub(crate) fn read_submitted_trades<S: Alter>(
 ) -> Result<Vec<TradeRow>, Fault>
     requires { conn.old.in_transaction ≡ false }
     ensures mode { conn.new.in_transaction ≡ false }
-    ensures read { IsRead S.Store conn.old conn.new result (λ all t. map trade_row_of all.items ≡ filter (λ r. same_status r.status Submitted) t.trades) }
+    ensures read { IsRead S.Store conn.old conn.new result (Listed Trades trade_row_of (λ r. same_status r.status Submitted)) }
     ensures fault { IfErr result MayFail }
 {
     let _settled = conn.is_autocommit();
@@ -61,7 +63,7 @@ pub(crate) fn read_requests_of<S: Alter>(
 ) -> Result<Vec<RequestRow>, Fault>
     requires { conn.old.in_transaction ≡ false }
     ensures mode { conn.new.in_transaction ≡ false }
-    ensures read { IsRead S.Store conn.old conn.new result (λ all t. map request_row_of all.items ≡ filter (λ r. bytes_eq r.symbol symbol.now) t.requests) }
+    ensures read { IsRead S.Store conn.old conn.new result (Listed Requests request_row_of (λ r. bytes_eq r.symbol symbol.now)) }
     ensures fault { IfErr result MayFail }
 {
     let _settled = conn.is_autocommit();
@@ -75,7 +77,7 @@ pub(crate) fn read_last_trade<S: Alter>(
 ) -> Result<Option<LastTrade>, Fault>
     requires { conn.old.in_transaction ≡ false }
     ensures mode { conn.new.in_transaction ≡ false }
-    ensures read { IsRead S.Store conn.old conn.new result (λ o t. option_map last_trade_of o ≡ find (λ r. bytes_eq r.symbol symbol.now) t.last_trades) }
+    ensures read { IsRead S.Store conn.old conn.new result (Found LastTrades last_trade_of (λ r. bytes_eq r.symbol symbol.now)) }
     ensures fault { OnErr result (result ≡ Err Store) }
 {
     let _settled = conn.is_autocommit();
@@ -106,7 +108,7 @@ pub(crate) fn read_summaries_of<S: Alter>(
 ) -> Result<Vec<SummaryRow>, Fault>
     requires { conn.old.in_transaction ≡ false }
     ensures mode { conn.new.in_transaction ≡ false }
-    ensures read { IsRead S.Store conn.old conn.new result (λ all t. map summary_row_of all.items ≡ filter (λ r. r.account == account) t.summaries) }
+    ensures read { IsRead S.Store conn.old conn.new result (Listed Summaries summary_row_of (λ r. r.account == account)) }
     ensures fault { IfErr result MayFail }
 {
     let _settled = conn.is_autocommit();
@@ -121,7 +123,7 @@ pub(crate) fn read_summary_of<S: Alter>(
 ) -> Result<Option<SummaryRow>, Fault>
     requires { conn.old.in_transaction ≡ false }
     ensures mode { conn.new.in_transaction ≡ false }
-    ensures read { IsRead S.Store conn.old conn.new result (λ o t. option_map summary_row_of o ≡ find (λ r. (r.account == account) && bytes_eq r.symbol symbol.now) t.summaries) }
+    ensures read { IsRead S.Store conn.old conn.new result (Found Summaries summary_row_of (λ r. (r.account == account) && bytes_eq r.symbol symbol.now)) }
     ensures fault { OnErr result (result ≡ Err Store) }
 {
     let _settled = conn.is_autocommit();

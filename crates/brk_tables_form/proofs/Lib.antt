@@ -16,3 +16,4 @@ pub mod DeskRows
 pub mod KeptByKey
 pub mod Steps
 pub mod Keeping
+pub mod TradeCells

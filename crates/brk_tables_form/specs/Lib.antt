@@ -4,3 +4,4 @@ pub mod Cells
 pub mod Desk
 pub mod Records
 pub mod Made
+pub mod Statements

@@ -2,13 +2,12 @@
 
 ghost use Rattle.std.specs.Prelude.{◌≡◌, Ok, None, Err, OnErr};
 ghost use Rattle.brk_money.specs.declared.fault.Fault.TheVariants.{Store};
-ghost use Rattle.sqlite.specs.Held.{state};
 ghost use Rattle.sqlite.specs.Listing.{understood};
 ghost use Rattle.sqlite.specs.Values.{bound};
 ghost use Rattle.sqlite_resolve.specs.declared.compiled.Compiled.{Compiled};
 ghost use Rattle.sqlite_schema.specs.declared.schema.Schema.{Schema};
 ghost use Rattle.brk_rows.specs.Desk.{Probes};
-ghost use Rattle.brk_rows.specs.Model.{IsStep, Ran, Selected};
+ghost use Rattle.brk_rows.specs.Model.{Ran, Selected, Steps};
 
 use brk_money::Fault;
 use sqlite::{Alter, Row, Transaction};
@@ -21,7 +20,7 @@ pub fn run<S: Alter>(
     params: &[ValueRef<'_>],
 ) -> Result<(), Fault>
     ensures same_reference { tx.new.conn.ghost_name ≡ tx.old.conn.ghost_name }
-    ensures step { IsStep (state S.Store tx.old.conn.now) (state S.Store tx.new.conn.now) result (λ _. Ran text.now (bound params.now)) }
+    ensures step { Steps S.Store tx.old tx.new result (λ _. Ran text.now (bound params.now)) }
     ensures fault { OnErr result (result ≡ Err Store) }
 {
     match tx.execute(text, params) {
@@ -38,7 +37,7 @@ pub fn select<S: Alter>(
 ) -> Result<Vec<Row>, Fault>
     requires plain { (schema : Schema) (c : Compiled) → understood schema text.now ≡ Ok c → c.returning ≡ None }
     ensures same_reference { tx.new.conn.ghost_name ≡ tx.old.conn.ghost_name }
-    ensures step { IsStep (state S.Store tx.old.conn.now) (state S.Store tx.new.conn.now) result (λ rows. Selected text.now (bound params.now) rows.items) }
+    ensures step { Steps S.Store tx.old tx.new result (λ rows. Selected text.now (bound params.now) rows.items) }
     ensures fault { OnErr result (result ≡ Err Store) }
 {
     match tx.query_all(text, params) {
@@ -50,7 +49,7 @@ pub fn select<S: Alter>(
 /// Whether the table that a statement names is there. It runs nothing.
 pub fn is_understood<S: Alter>(tx: &mut Transaction<'_, S>, text: &str) -> Result<bool, Fault>
     ensures same_reference { tx.new.conn.ghost_name ≡ tx.old.conn.ghost_name }
-    ensures step { IsStep (state S.Store tx.old.conn.now) (state S.Store tx.new.conn.now) result (λ has a b. (b.now ≡ a.now) × Probes text.now has a.now.schema) }
+    ensures step { Steps S.Store tx.old tx.new result (λ has a b. (b.now ≡ a.now) × Probes text.now has a.now.schema) }
     ensures fault { OnErr result (result ≡ Err Store) }
 {
     match brk_rows::is_understood(tx, text) {

@@ -1,12 +1,11 @@
 ghost use Rattle.std.specs.Prelude.{◌≡◌, ◌∷◌, [], IfOk, map, Err, OnErr};
 ghost use Rattle.brk_money.specs.declared.fault.Fault.TheVariants.{Store};
-ghost use Rattle.sqlite.specs.Held.{state};
-ghost use Rattle.brk_rows.specs.Desk.{Turns};
-ghost use Rattle.brk_rows.specs.Model.{IsStep, Looks, Ran};
+ghost use Rattle.brk_rows.specs.Model.{Ran, Steps};
 ghost use Rattle.brk_changes.specs.Changes.{with_last};
 ghost use Rattle.brk_tables_form.specs.Cells.{desk_row_cells};
-ghost use Rattle.brk_tables_form.specs.Desk.{desk, desk_rows};
+ghost use Rattle.brk_tables_form.specs.Desk.{desk_rows};
 ghost use Rattle.brk_tables_form.specs.Made.{desk_row_text};
+ghost use Rattle.brk_tables_form.specs.Statements.{Reads, Writes};
 
 use crate::calls::{run, select};
 use crate::cells::{has_columns, maybe_stamp_in, natural_in};
@@ -17,7 +16,7 @@ use sqlite::{Alter, Row, Transaction};
 /// Adds the one row of DESK, of the first schema and with no stamp yet.
 pub(crate) fn add_desk_row<S: Alter>(tx: &mut Transaction<'_, S>) -> Result<(), Fault>
     ensures same_reference { tx.new.conn.ghost_name ≡ tx.old.conn.ghost_name }
-    ensures step { IsStep (state S.Store tx.old.conn.now) (state S.Store tx.new.conn.now) result (λ _. Ran desk_row_text []) }
+    ensures step { Steps S.Store tx.old tx.new result (λ _. Ran desk_row_text []) }
     ensures fault { OnErr result (result ≡ Err Store) }
 {
     run(
@@ -30,7 +29,7 @@ pub(crate) fn add_desk_row<S: Alter>(tx: &mut Transaction<'_, S>) -> Result<(), 
 /// Sets the stamp of the last accepted command (D_LAST).
 pub fn set_last_stamp<S: Alter>(tx: &mut Transaction<'_, S>, stamp: Stamp) -> Result<(), Fault>
     ensures same_reference { tx.new.conn.ghost_name ≡ tx.old.conn.ghost_name }
-    ensures step { IsStep (state S.Store tx.old.conn.now) (state S.Store tx.new.conn.now) result (λ _ a b. Turns desk (with_last stamp) a.now b.now) }
+    ensures step { Writes S.Store tx.old tx.new result (with_last stamp) }
     ensures fault { OnErr result (result ≡ Err Store) }
 {
     run(
@@ -64,7 +63,7 @@ fn only_stamp(rows: &[Row]) -> Result<Option<Stamp>, Fault>
 /// The stamp of the last accepted command, where there is one (D_LAST).
 pub fn last_stamp<S: Alter>(tx: &mut Transaction<'_, S>) -> Result<Option<Stamp>, Fault>
     ensures same_reference { tx.new.conn.ghost_name ≡ tx.old.conn.ghost_name }
-    ensures step { IsStep (state S.Store tx.old.conn.now) (state S.Store tx.new.conn.now) result (λ last. Looks desk (λ t. last ≡ t.last)) }
+    ensures step { Reads S.Store tx.old tx.new result (λ last t. last ≡ t.last) }
     ensures fault { OnErr result (result ≡ Err Store) }
 {
     let rows = select(

@@ -1,15 +1,14 @@
-ghost use Rattle.std.specs.Prelude.{◌≡◌, ◌==◌, ◌&&◌, Err, IfOk, OnErr, bytes_eq, find, option_map, slice_get};
+ghost use Rattle.std.specs.Prelude.{◌≡◌, ◌==◌, ◌&&◌, Err, OnErr, bytes_eq};
 ghost use Rattle.brk_money.specs.declared.fault.Fault.TheVariants.{Store};
-ghost use Rattle.sqlite.specs.Held.{state};
-ghost use Rattle.brk_rows.specs.Desk.{Turns};
-ghost use Rattle.brk_rows.specs.Model.{IsStep, Looks};
 ghost use Rattle.brk_ref.specs.Records.{kept_of};
 ghost use Rattle.brk_changes.specs.Changes.{with_kept};
 ghost use Rattle.brk_tables_form.specs.Cells.{kept_cells};
-ghost use Rattle.brk_tables_form.specs.Desk.{desk};
+ghost use Rattle.brk_tables_form.specs.Desk.{KeptRows};
+ghost use Rattle.brk_tables_form.specs.Statements.{Finds, Writes};
 
 use crate::calls::{run, select};
 use crate::cells::{batch_name_in, has_columns, row_number_in, text_in};
+use crate::record::{Record, first_row};
 use crate::values::{row_number_value, text_value};
 use brk_money::Fault;
 use brk_ref::{Kept, Key};
@@ -18,7 +17,7 @@ use sqlite::{Alter, Row, Transaction};
 /// Adds an accepted row, whose key is new.
 pub fn add_kept<S: Alter>(tx: &mut Transaction<'_, S>, kept: &Kept) -> Result<(), Fault>
     ensures same_reference { tx.new.conn.ghost_name ≡ tx.old.conn.ghost_name }
-    ensures step { IsStep (state S.Store tx.old.conn.now) (state S.Store tx.new.conn.now) result (λ _ a b. Turns desk (with_kept (kept_of kept.now)) a.now b.now) }
+    ensures step { Writes S.Store tx.old tx.new result (with_kept (kept_of kept.now)) }
     ensures fault { OnErr result (result ≡ Err Store) }
 {
     run(
@@ -33,36 +32,27 @@ pub fn add_kept<S: Alter>(tx: &mut Transaction<'_, S>, kept: &Kept) -> Result<()
     )
 }
 
-fn kept_in(row: &Row) -> Result<Kept, Fault>
-    ensures value { IfOk result (λ r. kept_cells (kept_of r) ≡ row.now) }
-    ensures fault { OnErr result (result ≡ Err Store) }
-{
-    has_columns(row, 4)?;
-    let key = Key {
-        batch: batch_name_in(row, 0)?,
-        row: row_number_in(row, 1)?,
-    };
-    Ok(Kept {
-        key,
-        row_text: text_in(row, 2)?,
-        line: text_in(row, 3)?,
-    })
-}
+impl Record for Kept {
+    ghost cells = { λ r. kept_cells (kept_of r) };
 
-fn first_kept(rows: &[Row]) -> Result<Option<Kept>, Fault>
-    ensures value { IfOk result (λ o. option_map (λ r. kept_cells (kept_of r)) o ≡ slice_get rows.now 0) }
-    ensures fault { OnErr result (result ≡ Err Store) }
-{
-    match rows.first() {
-        Some(row) => Ok(Some(kept_in(row)?)),
-        None => Ok(None),
+    fn from_row(row: &Row) -> Result<Kept, Fault> {
+        has_columns(row, 4)?;
+        let key = Key {
+            batch: batch_name_in(row, 0)?,
+            row: row_number_in(row, 1)?,
+        };
+        Ok(Kept {
+            key,
+            row_text: text_in(row, 2)?,
+            line: text_in(row, 3)?,
+        })
     }
 }
 
 /// The row that is kept under a key.
 pub fn kept_by_key<S: Alter>(tx: &mut Transaction<'_, S>, key: &Key) -> Result<Option<Kept>, Fault>
     ensures same_reference { tx.new.conn.ghost_name ≡ tx.old.conn.ghost_name }
-    ensures step { IsStep (state S.Store tx.old.conn.now) (state S.Store tx.new.conn.now) result (λ o. Looks desk (λ t. option_map kept_of o ≡ find (λ k. bytes_eq k.key.batch key.now.batch && (k.key.row == key.now.row)) t.kept)) }
+    ensures step { Finds S.Store tx.old tx.new result KeptRows kept_of (λ k. bytes_eq k.key.batch key.now.batch && (k.key.row == key.now.row)) }
     ensures fault { OnErr result (result ≡ Err Store) }
 {
     let rows = select(
@@ -70,5 +60,5 @@ pub fn kept_by_key<S: Alter>(tx: &mut Transaction<'_, S>, key: &Key) -> Result<O
         "SELECT K_BATCH, K_N, K_ROW, K_LINE FROM KEPT WHERE K_BATCH = ?1 AND K_N = ?2 ORDER BY K_BATCH, K_N",
         &[text_value(key.batch.as_str()), row_number_value(key.row)],
     )?;
-    first_kept(&rows)
+    first_row(&rows)
 }

@@ -9,6 +9,9 @@ pub mod desk_row;
 pub mod kept;
 pub mod making;
 pub mod presence;
+pub mod record;
+mod reference_records;
+mod trading_records;
 pub mod values;
 
 pub use desk_row::{last_stamp, set_last_stamp};

@@ -1,9 +1,8 @@
 ghost use Rattle.std.specs.Prelude.{◌≡◌, Err, OnErr};
 ghost use Rattle.brk_money.specs.declared.fault.Fault.TheVariants.{Store};
-ghost use Rattle.sqlite.specs.Held.{state};
-ghost use Rattle.brk_rows.specs.Model.{IsStep};
 ghost use Rattle.brk_tables_form.specs.Made.{MakesDesk, MakesFour};
 ghost use Rattle.brk_tables_form.specs.Shapes as shape;
+ghost use Rattle.brk_rows.specs.Model.{Steps};
 
 use crate::calls::run;
 use crate::desk_row::add_desk_row;
@@ -72,7 +71,7 @@ const CASH_TRANSACTION: &str =
 
 fn make_first_tables<S: Alter>(tx: &mut Transaction<'_, S>) -> Result<(), Fault>
     ensures same_reference { tx.new.conn.ghost_name ≡ tx.old.conn.ghost_name }
-    ensures step { IsStep (state S.Store tx.old.conn.now) (state S.Store tx.new.conn.now) result (λ _ a b. MakesFour shape.desk_row shape.kept shape.broker shape.customer a.now b.now) }
+    ensures step { Steps S.Store tx.old tx.new result (λ _ a b. MakesFour shape.desk_row shape.kept shape.broker shape.customer a.now b.now) }
     ensures fault { OnErr result (result ≡ Err Store) }
 {
     run(tx, DESK, &[])?;
@@ -83,7 +82,7 @@ fn make_first_tables<S: Alter>(tx: &mut Transaction<'_, S>) -> Result<(), Fault>
 
 fn make_account_tables<S: Alter>(tx: &mut Transaction<'_, S>) -> Result<(), Fault>
     ensures same_reference { tx.new.conn.ghost_name ≡ tx.old.conn.ghost_name }
-    ensures step { IsStep (state S.Store tx.old.conn.now) (state S.Store tx.new.conn.now) result (λ _ a b. MakesFour shape.account shape.permission shape.security shape.last_trade a.now b.now) }
+    ensures step { Steps S.Store tx.old tx.new result (λ _ a b. MakesFour shape.account shape.permission shape.security shape.last_trade a.now b.now) }
     ensures fault { OnErr result (result ≡ Err Store) }
 {
     run(tx, CUSTOMER_ACCOUNT, &[])?;
@@ -94,7 +93,7 @@ fn make_account_tables<S: Alter>(tx: &mut Transaction<'_, S>) -> Result<(), Faul
 
 fn make_rate_tables<S: Alter>(tx: &mut Transaction<'_, S>) -> Result<(), Fault>
     ensures same_reference { tx.new.conn.ghost_name ≡ tx.old.conn.ghost_name }
-    ensures step { IsStep (state S.Store tx.old.conn.now) (state S.Store tx.new.conn.now) result (λ _ a b. MakesFour shape.charge shape.band shape.tax_rate shape.customer_tax a.now b.now) }
+    ensures step { Steps S.Store tx.old tx.new result (λ _ a b. MakesFour shape.charge shape.band shape.tax_rate shape.customer_tax a.now b.now) }
     ensures fault { OnErr result (result ≡ Err Store) }
 {
     run(tx, CHARGE, &[])?;
@@ -105,7 +104,7 @@ fn make_rate_tables<S: Alter>(tx: &mut Transaction<'_, S>) -> Result<(), Fault>
 
 fn make_trade_tables<S: Alter>(tx: &mut Transaction<'_, S>) -> Result<(), Fault>
     ensures same_reference { tx.new.conn.ghost_name ≡ tx.old.conn.ghost_name }
-    ensures step { IsStep (state S.Store tx.old.conn.now) (state S.Store tx.new.conn.now) result (λ _ a b. MakesFour shape.trade shape.history shape.request shape.holding a.now b.now) }
+    ensures step { Steps S.Store tx.old tx.new result (λ _ a b. MakesFour shape.trade shape.history shape.request shape.holding a.now b.now) }
     ensures fault { OnErr result (result ≡ Err Store) }
 {
     run(tx, TRADE, &[])?;
@@ -116,7 +115,7 @@ fn make_trade_tables<S: Alter>(tx: &mut Transaction<'_, S>) -> Result<(), Fault>
 
 fn make_last_tables<S: Alter>(tx: &mut Transaction<'_, S>) -> Result<(), Fault>
     ensures same_reference { tx.new.conn.ghost_name ≡ tx.old.conn.ghost_name }
-    ensures step { IsStep (state S.Store tx.old.conn.now) (state S.Store tx.new.conn.now) result (λ _ a b. MakesFour shape.summary shape.holding_history shape.settlement shape.cash a.now b.now) }
+    ensures step { Steps S.Store tx.old tx.new result (λ _ a b. MakesFour shape.summary shape.holding_history shape.settlement shape.cash a.now b.now) }
     ensures fault { OnErr result (result ≡ Err Store) }
 {
     run(tx, HOLDING_SUMMARY, &[])?;
@@ -128,7 +127,7 @@ fn make_last_tables<S: Alter>(tx: &mut Transaction<'_, S>) -> Result<(), Fault>
 /// Makes the tables, empty but for the one row of DESK, beside whatever tables there are, which keep their rows.
 pub fn make_tables<S: Alter>(tx: &mut Transaction<'_, S>) -> Result<(), Fault>
     ensures same_reference { tx.new.conn.ghost_name ≡ tx.old.conn.ghost_name }
-    ensures step { IsStep (state S.Store tx.old.conn.now) (state S.Store tx.new.conn.now) result (λ _ a b. MakesDesk a.now b.now) }
+    ensures step { Steps S.Store tx.old tx.new result (λ _ a b. MakesDesk a.now b.now) }
     ensures fault { OnErr result (result ≡ Err Store) }
 {
     make_first_tables(tx)?;

@@ -1,9 +1,8 @@
 ghost use Rattle.std.specs.Prelude.{◌≡◌, ℕ, List, map, Err, OnErr};
 ghost use Rattle.brk_money.specs.declared.fault.Fault.TheVariants.{Store};
 ghost use Rattle.std.specs.Borrow.{Bor};
-ghost use Rattle.sqlite.specs.Held.{state};
-ghost use Rattle.brk_rows.specs.Model.{IsStep};
 ghost use Rattle.brk_tables_form.specs.Made.{HasOne, has_table_of_desk};
+ghost use Rattle.brk_rows.specs.Model.{Steps};
 
 use crate::calls::is_understood;
 use brk_money::Fault;
@@ -36,7 +35,7 @@ const STATEMENTS: [&str; 20] = [
 // Whether the table that one of the statements names is there.
 fn has_one_of<S: Alter>(tx: &mut Transaction<'_, S>, texts: &[&str]) -> Result<bool, Fault>
     ensures same_reference { tx.new.conn.ghost_name ≡ tx.old.conn.ghost_name }
-    ensures step { IsStep (state S.Store tx.old.conn.now) (state S.Store tx.new.conn.now) result (λ has a b. (b.now ≡ a.now) × HasOne (map (λ (text : Bor (List ℕ)). text.now) texts.now) has a.now.schema) }
+    ensures step { Steps S.Store tx.old tx.new result (λ has a b. (b.now ≡ a.now) × HasOne (map (λ (text : Bor (List ℕ)). text.now) texts.now) has a.now.schema) }
     ensures fault { OnErr result (result ≡ Err Store) }
 {
     for text in texts {
@@ -50,7 +49,7 @@ fn has_one_of<S: Alter>(tx: &mut Transaction<'_, S>, texts: &[&str]) -> Result<b
 /// Whether the database has a table with the name of one of a desk's.
 pub fn has_some_table<S: Alter>(tx: &mut Transaction<'_, S>) -> Result<bool, Fault>
     ensures same_reference { tx.new.conn.ghost_name ≡ tx.old.conn.ghost_name }
-    ensures step { IsStep (state S.Store tx.old.conn.now) (state S.Store tx.new.conn.now) result (λ has a b. (b.now ≡ a.now) × (has ≡ has_table_of_desk a.now.schema)) }
+    ensures step { Steps S.Store tx.old tx.new result (λ has a b. (b.now ≡ a.now) × (has ≡ has_table_of_desk a.now.schema)) }
     ensures fault { OnErr result (result ≡ Err Store) }
 {
     has_one_of(tx, &STATEMENTS)

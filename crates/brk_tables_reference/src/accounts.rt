@@ -1,27 +1,24 @@
-ghost use Rattle.std.specs.Prelude.{◌≡◌, ◌==◌, Err, IfErr, IfOk, OnErr, filter, find, map, option_map, slice_get};
+ghost use Rattle.std.specs.Prelude.{◌≡◌, ◌==◌, Err, IfErr, OnErr};
 ghost use Rattle.brk_money.specs.declared.fault.Fault.TheVariants.{Store};
-ghost use Rattle.sqlite.specs.Held.{state};
-ghost use Rattle.brk_rows.specs.Desk.{Turns};
-ghost use Rattle.brk_rows.specs.Model.{IsStep, Looks};
 ghost use Rattle.brk_model.specs.Run.{MayFail};
 ghost use Rattle.brk_ref.specs.Records.{account_of};
 ghost use Rattle.brk_changes.specs.Changes.{with_account};
-ghost use Rattle.brk_tables_form.specs.Cells.{account_cells};
-ghost use Rattle.brk_tables_form.specs.Desk.{desk};
 ghost use Rattle.brk_tables_form.specs.Records.{account_row_of};
+ghost use Rattle.brk_tables_form.specs.Desk.{Accounts};
+ghost use Rattle.brk_tables_form.specs.Statements.{Finds, Lists, Writes};
 
 use brk_money::{Fault, Id};
 use brk_ref::{Account, AccountRow};
 use brk_tables_form::calls::{run, select};
-use brk_tables_form::cells::{cents_in, has_columns, id_in, name_in, tax_status_in};
+use brk_tables_form::record::{all_rows, first_row};
 use brk_tables_form::values::{cents_value, id_value, tax_status_value, text_value};
-use sqlite::{Alter, Row, Transaction};
+use sqlite::{Alter, Transaction};
 use std::alloc::Global;
 
 /// Adds an account, whose balance is its opening.
 pub fn add_account<S: Alter>(tx: &mut Transaction<'_, S>, account: &Account) -> Result<(), Fault>
     ensures same_reference { tx.new.conn.ghost_name ≡ tx.old.conn.ghost_name }
-    ensures step { IsStep (state S.Store tx.old.conn.now) (state S.Store tx.new.conn.now) result (λ _ a b. Turns desk (with_account (account_of account.now)) a.now b.now) }
+    ensures step { Writes S.Store tx.old tx.new result (with_account (account_of account.now)) }
     ensures fault { OnErr result (result ≡ Err Store) }
 {
     run(
@@ -38,52 +35,13 @@ pub fn add_account<S: Alter>(tx: &mut Transaction<'_, S>, account: &Account) -> 
     )
 }
 
-fn account_in(row: &Row) -> Result<AccountRow, Fault>
-    ensures value { IfOk result (λ r. account_cells (account_row_of r) ≡ row.now) }
-    ensures fault { OnErr result (result ≡ Err Store) }
-{
-    has_columns(row, 7)?;
-    Ok(AccountRow {
-        account: Account {
-            id: id_in(row, 0)?,
-            customer: id_in(row, 1)?,
-            broker: id_in(row, 2)?,
-            name: name_in(row, 3)?,
-            tax_status: tax_status_in(row, 4)?,
-            opening: cents_in(row, 5)?,
-        },
-        balance: cents_in(row, 6)?,
-    })
-}
-
-fn first_account(rows: &[Row]) -> Result<Option<AccountRow>, Fault>
-    ensures value { IfOk result (λ o. option_map (λ r. account_cells (account_row_of r)) o ≡ slice_get rows.now 0) }
-    ensures fault { OnErr result (result ≡ Err Store) }
-{
-    match rows.first() {
-        Some(row) => Ok(Some(account_in(row)?)),
-        None => Ok(None),
-    }
-}
-
-fn all_accounts(alloc: Global, rows: &[Row]) -> Result<Vec<AccountRow>, Fault>
-    ensures value { IfOk result (λ all. map (λ r. account_cells (account_row_of r)) all.items ≡ rows.now) }
-    ensures fault { IfErr result MayFail }
-{
-    let mut all = Vec::new(alloc);
-    for row in rows {
-        all.push(account_in(row)?)?;
-    }
-    Ok(all)
-}
-
 /// The account with an id.
 pub fn account_by_id<S: Alter>(
     tx: &mut Transaction<'_, S>,
     id: Id,
 ) -> Result<Option<AccountRow>, Fault>
     ensures same_reference { tx.new.conn.ghost_name ≡ tx.old.conn.ghost_name }
-    ensures step { IsStep (state S.Store tx.old.conn.now) (state S.Store tx.new.conn.now) result (λ o. Looks desk (λ t. option_map account_row_of o ≡ find (λ r. r.id == id) t.accounts)) }
+    ensures step { Finds S.Store tx.old tx.new result Accounts account_row_of (λ r. r.id == id) }
     ensures fault { OnErr result (result ≡ Err Store) }
 {
     let rows = select(
@@ -91,7 +49,7 @@ pub fn account_by_id<S: Alter>(
         "SELECT CA_ID, CA_C_ID, CA_B_ID, CA_NAME, CA_TAX_ST, CA_OPEN, CA_BAL FROM CUSTOMER_ACCOUNT WHERE CA_ID = ?1 ORDER BY CA_ID",
         &[id_value(id)],
     )?;
-    first_account(&rows)
+    first_row(&rows)
 }
 
 /// The accounts of a customer, by rising id.
@@ -101,7 +59,7 @@ pub fn accounts_of_customer<S: Alter>(
     customer: Id,
 ) -> Result<Vec<AccountRow>, Fault>
     ensures same_reference { tx.new.conn.ghost_name ≡ tx.old.conn.ghost_name }
-    ensures step { IsStep (state S.Store tx.old.conn.now) (state S.Store tx.new.conn.now) result (λ all. Looks desk (λ t. map account_row_of all.items ≡ filter (λ r. r.customer == customer) t.accounts)) }
+    ensures step { Lists S.Store tx.old tx.new result Accounts account_row_of (λ r. r.customer == customer) }
     ensures fault { IfErr result MayFail }
 {
     let rows = select(
@@ -109,5 +67,5 @@ pub fn accounts_of_customer<S: Alter>(
         "SELECT CA_ID, CA_C_ID, CA_B_ID, CA_NAME, CA_TAX_ST, CA_OPEN, CA_BAL FROM CUSTOMER_ACCOUNT WHERE CA_C_ID = ?1 ORDER BY CA_ID",
         &[id_value(customer)],
     )?;
-    all_accounts(alloc, &rows)
+    all_rows(alloc, &rows)
 }

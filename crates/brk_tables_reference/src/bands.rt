@@ -1,27 +1,24 @@
-ghost use Rattle.std.specs.Prelude.{◌≡◌, ◌==◌, ◌&&◌, Err, IfErr, IfOk, OnErr, bytes_eq, filter, map};
+ghost use Rattle.std.specs.Prelude.{◌≡◌, ◌==◌, ◌&&◌, Err, IfErr, OnErr, bytes_eq};
 ghost use Rattle.brk_money.specs.Kinds.{same_type};
 ghost use Rattle.brk_money.specs.declared.fault.Fault.TheVariants.{Store};
-ghost use Rattle.sqlite.specs.Held.{state};
-ghost use Rattle.brk_rows.specs.Desk.{Turns};
-ghost use Rattle.brk_rows.specs.Model.{IsStep, Looks};
 ghost use Rattle.brk_model.specs.Run.{MayFail};
 ghost use Rattle.brk_ref.specs.Records.{band_of};
 ghost use Rattle.brk_changes.specs.Changes.{with_band};
-ghost use Rattle.brk_tables_form.specs.Cells.{band_cells};
-ghost use Rattle.brk_tables_form.specs.Desk.{desk};
+ghost use Rattle.brk_tables_form.specs.Desk.{Bands};
+ghost use Rattle.brk_tables_form.specs.Statements.{Lists, Writes};
 
 use brk_money::{Fault, TradeType};
 use brk_ref::{Band, Exchange, Tier};
 use brk_tables_form::calls::{run, select};
-use brk_tables_form::cells::{exchange_in, has_columns, qty_in, rate_in, tier_in, type_in};
+use brk_tables_form::record::all_rows;
 use brk_tables_form::values::{qty_value, rate_value, text_value, tier_value, type_value};
-use sqlite::{Alter, Row, Transaction};
+use sqlite::{Alter, Transaction};
 use std::alloc::Global;
 
 /// Adds a band, whose tier, type, exchange and lower bound are new together.
 pub fn add_band<S: Alter>(tx: &mut Transaction<'_, S>, band: &Band) -> Result<(), Fault>
     ensures same_reference { tx.new.conn.ghost_name ≡ tx.old.conn.ghost_name }
-    ensures step { IsStep (state S.Store tx.old.conn.now) (state S.Store tx.new.conn.now) result (λ _ a b. Turns desk (with_band (band_of band.now)) a.now b.now) }
+    ensures step { Writes S.Store tx.old tx.new result (with_band (band_of band.now)) }
     ensures fault { OnErr result (result ≡ Err Store) }
 {
     run(
@@ -38,32 +35,6 @@ pub fn add_band<S: Alter>(tx: &mut Transaction<'_, S>, band: &Band) -> Result<()
     )
 }
 
-fn band_in(row: &Row) -> Result<Band, Fault>
-    ensures value { IfOk result (λ r. band_cells (band_of r) ≡ row.now) }
-    ensures fault { OnErr result (result ≡ Err Store) }
-{
-    has_columns(row, 6)?;
-    Ok(Band {
-        tier: tier_in(row, 0)?,
-        kind: type_in(row, 1)?,
-        exchange: exchange_in(row, 2)?,
-        from_qty: qty_in(row, 3)?,
-        to_qty: qty_in(row, 4)?,
-        rate: rate_in(row, 5)?,
-    })
-}
-
-fn all_bands(alloc: Global, rows: &[Row]) -> Result<Vec<Band>, Fault>
-    ensures value { IfOk result (λ all. map (λ r. band_cells (band_of r)) all.items ≡ rows.now) }
-    ensures fault { IfErr result MayFail }
-{
-    let mut all = Vec::new(alloc);
-    for row in rows {
-        all.push(band_in(row)?)?;
-    }
-    Ok(all)
-}
-
 /// The bands of a tier, a type and an exchange, by rising lower bound.
 pub fn bands_for<S: Alter>(
     tx: &mut Transaction<'_, S>,
@@ -73,7 +44,7 @@ pub fn bands_for<S: Alter>(
     exchange: &Exchange,
 ) -> Result<Vec<Band>, Fault>
     ensures same_reference { tx.new.conn.ghost_name ≡ tx.old.conn.ghost_name }
-    ensures step { IsStep (state S.Store tx.old.conn.now) (state S.Store tx.new.conn.now) result (λ all. Looks desk (λ t. map band_of all.items ≡ filter (λ r. (r.tier == tier) && same_type r.kind kind && bytes_eq r.exchange exchange.now) t.bands)) }
+    ensures step { Lists S.Store tx.old tx.new result Bands band_of (λ r. (r.tier == tier) && same_type r.kind kind && bytes_eq r.exchange exchange.now) }
     ensures fault { IfErr result MayFail }
 {
     let rows = select(
@@ -85,5 +56,5 @@ pub fn bands_for<S: Alter>(
             text_value(exchange.as_str()),
         ],
     )?;
-    all_bands(alloc, &rows)
+    all_rows(alloc, &rows)
 }

@@ -1,25 +1,22 @@
-ghost use Rattle.std.specs.Prelude.{◌≡◌, ◌==◌, ◌&&◌, Err, IfOk, OnErr, find, option_map, slice_get};
+ghost use Rattle.std.specs.Prelude.{◌≡◌, ◌==◌, ◌&&◌, Err, OnErr};
 ghost use Rattle.brk_money.specs.Kinds.{same_type};
 ghost use Rattle.brk_money.specs.declared.fault.Fault.TheVariants.{Store};
-ghost use Rattle.sqlite.specs.Held.{state};
-ghost use Rattle.brk_rows.specs.Desk.{Turns};
-ghost use Rattle.brk_rows.specs.Model.{IsStep, Looks};
 ghost use Rattle.brk_ref.specs.Records.{charge_of};
 ghost use Rattle.brk_changes.specs.Changes.{with_charge};
-ghost use Rattle.brk_tables_form.specs.Cells.{charge_cells};
-ghost use Rattle.brk_tables_form.specs.Desk.{desk};
+ghost use Rattle.brk_tables_form.specs.Desk.{Charges};
+ghost use Rattle.brk_tables_form.specs.Statements.{Finds, Writes};
 
 use brk_money::{Fault, TradeType};
 use brk_ref::{Charge, Tier};
 use brk_tables_form::calls::{run, select};
-use brk_tables_form::cells::{charge_amount_in, has_columns, tier_in, type_in};
+use brk_tables_form::record::first_row;
 use brk_tables_form::values::{charge_amount_value, tier_value, type_value};
-use sqlite::{Alter, Row, Transaction};
+use sqlite::{Alter, Transaction};
 
 /// Adds a charge, whose type and tier are new together.
 pub fn add_charge<S: Alter>(tx: &mut Transaction<'_, S>, charge: &Charge) -> Result<(), Fault>
     ensures same_reference { tx.new.conn.ghost_name ≡ tx.old.conn.ghost_name }
-    ensures step { IsStep (state S.Store tx.old.conn.now) (state S.Store tx.new.conn.now) result (λ _ a b. Turns desk (with_charge (charge_of charge.now)) a.now b.now) }
+    ensures step { Writes S.Store tx.old tx.new result (with_charge (charge_of charge.now)) }
     ensures fault { OnErr result (result ≡ Err Store) }
 {
     run(
@@ -33,28 +30,6 @@ pub fn add_charge<S: Alter>(tx: &mut Transaction<'_, S>, charge: &Charge) -> Res
     )
 }
 
-fn charge_in(row: &Row) -> Result<Charge, Fault>
-    ensures value { IfOk result (λ r. charge_cells (charge_of r) ≡ row.now) }
-    ensures fault { OnErr result (result ≡ Err Store) }
-{
-    has_columns(row, 3)?;
-    Ok(Charge {
-        kind: type_in(row, 0)?,
-        tier: tier_in(row, 1)?,
-        amount: charge_amount_in(row, 2)?,
-    })
-}
-
-fn first_charge(rows: &[Row]) -> Result<Option<Charge>, Fault>
-    ensures value { IfOk result (λ o. option_map (λ r. charge_cells (charge_of r)) o ≡ slice_get rows.now 0) }
-    ensures fault { OnErr result (result ≡ Err Store) }
-{
-    match rows.first() {
-        Some(row) => Ok(Some(charge_in(row)?)),
-        None => Ok(None),
-    }
-}
-
 /// The charge of a type and a tier.
 pub fn charge_by_key<S: Alter>(
     tx: &mut Transaction<'_, S>,
@@ -62,7 +37,7 @@ pub fn charge_by_key<S: Alter>(
     tier: Tier,
 ) -> Result<Option<Charge>, Fault>
     ensures same_reference { tx.new.conn.ghost_name ≡ tx.old.conn.ghost_name }
-    ensures step { IsStep (state S.Store tx.old.conn.now) (state S.Store tx.new.conn.now) result (λ o. Looks desk (λ t. option_map charge_of o ≡ find (λ r. same_type r.kind kind && (r.tier == tier)) t.charges)) }
+    ensures step { Finds S.Store tx.old tx.new result Charges charge_of (λ r. same_type r.kind kind && (r.tier == tier)) }
     ensures fault { OnErr result (result ≡ Err Store) }
 {
     let rows = select(
@@ -70,5 +45,5 @@ pub fn charge_by_key<S: Alter>(
         "SELECT CH_TT_ID, CH_C_TIER, CH_CHRG FROM CHARGE WHERE CH_TT_ID = ?1 AND CH_C_TIER = ?2 ORDER BY CH_TT_ID, CH_C_TIER",
         &[type_value(kind), tier_value(tier)],
     )?;
-    first_charge(&rows)
+    first_row(&rows)
 }

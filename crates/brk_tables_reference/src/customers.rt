@@ -1,24 +1,21 @@
-ghost use Rattle.std.specs.Prelude.{◌≡◌, ◌==◌, Err, IfOk, OnErr, bytes_eq, find, option_map, slice_get};
+ghost use Rattle.std.specs.Prelude.{◌≡◌, ◌==◌, Err, OnErr, bytes_eq};
 ghost use Rattle.brk_money.specs.declared.fault.Fault.TheVariants.{Store};
-ghost use Rattle.sqlite.specs.Held.{state};
-ghost use Rattle.brk_rows.specs.Desk.{Turns};
-ghost use Rattle.brk_rows.specs.Model.{IsStep, Looks};
 ghost use Rattle.brk_ref.specs.Records.{customer_of};
 ghost use Rattle.brk_changes.specs.Changes.{with_customer};
-ghost use Rattle.brk_tables_form.specs.Cells.{customer_cells};
-ghost use Rattle.brk_tables_form.specs.Desk.{desk};
+ghost use Rattle.brk_tables_form.specs.Desk.{Customers};
+ghost use Rattle.brk_tables_form.specs.Statements.{Finds, Writes};
 
 use brk_money::{Fault, Id};
 use brk_ref::{Customer, TaxId};
 use brk_tables_form::calls::{run, select};
-use brk_tables_form::cells::{has_columns, id_in, name_in, tax_id_in, tier_in};
+use brk_tables_form::record::first_row;
 use brk_tables_form::values::{id_value, text_value, tier_value};
-use sqlite::{Alter, Row, Transaction};
+use sqlite::{Alter, Transaction};
 
 /// Adds a customer, whose id and tax id are new.
 pub fn add_customer<S: Alter>(tx: &mut Transaction<'_, S>, customer: &Customer) -> Result<(), Fault>
     ensures same_reference { tx.new.conn.ghost_name ≡ tx.old.conn.ghost_name }
-    ensures step { IsStep (state S.Store tx.old.conn.now) (state S.Store tx.new.conn.now) result (λ _ a b. Turns desk (with_customer (customer_of customer.now)) a.now b.now) }
+    ensures step { Writes S.Store tx.old tx.new result (with_customer (customer_of customer.now)) }
     ensures fault { OnErr result (result ≡ Err Store) }
 {
     run(
@@ -34,37 +31,13 @@ pub fn add_customer<S: Alter>(tx: &mut Transaction<'_, S>, customer: &Customer) 
     )
 }
 
-fn customer_in(row: &Row) -> Result<Customer, Fault>
-    ensures value { IfOk result (λ r. customer_cells (customer_of r) ≡ row.now) }
-    ensures fault { OnErr result (result ≡ Err Store) }
-{
-    has_columns(row, 5)?;
-    Ok(Customer {
-        id: id_in(row, 0)?,
-        tier: tier_in(row, 1)?,
-        tax_id: tax_id_in(row, 2)?,
-        last_name: name_in(row, 3)?,
-        first_name: name_in(row, 4)?,
-    })
-}
-
-fn first_customer(rows: &[Row]) -> Result<Option<Customer>, Fault>
-    ensures value { IfOk result (λ o. option_map (λ r. customer_cells (customer_of r)) o ≡ slice_get rows.now 0) }
-    ensures fault { OnErr result (result ≡ Err Store) }
-{
-    match rows.first() {
-        Some(row) => Ok(Some(customer_in(row)?)),
-        None => Ok(None),
-    }
-}
-
 /// The customer with an id.
 pub fn customer_by_id<S: Alter>(
     tx: &mut Transaction<'_, S>,
     id: Id,
 ) -> Result<Option<Customer>, Fault>
     ensures same_reference { tx.new.conn.ghost_name ≡ tx.old.conn.ghost_name }
-    ensures step { IsStep (state S.Store tx.old.conn.now) (state S.Store tx.new.conn.now) result (λ o. Looks desk (λ t. option_map customer_of o ≡ find (λ r. r.id == id) t.customers)) }
+    ensures step { Finds S.Store tx.old tx.new result Customers customer_of (λ r. r.id == id) }
     ensures fault { OnErr result (result ≡ Err Store) }
 {
     let rows = select(
@@ -72,7 +45,7 @@ pub fn customer_by_id<S: Alter>(
         "SELECT C_ID, C_TIER, C_TAX_ID, C_L_NAME, C_F_NAME FROM CUSTOMER WHERE C_ID = ?1 ORDER BY C_ID",
         &[id_value(id)],
     )?;
-    first_customer(&rows)
+    first_row(&rows)
 }
 
 /// The customer with a tax id.
@@ -81,7 +54,7 @@ pub fn customer_by_tax_id<S: Alter>(
     tax_id: &TaxId,
 ) -> Result<Option<Customer>, Fault>
     ensures same_reference { tx.new.conn.ghost_name ≡ tx.old.conn.ghost_name }
-    ensures step { IsStep (state S.Store tx.old.conn.now) (state S.Store tx.new.conn.now) result (λ o. Looks desk (λ t. option_map customer_of o ≡ find (λ r. bytes_eq r.tax_id tax_id.now) t.customers)) }
+    ensures step { Finds S.Store tx.old tx.new result Customers customer_of (λ r. bytes_eq r.tax_id tax_id.now) }
     ensures fault { OnErr result (result ≡ Err Store) }
 {
     let rows = select(
@@ -89,5 +62,5 @@ pub fn customer_by_tax_id<S: Alter>(
         "SELECT C_ID, C_TIER, C_TAX_ID, C_L_NAME, C_F_NAME FROM CUSTOMER WHERE C_TAX_ID = ?1 ORDER BY C_ID",
         &[text_value(tax_id.as_str())],
     )?;
-    first_customer(&rows)
+    first_row(&rows)
 }

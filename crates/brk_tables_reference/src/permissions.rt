@@ -1,19 +1,16 @@
-ghost use Rattle.std.specs.Prelude.{◌≡◌, ◌==◌, ◌&&◌, Err, IfOk, OnErr, bytes_eq, find, option_map, slice_get};
+ghost use Rattle.std.specs.Prelude.{◌≡◌, ◌==◌, ◌&&◌, Err, OnErr, bytes_eq};
 ghost use Rattle.brk_money.specs.declared.fault.Fault.TheVariants.{Store};
-ghost use Rattle.sqlite.specs.Held.{state};
-ghost use Rattle.brk_rows.specs.Desk.{Turns};
-ghost use Rattle.brk_rows.specs.Model.{IsStep, Looks};
 ghost use Rattle.brk_ref.specs.Records.{permission_of};
 ghost use Rattle.brk_changes.specs.Changes.{with_permission};
-ghost use Rattle.brk_tables_form.specs.Cells.{permission_cells};
-ghost use Rattle.brk_tables_form.specs.Desk.{desk};
+ghost use Rattle.brk_tables_form.specs.Desk.{Permissions};
+ghost use Rattle.brk_tables_form.specs.Statements.{Finds, Writes};
 
 use brk_money::{Fault, Id};
 use brk_ref::{Permission, TaxId};
 use brk_tables_form::calls::{run, select};
-use brk_tables_form::cells::{acl_in, has_columns, id_in, name_in, tax_id_in};
+use brk_tables_form::record::first_row;
 use brk_tables_form::values::{id_value, text_value};
-use sqlite::{Alter, Row, Transaction};
+use sqlite::{Alter, Transaction};
 
 /// Adds a permission, whose account and tax id are new together.
 pub fn add_permission<S: Alter>(
@@ -21,7 +18,7 @@ pub fn add_permission<S: Alter>(
     permission: &Permission,
 ) -> Result<(), Fault>
     ensures same_reference { tx.new.conn.ghost_name ≡ tx.old.conn.ghost_name }
-    ensures step { IsStep (state S.Store tx.old.conn.now) (state S.Store tx.new.conn.now) result (λ _ a b. Turns desk (with_permission (permission_of permission.now)) a.now b.now) }
+    ensures step { Writes S.Store tx.old tx.new result (with_permission (permission_of permission.now)) }
     ensures fault { OnErr result (result ≡ Err Store) }
 {
     run(
@@ -37,30 +34,6 @@ pub fn add_permission<S: Alter>(
     )
 }
 
-fn permission_in(row: &Row) -> Result<Permission, Fault>
-    ensures value { IfOk result (λ r. permission_cells (permission_of r) ≡ row.now) }
-    ensures fault { OnErr result (result ≡ Err Store) }
-{
-    has_columns(row, 5)?;
-    Ok(Permission {
-        account: id_in(row, 0)?,
-        tax_id: tax_id_in(row, 1)?,
-        acl: acl_in(row, 2)?,
-        last_name: name_in(row, 3)?,
-        first_name: name_in(row, 4)?,
-    })
-}
-
-fn first_permission(rows: &[Row]) -> Result<Option<Permission>, Fault>
-    ensures value { IfOk result (λ o. option_map (λ r. permission_cells (permission_of r)) o ≡ slice_get rows.now 0) }
-    ensures fault { OnErr result (result ≡ Err Store) }
-{
-    match rows.first() {
-        Some(row) => Ok(Some(permission_in(row)?)),
-        None => Ok(None),
-    }
-}
-
 /// The permission of an account for a tax id.
 pub fn permission_by_key<S: Alter>(
     tx: &mut Transaction<'_, S>,
@@ -68,7 +41,7 @@ pub fn permission_by_key<S: Alter>(
     tax_id: &TaxId,
 ) -> Result<Option<Permission>, Fault>
     ensures same_reference { tx.new.conn.ghost_name ≡ tx.old.conn.ghost_name }
-    ensures step { IsStep (state S.Store tx.old.conn.now) (state S.Store tx.new.conn.now) result (λ o. Looks desk (λ t. option_map permission_of o ≡ find (λ r. (r.account == account) && bytes_eq r.tax_id tax_id.now) t.permissions)) }
+    ensures step { Finds S.Store tx.old tx.new result Permissions permission_of (λ r. (r.account == account) && bytes_eq r.tax_id tax_id.now) }
     ensures fault { OnErr result (result ≡ Err Store) }
 {
     let rows = select(
@@ -76,5 +49,5 @@ pub fn permission_by_key<S: Alter>(
         "SELECT AP_CA_ID, AP_TAX_ID, AP_ACL, AP_L_NAME, AP_F_NAME FROM ACCOUNT_PERMISSION WHERE AP_CA_ID = ?1 AND AP_TAX_ID = ?2 ORDER BY AP_CA_ID, AP_TAX_ID",
         &[id_value(account), text_value(tax_id.as_str())],
     )?;
-    first_permission(&rows)
+    first_row(&rows)
 }

@@ -1,24 +1,21 @@
-ghost use Rattle.std.specs.Prelude.{◌≡◌, Err, IfOk, OnErr, bytes_eq, find, option_map, slice_get};
+ghost use Rattle.std.specs.Prelude.{◌≡◌, Err, OnErr, bytes_eq};
 ghost use Rattle.brk_money.specs.declared.fault.Fault.TheVariants.{Store};
-ghost use Rattle.sqlite.specs.Held.{state};
-ghost use Rattle.brk_rows.specs.Desk.{Turns};
-ghost use Rattle.brk_rows.specs.Model.{IsStep, Looks};
 ghost use Rattle.brk_ref.specs.Records.{security_of, last_trade_of};
 ghost use Rattle.brk_changes.specs.Changes.{with_security, with_last_trade};
-ghost use Rattle.brk_tables_form.specs.Cells.{security_cells};
-ghost use Rattle.brk_tables_form.specs.Desk.{desk};
+ghost use Rattle.brk_tables_form.specs.Desk.{Securities};
+ghost use Rattle.brk_tables_form.specs.Statements.{Finds, Writes};
 
 use brk_money::Fault;
 use brk_ref::{LastTrade, Security, Symbol};
 use brk_tables_form::calls::{run, select};
-use brk_tables_form::cells::{exchange_in, has_columns, name_in, symbol_in};
+use brk_tables_form::record::first_row;
 use brk_tables_form::values::{price_value, stamp_value, text_value, volume_value};
-use sqlite::{Alter, Row, Transaction};
+use sqlite::{Alter, Transaction};
 
 /// Adds a security, whose symbol is new. Its last trade is a row of its own.
 pub fn add_security<S: Alter>(tx: &mut Transaction<'_, S>, security: &Security) -> Result<(), Fault>
     ensures same_reference { tx.new.conn.ghost_name ≡ tx.old.conn.ghost_name }
-    ensures step { IsStep (state S.Store tx.old.conn.now) (state S.Store tx.new.conn.now) result (λ _ a b. Turns desk (with_security (security_of security.now)) a.now b.now) }
+    ensures step { Writes S.Store tx.old tx.new result (with_security (security_of security.now)) }
     ensures fault { OnErr result (result ≡ Err Store) }
 {
     run(
@@ -39,7 +36,7 @@ pub fn add_last_trade<S: Alter>(
     last_trade: &LastTrade,
 ) -> Result<(), Fault>
     ensures same_reference { tx.new.conn.ghost_name ≡ tx.old.conn.ghost_name }
-    ensures step { IsStep (state S.Store tx.old.conn.now) (state S.Store tx.new.conn.now) result (λ _ a b. Turns desk (with_last_trade (last_trade_of last_trade.now)) a.now b.now) }
+    ensures step { Writes S.Store tx.old tx.new result (with_last_trade (last_trade_of last_trade.now)) }
     ensures fault { OnErr result (result ≡ Err Store) }
 {
     run(
@@ -54,36 +51,13 @@ pub fn add_last_trade<S: Alter>(
     )
 }
 
-fn security_in(row: &Row) -> Result<Security, Fault>
-    ensures value { IfOk result (λ r. security_cells (security_of r) ≡ row.now) }
-    ensures fault { OnErr result (result ≡ Err Store) }
-{
-    has_columns(row, 4)?;
-    Ok(Security {
-        symbol: symbol_in(row, 0)?,
-        name: name_in(row, 1)?,
-        exchange: exchange_in(row, 2)?,
-        sector: name_in(row, 3)?,
-    })
-}
-
-fn first_security(rows: &[Row]) -> Result<Option<Security>, Fault>
-    ensures value { IfOk result (λ o. option_map (λ r. security_cells (security_of r)) o ≡ slice_get rows.now 0) }
-    ensures fault { OnErr result (result ≡ Err Store) }
-{
-    match rows.first() {
-        Some(row) => Ok(Some(security_in(row)?)),
-        None => Ok(None),
-    }
-}
-
 /// The security with a symbol.
 pub fn security_by_symbol<S: Alter>(
     tx: &mut Transaction<'_, S>,
     symbol: &Symbol,
 ) -> Result<Option<Security>, Fault>
     ensures same_reference { tx.new.conn.ghost_name ≡ tx.old.conn.ghost_name }
-    ensures step { IsStep (state S.Store tx.old.conn.now) (state S.Store tx.new.conn.now) result (λ o. Looks desk (λ t. option_map security_of o ≡ find (λ r. bytes_eq r.symbol symbol.now) t.securities)) }
+    ensures step { Finds S.Store tx.old tx.new result Securities security_of (λ r. bytes_eq r.symbol symbol.now) }
     ensures fault { OnErr result (result ≡ Err Store) }
 {
     let rows = select(
@@ -91,5 +65,5 @@ pub fn security_by_symbol<S: Alter>(
         "SELECT S_SYMB, S_NAME, S_EX_ID, S_SECTOR FROM SECURITY WHERE S_SYMB = ?1 ORDER BY S_SYMB",
         &[text_value(symbol.as_str())],
     )?;
-    first_security(&rows)
+    first_row(&rows)
 }

@@ -1,26 +1,23 @@
-ghost use Rattle.std.specs.Prelude.{◌≡◌, ◌==◌, ◌&&◌, Err, IfErr, IfOk, OnErr, filter, find, map, option_map, slice_get};
+ghost use Rattle.std.specs.Prelude.{◌≡◌, ◌==◌, ◌&&◌, Err, IfErr, OnErr};
 ghost use Rattle.brk_money.specs.declared.fault.Fault.TheVariants.{Store};
-ghost use Rattle.sqlite.specs.Held.{state};
-ghost use Rattle.brk_rows.specs.Desk.{Turns};
-ghost use Rattle.brk_rows.specs.Model.{IsStep, Looks};
 ghost use Rattle.brk_model.specs.Run.{MayFail};
 ghost use Rattle.brk_ref.specs.Records.{tax_of, customer_tax_of};
 ghost use Rattle.brk_changes.specs.Changes.{with_tax_rate, with_customer_tax};
-ghost use Rattle.brk_tables_form.specs.Cells.{customer_tax_cells, tax_rate_cells};
-ghost use Rattle.brk_tables_form.specs.Desk.{desk};
+ghost use Rattle.brk_tables_form.specs.Desk.{CustomerTaxes, TaxRates};
+ghost use Rattle.brk_tables_form.specs.Statements.{Finds, Lists, Writes};
 
 use brk_money::{Fault, Id};
 use brk_ref::{CustomerTax, Tax};
 use brk_tables_form::calls::{run, select};
-use brk_tables_form::cells::{has_columns, id_in, name_in, tax_rate_in};
+use brk_tables_form::record::{all_rows, first_row};
 use brk_tables_form::values::{id_value, tax_rate_value, text_value};
-use sqlite::{Alter, Row, Transaction};
+use sqlite::{Alter, Transaction};
 use std::alloc::Global;
 
 /// Adds a tax with its rate, whose id is new.
 pub fn add_tax_rate<S: Alter>(tx: &mut Transaction<'_, S>, tax: &Tax) -> Result<(), Fault>
     ensures same_reference { tx.new.conn.ghost_name ≡ tx.old.conn.ghost_name }
-    ensures step { IsStep (state S.Store tx.old.conn.now) (state S.Store tx.new.conn.now) result (λ _ a b. Turns desk (with_tax_rate (tax_of tax.now)) a.now b.now) }
+    ensures step { Writes S.Store tx.old tx.new result (with_tax_rate (tax_of tax.now)) }
     ensures fault { OnErr result (result ≡ Err Store) }
 {
     run(
@@ -40,7 +37,7 @@ pub fn add_customer_tax<S: Alter>(
     pays: &CustomerTax,
 ) -> Result<(), Fault>
     ensures same_reference { tx.new.conn.ghost_name ≡ tx.old.conn.ghost_name }
-    ensures step { IsStep (state S.Store tx.old.conn.now) (state S.Store tx.new.conn.now) result (λ _ a b. Turns desk (with_customer_tax (customer_tax_of pays.now)) a.now b.now) }
+    ensures step { Writes S.Store tx.old tx.new result (with_customer_tax (customer_tax_of pays.now)) }
     ensures fault { OnErr result (result ≡ Err Store) }
 {
     run(
@@ -50,32 +47,10 @@ pub fn add_customer_tax<S: Alter>(
     )
 }
 
-fn tax_in(row: &Row) -> Result<Tax, Fault>
-    ensures value { IfOk result (λ r. tax_rate_cells (tax_of r) ≡ row.now) }
-    ensures fault { OnErr result (result ≡ Err Store) }
-{
-    has_columns(row, 3)?;
-    Ok(Tax {
-        id: id_in(row, 0)?,
-        name: name_in(row, 1)?,
-        rate: tax_rate_in(row, 2)?,
-    })
-}
-
-fn first_tax(rows: &[Row]) -> Result<Option<Tax>, Fault>
-    ensures value { IfOk result (λ o. option_map (λ r. tax_rate_cells (tax_of r)) o ≡ slice_get rows.now 0) }
-    ensures fault { OnErr result (result ≡ Err Store) }
-{
-    match rows.first() {
-        Some(row) => Ok(Some(tax_in(row)?)),
-        None => Ok(None),
-    }
-}
-
 /// The tax with an id.
 pub fn tax_rate_by_id<S: Alter>(tx: &mut Transaction<'_, S>, id: Id) -> Result<Option<Tax>, Fault>
     ensures same_reference { tx.new.conn.ghost_name ≡ tx.old.conn.ghost_name }
-    ensures step { IsStep (state S.Store tx.old.conn.now) (state S.Store tx.new.conn.now) result (λ o. Looks desk (λ t. option_map tax_of o ≡ find (λ r. r.id == id) t.tax_rates)) }
+    ensures step { Finds S.Store tx.old tx.new result TaxRates tax_of (λ r. r.id == id) }
     ensures fault { OnErr result (result ≡ Err Store) }
 {
     let rows = select(
@@ -83,39 +58,7 @@ pub fn tax_rate_by_id<S: Alter>(tx: &mut Transaction<'_, S>, id: Id) -> Result<O
         "SELECT TX_ID, TX_NAME, TX_RATE FROM TAXRATE WHERE TX_ID = ?1 ORDER BY TX_ID",
         &[id_value(id)],
     )?;
-    first_tax(&rows)
-}
-
-fn customer_tax_in(row: &Row) -> Result<CustomerTax, Fault>
-    ensures value { IfOk result (λ r. customer_tax_cells (customer_tax_of r) ≡ row.now) }
-    ensures fault { OnErr result (result ≡ Err Store) }
-{
-    has_columns(row, 2)?;
-    Ok(CustomerTax {
-        customer: id_in(row, 0)?,
-        tax: id_in(row, 1)?,
-    })
-}
-
-fn first_customer_tax(rows: &[Row]) -> Result<Option<CustomerTax>, Fault>
-    ensures value { IfOk result (λ o. option_map (λ r. customer_tax_cells (customer_tax_of r)) o ≡ slice_get rows.now 0) }
-    ensures fault { OnErr result (result ≡ Err Store) }
-{
-    match rows.first() {
-        Some(row) => Ok(Some(customer_tax_in(row)?)),
-        None => Ok(None),
-    }
-}
-
-fn all_customer_taxes(alloc: Global, rows: &[Row]) -> Result<Vec<CustomerTax>, Fault>
-    ensures value { IfOk result (λ all. map (λ r. customer_tax_cells (customer_tax_of r)) all.items ≡ rows.now) }
-    ensures fault { IfErr result MayFail }
-{
-    let mut all = Vec::new(alloc);
-    for row in rows {
-        all.push(customer_tax_in(row)?)?;
-    }
-    Ok(all)
+    first_row(&rows)
 }
 
 /// The row of a customer and a tax, where the customer pays it.
@@ -125,7 +68,7 @@ pub fn customer_tax_by_key<S: Alter>(
     tax: Id,
 ) -> Result<Option<CustomerTax>, Fault>
     ensures same_reference { tx.new.conn.ghost_name ≡ tx.old.conn.ghost_name }
-    ensures step { IsStep (state S.Store tx.old.conn.now) (state S.Store tx.new.conn.now) result (λ o. Looks desk (λ t. option_map customer_tax_of o ≡ find (λ r. (r.customer == customer) && (r.tax == tax)) t.customer_taxes)) }
+    ensures step { Finds S.Store tx.old tx.new result CustomerTaxes customer_tax_of (λ r. (r.customer == customer) && (r.tax == tax)) }
     ensures fault { OnErr result (result ≡ Err Store) }
 {
     let rows = select(
@@ -133,7 +76,7 @@ pub fn customer_tax_by_key<S: Alter>(
         "SELECT CX_C_ID, CX_TX_ID FROM CUSTOMER_TAXRATE WHERE CX_C_ID = ?1 AND CX_TX_ID = ?2 ORDER BY CX_C_ID, CX_TX_ID",
         &[id_value(customer), id_value(tax)],
     )?;
-    first_customer_tax(&rows)
+    first_row(&rows)
 }
 
 /// The taxes that a customer pays, by rising id of the tax.
@@ -143,7 +86,7 @@ pub fn customer_taxes_of<S: Alter>(
     customer: Id,
 ) -> Result<Vec<CustomerTax>, Fault>
     ensures same_reference { tx.new.conn.ghost_name ≡ tx.old.conn.ghost_name }
-    ensures step { IsStep (state S.Store tx.old.conn.now) (state S.Store tx.new.conn.now) result (λ all. Looks desk (λ t. map customer_tax_of all.items ≡ filter (λ r. r.customer == customer) t.customer_taxes)) }
+    ensures step { Lists S.Store tx.old tx.new result CustomerTaxes customer_tax_of (λ r. r.customer == customer) }
     ensures fault { IfErr result MayFail }
 {
     let rows = select(
@@ -151,5 +94,5 @@ pub fn customer_taxes_of<S: Alter>(
         "SELECT CX_C_ID, CX_TX_ID FROM CUSTOMER_TAXRATE WHERE CX_C_ID = ?1 ORDER BY CX_C_ID, CX_TX_ID",
         &[id_value(customer)],
     )?;
-    all_customer_taxes(alloc, &rows)
+    all_rows(alloc, &rows)
 }

@@ -1,6 +1,5 @@
 pub mod Places
 pub mod Back
-pub mod TradeCells
 pub mod AddTrade
 pub mod AddTradeHistory
 pub mod AddRequest

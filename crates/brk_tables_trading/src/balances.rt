@@ -1,10 +1,7 @@
 ghost use Rattle.std.specs.Prelude.{◌≡◌, Err, OnErr};
 ghost use Rattle.brk_money.specs.declared.fault.Fault.TheVariants.{Store};
-ghost use Rattle.sqlite.specs.Held.{state};
-ghost use Rattle.brk_rows.specs.Desk.{Turns};
-ghost use Rattle.brk_rows.specs.Model.{IsStep};
-ghost use Rattle.brk_tables_form.specs.Desk.{desk};
 ghost use Rattle.brk_changes.specs.Changes.{with_balance};
+ghost use Rattle.brk_tables_form.specs.Statements.{Writes};
 
 use brk_money::{Cents, Fault, Id};
 use brk_tables_form::calls::run;
@@ -18,7 +15,7 @@ pub fn set_balance<S: Alter>(
     balance: Cents,
 ) -> Result<(), Fault>
     ensures same_reference { tx.new.conn.ghost_name ≡ tx.old.conn.ghost_name }
-    ensures step { IsStep (state S.Store tx.old.conn.now) (state S.Store tx.new.conn.now) result (λ _ a b. Turns desk (with_balance account balance) a.now b.now) }
+    ensures step { Writes S.Store tx.old tx.new result (with_balance account balance) }
     ensures fault { OnErr result (result ≡ Err Store) }
 {
     run(

@@ -1,11 +1,8 @@
 ghost use Rattle.std.specs.Prelude.{◌≡◌, Err, OnErr};
 ghost use Rattle.brk_money.specs.declared.fault.Fault.TheVariants.{Store};
-ghost use Rattle.sqlite.specs.Held.{state};
-ghost use Rattle.brk_rows.specs.Desk.{Turns};
-ghost use Rattle.brk_rows.specs.Model.{IsStep};
-ghost use Rattle.brk_tables_form.specs.Desk.{desk};
 ghost use Rattle.brk_changes.specs.Changes.{with_history};
 ghost use Rattle.brk_changes.specs.Rows.{history_row_of};
+ghost use Rattle.brk_tables_form.specs.Statements.{Writes};
 
 use brk_changes::HistoryRow;
 use brk_money::Fault;
@@ -19,7 +16,7 @@ pub fn add_trade_history<S: Alter>(
     mark: &HistoryRow,
 ) -> Result<(), Fault>
     ensures same_reference { tx.new.conn.ghost_name ≡ tx.old.conn.ghost_name }
-    ensures step { IsStep (state S.Store tx.old.conn.now) (state S.Store tx.new.conn.now) result (λ _ a b. Turns desk (with_history (history_row_of mark.now)) a.now b.now) }
+    ensures step { Writes S.Store tx.old tx.new result (with_history (history_row_of mark.now)) }
     ensures fault { OnErr result (result ≡ Err Store) }
 {
     run(

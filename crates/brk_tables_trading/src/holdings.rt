@@ -1,48 +1,20 @@
 //! What accounts hold: their lots, and how many shares of each security in all.
 
-ghost use Rattle.std.specs.Prelude.{◌≡◌, ◌==◌, ◌&&◌, Err, IfErr, IfOk, OnErr, bytes_eq, filter, find, map, option_map, slice_get};
+ghost use Rattle.std.specs.Prelude.{◌≡◌, ◌==◌, ◌&&◌, Err, IfErr, OnErr, bytes_eq, filter, map};
 ghost use Rattle.brk_money.specs.declared.fault.Fault.TheVariants.{Store};
-ghost use Rattle.sqlite.specs.Held.{state};
-ghost use Rattle.brk_rows.specs.Model.{IsStep, Looks};
 ghost use Rattle.brk_model.specs.Run.{MayFail};
-ghost use Rattle.brk_tables_form.specs.Cells.{holding_cells, summary_cells};
-ghost use Rattle.brk_tables_form.specs.Desk.{desk};
 ghost use Rattle.brk_changes.specs.Rows.{holding_row_of, oldest_lots_first, summary_row_of};
+ghost use Rattle.brk_tables_form.specs.Desk.{Summaries};
+ghost use Rattle.brk_tables_form.specs.Statements.{Finds, Lists, Reads};
 
 use brk_changes::{HoldingRow, SummaryRow};
 use brk_money::{Fault, Id};
 use brk_ref::Symbol;
 use brk_tables_form::calls::select;
-use brk_tables_form::cells::{has_columns, id_in, number_in, price_in, stamp_in, symbol_in};
+use brk_tables_form::record::{all_rows, first_row};
 use brk_tables_form::values::{id_value, text_value};
-use sqlite::{Alter, Row, Transaction};
+use sqlite::{Alter, Transaction};
 use std::alloc::Global;
-
-fn holding_in(row: &Row) -> Result<HoldingRow, Fault>
-    ensures value { IfOk result (λ r. holding_cells (holding_row_of r) ≡ row.now) }
-    ensures fault { OnErr result (result ≡ Err Store) }
-{
-    has_columns(row, 6)?;
-    Ok(HoldingRow {
-        trade: id_in(row, 0)?,
-        account: id_in(row, 1)?,
-        symbol: symbol_in(row, 2)?,
-        stamp: stamp_in(row, 3)?,
-        price: price_in(row, 4)?,
-        qty: number_in(row, 5)?,
-    })
-}
-
-fn all_holdings(alloc: Global, rows: &[Row]) -> Result<Vec<HoldingRow>, Fault>
-    ensures value { IfOk result (λ all. map (λ r. holding_cells (holding_row_of r)) all.items ≡ rows.now) }
-    ensures fault { IfErr result MayFail }
-{
-    let mut all = Vec::new(alloc);
-    for row in rows {
-        all.push(holding_in(row)?)?;
-    }
-    Ok(all)
-}
 
 /// The lots of an account in a security, by the moment of opening and then by trade, the oldest first.
 pub fn lots_of<S: Alter>(
@@ -52,7 +24,7 @@ pub fn lots_of<S: Alter>(
     symbol: &Symbol,
 ) -> Result<Vec<HoldingRow>, Fault>
     ensures same_reference { tx.new.conn.ghost_name ≡ tx.old.conn.ghost_name }
-    ensures step { IsStep (state S.Store tx.old.conn.now) (state S.Store tx.new.conn.now) result (λ all. Looks desk (λ t. map holding_row_of all.items ≡ oldest_lots_first (filter (λ r. (r.account == account) && bytes_eq r.symbol symbol.now) t.holdings))) }
+    ensures step { Reads S.Store tx.old tx.new result (λ all t. map holding_row_of all.items ≡ oldest_lots_first (filter (λ r. (r.account == account) && bytes_eq r.symbol symbol.now) t.holdings)) }
     ensures fault { IfErr result MayFail }
 {
     let rows = select(
@@ -60,30 +32,7 @@ pub fn lots_of<S: Alter>(
         "SELECT H_T_ID, H_CA_ID, H_S_SYMB, H_DTS, H_PRICE, H_QTY FROM HOLDING WHERE H_CA_ID = ?1 AND H_S_SYMB = ?2 ORDER BY H_DTS, H_T_ID",
         &[id_value(account), text_value(symbol.as_str())],
     )?;
-    all_holdings(alloc, &rows)
-}
-
-fn summary_in(row: &Row) -> Result<SummaryRow, Fault>
-    ensures value { IfOk result (λ r. summary_cells (summary_row_of r) ≡ row.now) }
-    ensures fault { OnErr result (result ≡ Err Store) }
-{
-    has_columns(row, 3)?;
-    Ok(SummaryRow {
-        account: id_in(row, 0)?,
-        symbol: symbol_in(row, 1)?,
-        qty: number_in(row, 2)?,
-    })
-}
-
-fn all_summaries(alloc: Global, rows: &[Row]) -> Result<Vec<SummaryRow>, Fault>
-    ensures value { IfOk result (λ all. map (λ r. summary_cells (summary_row_of r)) all.items ≡ rows.now) }
-    ensures fault { IfErr result MayFail }
-{
-    let mut all = Vec::new(alloc);
-    for row in rows {
-        all.push(summary_in(row)?)?;
-    }
-    Ok(all)
+    all_rows(alloc, &rows)
 }
 
 /// How many shares an account holds of each security, by rising symbol.
@@ -93,7 +42,7 @@ pub fn summaries_of<S: Alter>(
     account: Id,
 ) -> Result<Vec<SummaryRow>, Fault>
     ensures same_reference { tx.new.conn.ghost_name ≡ tx.old.conn.ghost_name }
-    ensures step { IsStep (state S.Store tx.old.conn.now) (state S.Store tx.new.conn.now) result (λ all. Looks desk (λ t. map summary_row_of all.items ≡ filter (λ r. r.account == account) t.summaries)) }
+    ensures step { Lists S.Store tx.old tx.new result Summaries summary_row_of (λ r. r.account == account) }
     ensures fault { IfErr result MayFail }
 {
     let rows = select(
@@ -101,17 +50,7 @@ pub fn summaries_of<S: Alter>(
         "SELECT HS_CA_ID, HS_S_SYMB, HS_QTY FROM HOLDING_SUMMARY WHERE HS_CA_ID = ?1 ORDER BY HS_CA_ID, HS_S_SYMB",
         &[id_value(account)],
     )?;
-    all_summaries(alloc, &rows)
-}
-
-fn first_summary(rows: &[Row]) -> Result<Option<SummaryRow>, Fault>
-    ensures value { IfOk result (λ o. option_map (λ r. summary_cells (summary_row_of r)) o ≡ slice_get rows.now 0) }
-    ensures fault { OnErr result (result ≡ Err Store) }
-{
-    match rows.first() {
-        Some(row) => Ok(Some(summary_in(row)?)),
-        None => Ok(None),
-    }
+    all_rows(alloc, &rows)
 }
 
 /// How many shares an account holds of a security, where it holds some.
@@ -121,7 +60,7 @@ pub fn summary_of<S: Alter>(
     symbol: &Symbol,
 ) -> Result<Option<SummaryRow>, Fault>
     ensures same_reference { tx.new.conn.ghost_name ≡ tx.old.conn.ghost_name }
-    ensures step { IsStep (state S.Store tx.old.conn.now) (state S.Store tx.new.conn.now) result (λ o. Looks desk (λ t. option_map summary_row_of o ≡ find (λ r. (r.account == account) && bytes_eq r.symbol symbol.now) t.summaries)) }
+    ensures step { Finds S.Store tx.old tx.new result Summaries summary_row_of (λ r. (r.account == account) && bytes_eq r.symbol symbol.now) }
     ensures fault { OnErr result (result ≡ Err Store) }
 {
     let rows = select(
@@ -129,5 +68,5 @@ pub fn summary_of<S: Alter>(
         "SELECT HS_CA_ID, HS_S_SYMB, HS_QTY FROM HOLDING_SUMMARY WHERE HS_CA_ID = ?1 AND HS_S_SYMB = ?2 ORDER BY HS_CA_ID, HS_S_SYMB",
         &[id_value(account), text_value(symbol.as_str())],
     )?;
-    first_summary(&rows)
+    first_row(&rows)
 }

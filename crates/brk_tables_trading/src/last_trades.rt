@@ -1,19 +1,16 @@
-ghost use Rattle.std.specs.Prelude.{◌≡◌, Err, IfOk, OnErr, bytes_eq, find, option_map, slice_get};
+ghost use Rattle.std.specs.Prelude.{◌≡◌, Err, OnErr, bytes_eq};
 ghost use Rattle.brk_money.specs.declared.fault.Fault.TheVariants.{Store};
-ghost use Rattle.sqlite.specs.Held.{state};
-ghost use Rattle.brk_rows.specs.Desk.{Turns};
-ghost use Rattle.brk_rows.specs.Model.{IsStep, Looks};
 ghost use Rattle.brk_ref.specs.Records.{last_trade_of};
-ghost use Rattle.brk_tables_form.specs.Cells.{last_trade_cells};
-ghost use Rattle.brk_tables_form.specs.Desk.{desk};
 ghost use Rattle.brk_changes.specs.Changes.{with_last_trade_set};
+ghost use Rattle.brk_tables_form.specs.Desk.{LastTrades};
+ghost use Rattle.brk_tables_form.specs.Statements.{Finds, Writes};
 
 use brk_money::Fault;
 use brk_ref::{LastTrade, Symbol};
 use brk_tables_form::calls::{run, select};
-use brk_tables_form::cells::{has_columns, price_in, stamp_in, symbol_in, volume_in};
+use brk_tables_form::record::first_row;
 use brk_tables_form::values::{price_value, stamp_value, text_value, volume_value};
-use sqlite::{Alter, Row, Transaction};
+use sqlite::{Alter, Transaction};
 
 /// Sets the last trade of a security, by its symbol.
 pub fn set_last_trade<S: Alter>(
@@ -21,7 +18,7 @@ pub fn set_last_trade<S: Alter>(
     last_trade: &LastTrade,
 ) -> Result<(), Fault>
     ensures same_reference { tx.new.conn.ghost_name ≡ tx.old.conn.ghost_name }
-    ensures step { IsStep (state S.Store tx.old.conn.now) (state S.Store tx.new.conn.now) result (λ _ a b. Turns desk (with_last_trade_set (last_trade_of last_trade.now)) a.now b.now) }
+    ensures step { Writes S.Store tx.old tx.new result (with_last_trade_set (last_trade_of last_trade.now)) }
     ensures fault { OnErr result (result ≡ Err Store) }
 {
     run(
@@ -36,36 +33,13 @@ pub fn set_last_trade<S: Alter>(
     )
 }
 
-fn last_trade_in(row: &Row) -> Result<LastTrade, Fault>
-    ensures value { IfOk result (λ r. last_trade_cells (last_trade_of r) ≡ row.now) }
-    ensures fault { OnErr result (result ≡ Err Store) }
-{
-    has_columns(row, 4)?;
-    Ok(LastTrade {
-        symbol: symbol_in(row, 0)?,
-        stamp: stamp_in(row, 1)?,
-        price: price_in(row, 2)?,
-        volume: volume_in(row, 3)?,
-    })
-}
-
-fn first_last_trade(rows: &[Row]) -> Result<Option<LastTrade>, Fault>
-    ensures value { IfOk result (λ o. option_map (λ r. last_trade_cells (last_trade_of r)) o ≡ slice_get rows.now 0) }
-    ensures fault { OnErr result (result ≡ Err Store) }
-{
-    match rows.first() {
-        Some(row) => Ok(Some(last_trade_in(row)?)),
-        None => Ok(None),
-    }
-}
-
 /// The last trade of the security with a symbol.
 pub fn last_trade_by_symbol<S: Alter>(
     tx: &mut Transaction<'_, S>,
     symbol: &Symbol,
 ) -> Result<Option<LastTrade>, Fault>
     ensures same_reference { tx.new.conn.ghost_name ≡ tx.old.conn.ghost_name }
-    ensures step { IsStep (state S.Store tx.old.conn.now) (state S.Store tx.new.conn.now) result (λ o. Looks desk (λ t. option_map last_trade_of o ≡ find (λ r. bytes_eq r.symbol symbol.now) t.last_trades)) }
+    ensures step { Finds S.Store tx.old tx.new result LastTrades last_trade_of (λ r. bytes_eq r.symbol symbol.now) }
     ensures fault { OnErr result (result ≡ Err Store) }
 {
     let rows = select(
@@ -73,5 +47,5 @@ pub fn last_trade_by_symbol<S: Alter>(
         "SELECT LT_S_SYMB, LT_DTS, LT_PRICE, LT_VOL FROM LAST_TRADE WHERE LT_S_SYMB = ?1 ORDER BY LT_S_SYMB",
         &[text_value(symbol.as_str())],
     )?;
-    first_last_trade(&rows)
+    first_row(&rows)
 }

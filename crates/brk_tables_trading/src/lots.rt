@@ -2,12 +2,9 @@
 
 ghost use Rattle.std.specs.Prelude.{◌≡◌, Err, OnErr};
 ghost use Rattle.brk_money.specs.declared.fault.Fault.TheVariants.{Store};
-ghost use Rattle.sqlite.specs.Held.{state};
-ghost use Rattle.brk_rows.specs.Desk.{Turns};
-ghost use Rattle.brk_rows.specs.Model.{IsStep};
-ghost use Rattle.brk_tables_form.specs.Desk.{desk};
 ghost use Rattle.brk_changes.specs.Changes.{with_lot, with_lot_change, with_lot_set, without_lot};
 ghost use Rattle.brk_changes.specs.Rows.{holding_row_of, lot_change_of};
+ghost use Rattle.brk_tables_form.specs.Statements.{Writes};
 
 use brk_changes::{HoldingRow, LotChange};
 use brk_money::{Fault, Id};
@@ -18,7 +15,7 @@ use sqlite::{Alter, Transaction};
 /// Adds the lot that a trade opened, which has none yet.
 pub fn add_lot<S: Alter>(tx: &mut Transaction<'_, S>, lot: &HoldingRow) -> Result<(), Fault>
     ensures same_reference { tx.new.conn.ghost_name ≡ tx.old.conn.ghost_name }
-    ensures step { IsStep (state S.Store tx.old.conn.now) (state S.Store tx.new.conn.now) result (λ _ a b. Turns desk (with_lot (holding_row_of lot.now)) a.now b.now) }
+    ensures step { Writes S.Store tx.old tx.new result (with_lot (holding_row_of lot.now)) }
     ensures fault { OnErr result (result ≡ Err Store) }
 {
     run(
@@ -38,7 +35,7 @@ pub fn add_lot<S: Alter>(tx: &mut Transaction<'_, S>, lot: &HoldingRow) -> Resul
 /// Sets the quantity of the lot that a trade opened.
 pub fn set_lot<S: Alter>(tx: &mut Transaction<'_, S>, trade: Id, qty: i64) -> Result<(), Fault>
     ensures same_reference { tx.new.conn.ghost_name ≡ tx.old.conn.ghost_name }
-    ensures step { IsStep (state S.Store tx.old.conn.now) (state S.Store tx.new.conn.now) result (λ _ a b. Turns desk (with_lot_set trade qty) a.now b.now) }
+    ensures step { Writes S.Store tx.old tx.new result (with_lot_set trade qty) }
     ensures fault { OnErr result (result ≡ Err Store) }
 {
     run(
@@ -51,7 +48,7 @@ pub fn set_lot<S: Alter>(tx: &mut Transaction<'_, S>, trade: Id, qty: i64) -> Re
 /// Takes the lot that a trade opened away.
 pub fn remove_lot<S: Alter>(tx: &mut Transaction<'_, S>, trade: Id) -> Result<(), Fault>
     ensures same_reference { tx.new.conn.ghost_name ≡ tx.old.conn.ghost_name }
-    ensures step { IsStep (state S.Store tx.old.conn.now) (state S.Store tx.new.conn.now) result (λ _ a b. Turns desk (without_lot trade) a.now b.now) }
+    ensures step { Writes S.Store tx.old tx.new result (without_lot trade) }
     ensures fault { OnErr result (result ≡ Err Store) }
 {
     run(
@@ -67,7 +64,7 @@ pub fn add_lot_change<S: Alter>(
     change: &LotChange,
 ) -> Result<(), Fault>
     ensures same_reference { tx.new.conn.ghost_name ≡ tx.old.conn.ghost_name }
-    ensures step { IsStep (state S.Store tx.old.conn.now) (state S.Store tx.new.conn.now) result (λ _ a b. Turns desk (with_lot_change (lot_change_of change.now)) a.now b.now) }
+    ensures step { Writes S.Store tx.old tx.new result (with_lot_change (lot_change_of change.now)) }
     ensures fault { OnErr result (result ≡ Err Store) }
 {
     run(

@@ -2,12 +2,9 @@
 
 ghost use Rattle.std.specs.Prelude.{◌≡◌, Err, OnErr};
 ghost use Rattle.brk_money.specs.declared.fault.Fault.TheVariants.{Store};
-ghost use Rattle.sqlite.specs.Held.{state};
-ghost use Rattle.brk_rows.specs.Desk.{Turns};
-ghost use Rattle.brk_rows.specs.Model.{IsStep};
-ghost use Rattle.brk_tables_form.specs.Desk.{desk};
 ghost use Rattle.brk_changes.specs.Changes.{with_cash, with_settlement};
 ghost use Rattle.brk_changes.specs.Rows.{cash_row_of, settlement_row_of};
+ghost use Rattle.brk_tables_form.specs.Statements.{Writes};
 
 use brk_changes::{CashRow, SettlementRow};
 use brk_money::Fault;
@@ -23,7 +20,7 @@ pub fn add_settlement<S: Alter>(
     settlement: &SettlementRow,
 ) -> Result<(), Fault>
     ensures same_reference { tx.new.conn.ghost_name ≡ tx.old.conn.ghost_name }
-    ensures step { IsStep (state S.Store tx.old.conn.now) (state S.Store tx.new.conn.now) result (λ _ a b. Turns desk (with_settlement (settlement_row_of settlement.now)) a.now b.now) }
+    ensures step { Writes S.Store tx.old tx.new result (with_settlement (settlement_row_of settlement.now)) }
     ensures fault { OnErr result (result ≡ Err Store) }
 {
     run(
@@ -41,7 +38,7 @@ pub fn add_settlement<S: Alter>(
 /// Adds what a trade moved, which has moved nothing yet.
 pub fn add_cash<S: Alter>(tx: &mut Transaction<'_, S>, cash: &CashRow) -> Result<(), Fault>
     ensures same_reference { tx.new.conn.ghost_name ≡ tx.old.conn.ghost_name }
-    ensures step { IsStep (state S.Store tx.old.conn.now) (state S.Store tx.new.conn.now) result (λ _ a b. Turns desk (with_cash (cash_row_of cash.now)) a.now b.now) }
+    ensures step { Writes S.Store tx.old tx.new result (with_cash (cash_row_of cash.now)) }
     ensures fault { OnErr result (result ≡ Err Store) }
 {
     run(

@@ -2,12 +2,9 @@
 
 ghost use Rattle.std.specs.Prelude.{◌≡◌, Err, OnErr};
 ghost use Rattle.brk_money.specs.declared.fault.Fault.TheVariants.{Store};
-ghost use Rattle.sqlite.specs.Held.{state};
-ghost use Rattle.brk_rows.specs.Desk.{Turns};
-ghost use Rattle.brk_rows.specs.Model.{IsStep};
-ghost use Rattle.brk_tables_form.specs.Desk.{desk};
 ghost use Rattle.brk_changes.specs.Changes.{with_summary, with_summary_set, without_summary};
 ghost use Rattle.brk_changes.specs.Rows.{summary_row_of};
+ghost use Rattle.brk_tables_form.specs.Statements.{Writes};
 
 use brk_changes::SummaryRow;
 use brk_money::{Fault, Id};
@@ -19,7 +16,7 @@ use sqlite::{Alter, Transaction};
 /// Adds how many shares of a security an account holds, which has no such row yet.
 pub fn add_summary<S: Alter>(tx: &mut Transaction<'_, S>, summary: &SummaryRow) -> Result<(), Fault>
     ensures same_reference { tx.new.conn.ghost_name ≡ tx.old.conn.ghost_name }
-    ensures step { IsStep (state S.Store tx.old.conn.now) (state S.Store tx.new.conn.now) result (λ _ a b. Turns desk (with_summary (summary_row_of summary.now)) a.now b.now) }
+    ensures step { Writes S.Store tx.old tx.new result (with_summary (summary_row_of summary.now)) }
     ensures fault { OnErr result (result ≡ Err Store) }
 {
     run(
@@ -36,7 +33,7 @@ pub fn add_summary<S: Alter>(tx: &mut Transaction<'_, S>, summary: &SummaryRow) 
 /// Sets how many shares of a security an account holds, by the account and the symbol.
 pub fn set_summary<S: Alter>(tx: &mut Transaction<'_, S>, summary: &SummaryRow) -> Result<(), Fault>
     ensures same_reference { tx.new.conn.ghost_name ≡ tx.old.conn.ghost_name }
-    ensures step { IsStep (state S.Store tx.old.conn.now) (state S.Store tx.new.conn.now) result (λ _ a b. Turns desk (with_summary_set (summary_row_of summary.now)) a.now b.now) }
+    ensures step { Writes S.Store tx.old tx.new result (with_summary_set (summary_row_of summary.now)) }
     ensures fault { OnErr result (result ≡ Err Store) }
 {
     run(
@@ -57,7 +54,7 @@ pub fn remove_summary<S: Alter>(
     symbol: &Symbol,
 ) -> Result<(), Fault>
     ensures same_reference { tx.new.conn.ghost_name ≡ tx.old.conn.ghost_name }
-    ensures step { IsStep (state S.Store tx.old.conn.now) (state S.Store tx.new.conn.now) result (λ _ a b. Turns desk (without_summary account symbol.now) a.now b.now) }
+    ensures step { Writes S.Store tx.old tx.new result (without_summary account symbol.now) }
     ensures fault { OnErr result (result ≡ Err Store) }
 {
     run(

@@ -1,34 +1,28 @@
-ghost use Rattle.std.specs.Prelude.{◌≡◌, ◌==◌, ◌∷◌, [], Err, IfErr, IfOk, OnErr, filter, find, map, option_map, reverse, slice_get};
+ghost use Rattle.std.specs.Prelude.{◌≡◌, ◌==◌, Err, IfErr, OnErr, option_map, reverse, slice_get};
 ghost use Rattle.brk_money.specs.Kinds.{same_status};
 ghost use Rattle.brk_money.specs.declared.fault.Fault.TheVariants.{Store};
 ghost use Rattle.brk_money.specs.declared.status.Status.TheVariants.{Submitted};
-ghost use Rattle.sqlite.specs.Held.{state};
-ghost use Rattle.brk_rows.specs.Desk.{Turns};
-ghost use Rattle.brk_rows.specs.Model.{IsStep, Looks};
 ghost use Rattle.brk_model.specs.Run.{MayFail};
-ghost use Rattle.brk_tables_form.specs.Cells.{nat, trade_cells};
-ghost use Rattle.brk_tables_form.specs.Desk.{desk};
 ghost use Rattle.brk_changes.specs.Changes.{with_completion, with_status, with_trade};
 ghost use Rattle.brk_changes.specs.Rows.{trade_row_of};
+ghost use Rattle.brk_tables_form.specs.Desk.{Trades};
+ghost use Rattle.brk_tables_form.specs.Statements.{Finds, Lists, Reads, Writes};
 
 use brk_changes::{Amount, TradeRow};
 use brk_money::{Fault, Id, Price, Stamp, Status};
 use brk_tables_form::calls::{run, select};
-use brk_tables_form::cells::{
-    amount_in, charge_amount_in, flag_in, has_columns, id_in, maybe_price_in, price_in, qty_in,
-    stamp_in, status_in, symbol_in, text_in, type_in,
-};
+use brk_tables_form::record::{all_rows, first_row};
 use brk_tables_form::values::{
     amount_value, charge_amount_value, flag_value, id_value, maybe_price_value, price_value,
     qty_value, stamp_value, status_value, text_value, type_value,
 };
-use sqlite::{Alter, Row, Transaction};
+use sqlite::{Alter, Transaction};
 use std::alloc::Global;
 
 /// Adds a trade, whose id is new.
 pub fn add_trade<S: Alter>(tx: &mut Transaction<'_, S>, trade: &TradeRow) -> Result<(), Fault>
     ensures same_reference { tx.new.conn.ghost_name ≡ tx.old.conn.ghost_name }
-    ensures step { IsStep (state S.Store tx.old.conn.now) (state S.Store tx.new.conn.now) result (λ _ a b. Turns desk (with_trade (trade_row_of trade.now)) a.now b.now) }
+    ensures step { Writes S.Store tx.old tx.new result (with_trade (trade_row_of trade.now)) }
     ensures fault { OnErr result (result ≡ Err Store) }
 {
     run(
@@ -62,7 +56,7 @@ pub fn set_status<S: Alter>(
     stamp: Stamp,
 ) -> Result<(), Fault>
     ensures same_reference { tx.new.conn.ghost_name ≡ tx.old.conn.ghost_name }
-    ensures step { IsStep (state S.Store tx.old.conn.now) (state S.Store tx.new.conn.now) result (λ _ a b. Turns desk (with_status id status stamp) a.now b.now) }
+    ensures step { Writes S.Store tx.old tx.new result (with_status id status stamp) }
     ensures fault { OnErr result (result ≡ Err Store) }
 {
     run(
@@ -82,7 +76,7 @@ pub fn complete_trade<S: Alter>(
     tax: Amount,
 ) -> Result<(), Fault>
     ensures same_reference { tx.new.conn.ghost_name ≡ tx.old.conn.ghost_name }
-    ensures step { IsStep (state S.Store tx.old.conn.now) (state S.Store tx.new.conn.now) result (λ _ a b. Turns desk (with_completion trade stamp price commission tax) a.now b.now) }
+    ensures step { Writes S.Store tx.old tx.new result (with_completion trade stamp price commission tax) }
     ensures fault { OnErr result (result ≡ Err Store) }
 {
     run(
@@ -99,44 +93,10 @@ pub fn complete_trade<S: Alter>(
     )
 }
 
-fn trade_in(row: &Row) -> Result<TradeRow, Fault>
-    ensures value { IfOk result (λ r. trade_cells (trade_row_of r) ≡ row.now) }
-    ensures fault { OnErr result (result ≡ Err Store) }
-{
-    has_columns(row, 15)?;
-    Ok(TradeRow {
-        id: id_in(row, 0)?,
-        stamp: stamp_in(row, 1)?,
-        status: status_in(row, 2)?,
-        kind: type_in(row, 3)?,
-        is_cash: flag_in(row, 4)?,
-        symbol: symbol_in(row, 5)?,
-        qty: qty_in(row, 6)?,
-        bid: price_in(row, 7)?,
-        account: id_in(row, 8)?,
-        executor: text_in(row, 9)?,
-        price: maybe_price_in(row, 10)?,
-        charge: charge_amount_in(row, 11)?,
-        commission: amount_in(row, 12)?,
-        tax: amount_in(row, 13)?,
-        is_lifo: flag_in(row, 14)?,
-    })
-}
-
-fn first_trade(rows: &[Row]) -> Result<Option<TradeRow>, Fault>
-    ensures value { IfOk result (λ o. option_map (λ r. trade_cells (trade_row_of r)) o ≡ slice_get rows.now 0) }
-    ensures fault { OnErr result (result ≡ Err Store) }
-{
-    match rows.first() {
-        Some(row) => Ok(Some(trade_in(row)?)),
-        None => Ok(None),
-    }
-}
-
 /// The trade with an id.
 pub fn trade_by_id<S: Alter>(tx: &mut Transaction<'_, S>, id: Id) -> Result<Option<TradeRow>, Fault>
     ensures same_reference { tx.new.conn.ghost_name ≡ tx.old.conn.ghost_name }
-    ensures step { IsStep (state S.Store tx.old.conn.now) (state S.Store tx.new.conn.now) result (λ o. Looks desk (λ t. option_map trade_row_of o ≡ find (λ r. r.id == id) t.trades)) }
+    ensures step { Finds S.Store tx.old tx.new result Trades trade_row_of (λ r. r.id == id) }
     ensures fault { OnErr result (result ≡ Err Store) }
 {
     let rows = select(
@@ -144,46 +104,17 @@ pub fn trade_by_id<S: Alter>(tx: &mut Transaction<'_, S>, id: Id) -> Result<Opti
         "SELECT T_ID, T_DTS, T_ST_ID, T_TT_ID, T_IS_CASH, T_S_SYMB, T_QTY, T_BID_PRICE, T_CA_ID, T_EXEC_NAME, T_TRADE_PRICE, T_CHRG, T_COMM, T_TAX, T_LIFO FROM TRADE WHERE T_ID = ?1 ORDER BY T_ID",
         &[id_value(id)],
     )?;
-    first_trade(&rows)
-}
-
-fn only_id(row: &Row) -> Result<Id, Fault>
-    ensures value { IfOk result (λ id. nat id ∷ [] ≡ row.now) }
-    ensures fault { OnErr result (result ≡ Err Store) }
-{
-    has_columns(row, 1)?;
-    id_in(row, 0)
-}
-
-fn first_id(rows: &[Row]) -> Result<Option<Id>, Fault>
-    ensures value { IfOk result (λ o. option_map (λ id. nat id ∷ []) o ≡ slice_get rows.now 0) }
-    ensures fault { OnErr result (result ≡ Err Store) }
-{
-    match rows.first() {
-        Some(row) => Ok(Some(only_id(row)?)),
-        None => Ok(None),
-    }
+    first_row(&rows)
 }
 
 /// The greatest id of a trade, where there is a trade.
 pub fn last_trade_id<S: Alter>(tx: &mut Transaction<'_, S>) -> Result<Option<Id>, Fault>
     ensures same_reference { tx.new.conn.ghost_name ≡ tx.old.conn.ghost_name }
-    ensures step { IsStep (state S.Store tx.old.conn.now) (state S.Store tx.new.conn.now) result (λ o. Looks desk (λ t. o ≡ option_map (λ r. r.id) (slice_get (reverse t.trades) 0))) }
+    ensures step { Reads S.Store tx.old tx.new result (λ o t. o ≡ option_map (λ r. r.id) (slice_get (reverse t.trades) 0)) }
     ensures fault { OnErr result (result ≡ Err Store) }
 {
     let rows = select(tx, "SELECT T_ID FROM TRADE ORDER BY T_ID DESC LIMIT 1", &[])?;
-    first_id(&rows)
-}
-
-fn all_trades(alloc: Global, rows: &[Row]) -> Result<Vec<TradeRow>, Fault>
-    ensures value { IfOk result (λ all. map (λ r. trade_cells (trade_row_of r)) all.items ≡ rows.now) }
-    ensures fault { IfErr result MayFail }
-{
-    let mut all = Vec::new(alloc);
-    for row in rows {
-        all.push(trade_in(row)?)?;
-    }
-    Ok(all)
+    first_row(&rows)
 }
 
 /// The trades that are at the market, by rising id.
@@ -192,7 +123,7 @@ pub fn submitted_trades<S: Alter>(
     alloc: Global,
 ) -> Result<Vec<TradeRow>, Fault>
     ensures same_reference { tx.new.conn.ghost_name ≡ tx.old.conn.ghost_name }
-    ensures step { IsStep (state S.Store tx.old.conn.now) (state S.Store tx.new.conn.now) result (λ all. Looks desk (λ t. map trade_row_of all.items ≡ filter (λ r. same_status r.status Submitted) t.trades)) }
+    ensures step { Lists S.Store tx.old tx.new result Trades trade_row_of (λ r. same_status r.status Submitted) }
     ensures fault { IfErr result MayFail }
 {
     let rows = select(
@@ -200,5 +131,5 @@ pub fn submitted_trades<S: Alter>(
         "SELECT T_ID, T_DTS, T_ST_ID, T_TT_ID, T_IS_CASH, T_S_SYMB, T_QTY, T_BID_PRICE, T_CA_ID, T_EXEC_NAME, T_TRADE_PRICE, T_CHRG, T_COMM, T_TAX, T_LIFO FROM TRADE WHERE T_ST_ID = ?1 ORDER BY T_ID",
         &[status_value(Status::Submitted)],
     )?;
-    all_trades(alloc, &rows)
+    all_rows(alloc, &rows)
 }

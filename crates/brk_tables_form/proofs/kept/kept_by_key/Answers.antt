@@ -22,4 +22,4 @@ returns-clause-step g c =
     let old = state g.S.Store c.args.tx.now.conn.now in
     let new = state g.S.Store c.select.new.tx.conn.now in
     look_first desk kept_cells kept_back kept_is_back kept_of KeptByKey.statement (Text c.args.key.now.batch ∷ Int (pos c.args.key.now.row) ∷ []) old new c.in_ok-rows.rows (λ rows. rows.items) _ c.deref.ensures.value (rw (c.text_value.ensures, c.as_str.ensures, c.row_number_value.ensures) at c.in_ok-rows.ensures.step)
-    c.first_kept.result c.first_kept.ensures.value (λ t. filter (λ (k : Kept). bytes_eq k.key.batch c.args.key.now.batch && (k.key.row == c.args.key.now.row)) t.kept) (λ t. find (λ (k : Kept). bytes_eq k.key.batch c.args.key.now.batch && (k.key.row == c.args.key.now.row)) t.kept) (λ t. slice_get-filter (λ (k : Kept). bytes_eq k.key.batch c.args.key.now.batch && (k.key.row == c.args.key.now.row)) t.kept) (tells_kept old new c.args.key.now.batch c.args.key.now.row _)
+    c.first_row.result c.first_row.ensures.value (λ t. filter (λ (k : Kept). bytes_eq k.key.batch c.args.key.now.batch && (k.key.row == c.args.key.now.row)) t.kept) (λ t. find (λ (k : Kept). bytes_eq k.key.batch c.args.key.now.batch && (k.key.row == c.args.key.now.row)) t.kept) (λ t. slice_get-filter (λ (k : Kept). bytes_eq k.key.batch c.args.key.now.batch && (k.key.row == c.args.key.now.row)) t.kept) (tells_kept old new c.args.key.now.batch c.args.key.now.row _)

@@ -21,4 +21,4 @@ returns-clause-step g c =
     let old = state g.S.Store c.args.tx.now.conn.now in
     let new = state g.S.Store c.select.new.tx.conn.now in
     look_first desk account_cells account_back account_is_back account_row_of AccountById.statement (Int (pos c.args.id) ∷ []) old new c.in_ok-rows.rows (λ rows. rows.items) _ c.deref.ensures.value (rw (c.id_value.ensures) at c.in_ok-rows.ensures.step)
-    c.first_account.result c.first_account.ensures.value (λ t. filter (λ (r : AccountRow). r.id == c.args.id) t.accounts) (λ t. find (λ (r : AccountRow). r.id == c.args.id) t.accounts) (λ t. slice_get-filter (λ (r : AccountRow). r.id == c.args.id) t.accounts) (tells_account old new c.args.id _)
+    c.first_row.result c.first_row.ensures.value (λ t. filter (λ (r : AccountRow). r.id == c.args.id) t.accounts) (λ t. find (λ (r : AccountRow). r.id == c.args.id) t.accounts) (λ t. slice_get-filter (λ (r : AccountRow). r.id == c.args.id) t.accounts) (tells_account old new c.args.id _)

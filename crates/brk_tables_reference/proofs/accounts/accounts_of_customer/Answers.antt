@@ -20,4 +20,4 @@ returns-clause-step g c =
     let old = state g.S.Store c.args.tx.now.conn.now in
     let new = state g.S.Store c.select.new.tx.conn.now in
     look_all desk account_cells account_back account_is_back account_row_of AccountsOfCustomer.statement (Int (pos c.args.customer) ∷ []) old new c.in_ok-rows.rows (λ rows. rows.items) _ c.deref.ensures.value (rw (c.id_value.ensures) at c.in_ok-rows.ensures.step)
-    (λ all. all.items) c.all_accounts.result c.all_accounts.ensures.value (λ t. filter (λ (r : AccountRow). r.customer == c.args.customer) t.accounts) (tells_accounts old new c.args.customer _)
+    (λ all. all.items) c.all_rows.result c.all_rows.ensures.value (λ t. filter (λ (r : AccountRow). r.customer == c.args.customer) t.accounts) (tells_accounts old new c.args.customer _)

@@ -22,4 +22,4 @@ returns-clause-step g c =
     let old = state g.S.Store c.args.tx.now.conn.now in
     let new = state g.S.Store c.select.new.tx.conn.now in
     look_all desk band_cells band_back band_is_back band_of BandsFor.statement (Int (pos c.args.tier) ∷ Text (type_code c.args.kind) ∷ Text c.args.exchange.now ∷ []) old new c.in_ok-rows.rows (λ rows. rows.items) _ c.deref.ensures.value (rw (c.tier_value.ensures, c.type_value.ensures, c.text_value.ensures, c.as_str.ensures) at c.in_ok-rows.ensures.step)
-    (λ all. all.items) c.all_bands.result c.all_bands.ensures.value (λ t. filter (λ (r : Band). (r.tier == c.args.tier) && same_type r.kind c.args.kind && bytes_eq r.exchange c.args.exchange.now) t.bands) (tells_bands old new c.args.tier c.args.kind c.args.exchange.now _)
+    (λ all. all.items) c.all_rows.result c.all_rows.ensures.value (λ t. filter (λ (r : Band). (r.tier == c.args.tier) && same_type r.kind c.args.kind && bytes_eq r.exchange c.args.exchange.now) t.bands) (tells_bands old new c.args.tier c.args.kind c.args.exchange.now _)

@@ -21,4 +21,4 @@ returns-clause-step g c =
     let old = state g.S.Store c.args.tx.now.conn.now in
     let new = state g.S.Store c.select.new.tx.conn.now in
     look_first desk broker_cells broker_back broker_is_back broker_row_of BrokerById.statement (Int (pos c.args.id) ∷ []) old new c.in_ok-rows.rows (λ rows. rows.items) _ c.deref.ensures.value (rw (c.id_value.ensures) at c.in_ok-rows.ensures.step)
-    c.first_broker.result c.first_broker.ensures.value (λ t. filter (λ (r : BrokerRow). r.id == c.args.id) t.brokers) (λ t. find (λ (r : BrokerRow). r.id == c.args.id) t.brokers) (λ t. slice_get-filter (λ (r : BrokerRow). r.id == c.args.id) t.brokers) (tells_broker old new c.args.id _)
+    c.first_row.result c.first_row.ensures.value (λ t. filter (λ (r : BrokerRow). r.id == c.args.id) t.brokers) (λ t. find (λ (r : BrokerRow). r.id == c.args.id) t.brokers) (λ t. slice_get-filter (λ (r : BrokerRow). r.id == c.args.id) t.brokers) (tells_broker old new c.args.id _)

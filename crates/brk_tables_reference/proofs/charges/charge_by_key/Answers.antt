@@ -22,4 +22,4 @@ returns-clause-step g c =
     let old = state g.S.Store c.args.tx.now.conn.now in
     let new = state g.S.Store c.select.new.tx.conn.now in
     look_first desk charge_cells charge_back charge_is_back charge_of ChargeByKey.statement (Text (type_code c.args.kind) ∷ Int (pos c.args.tier) ∷ []) old new c.in_ok-rows.rows (λ rows. rows.items) _ c.deref.ensures.value (rw (c.type_value.ensures, c.tier_value.ensures) at c.in_ok-rows.ensures.step)
-    c.first_charge.result c.first_charge.ensures.value (λ t. filter (λ (r : Charge). same_type r.kind c.args.kind && (r.tier == c.args.tier)) t.charges) (λ t. find (λ (r : Charge). same_type r.kind c.args.kind && (r.tier == c.args.tier)) t.charges) (λ t. slice_get-filter (λ (r : Charge). same_type r.kind c.args.kind && (r.tier == c.args.tier)) t.charges) (tells_charge old new c.args.kind c.args.tier _)
+    c.first_row.result c.first_row.ensures.value (λ t. filter (λ (r : Charge). same_type r.kind c.args.kind && (r.tier == c.args.tier)) t.charges) (λ t. find (λ (r : Charge). same_type r.kind c.args.kind && (r.tier == c.args.tier)) t.charges) (λ t. slice_get-filter (λ (r : Charge). same_type r.kind c.args.kind && (r.tier == c.args.tier)) t.charges) (tells_charge old new c.args.kind c.args.tier _)

@@ -21,4 +21,4 @@ returns-clause-step g c =
     let old = state g.S.Store c.args.tx.now.conn.now in
     let new = state g.S.Store c.select.new.tx.conn.now in
     look_first desk customer_cells customer_back customer_is_back customer_of CustomerById.statement (Int (pos c.args.id) ∷ []) old new c.in_ok-rows.rows (λ rows. rows.items) _ c.deref.ensures.value (rw (c.id_value.ensures) at c.in_ok-rows.ensures.step)
-    c.first_customer.result c.first_customer.ensures.value (λ t. filter (λ (r : Customer). r.id == c.args.id) t.customers) (λ t. find (λ (r : Customer). r.id == c.args.id) t.customers) (λ t. slice_get-filter (λ (r : Customer). r.id == c.args.id) t.customers) (tells_customer old new c.args.id _)
+    c.first_row.result c.first_row.ensures.value (λ t. filter (λ (r : Customer). r.id == c.args.id) t.customers) (λ t. find (λ (r : Customer). r.id == c.args.id) t.customers) (λ t. slice_get-filter (λ (r : Customer). r.id == c.args.id) t.customers) (tells_customer old new c.args.id _)

@@ -22,4 +22,4 @@ returns-clause-step g c =
     let old = state g.S.Store c.args.tx.now.conn.now in
     let new = state g.S.Store c.select.new.tx.conn.now in
     look_first desk security_cells security_back security_is_back security_of SecurityBySymbol.statement (Text c.args.symbol.now ∷ []) old new c.in_ok-rows.rows (λ rows. rows.items) _ c.deref.ensures.value (rw (c.text_value.ensures, c.as_str.ensures) at c.in_ok-rows.ensures.step)
-    c.first_security.result c.first_security.ensures.value (λ t. filter (λ (r : SecurityRow). bytes_eq r.symbol c.args.symbol.now) t.securities) (λ t. find (λ (r : SecurityRow). bytes_eq r.symbol c.args.symbol.now) t.securities) (λ t. slice_get-filter (λ (r : SecurityRow). bytes_eq r.symbol c.args.symbol.now) t.securities) (tells_security old new c.args.symbol.now _)
+    c.first_row.result c.first_row.ensures.value (λ t. filter (λ (r : SecurityRow). bytes_eq r.symbol c.args.symbol.now) t.securities) (λ t. find (λ (r : SecurityRow). bytes_eq r.symbol c.args.symbol.now) t.securities) (λ t. slice_get-filter (λ (r : SecurityRow). bytes_eq r.symbol c.args.symbol.now) t.securities) (tells_security old new c.args.symbol.now _)

@@ -21,4 +21,4 @@ returns-clause-step g c =
     let old = state g.S.Store c.args.tx.now.conn.now in
     let new = state g.S.Store c.select.new.tx.conn.now in
     look_first desk customer_tax_cells customer_tax_back customer_tax_is_back customer_tax_of CustomerTaxByKey.statement (Int (pos c.args.customer) ∷ Int (pos c.args.tax) ∷ []) old new c.in_ok-rows.rows (λ rows. rows.items) _ c.deref.ensures.value (rw (c.id_value.ensures, c.id_value-2.ensures) at c.in_ok-rows.ensures.step)
-    c.first_customer_tax.result c.first_customer_tax.ensures.value (λ t. filter (λ (r : CustomerTax). (r.customer == c.args.customer) && (r.tax == c.args.tax)) t.customer_taxes) (λ t. find (λ (r : CustomerTax). (r.customer == c.args.customer) && (r.tax == c.args.tax)) t.customer_taxes) (λ t. slice_get-filter (λ (r : CustomerTax). (r.customer == c.args.customer) && (r.tax == c.args.tax)) t.customer_taxes) (tells_customer_tax old new c.args.customer c.args.tax _)
+    c.first_row.result c.first_row.ensures.value (λ t. filter (λ (r : CustomerTax). (r.customer == c.args.customer) && (r.tax == c.args.tax)) t.customer_taxes) (λ t. find (λ (r : CustomerTax). (r.customer == c.args.customer) && (r.tax == c.args.tax)) t.customer_taxes) (λ t. slice_get-filter (λ (r : CustomerTax). (r.customer == c.args.customer) && (r.tax == c.args.tax)) t.customer_taxes) (tells_customer_tax old new c.args.customer c.args.tax _)

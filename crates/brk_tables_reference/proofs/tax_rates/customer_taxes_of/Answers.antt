@@ -20,4 +20,4 @@ returns-clause-step g c =
     let old = state g.S.Store c.args.tx.now.conn.now in
     let new = state g.S.Store c.select.new.tx.conn.now in
     look_all desk customer_tax_cells customer_tax_back customer_tax_is_back customer_tax_of CustomerTaxesOf.statement (Int (pos c.args.customer) ∷ []) old new c.in_ok-rows.rows (λ rows. rows.items) _ c.deref.ensures.value (rw (c.id_value.ensures) at c.in_ok-rows.ensures.step)
-    (λ all. all.items) c.all_customer_taxes.result c.all_customer_taxes.ensures.value (λ t. filter (λ (r : CustomerTax). r.customer == c.args.customer) t.customer_taxes) (tells_customer_taxes old new c.args.customer _)
+    (λ all. all.items) c.all_rows.result c.all_rows.ensures.value (λ t. filter (λ (r : CustomerTax). r.customer == c.args.customer) t.customer_taxes) (tells_customer_taxes old new c.args.customer _)

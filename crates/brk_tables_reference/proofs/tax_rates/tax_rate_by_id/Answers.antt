@@ -21,4 +21,4 @@ returns-clause-step g c =
     let old = state g.S.Store c.args.tx.now.conn.now in
     let new = state g.S.Store c.select.new.tx.conn.now in
     look_first desk tax_rate_cells tax_rate_back tax_rate_is_back tax_of TaxRateById.statement (Int (pos c.args.id) ∷ []) old new c.in_ok-rows.rows (λ rows. rows.items) _ c.deref.ensures.value (rw (c.id_value.ensures) at c.in_ok-rows.ensures.step)
-    c.first_tax.result c.first_tax.ensures.value (λ t. filter (λ (r : TaxRate). r.id == c.args.id) t.tax_rates) (λ t. find (λ (r : TaxRate). r.id == c.args.id) t.tax_rates) (λ t. slice_get-filter (λ (r : TaxRate). r.id == c.args.id) t.tax_rates) (tells_tax_rate old new c.args.id _)
+    c.first_row.result c.first_row.ensures.value (λ t. filter (λ (r : TaxRate). r.id == c.args.id) t.tax_rates) (λ t. find (λ (r : TaxRate). r.id == c.args.id) t.tax_rates) (λ t. slice_get-filter (λ (r : TaxRate). r.id == c.args.id) t.tax_rates) (tells_tax_rate old new c.args.id _)

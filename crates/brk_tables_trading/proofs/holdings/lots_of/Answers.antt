@@ -20,4 +20,4 @@ returns-clause-step g c =
     let old = state g.S.Store c.args.tx.now.conn.now in
     let new = state g.S.Store c.select.new.tx.conn.now in
     look_all desk holding_cells holding_back holding_is_back holding_row_of LotsOf.statement (Int (pos c.args.account) ∷ Text c.args.symbol.now ∷ []) old new c.in_ok-rows.rows (λ rows. rows.items) _ c.deref.ensures.value (rw (c.id_value.ensures, c.text_value.ensures, c.as_str.ensures) at c.in_ok-rows.ensures.step)
-    (λ all. all.items) c.all_holdings.result c.all_holdings.ensures.value (λ t. oldest_lots_first (filter (λ (r : HoldingRow). (r.account == c.args.account) && bytes_eq r.symbol c.args.symbol.now) t.holdings)) (tells_lots old new c.args.account c.args.symbol.now _)
+    (λ all. all.items) c.all_rows.result c.all_rows.ensures.value (λ t. oldest_lots_first (filter (λ (r : HoldingRow). (r.account == c.args.account) && bytes_eq r.symbol c.args.symbol.now) t.holdings)) (tells_lots old new c.args.account c.args.symbol.now _)

@@ -19,4 +19,4 @@ returns-clause-step g c =
     let old = state g.S.Store c.args.tx.now.conn.now in
     let new = state g.S.Store c.select.new.tx.conn.now in
     look_all desk summary_cells summary_back summary_is_back summary_row_of SummariesOf.statement (Int (pos c.args.account) ∷ []) old new c.in_ok-rows.rows (λ rows. rows.items) _ c.deref.ensures.value (rw (c.id_value.ensures) at c.in_ok-rows.ensures.step)
-    (λ all. all.items) c.all_summaries.result c.all_summaries.ensures.value (λ t. filter (λ (r : SummaryRow). r.account == c.args.account) t.summaries) (tells_summaries old new c.args.account _)
+    (λ all. all.items) c.all_rows.result c.all_rows.ensures.value (λ t. filter (λ (r : SummaryRow). r.account == c.args.account) t.summaries) (tells_summaries old new c.args.account _)

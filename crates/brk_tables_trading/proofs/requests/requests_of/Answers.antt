@@ -21,4 +21,4 @@ returns-clause-step g c =
     let old = state g.S.Store c.args.tx.now.conn.now in
     let new = state g.S.Store c.select.new.tx.conn.now in
     look_all desk request_cells request_back request_is_back request_row_of RequestsOf.statement (Text c.args.symbol.now ∷ []) old new c.in_ok-rows.rows (λ rows. rows.items) _ c.deref.ensures.value (rw (c.text_value.ensures, c.as_str.ensures) at c.in_ok-rows.ensures.step)
-    (λ all. all.items) c.all_requests.result c.all_requests.ensures.value (λ t. filter (λ (r : RequestRow). bytes_eq r.symbol c.args.symbol.now) t.requests) (tells_requests old new c.args.symbol.now _)
+    (λ all. all.items) c.all_rows.result c.all_rows.ensures.value (λ t. filter (λ (r : RequestRow). bytes_eq r.symbol c.args.symbol.now) t.requests) (tells_requests old new c.args.symbol.now _)

@@ -5,7 +5,7 @@ use Rattle.brk_rows.specs.Model.{Ran}
 use Rattle.brk_rows.proofs.Inside.{step_weaker}
 use Rattle.brk_changes.specs.Rows.{trade_row_of}
 use Rattle.brk_tables_trading.proofs.AddTrade
-use Rattle.brk_tables_trading.proofs.TradeCells.{params_are}
+use Rattle.brk_tables_form.proofs.TradeCells.{params_are}
 use Rattle.brk_tables_trading.proofs.Writes.{adds_trade}
 use Rattle.brk_tables_trading.proofs.trades.add_trade.Goals as goal
 

@@ -25,6 +25,6 @@ pub returns-clause-step : goal.returns-clause-step
 returns-clause-step g c =
     let old = state g.S.Store c.args.tx.now.conn.now in
     let new = state g.S.Store c.select.new.tx.conn.now in
-    step_weaker old new c.first_id.result _ _ (λ o looks. (looks.0, looks.1, λ t tree h. rw (as_it_is o) at (looks.2 t tree h)))
+    step_weaker old new c.first_row.result _ _ (λ o looks. (looks.0, looks.1, λ t tree h. rw (as_it_is o) at (looks.2 t tree h)))
     (look_first desk id_cells id_back id_is_back (λ (n : ℕ). n) LastTradeId.statement [] old new c.in_ok-rows.rows (λ rows. rows.items) _ c.deref.ensures.value c.in_ok-rows.ensures.step
-    c.first_id.result c.first_id.ensures.value (λ (t : Tables). map (λ (r : TradeRow). r.id) (take 1 (reverse t.trades))) (λ (t : Tables). option_map (λ (r : TradeRow). r.id) (slice_get (reverse t.trades) 0)) (λ t. first_of (reverse t.trades)) (tells_last_id old new _))
+    c.first_row.result c.first_row.ensures.value (λ (t : Tables). map (λ (r : TradeRow). r.id) (take 1 (reverse t.trades))) (λ (t : Tables). option_map (λ (r : TradeRow). r.id) (slice_get (reverse t.trades) 0)) (λ t. first_of (reverse t.trades)) (tells_last_id old new _))

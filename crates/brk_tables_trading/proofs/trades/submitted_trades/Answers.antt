@@ -22,4 +22,4 @@ returns-clause-step g c =
     let old = state g.S.Store c.args.tx.now.conn.now in
     let new = state g.S.Store c.select.new.tx.conn.now in
     look_all desk trade_cells trade_back trade_is_back trade_row_of SubmittedTrades.statement (Text (status_code Submitted) ∷ []) old new c.in_ok-rows.rows (λ rows. rows.items) _ c.deref.ensures.value (rw (c.status_value.ensures) at c.in_ok-rows.ensures.step)
-    (λ all. all.items) c.all_trades.result c.all_trades.ensures.value (λ t. filter (λ (r : TradeRow). same_status r.status Submitted) t.trades) (tells_submitted old new _)
+    (λ all. all.items) c.all_rows.result c.all_rows.ensures.value (λ t. filter (λ (r : TradeRow). same_status r.status Submitted) t.trades) (tells_submitted old new _)

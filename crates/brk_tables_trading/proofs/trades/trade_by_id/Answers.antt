@@ -21,4 +21,4 @@ returns-clause-step g c =
     let old = state g.S.Store c.args.tx.now.conn.now in
     let new = state g.S.Store c.select.new.tx.conn.now in
     look_first desk trade_cells trade_back trade_is_back trade_row_of TradeById.statement (Int (pos c.args.id) ∷ []) old new c.in_ok-rows.rows (λ rows. rows.items) _ c.deref.ensures.value (rw (c.id_value.ensures) at c.in_ok-rows.ensures.step)
-    c.first_trade.result c.first_trade.ensures.value (λ t. filter (λ (r : TradeRow). r.id == c.args.id) t.trades) (λ t. find (λ (r : TradeRow). r.id == c.args.id) t.trades) (λ t. slice_get-filter (λ (r : TradeRow). r.id == c.args.id) t.trades) (tells_trade old new c.args.id _)
+    c.first_row.result c.first_row.ensures.value (λ t. filter (λ (r : TradeRow). r.id == c.args.id) t.trades) (λ t. find (λ (r : TradeRow). r.id == c.args.id) t.trades) (λ t. slice_get-filter (λ (r : TradeRow). r.id == c.args.id) t.trades) (tells_trade old new c.args.id _)

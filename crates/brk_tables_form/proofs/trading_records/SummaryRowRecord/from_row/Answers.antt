@@ -1,7 +1,7 @@
 use Rattle.std.proofs.Common.{◌≡◌, ◌∷◌, [], length, refl, sym, arith, rules, w64}
 use Rattle.std.proofs.lemmas.Int.{to_z-of_z}
 use Rattle.sqlite_value.specs.Order.{Row, column}
-use Rattle.brk_tables_trading.proofs.holdings.summary_in.Goals as goal
+use Rattle.brk_tables_form.proofs.trading_records.SummaryRowRecord.from_row.Goals as goal
 
 three_columns : (row : Row) → length row ≡ 3 → column row 0 ∷ column row 1 ∷ column row 2 ∷ [] ≡ row
 three_columns (c0 ∷ c1 ∷ c2 ∷ []) h = refl

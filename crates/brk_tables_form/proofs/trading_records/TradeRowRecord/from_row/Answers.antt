@@ -1,5 +1,5 @@
-use Rattle.brk_tables_trading.proofs.TradeCells.{row_is}
-use Rattle.brk_tables_trading.proofs.trades.trade_in.Goals as goal
+use Rattle.brk_tables_form.proofs.TradeCells.{row_is}
+use Rattle.brk_tables_form.proofs.trading_records.TradeRowRecord.from_row.Goals as goal
 
 pub returns-clause-value : goal.returns-clause-value
 returns-clause-value c =

@@ -1,6 +1,6 @@
 use Rattle.std.proofs.Common.{◌≡◌, ◌∷◌, [], length, refl, sym, arith}
 use Rattle.sqlite_value.specs.Order.{Row, column}
-use Rattle.brk_tables_reference.proofs.bands.band_in.Goals as goal
+use Rattle.brk_tables_form.proofs.reference_records.BandRecord.from_row.Goals as goal
 
 six_columns : (row : Row) → length row ≡ 6 → column row 0 ∷ column row 1 ∷ column row 2 ∷ column row 3 ∷ column row 4 ∷ column row 5 ∷ [] ≡ row
 six_columns (a ∷ b ∷ c ∷ d ∷ e ∷ f ∷ []) h = refl

@@ -1,6 +1,6 @@
 use Rattle.std.proofs.Common.{◌≡◌, ◌∷◌, [], length, refl, sym, arith}
 use Rattle.sqlite_value.specs.Order.{Row, column}
-use Rattle.brk_tables_trading.proofs.last_trades.last_trade_in.Goals as goal
+use Rattle.brk_tables_form.proofs.trading_records.LastTradeRecord.from_row.Goals as goal
 
 four_columns : (row : Row) → length row ≡ 4 → column row 0 ∷ column row 1 ∷ column row 2 ∷ column row 3 ∷ [] ≡ row
 four_columns (c0 ∷ c1 ∷ c2 ∷ c3 ∷ []) h = refl
