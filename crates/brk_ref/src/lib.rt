@@ -49,6 +49,3 @@ pub use tax_id::TaxId;
 pub use tier::Tier;
 pub use trade_type::parse_type;
 pub use volume::Volume;
-
-#[cfg(test)]
-mod tests;

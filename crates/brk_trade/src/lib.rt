@@ -20,6 +20,3 @@ pub use estimate::{Terms, estimate_order, tax_on};
 pub use order::{OrderAccount, OrderFound, plan_estimate, plan_order};
 pub use outcome::{Outcome, ResultAccount, ResultFound};
 pub use result::plan_result;
-
-#[cfg(test)]
-mod tests;

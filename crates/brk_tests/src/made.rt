@@ -1,4 +1,4 @@
-use crate::Store;
+use brk_store::Store;
 use brk_money::{Condition, Fault};
 use sqlite::{Connection, MemStore};
 use std::test::Fail;

@@ -1,4 +1,4 @@
-use crate::Store;
+use brk_store::Store;
 use brk_changes::{
     Amount, CashRow, CashType, Change, HistoryRow, HoldingRow, LotChange, SettlementRow,
     SummaryRow, TradeRow,
