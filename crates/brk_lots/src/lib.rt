@@ -22,8 +22,3 @@ pub use lot::{Lot, Touch, is_same};
 pub use position::Position;
 pub use source::LotSource;
 pub use values::{Values, estimate_values};
-
-#[cfg(test)]
-mod slow_tests;
-#[cfg(test)]
-mod tests;

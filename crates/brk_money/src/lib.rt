@@ -41,6 +41,3 @@ pub use tax_status::TaxStatus;
 pub use trade_type::TradeType;
 pub use whole::parse_whole;
 pub use wide::{Wide, write_cents};
-
-#[cfg(test)]
-mod tests;

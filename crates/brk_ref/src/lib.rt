@@ -51,6 +51,3 @@ pub use text::{Form, Text};
 pub use tier::Tier;
 pub use trade_type::parse_type;
 pub use volume::Volume;
-
-#[cfg(test)]
-mod tests;

@@ -11,8 +11,3 @@ mod terms;
 mod trades;
 
 pub use store::Store;
-
-#[cfg(test)]
-mod completion_rows;
-#[cfg(test)]
-mod tests;

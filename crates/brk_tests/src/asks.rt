@@ -1,7 +1,10 @@
-use crate::desks::{counts, expect, set_desk};
-use crate::told::expect_view;
+//! Queries at a desk.
+
+use crate::desks::{Step, expect, set_desk};
 use brk_desk::{Call, Desk, Outcome};
 use brk_money::{Refusal, Stamp};
+use brk_tests_plans::fields::fields_of;
+use brk_tests_plans::told::told_view;
 use brk_view::{View, parse_query};
 use sqlite::MemStore;
 use std::alloc::Global;
@@ -9,38 +12,36 @@ use std::process::Abort;
 use std::test::Fail;
 
 // A purchase of 100 ABC at the market.
-const PURCHASE: [&[u8]; 10] = [
-    b"100", b"TMB", b"ABC", b"100", b"", b"cash", b"fifo", b"Ann", b"Lee", b"T10",
-];
+const PURCHASE: &str = "100,TMB,ABC,100,,cash,fifo,Ann,Lee,T10";
 
 // A purchase for an account that is not there.
-const STRANGE: [&[u8]; 10] = [
-    b"101", b"TMB", b"ABC", b"100", b"", b"cash", b"fifo", b"Ann", b"Lee", b"T10",
-];
+const STRANGE: &str = "101,TMB,ABC,100,,cash,fifo,Ann,Lee,T10";
 
-// A desk that was set up, at which of three orders one was canceled, one was sent to the market and one waits.
-fn trading_desk(rt: &impl Abort, alloc: Global) -> Result<Desk<MemStore>, Fail> {
-    let mut desk = set_desk(rt, alloc)?;
-    expect(
-        rt,
-        alloc,
-        &mut desk,
-        b"batch,V\n\
-        order,100,TSL,ABC,10,9.50,cash,fifo,Ann,Lee,T10\n\
-        order,100,TLB,ABC,10,10.00,cash,fifo,Ann,Lee,T10\n\
-        order,100,TLS,ABC,10,10.50,cash,fifo,Ann,Lee,T10\n\
-        cancel,1\n\
-        feed,ABC,9.50,100\n\
-        end,5\n",
-        b"1,ok,1709251200016,1,PNDG,9.50,0.00,0.00,0.00,0.95,5.00,10000.00\n\
-        2,ok,1709251200017,2,PNDG,10.00,0.00,0.00,0.00,1.00,5.00,10000.00\n\
-        3,ok,1709251200018,3,PNDG,10.50,0.00,0.00,0.00,1.05,5.00,10000.00\n\
-        4,ok,1709251200019,CNCL\n\
-        5,ok,1709251200020,2\nend,5,0,0\n",
-        counts(5, 0, 0),
-    )?;
-    Ok(desk)
-}
+// Of three orders one is canceled, one is sent to the market and one waits.
+const ORDERS: Step = Step::Done(
+    b"batch,V\n\
+    order,100,TSL,ABC,10,9.50,cash,fifo,Ann,Lee,T10\n\
+    order,100,TLB,ABC,10,10.00,cash,fifo,Ann,Lee,T10\n\
+    order,100,TLS,ABC,10,10.50,cash,fifo,Ann,Lee,T10\n\
+    cancel,1\n\
+    feed,ABC,9.50,100\n\
+    end,5\n",
+    "1,ok,1709251200016,1,PNDG,9.50,0.00,0.00,0.00,0.95,5.00,10000.00\n\
+    2,ok,1709251200017,2,PNDG,10.00,0.00,0.00,0.00,1.00,5.00,10000.00\n\
+    3,ok,1709251200018,3,PNDG,10.50,0.00,0.00,0.00,1.05,5.00,10000.00\n\
+    4,ok,1709251200019,CNCL\n\
+    5,ok,1709251200020,2\nend,5,0,0\n",
+);
+
+// Two more orders are sent to the market.
+const MORE_ORDERS: Step = Step::Done(
+    b"batch,W\n\
+    feed,ABC,10.50,100\n\
+    order,100,TMS,ABC,999999,,cash,fifo,Ann,Lee,T10\n\
+    end,2\n",
+    "1,ok,1709251200021,3\n\
+    2,ok,1709251200022,4,SBMT,10.50,0.00,0.00,0.00,104999.90,5.00,10000.00\nend,2,0,0\n",
+);
 
 // Asks a desk for a view by its name and its arguments, and compares what it tells.
 fn expect_answer(
@@ -51,36 +52,55 @@ fn expect_answer(
     arguments: &[&[u8]],
     wanted: &str,
 ) -> Result<(), Fail> {
-    let query = parse_query(alloc, view, arguments)?.map_err(|_| "out of form")?;
-    let asked = desk.ask(alloc, &query)?;
-    expect_view(rt, alloc, asked, wanted)
+    let asked = match parse_query(alloc, view, arguments)? {
+        Ok(query) => desk.ask(alloc, &query),
+        Err(_) => return Err("out of form")?,
+    };
+    let told = told_view(alloc, asked?)?;
+    assert!(rt; told.as_str() == wanted, "{view}: {told}");
+    Ok(())
 }
 
 #[test]
 fn a_desk_tells_what_it_is_asked(rt: HostRuntime) -> Result<(), Fail> {
     let alloc = rt.alloc();
-    let mut desk = trading_desk(&rt, alloc)?;
-    let wanted = "2,TLB,ABC,10,10.00\n";
-    expect_answer(&rt, alloc, &mut desk, "submitted", &[], wanted)?;
-    let wanted = "9.50,0.00,0.00,0.00,9.50,5.00,10000.00\n";
-    expect_answer(&rt, alloc, &mut desk, "estimate", &PURCHASE, wanted)?;
-    expect_answer(&rt, alloc, &mut desk, "estimate", &STRANGE, "no,1")
+    let purchase = fields_of(alloc, PURCHASE)?;
+    let strange = fields_of(alloc, STRANGE)?;
+    let mut desk = set_desk(&rt, alloc)?;
+    expect_answer(&rt, alloc, &mut desk, "submitted", &[], "")?;
+    expect(&rt, alloc, &mut desk, "orders", ORDERS)?;
+    let estimate = "9.50,0.00,0.00,0.00,9.50,5.00,10000.00\n";
+    let cases: [(&str, &[&[u8]], &str); 3] = [
+        ("submitted", &[], "2,TLB,ABC,10,10.00\n"),
+        ("estimate", &purchase, estimate),
+        ("estimate", &strange, "no,1"),
+    ];
+    for (view, arguments, wanted) in cases {
+        expect_answer(&rt, alloc, &mut desk, view, arguments, wanted)?;
+    }
+    expect(&rt, alloc, &mut desk, "more orders", MORE_ORDERS)?;
+    let wanted = "2,TLB,ABC,10,10.00\n3,TLS,ABC,10,10.50\n4,TMS,ABC,999999,10.50\n";
+    expect_answer(&rt, alloc, &mut desk, "submitted", &[], wanted)
 }
 
 // The call that asks a view.
 fn ask(alloc: Global, view: &str, arguments: &[&[u8]]) -> Result<(Stamp, Call), Fail> {
-    let query = parse_query(alloc, view, arguments)?.map_err(|_| "out of form")?;
-    Ok((Stamp::nearest(1_709_251_200_000), Call::Ask(query)))
+    let at = Stamp::nearest(1_709_251_200_000);
+    match parse_query(alloc, view, arguments)? {
+        Ok(query) => Ok((at, Call::Ask(query))),
+        Err(_) => Err("out of form")?,
+    }
 }
 
 #[test]
 fn a_run_tells_what_it_is_asked(rt: HostRuntime) -> Result<(), Fail> {
     let alloc = rt.alloc();
-    let mut desk = set_desk(&rt, alloc)?;
+    let strange = fields_of(alloc, STRANGE)?;
     let mut calls = Vec::new(alloc);
     calls.push(ask(alloc, "submitted", &[])?)?;
-    calls.push(ask(alloc, "estimate", &STRANGE)?)?;
+    calls.push(ask(alloc, "estimate", &strange)?)?;
     let mut out = Vec::new(alloc);
+    let mut desk = set_desk(&rt, alloc)?;
     desk.run(alloc, &calls, &mut out)?;
     assert_eq!(rt; out.len(), 2);
     assert!(rt; matches!(&out[0], Outcome::Saw(View::Submitted(trades)) if trades.is_empty()));

@@ -1,16 +1,33 @@
-use brk_desk::{Answer, Call, Desk, Outcome, parse_row};
+//! Runs of calls at a desk.
+
+use crate::desks::{FIRST_MOMENT, new_desk};
+use brk_desk::{Answer, Call, Outcome, parse_row};
 use brk_money::{Refusal, Stamp};
 use brk_ref::{BatchName, Key, RowNumber};
-use brk_store::Store;
+use brk_tests_plans::fields::fields_of;
 use brk_trade::Reply;
-use sqlite::Connection;
 use std::alloc::Global;
 use std::test::Fail;
 
-// The call of a row, at 2024-03-01 00:00 UTC.
-fn call(alloc: Global, fields: &[&[u8]]) -> Result<(Stamp, Call), Fail> {
-    let command = parse_row(alloc, fields)?.map_err(|_| "out of form")?;
-    Ok((Stamp::nearest(1_709_251_200_000), Call::Do(command, None)))
+fn key_of(alloc: Global, batch: &[u8], row: u64) -> Result<Key, Fail> {
+    let row = RowNumber::new(row).ok_or("a row's number")?;
+    let batch = BatchName::parse(alloc, batch)?.ok_or("a batch's name")?;
+    Ok(Key { batch, row })
+}
+
+/// The call of a row, at 2024-03-01 00:00 UTC, under a key or none.
+pub fn call_of(alloc: Global, row: &str, key: Option<Key>) -> Result<(Stamp, Call), Fail> {
+    let fields = fields_of(alloc, row)?;
+    match parse_row(alloc, &fields)? {
+        Ok(command) => Ok((Stamp::nearest(FIRST_MOMENT), Call::Do(command, key))),
+        Err(_) => Err("out of form")?,
+    }
+}
+
+/// The call of a row of a batch, under its key.
+pub fn keyed(alloc: Global, batch: &[u8], n: u64, row: &str) -> Result<(Stamp, Call), Fail> {
+    let key = key_of(alloc, batch, n)?;
+    call_of(alloc, row, Some(key))
 }
 
 fn stamp_of(outcome: &Outcome) -> Option<Stamp> {
@@ -30,13 +47,12 @@ fn refusal_of(outcome: &Outcome) -> Option<Refusal> {
 #[test]
 fn a_run_goes_on_after_a_refusal(rt: HostRuntime) -> Result<(), Fail> {
     let alloc = rt.alloc();
-    let store = Store::create(Connection::open_in_memory(alloc)?).map_err(|_| "no store")?;
-    let mut desk = Desk::new(store);
     let mut calls = Vec::new(alloc);
-    calls.push(call(alloc, &[b"broker", b"1", b"Bo"])?)?;
-    calls.push(call(alloc, &[b"broker", b"1", b"Cy"])?)?;
-    calls.push(call(alloc, &[b"broker", b"2", b"Cy"])?)?;
+    for row in ["broker,1,Bo", "broker,1,Cy", "broker,2,Cy"] {
+        calls.push(call_of(alloc, row, None)?)?;
+    }
     let mut out = Vec::new(alloc);
+    let mut desk = new_desk(alloc)?;
     desk.run(alloc, &calls, &mut out)?;
     assert_eq!(rt; out.len(), 3);
     assert!(rt; stamp_of(&out[0]) == Stamp::new(1_709_251_200_000));
@@ -45,34 +61,20 @@ fn a_run_goes_on_after_a_refusal(rt: HostRuntime) -> Result<(), Fail> {
     Ok(())
 }
 
-fn key(alloc: Global, row: u64) -> Result<Key, Fail> {
-    Ok(Key {
-        batch: BatchName::parse(alloc, b"A")?.ok_or("a batch's name")?,
-        row: RowNumber::new(row).ok_or("a row's number")?,
-    })
-}
-
-// The call of a row under its key.
-fn keyed(alloc: Global, fields: &[&[u8]], row: u64) -> Result<(Stamp, Call), Fail> {
-    let command = parse_row(alloc, fields)?.map_err(|_| "out of form")?;
-    let key = key(alloc, row)?;
-    Ok((
-        Stamp::nearest(1_709_251_200_000),
-        Call::Do(command, Some(key)),
-    ))
-}
-
 #[test]
 fn a_run_answers_a_kept_key_again(rt: HostRuntime) -> Result<(), Fail> {
     let alloc = rt.alloc();
-    let store = Store::create(Connection::open_in_memory(alloc)?).map_err(|_| "no store")?;
-    let mut desk = Desk::new(store);
     let mut calls = Vec::new(alloc);
-    calls.push(keyed(alloc, &[b"broker", b"1", b"Bo"], 1)?)?;
-    calls.push(keyed(alloc, &[b"broker", b"1", b"Bo"], 1)?)?;
-    calls.push(keyed(alloc, &[b"broker", b"2", b"Cy"], 1)?)?;
-    calls.push(keyed(alloc, &[b"broker", b"1", b"Bo"], 2)?)?;
+    for (row, n) in [
+        ("broker,1,Bo", 1),
+        ("broker,1,Bo", 1),
+        ("broker,2,Cy", 1),
+        ("broker,1,Bo", 2),
+    ] {
+        calls.push(keyed(alloc, b"A", n, row)?)?;
+    }
     let mut out = Vec::new(alloc);
+    let mut desk = new_desk(alloc)?;
     desk.run(alloc, &calls, &mut out)?;
     assert_eq!(rt; out.len(), 4);
     assert!(rt; stamp_of(&out[0]) == Stamp::new(1_709_251_200_000));

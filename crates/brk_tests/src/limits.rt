@@ -1,16 +1,8 @@
-use crate::desks::{counts, expect, fault, new_desk, set_desk};
-use brk_import::FaultKind;
+use crate::desks::{Case, Step, expect_cases, expect_new};
 use std::test::Fail;
 
-#[test]
-fn names_at_their_limit(rt: HostRuntime) -> Result<(), Fail> {
-    let alloc = rt.alloc();
-    let mut desk = set_desk(&rt, alloc)?;
-    expect(
-        &rt,
-        alloc,
-        &mut desk,
-        b"batch,L\n\
+const NAMES_AT_THEIR_LIMIT: [Step; 1] = [Step::Done(
+    b"batch,L\n\
         broker,2,123456789012345678901234567890123456789012345678901234567890\n\
         broker,3,1234567890123456789012345678901234567890123456789012345678901\n\
         broker,3,123456789012345678901234567890123456789012345678901234567\xe2\x82\xac\n\
@@ -29,22 +21,13 @@ fn names_at_their_limit(rt: HostRuntime) -> Result<(), Fail> {
         taxrate,2,123456789012345678901234567890123456789012345678901234567890,100\n\
         taxrate,3,1234567890123456789012345678901234567890123456789012345678901,100\n\
         end,17\n",
-        b"1,ok,1709251200016\n2,no,18\n3,ok,1709251200017\n4,no,18\n5,ok,1709251200018\n6,no,18\n\
+    "1,ok,1709251200016\n2,no,18\n3,ok,1709251200017\n4,no,18\n5,ok,1709251200018\n6,no,18\n\
         7,no,18\n8,ok,1709251200019\n9,no,18\n10,ok,1709251200020\n11,no,18\n12,no,18\n\
         13,ok,1709251200021\n14,no,18\n15,no,18\n16,ok,1709251200022\n17,no,18\nend,7,0,10\n",
-        counts(7, 0, 10),
-    )
-}
+)];
 
-#[test]
-fn words_at_their_limit(rt: HostRuntime) -> Result<(), Fail> {
-    let alloc = rt.alloc();
-    let mut desk = set_desk(&rt, alloc)?;
-    expect(
-        &rt,
-        alloc,
-        &mut desk,
-        b"batch,L\n\
+const WORDS_AT_THEIR_LIMIT: [Step; 1] = [Step::Done(
+    b"batch,L\n\
         customer,11,1,12345678901234567890,Kay,Kim\n\
         customer,12,1,123456789012345678901,Kay,Kim\n\
         customer,12,1,aZ-09,Kay,Kim\n\
@@ -66,23 +49,14 @@ fn words_at_their_limit(rt: HostRuntime) -> Result<(), Fail> {
         band,1,TMB,NASDAQ,1,100,50\n\
         band,1,TMB,NASDAQS,1,100,50\n\
         end,20\n",
-        b"1,ok,1709251200016\n2,no,18\n3,ok,1709251200017\n4,no,18\n5,no,18\n6,no,18\n\
+    "1,ok,1709251200016\n2,no,18\n3,ok,1709251200017\n4,no,18\n5,no,18\n6,no,18\n\
         7,ok,1709251200018\n8,no,18\n9,no,18\n10,no,18\n11,no,18\n12,ok,1709251200019\n\
         13,no,18\n14,no,18\n15,no,18\n16,no,18\n17,no,18\n18,no,18\n19,ok,1709251200020\n\
         20,no,18\nend,5,0,15\n",
-        counts(5, 0, 15),
-    )
-}
+)];
 
-#[test]
-fn control_characters(rt: HostRuntime) -> Result<(), Fail> {
-    let alloc = rt.alloc();
-    let mut desk = set_desk(&rt, alloc)?;
-    expect(
-        &rt,
-        alloc,
-        &mut desk,
-        b"batch,L\n\
+const CONTROL_CHARACTERS: [Step; 1] = [Step::Done(
+    b"batch,L\n\
         broker,2,B\x00o\n\
         broker,2,B\x09o\n\
         broker,2,B\x1fo\n\
@@ -102,22 +76,13 @@ fn control_characters(rt: HostRuntime) -> Result<(), Fail> {
         security,XYZ,Xyz,NYSE,T\x1bh,1.00\n\
         taxrate,2,F\x1bd,100\n\
         end,18\n",
-        b"1,no,18\n2,no,18\n3,no,18\n4,no,18\n5,no,18\n6,no,18\n7,no,18\n8,ok,1709251200016\n\
+    "1,no,18\n2,no,18\n3,no,18\n4,no,18\n5,no,18\n6,no,18\n7,no,18\n8,ok,1709251200016\n\
         9,ok,1709251200017\n10,ok,1709251200018\n11,no,18\n12,no,18\n13,no,18\n14,no,18\n\
         15,no,18\n16,no,18\n17,no,18\n18,no,18\nend,3,0,15\n",
-        counts(3, 0, 15),
-    )
-}
+)];
 
-#[test]
-fn bytes_that_are_no_text(rt: HostRuntime) -> Result<(), Fail> {
-    let alloc = rt.alloc();
-    let mut desk = set_desk(&rt, alloc)?;
-    expect(
-        &rt,
-        alloc,
-        &mut desk,
-        b"batch,L\n\
+const BYTES_THAT_ARE_NO_TEXT: [Step; 1] = [Step::Done(
+    b"batch,L\n\
         broker,2,\xff\n\
         broker,2,Zo\xeb\n\
         broker,2,\xc3\n\
@@ -127,21 +92,12 @@ fn bytes_that_are_no_text(rt: HostRuntime) -> Result<(), Fail> {
         broker,2,\xf4\x8f\xbf\xbf\n\
         broker,3,\xef\xbb\xbf\n\
         end,8\n",
-        b"1,no,18\n2,no,18\n3,no,18\n4,no,18\n5,no,18\n6,no,18\n7,ok,1709251200016\n\
+    "1,no,18\n2,no,18\n3,no,18\n4,no,18\n5,no,18\n6,no,18\n7,ok,1709251200016\n\
         8,ok,1709251200017\nend,2,0,6\n",
-        counts(2, 0, 6),
-    )
-}
+)];
 
-#[test]
-fn ids_and_small_numbers(rt: HostRuntime) -> Result<(), Fail> {
-    let alloc = rt.alloc();
-    let mut desk = set_desk(&rt, alloc)?;
-    expect(
-        &rt,
-        alloc,
-        &mut desk,
-        b"batch,L\n\
+const IDS_AND_SMALL_NUMBERS: [Step; 1] = [Step::Done(
+    b"batch,L\n\
         broker,1000000000000,Cy\n\
         broker,1000000000001,Cy\n\
         broker,0,Cy\n\
@@ -170,23 +126,14 @@ fn ids_and_small_numbers(rt: HostRuntime) -> Result<(), Fail> {
         custtax,0,1\n\
         custtax,10,0\n\
         end,27\n",
-        b"1,ok,1709251200016\n2,no,18\n3,no,18\n4,no,18\n5,no,18\n6,no,18\n7,no,18\n8,no,18\n\
+    "1,ok,1709251200016\n2,no,18\n3,no,18\n4,no,18\n5,no,18\n6,no,18\n7,no,18\n8,no,18\n\
         9,no,18\n10,no,18\n11,no,18\n12,no,18\n13,ok,1709251200017\n14,no,18\n15,no,18\n\
         16,no,18\n17,no,18\n18,no,18\n19,no,18\n20,no,18\n21,ok,1709251200018\n22,no,18\n\
         23,no,18\n24,ok,1709251200019\n25,no,18\n26,no,18\n27,no,18\nend,4,0,23\n",
-        counts(4, 0, 23),
-    )
-}
+)];
 
-#[test]
-fn amounts_at_their_limits(rt: HostRuntime) -> Result<(), Fail> {
-    let alloc = rt.alloc();
-    let mut desk = set_desk(&rt, alloc)?;
-    expect(
-        &rt,
-        alloc,
-        &mut desk,
-        b"batch,L\n\
+const AMOUNTS_AT_THEIR_LIMITS: [Step; 1] = [Step::Done(
+    b"batch,L\n\
         account,101,10,1,Rich,0,1000000000000000.00\n\
         account,102,10,1,Poor,2,-1000000000000000.00\n\
         account,103,10,1,Owed,0,-0.01\n\
@@ -213,23 +160,14 @@ fn amounts_at_their_limits(rt: HostRuntime) -> Result<(), Fail> {
         security,XYX,Xyx,NYSE,Tech,10.000\n\
         security,XYX,Xyx,NYSE,Tech,999999999999999999999999999999999999999999999.00\n\
         end,25\n",
-        b"1,ok,1709251200016\n2,ok,1709251200017\n3,ok,1709251200018\n4,no,18\n5,no,18\n6,no,18\n\
+    "1,ok,1709251200016\n2,ok,1709251200017\n3,ok,1709251200018\n4,no,18\n5,no,18\n6,no,18\n\
         7,no,18\n8,no,18\n9,no,18\n10,no,18\n11,no,18\n12,no,18\n13,ok,1709251200019\n\
         14,ok,1709251200020\n15,no,18\n16,no,18\n17,no,18\n18,ok,1709251200021\n\
         19,ok,1709251200022\n20,no,9\n21,no,9\n22,no,9\n23,no,9\n24,no,9\n25,no,9\nend,7,0,18\n",
-        counts(7, 0, 18),
-    )
-}
+)];
 
-#[test]
-fn quantities_and_rates_at_their_limits(rt: HostRuntime) -> Result<(), Fail> {
-    let alloc = rt.alloc();
-    let mut desk = set_desk(&rt, alloc)?;
-    expect(
-        &rt,
-        alloc,
-        &mut desk,
-        b"batch,L\n\
+const QUANTITIES_AND_RATES_AT_THEIR_LIMITS: [Step; 1] = [Step::Done(
+    b"batch,L\n\
         band,2,TMB,NYSE,1,1,0\n\
         band,2,TMB,NYSE,999999,999999,10000\n\
         band,2,TMB,NYSE,0,100,50\n\
@@ -246,66 +184,47 @@ fn quantities_and_rates_at_their_limits(rt: HostRuntime) -> Result<(), Fail> {
         taxrate,4,Over,100001\n\
         taxrate,4,Over,20 %\n\
         end,15\n",
-        b"1,ok,1709251200016\n2,ok,1709251200017\n3,no,8\n4,no,8\n5,no,8\n6,no,8\n7,no,8\n\
+    "1,ok,1709251200016\n2,ok,1709251200017\n3,no,8\n4,no,8\n5,no,8\n6,no,8\n7,no,8\n\
         8,no,8\n9,no,18\n10,no,18\n11,no,18\n12,ok,1709251200018\n13,ok,1709251200019\n\
         14,no,18\n15,no,18\nend,4,0,11\n",
-        counts(4, 0, 11),
-    )
-}
+)];
 
-#[test]
-fn names_of_batches(rt: HostRuntime) -> Result<(), Fail> {
-    let alloc = rt.alloc();
-    let mut desk = new_desk(alloc)?;
-    expect(
-        &rt,
-        alloc,
-        &mut desk,
+const NAMES_OF_BATCHES: [Step; 3] = [
+    Step::Done(
         b"batch,abcdefghijklmnopqrstuvwxyz-0123456789._A\n\
         broker,1,Bo\n\
         end,1\n",
-        b"1,ok,1709251200000\nend,1,0,0\n",
-        counts(1, 0, 0),
-    )?;
-    expect(
-        &rt,
-        alloc,
-        &mut desk,
+        "1,ok,1709251200000\nend,1,0,0\n",
+    ),
+    Step::Done(
         b"batch,abcdefghijklmnopqrstuvwxyz-0123456789._A\n\
         broker,1,Bo\n\
         end,1\n",
-        b"1,again,1709251200000\nend,0,1,0\n",
-        counts(0, 1, 0),
-    )?;
-    expect(
-        &rt,
-        alloc,
-        &mut desk,
+        "1,again,1709251200000\nend,0,1,0\n",
+    ),
+    Step::Done(
         b"batch,abcdefghijklmnopqrstuvwxyz-0123456789._B\n\
         broker,1,Bo\n\
         end,1\n",
-        b"1,no,15\nend,0,0,1\n",
-        counts(0, 0, 1),
-    )
-}
+        "1,no,15\nend,0,0,1\n",
+    ),
+];
 
 #[test]
-fn headers_out_of_form(rt: HostRuntime) -> Result<(), Fail> {
-    let alloc = rt.alloc();
-    let mut desk = new_desk(alloc)?;
-    let wrong: [&[u8]; 8] = [
-        b"batch,abcdefghijklmnopqrstuvwxyz-0123456789._AB\nbroker,2,Cy\nend,1\n",
-        b"batch,\nbroker,2,Cy\nend,1\n",
-        b"batch,A B\nbroker,2,Cy\nend,1\n",
-        b"batch,A/B\nbroker,2,Cy\nend,1\n",
-        b"batch,\xc3\x84\nbroker,2,Cy\nend,1\n",
-        b"batch,A,\nbroker,2,Cy\nend,1\n",
-        b"Batch,A\nbroker,2,Cy\nend,1\n",
-        b"batch\nend,0\n",
+fn limits(rt: HostRuntime) -> Result<(), Fail> {
+    let cases: [Case; 1] = [("names_of_batches", &NAMES_OF_BATCHES)];
+    expect_new(&rt, rt.alloc(), &cases)?;
+    let cases: [Case; 7] = [
+        ("names_at_their_limit", &NAMES_AT_THEIR_LIMIT),
+        ("words_at_their_limit", &WORDS_AT_THEIR_LIMIT),
+        ("control_characters", &CONTROL_CHARACTERS),
+        ("bytes_that_are_no_text", &BYTES_THAT_ARE_NO_TEXT),
+        ("ids_and_small_numbers", &IDS_AND_SMALL_NUMBERS),
+        ("amounts_at_their_limits", &AMOUNTS_AT_THEIR_LIMITS),
+        (
+            "quantities_and_rates_at_their_limits",
+            &QUANTITIES_AND_RATES_AT_THEIR_LIMITS,
+        ),
     ];
-    for input in wrong {
-        let ending = fault(0, FaultKind::BadHeader);
-        expect(&rt, alloc, &mut desk, input, b"", ending)?;
-    }
-    Ok(())
+    expect_cases(&rt, rt.alloc(), &cases)
 }

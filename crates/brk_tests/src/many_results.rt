@@ -1,9 +1,10 @@
 //! A batch of five hundred orders and their results, and the same calls in one run.
 
-use crate::desks::{answer_at, counts, set_desk};
-use brk_desk::{Answer, Call, Outcome, line_text, parse_row};
+use crate::calls::keyed;
+use crate::desks::{FIRST_MOMENT, answer_at, set_desk};
+use brk_desk::{Answer, Call, Desk, Outcome, line_text};
+use brk_import::Counts;
 use brk_money::{Id, Stamp};
-use brk_ref::{BatchName, Key, RowNumber};
 use brk_store::Store;
 use sqlite::MemStore;
 use std::alloc::Global;
@@ -45,24 +46,31 @@ fn batch_of(alloc: Global, rows: &[String]) -> Result<String, Fail> {
 // Compares the sums after all trades: 83,667 shares were bought and 41,583 were sold.
 fn expect_sums(rt: &impl Abort, alloc: Global, mut store: Store<MemStore>) -> Result<(), Fail> {
     let account = Id::new(100).ok_or("account")?;
+    let broker = Id::new(1).ok_or("broker")?;
     let summaries = store.summaries_of(alloc, account)?;
     assert_eq!(rt; summaries.len(), 1);
     assert_eq!(rt; summaries[0].qty, 42_084);
-    let broker = store
-        .broker(Id::new(1).ok_or("broker")?)?
-        .ok_or("no broker")?;
-    assert_eq!(rt; broker.trades, 500);
-    assert_eq!(rt; broker.commissions.get(), 1_252_500);
+    match store.broker_numbers(broker)? {
+        Some(numbers) => {
+            assert_eq!(rt; numbers.trades.get(), 500);
+            assert_eq!(rt; numbers.commissions.get(), 1_252_500);
+        }
+        None => Err("no broker")?,
+    }
     Ok(())
 }
 
 // The rows as one batch, and compares that each is accepted and where the last leaves the account.
 fn expect_batch(rt: &impl Abort, alloc: Global, rows: &[String]) -> Result<Vec<u8>, Fail> {
-    let mut desk = set_desk(rt, alloc)?;
     let batch = batch_of(alloc, rows)?;
-    let at = Stamp::nearest(1_709_251_200_000);
-    let (lines, ended) = answer_at(alloc, &mut desk, at, batch.as_bytes());
-    assert!(rt; ended == counts(1_000, 0, 0));
+    let mut desk = set_desk(rt, alloc)?;
+    let (lines, ended) = answer_at(alloc, &mut desk, FIRST_MOMENT, batch.as_bytes());
+    let all = Counts {
+        ok: 1_000,
+        again: 0,
+        no: 0,
+    };
+    assert!(rt; ended == Ok(all));
     assert!(rt;
         lines.ends_with(
             b"\n1000,ok,1709251201015,50.00,0.00,-5055.00,2024-03-03,0.00,0.00,-425865.00\nend,1000,0,0\n"
@@ -72,28 +80,25 @@ fn expect_batch(rt: &impl Abort, alloc: Global, rows: &[String]) -> Result<Vec<u
     Ok(lines)
 }
 
-// The call of a row under its key.
-fn call(alloc: Global, row: &str, n: u64) -> Result<(Stamp, Call), Fail> {
-    let mut fields = Vec::new(alloc);
-    for field in row.split(',') {
-        fields.push(field.as_bytes())?;
-    }
-    let command = parse_row(alloc, &fields)?.map_err(|_| "out of form")?;
-    let key = Key {
-        batch: BatchName::parse(alloc, b"L")?.ok_or("a batch's name")?,
-        row: RowNumber::new(n).ok_or("a row's number")?,
-    };
-    let at = Stamp::nearest(1_709_251_200_000);
-    Ok((at, Call::Do(command, Some(key))))
-}
-
 // The calls of all rows.
 fn calls(alloc: Global, rows: &[String]) -> Result<Vec<(Stamp, Call)>, Fail> {
     let mut calls = Vec::new(alloc);
     for (row, n) in rows.iter().zip(1..=2 * TRADES) {
-        calls.push(call(alloc, row.as_str(), n)?)?;
+        calls.push(keyed(alloc, b"L", n, row.as_str())?)?;
     }
     Ok(calls)
+}
+
+// What comes of the same rows in one run.
+fn outcomes(
+    alloc: Global,
+    desk: &mut Desk<MemStore>,
+    rows: &[String],
+) -> Result<Vec<Outcome>, Fail> {
+    let calls = calls(alloc, rows)?;
+    let mut out = Vec::new(alloc);
+    desk.run(alloc, &calls, &mut out)?;
+    Ok(out)
 }
 
 // Adds the line of an answer, as a batch tells it.
@@ -106,16 +111,19 @@ fn add_line(alloc: Global, lines: &mut String, n: u64, outcome: &Outcome) -> Res
     Ok(())
 }
 
+// The lines of these outcomes.
+fn lines_of(alloc: Global, outcomes: &[Outcome]) -> Result<String, Fail> {
+    let mut lines = String::new(alloc);
+    for (outcome, n) in outcomes.iter().zip(1..=2 * TRADES) {
+        add_line(alloc, &mut lines, n, outcome)?;
+    }
+    Ok(lines)
+}
+
 // The lines of the same rows in one run.
 fn lines_of_run(rt: &impl Abort, alloc: Global, rows: &[String]) -> Result<String, Fail> {
     let mut desk = set_desk(rt, alloc)?;
-    let calls = calls(alloc, rows)?;
-    let mut out = Vec::new(alloc);
-    desk.run(alloc, &calls, &mut out)?;
-    let mut lines = String::new(alloc);
-    for (outcome, n) in out.iter().zip(1..=2 * TRADES) {
-        add_line(alloc, &mut lines, n, outcome)?;
-    }
+    let lines = lines_of(alloc, &outcomes(alloc, &mut desk, rows)?)?;
     expect_sums(rt, alloc, desk.into_store())?;
     Ok(lines)
 }

@@ -1,15 +1,8 @@
-use crate::desks::{counts, expect, set_desk};
+use crate::desks::{Case, Step, expect_cases};
 use std::test::Fail;
 
-#[test]
-fn orders_out_of_form(rt: HostRuntime) -> Result<(), Fail> {
-    let alloc = rt.alloc();
-    let mut desk = set_desk(&rt, alloc)?;
-    expect(
-        &rt,
-        alloc,
-        &mut desk,
-        b"batch,F\n\
+const ORDERS_OUT_OF_FORM: [Step; 1] = [Step::Done(
+    b"batch,F\n\
         order\n\
         order,100\n\
         order,100,TMB,ABC,100,,cash,fifo,Ann,Lee\n\
@@ -69,7 +62,7 @@ fn orders_out_of_form(rt: HostRuntime) -> Result<(), Fail> {
         order,100,TSL,ABC,0,,cash,fifo,Ann,Lee,T10\n\
         order,100,TMB,ABC,100,,cash,fifo,Ann,Lee,T10\n\
         end,58\n",
-        b"1,no,18\n2,no,18\n3,no,18\n4,no,18\n5,no,18\n6,no,18\n7,no,18\n8,no,18\n9,no,18\n\
+    "1,no,18\n2,no,18\n3,no,18\n4,no,18\n5,no,18\n6,no,18\n7,no,18\n8,no,18\n9,no,18\n\
         10,no,18\n11,no,18\n12,no,18\n13,no,18\n14,no,18\n15,no,18\n16,no,18\n17,no,18\n\
         18,no,18\n19,no,18\n20,no,18\n21,no,18\n22,no,18\n23,no,18\n24,no,18\n25,no,18\n\
         26,no,18\n27,no,18\n28,no,18\n29,no,8\n30,no,8\n31,no,8\n32,no,8\n33,no,8\n34,no,8\n\
@@ -77,19 +70,10 @@ fn orders_out_of_form(rt: HostRuntime) -> Result<(), Fail> {
         44,no,9\n45,no,9\n46,no,7\n47,no,7\n48,no,7\n49,no,7\n50,no,7\n51,no,9\n52,no,8\n\
         53,no,8\n54,no,18\n55,no,18\n56,no,8\n57,no,8\n\
         58,ok,1709251200016,1,SBMT,10.00,0.00,0.00,0.00,10.00,5.00,10000.00\nend,1,0,57\n",
-        counts(1, 0, 57),
-    )
-}
+)];
 
-#[test]
-fn feeds_out_of_form(rt: HostRuntime) -> Result<(), Fail> {
-    let alloc = rt.alloc();
-    let mut desk = set_desk(&rt, alloc)?;
-    expect(
-        &rt,
-        alloc,
-        &mut desk,
-        b"batch,D\n\
+const FEEDS_OUT_OF_FORM: [Step; 1] = [Step::Done(
+    b"batch,D\n\
         feed\n\
         feed,\n\
         feed,ABC\n\
@@ -148,26 +132,17 @@ fn feeds_out_of_form(rt: HostRuntime) -> Result<(), Fail> {
         ABC,10.00,1,ABC,10.00,1,ABC,10.00,1,ABC,10.00,1,ABC,10.00,1,ABC,10.00,1,ABC,9.00,999999\n\
         feed,ABC,99999.99,1\n\
         end,35\n",
-        b"1,no,18\n2,no,18\n3,no,18\n4,no,18\n5,no,18\n6,no,18\n7,no,18\n8,no,18\n9,no,18\n\
+    "1,no,18\n2,no,18\n3,no,18\n4,no,18\n5,no,18\n6,no,18\n7,no,18\n8,no,18\n9,no,18\n\
         10,no,18\n11,no,8\n12,no,8\n13,no,8\n14,no,8\n15,no,9\n16,no,9\n17,no,9\n18,no,9\n\
         19,no,8\n20,no,18\n21,no,8\n22,no,18\n23,no,9\n24,no,4\n25,no,20\n26,no,20\n27,no,9\n\
         28,no,8\n29,no,18\n30,no,18\n31,no,4\n\
         32,ok,1709251200016,1,PNDG,9.00,0.00,0.00,0.00,0.90,5.00,10000.00\n\
         33,ok,1709251200017,2,PNDG,10.01,0.00,0.00,0.00,1.00,5.00,10000.00\n\
         34,ok,1709251200018,1\n35,ok,1709251200019,2\nend,4,0,31\n",
-        counts(4, 0, 31),
-    )
-}
+)];
 
-#[test]
-fn cancels_and_what_they_meet(rt: HostRuntime) -> Result<(), Fail> {
-    let alloc = rt.alloc();
-    let mut desk = set_desk(&rt, alloc)?;
-    expect(
-        &rt,
-        alloc,
-        &mut desk,
-        b"batch,H\n\
+const CANCELS_AND_WHAT_THEY_MEET: [Step; 1] = [Step::Done(
+    b"batch,H\n\
         cancel\n\
         cancel,\n\
         cancel,1,\n\
@@ -196,7 +171,7 @@ fn cancels_and_what_they_meet(rt: HostRuntime) -> Result<(), Fail> {
         cancel,2\n\
         cancel,1\n\
         end,27\n",
-        b"1,no,18\n2,no,18\n3,no,18\n4,no,18\n5,no,18\n6,no,18\n7,no,18\n8,no,18\n9,no,18\n\
+    "1,no,18\n2,no,18\n3,no,18\n4,no,18\n5,no,18\n6,no,18\n7,no,18\n8,no,18\n9,no,18\n\
         10,no,18\n11,no,5\n12,no,5\n\
         13,ok,1709251200016,1,PNDG,9.00,0.00,0.00,0.00,0.90,5.00,10000.00\n\
         14,ok,1709251200017,2,SBMT,10.00,0.00,0.00,0.00,1.00,5.00,10000.00\n\
@@ -205,6 +180,14 @@ fn cancels_and_what_they_meet(rt: HostRuntime) -> Result<(), Fail> {
         18,no,13,SBMT\n19,ok,1709251200020,3\n20,no,13,SBMT\n21,ok,1709251200021,CNCL\n\
         22,no,13,CNCL\n23,ok,1709251200022,CNCL\n24,no,13,CNCL\n25,ok,1709251200023\n\
         26,no,13,SBMT\n27,no,13,CNCL\nend,8,0,19\n",
-        counts(8, 0, 19),
-    )
+)];
+
+#[test]
+fn order_fields(rt: HostRuntime) -> Result<(), Fail> {
+    let cases: [Case; 3] = [
+        ("orders_out_of_form", &ORDERS_OUT_OF_FORM),
+        ("feeds_out_of_form", &FEEDS_OUT_OF_FORM),
+        ("cancels_and_what_they_meet", &CANCELS_AND_WHAT_THEY_MEET),
+    ];
+    expect_cases(&rt, rt.alloc(), &cases)
 }

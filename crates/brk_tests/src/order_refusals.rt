@@ -1,4 +1,4 @@
-use crate::desks::{counts, expect, set_desk};
+use crate::desks::{Case, Step, expect_cases};
 use std::test::Fail;
 
 // Orders by others than the customer.
@@ -12,22 +12,12 @@ const STRANGERS: &[u8] = b"batch,R\n\
     order,100,TMB,ABC,100,,cash,fifo,Ann,Lee,T\n\
     end,7\n";
 
-#[test]
-fn who_may_order(rt: HostRuntime) -> Result<(), Fail> {
-    let alloc = rt.alloc();
-    let mut desk = set_desk(&rt, alloc)?;
-    expect(
-        &rt,
-        alloc,
-        &mut desk,
+const WHO_MAY_ORDER: [Step; 3] = [
+    Step::Done(
         STRANGERS,
-        b"1,no,6\n2,no,6\n3,no,6\n4,no,6\n5,no,6\n6,no,6\n7,no,6\nend,0,0,7\n",
-        counts(0, 0, 7),
-    )?;
-    expect(
-        &rt,
-        alloc,
-        &mut desk,
+        "1,no,6\n2,no,6\n3,no,6\n4,no,6\n5,no,6\n6,no,6\n7,no,6\nend,0,0,7\n",
+    ),
+    Step::Done(
         b"batch,M\n\
         permission,100,0000,T11,Lee,Ann\n\
         order,100,TMB,ABC,100,,cash,fifo,Ann,Lee,T11\n\
@@ -45,7 +35,7 @@ fn who_may_order(rt: HostRuntime) -> Result<(), Fail> {
         order,100,TMB,ABC,100,,cash,fifo,Ann,Lee,T10\n\
         order,100,TMB,ABC,100,,cash,fifo,Kim,Lee,T11\n\
         end,15\n",
-        b"1,ok,1709251200016\n\
+        "1,ok,1709251200016\n\
         2,ok,1709251200017,1,SBMT,10.00,0.00,0.00,0.00,10.00,5.00,10000.00\n3,ok,1709251200018\n\
         4,ok,1709251200019\n5,no,6\n\
         6,ok,1709251200020,2,SBMT,10.00,0.00,0.00,0.00,10.00,5.00,-12.50\n7,no,6\n\
@@ -53,30 +43,18 @@ fn who_may_order(rt: HostRuntime) -> Result<(), Fail> {
         11,no,6\n12,ok,1709251200022\n\
         13,ok,1709251200023,4,SBMT,10.00,0.00,0.00,0.00,10.00,5.00,10000.00\n\
         14,ok,1709251200024,5,SBMT,10.00,0.00,0.00,0.00,10.00,5.00,10000.00\n15,no,6\nend,9,0,6\n",
-        counts(9, 0, 6),
-    )?;
+    ),
     // A refused order keeps no key, and is accepted once it is permitted.
-    expect(
-        &rt,
-        alloc,
-        &mut desk,
+    Step::Done(
         STRANGERS,
-        b"1,ok,1709251200025,6,SBMT,10.00,0.00,0.00,0.00,10.00,5.00,10000.00\n\
+        "1,ok,1709251200025,6,SBMT,10.00,0.00,0.00,0.00,10.00,5.00,10000.00\n\
         2,ok,1709251200026,7,SBMT,10.00,0.00,0.00,0.00,10.00,5.00,10000.00\n3,no,6\n4,no,6\n\
         5,no,6\n6,no,6\n7,no,6\nend,2,0,5\n",
-        counts(2, 0, 5),
-    )
-}
+    ),
+];
 
-#[test]
-fn charges_and_bands_of_a_tier(rt: HostRuntime) -> Result<(), Fail> {
-    let alloc = rt.alloc();
-    let mut desk = set_desk(&rt, alloc)?;
-    expect(
-        &rt,
-        alloc,
-        &mut desk,
-        b"batch,C\n\
+const CHARGES_AND_BANDS_OF_A_TIER: [Step; 1] = [Step::Done(
+    b"batch,C\n\
         customer,11,2,T11,Kay,Kim\n\
         account,101,11,1,Side,0,-12.50\n\
         order,999,TMB,QQQ,100,,cash,fifo,Ann,Lee,T12\n\
@@ -110,7 +88,7 @@ fn charges_and_bands_of_a_tier(rt: HostRuntime) -> Result<(), Fail> {
         order,101,TMS,ABC,999999,,cash,fifo,Kim,Kay,T11\n\
         order,101,TMS,ABC,1,,cash,fifo,Kim,Kay,T11\n\
         end,32\n",
-        b"1,ok,1709251200016\n2,ok,1709251200017\n3,no,1\n4,no,1\n5,no,4\n6,no,4\n7,no,4\n\
+    "1,ok,1709251200016\n2,ok,1709251200017\n3,no,1\n4,no,1\n5,no,4\n6,no,4\n7,no,4\n\
         8,no,6\n9,no,10\n10,ok,1709251200018\n11,ok,1709251200019\n12,no,10\n\
         13,ok,1709251200020\n14,no,6\n15,no,11\n16,ok,1709251200021\n17,ok,1709251200022\n\
         18,ok,1709251200023\n19,ok,1709251200024\n20,ok,1709251200025\n21,no,11\n22,no,11\n\
@@ -122,6 +100,13 @@ fn charges_and_bands_of_a_tier(rt: HostRuntime) -> Result<(), Fail> {
         29,ok,1709251200031,5,SBMT,10.00,0.00,0.00,0.00,12.00,7.50,-12.50\n30,no,11\n\
         31,ok,1709251200032,6,SBMT,10.00,0.00,0.00,0.00,19999.98,7.00,-12.50\n\
         32,ok,1709251200033,7,SBMT,10.00,0.00,0.00,0.00,0.02,7.00,-12.50\nend,18,0,14\n",
-        counts(18, 0, 14),
-    )
+)];
+
+#[test]
+fn order_refusals(rt: HostRuntime) -> Result<(), Fail> {
+    let cases: [Case; 2] = [
+        ("who_may_order", &WHO_MAY_ORDER),
+        ("charges_and_bands_of_a_tier", &CHARGES_AND_BANDS_OF_A_TIER),
+    ];
+    expect_cases(&rt, rt.alloc(), &cases)
 }

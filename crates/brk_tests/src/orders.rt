@@ -1,4 +1,4 @@
-use crate::desks::{counts, expect, set_desk};
+use crate::desks::{Case, Step, expect_cases};
 use std::test::Fail;
 
 // Orders of each type.
@@ -17,16 +17,10 @@ const TYPES: &[u8] = b"batch,T\n\
     order,100,TMB,ABC,3,,cash,fifo,Ann,Lee,T10\n\
     end,12\n";
 
-#[test]
-fn orders_of_each_type_and_their_repeat(rt: HostRuntime) -> Result<(), Fail> {
-    let alloc = rt.alloc();
-    let mut desk = set_desk(&rt, alloc)?;
-    expect(
-        &rt,
-        alloc,
-        &mut desk,
+const ORDERS_OF_EACH_TYPE_AND_THEIR_REPEAT: [Step; 4] = [
+    Step::Done(
         TYPES,
-        b"1,ok,1709251200016,1,SBMT,10.00,0.00,0.00,0.00,10.00,5.00,10000.00\n\
+        "1,ok,1709251200016,1,SBMT,10.00,0.00,0.00,0.00,10.00,5.00,10000.00\n\
         2,ok,1709251200017,2,SBMT,10.00,0.00,0.00,0.00,10.00,5.00,10000.00\n\
         3,ok,1709251200018,3,PNDG,9.50,0.00,0.00,0.00,0.95,5.00,10000.00\n\
         4,ok,1709251200019,4,PNDG,10.50,0.00,0.00,0.00,1.05,5.00,10000.00\n\
@@ -38,14 +32,10 @@ fn orders_of_each_type_and_their_repeat(rt: HostRuntime) -> Result<(), Fail> {
         10,ok,1709251200025,10,PNDG,99999.99,0.00,0.00,0.00,999998900.00,5.00,10000.00\n\
         11,ok,1709251200026,11,SBMT,10.00,0.00,0.00,0.00,0.30,5.00,10000.00\n\
         12,ok,1709251200027,12,SBMT,10.00,0.00,0.00,0.00,0.30,5.00,10000.00\nend,12,0,0\n",
-        counts(12, 0, 0),
-    )?;
-    expect(
-        &rt,
-        alloc,
-        &mut desk,
+    ),
+    Step::Done(
         TYPES,
-        b"1,again,1709251200016,1,SBMT,10.00,0.00,0.00,0.00,10.00,5.00,10000.00\n\
+        "1,again,1709251200016,1,SBMT,10.00,0.00,0.00,0.00,10.00,5.00,10000.00\n\
         2,again,1709251200017,2,SBMT,10.00,0.00,0.00,0.00,10.00,5.00,10000.00\n\
         3,again,1709251200018,3,PNDG,9.50,0.00,0.00,0.00,0.95,5.00,10000.00\n\
         4,again,1709251200019,4,PNDG,10.50,0.00,0.00,0.00,1.05,5.00,10000.00\n\
@@ -57,13 +47,9 @@ fn orders_of_each_type_and_their_repeat(rt: HostRuntime) -> Result<(), Fail> {
         10,again,1709251200025,10,PNDG,99999.99,0.00,0.00,0.00,999998900.00,5.00,10000.00\n\
         11,again,1709251200026,11,SBMT,10.00,0.00,0.00,0.00,0.30,5.00,10000.00\n\
         12,again,1709251200027,12,SBMT,10.00,0.00,0.00,0.00,0.30,5.00,10000.00\nend,0,12,0\n",
-        counts(0, 12, 0),
-    )?;
+    ),
     // Other rows under the kept keys; the tests of form come first.
-    expect(
-        &rt,
-        alloc,
-        &mut desk,
+    Step::Done(
         b"batch,T\n\
         order,999,TMB,ABC,100,,cash,fifo,Ann,Lee,T10\n\
         order,100,TMB,ABC,100,,cash,fifo,Ann,Lee,T10\n\
@@ -78,31 +64,20 @@ fn orders_of_each_type_and_their_repeat(rt: HostRuntime) -> Result<(), Fail> {
         order,100,TMB,ABC,03,,cash,fifo,Ann,Lee,T10\n\
         order,100,TMB,ABC,3,10.00,cash,fifo,Ann,Lee,T10\n\
         end,12\n",
-        b"1,no,19\n2,no,19\n3,no,19\n4,no,19\n5,no,19\n6,no,19\n7,no,19\n8,no,19\n9,no,19\n\
+        "1,no,19\n2,no,19\n3,no,19\n4,no,19\n5,no,19\n6,no,19\n7,no,19\n8,no,19\n9,no,19\n\
         10,again,1709251200025,10,PNDG,99999.99,0.00,0.00,0.00,999998900.00,5.00,10000.00\n\
         11,no,8\n12,no,9\nend,0,1,11\n",
-        counts(0, 1, 11),
-    )?;
-    expect(
-        &rt,
-        alloc,
-        &mut desk,
+    ),
+    Step::Done(
         b"batch,U\n\
         order,100,TMB,ABC,100,,cash,fifo,Ann,Lee,T10\n\
         end,1\n",
-        b"1,ok,1709251200028,13,SBMT,10.00,0.00,0.00,0.00,10.00,5.00,10000.00\nend,1,0,0\n",
-        counts(1, 0, 0),
-    )
-}
+        "1,ok,1709251200028,13,SBMT,10.00,0.00,0.00,0.00,10.00,5.00,10000.00\nend,1,0,0\n",
+    ),
+];
 
-#[test]
-fn orders_by_tier_type_and_exchange(rt: HostRuntime) -> Result<(), Fail> {
-    let alloc = rt.alloc();
-    let mut desk = set_desk(&rt, alloc)?;
-    expect(
-        &rt,
-        alloc,
-        &mut desk,
+const ORDERS_BY_TIER_TYPE_AND_EXCHANGE: [Step; 2] = [
+    Step::Done(
         b"batch,TIERS\n\
         customer,21,1,T21,Poe,Pia\n\
         account,201,21,1,Main,0,1000.00\n\
@@ -158,7 +133,7 @@ fn orders_by_tier_type_and_exchange(rt: HostRuntime) -> Result<(), Fail> {
         band,3,TLB,NASDAQ,1,1,180\n\
         band,3,TLB,NASDAQ,2,999999,280\n\
         end,53\n",
-        b"1,ok,1709251200016\n2,ok,1709251200017\n3,ok,1709251200018\n4,ok,1709251200019\n\
+        "1,ok,1709251200016\n2,ok,1709251200017\n3,ok,1709251200018\n4,ok,1709251200019\n\
         5,ok,1709251200020\n6,ok,1709251200021\n7,ok,1709251200022\n8,ok,1709251200023\n\
         9,ok,1709251200024\n10,ok,1709251200025\n11,ok,1709251200026\n12,ok,1709251200027\n\
         13,ok,1709251200028\n14,ok,1709251200029\n15,ok,1709251200030\n16,ok,1709251200031\n\
@@ -172,12 +147,8 @@ fn orders_by_tier_type_and_exchange(rt: HostRuntime) -> Result<(), Fail> {
         45,ok,1709251200060\n46,ok,1709251200061\n47,ok,1709251200062\n48,ok,1709251200063\n\
         49,ok,1709251200064\n50,ok,1709251200065\n51,ok,1709251200066\n52,ok,1709251200067\n\
         53,ok,1709251200068\nend,53,0,0\n",
-        counts(53, 0, 0),
-    )?;
-    expect(
-        &rt,
-        alloc,
-        &mut desk,
+    ),
+    Step::Done(
         b"batch,THIRTY\n\
         order,201,TMB,AAA,100,,cash,fifo,Pia,Poe,T21\n\
         order,202,TMB,AAA,101,,margin,lifo,Quy,Quo,T22\n\
@@ -210,7 +181,7 @@ fn orders_by_tier_type_and_exchange(rt: HostRuntime) -> Result<(), Fail> {
         order,202,TLB,BBB,2,0.85,cash,lifo,Quy,Quo,T22\n\
         order,203,TLB,BBB,999999,0.85,margin,lifo,Ray,Roe,T23\n\
         end,30\n",
-        b"1,ok,1709251200069,1,SBMT,12.34,0.00,0.00,0.00,12.34,5.00,1000.00\n\
+        "1,ok,1709251200069,1,SBMT,12.34,0.00,0.00,0.00,12.34,5.00,1000.00\n\
         2,ok,1709251200070,2,SBMT,12.34,0.00,0.00,0.00,4.36,1.01,-250.25\n\
         3,ok,1709251200071,3,SBMT,12.34,0.00,0.00,0.00,30849.97,3.10,0.00\n\
         4,ok,1709251200072,4,SBMT,0.87,0.00,0.00,0.00,0.22,5.00,1000.00\n\
@@ -240,6 +211,20 @@ fn orders_by_tier_type_and_exchange(rt: HostRuntime) -> Result<(), Fail> {
         28,ok,1709251200096,28,PNDG,0.85,0.00,0.00,0.00,0.02,5.00,1000.00\n\
         29,ok,1709251200097,29,PNDG,0.85,0.00,0.00,0.00,0.05,123.45,-250.25\n\
         30,ok,1709251200098,30,PNDG,0.85,0.00,0.00,0.00,23799.98,0.67,0.00\nend,30,0,0\n",
-        counts(30, 0, 0),
-    )
+    ),
+];
+
+#[test]
+fn orders(rt: HostRuntime) -> Result<(), Fail> {
+    let cases: [Case; 2] = [
+        (
+            "orders_of_each_type_and_their_repeat",
+            &ORDERS_OF_EACH_TYPE_AND_THEIR_REPEAT,
+        ),
+        (
+            "orders_by_tier_type_and_exchange",
+            &ORDERS_BY_TIER_TYPE_AND_EXCHANGE,
+        ),
+    ];
+    expect_cases(&rt, rt.alloc(), &cases)
 }

@@ -1,15 +1,8 @@
-use crate::desks::{counts, expect, set_desk};
+use crate::desks::{Case, Step, expect_cases};
 use std::test::Fail;
 
-#[test]
-fn too_few_fields_or_too_many(rt: HostRuntime) -> Result<(), Fail> {
-    let alloc = rt.alloc();
-    let mut desk = set_desk(&rt, alloc)?;
-    expect(
-        &rt,
-        alloc,
-        &mut desk,
-        b"batch,R\n\
+const TOO_FEW_FIELDS_OR_TOO_MANY: [Step; 1] = [Step::Done(
+    b"batch,R\n\
         broker,2\n\
         broker,2,Cy,\n\
         customer,11,1,T11,Kay\n\
@@ -32,22 +25,13 @@ fn too_few_fields_or_too_many(rt: HostRuntime) -> Result<(), Fail> {
         charge,TMX\n\
         band,2,TMX,NYSE,2,1\n\
         end,21\n",
-        b"1,no,18\n2,no,18\n3,no,18\n4,no,18\n5,no,18\n6,no,18\n7,no,18\n8,no,18\n9,no,18\n\
+    "1,no,18\n2,no,18\n3,no,18\n4,no,18\n5,no,18\n6,no,18\n7,no,18\n8,no,18\n9,no,18\n\
         10,no,18\n11,no,18\n12,no,18\n13,no,18\n14,no,18\n15,no,18\n16,no,18\n17,no,18\n\
         18,no,18\n19,no,18\n20,no,18\n21,no,18\nend,0,0,21\n",
-        counts(0, 0, 21),
-    )
-}
+)];
 
-#[test]
-fn kinds_that_are_unknown(rt: HostRuntime) -> Result<(), Fail> {
-    let alloc = rt.alloc();
-    let mut desk = set_desk(&rt, alloc)?;
-    expect(
-        &rt,
-        alloc,
-        &mut desk,
-        b"batch,R\n\
+const KINDS_THAT_ARE_UNKNOWN: [Step; 1] = [Step::Done(
+    b"batch,R\n\
         brokers,2,Cy\n\
         Broker,2,Cy\n\
         \x20broker,2,Cy\n\
@@ -56,20 +40,11 @@ fn kinds_that_are_unknown(rt: HostRuntime) -> Result<(), Fail> {
         batch,R\n\
         END,6\n\
         end,7\n",
-        b"1,no,18\n2,no,18\n3,no,18\n4,no,18\n5,no,18\n6,no,18\n7,no,18\nend,0,0,7\n",
-        counts(0, 0, 7),
-    )
-}
+    "1,no,18\n2,no,18\n3,no,18\n4,no,18\n5,no,18\n6,no,18\n7,no,18\nend,0,0,7\n",
+)];
 
-#[test]
-fn a_field_left_empty(rt: HostRuntime) -> Result<(), Fail> {
-    let alloc = rt.alloc();
-    let mut desk = set_desk(&rt, alloc)?;
-    expect(
-        &rt,
-        alloc,
-        &mut desk,
-        b"batch,R\n\
+const A_FIELD_LEFT_EMPTY: [Step; 1] = [Step::Done(
+    b"batch,R\n\
         broker,,Cy\n\
         broker,2,\n\
         customer,,1,T11,Kay,Kim\n\
@@ -108,24 +83,15 @@ fn a_field_left_empty(rt: HostRuntime) -> Result<(), Fail> {
         custtax,,1\n\
         custtax,10,\n\
         end,37\n",
-        b"1,no,18\n2,no,18\n3,no,18\n4,no,18\n5,no,18\n6,no,18\n7,no,18\n8,no,18\n9,no,18\n\
+    "1,no,18\n2,no,18\n3,no,18\n4,no,18\n5,no,18\n6,no,18\n7,no,18\n8,no,18\n9,no,18\n\
         10,no,18\n11,no,18\n12,no,18\n13,no,18\n14,no,18\n15,no,18\n16,no,18\n17,no,18\n\
         18,no,18\n19,no,18\n20,no,18\n21,no,18\n22,no,18\n23,no,9\n24,no,7\n25,no,18\n\
         26,no,18\n27,no,18\n28,no,7\n29,no,18\n30,no,8\n31,no,8\n32,no,18\n33,no,18\n34,no,18\n\
         35,no,18\n36,no,18\n37,no,18\nend,0,0,37\n",
-        counts(0, 0, 37),
-    )
-}
+)];
 
-#[test]
-fn parties(rt: HostRuntime) -> Result<(), Fail> {
-    let alloc = rt.alloc();
-    let mut desk = set_desk(&rt, alloc)?;
-    expect(
-        &rt,
-        alloc,
-        &mut desk,
-        b"batch,R\n\
+const PARTIES: [Step; 1] = [Step::Done(
+    b"batch,R\n\
         broker,1,Cy\n\
         customer,10,2,T11,Kay,Kim\n\
         customer,11,2,T10,Kay,Kim\n\
@@ -147,24 +113,15 @@ fn parties(rt: HostRuntime) -> Result<(), Fail> {
         account,109,10,1,Side,0,0.00\n\
         account,110,11,1,Side,0,0.00\n\
         end,20\n",
-        b"1,no,15\n2,no,15\n3,no,15\n4,ok,1709251200016\n5,no,2\n6,no,3\n7,no,15\n\
+    "1,no,15\n2,no,15\n3,no,15\n4,ok,1709251200016\n5,no,2\n6,no,3\n7,no,15\n\
         8,ok,1709251200017\n9,ok,1709251200018\n10,ok,1709251200019\n11,ok,1709251200020\n\
         12,ok,1709251200021\n13,ok,1709251200022\n14,ok,1709251200023\n15,ok,1709251200024\n\
         16,ok,1709251200025\n17,no,14,accounts\n18,no,3\n19,no,15\n20,ok,1709251200026\n\
         end,11,0,9\n",
-        counts(11, 0, 9),
-    )
-}
+)];
 
-#[test]
-fn permissions_and_securities(rt: HostRuntime) -> Result<(), Fail> {
-    let alloc = rt.alloc();
-    let mut desk = set_desk(&rt, alloc)?;
-    expect(
-        &rt,
-        alloc,
-        &mut desk,
-        b"batch,R\n\
+const PERMISSIONS_AND_SECURITIES: [Step; 1] = [Step::Done(
+    b"batch,R\n\
         permission,101,0000,T11,Kay,Kim\n\
         permission,100,0000,T11,Kay,Kim\n\
         permission,100,1111,T11,Lee,Ann\n\
@@ -178,22 +135,13 @@ fn permissions_and_securities(rt: HostRuntime) -> Result<(), Fail> {
         security,xyz,Xyz,NYSE,Tech,0.00\n\
         security,ABC,Acme,NYSE,Tech,0.00\n\
         end,12\n",
-        b"1,no,1\n2,ok,1709251200016\n3,no,15\n4,ok,1709251200017\n5,ok,1709251200018\n\
+    "1,no,1\n2,ok,1709251200016\n3,no,15\n4,ok,1709251200017\n5,ok,1709251200018\n\
         6,ok,1709251200019\n7,ok,1709251200020\n8,no,15\n9,ok,1709251200021\n\
         10,ok,1709251200022\n11,no,18\n12,no,9\nend,7,0,5\n",
-        counts(7, 0, 5),
-    )
-}
+)];
 
-#[test]
-fn charges_and_bands(rt: HostRuntime) -> Result<(), Fail> {
-    let alloc = rt.alloc();
-    let mut desk = set_desk(&rt, alloc)?;
-    expect(
-        &rt,
-        alloc,
-        &mut desk,
-        b"batch,R\n\
+const CHARGES_AND_BANDS: [Step; 1] = [Step::Done(
+    b"batch,R\n\
         charge,TMB,1,6.00\n\
         charge,TMB,2,5.00\n\
         charge,TMB,2,5.00\n\
@@ -219,23 +167,14 @@ fn charges_and_bands(rt: HostRuntime) -> Result<(), Fail> {
         band,1,TMX,nyse,2,1,50\n\
         band,1,TMX,NYSE,2,1,10001\n\
         end,24\n",
-        b"1,no,15\n2,ok,1709251200016\n3,no,15\n4,no,7\n5,no,7\n6,no,18\n7,no,18\n8,no,16\n\
+    "1,no,15\n2,ok,1709251200016\n3,no,15\n4,no,7\n5,no,7\n6,no,18\n7,no,18\n8,no,16\n\
         9,ok,1709251200017\n10,no,16\n11,no,16\n12,no,16\n13,no,16\n14,no,16\n\
         15,ok,1709251200018\n16,ok,1709251200019\n17,ok,1709251200020\n18,ok,1709251200021\n\
         19,no,7\n20,no,8\n21,no,8\n22,no,8\n23,no,18\n24,no,18\nend,6,0,18\n",
-        counts(6, 0, 18),
-    )
-}
+)];
 
-#[test]
-fn taxes(rt: HostRuntime) -> Result<(), Fail> {
-    let alloc = rt.alloc();
-    let mut desk = set_desk(&rt, alloc)?;
-    expect(
-        &rt,
-        alloc,
-        &mut desk,
-        b"batch,R\n\
+const TAXES: [Step; 1] = [Step::Done(
+    b"batch,R\n\
         taxrate,1,Fed,100\n\
         custtax,11,2\n\
         custtax,10,2\n\
@@ -253,10 +192,22 @@ fn taxes(rt: HostRuntime) -> Result<(), Fail> {
         custtax,11,3\n\
         custtax,11,1\n\
         end,16\n",
-        b"1,no,15\n2,no,2\n3,no,12\n4,no,15\n5,ok,1709251200016\n6,ok,1709251200017\n7,no,17\n\
+    "1,no,15\n2,no,2\n3,no,12\n4,no,15\n5,ok,1709251200016\n6,ok,1709251200017\n7,no,17\n\
         8,ok,1709251200018\n9,no,15\n10,ok,1709251200019\n11,ok,1709251200020\n\
         12,ok,1709251200021\n13,no,17\n14,ok,1709251200022\n15,ok,1709251200023\n16,no,17\n\
         end,8,0,8\n",
-        counts(8, 0, 8),
-    )
+)];
+
+#[test]
+fn refusals(rt: HostRuntime) -> Result<(), Fail> {
+    let cases: [Case; 7] = [
+        ("too_few_fields_or_too_many", &TOO_FEW_FIELDS_OR_TOO_MANY),
+        ("kinds_that_are_unknown", &KINDS_THAT_ARE_UNKNOWN),
+        ("a_field_left_empty", &A_FIELD_LEFT_EMPTY),
+        ("parties", &PARTIES),
+        ("permissions_and_securities", &PERMISSIONS_AND_SECURITIES),
+        ("charges_and_bands", &CHARGES_AND_BANDS),
+        ("taxes", &TAXES),
+    ];
+    expect_cases(&rt, rt.alloc(), &cases)
 }

@@ -1,5 +1,5 @@
-use crate::desks::{counts, expect, expect_at, set_desk};
-use crate::tables::expect_tables;
+use crate::desks::{Case, Step, expect_cases};
+use crate::tables::{Booked, expect_booked};
 use brk_money::Stamp;
 use std::test::Fail;
 
@@ -26,15 +26,8 @@ const COMPLETED: &str = "DESK\n1,1,1709251200023\nBROKER\n1,Bo,2,1001010\nCUSTOM
     W,8,feed\x1fABC\x1f10.00\x1f5,1709251200022,4\n\
     W,29,result\x1f4\x1f99999.99,1709251200023,10000.00,199979.78,790015.12,2024-03-03,101.00,999999.90,8974.90\n";
 
-#[test]
-fn only_a_submitted_trade_is_completed(rt: HostRuntime) -> Result<(), Fail> {
-    let alloc = rt.alloc();
-    let mut desk = set_desk(&rt, alloc)?;
-    expect(
-        &rt,
-        alloc,
-        &mut desk,
-        b"batch,W\n\
+const ONLY_A_SUBMITTED_TRADE_IS_COMPLETED: [Step; 1] = [Step::Done(
+    b"batch,W\n\
         order,100,TMB,ABC,100,,cash,fifo,Ann,Lee,T10\n\
         result,1,10.10\n\
         order,100,TLB,ABC,10,9.00,cash,fifo,Ann,Lee,T10\n\
@@ -65,7 +58,7 @@ fn only_a_submitted_trade_is_completed(rt: HostRuntime) -> Result<(), Fail> {
         results,4,11.00\n\
         result,4,99999.99\n\
         end,29\n",
-        b"1,ok,1709251200016,1,SBMT,10.00,0.00,0.00,0.00,10.00,5.00,10000.00\n\
+    "1,ok,1709251200016,1,SBMT,10.00,0.00,0.00,0.00,10.00,5.00,10000.00\n\
         2,ok,1709251200017,10.10,0.00,-1025.10,2024-03-03,0.00,0.00,8974.90\n\
         3,ok,1709251200018,2,PNDG,9.00,0.00,0.00,0.00,0.90,5.00,9974.90\n\
         4,ok,1709251200019,3,PNDG,9.50,0.00,0.00,0.00,0.95,5.00,9974.90\n5,ok,1709251200020,CNCL\n\
@@ -75,10 +68,7 @@ fn only_a_submitted_trade_is_completed(rt: HostRuntime) -> Result<(), Fail> {
         23,no,9\n24,no,9\n25,no,9\n26,no,18\n27,no,18\n28,no,18\n\
         29,ok,1709251200023,10000.00,199979.78,790015.12,2024-03-03,101.00,999999.90,8974.90\n\
         end,8,0,21\n",
-        counts(8, 0, 21),
-    )?;
-    expect_tables(&rt, alloc, desk.into_store(), COMPLETED)
-}
+)];
 
 // What the tables hold after a result that was refused.
 const RICH: &str = "DESK\n1,1,1709251200017\nBROKER\n1,Bo,0,0\nCUSTOMER_ACCOUNT\n\
@@ -90,36 +80,19 @@ const RICH: &str = "DESK\n1,1,1709251200017\nBROKER\n1,Bo,0,0\nCUSTOMER_ACCOUNT\
     B,1,account\x1f102\x1f10\x1f1\x1fRich\x1f0\x1f1000000000000000.00,1709251200016\n\
     B,2,order\x1f102\x1fTMS\x1fABC\x1f100\x1f\x1fcash\x1ffifo\x1fAnn\x1fLee\x1fT10,1709251200017,1,SBMT,10.00,0.00,0.00,0.00,10.00,5.00,1000000000000000.00\n";
 
-#[test]
-fn a_refused_result_changes_nothing(rt: HostRuntime) -> Result<(), Fail> {
-    let alloc = rt.alloc();
-    let mut desk = set_desk(&rt, alloc)?;
-    expect(
-        &rt,
-        alloc,
-        &mut desk,
-        b"batch,B\n\
+const A_REFUSED_RESULT_CHANGES_NOTHING: [Step; 1] = [Step::Done(
+    b"batch,B\n\
         account,102,10,1,Rich,0,1000000000000000.00\n\
         order,102,TMS,ABC,100,,cash,fifo,Ann,Lee,T10\n\
         result,1,10.00\n\
         end,3\n",
-        b"1,ok,1709251200016\n\
+    "1,ok,1709251200016\n\
         2,ok,1709251200017,1,SBMT,10.00,0.00,0.00,0.00,10.00,5.00,1000000000000000.00\n\
         3,no,14,balance\nend,2,0,1\n",
-        counts(2, 0, 1),
-    )?;
-    expect_tables(&rt, alloc, desk.into_store(), RICH)
-}
+)];
 
-#[test]
-fn balances_at_their_ends(rt: HostRuntime) -> Result<(), Fail> {
-    let alloc = rt.alloc();
-    let mut desk = set_desk(&rt, alloc)?;
-    expect(
-        &rt,
-        alloc,
-        &mut desk,
-        b"batch,B\n\
+const BALANCES_AT_THEIR_ENDS: [Step; 1] = [Step::Done(
+    b"batch,B\n\
         account,102,10,1,Rich,0,1000000000000000.00\n\
         account,103,10,1,Near,0,999999999999015.00\n\
         account,104,10,1,Over,0,999999999999015.01\n\
@@ -141,7 +114,7 @@ fn balances_at_their_ends(rt: HostRuntime) -> Result<(), Fail> {
         result,3,9.99\n\
         result,5,9.99\n\
         end,20\n",
-        b"1,ok,1709251200016\n2,ok,1709251200017\n3,ok,1709251200018\n4,ok,1709251200019\n\
+    "1,ok,1709251200016\n2,ok,1709251200017\n3,ok,1709251200018\n4,ok,1709251200019\n\
         5,ok,1709251200020\n\
         6,ok,1709251200021,1,SBMT,10.00,0.00,0.00,0.00,10.00,5.00,1000000000000000.00\n\
         7,ok,1709251200022,2,SBMT,10.00,0.00,0.00,0.00,10.00,5.00,999999999999015.00\n\
@@ -159,104 +132,33 @@ fn balances_at_their_ends(rt: HostRuntime) -> Result<(), Fail> {
         19,ok,1709251200031,9.99,0.00,984.01,2024-03-03,0.00,0.00,999999999999999.02\n\
         20,ok,1709251200032,9.99,0.00,-1013.99,2024-03-03,0.00,0.00,-999999999999999.00\n\
         end,17,0,3\n",
-        counts(17, 0, 3),
-    )?;
-    Ok(())
-}
+)];
 
 // What the tables hold after the last moment.
 const LAST: &str =
-    "DESK\n1,1,253402300799999\nBROKER\n1,Bo,7,15410\n2,Cy,0,0\n3,Di,0,0\nCUSTOMER_ACCOUNT\n\
-    100,10,1,Main,1,1000000,960290\n102,10,1,Rich,0,100000000000000000,100000000000000000\n\
+    "DESK\n1,1,253402300799999\nBROKER\n1,Bo,1,1000\n2,Cy,0,0\n3,Di,0,0\nCUSTOMER_ACCOUNT\n\
+    100,10,1,Main,1,1000000,898500\n102,10,1,Rich,0,100000000000000000,100000000000000000\n\
     LAST_TRADE\nABC,1709251200003,1000,0\nTRADE\n\
-    1,1709251200017,CMPT,TMB,1,ABC,100,1000,100,Ann Lee,1010,500,1010,0,0\n\
-    2,1709251200019,CMPT,TMB,1,ABC,200,1000,100,Ann Lee,1200,500,2400,0,0\n\
-    3,1709251200021,CMPT,TMS,1,ABC,150,1000,100,Ann Lee,1300,500,1950,6800,0\n\
-    4,1709251200023,CMPT,TMS,1,ABC,400,1000,100,Ann Lee,1300,500,5200,3000,0\n\
-    5,1709251200025,CMPT,TMB,1,ABC,300,1000,100,Ann Lee,1100,500,3300,10000,0\n\
-    6,1709251200027,CMPT,TMS,1,ABC,50,1000,100,Ann Lee,1100,500,550,0,0\n\
-    7,1709251200029,SBMT,TMS,1,ABC,100,1000,102,Ann Lee,,500,1000,0,0\n\
-    8,253402127999999,CMPT,TMB,1,ABC,100,1000,100,Ann Lee,1000,500,1000,0,0\n\
-    9,1709251200031,SBMT,TMB,1,ABC,100,1000,100,Ann Lee,,500,1000,0,0\n\
-    10,1709251200032,PNDG,TLB,1,ABC,10,900,100,Ann Lee,,500,90,0,0\nTRADE_HISTORY\n\
-    1,CMPT,1709251200017\n1,SBMT,1709251200016\n2,CMPT,1709251200019\n2,SBMT,1709251200018\n\
-    3,CMPT,1709251200021\n3,SBMT,1709251200020\n4,CMPT,1709251200023\n4,SBMT,1709251200022\n\
-    5,CMPT,1709251200025\n5,SBMT,1709251200024\n6,CMPT,1709251200027\n6,SBMT,1709251200026\n\
-    7,SBMT,1709251200029\n8,CMPT,253402127999999\n8,SBMT,1709251200030\n9,SBMT,1709251200031\n\
-    10,PNDG,1709251200032\nTRADE_REQUEST\n10,TLB,ABC,10,900,1\nHOLDING\n\
-    8,100,ABC,253402127999999,1000,100\nHOLDING_SUMMARY\n100,ABC,100\nHOLDING_HISTORY\n\
-    1,1,0,100\n1,3,100,0\n2,2,0,200\n2,3,200,150\n2,4,150,0\n4,4,0,-250\n4,5,-250,0\n\
-    5,5,0,50\n5,6,50,0\n8,8,0,100\nSETTLEMENT\n1,Cash Account,19785,-102510\n\
-    2,Cash Account,19785,-242900\n3,Cash Account,19785,185750\n4,Cash Account,19785,511300\n\
-    5,Cash Account,19785,-343800\n6,Cash Account,19785,53950\n8,Cash Account,2932896,-101500\n\
-    CASH_TRANSACTION\n1,1709251200017,-102510,Market-Buy 100 shares of Acme\n\
-    2,1709251200019,-242900,Market-Buy 200 shares of Acme\n\
-    3,1709251200021,185750,Market-Sell 150 shares of Acme\n\
-    4,1709251200023,511300,Market-Sell 400 shares of Acme\n\
-    5,1709251200025,-343800,Market-Buy 300 shares of Acme\n\
-    6,1709251200027,53950,Market-Sell 50 shares of Acme\n\
-    8,253402127999999,-101500,Market-Buy 100 shares of Acme\nKEPT WHERE K_BATCH <> 'SET'\n\
-    T,1,order\x1f100\x1fTMB\x1fABC\x1f100\x1f\x1fcash\x1ffifo\x1fAnn\x1fLee\x1fT10,1709251200016,1,SBMT,10.00,0.00,0.00,0.00,10.00,5.00,10000.00\n\
-    T,2,result\x1f1\x1f10.10,1709251200017,10.10,0.00,-1025.10,2024-03-03,0.00,0.00,8974.90\n\
-    T,3,order\x1f100\x1fTMB\x1fABC\x1f200\x1f\x1fcash\x1ffifo\x1fAnn\x1fLee\x1fT10,1709251200018,2,SBMT,10.00,0.00,0.00,0.00,20.00,5.00,9974.90\n\
-    T,4,result\x1f2\x1f12.00,1709251200019,24.00,0.00,-2429.00,2024-03-03,0.00,0.00,6545.90\n\
-    T,5,order\x1f100\x1fTMS\x1fABC\x1f150\x1f\x1fcash\x1ffifo\x1fAnn\x1fLee\x1fT10,1709251200020,3,SBMT,10.00,1610.00,1500.00,0.00,15.00,5.00,9545.90\n\
-    T,6,result\x1f3\x1f13.00,1709251200021,19.50,68.00,1857.50,2024-03-03,1610.00,1950.00,8403.40\n\
-    T,7,order\x1f100\x1fTMS\x1fABC\x1f400\x1f\x1fcash\x1ffifo\x1fAnn\x1fLee\x1fT10,1709251200022,4,SBMT,10.00,1800.00,1500.00,0.00,40.00,5.00,9903.40\n\
-    T,8,result\x1f4\x1f13.00,1709251200023,52.00,30.00,5113.00,2024-03-03,1800.00,1950.00,13516.40\n\
-    T,9,order\x1f100\x1fTMB\x1fABC\x1f300\x1f\x1fcash\x1ffifo\x1fAnn\x1fLee\x1fT10,1709251200024,5,SBMT,10.00,2500.00,3250.00,150.00,30.00,5.00,11016.40\n\
-    T,10,result\x1f5\x1f11.00,1709251200025,33.00,100.00,-3438.00,2024-03-03,2750.00,3250.00,10078.40\n\
-    T,11,order\x1f100\x1fTMS\x1fABC\x1f50\x1f\x1fcash\x1ffifo\x1fAnn\x1fLee\x1fT10,1709251200026,6,SBMT,10.00,550.00,500.00,0.00,5.00,5.00,10578.40\n\
-    T,12,result\x1f6\x1f11.00,1709251200027,5.50,0.00,539.50,2024-03-03,550.00,550.00,10617.90\n\
-    U,1,account\x1f102\x1f10\x1f1\x1fRich\x1f0\x1f1000000000000000.00,1709251200028\n\
-    U,2,order\x1f102\x1fTMS\x1fABC\x1f100\x1f\x1fcash\x1ffifo\x1fAnn\x1fLee\x1fT10,1709251200029,7,SBMT,10.00,0.00,0.00,0.00,10.00,5.00,1000000000000000.00\n\
-    U,3,order\x1f100\x1fTMB\x1fABC\x1f100\x1f\x1fcash\x1ffifo\x1fAnn\x1fLee\x1fT10,1709251200030,8,SBMT,10.00,0.00,0.00,0.00,10.00,5.00,10617.90\n\
-    U,4,order\x1f100\x1fTMB\x1fABC\x1f100\x1f\x1fcash\x1ffifo\x1fAnn\x1fLee\x1fT10,1709251200031,9,SBMT,10.00,0.00,0.00,0.00,10.00,5.00,10617.90\n\
-    U,5,order\x1f100\x1fTLB\x1fABC\x1f10\x1f9.00\x1fcash\x1ffifo\x1fAnn\x1fLee\x1fT10,1709251200032,10,PNDG,9.00,0.00,0.00,0.00,0.90,5.00,10617.90\n\
-    V,1,result\x1f8\x1f10.00,253402127999999,10.00,0.00,-1015.00,9999-12-31,0.00,0.00,9602.90\n\
+    1,1709251200017,SBMT,TMS,1,ABC,100,1000,102,Ann Lee,,500,1000,0,0\n\
+    2,253402127999999,CMPT,TMB,1,ABC,100,1000,100,Ann Lee,1000,500,1000,0,0\n\
+    3,1709251200019,SBMT,TMB,1,ABC,100,1000,100,Ann Lee,,500,1000,0,0\n\
+    4,1709251200020,PNDG,TLB,1,ABC,10,900,100,Ann Lee,,500,90,0,0\nTRADE_HISTORY\n\
+    1,SBMT,1709251200017\n2,CMPT,253402127999999\n2,SBMT,1709251200018\n3,SBMT,1709251200019\n\
+    4,PNDG,1709251200020\nTRADE_REQUEST\n4,TLB,ABC,10,900,1\nHOLDING\n\
+    2,100,ABC,253402127999999,1000,100\nHOLDING_SUMMARY\n100,ABC,100\nHOLDING_HISTORY\n\
+    2,2,0,100\nSETTLEMENT\n2,Cash Account,2932896,-101500\nCASH_TRANSACTION\n\
+    2,253402127999999,-101500,Market-Buy 100 shares of Acme\nKEPT WHERE K_BATCH <> 'SET'\n\
+    U,1,account\x1f102\x1f10\x1f1\x1fRich\x1f0\x1f1000000000000000.00,1709251200016\n\
+    U,2,order\x1f102\x1fTMS\x1fABC\x1f100\x1f\x1fcash\x1ffifo\x1fAnn\x1fLee\x1fT10,1709251200017,1,SBMT,10.00,0.00,0.00,0.00,10.00,5.00,1000000000000000.00\n\
+    U,3,order\x1f100\x1fTMB\x1fABC\x1f100\x1f\x1fcash\x1ffifo\x1fAnn\x1fLee\x1fT10,1709251200018,2,SBMT,10.00,0.00,0.00,0.00,10.00,5.00,10000.00\n\
+    U,4,order\x1f100\x1fTMB\x1fABC\x1f100\x1f\x1fcash\x1ffifo\x1fAnn\x1fLee\x1fT10,1709251200019,3,SBMT,10.00,0.00,0.00,0.00,10.00,5.00,10000.00\n\
+    U,5,order\x1f100\x1fTLB\x1fABC\x1f10\x1f9.00\x1fcash\x1ffifo\x1fAnn\x1fLee\x1fT10,1709251200020,4,PNDG,9.00,0.00,0.00,0.00,0.90,5.00,10000.00\n\
+    V,1,result\x1f2\x1f10.00,253402127999999,10.00,0.00,-1015.00,9999-12-31,0.00,0.00,8985.00\n\
     V,7,broker\x1f2\x1fCy,253402128000000\nW,2,broker\x1f3\x1fDi,253402300799999\n";
 
-#[test]
-fn the_last_days_for_results(rt: HostRuntime) -> Result<(), Fail> {
-    let alloc = rt.alloc();
-    let mut desk = set_desk(&rt, alloc)?;
-    expect(
-        &rt,
-        alloc,
-        &mut desk,
-        b"batch,T\n\
-        order,100,TMB,ABC,100,,cash,fifo,Ann,Lee,T10\n\
-        result,1,10.10\n\
-        order,100,TMB,ABC,200,,cash,fifo,Ann,Lee,T10\n\
-        result,2,12.00\n\
-        order,100,TMS,ABC,150,,cash,fifo,Ann,Lee,T10\n\
-        result,3,13.00\n\
-        order,100,TMS,ABC,400,,cash,fifo,Ann,Lee,T10\n\
-        result,4,13.00\n\
-        order,100,TMB,ABC,300,,cash,fifo,Ann,Lee,T10\n\
-        result,5,11.00\n\
-        order,100,TMS,ABC,50,,cash,fifo,Ann,Lee,T10\n\
-        result,6,11.00\n\
-        end,12\n",
-        b"1,ok,1709251200016,1,SBMT,10.00,0.00,0.00,0.00,10.00,5.00,10000.00\n\
-        2,ok,1709251200017,10.10,0.00,-1025.10,2024-03-03,0.00,0.00,8974.90\n\
-        3,ok,1709251200018,2,SBMT,10.00,0.00,0.00,0.00,20.00,5.00,9974.90\n\
-        4,ok,1709251200019,24.00,0.00,-2429.00,2024-03-03,0.00,0.00,6545.90\n\
-        5,ok,1709251200020,3,SBMT,10.00,1610.00,1500.00,0.00,15.00,5.00,9545.90\n\
-        6,ok,1709251200021,19.50,68.00,1857.50,2024-03-03,1610.00,1950.00,8403.40\n\
-        7,ok,1709251200022,4,SBMT,10.00,1800.00,1500.00,0.00,40.00,5.00,9903.40\n\
-        8,ok,1709251200023,52.00,30.00,5113.00,2024-03-03,1800.00,1950.00,13516.40\n\
-        9,ok,1709251200024,5,SBMT,10.00,2500.00,3250.00,150.00,30.00,5.00,11016.40\n\
-        10,ok,1709251200025,33.00,100.00,-3438.00,2024-03-03,2750.00,3250.00,10078.40\n\
-        11,ok,1709251200026,6,SBMT,10.00,550.00,500.00,0.00,5.00,5.00,10578.40\n\
-        12,ok,1709251200027,5.50,0.00,539.50,2024-03-03,550.00,550.00,10617.90\nend,12,0,0\n",
-        counts(12, 0, 0),
-    )?;
-    expect_at(
-        &rt,
-        alloc,
-        &mut desk,
-        Stamp::nearest(0),
+const THE_LAST_DAYS_FOR_RESULTS: [Step; 3] = [
+    Step::DoneAt(
+        0,
         b"batch,U\n\
         account,102,10,1,Rich,0,1000000000000000.00\n\
         order,102,TMS,ABC,100,,cash,fifo,Ann,Lee,T10\n\
@@ -264,52 +166,67 @@ fn the_last_days_for_results(rt: HostRuntime) -> Result<(), Fail> {
         order,100,TMB,ABC,100,,cash,fifo,Ann,Lee,T10\n\
         order,100,TLB,ABC,10,9.00,cash,fifo,Ann,Lee,T10\n\
         end,5\n",
-        b"1,ok,1709251200028\n\
-        2,ok,1709251200029,7,SBMT,10.00,0.00,0.00,0.00,10.00,5.00,1000000000000000.00\n\
-        3,ok,1709251200030,8,SBMT,10.00,0.00,0.00,0.00,10.00,5.00,10617.90\n\
-        4,ok,1709251200031,9,SBMT,10.00,0.00,0.00,0.00,10.00,5.00,10617.90\n\
-        5,ok,1709251200032,10,PNDG,9.00,0.00,0.00,0.00,0.90,5.00,10617.90\nend,5,0,0\n",
-        counts(5, 0, 0),
-    )?;
-    expect_at(
-        &rt,
-        alloc,
-        &mut desk,
-        Stamp::nearest(253_402_127_999_999),
+        "1,ok,1709251200016\n\
+        2,ok,1709251200017,1,SBMT,10.00,0.00,0.00,0.00,10.00,5.00,1000000000000000.00\n\
+        3,ok,1709251200018,2,SBMT,10.00,0.00,0.00,0.00,10.00,5.00,10000.00\n\
+        4,ok,1709251200019,3,SBMT,10.00,0.00,0.00,0.00,10.00,5.00,10000.00\n\
+        5,ok,1709251200020,4,PNDG,9.00,0.00,0.00,0.00,0.90,5.00,10000.00\nend,5,0,0\n",
+    ),
+    Step::DoneAt(
+        253_402_127_999_999,
         b"batch,V\n\
-        result,8,10.00\n\
-        result,9,10.00\n\
-        result,8,10.00\n\
-        result,10,10.00\n\
-        result,7,10.00\n\
+        result,2,10.00\n\
+        result,3,10.00\n\
+        result,2,10.00\n\
+        result,4,10.00\n\
+        result,1,10.00\n\
         result,99,10.00\n\
         broker,2,Cy\n\
-        result,9,10.00\n\
+        result,3,10.00\n\
         end,8\n",
-        b"1,ok,253402127999999,10.00,0.00,-1015.00,9999-12-31,0.00,0.00,9602.90\n2,no,21\n\
+        "1,ok,253402127999999,10.00,0.00,-1015.00,9999-12-31,0.00,0.00,8985.00\n2,no,21\n\
         3,no,13,CMPT\n4,no,13,PNDG\n5,no,14,balance\n6,no,5\n7,ok,253402128000000\n8,no,21\n\
         end,2,0,6\n",
-        counts(2, 0, 6),
-    )?;
-    expect_at(
-        &rt,
-        alloc,
-        &mut desk,
-        Stamp::nearest(Stamp::GREATEST),
+    ),
+    Step::DoneAt(
+        Stamp::GREATEST,
         b"batch,W\n\
-        result,9,10.00\n\
+        result,3,10.00\n\
         broker,3,Di\n\
-        result,9,10.00\n\
-        result,8,10.00\n\
-        result,10,10.00\n\
-        result,7,10.00\n\
+        result,3,10.00\n\
+        result,2,10.00\n\
+        result,4,10.00\n\
+        result,1,10.00\n\
         result,99,10.00\n\
-        result,7,0.01\n\
+        result,1,0.01\n\
         broker,4,Ed\n\
         end,9\n",
-        b"1,no,21\n2,ok,253402300799999\n3,no,21\n4,no,13,CMPT\n5,no,13,PNDG\n6,no,14,balance\n\
+        "1,no,21\n2,ok,253402300799999\n3,no,21\n4,no,13,CMPT\n5,no,13,PNDG\n6,no,14,balance\n\
         7,no,5\n8,no,21\n9,no,21\nend,1,0,8\n",
-        counts(1, 0, 8),
-    )?;
-    expect_tables(&rt, alloc, desk.into_store(), LAST)
+    ),
+];
+
+#[test]
+fn result_refusals(rt: HostRuntime) -> Result<(), Fail> {
+    let alloc = rt.alloc();
+    let cases: [Booked; 3] = [
+        (
+            "only_a_submitted_trade_is_completed",
+            &ONLY_A_SUBMITTED_TRADE_IS_COMPLETED,
+            COMPLETED,
+        ),
+        (
+            "a_refused_result_changes_nothing",
+            &A_REFUSED_RESULT_CHANGES_NOTHING,
+            RICH,
+        ),
+        (
+            "the_last_days_for_results",
+            &THE_LAST_DAYS_FOR_RESULTS,
+            LAST,
+        ),
+    ];
+    expect_booked(&rt, alloc, &cases)?;
+    let cases: [Case; 1] = [("balances_at_their_ends", &BALANCES_AT_THEIR_ENDS)];
+    expect_cases(&rt, alloc, &cases)
 }

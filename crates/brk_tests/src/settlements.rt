@@ -1,27 +1,6 @@
-use crate::desks::{counts, expect, set_desk};
-use crate::tables::expect_tables;
-use brk_money::Id;
-use brk_ref::Symbol;
-use brk_store::Store;
-use sqlite::MemStore;
-use std::alloc::Global;
-use std::process::Abort;
+use crate::desks::{Case, Step, expect_cases};
+use crate::tables::{Booked, expect_booked};
 use std::test::Fail;
-
-// Compares how many shares of a security account 100 holds, none where it has no summary.
-fn expect_summary(
-    rt: &impl Abort,
-    alloc: Global,
-    store: &mut Store<MemStore>,
-    symbol: &[u8],
-    wanted: Option<i64>,
-) -> Result<(), Fail> {
-    let account = Id::new(100).ok_or("account")?;
-    let symbol = Symbol::parse(alloc, symbol)?.ok_or("symbol")?;
-    let summary = store.summary_of(account, &symbol)?;
-    assert!(rt; summary.map(|row| row.qty) == wanted);
-    Ok(())
-}
 
 // What the tables hold after a purchase on margin.
 const MARGIN: &str = "DESK\n1,1,1709251200017\nBROKER\n1,Bo,1,1010\nCUSTOMER_ACCOUNT\n\
@@ -34,27 +13,14 @@ const MARGIN: &str = "DESK\n1,1,1709251200017\nBROKER\n1,Bo,1,1010\nCUSTOMER_ACC
     M,1,order\x1f100\x1fTMB\x1fABC\x1f100\x1f\x1fmargin\x1ffifo\x1fAnn\x1fLee\x1fT10,1709251200016,1,SBMT,10.00,0.00,0.00,0.00,10.00,5.00,10000.00\n\
     M,2,result\x1f1\x1f10.10,1709251200017,10.10,0.00,-1025.10,2024-03-03,0.00,0.00,10000.00\n";
 
-#[test]
-fn a_trade_on_margin_moves_no_cash(rt: HostRuntime) -> Result<(), Fail> {
-    let alloc = rt.alloc();
-    let mut desk = set_desk(&rt, alloc)?;
-    expect(
-        &rt,
-        alloc,
-        &mut desk,
-        b"batch,M\n\
+const A_TRADE_ON_MARGIN_MOVES_NO_CASH: [Step; 1] = [Step::Done(
+    b"batch,M\n\
         order,100,TMB,ABC,100,,margin,fifo,Ann,Lee,T10\n\
         result,1,10.10\n\
         end,2\n",
-        b"1,ok,1709251200016,1,SBMT,10.00,0.00,0.00,0.00,10.00,5.00,10000.00\n\
+    "1,ok,1709251200016,1,SBMT,10.00,0.00,0.00,0.00,10.00,5.00,10000.00\n\
         2,ok,1709251200017,10.10,0.00,-1025.10,2024-03-03,0.00,0.00,10000.00\nend,2,0,0\n",
-        counts(2, 0, 0),
-    )?;
-    let mut store = desk.into_store();
-    expect_summary(&rt, alloc, &mut store, b"ABC", Some(100))?;
-    expect_summary(&rt, alloc, &mut store, b"XYZ", None)?;
-    expect_tables(&rt, alloc, store, MARGIN)
-}
+)];
 
 // What the tables hold after three accounts of each tax status did the same trades.
 const TAX_STATUSES: &str =
@@ -128,15 +94,8 @@ const TAX_STATUSES: &str =
     S,26,result\x1f11\x1f11.99,1709251200041,11.99,0.00,1182.01,2024-03-03,1200.00,1199.00,9653.41\n\
     S,27,result\x1f12\x1f11.99,1709251200042,11.99,0.00,1182.01,2024-03-03,1200.00,1199.00,9585.41\n";
 
-#[test]
-fn gains_and_losses_by_tax_status(rt: HostRuntime) -> Result<(), Fail> {
-    let alloc = rt.alloc();
-    let mut desk = set_desk(&rt, alloc)?;
-    expect(
-        &rt,
-        alloc,
-        &mut desk,
-        b"batch,S\n\
+const GAINS_AND_LOSSES_BY_TAX_STATUS: [Step; 1] = [Step::Done(
+    b"batch,S\n\
         broker,2,Cy\n\
         account,102,10,2,Side,2,10000.00\n\
         account,103,10,2,Free,0,10000.00\n\
@@ -165,7 +124,7 @@ fn gains_and_losses_by_tax_status(rt: HostRuntime) -> Result<(), Fail> {
         result,11,11.99\n\
         result,12,11.99\n\
         end,27\n",
-        b"1,ok,1709251200016\n2,ok,1709251200017\n3,ok,1709251200018\n\
+    "1,ok,1709251200016\n2,ok,1709251200017\n3,ok,1709251200018\n\
         4,ok,1709251200019,1,SBMT,10.00,0.00,0.00,0.00,10.00,5.00,10000.00\n\
         5,ok,1709251200020,2,SBMT,10.00,0.00,0.00,0.00,10.00,5.00,10000.00\n\
         6,ok,1709251200021,3,SBMT,10.00,0.00,0.00,0.00,10.00,5.00,10000.00\n\
@@ -190,20 +149,10 @@ fn gains_and_losses_by_tax_status(rt: HostRuntime) -> Result<(), Fail> {
         25,ok,1709251200040,11.99,0.00,1182.01,2024-03-03,1200.00,1199.00,9653.41\n\
         26,ok,1709251200041,11.99,0.00,1182.01,2024-03-03,1200.00,1199.00,9653.41\n\
         27,ok,1709251200042,11.99,0.00,1182.01,2024-03-03,1200.00,1199.00,9585.41\nend,27,0,0\n",
-        counts(27, 0, 0),
-    )?;
-    expect_tables(&rt, alloc, desk.into_store(), TAX_STATUSES)
-}
+)];
 
-#[test]
-fn a_tax_is_rounded_once_with_the_rates_of_its_moment(rt: HostRuntime) -> Result<(), Fail> {
-    let alloc = rt.alloc();
-    let mut desk = set_desk(&rt, alloc)?;
-    expect(
-        &rt,
-        alloc,
-        &mut desk,
-        b"batch,R\n\
+const A_TAX_IS_ROUNDED_ONCE_WITH_THE_RATES_OF_ITS_MOMENT: [Step; 1] = [Step::Done(
+    b"batch,R\n\
         security,XYZ,Xyz,NYSE,Tech,10.00\n\
         order,100,TMB,XYZ,1,,cash,fifo,Ann,Lee,T10\n\
         result,1,10.00\n\
@@ -224,7 +173,7 @@ fn a_tax_is_rounded_once_with_the_rates_of_its_moment(rt: HostRuntime) -> Result
         order,100,TMS,ABC,2,,cash,lifo,Ann,Lee,T10\n\
         result,7,9.00\n\
         end,19\n",
-        b"1,ok,1709251200016\n2,ok,1709251200017,1,SBMT,10.00,0.00,0.00,0.00,0.10,5.00,10000.00\n\
+    "1,ok,1709251200016\n2,ok,1709251200017,1,SBMT,10.00,0.00,0.00,0.00,0.10,5.00,10000.00\n\
         3,ok,1709251200018,0.10,0.00,-15.10,2024-03-03,0.00,0.00,9984.90\n\
         4,ok,1709251200019,2,SBMT,10.00,0.00,0.00,0.00,0.10,5.00,9994.90\n\
         5,ok,1709251200020,0.10,0.00,-15.10,2024-03-03,0.00,0.00,9969.80\n\
@@ -238,7 +187,27 @@ fn a_tax_is_rounded_once_with_the_rates_of_its_moment(rt: HostRuntime) -> Result
         16,ok,1709251200031\n17,ok,1709251200032,0.19,0.62,12.81,2024-03-03,18.00,18.62,9951.20\n\
         18,ok,1709251200033,7,SBMT,10.00,18.00,20.00,2.00,0.20,5.00,9971.20\n\
         19,ok,1709251200034,0.18,0.00,12.82,2024-03-03,18.00,18.00,9964.02\nend,19,0,0\n",
-        counts(19, 0, 0),
-    )?;
-    Ok(())
+)];
+
+#[test]
+fn settlements(rt: HostRuntime) -> Result<(), Fail> {
+    let alloc = rt.alloc();
+    let cases: [Booked; 2] = [
+        (
+            "a_trade_on_margin_moves_no_cash",
+            &A_TRADE_ON_MARGIN_MOVES_NO_CASH,
+            MARGIN,
+        ),
+        (
+            "gains_and_losses_by_tax_status",
+            &GAINS_AND_LOSSES_BY_TAX_STATUS,
+            TAX_STATUSES,
+        ),
+    ];
+    expect_booked(&rt, alloc, &cases)?;
+    let cases: [Case; 1] = [(
+        "a_tax_is_rounded_once_with_the_rates_of_its_moment",
+        &A_TAX_IS_ROUNDED_ONCE_WITH_THE_RATES_OF_ITS_MOMENT,
+    )];
+    expect_cases(&rt, alloc, &cases)
 }

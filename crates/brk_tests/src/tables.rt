@@ -1,5 +1,6 @@
 //! What the tables of a desk hold, row by row.
 
+use crate::desks::{Step, expect_steps, set_desk};
 use brk_store::Store;
 use sqlite::types::ValueRef;
 use sqlite::{Connection, MemStore, Row};
@@ -34,6 +35,17 @@ const TRADING: [&str; 13] = [
     "SETTLEMENT",
     "CASH_TRANSACTION",
     "KEPT WHERE K_BATCH <> 'SET'",
+];
+
+// Those of them in which trades change or remove rows; in the others they only add some.
+const STANDING: [&str; 7] = [
+    "DESK",
+    "BROKER",
+    "CUSTOMER_ACCOUNT",
+    "LAST_TRADE",
+    "TRADE_REQUEST",
+    "HOLDING",
+    "HOLDING_SUMMARY",
 ];
 
 // What the tables of reference data hold at a desk that was set up.
@@ -110,15 +122,22 @@ fn lines_of(
     Ok(lines)
 }
 
-// Compares the tables that trades change with the rows that are wanted.
-fn expect_trading(
+// Compares these tables with the rows that are wanted.
+fn expect_rows(
     rt: &impl Abort,
     alloc: Global,
     conn: &mut Connection<MemStore>,
+    tables: &[&str],
     wanted: &str,
 ) -> Result<(), Fail> {
-    let trading = lines_of(alloc, conn, &TRADING)?;
-    assert_eq!(rt; trading.as_str(), wanted);
+    let told = lines_of(alloc, conn, tables)?;
+    for (row, want) in told.lines().zip(wanted.lines()) {
+        assert!(rt; row == want, "{row} in place of {want}");
+    }
+    assert!(rt;
+        told.as_str() == wanted,
+        "rows that are missing, or more rows"
+    );
     Ok(())
 }
 
@@ -131,7 +150,30 @@ pub fn expect_tables(
     wanted: &str,
 ) -> Result<(), Fail> {
     let mut conn = store.into_conn();
-    let reference = lines_of(alloc, &mut conn, &REFERENCE)?;
-    assert_eq!(rt; reference.as_str(), SET_TABLES);
-    expect_trading(rt, alloc, &mut conn, wanted)
+    expect_rows(rt, alloc, &mut conn, &REFERENCE, SET_TABLES)?;
+    expect_rows(rt, alloc, &mut conn, &TRADING, wanted)
+}
+
+/// Compares the tables in which trades change or remove rows.
+pub fn expect_standing(
+    rt: &impl Abort,
+    alloc: Global,
+    store: Store<MemStore>,
+    wanted: &str,
+) -> Result<(), Fail> {
+    let mut conn = store.into_conn();
+    expect_rows(rt, alloc, &mut conn, &STANDING, wanted)
+}
+
+/// What is told of a case that fails, its batches one after another, and all tables after them.
+pub type Booked = (&'static str, &'static [Step<'static>], &'static str);
+
+/// Answers the batches of each case at a desk of its own that was set up, and compares all tables after them.
+pub fn expect_booked(rt: &impl Abort, alloc: Global, cases: &[Booked]) -> Result<(), Fail> {
+    for (name, steps, tables) in cases {
+        let mut desk = set_desk(rt, alloc)?;
+        expect_steps(rt, alloc, &mut desk, name, steps)?;
+        expect_tables(rt, alloc, desk.into_store(), tables)?;
+    }
+    Ok(())
 }

@@ -1,8 +1,8 @@
 use crate::desks::set_desk;
+use brk_changes::{Amount, Change, HistoryRow, RequestRow, TradeRow};
 use brk_money::{Id, Price, Qty, Stamp, Status, TradeType};
 use brk_ref::{ChargeAmount, LastTrade, Symbol, Volume};
 use brk_store::Store;
-use brk_trade::{Amount, Change, HistoryRow, RequestRow, TradeRow};
 use sqlite::MemStore;
 use std::alloc::Global;
 use std::process::Abort;

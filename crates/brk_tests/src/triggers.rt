@@ -1,37 +1,21 @@
-use crate::desks::{counts, expect, set_desk};
+use crate::desks::{Case, Step, expect_cases};
 use std::test::Fail;
 
-#[test]
-fn two_ticks_in_a_feed(rt: HostRuntime) -> Result<(), Fail> {
-    let alloc = rt.alloc();
-    let mut desk = set_desk(&rt, alloc)?;
-    expect(
-        &rt,
-        alloc,
-        &mut desk,
-        b"batch,U\n\
+const TWO_TICKS_IN_A_FEED: [Step; 1] = [Step::Done(
+    b"batch,U\n\
         order,100,TSL,ABC,10,9.50,cash,fifo,Ann,Lee,T10\n\
         order,100,TLB,ABC,10,10.00,cash,fifo,Ann,Lee,T10\n\
         order,100,TLS,ABC,10,10.50,cash,fifo,Ann,Lee,T10\n\
         feed,ABC,10.01,100,ABC,9.50,200\n\
         end,4\n",
-        b"1,ok,1709251200016,1,PNDG,9.50,0.00,0.00,0.00,0.95,5.00,10000.00\n\
+    "1,ok,1709251200016,1,PNDG,9.50,0.00,0.00,0.00,0.95,5.00,10000.00\n\
         2,ok,1709251200017,2,PNDG,10.00,0.00,0.00,0.00,1.00,5.00,10000.00\n\
         3,ok,1709251200018,3,PNDG,10.50,0.00,0.00,0.00,1.05,5.00,10000.00\n\
         4,ok,1709251200019,1,2\nend,4,0,0\n",
-        counts(4, 0, 0),
-    )
-}
+)];
 
-#[test]
-fn a_tick_between_the_prices_that_are_asked(rt: HostRuntime) -> Result<(), Fail> {
-    let alloc = rt.alloc();
-    let mut desk = set_desk(&rt, alloc)?;
-    expect(
-        &rt,
-        alloc,
-        &mut desk,
-        b"batch,U\n\
+const A_TICK_BETWEEN_THE_PRICES_THAT_ARE_ASKED: [Step; 1] = [Step::Done(
+    b"batch,U\n\
         order,100,TSL,ABC,10,9.50,cash,fifo,Ann,Lee,T10\n\
         order,100,TLB,ABC,10,10.00,cash,fifo,Ann,Lee,T10\n\
         order,100,TLS,ABC,10,10.50,cash,fifo,Ann,Lee,T10\n\
@@ -43,24 +27,15 @@ fn a_tick_between_the_prices_that_are_asked(rt: HostRuntime) -> Result<(), Fail>
         feed,ABC,9.50,100\n\
         feed,ABC,9.50,100\n\
         end,10\n",
-        b"1,ok,1709251200016,1,PNDG,9.50,0.00,0.00,0.00,0.95,5.00,10000.00\n\
+    "1,ok,1709251200016,1,PNDG,9.50,0.00,0.00,0.00,0.95,5.00,10000.00\n\
         2,ok,1709251200017,2,PNDG,10.00,0.00,0.00,0.00,1.00,5.00,10000.00\n\
         3,ok,1709251200018,3,PNDG,10.50,0.00,0.00,0.00,1.05,5.00,10000.00\n4,ok,1709251200019\n\
         5,ok,1709251200020\n6,ok,1709251200021,3\n7,ok,1709251200022,2\n8,ok,1709251200023\n\
         9,ok,1709251200024,1\n10,ok,1709251200025\nend,10,0,0\n",
-        counts(10, 0, 0),
-    )
-}
+)];
 
-#[test]
-fn at_the_price_and_a_cent_beside_it(rt: HostRuntime) -> Result<(), Fail> {
-    let alloc = rt.alloc();
-    let mut desk = set_desk(&rt, alloc)?;
-    expect(
-        &rt,
-        alloc,
-        &mut desk,
-        b"batch,A\n\
+const AT_THE_PRICE_AND_A_CENT_BESIDE_IT: [Step; 1] = [Step::Done(
+    b"batch,A\n\
         security,XYZ,Xyz,NYSE,Food,20.00\n\
         order,100,TSL,ABC,10,9.99,cash,fifo,Ann,Lee,T10\n\
         order,100,TLS,ABC,10,9.99,cash,fifo,Ann,Lee,T10\n\
@@ -87,7 +62,7 @@ fn at_the_price_and_a_cent_beside_it(rt: HostRuntime) -> Result<(), Fail> {
         order,100,TMS,XYZ,1,,cash,fifo,Ann,Lee,T10\n\
         order,100,TMS,ABC,1,,cash,fifo,Ann,Lee,T10\n\
         end,25\n",
-        b"1,ok,1709251200016\n2,ok,1709251200017,1,PNDG,9.99,0.00,0.00,0.00,1.00,5.00,10000.00\n\
+    "1,ok,1709251200016\n2,ok,1709251200017,1,PNDG,9.99,0.00,0.00,0.00,1.00,5.00,10000.00\n\
         3,ok,1709251200018,2,PNDG,9.99,0.00,0.00,0.00,1.00,5.00,10000.00\n\
         4,ok,1709251200019,3,PNDG,9.99,0.00,0.00,0.00,1.00,5.00,10000.00\n\
         5,ok,1709251200020,4,PNDG,10.00,0.00,0.00,0.00,1.00,5.00,10000.00\n\
@@ -105,6 +80,20 @@ fn at_the_price_and_a_cent_beside_it(rt: HostRuntime) -> Result<(), Fail> {
         22,ok,1709251200034,CNCL\n23,ok,1709251200035\n\
         24,ok,1709251200036,14,SBMT,99999.99,0.00,0.00,0.00,1000.00,5.00,10000.00\n\
         25,ok,1709251200037,15,SBMT,0.01,0.00,0.00,0.00,0.00,5.00,10000.00\nend,22,0,3\n",
-        counts(22, 0, 3),
-    )
+)];
+
+#[test]
+fn triggers(rt: HostRuntime) -> Result<(), Fail> {
+    let cases: [Case; 3] = [
+        ("two_ticks_in_a_feed", &TWO_TICKS_IN_A_FEED),
+        (
+            "a_tick_between_the_prices_that_are_asked",
+            &A_TICK_BETWEEN_THE_PRICES_THAT_ARE_ASKED,
+        ),
+        (
+            "at_the_price_and_a_cent_beside_it",
+            &AT_THE_PRICE_AND_A_CENT_BESIDE_IT,
+        ),
+    ];
+    expect_cases(&rt, rt.alloc(), &cases)
 }

@@ -23,6 +23,3 @@ pub use order::{OrderAccount, OrderFound, plan_estimate, plan_order};
 pub use outcome::Outcome;
 pub use result::plan_result;
 pub use result_found::{ResultAccount, ResultFound};
-
-#[cfg(test)]
-mod tests;

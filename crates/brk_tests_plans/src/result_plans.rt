@@ -1,4 +1,4 @@
-use crate::told::expect_plan;
+use crate::told::told_plan;
 use brk_lots::Position;
 use brk_money::{Cents, Id, Price, Qty, Rate, Stamp, Status, TaxRate, TaxStatus, TradeType};
 use brk_ref::{ChargeAmount, Name, Symbol};
@@ -39,79 +39,100 @@ fn purchase() -> Case {
 }
 
 fn trade(alloc: Global, case: Case) -> Result<TradeRow, Fail> {
+    let id = Id::new(1).ok_or("trade")?;
+    let qty = Qty::new(case.qty).ok_or("quantity")?;
+    let bid = Price::new(1_000).ok_or("bid")?;
+    let account = Id::new(100).ok_or("account")?;
+    let charge = ChargeAmount::new(500).ok_or("charge")?;
+    let commission = Amount::new(1_000).ok_or("commission")?;
+    let tax = Amount::new(0).ok_or("tax")?;
+    let executor = String::from_str(alloc, "Ann Lee")?;
+    let symbol = Symbol::parse(alloc, b"ABC")?.ok_or("symbol")?;
     Ok(TradeRow {
-        id: Id::new(1).ok_or("trade")?,
+        id,
         stamp: Stamp::nearest(1_709_251_200_016),
         status: case.status,
         kind: case.kind,
         is_cash: case.is_cash,
-        symbol: Symbol::parse(alloc, b"ABC")?.ok_or("symbol")?,
-        qty: Qty::new(case.qty).ok_or("quantity")?,
-        bid: Price::new(1_000).ok_or("bid")?,
-        account: Id::new(100).ok_or("account")?,
-        executor: String::from_str(alloc, "Ann Lee")?,
+        symbol,
+        qty,
+        bid,
+        account,
+        executor,
         price: None,
-        charge: ChargeAmount::new(500).ok_or("charge")?,
-        commission: Amount::new(1_000).ok_or("commission")?,
-        tax: Amount::new(0).ok_or("tax")?,
+        charge,
+        commission,
+        tax,
         is_lifo: false,
+    })
+}
+
+fn account(case: Case) -> Result<ResultAccount, Fail> {
+    Ok(ResultAccount {
+        broker: Id::new(1).ok_or("broker")?,
+        tax_status: TaxStatus::Withheld,
+        balance: Cents::new(case.balance).ok_or("balance")?,
+    })
+}
+
+fn broker(case: Case) -> Result<BrokerNumbers, Fail> {
+    Ok(BrokerNumbers {
+        trades: TradeCount::new(0).ok_or("trades")?,
+        commissions: Amount::new(case.commissions).ok_or("commissions")?,
     })
 }
 
 // What is found for the result of a trade.
 fn found(alloc: Global, case: Case) -> Result<ResultFound, Fail> {
+    let account = account(case)?;
+    let broker = broker(case)?;
+    let rates = TaxRate::new(20_000).ok_or("rates")?;
+    let security = Name::parse(alloc, b"Acme")?.ok_or("security")?;
+    let trade = trade(alloc, case)?;
     Ok(ResultFound {
-        trade: trade(alloc, case)?,
-        account: ResultAccount {
-            broker: Id::new(1).ok_or("broker")?,
-            tax_status: TaxStatus::Withheld,
-            balance: Cents::new(case.balance).ok_or("balance")?,
-        },
-        broker: BrokerNumbers {
-            trades: TradeCount::new(0).ok_or("trades")?,
-            commissions: Amount::new(case.commissions).ok_or("commissions")?,
-        },
+        trade,
+        account,
+        broker,
         summary: case.held,
-        security: Name::parse(alloc, b"Acme")?.ok_or("security")?,
+        security,
         rate: case.rate,
-        rates: TaxRate::new(20_000).ok_or("rates")?,
+        rates,
     })
 }
 
-// Compares what is told of a result at 10.10 that meets no lots, by what was found for it.
-fn expect_told(
-    rt: &impl Abort,
+// What is told of a result at 10.10 that meets no lots, by what was found for it.
+fn told_of(
     alloc: Global,
-    found: &ResultFound,
+    found: Option<&ResultFound>,
     last: Option<Stamp>,
-    wanted: &str,
-) -> Result<(), Fail> {
+) -> Result<String, Fail> {
+    let price = Price::new(1_010).ok_or("price")?;
     let position = Position::from_lots(Vec::new(alloc)).ok_or("lots")?;
     let now = Stamp::nearest(1_709_251_200_000);
-    if !position.takes(found.trade.id, now) {
-        return Err("a lot of its own")?;
+    if let Some(found) = found {
+        if !position.takes(found.trade.id, now) {
+            return Err("a lot of its own")?;
+        }
     }
     let mut end = position.from_end(false);
-    let price = Price::new(1_010).ok_or("price")?;
-    let planned = plan_result(alloc, Some(found), price, &mut end, last, now)?;
-    expect_plan(rt, alloc, planned, wanted)
+    let planned = plan_result(alloc, found, price, &mut end, last, now)?;
+    Ok(told_plan(alloc, planned)?)
 }
 
 // Compares what is told of a result of such a trade.
 fn expect_result(rt: &impl Abort, alloc: Global, case: Case, wanted: &str) -> Result<(), Fail> {
-    let last = Stamp::new(case.last);
-    expect_told(rt, alloc, &found(alloc, case)?, last, wanted)
+    let found = found(alloc, case)?;
+    let told = told_of(alloc, Some(&found), Stamp::new(case.last));
+    let told = told?;
+    assert!(rt; told.as_str() == wanted, "{wanted}: {told}");
+    Ok(())
 }
 
 #[test]
 fn a_result_of_no_trade(rt: HostRuntime) -> Result<(), Fail> {
-    let alloc = rt.alloc();
-    let position = Position::from_lots(Vec::new(alloc)).ok_or("lots")?;
-    let mut end = position.from_end(false);
-    let price = Price::new(1_010).ok_or("price")?;
-    let now = Stamp::nearest(1_709_251_200_000);
-    let planned = plan_result(alloc, None, price, &mut end, None, now)?;
-    expect_plan(&rt, alloc, planned, "no,5")
+    let told = told_of(rt.alloc(), None, None)?;
+    assert_eq!(rt; told.as_str(), "no,5");
+    Ok(())
 }
 
 // Each of these has one cause more to be refused than the one before it: no later stamp is left,
@@ -155,45 +176,45 @@ fn without_band() -> Case {
     }
 }
 
-// Compares what refuses a result of a trade that is not at the market, whatever else is wrong.
-fn expect_unfit(rt: &impl Abort, alloc: Global, status: Status, wanted: &str) -> Result<(), Fail> {
-    let case = Case {
+// A trade of another status, whatever else is wrong.
+fn unfit(status: Status) -> Case {
+    Case {
         status,
         ..without_band()
-    };
-    expect_result(rt, alloc, case, wanted)
+    }
 }
+
+const TOLD: &str = "1709251200017,10.10,0.00,-1025.10,2024-03-03,0.00,0.00,8974.90";
 
 #[test]
 fn the_first_cause_refuses_a_result(rt: HostRuntime) -> Result<(), Fail> {
-    let alloc = rt.alloc();
-    let told = "1709251200017,10.10,0.00,-1025.10,2024-03-03,0.00,0.00,8974.90";
-    expect_result(&rt, alloc, purchase(), told)?;
-    expect_result(&rt, alloc, late(), "no,21")?;
-    expect_result(&rt, alloc, beyond_broker(), "no,14,broker")?;
-    expect_result(&rt, alloc, beyond_balance(), "no,14,balance")?;
-    expect_result(&rt, alloc, beyond_summary(), "no,14,summary")?;
-    expect_result(&rt, alloc, without_band(), "no,11")?;
-    expect_unfit(&rt, alloc, Status::Completed, "no,13,CMPT")?;
-    expect_unfit(&rt, alloc, Status::Pending, "no,13,PNDG")?;
-    expect_unfit(&rt, alloc, Status::Canceled, "no,13,CNCL")?;
-    expect_unfit(&rt, alloc, Status::Active, "no,13,ACTV")
+    for (case, wanted) in [
+        (purchase(), TOLD),
+        (late(), "no,21"),
+        (beyond_broker(), "no,14,broker"),
+        (beyond_balance(), "no,14,balance"),
+        (beyond_summary(), "no,14,summary"),
+        (without_band(), "no,11"),
+        (unfit(Status::Completed), "no,13,CMPT"),
+        (unfit(Status::Pending), "no,13,PNDG"),
+        (unfit(Status::Canceled), "no,13,CNCL"),
+        (unfit(Status::Active), "no,13,ACTV"),
+    ] {
+        expect_result(&rt, rt.alloc(), case, wanted)?;
+    }
+    Ok(())
 }
 
 #[test]
 fn sums_at_their_limits(rt: HostRuntime) -> Result<(), Fail> {
-    let alloc = rt.alloc();
     let last_cent = Case {
         commissions: 99_999_999_999_998_990,
         ..purchase()
     };
-    let told = "1709251200017,10.10,0.00,-1025.10,2024-03-03,0.00,0.00,8974.90";
-    expect_result(&rt, alloc, last_cent, told)?;
     let one_more = Case {
         commissions: 99_999_999_999_998_991,
         ..purchase()
     };
-    expect_result(&rt, alloc, one_more, "no,14,broker")?;
     // On margin the balance is not looked at.
     let on_margin = Case {
         is_cash: false,
@@ -201,7 +222,14 @@ fn sums_at_their_limits(rt: HostRuntime) -> Result<(), Fail> {
         ..purchase()
     };
     let told = "1709251200017,10.10,0.00,-1025.10,2024-03-03,0.00,0.00,-1000000000000000.00";
-    expect_result(&rt, alloc, on_margin, told)
+    for (case, wanted) in [
+        (last_cent, TOLD),
+        (one_more, "no,14,broker"),
+        (on_margin, told),
+    ] {
+        expect_result(&rt, rt.alloc(), case, wanted)?;
+    }
+    Ok(())
 }
 
 #[test]

@@ -1,4 +1,4 @@
-use crate::{Terms, estimate_order};
+use brk_trade::{Terms, estimate_order};
 use brk_lots::{Lot, Position};
 use brk_money::{Id, Price, Qty, Rate, Side, Stamp, TaxRate, TaxStatus, Wide};
 use brk_ref::ChargeAmount;

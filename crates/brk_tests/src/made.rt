@@ -1,5 +1,5 @@
-use crate::Store;
 use brk_money::{Condition, Fault};
+use brk_store::Store;
 use sqlite::{Connection, MemStore};
 use std::test::Fail;
 

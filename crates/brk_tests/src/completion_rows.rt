@@ -1,10 +1,10 @@
-use crate::Store;
 use brk_changes::{
     Amount, CashRow, CashType, Change, HistoryRow, HoldingRow, LotChange, SettlementRow,
     SummaryRow, TradeRow,
 };
 use brk_money::{Cents, Day, Id, Price, Qty, Stamp, Status, TradeType};
 use brk_ref::{ChargeAmount, Symbol, check_account, check_broker, check_customer, check_security};
+use brk_store::Store;
 use sqlite::{Connection, MemStore};
 use std::alloc::Global;
 use std::process::Abort;
