@@ -4,6 +4,7 @@ pub mod Trading
 pub mod Standing
 pub mod Waiting
 pub mod Extremes
+pub mod Crowds
 pub mod Sales
 pub mod Bought
 pub mod Rules

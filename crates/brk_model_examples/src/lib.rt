@@ -4,6 +4,7 @@
 
 pub mod audits;
 pub mod closings;
+pub mod crowds;
 pub mod forms;
 pub mod markets;
 pub mod permissions;
@@ -14,6 +15,7 @@ pub mod statements;
 pub mod statuses;
 pub mod tables;
 pub mod taxes;
+pub mod ties;
 pub mod trading;
 pub mod updates;
 pub mod views;

@@ -1,12 +1,12 @@
 //! Statements.
 #![tactic(auto, unfolding(crate::proofs::OnLiterals::model_on_literals))]
 
-ghost use Rattle.std.specs.Prelude.{◌≡◌, ◌∷◌, [], Ok, Err, Some, None, codes};
+ghost use Rattle.std.specs.Prelude.{◌≡◌, ◌∷◌, [], Ok, Err, Some, None, codes, negsuc, pos};
 ghost use Rattle.brk_money.specs.Spelling.{day_text, day_of_text};
 ghost use Rattle.brk_money.specs.Moments.{last_day};
 ghost use Rattle.brk_money.specs.declared.refusal.Refusal.TheVariants.{BadText, NoAccount};
 ghost use Rattle.brk_model.specs.Tables.{tables_of};
-ghost use Rattle.brk_model.specs.Statement.{statement};
+ghost use Rattle.brk_model.specs.Statement.{amount_line, statement};
 ghost use Rattle.brk_model_examples.specs.Batches.{in_lines};
 ghost use Rattle.brk_model_examples.specs.Trading.{sold};
 
@@ -33,6 +33,13 @@ pub fn statement_after_a_sale()
         ∷ codes "Cash rows 0, lots 1" ∷ [])) }
     ensures turned { statement (tables_of sold) 999 19784 19783 ≡ Err BadText }
     ensures unknown { statement (tables_of sold) 999 19783 19813 ≡ Err NoAccount }
+{}
+
+/// An amount stands to the right of its column, and one that is wider stands whole.
+pub fn wide_amounts()
+    ensures narrow { amount_line (codes "Holdings") (negsuc 0) ≡ codes "Holdings                    -0.01" }
+    ensures full { amount_line (codes "Holdings") (pos 100000000000000000000) ≡ codes "Holdings   1000000000000000000.00" }
+    ensures wider { amount_line (codes "Holdings") (pos 1000000000000000000000) ≡ codes "Holdings   10000000000000000000.00" }
 {}
 
 /// Days and the numbers that they stand for.

@@ -87,3 +87,19 @@ pub fn due_day_at_its_end()
         ∷ codes "2,no,21"
         ∷ codes "end,1,0,1" ∷ []) }
 {}
+
+/// The last day on which a result finds its due day in the calendar is 9999-12-29.
+pub fn last_days()
+    ensures accepted { (batch setting (253402127999998 ∷ 253402127999999 ∷ []) (batch_text (codes "Y")
+        (codes "order,100,TMB,ABC,100,,cash,fifo,Ann,Lee,T10"
+        ∷ codes "result,1,10.00" ∷ []))).text
+        ≡ in_lines (codes "1,ok,253402127999998,1,SBMT,10.00,0.00,0.00,0.00,10.00,5.00,10000.00"
+        ∷ codes "2,ok,253402127999999,10.00,0.00,-1015.00,9999-12-31,0.00,0.00,8985.00"
+        ∷ codes "end,2,0,0" ∷ []) }
+    ensures refused { (batch setting (253402127999999 ∷ 253402128000000 ∷ []) (batch_text (codes "Y")
+        (codes "order,100,TMB,ABC,100,,cash,fifo,Ann,Lee,T10"
+        ∷ codes "result,1,10.00" ∷ []))).text
+        ≡ in_lines (codes "1,ok,253402127999999,1,SBMT,10.00,0.00,0.00,0.00,10.00,5.00,10000.00"
+        ∷ codes "2,no,21"
+        ∷ codes "end,1,0,1" ∷ []) }
+{}

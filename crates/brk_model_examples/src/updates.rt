@@ -5,6 +5,7 @@ ghost use Rattle.std.specs.Prelude.{◌≡◌, ◌∷◌, [], Ok, map, codes};
 ghost use Rattle.brk_model.specs.Tables.{tables_of};
 ghost use Rattle.brk_model.specs.Updates.{changed_executor};
 ghost use Rattle.brk_model_examples.specs.Batches.{after, Gives, view};
+ghost use Rattle.brk_model_examples.specs.Crowds.{misnamed};
 ghost use Rattle.brk_model_examples.specs.Setting.{setting};
 ghost use Rattle.brk_model_examples.specs.Trading.{sold};
 
@@ -54,6 +55,36 @@ pub fn names()
         (codes "upname,1"
         ∷ codes "upname,1" ∷ [])).trades ≡ codes "Ann Lee" ∷ codes "Ann Lee" ∷ codes "Ann Lee" ∷ [] }
     ensures twice { changed_executor (codes "Ann X X Lee") ≡ codes "Ann X Lee" }
+    ensures both_spaces { changed_executor (codes "Ann  Lee") ≡ codes "Ann X  X Lee" }
+    ensures out_of_both { changed_executor (codes "Ann X  X Lee") ≡ codes "Ann  Lee" }
+    ensures at_the_head { changed_executor (codes "X Lee") ≡ codes "X X Lee" }
+    ensures out_of_the_head { changed_executor (codes "X X Lee") ≡ codes "X Lee" }
+{}
+
+/// A security's own name may have the words of a cash row in it: they are looked for in the whole text, which then always has them.
+pub fn words_in_a_name()
+    ensures lines { Gives misnamed
+        (codes "order,100,TMB,ABC,100,,cash,fifo,Ann,Lee,T10"
+        ∷ codes "result,1,10.10"
+        ∷ codes "uptext,ABC,0,253402300799999"
+        ∷ codes "uptext,ABC,0,253402300799999" ∷ [])
+        (codes "1,ok,1709251200016,1,SBMT,10.00,0.00,0.00,0.00,10.00,5.00,10000.00"
+        ∷ codes "2,ok,1709251200017,10.10,0.00,-1025.10,2024-03-03,0.00,0.00,8974.90"
+        ∷ codes "3,ok,1709251200018,1"
+        ∷ codes "4,ok,1709251200019,1"
+        ∷ codes "end,4,0,0" ∷ []) }
+    ensures at_first { map (λ t. t.cash_name) (after misnamed
+        (codes "order,100,TMB,ABC,100,,cash,fifo,Ann,Lee,T10"
+        ∷ codes "result,1,10.10" ∷ [])).trades ≡ codes "Market-Buy 100 shares of Big shares of Small" ∷ [] }
+    ensures once { map (λ t. t.cash_name) (after misnamed
+        (codes "order,100,TMB,ABC,100,,cash,fifo,Ann,Lee,T10"
+        ∷ codes "result,1,10.10"
+        ∷ codes "uptext,ABC,0,253402300799999" ∷ [])).trades ≡ codes "Market-Buy 100 Shares of Big shares of Small" ∷ [] }
+    ensures twice { map (λ t. t.cash_name) (after misnamed
+        (codes "order,100,TMB,ABC,100,,cash,fifo,Ann,Lee,T10"
+        ∷ codes "result,1,10.10"
+        ∷ codes "uptext,ABC,0,253402300799999"
+        ∷ codes "uptext,ABC,0,253402300799999" ∷ [])).trades ≡ codes "Market-Buy 100 Shares of Big shares of Small" ∷ [] }
 {}
 
 /// The words of a margin trade: it has no cash row, and uptext does not choose it.

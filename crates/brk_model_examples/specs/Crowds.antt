@@ -1,0 +1,95 @@
+-- More trades than a view shows, and a name that reads as other words.
+use Rattle.std.specs.Prelude.{ℕ, ◌+◌, ◌*◌, true, false, Some, None, List, [], ◌∷◌, map, flat_map, Result, Ok, Err, bytes_eq, codes, if◌then◌else◌}
+use Rattle.std.specs.List.{range_with_len}
+use Rattle.brk_money.specs.Spelling.{Text}
+use Rattle.brk_money.specs.declared.refusal.Refusal.{Refusal}
+use Rattle.brk_money.specs.declared.trade_type.TradeType.TheVariants.{LimitSell, MarketBuy}
+use Rattle.brk_money.specs.declared.status.Status.TheVariants.{Completed, Pending, Submitted}
+use Rattle.brk_model.specs.Records.{Trade}
+use Rattle.brk_model.specs.Base.{Base}
+use Rattle.brk_model.specs.Queries.{View}
+use Rattle.brk_model_examples.specs.Setting.{setting}
+
+-- a trade that waits for a price
+abbrev pub waiting_trade : ℕ → Trade
+waiting_trade n = record {
+  id = n;
+  account = 100;
+  kind = LimitSell;
+  symbol = codes "ABC";
+  qty = 10;
+  bid = 1050;
+  is_cash = true;
+  is_lifo = false;
+  executor = codes "Ann Lee";
+  charge = 500;
+  commission = 105;
+  tax = 0;
+  price = None;
+  marks = record { stamp = 1709251200015 + n; status = Pending } ∷ [];
+  cash_type = [];
+  cash_name = [];
+}
+
+-- fifty-one of them, one after another
+unfoldable pub fifty_one : Base
+fifty_one = record setting { trades = map waiting_trade (range_with_len 1 51); last = Some 1709251200066 }
+
+-- one share bought on margin
+abbrev pub margin_trade : ℕ → Trade
+margin_trade n = record {
+  id = n;
+  account = 100;
+  kind = MarketBuy;
+  symbol = codes "ABC";
+  qty = 1;
+  bid = 1000;
+  is_cash = false;
+  is_lifo = false;
+  executor = codes "Ann Lee";
+  charge = 500;
+  commission = 10;
+  tax = 0;
+  price = Some 1000;
+  marks = record { stamp = 1709251200014 + 2 * n; status = Submitted } ∷ record { stamp = 1709251200015 + 2 * n; status = Completed } ∷ [];
+  cash_type = codes "Margin";
+  cash_name = [];
+}
+
+-- twenty-one shares, each bought by itself
+unfoldable pub twenty_one : Base
+twenty_one = record setting { trades = map margin_trade (range_with_len 1 21); last = Some 1709251200057 }
+
+-- a security whose name has the words of a cash row in it
+unfoldable pub misnamed : Base
+misnamed = record setting {
+  securities =
+      record {
+        symbol = codes "ABC";
+        name = codes "Big shares of Small";
+        exchange = codes "NYSE";
+        sector = codes "Tech";
+        last_price = 1000;
+        volume = 0;
+        moment = 1709251200003;
+      } ∷ [];
+}
+
+-- the ids in the records of trades
+abbrev pub id_in : List Text → List Text
+id_in (word ∷ id ∷ fields) = if bytes_eq word (codes "trade") then id ∷ [] else []
+id_in _ = []
+
+-- the ids of the trades that a view tells
+abbrev pub ids_in : Result View Refusal → List Text
+ids_in (Ok view) = flat_map id_in view
+ids_in (Err refusal) = []
+
+-- the first fields of the records of a view
+abbrev pub first_in : List Text → Text
+first_in [] = []
+first_in (field ∷ fields) = field
+
+abbrev pub firsts_in : Result View Refusal → List Text
+firsts_in (Ok view) = map first_in view
+firsts_in (Err refusal) = []
