@@ -1,7 +1,7 @@
 //! The lines of replies.
 #![tactic(auto, unfolding(brk_model::specs::Rows::reply_fields))]
 
-ghost use Rattle.std.specs.Prelude.{◌≡◌, ◌∷◌, ◌++◌, [], IfOk, OnOk, OnErr, Err, decimal, drop, nat_abs, pos, string_bytes, take};
+ghost use Rattle.std.specs.Prelude.{◌≡◌, ◌∷◌, ◌++◌, [], IfOk, OnOk, OnErr, Err, decimal, drop, string_bytes, take};
 ghost use Rattle.brk_model.specs.Commands as replies;
 ghost use Rattle.brk_model.specs.Rows as model;
 ghost use Rattle.brk_commands.specs.Fields.{more_fields};
@@ -11,7 +11,7 @@ ghost use Rattle.brk_money.specs.declared.fault.Fault.TheVariants.{Memory};
 ghost use Rattle.brk_plans.specs.Replies.{completion_of, estimate_of, reply_of};
 
 use crate::row::amount;
-use brk_money::{Cents, Day, Fault, Id, Stamp, Wide, write_day};
+use brk_money::{Day, Fault, Id, Stamp, Wide, write_day};
 use brk_trade::{Completed, Estimate, Ordered, Reply};
 use itoa::Buffer;
 use std::alloc::{AllocError, Global};
@@ -23,14 +23,6 @@ fn stamp_text(alloc: Global, stamp: Stamp) -> Result<String, AllocError>
     String::from_str(alloc, digits.format(stamp.get().unsigned_abs()))
 }
 
-// An amount without its sign: no part of an estimate but the assets is below 0, and none of a completion but what
-// settles and the balance.
-fn magnitude(cents: Cents) -> Wide
-    ensures { result ≡ pos (nat_abs cents) }
-{
-    Wide::new(i128::from(cents.get().unsigned_abs()))
-}
-
 // Adds the seven numbers of an order.
 fn add_estimate(line: &mut String, estimate: &Estimate) -> Result<(), AllocError>
     ensures { OnOk result (string_bytes line.new ≡ string_bytes line.old ++ more_fields 44 (model.estimate_fields (estimate_of estimate.now))) }
@@ -39,11 +31,11 @@ fn add_estimate(line: &mut String, estimate: &Estimate) -> Result<(), AllocError
         line,
         ",{},{},{},{},{},{},{}",
         amount(estimate.price.get()),
-        magnitude(estimate.buy_value),
-        magnitude(estimate.sell_value),
-        magnitude(estimate.tax),
-        magnitude(estimate.commission),
-        magnitude(estimate.charge),
+        Wide::from(estimate.buy_value),
+        Wide::from(estimate.sell_value),
+        Wide::from(estimate.tax),
+        Wide::from(estimate.commission),
+        Wide::from(estimate.charge),
         estimate.assets
     )
 }
@@ -110,8 +102,8 @@ fn add_dues(line: &mut String, completed: &Completed) -> Result<(), AllocError>
     write!(
         line,
         ",{},{},{}",
-        magnitude(completed.commission),
-        magnitude(completed.tax),
+        Wide::from(completed.commission),
+        Wide::from(completed.tax),
         Wide::from(completed.amount)
     )
 }
@@ -130,8 +122,8 @@ fn add_values(line: &mut String, completed: &Completed) -> Result<(), AllocError
     write!(
         line,
         ",{},{},{}",
-        magnitude(completed.buy_value),
-        magnitude(completed.sell_value),
+        Wide::from(completed.buy_value),
+        Wide::from(completed.sell_value),
         Wide::from(completed.balance)
     )
 }

@@ -14,7 +14,7 @@ use Rattle.brk_ref.specs.declared.customer.Customer as customer
 use Rattle.brk_tables_form.specs.Records.{account_row_of}
 use Rattle.brk_changes.specs.Rows.{summary_row_of, trade_row_of}
 use Rattle.brk_changes.specs.declared.broker_numbers.BrokerNumbers.{BrokerNumbers}
-use Rattle.brk_trade.specs.declared.outcome.ResultFound.{ResultFound}
+use Rattle.brk_trade.specs.declared.result_found.ResultFound.{ResultFound}
 use Rattle.brk_changes.specs.declared.summary_row.SummaryRow as summary
 use Rattle.brk_changes.specs.declared.trade_row.TradeRow.{TradeRow}
 use Rattle.brk_trade_laws.specs.Reads.{rates_of}

@@ -13,7 +13,7 @@ use Rattle.brk_ref.specs.declared.security.Security.{Security}
 use Rattle.brk_tables_form.specs.Records.{account_row_of}
 use Rattle.brk_changes.specs.Rows.{trade_row_of}
 use Rattle.brk_changes.specs.declared.broker_numbers.BrokerNumbers.{BrokerNumbers}
-use Rattle.brk_trade.specs.declared.outcome.ResultFound.{ResultFound}
+use Rattle.brk_trade.specs.declared.result_found.ResultFound.{ResultFound}
 use Rattle.brk_changes.specs.declared.trade_row.TradeRow.{TradeRow}
 use Rattle.brk_trade_laws.specs.Reads.{rates_of}
 use Rattle.brk_trade_laws.specs.ResultPlans.{IsFoundForResult, PassesFirst, result_account}

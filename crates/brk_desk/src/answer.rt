@@ -2,7 +2,7 @@ use brk_money::Refusal;
 use brk_trade::Reply;
 
 /// The answer to a command.
-#[derive(Debug, Drop)]
+#[derive(Drop)]
 pub enum Answer {
     /// It was accepted and booked.
     Done(Reply),

@@ -111,23 +111,23 @@ commission_or None rate qty price e = absurd (cc)
 commission_or (Some b) rate qty price e = let h : b.rate ≡ rate = cc in ap (λ r. commission r qty price) h
 
 row_made : (base : Base) (order : Order) (found : OrderFound) (stamp : ℕ) → AllFound base order found → unwrap_or found.last_trade 0 ≡ length base.trades
-    → tables.trade_row (ordered_trade base stamp (order_of order)) ≡ trade_row order (terms_of order found) (unwrap_or found.charge 0) (next_trade found.last_trade) stamp
+    → tables.trade_row (ordered_trade base stamp (order_of order)) ≡ trade_row order (terms_of order found) (next_trade found.last_trade) stamp
 unfolding estimate
 row_made base order found stamp f number =
     let o : model.Order = order_of order in
     let price : requested_price base o ≡ (terms_of order found).price = sym f.terms.price in
-    let charge = amount_or _ (unwrap_or found.charge 0) f.charge in
+    let charge = amount_or _ (terms_of order found).charge f.terms.charge in
     let rate : unwrap_or (commission_of base o.account o.kind o.symbol o.qty (requested_price base o)) 0 ≡ commission (terms_of order found).rate order.qty (terms_of order found).price =
     commission_or _ (terms_of order found).rate order.qty (requested_price base o) f.terms.rate ∙ ap (commission (terms_of order found).rate order.qty) price in
     λ i. record (tables.trade_row (ordered_trade base stamp o)) { id = sym number i + 1; bid = price i; charge = charge i; commission = rate i }
 
 -- the changes of an order are the rows that it makes
-changes_made : (order : Order) (terms : Terms) (broker charge trade stamp : ℕ) (row : TradeRow) (t : Tables) → trade_row_of row ≡ trade_row order terms charge trade stamp
-    → after_changes (changes_of row (request_row order terms broker trade)) t ≡ with_last stamp (order_rows (trade_row order terms charge trade stamp) (not (is_market order.kind)) broker t)
-changes_made order terms broker charge trade stamp row t e = by_market (is_market order.kind)
+changes_made : (order : Order) (terms : Terms) (broker trade stamp : ℕ) (row : TradeRow) (t : Tables) → trade_row_of row ≡ trade_row order terms trade stamp
+    → after_changes (changes_of row (request_row order terms broker trade)) t ≡ with_last stamp (order_rows (trade_row order terms trade stamp) (not (is_market order.kind)) broker t)
+changes_made order terms broker trade stamp row t e = by_market (is_market order.kind)
   where
     r : tables.TradeRow
-    r = trade_row order terms charge trade stamp
+    r = trade_row order terms trade stamp
 
     request : RequestRow
     request = record { trade = trade; kind = order.kind; symbol = order.symbol; qty = order.qty; bid = terms.price; broker = broker }
@@ -142,7 +142,7 @@ changes_made order terms broker charge trade stamp row t e = by_market (is_marke
 -- the rows of an order by what was found
 abbrev planned_rows : Order → OrderFound → ℕ → Tables → Tables
 planned_rows order found stamp =
-    order_rows (trade_row order (terms_of order found) (unwrap_or found.charge 0) (next_trade found.last_trade) stamp) (not (is_market order.kind))
+    order_rows (trade_row order (terms_of order found) (next_trade found.last_trade) stamp) (not (is_market order.kind))
     (option_map_or (λ a. a.broker) found.account 0)
 
 order_made : (base : Base) (order : Order) (found : OrderFound) (last : Option ℕ) (now stamp : ℕ) → IsReadForPlan base order found last now
@@ -174,7 +174,7 @@ plan_order_does base order found lots last now plan k l p =
       steps = d.steps ∙ ap (λ reply. Ok (reply, base_then base now (PlaceOrder o)))
           ((λ i. model.Ordered p.stamp (next_trade found.last_trade) (first_status order.kind) (sym est i)) ∙ sym (ap reply_of p.told));
       rows = d.rows
-          ∙ sym (changes_made order (terms_of order found) (option_map_or (λ a. a.broker) found.account 0) (unwrap_or found.charge 0) (next_trade found.last_trade) p.stamp p.changes.row
+          ∙ sym (changes_made order (terms_of order found) (option_map_or (λ a. a.broker) found.account 0) (next_trade found.last_trade) p.stamp p.changes.row
           (sheets base) p.changes.added)
           ∙ sym (ap (λ changes. after_changes changes (sheets base)) p.changes.changed);
       kept = d.kept;

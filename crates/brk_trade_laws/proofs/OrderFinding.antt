@@ -1,5 +1,5 @@
 -- An order is refused by what was found for it as by the base, and where it is not, what was found are the terms that the base has for it.
-use Rattle.std.proofs.Common.{◌≡◌, ℕ, ◌==◌, Bool, true, false, not, cond, List, [], ◌∷◌, ◌++◌, refl, sym, subst, ◌∙◌, ap, filter, pos, ◌+ℤ◌, Option, Some, None}
+use Rattle.std.proofs.Common.{◌≡◌, ℕ, ◌==◌, Bool, true, false, not, cond, List, [], ◌∷◌, ◌++◌, refl, sym, subst, ◌∙◌, ap, filter, ◌+ℤ◌, Option, Some, None}
 use Rattle.std.specs.Prelude.{is_some, is_none, option_map, unwrap_or, find, IfSome}
 use Rattle.std.specs.Option.{option_map_or}
 use Rattle.brk_trade.specs.Estimates.{AreTerms}
@@ -8,7 +8,7 @@ use Rattle.brk_model.specs.Base.{Base, account_with, band_with, broker_of, charg
 use Rattle.brk_model.specs.Joins.{account_in, security_in}
 use Rattle.brk_model.specs.Orders.{assets_of, is_permitted, permitted}
 use Rattle.brk_model.specs.PositionView.{asset_total}
-use Rattle.brk_model.specs.Records.{Account, Charge, Customer, Security, Trade}
+use Rattle.brk_model.specs.Records.{Account, Customer, Security, Trade}
 use Rattle.brk_model.specs.Sheets.{sheets}
 use Rattle.brk_model.specs.Tables.{AccountRow, account_row, last_trade_row, security_row}
 use Rattle.brk_model.specs.Tests as model
@@ -179,10 +179,6 @@ some_or : (o : Option ℕ) → is_some o ≡ true → o ≡ Some (unwrap_or o 0)
 some_or None h = absurd (cc)
 some_or (Some n) h = refl
 
-some_charge : (c : Option Charge) (n : ℕ) → option_map (λ c. c.amount) c ≡ Some n → option_map (λ c. pos c.amount) c ≡ Some (pos n)
-some_charge None n e = absurd (cc)
-some_charge (Some c) n e = let h : c.amount ≡ n = cc in ap (λ m. Some (pos m)) h
-
 last_price_read : (base : Base) (order : Order) (found : OrderFound) → IsFoundForEstimate (sheets base) order found → Passes 1 found → unwrap_or found.last_price 0 ≡ last_price base order.symbol
 last_price_read base order found k p =
     ap (λ o. unwrap_or o 0) (k.last_price p ∙ ap (option_map (λ r. r.price)) (reads_last_trade base order.symbol)) ∙ price_or (security_with base order.symbol)
@@ -201,7 +197,6 @@ all_assets base order found books k f e =
 
 -- what was found for an order that nothing refuses
 pub record AllFound (base : Base) (order : Order) (found : OrderFound) : Type 0 where
-  pub charge : option_map (λ c. c.amount) (charge_with base order.kind (tier_of base order.account)) ≡ Some (unwrap_or found.charge 0)
   pub broker : option_map_or (λ a. a.broker) found.account 0 ≡ broker_of base order.account
   pub terms : AreTerms base (order_of order) (terms_of order found)
 
@@ -222,9 +217,7 @@ all_found base order found books k e =
     let charged = not_not (is_some found.charge) p.1.1.1.0 in
     let rated = not_not (is_some found.rate) p.1.1.1.1.0 in
     let account = k.account ∙ ap (option_map order_account) (reads_account base order.account) in
-    let charge = sym (charge_read base order found k f three) ∙ some_or found.charge charged in
     record {
-      charge = charge;
       broker = ap (λ o. option_map_or (λ a. a.broker) o 0) account ∙ broker_or base.accounts (completed base) (account_with base order.account);
       terms = record {
         side = refl;
@@ -233,7 +226,7 @@ all_found base order found books k e =
         tax_status = ap (λ o. option_map_or (λ a. a.tax_status) o Untaxed) account ∙ status_or base.accounts (completed base) (account_with base order.account);
         rates = rates_read base order found k f e;
         rate = sym (rate_read base order found books k f listed four) ∙ some_or found.rate rated;
-        charge = some_charge (charge_with base order.kind (tier_of base order.account)) (unwrap_or found.charge 0) charge;
+        charge = sym (charge_read base order found k f three) ∙ some_or found.charge charged;
         assets = all_assets base order found books k f e;
       };
     }

@@ -40,7 +40,7 @@ use Rattle.brk_changes.specs.declared.cash_row.CashRow.{CashRow}
 use Rattle.brk_changes.specs.declared.change.Change.{Change}
 use Rattle.brk_changes.specs.declared.change.Change.TheVariants as change
 use Rattle.brk_trade.specs.declared.outcome.Outcome.{Outcome}
-use Rattle.brk_trade.specs.declared.outcome.ResultFound.{ResultFound}
+use Rattle.brk_trade.specs.declared.result_found.ResultFound.{ResultFound}
 use Rattle.brk_plans.specs.declared.plan.Plan.{Plan}
 use Rattle.brk_plans.specs.declared.reply.Reply.TheVariants as reply
 use Rattle.brk_changes.specs.declared.summary_row.SummaryRow as summary
@@ -180,8 +180,8 @@ told_read base price last now t found closing stamp k =
       tax = a.tax i;
       amount = a.amount i;
       due_day = a.due i;
-      buy_value = nat_abs (k.values i).buy_value;
-      sell_value = nat_abs (k.values i).sell_value;
+      buy_value = (k.values i).buy_value;
+      sell_value = (k.values i).sell_value;
       balance = a.balance i;
     }))
 
@@ -358,8 +358,8 @@ result_plan_does base id price (Some found) ls last now plan k p =
     let deal : deal_of found.trade price p.stamp ≡ result_deal p.stamp price t.0 = deal_read t.0 found price p.stamp t.2 in
     let same : shares_of (map lot_in lots_given.held) ≡ shares_in (completed base) t.0.account t.0.symbol = lots_shares base t.0 found ls f lots_given in
     let values : values_in p.closing ≡ result_values base p.stamp price t.0 = λ i. record {
-      buy_value = (closes.bought ∙ (λ i. pos (shares.buy_value (deal i) (same i)))) i;
-      sell_value = (closes.sold ∙ (λ i. pos (shares.sell_value (deal i) (same i)))) i;
+      buy_value = (ap nat_abs closes.bought ∙ (λ i. shares.buy_value (deal i) (same i))) i;
+      sell_value = (ap nat_abs closes.sold ∙ (λ i. shares.sell_value (deal i) (same i))) i;
     } in
     let accepted : refusal_of base now (CompleteTrade id price) ≡ None =
     sym (result_refusal base now id price t.0 found last f t.1 k.last_read k.moment)

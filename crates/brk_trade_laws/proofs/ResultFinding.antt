@@ -28,8 +28,8 @@ use Rattle.brk_money.specs.declared.status.Status.TheVariants.{Canceled, Submitt
 use Rattle.brk_money.specs.declared.tax_status.TaxStatus.TheVariants.{Untaxed}
 use Rattle.brk_trade.specs.Outcomes.{amount_of, balance_after, commission_at, commissions_after, due_test, result_tests, summary_after, tax_upon}
 use Rattle.brk_changes.specs.Rows.{trade_row_of}
-use Rattle.brk_trade.specs.declared.outcome.ResultAccount.{ResultAccount}
-use Rattle.brk_trade.specs.declared.outcome.ResultFound.{ResultFound}
+use Rattle.brk_trade.specs.declared.result_found.ResultAccount.{ResultAccount}
+use Rattle.brk_trade.specs.declared.result_found.ResultFound.{ResultFound}
 use Rattle.brk_model.specs.Names.{KnowsAccount, KnowsBroker, KnowsSecurity}
 use Rattle.brk_trade_laws.specs.Books.{IsBooks}
 use Rattle.brk_trade_laws.specs.OrderPlans.{IfCustomer}

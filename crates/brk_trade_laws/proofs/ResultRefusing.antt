@@ -28,7 +28,7 @@ use Rattle.brk_trade.specs.Outcomes.{deal_of, result_tests}
 use Rattle.brk_trade.specs.Results.{IsRefused}
 use Rattle.brk_changes.specs.Rows.{holding_row_of, trade_row_of}
 use Rattle.brk_changes.specs.declared.holding_row.HoldingRow.{HoldingRow}
-use Rattle.brk_trade.specs.declared.outcome.ResultFound.{ResultFound}
+use Rattle.brk_trade.specs.declared.result_found.ResultFound.{ResultFound}
 use Rattle.brk_changes.specs.declared.trade_row.TradeRow as planned
 use Rattle.brk_trade_laws.specs.OrderPlans.{lot_in}
 use Rattle.brk_trade_laws.specs.Books.{IsBooks}

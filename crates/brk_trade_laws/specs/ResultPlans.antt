@@ -11,8 +11,8 @@ use Rattle.brk_money.specs.Moments.{last_stamp}
 use Rattle.brk_trade.specs.Outcomes.{first_tests}
 use Rattle.brk_changes.specs.Rows.{holding_row_of, trade_row_of}
 use Rattle.brk_changes.specs.declared.holding_row.HoldingRow.{HoldingRow}
-use Rattle.brk_trade.specs.declared.outcome.ResultAccount.{ResultAccount}
-use Rattle.brk_trade.specs.declared.outcome.ResultFound.{ResultFound}
+use Rattle.brk_trade.specs.declared.result_found.ResultAccount.{ResultAccount}
+use Rattle.brk_trade.specs.declared.result_found.ResultFound.{ResultFound}
 use Rattle.brk_changes.specs.declared.trade_row.TradeRow.{TradeRow}
 use Rattle.brk_trade_laws.specs.Books.{IsBooks}
 use Rattle.brk_trade_laws.specs.OrderPlans.{IfCustomer, lot_in}

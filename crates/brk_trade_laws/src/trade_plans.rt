@@ -23,7 +23,7 @@ ghost use Rattle.brk_plans.specs.Feed.{Held, IsFeed, feed_tests, held, is_of};
 ghost use Rattle.brk_plans.specs.Reference.{clock_test};
 ghost use Rattle.brk_trade.specs.Results.{IsCompleted, IsRefused};
 ghost use Rattle.brk_changes.specs.Rows.{request_row_of, trade_row_of};
-ghost use Rattle.brk_trade.specs.declared.outcome.ResultFound.{ResultFound};
+ghost use Rattle.brk_trade.specs.declared.result_found.ResultFound.{ResultFound};
 ghost use Rattle.brk_plans.specs.declared.plan.Plan.{Plan};
 ghost use Rattle.brk_plans.specs.declared.quote.Quote.{Quote};
 ghost use Rattle.brk_changes.specs.declared.trade_row.TradeRow.{TradeRow};

@@ -1,5 +1,5 @@
 -- What a view is in the abstract brokerage: its records of texts.
-use Rattle.std.specs.Prelude.{Bool, List, [], ◌∷◌, map, decimal, String, string_bytes}
+use Rattle.std.specs.Prelude.{Bool, List, [], ◌∷◌, map, decimal, pos, String, string_bytes}
 use Rattle.std.specs.Global.{Global, Vec}
 use Rattle.brk_plans.specs.declared.estimate.Estimate as estimate
 use Rattle.brk_money.specs.Kinds.{type_code, same_status}
@@ -27,7 +27,8 @@ trade_record trade = decimal trade.id ∷ type_code trade.kind ∷ trade.symbol 
 -- the record of an estimate
 abbrev pub estimate_record : estimate.Estimate → List Text
 estimate_record e =
-    price_text e.price ∷ cents_text e.buy_value ∷ cents_text e.sell_value ∷ cents_text e.tax ∷ cents_text e.commission ∷ cents_text e.charge ∷ cents_text e.assets ∷ []
+    price_text e.price ∷ cents_text (pos e.buy_value) ∷ cents_text (pos e.sell_value) ∷ cents_text (pos e.tax) ∷ cents_text (pos e.commission) ∷ cents_text (pos e.charge)
+    ∷ cents_text e.assets ∷ []
 
 -- the records of a view
 abbrev pub fields_of : View → model.View

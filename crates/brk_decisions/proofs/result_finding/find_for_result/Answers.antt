@@ -4,7 +4,7 @@ use Rattle.brk_money.specs.declared.fault.Fault.{Fault}
 use Rattle.brk_model.specs.Tables as tables
 use Rattle.brk_model.specs.Tables.{Tables}
 use Rattle.brk_changes.specs.Rows.{trade_row_of}
-use Rattle.brk_trade.specs.declared.outcome.ResultFound.{ResultFound}
+use Rattle.brk_trade.specs.declared.result_found.ResultFound.{ResultFound}
 use Rattle.brk_changes.specs.declared.trade_row.TradeRow.{TradeRow}
 use Rattle.brk_decisions.specs.ResultFinds.{IsFoundAt, IsFoundOf}
 use Rattle.brk_store.proofs.Retelling.{retold}
