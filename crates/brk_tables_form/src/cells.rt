@@ -74,80 +74,56 @@ pub fn batch_name_in(row: &Row, at: usize) -> Result<BatchName, Fault>
     ensures value { IfOk result (λ name. column row.now at ≡ Text name) }
     ensures fault { OnErr result (result ≡ Err Store) }
 {
-    match BatchName::new(text_in(row, at)?) {
-        Some(name) => Ok(name),
-        None => Err(Fault::Store),
-    }
+    BatchName::new(text_in(row, at)?).ok_or(Fault::Store)
 }
 
 pub fn row_number_in(row: &Row, at: usize) -> Result<RowNumber, Fault>
     ensures value { IfOk result (λ number. column row.now at ≡ Int (pos number)) }
     ensures fault { OnErr result (result ≡ Err Store) }
 {
-    match RowNumber::new(natural_in(row, at)?) {
-        Some(number) => Ok(number),
-        None => Err(Fault::Store),
-    }
+    RowNumber::new(natural_in(row, at)?).ok_or(Fault::Store)
 }
 
 pub fn id_in(row: &Row, at: usize) -> Result<Id, Fault>
     ensures value { IfOk result (λ id. column row.now at ≡ Int (pos id)) }
     ensures fault { OnErr result (result ≡ Err Store) }
 {
-    match Id::new(natural_in(row, at)?) {
-        Some(id) => Ok(id),
-        None => Err(Fault::Store),
-    }
+    Id::new(natural_in(row, at)?).ok_or(Fault::Store)
 }
 
 pub fn name_in(row: &Row, at: usize) -> Result<Name, Fault>
     ensures value { IfOk result (λ name. column row.now at ≡ Text name) }
     ensures fault { OnErr result (result ≡ Err Store) }
 {
-    match Name::new(text_in(row, at)?) {
-        Some(name) => Ok(name),
-        None => Err(Fault::Store),
-    }
+    Name::new(text_in(row, at)?).ok_or(Fault::Store)
 }
 
 pub fn tax_id_in(row: &Row, at: usize) -> Result<TaxId, Fault>
     ensures value { IfOk result (λ tax_id. column row.now at ≡ Text tax_id) }
     ensures fault { OnErr result (result ≡ Err Store) }
 {
-    match TaxId::new(text_in(row, at)?) {
-        Some(tax_id) => Ok(tax_id),
-        None => Err(Fault::Store),
-    }
+    TaxId::new(text_in(row, at)?).ok_or(Fault::Store)
 }
 
 pub fn acl_in(row: &Row, at: usize) -> Result<Acl, Fault>
     ensures value { IfOk result (λ acl. column row.now at ≡ Text acl) }
     ensures fault { OnErr result (result ≡ Err Store) }
 {
-    match Acl::new(text_in(row, at)?) {
-        Some(acl) => Ok(acl),
-        None => Err(Fault::Store),
-    }
+    Acl::new(text_in(row, at)?).ok_or(Fault::Store)
 }
 
 pub fn symbol_in(row: &Row, at: usize) -> Result<Symbol, Fault>
     ensures value { IfOk result (λ symbol. column row.now at ≡ Text symbol) }
     ensures fault { OnErr result (result ≡ Err Store) }
 {
-    match Symbol::new(text_in(row, at)?) {
-        Some(symbol) => Ok(symbol),
-        None => Err(Fault::Store),
-    }
+    Symbol::new(text_in(row, at)?).ok_or(Fault::Store)
 }
 
 pub fn exchange_in(row: &Row, at: usize) -> Result<Exchange, Fault>
     ensures value { IfOk result (λ exchange. column row.now at ≡ Text exchange) }
     ensures fault { OnErr result (result ≡ Err Store) }
 {
-    match Exchange::new(text_in(row, at)?) {
-        Some(exchange) => Ok(exchange),
-        None => Err(Fault::Store),
-    }
+    Exchange::new(text_in(row, at)?).ok_or(Fault::Store)
 }
 
 /// The type of trade whose code the column is.
@@ -156,80 +132,56 @@ pub fn type_in(row: &Row, at: usize) -> Result<TradeType, Fault>
     ensures fault { OnErr result (result ≡ Err Store) }
 {
     let code = text_in(row, at)?;
-    match parse_type(code.as_str().as_bytes()) {
-        Some(kind) => Ok(kind),
-        None => Err(Fault::Store),
-    }
+    parse_type(code.as_str().as_bytes()).ok_or(Fault::Store)
 }
 
 pub fn qty_in(row: &Row, at: usize) -> Result<Qty, Fault>
     ensures value { IfOk result (λ qty. column row.now at ≡ Int (pos qty)) }
     ensures fault { OnErr result (result ≡ Err Store) }
 {
-    match Qty::new(small_in(row, at)?) {
-        Some(qty) => Ok(qty),
-        None => Err(Fault::Store),
-    }
+    Qty::new(small_in(row, at)?).ok_or(Fault::Store)
 }
 
 pub fn rate_in(row: &Row, at: usize) -> Result<Rate, Fault>
     ensures value { IfOk result (λ rate. column row.now at ≡ Int (pos rate)) }
     ensures fault { OnErr result (result ≡ Err Store) }
 {
-    match Rate::new(small_in(row, at)?) {
-        Some(rate) => Ok(rate),
-        None => Err(Fault::Store),
-    }
+    Rate::new(small_in(row, at)?).ok_or(Fault::Store)
 }
 
 pub fn tax_rate_in(row: &Row, at: usize) -> Result<TaxRate, Fault>
     ensures value { IfOk result (λ rate. column row.now at ≡ Int (pos rate)) }
     ensures fault { OnErr result (result ≡ Err Store) }
 {
-    match TaxRate::new(small_in(row, at)?) {
-        Some(rate) => Ok(rate),
-        None => Err(Fault::Store),
-    }
+    TaxRate::new(small_in(row, at)?).ok_or(Fault::Store)
 }
 
 pub fn charge_amount_in(row: &Row, at: usize) -> Result<ChargeAmount, Fault>
     ensures value { IfOk result (λ amount. column row.now at ≡ Int (pos amount)) }
     ensures fault { OnErr result (result ≡ Err Store) }
 {
-    match ChargeAmount::new(small_in(row, at)?) {
-        Some(amount) => Ok(amount),
-        None => Err(Fault::Store),
-    }
+    ChargeAmount::new(small_in(row, at)?).ok_or(Fault::Store)
 }
 
 pub fn tier_in(row: &Row, at: usize) -> Result<Tier, Fault>
     ensures value { IfOk result (λ tier. column row.now at ≡ Int (pos tier)) }
     ensures fault { OnErr result (result ≡ Err Store) }
 {
-    match Tier::new(natural_in(row, at)?) {
-        Some(tier) => Ok(tier),
-        None => Err(Fault::Store),
-    }
+    Tier::new(natural_in(row, at)?).ok_or(Fault::Store)
 }
 
 pub fn tax_status_in(row: &Row, at: usize) -> Result<TaxStatus, Fault>
     ensures value { IfOk result (λ tax_status. column row.now at ≡ Int (pos (tax_status_number tax_status))) }
     ensures fault { OnErr result (result ≡ Err Store) }
 {
-    match TaxStatus::from_number(natural_in(row, at)?) {
-        Some(tax_status) => Ok(tax_status),
-        None => Err(Fault::Store),
-    }
+    TaxStatus::from_number(natural_in(row, at)?).ok_or(Fault::Store)
 }
 
 pub fn cents_in(row: &Row, at: usize) -> Result<Cents, Fault>
     ensures value { IfOk result (λ cents. column row.now at ≡ Int cents) }
     ensures fault { OnErr result (result ≡ Err Store) }
 {
-    match Cents::new(number_in(row, at)?) {
-        Some(cents) => Ok(cents),
-        None => Err(Fault::Store),
-    }
+    Cents::new(number_in(row, at)?).ok_or(Fault::Store)
 }
 
 /// Cents that are not below 0.
@@ -256,20 +208,14 @@ pub fn maybe_stamp_in(row: &Row, at: usize) -> Result<Option<Stamp>, Fault>
     let Some(millis) = millis else {
         return Ok(None);
     };
-    match Stamp::new(millis) {
-        Some(stamp) => Ok(Some(stamp)),
-        None => Err(Fault::Store),
-    }
+    Ok(Some(Stamp::new(millis).ok_or(Fault::Store)?))
 }
 
 pub fn price_in(row: &Row, at: usize) -> Result<Price, Fault>
     ensures value { IfOk result (λ price. column row.now at ≡ Int (pos price)) }
     ensures fault { OnErr result (result ≡ Err Store) }
 {
-    match Price::new(small_in(row, at)?) {
-        Some(price) => Ok(price),
-        None => Err(Fault::Store),
-    }
+    Price::new(small_in(row, at)?).ok_or(Fault::Store)
 }
 
 /// A price, or none where the column is null.
@@ -284,44 +230,28 @@ pub fn maybe_price_in(row: &Row, at: usize) -> Result<Option<Price>, Fault>
     let Some(cents) = cents else {
         return Ok(None);
     };
-    match Price::new(cents) {
-        Some(price) => Ok(Some(price)),
-        None => Err(Fault::Store),
-    }
+    Ok(Some(Price::new(cents).ok_or(Fault::Store)?))
 }
 
 pub fn amount_in(row: &Row, at: usize) -> Result<Amount, Fault>
     ensures value { IfOk result (λ amount. column row.now at ≡ Int (pos amount)) }
     ensures fault { OnErr result (result ≡ Err Store) }
 {
-    match Amount::new(natural_in(row, at)?) {
-        Some(amount) => Ok(amount),
-        None => Err(Fault::Store),
-    }
+    Amount::new(natural_in(row, at)?).ok_or(Fault::Store)
 }
 
 pub fn volume_in(row: &Row, at: usize) -> Result<Volume, Fault>
     ensures value { IfOk result (λ volume. column row.now at ≡ Int (pos volume)) }
     ensures fault { OnErr result (result ≡ Err Store) }
 {
-    match Volume::new(natural_in(row, at)?) {
-        Some(volume) => Ok(volume),
-        None => Err(Fault::Store),
-    }
+    Volume::new(natural_in(row, at)?).ok_or(Fault::Store)
 }
 
 pub fn stamp_in(row: &Row, at: usize) -> Result<Stamp, Fault>
     ensures value { IfOk result (λ stamp. column row.now at ≡ Int (pos stamp)) }
     ensures fault { OnErr result (result ≡ Err Store) }
 {
-    let millis: i64 = match row.get(at) {
-        Ok(millis) => millis,
-        Err(_) => return Err(Fault::Store),
-    };
-    match Stamp::new(millis) {
-        Some(stamp) => Ok(stamp),
-        None => Err(Fault::Store),
-    }
+    Stamp::new(number_in(row, at)?).ok_or(Fault::Store)
 }
 
 /// 1 as true and 0 as false.
@@ -371,8 +301,5 @@ pub fn status_in(row: &Row, at: usize) -> Result<Status, Fault>
     ensures fault { OnErr result (result ≡ Err Store) }
 {
     let code = text_in(row, at)?;
-    match parse_status(code.as_str().as_bytes()) {
-        Some(status) => Ok(status),
-        None => Err(Fault::Store),
-    }
+    parse_status(code.as_str().as_bytes()).ok_or(Fault::Store)
 }
