@@ -142,14 +142,18 @@ fn an_order_upon_lots(rt: HostRuntime) -> Result<(), Fail> {
     Ok(())
 }
 
+// Compares what is told of a purchase after so many trades.
+fn expect_purchase(rt: &impl Abort, alloc: Global, trades: u64, wanted: &str) -> Result<(), Fail> {
+    let found = found(1_000_000, trades)?;
+    let told = told_of(alloc, PURCHASE, &found, &[])?;
+    assert!(rt; told.as_str() == wanted, "{trades}: {told}");
+    Ok(())
+}
+
 #[test]
 fn trades_end_at_their_limit(rt: HostRuntime) -> Result<(), Fail> {
     let alloc = rt.alloc();
     let last = "1709251200020,1000000000000,SBMT,10.00,0.00,0.00,0.00,10.00,5.00,10000.00";
-    for (trades, wanted) in [(999_999_999_999, last), (1_000_000_000_000, "no,14,trades")] {
-        let found = found(1_000_000, trades)?;
-        let told = told_of(alloc, PURCHASE, &found, &[])?;
-        assert!(rt; told.as_str() == wanted, "{trades}: {told}");
-    }
-    Ok(())
+    expect_purchase(&rt, alloc, 999_999_999_999, last)?;
+    expect_purchase(&rt, alloc, 1_000_000_000_000, "no,14,trades")
 }

@@ -121,9 +121,9 @@ fn told_of(
 
 // Compares what is told of a result of such a trade.
 fn expect_result(rt: &impl Abort, alloc: Global, case: Case, wanted: &str) -> Result<(), Fail> {
+    let last = Stamp::new(case.last);
     let found = found(alloc, case)?;
-    let told = told_of(alloc, Some(&found), Stamp::new(case.last));
-    let told = told?;
+    let told = told_of(alloc, Some(&found), last)?;
     assert!(rt; told.as_str() == wanted, "{wanted}: {told}");
     Ok(())
 }
