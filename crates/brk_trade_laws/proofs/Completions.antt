@@ -105,7 +105,7 @@ triggered_waits tick t e = first (has_status Pending t) (bytes_eq t.symbol tick.
     first true b c e = refl
     first false b c e = e
 
-completed_tick : (base : Base) (stamp : ℕ) (tick : Tick) → completed (with_tick stamp base tick) ≡ completed base
+pub completed_tick : (base : Base) (stamp : ℕ) (tick : Tick) → completed (with_tick stamp base tick) ≡ completed base
 completed_tick base stamp tick =
     completed_unseen (is_triggered tick) (marked stamp Submitted) base.trades (λ t. status_of_marked stamp Submitted Completed t)
     (All-of base.trades (λ t k. pending_not_completed t (triggered_waits tick t k)))

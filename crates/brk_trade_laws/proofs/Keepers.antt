@@ -47,7 +47,7 @@ books_last base now h k = record {
   clock = h;
 }
 
-books_terms : (base : Base) (charges : List Charge) (tax_rates : List TaxRate) (customer_taxes : List CustomerTax) (kept : List Kept) → IsBooks base
+pub books_terms : (base : Base) (charges : List Charge) (tax_rates : List TaxRate) (customer_taxes : List CustomerTax) (kept : List Kept) → IsBooks base
     → IsBooks (record base { charges = charges; tax_rates = tax_rates; customer_taxes = customer_taxes; kept = kept })
 books_terms base charges tax_rates customer_taxes kept k = record {
   brokers = k.brokers;
@@ -238,7 +238,7 @@ books_security base now l k e =
 -- ---- bands
 
 -- two bands meet either way round
-meet_back : (b c : Band) (m : Bool) → bands_meet c b ≡ m → bands_meet b c ≡ false → bands_meet c b ≡ false
+pub meet_back : (b c : Band) (m : Bool) → bands_meet c b ≡ m → bands_meet b c ≡ false → bands_meet c b ≡ false
 meet_back b c false e h = e
 meet_back b c true e h =
     let one = both _ (nat_le b.from_qty c.to_qty) e in

@@ -95,7 +95,7 @@ part_total (number a) (word b) g h = cc
 part_total (word a) (number b) g h = cc
 part_total (word a) (word b) g h = ap word (text_total a b g h)
 
-key_splits : Splits key_before
+pub key_splits : Splits key_before
 key_splits [] y [] g h = cc
 key_splits [] y (c ∷ z) g h = cc
 key_splits (a ∷ x) [] z g h = refl
@@ -112,7 +112,7 @@ key_one_way (a ∷ x) [] g = cc
 key_one_way (a ∷ x) (b ∷ y) g =
     rest_one_way (part_before a b) (part_before b a) (key_before x y) (key_before y x) (part_one_way a b) (key_one_way x y) g
 
-key_total : Total key_before
+pub key_total : Total key_before
 key_total [] [] g h = refl
 key_total [] (b ∷ y) g h = cc
 key_total (a ∷ x) [] g h = cc
@@ -265,7 +265,7 @@ sorted_insert before x (y ∷ ys) s o h = by_test (sorted_insert before x ys s o
     by_test ih true e = rw e (All-insert (λ w. before w y ≡ false) before x ys (o y x e) h.0, ih)
     by_test ih false e = rw e ((e, none_through before x y ys s e h.0), h)
 
-sorted_sort : {X : Type 0} (before : X → X → Bool) (xs : List X) → Splits before → OneWay before → Sorted before (sort_by before xs)
+pub sorted_sort : {X : Type 0} (before : X → X → Bool) (xs : List X) → Splits before → OneWay before → Sorted before (sort_by before xs)
 unfolding sort_by
 sorted_sort before [] s o = tt
 sorted_sort before (x ∷ xs) s o = sorted_insert before x (sort_by before xs) s o (sorted_sort before xs s o)

@@ -53,15 +53,15 @@ customer_rows base stamp c h =
 
 -- ---- a broker: no account is the broker's yet
 
-broker_found : (base : Base) (id : ℕ) (o : Option Account) → account_with base id ≡ o → is_some o ≡ true → AllByRecursion (KnowsBroker base) base.accounts
+pub broker_found : (base : Base) (id : ℕ) (o : Option Account) → account_with base id ≡ o → is_some o ≡ true → AllByRecursion (KnowsBroker base) base.accounts
     → is_some (broker_with base (option_map_or (λ a. a.broker) o 0)) ≡ true
 broker_found base id None e h known = absurd (cc)
 broker_found base id (Some a) e h known = find-All (KnowsBroker base) (λ a. a.id == id) base.accounts a known e
 
-known_completed : (base : Base) → IsBooks base → AllByRecursion (KnowsAccount base) (completed base)
+pub known_completed : (base : Base) → IsBooks base → AllByRecursion (KnowsAccount base) (completed base)
 known_completed base books = All-filter (KnowsAccount base) is_completed base.trades books.accounts
 
-no_broker_trades : (base : Base) (id : ℕ) → IsBooks base → is_some (broker_with base id) ≡ false → of_broker base.accounts (completed base) id ≡ []
+pub no_broker_trades : (base : Base) (id : ℕ) → IsBooks base → is_some (broker_with base id) ≡ false → of_broker base.accounts (completed base) id ≡ []
 no_broker_trades base id books h =
     filter-none (λ t. broker_in base.accounts t.account == id) (completed base)
     (All-map (completed base)
@@ -89,13 +89,13 @@ broker_rows base stamp b books h =
 
 -- ---- an account: no trade is of it yet, and the other accounts are found as before
 
-abbrev more : Base → Account → List Account
+abbrev pub more : Base → Account → List Account
 more base a = base.accounts ++ a ∷ []
 
-as_before : (base : Base) (a : Account) (id : ℕ) → is_some (account_with base id) ≡ true → find_account (more base a) id ≡ account_with base id
+pub as_before : (base : Base) (a : Account) (id : ℕ) → is_some (account_with base id) ≡ true → find_account (more base a) id ≡ account_with base id
 as_before base a id h = find-more (λ b. b.id == id) base.accounts (a ∷ []) h
 
-no_trades_of : (base : Base) (id : ℕ) → IsBooks base → is_some (account_with base id) ≡ false → of_account (completed base) id ≡ []
+pub no_trades_of : (base : Base) (id : ℕ) → IsBooks base → is_some (account_with base id) ≡ false → of_account (completed base) id ≡ []
 no_trades_of base id books h =
     filter-none (λ t. t.account == id) (completed base)
     (All-map (completed base) (λ t k. other_id (account_with base) id t.account h k) (known_completed base books))
@@ -109,10 +109,10 @@ pub append_nil : {X : Type 0} (xs : List X) → xs ++ [] ≡ xs
 append_nil [] = refl
 append_nil (x ∷ xs) = ap (λ ys. x ∷ ys) (append_nil xs)
 
-amount_as_before : (base : Base) (a : Account) (t : Trade) → KnowsAccount base t → amount_of (more base a) t ≡ amount_of base.accounts t
+pub amount_as_before : (base : Base) (a : Account) (t : Trade) → KnowsAccount base t → amount_of (more base a) t ≡ amount_of base.accounts t
 amount_as_before base a t k = rw (as_before base a t.account k) refl
 
-balance_as_before : (base : Base) (a : Account) (id : ℕ) → IsBooks base → is_some (account_with base id) ≡ true
+pub balance_as_before : (base : Base) (a : Account) (id : ℕ) → IsBooks base → is_some (account_with base id) ≡ true
     → balance_of (more base a) (completed base) id ≡ balance_of base.accounts (completed base) id
 unfolding balance_of
 balance_as_before base a id books h =
@@ -123,7 +123,7 @@ balance_as_before base a id books h =
     let sums = total_by-same (amount_of (more base a)) (amount_of base.accounts) some (All-map some (λ t k. amount_as_before base a t k) known) in
     λ i. option_map_or (λ a. a.opening) (as_before base a id h i) (pos 0) +ℤ sums i
 
-new_balance : (base : Base) (a : Account) → IsBooks base → is_some (account_with base a.id) ≡ false → balance_of (more base a) (completed base) a.id ≡ a.opening
+pub new_balance : (base : Base) (a : Account) → IsBooks base → is_some (account_with base a.id) ≡ false → balance_of (more base a) (completed base) a.id ≡ a.opening
 unfolding balance_of total_by
 new_balance base a books h =
     let found : find_account (more base a) a.id ≡ Some a = find-new (λ b. b.id == a.id) base.accounts a h (eq-eqb a.id a.id refl) in

@@ -24,7 +24,7 @@ map-twice f g (x ∷ xs) = ap (λ zs. f (g x) ∷ zs) (map-twice f g xs)
 abbrev pub with_numbers : ℕ → ℤ → ℕ → BrokerRow → BrokerRow
 with_numbers broker trades commissions r = cond (r.id == broker) (record r { trades = trades; commissions = commissions }) r
 
-other_broker : (accounts : List Account) (xs : List Trade) (t : Trade) (ys : List Trade) (id : ℕ) → (id == broker_in accounts t.account) ≡ false
+pub other_broker : (accounts : List Account) (xs : List Trade) (t : Trade) (ys : List Trade) (id : ℕ) → (id == broker_in accounts t.account) ≡ false
     → of_broker accounts (xs ++ t ∷ ys) id ≡ of_broker accounts (xs ++ ys) id
 other_broker accounts xs t ys id e =
     filter-not_one (λ u. broker_in accounts u.account == id) xs t ys (numbers_back (broker_in accounts t.account) id ∙ e)
@@ -81,7 +81,7 @@ brokers_after accounts brokers xs t ys =
 abbrev pub with_other_balance : ℕ → ℤ → AccountRow → AccountRow
 with_other_balance account balance r = cond (r.id == account) (record r { balance = balance }) r
 
-other_account : (accounts : List Account) (xs : List Trade) (t : Trade) (ys : List Trade) (id : ℕ) → (id == t.account) ≡ false
+pub other_account : (accounts : List Account) (xs : List Trade) (t : Trade) (ys : List Trade) (id : ℕ) → (id == t.account) ≡ false
     → balance_of accounts (xs ++ t ∷ ys) id ≡ balance_of accounts (xs ++ ys) id
 unfolding balance_of
 other_account accounts xs t ys id e =

@@ -1,0 +1,208 @@
+-- The statuses of the tables of a base are right where its trades go a way.
+use Rattle.std.proofs.Common.{◌≡◌, ℕ, ◌==◌, Bool, true, false, not, cond, List, [], ◌∷◌, ◌++◌, refl, sym, ◌∙◌, ap, subst, map, filter, Some, None}
+use Rattle.std.specs.Prelude.{◌&&◌, ◌||◌, flat_map}
+use Rattle.std.specs.List.{AllByRecursion, last_or, list_all}
+use Rattle.std.specs.Option.{option_map_or}
+use Rattle.std.proofs.lemmas.Bool.{and_from, eq-eqb}
+use Rattle.brk_money.specs.Kinds.{same_status}
+use Rattle.brk_money.specs.declared.status.Status.{Status}
+use Rattle.brk_money.specs.declared.status.Status.TheVariants.{Completed, Active, Submitted, Pending, Canceled}
+use Rattle.brk_model.specs.Lists.{all_distinct, contains_number, insert_by, sort_by}
+use Rattle.brk_model.specs.Records.{Mark, Trade}
+use Rattle.brk_model.specs.Base.{Base, completed, is_completed, moment_of}
+use Rattle.brk_model.specs.Tables.{HistoryRow, TradeRow, history_rows, tables_of, trade_row}
+use Rattle.brk_model.specs.Sheets.{sheets, sheets_of}
+use Rattle.brk_model.specs.Keys.{by_key, row_before, history_key}
+use Rattle.brk_model.specs.Ways.{completion_stamps, has_status_rows, is_last_of, is_rising, is_way, trade_status}
+use Rattle.brk_trade_laws.specs.Books.{IsBooks, MomentsApart}
+use Rattle.brk_trade_laws.proofs.Bools.{numbers_back}
+use Rattle.brk_trade_laws.proofs.Order.{by_key-filter}
+use Rattle.brk_trade_laws.proofs.Places.{filter-append, map-append}
+use Rattle.brk_trade_laws.proofs.TradeReading.{trades_in_order}
+use Rattle.brk_adoption_laws.specs.Told.{GoesAWay, IsTold, StampsRise}
+use Rattle.brk_adoption_laws.proofs.Marks.{no_more_ways, three_ways}
+use Rattle.brk_adoption_laws.proofs.Again.{IsRead, both_all, marks_again, reads}
+
+false_true : {A : Type 0} → false ≡ true → A
+false_true e = absurd (cc)
+
+pub all_list : {X : Type 0} (p : X → Bool) (xs : List X) → AllByRecursion (λ x. p x ≡ true) xs → list_all p xs ≡ true
+all_list p [] h = refl
+all_list p (x ∷ xs) h = and_from (p x) (list_all p xs) h.0 (all_list p xs h.1)
+
+-- ---- each trade
+
+same_itself : (s : Status) → same_status s s ≡ true
+same_itself Completed = refl
+same_itself Active = refl
+same_itself Submitted = refl
+same_itself Pending = refl
+same_itself Canceled = refl
+
+last_is : (row : TradeRow) (m : Mark) (ms : List Mark) (n : Mark) → last_or (Some m) ms ≡ Some n → row.status ≡ n.status → row.stamp ≡ n.stamp → is_last_of row (m ∷ ms) ≡ true
+last_is row m [] n e s t =
+    let j : m ≡ n = cc in
+    and_from (same_status row.status m.status) (row.stamp == m.stamp) (ap (λ u. same_status u m.status) (s ∙ sym (ap (λ m. m.status) j)) ∙ same_itself m.status)
+    (eq-eqb row.stamp m.stamp (t ∙ sym (ap (λ m. m.stamp) j)))
+last_is row m (o ∷ ms) n e s t = last_is row o ms n e s t
+
+pub some_last : (m : Mark) (ms : List Mark) → (n : Mark) × (last_or (Some m) ms ≡ Some n)
+some_last m [] = (m, refl)
+some_last m (o ∷ ms) = some_last o ms
+
+pub last_row : (t : Trade) (ms : List Mark) → t.marks ≡ ms → is_way (map (λ m. m.status) ms) ≡ true → is_last_of (trade_row t) ms ≡ true
+last_row t [] e w = w
+last_row t (m ∷ ms) e w =
+    let l = some_last m ms in
+    let k : last_or None t.marks ≡ Some l.0 = ap (last_or None) e ∙ l.1 in
+    last_is (trade_row t) m ms l.0 l.1 (ap (λ o. option_map_or (λ m. m.status) o Canceled) k) (ap (λ o. option_map_or (λ m. m.stamp) o 0) k)
+
+each_right : (base : Base) (t : Trade) → IsRead base t → StampsRise t → GoesAWay t → trade_status (sheets base) (trade_row t) ≡ true
+each_right base t r s w =
+    ap (λ ms. is_way (map (λ m. m.status) ms) && is_rising (map (λ m. m.stamp) ms) && is_last_of (trade_row t) ms) (marks_again base t r s)
+    ∙ and_from (is_way (map (λ m. m.status) t.marks) && is_rising (map (λ m. m.stamp) t.marks)) (is_last_of (trade_row t) t.marks)
+    (and_from (is_way (map (λ m. m.status) t.marks)) (is_rising (map (λ m. m.stamp) t.marks)) w s) (last_row t t.marks refl w)
+
+mapped : {X Y : Type 0} (P : Y → Type 0) (f : X → Y) (xs : List X) → AllByRecursion (λ x. P (f x)) xs → AllByRecursion P (map f xs)
+mapped P f [] h = tt
+mapped P f (x ∷ xs) h = (h.0, mapped P f xs h.1)
+
+each_of : {X : Type 0} (P Q : X → Type 0) (xs : List X) → ((x : X) → P x → Q x) → AllByRecursion P xs → AllByRecursion Q xs
+each_of P Q [] f h = tt
+each_of P Q (x ∷ xs) f h = (f x h.0, each_of P Q xs f h.1)
+
+-- ---- completions
+
+is_done : HistoryRow → Bool
+is_done h = same_status h.status Completed
+
+abbrev row_of : ℕ → Mark → HistoryRow
+row_of id m = record { trade = id; status = m.status; stamp = m.stamp }
+
+pub first_of_two : (a b : Status) → is_way (a ∷ b ∷ []) ≡ true → same_status a Completed ≡ false
+first_of_two Completed Completed e = cc
+first_of_two Completed Active e = cc
+first_of_two Completed Submitted e = cc
+first_of_two Completed Pending e = cc
+first_of_two Completed Canceled e = cc
+first_of_two Active b e = refl
+first_of_two Submitted b e = refl
+first_of_two Pending b e = refl
+first_of_two Canceled b e = refl
+
+abbrev one_if : Bool → ℕ → List ℕ
+one_if b n = cond b (n ∷ []) []
+
+one_stamp : (id : ℕ) (m : Mark) → map (λ h. h.stamp) (filter (λ h. same_status h.status Completed) (row_of id m ∷ [])) ≡ one_if (same_status m.status Completed) m.stamp
+one_stamp id m = by_test (same_status m.status Completed)
+  where
+    by_test : (b : Bool) → map (λ h. h.stamp) (cond b (row_of id m ∷ []) []) ≡ one_if b m.stamp
+    by_test true = refl
+    by_test false = refl
+
+own_stamp : (id : ℕ) (ms : List Mark) → is_way (map (λ m. m.status) ms) ≡ true
+    → map (λ h. h.stamp) (filter (λ h. same_status h.status Completed) (map (row_of id) ms))
+    ≡ one_if (option_map_or (λ m. same_status m.status Completed) (last_or None ms) false) (option_map_or (λ m. m.stamp) (last_or None ms) 0)
+own_stamp id [] w = refl
+own_stamp id (m ∷ []) w = one_stamp id m
+own_stamp id (m ∷ n ∷ []) w =
+    ap (λ b. map (λ h. h.stamp) (cond b (row_of id m ∷ filter (λ h. same_status h.status Completed) (row_of id n ∷ [])) (filter (λ h. same_status h.status Completed) (row_of id n ∷ []))))
+    (first_of_two m.status n.status w)
+    ∙ one_stamp id n
+own_stamp id (m ∷ n ∷ o ∷ []) w =
+    let k = three_ways m.status n.status o.status w in
+    let C : HistoryRow → Bool = λ h. same_status h.status Completed in
+    ap (λ s. map (λ h. h.stamp) (cond (same_status s Completed) (row_of id m ∷ filter C (row_of id n ∷ row_of id o ∷ [])) (filter C (row_of id n ∷ row_of id o ∷ [])))) k.0
+    ∙ ap (λ s. map (λ h. h.stamp) (cond (same_status s Completed) (row_of id n ∷ filter C (row_of id o ∷ [])) (filter C (row_of id o ∷ [])))) k.1
+    ∙ one_stamp id o
+own_stamp id (m ∷ n ∷ o ∷ p ∷ ms) w = absurd (no_more_ways m.status n.status o.status p.status (map (λ m. m.status) ms) w)
+
+stamps_are : (ts : List Trade) → AllByRecursion GoesAWay ts
+    → map (λ h. h.stamp) (filter (λ h. same_status h.status Completed) (flat_map history_rows ts)) ≡ map moment_of (filter is_completed ts)
+stamps_are [] w = refl
+stamps_are (t ∷ ts) w =
+    let C : HistoryRow → Bool = λ h. same_status h.status Completed in
+    ap (map (λ h. h.stamp)) (filter-append C (history_rows t) (flat_map history_rows ts)) ∙ map-append (λ h. h.stamp) (filter C (history_rows t)) (filter C (flat_map history_rows ts))
+    ∙ (λ i. own_stamp t.id t.marks w.0 i ++ stamps_are ts w.1 i) ∙ by_test (is_completed t)
+  where
+    by_test : (b : Bool) → one_if b (moment_of t) ++ map moment_of (filter is_completed ts) ≡ map moment_of (cond b (t ∷ filter is_completed ts) (filter is_completed ts))
+    by_test true = refl
+    by_test false = refl
+
+-- ---- whether numbers are distinct is no matter of order
+
+swap : (a b c d : Bool) → not (a || b) && (not c && d) ≡ not (a || c) && (not b && d)
+swap true b c d = refl
+swap false true true d = refl
+swap false true false d = refl
+swap false false true d = refl
+swap false false false d = refl
+
+or_swap : (a b c : Bool) → a || (b || c) ≡ b || (a || c)
+or_swap true true c = refl
+or_swap true false c = refl
+or_swap false b c = refl
+
+contains_insert : (before : HistoryRow → HistoryRow → Bool) (n : ℕ) (x : HistoryRow) (ys : List HistoryRow)
+    → contains_number n (map (λ h. h.stamp) (insert_by before x ys)) ≡ (x.stamp == n) || contains_number n (map (λ h. h.stamp) ys)
+contains_insert before n x [] = refl
+contains_insert before n x (y ∷ ys) = by_test (before y x) (contains_insert before n x ys)
+  where
+    by_test : (b : Bool) → contains_number n (map (λ h. h.stamp) (insert_by before x ys)) ≡ (x.stamp == n) || contains_number n (map (λ h. h.stamp) ys)
+        → contains_number n (map (λ h. h.stamp) (cond b (y ∷ insert_by before x ys) (x ∷ y ∷ ys))) ≡ (x.stamp == n) || contains_number n (map (λ h. h.stamp) (y ∷ ys))
+    by_test true e = ap (λ b. (y.stamp == n) || b) e ∙ or_swap (y.stamp == n) (x.stamp == n) (contains_number n (map (λ h. h.stamp) ys))
+    by_test false e = refl
+
+distinct_insert : (before : HistoryRow → HistoryRow → Bool) (x : HistoryRow) (ys : List HistoryRow)
+    → all_distinct (map (λ h. h.stamp) (insert_by before x ys)) ≡ not (contains_number x.stamp (map (λ h. h.stamp) ys)) && all_distinct (map (λ h. h.stamp) ys)
+distinct_insert before x [] = refl
+distinct_insert before x (y ∷ ys) = by_test (before y x) (distinct_insert before x ys)
+  where
+    Y : List ℕ
+    Y = map (λ h. h.stamp) ys
+
+    by_test : (b : Bool) → all_distinct (map (λ h. h.stamp) (insert_by before x ys)) ≡ not (contains_number x.stamp Y) && all_distinct Y
+        → all_distinct (map (λ h. h.stamp) (cond b (y ∷ insert_by before x ys) (x ∷ y ∷ ys))) ≡ not (contains_number x.stamp (map (λ h. h.stamp) (y ∷ ys))) && all_distinct (map (λ h. h.stamp) (y ∷ ys))
+    by_test true e =
+        (λ i. not (contains_insert before y.stamp x ys i) && e i)
+        ∙ swap (x.stamp == y.stamp) (contains_number y.stamp Y) (contains_number x.stamp Y) (all_distinct Y)
+        ∙ ap (λ b. not (b || contains_number x.stamp Y) && (not (contains_number y.stamp Y) && all_distinct Y)) (numbers_back x.stamp y.stamp)
+    by_test false e = refl
+
+contains_sort : (n : ℕ) (xs : List HistoryRow) → contains_number n (map (λ h. h.stamp) (by_key history_key xs)) ≡ contains_number n (map (λ h. h.stamp) xs)
+unfolding sort_by
+contains_sort n [] = refl
+contains_sort n (x ∷ xs) = contains_insert (row_before history_key) n x (by_key history_key xs) ∙ ap (λ b. (x.stamp == n) || b) (contains_sort n xs)
+
+distinct_sort : (xs : List HistoryRow) → all_distinct (map (λ h. h.stamp) (by_key history_key xs)) ≡ all_distinct (map (λ h. h.stamp) xs)
+unfolding sort_by
+distinct_sort [] = refl
+distinct_sort (x ∷ xs) =
+    distinct_insert (row_before history_key) x (by_key history_key xs) ∙ (λ i. not (contains_sort x.stamp xs i) && distinct_sort xs i)
+
+none_contained : (n : ℕ) (ts : List Trade) → AllByRecursion (λ u. (moment_of u == n) ≡ false) ts → contains_number n (map moment_of ts) ≡ false
+none_contained n [] h = refl
+none_contained n (t ∷ ts) h = ap (λ b. b || contains_number n (map moment_of ts)) h.0 ∙ none_contained n ts h.1
+
+apart_distinct : (ts : List Trade) → MomentsApart ts → all_distinct (map moment_of ts) ≡ true
+apart_distinct [] a = refl
+apart_distinct (t ∷ ts) a =
+    ap (λ b. not b && all_distinct (map moment_of ts)) (none_contained (moment_of t) ts a.0) ∙ apart_distinct ts a.1
+
+completions_apart : (base : Base) → IsBooks base → IsTold base → all_distinct (completion_stamps (sheets base)) ≡ true
+unfolding sheets_of tables_of
+completions_apart base books told =
+    let C : HistoryRow → Bool = λ h. same_status h.status Completed in
+    ap (λ rows. all_distinct (map (λ h. h.stamp) rows)) (sym (by_key-filter history_key C (flat_map history_rows base.trades)))
+    ∙ distinct_sort (filter C (flat_map history_rows base.trades)) ∙ ap all_distinct (stamps_are base.trades told.ways) ∙ apart_distinct (completed base) books.moments
+
+pub status_again : (base : Base) → IsBooks base → IsTold base → has_status_rows (sheets base) ≡ true
+unfolding has_status_rows
+status_again base books told =
+    and_from (list_all (trade_status (sheets base)) (sheets base).trades) (all_distinct (completion_stamps (sheets base)))
+    (all_list (trade_status (sheets base)) (sheets base).trades
+    (subst (AllByRecursion (λ r. trade_status (sheets base) r ≡ true)) (sym (trades_in_order base books.numbered))
+    (mapped (λ r. trade_status (sheets base) r ≡ true) trade_row base.trades
+    (each_of (λ t. IsRead base t × (StampsRise t × GoesAWay t)) (λ t. trade_status (sheets base) (trade_row t) ≡ true) base.trades (λ t h. each_right base t h.0 h.1.0 h.1.1)
+    (both_all (IsRead base) (λ t. StampsRise t × GoesAWay t) base.trades (reads base books.numbered) (both_all StampsRise GoesAWay base.trades told.stamps told.ways))))))
+    (completions_apart base books told)

@@ -1,0 +1,13 @@
+pub mod Climbs
+pub mod Parts
+pub mod Marks
+pub mod Members
+pub mod AdoptedBooks
+pub mod AdoptedHistory
+pub mod AdoptedTables
+pub mod Passing
+pub mod Sorted
+pub mod Again
+pub mod AgainStatus
+pub mod Passed
+pub mod CountRows

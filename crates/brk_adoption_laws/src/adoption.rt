@@ -1,0 +1,39 @@
+//! Rows that pass every condition are the tables of a base in order.
+
+ghost use Rattle.std.specs.Prelude.{◌≡◌, ◌↔◌, IsTrue, pos};
+ghost use Rattle.std.specs.List.{AllByRecursion};
+ghost use Rattle.brk_money.specs.declared.fault.Condition.TheVariants.{Count};
+ghost use Rattle.brk_model.specs.Audit.{Holds};
+ghost use Rattle.brk_model.specs.Base.{Base};
+ghost use Rattle.brk_model.specs.Tables.{Tables};
+ghost use Rattle.brk_model.specs.Adopted.{base_of};
+ghost use Rattle.brk_model.specs.Form.{has_form};
+ghost use Rattle.brk_model.specs.Ways.{has_status_rows};
+ghost use Rattle.brk_model.specs.Sheets.{sheets};
+ghost use Rattle.brk_trade_laws.specs.Books.{IsBooks};
+ghost use Rattle.brk_adoption_laws.specs.Passing.{Passes, count_of_rows};
+ghost use Rattle.brk_adoption_laws.specs.Told.{IsTold, sorted};
+
+/// Rows that pass every condition are the tables of the base that they give, which is in order; for its order form and
+/// statuses are enough.
+pub fn passing_rows_are_tables()
+    ensures order { (rows : Tables) → IsTrue (has_form rows) → IsTrue (has_status_rows rows) → IsBooks (base_of rows) }
+    ensures books { (rows : Tables) → Passes rows → IsBooks (base_of rows) }
+    ensures tables { (rows : Tables) → Passes rows → sheets (base_of rows) ≡ rows }
+{}
+
+/// The tables of a base in order, whose trades were told as they are, give that base again with its reference records by rising key, and its
+/// tables are the same, and their statuses are right. So all conditions hold but that of form; where they have form, they pass.
+pub fn tables_of_books_pass()
+    ensures base { (base : Base) → IsBooks base → IsTold base → base_of (sheets base) ≡ sorted base }
+    ensures tables { (base : Base) → IsBooks base → IsTold base → sheets (base_of (sheets base)) ≡ sheets base }
+    ensures passes { (base : Base) → IsBooks base → IsTold base → IsTrue (has_form (sheets base)) → Passes (sheets base) }
+    ensures status { (base : Base) → IsBooks base → IsTold base → IsTrue (has_status_rows (sheets base)) }
+{}
+
+/// Over rows in form with right statuses, the condition on counts is one on each broker's row, in terms of the rows alone: what a checker
+/// compares.
+pub fn counts_are_compared_row_by_row()
+    ensures { (rows : Tables) → IsTrue (has_form rows) → IsTrue (has_status_rows rows)
+        → Holds Count rows ↔ AllByRecursion (λ b. b.trades ≡ pos (count_of_rows rows b.id)) rows.brokers }
+{}

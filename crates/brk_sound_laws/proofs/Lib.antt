@@ -1,0 +1,14 @@
+pub mod Bounds
+pub mod OneTrade
+pub mod SoundResult
+pub mod SoundRecords
+pub mod SoundTrades
+pub mod SoundSteps
+pub mod SortedRows
+pub mod FormKeys
+pub mod FormRows
+pub mod FormBack
+pub mod SoundRuns
+pub mod Adopted
+pub mod Parsed
+pub mod SoundBatches

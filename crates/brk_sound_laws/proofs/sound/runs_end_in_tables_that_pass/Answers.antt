@@ -1,0 +1,5 @@
+use Rattle.brk_sound_laws.proofs.Adopted.{adopted_passes, first_passes, run_sound}
+use Rattle.brk_sound_laws.proofs.sound.runs_end_in_tables_that_pass.Goals as goal
+
+pub returns : goal.returns
+returns c = record { sound = run_sound; first = first_passes; adopted = adopted_passes }

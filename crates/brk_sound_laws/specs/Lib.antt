@@ -1,0 +1,3 @@
+pub mod Sound
+pub mod InForm
+pub mod Runs
