@@ -1,4 +1,5 @@
 ghost use Rattle.std.specs.Prelude.{◌≡◌, ℕ, ◌≤◌, SomeIff};
+ghost use Rattle.brk_changes.specs.declared.trade_count.TheConstants.TradeCount;
 
 use std::marker::Model;
 
@@ -13,7 +14,7 @@ impl Model for TradeCount {
 
     ghost inverse = { λ n. record { 0 = n } };
 
-    ghost invariant = { λ count. count.0 ≤ 1000000000000 };
+    ghost invariant = { λ count. count.0 ≤ TradeCount.GREATEST };
 }
 
 impl TradeCount {
@@ -22,7 +23,7 @@ impl TradeCount {
 
     /// So many trades, where they are within the limit.
     pub fn new(trades: u64) -> Option<TradeCount>
-        ensures { SomeIff result (trades ≤ 1000000000000) trades }
+        ensures { SomeIff result (trades ≤ TradeCount.GREATEST) trades }
     {
         if trades <= TradeCount::GREATEST {
             Some(TradeCount(trades))
@@ -33,7 +34,7 @@ impl TradeCount {
 
     pub fn get(self) -> u64
         ensures value { result ≡ self }
-        ensures high { self ≤ 1000000000000 }
+        ensures high { self ≤ TradeCount.GREATEST }
     {
         self.0
     }

@@ -1,4 +1,5 @@
 ghost use Rattle.std.specs.Prelude.{◌≡◌, ℕ, ◌≤◌, SomeIff, nat_abs, pos};
+ghost use Rattle.brk_money.specs.declared.amount.TheConstants.Amount;
 
 use crate::cents::Cents;
 use crate::wide::Wide;
@@ -15,7 +16,7 @@ impl Model for Amount {
 
     ghost inverse = { λ n. record { 0 = n } };
 
-    ghost invariant = { λ amount. amount.0 ≤ 100000000000000000 };
+    ghost invariant = { λ amount. amount.0 ≤ Amount.GREATEST };
 }
 
 impl Amount {
@@ -24,7 +25,7 @@ impl Amount {
 
     /// The amount of so many cents, where it is within the limit.
     pub fn new(cents: u64) -> Option<Amount>
-        ensures { SomeIff result (cents ≤ 100000000000000000) cents }
+        ensures { SomeIff result (cents ≤ Amount.GREATEST) cents }
     {
         if cents <= Amount::GREATEST {
             Some(Amount(cents))
@@ -35,7 +36,7 @@ impl Amount {
 
     pub fn get(self) -> u64
         ensures value { result ≡ self }
-        ensures high { self ≤ 100000000000000000 }
+        ensures high { self ≤ Amount.GREATEST }
     {
         self.0
     }
