@@ -14,7 +14,7 @@ use brk_ref::{
 };
 
 /// The change of one row.
-#[derive(Debug, Drop)]
+#[derive(Drop)]
 pub enum Change {
     /// A broker, with no trades and no commissions yet.
     AddBroker(Broker),

@@ -2,7 +2,7 @@ use brk_money::{Id, Price, Qty, TradeType};
 use brk_ref::Symbol;
 
 /// A trade that waits for its price (a row of TRADE_REQUEST).
-#[derive(Debug, Drop)]
+#[derive(Drop)]
 pub struct RequestRow {
     pub trade: Id,
     pub kind: TradeType,

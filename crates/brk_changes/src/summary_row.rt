@@ -3,7 +3,7 @@ use brk_ref::Symbol;
 
 /// How many shares of a security an account holds in all, below 0 where they were sold short (a row of
 /// HOLDING_SUMMARY).
-#[derive(Debug, Drop)]
+#[derive(Drop)]
 pub struct SummaryRow {
     pub account: Id,
     pub symbol: Symbol,

@@ -7,7 +7,7 @@ use brk_money::{Id, Price, Qty, Stamp, Status, TradeType};
 use brk_ref::{ChargeAmount, Symbol};
 
 /// A trade as it stands (a row of TRADE). It has a price once it is completed.
-#[derive(Debug, Drop)]
+#[derive(Drop)]
 pub struct TradeRow {
     pub id: Id,
     pub stamp: Stamp,

@@ -3,7 +3,7 @@ use brk_orders::{Completion, Feed, Order};
 use brk_trade::Reference;
 
 /// What the desk is told. A command is in form.
-#[derive(Debug, Drop)]
+#[derive(Drop)]
 pub enum Command {
     /// A record of reference data is added.
     Add(Reference),

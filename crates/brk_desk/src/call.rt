@@ -8,7 +8,7 @@ use brk_ref::Key;
 use brk_view::{Query, View};
 
 /// One call of a run.
-#[derive(Debug, Drop)]
+#[derive(Drop)]
 pub enum Call {
     /// A command is decided on, and booked where it is accepted; under a key it acts once.
     Do(Command, Option<Key>),
@@ -17,7 +17,7 @@ pub enum Call {
 }
 
 /// What came of a call.
-#[derive(Debug, Drop)]
+#[derive(Drop)]
 pub enum Outcome {
     /// The command was answered.
     Did(Answer),

@@ -17,7 +17,7 @@ use brk_ref::{
 use std::alloc::{AllocError, Global};
 
 /// A record of reference data that a command adds.
-#[derive(Debug, Drop)]
+#[derive(Drop)]
 pub enum Reference {
     Broker(Broker),
     Customer(Customer),

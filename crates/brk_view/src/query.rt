@@ -1,7 +1,7 @@
 use brk_orders::Order;
 
 /// What is asked of a desk. A query is in form.
-#[derive(Debug, Drop)]
+#[derive(Drop)]
 pub enum Query {
     /// The trades that are at the market.
     Submitted,

@@ -3,7 +3,7 @@ use brk_ref::Symbol;
 use brk_trade::Estimate;
 
 /// A trade that is at the market: it was sent there, and neither completed nor canceled.
-#[derive(Debug, Drop)]
+#[derive(Drop)]
 pub struct SubmittedTrade {
     pub id: Id,
     pub kind: TradeType,
@@ -15,7 +15,7 @@ pub struct SubmittedTrade {
 }
 
 /// What a query is answered with: records of texts, once `view_fields` writes them.
-#[derive(Debug, Drop)]
+#[derive(Drop)]
 pub enum View {
     /// The trades that are at the market, by rising id.
     Submitted(Vec<SubmittedTrade>),
