@@ -6,7 +6,7 @@ use brk_money::{Id, Price, Refusal};
 use brk_ref::{parse_id, parse_price};
 
 /// The completion of a submitted trade, as it is told of (Trade-Result).
-#[derive(Clone, Copy, Debug, PartialEq, Eq)]
+#[derive(Clone, Copy)]
 pub struct Completion {
     /// The trade that is completed.
     pub trade: Id,

@@ -13,7 +13,7 @@ use std::alloc::Global;
 use std::marker::Model;
 
 /// The ticks of a feed in their order, 1 to 20 of them.
-#[derive(Debug, Drop)]
+#[derive(Drop)]
 pub struct Feed {
     ticks: Vec<Tick>,
 }

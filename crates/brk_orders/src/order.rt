@@ -13,7 +13,7 @@ use brk_ref::{Executor, Name, Symbol, TaxId, parse_id, parse_price, parse_qty, p
 use std::alloc::Global;
 
 /// An order, as it is asked for (Trade-Order).
-#[derive(Debug, Drop)]
+#[derive(Drop)]
 pub struct Order {
     /// The account that it is for.
     pub account: Id,

@@ -9,7 +9,7 @@ use brk_ref::{Symbol, parse_price, parse_qty};
 use std::alloc::Global;
 
 /// A trade on the market, as a feed tells of it (Market-Feed).
-#[derive(Debug, Drop)]
+#[derive(Drop)]
 pub struct Tick {
     pub symbol: Symbol,
     /// The price of a share.

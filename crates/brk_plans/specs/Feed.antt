@@ -11,7 +11,7 @@ use Rattle.brk_model.specs.Limits.{greatest_amount}
 use Rattle.brk_model.specs.Lists.{update_where}
 use Rattle.brk_model.specs.Tests.{Test, first_refusal}
 use Rattle.brk_orders.specs.declared.tick.Tick.{Tick}
-use Rattle.brk_ref.specs.declared.security.LastTrade.{LastTrade}
+use Rattle.brk_ref.specs.declared.last_trade.LastTrade.{LastTrade}
 use Rattle.brk_plans.specs.Reference.{clock_test}
 use Rattle.brk_plans.specs.Waiting.{left_waiting}
 use Rattle.brk_changes.specs.declared.change.Change.{Change}

@@ -6,8 +6,8 @@ use Rattle.brk_money.specs.declared.refusal.Limit.TheVariants as limit
 use Rattle.brk_model.specs.Limits.{most_accounts, greatest_tax_rate}
 use Rattle.brk_model.specs.Tests.{Test, first_refusal, exists_if}
 use Rattle.brk_ref.specs.declared.band.Band.{Band}
-use Rattle.brk_ref.specs.declared.security.LastTrade.{LastTrade}
-use Rattle.brk_ref.specs.declared.security.Listing.{Listing}
+use Rattle.brk_ref.specs.declared.last_trade.LastTrade.{LastTrade}
+use Rattle.brk_ref.specs.declared.listing.Listing.{Listing}
 use Rattle.brk_changes.specs.declared.change.Change.{Change}
 use Rattle.brk_changes.specs.declared.change.Change.TheVariants as change
 use Rattle.brk_plans.specs.declared.plan.Plan.{Plan}

@@ -9,12 +9,12 @@ use Rattle.brk_ref.specs.declared.account.Account as account
 use Rattle.brk_ref.specs.declared.permission.Permission as permission
 use Rattle.brk_ref.specs.declared.executor.Executor as executor
 use Rattle.brk_ref.specs.declared.security.Security as security
-use Rattle.brk_ref.specs.declared.security.Listing as listing
-use Rattle.brk_ref.specs.declared.security.LastTrade as last_trade
+use Rattle.brk_ref.specs.declared.listing.Listing as listing
+use Rattle.brk_ref.specs.declared.last_trade.LastTrade as last_trade
 use Rattle.brk_ref.specs.declared.charge.Charge as charge
 use Rattle.brk_ref.specs.declared.band.Band as band
 use Rattle.brk_ref.specs.declared.tax.Tax as tax
-use Rattle.brk_ref.specs.declared.tax.CustomerTax as customer_tax
+use Rattle.brk_ref.specs.declared.customer_tax.CustomerTax as customer_tax
 use Rattle.brk_ref.specs.declared.key.Key as key
 use Rattle.brk_ref.specs.declared.key.Kept as kept
 

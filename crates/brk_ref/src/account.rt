@@ -7,10 +7,10 @@ ghost use Rattle.brk_ref.specs.Fields.{Reads, texts};
 use crate::name::Name;
 use crate::numbers::{parse_id, parse_opening, parse_tax_status};
 use brk_money::{Cents, Id, Planned, Refusal, TaxStatus};
-use std::alloc::{AllocError, Global};
+use std::alloc::Global;
 
 /// An account of a customer, looked after by a broker.
-#[derive(Debug, Drop)]
+#[derive(Clone, Drop)]
 pub struct Account {
     pub id: Id,
     pub customer: Id,
@@ -21,23 +21,8 @@ pub struct Account {
     pub opening: Cents,
 }
 
-impl Clone for Account {
-    ghost is_clone = { λ one other. other ≡ one };
-
-    fn clone(&self) -> Result<Account, AllocError> {
-        Ok(Account {
-            id: self.id,
-            customer: self.customer,
-            broker: self.broker,
-            name: self.name.clone()?,
-            tax_status: self.tax_status,
-            opening: self.opening,
-        })
-    }
-}
-
 /// A row of CUSTOMER_ACCOUNT: an account with its balance.
-#[derive(Debug, Drop)]
+#[derive(Drop)]
 pub struct AccountRow {
     pub account: Account,
     pub balance: Cents,

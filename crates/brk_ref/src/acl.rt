@@ -16,7 +16,7 @@ fn has_bits_only(text: &[u8]) -> bool
 }
 
 /// The form of what a permission allows.
-#[derive(Debug, Drop)]
+#[derive(Drop)]
 pub struct AclForm;
 
 impl Form for AclForm {

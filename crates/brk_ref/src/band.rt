@@ -13,11 +13,11 @@ use crate::numbers::{parse_qty, parse_rate};
 use crate::tier::Tier;
 use crate::trade_type::parse_type;
 use brk_money::{Planned, Qty, Rate, Refusal, TradeType};
-use std::alloc::{AllocError, Global};
+use std::alloc::Global;
 
 /// The commission rate of a tier, a type and an exchange for quantities within two bounds, both included (a row of
 /// COMMISSION_RATE).
-#[derive(Debug, Drop)]
+#[derive(Clone, Drop)]
 pub struct Band {
     pub tier: Tier,
     pub kind: TradeType,
@@ -25,21 +25,6 @@ pub struct Band {
     pub from_qty: Qty,
     pub to_qty: Qty,
     pub rate: Rate,
-}
-
-impl Clone for Band {
-    ghost is_clone = { λ one other. other ≡ one };
-
-    fn clone(&self) -> Result<Band, AllocError> {
-        Ok(Band {
-            tier: self.tier,
-            kind: self.kind,
-            exchange: self.exchange.clone()?,
-            from_qty: self.from_qty,
-            to_qty: self.to_qty,
-            rate: self.rate,
-        })
-    }
 }
 
 // The bounds that these texts are, in order.

@@ -17,7 +17,7 @@ fn has_letters_only(text: &[u8]) -> bool
 }
 
 /// The form of a batch's name.
-#[derive(Debug, Drop)]
+#[derive(Drop)]
 pub struct BatchNameForm;
 
 impl Form for BatchNameForm {

@@ -7,28 +7,17 @@ ghost use Rattle.brk_ref.specs.Fields.{Reads, texts};
 use crate::name::Name;
 use crate::numbers::parse_id;
 use brk_money::{Cents, Id, Planned, Refusal};
-use std::alloc::{AllocError, Global};
+use std::alloc::Global;
 
 /// A broker.
-#[derive(Debug, Drop)]
+#[derive(Clone, Drop)]
 pub struct Broker {
     pub id: Id,
     pub name: Name,
 }
 
-impl Clone for Broker {
-    ghost is_clone = { λ one other. other ≡ one };
-
-    fn clone(&self) -> Result<Broker, AllocError> {
-        Ok(Broker {
-            id: self.id,
-            name: self.name.clone()?,
-        })
-    }
-}
-
 /// A row of BROKER: a broker with the number of its completed trades and their commissions.
-#[derive(Debug, Drop)]
+#[derive(Drop)]
 pub struct BrokerRow {
     pub broker: Broker,
     pub trades: i64,

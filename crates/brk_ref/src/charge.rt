@@ -10,7 +10,7 @@ use crate::trade_type::parse_type;
 use brk_money::{Refusal, TradeType};
 
 /// What an order of a type costs a customer of a tier (a row of CHARGE).
-#[derive(Clone, Copy, Debug, PartialEq, Eq)]
+#[derive(Clone, Copy)]
 pub struct Charge {
     pub kind: TradeType,
     pub tier: Tier,

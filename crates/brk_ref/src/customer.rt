@@ -9,30 +9,16 @@ use crate::numbers::parse_id;
 use crate::tax_id::TaxId;
 use crate::tier::Tier;
 use brk_money::{Id, Planned, Refusal};
-use std::alloc::{AllocError, Global};
+use std::alloc::Global;
 
 /// A customer. No two customers have one tax id.
-#[derive(Debug, Drop)]
+#[derive(Clone, Drop)]
 pub struct Customer {
     pub id: Id,
     pub tier: Tier,
     pub tax_id: TaxId,
     pub last_name: Name,
     pub first_name: Name,
-}
-
-impl Clone for Customer {
-    ghost is_clone = { λ one other. other ≡ one };
-
-    fn clone(&self) -> Result<Customer, AllocError> {
-        Ok(Customer {
-            id: self.id,
-            tier: self.tier,
-            tax_id: self.tax_id.clone()?,
-            last_name: self.last_name.clone()?,
-            first_name: self.first_name.clone()?,
-        })
-    }
 }
 
 // The customer that these texts are.

@@ -17,7 +17,7 @@ fn has_letters_only(text: &[u8]) -> bool
 }
 
 /// The form of an exchange.
-#[derive(Debug, Drop)]
+#[derive(Drop)]
 pub struct ExchangeForm;
 
 impl Form for ExchangeForm {

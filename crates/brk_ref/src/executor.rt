@@ -2,7 +2,7 @@ use crate::name::Name;
 use crate::tax_id::TaxId;
 
 /// Who places an order.
-#[derive(Debug, Drop)]
+#[derive(Drop)]
 pub struct Executor {
     pub first_name: Name,
     pub last_name: Name,

@@ -17,7 +17,7 @@ fn has_no_control(text: &str) -> bool
 }
 
 /// The form of a name.
-#[derive(Debug, Drop)]
+#[derive(Drop)]
 pub struct NameForm;
 
 impl Form for NameForm {

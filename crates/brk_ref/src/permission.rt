@@ -12,30 +12,16 @@ use crate::name::Name;
 use crate::numbers::parse_id;
 use crate::tax_id::TaxId;
 use brk_money::{Id, Planned, Refusal};
-use std::alloc::{AllocError, Global};
+use std::alloc::Global;
 
 /// Somebody other than the customer who may order for an account (a row of ACCOUNT_PERMISSION).
-#[derive(Debug, Drop)]
+#[derive(Clone, Drop)]
 pub struct Permission {
     pub account: Id,
     pub acl: Acl,
     pub tax_id: TaxId,
     pub last_name: Name,
     pub first_name: Name,
-}
-
-impl Clone for Permission {
-    ghost is_clone = { λ one other. other ≡ one };
-
-    fn clone(&self) -> Result<Permission, AllocError> {
-        Ok(Permission {
-            account: self.account,
-            acl: self.acl.clone()?,
-            tax_id: self.tax_id.clone()?,
-            last_name: self.last_name.clone()?,
-            first_name: self.first_name.clone()?,
-        })
-    }
 }
 
 // The permission that these texts are.

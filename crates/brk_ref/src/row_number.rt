@@ -4,7 +4,7 @@ ghost use Rattle.brk_ref.specs.declared.row_number.TheConstants.RowNumber;
 use std::marker::Model;
 
 /// The number of a row within its batch (K_N), 1 to 10^12.
-#[derive(Clone, Copy, Debug, PartialEq, Eq)]
+#[derive(Clone, Copy)]
 pub struct RowNumber(u64);
 
 impl Model for RowNumber {

@@ -17,7 +17,7 @@ fn has_letters_only(text: &[u8]) -> bool
 }
 
 /// The form of a tax id.
-#[derive(Debug, Drop)]
+#[derive(Drop)]
 pub struct TaxIdForm;
 
 impl Form for TaxIdForm {

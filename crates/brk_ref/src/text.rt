@@ -21,7 +21,7 @@ pub trait Form {
 }
 
 /// A text of a form, which contracts see as its bytes.
-#[derive(Debug, Drop)]
+#[derive(Drop)]
 pub struct Text<F: Form> {
     text: String,
     form: PhantomData<F>,

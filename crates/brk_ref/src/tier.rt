@@ -7,7 +7,7 @@ use brk_money::parse_whole;
 use std::marker::Model;
 
 /// A customer's tier (C_TIER), 1 to 3: charges and commission rates go by it.
-#[derive(Clone, Copy, Debug, PartialEq, Eq)]
+#[derive(Clone, Copy, PartialEq, Eq)]
 pub struct Tier(u8);
 
 impl Model for Tier {

@@ -5,7 +5,7 @@ use brk_money::Cents;
 use std::marker::Model;
 
 /// How many shares of a security were traded on the market (LT_VOL), 0 to 10^17.
-#[derive(Clone, Copy, Debug, PartialEq, Eq)]
+#[derive(Clone, Copy)]
 pub struct Volume(u64);
 
 impl Model for Volume {

@@ -2,7 +2,7 @@ use Rattle.std.proofs.Common.{◌≡◌, Some, None, Option, map, option_map}
 use Rattle.brk_money.specs.declared.fault.Fault.{Fault}
 use Rattle.brk_model.specs.Tables.{Tables}
 use Rattle.brk_ref.specs.Records.{last_trade_of}
-use Rattle.brk_ref.specs.declared.security.LastTrade.{LastTrade}
+use Rattle.brk_ref.specs.declared.last_trade.LastTrade.{LastTrade}
 use Rattle.brk_changes.specs.Rows.{request_row_of}
 use Rattle.brk_plans.specs.declared.quote.Quote.{Quote}
 use Rattle.brk_trade_laws.specs.TradeReads.{last_trade_in, requests_of}

@@ -1,0 +1,29 @@
+ghost use Rattle.brk_model.specs.Parse.{read_customer_tax};
+ghost use Rattle.brk_ref.specs.Records.{customer_tax_of};
+ghost use Rattle.brk_ref.specs.Fields.{Reads, texts};
+
+use crate::numbers::parse_id;
+use brk_money::{Id, Refusal};
+
+/// A tax that a customer pays (a row of CUSTOMER_TAXRATE).
+#[derive(Clone, Copy)]
+pub struct CustomerTax {
+    pub customer: Id,
+    pub tax: Id,
+}
+
+/// The tax and who pays it that the fields CUSTOMER and TAXRATE are, or the refusal of their form. It takes no memory.
+pub fn check_customer_tax(fields: &[&[u8]]) -> Result<CustomerTax, Refusal>
+    ensures { Reads customer_tax_of result (read_customer_tax (texts fields.now)) }
+{
+    let [customer, tax] = fields else {
+        return Err(Refusal::BadText);
+    };
+    let Some(customer) = parse_id(customer) else {
+        return Err(Refusal::BadText);
+    };
+    let Some(tax) = parse_id(tax) else {
+        return Err(Refusal::BadText);
+    };
+    Ok(CustomerTax { customer, tax })
+}

@@ -1,0 +1,67 @@
+ghost use Rattle.std.specs.Prelude.{◌≡◌, ◌∷◌, [], IfOk, OnErr, Err};
+ghost use Rattle.brk_model.specs.Parse.{read_security};
+ghost use Rattle.brk_money.specs.declared.fault.Fault.TheVariants.{Memory};
+ghost use Rattle.brk_ref.specs.Records.{listing_of};
+ghost use Rattle.brk_ref.specs.Fields.{Reads, texts};
+
+use crate::exchange::Exchange;
+use crate::name::Name;
+use crate::numbers::parse_price;
+use crate::security::Security;
+use crate::symbol::Symbol;
+use brk_money::{Planned, Price, Refusal};
+use std::alloc::Global;
+
+/// A security as it is listed, with its first price.
+#[derive(Drop)]
+pub struct Listing {
+    pub security: Security,
+    pub price: Price,
+}
+
+// The security that these texts are.
+fn listing_from(
+    alloc: Global,
+    symbol: &[u8],
+    name: &[u8],
+    exchange: &[u8],
+    sector: &[u8],
+    price: &[u8],
+) -> Planned<Listing>
+    ensures read { IfOk result (λ read. Reads listing_of read (read_security (symbol.now ∷ name.now ∷ exchange.now ∷ sector.now ∷ price.now ∷ []))) }
+    ensures fault { OnErr result (result ≡ Err Memory) }
+{
+    let Some(symbol) = Symbol::parse(alloc, symbol)? else {
+        return Ok(Err(Refusal::BadText));
+    };
+    let Some(name) = Name::parse(alloc, name)? else {
+        return Ok(Err(Refusal::BadText));
+    };
+    let Some(exchange) = Exchange::parse(alloc, exchange)? else {
+        return Ok(Err(Refusal::BadText));
+    };
+    let Some(sector) = Name::parse(alloc, sector)? else {
+        return Ok(Err(Refusal::BadText));
+    };
+    let Some(price) = parse_price(price) else {
+        return Ok(Err(Refusal::BadPrice));
+    };
+    let security = Security {
+        symbol,
+        name,
+        exchange,
+        sector,
+    };
+    Ok(Ok(Listing { security, price }))
+}
+
+/// The security that the fields SYMBOL, NAME, EXCHANGE, SECTOR and PRICE are, or the refusal of their form.
+pub fn check_security(alloc: Global, fields: &[&[u8]]) -> Planned<Listing>
+    ensures read { IfOk result (λ read. Reads listing_of read (read_security (texts fields.now))) }
+    ensures fault { OnErr result (result ≡ Err Memory) }
+{
+    let [symbol, name, exchange, sector, price] = fields else {
+        return Ok(Err(Refusal::BadText));
+    };
+    listing_from(alloc, symbol, name, exchange, sector, price)
+}
