@@ -19,9 +19,16 @@ fn read(alloc: Global, words: &[&str]) -> Result<Result<Job, UsageFault>, Fail> 
 fn reads_a_batch(rt: HostRuntime) -> Result<(), Fail> {
     let job = read(rt.alloc(), &["brk", "batch"])?.map_err(|_| "refused")?;
     assert!(rt; job == Job::Batch { at: None });
-    let job = read(rt.alloc(), &["brk", "batch", "--at", "1709251200000"])?.map_err(|_| "refused")?;
-    let at = Stamp::new(1_709_251_200_000);
-    assert!(rt; job == Job::Batch { at });
+    for (text, millis) in [
+        ("0", 0),
+        ("1709251200000", 1_709_251_200_000),
+        ("253402300799999", 253_402_300_799_999),
+    ] {
+        let words = ["brk", "batch", "--at", text];
+        let job = read(rt.alloc(), &words)?.map_err(|_| "refused")?;
+        let at = Stamp::new(millis);
+        assert!(rt; at.is_some() && job == Job::Batch { at }, "{text}");
+    }
     Ok(())
 }
 

@@ -8,12 +8,9 @@ ghost use Rattle.brk_import.specs.declared.tests.Asked.TheVariants as asks;
 use crate::answer::RowAnswer;
 use crate::engine::run;
 use crate::rows::Rows;
-use crate::{BatchFault, Clock, Counts, FaultKind, MOST_BYTES, run_batch};
-use brk_desk::Desk;
+use crate::{BatchFault, Clock, Counts, FaultKind, MOST_BYTES};
 use brk_money::{Fault, Limit, Planned, Refusal, Stamp};
 use brk_ref::BatchName;
-use brk_store::Store;
-use sqlite::Connection;
 use std::alloc::{AllocError, Global};
 use std::io;
 use std::io::{Read, Write};
@@ -288,7 +285,7 @@ fn the_last_row_of_a_cut_input_does_not_act(rt: HostRuntime) -> Result<(), Fail>
 
 #[test]
 fn what_is_no_header_is_refused(rt: HostRuntime) -> Result<(), Fail> {
-    let bad: [&[u8]; 9] = [
+    let bad: [&[u8]; 13] = [
         b"",
         b"\n\r\n",
         b"\x00\xff\xfe no csv at all",
@@ -296,7 +293,11 @@ fn what_is_no_header_is_refused(rt: HostRuntime) -> Result<(), Fail> {
         b"batch\nend,0\n",
         b"batch,\nend,0\n",
         b"batch,A,B\nend,0\n",
+        b"batch,A,\nend,0\n",
         b"batch,A B\nend,0\n",
+        b"batch,A/B\nend,0\n",
+        b"batch,\xc3\x84\nend,0\n",
+        b"Batch,A\nend,0\n",
         b"batch,12345678901234567890123456789012345678901\nend,0\n",
     ];
     for text in bad {
@@ -405,42 +406,5 @@ fn only_the_first_bytes_are_read(rt: HostRuntime) -> Result<(), Fail> {
     let (done, out) = ran(rt.alloc(), whole)?;
     assert!(rt; done.is_ok());
     assert!(rt; out.as_slice() == b"1,ok,7\nend,1,0,0\n".as_slice());
-    Ok(())
-}
-
-// Runs a batch over a desk in memory at the first moment of 2024-03-01, and tells how it ended and what was written.
-fn booked(alloc: Global, text: &[u8]) -> Result<(Result<Counts, BatchFault>, Vec<u8>), Fail> {
-    let store = Store::create(Connection::open_in_memory(alloc)?).map_err(|_| "no store")?;
-    let mut desk = Desk::new(store);
-    let mut clock = Fixed {
-        at: Stamp::new(1709251200000).ok_or("a stamp")?,
-    };
-    let mut out = Vec::new(alloc);
-    let done = run_batch(alloc, text, &mut out, &mut clock, &mut desk);
-    Ok((done, out))
-}
-
-const FIRST_RUN: &[u8] =
-    b"batch,A\nbroker,1,Bo\ncustomer,10,1,T10,Lee,Ann\naccount,100,10,1,Main,1,10000.00\naccount,101,11,1,Side,0,0.00\nend,4\n";
-
-#[test]
-fn a_desk_in_memory_books_the_rows(rt: HostRuntime) -> Result<(), Fail> {
-    let (done, out) = booked(rt.alloc(), FIRST_RUN)?;
-    assert!(rt;
-        done == Ok(Counts {
-            ok: 3,
-            again: 0,
-            no: 1
-        })
-    );
-    let lines = b"1,ok,1709251200000\n2,ok,1709251200001\n3,ok,1709251200002\n4,no,2\nend,3,0,1\n";
-    assert!(rt; out.as_slice() == lines.as_slice());
-    let (done, out) = booked(rt.alloc(), b"batch,Z\nend,0\n")?;
-    assert!(rt; done.is_ok());
-    assert!(rt; out.as_slice() == b"end,0,0,0\n".as_slice());
-    let (done, out) = booked(rt.alloc(), b"batch,C\nbroker,2,Cy\nbroker,3\nbroker,4,D")?;
-    assert!(rt; done == fault(3, FaultKind::NoEnd));
-    let lines = b"1,ok,1709251200000\n2,no,18\n3,no,18\n";
-    assert!(rt; out.as_slice() == lines.as_slice());
     Ok(())
 }

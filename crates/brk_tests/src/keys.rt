@@ -50,25 +50,25 @@ const FORM_THEN_THE_KEY_THEN_THE_DESK: [Step; 5] = [
 
 const THE_SAME_ROWS_UNDER_ANOTHER_NAME: [Step; 1] = [Step::Done(
     b"batch,set\n\
-        broker,1,Bo\n\
-        customer,10,1,T10,Lee,Ann\n\
-        account,100,10,1,Main,1,10000.00\n\
-        security,ABC,Acme,NYSE,Tech,10.00\n\
-        charge,TMB,1,5.00\n\
-        charge,TMS,1,5.00\n\
-        charge,TSL,1,5.00\n\
-        charge,TLS,1,5.00\n\
-        charge,TLB,1,5.00\n\
-        band,1,TMB,NYSE,1,999999,100\n\
-        band,1,TMS,NYSE,1,999999,100\n\
-        band,1,TSL,NYSE,1,999999,100\n\
-        band,1,TLS,NYSE,1,999999,100\n\
-        band,1,TLB,NYSE,1,999999,100\n\
-        taxrate,1,State,20000\n\
-        custtax,10,1\n\
-        end,16\n",
+    broker,1,Bo\n\
+    customer,10,1,T10,Lee,Ann\n\
+    account,100,10,1,Main,1,10000.00\n\
+    security,ABC,Acme,NYSE,Tech,10.00\n\
+    charge,TMB,1,5.00\n\
+    charge,TMS,1,5.00\n\
+    charge,TSL,1,5.00\n\
+    charge,TLS,1,5.00\n\
+    charge,TLB,1,5.00\n\
+    band,1,TMB,NYSE,1,999999,100\n\
+    band,1,TMS,NYSE,1,999999,100\n\
+    band,1,TSL,NYSE,1,999999,100\n\
+    band,1,TLS,NYSE,1,999999,100\n\
+    band,1,TLB,NYSE,1,999999,100\n\
+    taxrate,1,State,20000\n\
+    custtax,10,1\n\
+    end,16\n",
     "1,no,15\n2,no,15\n3,no,15\n4,no,15\n5,no,15\n6,no,15\n7,no,15\n8,no,15\n9,no,15\n\
-        10,no,16\n11,no,16\n12,no,16\n13,no,16\n14,no,16\n15,no,15\n16,no,15\nend,0,0,16\n",
+    10,no,16\n11,no,16\n12,no,16\n13,no,16\n14,no,16\n15,no,15\n16,no,15\nend,0,0,16\n",
 )];
 
 const A_REFUSED_ROW_KEEPS_NO_KEY: [Step; 4] = [

@@ -45,41 +45,41 @@ const A_CHANGED_ROW_UNDER_A_KEPT_KEY: [Step; 3] = [
 
 const WHAT_IS_REFUSED_AFTER_THE_SETTING: [Step; 1] = [Step::Done(
     b"batch,K\n\
-        band,1,TMB,NYSE,999999,999999,50\n\
-        band,1,TMB,NYSE,2,1,50\n\
-        taxrate,2,Fed,80001\n\
-        custtax,10,2\n\
-        custtax,10,3\n\
-        custtax,11,1\n\
-        customer,11,1,T10,Kay,Kim\n\
-        permission,100,0002,T12,Lee,Ann\n\
-        security,XYZ,Xyz,NYSE,Tech,0.00\n\
-        charge,TMX,1,5.00\n\
-        charge,TMB,2,10000.01\n\
-        end,11\n",
+    band,1,TMB,NYSE,999999,999999,50\n\
+    band,1,TMB,NYSE,2,1,50\n\
+    taxrate,2,Fed,80001\n\
+    custtax,10,2\n\
+    custtax,10,3\n\
+    custtax,11,1\n\
+    customer,11,1,T10,Kay,Kim\n\
+    permission,100,0002,T12,Lee,Ann\n\
+    security,XYZ,Xyz,NYSE,Tech,0.00\n\
+    charge,TMX,1,5.00\n\
+    charge,TMB,2,10000.01\n\
+    end,11\n",
     "1,no,16\n2,no,8\n3,ok,1709251200016\n4,no,17\n5,no,12\n6,no,2\n7,no,15\n8,no,18\n\
-        9,no,9\n10,no,7\n11,no,18\nend,1,0,10\n",
+    9,no,9\n10,no,7\n11,no,18\nend,1,0,10\n",
 )];
 
 const THE_SAME_ROWS_SPELLED_WITH_QUOTES: [Step; 1] = [Step::Done(
     b"\xef\xbb\xbf\"batch\",\"SET\"\r\n\
-        \"broker\",\"1\",\"Bo\"\r\n\
-        \"customer\",\"10\",\"1\",\"T10\",\"Lee\",\"Ann\"\r\n\
-        \"account\",\"100\",\"10\",\"1\",\"Main\",\"1\",\"10000.00\"\r\n\
-        \"security\",\"ABC\",\"Acme\",\"NYSE\",\"Tech\",\"10.00\"\r\n\
-        \"charge\",\"TMB\",\"1\",\"5.00\"\r\n\
-        \"charge\",\"TMS\",\"1\",\"5.00\"\r\n\
-        \"charge\",\"TSL\",\"1\",\"5.00\"\r\n\
-        \"charge\",\"TLS\",\"1\",\"5.00\"\r\n\
-        \"charge\",\"TLB\",\"1\",\"5.00\"\r\n\
-        \"band\",\"1\",\"TMB\",\"NYSE\",\"1\",\"999999\",\"100\"\r\n\
-        \"band\",\"1\",\"TMS\",\"NYSE\",\"1\",\"999999\",\"100\"\r\n\
-        \"band\",\"1\",\"TSL\",\"NYSE\",\"1\",\"999999\",\"100\"\r\n\
-        \"band\",\"1\",\"TLS\",\"NYSE\",\"1\",\"999999\",\"100\"\r\n\
-        \"band\",\"1\",\"TLB\",\"NYSE\",\"1\",\"999999\",\"100\"\r\n\
-        \"taxrate\",\"1\",\"State\",\"20000\"\r\n\
-        \"custtax\",\"10\",\"1\"\r\n\
-        \"end\",\"16\"\r\n",
+    \"broker\",\"1\",\"Bo\"\r\n\
+    \"customer\",\"10\",\"1\",\"T10\",\"Lee\",\"Ann\"\r\n\
+    \"account\",\"100\",\"10\",\"1\",\"Main\",\"1\",\"10000.00\"\r\n\
+    \"security\",\"ABC\",\"Acme\",\"NYSE\",\"Tech\",\"10.00\"\r\n\
+    \"charge\",\"TMB\",\"1\",\"5.00\"\r\n\
+    \"charge\",\"TMS\",\"1\",\"5.00\"\r\n\
+    \"charge\",\"TSL\",\"1\",\"5.00\"\r\n\
+    \"charge\",\"TLS\",\"1\",\"5.00\"\r\n\
+    \"charge\",\"TLB\",\"1\",\"5.00\"\r\n\
+    \"band\",\"1\",\"TMB\",\"NYSE\",\"1\",\"999999\",\"100\"\r\n\
+    \"band\",\"1\",\"TMS\",\"NYSE\",\"1\",\"999999\",\"100\"\r\n\
+    \"band\",\"1\",\"TSL\",\"NYSE\",\"1\",\"999999\",\"100\"\r\n\
+    \"band\",\"1\",\"TLS\",\"NYSE\",\"1\",\"999999\",\"100\"\r\n\
+    \"band\",\"1\",\"TLB\",\"NYSE\",\"1\",\"999999\",\"100\"\r\n\
+    \"taxrate\",\"1\",\"State\",\"20000\"\r\n\
+    \"custtax\",\"10\",\"1\"\r\n\
+    \"end\",\"16\"\r\n",
     SET_AGAIN,
 )];
 
