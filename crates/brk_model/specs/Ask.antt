@@ -30,7 +30,7 @@ query_tests base (TradesOfSymbol symbol first last) = lacks_security base symbol
 query_tests base (LotsTouched account first) = lacks_account base account ∷ []
 query_tests base (VolumeOf sector names) = []
 
--- the view of a query that is not refused
+-- a query: why it is refused, or its view
 unfoldable pub answer_of : Base → Query → View
 answer_of base (EstimateOf order) = estimate_fields (estimate base order) ∷ []
 answer_of base query = view_of (tables_of base) query
@@ -61,7 +61,7 @@ abbrev pub read_lots : List Text → Read Query
 read_lots (account ∷ first ∷ []) = Ok (λ a f. LotsTouched a f) ⊛ read_id account ⊛ read_stamp first
 read_lots _ = Err BadText
 
--- broker names, each counted once
+-- a sector and broker names, each counted once
 abbrev pub read_names : List Text → Read (List Text)
 read_names names = then_read (λ ns. some_of (distinct_texts ns)) (read_each read_name names)
 

@@ -70,7 +70,7 @@ kept_form k = is_batch_name k.key.batch && is_id k.key.row
 abbrev pub broker_form : BrokerRow → Bool
 broker_form b = is_id b.id && is_name b.name && nat_le b.commissions greatest_amount
 
--- the columns of CUSTOMER have their forms; a row names no other one
+-- the columns of CUSTOMER have their forms, and what a row names is there
 abbrev pub customer_form : Customer → Bool
 customer_form c = is_id c.id && is_tier c.tier && is_tax_id c.tax_id && is_name c.last_name && is_name c.first_name
 
@@ -92,15 +92,15 @@ security_form t s =
 abbrev pub last_trade_form : Tables → LastTradeRow → Bool
 last_trade_form t l = has_security t l.symbol && is_stamp t l.stamp && is_price l.price && nat_le l.volume greatest_amount
 
--- the columns of CHARGE have their forms; a row names no other one
+-- the columns of CHARGE have their forms, and what a row names is there
 abbrev pub charge_form : Charge → Bool
 charge_form c = is_tier c.tier && nat_le c.amount greatest_charge
 
--- the columns of COMMISSION_RATE have their forms; a row names no other one
+-- the columns of COMMISSION_RATE have their forms, and what a row names is there
 abbrev pub band_form : Band → Bool
 band_form b = is_tier b.tier && is_exchange b.exchange && is_qty b.from_qty && is_qty b.to_qty && nat_le b.from_qty b.to_qty && nat_le b.rate greatest_rate
 
--- the columns of TAXRATE have their forms; a row names no other one
+-- the columns of TAXRATE have their forms, and what a row names is there
 abbrev pub tax_rate_form : TaxRate → Bool
 tax_rate_form r = is_id r.id && is_name r.name && nat_le r.rate greatest_tax_rate
 
@@ -163,7 +163,7 @@ abbrev pub no_overlap : List Band → Bool
 no_overlap [] = true
 no_overlap (b ∷ bands) = not (list_any (bands_meet b) bands) && no_overlap bands
 
--- two lists of numbers are the same; so trades are numbered from 1, in order
+-- the trades are numbered from 1, in order
 abbrev pub same_numbers : List ℕ → List ℕ → Bool
 same_numbers [] [] = true
 same_numbers (m ∷ ms) (n ∷ ns) = (m == n) && same_numbers ms ns

@@ -193,7 +193,7 @@ abbrev pub some_of : {A : Type 0} → List A → Read (List A)
 some_of [] = Err BadText
 some_of (x ∷ xs) = if nat_le (length (x ∷ xs)) 20 then Ok (x ∷ xs) else Err TooMany
 
--- what a second test reads of values that were read
+-- the values, where they are also from 1 to 20
 abbrev pub then_read : {A B : Type 0} → (A → Read B) → Read A → Read B
 then_read check (Ok x) = check x
 then_read check (Err refusal) = Err refusal

@@ -19,7 +19,7 @@ settlement_record s = codes "settlement" ∷ s.cash_type ∷ day_text s.due_day 
 abbrev pub cash_record : CashRow → List Text
 cash_record c = codes "cash" ∷ decimal c.stamp ∷ cents_text c.amount ∷ c.name ∷ []
 
--- a trade in fifteen fields, the word `trade` first
+-- a trade in sixteen fields
 abbrev pub trade_record : TradeRow → List Text
 trade_record t =
     codes "trade" ∷ decimal t.id ∷ decimal t.stamp ∷ status_code t.status ∷ type_code t.kind ∷ t.symbol ∷ decimal t.qty ∷ price_text t.bid ∷ t.executor

@@ -1,4 +1,4 @@
--- The tables: one list of rows for each, in the order of acceptance. That two which hold the same rows are the same lists is true by rising key (Sheets).
+-- The tables: one list of rows for each, in the order of acceptance. Two that hold the same rows are the same table.
 use Rattle.std.specs.Prelude.{ℕ, Bool, not, List, [], ◌∷◌, map, filter, flat_map, Option, None, ℤ, pos, ◌-ℤ◌}
 use Rattle.std.specs.Option.{option_map_or}
 use Rattle.brk_money.specs.Spelling.{Text}

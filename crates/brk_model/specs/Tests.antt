@@ -31,19 +31,19 @@ first_refusal tests = option_map (λ test. test.1) (find (λ test. test.0) tests
 abbrev pub next_stamp : Base → ℕ → ℕ
 next_stamp base now = option_map_or (λ last. max now (last + 1)) base.last now
 
--- no such account is there: what a command names has to be
+-- what a command names has to be there: an account
 abbrev pub lacks_account : Base → ℕ → Test
 lacks_account base id = (is_none (account_with base id), NoAccount)
 
--- no such customer is there
+-- a customer is there
 abbrev pub lacks_customer : Base → ℕ → Test
 lacks_customer base id = (is_none (customer_with base id), NoCustomer)
 
--- no such broker is there
+-- a broker is there
 abbrev pub lacks_broker : Base → ℕ → Test
 lacks_broker base id = (is_none (broker_with base id), NoBroker)
 
--- no such security is there
+-- a security is there
 abbrev pub lacks_security : Base → Text → Test
 lacks_security base symbol = (is_none (security_with base symbol), NoSecurity)
 
