@@ -34,7 +34,7 @@ FILES = {
 NAMES = {
     'Amounts': {'own': 'half_up'},
     'Kinds': {
-        'own': 'limit_word refusal_number refusal_words refusal_fields refusal_text condition_word',
+        'own': 'limit_word refusal_number refusal_words refusal_fields refusal_text condition_word fault_number',
         '—': 'same_type same_status same_side',
     },
     'Records': {'own': 'Key Kept', 'Trade-Order': 'Executor'},
