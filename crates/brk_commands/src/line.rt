@@ -10,7 +10,6 @@ ghost use Rattle.brk_money.specs.Spelling as spelling;
 ghost use Rattle.brk_money.specs.declared.fault.Fault.TheVariants.{Memory};
 ghost use Rattle.brk_plans.specs.Replies.{completion_of, estimate_of, reply_of};
 
-use crate::row::amount;
 use brk_money::{Day, Fault, Id, Stamp, Wide, write_day};
 use brk_trade::{Completed, Estimate, Ordered, Reply};
 use itoa::Buffer;
@@ -30,7 +29,7 @@ fn add_estimate(line: &mut String, estimate: &Estimate) -> Result<(), AllocError
     write!(
         line,
         ",{},{},{},{},{},{},{}",
-        amount(estimate.price.get()),
+        Wide::from(estimate.price),
         Wide::from(estimate.buy_value),
         Wide::from(estimate.sell_value),
         Wide::from(estimate.tax),

@@ -9,8 +9,7 @@ ghost use Rattle.brk_model.specs.Rows as model;
 ghost use Rattle.brk_orders.specs.Records.{order_of, result_of, tick_of, ticks_of};
 ghost use Rattle.brk_commands.specs.Fields.{more_fields};
 
-use crate::row::amount;
-use brk_money::{Id, Price};
+use brk_money::{Id, Price, Wide};
 use brk_orders::{Completion, Order, Tick};
 use std::alloc::{AllocError, Global};
 
@@ -46,7 +45,7 @@ fn add_price(row: &mut String, price: Option<Price>) -> Result<(), AllocError>
     ensures { OnOk result (string_bytes row.new ≡ string_bytes row.old ++ more_fields 31 (option_map_or model.price_text price [] ∷ [])) }
 {
     match price {
-        Some(price) => write!(row, "\x1f{}", amount(price.get())),
+        Some(price) => write!(row, "\x1f{}", Wide::from(price)),
         None => row.push_str("\x1f"),
     }
 }
@@ -84,7 +83,7 @@ fn add_tick(row: &mut String, tick: &Tick) -> Result<(), AllocError>
         row,
         "\x1f{}\x1f{}\x1f{}",
         tick.symbol.as_str(),
-        amount(tick.price.get()),
+        Wide::from(tick.price),
         tick.qty.get()
     )
 }
@@ -114,6 +113,6 @@ pub fn result_text(alloc: Global, completion: &Completion) -> Result<String, All
     format!(in alloc;
         "result\x1f{}\x1f{}",
         completion.trade.get(),
-        amount(completion.price.get())
+        Wide::from(completion.price)
     )
 }

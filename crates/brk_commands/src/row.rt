@@ -1,7 +1,7 @@
 //! The texts of commands that are kept with their keys.
 #![tactic(auto, unfolding(brk_model::specs::Rows::row_fields))]
 
-ghost use Rattle.std.specs.Prelude.{◌≡◌, IfOk, OnErr, Err, pos, string_bytes};
+ghost use Rattle.std.specs.Prelude.{◌≡◌, IfOk, OnErr, Err, string_bytes};
 ghost use Rattle.brk_trade_laws.specs.Commands as books;
 ghost use Rattle.brk_commands.specs.Commands.{command_of};
 ghost use Rattle.brk_model.specs.Commands.{AddAccount, AddBand, AddBroker, AddCharge, AddCustomer, AddCustomerTax, AddPermission, AddSecurity, AddTaxRate};
@@ -62,13 +62,6 @@ fn permission_text(alloc: Global, permission: &Permission) -> Result<String, All
     )
 }
 
-// An amount of cents that is not below 0, as it is printed.
-pub(crate) fn amount(cents: u32) -> Wide
-    ensures { result ≡ pos cents }
-{
-    Wide::new(i128::from(cents))
-}
-
 fn security_text(alloc: Global, listing: &Listing) -> Result<String, AllocError>
     ensures { IfOk result (λ row. string_bytes row ≡ model.row_text (AddSecurity (listing_of listing.now))) }
 {
@@ -79,7 +72,7 @@ fn security_text(alloc: Global, listing: &Listing) -> Result<String, AllocError>
         security.name.as_str(),
         security.exchange.as_str(),
         security.sector.as_str(),
-        amount(listing.price.get())
+        Wide::from(listing.price)
     )
 }
 
@@ -90,7 +83,7 @@ fn charge_text(alloc: Global, charge: &Charge) -> Result<String, AllocError>
         "charge\x1f{}\x1f{}\x1f{}",
         charge.kind.code(),
         charge.tier.get(),
-        amount(charge.amount.get())
+        Wide::new(i128::from(charge.amount.get()))
     )
 }
 

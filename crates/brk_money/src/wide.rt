@@ -1,9 +1,10 @@
-ghost use Rattle.std.specs.Prelude.{◌≡◌, ◌++◌, ℤ, OnOk, OnErr, Err, Some};
+ghost use Rattle.std.specs.Prelude.{◌≡◌, ◌++◌, ℤ, pos, OnOk, OnErr, Err, Some};
 ghost use Rattle.brk_money.specs.Spelling.{cents_text};
 ghost use Rattle.brk_money.specs.declared.fault.Fault.TheVariants.{Memory};
 
 use crate::cents::Cents;
 use crate::fault::Fault;
+use crate::price::Price;
 use itoa::Buffer;
 use std::fmt;
 use std::marker::Model;
@@ -39,6 +40,14 @@ impl From<Cents> for Wide {
 
     fn from(cents: Cents) -> Wide {
         Wide(i128::from(cents.get()))
+    }
+}
+
+impl From<Price> for Wide {
+    ghost from_gives = { λ price wide. wide ≡ pos price };
+
+    fn from(price: Price) -> Wide {
+        Wide(i128::from(price.get()))
     }
 }
 

@@ -1,6 +1,6 @@
 //! The texts of a view.
 
-ghost use Rattle.std.specs.Prelude.{◌≡◌, ◌∷◌, [], IfOk, OnErr, Err, decimal, map, pos, string_bytes};
+ghost use Rattle.std.specs.Prelude.{◌≡◌, ◌∷◌, [], IfOk, OnErr, Err, decimal, map, string_bytes};
 ghost use Rattle.brk_plans.specs.Replies.{told};
 ghost use Rattle.brk_model.specs.Commands as model;
 ghost use Rattle.brk_model.specs.Rows.{estimate_fields};
@@ -10,16 +10,9 @@ ghost use Rattle.brk_view.specs.Views.{estimate_record, fields_of, record_of, re
 ghost use Rattle.brk_view.specs.declared.view.View.TheVariants as views;
 
 use crate::view::{SubmittedTrade, View};
-use brk_money::{Fault, Price, Wide};
+use brk_money::{Fault, Wide};
 use brk_trade::Estimate;
 use std::alloc::Global;
-
-// A price as an amount.
-fn amount_of(price: Price) -> Wide
-    ensures { result ≡ pos price }
-{
-    Wide::new(i128::from(price.get()))
-}
 
 // A number, as it is printed.
 fn number_text(alloc: Global, number: u64) -> Result<String, Fault>
@@ -60,7 +53,7 @@ fn trade_texts(alloc: Global, trade: &SubmittedTrade) -> Result<Vec<String>, Fau
     texts.push(String::from_str(alloc, trade.kind.code())?)?;
     texts.push(String::from_str(alloc, trade.symbol.as_str())?)?;
     texts.push(number_text(alloc, u64::from(trade.qty.get()))?)?;
-    texts.push(amount_text(alloc, amount_of(trade.bid))?)?;
+    texts.push(amount_text(alloc, Wide::from(trade.bid))?)?;
     Ok(texts)
 }
 
@@ -83,7 +76,7 @@ fn estimate_records(alloc: Global, estimate: &Estimate) -> Result<Vec<Vec<String
     ensures fault { OnErr result (result ≡ Err Memory) }
 {
     let amounts = [
-        amount_of(estimate.price),
+        Wide::from(estimate.price),
         Wide::from(estimate.buy_value),
         Wide::from(estimate.sell_value),
         Wide::from(estimate.tax),
