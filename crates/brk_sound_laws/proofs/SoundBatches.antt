@@ -14,12 +14,19 @@ use Rattle.brk_model.specs.Formed.{IsFormed}
 use Rattle.brk_model.specs.Forms.{Read, is_batch_name}
 use Rattle.brk_model.specs.Parse.{parse_row}
 use Rattle.brk_model.specs.Rows.{row_fields}
+use Rattle.brk_model.specs.Run.{Ask, Call, Do}
 use Rattle.brk_sound_laws.specs.InForm.{IsInForm, IsKeyInForm}
+use Rattle.brk_sound_laws.specs.Runs.{IsCallInForm, IsFormedCall}
 use Rattle.brk_sound_laws.proofs.Parsed.{parsed_in_form}
 use Rattle.brk_sound_laws.proofs.SoundRuns.{Both, keyed_both}
 
 pub formed_in_form : (command : Command) → IsFormed command → IsInForm command
 formed_in_form command e = subst (λ r. IfOk r IsInForm) e (parsed_in_form (row_fields command))
+
+pub formed_calls : (calls : List (ℕ × Call)) → AllByRecursion IsFormedCall calls → AllByRecursion IsCallInForm calls
+formed_calls [] f = tt
+formed_calls ((now, Do command key) ∷ calls) f = ((formed_in_form command f.0.0, f.0.1), formed_calls calls f.1)
+formed_calls ((now, Ask query) ∷ calls) f = (tt, formed_calls calls f.1)
 
 -- the rows that were read, with numbers that a row may have
 formed_all : (n : ℕ) (rows : List Fields) → 1 ≤ n → n + length rows ≤ greatest_id + 1 → AllByRecursion (λ r. IsInForm r.1 × (is_id r.0 ≡ true)) (formed_from parse_row n rows)

@@ -23,7 +23,7 @@ ghost use Rattle.brk_trade_laws.specs.Books.{IsBooks};
 ghost use Rattle.brk_adoption_laws.specs.Passing.{Passes};
 ghost use Rattle.brk_adoption_laws.specs.Told.{IsTold};
 ghost use Rattle.brk_sound_laws.specs.InForm.{IsInForm, IsKeyInForm};
-ghost use Rattle.brk_sound_laws.specs.Runs.{IsCallInForm};
+ghost use Rattle.brk_sound_laws.specs.Runs.{IsCallInForm, IsFormedCall};
 ghost use Rattle.brk_sound_laws.specs.Sound.{IsSound};
 
 /// The tables of sound books have form and tell their trades as they went, so that they pass an audit; and nothing less does.
@@ -53,7 +53,7 @@ pub fn commands_keep_books_sound()
 {}
 
 /// A run of calls in form leads from sound books to sound ones, so that what it leaves passes an audit: from the empty base, and from the base
-/// of rows that passed one.
+/// of rows that passed one. Calls whose rows are read as themselves are in form.
 pub fn runs_end_in_tables_that_pass()
     ensures sound { (base : Base) (calls : List (ℕ × Call)) (outcomes : List Outcome) (after : Base)
         → IsBooks base → IsSound base → AllByRecursion IsCallInForm calls → Run base calls outcomes after → IsSound after }
@@ -61,6 +61,8 @@ pub fn runs_end_in_tables_that_pass()
         → AllByRecursion IsCallInForm calls → Run empty_base calls outcomes after → Passes (sheets after) }
     ensures adopted { (rows : Tables) (calls : List (ℕ × Call)) (outcomes : List Outcome) (after : Base)
         → Passes rows → AllByRecursion IsCallInForm calls → Run (base_of rows) calls outcomes after → Passes (sheets after) }
+    ensures formed { (calls : List (ℕ × Call)) (outcomes : List Outcome) (after : Base)
+        → AllByRecursion IsFormedCall calls → Run empty_base calls outcomes after → Passes (sheets after) }
 {}
 
 /// A row that is read gives a command in form, and so does each command whose row is read as itself.

@@ -25,6 +25,7 @@ use Rattle.brk_trade_laws.specs.Books.{DistinctAccounts, IsBooks}
 use Rattle.brk_trade_laws.specs.Sums.{AddUp, IsBalance, IsBrokerSum, IsSummary, IsSummed, held_in, is_lot_of}
 use Rattle.brk_trade_laws.specs.TradeReads.{lots_in, position_in, row_lot}
 use Rattle.brk_trade_laws.proofs.Bools.{numbers_back}
+use Rattle.brk_trade_laws.proofs.LotLives.{lots_live_on}
 use Rattle.brk_trade_laws.proofs.LotOrder.{position_read}
 use Rattle.brk_trade_laws.proofs.LotReading.{All-sort, holdings_in_order, is_left}
 use Rattle.brk_trade_laws.proofs.NewKeys.{and_both, same_bytes}
@@ -263,4 +264,5 @@ sums_add_up base books = record {
   summaries = summaries_add base books;
   summed = all_summed base books;
   positions = λ account symbol. position_read base account symbol books;
+  lives = lots_live_on base books;
 }

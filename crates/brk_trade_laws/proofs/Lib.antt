@@ -56,5 +56,6 @@ pub mod ResultDoing
 pub mod SumReading
 pub mod RunKeeping
 pub mod RunLaws
+pub mod LotLives
 pub mod AddingUp
 pub mod RunSums

@@ -95,7 +95,7 @@ broker_sums base id r books e =
 -- ---- balances
 
 -- each trade is found by its id
-found_each : (ts : List Trade) → IdsApart ts → AllByRecursion (λ t. find (λ u. u.id == t.id) ts ≡ Some t) ts
+pub found_each : (ts : List Trade) → IdsApart ts → AllByRecursion (λ t. find (λ u. u.id == t.id) ts ≡ Some t) ts
 found_each [] d = tt
 found_each (t ∷ ts) d = (
   ap (λ b. cond b (Some t) (find (λ u. u.id == t.id) ts)) (eq-eqb t.id t.id refl),

@@ -10,4 +10,5 @@ pub mod OrderPlans
 pub mod Results
 pub mod ResultPlans
 pub mod Runs
+pub mod Lives
 pub mod Sums

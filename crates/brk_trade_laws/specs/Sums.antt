@@ -9,6 +9,7 @@ use Rattle.brk_money.specs.Spelling.{Text}
 use Rattle.brk_model.specs.Joins.{account_in, trade_in}
 use Rattle.brk_model.specs.Lists.{total_by}
 use Rattle.brk_model.specs.Tables.{AccountRow, BrokerRow, CashRow, HoldingRow, SummaryRow, Tables, TradeRow}
+use Rattle.brk_trade_laws.specs.Lives.{LotsLive}
 use Rattle.brk_trade_laws.specs.TradeReads.{position_in, summary_in}
 
 -- whether a row of cash is of a trade of an account
@@ -64,3 +65,5 @@ pub record AddUp (t : Tables) : Type 0 where
   pub summed : AllByRecursion (IsSummed t) t.holdings
   -- the lots of an account in a symbol are those of a position: none is 0, and all have one side
   pub positions : (account : ℕ) (symbol : Text) → IsPosition (position_in t account symbol)
+  -- what trades made of each lot is a chain from 0 to what was opened, and then ever nearer to 0, to what is left
+  pub lives : LotsLive t
