@@ -1,6 +1,6 @@
 //! Numbers of an account and of a broker, each read with its row.
 
-ghost use Rattle.std.specs.Prelude.{◌≡◌, ◌==◌, Err, IfSome, OnErr, false, find, option_map, pos, unsigned_abs};
+ghost use Rattle.std.specs.Prelude.{◌≡◌, ◌==◌, Err, IfSome, OnErr, false, find, option_map, pos};
 ghost use Rattle.brk_money.specs.declared.fault.Fault.TheVariants.{Store};
 ghost use Rattle.brk_store.specs.Holds.{IsRead};
 ghost use Rattle.brk_store.specs.Numbers.{AreNumbers};
@@ -28,7 +28,7 @@ pub(crate) fn read_balance<S: Alter>(
 
 // The numbers in a broker's row, where they are within their limits.
 fn numbers_in(row: &BrokerRow) -> Option<BrokerNumbers>
-    ensures { IfSome result (λ numbers. (pos numbers.trades ≡ row.now.trades) × (numbers.commissions ≡ unsigned_abs row.now.commissions)) }
+    ensures { IfSome result (λ numbers. (pos numbers.trades ≡ row.now.trades) × (numbers.commissions ≡ row.now.commissions)) }
 {
     if row.trades < 0 {
         return None;
@@ -36,7 +36,7 @@ fn numbers_in(row: &BrokerRow) -> Option<BrokerNumbers>
     let Some(trades) = TradeCount::new(row.trades as u64) else {
         return None;
     };
-    let Some(commissions) = Amount::new(row.commissions.get().unsigned_abs()) else {
+    let Some(commissions) = Amount::new(row.commissions) else {
         return None;
     };
     Some(BrokerNumbers {

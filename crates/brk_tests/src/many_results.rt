@@ -52,7 +52,7 @@ fn expect_sums(rt: &impl Abort, alloc: Global, mut store: Store<MemStore>) -> Re
         .broker(Id::new(1).ok_or("broker")?)?
         .ok_or("no broker")?;
     assert_eq!(rt; broker.trades, 500);
-    assert_eq!(rt; broker.commissions.get(), 1_252_500);
+    assert_eq!(rt; broker.commissions, 1_252_500);
     Ok(())
 }
 
