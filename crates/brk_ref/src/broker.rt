@@ -6,7 +6,7 @@ ghost use Rattle.brk_ref.specs.Fields.{Reads, texts};
 
 use crate::name::Name;
 use crate::numbers::parse_id;
-use brk_money::{Cents, Id, Planned, Refusal};
+use brk_money::{Id, Planned, Refusal};
 use std::alloc::Global;
 
 /// A broker.
@@ -16,12 +16,12 @@ pub struct Broker {
     pub name: Name,
 }
 
-/// A row of BROKER: a broker with the number of its completed trades and their commissions.
+/// A row of BROKER: a broker with the number of its completed trades and their commissions in cents.
 #[derive(Drop)]
 pub struct BrokerRow {
     pub broker: Broker,
     pub trades: i64,
-    pub commissions: Cents,
+    pub commissions: u64,
 }
 
 /// The broker that the fields ID and NAME are, or the refusal of their form.

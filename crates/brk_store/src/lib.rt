@@ -1,8 +1,8 @@
 //! A desk's database: made, read and changed as a whole. Each change is one transaction.
 #![tactic(auto)]
 
+mod beginning;
 mod changing;
-mod keys;
 mod numbers;
 mod reading;
 pub mod reopening;

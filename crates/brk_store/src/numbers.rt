@@ -1,34 +1,19 @@
 //! Numbers of an account and of a broker, each read with its row.
 
-ghost use Rattle.std.specs.Prelude.{◌≡◌, ◌==◌, Err, IfSome, OnErr, false, find, option_map, pos, unsigned_abs};
-ghost use Rattle.brk_money.specs.declared.fault.Fault.TheVariants.{Store};
+ghost use Rattle.std.specs.Prelude.{IfSome, pos, ◌≡◌, ◌==◌, Err, OnErr, find, option_map};
+ghost use Rattle.brk_money.specs.declared.fault.Fault.TheVariants as fault;
 ghost use Rattle.brk_store.specs.Holds.{IsRead};
 ghost use Rattle.brk_store.specs.Numbers.{AreNumbers};
 
-use crate::reading::{read_account, read_broker};
+use crate::Store;
 use brk_changes::{Amount, BrokerNumbers, TradeCount};
 use brk_money::{Cents, Fault, Id};
 use brk_ref::BrokerRow;
-use sqlite::{Alter, Connection};
-
-pub(crate) fn read_balance<S: Alter>(
-    conn: &mut Connection<S>,
-    account: Id,
-) -> Result<Option<Cents>, Fault>
-    requires { conn.old.in_transaction ≡ false }
-    ensures mode { conn.new.in_transaction ≡ false }
-    ensures read { IsRead S.Store conn.old conn.new result (λ balance t. balance ≡ option_map (λ r. r.balance) (find (λ r. r.id == account) t.accounts)) }
-    ensures fault { OnErr result (result ≡ Err Store) }
-{
-    match read_account(conn, account)? {
-        Some(row) => Ok(Some(row.balance)),
-        None => Ok(None),
-    }
-}
+use sqlite::Alter;
 
 // The numbers in a broker's row, where they are within their limits.
 fn numbers_in(row: &BrokerRow) -> Option<BrokerNumbers>
-    ensures { IfSome result (λ numbers. (pos numbers.trades ≡ row.now.trades) × (numbers.commissions ≡ unsigned_abs row.now.commissions)) }
+    ensures { IfSome result (λ numbers. (pos numbers.trades ≡ row.now.trades) × (numbers.commissions ≡ row.now.commissions)) }
 {
     if row.trades < 0 {
         return None;
@@ -36,7 +21,7 @@ fn numbers_in(row: &BrokerRow) -> Option<BrokerNumbers>
     let Some(trades) = TradeCount::new(row.trades as u64) else {
         return None;
     };
-    let Some(commissions) = Amount::new(row.commissions.get().unsigned_abs()) else {
+    let Some(commissions) = Amount::new(row.commissions) else {
         return None;
     };
     Some(BrokerNumbers {
@@ -45,20 +30,29 @@ fn numbers_in(row: &BrokerRow) -> Option<BrokerNumbers>
     })
 }
 
-pub(crate) fn read_broker_numbers<S: Alter>(
-    conn: &mut Connection<S>,
-    broker: Id,
-) -> Result<Option<BrokerNumbers>, Fault>
-    requires { conn.old.in_transaction ≡ false }
-    ensures mode { conn.new.in_transaction ≡ false }
-    ensures read { IsRead S.Store conn.old conn.new result (λ numbers t. AreNumbers numbers (find (λ r. r.id == broker) t.brokers)) }
-    ensures fault { OnErr result (result ≡ Err Store) }
-{
-    let Some(row) = read_broker(conn, broker)? else {
-        return Ok(None);
-    };
-    match numbers_in(&row) {
-        Some(numbers) => Ok(Some(numbers)),
-        None => Err(Fault::Store),
+impl<S: Alter> Store<S> {
+    /// The numbers of a broker, where there is such a broker. Numbers beyond their limits are a fault.
+    pub fn broker_numbers(&mut self, broker: Id) -> Result<Option<BrokerNumbers>, Fault>
+        ensures read { IsRead S.Store self.old self.new result (λ numbers t. AreNumbers numbers (find (λ r. r.id == broker) t.brokers)) }
+        ensures fault { OnErr result (result ≡ Err fault.Store) }
+    {
+        let Some(row) = self.broker(broker)? else {
+            return Ok(None);
+        };
+        match numbers_in(&row) {
+            Some(numbers) => Ok(Some(numbers)),
+            None => Err(Fault::Store),
+        }
+    }
+
+    /// The balance of an account in cents (CA_BAL), where there is such an account.
+    pub fn balance_of(&mut self, account: Id) -> Result<Option<Cents>, Fault>
+        ensures read { IsRead S.Store self.old self.new result (λ balance t. balance ≡ option_map (λ r. r.balance) (find (λ r. r.id == account) t.accounts)) }
+        ensures fault { OnErr result (result ≡ Err fault.Store) }
+    {
+        match self.account(account)? {
+            Some(row) => Ok(Some(row.balance)),
+            None => Ok(None),
+        }
     }
 }

@@ -1,6 +1,6 @@
 //! The columns of a row as typed values. One that breaks its form is the fault `Store`.
 
-ghost use Rattle.std.specs.Prelude.{◌≡◌, Err, IfOk, IfSome, OnErr, OnOk, bytes_eq, length, pos, string_bytes, unsigned_abs};
+ghost use Rattle.std.specs.Prelude.{◌≡◌, Err, IfOk, IfSome, OnErr, OnOk, bytes_eq, length, pos, string_bytes};
 ghost use Rattle.sqlite_value.specs.declared.value.Value.TheVariants.{Int, Text};
 ghost use Rattle.sqlite_value.specs.Order.{column};
 ghost use Rattle.brk_money.specs.Kinds.{status_code, tax_status_number, type_code};
@@ -182,18 +182,6 @@ pub fn cents_in(row: &Row, at: usize) -> Result<Cents, Fault>
     ensures fault { OnErr result (result ≡ Err Store) }
 {
     Cents::new(number_in(row, at)?).ok_or(Fault::Store)
-}
-
-/// Cents that are not below 0.
-pub fn total_in(row: &Row, at: usize) -> Result<Cents, Fault>
-    ensures value { IfOk result (λ cents. column row.now at ≡ Int (pos (unsigned_abs cents))) }
-    ensures fault { OnErr result (result ≡ Err Store) }
-{
-    let cents = cents_in(row, at)?;
-    if cents.get() < 0 {
-        return Err(Fault::Store);
-    }
-    Ok(cents)
 }
 
 /// A stamp, or none where the column is null.

@@ -5,8 +5,8 @@ ghost use Rattle.brk_tables_form.specs.Cells.{account_cells, band_cells, broker_
 ghost use Rattle.brk_tables_form.specs.Records.{account_row_of, broker_row_of};
 
 use crate::cells::{
-    acl_in, cents_in, charge_amount_in, exchange_in, has_columns, id_in, name_in, number_in,
-    qty_in, rate_in, symbol_in, tax_id_in, tax_rate_in, tax_status_in, tier_in, total_in, type_in,
+    acl_in, cents_in, charge_amount_in, exchange_in, has_columns, id_in, name_in, natural_in,
+    number_in, qty_in, rate_in, symbol_in, tax_id_in, tax_rate_in, tax_status_in, tier_in, type_in,
 };
 use crate::record::Record;
 use brk_money::Fault;
@@ -62,7 +62,7 @@ impl Record for BrokerRow {
                 name: name_in(row, 1)?,
             },
             trades: number_in(row, 2)?,
-            commissions: total_in(row, 3)?,
+            commissions: natural_in(row, 3)?,
         })
     }
 }

@@ -1,4 +1,0 @@
-use Rattle.brk_store.proofs.store.Store.customer_by_tax_id.Goals as goal
-
-pub returns : goal.returns
-returns g c = record { read = rw c.self.view_is at c.read_customer_by_tax_id.ensures.read; fault = c.read_customer_by_tax_id.ensures.fault }

@@ -1,4 +1,0 @@
-use Rattle.brk_store.proofs.store.Store.customer_taxes_of.Goals as goal
-
-pub returns : goal.returns
-returns g c = record { read = rw c.self.view_is at c.read_customer_taxes_of.ensures.read; fault = c.read_customer_taxes_of.ensures.fault }

@@ -1,4 +1,0 @@
-use Rattle.brk_store.proofs.store.Store.last_trade_id.Goals as goal
-
-pub returns : goal.returns
-returns g c = record { read = rw c.self.view_is at c.read_last_trade_id.ensures.read; fault = c.read_last_trade_id.ensures.fault }

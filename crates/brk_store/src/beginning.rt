@@ -1,0 +1,17 @@
+//! The transaction of a read.
+
+ghost use Rattle.std.specs.Prelude.{◌≡◌, IsTrue, false, true};
+ghost use Rattle.sqlite.specs.Held.{state};
+
+use sqlite::{Alter, Connection, Transaction};
+
+/// Begins a transaction. Outside one, what an open database holds is what it has committed.
+pub(crate) fn begin<S: Alter>(conn: &mut Connection<S>) -> Transaction<'_, S>
+    requires { conn.old.in_transaction ≡ false }
+    ensures same_reference { result.conn.ghost_name ≡ conn.entry.ghost_name }
+    ensures begun { result.conn.now ≡ record conn.old { in_transaction = true } }
+    ensures settled { IsTrue (state S.Store conn.old).is_open → (state S.Store conn.old).now ≡ (state S.Store conn.old).committed }
+{
+    let _settled = conn.is_autocommit();
+    conn.transaction()
+}
