@@ -40,7 +40,7 @@ pub struct ResultAccount {
 }
 
 /// What the tables hold that decides on a result of a trade. What is not needed after an earlier refusal is not looked at.
-#[derive(Debug, Drop)]
+#[derive(Drop)]
 pub struct ResultFound {
     pub trade: TradeRow,
     /// The account of the trade.
