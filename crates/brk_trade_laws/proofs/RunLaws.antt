@@ -7,9 +7,11 @@ use Rattle.std.proofs.lemmas.Bool.{eqb-false, eqb-true, eq-eqb}
 use Rattle.brk_lots.specs.Books.{deals_total, gains, lots_cost, lots_total, spent}
 use Rattle.brk_lots.specs.Chains.{IsLife, rows_of}
 use Rattle.brk_lots.specs.Deals.{AreDeals, IsLater}
-use Rattle.brk_lots.specs.Lots.{shares_of}
+use Rattle.brk_lots.specs.Lots.{plain_lot, shares_of}
 use Rattle.brk_lots.proofs.Books.{costs_add_up, quantities_add_up}
 use Rattle.brk_lots.proofs.Chains.{lots_live}
+use Rattle.brk_lots.proofs.Ends.{walk_of}
+use Rattle.brk_lots.proofs.Plain.{lots_walk}
 use Rattle.brk_money.specs.Spelling.{Text}
 use Rattle.brk_money.specs.declared.status.Status.TheVariants.{Canceled, Completed, Submitted}
 use Rattle.brk_model.specs.Base.{Base, completed, is_completed, marked, trade_with}
@@ -22,7 +24,7 @@ use Rattle.brk_model.specs.Orders.{ordered_trade, tax_of}
 use Rattle.brk_model.specs.Records.{Key, Trade}
 use Rattle.brk_model.specs.Results.{completed_trade, result_deal, with_result}
 use Rattle.brk_model.specs.Run.{Call, Outcome, Run}
-use Rattle.brk_model.specs.Shares.{lot_qty, replay}
+use Rattle.brk_model.specs.Shares.{lot_qty, lots, replay}
 use Rattle.brk_model.specs.Sheets.{sheets}
 use Rattle.brk_model.specs.Step.{records_after}
 use Rattle.brk_model.specs.Tables.{trade_row}
@@ -34,7 +36,7 @@ use Rattle.brk_trade_laws.specs.Runs.{HasTax, IsTaxed, tax_upon}
 use Rattle.brk_trade_laws.specs.TradeReads.{position_in}
 use Rattle.brk_trade_laws.proofs.Completions.{named_open, named_waits, triggered_waits}
 use Rattle.brk_trade_laws.proofs.Keepers.{books_kept}
-use Rattle.brk_trade_laws.proofs.LotOrder.{InOrder, held_in_order, shares_read}
+use Rattle.brk_trade_laws.proofs.LotOrder.{InOrder, held_in_order, position_read, shares_read}
 use Rattle.brk_trade_laws.proofs.Numbering.{pending_not_completed}
 use Rattle.brk_trade_laws.proofs.Places.{FoundAt, find-at}
 use Rattle.brk_trade_laws.proofs.ResultKeeping.{submitted, result_named}
@@ -59,6 +61,11 @@ deals_are base account symbol books = deals_of _ (held_in_order base account sym
 pub shares_spelled : (base : Base) (account : ℕ) (symbol : Text) → IsBooks base → shares_of (position_in (sheets base) account symbol) ≡ replay (deals_in (completed base) account symbol)
 unfolding shares_in
 shares_spelled base account symbol books = shares_read base account symbol books
+
+pub lots_spelled : (base : Base) (account : ℕ) (symbol : Text) → IsBooks base → map plain_lot (position_in (sheets base) account symbol) ≡ lots (shares_in (completed base) account symbol)
+lots_spelled base account symbol books =
+    sym (lots_walk (position_in (sheets base) account symbol) (walk_of (position_in (sheets base) account symbol) (position_read base account symbol books)))
+    ∙ ap lots (shares_read base account symbol books)
 
 pub quantities_sum : (base : Base) (account : ℕ) (symbol : Text) → IsBooks base → lots_total (position_in (sheets base) account symbol) ≡ deals_total (deals_in (completed base) account symbol)
 quantities_sum base account symbol books = quantities_add_up (deals_in (completed base) account symbol) (position_in (sheets base) account symbol) (shares_spelled base account symbol books)

@@ -1,18 +1,18 @@
 //! What holds of any base in order, and after any run of calls from one. The base that everything begins with is in order.
 
-ghost use Rattle.std.specs.Prelude.{◌+ℤ◌, ◌≡◌, [], ℕ, List, None, Option, Some};
+ghost use Rattle.std.specs.Prelude.{◌+ℤ◌, ◌≡◌, [], ℕ, List, None, Option, Some, map};
 ghost use Rattle.brk_lots.specs.Books.{deals_total, gains, lots_cost, lots_total, spent};
 ghost use Rattle.brk_lots.specs.Chains.{IsLife, rows_of};
-ghost use Rattle.brk_lots.specs.Lots.{shares_of};
+ghost use Rattle.brk_lots.specs.Lots.{plain_lot, shares_of};
 ghost use Rattle.brk_lots.specs.Position.{IsPosition};
 ghost use Rattle.brk_money.specs.Spelling.{Text};
 ghost use Rattle.brk_model.specs.Base.{Base, completed, empty_base, trade_with};
 ghost use Rattle.brk_model.specs.Commands.{Command, CompleteTrade, Done, Reply};
-ghost use Rattle.brk_model.specs.Derived.{deals_in};
+ghost use Rattle.brk_model.specs.Derived.{deals_in, shares_in};
 ghost use Rattle.brk_model.specs.Keyed.{keyed_step};
 ghost use Rattle.brk_model.specs.Records.{Key, Trade};
 ghost use Rattle.brk_model.specs.Run.{Call, Outcome, Run};
-ghost use Rattle.brk_model.specs.Shares.{lot_qty, replay};
+ghost use Rattle.brk_model.specs.Shares.{lot_qty, lots, replay};
 ghost use Rattle.brk_model.specs.Sheets.{sheets};
 ghost use Rattle.brk_model.specs.Tests.{refusal_of};
 ghost use Rattle.brk_trade_laws.specs.Books.{IsBooks};
@@ -31,13 +31,16 @@ pub fn runs_keep_the_order()
 {}
 
 /// After any run the lots of an account in a symbol, the oldest first, are those of a position, and spell the single shares that its completed
-/// trades leave, one after another by their completion.
+/// trades leave, one after another by their completion; so they are the lots of these shares.
 pub fn lots_spell_the_shares()
     ensures position { (base after : Base) (calls : List (ℕ × Call)) (outcomes : List Outcome) (account : ℕ) (symbol : Text)
         → IsBooks base → Run base calls outcomes after → IsPosition (position_in (sheets after) account symbol) }
     ensures shares { (base after : Base) (calls : List (ℕ × Call)) (outcomes : List Outcome) (account : ℕ) (symbol : Text)
         → IsBooks base → Run base calls outcomes after
         → shares_of (position_in (sheets after) account symbol) ≡ replay (deals_in (completed after) account symbol) }
+    ensures lots { (base after : Base) (calls : List (ℕ × Call)) (outcomes : List Outcome) (account : ℕ) (symbol : Text)
+        → IsBooks base → Run base calls outcomes after
+        → map plain_lot (position_in (sheets after) account symbol) ≡ lots (shares_in (completed after) account symbol) }
     ensures lives { (base after : Base) (calls : List (ℕ × Call)) (outcomes : List Outcome) (account : ℕ) (symbol : Text) (lot : ℕ)
         → IsBooks base → Run base calls outcomes after
         → IsLife (rows_of lot (deals_in (completed after) account symbol) [])
