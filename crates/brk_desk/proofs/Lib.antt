@@ -5,3 +5,4 @@ pub mod Calling
 pub mod Asked
 pub mod Running
 pub mod Stopping
+pub mod Promise

@@ -7,14 +7,16 @@ use Rattle.sqlite_trees.specs.Tree.{Trees}
 use Rattle.brk_money.specs.declared.fault.Fault.{Fault}
 use Rattle.brk_money.specs.declared.refusal.Refusal.{Refusal}
 use Rattle.brk_model.specs.Ask.{ask}
-use Rattle.brk_model.specs.Base.{Base}
+use Rattle.brk_model.specs.Base.{Base, empty_base}
 use Rattle.brk_model.specs.Sheets.{sheets}
 use Rattle.brk_model.specs.Commands.{Command}
 use Rattle.brk_model.specs.Records.{Key}
 use Rattle.brk_model.specs.Keyed.{keyed_step}
 use Rattle.brk_model.specs.Queries.{Query}
 use Rattle.brk_model.specs.Run.{MayFail, Run}
+use Rattle.brk_model.specs.Tables.{no_rows}
 use Rattle.brk_trade_laws.specs.Books.{IsBooks}
+use Rattle.brk_trade_laws.specs.Runs.{RunAddsUp}
 use Rattle.brk_store.specs.Holds.{AreTreesOf, Holds, IsSame, LeavesOnly}
 use Rattle.brk_view.specs.Queries.{query_of}
 use Rattle.brk_view.specs.declared.view.View.{View}
@@ -98,3 +100,13 @@ pub record IsRun {S : Type 0} (g : Ghosts S) (old new : Held S) (calls : List (�
   pub leaves : HasCleanDisk (state g new) → (base : Base) → KeepsBase g old base → LeavesOnly g old (AreTreesOf (sheets base))
       → LeavesOnly g new (λ trees. (after : Base) × MayStand base (map call_of calls) (map outcome_of outcomes) after × AreTreesOf (sheets after) trees)
   pub clean : HasCleanDisk (state g new) → HasCleanDisk (state g old)
+
+-- calls at their moments lead from a base whose books were kept to one whose books are kept, with these outcomes: its tables add up, and each
+-- accepted result was taxed by the very shares that it closed
+abbrev pub Leads : {S : Type 0} → Ghosts S → Held S → Base → List (ℕ × Call) → List Outcome → Type 0
+Leads g new base calls outcomes = (after : Base) × KeepsBase g new after × RunAddsUp base (map call_of calls) (map outcome_of outcomes) after
+
+-- the whole promise of a list of calls, over each base whose books were kept, and from a store whose tables were just made
+pub record KeepsPromise {S : Type 0} (g : Ghosts S) (old new : Held S) (calls : List (ℕ × Call)) (outcomes : List Outcome) : Type 0 where
+  pub kept : HasCleanDisk (state g new) → (base : Base) → KeepsBase g old base → Leads g new base calls outcomes
+  pub made : HasCleanDisk (state g new) → Holds g old no_rows → Leads g new empty_base calls outcomes

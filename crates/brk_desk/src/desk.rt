@@ -38,7 +38,7 @@ impl<S: Alter> Desk<S> {
     ghost use Rattle.std.specs.Option.{option_copied};
     ghost use Rattle.brk_commands.specs.Commands.{command_of};
     ghost use Rattle.brk_desk.specs.Commands.{key_for};
-    ghost use Rattle.brk_desk.specs.Keeping.{IsAsked, IsCalled, IsMade, IsRun};
+    ghost use Rattle.brk_desk.specs.Keeping.{IsAsked, IsCalled, IsMade, IsRun, KeepsPromise};
     ghost use Rattle.brk_desk.specs.declared.call.Outcome as came;
     ghost use Rattle.brk_money.specs.declared.fault.Fault.TheVariants.{Memory};
     ghost use Rattle.brk_view.specs.Queries.{query_of};
@@ -83,7 +83,8 @@ impl<S: Alter> Desk<S> {
         calls: &[(Stamp, Call)],
         out: &mut Vec<Outcome>,
     ) -> Result<(), Fault>
-        ensures ran { OnOk result ((outcomes : List came.Outcome) × (out.new.items ≡ out.old.items ++ outcomes) × IsRun S.Store self.old self.new calls.now outcomes) }
+        ensures ran { OnOk result ((outcomes : List came.Outcome) × (out.new.items ≡ out.old.items ++ outcomes)
+            × IsRun S.Store self.old self.new calls.now outcomes × KeepsPromise S.Store self.old self.new calls.now outcomes) }
         ensures fault { OnErr result (result ≡ Err Memory) }
         ensures unmade { OnErr result ((self.new ≡ self.old) × (out.new.items ≡ out.old.items)) }
     {
