@@ -70,14 +70,10 @@ fn a_desk_tells_what_it_is_asked(rt: HostRuntime) -> Result<(), Fail> {
     expect_answer(&rt, alloc, &mut desk, "submitted", &[], "")?;
     expect(&rt, alloc, &mut desk, "orders", ORDERS)?;
     let estimate = "9.50,0.00,0.00,0.00,9.50,5.00,10000.00\n";
-    let cases: [(&str, &[&[u8]], &str); 3] = [
-        ("submitted", &[], "2,TLB,ABC,10,10.00\n"),
-        ("estimate", &purchase, estimate),
-        ("estimate", &strange, "no,1"),
-    ];
-    for (view, arguments, wanted) in cases {
-        expect_answer(&rt, alloc, &mut desk, view, arguments, wanted)?;
-    }
+    let wanted = "2,TLB,ABC,10,10.00\n";
+    expect_answer(&rt, alloc, &mut desk, "submitted", &[], wanted)?;
+    expect_answer(&rt, alloc, &mut desk, "estimate", &purchase, estimate)?;
+    expect_answer(&rt, alloc, &mut desk, "estimate", &strange, "no,1")?;
     expect(&rt, alloc, &mut desk, "more orders", MORE_ORDERS)?;
     let wanted = "2,TLB,ABC,10,10.00\n3,TLS,ABC,10,10.50\n4,TMS,ABC,999999,10.50\n";
     expect_answer(&rt, alloc, &mut desk, "submitted", &[], wanted)

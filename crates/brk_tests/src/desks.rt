@@ -107,8 +107,10 @@ pub fn answer_at(
 // Compares the lines of a batch one by one.
 fn expect_lines(rt: &impl Abort, name: &str, told: &[u8], wanted: &str) -> Result<(), Fail> {
     let told = str::from_utf8(told).map_err(|_| "no text")?;
+    let mut row = 0u64;
     for (line, want) in told.lines().zip(wanted.lines()) {
-        assert!(rt; line == want, "{name}: {line} in place of {want}");
+        row = row.saturating_add(1);
+        assert!(rt; line == want, "{name}: line {row}");
     }
     assert!(rt;
         told == wanted,

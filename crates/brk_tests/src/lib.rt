@@ -16,6 +16,8 @@ mod decisions;
 #[cfg(test)]
 mod desks;
 #[cfg(test)]
+mod faults;
+#[cfg(test)]
 mod keys;
 #[cfg(test)]
 mod limits;

@@ -107,18 +107,24 @@ fn traded(
 #[test]
 fn the_books_after_each_trade(rt: HostRuntime) -> Result<(), Fail> {
     let alloc = rt.alloc();
-    for (count, tables) in [
-        (2, AFTER_A_PURCHASE),
-        (4, AFTER_TWO_PURCHASES),
-        (6, AFTER_A_SALE_OF_THE_FIRST),
-        (8, AFTER_A_SHORT_SALE),
-        (10, AFTER_A_COVER),
+    for (name, count, tables) in [
+        ("a purchase", 2, AFTER_A_PURCHASE),
+        ("two purchases", 4, AFTER_TWO_PURCHASES),
+        ("a sale of the first", 6, AFTER_A_SALE_OF_THE_FIRST),
+        ("a short sale", 8, AFTER_A_SHORT_SALE),
+        ("a cover", 10, AFTER_A_COVER),
     ] {
         let desk = traded(&rt, alloc, &ROWS[..count], &LINES[..count])?;
-        expect_standing(&rt, alloc, desk.into_store(), tables)?;
+        expect_standing(&rt, alloc, desk.into_store(), name, tables)?;
     }
     let desk = traded(&rt, alloc, &LAST_FIRST_ROWS, &LAST_FIRST_LINES)?;
-    expect_tables(&rt, alloc, desk.into_store(), AFTER_A_SALE_OF_THE_LAST)
+    expect_tables(
+        &rt,
+        alloc,
+        desk.into_store(),
+        "a sale of the last",
+        AFTER_A_SALE_OF_THE_LAST,
+    )
 }
 
 #[test]
@@ -140,5 +146,11 @@ fn results_are_booked_once(rt: HostRuntime) -> Result<(), Fail> {
     told.push_str("end,0,11,1\n")?;
     let step = Step::Done(batch.as_bytes(), told.as_str());
     expect(&rt, alloc, &mut desk, "the first row changed", step)?;
-    expect_tables(&rt, alloc, desk.into_store(), AFTER_ALL_IS_SOLD)
+    expect_tables(
+        &rt,
+        alloc,
+        desk.into_store(),
+        "all is sold",
+        AFTER_ALL_IS_SOLD,
+    )
 }

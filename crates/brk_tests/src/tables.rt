@@ -127,16 +127,19 @@ fn expect_rows(
     rt: &impl Abort,
     alloc: Global,
     conn: &mut Connection<MemStore>,
+    name: &str,
     tables: &[&str],
     wanted: &str,
 ) -> Result<(), Fail> {
     let told = lines_of(alloc, conn, tables)?;
+    let mut at = 0u64;
     for (row, want) in told.lines().zip(wanted.lines()) {
-        assert!(rt; row == want, "{row} in place of {want}");
+        at = at.saturating_add(1);
+        assert!(rt; row == want, "{name}: line {at} of the tables");
     }
     assert!(rt;
         told.as_str() == wanted,
-        "rows that are missing, or more rows"
+        "{name}: rows that are missing, or more rows"
     );
     Ok(())
 }
@@ -147,11 +150,12 @@ pub fn expect_tables(
     rt: &impl Abort,
     alloc: Global,
     store: Store<MemStore>,
+    name: &str,
     wanted: &str,
 ) -> Result<(), Fail> {
     let mut conn = store.into_conn();
-    expect_rows(rt, alloc, &mut conn, &REFERENCE, SET_TABLES)?;
-    expect_rows(rt, alloc, &mut conn, &TRADING, wanted)
+    expect_rows(rt, alloc, &mut conn, name, &REFERENCE, SET_TABLES)?;
+    expect_rows(rt, alloc, &mut conn, name, &TRADING, wanted)
 }
 
 /// Compares the tables in which trades change or remove rows.
@@ -159,10 +163,11 @@ pub fn expect_standing(
     rt: &impl Abort,
     alloc: Global,
     store: Store<MemStore>,
+    name: &str,
     wanted: &str,
 ) -> Result<(), Fail> {
     let mut conn = store.into_conn();
-    expect_rows(rt, alloc, &mut conn, &STANDING, wanted)
+    expect_rows(rt, alloc, &mut conn, name, &STANDING, wanted)
 }
 
 /// What is told of a case that fails, its batches one after another, and all tables after them.
@@ -173,7 +178,7 @@ pub fn expect_booked(rt: &impl Abort, alloc: Global, cases: &[Booked]) -> Result
     for (name, steps, tables) in cases {
         let mut desk = set_desk(rt, alloc)?;
         expect_steps(rt, alloc, &mut desk, name, steps)?;
-        expect_tables(rt, alloc, desk.into_store(), tables)?;
+        expect_tables(rt, alloc, desk.into_store(), name, tables)?;
     }
     Ok(())
 }

@@ -1,7 +1,7 @@
-use brk_trade::{Terms, estimate_order};
 use brk_lots::{Lot, Position};
 use brk_money::{Id, Price, Qty, Rate, Side, Stamp, TaxRate, TaxStatus, Wide};
 use brk_ref::ChargeAmount;
+use brk_trade::{Terms, estimate_order};
 use std::test::Fail;
 
 /// A sale of 100 at 9.50, at a rate of a hundredth and a tax of a quarter.
