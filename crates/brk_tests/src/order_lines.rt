@@ -1,6 +1,6 @@
 use brk_desk::{line_text, parse_row, row_text};
 use brk_money::{Cents, Day, Id, Stamp};
-use brk_trade::{Completed, Reply};
+use brk_trade::{Amount, Completed, Reply};
 use std::alloc::Global;
 use std::process::Abort;
 use std::test::Fail;
@@ -73,14 +73,15 @@ fn a_result_is_kept_and_told(rt: HostRuntime) -> Result<(), Fail> {
     let result: [&[u8]; 3] = [b"result", b"7", b"10.10"];
     expect_kept(&rt, alloc, &result, "result\x1f7\x1f10.10")?;
     let cents = |cents: i64| Cents::new(cents).ok_or("cents");
+    let amount = |cents: u64| Amount::new(cents).ok_or("amount");
     let completed = Completed {
         stamp: Stamp::nearest(1_709_251_200_025),
-        commission: cents(3_300)?,
-        tax: cents(10_000)?,
+        commission: amount(3_300)?,
+        tax: amount(10_000)?,
         amount: cents(-343_800)?,
         due_day: Day::new(19_785).ok_or("a day")?,
-        buy_value: cents(275_000)?,
-        sell_value: cents(325_000)?,
+        buy_value: amount(275_000)?,
+        sell_value: amount(325_000)?,
         balance: cents(-5)?,
     };
     let wanted = "1709251200025,33.00,100.00,-3438.00,2024-03-03,2750.00,3250.00,-0.05";
