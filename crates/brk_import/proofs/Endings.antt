@@ -1,6 +1,6 @@
 -- How a batch ends from where it stands.
 use Rattle.std.proofs.Common.{◌≡◌, ◌+◌, ◌⊎◌, ◌++◌, ◌∷◌, [], ℕ, List, sym, ap, ◌∙◌, refl, length, arith, inl, inr}
-use Rattle.std.specs.Prelude.{Option, Ok}
+use Rattle.std.specs.Prelude.{Option, Ok, Err}
 use Rattle.std.specs.Io.KnownBytes.{Appends}
 use Rattle.std.proofs.KnownBytes.{Appends-nil, Appends-trans}
 use Rattle.std.proofs.lemmas.List.{append-nil, length-append}
@@ -16,7 +16,7 @@ use Rattle.brk_model.specs.Forms.{Read}
 use Rattle.brk_model.specs.Input.{AreAll, Begins, IsEnd, IsName, end_of, header_of}
 use Rattle.brk_model.specs.Lines.{answer_line, end_line, lines_from}
 use Rattle.brk_model.specs.Run.{MayFail}
-use Rattle.brk_import.specs.Batch.{BatchGives, EndsRight, Faulted, IsUntouched, Span, Stopped}
+use Rattle.brk_import.specs.Batch.{BatchGives, EndsRight, Faulted, IsUntouched, LeavesAt, Span, Stopped}
 use Rattle.brk_import.specs.Counts.{counts_line}
 use Rattle.brk_import.specs.Moments.{AskedOnce}
 use Rattle.brk_import.specs.Parts.{CutPart, EndPart, HeaderPart, Part}
@@ -153,6 +153,27 @@ pub answer_failed : {S X C R : Type 0} (form : Fields → Read X) (step : RowSte
     → StandsAt rem text (header_of start.name ∷ []) start.reader → Faulted form step gives text (span_of start now later new) now.settled (kinds.Desk f)
 answer_failed form step gives rem start now later new text p f wrote asked may h =
     inr (inl (stopped_of form step gives rem start now later new text p h, asked, may, refl, wrote))
+
+-- what a stop leaves then
+pub answer_left : {D S X C R : Type 0} (form : Fields → Read X) (step : RowStep S X) (gives : C → ℕ → C → Type 0) (leaves : D → S → S → Type 0) (rem : R → Option Text)
+    (start : Start S C R) (now : At S C R) (later : C) (new : Option Text) (text : Option Text) (p : Progress form step gives rem start now) (last : D) (f : Fault)
+    → StandsAt rem text (header_of start.name ∷ []) start.reader
+    → leaves last now.after now.after ⊎ ((moment : ℕ) × (command : X) × (form now.row ≡ Ok command) × gives now.later moment later
+    × leaves last now.after (step now.after moment command (record { batch = start.name; row = now.settled + 1 })).1)
+    → LeavesAt form step gives leaves text (span_of start now later new) last (Err (record { rows = now.settled; kind = kinds.Desk f }))
+answer_left form step gives leaves rem start now later new text p last f h (inl alone) = inl alone
+answer_left form step gives leaves rem start now later new text p last f h (inr way) = inr (record {
+  cause = f;
+  kind = refl;
+  stopped = stopped_of form step gives rem start now later new text p h;
+  row = now.row;
+  begins = begins_at rem text _ now.reader (p.stands text h);
+  command = way.1;
+  formed = way.2;
+  moment = way.0;
+  given = way.3;
+  may = way.4;
+})
 
 -- the line of the row that was answered last was not written
 pub tell_failed : {S X C R : Type 0} (form : Fields → Read X) (step : RowStep S X) (gives : C → ℕ → C → Type 0) (rem : R → Option Text)

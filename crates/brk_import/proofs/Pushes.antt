@@ -1,6 +1,6 @@
 -- One more row, answer, moment or line at the end.
 use Rattle.std.proofs.Common.{◌≡◌, ◌+◌, ◌++◌, ◌∷◌, [], ℕ, List, sym, ap, ◌∙◌, refl, length, arith, append_assoc, add-zero, subst}
-use Rattle.std.specs.Prelude.{Ok, Err}
+use Rattle.std.specs.Prelude.{Bool, Ok, Err}
 use Rattle.std.proofs.lemmas.List.{append-nil, length-append}
 use Rattle.brk_money.specs.Spelling.{Text}
 use Rattle.brk_model.specs.Answers.{Fields, InTurn, RowCall, RowStep, call_step, calls_of, formed_from, with_formed, woven, woven_one}
@@ -75,7 +75,7 @@ Follows {S = S} honest stands step first desk calls replies =
     honest desk → (base : S) → stands first base → (after : S) × stands desk after × InTurn step base calls replies after
 
 -- these rows took those moments, and were answered so
-pub record Answered {D S X C : Type 0} (honest : D → Type 0) (stands : D → S → Type 0) (form : Fields → Read X) (step : RowStep S X) (gives : C → ℕ → C → Type 0)
+pub record Answered {D S X C : Type 0} (honest : D → Type 0) (stands : Bool → D → S → Type 0) (form : Fields → Read X) (step : RowStep S X) (gives : C → ℕ → C → Type 0)
     (batch : Text) (first : D) (clock : C) (rows : List Fields) (answers : List Answer) (desk : D) (later : C) : Type 0 where
   pub moments : List ℕ
   pub replies : List Answer
@@ -83,10 +83,10 @@ pub record Answered {D S X C : Type 0} (honest : D → Type 0) (stands : D → S
   pub one_each : length moments ≡ length (formed_from form 1 rows)
   pub replied : length replies ≡ length (formed_from form 1 rows)
   pub all : answers ≡ woven form rows replies
-  pub follows : Follows honest stands step first desk (calls_of batch moments (formed_from form 1 rows)) replies
+  pub follows : (sure : Bool) → Follows honest (stands sure) step first desk (calls_of batch moments (formed_from form 1 rows)) replies
 
 -- one more row, answered as its form says
-pub answered_push : {D S X C : Type 0} (honest : D → Type 0) (stands : D → S → Type 0) (form : Fields → Read X) (step : RowStep S X) (gives : C → ℕ → C → Type 0)
+pub answered_push : {D S X C : Type 0} (honest : D → Type 0) (stands : Bool → D → S → Type 0) (form : Fields → Read X) (step : RowStep S X) (gives : C → ℕ → C → Type 0)
     (batch : Text) (first mid desk : D) (clock c later : C) (rows : List Fields) (answers : List Answer) (row : Fields) (answer : Answer)
     → Answered honest stands form step gives batch first clock rows answers mid c → (honest desk → honest mid)
     → (o : Read X) → form row ≡ o → AnsweredBy honest stands step gives o batch (1 + length rows) answer mid desk c later
@@ -115,9 +115,9 @@ answered_push {S = S} {X = X} honest stands form step gives batch first mid desk
       one_each = length-append h.moments (a.0 ∷ []) ∙ ap (λ (n : ℕ). n + 1) h.one_each ∙ sym longer;
       replied = length-append h.replies (answer ∷ []) ∙ ap (λ (n : ℕ). n + 1) h.replied ∙ sym longer;
       all = ap (λ (l : List Answer). l ++ (answer ∷ [])) h.all ∙ sym wove;
-      follows = λ good base stood.
-          let before = h.follows (earlier good) base stood in
-          let now = a.2 good before.0 before.1 in (
+      follows = λ sure good base stood.
+          let before = h.follows sure (earlier good) base stood in
+          let now = a.2 sure good before.0 before.1 in (
             now.0,
             now.1,
             rw (formed, calls_push batch h.moments (formed_from form 1 rows) a.0 (1 + length rows, command) h.one_each)

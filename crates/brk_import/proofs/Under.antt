@@ -1,14 +1,74 @@
--- A row that was answered under its key.
-use Rattle.std.proofs.Common.{◌≡◌, ℕ, Some, subst}
+-- A row that was answered, or not, under its key.
+use Rattle.std.proofs.Common.{◌≡◌, ◌⊎◌, ℕ, Bool, true, false, Ok, Err, Some, inl, inr, ap, subst, sym}
+use Rattle.sqlite_trees.specs.Tree.{Trees}
 use Rattle.sqlite_trees.specs.declared.store.Store.{Ghosts}
 use Rattle.sqlite.specs.Held.{Held, state}
 use Rattle.sqlite.specs.State.{HasCleanDisk}
+use Rattle.brk_money.specs.declared.fault.Fault.{Fault}
+use Rattle.brk_model.specs.Base.{Base}
+use Rattle.brk_model.specs.Batch.{row_step}
+use Rattle.brk_model.specs.Commands as model
 use Rattle.brk_model.specs.Commands.{Command}
 use Rattle.brk_model.specs.Records.{Key}
-use Rattle.brk_desk.specs.Keeping.{Steps}
+use Rattle.brk_model.specs.Sheets.{sheets}
+use Rattle.brk_store.specs.Holds.{AreTreesOf}
+use Rattle.brk_desk.specs.Answers.{answer_of}
+use Rattle.brk_desk.specs.Keeping.{IsCalled, KeepsBase}
 use Rattle.brk_desk.specs.declared.answer.Answer.{Answer}
+use Rattle.brk_desk.specs.declared.answer.Answer.TheVariants as given
+use Rattle.brk_desk.proofs.Stopping.{quiet_leaves}
+use Rattle.brk_import.specs.Answers.{Acts, MayAct, StandsBy}
+use Rattle.brk_import.specs.Leaving.{LeavesOneOf}
 
--- two keys that are the same answer the same
-pub under : {S : Type 0} (g : Ghosts S) (old new : Held S) (now : ℕ) (command : Command) (key same : Key) (answer : Answer) → key ≡ same
-    → (HasCleanDisk (state g new) → Steps g old new now command (Some key) answer) → HasCleanDisk (state g new) → Steps g old new now command (Some same) answer
-under g old new now command key same answer e told = subst (λ k. HasCleanDisk (state g new) → Steps g old new now command (Some k) answer) e told
+module _ {S : Type 0} (g : Ghosts S) (old new : Held S) (now : ℕ) (command : Command) where
+  -- a call that booked nothing leaves what was left before
+  quiet_left : (key : Key) (answer : Answer) → ((base after : Base) → row_step base now command key ≡ (answer_of answer, after) → after ≡ base) → IsCalled g old new now command (Some key) (Ok answer)
+      → Acts (λ desk. HasCleanDisk (state g desk)) (StandsBy (λ desk. KeepsBase g desk) (LeavesOneOf g) true) row_step old new now command key (answer_of answer)
+  quiet_left key answer quiet called clean base sure =
+      let told = called.answered clean base sure.0 in
+      let same : told.0 ≡ base = quiet base told.0 told.2 in
+      let step : (row_step base now command key).1 ≡ told.0 = ap (λ (x : model.Answer × Base). x.1) told.2 in (
+        told.0,
+        (
+          told.1,
+          λ trees may. elim (called.survives.crash clean trees may) [
+            | inl earlier ↦ inl (subst (λ b. AreTreesOf (sheets b) trees) (sym same) (either trees base (sure.1 trees earlier)))
+            | inr come ↦ inl (subst (λ b. AreTreesOf (sheets b) trees) step (come.1 base sure.0))
+          ],
+        ),
+        told.2,
+      )
+    where
+      either : (trees : Trees) (base : Base) → AreTreesOf (sheets base) trees ⊎ AreTreesOf (sheets base) trees → AreTreesOf (sheets base) trees
+      either trees base (inl are) = are
+      either trees base (inr are) = are
+
+  answered_left : (key : Key) (answer : Answer) → IsCalled g old new now command (Some key) (Ok answer)
+      → Acts (λ desk. HasCleanDisk (state g desk)) (StandsBy (λ desk. KeepsBase g desk) (LeavesOneOf g) true) row_step old new now command key (answer_of answer)
+  answered_left key (given.Done reply) called = λ clean base sure.
+      let told = called.answered clean base sure.0 in
+      let step : (row_step base now command key).1 ≡ told.0 = ap (λ (x : model.Answer × Base). x.1) told.2 in (
+        told.0,
+        (told.1, λ trees may. inl (subst (λ b. AreTreesOf (sheets b) trees) step (called.durable clean tt base sure.0 trees may))),
+        told.2,
+      )
+  answered_left key (given.Again line) called = quiet_left key (given.Again line) (λ base after e. quiet_leaves base now command (Some key) (answer_of (given.Again line)) after e tt) called
+  answered_left key (given.Refused refusal) called = quiet_left key (given.Refused refusal) (λ base after e. quiet_leaves base now command (Some key) (answer_of (given.Refused refusal)) after e tt) called
+
+  acts : (key : Key) (answer : Answer) → IsCalled g old new now command (Some key) (Ok answer) → (sure : Bool)
+      → Acts (λ desk. HasCleanDisk (state g desk)) (StandsBy (λ desk. KeepsBase g desk) (LeavesOneOf g) sure) row_step old new now command key (answer_of answer)
+  acts key answer called false = called.answered
+  acts key answer called true = answered_left key answer called
+
+  -- two keys that are the same answer the same
+  pub under : (key same : Key) (answer : Answer) → key ≡ same → IsCalled g old new now command (Some key) (Ok answer) → (sure : Bool)
+      → Acts (λ desk. HasCleanDisk (state g desk)) (StandsBy (λ desk. KeepsBase g desk) (LeavesOneOf g) sure) row_step old new now command same (answer_of answer)
+  under key same answer e called = acts same answer (subst (λ k. IsCalled g old new now command (Some k) (Ok answer)) e called)
+
+  -- it was not answered
+  pub may_act : (key same : Key) (fault : Fault) → key ≡ same → IsCalled g old new now command (Some key) (Err fault)
+      → MayAct (λ desk. HasCleanDisk (state g desk)) (λ desk. KeepsBase g desk) (LeavesOneOf g) row_step old new now command same
+  may_act key same fault e called clean base keeps alone trees may = elim ((subst (λ k. IsCalled g old new now command (Some k) (Err fault)) e called).survives.crash clean trees may) [
+    | inl earlier ↦ elim (alone trees earlier) [ inl are ↦ inl are | inr are ↦ inl are ]
+    | inr come ↦ inr (come.1 base keeps)
+  ]

@@ -2,6 +2,7 @@
 use Rattle.std.specs.Prelude.{◌≡◌, ◌+◌, ◌<◌, ◌⊎◌, ◌∷◌, ◌++◌, [], List, ℕ, Option, Result, Ok, Err, take, length}
 use Rattle.std.specs.Io.KnownBytes.{Appends}
 use Rattle.brk_money.specs.Spelling.{Text}
+use Rattle.brk_money.specs.declared.fault.Fault.{Fault}
 use Rattle.brk_money.specs.declared.fault.Fault.TheVariants.{Memory}
 use Rattle.brk_model.specs.Answers.{Fields, RowStep}
 use Rattle.brk_model.specs.Batch as model
@@ -129,8 +130,34 @@ abbrev pub KeepsBooks : {D S X C : Type 0} → (D → Type 0) → (D → S → T
 KeepsBooks {S = S} honest stands form step gives text first last outside result =
     honest last → (base : S) → stands first base → (after : S) × stands last after × BatchGives form step gives text (with_base base after outside) result
 
--- what a run of a batch comes to, both ways
-pub record Comes {D S X C : Type 0} (honest : D → Type 0) (stands : D → S → Type 0) (form : Fields → Read X) (step : RowStep S X) (gives : C → ℕ → C → Type 0)
+-- the row after those that were answered had its moment and was not answered: a stop leaves the base before it, or the one after its command
+pub record IsUnderWay {D S X C : Type 0} (form : Fields → Read X) (step : RowStep S X) (gives : C → ℕ → C → Type 0) (leaves : D → S → S → Type 0)
+    (text : Option Text) (span : Span S C) (last : D) (fault : BatchFault) : Type 0 where
+  pub cause : Fault
+  pub kind : fault.kind ≡ kinds.Desk cause
+  pub stopped : Stopped form step gives text span fault.rows
+  pub row : Fields
+  pub begins : Begins text (header_of stopped.name ∷ (stopped.rows ++ (row ∷ [])))
+  pub command : X
+  pub formed : form row ≡ Ok command
+  pub moment : ℕ
+  pub given : gives stopped.mid moment span.later
+  pub may : leaves last span.after (step span.after moment command (record { batch = stopped.name; row = fault.rows + 1 })).1
+
+-- what a stop leaves after a batch: the base after it alone, or a row was under way
+abbrev pub LeavesAt : {D S X C : Type 0} → (Fields → Read X) → RowStep S X → (C → ℕ → C → Type 0) → (D → S → S → Type 0) → Option Text → Span S C → D → Result Counts BatchFault → Type 0
+LeavesAt form step gives leaves text span last (Ok counts) = leaves last span.after span.after
+LeavesAt form step gives leaves text span last (Err fault) = leaves last span.after span.after ⊎ IsUnderWay form step gives leaves text span last fault
+
+-- where a stop before the batch leaves a base alone that the desk stood for, one after it leaves the base after its rows, and perhaps that after the row that was under way
+abbrev pub LeavesBooks : {D S X C : Type 0} → (D → Type 0) → (D → S → Type 0) → (D → S → S → Type 0) → (Fields → Read X) → RowStep S X → (C → ℕ → C → Type 0) → Option Text → D → D → Outside C → Result Counts BatchFault → Type 0
+LeavesBooks {S = S} honest stands leaves form step gives text first last outside result =
+    honest last → (base : S) → stands first base → leaves first base base → (after : S) × stands last after
+    × BatchGives form step gives text (with_base base after outside) result × LeavesAt form step gives leaves text (with_base base after outside) last result
+
+-- what a run of a batch comes to, each way
+pub record Comes {D S X C : Type 0} (honest : D → Type 0) (stands : D → S → Type 0) (leaves : D → S → S → Type 0) (form : Fields → Read X) (step : RowStep S X) (gives : C → ℕ → C → Type 0)
     (text : Option Text) (first last : D) (outside : Outside C) (result : Result Counts BatchFault) : Type 0 where
   pub told : TellsAnswers form gives text outside result
   pub kept : KeepsBooks honest stands form step gives text first last outside result
+  pub left : LeavesBooks honest stands leaves form step gives text first last outside result

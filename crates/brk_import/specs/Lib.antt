@@ -1,5 +1,6 @@
 pub mod Moments
 pub mod Counts
+pub mod Leaving
 pub mod Answers
 pub mod Reading
 pub mod Batch

@@ -1,7 +1,7 @@
 ghost use Rattle.std.specs.Prelude.{◌≤◌, IfErr, IfOk, OnErr};
 ghost use Rattle.csv.specs.Records.{fields_of};
 ghost use Rattle.brk_model.specs.Run.{MayFail};
-ghost use Rattle.brk_import.specs.Answers.{AnsweredBy, Keeps, answer_of};
+ghost use Rattle.brk_import.specs.Answers.{AnsweredBy, Keeps, MayActBy, StandsBy, answer_of};
 ghost use Rattle.brk_import.specs.Moments.{AskedOnce};
 
 use crate::clock::Clock;
@@ -35,9 +35,10 @@ pub fn answer_row<C: Clock, D: Rows>(
     requires first { 1 ≤ n }
     requires last { n ≤ 67108864 }
     ensures earlier { D.honest desk.new → D.honest desk.old }
-    ensures ok { IfOk result (λ answer. AnsweredBy D.honest D.stands D.step C.gives (D.form (fields_of row.now)) batch.now n
+    ensures ok { IfOk result (λ answer. AnsweredBy D.honest (StandsBy D.stands D.leaves) D.step C.gives (D.form (fields_of row.now)) batch.now n
         (answer_of D.told answer) desk.old desk.new clock.old clock.new) }
     ensures kept { OnErr result (Keeps D.honest D.stands desk.old desk.new) }
+    ensures stop { OnErr result (MayActBy D.honest D.stands D.leaves D.step C.gives (D.form (fields_of row.now)) batch.now n desk.old desk.new clock.old clock.new) }
     ensures asked { OnErr result (AskedOnce C.gives clock.old clock.new) }
     ensures fault { IfErr result MayFail }
 {

@@ -4,7 +4,8 @@ ghost use Rattle.brk_model.specs.Input.{text_of};
 ghost use Rattle.brk_commands.specs.Kinds.{known_readers};
 ghost use Rattle.brk_model.specs.Parse.{parse_by};
 ghost use Rattle.brk_desk.specs.Keeping.{KeepsBase};
-ghost use Rattle.brk_import.specs.Batch.{KeepsBooks, TellsAnswers};
+ghost use Rattle.brk_import.specs.Batch.{KeepsBooks, LeavesBooks, TellsAnswers};
+ghost use Rattle.brk_import.specs.Leaving.{LeavesOneOf};
 ghost use Rattle.sqlite.specs.Held.{state};
 ghost use Rattle.sqlite.specs.State.{HasCleanDisk};
 
@@ -39,6 +40,11 @@ pub fn run_batch<R: Read + Drop, W: Write, C: Clock, S: Alter>(
     // desk kept, and it keeps those of the base after them.
     ensures kept { KeepsBooks (λ desk. HasCleanDisk (state S.Store desk)) (λ desk. KeepsBase S.Store desk) (parse_by known_readers) row_step C.gives
         (option_map text_of (R.remaining reader)) desk.old desk.new
+        (record { clock = clock.old; later = clock.new; old = W.contents writer.old; new = W.contents writer.new }) result }
+    // Where a stop before the batch leaves the tables of such a base alone, one after it leaves those of the base after
+    // them, and where the desk answered a row with a fault perhaps those after that row's command.
+    ensures left { LeavesBooks (λ desk. HasCleanDisk (state S.Store desk)) (λ desk. KeepsBase S.Store desk) (LeavesOneOf S.Store) (parse_by known_readers) row_step
+        C.gives (option_map text_of (R.remaining reader)) desk.old desk.new
         (record { clock = clock.old; later = clock.new; old = W.contents writer.old; new = W.contents writer.new }) result }
 {
     run(alloc, reader, writer, clock, desk)

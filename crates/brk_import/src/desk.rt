@@ -9,6 +9,7 @@ ghost use Rattle.brk_commands.specs.Commands.{command_of};
 ghost use Rattle.brk_commands.specs.Kinds.{known_readers};
 ghost use Rattle.brk_plans.specs.Replies.{reply_of};
 ghost use Rattle.brk_desk.specs.Keeping.{KeepsBase};
+ghost use Rattle.brk_import.specs.Leaving.{LeavesOneOf};
 ghost use Rattle.sqlite.specs.Held.{state};
 ghost use Rattle.sqlite.specs.State.{HasCleanDisk};
 
@@ -45,6 +46,8 @@ impl<S: Alter> Rows for Desk<S> {
     ghost honest = { λ desk. HasCleanDisk (state S.Store desk) };
 
     ghost stands = { λ desk. KeepsBase S.Store desk };
+
+    ghost leaves = { LeavesOneOf S.Store };
 
     ghost asked = { command_of };
 

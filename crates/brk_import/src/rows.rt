@@ -1,4 +1,4 @@
-ghost use Rattle.std.specs.Prelude.{◌≡◌, ◌≤◌, Err, IfErr, IfOk, OnErr, string_bytes};
+ghost use Rattle.std.specs.Prelude.{◌≡◌, ◌≤◌, Bool, Err, IfErr, IfOk, OnErr, string_bytes};
 ghost use Rattle.brk_money.specs.declared.fault.Fault.TheVariants.{Memory};
 ghost use Rattle.brk_model.specs.Answers.{Fields, RowStep};
 ghost use Rattle.brk_model.specs.Commands.{Reply};
@@ -6,7 +6,7 @@ ghost use Rattle.brk_model.specs.Forms.{Read};
 ghost use Rattle.brk_model.specs.Rows.{line_text};
 ghost use Rattle.brk_model.specs.Run.{MayFail};
 ghost use Rattle.brk_ref.specs.Fields.{Reads, texts};
-ghost use Rattle.brk_import.specs.Answers.{Acts, Keeps, answer_of};
+ghost use Rattle.brk_import.specs.Answers.{Acts, Keeps, MayAct, StandsBy, answer_of};
 
 use crate::answer::RowAnswer;
 use brk_money::{Fault, Planned, Stamp};
@@ -32,6 +32,9 @@ pub trait Rows {
 
     /// What is kept is that of this base.
     ghost stands: { Self → Base → Type 0 };
+
+    /// What a stop leaves is that of one of these two bases.
+    ghost leaves: { Self → Base → Base → Type 0 };
 
     ghost asked: { Self.Command → Asked };
 
@@ -60,9 +63,10 @@ pub trait Rows {
         requires first { 1 ≤ n }
         requires last { n ≤ 67108864 }
         ensures earlier { honest self.new → honest self.old }
-        ensures ok { IfOk result (λ answer.
-            Acts honest stands step self.old self.new now (asked command.now) (record { batch = batch.now; row = n }) (answer_of told answer)) }
+        ensures ok { IfOk result (λ answer. (sure : Bool) →
+            Acts honest (StandsBy stands leaves sure) step self.old self.new now (asked command.now) (record { batch = batch.now; row = n }) (answer_of told answer)) }
         ensures err { OnErr result (Keeps honest stands self.old self.new) }
+        ensures stop { OnErr result (MayAct honest stands leaves step self.old self.new now (asked command.now) (record { batch = batch.now; row = n })) }
         ensures fault { IfErr result MayFail };
 
     /// The fields of a reply, joined by commas.

@@ -58,6 +58,8 @@ impl Rows for Last {
 
     ghost stands = { λ desk base. base ≡ desk.moment };
 
+    ghost leaves = { λ _ _ _. Unit {0} };
+
     ghost asked = { λ command. command };
 
     ghost told = { λ moment. Booked moment };

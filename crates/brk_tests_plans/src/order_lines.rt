@@ -1,7 +1,7 @@
 use crate::fields::fields_of;
 use brk_commands::{line_text, parse_row, row_text};
 use brk_money::{Cents, Day, Id, Stamp};
-use brk_trade::{Completed, Reply};
+use brk_trade::{Amount, Completed, Reply};
 use std::alloc::Global;
 use std::process::Abort;
 use std::test::Fail;
@@ -74,21 +74,20 @@ fn cents(cents: i64) -> Result<Cents, Fail> {
     Ok(Cents::new(cents).ok_or("cents")?)
 }
 
-// A sum that is never below 0.
-fn sum(of: i64) -> Result<Cents, Fail> {
-    cents(of)
+fn amount(cents: u64) -> Result<Amount, Fail> {
+    Ok(Amount::new(cents).ok_or("amount")?)
 }
 
 #[test]
 fn the_line_of_a_result(rt: HostRuntime) -> Result<(), Fail> {
     let completed = Completed {
         stamp: Stamp::nearest(1_709_251_200_025),
-        commission: sum(3_300)?,
-        tax: sum(10_000)?,
+        commission: amount(3_300)?,
+        tax: amount(10_000)?,
         amount: cents(-343_800)?,
         due_day: Day::new(19_785).ok_or("a day")?,
-        buy_value: sum(275_000)?,
-        sell_value: sum(325_000)?,
+        buy_value: amount(275_000)?,
+        sell_value: amount(325_000)?,
         balance: cents(-5)?,
     };
     let wanted = "1709251200025,33.00,100.00,-3438.00,2024-03-03,2750.00,3250.00,-0.05";
