@@ -89,7 +89,9 @@ commission_within base account kind symbol qty price h q p = by_band (band_with 
     by_band : (o : Option Band) → band_with base (tier_of base account) kind (exchange_of base symbol) qty ≡ o
         → unwrap_or (option_map (λ b. commission b.rate qty price) o) 0 ≤ 10 ^ 13
     by_band None e = omega arith
-    by_band (Some b) e = commission_high b.rate qty price (rate_low b (find-All (λ b. band_form b ≡ true) _ base.bands b h e)) q p
+    by_band (Some b) e =
+        let c : commission b.rate qty price ≤ 9999989000001 = commission_high b.rate qty price (rate_low b (find-All (λ b. band_form b ≡ true) _ base.bands b h e)) q p in
+        let low : commission b.rate qty price ≤ 10 ^ 13 = omega (arith, c) in low
 
 -- ---- the completed trade
 
