@@ -64,6 +64,14 @@ module _ {S : Type 0} (g : Ghosts S) (old mid end : Held S) (settled : IsTrue (s
       opens (Ok v) h = h.1.0
       opens (Err e) h = tt
 
+-- a read in a transaction that was begun over a store's connection
+pub is_read_of : {S V E : Type 0} (g : Ghosts S) (old conn first mid end : Held S) (out : Result V E) (P : V → Tables → Type 0) → conn ≡ old → first ≡ begun conn
+    → (IsTrue (state g conn).is_open → (state g conn).now ≡ (state g conn).committed) → IsStep (state g first) (state g mid) out (λ v. Looks desk (P v))
+    → Survives (state g mid) (state g end) (λ _. ⊥) → (HasCleanDisk (state g end) → IsRolledBack (state g mid) (state g end)) → IsRead g old end out P
+is_read_of g old conn first mid end out P same first_is settled step late back =
+    subst (λ h. IsRead g h end out P) same
+    (is_read g conn mid end settled out P (subst (λ h. IsStep (state g h) (state g mid) out (λ v. Looks desk (P v))) first_is step) late back)
+
 -- ---- a look before the changes, which shows that the store is open
 
 module _ {S L E F : Type 0} (g : Ghosts S) (old first mid : Held S) (last : L) (P : L → Tables → Type 0) (look : IsStep {E = E} (state g (begun old)) (state g first) (Ok last) (λ l. Looks desk (P l)))

@@ -30,6 +30,7 @@ fn numbers_in(row: &BrokerRow) -> Option<BrokerNumbers>
     })
 }
 
+#[tactic(auto, using(crate::proofs::Ending::is_read_of))]
 impl<S: Alter> Store<S> {
     /// The numbers of a broker, where there is such a broker. Numbers beyond their limits are a fault.
     pub fn broker_numbers(&mut self, broker: Id) -> Result<Option<BrokerNumbers>, Fault>

@@ -16,6 +16,7 @@ use brk_ref::{AccountRow, BrokerRow, Customer, Kept, Key, TaxId};
 use sqlite::Alter;
 use std::alloc::Global;
 
+#[tactic(auto, using(crate::proofs::Ending::is_read_of))]
 impl<S: Alter> Store<S> {
     /// The stamp of the last accepted command.
     pub fn last(&mut self) -> Result<Option<Stamp>, Fault>

@@ -18,6 +18,7 @@ use brk_ref::{
 use sqlite::Alter;
 use std::alloc::Global;
 
+#[tactic(auto, using(crate::proofs::Ending::is_read_of))]
 impl<S: Alter> Store<S> {
     /// The permission of an account for a tax id.
     pub fn permission(&mut self, account: Id, tax_id: &TaxId) -> Result<Option<Permission>, Fault>

@@ -19,6 +19,7 @@ use brk_ref::{LastTrade, Symbol};
 use sqlite::Alter;
 use std::alloc::Global;
 
+#[tactic(auto, using(crate::proofs::Ending::is_read_of))]
 impl<S: Alter> Store<S> {
     /// The trade with an id.
     pub fn trade(&mut self, id: Id) -> Result<Option<TradeRow>, Fault>
