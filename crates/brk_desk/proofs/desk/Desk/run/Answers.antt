@@ -1,8 +1,9 @@
 use Rattle.std.proofs.Common.{◌≡◌, ◌∙◌, ◌<◌, ◌+◌, ◌++◌, ◌∷◌, [], Result, cond, ap, sym, subst, take, arith, rules, vec_len}
 use Rattle.std.specs.Result.{IsOk, is_ok}
 use Rattle.std.specs.Vec.{vec_capacity}
-use Rattle.std.proofs.lemmas.List.{append-nil, append_assoc, take_more}
+use Rattle.std.proofs.lemmas.List.{append-nil, append_assoc, take_all, take_more}
 use Rattle.brk_desk.specs.Keeping.{IsRun}
+use Rattle.brk_desk.proofs.Promise.{promise_kept}
 use Rattle.brk_desk.proofs.Running.{runs_more, runs_none}
 use Rattle.brk_desk.proofs.desk.Desk.run.Goals as goal
 
@@ -34,3 +35,11 @@ loop-made-init g c = record {
   ran = ([], c.reserve.ensures.items ∙ sym (append-nil c.args.out.now.items), runs_none g.S.Store c.args.self.now);
   room = search rules;
 }
+
+pub returns-clause-ran : goal.returns-clause-ran
+returns-clause-ran g c =
+    let calls = c.args.calls.now in
+    let ran = c.loop-made.invariant.ran in
+    let whole : IsRun g.S.Store c.args.self.now c.loop-made.self calls ran.0 =
+    subst (λ done. IsRun g.S.Store c.args.self.now c.loop-made.self done ran.0) (take_all c.loop-made.made-index calls c.loop-made-test.false) ran.2 in
+    (ran.0, ran.1, whole, promise_kept g.S.Store c.args.self.now c.loop-made.self calls ran.0 whole)
