@@ -50,8 +50,8 @@ impl<S: Alter> Desk<S> {
         Desk { store }
     }
 
-    /// Decides on a command at a moment and books it where it is accepted: by one change of the tables, which is the
-    /// last call of the database. Under a key a command acts once: accepted it is kept, and where the key is kept the
+    /// Decides on a command at a moment and books it where it is accepted: by one change of the tables, after which the
+    /// store has committed what it holds. Under a key a command acts once: accepted it is kept, and where the key is kept the
     /// same command is answered with its line, and another is refused with 19. At a refusal or a fault the tables are as
     /// they were, and no key is kept.
     pub fn call(
