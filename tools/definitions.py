@@ -20,6 +20,7 @@ FILES = {
     'Tables': 'tables',
     'Keys': 'tables',
     'Orders': 'Trade-Order',
+    'OrderTypes': 'Trade-Order',
     'Feed': 'Market-Feed',
     'Results': 'Trade-Result',
     'Updates': 'own (named after Trade-Update)',

@@ -1,5 +1,5 @@
 #!/usr/bin/env python3
-"""Writes the parts of the crates brk_tables_form, brk_tables_reference and brk_tables_trading that follow from the list of
+"""Writes the parts of the crates brk_tables_form, brk_tables_reference, brk_tables_trading and brk_tables_whole that follow from the list of
 tables and statements below: the shapes and cells of the tables and which text makes which table (brk_tables_form), and what
 each SQL text means over any schema (in the crate of the statement). Run it at the top of the repository after a change of the
 list; `.ci/run` does so first. It lays out what it wrote by `rt fmt`, so where nothing changed it leaves the tree as it was, and
@@ -654,6 +654,51 @@ STATEMENTS = {
     ],
 }
 
+def key_columns(d):
+    """The columns of a table's key, which are its first"""
+    return [c[0] for c in d[7][:1 if d[6] else KEYS[d[0]]]]
+
+def whole_name(d):
+    return f'All{d[2].removeprefix("The")}'
+
+# the reads of whole tables
+STATEMENTS['brk_tables_whole'] = [(select, whole_name(d), d[0], [], [(c, False) for c in key_columns(d)]) for d in DATA]
+
+def cell_at(d, c, row):
+    """How a row shows a column"""
+    return next(shown for name, _, shown, _ in d[7] if name == c).replace('r.', f'{row}.')
+
+def whole():
+    """What the read of each whole table shows of it"""
+    out = f"""-- Written by tools/tables.py: what the read of each whole table shows.
+use Rattle.std.proofs.Common.{{◌≡◌, List, [], pos, refl}}
+use Rattle.sqlite_value.specs.declared.value.Value.TheVariants.{{Int, Text as Words}}
+use Rattle.sqlite_value.specs.Order.{{Row, column}}
+use Rattle.sqlite.specs.State.{{State, Shown}}
+use Rattle.brk_money.specs.Kinds.{{type_code, status_code}}
+use Rattle.brk_model.specs.Keys.{{{', '.join(d[4] for d in DATA[1:])}}}
+use Rattle.brk_rows.proofs.Texts.{{read}}
+use Rattle.brk_tables_form.specs.Cells.{{nat}}
+use Rattle.brk_tables_form.specs.Desk.{{{', '.join(d[2] for d in DATA)}, desk_key}}
+use Rattle.brk_tables_form.proofs.Order.{{key_total}}
+use Rattle.brk_tables_whole.specs.Whole.{{ShowsAll}}
+use Rattle.brk_tables_whole.proofs.Whole.{{shows_all}}
+use Rattle.brk_tables_whole.proofs.Keyed.{{{', '.join(d[0] + '_once' for d in DATA)}}}
+{chr(10).join(f'use Rattle.brk_tables_whole.proofs.{whole_name(d)}' for d in DATA)}
+"""
+    for d in DATA:
+        n = whole_name(d)
+        at = lambda c: 0 if d[6] and c == d[7][0][0] else [k[0] for k in d[7]].index(c) + 1
+        lets = ''.join(f'let p{i} : column a {at(c)} ≡ {cell_at(d, c, "x")} = cc in let q{i} : column b {at(c)} ≡ {cell_at(d, c, "y")} = cc in ' for i, c in enumerate(key_columns(d)))
+        rws = ', '.join(f'p{i}, q{i}' for i, c in enumerate(key_columns(d)))
+        out += f"""
+pub {d[0]}_shown : (old new : State) (rows : List Row) → Shown {n}.statement [] old new rows → ShowsAll {d[2]} rows old.now
+{d[0]}_shown old new rows shown =
+    shows_all {d[2]} (key_total {d[4]}) {d[0]}_once {n}.statement (read {n}.statement) {n}.project {n}.order {n}.names {n}.understood_as (λ tree r. refl)
+    (λ tree a b x y e f. {lets}rw ({rws}) refl) old new rows shown
+"""
+    save('crates/brk_tables_whole/proofs/Shown.antt', out)
+
 def lay_out():
     """Lays out the crates that were written to, and gives each file that came out as it was its time again"""
     for crate in STATEMENTS:
@@ -673,6 +718,7 @@ if __name__ == '__main__':
     splits()
     making()
     probing()
+    whole()
     texts = [create_text(table) for table in DATA]
     for crate, statements in STATEMENTS.items():
         texts += [write_one(crate, *parts) for write_one, *parts in statements]

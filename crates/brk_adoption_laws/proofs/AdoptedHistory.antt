@@ -55,7 +55,7 @@ of_trade : (t : Tables) (id : ℕ) → AllByRecursion (λ h. h.trade ≡ id) (hi
 of_trade t id = All-map (history_in t id) (λ h e. eqb-true h.trade id e) (all_pass (λ h. h.trade == id) t.history)
 
 -- the statuses of one trade, in the order of their stamps, are put in as its rows are
-own_rows : (t : Tables) (r : TradeRow) (s : List HistoryRow) → Climbs history_key t.history
+pub own_rows : (t : Tables) (r : TradeRow) (s : List HistoryRow) → Climbs history_key t.history
     → each (insert_row history_key) (history_rows (trade_of_row t r)) s ≡ each (insert_row history_key) (history_in t r.id) s
 own_rows t r s c =
     let hs : List HistoryRow = history_in t r.id in
@@ -109,7 +109,7 @@ both_all : {X : Type 0} (P Q : X → Type 0) (xs : List X) → AllByRecursion P 
 both_all P Q [] g h = tt
 both_all P Q (x ∷ xs) g h = ((g.0, h.0), both_all P Q xs g.1 h.1)
 
-joined : (t : Tables) → Climbs history_key t.history → Climbs trade_key t.trades → AllByRecursion (λ h. history_form t h ≡ true) t.history
+pub joined : (t : Tables) → Climbs history_key t.history → Climbs trade_key t.trades → AllByRecursion (λ h. history_form t h ≡ true) t.history
     → flat_map (λ r. history_in t r.id) t.trades ≡ t.history
 joined t c d f =
     same_rows history_key (flat_map (λ r. history_in t r.id) t.trades) t.history (histories_climb t t.trades c d) c

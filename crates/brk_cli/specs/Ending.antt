@@ -1,5 +1,5 @@
 -- The exit status of each ending.
-use Rattle.std.specs.Prelude.{ℕ}
+use Rattle.std.specs.Prelude.{ℕ, Result, Ok, Err}
 use Rattle.brk_money.specs.declared.fault.Fault.{Fault}
 use Rattle.brk_money.specs.declared.fault.Fault.TheVariants as fault
 use Rattle.brk_import.specs.declared.batch_fault.FaultKind.{FaultKind}
@@ -32,3 +32,8 @@ status_of ending.Output = 3
 status_of (ending.Usage (usage.Help text)) = 0
 status_of (ending.Usage (usage.Words text)) = 2
 status_of (ending.Usage usage.Memory) = 3
+
+-- a close that failed is told where nothing else was
+abbrev pub after_close : Ending → Result (Unit {0}) Fault → Ending
+after_close ending.Done (Err fault) = ending.Open fault
+after_close ending closed = ending

@@ -1,26 +1,50 @@
-use crate::ending::Ending;
+use crate::ending::{Ending, after_close};
+use crate::file;
 use crate::moment::Moments;
 use brk_desk::Desk;
 use brk_import::run_batch;
 use brk_money::{Fault, Stamp};
 use brk_store::Store;
-use sqlite::Connection;
+use sqlite::{Alter, Connection};
 
-/// Runs a batch from standard input over a new database in memory, with its lines on standard output.
-pub fn run(rt: &HostRuntime, at: Option<Stamp>) -> Ending {
-    let alloc = rt.alloc();
-    let Ok(conn) = Connection::open_in_memory(alloc) else {
-        return Ending::Open(Fault::Store);
-    };
-    let store = match Store::create(conn) {
-        Ok(store) => store,
-        Err((_, fault)) => return Ending::Open(fault),
-    };
-    let mut desk = Desk::new(store);
+// Runs a batch from standard input over a desk, with its lines on standard output.
+fn book<S: Alter>(rt: &HostRuntime, at: Option<Stamp>, desk: &mut Desk<S>) -> Ending {
     let mut clock = Moments::new(rt, at);
     let mut lines = rt.stdout();
-    match run_batch(alloc, rt.reader(), &mut lines, &mut clock, &mut desk) {
+    match run_batch(rt.alloc(), rt.reader(), &mut lines, &mut clock, desk) {
         Ok(_) => Ending::Done,
         Err(fault) => Ending::Batch(fault),
+    }
+}
+
+// Over a new database in memory.
+fn run_in_memory(rt: &HostRuntime, at: Option<Stamp>) -> Ending {
+    let Ok(conn) = Connection::open_in_memory(rt.alloc()) else {
+        return Ending::Open(Fault::Store);
+    };
+    match Store::create(conn) {
+        Ok(store) => book(rt, at, &mut Desk::new(store)),
+        Err((_, fault)) => Ending::Open(fault),
+    }
+}
+
+// Over the file at a path, which is closed at the end.
+fn run_on_file(rt: &HostRuntime, path: &str, at: Option<Stamp>) -> Ending {
+    let store = match file::open_or_make(rt, path) {
+        Ok(store) => store,
+        Err(fault) => return Ending::Open(fault),
+    };
+    let mut desk = Desk::new(store);
+    let ending = book(rt, at, &mut desk);
+    let closed = file::close(desk.into_store());
+    after_close(ending, closed)
+}
+
+/// Runs a batch from standard input, over the file at a path or a new database in memory, with its lines on standard
+/// output.
+pub fn run(rt: &HostRuntime, db: Option<&str>, at: Option<Stamp>) -> Ending {
+    match db {
+        Some(path) => run_on_file(rt, path, at),
+        None => run_in_memory(rt, at),
     }
 }

@@ -11,7 +11,7 @@ use std::io::Write;
 pub enum Ending {
     /// All was done, also where rows were refused.
     Done,
-    /// No desk was opened.
+    /// The database could not be opened as a desk's, or not be closed.
     Open(Fault),
     /// The batch ended early.
     Batch(BatchFault),
@@ -74,6 +74,17 @@ fn status(ending: &Ending) -> u8
         Ending::Usage(UsageFault::Help(_)) => 0,
         Ending::Usage(UsageFault::Words(_)) => 2,
         Ending::Usage(UsageFault::Memory) => 3,
+    }
+}
+
+/// How the program ends once the database was closed: the first fault is told, so that of the close only where there was
+/// no other.
+pub fn after_close(ending: Ending, closed: Result<(), Fault>) -> Ending
+    ensures { result ≡ spec.after_close ending closed }
+{
+    match (ending, closed) {
+        (Ending::Done, Err(fault)) => Ending::Open(fault),
+        (ending, _) => ending,
     }
 }
 

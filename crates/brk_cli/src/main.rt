@@ -1,13 +1,16 @@
 //! The program `brk`: a brokerage desk at the command line.
 #![tactic(auto)]
 
+mod audit;
 mod batch;
 mod ending;
+mod file;
 mod moment;
 mod words;
 
 use crate::ending::{Ending, end_with};
 use crate::words::{Job, UsageFault, read_words};
+use std::alloc::AllocError;
 use std::env;
 use std::process::ExitCode;
 
@@ -16,11 +19,13 @@ fn run(rt: &HostRuntime) -> Ending {
     let Ok(words) = env::args(rt) else {
         return Ending::Usage(UsageFault::Memory);
     };
-    let Ok(words) = words.collect(rt.alloc()) else {
+    let all: Result<Vec<String>, AllocError> = words.collect(rt.alloc());
+    let Ok(all) = all else {
         return Ending::Usage(UsageFault::Memory);
     };
-    match read_words(rt.alloc(), words) {
-        Ok(Job::Batch { at }) => batch::run(rt, at),
+    match read_words(rt.alloc(), &all) {
+        Ok(Job::Batch { db, at }) => batch::run(rt, db, at),
+        Ok(Job::Audit { db }) => audit::run(rt, db),
         Err(UsageFault::Help(text)) => show(rt, text),
         Err(fault) => Ending::Usage(fault),
     }

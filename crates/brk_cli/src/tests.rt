@@ -1,40 +1,48 @@
 use crate::ending::{Ending, end_with};
+use crate::file;
 use crate::words::{Job, UsageFault, read_words};
 use brk_import::{BatchFault, FaultKind};
 use brk_money::{Condition, Fault, Stamp};
-use std::alloc::Global;
-use std::io;
 use std::io::Write;
 use std::test::Fail;
-
-fn read(alloc: Global, words: &[&str]) -> Result<Result<Job, UsageFault>, Fail> {
-    let mut all = Vec::new(alloc);
-    for word in words {
-        all.push(String::from_str(alloc, word)?)?;
-    }
-    Ok(read_words(alloc, all))
-}
+use std::{fs, io};
 
 #[test]
-fn reads_a_batch(rt: HostRuntime) -> Result<(), Fail> {
-    let job = read(rt.alloc(), &["brk", "batch"])?.map_err(|_| "refused")?;
-    assert!(rt; job == Job::Batch { at: None });
+fn reads_a_batch(rt: HostRuntime) {
+    let job = read_words(rt.alloc(), &["brk", "batch"]);
+    assert!(rt; matches!(job, Ok(Job::Batch { db: None, at: None })));
+    let job = read_words(rt.alloc(), &["brk", "batch", "--db", "a b.db"]);
+    assert!(rt;
+        matches!(
+            job,
+            Ok(Job::Batch {
+                db: Some("a b.db"),
+                at: None
+            })
+        )
+    );
     for (text, millis) in [
         ("0", 0),
         ("1709251200000", 1_709_251_200_000),
         ("253402300799999", 253_402_300_799_999),
     ] {
         let words = ["brk", "batch", "--at", text];
-        let job = read(rt.alloc(), &words)?.map_err(|_| "refused")?;
-        let at = Stamp::new(millis);
-        assert!(rt; at.is_some() && job == Job::Batch { at }, "{text}");
+        let stamp = Stamp::new(millis);
+        let read =
+            matches!(read_words(rt.alloc(), &words), Ok(Job::Batch { db: None, at }) if at == stamp);
+        assert!(rt; stamp.is_some() && read, "{text}");
     }
-    Ok(())
 }
 
 #[test]
-fn refuses_wrong_words(rt: HostRuntime) -> Result<(), Fail> {
-    let wrong: [&[&str]; 8] = [
+fn reads_an_audit(rt: HostRuntime) {
+    let job = read_words(rt.alloc(), &["brk", "audit", "--db", "a.db"]);
+    assert!(rt; matches!(job, Ok(Job::Audit { db: "a.db" })));
+}
+
+#[test]
+fn refuses_wrong_words(rt: HostRuntime) {
+    let wrong: [&[&str]; 13] = [
         &["brk"],
         &["brk", "bath"],
         &["brk", "batch", "first.csv"],
@@ -43,12 +51,16 @@ fn refuses_wrong_words(rt: HostRuntime) -> Result<(), Fail> {
         &["brk", "batch", "--at=-1"],
         &["brk", "batch", "--at", "253402300800000"],
         &["brk", "batch", "--at", "1", "--at", "2"],
+        &["brk", "batch", "--db"],
+        &["brk", "batch", "--db", "a.db", "--db", "b.db"],
+        &["brk", "audit"],
+        &["brk", "audit", "a.db"],
+        &["brk", "audit", "--db", "a.db", "--at", "1"],
     ];
     for words in wrong {
-        let refused = matches!(read(rt.alloc(), words)?, Err(UsageFault::Words(_)));
+        let refused = matches!(read_words(rt.alloc(), words), Err(UsageFault::Words(_)));
         assert!(rt; refused, "{words:?}");
     }
-    Ok(())
 }
 
 fn batch(kind: FaultKind) -> Ending {
@@ -69,9 +81,9 @@ fn tells_each_ending(rt: HostRuntime) -> Result<(), Fail> {
         (Ending::Open(Fault::Memory), 3, "brk: fault: memory\n"),
         (Ending::Open(Fault::Store), 3, "brk: fault: store\n"),
         (
-            Ending::Open(Fault::Damaged(Condition::NotEmpty)),
+            Ending::Open(Fault::Damaged(Condition::Summary)),
             1,
-            "brk: damaged: notempty\n",
+            "brk: damaged: summary\n",
         ),
         (batch(FaultKind::BadHeader), 1, "brk: batch: bad header\n"),
         (batch(FaultKind::NoEnd), 1, "brk: batch: no end\n"),
@@ -110,4 +122,68 @@ impl Write for Closed {
 fn answers_its_status_to_a_closed_stream(rt: HostRuntime) {
     assert_eq!(rt; end_with(&batch(FaultKind::NoEnd), &mut Closed), 1);
     assert_eq!(rt; end_with(&Ending::Done, &mut Closed), 0);
+}
+
+const FOLDER: &str = "brk_cli_files";
+
+// What is wrong with the desk at a path, where a missing one is made, or not.
+fn told(rt: &HostRuntime, path: &str, makes: bool) -> Option<Fault> {
+    let opened = if makes {
+        file::open_or_make(rt, path)
+    } else {
+        file::open(rt, path)
+    };
+    match opened.and_then(file::close) {
+        Ok(()) => None,
+        Err(fault) => Some(fault),
+    }
+}
+
+const SCHEMA: Option<Fault> = Some(Fault::Damaged(Condition::Schema));
+
+const STORE: Option<Fault> = Some(Fault::Store);
+
+// Paths, and what is told of each by an audit, by a batch, and then by an audit once more.
+const PATHS: [(&str, [Option<Fault>; 3]); 6] = [
+    ("brk_cli_files/missing.db", [SCHEMA, None, None]),
+    ("brk_cli_files/empty.db", [SCHEMA, None, None]),
+    ("brk_cli_files/text.db", [STORE, STORE, STORE]),
+    ("brk_cli_files", [STORE, STORE, STORE]),
+    ("brk_cli_files/none/a.db", [SCHEMA, STORE, SCHEMA]),
+    ("", [SCHEMA, STORE, SCHEMA]),
+];
+
+#[test]
+fn tells_what_lies_at_a_path(rt: HostRuntime) -> Result<(), Fail> {
+    let _ = fs::remove_dir_all(&rt, FOLDER);
+    fs::create_dir(&rt, FOLDER)?;
+    fs::write(&rt, "brk_cli_files/empty.db", b"".as_slice())?;
+    fs::write(&rt, "brk_cli_files/text.db", "A text, and no database.")?;
+    for (path, [audited, booked, then]) in PATHS {
+        let was_there = fs::exists(&rt, path)?;
+        assert!(rt; told(&rt, path, false) == audited, "{path}: an audit");
+        assert!(rt;
+            fs::exists(&rt, path)? == was_there,
+            "{path}: made by an audit"
+        );
+        assert!(rt; told(&rt, path, true) == booked, "{path}: a batch");
+        assert!(rt;
+            told(&rt, path, false) == then,
+            "{path}: an audit after a batch"
+        );
+    }
+    fs::remove_dir_all(&rt, FOLDER)?;
+    Ok(())
+}
+
+#[test]
+fn a_new_file_stands_without_its_log(rt: HostRuntime) -> Result<(), Fail> {
+    let _ = fs::remove_dir_all(&rt, "brk_cli_log");
+    fs::create_dir(&rt, "brk_cli_log")?;
+    let made = file::open_or_make(&rt, "brk_cli_log/a.db").is_ok();
+    assert!(rt; made);
+    fs::remove_file(&rt, "brk_cli_log/a.db-wal")?;
+    assert!(rt; told(&rt, "brk_cli_log/a.db", false).is_none());
+    fs::remove_dir_all(&rt, "brk_cli_log")?;
+    Ok(())
 }

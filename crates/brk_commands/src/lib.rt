@@ -2,6 +2,7 @@
 #![tactic(auto)]
 
 pub mod command;
+pub mod in_form;
 pub mod line;
 pub mod order_row;
 pub mod parse;
@@ -9,6 +10,7 @@ mod parse_order;
 pub mod row;
 
 pub use command::Command;
+pub use in_form::{command_is_in_form, key_is_in_form};
 pub use line::line_text;
 pub use order_row::{cancel_text, feed_text, order_text, result_text};
 pub use parse::parse_row;

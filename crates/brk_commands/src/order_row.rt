@@ -4,12 +4,13 @@
 ghost use Rattle.std.specs.Prelude.{◌≡◌, ◌∷◌, ◌++◌, [], IfOk, OnOk, codes, drop, string_bytes, take};
 ghost use Rattle.std.specs.List.{join_with_byte};
 ghost use Rattle.std.specs.Option.{option_map_or};
+ghost use Rattle.brk_money.specs.OrderTypes.{price_asked};
 ghost use Rattle.brk_model.specs.Commands.{CancelTrade, FeedTicks, PlaceOrder};
 ghost use Rattle.brk_model.specs.Rows as model;
 ghost use Rattle.brk_orders.specs.Records.{order_of, result_of, tick_of, ticks_of};
 ghost use Rattle.brk_commands.specs.Fields.{more_fields};
 
-use brk_money::{Id, Price, Wide};
+use brk_money::{Id, OrderType, Wide};
 use brk_orders::{Completion, Order, Tick};
 use std::alloc::{AllocError, Global};
 
@@ -34,17 +35,17 @@ fn asked_text(alloc: Global, order: &Order) -> Result<String, AllocError>
     format!(in alloc;
         "order\x1f{}\x1f{}\x1f{}\x1f{}",
         order.account.get(),
-        order.kind.code(),
+        order.order_type.kind().code(),
         order.symbol.as_str(),
         order.qty.get()
     )
 }
 
 // Adds the price that an order asks for; an empty field where it asks for none.
-fn add_price(row: &mut String, price: Option<Price>) -> Result<(), AllocError>
-    ensures { OnOk result (string_bytes row.new ≡ string_bytes row.old ++ more_fields 31 (option_map_or model.price_text price [] ∷ [])) }
+fn add_price(row: &mut String, order_type: OrderType) -> Result<(), AllocError>
+    ensures { OnOk result (string_bytes row.new ≡ string_bytes row.old ++ more_fields 31 (option_map_or model.price_text (price_asked order_type) [] ∷ [])) }
 {
-    match price {
+    match order_type.price() {
         Some(price) => write!(row, "\x1f{}", Wide::from(price)),
         None => row.push_str("\x1f"),
     }
@@ -70,7 +71,7 @@ pub fn order_text(alloc: Global, order: &Order) -> Result<String, AllocError>
     ensures { IfOk result (λ row. string_bytes row ≡ model.row_text (PlaceOrder (order_of order.now))) }
 {
     let mut row = asked_text(alloc, order)?;
-    add_price(&mut row, order.price)?;
+    add_price(&mut row, order.order_type)?;
     add_manner(&mut row, order)?;
     Ok(row)
 }

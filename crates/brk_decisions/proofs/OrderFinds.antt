@@ -9,13 +9,13 @@ use Rattle.brk_model.specs.Lists.{total_by}
 use Rattle.brk_model.specs.PositionView.{asset_total}
 use Rattle.brk_model.specs.Records.{Customer}
 use Rattle.brk_model.specs.Tables.{AccountRow, LastTradeRow, Tables}
+use Rattle.brk_money.specs.OrderTypes.{kind_of}
 use Rattle.brk_money.specs.declared.refusal.Refusal.TheVariants.{NoAccount}
 use Rattle.brk_orders.specs.declared.order.Order.{Order}
 use Rattle.brk_model.specs.Orders.{permitted}
-use Rattle.brk_ref.specs.Records.{customer_of, executor_of}
+use Rattle.brk_ref.specs.Records.{account_row_of, customer_of, executor_of}
 use Rattle.brk_ref.specs.declared.account.AccountRow as ref
 use Rattle.brk_ref.specs.declared.customer.Customer as customer
-use Rattle.brk_tables_form.specs.Records.{account_row_of}
 use Rattle.brk_changes.specs.Rows.{summary_row_of}
 use Rattle.brk_trade.specs.declared.order.OrderFound.{OrderFound}
 use Rattle.brk_changes.specs.declared.summary_row.SummaryRow.{SummaryRow}
@@ -54,9 +54,9 @@ all_found t order a c tested amounts k x y there = record {
   last_price = λ p. x.last_price;
   is_permitted = λ p. if_customer t order.account a c there k
       (λ c. tested.is_permitted ≡ permitted c (permission_in t order.account order.executor.tax_id) (executor_of order.executor)) x.is_permitted;
-  charge = λ p. if_customer t order.account a c there k (λ c. tested.charge ≡ charge_in t order.kind c.tier) x.charge;
+  charge = λ p. if_customer t order.account a c there k (λ c. tested.charge ≡ charge_in t (kind_of order.order_type) c.tier) x.charge;
   rate = λ p. if_customer t order.account a c there k
-      (λ c. IfSome (security_in t order.symbol) (λ s. tested.rate ≡ option_map (λ b. b.rate) (band_in t c.tier order.kind s.exchange order.qty))) x.rate;
+      (λ c. IfSome (security_in t order.symbol) (λ s. tested.rate ≡ option_map (λ b. b.rate) (band_in t c.tier (kind_of order.order_type) s.exchange order.qty))) x.rate;
   rates = λ p. if_account t order.account a c there k (λ a. amounts.rates ≡ rates_of t a.customer) y.rates;
   assets = λ p. if_account t order.account a c there k (λ a. amounts.assets ≡ a.balance +ℤ asset_total t a) y.assets;
 }

@@ -11,7 +11,7 @@ use Rattle.brk_money.specs.declared.refusal.Refusal.TheVariants.{WrongStatus}
 use Rattle.brk_money.specs.declared.status.Status.TheVariants.{Submitted}
 use Rattle.brk_ref.specs.declared.account.AccountRow as ref
 use Rattle.brk_ref.specs.declared.customer.Customer as customer
-use Rattle.brk_tables_form.specs.Records.{account_row_of}
+use Rattle.brk_ref.specs.Records.{account_row_of}
 use Rattle.brk_changes.specs.Rows.{summary_row_of, trade_row_of}
 use Rattle.brk_changes.specs.declared.broker_numbers.BrokerNumbers.{BrokerNumbers}
 use Rattle.brk_trade.specs.declared.result_found.ResultFound.{ResultFound}

@@ -5,12 +5,12 @@ use Rattle.brk_model.specs.Joins.{account_in, price_in, security_in}
 use Rattle.brk_model.specs.Lists.{total_by}
 use Rattle.brk_model.specs.Orders.{permitted}
 use Rattle.brk_model.specs.Tables.{SummaryRow, Tables}
+use Rattle.brk_money.specs.OrderTypes.{kind_of}
 use Rattle.brk_money.specs.Spelling.{Text}
 use Rattle.brk_orders.specs.declared.order.Order.{Order}
-use Rattle.brk_ref.specs.Records.{customer_of, executor_of}
+use Rattle.brk_ref.specs.Records.{account_row_of, customer_of, executor_of}
 use Rattle.brk_ref.specs.declared.account.AccountRow.{AccountRow}
 use Rattle.brk_ref.specs.declared.customer.Customer.{Customer}
-use Rattle.brk_tables_form.specs.Records.{account_row_of}
 use Rattle.brk_changes.specs.Rows.{holding_row_of}
 use Rattle.brk_trade.specs.declared.order.OrderFound.{OrderFound}
 use Rattle.brk_changes.specs.declared.holding_row.HoldingRow.{HoldingRow}
@@ -28,8 +28,8 @@ IsCustomer t id customer = find (λ r. r.id == id) t.customers ≡ Some (custome
 pub record AreTested (t : Tables) (order : Order) (customer : Customer) (tested : Tested) : Type 0 where
   pub last_price : tested.last_price ≡ last_price_in t order.symbol
   pub is_permitted : tested.is_permitted ≡ permitted (customer_of customer) (permission_in t order.account order.executor.tax_id) (executor_of order.executor)
-  pub charge : tested.charge ≡ charge_in t order.kind customer.tier
-  pub rate : IfSome (security_in t order.symbol) (λ s. tested.rate ≡ option_map (λ b. b.rate) (band_in t customer.tier order.kind s.exchange order.qty))
+  pub charge : tested.charge ≡ charge_in t (kind_of order.order_type) customer.tier
+  pub rate : IfSome (security_in t order.symbol) (λ s. tested.rate ≡ option_map (λ b. b.rate) (band_in t customer.tier (kind_of order.order_type) s.exchange order.qty))
 
 -- the worth of a summary at the last price of its symbol
 abbrev pub worth_in : Tables → SummaryRow → ℤ

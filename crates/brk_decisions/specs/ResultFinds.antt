@@ -7,10 +7,9 @@ use Rattle.brk_model.specs.Tables.{AccountRow, SecurityRow, Tables}
 use Rattle.brk_money.specs.Kinds.{same_status}
 use Rattle.brk_money.specs.Spelling.{Text}
 use Rattle.brk_money.specs.declared.status.Status.TheVariants.{Submitted}
-use Rattle.brk_ref.specs.Records.{security_of}
+use Rattle.brk_ref.specs.Records.{account_row_of, security_of}
 use Rattle.brk_ref.specs.declared.account.AccountRow as ref
 use Rattle.brk_ref.specs.declared.security.Security.{Security}
-use Rattle.brk_tables_form.specs.Records.{account_row_of}
 use Rattle.brk_changes.specs.Rows.{trade_row_of}
 use Rattle.brk_changes.specs.declared.broker_numbers.BrokerNumbers.{BrokerNumbers}
 use Rattle.brk_trade.specs.declared.result_found.ResultFound.{ResultFound}

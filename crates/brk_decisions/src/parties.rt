@@ -5,7 +5,7 @@ ghost use Rattle.brk_decisions.specs.ResultFinds.{AreParties};
 ghost use Rattle.brk_model.specs.Joins.{account_in};
 ghost use Rattle.brk_model.specs.Run.{MayFail};
 ghost use Rattle.brk_store.specs.Holds.{IsRead};
-ghost use Rattle.brk_tables_form.specs.Records.{account_row_of};
+ghost use Rattle.brk_ref.specs.Records.{account_row_of};
 
 use crate::amounts::find_rates;
 use crate::known::{known_account, known_customer, known_numbers};

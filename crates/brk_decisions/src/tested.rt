@@ -1,6 +1,7 @@
 //! What an order of an account that is there is tested for.
 
 ghost use Rattle.std.specs.Prelude.{◌≡◌, IfErr, IfSome, option_map};
+ghost use Rattle.brk_money.specs.OrderTypes.{kind_of};
 ghost use Rattle.brk_trade_laws.specs.OrderPlans.{charge_in, last_price_in};
 ghost use Rattle.brk_trade_laws.specs.TradeReads.{band_in, permission_in};
 ghost use Rattle.brk_decisions.specs.Finds.{AreTested};
@@ -98,7 +99,7 @@ fn find_order_rate<S: Alter>(
     tier: Tier,
 ) -> Result<Option<Rate>, Fault>
     ensures read { IsRead S.Store store.old store.new result (λ rate t.
-        IfSome (security_in t order.now.symbol) (λ s. rate ≡ option_map (λ b. b.rate) (band_in t tier order.now.kind s.exchange order.now.qty))) }
+        IfSome (security_in t order.now.symbol) (λ s. rate ≡ option_map (λ b. b.rate) (band_in t tier (kind_of order.now.order_type) s.exchange order.now.qty))) }
     ensures fault { IfErr result MayFail }
 {
     match store.security(&order.symbol)? {
@@ -107,7 +108,7 @@ fn find_order_rate<S: Alter>(
                 alloc,
                 store,
                 tier,
-                order.kind,
+                order.order_type.kind(),
                 &security.exchange,
                 order.qty,
             )?;
@@ -130,7 +131,7 @@ pub(crate) fn find_tested<S: Alter>(
     let tier = customer.tier;
     let last_price = find_price(store, &order.symbol)?;
     let is_permitted = find_permission(store, order.account, customer, &order.executor)?;
-    let charge = find_charge(store, order.kind, tier)?;
+    let charge = find_charge(store, order.order_type.kind(), tier)?;
     let rate = find_order_rate(alloc, store, order, tier)?;
     Ok(Tested {
         last_price,

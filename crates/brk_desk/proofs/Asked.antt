@@ -29,6 +29,7 @@ use Rattle.brk_store.specs.Holds.{IsRead}
 use Rattle.brk_decisions.specs.Decisions.{Tells}
 use Rattle.brk_desk.specs.Asking.{Shows}
 use Rattle.brk_desk.specs.Keeping.{IsAsked}
+use Rattle.brk_desk.proofs.Seen.{still_kept}
 
 -- the submitted rows that were read show what is at the market
 pub submitted_shown : (rows given : List TradeRow) (view : View) → given ≡ rows
@@ -56,7 +57,7 @@ pub is_asked : {S : Type 0} (g : Ghosts S) (old new : Held S) (query : Query) (r
     → IfErr result MayFail → IsAsked g old new query result
 is_asked g old new query (Ok seen) read may = record {
   answered = λ clean base keeps. read.told clean (sheets base) keeps.rows base keeps.books refl;
-  kept = λ base keeps. record { books = keeps.books; rows = read.kept (sheets base) keeps.rows };
+  kept = λ base keeps. still_kept g old new base (read.kept (sheets base)) keeps;
   fault = may;
   survives = read.survives;
   same = read.same;
@@ -64,7 +65,7 @@ is_asked g old new query (Ok seen) read may = record {
 }
 is_asked g old new query (Err fault) read may = record {
   answered = λ clean. tt;
-  kept = λ base keeps. record { books = keeps.books; rows = read.kept (sheets base) keeps.rows };
+  kept = λ base keeps. still_kept g old new base (read.kept (sheets base)) keeps;
   fault = may;
   survives = read.survives;
   same = read.same;

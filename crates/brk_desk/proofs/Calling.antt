@@ -1,4 +1,6 @@
 -- A command over what was read: it fails, is answered again, is refused, or is booked.
+use Rattle.brk_model.specs.Form.{has_texts}
+use Rattle.std.specs.Prelude.{IfSome}
 use Rattle.std.proofs.Common.{◌≡◌, ◌∙◌, ℕ, Bool, true, false, List, if◌then◌else◌, Result, Ok, Err, IfOk, OnErr, None, Some, Option, refl, sym, ap, subst, inl}
 use Rattle.sqlite_trees.specs.declared.store.Store.{Ghosts}
 use Rattle.sqlite.specs.Held.{Held, state}
@@ -27,6 +29,9 @@ use Rattle.brk_plans.specs.Replies.{reply_of}
 use Rattle.brk_trade_laws.specs.Books.{IsBooks}
 use Rattle.brk_trade_laws.specs.Plans.{DoesCommand, base_then}
 use Rattle.brk_trade_laws.proofs.Keepers.{books_kept}
+use Rattle.brk_sound_laws.specs.InForm.{IsInForm, IsKeyInForm}
+use Rattle.brk_sound_laws.specs.Sound.{IsSound}
+use Rattle.brk_sound_laws.proofs.SoundSteps.{keyed_sound}
 use Rattle.brk_store.specs.Holds.{AreTreesOf, Holds, IsApplied, IsRead}
 use Rattle.brk_decisions.specs.Decisions.{Decides}
 use Rattle.brk_decisions.proofs.Looking.{none_then, same_then}
@@ -36,7 +41,8 @@ use Rattle.brk_desk.specs.Keys.{IsSought, kept_in, with_key}
 use Rattle.brk_desk.specs.declared.answer.Answer as desk
 use Rattle.brk_desk.specs.declared.answer.Answer.TheVariants as given
 use Rattle.brk_desk.proofs.Kept.{rows_with_key, steps_again, steps_anew}
-use Rattle.brk_desk.proofs.Seen.{IsSeen, seen, seen_both, sought_none}
+use Rattle.brk_desk.proofs.RowTexts.{changes_keep_texts}
+use Rattle.brk_desk.proofs.Seen.{still_kept, IsSeen, seen, seen_both, sought_none}
 
 -- what is known of the tables where a command is decided on, whose key is not kept
 abbrev pub Known : ℕ → Command → Option Key → Result Plan Refusal → Tables → Type 0
@@ -61,18 +67,23 @@ never_done base command k (given.Done reply) e done = not_done (bytes_eq k.row_t
 never_done base command k (given.Again line) e done = done
 never_done base command k (given.Refused refusal) e done = done
 
-module _ {S : Type 0} (g : Ghosts S) (old mid : Held S) (now : ℕ) (command : Command) (key : Option Key) where
+module _ {S : Type 0} (g : Ghosts S) (old mid : Held S) (now : ℕ) (command : Command) (key : Option Key) (formed : IsInForm command × IfSome key IsKeyInForm) where
+  -- the base after the command is sound
+  sound_after : (base : Base) → KeepsBase g old base → (after : Base) (answer : Answer) → keyed_step base now command key ≡ (answer, after) → IsSound after
+  sound_after base keeps after answer e = subst IsSound (ap (λ (x : Answer × Base). x.1) e) (keyed_sound base now command key keeps.sound keeps.books formed.0 formed.1)
+
   -- what was read is of no use
   pub fails : (P : Tables → Type 0) → IsSeen g old mid P → (fault : Fault) → MayFail fault → IsCalled g old mid now command key (Err fault)
   fails P seen fault may = record {
     answered = λ clean. tt;
-    kept = λ base keeps. record { books = keeps.books; rows = seen.kept (sheets base) keeps.rows };
+    kept = λ base keeps. still_kept g old mid base (seen.kept (sheets base)) keeps;
     fault = may;
     survives = survives_weaker (state g old) (state g mid) (λ _. ⊥) _ (λ _ db none. absurd none) seen.survives;
     durable = λ clean done. absurd done;
     opened = λ clean done. absurd done;
     same = λ clean o none. seen.same clean o;
     clean = seen.clean;
+    in_form = formed;
   }
 
   -- its key is kept
@@ -81,7 +92,7 @@ module _ {S : Type 0} (g : Ghosts S) (old mid : Held S) (now : ℕ) (command : C
   repeats k answer told seen = record {
     answered = λ clean base keeps. (
       base,
-      record { books = keeps.books; rows = seen.kept (sheets base) keeps.rows },
+      still_kept g old mid base (seen.kept (sheets base)) keeps,
       steps_again base now command key k (answer_of answer, base) (seen.told clean (sheets base) keeps.rows) (told base),
     );
     kept = tt;
@@ -91,6 +102,7 @@ module _ {S : Type 0} (g : Ghosts S) (old mid : Held S) (now : ℕ) (command : C
     opened = λ clean done. absurd (never_done empty_base command k answer (told empty_base) done);
     same = λ clean o none. seen.same clean o;
     clean = seen.clean;
+    in_form = formed;
   }
 
   -- its key is kept, and the answer may find no memory
@@ -106,7 +118,7 @@ module _ {S : Type 0} (g : Ghosts S) (old mid : Held S) (now : ℕ) (command : C
         let known = seen.told clean (sheets base) keeps.rows in
         let refused : step base now command ≡ Err refusal = known.1 base keeps.books refl in (
           base,
-          record { books = keeps.books; rows = seen.kept (sheets base) keeps.rows },
+          still_kept g old mid base (seen.kept (sheets base)) keeps,
           steps_anew base now command key known.0 ∙ ap (acted base key command) refused,
         );
     kept = tt;
@@ -116,6 +128,7 @@ module _ {S : Type 0} (g : Ghosts S) (old mid : Held S) (now : ℕ) (command : C
     opened = λ clean done. absurd done;
     same = λ clean o none. seen.same clean o;
     clean = seen.clean;
+    in_form = formed;
   }
 
   -- it is planned, and is kept with its plan
@@ -126,7 +139,7 @@ module _ {S : Type 0} (g : Ghosts S) (old mid : Held S) (now : ℕ) (command : C
 
     -- the changes lead to the tables after the command
     lands : HasCleanDisk (state g mid) → (base : Base) → KeepsBase g old base → (after : Base) × (sheets after ≡ after_changes kept.changes.items (sheets base)) × IsBooks after
-        × (keyed_step base now command key ≡ (answer_of (given.Done kept.reply), after))
+        × (keyed_step base now command key ≡ (answer_of (given.Done kept.reply), after)) × (has_texts (sheets after) ≡ true)
     lands clean base keeps =
         let known = seen.told clean (sheets base) keeps.rows in
         let does : DoesCommand base now command plan = known.1 base keeps.books refl in
@@ -139,6 +152,7 @@ module _ {S : Type 0} (g : Ghosts S) (old mid : Held S) (now : ℕ) (command : C
           sym all,
           books_kept after key command told does.kept,
           steps_anew base now command key new ∙ ap (acted base key command) does.steps ∙ ap (λ reply. (answer_of (given.Done reply), keeping key command told after)) (sym reply),
+          ap has_texts (sym all) ∙ changes_keep_texts (sheets base) kept.changes.items keeps.texts,
         )
 
     -- and so do the trees that a crash may leave
@@ -148,12 +162,20 @@ module _ {S : Type 0} (g : Ghosts S) (old mid : Held S) (now : ℕ) (command : C
         let l = lands clean base keeps in
         subst (λ t. AreTreesOf t trees) (sym l.1 ∙ ap (λ (x : Answer × Base). sheets x.1) (sym l.3)) are
 
+    texts_come : HasCleanDisk (state g mid) → (base : Base) → KeepsBase g old base → has_texts (sheets (base_after_call base now command key)) ≡ true
+    texts_come clean base keeps =
+        let l = lands clean base keeps in
+        ap (λ (x : Answer × Base). has_texts (sheets x.1)) l.3 ∙ l.4
+
     come : {r : Result (Unit {0}) Fault} → (applied : IsApplied g mid end r (after_changes kept.changes.items)) → Survives (state g old) (state g end) (MayCome g old now command key)
     come applied =
         none_then (state g old) (state g mid) (state g end) (MayCome g old now command key) seen.survives
         (survives_weaker (state g mid) (state g end) _ _ (λ clean trees may.
-        let was = seen.same (clean_then applied clean) may.0 in
-        (was.was_open, (λ base keeps. comes (clean_then applied clean) base keeps trees (may.1 (sheets base) (seen.kept (sheets base) keeps.rows (clean_then applied clean) may.0))))) applied.survives)
+        let was = seen.same (clean_then applied clean) may.0 in (
+          was.was_open,
+          (λ base keeps. comes (clean_then applied clean) base keeps trees (may.1 (sheets base) (seen.kept (sheets base) keeps.rows (clean_then applied clean) may.0))),
+          (λ base keeps. texts_come (clean_then applied clean) base keeps),
+        )) applied.survives)
 
     -- the changes failed
     pub books_none : (fault : Fault) → MayFail fault → IsApplied {V = Unit {0}} g mid end (Err fault) (after_changes kept.changes.items) → IsCalled g old end now command key (Err fault)
@@ -161,13 +183,14 @@ module _ {S : Type 0} (g : Ghosts S) (old mid : Held S) (now : ℕ) (command : C
         let clean_mid = clean_before (state g mid) (state g end) _ applied.survives in
         record {
           answered = λ clean. tt;
-          kept = λ base keeps. record { books = keeps.books; rows = applied.kept (sheets base) (seen.kept (sheets base) keeps.rows) };
+          kept = λ base keeps. still_kept g old end base (λ rows. applied.kept (sheets base) (seen.kept (sheets base) rows)) keeps;
           fault = may;
           survives = come applied;
           durable = λ clean done. absurd done;
           opened = λ clean done. absurd done;
           same = λ clean o none. let s = applied.same clean o in same_then (state g old) (state g mid) (state g end) (seen.same (clean_mid clean) s.was_open) s;
           clean = λ clean. seen.clean (clean_mid clean);
+          in_form = formed;
         }
 
     -- they are made
@@ -177,7 +200,7 @@ module _ {S : Type 0} (g : Ghosts S) (old mid : Held S) (now : ℕ) (command : C
         record {
           answered = λ clean base keeps.
               let l = lands (clean_mid clean) base keeps in
-              (l.0, record { books = l.2; rows = subst (Holds g end) (sym l.1) (applied.made (sheets base) (seen.kept (sheets base) keeps.rows)) }, l.3);
+              (l.0, record { books = l.2; sound = sound_after base keeps l.0 (answer_of (given.Done kept.reply)) l.3; texts = l.4; rows = subst (Holds g end) (sym l.1) (applied.made (sheets base) (seen.kept (sheets base) keeps.rows)) }, l.3);
           kept = tt;
           fault = tt;
           survives = come applied;
@@ -185,4 +208,5 @@ module _ {S : Type 0} (g : Ghosts S) (old mid : Held S) (now : ℕ) (command : C
           opened = λ clean done. let o = applied.opened clean in ((seen.same (clean_mid clean) o.0).was_open, o.1, o.2);
           same = λ clean o none. absurd none;
           clean = λ clean. seen.clean (clean_mid clean);
+          in_form = formed;
         }

@@ -1,8 +1,11 @@
 pub mod Seen
+pub mod RowTexts
+pub mod Audits
 pub mod Leaving
 pub mod Kept
 pub mod Calling
 pub mod Asked
 pub mod Running
 pub mod Stopping
+pub mod AtFirst
 pub mod Promise

@@ -1,25 +1,30 @@
 -- A run of calls keeps the whole promise.
-use Rattle.std.proofs.Common.{ℕ, List, map, sym, subst}
+use Rattle.std.proofs.Common.{ℕ, List, map}
 use Rattle.sqlite_trees.specs.declared.store.Store.{Ghosts}
-use Rattle.sqlite.specs.Held.{Held}
-use Rattle.brk_model.specs.Base.{empty_base}
+use Rattle.sqlite.specs.Held.{Held, state}
+use Rattle.sqlite.specs.State.{HasCleanDisk}
+use Rattle.brk_model.specs.Adopted.{base_of}
+use Rattle.brk_model.specs.Base.{Base, empty_base}
 use Rattle.brk_trade_laws.proofs.RunSums.{run_adds_up}
-use Rattle.brk_trade_laws.proofs.Steps.{empty_books, empty_rows}
-use Rattle.brk_store.specs.Holds.{Holds}
+use Rattle.brk_sound_laws.proofs.Adopted.{sound_passes}
 use Rattle.brk_desk.specs.Answers.{outcome_of}
 use Rattle.brk_desk.specs.Commands.{call_of}
-use Rattle.brk_desk.specs.Keeping.{IsRun, KeepsBase, KeepsPromise}
+use Rattle.brk_desk.specs.Keeping.{IsRun, KeepsBase, KeepsPromise, Leads}
 use Rattle.brk_desk.specs.declared.call.Call.{Call}
 use Rattle.brk_desk.specs.declared.call.Outcome.{Outcome}
+use Rattle.brk_store.proofs.Taking.{passing_books_held}
+use Rattle.brk_desk.proofs.AtFirst.{made_keeps}
+
+leads : {S : Type 0} (g : Ghosts S) (old new : Held S) (calls : List (ℕ × Call)) (outcomes : List Outcome) → IsRun g old new calls outcomes
+    → HasCleanDisk (state g new) → (base : Base) → KeepsBase g old base → Leads g new base calls outcomes
+leads g old new calls outcomes run clean base keeps =
+    let ran = run.ran clean base keeps in
+    (ran.0, ran.1, sound_passes ran.0 ran.1.books ran.1.sound, run_adds_up base (map call_of calls) (map outcome_of outcomes) ran.0 keeps.books ran.2)
 
 pub promise_kept : {S : Type 0} (g : Ghosts S) (old new : Held S) (calls : List (ℕ × Call)) (outcomes : List Outcome)
     → IsRun g old new calls outcomes → KeepsPromise g old new calls outcomes
 promise_kept g old new calls outcomes run = record {
-  kept = λ clean base keeps.
-      let ran = run.ran clean base keeps in
-      (ran.0, ran.1, run_adds_up base (map call_of calls) (map outcome_of outcomes) ran.0 keeps.books ran.2);
-  made = λ clean holds.
-      let keeps : KeepsBase g old empty_base = record { books = empty_books; rows = subst (Holds g old) (sym empty_rows) holds } in
-      let ran = run.ran clean empty_base keeps in
-      (ran.0, ran.1, run_adds_up empty_base (map call_of calls) (map outcome_of outcomes) ran.0 keeps.books ran.2);
+  kept = λ clean base keeps. leads g old new calls outcomes run clean base keeps;
+  made = λ clean holds. leads g old new calls outcomes run clean empty_base (made_keeps g old holds);
+  adopted = λ clean rows holds texts passes. leads g old new calls outcomes run clean (base_of rows) (passing_books_held g old rows holds passes texts);
 }

@@ -1,10 +1,13 @@
 -- A run of calls, with one call more.
-use Rattle.std.proofs.Common.{◌≡◌, ◌∙◌, ◌+◌, ℕ, List, [], ◌∷◌, ◌++◌, map, length, Result, Ok, Err, inl, inr, refl, sym, ap, subst, subst₂}
+use Rattle.brk_model.specs.Form.{has_texts}
+use Rattle.std.proofs.Common.{◌≡◌, ◌∙◌, ◌+◌, ℕ, List, [], ◌∷◌, ◌++◌, map, length, Result, Ok, Err, inl, inr, refl, sym, ap, subst, subst₂, IsTrue}
 use Rattle.std.proofs.lemmas.List.{length-append, map-append}
+use Rattle.std.specs.List.{AllByRecursion}
 use Rattle.sqlite_trees.specs.Tree.{Trees}
 use Rattle.brk_model.specs.Commands as model_answer
 use Rattle.brk_model.specs.Keyed.{keyed_step}
 use Rattle.brk_model.specs.Sheets.{sheets}
+use Rattle.brk_sound_laws.specs.Runs.{IsCallInForm}
 use Rattle.brk_store.specs.Holds.{AreTreesOf, LeavesOnly}
 use Rattle.brk_desk.specs.Stops.{IsQuiet, MayStand}
 use Rattle.brk_desk.proofs.Seen.{still}
@@ -37,6 +40,11 @@ run_more base mid after (c ∷ cs) (p ∷ ps) x o r a = (r.0, r.1, run_more r.0 
 run_more base mid after [] (p ∷ ps) x o r a = absurd r
 run_more base mid after (c ∷ cs) [] x o r a = absurd r
 
+formed_more : (calls : List (ℕ × Call)) (x : ℕ × Call) → AllByRecursion IsCallInForm (map call_of calls) → IsCallInForm (call_of x)
+    → AllByRecursion IsCallInForm (map call_of (calls ++ x ∷ []))
+formed_more [] x all one = (one, tt)
+formed_more (c ∷ cs) x all one = (all.0, formed_more cs x all.1 one)
+
 as_many : {A B : Type 0} (xs : List A) (ys : List B) (x : A) (y : B) → length xs ≡ length ys → length (xs ++ x ∷ []) ≡ length (ys ++ y ∷ [])
 as_many xs ys x y e = length-append xs (x ∷ []) ∙ ap (λ n. n + 1) e ∙ sym (length-append ys (y ∷ []))
 
@@ -59,8 +67,9 @@ module _ {S : Type 0} (g : Ghosts S) where
     count = refl;
     ran = λ clean base keeps. (base, keeps, refl);
     survives = survives_weaker (state g store) (state g store) (λ _. ⊥) (λ _. Unit {0}) (λ _ db none. tt) (still (state g store));
-    leaves = λ clean base keeps only trees may. (base, inl refl, only trees may);
+    leaves = λ clean base keeps only trees may. (base, inl refl, only trees may, keeps.texts);
     clean = λ clean. clean;
+    in_form = tt;
   }
 
   -- what came of a query is its answer over each base whose books were kept
@@ -73,13 +82,13 @@ module _ {S : Type 0} (g : Ghosts S) where
   module _ (a b c : Held S) (calls : List (ℕ × Call)) (outcomes : List Outcome) (run : IsRun g a b calls outcomes) (now : ℕ) where
     -- what a crash leaves after one call more
     abbrev Left : (base : Base) → Outcome → Call → Trees → Type 0
-    Left base o made trees = (after : Base) × MayStand base (map call_of (calls ++ (now, made) ∷ [])) (map outcome_of (outcomes ++ o ∷ [])) after × AreTreesOf (sheets after) trees
+    Left base o made trees = (after : Base) × MayStand base (map call_of (calls ++ (now, made) ∷ [])) (map outcome_of (outcomes ++ o ∷ [])) after × AreTreesOf (sheets after) trees × IsTrue (has_texts (sheets after))
 
     -- a call that acknowledges nothing leaves what could be left before
     left_still : (made : Call) (o : Outcome) (base mid : Base) → Run base (map call_of calls) (map outcome_of outcomes) mid → Answers mid (call_of (now, made)).0 (call_of (now, made)).1 (outcome_of o) mid → IsQuiet (outcome_of o)
-        → (trees : Trees) → (after : Base) × MayStand base (map call_of calls) (map outcome_of outcomes) after × AreTreesOf (sheets after) trees → Left base o made trees
+        → (trees : Trees) → (after : Base) × MayStand base (map call_of calls) (map outcome_of outcomes) after × AreTreesOf (sheets after) trees × IsTrue (has_texts (sheets after)) → Left base o made trees
     left_still made o base mid ran told quiet trees l =
-        (l.0, mapped base l.0 calls outcomes (now, made) o (stands_still base mid (map call_of calls) (map outcome_of outcomes) (call_of (now, made)) (outcome_of o) ran told quiet l.0 l.1), l.2)
+        (l.0, mapped base l.0 calls outcomes (now, made) o (stands_still base mid (map call_of calls) (map outcome_of outcomes) (call_of (now, made)) (outcome_of o) ran told quiet l.0 l.1), l.2, l.3)
 
     left_quiet : (command : _) (key : _) (answer : desk.Answer) → IsQuiet (outcome_of (outcome_for (Ok answer))) → IsCalled g b c now (command_of command) (key_for key) (Ok answer) → HasCleanDisk (state g c)
         → (base : Base) → KeepsBase g a base → LeavesOnly g a (AreTreesOf (sheets base)) → LeavesOnly g c (Left base (outcome_for (Ok answer)) (call.Do command key))
@@ -94,6 +103,7 @@ module _ {S : Type 0} (g : Ghosts S) where
             r.0,
             inl (run_more base r.0 r.0 calls outcomes (now, call.Do command key) (outcome_for (Ok answer)) r.2 told),
             subst (λ x. AreTreesOf (sheets x) trees) (ap (λ (x : model_answer.Answer × Base). x.1) told) (come.1 r.0 r.1),
+            r.1.texts,
           )
         ]
 
@@ -105,6 +115,7 @@ module _ {S : Type 0} (g : Ghosts S) where
           s.0,
           inl (run_more base r.0 s.0 calls outcomes (now, call.Do command key) (outcome_for (Ok (given.Done reply))) r.2 s.2),
           subst (λ x. AreTreesOf (sheets x) trees) (ap (λ (x : model_answer.Answer × Base). x.1) s.2) (called.durable clean tt r.0 r.1 trees may),
+          s.1.texts,
         )
     left_answered command key (given.Again line) called clean base keeps only trees may = left_quiet command key (given.Again line) tt called clean base keeps only trees may
     left_answered command key (given.Refused refusal) called clean base keeps only trees may = left_quiet command key (given.Refused refusal) tt called clean base keeps only trees may
@@ -120,6 +131,7 @@ module _ {S : Type 0} (g : Ghosts S) where
       survives = settles_then (state g a) (state g b) (state g c) _ run.survives called.survives;
       leaves = left_answered command key answer called;
       clean = λ clean. run.clean (called.clean clean);
+      in_form = formed_more calls (now, call.Do command key) run.in_form called.in_form;
     }
     by_result command key (Err fault) called = record {
       count = as_many outcomes calls (outcome_for (Err fault)) (now, call.Do command key) run.count;
@@ -136,9 +148,11 @@ module _ {S : Type 0} (g : Ghosts S) where
               mapped base (base_after_call r.0 now (command_of command) (key_for key)) calls outcomes (now, call.Do command key) (outcome_for (Err fault))
                   (may_be_there base r.0 (map call_of calls) (map outcome_of outcomes) now (command_of command) (key_for key) fault r.2),
               come.1 r.0 r.1,
+              come.2 r.0 r.1,
             )
           ];
       clean = λ clean. run.clean (called.clean clean);
+      in_form = formed_more calls (now, call.Do command key) run.in_form called.in_form;
     }
 
     by_view : (query : _) (result : Result (Result View Refusal) Fault) → IsAsked g b c (query_of query) result
@@ -158,6 +172,7 @@ module _ {S : Type 0} (g : Ghosts S) where
             | inr none ↦ absurd none
           ];
       clean = λ clean. run.clean (asked.clean clean);
+      in_form = formed_more calls (now, call.Ask query) run.in_form tt;
     }
 
     pub runs_more : (made : Call) (outcome : Outcome) → IsMade g b c now made outcome → IsRun g a c (calls ++ (now, made) ∷ []) (outcomes ++ outcome ∷ [])

@@ -4,13 +4,16 @@ use Rattle.std.specs.Prelude.{option_map}
 use Rattle.sqlite_trees.specs.declared.store.Store.{Ghosts}
 use Rattle.sqlite.specs.Held.{Held, state}
 use Rattle.sqlite.specs.State.{HasCleanDisk, State, Survives}
+use Rattle.brk_model.specs.Base.{Base}
 use Rattle.brk_model.specs.Records.{Key}
+use Rattle.brk_model.specs.Sheets.{sheets}
 use Rattle.brk_model.specs.Tables.{Tables}
 use Rattle.brk_ref.specs.Records.{kept_of}
 use Rattle.brk_ref.specs.declared.key.Kept as row
 use Rattle.brk_rows.proofs.Inside.{clean_before}
 use Rattle.brk_store.specs.Holds.{Holds, IsRead, IsSame}
 use Rattle.brk_decisions.proofs.Looking.{none_then, same_then}
+use Rattle.brk_desk.specs.Keeping.{KeepsBase}
 use Rattle.brk_desk.specs.Keys.{IsSought, kept_in}
 
 -- a call that does nothing
@@ -18,6 +21,10 @@ pub still : (s : State) → Survives s s (λ _. ⊥)
 still s = record { clean = omega arith; shield = λ x. x; counts = omega arith; limit = refl; closes = λ _ o. inl o; crash = λ _ db may. inl may }
 
 module _ {S : Type 0} (g : Ghosts S) where
+  -- books are kept where the rows are
+  pub still_kept : (old new : Held S) (base : Base) → (Holds g old (sheets base) → Holds g new (sheets base)) → KeepsBase g old base → KeepsBase g new base
+  still_kept old new base rows keeps = record { books = keeps.books; sound = keeps.sound; texts = keeps.texts; rows = rows keeps.rows }
+
   -- nothing was changed, and this is so of whatever rows the store holds
   pub record IsSeen (old new : Held S) (P : Tables → Type 0) : Type 0 where
     pub told : HasCleanDisk (state g new) → (t : Tables) → Holds g old t → P t

@@ -1,11 +1,14 @@
 -- The books behind a desk, and what its calls do to them.
-use Rattle.std.specs.Prelude.{◌≡◌, ℕ, List, Option, map, length, Result, IfOk, IfErr, OnErr, IsTrue}
+use Rattle.brk_model.specs.Form.{has_texts}
+use Rattle.std.specs.Prelude.{◌≡◌, ℕ, List, Option, None, map, length, Result, IfOk, IfErr, IfSome, OnErr, IsTrue}
+use Rattle.std.specs.List.{AllByRecursion}
 use Rattle.sqlite_trees.specs.declared.store.Store.{Ghosts}
 use Rattle.sqlite.specs.Held.{Held, state}
 use Rattle.sqlite.specs.State.{HasCleanDisk, Survives}
 use Rattle.sqlite_trees.specs.Tree.{Trees}
 use Rattle.brk_money.specs.declared.fault.Fault.{Fault}
 use Rattle.brk_money.specs.declared.refusal.Refusal.{Refusal}
+use Rattle.brk_model.specs.Adopted.{base_of}
 use Rattle.brk_model.specs.Ask.{ask}
 use Rattle.brk_model.specs.Base.{Base, empty_base}
 use Rattle.brk_model.specs.Sheets.{sheets}
@@ -14,9 +17,13 @@ use Rattle.brk_model.specs.Records.{Key}
 use Rattle.brk_model.specs.Keyed.{keyed_step}
 use Rattle.brk_model.specs.Queries.{Query}
 use Rattle.brk_model.specs.Run.{MayFail, Run}
-use Rattle.brk_model.specs.Tables.{no_rows}
+use Rattle.brk_model.specs.Tables.{Tables, no_rows}
 use Rattle.brk_trade_laws.specs.Books.{IsBooks}
 use Rattle.brk_trade_laws.specs.Runs.{RunAddsUp}
+use Rattle.brk_adoption_laws.specs.Passing.{Passes}
+use Rattle.brk_sound_laws.specs.InForm.{IsInForm, IsKeyInForm}
+use Rattle.brk_sound_laws.specs.Runs.{IsCallInForm}
+use Rattle.brk_store.specs.Audited.{HoldsBooks, IsAudited, OnAnswer}
 use Rattle.brk_store.specs.Holds.{AreTreesOf, Holds, IsSame, LeavesOnly}
 use Rattle.brk_view.specs.Queries.{query_of}
 use Rattle.brk_view.specs.declared.view.View.{View}
@@ -29,10 +36,9 @@ use Rattle.brk_desk.specs.declared.call.Call.{Call}
 use Rattle.brk_desk.specs.declared.call.Call.TheVariants as call
 use Rattle.brk_desk.specs.declared.call.Outcome.{Outcome}
 
--- a store keeps the books of a base: the base is in order, and the rows are its tables
-pub record KeepsBase {S : Type 0} (g : Ghosts S) (store : Held S) (base : Base) : Type 0 where
-  pub books : IsBooks base
-  pub rows : Holds g store (sheets base)
+-- a store keeps the books of a base: it holds its tables, the base is in order and sound, so that they pass an audit, and their texts can be read
+abbrev pub KeepsBase : {S : Type 0} → Ghosts S → Held S → Base → Type 0
+KeepsBase g store base = HoldsBooks g store base
 
 -- over each base whose books were kept, the command is answered by its step under its key, and the books of the base after it are kept
 abbrev pub Steps : {S : Type 0} → Ghosts S → Held S → Held S → ℕ → Command → Option Key → desk.Answer → Type 0
@@ -47,10 +53,11 @@ StillKeeps g old new = (base : Base) → KeepsBase g old base → KeepsBase g ne
 abbrev pub base_after_call : Base → ℕ → Command → Option Key → Base
 base_after_call base now command key = (keyed_step base now command key).1
 
--- these are the trees of the tables after the command, over each base whose books were kept in a store that was open
+-- these are the trees of the tables after the command, whose texts can be read, over each base whose books were kept in a store that was open
 abbrev pub MayCome : {S : Type 0} → Ghosts S → Held S → ℕ → Command → Option Key → Trees → Type 0
 MayCome g old now command key trees =
     IsTrue (state g old).is_open × ((base : Base) → KeepsBase g old base → AreTreesOf (sheets (base_after_call base now command key)) trees)
+    × ((base : Base) → KeepsBase g old base → IsTrue (has_texts (sheets (base_after_call base now command key))))
 
 -- a command at a moment is answered, or fails and changes nothing; all of it as far as the disk returns what was written
 pub record IsCalled {S : Type 0} (g : Ghosts S) (old new : Held S) (now : ℕ) (command : Command) (key : Option Key) (result : Result desk.Answer Fault) : Type 0 where
@@ -68,6 +75,8 @@ pub record IsCalled {S : Type 0} (g : Ghosts S) (old new : Held S) (now : ℕ) (
   pub same : HasCleanDisk (state g new) → IsTrue (state g new).is_open → BookedNothing result → IsSame (state g old) (state g new)
   -- a disk that returned what was written had done so before
   pub clean : HasCleanDisk (state g new) → HasCleanDisk (state g old)
+  -- its fields and those of its key are in form
+  pub in_form : IsInForm command × IfSome key IsKeyInForm
 
 -- a query is answered with its view of each base whose books were kept, or fails; nothing is changed, whatever the answer; all of it as far as the disk returns what was written
 pub record IsAsked {S : Type 0} (g : Ghosts S) (old new : Held S) (query : Query) (result : Result (Result View Refusal) Fault) : Type 0 where
@@ -98,15 +107,24 @@ pub record IsRun {S : Type 0} (g : Ghosts S) (old new : Held S) (calls : List (�
   pub survives : Survives (state g old) (state g new) (λ _. Unit {0})
   -- where a crash before the calls leaves the tables of that base alone, one after them leaves those of a base with all that was acknowledged, and at most one command more, that was answered with a fault since
   pub leaves : HasCleanDisk (state g new) → (base : Base) → KeepsBase g old base → LeavesOnly g old (AreTreesOf (sheets base))
-      → LeavesOnly g new (λ trees. (after : Base) × MayStand base (map call_of calls) (map outcome_of outcomes) after × AreTreesOf (sheets after) trees)
+      → LeavesOnly g new (λ trees. (after : Base) × MayStand base (map call_of calls) (map outcome_of outcomes) after × AreTreesOf (sheets after) trees × IsTrue (has_texts (sheets after)))
   pub clean : HasCleanDisk (state g new) → HasCleanDisk (state g old)
+  -- the commands and their keys are in form
+  pub in_form : AllByRecursion IsCallInForm (map call_of calls)
 
--- calls at their moments lead from a base whose books were kept to one whose books are kept, with these outcomes: its tables add up, and each
--- accepted result was taxed by the very shares that it closed
+-- calls at their moments lead from a base whose books were kept to one whose books are kept, with these outcomes: its tables pass an audit
+-- and add up, and each accepted result was taxed by the very shares that it closed
 abbrev pub Leads : {S : Type 0} → Ghosts S → Held S → Base → List (ℕ × Call) → List Outcome → Type 0
-Leads g new base calls outcomes = (after : Base) × KeepsBase g new after × RunAddsUp base (map call_of calls) (map outcome_of outcomes) after
+Leads g new base calls outcomes = (after : Base) × KeepsBase g new after × Passes (sheets after) × RunAddsUp base (map call_of calls) (map outcome_of outcomes) after
 
--- the whole promise of a list of calls, over each base whose books were kept, and from a store whose tables were just made
+-- the whole promise of a list of calls: over each base whose books were kept, from a store whose tables were just made, and from one whose rows pass an audit
 pub record KeepsPromise {S : Type 0} (g : Ghosts S) (old new : Held S) (calls : List (ℕ × Call)) (outcomes : List Outcome) : Type 0 where
   pub kept : HasCleanDisk (state g new) → (base : Base) → KeepsBase g old base → Leads g new base calls outcomes
   pub made : HasCleanDisk (state g new) → Holds g old no_rows → Leads g new empty_base calls outcomes
+  pub adopted : HasCleanDisk (state g new) → (rows : Tables) → Holds g old rows → IsTrue (has_texts rows) → Passes rows → Leads g new (base_of rows) calls outcomes
+
+-- an audit of the desk's store, which writes nothing: where books are kept it never finds a condition that fails
+pub record IsDeskAudited {S : Type 0} (g : Ghosts S) (old new : Held S) (result : Result (Unit {0}) Fault) : Type 0 where
+  pub audited : IsAudited g old new result
+  pub passes : HasCleanDisk (state g new) → (base : Base) → KeepsBase g old base → OnAnswer result (λ failing. failing ≡ None)
+  pub kept : StillKeeps g old new

@@ -1,14 +1,20 @@
 //! What a desk begins with, and what it finds when it is opened again.
 
-ghost use Rattle.std.specs.Prelude.{ℕ, List};
+ghost use Rattle.brk_model.specs.Form.{has_texts};
+ghost use Rattle.std.specs.Prelude.{ℕ, IsTrue, List};
+ghost use Rattle.std.specs.List.{AllByRecursion};
 ghost use Rattle.sqlite.specs.Held.{Held};
 ghost use Rattle.sqlite_trees.specs.Tree.{Trees};
+ghost use Rattle.brk_adoption_laws.specs.Passing.{Passes};
 ghost use Rattle.brk_desk.specs.Keeping.{KeepsBase};
 ghost use Rattle.brk_desk.specs.Stops.{MayStand};
+ghost use Rattle.brk_model.specs.Adopted.{base_of};
 ghost use Rattle.brk_model.specs.Base.{Base, empty_base};
 ghost use Rattle.brk_model.specs.Run.{Call, Outcome};
 ghost use Rattle.brk_model.specs.Sheets.{sheets};
-ghost use Rattle.brk_model.specs.Tables.{no_rows};
+ghost use Rattle.brk_model.specs.Tables.{Tables, no_rows};
+ghost use Rattle.brk_sound_laws.specs.Runs.{IsCallInForm};
+ghost use Rattle.brk_sound_laws.specs.Sound.{IsSound};
 ghost use Rattle.brk_store.specs.Holds.{AreTreesOf, Holds, IsOpenedOver};
 ghost use Rattle.brk_trade_laws.specs.Books.{IsBooks};
 
@@ -19,9 +25,16 @@ pub fn a_made_store_keeps_the_empty_base<S: Alter>()
     ensures { (store : Held S) → Holds S.Store store no_rows → KeepsBase S.Store store empty_base }
 {}
 
-/// A store that is opened over what a stop left of a run of calls keeps the books of a base that the run leads to, or
+/// A store whose rows pass an audit, with texts that can be read, keeps the books of their base.
+pub fn an_adopted_store_keeps_its_books<S: Alter>()
+    ensures { (store : Held S) (rows : Tables) → Holds S.Store store rows → IsTrue (has_texts rows) → Passes rows
+        → KeepsBase S.Store store (base_of rows) }
+{}
+
+/// A store that is opened over what a stop left of a run of calls in form keeps the books of a base that the run leads to, or
 /// of one with the command more that was under way.
 pub fn a_store_that_is_opened_again_keeps_what_stands<S: Alter>()
-    ensures { (base : Base) (calls : List (ℕ × Call)) (outcomes : List Outcome) (after : Base) (trees : Trees) (conn : Held S) → IsBooks base
-        → MayStand base calls outcomes after → AreTreesOf (sheets after) trees → IsOpenedOver S.Store trees conn → KeepsBase S.Store conn after }
+    ensures { (base : Base) (calls : List (ℕ × Call)) (outcomes : List Outcome) (after : Base) (trees : Trees) (conn : Held S) → IsBooks base → IsSound base
+        → AllByRecursion IsCallInForm calls → MayStand base calls outcomes after → IsTrue (has_texts (sheets after))
+        → AreTreesOf (sheets after) trees → IsOpenedOver S.Store trees conn → KeepsBase S.Store conn after }
 {}

@@ -34,16 +34,17 @@ impl<S: Alter + Drop> Drop for Desk<S> {
 }
 
 impl<S: Alter> Desk<S> {
-    ghost use Rattle.std.specs.Prelude.{◌≡◌, ◌++◌, List, Err, OnOk, OnErr};
+    ghost use Rattle.std.specs.Prelude.{◌≡◌, ◌≢◌, ◌++◌, List, Err, IfErr, OnOk, OnErr};
     ghost use Rattle.std.specs.Option.{option_copied};
     ghost use Rattle.brk_commands.specs.Commands.{command_of};
     ghost use Rattle.brk_desk.specs.Commands.{key_for};
-    ghost use Rattle.brk_desk.specs.Keeping.{IsAsked, IsCalled, IsMade, IsRun, KeepsPromise};
+    ghost use Rattle.brk_desk.specs.Keeping.{IsAsked, IsCalled, IsDeskAudited, IsMade, IsRun, KeepsPromise};
     ghost use Rattle.brk_desk.specs.declared.call.Outcome as came;
-    ghost use Rattle.brk_money.specs.declared.fault.Fault.TheVariants.{Memory};
+    ghost use Rattle.brk_money.specs.declared.fault.Condition.TheVariants.{NotEmpty};
+    ghost use Rattle.brk_money.specs.declared.fault.Fault.TheVariants.{Damaged, Memory};
     ghost use Rattle.brk_view.specs.Queries.{query_of};
 
-    /// A desk that keeps its books in a store, which `Store::create` made or an earlier desk gave back.
+    /// A desk that keeps its books in a store, which `Store::create` made, `Store::adopt` found to pass or an earlier desk gave back.
     pub fn new(store: Store<S>) -> Desk<S>
         ensures same { result ≡ store }
     {
@@ -107,6 +108,17 @@ impl<S: Alter> Desk<S> {
             }
             Call::Ask(query) => Outcome::of_query(self.ask(alloc, query)),
         }
+    }
+
+    /// Audits what the store holds: at `Ok` its rows pass, and else the fault `Damaged` has the first condition that fails. Nothing
+    /// is changed, whatever the answer; where books are kept it never finds damage, and the only faults are want of memory and the
+    /// store's.
+    #[tactic(auto, using(crate::proofs::Audits::audits))]
+    pub fn audit(&mut self, alloc: Global) -> Result<(), Fault>
+        ensures audited { IsDeskAudited S.Store self.old self.new result }
+        ensures condition { IfErr result (λ fault. fault ≢ Damaged NotEmpty) }
+    {
+        self.store.audit(alloc)
     }
 
     /// The store, with the books of the calls that were accepted.

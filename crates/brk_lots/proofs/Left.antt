@@ -48,7 +48,7 @@ qty_rest (suc k) l m ls h =
     let more : eqb (suc k) 0 ≡ false = ne_eqb (suc k) 0 (λ e. absurd (omega arith)) in
     rw (more, ne_eqb l.trade m.trade (λ e. h (sym e))) refl
 
-int_differ : (x y : ℤ) → x ≢ y → int_eq x y ≡ false
+pub int_differ : (x y : ℤ) → x ≢ y → int_eq x y ≡ false
 int_differ x y h = elim (cases_Bool (int_eq x y)) [ inl e ↦ absurd (h ((Decides-int_eq x y).0 e)) | inr e ↦ e ]
 
 pub smaller_with : (l : Lot) (m : ℕ) → smaller (signed (side_of_qty l.qty) m) l ≡ with_shares m l

@@ -1,7 +1,10 @@
 -- The history of one lot.
-use Rattle.std.specs.Prelude.{◌≡◌, ℕ, ◌<◌, ℤ, pos, if◌then◌else◌, List, [], ◌∷◌}
+use Rattle.std.specs.Prelude.{◌≡◌, ℕ, ◌<◌, ℤ, pos, if◌then◌else◌, List, [], ◌∷◌, ◌++◌, map}
 use Rattle.brk_money.specs.declared.side.Side.{Side}
-use Rattle.brk_model.specs.Shares.{Share, Deal, Lot, Touch, signed, shares_after, lot_qty, is_change}
+use Rattle.brk_model.specs.Shares.{Share, Deal, Lot, Touch, signed, shares_after, lot_qty, is_change, lots, opened_shares, touches}
+use Rattle.brk_model.specs.Tables.{HoldingHistoryRow}
+use Rattle.brk_lots.specs.declared.replay.DealTouch.{DealTouch}
+use Rattle.brk_lots.specs.Lots.{from_end}
 
 -- what a deal upon shares does to the lot of a trade
 abbrev pub touch_by : ℕ → Deal → List Share → Touch
@@ -30,3 +33,20 @@ IsLife (row ∷ rows) to = (row.before ≡ pos 0) × Falls row.after rows to
 -- the row of a lot that is opened
 abbrev pub opening_touch : Lot → Touch
 opening_touch l = record { lot = l.trade; before = pos 0; after = l.qty }
+
+-- the row of a lot that a trade touched or opened
+abbrev pub touch_row : ℕ → Touch → HoldingHistoryRow
+touch_row trade t = record { lot = t.lot; trade = trade; before = t.before; after = t.after }
+
+-- what a deal upon shares does to lots: those that it touches, from its end, and then the one that it opens
+abbrev pub deal_rows : Deal → List Share → List HoldingHistoryRow
+deal_rows d us = map (touch_row d.trade) (from_end d.is_lifo (touches d us) ++ map opening_touch (lots (opened_shares d us)))
+
+-- what deals do to lots, one after another
+abbrev pub replay_rows : List Deal → List Share → List HoldingHistoryRow
+replay_rows [] us = []
+replay_rows (d ∷ ds) us = deal_rows d us ++ replay_rows ds (shares_after us d)
+
+-- a touched lot with the trade of its deal, as the definitions have it
+abbrev pub plain_row : DealTouch → HoldingHistoryRow
+plain_row t = record { lot = t.touch.lot; trade = t.trade; before = t.touch.before; after = t.touch.after }

@@ -2,13 +2,13 @@
 #![tactic(auto)]
 
 pub mod closing;
+mod cutting;
 pub mod deal;
 pub mod end;
 mod lawful;
 pub mod laws;
 pub mod lot;
 pub mod position;
-mod remaining;
 pub mod replay;
 mod rows;
 pub mod source;
@@ -20,5 +20,6 @@ pub use deal::Deal;
 pub use end::PositionEnd;
 pub use lot::{Lot, Touch, is_same};
 pub use position::Position;
+pub use replay::DealTouch;
 pub use source::LotSource;
 pub use values::{Values, estimate_values};

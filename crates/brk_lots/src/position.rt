@@ -5,10 +5,10 @@ ghost use Rattle.brk_lots.specs.Position.{IsPosition, IsWalk, IsNew, AreOlder};
 ghost use Rattle.brk_lots.specs.Closing.{Applies};
 
 use crate::closing::Closing;
+use crate::cutting::cut_lots;
 use crate::end::PositionEnd;
 use crate::lawful::{all_older, is_position};
 use crate::lot::Lot;
-use crate::remaining::remaining;
 use crate::source::LotSource;
 use brk_money::{Fault, Id, Stamp};
 use std::alloc::Global;
@@ -18,20 +18,22 @@ use std::marker::Model;
 /// trade, and their stamps rise.
 #[derive(Drop)]
 pub struct Position {
+    // The lots are those from `first` on: the ones before it were closed.
     lots: Vec<Lot>,
+    first: usize,
 }
 
 impl Model for Position {
-    ghost use Rattle.std.specs.Prelude.{List};
+    ghost use Rattle.std.specs.Prelude.{List, drop, length, ◌≤◌};
     ghost use Rattle.brk_lots.specs.declared.lot.Lot.{Lot};
 
     ghost Value = { List Lot };
 
     ghost use Rattle.brk_lots.specs.Position.{IsPosition};
 
-    ghost view = { λ a. a.lots.items };
+    ghost view = { λ a. drop a.first a.lots.items };
 
-    ghost invariant = { λ a. IsPosition a.lots.items };
+    ghost invariant = { λ a. (a.first ≤ length a.lots.items) × IsPosition (drop a.first a.lots.items) };
 }
 
 impl Position {
@@ -41,6 +43,7 @@ impl Position {
     {
         Position {
             lots: Vec::new(alloc),
+            first: 0,
         }
     }
 
@@ -49,7 +52,7 @@ impl Position {
         ensures { MatchOption result (IsPosition lots.items → ⊥) (λ position. (position ≡ lots.items) × IsPosition lots.items) }
     {
         if is_position(&mut lots) {
-            Some(Position { lots })
+            Some(Position { lots, first: 0 })
         } else {
             None
         }
@@ -61,29 +64,29 @@ impl Position {
         ensures lawful { IsPosition self.now }
         ensures walk { IsWalk self.now }
     {
-        &self.lots
+        &self.lots[self.first..]
     }
 
     /// Whether a trade of this id and moment may come upon it: it opened none of the lots, and is later than all.
     pub fn takes(&self, trade: Id, stamp: Stamp) -> bool
         ensures { IsTrue result ↔ (IsNew trade self.now × AreOlder stamp self.now) }
     {
-        all_older(&self.lots, trade, stamp)
+        all_older(self.lots(), trade, stamp)
     }
 
-    /// Books a closing that a trade made of this position, from whichever end it took. Where memory is refused the
-    /// position is as it was.
-    pub fn apply(&mut self, alloc: Global, closing: &Closing) -> Result<(), Fault>
+    /// Books a closing that a trade made of this position, from whichever end it took. It changes only the lots that the
+    /// closing touched. Where memory is refused the position is as it was.
+    pub fn apply(&mut self, closing: &Closing) -> Result<(), Fault>
         requires { (d : model.Deal) × Applies d self.old closing.now }
         ensures shares { OnOk result ((d : model.Deal) → Applies d self.old closing.now → shares_of self.new ≡ model.shares_after (shares_of self.old) d) }
         ensures lots { OnOk result ((d : model.Deal) → Applies d self.old closing.now → map plain_lot self.new ≡ model.lots (model.shares_after (shares_of self.old) d)) }
         ensures err { IfErr result (λ fault. (fault ≡ Fault.Memory) × (self.new ≡ self.old)) }
     {
-        let mut lots = remaining(alloc, &self.lots, &closing.touched)?;
+        self.lots.reserve(1)?;
+        self.first = cut_lots(&mut self.lots, self.first, &closing.touched);
         if let Some(lot) = closing.opened {
-            lots.push(lot)?;
+            self.lots.push(lot)?;
         }
-        self.lots = lots;
         Ok(())
     }
 
@@ -93,6 +96,6 @@ impl Position {
         ensures walk { IsWalk (from_end lifo self.now) }
         ensures fresh { (trade : ℕ) → IsNew trade self.now → IsNew trade (from_end lifo self.now) }
     {
-        PositionEnd::new(&self.lots, lifo)
+        PositionEnd::new(self.lots(), lifo)
     }
 }

@@ -1,13 +1,63 @@
-ghost use Rattle.std.specs.Prelude.{◌≡◌, map, IfOk, IfErr};
+ghost use Rattle.std.specs.Prelude.{◌≡◌, ◌++◌, [], map, IfOk, IfErr, OnOk};
+ghost use Rattle.std.specs.Option.{option_to_list};
 ghost use Rattle.brk_model.specs.Shares.{replay};
+ghost use Rattle.brk_lots.specs.Chains.{opening_touch, plain_row, replay_rows, touch_row};
 ghost use Rattle.brk_lots.specs.Deals.{AreDeals};
-ghost use Rattle.brk_lots.specs.Lots.{shares_of, plain_deal};
+ghost use Rattle.brk_lots.specs.Lots.{shares_of, plain_deal, plain_lot, plain_touch};
 
-use crate::closing::close;
+use crate::closing::{Closing, close};
 use crate::deal::Deal;
+use crate::lot::{Lot, Touch};
 use crate::position::Position;
-use brk_money::Fault;
+use brk_money::{Fault, Id};
 use std::alloc::Global;
+
+/// A lot that a trade touched or opened.
+#[derive(Clone, Copy)]
+pub struct DealTouch {
+    pub trade: Id,
+    pub touch: Touch,
+}
+
+// Adds the lots that a trade touched.
+fn add_touched(rows: &mut Vec<DealTouch>, trade: Id, touched: &[Touch]) -> Result<(), Fault>
+    ensures added { OnOk result (map plain_row rows.new.items ≡ map plain_row rows.old.items ++ map (touch_row trade) (map plain_touch touched.now)) }
+    ensures fault { IfErr result (λ fault. fault ≡ Fault.Memory) }
+{
+    for touch in touched {
+        rows.push(DealTouch {
+            trade,
+            touch: *touch,
+        })?;
+    }
+    Ok(())
+}
+
+// Adds the lot that a trade opened.
+fn add_opened(rows: &mut Vec<DealTouch>, trade: Id, opened: Option<Lot>) -> Result<(), Fault>
+    ensures added { OnOk result (map plain_row rows.new.items ≡ map plain_row rows.old.items ++ map (touch_row trade) (map opening_touch (map plain_lot (option_to_list opened)))) }
+    ensures fault { IfErr result (λ fault. fault ≡ Fault.Memory) }
+{
+    if let Some(lot) = opened {
+        let touch = Touch {
+            lot: lot.trade,
+            before: 0,
+            after: lot.qty,
+        };
+        rows.push(DealTouch { trade, touch })?;
+    }
+    Ok(())
+}
+
+// Adds the lots that a trade touched, in their order, and the one that it opened.
+fn add_rows(rows: &mut Vec<DealTouch>, trade: Id, closing: &Closing) -> Result<(), Fault>
+    ensures added { OnOk result (map plain_row rows.new.items ≡ map plain_row rows.old.items
+        ++ map (touch_row trade) (map plain_touch closing.now.touched.items ++ map opening_touch (map plain_lot (option_to_list closing.now.opened)))) }
+    ensures fault { IfErr result (λ fault. fault ≡ Fault.Memory) }
+{
+    add_touched(rows, trade, &closing.touched)?;
+    add_opened(rows, trade, closing.opened)
+}
 
 impl Position {
     /// The position after deals of distinct trades and rising stamps.
@@ -16,13 +66,30 @@ impl Position {
         ensures shares { IfOk result (λ position. shares_of position ≡ replay (map plain_deal deals.now)) }
         ensures fault { IfErr result (λ fault. fault ≡ Fault.Memory) }
     {
+        let mut rows = Vec::new(alloc);
+        Position::replay_with(alloc, deals, &mut rows)
+    }
+
+    /// The same, with what each deal did to lots, deal by deal: the lots that it touched, from its end, and the one that it
+    /// opened.
+    pub fn replay_with(
+        alloc: Global,
+        deals: &[Deal],
+        rows: &mut Vec<DealTouch>,
+    ) -> Result<Position, Fault>
+        requires { AreDeals (map plain_deal deals.now) }
+        ensures shares { IfOk result (λ position. shares_of position ≡ replay (map plain_deal deals.now)) }
+        ensures rows { OnOk result (map plain_row rows.new.items ≡ map plain_row rows.old.items ++ replay_rows (map plain_deal deals.now) []) }
+        ensures fault { IfErr result (λ fault. fault ≡ Fault.Memory) }
+    {
         let mut position = Position::new(alloc);
         for deal in deals {
             let mut end = position.from_end(deal.lifo);
             let closing = close(
                 alloc, &mut end, deal.side, deal.qty, deal.trade, deal.price, deal.stamp,
             )?;
-            position.apply(alloc, &closing)?;
+            position.apply(&closing)?;
+            add_rows(rows, deal.trade, &closing)?;
         }
         Ok(position)
     }

@@ -1,7 +1,7 @@
 -- What a brokerage can be told, and what it replies.
 use Rattle.std.specs.Prelude.{ℕ, Bool, List, Option, ℤ}
 use Rattle.brk_money.specs.Spelling.{Text}
-use Rattle.brk_money.specs.declared.trade_type.TradeType.{TradeType}
+use Rattle.brk_money.specs.declared.order_type.OrderType.{OrderType}
 use Rattle.brk_money.specs.declared.status.Status.{Status}
 use Rattle.brk_money.specs.declared.refusal.Refusal.{Refusal}
 use Rattle.brk_model.specs.Records.{Broker, Customer, Account, Permission, Charge, Band, TaxRate, CustomerTax, Executor}
@@ -14,13 +14,12 @@ pub record Listing : Type 0 where
   pub sector : Text
   pub price : ℕ
 
--- an order; it names a price where its type is no market type
+-- an order, whose type has its price where it asks for one
 pub record Order : Type 0 where
   pub account : ℕ
-  pub kind : TradeType
+  pub order_type : OrderType
   pub symbol : Text
   pub qty : ℕ
-  pub price : Option ℕ
   pub is_cash : Bool
   pub is_lifo : Bool
   pub executor : Executor

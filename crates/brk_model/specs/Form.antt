@@ -2,6 +2,7 @@
 use Rattle.std.specs.Prelude.{ℕ, ◌+◌, Bool, true, false, not, ◌&&◌, ◌||◌, ◌==◌, nat_le, if◌then◌else◌, List, [], ◌∷◌, map, filter, length, is_some, is_none, ℤ, nat_abs, codes, bytes_eq}
 use Rattle.std.specs.List.{list_any, list_all, range_with_len}
 use Rattle.std.specs.Option.{option_map_or}
+use Rattle.std.specs.Str.{is_utf8}
 use Rattle.brk_money.specs.Spelling.{Text}
 use Rattle.brk_money.specs.Moments.{day_of, last_day, last_stamp}
 use Rattle.brk_money.specs.Kinds.{same_status}
@@ -219,3 +220,8 @@ has_form t =
     && list_all (holding_history_form t) t.holding_history
     && list_all (settlement_form t) t.settlements
     && list_all (cash_form t) t.cash
+
+-- the texts that may be any are UTF-8: K_ROW, K_LINE, T_EXEC_NAME and CT_NAME. Rows in types cannot say otherwise, bytes of a database can
+abbrev pub has_texts : Tables → Bool
+has_texts t =
+    list_all (λ k. is_utf8 k.row_text && is_utf8 k.line) t.kept && list_all (λ r. is_utf8 r.executor) t.trades && list_all (λ r. is_utf8 r.name) t.cash

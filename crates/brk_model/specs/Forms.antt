@@ -6,7 +6,9 @@ use Rattle.std.specs.Str.{is_utf8}
 use Rattle.std.specs.Char.{is_control, is_ascii_digit, is_ascii_uppercase, is_ascii_alphanumeric}
 use Rattle.brk_money.specs.Spelling.{Text, number_of, cents_of}
 use Rattle.brk_money.specs.Moments.{last_stamp}
-use Rattle.brk_money.specs.Kinds.{type_code, is_market, tax_status_of}
+use Rattle.brk_money.specs.Kinds.{type_code, tax_status_of}
+use Rattle.brk_money.specs.declared.order_type.OrderType.{OrderType}
+use Rattle.brk_money.specs.declared.order_type.OrderType.TheVariants as asked
 use Rattle.brk_money.specs.declared.trade_type.TradeType.{TradeType}
 use Rattle.brk_money.specs.declared.trade_type.TradeType.TheVariants.{MarketBuy, MarketSell, StopLoss, LimitSell, LimitBuy}
 use Rattle.brk_money.specs.declared.tax_status.TaxStatus.{TaxStatus}
@@ -167,21 +169,32 @@ read_cash = read_either (codes "cash") (codes "margin")
 abbrev pub read_end : Text → Read Bool
 read_end = read_either (codes "lifo") (codes "fifo")
 
--- a price that stands, for a type: none may for a market type
-abbrev pub price_for : Option TradeType → Read ℕ → Read (Option ℕ)
-price_for kind (Err refusal) = Err refusal
-price_for None (Ok price) = Ok (Some price)
-price_for (Some kind) (Ok price) = if is_market kind then Err BadPrice else Ok (Some price)
+-- a type of order that has no price, for which no text stands
+abbrev pub without_price : OrderType → Text → Read OrderType
+without_price order_type [] = Ok order_type
+without_price order_type _ = Err BadPrice
 
--- no price, for a type: one has to stand for the types that are no market types
-abbrev pub no_price_for : Option TradeType → Read (Option ℕ)
-no_price_for None = Ok None
-no_price_for (Some kind) = if is_market kind then Ok None else Err BadPrice
+-- a type of order with the price that a text spells
+abbrev pub with_price : (ℕ → OrderType) → Text → Read OrderType
+with_price order_type text = Ok order_type ⊛ read_price text
 
--- the price of an order, which depends on its type where that is known
-abbrev pub read_order_price : Text → Text → Read (Option ℕ)
-read_order_price type_text [] = no_price_for (type_of type_text)
-read_order_price type_text (c ∷ text) = price_for (type_of type_text) (read_price (c ∷ text))
+-- what is read of a price where the type is not known: it may be missing, and the type is refused after it
+abbrev pub without_type : Text → Read OrderType
+without_type [] = Err BadType
+without_type (c ∷ text) = Err BadType ⊛ read_price (c ∷ text)
+
+-- the type of an order with its price, which has to stand where the type asks for one
+abbrev pub order_type_for : Option TradeType → Text → Read OrderType
+order_type_for None = without_type
+order_type_for (Some MarketBuy) = without_price asked.MarketBuy
+order_type_for (Some MarketSell) = without_price asked.MarketSell
+order_type_for (Some StopLoss) = with_price (λ price. asked.StopLoss price)
+order_type_for (Some LimitSell) = with_price (λ price. asked.LimitSell price)
+order_type_for (Some LimitBuy) = with_price (λ price. asked.LimitBuy price)
+
+-- the type of an order with its price, of their two texts
+abbrev pub read_order_type : Text → Text → Read OrderType
+read_order_type type_text price_text = order_type_for (type_of type_text) price_text
 
 -- every text by one form
 abbrev pub read_each : {A : Type 0} → (Text → Read A) → List Text → Read (List A)

@@ -5,6 +5,7 @@ use Rattle.std.specs.Option.{option_map_or}
 use Rattle.brk_money.specs.Spelling.{Text}
 use Rattle.brk_money.specs.Amounts.{commission, tax}
 use Rattle.brk_money.specs.Kinds.{side_of, is_market}
+use Rattle.brk_money.specs.OrderTypes.{kind_of, price_asked}
 use Rattle.brk_money.specs.declared.status.Status.{Status}
 use Rattle.brk_money.specs.declared.status.Status.TheVariants.{Submitted, Pending}
 use Rattle.brk_money.specs.declared.trade_type.TradeType.{TradeType}
@@ -28,9 +29,9 @@ abbrev pub is_permitted : Base → ℕ → Executor → Bool
 is_permitted base account e =
     option_map_or (λ c. permitted c (filter (λ p. p.account == account) base.permissions) e) (customer_with base (customer_of base account)) true
 
--- the market's price for a market type, and else the order's (Trade-Order, frame 3); one that is owed and not named is the market's too, which no order in form is
+-- the price that the order asks for, and else the market's (Trade-Order, frame 3)
 abbrev pub requested_price : Base → Order → ℕ
-requested_price base o = if is_market o.kind then last_price base o.symbol else unwrap_or o.price (last_price base o.symbol)
+requested_price base o = unwrap_or (price_asked o.order_type) (last_price base o.symbol)
 
 -- the commission of a quantity at a price, where a band has it
 abbrev pub commission_of : Base → ℕ → TradeType → Text → ℕ → ℕ → Option ℕ
@@ -44,7 +45,7 @@ tax_of base account d shares = if is_taxed base account then tax (gain d shares)
 -- the order as a deal at its requested price
 abbrev pub deal_at : Base → Order → Deal
 deal_at base o =
-    record { trade = length base.trades + 1; side = side_of o.kind; qty = o.qty; price = requested_price base o; stamp = 0; is_lifo = o.is_lifo }
+    record { trade = length base.trades + 1; side = side_of (kind_of o.order_type); qty = o.qty; price = requested_price base o; stamp = 0; is_lifo = o.is_lifo }
 
 -- an account's balance and the worth of what it holds
 abbrev pub assets_of : Base → ℕ → ℤ
@@ -57,8 +58,8 @@ estimate_upon shares base o = record {
   buy_value = buy_value (deal_at base o) shares;
   sell_value = sell_value (deal_at base o) shares;
   tax = tax_of base o.account (deal_at base o) shares;
-  commission = unwrap_or (commission_of base o.account o.kind o.symbol o.qty (requested_price base o)) 0;
-  charge = option_map_or (λ c. c.amount) (charge_with base o.kind (tier_of base o.account)) 0;
+  commission = unwrap_or (commission_of base o.account (kind_of o.order_type) o.symbol o.qty (requested_price base o)) 0;
+  charge = option_map_or (λ c. c.amount) (charge_with base (kind_of o.order_type) (tier_of base o.account)) 0;
   assets = assets_of base o.account;
 }
 
@@ -79,7 +80,7 @@ abbrev pub ordered_trade : Base → ℕ → Order → Trade
 ordered_trade base stamp o = record {
   id = length base.trades + 1;
   account = o.account;
-  kind = o.kind;
+  kind = kind_of o.order_type;
   symbol = o.symbol;
   qty = o.qty;
   bid = requested_price base o;
@@ -90,7 +91,7 @@ ordered_trade base stamp o = record {
   commission = (estimate base o).commission;
   tax = 0;
   price = None;
-  marks = record { stamp = stamp; status = first_status o.kind } ∷ [];
+  marks = record { stamp = stamp; status = first_status (kind_of o.order_type) } ∷ [];
   cash_type = [];
   cash_name = [];
 }
@@ -101,4 +102,4 @@ with_order base stamp o = record base { trades = base.trades ++ ordered_trade ba
 
 -- what is told of an order
 abbrev pub order_reply : Base → ℕ → Order → Reply
-order_reply base stamp o = Ordered stamp (length base.trades + 1) (first_status o.kind) (estimate base o)
+order_reply base stamp o = Ordered stamp (length base.trades + 1) (first_status (kind_of o.order_type)) (estimate base o)

@@ -3,7 +3,7 @@ use Rattle.std.specs.Prelude.{ℕ, nat_le, if◌then◌else◌, List, [], ◌∷
 use Rattle.brk_money.specs.Spelling.{Text}
 use Rattle.brk_money.specs.declared.refusal.Refusal.TheVariants.{BadText, BadQty}
 use Rattle.brk_model.specs.Records.{Broker, Customer, Account, Permission, Charge, Band, TaxRate, CustomerTax, Executor}
-use Rattle.brk_model.specs.Forms.{Read, ◌⊛◌, read_id, read_stamp, read_qty, read_price, read_charge_amount, read_opening, read_tax_status, read_type, read_cash, read_end, read_order_price, read_ids, some_of, then_read, read_name, read_tax_id, read_symbol, read_exchange, read_acl, read_tier, read_commission_rate, read_rate_of_tax}
+use Rattle.brk_model.specs.Forms.{Read, ◌⊛◌, read_id, read_stamp, read_qty, read_price, read_charge_amount, read_opening, read_tax_status, read_type, read_cash, read_end, read_order_type, read_ids, some_of, then_read, read_name, read_tax_id, read_symbol, read_exchange, read_acl, read_tier, read_commission_rate, read_rate_of_tax}
 use Rattle.brk_model.specs.Commands.{Command, Listing, Order, Tick, AddBroker, AddCustomer, AddAccount, AddPermission, AddSecurity, AddCharge, AddBand, AddTaxRate, AddCustomerTax, PlaceOrder, FeedTicks, CancelTrade, CompleteTrade, ChangeExecutors, ChangeCashTypes, ChangeCashNames}
 
 -- ---- the fields after each kind
@@ -80,8 +80,8 @@ read_executor first last tax_id = Ok (λ f l x. record { first_name = f; last_na
 -- an order and an estimate have the same fields
 abbrev pub read_order : List Text → Read Order
 read_order (account ∷ kind ∷ symbol ∷ qty ∷ price ∷ cash ∷ end ∷ first ∷ last ∷ tax_id ∷ []) =
-    Ok (λ a k s q p c l e. record { account = a; kind = k; symbol = s; qty = q; price = p; is_cash = c; is_lifo = l; executor = e })
-    ⊛ read_id account ⊛ read_type kind ⊛ read_symbol symbol ⊛ read_qty qty ⊛ read_order_price kind price ⊛ read_cash cash ⊛ read_end end
+    Ok (λ a s q t c l e. record { account = a; order_type = t; symbol = s; qty = q; is_cash = c; is_lifo = l; executor = e })
+    ⊛ read_id account ⊛ read_symbol symbol ⊛ read_qty qty ⊛ read_order_type kind price ⊛ read_cash cash ⊛ read_end end
     ⊛ read_executor first last tax_id
 read_order _ = Err BadText
 

@@ -4,6 +4,7 @@ use Rattle.std.specs.List.{join_with_byte}
 use Rattle.std.specs.Option.{option_map_or}
 use Rattle.brk_money.specs.Spelling.{Text, cents_text, day_text}
 use Rattle.brk_money.specs.Kinds.{type_code, status_code, tax_status_number}
+use Rattle.brk_money.specs.OrderTypes.{kind_of, price_asked}
 use Rattle.brk_model.specs.Commands.{Command, Order, Tick, Estimate, Completion, Reply, Booked, Ordered, Ticked, CanceledTrade, CompletedTrade, Changed, AddBroker, AddCustomer, AddAccount, AddPermission, AddSecurity, AddCharge, AddBand, AddTaxRate, AddCustomerTax, PlaceOrder, FeedTicks, CancelTrade, CompleteTrade, ChangeExecutors, ChangeCashTypes, ChangeCashNames}
 
 -- an amount that is not below 0
@@ -21,7 +22,7 @@ end_word is_lifo = if is_lifo then codes "lifo" else codes "fifo"
 -- the ten fields of an order
 abbrev pub order_fields : Order → List Text
 order_fields o =
-    decimal o.account ∷ type_code o.kind ∷ o.symbol ∷ decimal o.qty ∷ option_map_or price_text o.price [] ∷ cash_word o.is_cash ∷ end_word o.is_lifo
+    decimal o.account ∷ type_code (kind_of o.order_type) ∷ o.symbol ∷ decimal o.qty ∷ option_map_or price_text (price_asked o.order_type) [] ∷ cash_word o.is_cash ∷ end_word o.is_lifo
     ∷ o.executor.first_name ∷ o.executor.last_name ∷ o.executor.tax_id ∷ []
 
 -- the three fields of a tick

@@ -5,6 +5,7 @@ use Rattle.std.specs.Option.{option_map_or}
 use Rattle.brk_money.specs.Spelling.{Text}
 use Rattle.brk_money.specs.Moments.{day_of, last_day, last_stamp, moved_past}
 use Rattle.brk_money.specs.Kinds.{same_type}
+use Rattle.brk_money.specs.OrderTypes.{kind_of}
 use Rattle.brk_money.specs.declared.refusal.Refusal.{Refusal}
 use Rattle.brk_money.specs.declared.refusal.Refusal.TheVariants.{BadQty, NoAccount, NoCustomer, NoBroker, NoSecurity, NoTrade, NoTax, WrongStatus, NotPermitted, Exists, Overlap, TaxSum, NoCharge, NoRate, Range, ClockEnd}
 use Rattle.brk_money.specs.declared.refusal.Limit.TheVariants as limit
@@ -58,11 +59,11 @@ bands_meet b c =
 
 -- an order's charge has to be known
 abbrev pub lacks_charge : Base → Order → Test
-lacks_charge base o = (is_none (charge_with base o.kind (tier_of base o.account)), NoCharge)
+lacks_charge base o = (is_none (charge_with base (kind_of o.order_type) (tier_of base o.account)), NoCharge)
 
 -- an order's commission has to be known
 abbrev pub lacks_rate : Base → Order → Test
-lacks_rate base o = (is_none (band_with base (tier_of base o.account) o.kind (exchange_of base o.symbol) o.qty), NoRate)
+lacks_rate base o = (is_none (band_with base (tier_of base o.account) (kind_of o.order_type) (exchange_of base o.symbol) o.qty), NoRate)
 
 -- what an order and an estimate are tested for
 abbrev pub order_tests : Base → Order → List Test

@@ -1,14 +1,16 @@
 -- Orders of whose fields one is refused.
-use Rattle.std.proofs.Common.{◌≡◌, ◌≢◌, Bool, true, false, refl, ◌∙◌, ap, cond, [], ◌∷◌, ◌&&◌}
-use Rattle.std.specs.Prelude.{ℕ, Option, Some, None, Ok, Err, IfErr, nat_le}
+use Rattle.std.proofs.Common.{◌≡◌, Bool, true, false, refl, cond, [], ◌∷◌, ◌&&◌, inl, inr}
+use Rattle.std.specs.Prelude.{◌⊎◌, ℕ, Option, Some, None, Ok, Err, IfErr, nat_le}
 use Rattle.std.specs.Option.{ok_or}
 use Rattle.brk_money.specs.Spelling.{Text, cents_of}
-use Rattle.brk_money.specs.Kinds.{is_market}
+use Rattle.brk_money.specs.declared.order_type.OrderType.{OrderType}
+use Rattle.brk_money.specs.declared.order_type.OrderType.TheVariants as asked
 use Rattle.brk_money.specs.declared.trade_type.TradeType.{TradeType}
+use Rattle.brk_money.specs.declared.trade_type.TradeType.TheVariants.{MarketBuy, MarketSell, StopLoss, LimitSell, LimitBuy}
 use Rattle.brk_money.specs.declared.refusal.Refusal.{Refusal}
 use Rattle.brk_money.specs.declared.refusal.Refusal.TheVariants.{BadText, BadQty, BadPrice, BadType}
 use Rattle.brk_model.specs.Limits.{greatest_price}
-use Rattle.brk_model.specs.Forms.{Read, ◌⊛◌, unsigned, read_if, read_type, type_of, read_price, price_for, no_price_for, read_order_price}
+use Rattle.brk_model.specs.Forms.{Read, ◌⊛◌, unsigned, read_if, type_of, read_price, without_price, without_type, order_type_for, read_order_type}
 use Rattle.brk_ref.proofs.Applied.{text_left, text_right}
 
 -- a refusal is of one kind
@@ -29,88 +31,83 @@ only_if {A} test refusal (Some x) = by_test (test x)
     by_test true = tt
     by_test false = refl
 
--- a type is refused as a type
-pub only_type : (text : Text) → IsOnly BadType (read_type text)
-only_type text = only_if (λ _. true) BadType (type_of text)
+-- a price is refused as a price
+pub only_price : (text : Text) → IsOnly BadPrice (read_price text)
+only_price text = only_if (λ n. nat_le 1 n && nat_le n greatest_price) BadPrice (unsigned (cents_of text))
 
--- and the price of an order as a price
-none_only : (kind : Option TradeType) → IsOnly BadPrice (no_price_for kind)
-unfolding IsOnly
-none_only None = tt
-none_only (Some kind) = by_market (is_market kind)
-  where
-    by_market : (b : Bool) → IfErr (let r : Read (Option ℕ) = cond b (Ok None) (Err BadPrice) in r) (λ s. s ≡ BadPrice)
-    by_market true = tt
-    by_market false = refl
+-- the type of an order is refused as a price or as a type
+pub IsLate : {A : Type 0} → Read A → Type 0
+IsLate r = IfErr r (λ s. (s ≡ BadPrice) ⊎ (s ≡ BadType))
 
-given_only : (kind : Option TradeType) (price : Read ℕ) → IsOnly BadPrice price → IsOnly BadPrice (price_for kind price)
-unfolding IsOnly
-given_only kind (Err r) h = h
-given_only None (Ok price) h = tt
-given_only (Some kind) (Ok price) h = by_market (is_market kind)
-  where
-    by_market : (b : Bool) → IfErr (let r : Read (Option ℕ) = cond b (Err BadPrice) (Ok (Some price)) in r) (λ s. s ≡ BadPrice)
-    by_market true = refl
-    by_market false = tt
+late_without : (t : OrderType) (text : Text) → IsLate (without_price t text)
+unfolding IsLate
+late_without t [] = tt
+late_without t (c ∷ text) = inl refl
 
-pub only_price : (kind price : Text) → IsOnly BadPrice (read_order_price kind price)
-only_price kind [] = none_only (type_of kind)
-only_price kind (c ∷ text) =
-    given_only (type_of kind) (read_price (c ∷ text)) (only_if (λ n. nat_le 1 n && nat_le n greatest_price) BadPrice (unsigned (cents_of (c ∷ text))))
+late_with : (f : ℕ → OrderType) (price : Read ℕ) → IsOnly BadPrice price → IsLate (Ok f ⊛ price)
+unfolding IsLate IsOnly
+late_with f (Ok n) h = tt
+late_with f (Err r) h = inl h
+
+late_none : (text : Text) (price : Read ℕ) → IsOnly BadPrice price → IsLate (let none : Read (ℕ → OrderType) = Err BadType in none ⊛ price)
+unfolding IsLate IsOnly
+late_none text (Ok n) h = inr refl
+late_none text (Err r) h = rw h (inl refl)
+
+late_unknown : (text : Text) → IsLate (without_type text)
+unfolding IsLate
+late_unknown [] = inr refl
+late_unknown (c ∷ text) = late_none (c ∷ text) (read_price (c ∷ text)) (only_price (c ∷ text))
+
+late_type : (kind : Option TradeType) (text : Text) → IsLate (order_type_for kind text)
+late_type None text = late_unknown text
+late_type (Some MarketBuy) text = late_without asked.MarketBuy text
+late_type (Some MarketSell) text = late_without asked.MarketSell text
+late_type (Some StopLoss) text = late_with (λ price. asked.StopLoss price) (read_price text) (only_price text)
+late_type (Some LimitSell) text = late_with (λ price. asked.LimitSell price) (read_price text) (only_price text)
+late_type (Some LimitBuy) text = late_with (λ price. asked.LimitBuy price) (read_price text) (only_price text)
+
+pub late_order_type : (kind price : Text) → IsLate (read_order_type kind price)
+late_order_type kind price = late_type (type_of kind) price
 
 -- the type that was found, known or not
-type_found : (kind found : Option TradeType) → ok_or kind BadType ≡ read_if (λ _. true) BadType found → kind ≡ found
+pub type_found : (kind found : Option TradeType) → ok_or kind BadType ≡ read_if (λ _. true) BadType found → kind ≡ found
 type_found None None e = refl
 type_found None (Some y) e = absurd (cc)
 type_found (Some x) None e = absurd (cc)
 type_found (Some x) (Some y) e = cc
 
--- the price by the type that was found
-pub price_by_type : (kind : Option TradeType) (told price : Text) (found : Read (Option ℕ)) → ok_or kind BadType ≡ read_type told
-    → (price ≡ [] → found ≡ no_price_for kind) → (price ≢ [] → found ≡ price_for kind (read_price price))
-    → found ≡ read_order_price told price
-price_by_type kind told [] found e empty given = empty refl ∙ ap no_price_for (type_found kind (type_of told) e)
-price_by_type kind told (c ∷ text) found e empty given =
-    given (λ h. absurd (cc)) ∙ ap (λ k. price_for k (read_price (c ∷ text))) (type_found kind (type_of told) e)
-
-module _ {A K S Q P C L E O : Type 0} (f : A → K → S → Q → P → C → L → E → O) where
+module _ {A S Q T C L E O : Type 0} (f : A → S → Q → T → C → L → E → O) where
   -- an order of whose fields one of text is refused
-  module _ (a : Read A) (k : Read K) (s : Read S) (q : Read Q) (p : Read P) (c : Read C) (l : Read L) (e : Read E) where
-    before_executor : Ok f ⊛ a ⊛ k ⊛ s ⊛ q ⊛ p ⊛ c ⊛ l ≡ Err BadText → Ok f ⊛ a ⊛ k ⊛ s ⊛ q ⊛ p ⊛ c ⊛ l ⊛ e ≡ Err BadText
-    before_executor h = text_left (Ok f ⊛ a ⊛ k ⊛ s ⊛ q ⊛ p ⊛ c ⊛ l) e h
+  module _ (a : Read A) (s : Read S) (q : Read Q) (t : Read T) (c : Read C) (l : Read L) (e : Read E) where
+    before_executor : Ok f ⊛ a ⊛ s ⊛ q ⊛ t ⊛ c ⊛ l ≡ Err BadText → Ok f ⊛ a ⊛ s ⊛ q ⊛ t ⊛ c ⊛ l ⊛ e ≡ Err BadText
+    before_executor h = text_left (Ok f ⊛ a ⊛ s ⊛ q ⊛ t ⊛ c ⊛ l) e h
 
-    before_end : Ok f ⊛ a ⊛ k ⊛ s ⊛ q ⊛ p ⊛ c ≡ Err BadText → Ok f ⊛ a ⊛ k ⊛ s ⊛ q ⊛ p ⊛ c ⊛ l ⊛ e ≡ Err BadText
-    before_end h = before_executor (text_left (Ok f ⊛ a ⊛ k ⊛ s ⊛ q ⊛ p ⊛ c) l h)
+    before_end : Ok f ⊛ a ⊛ s ⊛ q ⊛ t ⊛ c ≡ Err BadText → Ok f ⊛ a ⊛ s ⊛ q ⊛ t ⊛ c ⊛ l ⊛ e ≡ Err BadText
+    before_end h = before_executor (text_left (Ok f ⊛ a ⊛ s ⊛ q ⊛ t ⊛ c) l h)
 
-    before_qty : Ok f ⊛ a ⊛ k ⊛ s ≡ Err BadText → Ok f ⊛ a ⊛ k ⊛ s ⊛ q ⊛ p ⊛ c ⊛ l ⊛ e ≡ Err BadText
-    before_qty h = before_end (text_left (Ok f ⊛ a ⊛ k ⊛ s ⊛ q ⊛ p) c (text_left (Ok f ⊛ a ⊛ k ⊛ s ⊛ q) p (text_left (Ok f ⊛ a ⊛ k ⊛ s) q h)))
+    before_qty : Ok f ⊛ a ⊛ s ≡ Err BadText → Ok f ⊛ a ⊛ s ⊛ q ⊛ t ⊛ c ⊛ l ⊛ e ≡ Err BadText
+    before_qty h = before_end (text_left (Ok f ⊛ a ⊛ s ⊛ q ⊛ t) c (text_left (Ok f ⊛ a ⊛ s ⊛ q) t (text_left (Ok f ⊛ a ⊛ s) q h)))
 
-    pub no_account : a ≡ Err BadText → Ok f ⊛ a ⊛ k ⊛ s ⊛ q ⊛ p ⊛ c ⊛ l ⊛ e ≡ Err BadText
-    no_account h = before_qty (text_left (Ok f ⊛ a ⊛ k) s (text_left (Ok f ⊛ a) k (text_right (Ok f) a h)))
+    pub no_account : a ≡ Err BadText → Ok f ⊛ a ⊛ s ⊛ q ⊛ t ⊛ c ⊛ l ⊛ e ≡ Err BadText
+    no_account h = before_qty (text_left (Ok f ⊛ a) s (text_right (Ok f) a h))
 
-    pub no_symbol : s ≡ Err BadText → Ok f ⊛ a ⊛ k ⊛ s ⊛ q ⊛ p ⊛ c ⊛ l ⊛ e ≡ Err BadText
-    no_symbol h = before_qty (text_right (Ok f ⊛ a ⊛ k) s h)
+    pub no_symbol : s ≡ Err BadText → Ok f ⊛ a ⊛ s ⊛ q ⊛ t ⊛ c ⊛ l ⊛ e ≡ Err BadText
+    no_symbol h = before_qty (text_right (Ok f ⊛ a) s h)
 
-    pub no_cash : c ≡ Err BadText → Ok f ⊛ a ⊛ k ⊛ s ⊛ q ⊛ p ⊛ c ⊛ l ⊛ e ≡ Err BadText
-    no_cash h = before_end (text_right (Ok f ⊛ a ⊛ k ⊛ s ⊛ q ⊛ p) c h)
+    pub no_cash : c ≡ Err BadText → Ok f ⊛ a ⊛ s ⊛ q ⊛ t ⊛ c ⊛ l ⊛ e ≡ Err BadText
+    no_cash h = before_end (text_right (Ok f ⊛ a ⊛ s ⊛ q ⊛ t) c h)
 
-    pub no_end : l ≡ Err BadText → Ok f ⊛ a ⊛ k ⊛ s ⊛ q ⊛ p ⊛ c ⊛ l ⊛ e ≡ Err BadText
-    no_end h = before_executor (text_right (Ok f ⊛ a ⊛ k ⊛ s ⊛ q ⊛ p ⊛ c) l h)
+    pub no_end : l ≡ Err BadText → Ok f ⊛ a ⊛ s ⊛ q ⊛ t ⊛ c ⊛ l ⊛ e ≡ Err BadText
+    no_end h = before_executor (text_right (Ok f ⊛ a ⊛ s ⊛ q ⊛ t ⊛ c) l h)
 
-    pub no_executor : e ≡ Err BadText → Ok f ⊛ a ⊛ k ⊛ s ⊛ q ⊛ p ⊛ c ⊛ l ⊛ e ≡ Err BadText
-    no_executor h = text_right (Ok f ⊛ a ⊛ k ⊛ s ⊛ q ⊛ p ⊛ c ⊛ l) e h
+    pub no_executor : e ≡ Err BadText → Ok f ⊛ a ⊛ s ⊛ q ⊛ t ⊛ c ⊛ l ⊛ e ≡ Err BadText
+    no_executor h = text_right (Ok f ⊛ a ⊛ s ⊛ q ⊛ t ⊛ c ⊛ l) e h
 
-  -- an order whose texts stand, and whose quantity is refused, or whose price
-  pub no_qty : (a : A) (k : Read K) (s : S) (p : Read P) (c : C) (l : L) (e : E) → IsOnly BadType k → IsOnly BadPrice p
-      → Ok f ⊛ Ok a ⊛ k ⊛ Ok s ⊛ Err BadQty ⊛ p ⊛ Ok c ⊛ Ok l ⊛ Ok e ≡ Err BadQty
-  unfolding IsOnly
-  no_qty a (Ok k) s (Ok p) c l e hk hp = refl
-  no_qty a (Ok k) s (Err r) c l e hk hp = rw hp refl
-  no_qty a (Err t) s (Ok p) c l e hk hp = rw hk refl
-  no_qty a (Err t) s (Err r) c l e hk hp = rw (hk, hp) refl
-
-  pub no_price : (a : A) (k : Read K) (s : S) (q : Q) (c : C) (l : L) (e : E) → IsOnly BadType k
-      → Ok f ⊛ Ok a ⊛ k ⊛ Ok s ⊛ Ok q ⊛ Err BadPrice ⊛ Ok c ⊛ Ok l ⊛ Ok e ≡ Err BadPrice
-  unfolding IsOnly
-  no_price a (Ok k) s q c l e hk = refl
-  no_price a (Err t) s q c l e hk = rw hk refl
+  -- an order whose texts stand, and whose quantity is refused
+  pub no_qty : (a : A) (s : S) (t : Read T) (c : C) (l : L) (e : E) → IsLate t
+      → Ok f ⊛ Ok a ⊛ Ok s ⊛ Err BadQty ⊛ t ⊛ Ok c ⊛ Ok l ⊛ Ok e ≡ Err BadQty
+  unfolding IsLate
+  no_qty a s (Ok t) c l e h = refl
+  no_qty a s (Err r) c l e (inl h) = rw h refl
+  no_qty a s (Err r) c l e (inr h) = rw h refl

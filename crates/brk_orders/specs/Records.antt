@@ -10,7 +10,7 @@ use Rattle.brk_orders.specs.declared.order.Told as told
 use Rattle.brk_orders.specs.declared.tick.Tick as tick
 
 abbrev pub order_of : order.Order → Order
-order_of o = record { account = o.account; kind = o.kind; symbol = o.symbol; qty = o.qty; price = o.price; is_cash = o.is_cash; is_lifo = o.is_lifo; executor = executor_of o.executor }
+order_of o = record { account = o.account; order_type = o.order_type; symbol = o.symbol; qty = o.qty; is_cash = o.is_cash; is_lifo = o.is_lifo; executor = executor_of o.executor }
 
 -- the texts of an order's fields in their order
 abbrev pub told_texts : told.Told → List Text

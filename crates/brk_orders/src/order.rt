@@ -1,6 +1,7 @@
-ghost use Rattle.std.specs.Prelude.{◌≡◌, ◌≢◌, [], IfOk, OnErr, Err, Some, option_map};
+ghost use Rattle.std.specs.Prelude.{◌≡◌, IfOk, OnErr, Err, Some, option_map};
 ghost use Rattle.std.specs.Option.{ok_or};
-ghost use Rattle.brk_model.specs.Forms.{no_price_for, price_for, read_either, read_price};
+ghost use Rattle.brk_model.specs.Forms as forms;
+ghost use Rattle.brk_model.specs.Forms.{read_either, read_price};
 ghost use Rattle.brk_model.specs.Parse.{read_executor, read_order};
 ghost use Rattle.brk_money.specs.declared.fault.Fault.TheVariants.{Memory};
 ghost use Rattle.brk_money.specs.declared.refusal.Refusal.TheVariants.{BadText};
@@ -8,7 +9,7 @@ ghost use Rattle.brk_orders.specs.Records.{order_of, told_texts};
 ghost use Rattle.brk_ref.specs.Records.{executor_of};
 ghost use Rattle.brk_ref.specs.Fields.{Reads, texts};
 
-use brk_money::{Fault, Id, Planned, Price, Qty, Refusal, TradeType};
+use brk_money::{Fault, Id, OrderType, Planned, Price, Qty, Refusal, TradeType};
 use brk_ref::{Executor, Name, Symbol, TaxId, parse_id, parse_price, parse_qty, parse_type};
 use std::alloc::Global;
 
@@ -17,12 +18,11 @@ use std::alloc::Global;
 pub struct Order {
     /// The account that it is for.
     pub account: Id,
-    pub kind: TradeType,
+    /// Its type, with the price that it asks for.
+    pub order_type: OrderType,
     pub symbol: Symbol,
     /// How many shares.
     pub qty: Qty,
-    /// The price of a share that it asks for; none for a market type.
-    pub price: Option<Price>,
     /// Whether it is of the cash account, else it is on margin.
     pub is_cash: bool,
     /// Whether the last lots are closed first, else the first.
@@ -85,38 +85,48 @@ fn parse_executor(
     }))
 }
 
-// No price, which stands for a market type or one that is not known.
-fn no_price(kind: Option<TradeType>) -> Result<Option<Price>, Refusal>
-    ensures { result ≡ no_price_for kind }
-{
-    match kind {
-        Some(kind) if !kind.is_market() => Err(Refusal::BadPrice),
-        _ => Ok(None),
-    }
-}
-
-// The price that the bytes spell, which stands for a type that is no market type or not known.
-fn given_price(kind: Option<TradeType>, price: &[u8]) -> Result<Option<Price>, Refusal>
-    ensures { result ≡ price_for kind (read_price price.now) }
-{
-    let Some(price) = parse_price(price) else {
-        return Err(Refusal::BadPrice);
-    };
-    match kind {
-        Some(kind) if kind.is_market() => Err(Refusal::BadPrice),
-        _ => Ok(Some(price)),
-    }
-}
-
-// The price of an order of a type, if the type is known.
-fn order_price(kind: Option<TradeType>, price: &[u8]) -> Result<Option<Price>, Refusal>
-    ensures empty { price.now ≡ [] → result ≡ no_price_for kind }
-    ensures given { price.now ≢ [] → result ≡ price_for kind (read_price price.now) }
+// A type of order that has no price, for which no text stands.
+fn without_price(order_type: OrderType, price: &[u8]) -> Result<OrderType, Refusal>
+    ensures { result ≡ forms.without_price order_type price.now }
 {
     if price.is_empty() {
-        no_price(kind)
+        Ok(order_type)
     } else {
-        given_price(kind, price)
+        Err(Refusal::BadPrice)
+    }
+}
+
+// The price that a text spells.
+fn named_price(price: &[u8]) -> Result<Price, Refusal>
+    ensures { result ≡ read_price price.now }
+{
+    parse_price(price).ok_or(Refusal::BadPrice)
+}
+
+// Why an order of an unknown type is refused: for its price, where a text stands that is none, and else for its type.
+fn without_type(price: &[u8]) -> Refusal
+    ensures { forms.without_type price.now ≡ Err result }
+{
+    if price.is_empty() {
+        return Refusal::BadType;
+    }
+    match named_price(price) {
+        Ok(_) => Refusal::BadType,
+        Err(refusal) => refusal,
+    }
+}
+
+// The type of an order with its price, which has to stand where the type asks for one.
+fn order_type_for(kind: Option<TradeType>, price: &[u8]) -> Result<OrderType, Refusal>
+    ensures { result ≡ forms.order_type_for kind price.now }
+{
+    match kind {
+        Some(TradeType::MarketBuy) => without_price(OrderType::MarketBuy, price),
+        Some(TradeType::MarketSell) => without_price(OrderType::MarketSell, price),
+        Some(TradeType::StopLoss) => Ok(OrderType::StopLoss(named_price(price)?)),
+        Some(TradeType::LimitSell) => Ok(OrderType::LimitSell(named_price(price)?)),
+        Some(TradeType::LimitBuy) => Ok(OrderType::LimitBuy(named_price(price)?)),
+        None => Err(without_type(price)),
     }
 }
 
@@ -143,20 +153,15 @@ fn order_from(alloc: Global, told: Told<'_>) -> Planned<Order>
     let Some(qty) = parse_qty(told.qty) else {
         return Ok(Err(Refusal::BadQty));
     };
-    let kind = parse_type(told.kind);
-    let price = match order_price(kind, told.price) {
-        Ok(price) => price,
+    let order_type = match order_type_for(parse_type(told.kind), told.price) {
+        Ok(order_type) => order_type,
         Err(refusal) => return Ok(Err(refusal)),
-    };
-    let Some(kind) = kind else {
-        return Ok(Err(Refusal::BadType));
     };
     Ok(Ok(Order {
         account,
-        kind,
+        order_type,
         symbol,
         qty,
-        price,
         is_cash,
         is_lifo,
         executor,

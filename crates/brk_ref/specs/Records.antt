@@ -2,10 +2,12 @@
 use Rattle.std.specs.Prelude.{string_bytes}
 use Rattle.brk_model.specs.Records.{Broker, Customer, Account, Permission, Charge, Band, TaxRate, CustomerTax, Key, Kept, Executor}
 use Rattle.brk_model.specs.Commands.{Listing}
-use Rattle.brk_model.specs.Tables.{SecurityRow, LastTradeRow}
+use Rattle.brk_model.specs.Tables.{BrokerRow, AccountRow, SecurityRow, LastTradeRow}
 use Rattle.brk_ref.specs.declared.broker.Broker as broker
+use Rattle.brk_ref.specs.declared.broker.BrokerRow as broker_row
 use Rattle.brk_ref.specs.declared.customer.Customer as customer
 use Rattle.brk_ref.specs.declared.account.Account as account
+use Rattle.brk_ref.specs.declared.account.AccountRow as account_row
 use Rattle.brk_ref.specs.declared.permission.Permission as permission
 use Rattle.brk_ref.specs.declared.executor.Executor as executor
 use Rattle.brk_ref.specs.declared.security.Security as security
@@ -59,3 +61,17 @@ key_of k = record { batch = k.batch; row = k.row }
 
 abbrev pub kept_of : kept.Kept → Kept
 kept_of k = record { key = key_of k.key; row_text = string_bytes k.row_text; line = string_bytes k.line }
+
+abbrev pub broker_row_of : broker_row.BrokerRow → BrokerRow
+broker_row_of r = record { id = r.broker.id; name = r.broker.name; trades = r.trades; commissions = r.commissions }
+
+abbrev pub account_row_of : account_row.AccountRow → AccountRow
+account_row_of r = record {
+  id = r.account.id;
+  customer = r.account.customer;
+  broker = r.account.broker;
+  name = r.account.name;
+  tax_status = r.account.tax_status;
+  opening = r.account.opening;
+  balance = r.balance;
+}

@@ -73,6 +73,13 @@ impl<F: Form> Text<F> {
     {
         self.text.as_str()
     }
+
+    /// A text has its form. There is nothing to call it for but this fact.
+    pub fn keeps_form(&self)
+        ensures { F.form self.now ≡ true }
+    {
+        let _ = &self.text;
+    }
 }
 
 impl<F: Form> Clone for Text<F> {

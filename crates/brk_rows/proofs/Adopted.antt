@@ -1,5 +1,6 @@
 -- A table of any database is that of some records, where the program has read its rows and tested them.
-use Rattle.std.proofs.Common.{◌≡◌, inl, inr, ℕ, ℤ, List, [], ◌∷◌, map, true, false, not, Some, None, Ordering, Less, Equal, Greater, is_eq, is_lt, int_cmp, refl, sym, ap, ap₂, subst, ◌∙◌, IsTrue}
+use Rattle.std.proofs.Common.{◌≡◌, ◌⊎◌, inl, inr, ℕ, ℤ, List, [], ◌∷◌, map, true, false, not, Some, None, Ordering, Less, Equal, Greater, is_eq, is_lt, int_cmp, refl, sym, ap, ap₂, subst, ◌∙◌, IsTrue}
+use Rattle.std.specs.Cmp.{IsTotalOrder}
 use Rattle.std.specs.List.{AllByRecursion, IsDistinct}
 use Rattle.std.specs.List.Sorted.{IsPermutation}
 use Rattle.std.proofs.lemmas.Cmp.{int_cmp_total}
@@ -15,7 +16,7 @@ use Rattle.sqlite_sql.specs.Term.{Term, eval_all}
 use Rattle.sqlite_sql.specs.Query.{Query, page}
 use Rattle.sqlite_rules.proofs.ListLemmas.{all_has}
 use Rattle.sqlite.specs.Table.{Table}
-use Rattle.brk_rows.specs.Rows.{cells, same_rowid, Rises, Holds, IsSheet, climbs_from}
+use Rattle.brk_rows.specs.Rows.{cells, same_rowid, Rises, Holds, climbs_from}
 use Rattle.brk_rows.proofs.Decode.{filter_true}
 use Rattle.brk_rows.proofs.Order.{map_on}
 use Rattle.brk_rows.proofs.Pick.{Picks, Keyed, Apart, keyed_permuted, apart_permuted, int_is, sorted_by}
@@ -27,7 +28,7 @@ use Rattle.brk_rows.specs.Desk.{Desk, Stands}
 use Rattle.brk_rows.proofs.Order.{ordered, has_permuted, rises_from_sorted}
 use Rattle.brk_rows.proofs.Unique.{unique_rows}
 use Rattle.brk_rows.proofs.Values.{differ_ints}
-use Rattle.brk_rows.proofs.Writes.{Place}
+use Rattle.brk_rows.proofs.Writes.{IsRowidKey, IsUniqueKey}
 
 -- ---- numbers that climb
 
@@ -143,9 +144,10 @@ module _ {X : Type 0} (table : Table) (encode : X → Row) (cmp : X → X → Or
           each y [] all = tt
           each y (z ∷ zs) all = (sym (is y z) ∙ all.0, each y zs all.1)
 
--- ---- a table of a sound database whose tree is in order, read by its key
+-- ---- a table of a sound database, read by its key
 
-module _ {W T : Type 0} (desk : Desk W T) (w : W) (place : Place desk w) (db : Database) (sound : IsDatabase db) (at tree : ℕ) (h : Stands db.schema (desk.shape w tree) at) (sheet : IsSheet (db.trees tree)) where
+module _ {W T : Type 0} (desk : Desk W T) (w : W) (total : IsTotalOrder (desk.order w)) (once : IsRowidKey (desk.shape w) (desk.encode w) (desk.order w) ⊎ IsUniqueKey (desk.shape w) (desk.encode w) (desk.order w))
+    (db : Database) (sound : IsDatabase db) (at tree : ℕ) (h : Stands db.schema (desk.shape w tree) at) (keyed : Keyed (db.trees tree)) (apart : Apart (db.trees tree)) where
   abbrev rows : List Row
   rows = db.trees tree
 
@@ -153,26 +155,26 @@ module _ {W T : Type 0} (desk : Desk W T) (w : W) (place : Place desk w) (db : D
   same_tree = ap db.trees (desk.placed w tree)
 
   one_key : (r s : Row) → Has rows r → Has rows s → same_rowid r s ≡ false → (x y : desk.Item w) → cells (desk.shape w tree) r ≡ desk.encode w x → cells (desk.shape w tree) s ≡ desk.encode w y → is_eq (desk.order w x y) ≡ false
-  one_key r s hr hs apart x y e f = elim place.keyed [
-    | inl by_rowid ↦ by_rowid tree r s x y e f ∙ apart
+  one_key r s hr hs other_id x y e f = elim once [
+    | inl by_rowid ↦ by_rowid tree r s x y e f ∙ other_id
     | inr by_key ↦
-        let m = int_is (rowid r) (all_has _ rows r sheet.keyed hr) in
-        let n = int_is (rowid s) (all_has _ rows s sheet.keyed hs) in
+        let m = int_is (rowid r) (all_has _ rows r keyed hr) in
+        let n = int_is (rowid s) (all_has _ rows s keyed hs) in
         let other : differ (rowid r) (rowid s) ≡ true =
-        ap₂ differ m n ∙ differ_ints (id_in (rowid r)) (id_in (rowid s)) ∙ ap not (ap is_eq (ap₂ value_cmp (sym m) (sym n)) ∙ apart) in
+        ap₂ differ m n ∙ differ_ints (id_in (rowid r)) (id_in (rowid s)) ∙ ap not (ap is_eq (ap₂ value_cmp (sym m) (sym n)) ∙ other_id) in
         by_key.tied tree r s x y e f
         ∙ unique_rows db at (desk.shape w tree) by_key.key sound h.found (by_key.first tree) s r (subst (λ l. Has l s) (sym same_tree) hs) (subst (λ l. Has l r) (sym same_tree) hr) other
   ]
 
   untied : (rs : List Row) (ys : List (desk.Item w)) → ((r : Row) → Has rs r → Has rows r) → Apart rs → map (cells (desk.shape w tree)) rs ≡ map (desk.encode w) ys → IsAscending (λ x y. is_eq (desk.order w x y) ≡ false) ys
   unfolding IsDistinct
-  untied [] [] mine apart e = tt
-  untied [] (y ∷ ys) mine apart e = absurd (let k = e in cc)
-  untied (r ∷ rs) [] mine apart e = absurd (let k = e in cc)
-  untied (r ∷ rs) (y ∷ ys) mine apart e =
+  untied [] [] mine others e = tt
+  untied [] (y ∷ ys) mine others e = absurd (let k = e in cc)
+  untied (r ∷ rs) [] mine others e = absurd (let k = e in cc)
+  untied (r ∷ rs) (y ∷ ys) mine others e =
       let here : cells (desk.shape w tree) r ≡ desk.encode w y = cc in
       let more : map (cells (desk.shape w tree)) rs ≡ map (desk.encode w) ys = cc in
-      (each r y (mine r (inl refl)) here rs ys (λ s k. mine s (inr k)) apart.0 more, untied rs ys (λ s k. mine s (inr k)) apart.1 more)
+      (each r y (mine r (inl refl)) here rs ys (λ s k. mine s (inr k)) others.0 more, untied rs ys (λ s k. mine s (inr k)) others.1 more)
     where
       each : (r : Row) (x : desk.Item w) → Has rows r → cells (desk.shape w tree) r ≡ desk.encode w x → (rs : List Row) (ys : List (desk.Item w)) → ((s : Row) → Has rs s → Has rows s) → AllByRecursion (λ s. same_rowid r s ≡ false) rs
           → map (cells (desk.shape w tree)) rs ≡ map (desk.encode w) ys → AllByRecursion (λ y. is_eq (desk.order w x y) ≡ false) ys
@@ -191,7 +193,6 @@ module _ {W T : Type 0} (desk : Desk W T) (w : W) (place : Place desk w) (db : D
   adopted_in_order query params project order read p unpaged shows sorts xs decoded =
       let all : IsPermutation rows p.picked = subst (λ l. IsPermutation l p.picked) (filter_true rows) p.same in
       let are : map (cells (desk.shape w tree)) p.picked ≡ map (desk.encode w) xs = sym (decoded ∙ p.is ∙ unpaged _ ∙ map_on _ _ p.picked (λ r k. shows r)) in
-      let apart = table_apart rows sheet.rise in
-      let rising = rises_from_sorted place.total xs (ordered (cells (desk.shape w tree)) (desk.encode w) (sorted_by params order) (desk.order w) sorts p.picked xs are p.sorted)
+      let rising = rises_from_sorted total xs (ordered (cells (desk.shape w tree)) (desk.encode w) (sorted_by params order) (desk.order w) sorts p.picked xs are p.sorted)
       (untied p.picked xs (λ r k. has_permuted rows p.picked r all k) (apart_permuted rows p.picked all apart) are) in
-      adopted (desk.shape w tree) (desk.encode w) (desk.order w) rows query params project order read p unpaged shows xs decoded rising sheet.keyed apart
+      adopted (desk.shape w tree) (desk.encode w) (desk.order w) rows query params project order read p unpaged shows xs decoded rising keyed apart

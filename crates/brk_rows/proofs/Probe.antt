@@ -96,12 +96,12 @@ there_told text schema o h = go (understood schema text) refl h
 
 module _ (text : List ℕ) (old new : State) (survives : Survives old new (λ _. ⊥)) where
   abbrev pub Says : Bool → State → State → Type 0
-  Says has before after = (after.now ≡ before.now) × Probes text has before.now.schema
+  Says has before after = IsTrue before.is_open × (after.now ≡ before.now) × Probes text has before.now.schema
 
   pub says_there : (o : Outline) → (HasCleanDisk new → IsUnchanged old new) → (HasCleanDisk new → Outlines (understood old.now.schema text) o) → IsStep {E = Error} old new (Ok true) Says
   says_there o same shape = record {
     kept = λ clean. kept_unchanged old new (same clean);
-    made = λ clean on. let u = same clean in (subst IsTrue (sym u.0.mode) on, (u.0.now_is, there_told text old.now.schema o (shape clean)));
+    made = λ clean on. let u = same clean in (subst IsTrue (sym u.0.mode) on, (u.0.was_open, u.0.now_is, there_told text old.now.schema o (shape clean)));
     survives = survives;
   }
 
@@ -110,7 +110,7 @@ module _ (text : List ℕ) (old new : State) (survives : Survives old new (λ _.
       let told = λ (clean : HasCleanDisk new). absent_told text old new (subst (IsNotRun old new text []) named (fails clean)) in
       record {
         kept = λ clean. kept_unchanged old new (told clean).1;
-        made = λ clean on. let u = (told clean).1 in (subst IsTrue (sym u.0.mode) on, (u.0.now_is, (told clean).0));
+        made = λ clean on. let u = (told clean).1 in (subst IsTrue (sym u.0.mode) on, (u.0.was_open, u.0.now_is, (told clean).0));
         survives = survives;
       }
 

@@ -1,7 +1,7 @@
 //! The tables of a program as lists of records, in a database that may have others.
 #![tactic(auto)]
 
-ghost use Rattle.std.specs.Prelude.{◌≡◌, IfOk, None, map};
+ghost use Rattle.std.specs.Prelude.{◌≡◌, IfOk, IsTrue, None, map};
 ghost use Rattle.sqlite_value.specs.declared.value.Value.TheVariants.{Int};
 ghost use Rattle.sqlite_value.specs.Order.{column};
 ghost use Rattle.std.specs.List.{AllByRecursion};
@@ -63,7 +63,7 @@ pub fn reopened<S: Alter + Drop>(
 /// Whether a text is understood, or names a table that is not there. It runs nothing.
 pub fn is_understood<S: Alter>(tx: &mut Transaction<'_, S>, text: &str) -> Result<bool, Error>
     ensures same_reference { tx.new.conn.ghost_name ≡ tx.old.conn.ghost_name }
-    ensures step { Steps S.Store tx.old tx.new result (λ has old new. (new.now ≡ old.now) × Probes text.now has old.now.schema) }
+    ensures step { Steps S.Store tx.old tx.new result (λ has old new. IsTrue old.is_open × (new.now ≡ old.now) × Probes text.now has old.now.schema) }
 {
     match tx.prepare(text) {
         Ok(_) => Ok(true),

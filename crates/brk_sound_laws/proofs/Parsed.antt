@@ -3,16 +3,19 @@ use Rattle.std.proofs.Common.{◌≡◌, ℕ, Bool, true, false, cond, List, [],
 use Rattle.std.specs.Prelude.{◌&&◌, ⊤, IfSome, Ok, Err, IfOk, bytes_eq, find, length, nat_le}
 use Rattle.std.specs.List.{AllByRecursion}
 use Rattle.brk_money.specs.Spelling.{Text, cents_of, number_of}
-use Rattle.brk_money.specs.Kinds.{is_market}
+use Rattle.brk_money.specs.OrderTypes.{price_asked}
+use Rattle.brk_money.specs.declared.order_type.OrderType.{OrderType}
+use Rattle.brk_money.specs.declared.order_type.OrderType.TheVariants as asked
 use Rattle.brk_money.specs.declared.refusal.Refusal.{Refusal}
-use Rattle.brk_money.specs.declared.refusal.Refusal.TheVariants.{BadText, BadQty, BadPrice, TooMany}
+use Rattle.brk_money.specs.declared.refusal.Refusal.TheVariants.{BadText, BadQty, BadPrice, BadType, TooMany}
 use Rattle.brk_money.specs.declared.tax_status.TaxStatus.{TaxStatus}
 use Rattle.brk_money.specs.declared.trade_type.TradeType.{TradeType}
+use Rattle.brk_money.specs.declared.trade_type.TradeType.TheVariants.{MarketBuy, MarketSell, StopLoss, LimitSell, LimitBuy}
 use Rattle.brk_model.specs.Limits.{greatest_charge, greatest_rate, greatest_tax_rate}
 use Rattle.brk_model.specs.Records.{Account, Band, Broker, Charge, Customer, Executor, Permission, TaxRate}
 use Rattle.brk_model.specs.Commands.{Command, Listing, Order, Tick, AddBroker, AddCustomer, AddAccount, AddPermission, AddSecurity, AddCharge, AddBand, AddTaxRate, AddCustomerTax, PlaceOrder, FeedTicks, CancelTrade, CompleteTrade, ChangeExecutors, ChangeCashTypes, ChangeCashNames}
 use Rattle.brk_model.specs.Form.{charge_form, customer_form, is_amount, is_id, is_price, is_qty, is_tier, tax_rate_form}
-use Rattle.brk_model.specs.Forms.{Read, ◌⊛◌, is_acl, is_exchange, is_name, is_symbol, is_tax_id, no_price_for, price_for, read_acl, read_cash, read_charge_amount, read_commission_rate, read_end, read_exchange, read_id, read_if, read_ids, read_name, read_number, read_opening, read_order_price, read_price, read_qty, read_rate_of_tax, read_stamp, read_symbol, read_tax_id, read_tax_status, read_text, read_tier, read_type, some_of, then_read, type_of, unsigned}
+use Rattle.brk_model.specs.Forms.{Read, ◌⊛◌, is_acl, is_exchange, is_name, is_symbol, is_tax_id, order_type_for, without_price, without_type, with_price, read_acl, read_cash, read_charge_amount, read_commission_rate, read_end, read_exchange, read_id, read_if, read_ids, read_name, read_number, read_opening, read_order_type, read_price, read_qty, read_rate_of_tax, read_stamp, read_symbol, read_tax_id, read_tax_status, read_text, read_tier, read_type, some_of, then_read, type_of, unsigned}
 use Rattle.brk_model.specs.Parse.{Reader, in_order, parse_row, read_account, read_band, read_bounds, read_broker, read_by, read_cancel, read_charge, read_customer, read_customer_tax, read_executor, read_feed, read_order, read_permission, read_result, read_security, read_tax_rate, read_ticks, read_upcash, read_uptext, readers}
 use Rattle.brk_trade_laws.proofs.Same.{find-All}
 use Rattle.brk_sound_laws.specs.Sound.{account_fields, broker_fields, permission_fields}
@@ -178,39 +181,41 @@ tax_rate_on (id ∷ name ∷ rate ∷ []) =
     (λ i i' n n' r r'. and3 (is_id i) (is_name n) (nat_le r greatest_tax_rate) i' n' r') (on_id id)) (on_text is_name name)) (on_tax rate)
 tax_rate_on _ = tt
 
-price_on : (kind : Option TradeType) (price : Read ℕ) → IfOk price (λ n. is_price n ≡ true) → IfOk (price_for kind price) (λ p. IfSome p (λ n. is_price n ≡ true))
-price_on kind (Err refusal) h = tt
-price_on None (Ok price) h = h
-price_on (Some kind) (Ok price) h = by_market (is_market kind)
-  where
-    by_market : (b : Bool) → IfOk {T = Option ℕ} {E = Refusal} (cond b (Err BadPrice) (Ok (Some price))) (λ p. IfSome p (λ n. is_price n ≡ true))
-    by_market true = tt
-    by_market false = h
+without_price_on : (t : OrderType) (text : Text) → IfSome (price_asked t) (λ n. is_price n ≡ true) → IfOk (without_price t text) (λ o. IfSome (price_asked o) (λ n. is_price n ≡ true))
+without_price_on t [] h = h
+without_price_on t (c ∷ text) h = tt
 
-no_price_on : (kind : Option TradeType) → IfOk (no_price_for kind) (λ p. IfSome p (λ n. is_price n ≡ true))
-no_price_on None = tt
-no_price_on (Some kind) = by_market (is_market kind)
-  where
-    by_market : (b : Bool) → IfOk {T = Option ℕ} {E = Refusal} (cond b (Ok None) (Err BadPrice)) (λ p. IfSome p (λ n. is_price n ≡ true))
-    by_market true = tt
-    by_market false = tt
+with_price_on : (f : ℕ → OrderType) (text : Text) → ((n : ℕ) → is_price n ≡ true → IfSome (price_asked (f n)) (λ n. is_price n ≡ true))
+    → IfOk (with_price f text) (λ o. IfSome (price_asked o) (λ n. is_price n ≡ true))
+with_price_on f text h = on_apply (λ n. is_price n ≡ true) (λ o. IfSome (price_asked o) (λ n. is_price n ≡ true)) (Ok f) (read_price text) h (on_price text)
 
-order_price_on : (kind price : Text) → IfOk (read_order_price kind price) (λ p. IfSome p (λ n. is_price n ≡ true))
-order_price_on kind [] = no_price_on (type_of kind)
-order_price_on kind (c ∷ text) = price_on (type_of kind) (read_price (c ∷ text)) (on_price (c ∷ text))
+without_type_on : (text : Text) → IfOk (without_type text) (λ o. IfSome (price_asked o) (λ n. is_price n ≡ true))
+without_type_on [] = tt
+without_type_on (c ∷ text) =
+    on_apply (λ n. is_price n ≡ true) (λ o. IfSome (price_asked o) (λ n. is_price n ≡ true)) (Err BadType) (read_price (c ∷ text)) tt (on_price (c ∷ text))
+
+known_type_on : (kind : Option TradeType) (text : Text) → IfOk (order_type_for kind text) (λ o. IfSome (price_asked o) (λ n. is_price n ≡ true))
+known_type_on None text = without_type_on text
+known_type_on (Some MarketBuy) text = without_price_on asked.MarketBuy text tt
+known_type_on (Some MarketSell) text = without_price_on asked.MarketSell text tt
+known_type_on (Some StopLoss) text = with_price_on (λ n. asked.StopLoss n) text (λ n h. h)
+known_type_on (Some LimitSell) text = with_price_on (λ n. asked.LimitSell n) text (λ n h. h)
+known_type_on (Some LimitBuy) text = with_price_on (λ n. asked.LimitBuy n) text (λ n h. h)
+
+order_type_on : (kind price : Text) → IfOk (read_order_type kind price) (λ o. IfSome (price_asked o) (λ n. is_price n ≡ true))
+order_type_on kind price = known_type_on (type_of kind) price
 
 order_on : (fields : List Text) → IfOk (read_order fields) (λ x. IsOrderInForm x)
 order_on (account ∷ kind ∷ symbol ∷ qty ∷ price ∷ cash ∷ end ∷ first ∷ last ∷ tax_id ∷ []) =
     let P : Order → Type 0 = λ x. IsOrderInForm x in
-    on_apply (λ e. ⊤) P (Ok (λ a k s q p c l e. record { account = a; kind = k; symbol = s; qty = q; price = p; is_cash = c; is_lifo = l; executor = e }) ⊛ read_id account ⊛ read_type kind ⊛ read_symbol symbol ⊛ read_qty qty ⊛ read_order_price kind price ⊛ read_cash cash ⊛ read_end end) (read_executor first last tax_id)
-    (on_apply (λ l. ⊤) (λ z. (e : Executor) → ⊤ → P (z e)) (Ok (λ a k s q p c l e. record { account = a; kind = k; symbol = s; qty = q; price = p; is_cash = c; is_lifo = l; executor = e }) ⊛ read_id account ⊛ read_type kind ⊛ read_symbol symbol ⊛ read_qty qty ⊛ read_order_price kind price ⊛ read_cash cash) (read_end end)
-    (on_apply (λ c. ⊤) (λ z. (l : Bool) → ⊤ → (e : Executor) → ⊤ → P (z l e)) (Ok (λ a k s q p c l e. record { account = a; kind = k; symbol = s; qty = q; price = p; is_cash = c; is_lifo = l; executor = e }) ⊛ read_id account ⊛ read_type kind ⊛ read_symbol symbol ⊛ read_qty qty ⊛ read_order_price kind price) (read_cash cash)
-    (on_apply (λ p. IfSome p (λ n. is_price n ≡ true)) (λ z. (c : Bool) → ⊤ → (l : Bool) → ⊤ → (e : Executor) → ⊤ → P (z c l e)) (Ok (λ a k s q p c l e. record { account = a; kind = k; symbol = s; qty = q; price = p; is_cash = c; is_lifo = l; executor = e }) ⊛ read_id account ⊛ read_type kind ⊛ read_symbol symbol ⊛ read_qty qty) (read_order_price kind price)
-    (on_apply (λ q. is_qty q ≡ true) (λ z. (p : Option ℕ) → IfSome p (λ n. is_price n ≡ true) → (c : Bool) → ⊤ → (l : Bool) → ⊤ → (e : Executor) → ⊤ → P (z p c l e)) (Ok (λ a k s q p c l e. record { account = a; kind = k; symbol = s; qty = q; price = p; is_cash = c; is_lifo = l; executor = e }) ⊛ read_id account ⊛ read_type kind ⊛ read_symbol symbol) (read_qty qty)
-    (on_apply (λ s. ⊤) (λ z. (q : ℕ) → is_qty q ≡ true → (p : Option ℕ) → IfSome p (λ n. is_price n ≡ true) → (c : Bool) → ⊤ → (l : Bool) → ⊤ → (e : Executor) → ⊤ → P (z q p c l e)) (Ok (λ a k s q p c l e. record { account = a; kind = k; symbol = s; qty = q; price = p; is_cash = c; is_lifo = l; executor = e }) ⊛ read_id account ⊛ read_type kind) (read_symbol symbol)
-    (on_apply (λ k. ⊤) (λ z. (s : Text) → ⊤ → (q : ℕ) → is_qty q ≡ true → (p : Option ℕ) → IfSome p (λ n. is_price n ≡ true) → (c : Bool) → ⊤ → (l : Bool) → ⊤ → (e : Executor) → ⊤ → P (z s q p c l e)) (Ok (λ a k s q p c l e. record { account = a; kind = k; symbol = s; qty = q; price = p; is_cash = c; is_lifo = l; executor = e }) ⊛ read_id account) (read_type kind)
-    (on_apply (λ a. ⊤) (λ z. (k : TradeType) → ⊤ → (s : Text) → ⊤ → (q : ℕ) → is_qty q ≡ true → (p : Option ℕ) → IfSome p (λ n. is_price n ≡ true) → (c : Bool) → ⊤ → (l : Bool) → ⊤ → (e : Executor) → ⊤ → P (z k s q p c l e)) (Ok (λ a k s q p c l e. record { account = a; kind = k; symbol = s; qty = q; price = p; is_cash = c; is_lifo = l; executor = e })) (read_id account)
-    (λ a a' k k' s s' q q' p p' c c' l l' e e'. record { qty = q'; price = p' }) (on_any (read_id account))) (on_any (read_type kind))) (on_any (read_symbol symbol))) (on_qty qty)) (order_price_on kind price)) (on_any (read_cash cash))) (on_any (read_end end))) (on_any (read_executor first last tax_id))
+    on_apply (λ e. ⊤) P (Ok (λ a s q t c l e. record { account = a; order_type = t; symbol = s; qty = q; is_cash = c; is_lifo = l; executor = e }) ⊛ read_id account ⊛ read_symbol symbol ⊛ read_qty qty ⊛ read_order_type kind price ⊛ read_cash cash ⊛ read_end end) (read_executor first last tax_id)
+    (on_apply (λ l. ⊤) (λ z. (e : Executor) → ⊤ → P (z e)) (Ok (λ a s q t c l e. record { account = a; order_type = t; symbol = s; qty = q; is_cash = c; is_lifo = l; executor = e }) ⊛ read_id account ⊛ read_symbol symbol ⊛ read_qty qty ⊛ read_order_type kind price ⊛ read_cash cash) (read_end end)
+    (on_apply (λ c. ⊤) (λ z. (l : Bool) → ⊤ → (e : Executor) → ⊤ → P (z l e)) (Ok (λ a s q t c l e. record { account = a; order_type = t; symbol = s; qty = q; is_cash = c; is_lifo = l; executor = e }) ⊛ read_id account ⊛ read_symbol symbol ⊛ read_qty qty ⊛ read_order_type kind price) (read_cash cash)
+    (on_apply (λ t. IfSome (price_asked t) (λ n. is_price n ≡ true)) (λ z. (c : Bool) → ⊤ → (l : Bool) → ⊤ → (e : Executor) → ⊤ → P (z c l e)) (Ok (λ a s q t c l e. record { account = a; order_type = t; symbol = s; qty = q; is_cash = c; is_lifo = l; executor = e }) ⊛ read_id account ⊛ read_symbol symbol ⊛ read_qty qty) (read_order_type kind price)
+    (on_apply (λ q. is_qty q ≡ true) (λ z. (t : OrderType) → IfSome (price_asked t) (λ n. is_price n ≡ true) → (c : Bool) → ⊤ → (l : Bool) → ⊤ → (e : Executor) → ⊤ → P (z t c l e)) (Ok (λ a s q t c l e. record { account = a; order_type = t; symbol = s; qty = q; is_cash = c; is_lifo = l; executor = e }) ⊛ read_id account ⊛ read_symbol symbol) (read_qty qty)
+    (on_apply (λ s. ⊤) (λ z. (q : ℕ) → is_qty q ≡ true → (t : OrderType) → IfSome (price_asked t) (λ n. is_price n ≡ true) → (c : Bool) → ⊤ → (l : Bool) → ⊤ → (e : Executor) → ⊤ → P (z q t c l e)) (Ok (λ a s q t c l e. record { account = a; order_type = t; symbol = s; qty = q; is_cash = c; is_lifo = l; executor = e }) ⊛ read_id account) (read_symbol symbol)
+    (on_apply (λ a. ⊤) (λ z. (s : Text) → ⊤ → (q : ℕ) → is_qty q ≡ true → (t : OrderType) → IfSome (price_asked t) (λ n. is_price n ≡ true) → (c : Bool) → ⊤ → (l : Bool) → ⊤ → (e : Executor) → ⊤ → P (z s q t c l e)) (Ok (λ a s q t c l e. record { account = a; order_type = t; symbol = s; qty = q; is_cash = c; is_lifo = l; executor = e })) (read_id account)
+    (λ a a' s s' q q' t t' c c' l l' e e'. record { qty = q'; price = t' }) (on_any (read_id account))) (on_any (read_symbol symbol))) (on_qty qty)) (order_type_on kind price)) (on_any (read_cash cash))) (on_any (read_end end))) (on_any (read_executor first last tax_id))
 order_on _ = tt
 
 result_on : (fields : List Text) → IfOk (read_result fields) (λ x. IsInForm x)

@@ -6,6 +6,7 @@ use Rattle.std.specs.List.{AllByRecursion}
 use Rattle.std.specs.Option.{option_map_or}
 use Rattle.std.proofs.lemmas.Bool.{and_from, and_parts, eqb-true, eq-eqb, le-leb, or_left, or_right}
 use Rattle.std.proofs.lemmas.List.Sums.{sum_by-cons}
+use Rattle.brk_money.specs.OrderTypes.{kind_of, price_asked}
 use Rattle.brk_money.specs.Spelling.{Text}
 use Rattle.brk_money.specs.Moments.{day_of, last_day}
 use Rattle.brk_money.specs.Kinds.{is_market, same_status, side_of}
@@ -87,10 +88,10 @@ sound_moved c ss ts k f m h e =
 -- ---- an order
 
 charge_within : (base : Base) (o : Order) → AllByRecursion (λ c. charge_form c ≡ true) base.charges
-    → nat_le (option_map_or (λ c. c.amount) (charge_with base o.kind (tier_of base o.account)) 0) greatest_charge ≡ true
-charge_within base o h = by_charge (charge_with base o.kind (tier_of base o.account)) refl
+    → nat_le (option_map_or (λ c. c.amount) (charge_with base (kind_of o.order_type) (tier_of base o.account)) 0) greatest_charge ≡ true
+charge_within base o h = by_charge (charge_with base (kind_of o.order_type) (tier_of base o.account)) refl
   where
-    by_charge : (c : Option Charge) → charge_with base o.kind (tier_of base o.account) ≡ c → nat_le (option_map_or (λ c. c.amount) c 0) greatest_charge ≡ true
+    by_charge : (c : Option Charge) → charge_with base (kind_of o.order_type) (tier_of base o.account) ≡ c → nat_le (option_map_or (λ c. c.amount) c 0) greatest_charge ≡ true
     by_charge None e = le-leb 0 greatest_charge (omega arith)
     by_charge (Some c) e = (and_parts (is_tier c.tier) (nat_le c.amount greatest_charge) (find-All (λ c. charge_form c ≡ true) _ base.charges c h e)).1
 
@@ -101,19 +102,15 @@ last_is_price base symbol h known =
     ap (λ o. is_price (option_map_or (λ s. s.last_price) o 0)) s.1
     ∙ (parts5 (is_symbol s.0.symbol) (is_name s.0.name) (is_exchange s.0.exchange) (is_name s.0.sector) (is_price s.0.last_price) f).4
 
-requested_is_price : (base : Base) (o : Order) → IfSome o.price (λ p. is_price p ≡ true) → is_price (last_price base o.symbol) ≡ true → is_price (requested_price base o) ≡ true
-requested_is_price base o form last = by_market (is_market o.kind)
+requested_is_price : (base : Base) (o : Order) → IfSome (price_asked o.order_type) (λ p. is_price p ≡ true) → is_price (last_price base o.symbol) ≡ true → is_price (requested_price base o) ≡ true
+requested_is_price base o form last = by_price (price_asked o.order_type) form
   where
     by_price : (p : Option ℕ) → IfSome p (λ p. is_price p ≡ true) → is_price (unwrap_or p (last_price base o.symbol)) ≡ true
     by_price None f = last
     by_price (Some p) f = f
 
-    by_market : (b : Bool) → is_price (cond b (last_price base o.symbol) (unwrap_or o.price (last_price base o.symbol))) ≡ true
-    by_market true = last
-    by_market false = by_price o.price form
-
-first_way : (o : Order) → is_way (first_status o.kind ∷ []) ≡ true
-first_way o = by_market (is_market o.kind)
+first_way : (o : Order) → is_way (first_status (kind_of o.order_type) ∷ []) ≡ true
+first_way o = by_market (is_market (kind_of o.order_type))
   where
     by_market : (b : Bool) → is_way (cond b Submitted Pending ∷ []) ≡ true
     by_market true = refl
@@ -128,9 +125,9 @@ ordered_sound : (base : Base) (stamp : ℕ) (o : Order) (ts : List Trade) → is
 unfolding estimate
 ordered_sound base stamp o ts number k form known =
     let u : Trade = ordered_trade base stamp o in
-    let now : is_completed u ≡ false = first_not_completed o.kind in
+    let now : is_completed u ≡ false = first_not_completed (kind_of o.order_type) in
     let bid : is_price u.bid ≡ true = requested_is_price base o form.price (last_is_price base o.symbol k.securities known) in
-    let c : u.commission ≤ 10 ^ 13 = commission_within base o.account o.kind o.symbol o.qty u.bid k.bands (qty_low o.qty form.qty) (price_low u.bid bid) in
+    let c : u.commission ≤ 10 ^ 13 = commission_within base o.account (kind_of o.order_type) o.symbol o.qty u.bid k.bands (qty_low o.qty form.qty) (price_low u.bid bid) in
     record {
       fields = and6 (is_id u.id) (is_qty u.qty) (is_price u.bid) (nat_le u.charge greatest_charge) (nat_le u.commission greatest_amount) (nat_le 0 greatest_amount) number form.qty bid
           (charge_within base o k.charges) (high u.commission c) (le-leb 0 greatest_amount (omega arith));

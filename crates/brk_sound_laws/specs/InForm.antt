@@ -1,4 +1,5 @@
 -- Commands and keys in form: what a typed command always satisfies.
+use Rattle.brk_money.specs.OrderTypes.{price_asked}
 use Rattle.std.specs.Prelude.{◌≡◌, ⊤, ◌&&◌, Bool, true, nat_le, IfSome}
 use Rattle.std.specs.List.{AllByRecursion}
 use Rattle.brk_model.specs.Limits.{greatest_rate}
@@ -19,7 +20,7 @@ band_fields b = is_tier b.tier && is_exchange b.exchange && is_qty b.from_qty &&
 -- an order's quantity and price
 pub record IsOrderInForm (o : Order) : Type 0 where
   pub qty : is_qty o.qty ≡ true
-  pub price : IfSome o.price (λ p. is_price p ≡ true)
+  pub price : IfSome (price_asked o.order_type) (λ p. is_price p ≡ true)
 
 -- a tick's price
 abbrev pub IsTickInForm : Tick → Type 0

@@ -9,7 +9,7 @@ use Rattle.sqlite.specs.Steps.{FailsToCommit}
 use Rattle.sqlite.specs.declared.error.Error.{Error}
 use Rattle.sqlite.proofs.Callers.{survives_begin}
 use Rattle.sqlite.proofs.StateLemmas.{survives_then, survives_weaker}
-use Rattle.brk_model.specs.Tables.{Tables, no_rows}
+use Rattle.brk_model.specs.Tables.{Tables}
 use Rattle.brk_rows.specs.Desk.{HasTables, Turns}
 use Rattle.brk_rows.specs.Model.{IsStep, Looks}
 use Rattle.brk_rows.proofs.Inside.{clean_before, commits_all, commits_crash, step_then}
@@ -33,7 +33,7 @@ module _ {S : Type 0} (g : Ghosts S) (old mid end : Held S) (settled : IsTrue (s
       let old_open = kept.was_open mid_open in
       record { now = (b.undone o).0 ∙ kept.committed mid_open ∙ sym (settled old_open); committed = (b.undone o).1 ∙ kept.committed mid_open; was_open = old_open }
 
-  still_holds : (P : Trees → Type 0) → Survives (state g old) (state g end) P → (HasCleanDisk (state g end) → IsTrue (state g end).is_open → IsSame (state g old) (state g end)) → (t : Tables) → Holds g old t → Holds g end t
+  pub still_holds : (P : Trees → Type 0) → Survives (state g old) (state g end) P → (HasCleanDisk (state g end) → IsTrue (state g end).is_open → IsSame (state g old) (state g end)) → (t : Tables) → Holds g old t → Holds g end t
   still_holds P through kept t holds clean o =
       let k = kept clean o in
       subst (HasRows t) (sym k.now) (holds (clean_before (state g old) (state g end) P through clean) k.was_open)

@@ -1,6 +1,8 @@
 //! A desk's database: made, read and changed as a whole. Each change is one transaction.
 #![tactic(auto)]
 
+pub mod adopting;
+mod auditing;
 mod beginning;
 mod changing;
 mod numbers;

@@ -3,8 +3,7 @@
 ghost use Rattle.std.specs.Prelude.{◌≡◌, ◌==◌, ◌&&◌, Err, IfErr, OnErr, bytes_eq};
 ghost use Rattle.brk_money.specs.declared.fault.Fault.TheVariants as fault;
 ghost use Rattle.brk_model.specs.Run.{MayFail};
-ghost use Rattle.brk_ref.specs.Records.{customer_of, kept_of};
-ghost use Rattle.brk_tables_form.specs.Records.{account_row_of, broker_row_of};
+ghost use Rattle.brk_ref.specs.Records.{account_row_of, broker_row_of, customer_of, kept_of};
 ghost use Rattle.brk_store.specs.Holds.{IsRead};
 ghost use Rattle.brk_tables_form.specs.Desk.{Accounts, Brokers, Customers, KeptRows};
 ghost use Rattle.brk_tables_form.specs.Statements.{Found, Listed};

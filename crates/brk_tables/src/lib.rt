@@ -18,3 +18,4 @@ pub use brk_tables_trading::{
     remove_request, remove_summary, requests_of, set_balance, set_broker_numbers, set_last_trade,
     set_lot, set_status, set_summary, submitted_trades, summaries_of, summary_of, trade_by_id,
 };
+pub use brk_tables_whole::{has_desk, read_sheets};

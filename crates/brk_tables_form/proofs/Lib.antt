@@ -1,4 +1,5 @@
 pub mod Order
+pub mod Unformed
 pub mod Which
 pub mod Wide
 pub mod Tests
@@ -9,6 +10,7 @@ pub mod Makes
 pub mod Founding
 pub mod Probing
 pub mod Told
+pub mod Every
 pub mod AddDesk
 pub mod AddKept
 pub mod SetLast

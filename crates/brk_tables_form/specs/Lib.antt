@@ -1,7 +1,8 @@
 pub mod Order
 pub mod Shapes
 pub mod Cells
+pub mod Formed
 pub mod Desk
-pub mod Records
 pub mod Made
+pub mod Present
 pub mod Statements

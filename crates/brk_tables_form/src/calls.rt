@@ -1,6 +1,6 @@
 //! Calls of the database within a transaction. Each of its errors is the fault `Store`.
 
-ghost use Rattle.std.specs.Prelude.{◌≡◌, Ok, None, Err, OnErr};
+ghost use Rattle.std.specs.Prelude.{◌≡◌, Ok, None, Err, OnErr, IsTrue};
 ghost use Rattle.brk_money.specs.declared.fault.Fault.TheVariants.{Store};
 ghost use Rattle.sqlite.specs.Listing.{understood};
 ghost use Rattle.sqlite.specs.Values.{bound};
@@ -49,7 +49,7 @@ pub fn select<S: Alter>(
 /// Whether the table that a statement names is there. It runs nothing.
 pub fn is_understood<S: Alter>(tx: &mut Transaction<'_, S>, text: &str) -> Result<bool, Fault>
     ensures same_reference { tx.new.conn.ghost_name ≡ tx.old.conn.ghost_name }
-    ensures step { Steps S.Store tx.old tx.new result (λ has a b. (b.now ≡ a.now) × Probes text.now has a.now.schema) }
+    ensures step { Steps S.Store tx.old tx.new result (λ has a b. IsTrue a.is_open × (b.now ≡ a.now) × Probes text.now has a.now.schema) }
     ensures fault { OnErr result (result ≡ Err Store) }
 {
     match brk_rows::is_understood(tx, text) {

@@ -1,14 +1,17 @@
-ghost use Rattle.std.specs.Prelude.{◌≡◌, ◌∷◌, [], IfOk, map, Err, OnErr};
+ghost use Rattle.std.specs.Prelude.{◌≡◌, ◌∷◌, [], IfOk, map, Err, OnErr, false};
 ghost use Rattle.brk_money.specs.declared.fault.Fault.TheVariants.{Store};
 ghost use Rattle.brk_rows.specs.Model.{Ran, Steps};
 ghost use Rattle.brk_changes.specs.Changes.{with_last};
 ghost use Rattle.brk_tables_form.specs.Cells.{desk_row_cells};
 ghost use Rattle.brk_tables_form.specs.Desk.{desk_rows};
+ghost use Rattle.brk_tables_form.specs.Formed.{all_formed, desk_forms, is_desk_row};
 ghost use Rattle.brk_tables_form.specs.Made.{desk_row_text};
+ghost use Rattle.brk_tables_form.specs.declared.misread.Misread.TheVariants.{Form as Formless};
 ghost use Rattle.brk_tables_form.specs.Statements.{Reads, Writes};
 
 use crate::calls::{run, select};
 use crate::cells::{has_columns, maybe_stamp_in, natural_in};
+use crate::misread::Misread;
 use crate::values::{number_value, stamp_value};
 use brk_money::{Fault, Stamp};
 use sqlite::{Alter, Row, Transaction};
@@ -39,25 +42,33 @@ pub fn set_last_stamp<S: Alter>(tx: &mut Transaction<'_, S>, stamp: Stamp) -> Re
     )
 }
 
-fn stamp_of_row(row: &Row) -> Result<Option<Stamp>, Fault>
+fn stamp_of_row(row: &Row) -> Result<Option<Stamp>, Misread>
     ensures value { IfOk result (λ last. map desk_row_cells (desk_rows last) ≡ row.now ∷ []) }
-    ensures fault { OnErr result (result ≡ Err Store) }
+    ensures form { result ≡ Err Formless → all_formed desk_forms row.now ≡ false }
 {
     has_columns(row, 3)?;
     if natural_in(row, 0)? != 1 || natural_in(row, 1)? != 1 {
-        return Err(Fault::Store);
+        return Err(Misread::Form);
     }
     maybe_stamp_in(row, 2)
+}
+
+/// The stamp in the one row of DESK.
+pub fn stamp_in_rows(rows: &[Row]) -> Result<Option<Stamp>, Misread>
+    ensures value { IfOk result (λ last. map desk_row_cells (desk_rows last) ≡ rows.now) }
+    ensures form { result ≡ Err Formless → is_desk_row rows.now ≡ false }
+{
+    match rows {
+        [row] => stamp_of_row(row),
+        _ => Err(Misread::Form),
+    }
 }
 
 fn only_stamp(rows: &[Row]) -> Result<Option<Stamp>, Fault>
     ensures value { IfOk result (λ last. map desk_row_cells (desk_rows last) ≡ rows.now) }
     ensures fault { OnErr result (result ≡ Err Store) }
 {
-    match rows {
-        [row] => stamp_of_row(row),
-        _ => Err(Fault::Store),
-    }
+    Ok(stamp_in_rows(rows)?)
 }
 
 /// The stamp of the last accepted command, where there is one (D_LAST).

@@ -4,10 +4,12 @@ ghost use Rattle.brk_ref.specs.Records.{kept_of};
 ghost use Rattle.brk_changes.specs.Changes.{with_kept};
 ghost use Rattle.brk_tables_form.specs.Cells.{kept_cells};
 ghost use Rattle.brk_tables_form.specs.Desk.{KeptRows};
+ghost use Rattle.brk_tables_form.specs.Formed.{kept_forms};
 ghost use Rattle.brk_tables_form.specs.Statements.{Finds, Writes};
 
 use crate::calls::{run, select};
-use crate::cells::{batch_name_in, has_columns, row_number_in, text_in};
+use crate::cells::{has_columns, row_number_in, text_in, text_of};
+use crate::misread::Misread;
 use crate::record::{Record, first_row};
 use crate::values::{row_number_value, text_value};
 use brk_money::Fault;
@@ -35,10 +37,12 @@ pub fn add_kept<S: Alter>(tx: &mut Transaction<'_, S>, kept: &Kept) -> Result<()
 impl Record for Kept {
     ghost cells = { λ r. kept_cells (kept_of r) };
 
-    fn from_row(row: &Row) -> Result<Kept, Fault> {
+    ghost forms = { kept_forms };
+
+    fn from_row(row: &Row) -> Result<Kept, Misread> {
         has_columns(row, 4)?;
         let key = Key {
-            batch: batch_name_in(row, 0)?,
+            batch: text_of(row, 0)?,
             row: row_number_in(row, 1)?,
         };
         Ok(Kept {

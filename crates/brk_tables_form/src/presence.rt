@@ -1,7 +1,8 @@
-ghost use Rattle.std.specs.Prelude.{◌≡◌, ℕ, List, map, Err, OnErr};
+ghost use Rattle.std.specs.Prelude.{◌≡◌, ℕ, List, map, Err, OnErr, IsTrue};
 ghost use Rattle.brk_money.specs.declared.fault.Fault.TheVariants.{Store};
 ghost use Rattle.std.specs.Borrow.{Bor};
 ghost use Rattle.brk_tables_form.specs.Made.{HasOne, has_table_of_desk};
+ghost use Rattle.brk_tables_form.specs.Present.{HasEach, has_tables_of_desk};
 ghost use Rattle.brk_rows.specs.Model.{Steps};
 
 use crate::calls::is_understood;
@@ -53,4 +54,27 @@ pub fn has_some_table<S: Alter>(tx: &mut Transaction<'_, S>) -> Result<bool, Fau
     ensures fault { OnErr result (result ≡ Err Store) }
 {
     has_one_of(tx, &STATEMENTS)
+}
+
+// Whether each table that the statements name is there.
+fn has_each_of<S: Alter>(tx: &mut Transaction<'_, S>, texts: &[&str]) -> Result<bool, Fault>
+    ensures same_reference { tx.new.conn.ghost_name ≡ tx.old.conn.ghost_name }
+    ensures step { Steps S.Store tx.old tx.new result (λ has a b. (b.now ≡ a.now) × HasEach (map (λ (text : Bor (List ℕ)). text.now) texts.now) has a) }
+    ensures fault { OnErr result (result ≡ Err Store) }
+{
+    for text in texts {
+        if !is_understood(tx, text)? {
+            return Ok(false);
+        }
+    }
+    Ok(true)
+}
+
+/// Whether the database has a table with the name of each of a desk's. It is open if it answers.
+pub fn has_every_table<S: Alter>(tx: &mut Transaction<'_, S>) -> Result<bool, Fault>
+    ensures same_reference { tx.new.conn.ghost_name ≡ tx.old.conn.ghost_name }
+    ensures step { Steps S.Store tx.old tx.new result (λ has a b. IsTrue a.is_open × (b.now ≡ a.now) × (has ≡ has_tables_of_desk a.now.schema)) }
+    ensures fault { OnErr result (result ≡ Err Store) }
+{
+    has_each_of(tx, &STATEMENTS)
 }

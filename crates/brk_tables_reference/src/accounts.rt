@@ -1,9 +1,8 @@
 ghost use Rattle.std.specs.Prelude.{◌≡◌, ◌==◌, Err, IfErr, OnErr};
 ghost use Rattle.brk_money.specs.declared.fault.Fault.TheVariants.{Store};
 ghost use Rattle.brk_model.specs.Run.{MayFail};
-ghost use Rattle.brk_ref.specs.Records.{account_of};
+ghost use Rattle.brk_ref.specs.Records.{account_of, account_row_of};
 ghost use Rattle.brk_changes.specs.Changes.{with_account};
-ghost use Rattle.brk_tables_form.specs.Records.{account_row_of};
 ghost use Rattle.brk_tables_form.specs.Desk.{Accounts};
 ghost use Rattle.brk_tables_form.specs.Statements.{Finds, Lists, Writes};
 

@@ -1,8 +1,7 @@
 ghost use Rattle.std.specs.Prelude.{◌≡◌, ◌==◌, Err, OnErr};
 ghost use Rattle.brk_money.specs.declared.fault.Fault.TheVariants.{Store};
-ghost use Rattle.brk_ref.specs.Records.{broker_of};
+ghost use Rattle.brk_ref.specs.Records.{broker_of, broker_row_of};
 ghost use Rattle.brk_changes.specs.Changes.{with_broker};
-ghost use Rattle.brk_tables_form.specs.Records.{broker_row_of};
 ghost use Rattle.brk_tables_form.specs.Desk.{Brokers};
 ghost use Rattle.brk_tables_form.specs.Statements.{Finds, Writes};
 

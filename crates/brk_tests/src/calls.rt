@@ -1,10 +1,11 @@
 //! Runs of calls at a desk.
 
-use crate::desks::{FIRST_MOMENT, new_desk};
+use crate::desks::new_desk;
 use brk_desk::{Answer, Call, Outcome, parse_row};
 use brk_money::{Refusal, Stamp};
 use brk_ref::{BatchName, Key, RowNumber};
 use brk_tests_plans::fields::fields_of;
+use brk_tests_plans::worked::FIRST_MOMENT;
 use brk_trade::Reply;
 use std::alloc::Global;
 use std::test::Fail;

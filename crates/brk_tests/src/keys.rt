@@ -1,5 +1,6 @@
-use crate::desks::{Case, SET, SET_AGAIN, Step, expect_cases};
+use crate::desks::{Case, Step, expect_cases};
 use brk_import::FaultKind;
+use brk_tests_plans::worked::{SET, SET_AGAIN};
 use std::test::Fail;
 
 const FORM_THEN_THE_KEY_THEN_THE_DESK: [Step; 5] = [

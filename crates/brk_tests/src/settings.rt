@@ -1,5 +1,6 @@
-use crate::desks::{Case, SET, SET_AGAIN, SET_LINES, Step, expect_cases, expect_new};
+use crate::desks::{Case, Step, expect_cases, expect_new};
 use brk_money::Stamp;
+use brk_tests_plans::worked::{SET, SET_AGAIN, SET_LINES};
 use std::test::Fail;
 
 const THE_SETTING_AND_ITS_REPEAT: [Step; 2] = [

@@ -16,3 +16,4 @@ mod queries;
 #[cfg(test)]
 mod result_plans;
 pub mod told;
+pub mod worked;

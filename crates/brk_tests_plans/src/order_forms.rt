@@ -8,7 +8,7 @@ use std::test::Fail;
 // Compares an order of 10 on margin at 9.50.
 fn expect_order(rt: &impl Abort, order: Order) {
     assert!(rt; order.account.get() == 100 && order.qty.get() == 10);
-    assert!(rt; order.price.map(|price| price.get()) == Some(950));
+    assert!(rt; order.order_type.price().map(|price| price.get()) == Some(950));
     assert!(rt; !order.is_cash && order.is_lifo);
     assert!(rt; order.executor.last_name.as_str() == "Lee");
 }

@@ -2,6 +2,7 @@
 use Rattle.std.proofs.Common.{◌≡◌, ℕ, ◌+◌, List, length, refl, sym, ap, ◌∙◌}
 use Rattle.std.specs.Prelude.{Option, Some, None, unwrap_or, option_map}
 use Rattle.std.specs.Option.{option_map_or}
+use Rattle.brk_money.specs.OrderTypes.{kind_of}
 use Rattle.brk_money.specs.Amounts.{commission}
 use Rattle.brk_model.specs.Base.{Base, completed, tier_of, exchange_of, band_with, charge_with}
 use Rattle.brk_model.specs.Commands.{Order}
@@ -48,10 +49,10 @@ made_upon base o us terms values h v =
     let bought : values.buy_value ≡ buy_value (deal_at base o) us = ap (λ (x : Values). x.buy_value) vs in
     let sold : values.sell_value ≡ sell_value (deal_at base o) us = ap (λ (x : Values). x.sell_value) vs in
     let taxed : tax_at terms.tax_status terms.rates values ≡ tax_of base o.account (deal_at base o) us = rw (h.tax_status, h.rates, vs) refl in
-    let rated : commission_by terms ≡ unwrap_or (commission_of base o.account o.kind o.symbol o.qty (requested_price base o)) 0 =
-    rw (h.qty, h.price) (rate_found (λ b. b.rate) (λ r. commission r o.qty (requested_price base o)) terms.rate (band_with base (tier_of base o.account) o.kind (exchange_of base o.symbol) o.qty) h.rate) in
-    let charged : terms.charge ≡ option_map_or (λ c. c.amount) (charge_with base o.kind (tier_of base o.account)) 0 =
-    amount_found (λ c. c.amount) terms.charge (charge_with base o.kind (tier_of base o.account)) h.charge in
+    let rated : commission_by terms ≡ unwrap_or (commission_of base o.account (kind_of o.order_type) o.symbol o.qty (requested_price base o)) 0 =
+    rw (h.qty, h.price) (rate_found (λ b. b.rate) (λ r. commission r o.qty (requested_price base o)) terms.rate (band_with base (tier_of base o.account) (kind_of o.order_type) (exchange_of base o.symbol) o.qty) h.rate) in
+    let charged : terms.charge ≡ option_map_or (λ c. c.amount) (charge_with base (kind_of o.order_type) (tier_of base o.account)) 0 =
+    amount_found (λ c. c.amount) terms.charge (charge_with base (kind_of o.order_type) (tier_of base o.account)) h.charge in
     rw (taxed, rated, bought, sold, charged, h.price, h.assets) refl
 
 -- upon the shares that the base has it is the estimate of the order

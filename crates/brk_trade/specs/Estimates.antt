@@ -1,5 +1,6 @@
 -- What an order is estimated by.
 use Rattle.std.specs.Prelude.{◌≡◌, ℕ, pos, ◌-ℤ◌, Some, option_map, if◌then◌else◌}
+use Rattle.brk_money.specs.OrderTypes.{kind_of}
 use Rattle.brk_money.specs.Amounts.{commission, tax}
 use Rattle.brk_money.specs.Kinds.{side_of}
 use Rattle.brk_money.specs.declared.tax_status.TaxStatus.{TaxStatus}
@@ -19,13 +20,13 @@ commission_by terms = commission terms.rate terms.qty terms.price
 
 -- what an order is estimated by is what the base has
 pub record AreTerms (base : Base) (o : Order) (terms : Terms) : Type 0 where
-  pub side : terms.side ≡ side_of o.kind
+  pub side : terms.side ≡ side_of (kind_of o.order_type)
   pub qty : terms.qty ≡ o.qty
   pub price : terms.price ≡ requested_price base o
   pub tax_status : terms.tax_status ≡ tax_status_in base.accounts o.account
   pub rates : terms.rates ≡ rates_of base (customer_of base o.account)
   -- the rate of the band that was found
-  pub rate : option_map (λ b. b.rate) (band_with base (tier_of base o.account) o.kind (exchange_of base o.symbol) o.qty) ≡ Some terms.rate
+  pub rate : option_map (λ b. b.rate) (band_with base (tier_of base o.account) (kind_of o.order_type) (exchange_of base o.symbol) o.qty) ≡ Some terms.rate
   -- the charge that was found
-  pub charge : option_map (λ c. c.amount) (charge_with base o.kind (tier_of base o.account)) ≡ Some terms.charge
+  pub charge : option_map (λ c. c.amount) (charge_with base (kind_of o.order_type) (tier_of base o.account)) ≡ Some terms.charge
   pub assets : terms.assets ≡ assets_of base o.account

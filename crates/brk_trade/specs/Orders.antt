@@ -16,6 +16,7 @@ use Rattle.brk_model.specs.Limits.{greatest_id}
 use Rattle.brk_model.specs.Shares.{Deal, touches}
 use Rattle.brk_model.specs.Tables as tables
 use Rattle.brk_model.specs.Tests.{Test, first_refusal}
+use Rattle.brk_money.specs.OrderTypes.{kind_of, price_asked}
 use Rattle.brk_money.specs.Kinds.{side_of, is_market}
 use Rattle.brk_money.specs.Moments.{stamp_after}
 use Rattle.brk_money.specs.Spelling.{Text}
@@ -43,12 +44,12 @@ order_tests found =
 
 -- the market's last price for a market type, and else the order's; an order of another type that names none has the market's
 abbrev pub requested_price : Order → ℕ → ℕ
-requested_price order last = if is_market order.kind then last else unwrap_or order.price last
+requested_price order last = unwrap_or (price_asked order.order_type) last
 
 -- what an order is estimated by; 0 and no tax stand for what was not found
 abbrev pub terms_of : Order → OrderFound → Terms
 terms_of order found = record {
-  side = side_of order.kind;
+  side = side_of (kind_of order.order_type);
   qty = order.qty;
   price = requested_price order (unwrap_or found.last_price 0);
   tax_status = option_map_or (λ a. a.tax_status) found.account Untaxed;
@@ -98,8 +99,8 @@ abbrev pub row_named : Order → Terms → (trade stamp : ℕ) → (symbol execu
 row_named order terms trade stamp symbol executor = record {
   id = trade;
   stamp = stamp;
-  status = model_orders.first_status order.kind;
-  kind = order.kind;
+  status = model_orders.first_status (kind_of order.order_type);
+  kind = kind_of order.order_type;
   is_cash = order.is_cash;
   symbol = symbol;
   qty = order.qty;
@@ -120,8 +121,8 @@ trade_row order terms trade stamp = row_named order terms trade stamp order.symb
 -- the request of the trade of an order that waits for its price, by the account's broker
 abbrev pub request_row : Order → Terms → (broker trade : ℕ) → Option RequestRow
 request_row order terms broker trade =
-    if is_market order.kind then None
-    else Some (record { trade = trade; kind = order.kind; symbol = order.symbol; qty = order.qty; bid = terms.price; broker = broker })
+    if is_market (kind_of order.order_type) then None
+    else Some (record { trade = trade; kind = kind_of order.order_type; symbol = order.symbol; qty = order.qty; bid = terms.price; broker = broker })
 
 -- the changes that add a trade: its row, its first status, its request if it waits, and the last stamp
 abbrev pub changes_of : TradeRow → Option RequestRow → List Change
@@ -143,5 +144,5 @@ pub record IsOrdered (order : Order) (found : OrderFound) (lots : List Lot) (las
   pub accepted : first_refusal (order_tests found ++ trades_test found.last_trade ∷ clock_test last now ∷ []) ≡ None
   pub stamped : stamp_after last now ≡ Some stamp
   pub estimated : IsEstimate (terms_of order found) lots estimate
-  pub told : plan.reply ≡ Ordered (record { stamp = stamp; trade = next_trade found.last_trade; status = model_orders.first_status order.kind; estimate = estimate })
+  pub told : plan.reply ≡ Ordered (record { stamp = stamp; trade = next_trade found.last_trade; status = model_orders.first_status (kind_of order.order_type); estimate = estimate })
   pub changes : AreChanges order (terms_of order found) (option_map_or (λ a. a.broker) found.account 0) (next_trade found.last_trade) stamp plan.changes.items

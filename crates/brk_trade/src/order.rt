@@ -65,10 +65,7 @@ struct Placement {
 fn requested_price(order: &Order, last: Price) -> Price
     ensures { result ≡ spec.requested_price order.now last }
 {
-    if order.kind.is_market() {
-        return last;
-    }
-    order.price.unwrap_or(last)
+    order.order_type.price().unwrap_or(last)
 }
 
 // What the order is placed by, or the first refusal that there is cause for.
@@ -94,7 +91,7 @@ fn placement_of(order: &Order, found: &OrderFound) -> Result<Placement, Refusal>
     };
     Ok(Placement {
         terms: Terms {
-            side: order.kind.side(),
+            side: order.order_type.kind().side(),
             qty: order.qty,
             price: requested_price(order, last),
             tax_status: account.tax_status,
@@ -184,8 +181,8 @@ fn row_named(
     TradeRow {
         id: trade,
         stamp,
-        status: first_status(order.kind),
-        kind: order.kind,
+        status: first_status(order.order_type.kind()),
+        kind: order.order_type.kind(),
         is_cash: order.is_cash,
         symbol,
         qty: order.qty,
@@ -225,12 +222,12 @@ fn request_row(
 ) -> Result<Option<RequestRow>, AllocError>
     ensures { IfOk result (λ request. request ≡ spec.request_row order.now placement.now.terms placement.now.broker trade) }
 {
-    if order.kind.is_market() {
+    if order.order_type.kind().is_market() {
         return Ok(None);
     }
     Ok(Some(RequestRow {
         trade,
-        kind: order.kind,
+        kind: order.order_type.kind(),
         symbol: order.symbol.clone()?,
         qty: order.qty,
         bid: placement.terms.price,
@@ -321,7 +318,7 @@ pub fn plan_order<L: LotSource>(
     let reply = Reply::Ordered(Ordered {
         stamp,
         trade,
-        status: first_status(order.kind),
+        status: first_status(order.order_type.kind()),
         estimate,
     });
     Ok(Ok(Plan { changes, reply }))

@@ -20,6 +20,7 @@ use Rattle.brk_model.specs.Step.{reply_to, step, unless}
 use Rattle.brk_model.specs.Tables as tables
 use Rattle.brk_model.specs.Tables.{Tables}
 use Rattle.brk_model.specs.Tests.{first_refusal, next_stamp, refusal_of, tests}
+use Rattle.brk_money.specs.OrderTypes.{kind_of}
 use Rattle.brk_money.specs.Amounts.{commission}
 use Rattle.brk_money.specs.Kinds.{is_market}
 use Rattle.brk_money.specs.Moments.{last_stamp, stamp_after}
@@ -117,20 +118,20 @@ row_made base order found stamp f number =
     let o : model.Order = order_of order in
     let price : requested_price base o ≡ (terms_of order found).price = sym f.terms.price in
     let charge = amount_or _ (terms_of order found).charge f.terms.charge in
-    let rate : unwrap_or (commission_of base o.account o.kind o.symbol o.qty (requested_price base o)) 0 ≡ commission (terms_of order found).rate order.qty (terms_of order found).price =
+    let rate : unwrap_or (commission_of base o.account (kind_of o.order_type) o.symbol o.qty (requested_price base o)) 0 ≡ commission (terms_of order found).rate order.qty (terms_of order found).price =
     commission_or _ (terms_of order found).rate order.qty (requested_price base o) f.terms.rate ∙ ap (commission (terms_of order found).rate order.qty) price in
     λ i. record (tables.trade_row (ordered_trade base stamp o)) { id = sym number i + 1; bid = price i; charge = charge i; commission = rate i }
 
 -- the changes of an order are the rows that it makes
 changes_made : (order : Order) (terms : Terms) (broker trade stamp : ℕ) (row : TradeRow) (t : Tables) → trade_row_of row ≡ trade_row order terms trade stamp
-    → after_changes (changes_of row (request_row order terms broker trade)) t ≡ with_last stamp (order_rows (trade_row order terms trade stamp) (not (is_market order.kind)) broker t)
-changes_made order terms broker trade stamp row t e = by_market (is_market order.kind)
+    → after_changes (changes_of row (request_row order terms broker trade)) t ≡ with_last stamp (order_rows (trade_row order terms trade stamp) (not (is_market (kind_of order.order_type))) broker t)
+changes_made order terms broker trade stamp row t e = by_market (is_market (kind_of order.order_type))
   where
     r : tables.TradeRow
     r = trade_row order terms trade stamp
 
     request : RequestRow
-    request = record { trade = trade; kind = order.kind; symbol = order.symbol; qty = order.qty; bid = terms.price; broker = broker }
+    request = record { trade = trade; kind = (kind_of order.order_type); symbol = order.symbol; qty = order.qty; bid = terms.price; broker = broker }
 
     by_market : (b : Bool) → after_changes (changes_of row (cond b None (Some request))) t
         ≡ with_last stamp (requested_if (not b) (request_of r broker) (with_history (status_row r.id r.status r.stamp) (with_trade r t)))
@@ -142,12 +143,12 @@ changes_made order terms broker trade stamp row t e = by_market (is_market order
 -- the rows of an order by what was found
 abbrev planned_rows : Order → OrderFound → ℕ → Tables → Tables
 planned_rows order found stamp =
-    order_rows (trade_row order (terms_of order found) (next_trade found.last_trade) stamp) (not (is_market order.kind))
+    order_rows (trade_row order (terms_of order found) (next_trade found.last_trade) stamp) (not (is_market (kind_of order.order_type)))
     (option_map_or (λ a. a.broker) found.account 0)
 
 order_made : (base : Base) (order : Order) (found : OrderFound) (last : Option ℕ) (now stamp : ℕ) → IsReadForPlan base order found last now
     → first_refusal (order_tests found ++ trades_test found.last_trade ∷ clock_test last now ∷ []) ≡ None → stamp_after last now ≡ Some stamp
-    → IsDone base now (PlaceOrder (order_of order)) stamp (model.Ordered stamp (next_trade found.last_trade) (first_status order.kind) (estimate base (order_of order))) (planned_rows order found stamp)
+    → IsDone base now (PlaceOrder (order_of order)) stamp (model.Ordered stamp (next_trade found.last_trade) (first_status (kind_of order.order_type)) (estimate base (order_of order))) (planned_rows order found stamp)
 unfolding reply_to
 order_made base order found last now stamp k t s =
     let o : model.Order = order_of order in
@@ -157,9 +158,9 @@ order_made base order found last now stamp k t s =
     let number = number_read base order found k.books k.looked_up tested in
     let f : AllFound base order found = all_found base order found k.books k.looked_up.estimate tested in
     let row = row_made base order found (next_stamp base now) f number in
-    is_done base now (PlaceOrder o) stamp (model.Ordered stamp (next_trade found.last_trade) (first_status order.kind) (estimate base o)) (planned_rows order found) k.books e next
-    (λ i. model.Ordered (sym next i) (sym number i + 1) (first_status order.kind) (estimate base o))
-    (λ books e. step_order base now o books e ∙ (λ i. with_last (next_stamp base now) (order_rows (row i) (not (is_market order.kind)) (sym f.broker i) (sheets base))))
+    is_done base now (PlaceOrder o) stamp (model.Ordered stamp (next_trade found.last_trade) (first_status (kind_of order.order_type)) (estimate base o)) (planned_rows order found) k.books e next
+    (λ i. model.Ordered (sym next i) (sym number i + 1) (first_status (kind_of order.order_type)) (estimate base o))
+    (λ books e. step_order base now o books e ∙ (λ i. with_last (next_stamp base now) (order_rows (row i) (not (is_market (kind_of order.order_type))) (sym f.broker i) (sheets base))))
     (books_order base now o)
 
 pub plan_order_does : (base : Base) (order : Order) (found : OrderFound) (lots : List Lot) (last : Option ℕ) (now : ℕ) (plan : Plan) → IsReadForPlan base order found last now
@@ -172,7 +173,7 @@ plan_order_does base order found lots last now plan k l p =
     ap estimate_of (estimate_told base order found lots p.estimate k.books k.looked_up.estimate l (record { accepted = tested; estimated = p.estimated })) ∙ told_back (estimate base o) in
     record {
       steps = d.steps ∙ ap (λ reply. Ok (reply, base_then base now (PlaceOrder o)))
-          ((λ i. model.Ordered p.stamp (next_trade found.last_trade) (first_status order.kind) (sym est i)) ∙ sym (ap reply_of p.told));
+          ((λ i. model.Ordered p.stamp (next_trade found.last_trade) (first_status (kind_of order.order_type)) (sym est i)) ∙ sym (ap reply_of p.told));
       rows = d.rows
           ∙ sym (changes_made order (terms_of order found) (option_map_or (λ a. a.broker) found.account 0) (next_trade found.last_trade) p.stamp p.changes.row
           (sheets base) p.changes.added)

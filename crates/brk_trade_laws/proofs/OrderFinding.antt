@@ -13,7 +13,7 @@ use Rattle.brk_model.specs.Sheets.{sheets}
 use Rattle.brk_model.specs.Tables.{AccountRow, account_row, last_trade_row, security_row}
 use Rattle.brk_model.specs.Tests as model
 use Rattle.brk_model.specs.Tests.{Test, first_refusal}
-use Rattle.brk_money.specs.Kinds.{is_market}
+use Rattle.brk_money.specs.OrderTypes.{kind_of, price_asked}
 use Rattle.brk_money.specs.declared.refusal.Refusal.{Refusal}
 use Rattle.brk_money.specs.declared.refusal.Refusal.TheVariants.{NoAccount, NoSecurity, NotPermitted, NoCharge, NoRate}
 use Rattle.brk_money.specs.declared.tax_status.TaxStatus.TheVariants.{Untaxed}
@@ -103,23 +103,23 @@ permission_read base order found books k f p =
     ∙ sym (ap (λ x. option_map_or (λ c. permitted c (filter (λ p. p.account == order.account) base.permissions) (executor_of order.executor)) x true) f.customer_is)
 
 charge_read : (base : Base) (order : Order) (found : OrderFound) → IsFoundForEstimate (sheets base) order found → OwnerFound base order.account
-    → Passes 3 found → found.charge ≡ option_map (λ c. c.amount) (charge_with base order.kind (tier_of base order.account))
+    → Passes 3 found → found.charge ≡ option_map (λ c. c.amount) (charge_with base (kind_of order.order_type) (tier_of base order.account))
 charge_read base order found k f p =
-    of_customer base order.account (λ c. found.charge ≡ charge_in (sheets base) order.kind c.tier) f (k.charge p)
-    ∙ ap (option_map (λ c. c.amount)) (reads_charge base order.kind f.c.tier ∙ ap (charge_with base order.kind) (sym (tier_found base order.account f)))
+    of_customer base order.account (λ c. found.charge ≡ charge_in (sheets base) (kind_of order.order_type) c.tier) f (k.charge p)
+    ∙ ap (option_map (λ c. c.amount)) (reads_charge base (kind_of order.order_type) f.c.tier ∙ ap (charge_with base (kind_of order.order_type)) (sym (tier_found base order.account f)))
 
 rate_read : (base : Base) (order : Order) (found : OrderFound) → IsBooks base → IsFoundForEstimate (sheets base) order found → OwnerFound base order.account
     → is_some (security_with base order.symbol) ≡ true → Passes 4 found
-    → found.rate ≡ option_map (λ b. b.rate) (band_with base (tier_of base order.account) order.kind (exchange_of base order.symbol) order.qty)
+    → found.rate ≡ option_map (λ b. b.rate) (band_with base (tier_of base order.account) (kind_of order.order_type) (exchange_of base order.symbol) order.qty)
 rate_read base order found books k f s p =
     let listed = some_of (security_with base order.symbol) s in
     let exchange : exchange_of base order.symbol ≡ listed.0.exchange = ap (λ x. option_map_or (λ s. s.exchange) x []) listed.1 in
     let row : security_in (sheets base) order.symbol ≡ Some (security_row listed.0) = reads_security base order.symbol ∙ ap (option_map security_row) listed.1 in
-    let band = subst (λ x. IfSome x (λ s. found.rate ≡ option_map (λ b. b.rate) (band_in (sheets base) f.c.tier order.kind s.exchange order.qty))) row
+    let band = subst (λ x. IfSome x (λ s. found.rate ≡ option_map (λ b. b.rate) (band_in (sheets base) f.c.tier (kind_of order.order_type) s.exchange order.qty))) row
     (of_customer base order.account
-    (λ c. IfSome (security_in (sheets base) order.symbol) (λ s. found.rate ≡ option_map (λ b. b.rate) (band_in (sheets base) c.tier order.kind s.exchange order.qty))) f (k.rate p)) in
-    band ∙ ap (option_map (λ b. b.rate)) (reads_band base f.c.tier order.kind listed.0.exchange order.qty books
-    ∙ (λ i. band_with base (sym (tier_found base order.account f) i) order.kind (sym exchange i) order.qty))
+    (λ c. IfSome (security_in (sheets base) order.symbol) (λ s. found.rate ≡ option_map (λ b. b.rate) (band_in (sheets base) c.tier (kind_of order.order_type) s.exchange order.qty))) f (k.rate p)) in
+    band ∙ ap (option_map (λ b. b.rate)) (reads_band base f.c.tier (kind_of order.order_type) listed.0.exchange order.qty books
+    ∙ (λ i. band_with base (sym (tier_found base order.account f) i) (kind_of order.order_type) (sym exchange i) order.qty))
 
 -- ---- the refusal
 
@@ -142,14 +142,14 @@ owned_read : (base : Base) (order : Order) (found : OrderFound) (xs ys : List Te
     → OwnerFound base order.account → is_some (security_with base order.symbol) ≡ true
     → Alike ((not found.is_permitted, NotPermitted) ∷ (is_none found.charge, NoCharge) ∷ (is_none found.rate, NoRate) ∷ xs)
     ((not (is_permitted base order.account (executor_of order.executor)), NotPermitted)
-    ∷ (is_none (charge_with base order.kind (tier_of base order.account)), NoCharge)
-    ∷ (is_none (band_with base (tier_of base order.account) order.kind (exchange_of base order.symbol) order.qty), NoRate) ∷ ys)
+    ∷ (is_none (charge_with base (kind_of order.order_type) (tier_of base order.account)), NoCharge)
+    ∷ (is_none (band_with base (tier_of base order.account) (kind_of order.order_type) (exchange_of base order.symbol) order.qty), NoRate) ∷ ys)
 owned_read base order found xs ys books k later a s f l =
     same_first _ _ NotPermitted _ _ (ap not (permission_read base order found books k f (passes_security found a s))) (λ p.
-    same_first _ _ NoCharge _ _ (ap is_none (charge_read base order found k f (passes_executor found a s p)) ∙ is_none-map (λ c. c.amount) (charge_with base order.kind (tier_of base order.account))) (λ c.
+    same_first _ _ NoCharge _ _ (ap is_none (charge_read base order found k f (passes_executor found a s p)) ∙ is_none-map (λ c. c.amount) (charge_with base (kind_of order.order_type) (tier_of base order.account))) (λ c.
     same_first _ _ NoRate _ _
     (ap is_none (rate_read base order found books k f l (passes_charge found a s p c))
-    ∙ is_none-map (λ b. b.rate) (band_with base (tier_of base order.account) order.kind (exchange_of base order.symbol) order.qty))
+    ∙ is_none-map (λ b. b.rate) (band_with base (tier_of base order.account) (kind_of order.order_type) (exchange_of base order.symbol) order.qty))
     (λ r. record { first = later (all_passed found a s p c r) })))
 
 -- an order and what else it is tested for are refused by what was found as by the base
@@ -222,7 +222,7 @@ all_found base order found books k e =
       terms = record {
         side = refl;
         qty = refl;
-        price = ap (λ n. cond (is_market order.kind) n (unwrap_or order.price n)) (last_price_read base order found k one);
+        price = ap (λ n. unwrap_or (price_asked order.order_type) n) (last_price_read base order found k one);
         tax_status = ap (λ o. option_map_or (λ a. a.tax_status) o Untaxed) account ∙ status_or base.accounts (completed base) (account_with base order.account);
         rates = rates_read base order found k f e;
         rate = sym (rate_read base order found books k f listed four) ∙ some_or found.rate rated;

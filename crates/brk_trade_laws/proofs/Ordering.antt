@@ -1,6 +1,7 @@
 -- The tables after an order.
 use Rattle.std.proofs.Common.{◌≡◌, ℕ, ◌+◌, Bool, true, false, not, cond, [], ◌∷◌, ◌++◌, refl, sym, subst, ◌∙◌, ap, map, filter, length, arith}
 use Rattle.std.specs.Prelude.{flat_map}
+use Rattle.brk_money.specs.OrderTypes.{kind_of}
 use Rattle.brk_money.specs.Kinds.{same_status, is_market}
 use Rattle.brk_money.specs.declared.status.Status.TheVariants.{Completed, Submitted, Pending}
 use Rattle.brk_money.specs.declared.trade_type.TradeType.{TradeType}
@@ -35,17 +36,17 @@ rows_ordered base stamp o waits = order_rows (trade_row (ordered_trade base stam
 
 -- an order completes nothing
 pub ordered_done : (base : Base) (stamp : ℕ) (o : Order) → completed (with_order base stamp o) ≡ completed base
-ordered_done base stamp o = filter-not_one is_completed base.trades (ordered_trade base stamp o) [] (first_not_completed o.kind) ∙ append_nil (filter is_completed base.trades)
+ordered_done base stamp o = filter-not_one is_completed base.trades (ordered_trade base stamp o) [] (first_not_completed (kind_of o.order_type)) ∙ append_nil (filter is_completed base.trades)
 
-pub ordered_rows : (base : Base) (stamp : ℕ) (o : Order) → NumberedFrom 1 base.trades → sheets (with_order base stamp o) ≡ rows_ordered base stamp o (not (is_market o.kind))
+pub ordered_rows : (base : Base) (stamp : ℕ) (o : Order) → NumberedFrom 1 base.trades → sheets (with_order base stamp o) ≡ rows_ordered base stamp o (not (is_market (kind_of o.order_type)))
 unfolding tables_of sheets_of shares_in summary_of balance_of trade_count_of commissions_of
-ordered_rows base stamp o n = by_market (is_market o.kind) refl
+ordered_rows base stamp o n = by_market (is_market (kind_of o.order_type)) refl
   where
     t : Trade
     t = ordered_trade base stamp o
 
     row : HistoryRow
-    row = status_row (length base.trades + 1) (first_status o.kind) stamp
+    row = status_row (length base.trades + 1) (first_status (kind_of o.order_type)) stamp
 
     Rows : Bool → Type 0
     Rows b = sheets (with_order base stamp o) ≡ rows_ordered base stamp o (not b)
@@ -63,7 +64,7 @@ ordered_rows base stamp o n = by_market (is_market o.kind) refl
     history = ap (by_key history_key) (flat_map-append history_rows base.trades (t ∷ []))
         ∙ by_key-append history_key (flat_map history_rows base.trades) row (history_of_others row base.trades others)
 
-    by_market : (b : Bool) → is_market o.kind ≡ b → Rows (is_market o.kind)
+    by_market : (b : Bool) → is_market (kind_of o.order_type) ≡ b → Rows (is_market (kind_of o.order_type))
     by_market true e =
         let waits : has_status Pending t ≡ false = ap (λ b. same_status (cond b Submitted Pending) Pending) e in
         let left = filter-not_one (has_status Pending) base.trades t [] waits ∙ append_nil (pending base.trades) in

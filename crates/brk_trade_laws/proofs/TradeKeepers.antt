@@ -3,6 +3,7 @@ use Rattle.std.proofs.Common.{◌≡◌, ℕ, ◌+◌, ◌==◌, false, List, []
 use Rattle.std.specs.Prelude.{is_some, nat_lt}
 use Rattle.std.specs.List.{AllByRecursion, list_any}
 use Rattle.std.proofs.lemmas.Bool.{ltb-false}
+use Rattle.brk_money.specs.OrderTypes.{kind_of}
 use Rattle.brk_money.specs.declared.status.Status.TheVariants.{Completed, Submitted, Canceled}
 use Rattle.brk_model.specs.Limits.{greatest_amount}
 use Rattle.brk_model.specs.Records.{Security, Trade}
@@ -45,7 +46,7 @@ books_order base now o k e =
       volumes = k.volumes;
       numbered = numbered_more 1 base.trades t (next_number (length base.trades)) k.numbered;
       ways = All-append WaitsFirst base.trades (t ∷ []) k.ways ((λ waits. tt), tt);
-      completions = All-append CompletesFirst base.trades (t ∷ []) k.completions (first_mark t (record { stamp = next_stamp base now; status = first_status o.kind }) refl (first_not_completed o.kind), tt);
+      completions = All-append CompletesFirst base.trades (t ∷ []) k.completions (first_mark t (record { stamp = next_stamp base now; status = first_status (kind_of o.order_type) }) refl (first_not_completed (kind_of o.order_type)), tt);
       early = subst (AllByRecursion (IsEarly (Some (next_stamp base now)))) (sym (ordered_done base (next_stamp base now) o)) (later base now k.early);
       moments = subst MomentsApart (sym (ordered_done base (next_stamp base now) o)) k.moments;
       bands = k.bands;

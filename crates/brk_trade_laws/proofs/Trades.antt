@@ -3,6 +3,7 @@ use Rattle.std.proofs.Common.{◌≡◌, ℕ, ◌==◌, true, false, not, List, 
 use Rattle.std.specs.Prelude.{is_some}
 use Rattle.std.specs.Option.{option_map_or}
 use Rattle.std.specs.List.{AllByRecursion}
+use Rattle.brk_money.specs.OrderTypes.{kind_of}
 use Rattle.brk_money.specs.Kinds.{is_market}
 use Rattle.brk_money.specs.declared.refusal.Refusal.TheVariants.{NoTrade}
 use Rattle.brk_money.specs.declared.status.Status.TheVariants.{Pending, Canceled}
@@ -35,7 +36,7 @@ pub whole : (after : Base) (stamp : ℕ) (t : Tables) → sheets after ≡ t →
 whole after stamp t e = last_set after stamp ∙ ap (with_last stamp) e
 
 pub step_order : (base : Base) (now : ℕ) (o : Order)
-    → ChangesRows base now (PlaceOrder o) (order_rows (trade_row (ordered_trade base (next_stamp base now) o)) (not (is_market o.kind)) (broker_of base o.account))
+    → ChangesRows base now (PlaceOrder o) (order_rows (trade_row (ordered_trade base (next_stamp base now) o)) (not (is_market (kind_of o.order_type))) (broker_of base o.account))
 unfolding records_after
 step_order base now o books e =
     whole (with_order base (next_stamp base now) o) (next_stamp base now) _ (ordered_rows base (next_stamp base now) o books.numbered)

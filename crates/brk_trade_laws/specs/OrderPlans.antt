@@ -10,6 +10,7 @@ use Rattle.brk_model.specs.Records.{Customer}
 use Rattle.brk_model.specs.Sheets.{sheets}
 use Rattle.brk_model.specs.Tables.{AccountRow, Tables}
 use Rattle.brk_model.specs.Tests.{first_refusal}
+use Rattle.brk_money.specs.OrderTypes.{kind_of}
 use Rattle.brk_money.specs.Kinds.{same_type}
 use Rattle.brk_money.specs.Moments.{last_stamp}
 use Rattle.brk_money.specs.Spelling.{Text}
@@ -60,10 +61,10 @@ pub record IsFoundForEstimate (t : Tables) (order : Order) (found : OrderFound) 
   -- the executor, by the customer's names and the account's permission for the executor's tax id
   pub is_permitted : Passes 2 found → IfCustomer t order.account (λ c. found.is_permitted ≡ permitted c (permission_in t order.account order.executor.tax_id) (executor_of order.executor))
   -- the charge of the customer's tier
-  pub charge : Passes 3 found → IfCustomer t order.account (λ c. found.charge ≡ charge_in t order.kind c.tier)
+  pub charge : Passes 3 found → IfCustomer t order.account (λ c. found.charge ≡ charge_in t (kind_of order.order_type) c.tier)
   -- the rate of the band of the quantity, by the customer's tier and the security's exchange
   pub rate : Passes 4 found
-      → IfCustomer t order.account (λ c. IfSome (security_in t order.symbol) (λ s. found.rate ≡ option_map (λ b. b.rate) (band_in t c.tier order.kind s.exchange order.qty)))
+      → IfCustomer t order.account (λ c. IfSome (security_in t order.symbol) (λ s. found.rate ≡ option_map (λ b. b.rate) (band_in t c.tier (kind_of order.order_type) s.exchange order.qty)))
   -- the rates that the customer pays
   pub rates : Passes 5 found → IfSome (account_in t order.account) (λ a. found.rates ≡ rates_of t a.customer)
   -- the balance and the worth of what is held

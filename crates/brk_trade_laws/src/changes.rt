@@ -2,6 +2,7 @@
 
 ghost use Rattle.std.specs.Prelude.{◌≡◌, ℕ, List, None, Some, not};
 ghost use Rattle.brk_money.specs.Kinds.{is_market};
+ghost use Rattle.brk_money.specs.OrderTypes.{kind_of};
 ghost use Rattle.brk_model.specs.Base.{Base, broker_of, empty_base, trade_with};
 ghost use Rattle.brk_model.specs.Commands.{AddAccount, AddBand, AddBroker, AddCharge, AddCustomer, AddCustomerTax, AddPermission, AddSecurity, AddTaxRate, CancelTrade, Command, CompleteTrade, FeedTicks, Listing, Order, PlaceOrder, Reply, Tick};
 ghost use Rattle.brk_model.specs.Feed.{triggered_by};
@@ -39,7 +40,7 @@ pub fn records_are_rows()
 /// no other row changes.
 pub fn orders_are_rows()
     ensures { (base : Base) (now : ℕ) (o : Order)
-        → ChangesRows base now (PlaceOrder o) (order_rows (trade_row (ordered_trade base (next_stamp base now) o)) (not (is_market o.kind)) (broker_of base o.account)) }
+        → ChangesRows base now (PlaceOrder o) (order_rows (trade_row (ordered_trade base (next_stamp base now) o)) (not (is_market (kind_of o.order_type))) (broker_of base o.account)) }
 {}
 
 /// A cancel that is accepted changes its trade's status, with a row more of TRADE_HISTORY and without that of TRADE_REQUEST.

@@ -1,3 +1,4 @@
+use Rattle.brk_money.specs.OrderTypes.{price_asked}
 use Rattle.std.proofs.Common.{[], ◌∷◌, codes}
 use Rattle.std.specs.Prelude.{drop, take}
 use Rattle.std.specs.Option.{option_map_or}
@@ -11,5 +12,5 @@ unfolding row_fields
 returns c =
     let o = order_of c.args.order.now in
     added 31 (codes "order") (take 5 (order_fields o)) (drop 5 (order_fields o)) _ _
-    (added 31 (codes "order") (take 4 (order_fields o)) (option_map_or price_text o.price [] ∷ []) _ _ c.in_ok-row.ensures c.in_ok-add_price.ensures)
+    (added 31 (codes "order") (take 4 (order_fields o)) (option_map_or price_text (price_asked o.order_type) [] ∷ []) _ _ c.in_ok-row.ensures c.in_ok-add_price.ensures)
     c.in_ok-add_manner.ensures

@@ -1,6 +1,6 @@
 use Rattle.std.proofs.Common.{◌≡◌, ◌==◌, ◌∙◌, filter, map}
 use Rattle.brk_model.specs.Tables.{Tables}
-use Rattle.brk_tables_form.specs.Records.{account_row_of}
+use Rattle.brk_ref.specs.Records.{account_row_of}
 use Rattle.brk_trade_laws.specs.Reads.{accounts_of}
 use Rattle.brk_trade_laws.proofs.Reading.{are_counted}
 use Rattle.brk_store.proofs.Retelling.{retold}

@@ -1,6 +1,6 @@
 use Rattle.std.proofs.Common.{◌≡◌, ◌==◌, ◌∙◌, find, option_map}
 use Rattle.brk_model.specs.Tables.{Tables}
-use Rattle.brk_tables_form.specs.Records.{broker_row_of}
+use Rattle.brk_ref.specs.Records.{broker_row_of}
 use Rattle.brk_trade_laws.specs.Reads.{has_broker}
 use Rattle.brk_trade_laws.proofs.Reading.{is_there}
 use Rattle.brk_store.proofs.Retelling.{retold}

@@ -1,6 +1,6 @@
 use Rattle.std.proofs.Common.{◌≡◌, ◌==◌, Some, find, option_map, sym}
 use Rattle.brk_model.specs.Tables.{AccountRow, Tables}
-use Rattle.brk_tables_form.specs.Records.{account_row_of}
+use Rattle.brk_ref.specs.Records.{account_row_of}
 use Rattle.brk_decisions.specs.ResultFinds.{IsAccount}
 use Rattle.brk_store.proofs.Retelling.{retold}
 use Rattle.brk_decisions.proofs.known.known_account.Goals as goal

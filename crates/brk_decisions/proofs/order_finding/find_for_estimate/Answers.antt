@@ -3,7 +3,7 @@ use Rattle.brk_money.specs.declared.fault.Fault.{Fault}
 use Rattle.brk_model.specs.Tables as tables
 use Rattle.brk_model.specs.Tables.{Tables}
 use Rattle.brk_ref.specs.declared.account.AccountRow.{AccountRow}
-use Rattle.brk_tables_form.specs.Records.{account_row_of}
+use Rattle.brk_ref.specs.Records.{account_row_of}
 use Rattle.brk_trade_laws.specs.OrderPlans.{IsFoundForEstimate}
 use Rattle.brk_decisions.specs.Finds.{IsFoundOf}
 use Rattle.brk_store.proofs.Retelling.{retold}

@@ -1,10 +1,11 @@
 use Rattle.std.proofs.Common.{sym, ap, ◌∙◌}
-use Rattle.std.specs.Prelude.{Ok, Err, option_map}
+use Rattle.std.specs.Prelude.{option_map}
 use Rattle.std.specs.Option.{ok_or}
 use Rattle.brk_money.specs.declared.refusal.Refusal.TheVariants.{BadText}
 use Rattle.brk_ref.specs.Records.{executor_of}
-use Rattle.brk_orders.proofs.Refused.{price_by_type}
-use Rattle.brk_orders.proofs.OrderFields.{account_refused, symbol_refused, cash_refused, end_refused, executor_refused, qty_refused, price_refused, type_refused, all_read}
+use Rattle.brk_model.specs.Forms.{order_type_for, type_of}
+use Rattle.brk_orders.proofs.Refused.{type_found}
+use Rattle.brk_orders.proofs.OrderFields.{account_refused, symbol_refused, cash_refused, end_refused, executor_refused, qty_refused, type_refused, all_read}
 use Rattle.brk_orders.proofs.order.order_from.Goals as goal
 
 pub returns-in_default-clause-read : goal.returns-in_default-clause-read
@@ -31,26 +32,16 @@ returns-in_default-parse_qty-clause-read c =
 
 pub returns-in-Err-clause-read : goal.returns-in-Err-clause-read
 returns-in-Err-clause-read c =
-    price_refused c.args.told c.in-Some.account c.in-Some-2.symbol c.in-Some-parse_either.is_cash c.in-Some-parse_either-2.is_lifo (executor_of c.in-Some-3.executor) c.in-Some-parse_qty.qty
+    type_refused c.args.told c.in-Some.account c.in-Some-2.symbol c.in-Some-parse_either.is_cash c.in-Some-parse_either-2.is_lifo (executor_of c.in-Some-3.executor) c.in-Some-parse_qty.qty
     c.in-Err.refusal
     (sym c.in-Some.ensures) (sym c.in_ok-symbol.ensures.read ∙ ap (λ o. ok_or o BadText) c.in-Some-2.is) (sym c.in-Some-parse_either.ensures) (sym c.in-Some-parse_either-2.ensures)
     (sym c.in_ok-executor.ensures.read ∙ ap (λ o. ok_or (option_map executor_of o) BadText) c.in-Some-3.is) (sym c.in-Some-parse_qty.ensures)
-    (sym (price_by_type _ c.args.told.kind.now c.args.told.price.now (Err c.in-Err.refusal) c.parse_type-kind.ensures c.in-Err.ensures.empty c.in-Err.ensures.given))
-
-pub returns-in_default-kind-clause-read : goal.returns-in_default-kind-clause-read
-returns-in_default-kind-clause-read c =
-    type_refused c.args.told c.in-Some.account c.in-Some-2.symbol c.in-Some-parse_either.is_cash c.in-Some-parse_either-2.is_lifo (executor_of c.in-Some-3.executor) c.in-Some-parse_qty.qty
-    c.in-Ok.price
-    (sym c.in-Some.ensures) (sym c.in_ok-symbol.ensures.read ∙ ap (λ o. ok_or o BadText) c.in-Some-2.is) (sym c.in-Some-parse_either.ensures) (sym c.in-Some-parse_either-2.ensures)
-    (sym c.in_ok-executor.ensures.read ∙ ap (λ o. ok_or (option_map executor_of o) BadText) c.in-Some-3.is) (sym c.in-Some-parse_qty.ensures)
-    (sym (price_by_type _ c.args.told.kind.now c.args.told.price.now (Ok c.in-Ok.price) c.parse_type-kind.ensures c.in-Ok.ensures.empty c.in-Ok.ensures.given))
-    (sym c.in_default-kind.ensures)
+    (ap (λ k. order_type_for k c.args.told.price.now) (sym (type_found _ (type_of c.args.told.kind.now) c.parse_type.ensures)) ∙ sym c.in-Err.ensures)
 
 pub returns-clause-read : goal.returns-clause-read
 returns-clause-read c =
     all_read c.args.told c.in-Some.account c.in-Some-2.symbol c.in-Some-parse_either.is_cash c.in-Some-parse_either-2.is_lifo (executor_of c.in-Some-3.executor) c.in-Some-parse_qty.qty
-    c.in-Ok.price c.in-Some-kind.kind
+    c.in-Ok.order_type
     (sym c.in-Some.ensures) (sym c.in_ok-symbol.ensures.read ∙ ap (λ o. ok_or o BadText) c.in-Some-2.is) (sym c.in-Some-parse_either.ensures) (sym c.in-Some-parse_either-2.ensures)
     (sym c.in_ok-executor.ensures.read ∙ ap (λ o. ok_or (option_map executor_of o) BadText) c.in-Some-3.is) (sym c.in-Some-parse_qty.ensures)
-    (sym (price_by_type _ c.args.told.kind.now c.args.told.price.now (Ok c.in-Ok.price) c.parse_type-kind.ensures c.in-Ok.ensures.empty c.in-Ok.ensures.given))
-    (sym c.in-Some-kind.ensures)
+    (ap (λ k. order_type_for k c.args.told.price.now) (sym (type_found _ (type_of c.args.told.kind.now) c.parse_type.ensures)) ∙ sym c.in-Ok.ensures)

@@ -5,7 +5,7 @@ use Rattle.brk_model.specs.Tables.{AccountRow}
 use Rattle.brk_rows.proofs.Answer.{look_all}
 use Rattle.brk_tables_form.specs.Cells.{account_cells}
 use Rattle.brk_tables_form.specs.Desk.{desk}
-use Rattle.brk_tables_form.specs.Records.{account_row_of}
+use Rattle.brk_ref.specs.Records.{account_row_of}
 use Rattle.brk_tables_form.proofs.Back.{account_back, account_is_back}
 use Rattle.brk_tables_reference.proofs.AccountsOfCustomer
 use Rattle.brk_tables_reference.proofs.AccountsOfCustomer.{plain}

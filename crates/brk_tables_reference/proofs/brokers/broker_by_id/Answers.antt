@@ -6,7 +6,7 @@ use Rattle.brk_model.specs.Tables.{BrokerRow}
 use Rattle.brk_rows.proofs.Answer.{look_first}
 use Rattle.brk_tables_form.specs.Cells.{broker_cells}
 use Rattle.brk_tables_form.specs.Desk.{desk}
-use Rattle.brk_tables_form.specs.Records.{broker_row_of}
+use Rattle.brk_ref.specs.Records.{broker_row_of}
 use Rattle.brk_tables_form.proofs.Back.{broker_back, broker_is_back}
 use Rattle.brk_tables_reference.proofs.BrokerById
 use Rattle.brk_tables_reference.proofs.BrokerById.{plain}

@@ -2,7 +2,7 @@ use Rattle.std.proofs.Common.{◌≡◌, ◌==◌, Some, None, Option, ap, find,
 use Rattle.brk_money.specs.declared.cents.Cents.{Cents}
 use Rattle.brk_model.specs.Tables.{AccountRow, Tables}
 use Rattle.brk_ref.specs.declared.account.AccountRow as account
-use Rattle.brk_tables_form.specs.Records.{account_row_of}
+use Rattle.brk_ref.specs.Records.{account_row_of}
 use Rattle.brk_store.proofs.Retelling.{retold}
 use Rattle.brk_store.proofs.store.Store.balance_of.Goals as goal
 

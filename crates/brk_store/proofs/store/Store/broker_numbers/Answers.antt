@@ -1,7 +1,7 @@
 use Rattle.std.proofs.Common.{◌≡◌, ◌==◌, Some, None, Option, find, option_map, sym}
 use Rattle.brk_model.specs.Tables.{BrokerRow, Tables}
 use Rattle.brk_ref.specs.declared.broker.BrokerRow as broker
-use Rattle.brk_tables_form.specs.Records.{broker_row_of}
+use Rattle.brk_ref.specs.Records.{broker_row_of}
 use Rattle.brk_changes.specs.declared.broker_numbers.BrokerNumbers.{BrokerNumbers}
 use Rattle.brk_store.specs.Numbers.{AreNumbers}
 use Rattle.brk_store.proofs.Retelling.{retold}

@@ -1,0 +1,57 @@
+-- Where statuses are right, a trade's row says itself whether it is completed, whether it waits, and when it came to that.
+use Rattle.std.proofs.Common.{◌≡◌, true, false, sym, ◌∙◌, ap, map}
+use Rattle.std.specs.List.{AllByRecursion, list_all}
+use Rattle.std.specs.Option.{option_map_or}
+use Rattle.std.proofs.lemmas.Bool.{and_parts}
+use Rattle.brk_money.specs.Kinds.{same_status}
+use Rattle.brk_money.specs.declared.status.Status.{Status}
+use Rattle.brk_money.specs.declared.status.Status.TheVariants.{Completed, Pending}
+use Rattle.brk_model.specs.Lists.{all_distinct}
+use Rattle.brk_model.specs.Base.{completed, has_status, is_completed, moment_of}
+use Rattle.brk_model.specs.Derived.{pending}
+use Rattle.brk_model.specs.Tables.{Tables, TradeRow}
+use Rattle.brk_model.specs.Adopted.{base_of, trade_of_row}
+use Rattle.brk_model.specs.Ways.{completion_stamps, has_status_rows, trade_status}
+use Rattle.brk_trade_laws.proofs.Same.{All-map, All-filter, filter-same}
+use Rattle.brk_adoption_laws.proofs.Climbs.{list_all_true}
+use Rattle.brk_adoption_laws.proofs.Marks.{Lasts, lasts, same_statuses}
+use Rattle.brk_adoption_laws.proofs.AdoptedBooks.{filter-map}
+use Rattle.brk_audit.specs.Completed.{done_rows, is_done, is_waiting, waiting_rows}
+
+-- each trade's statuses are right
+pub right_rows : (t : Tables) → has_status_rows t ≡ true → AllByRecursion (λ r. trade_status t r ≡ true) t.trades
+unfolding has_status_rows
+right_rows t s = list_all_true (trade_status t) t.trades (and_parts (list_all (trade_status t) t.trades) (all_distinct (completion_stamps t)) s).0
+
+-- no two trades complete at one stamp
+pub stamps_apart : (t : Tables) → has_status_rows t ≡ true → all_distinct (completion_stamps t) ≡ true
+unfolding has_status_rows
+stamps_apart t s = (and_parts (list_all (trade_status t) t.trades) (all_distinct (completion_stamps t)) s).1
+
+-- a trade's last status is that of its row
+pub row_status : (t : Tables) (r : TradeRow) (status : Status) → trade_status t r ≡ true → has_status status (trade_of_row t r) ≡ same_status r.status status
+row_status t r status e =
+    let l : Lasts t r = lasts t r e in
+    ap (λ o. option_map_or (λ m. same_status m.status status) o false) l.is ∙ ap (λ s. same_status s status) (sym (same_statuses r.status l.mark.status l.status))
+
+-- and it came to it at the stamp of its row
+pub row_moment : (t : Tables) (r : TradeRow) → trade_status t r ≡ true → moment_of (trade_of_row t r) ≡ r.stamp
+row_moment t r e = let l : Lasts t r = lasts t r e in ap (λ o. option_map_or (λ m. m.stamp) o 0) l.is ∙ sym l.stamp
+
+-- the completed trades of the base are the rows that say that they are completed
+pub completed_rows : (t : Tables) → has_status_rows t ≡ true → completed (base_of t) ≡ map (trade_of_row t) (done_rows t)
+unfolding base_of
+completed_rows t s =
+    filter-map is_completed (trade_of_row t) t.trades
+    ∙ ap (map (trade_of_row t)) (filter-same (λ r. is_completed (trade_of_row t r)) is_done t.trades (All-map t.trades (λ r e. row_status t r Completed e) (right_rows t s)))
+
+-- and those that wait are the rows that say that they wait
+pub pending_rows : (t : Tables) → has_status_rows t ≡ true → pending (base_of t).trades ≡ map (trade_of_row t) (waiting_rows t)
+unfolding base_of
+pending_rows t s =
+    filter-map (has_status Pending) (trade_of_row t) t.trades
+    ∙ ap (map (trade_of_row t)) (filter-same (λ r. has_status Pending (trade_of_row t r)) is_waiting t.trades (All-map t.trades (λ r e. row_status t r Pending e) (right_rows t s)))
+
+-- each completed trade came to that at the stamp of its row
+pub done_moments : (t : Tables) → has_status_rows t ≡ true → AllByRecursion (λ r. moment_of (trade_of_row t r) ≡ r.stamp) (done_rows t)
+done_moments t s = All-map (done_rows t) (row_moment t) (All-filter (λ r. trade_status t r ≡ true) is_done t.trades (right_rows t s))

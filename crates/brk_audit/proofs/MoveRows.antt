@@ -1,0 +1,179 @@
+-- What completed trades did to lots, position by position, is the history of lots of their base.
+use Rattle.std.proofs.Common.{◌≡◌, ◌≢◌, ℕ, ◌+◌, ◌<◌, ◌==◌, ◌&&◌, Bool, true, false, cond, List, [], ◌∷◌, ◌++◌, refl, sym, ap, ◌∙◌, subst, map, filter, arith, inl, inr}
+use Rattle.std.specs.Prelude.{⊤, ◌↔◌, flat_map}
+use Rattle.std.specs.Bool.{Decides}
+use Rattle.std.specs.List.{AllByRecursion, sum_by}
+use Rattle.std.specs.List.Sorted.{IsPermutation}
+use Rattle.std.specs.Ordering.{int_eq}
+use Rattle.std.proofs.lemmas.Bool.{and_from, and_parts, cases_Bool, eq-eqb, eqb-true, eqb-false}
+use Rattle.std.proofs.lemmas.Bool.Decides.{Decides-int_eq}
+use Rattle.std.proofs.lemmas.List.Sums.{sum_by-cons}
+use Rattle.brk_model.specs.Records.{Trade}
+use Rattle.brk_model.specs.Base.{Base, completed, moment_of}
+use Rattle.brk_model.specs.Derived.{deal_of, deals_in}
+use Rattle.brk_model.specs.Keys.{KeyPart, by_key, key_before, row_before, holding_history_key}
+use Rattle.brk_model.specs.Shares.{Deal}
+use Rattle.brk_model.specs.Tables.{HoldingHistoryRow, Tables, TradeRow, lot_history, lot_rows, tables_of}
+use Rattle.brk_model.specs.Sheets.{sheets, sheets_of}
+use Rattle.brk_model.specs.Adopted.{base_of, trade_of_row}
+use Rattle.brk_model.specs.Audit.{expected}
+use Rattle.brk_model.specs.Ways.{has_status_rows}
+use Rattle.brk_model.specs.Form.{has_form}
+use Rattle.brk_lots.specs.Chains.{replay_rows}
+use Rattle.brk_lots.specs.Deals.{AreDeals, IsLater}
+use Rattle.brk_trade_laws.specs.Books.{IsBooks}
+use Rattle.brk_trade_laws.proofs.LotOrder.{Follows, InOrder, held_in_order, trades_held}
+use Rattle.brk_trade_laws.proofs.Order.{Sorted, key_one_way, key_splits, sorted_sort}
+use Rattle.brk_trade_laws.proofs.Same.{All-map, All-of}
+use Rattle.brk_adoption_laws.proofs.AdoptedBooks.{adopted_books}
+use Rattle.brk_adoption_laws.proofs.Climbs.{Climbs}
+use Rattle.brk_adoption_laws.proofs.Parts.{FormParts, form_parts, key_parts}
+use Rattle.brk_audit.specs.Completed.{done_rows}
+use Rattle.brk_audit.specs.Positions.{Trace, moves, place_before, row_deal, same_place, untouched}
+use Rattle.brk_audit.proofs.Completed.{completed_rows}
+use Rattle.brk_audit.proofs.Leaving.{AreDealt, deals_among, own_run}
+use Rattle.brk_audit.proofs.LotRows.{dealt}
+use Rattle.brk_audit.proofs.Moves.{is_move, run_sums}
+use Rattle.brk_audit.proofs.Orders.{SameSums, permuted, sum_append, sum_map, sum_none, sum_same, sum_sort}
+use Rattle.brk_audit.proofs.Places.{all_back, at_one, same_self}
+
+-- ---- in one order
+
+-- whether an element goes before another, and whether it stands beside another and is not that one
+abbrev ahead : {X : Type 0} → (X → X → Bool) → X → X → ℕ
+ahead before m x = cond (before x m) 1 0
+
+abbrev not_behind : {X : Type 0} → (X → X → Bool) → X → X → ℕ
+not_behind before m x = cond (before m x) 0 1
+
+abbrev level : {X : Type 0} → (X → X → Bool) → (X → X → Bool) → X → X → ℕ
+level before same m x = cond (before x m) 0 (cond (before m x) 0 (cond (same x m) 0 1))
+
+-- two lists with the same sums, of which one climbs and the other is sorted, are one
+pub key_order_one : {X : Type 0} (key : X → List KeyPart) (same : X → X → Bool) → ((x y : X) → Decides (same x y) (x ≡ y)) → (xs ys : List X) → Climbs key xs → Sorted (row_before key) ys → SameSums ys xs → ys ≡ xs
+key_order_one key same d [] [] c a h = refl
+key_order_one key same d [] (y ∷ ys) c a h = let e = h (λ _. 1) in absurd (omega (arith, e, sum_by-cons (λ _. 1) y ys))
+key_order_one key same d (x ∷ xs) [] c a h = let e = h (λ _. 1) in absurd (omega (arith, e, sum_by-cons (λ _. 1) x xs))
+key_order_one {X = X} key same d (x ∷ xs) (y ∷ ys) c a h =
+    let b : X → X → Bool = row_before key in
+    let self : b x x ≡ false = itself x in
+    let behind : AllByRecursion (λ z. b z x ≡ false) xs = All-map xs (λ z p. key_one_way (key x) (key z) p) c.0 in
+    let none_ahead : sum_by (ahead b x) (x ∷ xs) ≡ 0 = sum_none (ahead b x) (x ∷ xs) (ap (λ v. cond v 1 0) self, All-map xs (λ z p. ap (λ v. cond v 1 0) p) behind) in
+    let none_level : sum_by (level b same x) (x ∷ xs) ≡ 0 =
+    sum_none (level b same x) (x ∷ xs)
+    ((λ i. cond (self i) 0 (cond (self i) 0 (cond ((d x x).1 refl i) 0 1))), All-map xs (λ z p. (λ i. cond (key_one_way (key x) (key z) p i) 0 (cond (p i) 0 (cond (same z x) 0 1)))) c.0) in
+    let low : b y x ≡ false = elim (cases_Bool (b y x)) [
+      | inl e ↦
+          let one : ahead b x y ≡ 1 = ap (λ v. cond v 1 0) e in
+          let s = h (ahead b x) in
+          absurd (omega (arith, one, s, none_ahead, sum_by-cons (ahead b x) y ys))
+      | inr e ↦ e
+    ] in
+    let high : b x y ≡ false = elim (cases_Bool (b x y)) [
+      | inl e ↦
+          let none : sum_by (not_behind b x) (y ∷ ys) ≡ 0 =
+          sum_none (not_behind b x) (y ∷ ys) (ap (λ v. cond v 0 1) e, All-map ys (λ z p. ap (λ v. cond v 0 1) (past z e p)) a.0) in
+          let one : not_behind b x x ≡ 1 = ap (λ v. cond v 0 1) self in
+          let s = h (not_behind b x) in
+          absurd (omega (arith, one, s, none, sum_by-cons (not_behind b x) x xs))
+      | inr e ↦ e
+    ] in
+    let zero_level : level b same x y ≡ 0 = (let s = h (level b same x) in omega (arith, s, none_level, sum_by-cons (level b same x) y ys)) in
+    let alike : same y x ≡ true = elim (cases_Bool (same y x)) [
+      | inl e ↦ e
+      | inr e ↦
+          let one : level b same x y ≡ 1 = (λ i. cond (low i) 0 (cond (high i) 0 (cond (e i) 0 1))) in
+          absurd (omega (arith, one, zero_level))
+    ] in
+    let first : y ≡ x = (d y x).0 alike in
+    let rest : ys ≡ xs = key_order_one key same d xs ys c.1 a.1 (λ f. let s = h f in let fe : f y ≡ f x = ap f first in omega (arith, s, fe, sum_by-cons f y ys, sum_by-cons f x xs)) in
+    ap (λ (z : X). z ∷ ys) first ∙ ap (λ (zs : List X). x ∷ zs) rest
+  where
+    itself : (z : X) → row_before key z z ≡ false
+    itself z = elim (cases_Bool (row_before key z z)) [ inl e ↦ key_one_way (key z) (key z) e | inr e ↦ e ]
+
+    past : (z : X) → row_before key x y ≡ true → row_before key z y ≡ false → row_before key x z ≡ true
+    past z e p = elim (cases_Bool (row_before key x z)) [ inl k ↦ k | inr k ↦ let m : row_before key z y ≡ true = key_splits (key y) (key z) (key x) e k in absurd (cc) ]
+
+-- ---- position by position
+
+-- what the rows of a trade's lot give to a sum
+abbrev pub own : Base → (HoldingHistoryRow → ℕ) → TradeRow → ℕ
+own base f r = sum_by f (filter is_move (lot_rows r.id [] (deals_in (completed base) r.account r.symbol)))
+
+deals_of_order : (ts : List Trade) → InOrder ts → AreDeals (map deal_of ts)
+deals_of_order [] o = tt
+deals_of_order (t ∷ ts) o = (behind ts o.0, deals_of_order ts o.1)
+  where
+    behind : (us : List Trade) → AllByRecursion (Follows t) us → AllByRecursion (IsLater (deal_of t)) (map deal_of us)
+    behind [] h = tt
+    behind (u ∷ us) h = (((λ e. eqb-false u.id t.id h.0.0 (sym e)), h.0.1), behind us h.1)
+
+pub trace_sums : (base : Base) → IsBooks base → {rs : List TradeRow} {rows : List HoldingHistoryRow} → Trace rs rows → AreDealt base rs
+    → (f : HoldingHistoryRow → ℕ) → sum_by f rows ≡ sum_by (own base f) rs
+trace_sums base books untouched d f = refl
+trace_sums base books (moves r run later rows same apart l) d f =
+    let ds : List Deal = map row_deal (r ∷ run) in
+    let e : ds ≡ deals_in (completed base) r.account r.symbol = ap (map row_deal) (sym (own_run r run later same apart)) ∙ d.0 in
+    let a : AreDeals ds = subst AreDeals (sym e) (deals_of_order (trades_held base r.account r.symbol) (held_in_order base r.account r.symbol books)) in
+    let here : sum_by f (replay_rows ds []) ≡ sum_by (own base f) (r ∷ run) =
+    run_sums ds a f ∙ sum_map (λ d. sum_by f (filter is_move (lot_rows d.trade [] ds))) row_deal (r ∷ run)
+    ∙ sum_same (λ s. sum_by f (filter is_move (lot_rows s.id [] ds))) (own base f) (r ∷ run) (All-map (r ∷ run) (λ s p. one s p ds e) (same_self r, same)) in
+    let rest : AreDealt base later =
+    both later apart (all_back (λ s. map row_deal (filter (same_place s) (r ∷ run ++ later)) ≡ deals_in (completed base) s.account s.symbol) run later d.1) in
+    sum_append f (replay_rows ds []) rows ∙ (λ i. here i + trace_sums base books l rest f i) ∙ sym (sum_append (own base f) (r ∷ run) later)
+  where
+    one : (s : TradeRow) → same_place r s ≡ true → (ds : List Deal) → ds ≡ deals_in (completed base) r.account r.symbol → sum_by f (filter is_move (lot_rows s.id [] ds)) ≡ own base f s
+    one s p ds e = let k = at_one r s p in ap (λ (es : List Deal). sum_by f (filter is_move (lot_rows s.id [] es))) (e ∙ (λ i. deals_in (completed base) (k.account i) (k.symbol i)))
+
+    both : (ss : List TradeRow) → AllByRecursion (λ s. same_place r s ≡ false) ss → AllByRecursion (λ s. map row_deal (filter (same_place s) (r ∷ run ++ later)) ≡ deals_in (completed base) s.account s.symbol) ss
+        → AllByRecursion (λ s. map row_deal (filter (same_place s) later) ≡ deals_in (completed base) s.account s.symbol) ss
+    both [] a e = tt
+    both (s ∷ ss) a e = (ap (map row_deal) (sym (deals_among r s run later same a.0)) ∙ e.0, both ss a.1 e.1)
+
+sum_flat : {X Y : Type 0} (f : Y → ℕ) (g : X → List Y) (xs : List X) → sum_by f (flat_map g xs) ≡ sum_by (λ x. sum_by f (g x)) xs
+sum_flat f g [] = refl
+sum_flat f g (x ∷ xs) = sum_append f (g x) (flat_map g xs) ∙ ap (λ n. sum_by f (g x) + n) (sum_flat f g xs) ∙ sym (sum_by-cons (λ y. sum_by f (g y)) x xs)
+
+-- ---- the whole table
+
+same_change : HoldingHistoryRow → HoldingHistoryRow → Bool
+same_change a b = (a.lot == b.lot) && ((a.trade == b.trade) && (int_eq a.before b.before && int_eq a.after b.after))
+
+changes_decide : (a b : HoldingHistoryRow) → Decides (same_change a b) (a ≡ b)
+unfolding same_change
+changes_decide a b =
+    let v = int_eq a.before b.before in
+    let w = int_eq a.after b.after in (
+      (λ e.
+          let p = and_parts (a.lot == b.lot) _ e in
+          let q = and_parts (a.trade == b.trade) (v && w) p.1 in
+          let r = and_parts v w q.1 in
+          λ i. record { lot = eqb-true a.lot b.lot p.0 i; trade = eqb-true a.trade b.trade q.0 i; before = (Decides-int_eq a.before b.before).0 r.0 i; after = (Decides-int_eq a.after b.after).0 r.1 i }),
+      (λ e.
+          and_from (a.lot == b.lot) _ (eq-eqb a.lot b.lot (ap (λ (h : HoldingHistoryRow). h.lot) e))
+          (and_from (a.trade == b.trade) (v && w) (eq-eqb a.trade b.trade (ap (λ (h : HoldingHistoryRow). h.trade) e))
+          (and_from v w ((Decides-int_eq a.before b.before).1 (ap (λ (h : HoldingHistoryRow). h.before) e)) ((Decides-int_eq a.after b.after).1 (ap (λ (h : HoldingHistoryRow). h.after) e))))),
+    )
+
+listed : (base : Base) → (sheets base).holding_history ≡ by_key holding_history_key (flat_map (lot_history (completed base)) (completed base))
+unfolding tables_of sheets_of
+listed base = refl
+
+pub moves_told : (t : Tables) → has_form t ≡ true → has_status_rows t ≡ true → (rs : List TradeRow) (rows moved : List HoldingHistoryRow) → IsPermutation (done_rows t) rs → Sorted place_before rs
+    → Trace rs rows → IsPermutation rows moved → Sorted (row_before holding_history_key) moved → (moved ≡ t.holding_history) ↔ (t.holding_history ≡ (expected t).holding_history)
+moves_told t f s rs rows moved p o l q a =
+    let base : Base = base_of t in
+    let books : IsBooks base = adopted_books t f s in
+    let done : List Trade = completed base in
+    let E : List HoldingHistoryRow = (sheets base).holding_history in
+    let climb : Climbs holding_history_key t.holding_history = (key_parts t (form_parts t f).keys).holding_history in
+    let ordered : Sorted (row_before holding_history_key) E =
+    subst (Sorted (row_before holding_history_key)) (sym (listed base)) (sorted_sort (row_before holding_history_key) (flat_map (lot_history done) done) (λ x y z. key_splits (holding_history_key x) (holding_history_key y) (holding_history_key z)) (λ x y. key_one_way (holding_history_key x) (holding_history_key y))) in
+    let sums : SameSums moved E = λ g.
+    permuted rows moved q g ∙ trace_sums base books l (All-of rs (dealt t f s rs p o)) g ∙ permuted (done_rows t) rs p (own base g)
+    ∙ sym (ap (sum_by g) (listed base) ∙ sum_sort g (row_before holding_history_key) (flat_map (lot_history done) done) ∙ sum_flat g (lot_history done) done
+    ∙ ap (sum_by (λ u. sum_by g (lot_history done u))) (completed_rows t s) ∙ sum_map (λ u. sum_by g (lot_history done u)) (trade_of_row t) (done_rows t)) in (
+      (λ e. sym (key_order_one holding_history_key same_change changes_decide t.holding_history E climb ordered (λ g. sym (sums g) ∙ ap (sum_by g) e))),
+      (λ e. key_order_one holding_history_key same_change changes_decide E moved (subst (Climbs holding_history_key) e climb) a sums ∙ sym e),
+    )

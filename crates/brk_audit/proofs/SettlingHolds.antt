@@ -1,0 +1,71 @@
+-- The conditions on requests, settlements and cash rows, as their walks over the rows tell them.
+use Rattle.std.proofs.Common.{◌≡◌, ℕ, ◌+◌, List, sym, ◌∙◌, ap, map, filter}
+use Rattle.std.specs.Prelude.{◌↔◌}
+use Rattle.std.specs.BTreeMap.{BTreeMap}
+use Rattle.std.proofs.lemmas.List.{map-id}
+use Rattle.brk_money.specs.Moments.{day_of}
+use Rattle.brk_money.specs.declared.fault.Condition.TheVariants as condition
+use Rattle.brk_model.specs.Derived.{settlement_days}
+use Rattle.brk_model.specs.Audit.{Holds}
+use Rattle.brk_model.specs.Tables.{Tables, TradeRow}
+use Rattle.brk_trade_laws.proofs.Same.{All-of, map-same}
+use Rattle.brk_adoption_laws.proofs.Parts.{KeyParts, form_parts, key_parts}
+use Rattle.brk_changes.specs.Rows.{cash_row_of, request_row_of, settlement_row_of, trade_row_of}
+use Rattle.brk_changes.specs.Sheets.{tables_in_sheets}
+use Rattle.brk_changes.specs.declared.sheets.Sheets.{Sheets}
+use Rattle.brk_changes.specs.declared.trade_row.TradeRow as trade
+use Rattle.brk_changes.specs.declared.request_row.RequestRow as request
+use Rattle.brk_changes.specs.declared.settlement_row.SettlementRow as settlement
+use Rattle.brk_changes.specs.declared.cash_row.CashRow as cash
+use Rattle.brk_audit.specs.AccountTerms.{broker_by, tax_status_by}
+use Rattle.brk_audit.specs.Completed.{is_done, is_waiting}
+use Rattle.brk_audit.specs.Conditions.{HasForm, HasStatuses}
+use Rattle.brk_audit.specs.Settling.{amount_at, due_in, due_of, is_done_in_cash, moved_by, moved_in, request_of, tax_status_at, broker_at}
+use Rattle.brk_audit.specs.declared.account_terms.AccountTerms.{AccountTerms}
+use Rattle.brk_audit.proofs.AccountTerms.{HasTerms, same_brokers, same_tax_statuses}
+use Rattle.brk_audit.proofs.Settling.{cash_by_rows, requests_by_rows, settlements_by_rows}
+
+keys_of : (s : Sheets) → HasForm s → KeyParts (tables_in_sheets s)
+keys_of s f = key_parts (tables_in_sheets s) (form_parts (tables_in_sheets s) f).keys
+
+pub settlements_hold : (s : Sheets) (terms : BTreeMap ℕ AccountTerms) (ss : List settlement.SettlementRow) (ts : List trade.TradeRow) → HasForm s → HasStatuses s
+    → HasTerms terms s.accounts.items → ss ≡ s.settlements.items → ts ≡ s.trades.items
+    → (map due_in (map settlement_row_of ss) ≡ map (due_of (tax_status_by terms)) (filter is_done (map trade_row_of ts))) ↔ Holds condition.Settlement (tables_in_sheets s)
+settlements_hold s terms ss ts f w h e g =
+    let t : Tables = tables_in_sheets s in
+    let law = settlements_by_rows t (keys_of s f).trades (keys_of s f).settlements w in
+    let left : map due_in (map settlement_row_of ss) ≡ map due_in t.settlements = ap (λ xs. map due_in (map settlement_row_of xs)) e in
+    let rows : List TradeRow = filter is_done (map trade_row_of s.trades.items) in
+    let right : map (due_of (tax_status_by terms)) (filter is_done (map trade_row_of ts)) ≡ map (due_of (tax_status_at t)) rows =
+    ap (λ xs. map (due_of (tax_status_by terms)) (filter is_done (map trade_row_of xs))) g
+    ∙ map-same (due_of (tax_status_by terms)) (due_of (tax_status_at t)) rows
+    (All-of rows (λ r i. record { trade = r.id; due_day = day_of r.stamp + settlement_days; amount = amount_at (same_tax_statuses s terms h r.account i) r })) in
+    ((λ k. law.1 (sym left ∙ k ∙ right)), (λ k. left ∙ law.0 k ∙ sym right))
+
+pub cash_holds : (s : Sheets) (terms : BTreeMap ℕ AccountTerms) (cs : List cash.CashRow) (ts : List trade.TradeRow) → HasForm s → HasStatuses s
+    → HasTerms terms s.accounts.items → cs ≡ s.cash.items → ts ≡ s.trades.items
+    → (map moved_in (map cash_row_of cs) ≡ map (moved_by (tax_status_by terms)) (filter is_done_in_cash (map trade_row_of ts))) ↔ Holds condition.Cash (tables_in_sheets s)
+cash_holds s terms cs ts f w h e g =
+    let t : Tables = tables_in_sheets s in
+    let law = cash_by_rows t (keys_of s f).trades (keys_of s f).cash w in
+    let left : map moved_in (map cash_row_of cs) ≡ map moved_in t.cash = ap (λ xs. map moved_in (map cash_row_of xs)) e in
+    let rows : List TradeRow = filter is_done_in_cash (map trade_row_of s.trades.items) in
+    let right : map (moved_by (tax_status_by terms)) (filter is_done_in_cash (map trade_row_of ts)) ≡ map (moved_by (tax_status_at t)) rows =
+    ap (λ xs. map (moved_by (tax_status_by terms)) (filter is_done_in_cash (map trade_row_of xs))) g
+    ∙ map-same (moved_by (tax_status_by terms)) (moved_by (tax_status_at t)) rows
+    (All-of rows (λ r i. record { trade = r.id; stamp = r.stamp; amount = amount_at (same_tax_statuses s terms h r.account i) r })) in
+    ((λ k. law.1 (sym left ∙ k ∙ right)), (λ k. left ∙ law.0 k ∙ sym right))
+
+pub requests_hold : (s : Sheets) (terms : BTreeMap ℕ AccountTerms) (qs : List request.RequestRow) (ts : List trade.TradeRow) → HasForm s → HasStatuses s
+    → HasTerms terms s.accounts.items → qs ≡ s.requests.items → ts ≡ s.trades.items
+    → (map (λ q. q) (map request_row_of qs) ≡ map (request_of (broker_by terms)) (filter is_waiting (map trade_row_of ts))) ↔ Holds condition.Requests (tables_in_sheets s)
+requests_hold s terms qs ts f w h e g =
+    let t : Tables = tables_in_sheets s in
+    let law = requests_by_rows t (keys_of s f).trades w in
+    let left : map (λ q. q) (map request_row_of qs) ≡ t.requests = map-id (map request_row_of qs) ∙ ap (map request_row_of) e in
+    let rows : List TradeRow = filter is_waiting (map trade_row_of s.trades.items) in
+    let right : map (request_of (broker_by terms)) (filter is_waiting (map trade_row_of ts)) ≡ map (request_of (broker_at t)) rows =
+    ap (λ xs. map (request_of (broker_by terms)) (filter is_waiting (map trade_row_of xs))) g
+    ∙ map-same (request_of (broker_by terms)) (request_of (broker_at t)) rows
+    (All-of rows (λ r i. record { trade = r.id; kind = r.kind; symbol = r.symbol; qty = r.qty; bid = r.bid; broker = same_brokers s terms h r.account i })) in
+    ((λ k. law.1 (sym left ∙ k ∙ right)), (λ k. left ∙ law.0 k ∙ sym right))

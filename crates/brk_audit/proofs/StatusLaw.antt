@@ -1,0 +1,83 @@
+-- The condition on statuses is one on the history alone, walked beside the trades.
+use Rattle.std.proofs.Common.{◌≡◌, ℕ, ◌+◌, ◌==◌, Bool, true, false, cond, List, [], ◌∷◌, ◌++◌, refl, sym, ◌∙◌, ap, take, drop, length, arith}
+use Rattle.std.specs.Prelude.{◌&&◌, flat_map}
+use Rattle.std.specs.List.{AllByRecursion, list_all, prefix_len}
+use Rattle.std.proofs.lemmas.Bool.{eqb-true}
+use Rattle.std.proofs.lemmas.Bool.Decides.{nat_tests}
+use Rattle.std.proofs.lemmas.List.{drop_at, take_at}
+use Rattle.brk_money.specs.declared.fault.Condition.TheVariants as condition
+use Rattle.brk_model.specs.Lists.{all_distinct}
+use Rattle.brk_model.specs.Tables.{Tables, TradeRow, HistoryRow}
+use Rattle.brk_model.specs.Joins.{history_in}
+use Rattle.brk_model.specs.Keys.{number, key_before, history_key, trade_key}
+use Rattle.brk_model.specs.Form.{has_form, history_form}
+use Rattle.brk_model.specs.Ways.{completion_stamps, has_status_rows, trade_status}
+use Rattle.brk_model.specs.Audit.{Holds}
+use Rattle.brk_trade_laws.proofs.Same.{All-map}
+use Rattle.brk_trade_laws.proofs.LotReading.{all_pass}
+use Rattle.brk_adoption_laws.proofs.Climbs.{Climbs, list_all_true}
+use Rattle.brk_adoption_laws.proofs.Members.{All-flat_map}
+use Rattle.brk_adoption_laws.proofs.Parts.{FormParts, KeyParts, form_parts, key_parts}
+use Rattle.brk_adoption_laws.proofs.AdoptedHistory.{joined}
+use Rattle.brk_audit.specs.Statuses.{all_go, goes_way, stamps_of}
+use Rattle.brk_audit.proofs.Statuses.{status_by_rows}
+
+-- ---- a trade's rows are the first of those that are left
+
+whole_prefix : {X : Type 0} (p : X → Bool) (xs ys : List X) → AllByRecursion (λ x. p x ≡ true) xs → AllByRecursion (λ y. p y ≡ false) ys → prefix_len p (xs ++ ys) ≡ length xs
+whole_prefix p [] [] h k = refl
+whole_prefix p [] (y ∷ ys) h k = ap (λ b. cond b (1 + prefix_len p ys) 0) k.0
+whole_prefix p (x ∷ xs) ys h k =
+    let e = whole_prefix p xs ys h.1 k in ap (λ b. cond b (1 + prefix_len p (xs ++ ys)) 0) h.0 ∙ (let f : 1 + prefix_len p (xs ++ ys) ≡ length (x ∷ xs) = omega arith in f)
+
+later_id : (m n : ℕ) → key_before (number m ∷ []) (number n ∷ []) ≡ true → (n == m) ≡ false
+later_id m n h = grind (arith, nat_tests)
+
+runs : Tables → List TradeRow → List HistoryRow
+runs t rs = flat_map (λ r. history_in t r.id) rs
+
+others : (t : Tables) (r : TradeRow) (rs : List TradeRow) → AllByRecursion (λ u. key_before (trade_key r) (trade_key u) ≡ true) rs
+    → AllByRecursion (λ h. (h.trade == r.id) ≡ false) (runs t rs)
+unfolding runs
+others t r rs c =
+    All-flat_map (λ h. (h.trade == r.id) ≡ false) (λ u. history_in t u.id) rs
+    (All-map rs (λ u b. All-map (history_in t u.id) (λ h e. ap (λ n. n == r.id) (eqb-true h.trade u.id e) ∙ later_id r.id u.id b) (all_pass (λ h. h.trade == u.id) t.history)) c)
+
+go_each : (t : Tables) (rs : List TradeRow) → Climbs trade_key rs → all_go rs (runs t rs) ≡ list_all (λ r. goes_way r (history_in t r.id)) rs
+unfolding runs
+go_each t [] c = refl
+go_each t (r ∷ rs) c =
+    let own : List HistoryRow = history_in t r.id in
+    let n : prefix_len (λ h. h.trade == r.id) (own ++ runs t rs) ≡ length own =
+    whole_prefix (λ h. h.trade == r.id) own (runs t rs) (all_pass (λ h. h.trade == r.id) t.history) (others t r rs c.0) in
+    (λ i. goes_way r (take (n i) (own ++ runs t rs)) && all_go rs (drop (n i) (own ++ runs t rs)))
+    ∙ (λ i. goes_way r (take_at own (runs t rs) (length own) refl i) && all_go rs (drop_at own (runs t rs) (length own) refl i))
+    ∙ ap (λ b. goes_way r own && b) (go_each t rs c.1)
+
+-- ---- together
+
+same_tests : (a b : Bool) → (a ≡ true → b ≡ true) → (b ≡ true → a ≡ true) → a ≡ b
+same_tests true b f g = sym (f refl)
+same_tests false true f g = g refl
+same_tests false false f g = refl
+
+same_all : (t : Tables) (rs : List TradeRow) → Climbs history_key t.history → list_all (trade_status t) rs ≡ list_all (λ r. goes_way r (history_in t r.id)) rs
+same_all t [] c = refl
+same_all t (r ∷ rs) c =
+    let e : trade_status t r ≡ goes_way r (history_in t r.id) =
+    same_tests (trade_status t r) (goes_way r (history_in t r.id)) (status_by_rows t r c).0 (status_by_rows t r c).1 in
+    λ i. e i && same_all t rs c i
+
+pub statuses_by_rows : (t : Tables) → has_form t ≡ true → has_status_rows t ≡ all_go t.trades t.history && all_distinct (stamps_of t.history)
+unfolding has_status_rows runs
+statuses_by_rows t f =
+    let p : FormParts t = form_parts t f in
+    let k : KeyParts t = key_parts t p.keys in
+    let j : runs t t.trades ≡ t.history = joined t k.history k.trades (list_all_true (history_form t) t.history p.history) in
+    ap (λ b. b && all_distinct (completion_stamps t)) (same_all t t.trades k.history ∙ sym (go_each t t.trades k.trades) ∙ ap (all_go t.trades) j)
+
+pub status_holds : (t : Tables) (go apart : Bool) → has_form t ≡ true → go ≡ all_go t.trades t.history → apart ≡ all_distinct (stamps_of t.history)
+    → (go && apart ≡ true → Holds condition.Status t) × (Holds condition.Status t → go && apart ≡ true)
+unfolding Holds
+status_holds t go apart f g a =
+    let e : has_status_rows t ≡ go && apart = statuses_by_rows t f ∙ (λ i. sym g i && sym a i) in ((λ h. e ∙ h), (λ h. sym e ∙ h))

@@ -1,0 +1,179 @@
+-- What tallies over rows in types say of the summaries of the tables that these rows are.
+use Rattle.std.proofs.Common.{◌≡◌, ℕ, ◌==◌, Bool, true, false, List, refl, sym, ◌∙◌, ap, subst, map, ℤ, pos}
+use Rattle.std.specs.Prelude.{◌&&◌, find, is_some, nat_abs, nat_le, bytes_eq}
+use Rattle.std.specs.Borrow.{Bor}
+use Rattle.std.specs.BTreeMap.{BTreeMap}
+use Rattle.std.specs.Cmp.{unsigned_ties}
+use Rattle.std.specs.Cmp.Lexicographic.{slice_cmp}
+use Rattle.std.specs.List.{AllByRecursion, filter_map}
+use Rattle.std.specs.Ordering.{is_eq, nat_cmp, ordering_then}
+use Rattle.std.specs.declared.cmp.Ordering.{Ordering}
+use Rattle.std.specs.declared.cmp.Ordering.TheVariants.{Less, Equal, Greater}
+use Rattle.std.proofs.lemmas.Bool.{and_parts, eqb-true}
+use Rattle.std.proofs.lemmas.Map.Text.{is_eq-slice_cmp}
+use Rattle.std.proofs.lemmas.Slice.Eq.{bytes_eq-Decides}
+use Rattle.brk_money.specs.Kinds.{side_of}
+use Rattle.brk_money.specs.Spelling.{Text}
+use Rattle.brk_model.specs.Form.{has_account, has_form, has_security, is_id, is_price, is_qty, is_stamp, price_form, summary_form, trade_form}
+use Rattle.brk_model.specs.Limits.{greatest_amount, greatest_charge, greatest_summary}
+use Rattle.brk_model.specs.Lists.{is_zero, total_by}
+use Rattle.brk_model.specs.Shares.{signed}
+use Rattle.brk_model.specs.Tables.{Tables, SummaryRow, TradeRow}
+use Rattle.brk_changes.specs.Rows.{summary_row_of, trade_row_of}
+use Rattle.brk_changes.specs.Sheets.{tables_in_sheets}
+use Rattle.brk_changes.specs.declared.sheets.Sheets.{Sheets}
+use Rattle.brk_trade_laws.proofs.Same.{All-map, All-mapped, All-of, filter-none, filter-same, find-none}
+use Rattle.brk_adoption_laws.proofs.Climbs.{list_all_true, of_all}
+use Rattle.brk_adoption_laws.proofs.Members.{FoundIn, found_in}
+use Rattle.brk_adoption_laws.proofs.Parts.{form_parts, parts10, parts3}
+use Rattle.brk_audit.specs.Completed.{is_done}
+use Rattle.brk_audit.specs.PositionSums.{SummariesHold, TellsShares, plain, position_cmp, shares_posting, sum_of_position, told_of_position, told_posting}
+use Rattle.brk_audit.specs.Tally.{at_key, total_at}
+use Rattle.brk_audit.specs.declared.tally.Posting.{Posting}
+use Rattle.brk_audit.proofs.Checked.{rows_back, rows_hold}
+use Rattle.brk_audit.proofs.Postings.{All-filter_map, total_mapped, total_posted}
+
+abbrev pub Place : Type 0
+Place = ℕ × Bor (List ℕ)
+
+-- ---- keys
+
+plain_cmp : ℕ × Text → ℕ × Text → Ordering
+plain_cmp x y = ordering_then (nat_cmp x.0 y.0) (slice_cmp nat_cmp x.1 y.1)
+
+both_equal : (o p : Ordering) → is_eq (ordering_then o p) ≡ is_eq o && is_eq p
+both_equal Less p = refl
+both_equal Equal p = refl
+both_equal Greater p = refl
+
+is_same_place : (m n : ℕ) (s u : Text) → is_eq (ordering_then (nat_cmp m n) (slice_cmp nat_cmp s u)) ≡ (m == n) && bytes_eq s u
+is_same_place m n s u = both_equal (nat_cmp m n) (slice_cmp nat_cmp s u) ∙ (λ i. sym (unsigned_ties m n) i && is_eq-slice_cmp s u i)
+
+-- ---- sums
+
+sum_there : (s : Sheets) (ps : List (Posting Place)) (q : Place) → map plain ps ≡ filter_map (λ r. shares_posting (trade_row_of r)) s.trades.items
+    → total_at position_cmp ps q ≡ sum_of_position (tables_in_sheets s) q.0 q.1.now
+unfolding plain_cmp
+sum_there s ps q e =
+    let at : ℕ × Text = (q.0, q.1.now) in
+    let f : TradeRow → ℤ = λ r. signed (side_of r.kind) r.qty in
+    sym (total_mapped (λ p. p.amount) (λ p. is_eq (plain_cmp p.key at)) plain ps)
+    ∙ ap (λ xs. total_at plain_cmp xs at) e
+    ∙ total_posted plain_cmp (λ r. is_done (trade_row_of r)) (λ r. ((trade_row_of r).account, (trade_row_of r).symbol)) (λ r. f (trade_row_of r)) s.trades.items at
+    ∙ ap (total_by (λ r. f (trade_row_of r))) (filter-same (λ r. is_done (trade_row_of r) && is_eq (plain_cmp ((trade_row_of r).account, (trade_row_of r).symbol) at))
+    (λ r. is_done (trade_row_of r) && (((trade_row_of r).account == q.0) && bytes_eq (trade_row_of r).symbol q.1.now)) s.trades.items
+    (All-of s.trades.items (λ r i. is_done (trade_row_of r) && is_same_place (trade_row_of r).account q.0 (trade_row_of r).symbol q.1.now i)))
+    ∙ sym (total_mapped f (λ r. is_done r && ((r.account == q.0) && bytes_eq r.symbol q.1.now)) trade_row_of s.trades.items)
+
+told_there : (s : Sheets) (cs : List (Posting Place)) (q : Place) → map plain cs ≡ map (λ r. told_posting (summary_row_of r)) s.summaries.items
+    → total_at position_cmp cs q ≡ told_of_position (tables_in_sheets s).summaries q.0 q.1.now
+unfolding plain_cmp
+told_there s cs q e =
+    let at : ℕ × Text = (q.0, q.1.now) in
+    sym (total_mapped (λ p. p.amount) (λ p. is_eq (plain_cmp p.key at)) plain cs)
+    ∙ ap (λ xs. total_at plain_cmp xs at) e
+    ∙ total_mapped (λ p. p.amount) (λ p. is_eq (plain_cmp p.key at)) (λ r. told_posting (summary_row_of r)) s.summaries.items
+    ∙ ap (total_by (λ r. (summary_row_of r).qty)) (filter-same (λ r. is_eq (plain_cmp ((summary_row_of r).account, (summary_row_of r).symbol) at))
+    (λ r. ((summary_row_of r).account == q.0) && bytes_eq (summary_row_of r).symbol q.1.now) s.summaries.items
+    (All-of s.summaries.items (λ r. is_same_place (summary_row_of r).account q.0 (summary_row_of r).symbol q.1.now)))
+    ∙ sym (total_mapped (λ h. h.qty) (λ h. (h.account == q.0) && bytes_eq h.symbol q.1.now) summary_row_of s.summaries.items)
+
+-- ---- known positions
+
+abbrev IsKnown : Tables → ℕ → Text → Type 0
+IsKnown t account symbol = (has_account t account ≡ true) × (has_security t symbol ≡ true)
+
+trade_known : (t : Tables) (r : TradeRow) → trade_form t r ≡ true → IsKnown t r.account r.symbol
+trade_known t r e =
+    let k = parts10 (is_id r.id) (is_stamp t r.stamp) (has_security t r.symbol) (is_qty r.qty) (is_price r.bid) (has_account t r.account) (price_form t r)
+    (nat_le r.charge greatest_charge) (nat_le r.commission greatest_amount) (nat_le r.tax greatest_amount) e in
+    (k.5, k.2)
+
+summary_known : (t : Tables) (h : SummaryRow) → summary_form t h ≡ true → IsKnown t h.account h.symbol
+summary_known t h e = let p = parts3 (has_account t h.account) (has_security t h.symbol) (nat_le (nat_abs h.qty) greatest_summary) e in (p.0, p.1)
+
+postings_known : (s : Sheets) (ps : List (Posting Place)) → has_form (tables_in_sheets s) ≡ true → map plain ps ≡ filter_map (λ r. shares_posting (trade_row_of r)) s.trades.items
+    → AllByRecursion (λ p. IsKnown (tables_in_sheets s) p.key.0 p.key.1.now) ps
+postings_known s ps f e =
+    let t : Tables = tables_in_sheets s in
+    rows_back (λ p. IsKnown t p.key.0 p.key.1.now) (λ p. IsKnown t p.key.0 p.key.1) plain ps (λ p h. h)
+    (subst (AllByRecursion (λ p. IsKnown t p.key.0 p.key.1)) (sym e)
+    (All-filter_map (λ p. IsKnown t p.key.0 p.key.1) (λ r. is_done (trade_row_of r))
+    (λ r. record { key = ((trade_row_of r).account, (trade_row_of r).symbol); amount = signed (side_of (trade_row_of r).kind) (trade_row_of r).qty }) s.trades.items
+    (rows_back (λ r. IsKnown t (trade_row_of r).account (trade_row_of r).symbol) (λ r. trade_form t r ≡ true) trade_row_of s.trades.items (λ r. trade_known t (trade_row_of r))
+    (list_all_true (trade_form t) t.trades (form_parts t f).trades))))
+
+claims_known : (s : Sheets) (cs : List (Posting Place)) → has_form (tables_in_sheets s) ≡ true → map plain cs ≡ map (λ r. told_posting (summary_row_of r)) s.summaries.items
+    → AllByRecursion (λ p. IsKnown (tables_in_sheets s) p.key.0 p.key.1.now) cs
+claims_known s cs f e =
+    let t : Tables = tables_in_sheets s in
+    rows_back (λ p. IsKnown t p.key.0 p.key.1.now) (λ p. IsKnown t p.key.0 p.key.1) plain cs (λ p h. h)
+    (subst (AllByRecursion (λ p. IsKnown t p.key.0 p.key.1)) (sym e)
+    (All-mapped (λ p. IsKnown t p.key.0 p.key.1) (λ r. told_posting (summary_row_of r)) s.summaries.items
+    (rows_back (λ r. IsKnown t (summary_row_of r).account (summary_row_of r).symbol) (λ r. summary_form t r ≡ true) summary_row_of s.summaries.items (λ r. summary_known t (summary_row_of r))
+    (list_all_true (summary_form t) t.summaries (form_parts t f).summaries))))
+
+-- ---- where tallies agree
+
+-- two tallies, of what trades leave and of what summaries tell
+pub record Tallied (s : Sheets) (sums told : BTreeMap Place ℤ) (ps cs : List (Posting Place)) : Type 0 where
+  pub posted : map plain ps ≡ filter_map (λ r. shares_posting (trade_row_of r)) s.trades.items
+  pub claimed : map plain cs ≡ map (λ r. told_posting (summary_row_of r)) s.summaries.items
+  pub of_trades : (q : Place) → at_key position_cmp sums q ≡ total_at position_cmp ps q
+  pub of_rows : (q : Place) → at_key position_cmp told q ≡ total_at position_cmp cs q
+
+abbrev pub Agree : BTreeMap Place ℤ → BTreeMap Place ℤ → Posting Place → Type 0
+Agree sums told p = at_key position_cmp sums p.key ≡ at_key position_cmp told p.key
+
+-- what a list of postings does not name has no sum
+none_there : (ps : List (Posting Place)) (q : Place) → is_some (find (λ p. is_eq (position_cmp p.key q)) ps) ≡ false → total_at position_cmp ps q ≡ pos 0
+unfolding total_by
+none_there ps q e = ap (total_by (λ p. p.amount)) (filter-none (λ p. is_eq (position_cmp p.key q)) ps (find-none (λ p. is_eq (position_cmp p.key q)) ps e))
+
+module _ (s : Sheets) (sums told : BTreeMap Place ℤ) (ps cs : List (Posting Place)) (w : Tallied s sums told ps cs) where
+  abbrev t : Tables
+  t = tables_in_sheets s
+
+  sum_is : (q : Place) → at_key position_cmp sums q ≡ sum_of_position t q.0 q.1.now
+  sum_is q = w.of_trades q ∙ sum_there s ps q w.posted
+
+  told_is : (q : Place) → at_key position_cmp told q ≡ told_of_position t.summaries q.0 q.1.now
+  told_is q = w.of_rows q ∙ told_there s cs q w.claimed
+
+  -- they agree at a position that one of some postings names
+  named : (xs : List (Posting Place)) (q : Place) → AllByRecursion (Agree sums told) xs → is_some (find (λ p. is_eq (position_cmp p.key q)) xs) ≡ true
+      → sum_of_position t q.0 q.1.now ≡ told_of_position t.summaries q.0 q.1.now
+  named xs q a e =
+      let f : FoundIn (Posting Place) (λ p. is_eq (position_cmp p.key q)) xs = found_in (λ p. is_eq (position_cmp p.key q)) xs e in
+      let k = and_parts (f.item.key.0 == q.0) (bytes_eq f.item.key.1.now q.1.now) (sym (is_same_place f.item.key.0 q.0 f.item.key.1.now q.1.now) ∙ f.passes) in
+      let m : f.item.key.0 ≡ q.0 = eqb-true f.item.key.0 q.0 k.0 in
+      let n : f.item.key.1.now ≡ q.1.now = (bytes_eq-Decides f.item.key.1.now q.1.now).0 k.1 in
+      let g : sum_of_position t f.item.key.0 f.item.key.1.now ≡ told_of_position t.summaries f.item.key.0 f.item.key.1.now =
+      sym (sum_is f.item.key) ∙ of_all (Agree sums told) xs f.item a f.there ∙ told_is f.item.key in
+      (λ i. sum_of_position t (sym m i) (sym n i)) ∙ g ∙ (λ i. told_of_position t.summaries (m i) (n i))
+
+  agreed : AllByRecursion (Agree sums told) ps → AllByRecursion (Agree sums told) cs → (q : Place) → sum_of_position t q.0 q.1.now ≡ told_of_position t.summaries q.0 q.1.now
+  agreed a b q = by_tests (is_some (find (λ p. is_eq (position_cmp p.key q)) ps)) (is_some (find (λ p. is_eq (position_cmp p.key q)) cs)) refl refl
+    where
+      by_tests : (b c : Bool) → is_some (find (λ p. is_eq (position_cmp p.key q)) ps) ≡ b → is_some (find (λ p. is_eq (position_cmp p.key q)) cs) ≡ c
+          → sum_of_position t q.0 q.1.now ≡ told_of_position t.summaries q.0 q.1.now
+      by_tests true d e f = named ps q a e
+      by_tests false true e f = named cs q b f
+      by_tests false false e f = sym (sum_there s ps q w.posted) ∙ none_there ps q e ∙ sym (none_there cs q f) ∙ told_there s cs q w.claimed
+
+  pub they_hold : AllByRecursion (Agree sums told) ps → AllByRecursion (Agree sums told) cs → AllByRecursion (λ r. is_zero r.qty ≡ false) s.summaries.items → SummariesHold t
+  they_hold a b n = record {
+    sums = λ account symbol i j. agreed a b (account, record { ref_ptr = (0, 0); now = symbol });
+    told = rows_hold (λ r. is_zero r.qty ≡ false) TellsShares summary_row_of s.summaries.items (λ r h. h) n;
+  }
+
+  known_agree : (xs : List (Posting Place)) → SummariesHold t → AllByRecursion (λ p. IsKnown t p.key.0 p.key.1.now) xs → AllByRecursion (Agree sums told) xs
+  known_agree xs h k = All-map xs (λ p e. sum_is p.key ∙ h.sums p.key.0 p.key.1.now e.0 e.1 ∙ sym (told_is p.key)) k
+
+  pub they_agree : has_form t ≡ true → SummariesHold t
+      → AllByRecursion (Agree sums told) ps × AllByRecursion (Agree sums told) cs × AllByRecursion (λ r. is_zero r.qty ≡ false) s.summaries.items
+  they_agree f h = (
+    known_agree ps h (postings_known s ps f w.posted),
+    known_agree cs h (claims_known s cs f w.claimed),
+    rows_back (λ r. is_zero r.qty ≡ false) TellsShares summary_row_of s.summaries.items (λ r e. e) h.told,
+  )

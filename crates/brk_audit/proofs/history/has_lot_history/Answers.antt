@@ -1,0 +1,54 @@
+use Rattle.std.proofs.Common.{◌≡◌, List, filter, map, sym, ap, ◌∙◌, subst, Bor}
+use Rattle.std.specs.Prelude.{◌↔◌, IsSome}
+use Rattle.std.specs.List.{AllByRecursion, IsDistinct}
+use Rattle.std.specs.List.Sorted.{IsPermutation}
+use Rattle.std.proofs.lemmas.List.Sorted.{IsPermutation-map}
+use Rattle.brk_changes.specs.Rows.{lot_change_of}
+use Rattle.brk_changes.specs.Sheets.{tables_in_sheets}
+use Rattle.brk_changes.specs.declared.trade_row.TradeRow as trade
+use Rattle.brk_lots.specs.Chains.{plain_row}
+use Rattle.brk_lots.specs.declared.replay.DealTouch.{DealTouch}
+use Rattle.brk_model.specs.Audit.{Holds, expected}
+use Rattle.brk_model.specs.Keys.{holding_history_key, row_before}
+use Rattle.brk_model.specs.Tables.{HoldingHistoryRow, Tables, TradeRow}
+use Rattle.brk_sound_laws.proofs.FormBack.{All-unmapped}
+use Rattle.brk_trade_laws.proofs.Order.{Sorted}
+use Rattle.brk_audit.specs.Completed.{done_rows}
+use Rattle.brk_audit.specs.Positions.{place_before}
+use Rattle.brk_audit.proofs.LotRows.{all_moved, clash_apart, clash_moved, priced_rows, rows_moved}
+use Rattle.brk_audit.proofs.MoveRows.{moves_told}
+use Rattle.brk_audit.proofs.Orders.{sorted_by, sorted_map}
+use Rattle.brk_audit.proofs.Places.{key_order, place_order}
+use Rattle.brk_audit.proofs.Stretches.{seen}
+use Rattle.brk_audit.proofs.history.has_lot_history.Goals as goal
+
+pub moves_made-requires-clause-apart : goal.moves_made-requires-clause-apart
+moves_made-requires-clause-apart c =
+    let t : Tables = tables_in_sheets c.args.sheets.now in
+    let p : IsPermutation (done_rows t) (map seen c.deref-2.result.now) = rows_moved c.args.sheets.now.trades.items c.deref.result.now t c.in_ok-done.done.items c.deref-2.result.now c.deref.ensures.value c.deref-2.ensures.value (λ i. t.trades) c.in_ok-done.ensures.done in
+    clash_moved (done_rows t) (map seen c.deref-2.result.now) p (clash_apart t c.requires.form c.requires.status)
+
+pub moves_made-requires-clause-priced : goal.moves_made-requires-clause-priced
+moves_made-requires-clause-priced c =
+    let t : Tables = tables_in_sheets c.args.sheets.now in
+    let p : IsPermutation (done_rows t) (map seen c.deref-2.result.now) = rows_moved c.args.sheets.now.trades.items c.deref.result.now t c.in_ok-done.done.items c.deref-2.result.now c.deref.ensures.value c.deref-2.ensures.value (λ i. t.trades) c.in_ok-done.ensures.done in
+    All-unmapped (λ r. IsSome r.price) seen c.deref-2.result.now (all_moved (λ r. IsSome r.price) (done_rows t) (map seen c.deref-2.result.now) p (priced_rows t c.requires.form c.requires.status))
+
+pub returns-clause-told : goal.returns-clause-told
+unfolding Holds
+returns-clause-told c =
+    let t : Tables = tables_in_sheets c.args.sheets.now in
+    let done = c.deref-2.result.now in
+    let rows = c.in_ok-rows.rows.items in
+    let sorted = c.sort_by_lot.new.rows.items in
+    let p : IsPermutation (done_rows t) (map seen done) = rows_moved c.args.sheets.now.trades.items c.deref.result.now t c.in_ok-done.done.items done c.deref.ensures.value c.deref-2.ensures.value (λ i. t.trades) c.in_ok-done.ensures.done in
+    let o : Sorted place_before (map seen done) = sorted_map place_before seen done (subst (Sorted (λ r s. place_before (seen r) (seen s))) (sym c.deref-2.ensures.value) (sorted_by (λ r s. place_before (seen r) (seen s)) (place_order seen) c.in_ok-done.done.items c.in_ok-done.ensures.order)) in
+    let q : IsPermutation (map plain_row rows) (map plain_row sorted) = IsPermutation-map plain_row rows sorted c.sort_by_lot.ensures.permutation in
+    let a : Sorted (row_before holding_history_key) (map plain_row sorted) =
+    sorted_map (row_before holding_history_key) plain_row sorted (sorted_by (λ x y. row_before holding_history_key (plain_row x) (plain_row y)) (key_order (λ x. holding_history_key (plain_row x))) sorted c.sort_by_lot.ensures.order) in
+    let k : (map plain_row sorted ≡ t.holding_history) ↔ (t.holding_history ≡ (expected t).holding_history) = moves_told t c.requires.form c.requires.status (map seen done) (map plain_row rows) (map plain_row sorted) p o c.in_ok-rows.ensures.made q a in
+    let left : map plain_row c.deref-3.result.now ≡ map plain_row sorted = ap (map plain_row) c.deref-3.ensures.value in
+    let there : map lot_change_of c.deref-4.result.now ≡ t.holding_history = ap (map lot_change_of) c.deref-4.ensures.value in (
+      (λ e. k.0 (sym left ∙ c.are_same_rows.ensures.0 e ∙ there)),
+      (λ e. c.are_same_rows.ensures.1 (left ∙ k.1 e ∙ sym there)),
+    )

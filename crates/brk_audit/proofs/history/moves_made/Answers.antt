@@ -1,0 +1,54 @@
+use Rattle.std.proofs.Common.{arith, ◌≡◌, ◌+◌, ◌-◌, ◌<◌, ◌++◌, ℕ, zero, suc, true, false, List, [], ◌∷◌, length, drop, get_or, take, map, refl, sym, ap, ◌∙◌, subst, append-nil, Bor}
+use Rattle.std.specs.List.{AllByRecursion, IsDistinct}
+use Rattle.std.specs.List.Sorted.{IsSortedBy}
+use Rattle.std.proofs.lemmas.List.{append_assoc, drop-drop, drop_all, drop_more, length-drop, length-take, map-append, take-append-drop, take_rest}
+use Rattle.brk_lots.specs.Chains.{plain_row, replay_rows}
+use Rattle.brk_changes.specs.declared.trade_row.TradeRow as code
+use Rattle.brk_lots.specs.declared.lot.Lot.{Lot}
+use Rattle.brk_lots.specs.Deals.{AreDeals}
+use Rattle.brk_lots.specs.Position.{IsPosition}
+use Rattle.brk_lots.specs.Lots.{plain_lot, shares_of}
+use Rattle.brk_lots.proofs.Ends.{walk_of}
+use Rattle.brk_lots.proofs.Plain.{lots_walk}
+use Rattle.brk_model.specs.Shares.{Deal, lots, replay}
+use Rattle.brk_model.specs.Tables.{HoldingHistoryRow, TradeRow}
+use Rattle.brk_trade_laws.proofs.Order.{Sorted}
+use Rattle.brk_adoption_laws.proofs.Members.{map-map}
+use Rattle.brk_audit.specs.Positions.{Trace, moves, row_deal, untouched}
+use Rattle.brk_audit.proofs.Stretches.{Stretch, deals_are, seen, stretch}
+use Rattle.brk_audit.proofs.history.moves_made.Goals as goal
+
+pub add_moves-requires-clause-deals : goal.add_moves-requires-clause-deals
+add_moves-requires-clause-deals c =
+    let done = c.args.done.now in
+    let b = c.loop-begin.begin in
+    let n = c.position_len.result in
+    let x = c.index-done-begin.result in
+    let k : Stretch done b n x = stretch done b n x c.loop-begin-test.true c.index-done-begin.is c.requires.order c.requires.apart c.position_len.ensures.same c.position_len.ensures.next in
+    subst AreDeals (sym (deals_are (take (b + 1 + n - b) (drop b done)) _ k.run)) k.deals
+
+pub loop-begin-preserved : goal.loop-begin-preserved
+loop-begin-preserved c =
+    let done = c.args.done.now in
+    let b = c.loop-begin.begin in
+    let n = c.position_len.result in
+    let x = c.index-done-begin.result in
+    let k : Stretch done b n x = stretch done b n x c.loop-begin-test.true c.index-done-begin.is c.requires.order c.requires.apart c.position_len.ensures.same c.position_len.ensures.next in
+    let run : List TradeRow = seen x ∷ map seen (take n (drop (b + 1) done)) in
+    let held : List HoldingHistoryRow = map plain_row c.loop-begin.rows.items in
+    let made : List HoldingHistoryRow = replay_rows (map row_deal run) [] in
+    let added : map plain_row c.add_moves.new.rows.items ≡ held ++ made =
+    c.in_ok-add_moves.ensures.added ∙ ap (λ (ds : List Deal). held ++ replay_rows ds []) (deals_are (take (b + 1 + n - b) (drop b done)) run k.run) in
+    record {
+      within = omega (arith, c.position_len.ensures.within, length-take (length done - (b + 1)) (drop (b + 1) done), length-drop (b + 1) done, c.loop-begin-test.true);
+      left = λ more l.
+          let next : Trace (map seen (drop b done)) (made ++ more) = subst (λ (rs : List TradeRow). Trace rs (made ++ more)) (sym k.is) (moves (seen x) (map seen (take n (drop (b + 1) done))) (map seen (drop (b + 1 + n) done)) more k.same k.behind l) in
+          subst (Trace (map seen done)) (sym (append_assoc held made more) ∙ ap (λ (ms : List HoldingHistoryRow). ms ++ more) (sym added)) (c.loop-begin.invariant.left (made ++ more) next);
+    }
+
+pub returns-clause-made : goal.returns-clause-made
+returns-clause-made c =
+    let done = c.args.done.now in
+    let held : List HoldingHistoryRow = map plain_row c.loop-begin.rows.items in
+    let none : map seen (drop c.loop-begin.begin done) ≡ [] = ap (map seen) (drop_all c.loop-begin.begin done c.loop-begin-test.false) in
+    subst (Trace (map seen done)) (append-nil held) (c.loop-begin.invariant.left [] (subst (λ (rs : List TradeRow). Trace rs []) (sym none) untouched))

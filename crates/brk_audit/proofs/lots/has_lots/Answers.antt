@@ -1,0 +1,50 @@
+use Rattle.std.proofs.Common.{rules, ◌≡◌, List, filter, map, sym, ap, ◌∙◌, subst, Bor}
+use Rattle.std.specs.Prelude.{IsSome}
+use Rattle.std.specs.List.Sorted.{IsNonDecreasingBy, IsPermutation}
+use Rattle.std.proofs.lemmas.List.Sorted.{IsNonDecreasingBy-from_sort_by_key, IsPermutation-map}
+use Rattle.brk_changes.specs.Rows.{holding_row_of, trade_row_of}
+use Rattle.brk_changes.specs.Sheets.{tables_in_sheets}
+use Rattle.brk_changes.specs.declared.holding_row.HoldingRow as code
+use Rattle.brk_changes.specs.declared.trade_row.TradeRow as trade
+use Rattle.brk_model.specs.Audit.{Holds, expected}
+use Rattle.brk_model.specs.Tables.{HoldingRow, Tables, TradeRow}
+use Rattle.brk_sound_laws.proofs.FormBack.{All-unmapped}
+use Rattle.brk_trade_laws.proofs.Order.{Sorted}
+use Rattle.brk_audit.specs.Completed.{done_rows, is_done}
+use Rattle.brk_audit.specs.Positions.{place_before}
+use Rattle.brk_audit.proofs.LotRows.{all_moved, ascends_map, clash_apart, clash_moved, lots_told, priced_rows, rows_moved}
+use Rattle.brk_audit.proofs.Orders.{Ascends, ascends, sorted_by, sorted_map}
+use Rattle.brk_audit.proofs.Places.{place_order}
+use Rattle.brk_audit.proofs.Stretches.{seen}
+use Rattle.brk_audit.proofs.lots.has_lots.Goals as goal
+
+pub lots_left-requires-clause-apart : goal.lots_left-requires-clause-apart
+lots_left-requires-clause-apart c =
+    let t : Tables = tables_in_sheets c.args.sheets.now in
+    let p : IsPermutation (done_rows t) (map seen c.deref-2.result.now) = rows_moved c.args.sheets.now.trades.items c.deref.result.now t c.in_ok-done.done.items c.deref-2.result.now c.deref.ensures.value c.deref-2.ensures.value (λ i. map trade_row_of c.args.sheets.now.trades.items) c.in_ok-done.ensures.done in
+    clash_moved (done_rows t) (map seen c.deref-2.result.now) p (clash_apart t c.requires.form c.requires.status)
+
+pub lots_left-requires-clause-priced : goal.lots_left-requires-clause-priced
+lots_left-requires-clause-priced c =
+    let t : Tables = tables_in_sheets c.args.sheets.now in
+    let p : IsPermutation (done_rows t) (map seen c.deref-2.result.now) = rows_moved c.args.sheets.now.trades.items c.deref.result.now t c.in_ok-done.done.items c.deref-2.result.now c.deref.ensures.value c.deref-2.ensures.value (λ i. map trade_row_of c.args.sheets.now.trades.items) c.in_ok-done.ensures.done in
+    All-unmapped (λ r. IsSome r.price) seen c.deref-2.result.now (all_moved (λ r. IsSome r.price) (done_rows t) (map seen c.deref-2.result.now) p (priced_rows t c.requires.form c.requires.status))
+
+pub returns-clause-told : goal.returns-clause-told
+unfolding Holds
+returns-clause-told c =
+    let t : Tables = tables_in_sheets c.args.sheets.now in
+    let done = c.deref-2.result.now in
+    let held = c.in_ok-held.held.items in
+    let sorted = c.sort_unstable_by_key.new.self.items in
+    let p : IsPermutation (done_rows t) (map seen done) = rows_moved c.args.sheets.now.trades.items c.deref.result.now t c.in_ok-done.done.items done c.deref.ensures.value c.deref-2.ensures.value (λ i. map trade_row_of c.args.sheets.now.trades.items) c.in_ok-done.ensures.done in
+    let o : Sorted place_before (map seen done) = sorted_map place_before seen done (subst (Sorted (λ r s. place_before (seen r) (seen s))) (sym c.deref-2.ensures.value) (sorted_by (λ r s. place_before (seen r) (seen s)) (place_order seen) c.in_ok-done.done.items c.in_ok-done.ensures.order)) in
+    let q : IsPermutation (map holding_row_of held) (map holding_row_of sorted) = IsPermutation-map holding_row_of held sorted c.sort_unstable_by_key.ensures.permutation in
+    let n : IsNonDecreasingBy (λ (h : code.HoldingRow). h.trade) sorted = IsNonDecreasingBy-from_sort_by_key (λ (h : code.HoldingRow). h.trade) _ c.sort_unstable_by_key.ensures.sorted (λ a r b k. search rules) in
+    let a : Ascends (λ h. h.trade) (map holding_row_of sorted) = ascends_map (λ (h : HoldingRow). h.trade) holding_row_of sorted (ascends (λ (h : code.HoldingRow). h.trade) sorted n) in
+    let k : map holding_row_of sorted ≡ (expected t).holdings = lots_told t c.requires.form c.requires.status (map seen done) (map holding_row_of held) (map holding_row_of sorted) p o c.in_ok-held.ensures.left q a in
+    let left : map holding_row_of c.deref-3.result.now ≡ map holding_row_of sorted = ap (map holding_row_of) c.deref-3.ensures.value in
+    let there : map holding_row_of c.deref-4.result.now ≡ t.holdings = ap (map holding_row_of) c.deref-4.ensures.value in (
+      (λ e. sym there ∙ sym (c.are_same_rows.ensures.0 e) ∙ left ∙ k),
+      (λ e. c.are_same_rows.ensures.1 (left ∙ k ∙ sym e ∙ sym there)),
+    )

@@ -1,0 +1,59 @@
+use Rattle.std.proofs.Common.{arith, ◌≡◌, ◌+◌, ◌-◌, ◌<◌, ◌++◌, ℕ, zero, suc, true, false, List, [], ◌∷◌, length, drop, get_or, take, map, refl, sym, ap, ◌∙◌, subst, append-nil, Bor}
+use Rattle.std.specs.List.{AllByRecursion, IsDistinct}
+use Rattle.std.specs.List.Sorted.{IsSortedBy}
+use Rattle.std.proofs.lemmas.List.{append_assoc, drop-drop, drop_all, drop_more, length-drop, length-take, map-append, take-append-drop, take_rest}
+use Rattle.brk_changes.specs.Rows.{holding_row_of, trade_row_of}
+use Rattle.brk_changes.specs.declared.trade_row.TradeRow as code
+use Rattle.brk_lots.specs.declared.lot.Lot.{Lot}
+use Rattle.brk_lots.specs.Deals.{AreDeals}
+use Rattle.brk_lots.specs.Position.{IsPosition}
+use Rattle.brk_lots.specs.Lots.{plain_lot, shares_of}
+use Rattle.brk_lots.proofs.Ends.{walk_of}
+use Rattle.brk_lots.proofs.Plain.{lots_walk}
+use Rattle.brk_model.specs.Shares.{Deal, lots, replay}
+use Rattle.brk_model.specs.Tables.{HoldingRow, TradeRow}
+use Rattle.brk_trade_laws.proofs.Order.{Sorted}
+use Rattle.brk_adoption_laws.proofs.Members.{map-map}
+use Rattle.brk_audit.specs.Positions.{Heads, Leave, clash, lot_row, nothing, place_before, position, row_deal, run_rows, same_place}
+use Rattle.brk_audit.proofs.Stretches.{Stretch, deals_are, seen, stretch}
+use Rattle.brk_audit.proofs.lots.lots_left.Goals as goal
+
+-- the lots that they leave
+rows_are : (r : TradeRow) (run : List TradeRow) (deals : List Deal) (ls now : List Lot) → now ≡ ls → IsPosition ls → shares_of ls ≡ replay deals → deals ≡ map row_deal run → map (lot_row r) (map plain_lot now) ≡ run_rows r run
+rows_are r run deals ls now v p e f =
+    ap (λ (ms : List Lot). map (lot_row r) (map plain_lot ms)) v ∙ ap (map (lot_row r)) (sym (lots_walk ls (walk_of ls p)) ∙ ap lots e ∙ ap (λ (ds : List Deal). lots (replay ds)) f)
+
+pub position_after-requires-clause-deals : goal.position_after-requires-clause-deals
+position_after-requires-clause-deals c =
+    let done = c.args.done.now in
+    let b = c.loop-begin.begin in
+    let n = c.position_len.result in
+    let x = c.index-done-begin.result in
+    let k : Stretch done b n x = stretch done b n x c.loop-begin-test.true c.index-done-begin.is c.requires.order c.requires.apart c.position_len.ensures.same c.position_len.ensures.next in
+    subst AreDeals (sym (deals_are (take (b + 1 + n - b) (drop b done)) _ k.run)) k.deals
+
+pub loop-begin-preserved : goal.loop-begin-preserved
+loop-begin-preserved c =
+    let done = c.args.done.now in
+    let b = c.loop-begin.begin in
+    let n = c.position_len.result in
+    let x = c.index-done-begin.result in
+    let k : Stretch done b n x = stretch done b n x c.loop-begin-test.true c.index-done-begin.is c.requires.order c.requires.apart c.position_len.ensures.same c.position_len.ensures.next in
+    let run : List TradeRow = seen x ∷ map seen (take n (drop (b + 1) done)) in
+    let held : List HoldingRow = map holding_row_of c.loop-begin.held.items in
+    let rows : map (lot_row (seen x)) (map plain_lot c.lots.result.now) ≡ run_rows (seen x) run =
+    rows_are (seen x) run _ c.in_ok-position.position c.lots.result.now c.lots.ensures.lots c.lots.ensures.lawful c.in_ok-position.ensures.shares (deals_are (take (b + 1 + n - b) (drop b done)) run k.run) in
+    let added : map holding_row_of c.add_lots.new.held.items ≡ held ++ run_rows (seen x) run = c.in_ok-add_lots.ensures.added ∙ ap (λ (ms : List HoldingRow). held ++ ms) rows in
+    record {
+      within = omega (arith, c.position_len.ensures.within, length-take (length done - (b + 1)) (drop (b + 1) done), length-drop (b + 1) done, c.loop-begin-test.true);
+      left = λ more l.
+          let next : Leave (map seen (drop b done)) (run_rows (seen x) run ++ more) = subst (λ (rs : List TradeRow). Leave rs (run_rows (seen x) run ++ more)) (sym k.is) (position (seen x) (map seen (take n (drop (b + 1) done))) (map seen (drop (b + 1 + n) done)) more k.same k.behind l) in
+          subst (Leave (map seen done)) (sym (append_assoc held (run_rows (seen x) run) more) ∙ ap (λ (ms : List HoldingRow). ms ++ more) (sym added)) (c.loop-begin.invariant.left (run_rows (seen x) run ++ more) next);
+    }
+
+pub returns-clause-left : goal.returns-clause-left
+returns-clause-left c =
+    let done = c.args.done.now in
+    let held : List HoldingRow = map holding_row_of c.loop-begin.held.items in
+    let none : map seen (drop c.loop-begin.begin done) ≡ [] = ap (map seen) (drop_all c.loop-begin.begin done c.loop-begin-test.false) in
+    subst (Leave (map seen done)) (append-nil held) (c.loop-begin.invariant.left [] (subst (λ (rs : List TradeRow). Leave rs []) (sym none) nothing))

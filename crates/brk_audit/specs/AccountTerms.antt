@@ -1,0 +1,21 @@
+-- The terms of accounts, by a map from their ids.
+use Rattle.std.specs.Prelude.{ℕ}
+use Rattle.std.specs.Option.{option_map_or}
+use Rattle.std.specs.Ordering.{nat_cmp}
+use Rattle.std.specs.BTreeMap.{BTreeMap, get}
+use Rattle.brk_money.specs.declared.tax_status.TaxStatus.{TaxStatus}
+use Rattle.brk_money.specs.declared.tax_status.TaxStatus.TheVariants.{Untaxed}
+use Rattle.brk_ref.specs.declared.account.AccountRow.{AccountRow}
+use Rattle.brk_audit.specs.declared.account_terms.AccountTerms.{AccountTerms}
+
+-- the terms of a row
+abbrev pub terms_of : AccountRow → AccountTerms
+terms_of a = record { broker = a.account.broker; tax_status = a.account.tax_status }
+
+-- the broker that a map has of an account, 0 where it has none
+abbrev pub broker_by : BTreeMap ℕ AccountTerms → ℕ → ℕ
+broker_by terms account = option_map_or (λ x. x.broker) (get nat_cmp terms account) 0
+
+-- the tax status that it has
+abbrev pub tax_status_by : BTreeMap ℕ AccountTerms → ℕ → TaxStatus
+tax_status_by terms account = option_map_or (λ x. x.tax_status) (get nat_cmp terms account) Untaxed

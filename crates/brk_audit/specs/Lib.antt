@@ -1,0 +1,9 @@
+pub mod AccountTerms
+pub mod Completed
+pub mod Conditions
+pub mod PositionSums
+pub mod Positions
+pub mod Settling
+pub mod Statuses
+pub mod Sums
+pub mod Tally

@@ -1,0 +1,63 @@
+//! What trades are told of their accounts.
+
+ghost use Rattle.std.specs.Prelude.{◌≡◌, ℕ, ◌==◌, IfErr, IfOk, find, option_map};
+ghost use Rattle.std.specs.Ordering.{nat_cmp};
+ghost use Rattle.std.specs.BTreeMap.{get};
+ghost use Rattle.brk_money.specs.declared.fault.Fault.TheVariants.{Memory};
+ghost use Rattle.brk_audit.specs.AccountTerms.{broker_by, tax_status_by, terms_of};
+
+use brk_money::{Fault, Id, TaxStatus};
+use brk_ref::AccountRow;
+use std::alloc::Global;
+use std::collections::BTreeMap;
+
+/// An account's broker and tax status.
+#[derive(Clone, Copy)]
+pub(crate) struct AccountTerms {
+    pub broker: Id,
+    pub tax_status: TaxStatus,
+}
+
+/// The terms of each account by its id.
+pub(crate) fn terms_of_accounts(
+    alloc: Global,
+    accounts: &[AccountRow],
+) -> Result<BTreeMap<u64, AccountTerms>, Fault>
+    ensures terms { IfOk result (λ terms. (id : ℕ) → get nat_cmp terms id ≡ option_map terms_of (find (λ a. a.account.id == id) accounts.now)) }
+    ensures fault { IfErr result (λ fault. fault ≡ Memory) }
+{
+    let mut terms = BTreeMap::new(alloc);
+    for row in accounts {
+        let id = row.account.id.get();
+        let found = AccountTerms {
+            broker: row.account.broker,
+            tax_status: row.account.tax_status,
+        };
+        if !terms.contains_key(&id) {
+            terms.insert(id, found)?;
+        }
+    }
+    Ok(terms)
+}
+
+/// The broker of an account; 0 where there is no such account.
+pub(crate) fn broker_of(terms: &BTreeMap<u64, AccountTerms>, account: Id) -> u64
+    ensures { result ≡ broker_by terms.now account }
+{
+    let id = account.get();
+    match terms.get(&id) {
+        Some(found) => found.broker.get(),
+        None => 0,
+    }
+}
+
+/// The tax status of an account; untaxed where there is no such account.
+pub(crate) fn tax_status_of(terms: &BTreeMap<u64, AccountTerms>, account: Id) -> TaxStatus
+    ensures { result ≡ tax_status_by terms.now account }
+{
+    let id = account.get();
+    match terms.get(&id) {
+        Some(found) => found.tax_status,
+        None => TaxStatus::Untaxed,
+    }
+}

@@ -1,0 +1,66 @@
+//! What completed trades settle for.
+
+ghost use Rattle.std.specs.Prelude.{◌≡◌, ◌*◌, ◌≤◌, pos, ◌-ℤ◌, if◌then◌else◌, unwrap_or};
+ghost use Rattle.brk_model.specs.Base.{takes_tax_off};
+ghost use Rattle.brk_model.specs.Derived.{proceeds};
+ghost use Rattle.brk_model.specs.Limits.{greatest_amount, greatest_price, greatest_qty};
+ghost use Rattle.brk_changes.specs.Rows.{trade_row_of};
+ghost use Rattle.brk_audit.specs.Settling.{amount_at};
+
+use brk_changes::TradeRow;
+use brk_money::{Amount, Price, Side, TaxStatus};
+
+// The part of the tax that is taken off what is settled.
+fn withheld(tax: Amount, tax_status: TaxStatus) -> u64
+    ensures value { result ≡ (if takes_tax_off tax_status then tax else 0) }
+    ensures high { result ≤ greatest_amount }
+{
+    match tax_status {
+        TaxStatus::Withheld => tax.get(),
+        TaxStatus::Untaxed | TaxStatus::Reported => 0,
+    }
+}
+
+// The price in cents, 0 where there is none.
+fn cents_of(price: Option<Price>) -> u64
+    ensures value { result ≡ unwrap_or price 0 }
+    ensures high { result ≤ greatest_price }
+{
+    match price {
+        Some(price) => u64::from(price.get()),
+        None => 0,
+    }
+}
+
+// What so many shares are worth at a price.
+fn worth(qty: u32, cents: u64) -> u64
+    requires qty { qty ≤ greatest_qty }
+    requires cents { cents ≤ greatest_price }
+    ensures value { result ≡ qty * cents }
+    ensures high { result ≤ greatest_qty * greatest_price }
+{
+    u64::from(qty) * cents
+}
+
+// What shares of this value bring, less what is taken off; a purchase costs them.
+fn settled(side: Side, value: u64, taken_off: u64) -> i64
+    requires value { value ≤ greatest_qty * greatest_price }
+    requires taken_off { taken_off ≤ 3 * greatest_amount }
+    ensures { result ≡ proceeds side value -ℤ pos taken_off }
+{
+    let brought = match side {
+        Side::Buy => -(value as i64),
+        Side::Sell => value as i64,
+    };
+    brought - taken_off as i64
+}
+
+/// What a completed trade settles for in cents, at its account's tax status.
+pub(crate) fn amount_of_row(trade: &TradeRow, tax_status: TaxStatus) -> i64
+    ensures { result ≡ amount_at tax_status (trade_row_of trade.now) }
+{
+    let value = worth(trade.qty.get(), cents_of(trade.price));
+    let charge = u64::from(trade.charge.get());
+    let taken_off = charge + trade.commission.get() + withheld(trade.tax, tax_status);
+    settled(trade.kind.side(), value, taken_off)
+}

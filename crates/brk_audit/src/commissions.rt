@@ -1,0 +1,83 @@
+ghost use Rattle.std.specs.Prelude.{◌≡◌, ◌↔◌, IfErr, IfOk, IsTrue, pos};
+ghost use Rattle.std.specs.BTreeMap.{BTreeMap};
+ghost use Rattle.std.specs.List.{AllByRecursion, filter_map};
+ghost use Rattle.std.specs.Ordering.{nat_cmp};
+ghost use Rattle.brk_money.specs.declared.fault.Condition.TheVariants.{Commission};
+ghost use Rattle.brk_money.specs.declared.fault.Fault.TheVariants.{Memory};
+ghost use Rattle.brk_model.specs.Audit.{Holds};
+ghost use Rattle.brk_changes.specs.Rows.{trade_row_of};
+ghost use Rattle.brk_changes.specs.Sheets.{tables_in_sheets};
+ghost use Rattle.brk_audit.specs.AccountTerms.{broker_by};
+ghost use Rattle.brk_audit.specs.Conditions.{HasForm, HasStatuses};
+ghost use Rattle.brk_audit.specs.Sums.{commission_posting};
+ghost use Rattle.brk_audit.specs.Tally.{at_key};
+
+use crate::account_terms::{AccountTerms, broker_of, terms_of_accounts};
+use crate::status::is_completed;
+use crate::tally::{Posting, sum_at, tally};
+use brk_changes::{Sheets, TradeRow};
+use brk_money::Fault;
+use brk_ref::BrokerRow;
+use std::alloc::Global;
+use std::collections::BTreeMap;
+
+// What a trade adds to the commissions of a broker.
+fn posting_of(terms: &BTreeMap<u64, AccountTerms>, trade: &TradeRow) -> Option<Posting<u64>>
+    ensures { result ≡ commission_posting (broker_by terms.now) (trade_row_of trade.now) }
+{
+    if !is_completed(trade.status) {
+        return None;
+    }
+    let key = broker_of(terms, trade.account);
+    let amount = trade.commission.get() as i64;
+    Some(Posting { key, amount })
+}
+
+// The postings of all trades.
+fn postings_of(
+    alloc: Global,
+    terms: &BTreeMap<u64, AccountTerms>,
+    trades: &[TradeRow],
+) -> Result<Vec<Posting<u64>>, Fault>
+    ensures all { IfOk result (λ all. all.items ≡ filter_map (λ r. commission_posting (broker_by terms.now) (trade_row_of r)) trades.now) }
+    ensures fault { IfErr result (λ fault. fault ≡ Memory) }
+{
+    let all = trades
+        .iter()
+        .filter_map(|trade| posting_of(terms, trade))
+        .collect(alloc)?;
+    Ok(all)
+}
+
+// Whether a broker's row has the sum of its commissions.
+fn is_sum(sums: &BTreeMap<u64, i128>, row: &BrokerRow) -> bool
+    ensures { IsTrue result ↔ (pos row.now.commissions ≡ at_key nat_cmp sums.now row.now.broker.id) }
+{
+    let sum = sum_at(sums, row.broker.id.get());
+    i128::from(row.commissions) == sum
+}
+
+// The same of each row.
+fn are_sums(sums: &BTreeMap<u64, i128>, rows: &[BrokerRow]) -> bool
+    ensures { IsTrue result ↔ AllByRecursion (λ row. pos row.commissions ≡ at_key nat_cmp sums.now row.broker.id) rows.now }
+{
+    for row in rows {
+        if !is_sum(sums, row) {
+            return false;
+        }
+    }
+    true
+}
+
+/// Whether each broker's commissions are the sum over the completed trades of the broker's accounts.
+pub(crate) fn has_commissions(alloc: Global, sheets: &Sheets) -> Result<bool, Fault>
+    requires form { HasForm sheets.now }
+    requires status { HasStatuses sheets.now }
+    ensures told { IfOk result (λ holds. IsTrue holds ↔ Holds Commission (tables_in_sheets sheets.now)) }
+    ensures fault { IfErr result (λ fault. fault ≡ Memory) }
+{
+    let terms = terms_of_accounts(alloc, &sheets.accounts)?;
+    let postings = postings_of(alloc, &terms, &sheets.trades)?;
+    let sums = tally(alloc, &postings)?;
+    Ok(are_sums(&sums, &sheets.brokers))
+}

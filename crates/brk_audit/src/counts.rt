@@ -1,0 +1,82 @@
+ghost use Rattle.std.specs.Prelude.{◌≡◌, ◌↔◌, IfErr, IfOk, IsTrue};
+ghost use Rattle.std.specs.BTreeMap.{BTreeMap};
+ghost use Rattle.std.specs.List.{AllByRecursion, filter_map};
+ghost use Rattle.std.specs.Ordering.{nat_cmp};
+ghost use Rattle.brk_money.specs.declared.fault.Condition.TheVariants.{Count};
+ghost use Rattle.brk_money.specs.declared.fault.Fault.TheVariants.{Memory};
+ghost use Rattle.brk_model.specs.Audit.{Holds};
+ghost use Rattle.brk_changes.specs.Rows.{trade_row_of};
+ghost use Rattle.brk_changes.specs.Sheets.{tables_in_sheets};
+ghost use Rattle.brk_audit.specs.AccountTerms.{broker_by};
+ghost use Rattle.brk_audit.specs.Conditions.{HasForm, HasStatuses};
+ghost use Rattle.brk_audit.specs.Sums.{count_posting};
+ghost use Rattle.brk_audit.specs.Tally.{at_key};
+
+use crate::account_terms::{AccountTerms, broker_of, terms_of_accounts};
+use crate::status::is_completed;
+use crate::tally::{Posting, sum_at, tally};
+use brk_changes::{Sheets, TradeRow};
+use brk_money::Fault;
+use brk_ref::BrokerRow;
+use std::alloc::Global;
+use std::collections::BTreeMap;
+
+// What a trade adds to the count of a broker.
+fn posting_of(terms: &BTreeMap<u64, AccountTerms>, trade: &TradeRow) -> Option<Posting<u64>>
+    ensures { result ≡ count_posting (broker_by terms.now) (trade_row_of trade.now) }
+{
+    if !is_completed(trade.status) {
+        return None;
+    }
+    let key = broker_of(terms, trade.account);
+    Some(Posting { key, amount: 1 })
+}
+
+// The postings of all trades.
+fn postings_of(
+    alloc: Global,
+    terms: &BTreeMap<u64, AccountTerms>,
+    trades: &[TradeRow],
+) -> Result<Vec<Posting<u64>>, Fault>
+    ensures all { IfOk result (λ all. all.items ≡ filter_map (λ r. count_posting (broker_by terms.now) (trade_row_of r)) trades.now) }
+    ensures fault { IfErr result (λ fault. fault ≡ Memory) }
+{
+    let all = trades
+        .iter()
+        .filter_map(|trade| posting_of(terms, trade))
+        .collect(alloc)?;
+    Ok(all)
+}
+
+// Whether a broker's row has its count.
+fn is_counted(sums: &BTreeMap<u64, i128>, row: &BrokerRow) -> bool
+    ensures { IsTrue result ↔ (row.now.trades ≡ at_key nat_cmp sums.now row.now.broker.id) }
+{
+    let count = sum_at(sums, row.broker.id.get());
+    i128::from(row.trades) == count
+}
+
+// The same of each row.
+fn are_counted(sums: &BTreeMap<u64, i128>, rows: &[BrokerRow]) -> bool
+    ensures { IsTrue result ↔ AllByRecursion (λ row. row.trades ≡ at_key nat_cmp sums.now row.broker.id) rows.now }
+{
+    for row in rows {
+        if !is_counted(sums, row) {
+            return false;
+        }
+    }
+    true
+}
+
+/// Whether each broker's number of trades is that of the completed trades of the broker's accounts.
+pub(crate) fn has_counts(alloc: Global, sheets: &Sheets) -> Result<bool, Fault>
+    requires form { HasForm sheets.now }
+    requires status { HasStatuses sheets.now }
+    ensures told { IfOk result (λ holds. IsTrue holds ↔ Holds Count (tables_in_sheets sheets.now)) }
+    ensures fault { IfErr result (λ fault. fault ≡ Memory) }
+{
+    let terms = terms_of_accounts(alloc, &sheets.accounts)?;
+    let postings = postings_of(alloc, &terms, &sheets.trades)?;
+    let sums = tally(alloc, &postings)?;
+    Ok(are_counted(&sums, &sheets.brokers))
+}

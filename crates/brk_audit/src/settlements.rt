@@ -1,0 +1,92 @@
+ghost use Rattle.std.specs.Prelude.{◌≡◌, ◌↔◌, ◌+◌, map, filter, IfErr, IfOk, IsTrue, MatchOption};
+ghost use Rattle.brk_money.specs.Moments as moments;
+ghost use Rattle.brk_money.specs.declared.fault.Condition.TheVariants.{Settlement};
+ghost use Rattle.brk_money.specs.declared.fault.Fault.TheVariants.{Memory};
+ghost use Rattle.brk_model.specs.Audit.{Holds};
+ghost use Rattle.brk_model.specs.Derived.{settlement_days};
+ghost use Rattle.brk_audit.specs.AccountTerms.{tax_status_by};
+ghost use Rattle.brk_audit.specs.Completed.{is_done};
+ghost use Rattle.brk_audit.specs.Conditions.{HasForm, HasStatuses};
+ghost use Rattle.brk_audit.specs.Settling.{Differs, Leaves, amount_at, due_in, due_of};
+ghost use Rattle.brk_changes.specs.Rows.{settlement_row_of, trade_row_of};
+ghost use Rattle.brk_changes.specs.Sheets.{tables_in_sheets};
+
+use crate::account_terms::{AccountTerms, tax_status_of, terms_of_accounts};
+use crate::amounts::amount_of_row;
+use crate::status::is_completed;
+use brk_changes::{SettlementRow, Sheets, TradeRow};
+use brk_money::{Day, Fault, Stamp, TaxStatus, day_of};
+use std::alloc::Global;
+use std::collections::BTreeMap;
+
+// How many days after its completion a trade settles.
+const SETTLEMENT_DAYS: i32 = 2;
+
+// Whether what is completed at a stamp settles on a day.
+fn is_due(day: Day, stamp: Stamp) -> bool
+    ensures { IsTrue result ↔ (day ≡ moments.day_of stamp + settlement_days) }
+{
+    day.get() == day_of(stamp).get() + SETTLEMENT_DAYS
+}
+
+// Whether a settlement has the numbers of a completed trade at its account's tax status.
+fn is_settlement_of(settlement: &SettlementRow, trade: &TradeRow, tax_status: TaxStatus) -> bool
+    ensures { IsTrue result ↔ ((settlement.now.trade ≡ trade.now.id) × (settlement.now.due_day ≡ moments.day_of trade.now.stamp + settlement_days)
+        × (settlement.now.amount ≡ amount_at tax_status (trade_row_of trade.now))) }
+{
+    settlement.trade == trade.id
+        && is_due(settlement.due_day, trade.stamp)
+        && settlement.amount.get() == amount_of_row(trade, tax_status)
+}
+
+// The settlements that are left after a trade, whose own is the first of these if it is completed; none where it isn't.
+fn left_after<'a>(
+    settlements: &'a [SettlementRow],
+    trade: &TradeRow,
+    terms: &BTreeMap<u64, AccountTerms>,
+) -> Option<&'a [SettlementRow]>
+    ensures { MatchOption result
+        (Differs due_in (due_of (tax_status_by terms.now)) is_done (map settlement_row_of settlements.now) (trade_row_of trade.now))
+        (λ others. Leaves due_in (due_of (tax_status_by terms.now)) is_done (map settlement_row_of settlements.now) (trade_row_of trade.now) (map settlement_row_of others.now)) }
+{
+    if !is_completed(trade.status) {
+        return Some(settlements);
+    }
+    let [first, others @ ..] = settlements else {
+        return None;
+    };
+    if is_settlement_of(first, trade, tax_status_of(terms, trade.account)) {
+        Some(others)
+    } else {
+        None
+    }
+}
+
+// Whether the settlements are those of the completed trades, both in the order of the trades.
+fn are_settled(
+    settlements: &[SettlementRow],
+    trades: &[TradeRow],
+    terms: &BTreeMap<u64, AccountTerms>,
+) -> bool
+    ensures { IsTrue result ↔ (map due_in (map settlement_row_of settlements.now) ≡ map (due_of (tax_status_by terms.now)) (filter is_done (map trade_row_of trades.now))) }
+{
+    let mut rest = settlements;
+    for trade in trades {
+        let Some(others) = left_after(rest, trade, terms) else {
+            return false;
+        };
+        rest = others;
+    }
+    rest.is_empty()
+}
+
+/// Whether the settlements are those of the completed trades.
+pub(crate) fn has_settlements(alloc: Global, sheets: &Sheets) -> Result<bool, Fault>
+    requires form { HasForm sheets.now }
+    requires status { HasStatuses sheets.now }
+    ensures told { IfOk result (λ holds. IsTrue holds ↔ Holds Settlement (tables_in_sheets sheets.now)) }
+    ensures fault { IfErr result (λ fault. fault ≡ Memory) }
+{
+    let terms = terms_of_accounts(alloc, &sheets.accounts)?;
+    Ok(are_settled(&sheets.settlements, &sheets.trades, &terms))
+}

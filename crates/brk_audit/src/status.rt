@@ -1,0 +1,158 @@
+ghost use Rattle.std.specs.Prelude.{◌≡◌, ◌↔◌, ◌==◌, ℕ, ◌&&◌, ◌||◌, not, map, nat_lt, IfErr, IfOk, IsTrue, OnOk};
+ghost use Rattle.std.specs.List.{prefix_len};
+ghost use Rattle.std.specs.Ordering.{nat_cmp};
+ghost use Rattle.std.specs.BTreeSet.{contains};
+ghost use Rattle.brk_money.specs.Kinds.{same_status};
+ghost use Rattle.brk_money.specs.declared.fault.Condition.TheVariants as condition;
+ghost use Rattle.brk_money.specs.declared.fault.Fault.TheVariants.{Memory};
+ghost use Rattle.brk_money.specs.declared.status.Status.TheVariants.{Completed};
+ghost use Rattle.brk_model.specs.Audit.{Holds};
+ghost use Rattle.brk_model.specs.Lists.{all_distinct};
+ghost use Rattle.brk_audit.specs.Conditions.{HasForm};
+ghost use Rattle.brk_audit.specs.Statuses as spec;
+ghost use Rattle.brk_changes.specs.Rows.{history_row_of, trade_row_of};
+ghost use Rattle.brk_changes.specs.Sheets.{tables_in_sheets};
+
+use brk_changes::{HistoryRow, Sheets, TradeRow};
+use brk_money::{Fault, Id, Stamp, Status};
+use std::alloc::Global;
+use std::collections::BTreeSet;
+
+/// Whether a trade of this status is completed.
+pub(crate) fn is_completed(status: Status) -> bool
+    ensures { result ≡ same_status status Completed }
+{
+    status == Status::Completed
+}
+
+// The milliseconds of a stamp.
+fn millis(stamp: Stamp) -> u64
+    ensures { result ≡ stamp }
+{
+    stamp.get().unsigned_abs()
+}
+
+// Whether a stamp is before another.
+fn is_before(first: Stamp, second: Stamp) -> bool
+    ensures { result ≡ nat_lt first second }
+{
+    first.get() < second.get()
+}
+
+// Whether a trade can start with a status.
+fn is_first(status: Status) -> bool
+    ensures { result ≡ spec.is_first status }
+{
+    matches!(status, Status::Submitted | Status::Pending)
+}
+
+// Whether a trade's row has the status of a row of its history, and its stamp.
+fn is_at(trade: &TradeRow, row: HistoryRow) -> bool
+    ensures { result ≡ spec.is_at (trade_row_of trade.now) (history_row_of row) }
+{
+    trade.status == row.status && trade.stamp == row.stamp
+}
+
+// Whether two rows, by the codes of their statuses, are a way.
+fn goes_two(trade: &TradeRow, a: HistoryRow, b: HistoryRow) -> bool
+    ensures { result ≡ spec.goes_two (trade_row_of trade.now) (history_row_of a) (history_row_of b) }
+{
+    match (a.status, b.status) {
+        (Status::Completed, Status::Submitted) | (Status::Canceled, Status::Pending) => {
+            is_before(b.stamp, a.stamp) && is_at(trade, a)
+        }
+        (Status::Pending, Status::Submitted) => { is_before(a.stamp, b.stamp) && is_at(trade, b) }
+        _ => false,
+    }
+}
+
+// Whether three rows, by the codes of their statuses, are a way.
+fn goes_three(trade: &TradeRow, a: HistoryRow, b: HistoryRow, c: HistoryRow) -> bool
+    ensures { result ≡ spec.goes_three (trade_row_of trade.now) (history_row_of a) (history_row_of b) (history_row_of c) }
+{
+    match (a.status, b.status, c.status) {
+        (Status::Completed, Status::Pending, Status::Submitted) => {
+            is_before(b.stamp, c.stamp) && is_before(c.stamp, a.stamp) && is_at(trade, a)
+        }
+        _ => false,
+    }
+}
+
+// Whether a trade's rows of the history, by the codes of their statuses, are a way.
+fn goes_way(trade: &TradeRow, rows: &[HistoryRow]) -> bool
+    ensures { result ≡ spec.goes_way (trade_row_of trade.now) (map history_row_of rows.now) }
+{
+    match rows {
+        [only] => is_first(only.status) && is_at(trade, *only),
+        [a, b] => goes_two(trade, *a, *b),
+        [a, b, c] => goes_three(trade, *a, *b, *c),
+        _ => false,
+    }
+}
+
+// How many rows from the first on are those of a trade.
+fn leading_rows(history: &[HistoryRow], trade: Id) -> usize
+    ensures { result ≡ prefix_len (λ h. h.trade == trade) history.now }
+{
+    for (i, row) in history.iter().enumerate() {
+        if row.trade != trade {
+            return i;
+        }
+    }
+    history.len()
+}
+
+// Whether each trade's rows are a way, where they stand one trade after another.
+fn all_go(trades: &[TradeRow], history: &[HistoryRow]) -> bool
+    ensures { result ≡ spec.all_go (map trade_row_of trades.now) (map history_row_of history.now) }
+{
+    let mut rest = history;
+    for trade in trades {
+        let (rows, others) = rest.split_at(leading_rows(rest, trade.id));
+        if !goes_way(trade, rows) {
+            return false;
+        }
+        rest = others;
+    }
+    true
+}
+
+// Whether no completion was seen at the stamp of this one, if the row tells one; it is seen from then on.
+fn is_new(seen: &mut BTreeSet<u64>, row: &HistoryRow) -> Result<bool, Fault>
+    ensures new { IfOk result (λ new. new ≡ not (same_status row.now.status Completed && contains nat_cmp seen.old row.now.stamp)) }
+    ensures seen { OnOk result ((q : ℕ) → contains nat_cmp seen.new q ≡ contains nat_cmp seen.old q || (same_status row.now.status Completed && (row.now.stamp == q))) }
+    ensures fault { IfErr result (λ fault. fault ≡ Memory) }
+{
+    if !is_completed(row.status) {
+        return Ok(true);
+    }
+    let new = seen.insert(millis(row.stamp))?;
+    Ok(new)
+}
+
+// Whether no two rows tell a completion at one stamp.
+fn are_apart(alloc: Global, history: &[HistoryRow]) -> Result<bool, Fault>
+    ensures told { IfOk result (λ apart. apart ≡ all_distinct (spec.stamps_of (map history_row_of history.now))) }
+    ensures fault { IfErr result (λ fault. fault ≡ Memory) }
+{
+    let mut seen = BTreeSet::new(alloc);
+    for row in history {
+        if !is_new(&mut seen, row)? {
+            return Ok(false);
+        }
+    }
+    Ok(true)
+}
+
+/// Whether each trade's statuses are a way that a trade can go, and no two trades complete at one stamp.
+pub(crate) fn has_statuses(alloc: Global, sheets: &Sheets) -> Result<bool, Fault>
+    requires form { HasForm sheets.now }
+    ensures told { IfOk result (λ holds. IsTrue holds ↔ Holds condition.Status (tables_in_sheets sheets.now)) }
+    ensures fault { IfErr result (λ fault. fault ≡ Memory) }
+{
+    if !all_go(&sheets.trades, &sheets.history) {
+        return Ok(false);
+    }
+    let apart = are_apart(alloc, &sheets.history)?;
+    Ok(apart)
+}

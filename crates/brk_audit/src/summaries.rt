@@ -1,0 +1,137 @@
+ghost use Rattle.std.specs.Prelude.{◌≡◌, ◌↔◌, false, IfErr, IfOk, IsTrue, map, option_map};
+ghost use Rattle.std.specs.List.{AllByRecursion, filter_map};
+ghost use Rattle.brk_money.specs.declared.fault.Condition.TheVariants.{Summary};
+ghost use Rattle.brk_money.specs.declared.fault.Fault.TheVariants.{Memory};
+ghost use Rattle.brk_model.specs.Audit.{Holds};
+ghost use Rattle.brk_model.specs.Lists.{is_zero};
+ghost use Rattle.brk_model.specs.Shares.{signed};
+ghost use Rattle.brk_changes.specs.Rows.{summary_row_of, trade_row_of};
+ghost use Rattle.brk_changes.specs.Sheets.{tables_in_sheets};
+ghost use Rattle.brk_audit.specs.Conditions.{HasForm, HasStatuses};
+ghost use Rattle.brk_audit.specs.PositionSums.{TellsShares, plain, shares_posting, told_posting};
+ghost use Rattle.brk_audit.specs.Tally.{at_key};
+
+use crate::status::is_completed;
+use crate::tally::{Posting, sum_at, tally};
+use brk_changes::{Sheets, SummaryRow, TradeRow};
+use brk_money::{Fault, Side};
+use std::alloc::Global;
+use std::collections::BTreeMap;
+
+// The shares that a trade adds: a sale takes them away.
+fn shares_of(side: Side, qty: u32) -> i64
+    ensures { result ≡ signed side qty }
+{
+    match side {
+        Side::Buy => i64::from(qty),
+        Side::Sell => -i64::from(qty),
+    }
+}
+
+// What a completed trade adds to its position.
+fn posting_of(trade: &TradeRow) -> Option<Posting<(u64, &str)>>
+    ensures { option_map plain result ≡ shares_posting (trade_row_of trade.now) }
+{
+    if !is_completed(trade.status) {
+        return None;
+    }
+    let key = (trade.account.get(), trade.symbol.as_str());
+    let amount = shares_of(trade.kind.side(), trade.qty.get());
+    Some(Posting { key, amount })
+}
+
+// What the trades add to their positions.
+fn postings_of<'a>(
+    alloc: Global,
+    trades: &'a [TradeRow],
+) -> Result<Vec<Posting<(u64, &'a str)>>, Fault>
+    ensures all { IfOk result (λ all. map plain all.items ≡ filter_map (λ r. shares_posting (trade_row_of r)) trades.now) }
+    ensures fault { IfErr result (λ fault. fault ≡ Memory) }
+{
+    let mut all = Vec::new(alloc);
+    for trade in trades {
+        if let Some(posting) = posting_of(trade) {
+            all.push(posting)?;
+        }
+    }
+    Ok(all)
+}
+
+// What a summary tells of its position.
+fn told_by(row: &SummaryRow) -> Posting<(u64, &str)>
+    ensures { plain result ≡ told_posting (summary_row_of row.now) }
+{
+    let key = (row.account.get(), row.symbol.as_str());
+    let amount = row.qty;
+    Posting { key, amount }
+}
+
+// What the summaries tell of their positions.
+fn told_of<'a>(alloc: Global, rows: &'a [SummaryRow]) -> Result<Vec<Posting<(u64, &'a str)>>, Fault>
+    ensures all { IfOk result (λ all. map plain all.items ≡ map (λ r. told_posting (summary_row_of r)) rows.now) }
+    ensures fault { IfErr result (λ fault. fault ≡ Memory) }
+{
+    let mut all = Vec::new(alloc);
+    for row in rows {
+        all.push(told_by(row))?;
+    }
+    Ok(all)
+}
+
+// Whether two tallies are one at each of some keys.
+fn agree<K: Ord + Copy>(
+    sums: &BTreeMap<K, i128>,
+    told: &BTreeMap<K, i128>,
+    postings: &[Posting<K>],
+) -> bool
+    ensures { IsTrue result ↔ AllByRecursion (λ p. at_key K.cmp sums.now p.key ≡ at_key K.cmp told.now p.key) postings.now }
+{
+    for posting in postings {
+        if sum_at(sums, posting.key) != sum_at(told, posting.key) {
+            return false;
+        }
+    }
+    true
+}
+
+// Whether a summary tells of shares.
+fn tells_shares(qty: i64) -> bool
+    ensures { IsTrue result ↔ (is_zero qty ≡ false) }
+{
+    qty != 0
+}
+
+// Whether each summary tells of shares.
+fn tell_shares(rows: &[SummaryRow]) -> bool
+    ensures { IsTrue result ↔ AllByRecursion (λ r. is_zero r.qty ≡ false) rows.now }
+{
+    for row in rows {
+        if !tells_shares(row.qty) {
+            return false;
+        }
+    }
+    true
+}
+
+fn all_three(one: bool, other: bool, last: bool) -> bool
+    ensures { IsTrue result ↔ (IsTrue one × IsTrue other × IsTrue last) }
+{
+    one && other && last
+}
+
+/// Whether each summary is the sum of the shares that the completed trades leave, and none is missing.
+pub(crate) fn has_summaries(alloc: Global, sheets: &Sheets) -> Result<bool, Fault>
+    requires form { HasForm sheets.now }
+    requires status { HasStatuses sheets.now }
+    ensures told { IfOk result (λ holds. IsTrue holds ↔ Holds Summary (tables_in_sheets sheets.now)) }
+    ensures fault { IfErr result (λ fault. fault ≡ Memory) }
+{
+    let postings = postings_of(alloc, &sheets.trades)?;
+    let claims = told_of(alloc, &sheets.summaries)?;
+    let sums = tally(alloc, &postings)?;
+    let told = tally(alloc, &claims)?;
+    let each_trade = agree(&sums, &told, &postings);
+    let each_row = agree(&sums, &told, &claims);
+    let shares = tell_shares(&sheets.summaries);
+    Ok(all_three(each_trade, each_row, shares))
+}

@@ -1,0 +1,10 @@
+pub mod KeyOrders
+pub mod Searches
+pub mod Places
+pub mod BandsApart
+pub mod CashNames
+pub mod FormGroups
+pub mod WholeForm
+pub mod CustomerSums
+pub mod Numbered
+pub mod OwnTaxIds

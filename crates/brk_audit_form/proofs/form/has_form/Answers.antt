@@ -1,0 +1,53 @@
+use Rattle.std.proofs.Common.{false, sym, ◌∙◌, ap, map}
+use Rattle.std.specs.Prelude.{Bool, ◌&&◌}
+use Rattle.std.specs.List.{list_all}
+use Rattle.brk_model.specs.Audit.{Holds}
+use Rattle.brk_model.specs.Form.{has_form, one_tax_id_each, customer_limits, cash_form}
+use Rattle.brk_ref.specs.Records.{customer_of}
+use Rattle.brk_changes.specs.Rows.{cash_row_of}
+use Rattle.brk_changes.specs.Sheets.{tables_in_sheets}
+use Rattle.brk_changes.specs.declared.sheets.Sheets.{Sheets}
+use Rattle.brk_audit_form.proofs.WholeForm.{form_told, told, each_told}
+use Rattle.brk_audit_form.proofs.form.has_form.Goals as goal
+
+abbrev own : Sheets → Bool
+own s = one_tax_id_each (map customer_of s.customers.items)
+
+abbrev limits : Sheets → Bool
+limits s = list_all (customer_limits (tables_in_sheets s)) (map customer_of s.customers.items)
+
+abbrev cash : Sheets → Bool
+cash s = list_all (cash_form (tables_in_sheets s)) (map cash_row_of s.cash.items)
+
+pub returns-then-not-has_plain_form-clause-told : goal.returns-then-not-has_plain_form-clause-told
+unfolding Holds
+returns-then-not-has_plain_form-clause-told c =
+    let s = c.args.sheets.now in
+    told false (has_form (tables_in_sheets s)) (sym (ap (λ b. b && own s && limits s && cash s) (sym c.has_plain_form.ensures ∙ c.if-not-has_plain_form.true)) ∙ form_told s)
+
+pub returns-then-not-has_own-clause-told : goal.returns-then-not-has_own-clause-told
+unfolding Holds
+returns-then-not-has_own-clause-told c =
+    let s = c.args.sheets.now in
+    let plain = sym c.has_plain_form.ensures ∙ c.if-not-has_plain_form.false in
+    let first = sym (ap (λ l. one_tax_id_each (map customer_of l)) c.deref.ensures.value) ∙ sym c.in_ok-has_own.ensures.told ∙ c.if-not-has_own.true in
+    told false (has_form (tables_in_sheets s)) (sym (λ i. plain i && first i && limits s && cash s) ∙ form_told s)
+
+pub returns-then-not-has_limits-clause-told : goal.returns-then-not-has_limits-clause-told
+unfolding Holds
+returns-then-not-has_limits-clause-told c =
+    let s = c.args.sheets.now in
+    let plain = sym c.has_plain_form.ensures ∙ c.if-not-has_plain_form.false in
+    let first = sym (ap (λ l. one_tax_id_each (map customer_of l)) c.deref.ensures.value) ∙ sym c.in_ok-has_own.ensures.told ∙ c.if-not-has_own.false in
+    let second = sym c.in_ok-has_limits.ensures.told ∙ c.if-not-has_limits.true in
+    told false (has_form (tables_in_sheets s)) (sym (λ i. plain i && first i && second i && cash s) ∙ form_told s)
+
+pub returns-clause-told : goal.returns-clause-told
+unfolding Holds
+returns-clause-told c =
+    let s = c.args.sheets.now in
+    let plain = sym c.has_plain_form.ensures ∙ c.if-not-has_plain_form.false in
+    let first = sym (ap (λ l. one_tax_id_each (map customer_of l)) c.deref.ensures.value) ∙ sym c.in_ok-has_own.ensures.told ∙ c.if-not-has_own.false in
+    let second = sym c.in_ok-has_limits.ensures.told ∙ c.if-not-has_limits.false in
+    each_told c.are_cash_rows.result (has_form (tables_in_sheets s)) (cash s) c.are_cash_rows.ensures.told
+    (sym (λ i. plain i && first i && second i && cash s) ∙ form_told s)

@@ -1,0 +1,15 @@
+-- What a cash row is called, by the rows.
+use Rattle.std.specs.Prelude.{[], ◌∷◌, ◌++◌, decimal}
+use Rattle.std.specs.Option.{option_map_or}
+use Rattle.brk_money.specs.Spelling.{Text}
+use Rattle.brk_money.specs.Kinds.{type_name}
+use Rattle.brk_model.specs.Tables.{Tables, TradeRow}
+use Rattle.brk_model.specs.Joins.{security_in}
+
+-- the name of a security, no text where there is no such security
+abbrev pub name_in : Tables → Text → Text
+name_in t symbol = option_map_or (λ s. s.name) (security_in t symbol) []
+
+-- what a trade's cash row is called, with these words in the middle
+abbrev pub cash_text_in : Tables → Text → TradeRow → Text
+cash_text_in t words row = type_name row.kind ++ 32 ∷ decimal row.qty ++ words ++ name_in t row.symbol

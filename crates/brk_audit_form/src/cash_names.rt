@@ -1,0 +1,88 @@
+ghost use Rattle.std.specs.Prelude.{◌≡◌, ◌∷◌, ◌++◌, IfErr, IfOk, OnOk, decimal, map, string_bytes};
+ghost use Rattle.std.specs.List.{list_all};
+ghost use Rattle.brk_money.specs.Kinds.{type_name};
+ghost use Rattle.brk_money.specs.declared.fault.Fault.TheVariants.{Memory};
+ghost use Rattle.brk_model.specs.Form as form;
+ghost use Rattle.brk_changes.specs.Rows.{cash_row_of, trade_row_of};
+ghost use Rattle.brk_changes.specs.Sheets.{tables_in_sheets};
+ghost use Rattle.brk_audit_form.specs.Conditions.{HasKeys};
+ghost use Rattle.brk_audit_form.specs.Names.{name_in};
+
+use crate::limits::{is_balance, is_stamp};
+use crate::references::{find_security, find_trade};
+use brk_changes::{CashRow, Sheets, TradeRow};
+use brk_money::{Fault, Qty};
+use brk_ref::Symbol;
+use std::alloc::{AllocError, Global};
+
+// The name of a security, and no text where there is no such security.
+fn security_name<'a>(sheets: &'a Sheets, symbol: &Symbol) -> &'a str
+    requires { HasKeys sheets.now }
+    ensures { result.now ≡ name_in (tables_in_sheets sheets.now) symbol.now }
+{
+    match find_security(sheets, symbol) {
+        Some(security) => security.name.as_str(),
+        None => "",
+    }
+}
+
+// Adds how many shares were traded.
+fn add_shares(name: &mut String, qty: Qty, words: &str) -> Result<(), AllocError>
+    ensures { OnOk result (string_bytes name.new ≡ string_bytes name.old ++ (32 ∷ decimal qty ++ words.now)) }
+{
+    write!(name, " {}{}", qty.get(), words)
+}
+
+// What a trade's cash row is called, with these words in the middle.
+fn cash_name(alloc: Global, trade: &TradeRow, words: &str, security: &str) -> Result<String, Fault>
+    ensures name { IfOk result (λ name. string_bytes name ≡ type_name trade.now.kind ++ 32 ∷ decimal trade.now.qty ++ words.now ++ security.now) }
+    ensures fault { IfErr result (λ fault. fault ≡ Memory) }
+{
+    let mut name = String::from_str(alloc, trade.kind.name())?;
+    add_shares(&mut name, trade.qty, words)?;
+    name.push_str(security)?;
+    Ok(name)
+}
+
+// Whether a name is one of the two of its trade.
+fn is_name_of(alloc: Global, sheets: &Sheets, trade: &TradeRow, name: &str) -> Result<bool, Fault>
+    requires { HasKeys sheets.now }
+    ensures told { IfOk result (λ holds. holds ≡ form.is_cash_name (tables_in_sheets sheets.now) name.now (trade_row_of trade.now)) }
+    ensures fault { IfErr result (λ fault. fault ≡ Memory) }
+{
+    let security = security_name(sheets, &trade.symbol);
+    let first = cash_name(alloc, trade, " shares of ", security)?;
+    if name == first.as_str() {
+        return Ok(true);
+    }
+    let second = cash_name(alloc, trade, " Shares of ", security)?;
+    Ok(name == second.as_str())
+}
+
+// Whether the row has its form.
+fn is_cash_row(alloc: Global, sheets: &Sheets, row: &CashRow) -> Result<bool, Fault>
+    requires { HasKeys sheets.now }
+    ensures told { IfOk result (λ holds. holds ≡ form.cash_form (tables_in_sheets sheets.now) (cash_row_of row.now)) }
+    ensures fault { IfErr result (λ fault. fault ≡ Memory) }
+{
+    let Some(trade) = find_trade(sheets, row.trade) else {
+        return Ok(false);
+    };
+    let is_named = is_name_of(alloc, sheets, trade, row.name.as_str())?;
+    Ok(is_named && is_stamp(sheets, row.stamp) && is_balance(row.amount))
+}
+
+/// Whether each row of CASH_TRANSACTION has its form: its name is one of the two of its trade.
+pub(crate) fn are_cash_rows(alloc: Global, sheets: &Sheets) -> Result<bool, Fault>
+    requires { HasKeys sheets.now }
+    ensures told { IfOk result (λ holds. holds ≡ list_all (form.cash_form (tables_in_sheets sheets.now)) (map cash_row_of sheets.now.cash.items)) }
+    ensures fault { IfErr result (λ fault. fault ≡ Memory) }
+{
+    for row in &sheets.cash {
+        let is_formed = is_cash_row(alloc, sheets, row)?;
+        if !is_formed {
+            return Ok(false);
+        }
+    }
+    Ok(true)
+}

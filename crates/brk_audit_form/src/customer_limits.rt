@@ -1,0 +1,102 @@
+ghost use Rattle.std.specs.Prelude.{◌≡◌, ℕ, ◌+◌, ◌==◌, ◌<◌, ◌≤◌, ◌^◌, cond, filter, length, nat_le, IfErr, IfOk, OnOk, ◌&&◌};
+ghost use Rattle.std.specs.List.{list_all};
+ghost use Rattle.brk_money.specs.declared.fault.Fault.TheVariants.{Memory};
+ghost use Rattle.brk_model.specs.Form as form;
+ghost use Rattle.brk_model.specs.Limits as limits;
+ghost use Rattle.brk_changes.specs.Sheets.{tables_in_sheets};
+ghost use Rattle.brk_audit_form.specs.Conditions.{HasKeys};
+ghost use Rattle.brk_audit_form.specs.Customers.{rate_in, rates_in, sum_at};
+
+use crate::references::find_tax;
+use brk_changes::Sheets;
+use brk_money::{Fault, Id, TaxRate};
+use brk_ref::{AccountRow, Customer};
+use std::alloc::Global;
+use std::collections::BTreeMap;
+
+// The most accounts that a customer may have.
+const MOST_ACCOUNTS: u128 = 10;
+
+// Adds to the sum of a customer.
+fn add(sums: &mut BTreeMap<u64, u128>, customer: Id, more: u32) -> Result<(), Fault>
+    requires room { sum_at sums.old customer + 2 ^ 32 < 2 ^ 128 }
+    ensures more { OnOk result ((q : ℕ) → sum_at sums.new q ≡ sum_at sums.old q + cond (customer == q) more 0) }
+    ensures fault { IfErr result (λ fault. fault ≡ Memory) }
+{
+    let number = customer.get();
+    let sum = sums.get(&number).copied().unwrap_or(0);
+    sums.insert(number, sum + u128::from(more))?;
+    Ok(())
+}
+
+// How many accounts each customer has.
+fn count_accounts(alloc: Global, accounts: &[AccountRow]) -> Result<BTreeMap<u64, u128>, Fault>
+    ensures counts { IfOk result (λ counts. (q : ℕ) → sum_at counts q ≡ length (filter (λ a. a.account.customer == q) accounts.now)) }
+    ensures fault { IfErr result (λ fault. fault ≡ Memory) }
+{
+    let mut counts = BTreeMap::new(alloc);
+    for row in accounts {
+        add(&mut counts, row.account.customer, 1)?;
+    }
+    Ok(counts)
+}
+
+// The rate of a tax, and 0 where there is no such tax.
+fn rate_of(sheets: &Sheets, tax: Id) -> u32
+    requires { HasKeys sheets.now }
+    ensures rate { result ≡ rate_in (tables_in_sheets sheets.now) tax }
+    ensures high { result ≤ limits.greatest_tax_rate }
+{
+    match find_tax(sheets, tax) {
+        Some(tax) => tax.rate.get(),
+        None => 0,
+    }
+}
+
+// The sum of the tax rates that each customer pays.
+fn sum_rates(alloc: Global, sheets: &Sheets) -> Result<BTreeMap<u64, u128>, Fault>
+    requires { HasKeys sheets.now }
+    ensures sums { IfOk result (λ sums. (q : ℕ) → sum_at sums q ≡ rates_in (tables_in_sheets sheets.now) q) }
+    ensures fault { IfErr result (λ fault. fault ≡ Memory) }
+{
+    let mut sums = BTreeMap::new(alloc);
+    for row in &sheets.customer_taxes {
+        let rate = rate_of(sheets, row.tax);
+        add(&mut sums, row.customer, rate)?;
+    }
+    Ok(sums)
+}
+
+// Whether a customer is within both limits.
+fn is_within(counts: &BTreeMap<u64, u128>, sums: &BTreeMap<u64, u128>, customer: &Customer) -> bool
+    ensures { result ≡ (nat_le (sum_at counts.now customer.now.id) limits.most_accounts && nat_le (sum_at sums.now customer.now.id) limits.greatest_tax_rate) }
+{
+    let number = customer.id.get();
+    let count = counts.get(&number).copied().unwrap_or(0);
+    let sum = sums.get(&number).copied().unwrap_or(0);
+    count <= MOST_ACCOUNTS && sum <= u128::from(TaxRate::GREATEST)
+}
+
+// Whether each customer is within both limits.
+fn all_within(
+    counts: &BTreeMap<u64, u128>,
+    sums: &BTreeMap<u64, u128>,
+    customers: &[Customer],
+) -> bool
+    ensures { result ≡ list_all (λ c. nat_le (sum_at counts.now c.id) limits.most_accounts && nat_le (sum_at sums.now c.id) limits.greatest_tax_rate) customers.now }
+{
+    customers
+        .iter()
+        .all(|customer| is_within(counts, sums, customer))
+}
+
+/// Whether each customer has at most ten accounts, and pays no more tax than the whole.
+pub(crate) fn are_within(alloc: Global, sheets: &Sheets) -> Result<bool, Fault>
+    requires { HasKeys sheets.now }
+    ensures told { IfOk result (λ holds. holds ≡ list_all (form.customer_limits (tables_in_sheets sheets.now)) (tables_in_sheets sheets.now).customers) }
+    ensures fault { IfErr result (λ fault. fault ≡ Memory) }
+{
+    let counts = count_accounts(alloc, &sheets.accounts)?;
+    let sums = sum_rates(alloc, sheets)?;
+    Ok(all_within(&counts, &sums, &sheets.customers))
+}

@@ -1,0 +1,40 @@
+ghost use Rattle.std.specs.Prelude.{◌≡◌, List};
+ghost use Rattle.std.specs.Ordering.{nat_cmp};
+ghost use Rattle.std.specs.Cmp.Lexicographic.{slice_cmp};
+ghost use Rattle.brk_model.specs.Form as form;
+ghost use Rattle.brk_model.specs.Keys.{KeyPart};
+ghost use Rattle.brk_audit_form.specs.Keys.{key_cmp};
+
+use brk_money::Id;
+use brk_ref::{Form, Text};
+use std::cmp::Ordering;
+
+/// A row with a key.
+pub(crate) trait Keyed {
+    ghost key: { Self → List KeyPart };
+
+    /// How the row's key compares with that of another.
+    fn compare(&self, other: &Self) -> Ordering
+        ensures { result ≡ key_cmp (key self.now) (key other.now) };
+}
+
+/// How two ids compare.
+pub(crate) fn compare_ids(one: Id, other: Id) -> Ordering
+    ensures { result ≡ nat_cmp one other }
+{
+    one.get().cmp(&other.get())
+}
+
+/// How two texts compare, by their bytes.
+pub(crate) fn compare_texts<F: Form>(one: &Text<F>, other: &Text<F>) -> Ordering
+    ensures { result ≡ slice_cmp nat_cmp one.now other.now }
+{
+    one.as_str().cmp(other.as_str())
+}
+
+/// Whether the rows are by strictly rising key.
+pub(crate) fn rises<R: Keyed>(rows: &[R]) -> bool
+    ensures { result ≡ form.rises R.key rows.now }
+{
+    rows.is_sorted_by(|row, next| row.compare(next).is_lt())
+}

@@ -1,0 +1,20 @@
+//! The form of a desk's rows: their keys, the limits of their columns, what they name, and the words that they may have.
+#![tactic(auto)]
+
+mod bands;
+mod cash_names;
+mod customer_limits;
+pub mod form;
+mod keys;
+mod limits;
+mod numbers;
+mod reference_forms;
+mod reference_keys;
+mod references;
+mod rows;
+mod tables;
+mod tax_ids;
+mod trading_forms;
+mod trading_keys;
+
+pub use form::has_form;

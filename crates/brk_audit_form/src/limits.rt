@@ -1,0 +1,74 @@
+ghost use Rattle.std.specs.Prelude.{◌≡◌, nat_le};
+ghost use Rattle.brk_model.specs.Form as form;
+ghost use Rattle.brk_model.specs.Limits as limits;
+ghost use Rattle.brk_changes.specs.Sheets.{tables_in_sheets};
+
+use brk_changes::Sheets;
+use brk_money::{Amount, Cents, Id, Price, Qty, Stamp};
+use brk_ref::{ChargeAmount, Form, Text, Tier};
+
+/// Whether an id is within its limits.
+pub(crate) fn is_id(id: Id) -> bool
+    ensures { result ≡ form.is_id id }
+{
+    1 <= id.get() && id.get() <= Id::GREATEST
+}
+
+/// Whether a quantity is within its limits.
+pub(crate) fn is_qty(qty: Qty) -> bool
+    ensures { result ≡ form.is_qty qty }
+{
+    1 <= qty.get() && qty.get() <= Qty::GREATEST
+}
+
+/// Whether a price is within its limits.
+pub(crate) fn is_price(price: Price) -> bool
+    ensures { result ≡ form.is_price price }
+{
+    1 <= price.get() && price.get() <= Price::GREATEST
+}
+
+/// Whether a tier is within its limits.
+pub(crate) fn is_tier(tier: Tier) -> bool
+    ensures { result ≡ form.is_tier tier }
+{
+    1 <= tier.get() && tier.get() <= 3
+}
+
+/// Whether an amount of cents is within its limits, either way.
+pub(crate) fn is_balance(cents: Cents) -> bool
+    ensures { result ≡ form.is_amount cents }
+{
+    cents.get().unsigned_abs() <= Cents::GREATEST
+}
+
+/// Whether an amount that is never below 0 is within its limit.
+pub(crate) fn is_amount(amount: Amount) -> bool
+    ensures { result ≡ nat_le amount limits.greatest_amount }
+{
+    amount.get() <= Amount::GREATEST
+}
+
+/// Whether a charge is within its limit.
+pub(crate) fn is_charge(charge: ChargeAmount) -> bool
+    ensures { result ≡ nat_le charge limits.greatest_charge }
+{
+    charge.get() <= ChargeAmount::GREATEST
+}
+
+/// Whether a stamp is not after the last one.
+pub(crate) fn is_stamp(sheets: &Sheets, stamp: Stamp) -> bool
+    ensures { result ≡ form.is_stamp (tables_in_sheets sheets.now) stamp }
+{
+    let Some(last) = sheets.last else {
+        return false;
+    };
+    stamp.get() <= last.get()
+}
+
+/// Whether a text has its form.
+pub(crate) fn is_text<F: Form>(text: &Text<F>) -> bool
+    ensures { result ≡ F.form text.now }
+{
+    F::has_form(text.as_str())
+}

@@ -1,0 +1,154 @@
+ghost use Rattle.std.specs.Prelude.{◌≡◌, ◌==◌, bytes_eq, find, option_map};
+ghost use Rattle.std.specs.List.{list_any};
+ghost use Rattle.std.specs.Option.{option_copied};
+ghost use Rattle.brk_money.specs.Kinds.{same_status};
+ghost use Rattle.brk_money.specs.declared.status.Status.TheVariants.{Completed};
+ghost use Rattle.brk_model.specs.Form as form;
+ghost use Rattle.brk_model.specs.Joins as joins;
+ghost use Rattle.brk_changes.specs.Rows.{trade_row_of};
+ghost use Rattle.brk_changes.specs.Sheets.{tables_in_sheets};
+ghost use Rattle.brk_ref.specs.Records.{security_of, tax_of};
+ghost use Rattle.brk_audit_form.specs.Conditions.{HasKeys};
+
+use crate::keys::{compare_ids, compare_texts};
+use brk_changes::{Sheets, TradeRow};
+use brk_money::{Id, Status};
+use brk_ref::{Security, Symbol, Tax};
+
+/// Whether a broker is there.
+pub(crate) fn has_broker(sheets: &Sheets, id: Id) -> bool
+    requires { HasKeys sheets.now }
+    ensures { result ≡ form.has_broker (tables_in_sheets sheets.now) id }
+{
+    let number = id.get();
+    sheets
+        .brokers
+        .binary_search_by_key(&number, |row| row.broker.id.get())
+        .is_ok()
+}
+
+/// Whether a customer is there.
+pub(crate) fn has_customer(sheets: &Sheets, id: Id) -> bool
+    requires { HasKeys sheets.now }
+    ensures { result ≡ form.has_customer (tables_in_sheets sheets.now) id }
+{
+    let number = id.get();
+    sheets
+        .customers
+        .binary_search_by_key(&number, |row| row.id.get())
+        .is_ok()
+}
+
+/// Whether an account is there.
+pub(crate) fn has_account(sheets: &Sheets, id: Id) -> bool
+    requires { HasKeys sheets.now }
+    ensures { result ≡ form.has_account (tables_in_sheets sheets.now) id }
+{
+    let number = id.get();
+    sheets
+        .accounts
+        .binary_search_by_key(&number, |row| row.account.id.get())
+        .is_ok()
+}
+
+/// Whether a trade is there.
+pub(crate) fn has_trade(sheets: &Sheets, id: Id) -> bool
+    requires { HasKeys sheets.now }
+    ensures { result ≡ form.has_trade (tables_in_sheets sheets.now) id }
+{
+    let number = id.get();
+    sheets
+        .trades
+        .binary_search_by_key(&number, |row| row.id.get())
+        .is_ok()
+}
+
+/// Whether a tax is there.
+pub(crate) fn has_tax(sheets: &Sheets, id: Id) -> bool
+    requires { HasKeys sheets.now }
+    ensures { result ≡ list_any (λ r. r.id == id) (tables_in_sheets sheets.now).tax_rates }
+{
+    let number = id.get();
+    sheets
+        .tax_rates
+        .binary_search_by_key(&number, |row| row.id.get())
+        .is_ok()
+}
+
+/// Whether a security is there.
+pub(crate) fn has_security(sheets: &Sheets, symbol: &Symbol) -> bool
+    requires { HasKeys sheets.now }
+    ensures { result ≡ form.has_security (tables_in_sheets sheets.now) symbol.now }
+{
+    sheets
+        .securities
+        .binary_search_by(|row| compare_texts(&row.symbol, symbol))
+        .is_ok()
+}
+
+/// Whether a security's last trade is there.
+pub(crate) fn has_last_trade(sheets: &Sheets, symbol: &Symbol) -> bool
+    requires { HasKeys sheets.now }
+    ensures { result ≡ list_any (λ l. bytes_eq l.symbol symbol.now) (tables_in_sheets sheets.now).last_trades }
+{
+    sheets
+        .last_trades
+        .binary_search_by(|row| compare_texts(&row.symbol, symbol))
+        .is_ok()
+}
+
+/// Whether a trade is completed, by its history.
+pub(crate) fn has_completion(sheets: &Sheets, id: Id) -> bool
+    requires { HasKeys sheets.now }
+    ensures { result ≡ list_any (λ h. same_status h.status Completed) (joins.history_in (tables_in_sheets sheets.now) id) }
+{
+    let code = Status::Completed.code();
+    sheets
+        .history
+        .binary_search_by(|row| compare_ids(row.trade, id).then(row.status.code().cmp(code)))
+        .is_ok()
+}
+
+/// The row of a trade.
+pub(crate) fn find_trade(sheets: &Sheets, id: Id) -> Option<&TradeRow>
+    requires { HasKeys sheets.now }
+    ensures { option_map trade_row_of (option_copied result) ≡ joins.trade_in (tables_in_sheets sheets.now) id }
+{
+    let number = id.get();
+    match sheets
+        .trades
+        .binary_search_by_key(&number, |row| row.id.get())
+    {
+        Ok(place) => Some(&sheets.trades[place]),
+        Err(_) => None,
+    }
+}
+
+/// The row of a security.
+pub(crate) fn find_security<'a>(sheets: &'a Sheets, symbol: &Symbol) -> Option<&'a Security>
+    requires { HasKeys sheets.now }
+    ensures { option_map security_of (option_copied result) ≡ joins.security_in (tables_in_sheets sheets.now) symbol.now }
+{
+    match sheets
+        .securities
+        .binary_search_by(|row| compare_texts(&row.symbol, symbol))
+    {
+        Ok(place) => Some(&sheets.securities[place]),
+        Err(_) => None,
+    }
+}
+
+/// The row of a tax.
+pub(crate) fn find_tax(sheets: &Sheets, id: Id) -> Option<&Tax>
+    requires { HasKeys sheets.now }
+    ensures { option_map tax_of (option_copied result) ≡ find (λ r. r.id == id) (tables_in_sheets sheets.now).tax_rates }
+{
+    let number = id.get();
+    match sheets
+        .tax_rates
+        .binary_search_by_key(&number, |row| row.id.get())
+    {
+        Ok(place) => Some(&sheets.tax_rates[place]),
+        Err(_) => None,
+    }
+}

@@ -1,0 +1,79 @@
+ghost use Rattle.std.specs.Prelude.{◌≡◌};
+ghost use Rattle.brk_model.specs.Form as form;
+ghost use Rattle.brk_changes.specs.Sheets.{tables_in_sheets};
+ghost use Rattle.brk_audit_form.specs.Conditions.{HasKeys};
+ghost use Rattle.brk_audit_form.specs.Groups.{reference_forms, reference_keys, trading_forms, trading_keys};
+
+use crate::keys::rises;
+use crate::rows::are_formed;
+use brk_changes::Sheets;
+
+// Whether the tables of records are by strictly rising key.
+fn has_reference_keys(sheets: &Sheets) -> bool
+    ensures { result ≡ reference_keys sheets.now }
+{
+    rises(&sheets.kept)
+        && rises(&sheets.brokers)
+        && rises(&sheets.customers)
+        && rises(&sheets.accounts)
+        && rises(&sheets.permissions)
+        && rises(&sheets.securities)
+        && rises(&sheets.last_trades)
+        && rises(&sheets.charges)
+        && rises(&sheets.bands)
+        && rises(&sheets.tax_rates)
+        && rises(&sheets.customer_taxes)
+}
+
+// Whether the tables of trades are by strictly rising key.
+fn has_trading_keys(sheets: &Sheets) -> bool
+    ensures { result ≡ trading_keys sheets.now }
+{
+    rises(&sheets.trades)
+        && rises(&sheets.history)
+        && rises(&sheets.requests)
+        && rises(&sheets.holdings)
+        && rises(&sheets.summaries)
+        && rises(&sheets.holding_history)
+        && rises(&sheets.settlements)
+        && rises(&sheets.cash)
+}
+
+/// Whether each table is by strictly rising key.
+pub(crate) fn has_keys(sheets: &Sheets) -> bool
+    ensures { result ≡ form.has_keys (tables_in_sheets sheets.now) }
+{
+    has_reference_keys(sheets) && has_trading_keys(sheets)
+}
+
+/// Whether the rows of records have their forms.
+pub(crate) fn has_reference_forms(sheets: &Sheets) -> bool
+    requires { HasKeys sheets.now }
+    ensures { result ≡ reference_forms sheets.now }
+{
+    are_formed(sheets, &sheets.kept)
+        && are_formed(sheets, &sheets.brokers)
+        && are_formed(sheets, &sheets.customers)
+        && are_formed(sheets, &sheets.accounts)
+        && are_formed(sheets, &sheets.permissions)
+        && are_formed(sheets, &sheets.securities)
+        && are_formed(sheets, &sheets.last_trades)
+        && are_formed(sheets, &sheets.charges)
+        && are_formed(sheets, &sheets.bands)
+        && are_formed(sheets, &sheets.tax_rates)
+        && are_formed(sheets, &sheets.customer_taxes)
+}
+
+/// Whether the rows of trades have their forms, but for the cash rows.
+pub(crate) fn has_trading_forms(sheets: &Sheets) -> bool
+    requires { HasKeys sheets.now }
+    ensures { result ≡ trading_forms sheets.now }
+{
+    are_formed(sheets, &sheets.trades)
+        && are_formed(sheets, &sheets.history)
+        && are_formed(sheets, &sheets.requests)
+        && are_formed(sheets, &sheets.holdings)
+        && are_formed(sheets, &sheets.summaries)
+        && are_formed(sheets, &sheets.holding_history)
+        && are_formed(sheets, &sheets.settlements)
+}

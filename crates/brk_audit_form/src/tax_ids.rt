@@ -1,0 +1,25 @@
+ghost use Rattle.std.specs.Prelude.{◌≡◌, IfErr, IfOk, map};
+ghost use Rattle.brk_money.specs.declared.fault.Fault.TheVariants.{Memory};
+ghost use Rattle.brk_model.specs.Form as form;
+ghost use Rattle.brk_ref.specs.Records.{customer_of};
+
+use brk_money::Fault;
+use brk_ref::Customer;
+use std::alloc::Global;
+use std::collections::BTreeSet;
+
+/// Whether no tax id is of two customers.
+pub(crate) fn has_own_tax_ids(alloc: Global, customers: &[Customer]) -> Result<bool, Fault>
+    ensures told { IfOk result (λ holds. holds ≡ form.one_tax_id_each (map customer_of customers.now)) }
+    ensures fault { IfErr result (λ fault. fault ≡ Memory) }
+{
+    let mut seen = BTreeSet::new(alloc);
+    for customer in customers {
+        let tax_id = customer.tax_id.as_str();
+        let added = seen.insert(tax_id)?;
+        if !added {
+            return Ok(false);
+        }
+    }
+    Ok(true)
+}

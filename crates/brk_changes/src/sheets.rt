@@ -1,0 +1,39 @@
+use crate::cash_row::CashRow;
+use crate::history_row::HistoryRow;
+use crate::holding_row::HoldingRow;
+use crate::lot_change::LotChange;
+use crate::request_row::RequestRow;
+use crate::settlement_row::SettlementRow;
+use crate::summary_row::SummaryRow;
+use crate::trade_row::TradeRow;
+use brk_money::Stamp;
+use brk_ref::{
+    AccountRow, Band, BrokerRow, Charge, Customer, CustomerTax, Kept, LastTrade, Permission,
+    Security, Tax,
+};
+
+/// The rows of a desk's tables, each list by rising key.
+#[derive(Drop)]
+pub struct Sheets {
+    /// The stamp of the last accepted command.
+    pub last: Option<Stamp>,
+    pub kept: Vec<Kept>,
+    pub brokers: Vec<BrokerRow>,
+    pub customers: Vec<Customer>,
+    pub accounts: Vec<AccountRow>,
+    pub permissions: Vec<Permission>,
+    pub securities: Vec<Security>,
+    pub last_trades: Vec<LastTrade>,
+    pub charges: Vec<Charge>,
+    pub bands: Vec<Band>,
+    pub tax_rates: Vec<Tax>,
+    pub customer_taxes: Vec<CustomerTax>,
+    pub trades: Vec<TradeRow>,
+    pub history: Vec<HistoryRow>,
+    pub requests: Vec<RequestRow>,
+    pub holdings: Vec<HoldingRow>,
+    pub summaries: Vec<SummaryRow>,
+    pub holding_history: Vec<LotChange>,
+    pub settlements: Vec<SettlementRow>,
+    pub cash: Vec<CashRow>,
+}

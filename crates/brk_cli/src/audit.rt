@@ -1,0 +1,13 @@
+use crate::ending::Ending;
+use crate::file;
+
+/// Audits the desk in the file at a path, and prints `ok` where its tables follow from one another.
+pub fn run(rt: &HostRuntime, path: &str) -> Ending {
+    match file::open(rt, path).and_then(file::close) {
+        Ok(()) => match rt.print("ok\n") {
+            Ok(()) => Ending::Done,
+            Err(_) => Ending::Output,
+        },
+        Err(fault) => Ending::Open(fault),
+    }
+}

@@ -1,0 +1,73 @@
+//! A desk's database in a file.
+
+use brk_money::{Condition, Fault};
+use brk_store::Store;
+use sqlite::{Connection, File, FileStore};
+use std::fs;
+use std::io::ErrorKind;
+
+/// A desk's database in a file, which its connection holds for this program alone.
+pub type FileDesk = Store<FileStore<File>>;
+
+/// Closes a desk's file, which then holds all that was committed; until then a part of it may lie in the log beside it.
+pub fn close(store: FileDesk) -> Result<(), Fault> {
+    shut(store.into_conn())
+}
+
+fn shut(conn: Connection<FileStore<File>>) -> Result<(), Fault> {
+    match conn.close() {
+        Ok(()) => Ok(()),
+        Err(_) => Err(Fault::Store),
+    }
+}
+
+fn connect(rt: &HostRuntime, path: &str) -> Result<Connection<FileStore<File>>, Fault> {
+    match Connection::open(rt, path) {
+        Ok(conn) => Ok(conn),
+        Err(_) => Err(Fault::Store),
+    }
+}
+
+// The desk of a connection. Where it is none the file is closed all the same.
+fn adopt(rt: &HostRuntime, conn: Connection<FileStore<File>>) -> Result<FileDesk, Fault> {
+    match Store::adopt(rt.alloc(), conn) {
+        Ok(store) => Ok(store),
+        Err((conn, fault)) => {
+            let _ = shut(conn);
+            Err(fault)
+        }
+    }
+}
+
+/// Opens the desk in a file, or makes one where the file is missing or empty or has no table of a desk. A desk that was
+/// made is closed and opened once more: so its tables stand in the file itself, and a file that then loses its log is
+/// never taken for a new one.
+pub fn open_or_make(rt: &HostRuntime, path: &str) -> Result<FileDesk, Fault> {
+    match Store::create(connect(rt, path)?) {
+        Ok(store) => {
+            close(store)?;
+            adopt(rt, connect(rt, path)?)
+        }
+        Err((conn, Fault::Damaged(_))) => adopt(rt, conn),
+        Err((conn, fault)) => {
+            let _ = shut(conn);
+            Err(fault)
+        }
+    }
+}
+
+// Is no file at a path, or an empty one? To open such a one would make a database.
+fn is_missing(rt: &HostRuntime, path: &str) -> bool {
+    match fs::metadata(rt, path) {
+        Ok(found) => found.is_file() && found.len() == 0,
+        Err(error) => error.kind() == ErrorKind::NotFound,
+    }
+}
+
+/// Opens the desk in a file, and makes none: a file that is missing or empty has no desk's tables.
+pub fn open(rt: &HostRuntime, path: &str) -> Result<FileDesk, Fault> {
+    if is_missing(rt, path) {
+        return Err(Fault::Damaged(Condition::Schema));
+    }
+    adopt(rt, connect(rt, path)?)
+}

@@ -1,0 +1,31 @@
+-- What a store keeps at first: its rows are none, or they are what a stop left of a run.
+use Rattle.brk_model.specs.Form.{has_texts}
+use Rattle.std.proofs.Common.{ℕ, List, [], ◌∷◌, ◌++◌, ap, inl, inr, subst, sym}
+use Rattle.std.specs.List.{AllByRecursion}
+use Rattle.sqlite_trees.specs.declared.store.Store.{Ghosts}
+use Rattle.sqlite.specs.Held.{Held}
+use Rattle.brk_model.specs.Base.{Base, empty_base}
+use Rattle.brk_model.specs.Run.{Call, Do, Outcome}
+use Rattle.brk_model.specs.Tables.{no_rows}
+use Rattle.brk_trade_laws.proofs.Steps.{empty_books, empty_rows}
+use Rattle.brk_sound_laws.specs.Runs.{IsCallInForm}
+use Rattle.brk_sound_laws.proofs.SoundRuns.{Both, keyed_both, run_both}
+use Rattle.brk_sound_laws.proofs.SoundSteps.{empty_sound}
+use Rattle.brk_store.specs.Holds.{Holds}
+use Rattle.brk_desk.specs.Keeping.{KeepsBase}
+use Rattle.brk_desk.specs.Stops.{MayStand}
+
+pub made_keeps : {S : Type 0} (g : Ghosts S) (store : Held S) → Holds g store no_rows → KeepsBase g store empty_base
+made_keeps g store holds = record { books = empty_books; sound = empty_sound; texts = ap has_texts empty_rows; rows = subst (Holds g store) (sym empty_rows) holds }
+
+-- the calls before one of them, and it
+up_to : (earlier : List (ℕ × Call)) (call : ℕ × Call) (later : List (ℕ × Call)) → AllByRecursion IsCallInForm (earlier ++ call ∷ later) → AllByRecursion IsCallInForm earlier × IsCallInForm call
+up_to [] call later all = (tt, all.0)
+up_to (c ∷ cs) call later all = let rest = up_to cs call later all.1 in ((all.0, rest.0), rest.1)
+
+-- whatever may stand is in order and sound
+pub stands : (base : Base) (calls : List (ℕ × Call)) (outcomes : List Outcome) (after : Base) → AllByRecursion IsCallInForm calls → Both base → MayStand base calls outcomes after → Both after
+stands base calls outcomes after formed both (inl ran) = run_both base calls outcomes after formed ran both
+stands base calls outcomes after formed both (inr way) =
+    let parts = up_to way.earlier (way.now, Do way.command way.key) way.later (subst (AllByRecursion IsCallInForm) way.calls_are formed) in
+    subst Both (sym way.whole) (keyed_both way.before way.now way.command way.key (run_both base way.earlier way.told way.before parts.0 way.ran both) parts.1.0 parts.1.1)

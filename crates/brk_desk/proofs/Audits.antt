@@ -1,0 +1,17 @@
+-- What an audit answers where books are kept.
+use Rattle.std.proofs.Common.{Result}
+use Rattle.sqlite_trees.specs.declared.store.Store.{Ghosts}
+use Rattle.sqlite.specs.Held.{Held}
+use Rattle.brk_money.specs.declared.fault.Fault.{Fault}
+use Rattle.brk_model.specs.Sheets.{sheets}
+use Rattle.brk_store.specs.Audited.{IsAudited}
+use Rattle.brk_store.proofs.Taking.{sound_books_pass}
+use Rattle.brk_desk.specs.Keeping.{IsDeskAudited}
+use Rattle.brk_desk.proofs.Seen.{still_kept}
+
+pub audits : {S : Type 0} (g : Ghosts S) (old new : Held S) (result : Result (Unit {0}) Fault) → IsAudited g old new result → IsDeskAudited g old new result
+audits g old new result audit = record {
+  audited = audit;
+  passes = λ clean base keeps. sound_books_pass g old new result audit base keeps clean;
+  kept = λ base keeps. still_kept g old new base (audit.kept (sheets base)) keeps;
+}

@@ -1,0 +1,117 @@
+-- Changes of rows leave texts of no form in UTF-8: each comes from a `String`.
+use Rattle.brk_model.specs.Form.{has_texts}
+use Rattle.std.proofs.Common.{◌≡◌, ◌==◌, Bool, true, List, [], ◌∷◌, Some, refl}
+use Rattle.std.specs.Prelude.{◌&&◌, string_bytes}
+use Rattle.std.specs.List.{AllByRecursion, list_all}
+use Rattle.std.specs.Str.{is_utf8}
+use Rattle.std.proofs.lemmas.Bool.{and_from, and_parts}
+use Rattle.std.proofs.lemmas.Str.{IsUtf8-string_bytes, is_utf8-from_IsUtf8}
+use Rattle.brk_model.specs.Keys.{cash_key, kept_key, row_before, trade_key}
+use Rattle.brk_model.specs.Records.{Kept}
+use Rattle.brk_model.specs.Tables.{CashRow, Tables, TradeRow, no_rows}
+use Rattle.brk_changes.specs.Changes.{after_change, after_changes}
+use Rattle.brk_changes.specs.Rows.{cash_row_of, trade_row_of}
+use Rattle.brk_changes.specs.declared.change.Change.{Change}
+use Rattle.brk_changes.specs.declared.change.Change.TheVariants.{AddBroker, AddCustomer, AddAccount, AddPermission, AddSecurity, AddLastTrade, AddCharge, AddBand, AddTaxRate, AddCustomerTax, AddTrade, SetStatus, AddHistory, AddRequest, RemoveRequest, SetLastTrade, CompleteTrade, AddLot, SetLot, RemoveLot, AddLotChange, AddSummary, SetSummary, RemoveSummary, AddSettlement, AddCash, SetBalance, SetBrokerNumbers, Keep, SetLast}
+use Rattle.brk_money.specs.declared.status.Status.TheVariants.{Completed}
+use Rattle.brk_ref.specs.Records.{kept_of}
+use Rattle.brk_trade_laws.proofs.Order.{All-insert}
+use Rattle.brk_trade_laws.proofs.Places.{All-updated}
+use Rattle.brk_adoption_laws.proofs.AgainStatus.{all_list}
+use Rattle.brk_adoption_laws.proofs.Climbs.{list_all_true}
+
+abbrev kept_in_text : Kept → Bool
+kept_in_text k = is_utf8 k.row_text && is_utf8 k.line
+
+abbrev IsKeptInText : Kept → Type 0
+IsKeptInText k = kept_in_text k ≡ true
+
+abbrev IsNamedInText : TradeRow → Type 0
+IsNamedInText r = is_utf8 r.executor ≡ true
+
+abbrev IsToldInText : CashRow → Type 0
+IsToldInText r = is_utf8 r.name ≡ true
+
+record InText (t : Tables) : Type 0 where
+  kept : AllByRecursion IsKeptInText t.kept
+  names : AllByRecursion IsNamedInText t.trades
+  cash : AllByRecursion IsToldInText t.cash
+
+string_text : {Z : Type 0} (s : Rattle.std.specs.Prelude.String Z) → is_utf8 (string_bytes s) ≡ true
+string_text s = is_utf8-from_IsUtf8 (string_bytes s) (IsUtf8-string_bytes s)
+
+-- ---- one change, some changes
+
+changed : (t : Tables) (change : Change) → InText t → InText (after_change change t)
+changed t (AddBroker broker) h = record { kept = h.kept; names = h.names; cash = h.cash }
+changed t (AddCustomer customer) h = record { kept = h.kept; names = h.names; cash = h.cash }
+changed t (AddAccount account) h = record { kept = h.kept; names = h.names; cash = h.cash }
+changed t (AddPermission permission) h = record { kept = h.kept; names = h.names; cash = h.cash }
+changed t (AddSecurity security) h = record { kept = h.kept; names = h.names; cash = h.cash }
+changed t (AddLastTrade row) h = record { kept = h.kept; names = h.names; cash = h.cash }
+changed t (AddCharge charge) h = record { kept = h.kept; names = h.names; cash = h.cash }
+changed t (AddBand band) h = record { kept = h.kept; names = h.names; cash = h.cash }
+changed t (AddTaxRate tax) h = record { kept = h.kept; names = h.names; cash = h.cash }
+changed t (AddCustomerTax pays) h = record { kept = h.kept; names = h.names; cash = h.cash }
+changed t (AddTrade row) h = record { kept = h.kept; names = All-insert IsNamedInText (row_before trade_key) (trade_row_of row) t.trades (string_text row.executor) h.names; cash = h.cash }
+changed t (SetStatus trade status stamp) h = record {
+  kept = h.kept;
+  names = All-updated IsNamedInText (λ r. r.id == trade) (λ r. record r { status = status; stamp = stamp }) t.trades (λ r e. e) h.names;
+  cash = h.cash;
+}
+changed t (AddHistory row) h = record { kept = h.kept; names = h.names; cash = h.cash }
+changed t (AddRequest row) h = record { kept = h.kept; names = h.names; cash = h.cash }
+changed t (RemoveRequest trade) h = record { kept = h.kept; names = h.names; cash = h.cash }
+changed t (SetLastTrade row) h = record { kept = h.kept; names = h.names; cash = h.cash }
+changed t (CompleteTrade trade stamp price commission tax) h = record {
+  kept = h.kept;
+  names = All-updated IsNamedInText (λ r. r.id == trade) (λ r. record r { status = Completed; stamp = stamp; price = Some price; commission = commission; tax = tax }) t.trades (λ r e. e) h.names;
+  cash = h.cash;
+}
+changed t (AddLot row) h = record { kept = h.kept; names = h.names; cash = h.cash }
+changed t (SetLot trade qty) h = record { kept = h.kept; names = h.names; cash = h.cash }
+changed t (RemoveLot trade) h = record { kept = h.kept; names = h.names; cash = h.cash }
+changed t (AddLotChange row) h = record { kept = h.kept; names = h.names; cash = h.cash }
+changed t (AddSummary row) h = record { kept = h.kept; names = h.names; cash = h.cash }
+changed t (SetSummary row) h = record { kept = h.kept; names = h.names; cash = h.cash }
+changed t (RemoveSummary account symbol) h = record { kept = h.kept; names = h.names; cash = h.cash }
+changed t (AddSettlement row) h = record { kept = h.kept; names = h.names; cash = h.cash }
+changed t (AddCash row) h =
+    record { kept = h.kept; names = h.names; cash = All-insert IsToldInText (row_before cash_key) (cash_row_of row) t.cash (string_text row.name) h.cash }
+changed t (SetBalance account balance) h = record { kept = h.kept; names = h.names; cash = h.cash }
+changed t (SetBrokerNumbers broker trades commissions) h = record { kept = h.kept; names = h.names; cash = h.cash }
+changed t (Keep kept) h = record {
+  kept = All-insert IsKeptInText (row_before kept_key) (kept_of kept) t.kept
+      (and_from (is_utf8 (string_bytes kept.row_text)) (is_utf8 (string_bytes kept.line)) (string_text kept.row_text) (string_text kept.line)) h.kept;
+  names = h.names;
+  cash = h.cash;
+}
+changed t (SetLast stamp) h = record { kept = h.kept; names = h.names; cash = h.cash }
+
+all_changed : (t : Tables) (changes : List Change) → InText t → InText (after_changes changes t)
+all_changed t [] h = h
+all_changed t (change ∷ changes) h = all_changed (after_change change t) changes (changed t change h)
+
+-- ---- as a test
+
+in_text : (t : Tables) → has_texts t ≡ true → InText t
+in_text t e =
+    let all = and_parts (list_all kept_in_text t.kept && list_all (λ (r : TradeRow). is_utf8 r.executor) t.trades) (list_all (λ (r : CashRow). is_utf8 r.name) t.cash) e in
+    let both = and_parts (list_all kept_in_text t.kept) (list_all (λ (r : TradeRow). is_utf8 r.executor) t.trades) all.0 in
+    record {
+      kept = list_all_true kept_in_text t.kept both.0;
+      names = list_all_true (λ (r : TradeRow). is_utf8 r.executor) t.trades both.1;
+      cash = list_all_true (λ (r : CashRow). is_utf8 r.name) t.cash all.1;
+    }
+
+pub changes_keep_texts : (t : Tables) (changes : List Change) → has_texts t ≡ true → has_texts (after_changes changes t) ≡ true
+changes_keep_texts t changes e =
+    let h = all_changed t changes (in_text t e) in
+    let after = after_changes changes t in
+    and_from (list_all kept_in_text after.kept && list_all (λ (r : TradeRow). is_utf8 r.executor) after.trades) (list_all (λ (r : CashRow). is_utf8 r.name) after.cash)
+    (and_from (list_all kept_in_text after.kept) (list_all (λ (r : TradeRow). is_utf8 r.executor) after.trades)
+    (all_list kept_in_text after.kept h.kept) (all_list (λ (r : TradeRow). is_utf8 r.executor) after.trades h.names))
+    (all_list (λ (r : CashRow). is_utf8 r.name) after.cash h.cash)
+
+pub no_rows_have_texts : has_texts no_rows ≡ true
+no_rows_have_texts = refl

@@ -1,0 +1,190 @@
+-- The record that a row of any table shows.
+use Rattle.std.proofs.Common.{◌≡◌, ℕ, zero, suc, List, [], ◌∷◌, Bool, true, false, codes, refl, ap, ◌∙◌}
+use Rattle.std.specs.Prelude.{if◌then◌else◌, bytes_eq}
+use Rattle.sqlite_value.specs.Order.{Row, column}
+use Rattle.sqlite_rules.specs.Edit.{id_in}
+use Rattle.brk_money.specs.Kinds.{status_code, type_code}
+use Rattle.brk_money.specs.declared.status.Status.{Status}
+use Rattle.brk_money.specs.declared.status.Status.TheVariants.{Completed, Active, Submitted, Pending, Canceled}
+use Rattle.brk_model.specs.Tables.{TradeRow, RequestRow, LastTradeRow, HistoryRow, HoldingRow, SummaryRow, HoldingHistoryRow, SettlementRow, CashRow}
+use Rattle.brk_rows.proofs.Decode.{text_in}
+use Rattle.brk_tables_form.specs.Cells.{nat, flag, maybe, trade_cells, request_cells, last_trade_cells, history_cells, holding_cells, summary_cells, holding_history_cells, settlement_cells, cash_cells}
+use Rattle.brk_tables_form.specs.Desk.{Item, Which, encode, shape, TheDesk, KeptRows, Brokers, Customers, Accounts, Permissions, Securities, LastTrades, Charges, Bands, TaxRates, CustomerTaxes, Trades, TradeHistory, Requests, Holdings, Summaries, HoldingHistory, Settlements, CashRows}
+use Rattle.brk_tables_form.proofs.Back.{number_in, maybe_in, maybe_back, type_at, type_back, desk_back, desk_is_back, kept_back, kept_is_back, broker_back, broker_is_back, customer_back, customer_is_back, account_back, account_is_back, permission_back, permission_is_back, security_back, security_is_back, charge_back, charge_is_back, band_back, band_is_back, tax_rate_back, tax_rate_is_back, customer_tax_back, customer_tax_is_back}
+
+abbrev status_at : List ℕ → Status
+status_at code =
+    if bytes_eq code (codes "CMPT") then Completed
+    else if bytes_eq code (codes "ACTV") then Active
+    else if bytes_eq code (codes "SBMT") then Submitted
+    else if bytes_eq code (codes "PNDG") then Pending
+    else Canceled
+
+status_back : (s : Status) → status_at (status_code s) ≡ s
+status_back Completed = refl
+status_back Active = refl
+status_back Submitted = refl
+status_back Pending = refl
+status_back Canceled = refl
+
+abbrev flag_at : ℕ → Bool
+flag_at zero = false
+flag_at (suc n) = true
+
+flag_back : (b : Bool) → flag_at (number_in (flag b)) ≡ b
+flag_back true = refl
+flag_back false = refl
+
+pub trade_back : Row → TradeRow
+trade_back r = record {
+  id = number_in (column r 0);
+  stamp = number_in (column r 1);
+  status = status_at (text_in (column r 2));
+  kind = type_at (text_in (column r 3));
+  is_cash = flag_at (number_in (column r 4));
+  symbol = text_in (column r 5);
+  qty = number_in (column r 6);
+  bid = number_in (column r 7);
+  account = number_in (column r 8);
+  executor = text_in (column r 9);
+  price = maybe_in (column r 10);
+  charge = number_in (column r 11);
+  commission = number_in (column r 12);
+  tax = number_in (column r 13);
+  is_lifo = flag_at (number_in (column r 14));
+}
+
+pub trade_is_back : (t : TradeRow) → trade_back (trade_cells t) ≡ t
+unfolding trade_back text_in
+trade_is_back t =
+    ap (λ s. let r : TradeRow = record t { status = s; kind = type_at (type_code t.kind); is_cash = flag_at (number_in (flag t.is_cash)); price = maybe_in (maybe t.price); is_lifo = flag_at (number_in (flag t.is_lifo)) } in r) (status_back t.status)
+    ∙ ap (λ k. let r : TradeRow = record t { kind = k; is_cash = flag_at (number_in (flag t.is_cash)); price = maybe_in (maybe t.price); is_lifo = flag_at (number_in (flag t.is_lifo)) } in r) (type_back t.kind)
+    ∙ ap (λ b. let r : TradeRow = record t { is_cash = b; price = maybe_in (maybe t.price); is_lifo = flag_at (number_in (flag t.is_lifo)) } in r) (flag_back t.is_cash)
+    ∙ ap (λ o. let r : TradeRow = record t { price = o; is_lifo = flag_at (number_in (flag t.is_lifo)) } in r) (maybe_back t.price)
+    ∙ ap (λ b. let r : TradeRow = record t { is_lifo = b } in r) (flag_back t.is_lifo)
+
+pub request_back : Row → RequestRow
+request_back r = record { trade = number_in (column r 0); kind = type_at (text_in (column r 1)); symbol = text_in (column r 2); qty = number_in (column r 3); bid = number_in (column r 4); broker = number_in (column r 5) }
+
+pub request_is_back : (r : RequestRow) → request_back (request_cells r) ≡ r
+unfolding request_back text_in
+request_is_back r = ap (λ k. let q : RequestRow = record r { kind = k } in q) (type_back r.kind)
+
+pub last_trade_back : Row → LastTradeRow
+last_trade_back r = record { symbol = text_in (column r 0); stamp = number_in (column r 1); price = number_in (column r 2); volume = number_in (column r 3) }
+
+pub last_trade_is_back : (l : LastTradeRow) → last_trade_back (last_trade_cells l) ≡ l
+unfolding last_trade_back text_in
+last_trade_is_back l = refl
+
+pub holding_back : Row → HoldingRow
+holding_back r = record { trade = number_in (column r 0); account = number_in (column r 1); symbol = text_in (column r 2); stamp = number_in (column r 3); price = number_in (column r 4); qty = id_in (column r 5) }
+
+pub holding_is_back : (h : HoldingRow) → holding_back (holding_cells h) ≡ h
+unfolding holding_back text_in
+holding_is_back h = refl
+
+pub summary_back : Row → SummaryRow
+summary_back r = record { account = number_in (column r 0); symbol = text_in (column r 1); qty = id_in (column r 2) }
+
+pub summary_is_back : (s : SummaryRow) → summary_back (summary_cells s) ≡ s
+unfolding summary_back text_in
+summary_is_back s = refl
+
+pub history_back : Row → HistoryRow
+history_back r = record { trade = number_in (column r 0); status = status_at (text_in (column r 1)); stamp = number_in (column r 2) }
+
+pub history_is_back : (h : HistoryRow) → history_back (history_cells h) ≡ h
+unfolding history_back text_in
+history_is_back h = ap (λ s. let r : HistoryRow = record h { status = s } in r) (status_back h.status)
+
+pub holding_history_back : Row → HoldingHistoryRow
+holding_history_back r = record { lot = number_in (column r 0); trade = number_in (column r 1); before = id_in (column r 2); after = id_in (column r 3) }
+
+pub holding_history_is_back : (h : HoldingHistoryRow) → holding_history_back (holding_history_cells h) ≡ h
+unfolding holding_history_back
+holding_history_is_back h = refl
+
+pub settlement_back : Row → SettlementRow
+settlement_back r = record { trade = number_in (column r 0); cash_type = text_in (column r 1); due_day = number_in (column r 2); amount = id_in (column r 3) }
+
+pub settlement_is_back : (s : SettlementRow) → settlement_back (settlement_cells s) ≡ s
+unfolding settlement_back text_in
+settlement_is_back s = refl
+
+pub cash_back : Row → CashRow
+cash_back r = record { trade = number_in (column r 0); stamp = number_in (column r 1); amount = id_in (column r 2); name = text_in (column r 3) }
+
+pub cash_is_back : (c : CashRow) → cash_back (cash_cells c) ≡ c
+unfolding cash_back text_in
+cash_is_back c = refl
+
+-- ---- any table's
+
+pub decode : (w : Which) → Row → Item w
+decode TheDesk = desk_back
+decode KeptRows = kept_back
+decode Brokers = broker_back
+decode Customers = customer_back
+decode Accounts = account_back
+decode Permissions = permission_back
+decode Securities = security_back
+decode LastTrades = last_trade_back
+decode Charges = charge_back
+decode Bands = band_back
+decode TaxRates = tax_rate_back
+decode CustomerTaxes = customer_tax_back
+decode Trades = trade_back
+decode TradeHistory = history_back
+decode Requests = request_back
+decode Holdings = holding_back
+decode Summaries = summary_back
+decode HoldingHistory = holding_history_back
+decode Settlements = settlement_back
+decode CashRows = cash_back
+
+pub decodes : (w : Which) (x : Item w) → decode w (encode w x) ≡ x
+unfolding decode
+decodes TheDesk x = desk_is_back x
+decodes KeptRows x = kept_is_back x
+decodes Brokers x = broker_is_back x
+decodes Customers x = customer_is_back x
+decodes Accounts x = account_is_back x
+decodes Permissions x = permission_is_back x
+decodes Securities x = security_is_back x
+decodes LastTrades x = last_trade_is_back x
+decodes Charges x = charge_is_back x
+decodes Bands x = band_is_back x
+decodes TaxRates x = tax_rate_is_back x
+decodes CustomerTaxes x = customer_tax_is_back x
+decodes Trades x = trade_is_back x
+decodes TradeHistory x = history_is_back x
+decodes Requests x = request_is_back x
+decodes Holdings x = holding_is_back x
+decodes Summaries x = summary_is_back x
+decodes HoldingHistory x = holding_history_is_back x
+decodes Settlements x = settlement_is_back x
+decodes CashRows x = cash_is_back x
+
+-- a table's name is no matter of its tree
+pub named_alike : (w : Which) (m n : ℕ) → (shape w m).name ≡ (shape w n).name
+named_alike TheDesk m n = refl
+named_alike KeptRows m n = refl
+named_alike Brokers m n = refl
+named_alike Customers m n = refl
+named_alike Accounts m n = refl
+named_alike Permissions m n = refl
+named_alike Securities m n = refl
+named_alike LastTrades m n = refl
+named_alike Charges m n = refl
+named_alike Bands m n = refl
+named_alike TaxRates m n = refl
+named_alike CustomerTaxes m n = refl
+named_alike Trades m n = refl
+named_alike TradeHistory m n = refl
+named_alike Requests m n = refl
+named_alike Holdings m n = refl
+named_alike Summaries m n = refl
+named_alike HoldingHistory m n = refl
+named_alike Settlements m n = refl
+named_alike CashRows m n = refl

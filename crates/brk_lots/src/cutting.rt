@@ -1,0 +1,62 @@
+ghost use Rattle.std.specs.Prelude.{◌≡◌, ◌++◌, ◌+◌, ◌<◌, ◌≤◌, Bool, ℕ, drop, slice_index_or, take, vec_capacity, vec_len};
+ghost use Rattle.brk_lots.specs.declared.lot.Lot.{Lot};
+ghost use Rattle.brk_lots.specs.Lots.{from_end};
+ghost use Rattle.brk_lots.specs.Position.{IsWalk};
+ghost use Rattle.brk_lots.specs.Walks.{rows_taken, lots_left, smaller};
+
+use crate::lot::{Lot, Touch};
+
+// Leaves a lot, the first that stays, with a quantity, unless that is 0. Says where the lots begin.
+fn cut_front(lots: &mut Vec<Lot>, last: usize, qty: i64) -> usize
+    requires { last < vec_len lots.old }
+    ensures left { (lot : Lot) → lot ≡ slice_index_or lots.old.items last lot → drop result lots.new.items ≡ smaller qty lot ++ drop (last + 1) lots.old.items }
+    ensures within { result ≤ vec_len lots.new }
+    ensures capacity { vec_capacity lots.new ≡ vec_capacity lots.old }
+    ensures len { vec_len lots.new ≡ vec_len lots.old }
+{
+    if qty == 0 {
+        return last + 1;
+    }
+    lots[last].qty = qty;
+    last
+}
+
+// Leaves a lot, the last that stays, with a quantity, unless that is 0.
+fn cut_back(lots: &mut Vec<Lot>, last: usize, qty: i64)
+    requires { last < vec_len lots.old }
+    ensures left { (lot : Lot) → lot ≡ slice_index_or lots.old.items last lot → lots.new.items ≡ take last lots.old.items ++ smaller qty lot }
+    ensures capacity { vec_capacity lots.new ≡ vec_capacity lots.old }
+    ensures len { vec_len lots.new ≤ vec_len lots.old }
+    ensures within { last ≤ vec_len lots.new }
+{
+    if qty == 0 {
+        lots.truncate(last);
+        return;
+    }
+    lots.truncate(last + 1);
+    lots[last].qty = qty;
+}
+
+// Takes the rows of a closing out of the lots from an index on, and says where they begin then. The rows cut lots off one
+// end, of which the last may stay with a smaller quantity.
+pub(crate) fn cut_lots(lots: &mut Vec<Lot>, first: usize, touched: &[Touch]) -> usize
+    requires within { first ≤ vec_len lots.old }
+    requires walk { IsWalk (drop first lots.old.items) }
+    requires rows { (lifo : Bool) × (k : ℕ) × (touched.now ≡ rows_taken k (from_end lifo (drop first lots.old.items))) }
+    ensures left { drop result lots.new.items ≡ lots_left touched.now (drop first lots.old.items) }
+    ensures begins { result ≤ vec_len lots.new }
+    ensures capacity { vec_capacity lots.new ≡ vec_capacity lots.old }
+    ensures len { vec_len lots.new ≤ vec_len lots.old }
+{
+    let count = touched.len();
+    if count == 0 {
+        return first;
+    }
+    let qty = touched[count - 1].after;
+    if touched[0].lot == lots[first].trade {
+        return cut_front(lots, first + count - 1, qty);
+    }
+    let last = lots.len() - count;
+    cut_back(lots, last, qty);
+    first
+}

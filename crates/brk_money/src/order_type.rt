@@ -1,0 +1,41 @@
+ghost use Rattle.std.specs.Prelude.{◌≡◌};
+ghost use Rattle.brk_money.specs.OrderTypes.{kind_of, price_asked};
+
+use crate::price::Price;
+use crate::trade_type::TradeType;
+
+/// The type of an order, with the price of a share that it asks for where its type has one (TT_ID, Trade-Order).
+#[derive(Clone, Copy)]
+pub enum OrderType {
+    MarketBuy,
+    MarketSell,
+    StopLoss(Price),
+    LimitSell(Price),
+    LimitBuy(Price),
+}
+
+impl OrderType {
+    /// The type of the trade that it makes.
+    pub fn kind(self) -> TradeType
+        ensures { result ≡ kind_of self }
+    {
+        match self {
+            OrderType::MarketBuy => TradeType::MarketBuy,
+            OrderType::MarketSell => TradeType::MarketSell,
+            OrderType::StopLoss(_) => TradeType::StopLoss,
+            OrderType::LimitSell(_) => TradeType::LimitSell,
+            OrderType::LimitBuy(_) => TradeType::LimitBuy,
+        }
+    }
+
+    /// The price of a share that it asks for; none for a market type.
+    pub fn price(self) -> Option<Price>
+        ensures { result ≡ price_asked self }
+    {
+        match self {
+            OrderType::MarketBuy | OrderType::MarketSell => None,
+            OrderType::StopLoss(price) | OrderType::LimitSell(price) | OrderType::LimitBuy(price) =>
+                Some(price),
+        }
+    }
+}

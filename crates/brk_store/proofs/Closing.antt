@@ -1,0 +1,79 @@
+-- An audit, whose transaction is rolled back, and what it leaves.
+use Rattle.std.proofs.Common.{◌≡◌, Option, Some, None, Result, Ok, Err, IfOk, IsTrue, refl, sym, subst, inl, inr}
+use Rattle.sqlite_trees.specs.declared.store.Store.{Ghosts}
+use Rattle.sqlite.specs.Held.{Held, state}
+use Rattle.sqlite.specs.State.{HasCleanDisk, Survives, IsRolledBack}
+use Rattle.brk_money.specs.declared.fault.Condition.{Condition}
+use Rattle.brk_money.specs.declared.fault.Fault.{Fault}
+use Rattle.brk_money.specs.declared.fault.Fault.TheVariants.{Damaged}
+use Rattle.brk_model.specs.Run.{MayFail}
+use Rattle.brk_rows.specs.Model.{IsStep}
+use Rattle.brk_rows.proofs.Inside.{clean_before}
+use Rattle.brk_store.specs.Audited.{Audited, IsAudited, IsDefinedIn, OnAnswer}
+use Rattle.brk_store.specs.Holds.{IsSame}
+use Rattle.brk_store.proofs.Answering.{Told}
+use Rattle.brk_store.proofs.Ending.{begun, rolled_back, still_holds, through}
+
+-- what is so of any fault that tells nothing
+on_fault : (fault : Fault) (P : Option Condition → Type 0) → MayFail fault → OnAnswer (Err fault) P
+on_fault fault P (inl e) = subst (λ f. OnAnswer (Err f) P) (sym e) tt
+on_fault fault P (inr e) = subst (λ f. OnAnswer (Err f) P) (sym e) tt
+
+module _ {S : Type 0} (g : Ghosts S) (old conn first mid end : Held S) (conn_is : conn ≡ old) (first_is : first ≡ begun conn)
+    (settled : IsTrue (state g conn).is_open → (state g conn).now ≡ (state g conn).committed) (out : Result (Option Condition) Fault) (step : IsStep (state g first) (state g mid) out Told)
+    (late : Survives (state g mid) (state g end) (λ _. ⊥)) (back : HasCleanDisk (state g end) → IsRolledBack (state g mid) (state g end)) where
+  in_transaction : IsStep (state g (begun conn)) (state g mid) out Told
+  in_transaction = subst (λ h. IsStep (state g h) (state g mid) out Told) first_is step
+
+  kept_of_step : HasCleanDisk (state g end) → IsTrue (state g end).is_open → IsSame (state g conn) (state g end)
+  kept_of_step = rolled_back g conn mid end settled out Told (λ _. ⊥) in_transaction back late
+
+  whole : Survives (state g conn) (state g end) (λ _. ⊥)
+  whole = through g conn mid end settled out Told in_transaction late
+
+  told_then : HasCleanDisk (state g end) → IfOk out (λ answer. IsTrue (state g mid).in_transaction × Told answer (state g (begun conn)) (state g mid))
+  told_then clean = in_transaction.made (clean_before (state g mid) (state g end) (λ _. ⊥) late clean) refl
+
+  audited : (result : Result (Unit {0}) Fault) → ((P : Option Condition → Type 0) → IfOk out P → OnAnswer result P) → IsAudited g old end result
+  audited result answers =
+      subst (λ h. IsAudited g h end result) conn_is
+      (record {
+        told = λ clean defined. answers (Audited (state g conn).now) (of_told (clean_before (state g conn) (state g end) (λ _. ⊥) whole clean) defined out (told_then clean));
+        opened = λ clean. answers (λ _. IsTrue (state g conn).is_open) (of_open out (told_then clean));
+        kept = still_holds g conn mid end settled (λ _. ⊥) whole kept_of_step;
+        same = kept_of_step;
+        survives = whole;
+      })
+    where
+      of_told : HasCleanDisk (state g conn) → IsDefinedIn g conn → (o : Result (Option Condition) Fault)
+          → IfOk o (λ answer. IsTrue (state g mid).in_transaction × Told answer (state g (begun conn)) (state g mid)) → IfOk o (Audited (state g conn).now)
+      of_told clean defined (Ok answer) h = h.1.2 (defined clean h.1.0)
+      of_told clean defined (Err fault) h = tt
+
+      of_open : (o : Result (Option Condition) Fault) → IfOk o (λ answer. IsTrue (state g mid).in_transaction × Told answer (state g (begun conn)) (state g mid)) → IfOk o (λ _. IsTrue (state g conn).is_open)
+      of_open (Ok answer) h = h.1.0
+      of_open (Err fault) h = tt
+
+-- ---- by what the rows told
+
+module _ {S : Type 0} (g : Ghosts S) (old conn first mid end : Held S) where
+  -- they pass
+  pub audit_passes : (answer : Option Condition) → conn ≡ old → first ≡ begun conn → (IsTrue (state g conn).is_open → (state g conn).now ≡ (state g conn).committed)
+      → IsStep {V = Option Condition} {E = Fault} (state g first) (state g mid) (Ok answer) Told → answer ≡ None
+      → Survives (state g mid) (state g end) (λ _. ⊥) → (HasCleanDisk (state g end) → IsRolledBack (state g mid) (state g end)) → IsAudited g old end (Ok tt)
+  audit_passes answer conn_is first_is settled step is late back =
+      audited g old conn first mid end conn_is first_is settled (Ok answer) step late back (Ok tt) (λ P h. subst P is h)
+
+  -- a condition fails
+  pub audit_fails : (answer : Option Condition) (failing : Condition) → conn ≡ old → first ≡ begun conn → (IsTrue (state g conn).is_open → (state g conn).now ≡ (state g conn).committed)
+      → IsStep {V = Option Condition} {E = Fault} (state g first) (state g mid) (Ok answer) Told → answer ≡ Some failing
+      → Survives (state g mid) (state g end) (λ _. ⊥) → (HasCleanDisk (state g end) → IsRolledBack (state g mid) (state g end)) → IsAudited g old end (Err (Damaged failing))
+  audit_fails answer failing conn_is first_is settled step is late back =
+      audited g old conn first mid end conn_is first_is settled (Ok answer) step late back (Err (Damaged failing)) (λ P h. subst P is h)
+
+  -- nothing was told
+  pub audit_gives_up : (fault : Fault) → conn ≡ old → first ≡ begun conn → (IsTrue (state g conn).is_open → (state g conn).now ≡ (state g conn).committed)
+      → IsStep {V = Option Condition} {E = Fault} (state g first) (state g mid) (Err fault) Told → MayFail fault
+      → Survives (state g mid) (state g end) (λ _. ⊥) → (HasCleanDisk (state g end) → IsRolledBack (state g mid) (state g end)) → IsAudited g old end (Err fault)
+  audit_gives_up fault conn_is first_is settled step may late back =
+      audited g old conn first mid end conn_is first_is settled (Err fault) step late back (Err fault) (λ P h. on_fault fault P may)

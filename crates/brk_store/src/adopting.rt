@@ -1,0 +1,42 @@
+//! What is known of an audit's answer, and of a store that was adopted.
+
+ghost use Rattle.brk_model.specs.Form.{has_texts};
+ghost use Rattle.std.specs.Prelude.{◌≡◌, IsTrue, None, Ok, Option, Result};
+ghost use Rattle.sqlite.specs.Effect.{Database};
+ghost use Rattle.sqlite.specs.Held.{Held, state};
+ghost use Rattle.sqlite.specs.State.{HasCleanDisk};
+ghost use Rattle.brk_money.specs.declared.fault.Condition.{Condition};
+ghost use Rattle.brk_money.specs.declared.fault.Fault.{Fault};
+ghost use Rattle.brk_model.specs.Adopted.{base_of};
+ghost use Rattle.brk_model.specs.Audit.{IsAudit};
+ghost use Rattle.brk_model.specs.Base.{Base};
+ghost use Rattle.brk_model.specs.Tables.{Tables};
+ghost use Rattle.brk_adoption_laws.specs.Passing.{Passes};
+ghost use Rattle.brk_store.specs.Audited.{Audited, HoldsBooks, IsAdopted, IsAudited, IsDefinedIn, OnAnswer};
+ghost use Rattle.brk_store.specs.Holds.{Holds};
+
+use sqlite::Alter;
+
+/// An audit has one answer of a database: it passes, or one condition is the first that fails.
+pub fn an_audit_has_one_answer()
+    ensures { (db : Database) (a b : Option Condition) → Audited db a → Audited db b → a ≡ b }
+{}
+
+/// A database that has the tables of a desk, with whatever rows, is defined.
+pub fn a_desk_is_defined<S: Alter>()
+    ensures { (held : Held S) (t : Tables) → Holds S.Store held t → IsDefinedIn S.Store held }
+{}
+
+/// An audit of a store that holds rows tells what is so of these rows; of the rows of sound books in order, that they pass.
+pub fn an_audit_tells_of_the_rows<S: Alter>()
+    ensures rows { (old new : Held S) (result : Result (Unit {0}) Fault) (t : Tables)
+        → IsAudited S.Store old new result → Holds S.Store old t → IsTrue (has_texts t) → HasCleanDisk (state S.Store new) → OnAnswer result (IsAudit t) }
+    ensures books { (old new : Held S) (result : Result (Unit {0}) Fault) (base : Base)
+        → IsAudited S.Store old new result → HoldsBooks S.Store old base → HasCleanDisk (state S.Store new) → OnAnswer result (λ answer. answer ≡ None) }
+{}
+
+/// A store whose rows pass holds the tables of a base in order and sound, of the base that the rows give; so does one that was adopted.
+pub fn an_adopted_store_keeps_its_books<S: Alter>()
+    ensures rows { (store : Held S) (t : Tables) → Holds S.Store store t → Passes t → IsTrue (has_texts t) → HoldsBooks S.Store store (base_of t) }
+    ensures adopted { (old new : Held S) → IsAdopted S.Store old new (Ok tt) → IsDefinedIn S.Store old → (base : Base) × HoldsBooks S.Store new base }
+{}

@@ -1,0 +1,202 @@
+-- Whether the columns of a row hold values of their forms, each by itself.
+use Rattle.std.specs.Prelude.{ℕ, pos, Bool, true, false, ◌&&◌, ◌||◌, ◌==◌, nat_le, List, [], ◌∷◌, is_some, bytes_eq}
+use Rattle.std.specs.List.{list_any}
+use Rattle.std.specs.Str.{is_utf8}
+use Rattle.sqlite_value.specs.declared.value.Value.{Value}
+use Rattle.sqlite_value.specs.declared.value.Value.TheVariants.{Null, Int, Text as Words}
+use Rattle.sqlite_value.specs.Order.{Row}
+use Rattle.brk_money.specs.Kinds.{status_code, tax_status_of}
+use Rattle.brk_money.specs.Moments.{last_day, last_stamp}
+use Rattle.brk_money.specs.declared.status.Status.{Status}
+use Rattle.brk_money.specs.declared.status.Status.TheVariants.{Completed, Active, Submitted, Pending, Canceled}
+use Rattle.brk_model.specs.Limits.{greatest_amount, greatest_charge, greatest_rate, greatest_tax_rate}
+use Rattle.brk_model.specs.Form.{is_id, is_qty, is_price, is_tier, is_amount}
+use Rattle.brk_model.specs.Forms.{is_name, is_tax_id, is_symbol, is_exchange, is_acl, is_batch_name, type_of}
+use Rattle.brk_changes.specs.Rows.{cash_type_word}
+use Rattle.brk_changes.specs.declared.cash_type.CashType.{CashType}
+use Rattle.brk_changes.specs.declared.cash_type.CashType.TheVariants.{CashAccount, Cash, Margin, MarginAccount}
+
+-- ---- one column
+
+-- a number that is not below 0 and has a form
+abbrev pub natural_cell : (ℕ → Bool) → Value → Bool
+natural_cell form (Int (pos n)) = form n
+natural_cell form _ = false
+
+-- null, or such a number
+abbrev pub maybe_cell : (ℕ → Bool) → Value → Bool
+maybe_cell form Null = true
+maybe_cell form (Int (pos n)) = form n
+maybe_cell form _ = false
+
+-- any whole number
+abbrev pub number_cell : Value → Bool
+number_cell (Int n) = true
+number_cell _ = false
+
+-- an amount of cents, either way
+abbrev pub cents_cell : Value → Bool
+cents_cell (Int n) = is_amount n
+cents_cell _ = false
+
+-- a text of a form
+abbrev pub words_cell : (List ℕ → Bool) → Value → Bool
+words_cell form (Words s) = form s
+words_cell form _ = false
+
+-- 1 or 0
+abbrev pub flag_cell : Value → Bool
+flag_cell = natural_cell (λ n. (n == 0) || (n == 1))
+
+-- any text of UTF-8
+abbrev pub text_cell : Value → Bool
+text_cell = words_cell is_utf8
+
+abbrev pub is_type : List ℕ → Bool
+is_type s = is_some (type_of s)
+
+abbrev pub all_statuses : List Status
+all_statuses = Completed ∷ Active ∷ Submitted ∷ Pending ∷ Canceled ∷ []
+
+abbrev pub is_status : List ℕ → Bool
+is_status s = list_any (λ status. bytes_eq (status_code status) s) all_statuses
+
+abbrev pub all_cash_types : List CashType
+all_cash_types = CashAccount ∷ Cash ∷ Margin ∷ MarginAccount ∷ []
+
+abbrev pub is_cash_word : List ℕ → Bool
+is_cash_word s = list_any (λ kind. bytes_eq (cash_type_word kind) s) all_cash_types
+
+abbrev pub is_tax_status : ℕ → Bool
+is_tax_status n = is_some (tax_status_of n)
+
+abbrev pub id_cell : Value → Bool
+id_cell = natural_cell is_id
+
+abbrev pub name_cell : Value → Bool
+name_cell = words_cell is_name
+
+abbrev pub tax_id_cell : Value → Bool
+tax_id_cell = words_cell is_tax_id
+
+abbrev pub symbol_cell : Value → Bool
+symbol_cell = words_cell is_symbol
+
+abbrev pub exchange_cell : Value → Bool
+exchange_cell = words_cell is_exchange
+
+abbrev pub type_cell : Value → Bool
+type_cell = words_cell is_type
+
+abbrev pub status_cell : Value → Bool
+status_cell = words_cell is_status
+
+abbrev pub tier_cell : Value → Bool
+tier_cell = natural_cell is_tier
+
+abbrev pub qty_cell : Value → Bool
+qty_cell = natural_cell is_qty
+
+abbrev pub price_cell : Value → Bool
+price_cell = natural_cell is_price
+
+abbrev pub stamp_cell : Value → Bool
+stamp_cell = natural_cell (λ n. nat_le n last_stamp)
+
+-- a sum of cents, or a volume
+abbrev pub sum_cell : Value → Bool
+sum_cell = natural_cell (λ n. nat_le n greatest_amount)
+
+abbrev pub rate_cell : Value → Bool
+rate_cell = natural_cell (λ n. nat_le n greatest_rate)
+
+abbrev pub tax_cell : Value → Bool
+tax_cell = natural_cell (λ n. nat_le n greatest_tax_rate)
+
+abbrev pub day_cell : Value → Bool
+day_cell = natural_cell (λ n. nat_le n last_day)
+
+abbrev pub tax_status_cell : Value → Bool
+tax_status_cell = natural_cell is_tax_status
+
+abbrev pub charge_cell : Value → Bool
+charge_cell = natural_cell (λ n. nat_le n greatest_charge)
+
+-- a stamp, or null
+abbrev pub last_cell : Value → Bool
+last_cell = maybe_cell (λ n. nat_le n last_stamp)
+
+-- ---- a row
+
+-- each column has its form, and there are no more
+abbrev pub all_formed : List (Value → Bool) → Row → Bool
+all_formed [] [] = true
+all_formed (has_form ∷ forms) (v ∷ row) = has_form v && all_formed forms row
+all_formed _ _ = false
+
+abbrev pub desk_forms : List (Value → Bool)
+desk_forms = natural_cell (λ n. n == 1) ∷ natural_cell (λ n. n == 1) ∷ last_cell ∷ []
+
+-- the one row of DESK, of the first schema
+abbrev pub is_desk_row : List Row → Bool
+is_desk_row (row ∷ []) = all_formed desk_forms row
+is_desk_row _ = false
+
+abbrev pub kept_forms : List (Value → Bool)
+kept_forms = words_cell is_batch_name ∷ id_cell ∷ text_cell ∷ text_cell ∷ []
+
+abbrev pub broker_forms : List (Value → Bool)
+broker_forms = id_cell ∷ name_cell ∷ number_cell ∷ natural_cell (λ n. true) ∷ []
+
+abbrev pub customer_forms : List (Value → Bool)
+customer_forms = id_cell ∷ tier_cell ∷ tax_id_cell ∷ name_cell ∷ name_cell ∷ []
+
+abbrev pub account_forms : List (Value → Bool)
+account_forms = id_cell ∷ id_cell ∷ id_cell ∷ name_cell ∷ tax_status_cell ∷ cents_cell ∷ cents_cell ∷ []
+
+abbrev pub permission_forms : List (Value → Bool)
+permission_forms = id_cell ∷ tax_id_cell ∷ words_cell is_acl ∷ name_cell ∷ name_cell ∷ []
+
+abbrev pub security_forms : List (Value → Bool)
+security_forms = symbol_cell ∷ name_cell ∷ exchange_cell ∷ name_cell ∷ []
+
+abbrev pub last_trade_forms : List (Value → Bool)
+last_trade_forms = symbol_cell ∷ stamp_cell ∷ price_cell ∷ sum_cell ∷ []
+
+abbrev pub charge_forms : List (Value → Bool)
+charge_forms = type_cell ∷ tier_cell ∷ charge_cell ∷ []
+
+abbrev pub band_forms : List (Value → Bool)
+band_forms = tier_cell ∷ type_cell ∷ exchange_cell ∷ qty_cell ∷ qty_cell ∷ rate_cell ∷ []
+
+abbrev pub tax_rate_forms : List (Value → Bool)
+tax_rate_forms = id_cell ∷ name_cell ∷ tax_cell ∷ []
+
+abbrev pub customer_tax_forms : List (Value → Bool)
+customer_tax_forms = id_cell ∷ id_cell ∷ []
+
+abbrev pub trade_forms : List (Value → Bool)
+trade_forms =
+    id_cell ∷ stamp_cell ∷ status_cell ∷ type_cell ∷ flag_cell ∷ symbol_cell ∷ qty_cell ∷ price_cell ∷ id_cell ∷ text_cell ∷ maybe_cell is_price ∷ charge_cell
+    ∷ sum_cell ∷ sum_cell ∷ flag_cell ∷ []
+
+abbrev pub history_forms : List (Value → Bool)
+history_forms = id_cell ∷ status_cell ∷ stamp_cell ∷ []
+
+abbrev pub request_forms : List (Value → Bool)
+request_forms = id_cell ∷ type_cell ∷ symbol_cell ∷ qty_cell ∷ price_cell ∷ id_cell ∷ []
+
+abbrev pub holding_forms : List (Value → Bool)
+holding_forms = id_cell ∷ id_cell ∷ symbol_cell ∷ stamp_cell ∷ price_cell ∷ number_cell ∷ []
+
+abbrev pub summary_forms : List (Value → Bool)
+summary_forms = id_cell ∷ symbol_cell ∷ number_cell ∷ []
+
+abbrev pub holding_history_forms : List (Value → Bool)
+holding_history_forms = id_cell ∷ id_cell ∷ number_cell ∷ number_cell ∷ []
+
+abbrev pub settlement_forms : List (Value → Bool)
+settlement_forms = id_cell ∷ words_cell is_cash_word ∷ day_cell ∷ cents_cell ∷ []
+
+abbrev pub cash_forms : List (Value → Bool)
+cash_forms = id_cell ∷ stamp_cell ∷ cents_cell ∷ text_cell ∷ []

@@ -1,0 +1,4 @@
+pub mod Schemas
+pub mod Whole
+pub mod Raw
+pub mod Decoded

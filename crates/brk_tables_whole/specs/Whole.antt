@@ -1,0 +1,40 @@
+-- What the reads of whole tables tell.
+use Rattle.std.specs.Prelude.{◌≡◌, ℕ, Bool, false, ◌&&◌, List, map, Option, Some, None, Result, IsTrue}
+use Rattle.std.specs.Global.{Vec}
+use Rattle.std.specs.List.Sorted.{IsPermutation}
+use Rattle.sqlite_value.specs.Order.{Row}
+use Rattle.sqlite_trees.specs.declared.store.Store.{Ghosts}
+use Rattle.sqlite.specs.Effect.{Database, IsDatabase}
+use Rattle.sqlite.specs.declared.transaction.Transaction.{Transaction}
+use Rattle.brk_model.specs.Tables.{Tables}
+use Rattle.brk_model.specs.Form.{has_form, has_texts}
+use Rattle.brk_changes.specs.declared.sheets.Sheets.{Sheets}
+use Rattle.brk_changes.specs.Sheets.{tables_in_sheets}
+use Rattle.brk_rows.specs.Rows.{cells, Holds}
+use Rattle.brk_rows.specs.Desk.{Stands}
+use Rattle.brk_rows.specs.Model.{Steps}
+use Rattle.brk_tables_form.specs.Desk.{Which, Item, shape, encode, order}
+use Rattle.brk_tables_form.specs.Made.{HasRows}
+use Rattle.brk_tables_whole.specs.Schemas.{IsKeyed}
+
+-- rows are those of a table at this tree, in the order of its key
+pub record AreRowsOf (w : Which) (rows : List Row) (db : Database) (tree : ℕ) : Type 0 where
+  -- each row of the tree, as often as it is there
+  pub all : IsPermutation (map (cells (shape w tree)) (db.trees tree)) rows
+  -- records that the table holds show these rows
+  pub told : (xs : List (Item w)) → Holds (shape w tree) (encode w) (order w) xs (db.trees tree) → rows ≡ map (encode w) xs
+  -- and records that show these rows are those that it holds
+  pub held : (xs : List (Item w)) → IsDatabase db → IsKeyed (db.trees tree) → map (encode w) xs ≡ rows → Holds (shape w tree) (encode w) (order w) xs (db.trees tree)
+
+-- the rows are those of this table, wherever it stands as its shape says
+abbrev pub ShowsAll : Which → List Row → Database → Type 0
+ShowsAll w rows db = (at tree : ℕ) → Stands db.schema (shape w tree) at → AreRowsOf w rows db tree
+
+-- it changes nothing, and its answer is all rows of this table
+abbrev pub ReadsWhole : {S E : Type 0} → Ghosts S → Transaction S → Transaction S → Result (Vec Row) E → Which → Type 0
+ReadsWhole g old new result w = Steps g old new result (λ rows a b. IsTrue a.is_open × (b.now ≡ a.now) × ShowsAll w rows.items a.now)
+
+-- the rows were read in types: these are what the desk's tables hold, or no tables in form have these rows
+abbrev pub WasRead : Database → Option Sheets → Type 0
+WasRead db (Some sheets) = HasRows (tables_in_sheets sheets) db
+WasRead db None = (t : Tables) → HasRows t db → has_form t && has_texts t ≡ false

@@ -1,0 +1,31 @@
+ghost use Rattle.std.specs.Prelude.{◌≡◌, IfErr, IsTrue};
+ghost use Rattle.brk_model.specs.Run.{MayFail};
+ghost use Rattle.brk_rows.specs.Model.{Steps};
+ghost use Rattle.brk_tables_whole.specs.Schemas.{HasDesk, IsDefined, first_schema};
+ghost use Rattle.brk_tables_whole.specs.Whole.{WasRead};
+
+use crate::decoding::decode;
+use crate::raw::read_raw;
+use brk_changes::Sheets;
+use brk_money::Fault;
+use brk_tables_form::Misread;
+use sqlite::{Alter, Transaction};
+use std::alloc::Global;
+
+/// All rows of the desk's tables in types, each list by rising key. `None`: the rows break their form. All twenty tables are read
+/// before the first row is looked at.
+pub fn read_sheets<S: Alter>(
+    tx: &mut Transaction<'_, S>,
+    alloc: Global,
+) -> Result<Option<Sheets>, Fault>
+    ensures same_reference { tx.new.conn.ghost_name ≡ tx.old.conn.ghost_name }
+    ensures step { Steps S.Store tx.old tx.new result (λ read a b. IsTrue a.is_open × (b.now ≡ a.now) × (IsDefined a.now → HasDesk first_schema a.now → WasRead a.now read)) }
+    ensures fault { IfErr result MayFail }
+{
+    let raw = read_raw(tx)?;
+    match decode(alloc, &raw) {
+        Ok(sheets) => Ok(Some(sheets)),
+        Err(Misread::Form) => Ok(None),
+        Err(Misread::Memory) => Err(Fault::Memory),
+    }
+}
