@@ -1,13 +1,17 @@
-ghost use Rattle.std.specs.Prelude.{◌≡◌};
+ghost use Rattle.std.specs.Prelude.{◌≡◌, OnErr, OnOk};
+ghost use Rattle.std.specs.Io.KnownBytes.{Appends};
 ghost use Rattle.brk_cli.specs.Ending as spec;
+ghost use Rattle.brk_cli.specs.Lines as line;
 
-use crate::words::UsageFault;
+use crate::job::UsageFault;
+use crate::telling::{Line, fault_line, write_line};
 use brk_import::{BatchFault, FaultKind};
 use brk_money::Fault;
+use brk_writing::{NotWritten, write_out};
 use std::io::Write;
 
 /// How the program ends.
-#[derive(Debug, Drop)]
+#[derive(Drop)]
 pub enum Ending {
     /// All was done, also where rows were refused.
     Done,
@@ -21,24 +25,15 @@ pub enum Ending {
     Usage(UsageFault),
 }
 
-// The line of a fault, after the program's name: what it is about, and what is wrong.
-type Line = (&'static str, &'static str);
-
-fn fault_line(fault: Fault) -> Line {
-    match fault {
-        Fault::Memory => ("fault", "memory"),
-        Fault::Store => ("fault", "store"),
-        Fault::Damaged(condition) => ("damaged", condition.word()),
-    }
-}
-
-fn batch_line(kind: FaultKind) -> Line {
+fn batch_line(kind: FaultKind) -> Line
+    ensures { line.told result ≡ spec.batch_line kind }
+{
     match kind {
-        FaultKind::BadHeader => ("batch", "bad header"),
-        FaultKind::NoEnd => ("batch", "no end"),
-        FaultKind::BadEnd => ("batch", "bad end"),
-        FaultKind::Read => ("fault", "read"),
-        FaultKind::Write => ("fault", "write"),
+        FaultKind::BadHeader => ("brk: batch: ", "bad header"),
+        FaultKind::NoEnd => ("brk: batch: ", "no end"),
+        FaultKind::BadEnd => ("brk: batch: ", "bad end"),
+        FaultKind::Read => ("brk: fault: ", "read"),
+        FaultKind::Write => ("brk: fault: ", "write"),
         FaultKind::Desk(fault) => fault_line(fault),
     }
 }
@@ -72,7 +67,7 @@ fn status(ending: &Ending) -> u8
         Ending::Batch(fault) => batch_status(fault.kind),
         Ending::Output => 3,
         Ending::Usage(UsageFault::Help(_)) => 0,
-        Ending::Usage(UsageFault::Words(_)) => 2,
+        Ending::Usage(UsageFault::Words(_) | UsageFault::Day | UsageFault::NotYet) => 2,
         Ending::Usage(UsageFault::Memory) => 3,
     }
 }
@@ -88,25 +83,39 @@ pub fn after_close(ending: Ending, closed: Result<(), Fault>) -> Ending
     }
 }
 
-// Writes a line, as far as it can be written.
-fn write_line<W: Write>(errors: &mut W, line: Line) {
-    let _ = writeln!(errors, "brk: {}: {}", line.0, line.1);
+fn tell_usage<W: Write>(fault: &UsageFault, errors: &mut W) -> Result<(), NotWritten>
+    ensures ok { OnOk result (Appends (W.contents errors.old) (W.contents errors.new) (spec.usage_line fault.now)) }
+    ensures err { OnErr result (line.WritesFront (W.contents errors.old) (W.contents errors.new) (spec.usage_line fault.now)) }
+{
+    match fault {
+        UsageFault::Words(text) => write_out(errors, text.as_bytes()),
+        UsageFault::Help(_) => Ok(()),
+        UsageFault::Day => write_line(errors, ("brk: usage: ", "day")),
+        UsageFault::NotYet => write_line(errors, ("brk: usage: ", "not yet")),
+        UsageFault::Memory => write_line(errors, ("brk: fault: ", "memory")),
+    }
+}
+
+// Writes the line of an ending, or its front where the writer fails.
+fn tell<W: Write>(ending: &Ending, errors: &mut W) -> Result<(), NotWritten>
+    ensures ok { OnOk result (Appends (W.contents errors.old) (W.contents errors.new) (spec.line_of ending.now)) }
+    ensures err { OnErr result (line.WritesFront (W.contents errors.old) (W.contents errors.new) (spec.line_of ending.now)) }
+{
+    match ending {
+        Ending::Done => Ok(()),
+        Ending::Open(fault) => write_line(errors, fault_line(*fault)),
+        Ending::Batch(fault) => write_line(errors, batch_line(fault.kind)),
+        Ending::Output => write_line(errors, ("brk: fault: ", "write")),
+        Ending::Usage(fault) => tell_usage(fault, errors),
+    }
 }
 
 /// Writes what there is to say of an ending to the errors' stream, and answers the exit status, also where that write
 /// fails. Of help and of what was done it writes nothing.
 pub fn end_with<W: Write>(ending: &Ending, errors: &mut W) -> u8
-    ensures { result ≡ spec.status_of ending.now }
+    ensures status { result ≡ spec.status_of ending.now }
+    ensures line { line.WritesFront (W.contents errors.old) (W.contents errors.new) (spec.line_of ending.now) }
 {
-    match ending {
-        Ending::Done | Ending::Usage(UsageFault::Help(_)) => {}
-        Ending::Open(fault) => write_line(errors, fault_line(*fault)),
-        Ending::Batch(fault) => write_line(errors, batch_line(fault.kind)),
-        Ending::Output => write_line(errors, ("fault", "write")),
-        Ending::Usage(UsageFault::Words(text)) => {
-            let _ = errors.write_all(text.as_str().as_bytes());
-        }
-        Ending::Usage(UsageFault::Memory) => write_line(errors, ("fault", "memory")),
-    }
+    let _ = tell(ending, errors);
     status(ending)
 }

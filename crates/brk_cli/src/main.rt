@@ -5,27 +5,40 @@ mod audit;
 mod batch;
 mod ending;
 mod file;
+mod job;
 mod moment;
+mod telling;
 mod words;
 
 use crate::ending::{Ending, end_with};
-use crate::words::{Job, UsageFault, read_words};
+use crate::job::{Job, UsageFault};
+use crate::words::{no_text, read_words};
 use std::alloc::AllocError;
 use std::env;
+use std::io::ErrorKind;
 use std::process::ExitCode;
+
+// The words of the command line.
+fn words(rt: &HostRuntime) -> Result<Vec<String>, UsageFault> {
+    match env::args(rt) {
+        Ok(words) => {
+            let all: Result<Vec<String>, AllocError> = words.collect(rt.alloc());
+            Ok(all?)
+        }
+        Err(error) => match error.kind() {
+            ErrorKind::OutOfMemory => Err(UsageFault::Memory),
+            _ => Err(no_text(rt.alloc())),
+        },
+    }
+}
 
 // Does what the words of the command line ask for.
 fn run(rt: &HostRuntime) -> Ending {
-    let Ok(words) = env::args(rt) else {
-        return Ending::Usage(UsageFault::Memory);
-    };
-    let all: Result<Vec<String>, AllocError> = words.collect(rt.alloc());
-    let Ok(all) = all else {
-        return Ending::Usage(UsageFault::Memory);
-    };
-    match read_words(rt.alloc(), &all) {
+    match words(rt).and_then(read_words) {
         Ok(Job::Batch { db, at }) => batch::run(rt, db, at),
-        Ok(Job::Audit { db }) => audit::run(rt, db),
+        Ok(Job::Statement { .. }) => Ending::Usage(UsageFault::NotYet),
+        Ok(Job::Audit { db }) => audit::run(rt, db.as_str()),
+        Ok(Job::Serve { .. }) => Ending::Usage(UsageFault::NotYet),
         Err(UsageFault::Help(text)) => show(rt, text),
         Err(fault) => Ending::Usage(fault),
     }
@@ -47,3 +60,5 @@ fn main(rt: HostRuntime) -> ExitCode {
 
 #[cfg(test)]
 mod tests;
+#[cfg(test)]
+mod word_tests;
