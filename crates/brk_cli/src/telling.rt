@@ -1,4 +1,4 @@
-ghost use Rattle.std.specs.Prelude.{OnErr, OnOk};
+ghost use Rattle.std.specs.Prelude.{◌≡◌, OnErr, OnOk};
 ghost use Rattle.std.specs.Io.KnownBytes.{Appends};
 ghost use Rattle.brk_cli.specs.Lines as spec;
 
@@ -22,8 +22,8 @@ pub fn fault_line(fault: Fault) -> Line
 
 /// Writes a line, or its front where the writer fails.
 pub fn write_line<W: Write>(writer: &mut W, line: Line) -> Result<(), NotWritten>
-    ensures ok { OnOk result (Appends (W.contents writer.old) (W.contents writer.new) (spec.told line)) }
-    ensures err { OnErr result (spec.WritesFront (W.contents writer.old) (W.contents writer.new) (spec.told line)) }
+    ensures ok { OnOk result (Appends (W.contents writer.old) (W.contents writer.new) (spec.told line.entry)) }
+    ensures err { OnErr result (spec.WritesFront (W.contents writer.old) (W.contents writer.new) (spec.told line.entry)) }
 {
     write_out(writer, line.0.as_bytes())?;
     write_out(writer, line.1.as_bytes())?;

@@ -1,67 +1,11 @@
 use crate::ending::{Ending, end_with};
 use crate::file;
-use crate::words::{Job, UsageFault, read_words};
+use crate::job::UsageFault;
 use brk_import::{BatchFault, FaultKind};
-use brk_money::{Condition, Fault, Stamp};
+use brk_money::{Condition, Fault};
 use std::io::Write;
 use std::test::Fail;
 use std::{fs, io};
-
-#[test]
-fn reads_a_batch(rt: HostRuntime) {
-    let job = read_words(rt.alloc(), &["brk", "batch"]);
-    assert!(rt; matches!(job, Ok(Job::Batch { db: None, at: None })));
-    let job = read_words(rt.alloc(), &["brk", "batch", "--db", "a b.db"]);
-    assert!(rt;
-        matches!(
-            job,
-            Ok(Job::Batch {
-                db: Some("a b.db"),
-                at: None
-            })
-        )
-    );
-    for (text, millis) in [
-        ("0", 0),
-        ("1709251200000", 1_709_251_200_000),
-        ("253402300799999", 253_402_300_799_999),
-    ] {
-        let words = ["brk", "batch", "--at", text];
-        let stamp = Stamp::new(millis);
-        let read =
-            matches!(read_words(rt.alloc(), &words), Ok(Job::Batch { db: None, at }) if at == stamp);
-        assert!(rt; stamp.is_some() && read, "{text}");
-    }
-}
-
-#[test]
-fn reads_an_audit(rt: HostRuntime) {
-    let job = read_words(rt.alloc(), &["brk", "audit", "--db", "a.db"]);
-    assert!(rt; matches!(job, Ok(Job::Audit { db: "a.db" })));
-}
-
-#[test]
-fn refuses_wrong_words(rt: HostRuntime) {
-    let wrong: [&[&str]; 13] = [
-        &["brk"],
-        &["brk", "bath"],
-        &["brk", "batch", "first.csv"],
-        &["brk", "batch", "--at"],
-        &["brk", "batch", "--at", "now"],
-        &["brk", "batch", "--at=-1"],
-        &["brk", "batch", "--at", "253402300800000"],
-        &["brk", "batch", "--at", "1", "--at", "2"],
-        &["brk", "batch", "--db"],
-        &["brk", "batch", "--db", "a.db", "--db", "b.db"],
-        &["brk", "audit"],
-        &["brk", "audit", "a.db"],
-        &["brk", "audit", "--db", "a.db", "--at", "1"],
-    ];
-    for words in wrong {
-        let refused = matches!(read_words(rt.alloc(), words), Err(UsageFault::Words(_)));
-        assert!(rt; refused, "{words:?}");
-    }
-}
 
 fn batch(kind: FaultKind) -> Ending {
     Ending::Batch(BatchFault { rows: 3, kind })
@@ -76,6 +20,8 @@ fn tells_each_ending(rt: HostRuntime) -> Result<(), Fail> {
         (Ending::Done, 0, ""),
         (Ending::Usage(help), 0, ""),
         (Ending::Usage(words), 2, "error: no\n"),
+        (Ending::Usage(UsageFault::Day), 2, "brk: usage: day\n"),
+        (Ending::Usage(UsageFault::NotYet), 2, "brk: usage: not yet\n"),
         (Ending::Usage(UsageFault::Memory), 3, "brk: fault: memory\n"),
         (Ending::Output, 3, "brk: fault: write\n"),
         (Ending::Open(Fault::Memory), 3, "brk: fault: memory\n"),
