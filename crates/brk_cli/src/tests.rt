@@ -21,7 +21,11 @@ fn tells_each_ending(rt: HostRuntime) -> Result<(), Fail> {
         (Ending::Usage(help), 0, ""),
         (Ending::Usage(words), 2, "error: no\n"),
         (Ending::Usage(UsageFault::Day), 2, "brk: usage: day\n"),
-        (Ending::Usage(UsageFault::NotYet), 2, "brk: usage: not yet\n"),
+        (
+            Ending::Usage(UsageFault::NotYet),
+            2,
+            "brk: usage: not yet\n",
+        ),
         (Ending::Usage(UsageFault::Memory), 3, "brk: fault: memory\n"),
         (Ending::Output, 3, "brk: fault: write\n"),
         (Ending::Open(Fault::Memory), 3, "brk: fault: memory\n"),

@@ -23,14 +23,22 @@ fn millis(at: Option<Stamp>) -> i64 {
 fn told_job(alloc: Global, job: &Job) -> Result<String, AllocError> {
     match job {
         Job::Batch { db, at } => format!(in alloc; "batch {} {}", file(db), millis(*at)),
-        Job::Statement { db, account, from, to } => {
+        Job::Statement {
+            db,
+            account,
+            from,
+            to,
+        } => {
             let (account, from, to) = (account.get(), from.get(), to.get());
             format!(in alloc; "statement {db} {account} {from} {to}")
         }
         Job::Audit { db } => format!(in alloc; "audit {db}"),
-        Job::Serve { port, db, at, streams } => {
-            format!(in alloc; "serve {port} {} {} {streams}", file(db), millis(*at))
-        }
+        Job::Serve {
+            port,
+            db,
+            at,
+            streams,
+        } => { format!(in alloc; "serve {port} {} {} {streams}", file(db), millis(*at)) }
     }
 }
 
@@ -56,23 +64,82 @@ const JOBS: [(&[&str], &str); 11] = [
     (&["batch"], "batch - -1"),
     (&["batch", "--db", "a b.db"], "batch a b.db -1"),
     (&["batch", "--at", "0"], "batch - 0"),
-    (&["batch", "--at=253402300799999", "--db=a.db"], "batch a.db 253402300799999"),
     (
-        &["statement", "--db", "a.db", "--account", "100", "--from", "2024-03-01", "--to", "2024-03-31"],
+        &["batch", "--at=253402300799999", "--db=a.db"],
+        "batch a.db 253402300799999",
+    ),
+    (
+        &[
+            "statement",
+            "--db",
+            "a.db",
+            "--account",
+            "100",
+            "--from",
+            "2024-03-01",
+            "--to",
+            "2024-03-31",
+        ],
         "statement a.db 100 19783 19813",
     ),
     (
-        &["statement", "--to", "1970-01-01", "--from", "9999-12-31", "--account", "1000000000000", "--db", "a"],
+        &[
+            "statement",
+            "--to",
+            "1970-01-01",
+            "--from",
+            "9999-12-31",
+            "--account",
+            "1000000000000",
+            "--db",
+            "a",
+        ],
         "statement a 1000000000000 2932896 0",
     ),
     (&["audit", "--db", "a.db"], "audit a.db"),
     (&["serve", "--port", "1"], "serve 1 - -1 1"),
     (
-        &["serve", "--port", "65535", "--db", "a.db", "--at", "7", "--streams", "1000000"],
+        &[
+            "serve",
+            "--port",
+            "65535",
+            "--db",
+            "a.db",
+            "--at",
+            "7",
+            "--streams",
+            "1000000",
+        ],
         "serve 65535 a.db 7 1000000",
     ),
-    (&["statement", "--db", "a", "--account", "1", "--from", "2024-02-30", "--to", "2024-03-01"], "day"),
-    (&["statement", "--db", "a", "--account", "1", "--from", "2024-03-01", "--to", "1.3.2024"], "day"),
+    (
+        &[
+            "statement",
+            "--db",
+            "a",
+            "--account",
+            "1",
+            "--from",
+            "2024-02-30",
+            "--to",
+            "2024-03-01",
+        ],
+        "day",
+    ),
+    (
+        &[
+            "statement",
+            "--db",
+            "a",
+            "--account",
+            "1",
+            "--from",
+            "2024-03-01",
+            "--to",
+            "1.3.2024",
+        ],
+        "day",
+    ),
 ];
 
 #[test]
@@ -101,11 +168,55 @@ fn refuses_wrong_words(rt: HostRuntime) -> Result<(), Fail> {
         &["audit"],
         &["audit", "a.db"],
         &["audit", "--db", "a.db", "--at", "1"],
-        &["statement", "--db", "a", "--from", "2024-03-01", "--to", "2024-03-01"],
-        &["statement", "--db", "a", "--account", "1", "--to", "2024-03-01"],
-        &["statement", "--account", "1", "--from", "2024-03-01", "--to", "2024-03-01"],
-        &["statement", "--db", "a", "--account", "0", "--from", "2024-03-01", "--to", "2024-03-01"],
-        &["statement", "--db", "a", "--account", "1000000000001", "--from", "2024-03-01", "--to", "2024-03-01"],
+        &[
+            "statement",
+            "--db",
+            "a",
+            "--from",
+            "2024-03-01",
+            "--to",
+            "2024-03-01",
+        ],
+        &[
+            "statement",
+            "--db",
+            "a",
+            "--account",
+            "1",
+            "--to",
+            "2024-03-01",
+        ],
+        &[
+            "statement",
+            "--account",
+            "1",
+            "--from",
+            "2024-03-01",
+            "--to",
+            "2024-03-01",
+        ],
+        &[
+            "statement",
+            "--db",
+            "a",
+            "--account",
+            "0",
+            "--from",
+            "2024-03-01",
+            "--to",
+            "2024-03-01",
+        ],
+        &[
+            "statement",
+            "--db",
+            "a",
+            "--account",
+            "1000000000001",
+            "--from",
+            "2024-03-01",
+            "--to",
+            "2024-03-01",
+        ],
         &["serve"],
         &["serve", "--port", "0"],
         &["serve", "--port", "65536"],

@@ -57,7 +57,9 @@ fn statement<'a>(alloc: Global) -> Result<Command<'a>, AllocError> {
         .help("The account")
         .required(true);
     Command::new(alloc, "statement")
-        .about("Prints the statement of an account: its cash from day to day, and the lots that it holds")
+        .about(
+            "Prints the statement of an account: its cash from day to day, and the lots that it holds",
+        )
         .arg(kept_file(alloc))?
         .arg(account)?
         .arg(day(alloc, "from", "The first day, as 2024-03-01"))?
