@@ -19,7 +19,7 @@ use std::io::ErrorKind;
 use std::process::ExitCode;
 
 // The words of the command line.
-fn words(rt: &HostRuntime) -> Result<Vec<String>, UsageFault> {
+fn given_words(rt: &HostRuntime) -> Result<Vec<String>, UsageFault> {
     match env::args(rt) {
         Ok(words) => {
             let all: Result<Vec<String>, AllocError> = words.collect(rt.alloc());
@@ -34,7 +34,7 @@ fn words(rt: &HostRuntime) -> Result<Vec<String>, UsageFault> {
 
 // Does what the words of the command line ask for.
 fn run(rt: &HostRuntime) -> Ending {
-    match words(rt).and_then(read_words) {
+    match given_words(rt).and_then(read_words) {
         Ok(Job::Batch { db, at }) => batch::run(rt, db, at),
         Ok(Job::Statement { .. }) => Ending::Usage(UsageFault::NotYet),
         Ok(Job::Audit { db }) => audit::run(rt, db.as_str()),
