@@ -1,7 +1,7 @@
-use crate::ending::{Ending, after_close};
-use crate::file;
 use crate::moment::Moments;
 use brk_desk::Desk;
+use brk_endings::{Ending, after_close};
+use brk_files as file;
 use brk_import::run_batch;
 use brk_money::{Fault, Stamp};
 use brk_store::Store;

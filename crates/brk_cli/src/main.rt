@@ -3,16 +3,10 @@
 
 mod audit;
 mod batch;
-mod ending;
-mod file;
-mod job;
 mod moment;
-mod telling;
-mod words;
 
-use crate::ending::{Ending, end_with};
-use crate::job::{Job, UsageFault};
-use crate::words::{no_text, read_words};
+use brk_endings::{Ending, end_with};
+use brk_words::{Job, UsageFault, no_text, read_words};
 use std::alloc::AllocError;
 use std::env;
 use std::io::ErrorKind;
@@ -57,8 +51,3 @@ fn main(rt: HostRuntime) -> ExitCode {
     let mut errors = rt.stderr();
     ExitCode::from(end_with(&ending, &mut errors))
 }
-
-#[cfg(test)]
-mod tests;
-#[cfg(test)]
-mod word_tests;

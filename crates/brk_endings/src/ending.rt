@@ -1,12 +1,12 @@
 ghost use Rattle.std.specs.Prelude.{◌≡◌, OnErr, OnOk};
 ghost use Rattle.std.specs.Io.KnownBytes.{Appends};
-ghost use Rattle.brk_cli.specs.Ending as spec;
-ghost use Rattle.brk_cli.specs.Lines as line;
+ghost use Rattle.brk_endings.specs.Ending as spec;
+ghost use Rattle.brk_endings.specs.Lines as line;
 
-use crate::job::UsageFault;
 use crate::telling::{Line, fault_line, write_line};
 use brk_import::{BatchFault, FaultKind};
 use brk_money::Fault;
+use brk_words::UsageFault;
 use brk_writing::{NotWritten, write_out};
 use std::io::Write;
 

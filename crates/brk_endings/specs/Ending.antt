@@ -4,11 +4,11 @@ use Rattle.brk_money.specs.declared.fault.Fault.{Fault}
 use Rattle.brk_money.specs.declared.fault.Fault.TheVariants as fault
 use Rattle.brk_import.specs.declared.batch_fault.FaultKind.{FaultKind}
 use Rattle.brk_import.specs.declared.batch_fault.FaultKind.TheVariants as kind
-use Rattle.brk_cli.specs.declared.ending.Ending.{Ending}
-use Rattle.brk_cli.specs.declared.ending.Ending.TheVariants as ending
-use Rattle.brk_cli.specs.declared.job.UsageFault.{UsageFault}
-use Rattle.brk_cli.specs.declared.job.UsageFault.TheVariants as usage
-use Rattle.brk_cli.specs.Lines.{fault_line}
+use Rattle.brk_endings.specs.declared.ending.Ending.{Ending}
+use Rattle.brk_endings.specs.declared.ending.Ending.TheVariants as ending
+use Rattle.brk_words.specs.declared.job.UsageFault.{UsageFault}
+use Rattle.brk_words.specs.declared.job.UsageFault.TheVariants as usage
+use Rattle.brk_endings.specs.Lines.{fault_line}
 
 -- 1 for tables that are no desk's, 3 for what memory or a device refused
 abbrev pub fault_status : Fault → ℕ

@@ -1,6 +1,6 @@
 ghost use Rattle.std.specs.Prelude.{◌≡◌, OnErr, OnOk};
 ghost use Rattle.std.specs.Io.KnownBytes.{Appends};
-ghost use Rattle.brk_cli.specs.Lines as spec;
+ghost use Rattle.brk_endings.specs.Lines as spec;
 
 use brk_money::Fault;
 use brk_writing::{NotWritten, write_out};

@@ -1,20 +1,12 @@
 -- Lines that were written up to where the writer failed.
-use Rattle.std.proofs.Common.{◌≡◌, refl, ◌++◌, ◌∙◌, ℕ, List, [], Option, Result, Ok, Err, OnErr, take, drop, sym, ap, append_assoc, append-nil, take-append-drop}
+use Rattle.std.proofs.Common.{◌≡◌, ◌++◌, ◌∙◌, ℕ, List, Option, Result, Ok, Err, OnErr, take, drop, sym, ap, append_assoc, take-append-drop}
 use Rattle.std.specs.Io.KnownBytes.{Appends}
-use Rattle.std.proofs.KnownBytes.{Appends-nil, Appends-trans}
-use Rattle.brk_cli.specs.Lines.{WritesFront}
+use Rattle.std.proofs.KnownBytes.{Appends-trans}
+use Rattle.brk_endings.specs.Lines.{WritesFront}
 
 -- so many bytes
 pub front_of : (a b : Option (List ℕ)) (line : List ℕ) (k : ℕ) → Appends a b (take k line) → WritesFront a b line
 front_of a b line k h = (take k line, drop k line, h, sym (take-append-drop k line))
-
--- all of them
-pub front_whole : (a b : Option (List ℕ)) (line : List ℕ) → Appends a b line → WritesFront a b line
-front_whole a b line h = (line, [], h, sym (append-nil line))
-
--- nothing
-pub front_none : (a : Option (List ℕ)) (line : List ℕ) → WritesFront a a line
-front_none a line = ([], line, Appends-nil a, refl)
 
 -- the front of a part, before the rest
 pub front_before : (a b : Option (List ℕ)) (part rest : List ℕ) → WritesFront a b part → WritesFront a b (part ++ rest)

@@ -1,8 +1,5 @@
-//! The words of the command line.
-
-use crate::job::{Job, UsageFault};
-use crate::words::read_words;
 use brk_money::Stamp;
+use brk_words::{Job, UsageFault, read_words};
 use std::alloc::{AllocError, Global};
 use std::test::Fail;
 

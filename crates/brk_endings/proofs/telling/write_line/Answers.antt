@@ -1,6 +1,6 @@
 use Rattle.std.proofs.lemmas.Result.{on_err_weaker}
-use Rattle.brk_cli.proofs.Fronts.{front_after, front_before, front_of, on_err}
-use Rattle.brk_cli.proofs.telling.write_line.Goals as goal
+use Rattle.brk_endings.proofs.Fronts.{front_after, front_before, front_of, on_err}
+use Rattle.brk_endings.proofs.telling.write_line.Goals as goal
 
 pub returns-in_err-write_out-clause-err : goal.returns-in_err-write_out-clause-err
 returns-in_err-write_out-clause-err g c =
