@@ -1,6 +1,10 @@
 //! The tables of a program as lists of records, in a database that may have others.
 #![tactic(auto)]
 
+mod columns;
+
+pub use columns::shows_columns;
+
 ghost use Rattle.std.specs.Prelude.{◌≡◌, IfOk, IsTrue, None, map};
 ghost use Rattle.sqlite_value.specs.declared.value.Value.TheVariants.{Int};
 ghost use Rattle.sqlite_value.specs.Order.{column};
