@@ -3,8 +3,6 @@
 
 mod columns;
 
-pub use columns::shows_columns;
-
 ghost use Rattle.std.specs.Prelude.{◌≡◌, IfOk, IsTrue, None, map};
 ghost use Rattle.sqlite_value.specs.declared.value.Value.TheVariants.{Int};
 ghost use Rattle.sqlite_value.specs.Order.{column};
@@ -16,6 +14,7 @@ ghost use Rattle.brk_rows.specs.Rows.{climbs_from, IsSheet};
 ghost use Rattle.brk_rows.specs.Model.{Steps};
 ghost use Rattle.brk_rows.specs.Desk.{Probes};
 
+pub use columns::shows_columns;
 use sqlite::{Alter, Connection, Error, Row, Transaction};
 use sqlite_resolve::error::CompileError;
 use std::alloc::Global;
