@@ -1,4 +1,4 @@
-use Rattle.std.proofs.Common.{◌≡◌, ◌∙◌, ℕ, List, [], Bool, true, false, Ok, get_or, map, subst, take}
+use Rattle.std.proofs.Common.{◌≡◌, ◌∙◌, [], Bool, true, false, Ok, get_or, map, subst, take}
 use Rattle.std.specs.Prelude.{IsTrue}
 use Rattle.sqlite.specs.Held.{state}
 use Rattle.sqlite.specs.State.{State}
