@@ -11,7 +11,7 @@ use Rattle.sqlite_schema.specs.declared.schema.Table.{Table}
 use Rattle.sqlite_schema.specs.Names.{table_named}
 use Rattle.brk_rows.specs.Desk.{Heads}
 use Rattle.brk_tables_form.specs.Desk.{Which, shape}
-use Rattle.brk_tables_form.specs.Present.{has_tables_of_desk}
+use Rattle.brk_tables_making.specs.Present.{has_tables_of_desk}
 use Rattle.brk_tables_whole.specs.Headings.{Heading, HeadsEach, heading}
 use Rattle.brk_tables_whole.specs.Schemas.{HasTable, HasTablesOf, all_tables, first_schema, names_of}
 use Rattle.brk_tables_whole.proofs.Stars.{star, columns_told}

@@ -9,7 +9,7 @@ ghost use Rattle.brk_tables_whole.specs.Schemas.{HasTablesOf, first_schema};
 use crate::column_names::COLUMN_NAMES;
 use brk_money::Fault;
 use brk_tables_form::calls::shows_columns;
-use brk_tables_form::has_every_table;
+use brk_tables_making::has_every_table;
 use sqlite::{Alter, Transaction};
 
 // Whether each of the statements shows just the columns of its names.

@@ -3,7 +3,7 @@ use Rattle.std.specs.Prelude.{IsTrue}
 use Rattle.sqlite.specs.Held.{state}
 use Rattle.sqlite.specs.State.{State}
 use Rattle.brk_rows.proofs.Inside.{step_then, step_read}
-use Rattle.brk_tables_form.specs.Present.{has_tables_of_desk}
+use Rattle.brk_tables_making.specs.Present.{has_tables_of_desk}
 use Rattle.brk_tables_whole.specs.Headings.{HeadsEach}
 use Rattle.brk_tables_whole.specs.Schemas.{HasTablesOf, all_tables, first_schema}
 use Rattle.brk_tables_whole.proofs.Headed.{columns_tell, heading_of, none_there}
