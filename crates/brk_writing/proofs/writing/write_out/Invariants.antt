@@ -1,6 +1,6 @@
 use Rattle.std.proofs.Common.{length, ◌-◌, ◌≤◌, take}
 use Rattle.std.specs.Io.KnownBytes.{Appends}
-use Rattle.brk_import.proofs.lines.write_out.Given as goal
+use Rattle.brk_writing.proofs.writing.write_out.Given as goal
 
 -- what was written so far is the front of the bytes
 abbrev pub invariant-loop-at : goal.invariant-loop-at

@@ -1,8 +1,8 @@
 use Rattle.std.proofs.Common.{arith}
 use Rattle.std.proofs.KnownBytes.{Appends-trans}
 use Rattle.std.proofs.lemmas.List.{length-drop, length-take}
-use Rattle.brk_import.proofs.Bytes.{take_on}
-use Rattle.brk_import.proofs.lines.write_out.Goals as goal
+use Rattle.brk_writing.proofs.Bytes.{take_on}
+use Rattle.brk_writing.proofs.writing.write_out.Goals as goal
 
 pub loop-at-preserved : goal.loop-at-preserved
 loop-at-preserved g c =
