@@ -1,10 +1,11 @@
 //! Statements of accounts: what the desk walks over, written line by line.
 #![tactic(auto)]
 
+mod days;
 mod parts;
-mod sections;
+pub mod sections;
 pub mod statement;
-mod visitors;
+pub mod visitors;
 
 pub use brk_report_lines::StatementFault;
 pub use statement::statement;

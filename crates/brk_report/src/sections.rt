@@ -1,12 +1,9 @@
 //! The parts of a statement that the desk walks over. Each keeps what the desk's store held.
 
-ghost use Rattle.std.specs.Prelude.{◌≡◌, ◌∷◌, ◌++◌, ◌+ℤ◌, List, MatchResult, length, map};
-ghost use Rattle.std.specs.Io.KnownBytes.{Appends};
-ghost use Rattle.brk_money.specs.Spelling.{Text};
-ghost use Rattle.brk_model.specs.Statement.{cash_before, cash_in, cash_total, cash_within, lines_text, lots_in};
-ghost use Rattle.brk_model.specs.Statement as statement;
-ghost use Rattle.brk_report.specs.Stated.{FailsAt, Keeps, OverRows};
-ghost use Rattle.brk_report_lines.specs.Written.{BreaksIn};
+ghost use Rattle.std.specs.Prelude.{◌≡◌, ◌+ℤ◌};
+ghost use Rattle.brk_model.specs.Statement.{cash_before, cash_in, cash_total};
+ghost use Rattle.brk_report.specs.Stated.{IsTotal, Keeps, OverRows, WritesCash, WritesLots};
+ghost use Rattle.brk_report.specs.Stops.{fault_of};
 
 use crate::days::{first_stamp, last_stamp, stamp_before};
 use crate::visitors::{CashLines, Lines, Sum};
@@ -18,7 +15,7 @@ use std::alloc::Global;
 use std::io::Write;
 
 /// How many cash rows were written, and the amount with what they moved.
-pub(crate) struct Moved {
+pub struct Moved {
     pub count: u64,
     pub total: Wide,
 }
@@ -42,7 +39,7 @@ pub(crate) fn sum_before<S: Alter>(
     opening: Cents,
 ) -> Result<Wide, StatementFault>
     ensures keeps { Keeps S.Store desk.old desk.new }
-    ensures sum { OverRows S.Store desk.old desk.new (λ t. MatchResult result (λ total. total ≡ opening +ℤ cash_total (cash_before from (cash_in t account))) FailsAt) }
+    ensures sum { OverRows S.Store desk.old desk.new (λ t. IsTotal (opening +ℤ cash_total (cash_before from (cash_in t account))) result) }
 {
     let Some(last) = stamp_before(from) else {
         return Ok(Wide::from(opening));

@@ -15,7 +15,7 @@ use std::alloc::Global;
 use std::io::Write;
 
 /// A record that has a line.
-pub(crate) trait Line {
+pub trait Line {
     ghost line: { Self → Text };
 
     /// The line with its line feed.
@@ -59,7 +59,7 @@ fn added(total: Wide, amount: Cents) -> Result<Wide, StatementFault>
 
 /// Adds up cash rows.
 #[derive(Drop)]
-pub(crate) struct Sum {
+pub struct Sum {
     pub total: Wide,
 }
 
@@ -88,7 +88,7 @@ impl Visitor<CashRow, StatementFault> for Sum {
 
 /// Writes a line of each record, and counts them.
 #[derive(Drop)]
-pub(crate) struct Lines<'a, W> {
+pub struct Lines<'a, W> {
     pub alloc: Global,
     pub writer: &'a mut W,
     pub count: u64,
@@ -124,7 +124,7 @@ impl<R: Line, W: Write> Visitor<R, StatementFault> for Lines<'_, W> {
 
 /// Writes a line of each cash row, counts them, and adds them up.
 #[derive(Drop)]
-pub(crate) struct CashLines<'a, W> {
+pub struct CashLines<'a, W> {
     pub lines: Lines<'a, W>,
     pub total: Wide,
 }

@@ -7,7 +7,7 @@ use Rattle.brk_money.specs.Spelling.{Text}
 use Rattle.brk_model.specs.Statement.{lines_text}
 use Rattle.brk_report_lines.specs.declared.fault.StatementFault.{StatementFault}
 use Rattle.brk_report_lines.specs.declared.fault.StatementFault.TheVariants.{Refused, Desk, Write}
-use Rattle.brk_report_lines.specs.Written.{BreaksIn, WroteFirst, WrotePart, ended}
+use Rattle.brk_report_lines.specs.Written.{BreaksIn, BreaksOff, WroteFirst, WrotePart, ended}
 
 pub appends_none : (a : Option Text) → Appends a a []
 appends_none None = tt
@@ -35,3 +35,13 @@ pub breaks_before : (xs ys : List Text) (a b : Option Text) (e : StatementFault)
 breaks_before xs ys a b (Refused r) h = absurd h
 breaks_before xs ys a b (Desk f) h = let w = h.1 in (h.0, (w.0, w.1, w.2 ++ ys, sym (append_assoc w.0 (w.1 ∷ w.2) ys) ∙ ap (λ (l : List Text). l ++ ys) w.3, w.4))
 breaks_before xs ys a b Write h = (h.0, h.1, h.2 ++ ys, h.3, sym (append_assoc h.0 (h.1 ∷ h.2) ys) ∙ ap (λ (l : List Text). l ++ ys) h.4, h.5)
+
+-- lines that may all be written, with one more behind them that is not
+pub breaks_off : (xs : List Text) (y : Text) (ys : List Text) (a b : Option Text) (e : StatementFault) → BreaksOff xs a b e → BreaksIn (xs ++ y ∷ ys) a b e
+breaks_off xs y ys a b (Refused r) h = absurd h
+breaks_off xs y ys a b (Desk f) h = (h.0, next h.1.0 h.1.1 h.1.2 h.1.3)
+  where
+    next : (first rest : List Text) → first ++ rest ≡ xs → Appends a b (lines_text first) → WroteFirst (xs ++ y ∷ ys) a b
+    next first [] e k = (first, y, ys, ap (λ (l : List Text). l ++ y ∷ ys) (sym (append-nil first) ∙ e), k)
+    next first (r ∷ rest) e k = (first, r, rest ++ y ∷ ys, sym (append_assoc first (r ∷ rest) (y ∷ ys)) ∙ ap (λ (l : List Text). l ++ y ∷ ys) e, k)
+breaks_off xs y ys a b Write h = (h.0, h.1, h.2 ++ y ∷ ys, h.3, sym (append_assoc h.0 (h.1 ∷ h.2) (y ∷ ys)) ∙ ap (λ (l : List Text). l ++ y ∷ ys) h.4, h.5)

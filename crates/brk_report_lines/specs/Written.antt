@@ -25,6 +25,12 @@ BreaksIn lines old new (Refused refusal) = ⊥
 BreaksIn lines old new (Desk fault) = MayFail fault × WroteFirst lines old new
 BreaksIn lines old new Write = WrotePart lines old new
 
+-- the same of lines behind which there are more, so that all of these may be written
+abbrev pub BreaksOff : List Text → Option Text → Option Text → StatementFault → Type 0
+BreaksOff lines old new (Refused refusal) = ⊥
+BreaksOff lines old new (Desk fault) = MayFail fault × ((first : List Text) × (rest : List Text) × (first ++ rest ≡ lines) × Appends old new (lines_text first))
+BreaksOff lines old new Write = WrotePart lines old new
+
 -- all lines, or why not
 abbrev pub Writes : {R : Type 0} → List Text → Option Text → Option Text → Result R StatementFault → Type 0
 Writes lines old new (Ok r) = Appends old new (lines_text lines)

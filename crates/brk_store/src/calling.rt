@@ -6,7 +6,7 @@ use brk_tables_walks::Visitor;
 
 /// Calls a closure at each record.
 #[derive(Drop)]
-pub(crate) struct Calls<F> {
+pub struct Calls<F> {
     pub call: F,
 }
 
@@ -33,7 +33,7 @@ impl<R, E, F: FnMut(&R) -> Result<(), E>> Visitor<R, E> for Calls<F> {
 
 /// Calls a closure at each lot, with its symbol.
 #[derive(Drop)]
-pub(crate) struct LotCalls<F> {
+pub struct LotCalls<F> {
     pub call: F,
 }
 
