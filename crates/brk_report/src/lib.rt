@@ -1,7 +1,6 @@
 //! Statements of accounts: what the desk walks over, written line by line.
 #![tactic(auto)]
 
-mod days;
 mod parts;
 pub mod sections;
 pub mod statement;

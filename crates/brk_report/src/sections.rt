@@ -5,11 +5,10 @@ ghost use Rattle.brk_model.specs.Statement.{cash_before, cash_in, cash_total};
 ghost use Rattle.brk_report.specs.Stated.{IsTotal, Keeps, OverRows, WritesCash, WritesLots};
 ghost use Rattle.brk_report.specs.Stops.{fault_of};
 
-use crate::days::{first_stamp, last_stamp, stamp_before};
 use crate::visitors::{CashLines, Lines, Sum};
 use brk_desk::{Desk, Stop};
 use brk_money::{Cents, Day, Id, Stamp, Wide};
-use brk_report_lines::StatementFault;
+use brk_report_lines::{StatementFault, first_stamp, last_stamp, stamp_before};
 use sqlite::Alter;
 use std::alloc::Global;
 use std::io::Write;

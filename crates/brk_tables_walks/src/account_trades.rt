@@ -7,7 +7,7 @@ ghost use Rattle.brk_tables_walks.specs.Numbers.{number_cells};
 
 use brk_money::{Fault, Id};
 use brk_tables_form::calls::select;
-use brk_tables_form::cells::{has_columns, id_in};
+use brk_tables_form::record::Record;
 use brk_tables_form::values::id_value;
 use sqlite::{Alter, Row, Transaction};
 use std::alloc::Global;
@@ -64,6 +64,7 @@ impl AccountTrades {
     }
 
     /// Whether a trade is one of them.
+    #[tactic(auto, using(crate::proofs::Rising::among))]
     pub fn contains(&self, trade: Id) -> bool
         ensures { result ≡ contains_number trade self.now }
     {
@@ -78,8 +79,7 @@ fn numbers_in(alloc: Global, rows: &[Row]) -> Result<AccountTrades, Fault>
 {
     let mut trades = AccountTrades::new(alloc);
     for row in rows {
-        has_columns(row, 1)?;
-        trades.add(id_in(row, 0)?)?;
+        trades.add(Id::from_row(row)?)?;
     }
     Ok(trades)
 }

@@ -18,6 +18,9 @@ returns-in-Err-clause-crash g c =
     let held = c.query.follows.holds-at-none in
     commits_none c.args.sql.now (bound c.args.params.now) old new c.requires.query (let kept : Survives old new (CommitsShowing c.args.sql.now (bound c.args.params.now) old) = search rules in kept)
 
+pub returns-in-Err-clause-early : goal.returns-in-Err-clause-early
+returns-in-Err-clause-early g c clean = (inr refl, record { records = []; begins = inl refl; taken = refl })
+
 pub returns-in-Err-clause-kept : goal.returns-in-Err-clause-kept
 returns-in-Err-clause-kept g c clean =
     let held = c.query.follows.holds-at-none in
@@ -67,7 +70,7 @@ returns-in-Err-next-clause-early g c clean =
     let now = c.next.follows.lender-at-none.conn.now in
     let late : HasCleanDisk (state g.S.Store now) = search rules in
     let was = c.rows.invariant.4 (omega (arith, moved.survives.clean, late)) in
-    record { records = was.0; begins = inr (was.3.0.was_open, begins_at _ _ _ _ was.3.0.now_is _ (given_begin g.S.Store _ _ c.rows.rows.conn.now _ was.1)); taken = was.2 }
+    (inr refl, record { records = was.0; begins = inr (was.3.0.was_open, begins_at _ _ _ _ was.3.0.now_is _ (given_begin g.S.Store _ _ c.rows.rows.conn.now _ was.1)); taken = was.2 })
 
 pub returns-in-Err-next-clause-kept : goal.returns-in-Err-next-clause-kept
 returns-in-Err-next-clause-kept g c clean =
@@ -93,9 +96,9 @@ returns-in-Err-visit-clause-early g c clean =
     let still_so : IsUnchanged (state g.S.Store c.args.conn.now) (state g.S.Store now) = unchanged_then _ _ _ was.3 (rw c.in-Ok-Some.is at (moved.same late)) in
     record {
       records = was.0;
-      next = c.in-Ok-from_row.item;
+      next = c.in-Ok-record_in.item;
       is_open = was.3.0.was_open;
-      begins = begins_at _ _ _ _ still_so.0.now_is _ (subst (Begins _ _ (state g.S.Store now)) (sym (map_one g.R.Shown.cells was.0 _ _ c.in-Ok-from_row.ensures.value)) (given_begin g.S.Store _ _ now _ on));
+      begins = begins_at _ _ _ _ still_so.0.now_is _ (subst (Begins _ _ (state g.S.Store now)) (sym (map_one g.R.Shown.cells was.0 _ _ c.in-Ok-record_in.ensures.value)) (given_begin g.S.Store _ _ now _ on));
       at = c.rows.visitor;
       taken = was.2;
       stopped = c.in-Err-visit.ensures.stops;
@@ -126,8 +129,8 @@ rows-preserved g c =
       λ clean.
           let was = i.4 (omega (arith, moved.survives.clean, clean)) in
           let on = (rw (c.in-Ok-Some.is, c.in-Ok-Some.field-0-is) at (moved.ok clean)) c.args.sql.now (bound c.args.params.now) (map g.R.Shown.cells was.0) was.1 in
-          let it = c.in-Ok-from_row.item in
-          (was.0 ++ it ∷ [], subst (HasGiven g.S.Store _ _ _) (sym (map_one g.R.Shown.cells was.0 _ _ c.in-Ok-from_row.ensures.value)) on, folds_one _ _ was.0 _ it _ was.2 c.in-Ok-visit.ensures.takes, unchanged_then _ _ _ was.3 (rw c.in-Ok-Some.is at (moved.same clean))),
+          let it = c.in-Ok-record_in.item in
+          (was.0 ++ it ∷ [], subst (HasGiven g.S.Store _ _ _) (sym (map_one g.R.Shown.cells was.0 _ _ c.in-Ok-record_in.ensures.value)) on, folds_one _ _ was.0 _ it _ was.2 c.in-Ok-visit.ensures.takes, unchanged_then _ _ _ was.3 (rw c.in-Ok-Some.is at (moved.same clean))),
     )
 
 pub returns-clause-early : goal.returns-clause-early
@@ -135,7 +138,7 @@ returns-clause-early g c clean =
     let now = c.rows.rows.conn.now in
     let late : HasCleanDisk (state g.S.Store now) = search rules in
     let was = c.rows.invariant.4 late in
-    record { records = was.0; begins = inr (was.3.0.was_open, begins_at _ _ _ _ was.3.0.now_is _ (given_begin g.S.Store _ _ now _ was.1)); taken = was.2 }
+    (inr refl, record { records = was.0; begins = inr (was.3.0.was_open, begins_at _ _ _ _ was.3.0.now_is _ (given_begin g.S.Store _ _ now _ was.1)); taken = was.2 })
 
 pub returns-clause-kept : goal.returns-clause-kept
 returns-clause-kept g c clean =
@@ -148,13 +151,13 @@ returns-clause-kept g c clean =
 pub returns-clause-crash : goal.returns-clause-crash
 returns-clause-crash g c = search rules
 
-pub returns-in_default-clause-early : goal.returns-in_default-clause-early
-returns-in_default-clause-early g c clean =
+pub returns-in-Err-record_in-clause-early : goal.returns-in-Err-record_in-clause-early
+returns-in-Err-record_in-clause-early g c clean =
     let moved = c.next.follows.holds-at-none in
     let now = c.next.follows.lender-at-none.conn.now in
     let late : HasCleanDisk (state g.S.Store now) = search rules in
     let was = c.rows.invariant.4 (omega (arith, moved.survives.clean, late)) in
-    record { records = was.0; begins = inr (was.3.0.was_open, begins_at _ _ _ _ was.3.0.now_is _ (given_begin g.S.Store _ _ c.rows.rows.conn.now _ was.1)); taken = was.2 }
+    (c.in-Err-record_in.ensures.fault, record { records = was.0; begins = inr (was.3.0.was_open, begins_at _ _ _ _ was.3.0.now_is _ (given_begin g.S.Store _ _ c.rows.rows.conn.now _ was.1)); taken = was.2 })
 
 pub returns-in-Err-clause-leads : goal.returns-in-Err-clause-leads
 returns-in-Err-clause-leads g c = g.met.V.Visitor.stays _
