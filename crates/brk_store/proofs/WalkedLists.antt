@@ -1,5 +1,5 @@
 -- The rows that a walk of the tables goes over are those of the definitions, in their order.
-use Rattle.std.proofs.Common.{◌≡◌, ℕ, ◌==◌, Bool, true, false, not, ◌&&◌, ◌||◌, cond, List, [], ◌∷◌, refl, sym, ap, subst, ◌∙◌, map, filter, find, pos, Ordering, Less, Equal, int_cmp, arith, inl, inr}
+use Rattle.std.proofs.Common.{◌≡◌, ℕ, ◌==◌, Bool, true, false, not, ◌&&◌, ◌||◌, cond, List, [], ◌∷◌, refl, sym, ap, subst, ◌∙◌, map, filter, find, pos, Ordering, Less, Equal, int_cmp, arith, inl, inr, MatchBool, Result, Ok}
 use Rattle.std.specs.Prelude.{⊤, bytes_eq, nat_lt}
 use Rattle.std.specs.List.{AllByRecursion}
 use Rattle.std.specs.Option.{option_map_or}
@@ -11,7 +11,13 @@ use Rattle.std.proofs.lemmas.Slice.Eq.{bytes_eq-Decides}
 use Rattle.sqlite_value.specs.declared.value.Value.TheVariants.{Int}
 use Rattle.sqlite_value.specs.Order.{value_cmp}
 use Rattle.sqlite_value.proofs.OrderLemmas.{value_cmp-Int}
+use Rattle.sqlite_trees.specs.declared.store.Store.{Ghosts}
 use Rattle.sqlite.specs.Effect.{Database}
+use Rattle.sqlite.specs.Held.{Held, state}
+use Rattle.brk_money.specs.declared.fault.Fault.{Fault}
+use Rattle.brk_changes.specs.Rows.{cash_row_of, holding_row_of}
+use Rattle.brk_changes.specs.declared.cash_row.CashRow as row
+use Rattle.brk_changes.specs.declared.holding_row.HoldingRow as holding
 use Rattle.brk_model.specs.Joins.{trade_in}
 use Rattle.brk_model.specs.Keys.{word, by_key, row_before}
 use Rattle.brk_model.specs.Lists.{contains_number, insert_by, sort_by, text_before}
@@ -24,7 +30,11 @@ use Rattle.brk_trade_laws.proofs.Bools.{same_text, texts_back}
 use Rattle.brk_trade_laws.proofs.LotReading.{All-sort}
 use Rattle.brk_trade_laws.proofs.Order.{by_key-filter, key_total}
 use Rattle.brk_tables_walks.specs.Lists.{cash_between, is_between, lots_by_symbol, stamp_key, symbol_key}
-use Rattle.brk_store.specs.Walked.{cash_of}
+use Rattle.brk_tables_walks.specs.Walks.{Walks}
+use Rattle.brk_tables_walks.specs.declared.walking.Stop.{Stop}
+use Rattle.brk_store.specs.Holds.{IsRead}
+use Rattle.brk_store.specs.Walked.{IsWalked, cash_of}
+use Rattle.brk_store.proofs.Walking.{is_walked, is_walked_of}
 
 -- ---- rows that stand by a number need no more of it in their order
 
@@ -177,3 +187,23 @@ cash_climbs t db has = climbs (λ (r : CashRow). r.trade) (order CashRows) (λ x
 
 pub trades_climb : (t : Tables) (db : Database) → HasRows t db → Climb (λ r. r.id) t.trades
 trades_climb t db has = climbs (λ (r : TradeRow). r.id) (order Trades) (λ x y k. less_number x.id y.id k) t.trades (has.1.rows Trades).rising
+
+-- ---- walks of a store
+
+pub lots_walked : {S V E : Type 0} (g : Ghosts S) (old new : Held S) (account : ℕ) (takes : V → holding.HoldingRow → V → Type 0) (stops : V → holding.HoldingRow → E → V → Type 0) (before after : V) (result : Result (Unit {0}) (Stop E))
+    → Walks g old new holding_row_of (lots_by_symbol account) takes stops before after result → IsWalked g old new holding_row_of (λ t. lots_in t account) takes stops before after result
+lots_walked g old new account takes stops before after result w =
+    is_walked g old new holding_row_of (lots_by_symbol account) (λ t. lots_in t account) takes stops before after (λ t has. lots_same account t (holdings_climb t (state g old).now has)) result w
+
+-- the cash rows of some stamps, those of an account's trades alone
+pub cash_walked : {S V E : Type 0} (g : Ghosts S) (old mid new : Held S) (account from to : ℕ) {W : Type 0} (inner : W → V) (trades : W → List ℕ) (takes : V → row.CashRow → V → Type 0) (stops : V → row.CashRow → E → V → Type 0) (before after : W) (ns : List ℕ)
+    → trades before ≡ ns → IsRead {E = Fault} g old mid (Ok ns) (λ numbers t. numbers ≡ map (λ r. r.id) (filter (λ r. r.account == account) t.trades)) → (result : Result (Unit {0}) (Stop E))
+    → Walks g mid new cash_row_of (cash_between from to) (λ p x q. (trades q ≡ trades p) × MatchBool (contains_number x.trade (trades p)) (takes (inner p) x (inner q)) (inner q ≡ inner p)) (λ p x e q. (contains_number x.trade (trades p) ≡ true) × stops (inner p) x e (inner q)) before after result
+    → IsWalked g old new cash_row_of (cash_of account from to) takes stops (inner before) (inner after) result
+cash_walked g old mid new account from to inner trades takes stops before after ns is_before read result w =
+    is_walked_of g old mid new cash_row_of (λ r. r.trade) inner trades takes stops before after ns is_before (cash_between from to) (cash_of account from to)
+    (λ numbers t. numbers ≡ map (λ r. r.id) (filter (λ r. r.account == account) t.trades))
+    (λ t has known.
+    (λ i. filter (λ (m : CashRow). (ap (contains_number m.trade) known ∙ trades_same m.trade account t.trades (trades_climb t (state g mid).now has)) i) (cash_between from to t))
+    ∙ cash_same account from to t (cash_climbs t (state g mid).now has))
+    read result w

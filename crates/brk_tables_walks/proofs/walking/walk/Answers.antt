@@ -43,7 +43,7 @@ returns-in-Ok-None-clause-all g c clean =
     let now = c.next.follows.lender-at-none.conn.now in
     let late : HasCleanDisk (state g.S.Store now) = search rules in
     let was = c.rows.invariant.4 (omega (arith, moved.survives.clean, late)) in
-    let shown = (rw (c.in-Ok-None.is, c.in-Ok-None.field-0-is) at (moved.ok late)) c.args.sql.now (bound c.args.params.now) (map g.R.Shown.cells was.0) was.1 in
+    let shown = (rw (c.in-Ok-None.is, c.in-Ok-None.field-0-is) at (moved.ok late)) c.args.sql.now (bound c.args.params.now) (map g.R.Record.cells was.0) was.1 in
     record { records = was.0; is_open = was.3.0.was_open; shown = shown_at _ _ _ _ was.3.0.now_is _ _ c.requires.query (still _ was.3.0.was_open) shown; taken = was.2 }
 
 pub returns-in-Ok-None-clause-same : goal.returns-in-Ok-None-clause-same
@@ -92,13 +92,13 @@ returns-in-Err-visit-clause-early g c clean =
     let now = c.next.follows.lender-at-none.conn.now in
     let late : HasCleanDisk (state g.S.Store now) = search rules in
     let was = c.rows.invariant.4 (omega (arith, moved.survives.clean, late)) in
-    let on = (rw (c.in-Ok-Some.is, c.in-Ok-Some.field-0-is) at (moved.ok late)) c.args.sql.now (bound c.args.params.now) (map g.R.Shown.cells was.0) was.1 in
+    let on = (rw (c.in-Ok-Some.is, c.in-Ok-Some.field-0-is) at (moved.ok late)) c.args.sql.now (bound c.args.params.now) (map g.R.Record.cells was.0) was.1 in
     let still_so : IsUnchanged (state g.S.Store c.args.conn.now) (state g.S.Store now) = unchanged_then _ _ _ was.3 (rw c.in-Ok-Some.is at (moved.same late)) in
     record {
       records = was.0;
       next = c.in-Ok-record_in.item;
       is_open = was.3.0.was_open;
-      begins = begins_at _ _ _ _ still_so.0.now_is _ (subst (Begins _ _ (state g.S.Store now)) (sym (map_one g.R.Shown.cells was.0 _ _ c.in-Ok-record_in.ensures.value)) (given_begin g.S.Store _ _ now _ on));
+      begins = begins_at _ _ _ _ still_so.0.now_is _ (subst (Begins _ _ (state g.S.Store now)) (sym (map_one g.R.Record.cells was.0 _ _ c.in-Ok-record_in.ensures.value)) (given_begin g.S.Store _ _ now _ on));
       at = c.rows.visitor;
       taken = was.2;
       stopped = c.in-Err-visit.ensures.stops;
@@ -128,9 +128,9 @@ rows-preserved g c =
       (c.in-Ok-visit.ensures.ready, g.met.V.Visitor.goes_on _ _ _ i.3.1 c.in-Ok-visit.ensures.leads),
       λ clean.
           let was = i.4 (omega (arith, moved.survives.clean, clean)) in
-          let on = (rw (c.in-Ok-Some.is, c.in-Ok-Some.field-0-is) at (moved.ok clean)) c.args.sql.now (bound c.args.params.now) (map g.R.Shown.cells was.0) was.1 in
+          let on = (rw (c.in-Ok-Some.is, c.in-Ok-Some.field-0-is) at (moved.ok clean)) c.args.sql.now (bound c.args.params.now) (map g.R.Record.cells was.0) was.1 in
           let it = c.in-Ok-record_in.item in
-          (was.0 ++ it ∷ [], subst (HasGiven g.S.Store _ _ _) (sym (map_one g.R.Shown.cells was.0 _ _ c.in-Ok-record_in.ensures.value)) on, folds_one _ _ was.0 _ it _ was.2 c.in-Ok-visit.ensures.takes, unchanged_then _ _ _ was.3 (rw c.in-Ok-Some.is at (moved.same clean))),
+          (was.0 ++ it ∷ [], subst (HasGiven g.S.Store _ _ _) (sym (map_one g.R.Record.cells was.0 _ _ c.in-Ok-record_in.ensures.value)) on, folds_one _ _ was.0 _ it _ was.2 c.in-Ok-visit.ensures.takes, unchanged_then _ _ _ was.3 (rw c.in-Ok-Some.is at (moved.same clean))),
     )
 
 pub returns-clause-early : goal.returns-clause-early
