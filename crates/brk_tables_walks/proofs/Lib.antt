@@ -1,4 +1,5 @@
 pub mod Compared
+pub mod Starts
 pub mod Records
 pub mod TradesOf
 pub mod CashBetween

@@ -1,5 +1,5 @@
 -- Numbers that rise: one more at their end, and whether one is among them.
-use Rattle.std.proofs.Common.{◌≡◌, ℕ, ◌+◌, ◌-◌, ◌≤◌, ◌<◌, ◌==◌, Bool, true, false, List, [], ◌∷◌, ◌++◌, Result, Ok, Err, length, get_or, is_ok, nat_cmp, refl, sym, subst, ◌∙◌, arith, inl, inr, eq-eqb, ne_eqb}
+use Rattle.std.proofs.Common.{◌≡◌, ℕ, suc, ◌+◌, ◌-◌, ◌≤◌, ◌<◌, ◌==◌, Bool, true, false, List, [], ◌∷◌, ◌++◌, Result, Ok, Err, length, get_or, is_ok, nat_cmp, refl, sym, subst, ◌∙◌, arith, inl, inr, eq-eqb, ne_eqb}
 use Rattle.std.specs.Prelude.{nat_lt}
 use Rattle.std.specs.List.Sorted.{IsBinarySearchResult}
 use Rattle.std.proofs.lemmas.Bool.{cases_Bool, ltb-true, ltb-false}
@@ -38,4 +38,4 @@ among ns n (Err i) rising found = sym (none ns (λ k h. grind arith))
   where
     none : (ms : List ℕ) → ((k : ℕ) → k < length ms → get_or ms k 0 ≡ n → ⊥) → contains_number n ms ≡ false
     none [] h = refl
-    none (m ∷ ms) h = rw (ne_eqb m n (λ e. h 0 (omega arith) e)) (none ms (λ k b. h (k + 1) (omega (arith, b))))
+    none (m ∷ ms) h = rw (ne_eqb m n (λ e. h 0 (omega arith) e)) (none ms (λ k b e. h (suc k) (omega (arith, b)) e))

@@ -10,7 +10,7 @@ use Rattle.brk_model.specs.Tables.{HoldingRow}
 use Rattle.brk_model.specs.Keys.{KeyPart, by_key, insert_row}
 use Rattle.brk_rows.specs.Desk.{Tells}
 use Rattle.brk_rows.proofs.Looks.{tells_sorted}
-use Rattle.brk_rows.proofs.Starts.{tells_start}
+use Rattle.brk_tables_walks.proofs.Starts.{tells_start}
 use Rattle.brk_rows.proofs.Texts.{read}
 use Rattle.brk_tables_form.specs.Cells.{nat, holding_cells}
 use Rattle.brk_tables_form.specs.Desk.{Holdings, desk}

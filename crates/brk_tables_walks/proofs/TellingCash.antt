@@ -7,7 +7,7 @@ use Rattle.sqlite.specs.State.{State, Shown, Begins}
 use Rattle.brk_model.specs.Tables.{CashRow}
 use Rattle.brk_rows.specs.Desk.{Tells}
 use Rattle.brk_rows.proofs.Looks.{tells_sorted}
-use Rattle.brk_rows.proofs.Starts.{tells_start}
+use Rattle.brk_tables_walks.proofs.Starts.{tells_start}
 use Rattle.brk_rows.proofs.Texts.{read}
 use Rattle.brk_tables_form.specs.Cells.{nat, cash_cells}
 use Rattle.brk_tables_form.specs.Desk.{CashRows, desk}

@@ -4,4 +4,4 @@ use Rattle.brk_tables_walks.proofs.account_trades.numbers_in.Given as goal
 
 -- what was added so far are the numbers of the rows before
 abbrev pub invariant-loop-row : goal.invariant-loop-row
-invariant-loop-row g l = map number_cells l.trades ≡ take l.row-index l.rows
+invariant-loop-row l = map number_cells l.trades ≡ take l.row-index l.rows
