@@ -1,7 +1,7 @@
 #!/usr/bin/env python3
-"""Writes the parts of the crates brk_tables_form, brk_tables_reference, brk_tables_trading, brk_tables_walks and brk_tables_whole that follow from the list of
-tables and statements below: the shapes and cells of the tables and which text makes which table (brk_tables_form), and what
-each SQL text means over any schema (in the crate of the statement). Run it at the top of the repository after a change of the
+"""Writes the parts of the crates brk_tables_form, brk_tables_making, brk_tables_reference, brk_tables_trading, brk_tables_walks and brk_tables_whole that
+follow from the list of tables and statements below: the shapes and cells of the tables (brk_tables_form), which text makes which table
+(brk_tables_making), and what each SQL text means over any schema (in the crate of the statement). Run it at the top of the repository after a change of the
 list; `.ci/run` does so first. It lays out what it wrote by `rt fmt`, so where nothing changed it leaves the tree as it was, and
 it prints nothing. With `--texts` it prints the SQL texts as well, for the Rust code. What it writes is checked like any other
 file."""
@@ -12,6 +12,7 @@ import sys
 
 OUT = 'crates/brk_tables_form/proofs'
 SPECS = 'crates/brk_tables_form/specs'
+MAKING = 'crates/brk_tables_making/proofs'
 
 # For each table: the SQL name, its name among the tables, the type of its rows, the key of a row, the list of its rows,
 # whether its key is the rowid, and its columns: name, kind, how a row r shows it, the table and column it names.
@@ -565,7 +566,7 @@ pub makes_{d[0]} : (old new : State) (count : ℕ) → Executes {d[0]}_text [] o
 unfolding everything
 makes_{d[0]} = makes {d[0]}_text {d[0]} refl (λ tree. refl) (λ tree. refl) refl (read {d[0]}_text) _ refl refl refl refl refl refl refl refl
 """
-    save(f'{OUT}/Makes.antt', out)
+    save(f'{MAKING}/Makes.antt', out)
 
 def probing():
     out = f"""-- Written by tools/tables.py: what a statement that is looked at, and not run, tells of a table.
@@ -596,16 +597,18 @@ pairs = {lst(f'({d[0]}_probe, {q(d[1])})' for d in DATA)}
 pub all_probed : AllByRecursion (λ (p : List ℕ × List ℕ). (schema : Schema) (has : Bool) → Probes p.0 has schema → has ≡ is_some (table_named schema p.1)) pairs
 all_probed = {'('.join(f'({d[0]}_probed, ' for d in DATA).replace('((','(')}tt{')' * len(DATA)}
 """
-    save(f'{OUT}/Probing.antt', out)
+    save(f'{MAKING}/Probing.antt', out)
 
 # for each crate: its statements, each with its name, its table, and what it takes
 STATEMENTS = {
     'brk_tables_form': [
-        (insert, 'AddDesk', 'desk_row', [('lit', 1), ('lit', 1), 'null']),
         (insert, 'AddKept', 'kept', [1, 2, 3, 4]),
         (update, 'SetLast', 'desk_row', [('D_LAST', 1)], [('D_ID', 2)]),
         (select, 'DeskRows', 'desk_row', [], [('D_ID', False)]),
         (select, 'KeptByKey', 'kept', [('K_BATCH', 1), ('K_N', 2)], [('K_BATCH', False), ('K_N', False)]),
+    ],
+    'brk_tables_making': [
+        (insert, 'AddDesk', 'desk_row', [('lit', 1), ('lit', 1), 'null']),
     ],
     'brk_tables_reference': [
         (insert, 'AddBroker', 'broker', [1, 2, ('lit', 0), ('lit', 0)]),

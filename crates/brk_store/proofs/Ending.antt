@@ -16,7 +16,9 @@ use Rattle.brk_rows.proofs.Inside.{clean_before, commits_all, commits_crash, ste
 use Rattle.brk_money.specs.declared.fault.Fault.{Fault}
 use Rattle.brk_money.specs.declared.fault.Fault.TheVariants.{Store}
 use Rattle.brk_tables_form.specs.Desk.{desk}
-use Rattle.brk_tables_form.specs.Made.{HasRows, MakesDesk, has_table_of_desk}
+use Rattle.brk_tables_form.specs.Made.{HasRows}
+use Rattle.brk_tables_making.specs.Made.{MakesDesk}
+use Rattle.brk_tables_making.specs.Present.{has_table_of_desk}
 use Rattle.brk_store.specs.Holds.{Holds, IsSame, IsRead, IsApplied, IsCreated}
 
 abbrev pub begun : {S : Type 0} → Held S → Held S

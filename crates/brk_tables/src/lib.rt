@@ -3,9 +3,8 @@
 //! form, are the fault `Store`.
 #![tactic(auto)]
 
-pub use brk_tables_form::{
-    add_kept, has_some_table, kept_by_key, last_stamp, make_tables, set_last_stamp,
-};
+pub use brk_tables_form::{add_kept, kept_by_key, last_stamp, set_last_stamp};
+pub use brk_tables_making::{has_some_table, make_tables};
 pub use brk_tables_reference::{
     account_by_id, accounts_of_customer, add_account, add_band, add_broker, add_charge,
     add_customer, add_customer_tax, add_last_trade, add_permission, add_security, add_tax_rate,

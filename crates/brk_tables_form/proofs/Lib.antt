@@ -6,12 +6,6 @@ pub mod Tests
 pub mod Unique
 pub mod Places
 pub mod Back
-pub mod Makes
-pub mod Founding
-pub mod Probing
-pub mod Told
-pub mod Every
-pub mod AddDesk
 pub mod AddKept
 pub mod SetLast
 pub mod DeskRows

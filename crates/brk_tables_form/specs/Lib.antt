@@ -4,5 +4,4 @@ pub mod Cells
 pub mod Formed
 pub mod Desk
 pub mod Made
-pub mod Present
 pub mod Statements

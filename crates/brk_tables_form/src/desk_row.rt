@@ -1,11 +1,10 @@
 ghost use Rattle.std.specs.Prelude.{◌≡◌, ◌∷◌, [], IfOk, map, Err, OnErr, false};
 ghost use Rattle.brk_money.specs.declared.fault.Fault.TheVariants.{Store};
-ghost use Rattle.brk_rows.specs.Model.{Ran, Steps};
+ghost use Rattle.brk_rows.specs.Model.{Steps};
 ghost use Rattle.brk_changes.specs.Changes.{with_last};
 ghost use Rattle.brk_tables_form.specs.Cells.{desk_row_cells};
 ghost use Rattle.brk_tables_form.specs.Desk.{desk_rows};
 ghost use Rattle.brk_tables_form.specs.Formed.{all_formed, desk_forms, is_desk_row};
-ghost use Rattle.brk_tables_form.specs.Made.{desk_row_text};
 ghost use Rattle.brk_tables_form.specs.declared.misread.Misread.TheVariants.{Form as Formless};
 ghost use Rattle.brk_tables_form.specs.Statements.{Reads, Writes};
 
@@ -15,19 +14,6 @@ use crate::misread::Misread;
 use crate::values::{number_value, stamp_value};
 use brk_money::{Fault, Stamp};
 use sqlite::{Alter, Row, Transaction};
-
-/// Adds the one row of DESK, of the first schema and with no stamp yet.
-pub(crate) fn add_desk_row<S: Alter>(tx: &mut Transaction<'_, S>) -> Result<(), Fault>
-    ensures same_reference { tx.new.conn.ghost_name ≡ tx.old.conn.ghost_name }
-    ensures step { Steps S.Store tx.old tx.new result (λ _. Ran desk_row_text []) }
-    ensures fault { OnErr result (result ≡ Err Store) }
-{
-    run(
-        tx,
-        "INSERT INTO DESK (D_ID, D_SCHEMA, D_LAST) VALUES (1, 1, NULL)",
-        &[],
-    )
-}
 
 /// Sets the stamp of the last accepted command (D_LAST).
 pub fn set_last_stamp<S: Alter>(tx: &mut Transaction<'_, S>, stamp: Stamp) -> Result<(), Fault>

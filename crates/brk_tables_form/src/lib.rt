@@ -1,5 +1,5 @@
-//! The form of the tables of a brokerage over SQL: their shapes, how they are made, how a value is bound and a column read, and
-//! the desk's own rows. Each call is made within an open transaction. An error that the database answers, and a row that breaks
+//! The form of the tables of a brokerage over SQL: their shapes, how a value is bound and a column read, and the desk's own
+//! rows. Each call is made within an open transaction. An error that the database answers, and a row that breaks
 //! its form, are the fault `Store`.
 #![tactic(auto)]
 
@@ -7,9 +7,7 @@ pub mod calls;
 pub mod cells;
 pub mod desk_row;
 pub mod kept;
-pub mod making;
 pub mod misread;
-pub mod presence;
 pub mod record;
 mod reference_records;
 mod trading_records;
@@ -17,6 +15,4 @@ pub mod values;
 
 pub use desk_row::{last_stamp, set_last_stamp};
 pub use kept::{add_kept, kept_by_key};
-pub use making::make_tables;
 pub use misread::Misread;
-pub use presence::{has_every_table, has_some_table};

@@ -16,7 +16,7 @@ use Rattle.brk_rows.specs.Desk.{Stands}
 use Rattle.brk_rows.specs.Rows.{cells}
 use Rattle.brk_tables_form.specs.Cells.{nat}
 use Rattle.brk_tables_form.specs.Desk.{Which, TheDesk, shape}
-use Rattle.brk_tables_form.specs.Present.{has_tables_of_desk}
+use Rattle.brk_tables_making.specs.Present.{has_tables_of_desk}
 use Rattle.brk_tables_form.specs.Shapes.{desk_row}
 use Rattle.brk_tables_whole.specs.Schemas.{HasDesk, HasTable, IsDefined, SaysFirst, all_tables, first_schema, names_of, same_names}
 use Rattle.brk_tables_whole.specs.Whole.{ShowsAll}

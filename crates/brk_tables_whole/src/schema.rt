@@ -7,7 +7,7 @@ ghost use Rattle.brk_tables_whole.specs.Schemas.{HasDesk, IsDefined, IsFirstRow,
 
 use crate::rows::desk_rows;
 use brk_money::Fault;
-use brk_tables_form::has_every_table;
+use brk_tables_making::has_every_table;
 use sqlite::{Alter, Row, Transaction};
 use sqlite_value::value::ValueRef;
 

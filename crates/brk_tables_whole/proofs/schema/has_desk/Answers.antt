@@ -5,7 +5,7 @@ use Rattle.sqlite.specs.Held.{state}
 use Rattle.sqlite.specs.State.{State}
 use Rattle.brk_rows.proofs.Inside.{step_then, step_read}
 use Rattle.brk_tables_form.specs.Desk.{TheDesk}
-use Rattle.brk_tables_form.specs.Present.{has_tables_of_desk}
+use Rattle.brk_tables_making.specs.Present.{has_tables_of_desk}
 use Rattle.brk_tables_whole.specs.Schemas.{HasDesk, SaysFirst, first_schema}
 use Rattle.brk_tables_whole.specs.Whole.{ShowsAll}
 use Rattle.brk_tables_whole.proofs.There.{none_there, row_tells}

@@ -1,0 +1,181 @@
+//! What the tables of a desk hold, row by row.
+
+use crate::desks::{Step, expect_steps, set_desk};
+use brk_store::Store;
+use sqlite::types::ValueRef;
+use sqlite::{Connection, MemStore, Row};
+use std::alloc::Global;
+use std::test::Fail;
+
+// The tables that no trade changes, and the rows that set a desk up.
+const REFERENCE: [&str; 8] = [
+    "CUSTOMER",
+    "ACCOUNT_PERMISSION",
+    "SECURITY",
+    "CHARGE",
+    "COMMISSION_RATE",
+    "TAXRATE",
+    "CUSTOMER_TAXRATE",
+    "KEPT WHERE K_BATCH = 'SET'",
+];
+
+// The other tables, and the other rows that are kept.
+const TRADING: [&str; 13] = [
+    "DESK",
+    "BROKER",
+    "CUSTOMER_ACCOUNT",
+    "LAST_TRADE",
+    "TRADE",
+    "TRADE_HISTORY",
+    "TRADE_REQUEST",
+    "HOLDING",
+    "HOLDING_SUMMARY",
+    "HOLDING_HISTORY",
+    "SETTLEMENT",
+    "CASH_TRANSACTION",
+    "KEPT WHERE K_BATCH <> 'SET'",
+];
+
+// Those of them in which trades change or remove rows; in the others they only add some.
+const STANDING: [&str; 7] = [
+    "DESK",
+    "BROKER",
+    "CUSTOMER_ACCOUNT",
+    "LAST_TRADE",
+    "TRADE_REQUEST",
+    "HOLDING",
+    "HOLDING_SUMMARY",
+];
+
+// What the tables of reference data hold at a desk that was set up.
+const SET_TABLES: &str =
+    "CUSTOMER\n10,1,T10,Lee,Ann\nACCOUNT_PERMISSION\nSECURITY\nABC,Acme,NYSE,Tech\nCHARGE\n\
+    TLB,1,500\nTLS,1,500\nTMB,1,500\nTMS,1,500\nTSL,1,500\nCOMMISSION_RATE\n\
+    1,TLB,NYSE,1,999999,100\n1,TLS,NYSE,1,999999,100\n1,TMB,NYSE,1,999999,100\n\
+    1,TMS,NYSE,1,999999,100\n1,TSL,NYSE,1,999999,100\nTAXRATE\n1,State,20000\nCUSTOMER_TAXRATE\n\
+    10,1\nKEPT WHERE K_BATCH = 'SET'\nSET,1,broker\x1f1\x1fBo,1709251200000\n\
+    SET,2,customer\x1f10\x1f1\x1fT10\x1fLee\x1fAnn,1709251200001\n\
+    SET,3,account\x1f100\x1f10\x1f1\x1fMain\x1f1\x1f10000.00,1709251200002\n\
+    SET,4,security\x1fABC\x1fAcme\x1fNYSE\x1fTech\x1f10.00,1709251200003\n\
+    SET,5,charge\x1fTMB\x1f1\x1f5.00,1709251200004\nSET,6,charge\x1fTMS\x1f1\x1f5.00,1709251200005\n\
+    SET,7,charge\x1fTSL\x1f1\x1f5.00,1709251200006\nSET,8,charge\x1fTLS\x1f1\x1f5.00,1709251200007\n\
+    SET,9,charge\x1fTLB\x1f1\x1f5.00,1709251200008\n\
+    SET,10,band\x1f1\x1fTMB\x1fNYSE\x1f1\x1f999999\x1f100,1709251200009\n\
+    SET,11,band\x1f1\x1fTMS\x1fNYSE\x1f1\x1f999999\x1f100,1709251200010\n\
+    SET,12,band\x1f1\x1fTSL\x1fNYSE\x1f1\x1f999999\x1f100,1709251200011\n\
+    SET,13,band\x1f1\x1fTLS\x1fNYSE\x1f1\x1f999999\x1f100,1709251200012\n\
+    SET,14,band\x1f1\x1fTLB\x1fNYSE\x1f1\x1f999999\x1f100,1709251200013\n\
+    SET,15,taxrate\x1f1\x1fState\x1f20000,1709251200014\nSET,16,custtax\x1f10\x1f1,1709251200015\n";
+
+// Adds a value; a null is no text.
+fn add_value(lines: &mut String, value: ValueRef<'_>) -> Result<(), Fail> {
+    match value {
+        ValueRef::Null => Ok(()),
+        ValueRef::Int(number) => Ok(write!(lines, "{number}")?),
+        ValueRef::Text(bytes) => {
+            let text = str::from_utf8(bytes).map_err(|_| "no text")?;
+            Ok(lines.push_str(text)?)
+        }
+        ValueRef::Real(_) | ValueRef::Blob(_) => Err("a value of another kind")?,
+    }
+}
+
+// Adds a row, its values joined by commas.
+fn add_row(lines: &mut String, row: &Row) -> Result<(), Fail> {
+    for at in 0..row.column_count() {
+        if at > 0 {
+            lines.push_str(",")?;
+        }
+        add_value(lines, row.get_ref(at)?)?;
+    }
+    lines.push_str("\n")?;
+    Ok(())
+}
+
+// Adds the name of a table and its rows by rising key.
+fn add_table(
+    alloc: Global,
+    lines: &mut String,
+    conn: &mut Connection<MemStore>,
+    table: &str,
+) -> Result<(), Fail> {
+    writeln!(lines, "{table}")?;
+    let sql = format!(in alloc; "SELECT * FROM {table} ORDER BY 1, 2")?;
+    let rows = conn.query_all(sql.as_str(), &[])?;
+    for row in &rows {
+        add_row(lines, row)?;
+    }
+    Ok(())
+}
+
+// The names and the rows of these tables.
+fn lines_of(
+    alloc: Global,
+    conn: &mut Connection<MemStore>,
+    tables: &[&str],
+) -> Result<String, Fail> {
+    let mut lines = String::new(alloc);
+    for table in tables {
+        add_table(alloc, &mut lines, conn, table)?;
+    }
+    Ok(lines)
+}
+
+// Compares these tables with the rows that are wanted.
+fn expect_rows(
+    alloc: Global,
+    conn: &mut Connection<MemStore>,
+    name: &str,
+    tables: &[&str],
+    wanted: &str,
+) -> Result<(), Fail> {
+    let told = lines_of(alloc, conn, tables)?;
+    let mut at = 0u64;
+    for (row, want) in told.lines().zip(wanted.lines()) {
+        at = at.saturating_add(1);
+        if row != want {
+            return Err(Fail::new(format_args!("{name}: line {at} of the tables: {row}")));
+        }
+    }
+    if told.as_str() != wanted {
+        return Err(Fail::new(format_args!("{name}: rows that are missing, or more rows")));
+    }
+    Ok(())
+}
+
+/// Compares all tables of a store that was set up: those that no trade changes with what was set up, the others with the
+/// rows that are wanted.
+pub fn expect_tables(
+    alloc: Global,
+    store: Store<MemStore>,
+    name: &str,
+    wanted: &str,
+) -> Result<(), Fail> {
+    let mut conn = store.into_conn();
+    expect_rows(alloc, &mut conn, name, &REFERENCE, SET_TABLES)?;
+    expect_rows(alloc, &mut conn, name, &TRADING, wanted)
+}
+
+/// Compares the tables in which trades change or remove rows.
+pub fn expect_standing(
+    alloc: Global,
+    store: Store<MemStore>,
+    name: &str,
+    wanted: &str,
+) -> Result<(), Fail> {
+    let mut conn = store.into_conn();
+    expect_rows(alloc, &mut conn, name, &STANDING, wanted)
+}
+
+/// What is told of a case that fails, its batches one after another, and all tables after them.
+pub type Booked = (&'static str, &'static [Step<'static>], &'static str);
+
+/// Answers the batches of each case at a desk of its own that was set up, and compares all tables after them.
+pub fn expect_booked(alloc: Global, cases: &[Booked]) -> Result<(), Fail> {
+    for (name, steps, tables) in cases {
+        let mut desk = set_desk(alloc)?;
+        expect_steps(alloc, &mut desk, name, steps)?;
+        expect_tables(alloc, desk.into_store(), name, tables)?;
+    }
+    Ok(())
+}

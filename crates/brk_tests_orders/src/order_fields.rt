@@ -1,0 +1,193 @@
+use brk_tests_desks::desks::{Case, Step, expect_cases};
+use std::test::Fail;
+
+const ORDERS_OUT_OF_FORM: [Step; 1] = [Step::Done(
+    b"batch,F\n\
+    order\n\
+    order,100\n\
+    order,100,TMB,ABC,100,,cash,fifo,Ann,Lee\n\
+    order,100,TMB,ABC,100,,cash,fifo,Ann,Lee,T10,\n\
+    Order,100,TMB,ABC,100,,cash,fifo,Ann,Lee,T10\n\
+    order,0,TMB,ABC,100,,cash,fifo,Ann,Lee,T10\n\
+    order,0100,TMB,ABC,100,,cash,fifo,Ann,Lee,T10\n\
+    order,,TMB,ABC,100,,cash,fifo,Ann,Lee,T10\n\
+    order,1000000000001,TMB,ABC,100,,cash,fifo,Ann,Lee,T10\n\
+    order,100,TMB,abc,100,,cash,fifo,Ann,Lee,T10\n\
+    order,100,TMB,,100,,cash,fifo,Ann,Lee,T10\n\
+    order,100,TMB,ABCDEFGHIJKL01.-,100,,cash,fifo,Ann,Lee,T10\n\
+    order,100,TMB,ABC,100,,Cash,fifo,Ann,Lee,T10\n\
+    order,100,TMB,ABC,100,,credit,fifo,Ann,Lee,T10\n\
+    order,100,TMB,ABC,100,,,fifo,Ann,Lee,T10\n\
+    order,100,TMB,ABC,100,,fifo,cash,Ann,Lee,T10\n\
+    order,100,TMB,ABC,100,,cash,FIFO,Ann,Lee,T10\n\
+    order,100,TMB,ABC,100,,cash,filo,Ann,Lee,T10\n\
+    order,100,TMB,ABC,100,,cash,,Ann,Lee,T10\n\
+    order,100,TMB,ABC,100,,cash,fifo,,Lee,T10\n\
+    order,100,TMB,ABC,100,,cash,fifo,Ann,,T10\n\
+    order,100,TMB,ABC,100,,cash,fifo,Ann,Lee,\n\
+    order,100,TMB,ABC,100,,cash,fifo,1234567890123456789012345678901234567890123456789012345678901,Lee,T10\n\
+    order,100,TMB,ABC,100,,cash,fifo,Ann,1234567890123456789012345678901234567890123456789012345678901,T10\n\
+    order,100,TMB,ABC,100,,cash,fifo,A\x1bn,Lee,T10\n\
+    order,100,TMB,ABC,100,,cash,fifo,Ann,L\x1be,T10\n\
+    order,100,TMB,ABC,100,,cash,fifo,Ann,Lee,T_10\n\
+    order,100,TMB,ABC,100,,cash,fifo,Ann,Lee,123456789012345678901\n\
+    order,100,TMB,ABC,0,,cash,fifo,Ann,Lee,T10\n\
+    order,100,TMB,ABC,1000000,,cash,fifo,Ann,Lee,T10\n\
+    order,100,TMB,ABC,0100,,cash,fifo,Ann,Lee,T10\n\
+    order,100,TMB,ABC,,,cash,fifo,Ann,Lee,T10\n\
+    order,100,TMB,ABC,1.5,,cash,fifo,Ann,Lee,T10\n\
+    order,999,TMB,QQQ,-1,,cash,fifo,Ann,Lee,T10\n\
+    order,100,TMB,ABC,100,10.00,cash,fifo,Ann,Lee,T10\n\
+    order,100,TMS,ABC,100,10.00,cash,fifo,Ann,Lee,T10\n\
+    order,100,TSL,ABC,100,,cash,fifo,Ann,Lee,T10\n\
+    order,100,TLS,ABC,100,,cash,fifo,Ann,Lee,T10\n\
+    order,100,TLB,ABC,100,,cash,fifo,Ann,Lee,T10\n\
+    order,100,TLB,ABC,100,0.00,cash,fifo,Ann,Lee,T10\n\
+    order,100,TLB,ABC,100,100000.00,cash,fifo,Ann,Lee,T10\n\
+    order,100,TLB,ABC,100,010.00,cash,fifo,Ann,Lee,T10\n\
+    order,100,TLB,ABC,100,10,cash,fifo,Ann,Lee,T10\n\
+    order,999,TLB,QQQ,100,-1.00,cash,fifo,Ann,Lee,T10\n\
+    order,100,TMB,ABC,100,x,cash,fifo,Ann,Lee,T10\n\
+    order,100,TMX,ABC,100,,cash,fifo,Ann,Lee,T10\n\
+    order,100,tmb,ABC,100,,cash,fifo,Ann,Lee,T10\n\
+    order,100,,ABC,100,,cash,fifo,Ann,Lee,T10\n\
+    order,100,Market-Buy,ABC,100,,cash,fifo,Ann,Lee,T10\n\
+    order,999,TMX,QQQ,100,10.00,cash,fifo,Ann,Lee,T10\n\
+    order,100,TMX,ABC,100,x,cash,fifo,Ann,Lee,T10\n\
+    order,100,TMX,ABC,0,x,cash,fifo,Ann,Lee,T10\n\
+    order,100,TMX,ABC,0,,cash,fifo,Ann,Lee,T10\n\
+    order,100,TMX,ABC,0,x,Cash,fifo,Ann,Lee,T10\n\
+    order,100,TMB,abc,0,10.00,cash,fifo,Ann,Lee,T10\n\
+    order,100,TMB,ABC,0,10.00,cash,fifo,Ann,Lee,T10\n\
+    order,100,TSL,ABC,0,,cash,fifo,Ann,Lee,T10\n\
+    order,100,TMB,ABC,100,,cash,fifo,Ann,Lee,T10\n\
+    end,58\n",
+    "1,no,18\n2,no,18\n3,no,18\n4,no,18\n5,no,18\n6,no,18\n7,no,18\n8,no,18\n9,no,18\n\
+    10,no,18\n11,no,18\n12,no,18\n13,no,18\n14,no,18\n15,no,18\n16,no,18\n17,no,18\n\
+    18,no,18\n19,no,18\n20,no,18\n21,no,18\n22,no,18\n23,no,18\n24,no,18\n25,no,18\n\
+    26,no,18\n27,no,18\n28,no,18\n29,no,8\n30,no,8\n31,no,8\n32,no,8\n33,no,8\n34,no,8\n\
+    35,no,9\n36,no,9\n37,no,9\n38,no,9\n39,no,9\n40,no,9\n41,no,9\n42,no,9\n43,no,9\n\
+    44,no,9\n45,no,9\n46,no,7\n47,no,7\n48,no,7\n49,no,7\n50,no,7\n51,no,9\n52,no,8\n\
+    53,no,8\n54,no,18\n55,no,18\n56,no,8\n57,no,8\n\
+    58,ok,1709251200016,1,SBMT,10.00,0.00,0.00,0.00,10.00,5.00,10000.00\nend,1,0,57\n",
+)];
+
+const FEEDS_OUT_OF_FORM: [Step; 1] = [Step::Done(
+    b"batch,D\n\
+    feed\n\
+    feed,\n\
+    feed,ABC\n\
+    feed,ABC,10.00\n\
+    feed,ABC,10.00,1,\n\
+    feed,ABC,10.00,1,ABC\n\
+    feed,ABC,10.00,1,ABC,10.00\n\
+    Feed,ABC,10.00,1\n\
+    feed,abc,10.00,1\n\
+    feed,,10.00,1\n\
+    feed,ABC,10.00,0\n\
+    feed,ABC,10.00,1000000\n\
+    feed,ABC,10.00,01\n\
+    feed,ABC,10.00,\n\
+    feed,ABC,0.00,1\n\
+    feed,ABC,100000.00,1\n\
+    feed,ABC,10,1\n\
+    feed,ABC,,1\n\
+    feed,ABC,0.00,0\n\
+    feed,abc,0.00,0\n\
+    feed,ABC,0.00,1,ABC,10.00,0\n\
+    feed,ABC,0.00,0,abc,10.00,1\n\
+    feed,QQQ,0.00,1\n\
+    feed,QQQ,10.00,1\n\
+    feed,ABC,10.00,1,ABC,10.00,1,ABC,10.00,1,ABC,10.00,1,ABC,10.00,1,ABC,10.00,1,\
+    ABC,10.00,1,ABC,10.00,1,ABC,10.00,1,ABC,10.00,1,ABC,10.00,1,ABC,10.00,1,ABC,10.00,1,\
+    ABC,10.00,1,ABC,10.00,1,ABC,10.00,1,ABC,10.00,1,ABC,10.00,1,ABC,10.00,1,ABC,10.00,1,\
+    ABC,10.00,1\n\
+    feed,ABC,10.00,1,ABC,10.00,1,ABC,10.00,1,ABC,10.00,1,ABC,10.00,1,ABC,10.00,1,\
+    ABC,10.00,1,ABC,10.00,1,ABC,10.00,1,ABC,10.00,1,ABC,10.00,1,ABC,10.00,1,ABC,10.00,1,\
+    ABC,10.00,1,ABC,10.00,1,ABC,10.00,1,ABC,10.00,1,ABC,10.00,1,ABC,10.00,1,\
+    ABC,10.00,1,QQQ,10.00,1\n\
+    feed,ABC,10.00,1,ABC,10.00,1,ABC,10.00,1,ABC,10.00,1,ABC,10.00,1,ABC,10.00,1,\
+    ABC,10.00,1,ABC,10.00,1,ABC,10.00,1,ABC,10.00,1,ABC,10.00,1,ABC,10.00,1,ABC,10.00,1,\
+    ABC,10.00,1,ABC,10.00,1,ABC,10.00,1,ABC,10.00,1,ABC,10.00,1,ABC,10.00,1,ABC,10.00,1,\
+    ABC,0.00,1\n\
+    feed,ABC,10.00,1,ABC,10.00,1,ABC,10.00,1,ABC,10.00,1,ABC,10.00,1,ABC,10.00,1,\
+    ABC,10.00,1,ABC,10.00,1,ABC,10.00,1,ABC,10.00,1,ABC,10.00,1,ABC,10.00,1,ABC,10.00,1,\
+    ABC,10.00,1,ABC,10.00,1,ABC,10.00,1,ABC,10.00,1,ABC,10.00,1,ABC,10.00,1,ABC,10.00,1,\
+    ABC,10.00,0\n\
+    feed,ABC,10.00,1,ABC,10.00,1,ABC,10.00,1,ABC,10.00,1,ABC,10.00,1,ABC,10.00,1,\
+    ABC,10.00,1,ABC,10.00,1,ABC,10.00,1,ABC,10.00,1,ABC,10.00,1,ABC,10.00,1,ABC,10.00,1,\
+    ABC,10.00,1,ABC,10.00,1,ABC,10.00,1,ABC,10.00,1,ABC,10.00,1,ABC,10.00,1,\
+    ABC,10.00,1,abc,10.00,1\n\
+    feed,ABC,10.00,1,ABC,10.00,1,ABC,10.00,1,ABC,10.00,1,ABC,10.00,1,ABC,10.00,1,\
+    ABC,10.00,1,ABC,10.00,1,ABC,10.00,1,ABC,10.00,1,ABC,10.00,1,ABC,10.00,1,ABC,10.00,1,\
+    ABC,10.00,1,ABC,10.00,1,ABC,10.00,1,ABC,10.00,1,ABC,10.00,1,ABC,10.00,1,ABC,10.00,1,\
+    ABC,10.00,1,ABC\n\
+    feed,ABC,10.00,1,ABC,10.00,1,ABC,10.00,1,ABC,10.00,1,ABC,10.00,1,ABC,10.00,1,\
+    ABC,10.00,1,ABC,10.00,1,ABC,10.00,1,ABC,10.00,1,ABC,10.00,1,ABC,10.00,1,ABC,10.00,1,\
+    ABC,10.00,1,ABC,10.00,1,ABC,10.00,1,ABC,10.00,1,ABC,10.00,1,ABC,10.00,1,QQQ,10.00,1\n\
+    order,100,TSL,ABC,10,9.00,cash,fifo,Ann,Lee,T10\n\
+    order,100,TLS,ABC,10,10.01,cash,fifo,Ann,Lee,T10\n\
+    feed,ABC,10.00,1,ABC,10.00,1,ABC,10.00,1,ABC,10.00,1,ABC,10.00,1,ABC,10.00,1,\
+    ABC,10.00,1,ABC,10.00,1,ABC,10.00,1,ABC,10.00,1,ABC,10.00,1,ABC,10.00,1,ABC,10.00,1,\
+    ABC,10.00,1,ABC,10.00,1,ABC,10.00,1,ABC,10.00,1,ABC,10.00,1,ABC,10.00,1,ABC,9.00,999999\n\
+    feed,ABC,99999.99,1\n\
+    end,35\n",
+    "1,no,18\n2,no,18\n3,no,18\n4,no,18\n5,no,18\n6,no,18\n7,no,18\n8,no,18\n9,no,18\n\
+    10,no,18\n11,no,8\n12,no,8\n13,no,8\n14,no,8\n15,no,9\n16,no,9\n17,no,9\n18,no,9\n\
+    19,no,8\n20,no,18\n21,no,8\n22,no,18\n23,no,9\n24,no,4\n25,no,20\n26,no,20\n27,no,9\n\
+    28,no,8\n29,no,18\n30,no,18\n31,no,4\n\
+    32,ok,1709251200016,1,PNDG,9.00,0.00,0.00,0.00,0.90,5.00,10000.00\n\
+    33,ok,1709251200017,2,PNDG,10.01,0.00,0.00,0.00,1.00,5.00,10000.00\n\
+    34,ok,1709251200018,1\n35,ok,1709251200019,2\nend,4,0,31\n",
+)];
+
+const CANCELS_AND_WHAT_THEY_MEET: [Step; 1] = [Step::Done(
+    b"batch,H\n\
+    cancel\n\
+    cancel,\n\
+    cancel,1,\n\
+    cancel,1,1\n\
+    cancel,0\n\
+    cancel,01\n\
+    cancel,-1\n\
+    cancel,1.0\n\
+    cancel,1000000000001\n\
+    Cancel,1\n\
+    cancel,1\n\
+    cancel,1000000000000\n\
+    order,100,TSL,ABC,10,9.00,cash,fifo,Ann,Lee,T10\n\
+    order,100,TMB,ABC,10,,cash,fifo,Ann,Lee,T10\n\
+    order,100,TLB,ABC,10,10.00,cash,fifo,Ann,Lee,T10\n\
+    order,100,TLB,ABC,10,9.00,cash,fifo,Ann,Lee,T10\n\
+    cancel,5\n\
+    cancel,2\n\
+    feed,ABC,9.50,1\n\
+    cancel,3\n\
+    cancel,4\n\
+    cancel,4\n\
+    cancel,1\n\
+    cancel,1\n\
+    feed,ABC,9.00,1\n\
+    cancel,2\n\
+    cancel,1\n\
+    end,27\n",
+    "1,no,18\n2,no,18\n3,no,18\n4,no,18\n5,no,18\n6,no,18\n7,no,18\n8,no,18\n9,no,18\n\
+    10,no,18\n11,no,5\n12,no,5\n\
+    13,ok,1709251200016,1,PNDG,9.00,0.00,0.00,0.00,0.90,5.00,10000.00\n\
+    14,ok,1709251200017,2,SBMT,10.00,0.00,0.00,0.00,1.00,5.00,10000.00\n\
+    15,ok,1709251200018,3,PNDG,10.00,0.00,0.00,0.00,1.00,5.00,10000.00\n\
+    16,ok,1709251200019,4,PNDG,9.00,0.00,0.00,0.00,0.90,5.00,10000.00\n17,no,5\n\
+    18,no,13,SBMT\n19,ok,1709251200020,3\n20,no,13,SBMT\n21,ok,1709251200021,CNCL\n\
+    22,no,13,CNCL\n23,ok,1709251200022,CNCL\n24,no,13,CNCL\n25,ok,1709251200023\n\
+    26,no,13,SBMT\n27,no,13,CNCL\nend,8,0,19\n",
+)];
+
+#[test]
+fn order_fields(rt: HostRuntime) -> Result<(), Fail> {
+    let cases: [Case; 3] = [
+        ("orders_out_of_form", &ORDERS_OUT_OF_FORM),
+        ("feeds_out_of_form", &FEEDS_OUT_OF_FORM),
+        ("cancels_and_what_they_meet", &CANCELS_AND_WHAT_THEY_MEET),
+    ];
+    expect_cases(rt.alloc(), &cases)
+}

@@ -1,0 +1,141 @@
+//! A batch of five hundred orders and their results, and the same calls in one run.
+
+use brk_desk::{Answer, Call, Desk, Outcome, line_text};
+use brk_import::Counts;
+use brk_money::{Id, Stamp};
+use brk_store::Store;
+use brk_tests_desks::calls::keyed;
+use brk_tests_desks::desks::{answer_at, set_desk};
+use brk_tests_plans::worked::FIRST_MOMENT;
+use sqlite::MemStore;
+use std::alloc::Global;
+use std::process::Abort;
+use std::test::Fail;
+
+const TRADES: u64 = 500;
+
+// An order of `n` shares: each third is a sale, each second takes the last lots first.
+fn order(alloc: Global, n: u64) -> Result<String, Fail> {
+    let kind = if n % 3 == 0 { "TMS" } else { "TMB" };
+    let end = if n % 2 == 0 { "lifo" } else { "fifo" };
+    Ok(format!(in alloc; "order,100,{kind},ABC,{n},,cash,{end},Ann,Lee,T10")?)
+}
+
+fn result(alloc: Global, n: u64) -> Result<String, Fail> {
+    Ok(format!(in alloc; "result,{n},10.00")?)
+}
+
+// The rows of all trades, each with its result after it.
+fn rows(alloc: Global) -> Result<Vec<String>, Fail> {
+    let mut rows = Vec::new(alloc);
+    for n in 1..=TRADES {
+        rows.push(order(alloc, n)?)?;
+        rows.push(result(alloc, n)?)?;
+    }
+    Ok(rows)
+}
+
+fn batch_of(alloc: Global, rows: &[String]) -> Result<String, Fail> {
+    let mut batch = String::from_str(alloc, "batch,L\n")?;
+    for row in rows {
+        writeln!(batch, "{row}")?;
+    }
+    writeln!(batch, "end,{}", rows.len())?;
+    Ok(batch)
+}
+
+// Compares the sums after all trades: 83,667 shares were bought and 41,583 were sold.
+fn expect_sums(rt: &impl Abort, alloc: Global, mut store: Store<MemStore>) -> Result<(), Fail> {
+    let account = Id::new(100).ok_or("account")?;
+    let broker = Id::new(1).ok_or("broker")?;
+    let summaries = store.summaries_of(alloc, account)?;
+    assert_eq!(rt; summaries.len(), 1);
+    assert_eq!(rt; summaries[0].qty, 42_084);
+    match store.broker_numbers(broker)? {
+        Some(numbers) => {
+            assert_eq!(rt; numbers.trades.get(), 500);
+            assert_eq!(rt; numbers.commissions.get(), 1_252_500);
+        }
+        None => Err("no broker")?,
+    }
+    Ok(())
+}
+
+// The rows as one batch, and compares that each is accepted and where the last leaves the account.
+fn expect_batch(rt: &impl Abort, alloc: Global, rows: &[String]) -> Result<Vec<u8>, Fail> {
+    let batch = batch_of(alloc, rows)?;
+    let mut desk = set_desk(alloc)?;
+    let (lines, ended) = answer_at(alloc, &mut desk, FIRST_MOMENT, batch.as_bytes());
+    let all = Counts {
+        ok: 1_000,
+        again: 0,
+        no: 0,
+    };
+    assert!(rt; ended == Ok(all));
+    assert!(rt;
+        lines.ends_with(
+            b"\n1000,ok,1709251201015,50.00,0.00,-5055.00,2024-03-03,0.00,0.00,-425865.00\nend,1000,0,0\n"
+        )
+    );
+    expect_sums(rt, alloc, desk.into_store())?;
+    Ok(lines)
+}
+
+// The calls of all rows.
+fn calls(alloc: Global, rows: &[String]) -> Result<Vec<(Stamp, Call)>, Fail> {
+    let mut calls = Vec::new(alloc);
+    for (row, n) in rows.iter().zip(1..=2 * TRADES) {
+        calls.push(keyed(alloc, b"L", n, row.as_str())?)?;
+    }
+    Ok(calls)
+}
+
+// What comes of the same rows in one run.
+fn outcomes(
+    alloc: Global,
+    desk: &mut Desk<MemStore>,
+    rows: &[String],
+) -> Result<Vec<Outcome>, Fail> {
+    let calls = calls(alloc, rows)?;
+    let mut out = Vec::new(alloc);
+    desk.run(alloc, &calls, &mut out)?;
+    Ok(out)
+}
+
+// Adds the line of an answer, as a batch tells it.
+fn add_line(alloc: Global, lines: &mut String, n: u64, outcome: &Outcome) -> Result<(), Fail> {
+    let Outcome::Did(Answer::Done(reply)) = outcome else {
+        return Err("not accepted")?;
+    };
+    let line = line_text(alloc, reply)?;
+    writeln!(lines, "{n},ok,{line}")?;
+    Ok(())
+}
+
+// The lines of these outcomes.
+fn lines_of(alloc: Global, outcomes: &[Outcome]) -> Result<String, Fail> {
+    let mut lines = String::new(alloc);
+    for (outcome, n) in outcomes.iter().zip(1..=2 * TRADES) {
+        add_line(alloc, &mut lines, n, outcome)?;
+    }
+    Ok(lines)
+}
+
+// The lines of the same rows in one run.
+fn lines_of_run(rt: &impl Abort, alloc: Global, rows: &[String]) -> Result<String, Fail> {
+    let mut desk = set_desk(alloc)?;
+    let lines = lines_of(alloc, &outcomes(alloc, &mut desk, rows)?)?;
+    expect_sums(rt, alloc, desk.into_store())?;
+    Ok(lines)
+}
+
+#[test]
+fn five_hundred_trades(rt: HostRuntime) -> Result<(), Fail> {
+    let alloc = rt.alloc();
+    let rows = rows(alloc)?;
+    let batch = expect_batch(&rt, alloc, &rows)?;
+    let mut run = lines_of_run(&rt, alloc, &rows)?;
+    run.push_str("end,1000,0,0\n")?;
+    assert!(rt; batch.as_slice() == run.as_bytes());
+    Ok(())
+}
