@@ -165,3 +165,30 @@ module _ {S X M V W E : Type 0} (g : Ghosts S) (old mid new : Held S) (of : X �
         broken : (r : Result (Unit {0}) (Stop E)) → HasCleanDisk (state g new) → IfErr r (BreaksOff (tables.AreFirst (state g mid) walked) of TakesMine StopsMine before after) → IfErr r (BreaksOff (AreFirst g old list) of takes stops (inner before) (inner after))
         broken (Ok u) clean h = tt
         broken (Err stop) clean h = breaks_mine clean stop h
+
+-- ---- a walk that calls a closure is one over the closure's states
+
+folds_inner : {V W X : Type 0} (inner : W → V) (takes : V → X → V → Type 0) (p : W) (xs : List X) (q : W) → FoldsTo (λ v x w. takes (inner v) x (inner w)) p xs q → FoldsTo takes (inner p) xs (inner q)
+folds_inner inner takes p [] q h = ap inner h
+folds_inner inner takes p (x ∷ xs) q h = (inner h.0, h.1, folds_inner inner takes h.0 xs q h.2)
+
+pub is_walked_by : {S X M V W E : Type 0} (g : Ghosts S) (old new : Held S) (of : X → M) (list : Tables → List M) (inner : W → V) (takes : V → X → V → Type 0) (stops : V → X → E → V → Type 0) (before after : W) (result : Result (Unit {0}) (Stop E))
+    → IsWalked g old new of list (λ p x q. takes (inner p) x (inner q)) (λ p x e q. stops (inner p) x e (inner q)) before after result → IsWalked g old new of list takes stops (inner before) (inner after) result
+is_walked_by {S} {X} {M} {V} {W} {E} g old new of list inner takes stops before after result w = record {
+  all = λ clean. done result (w.all clean);
+  early = λ clean. broken result (w.early clean);
+  opened = w.opened;
+  kept = w.kept;
+  same = w.same;
+  survives = w.survives;
+}
+  where
+    done : (r : Result (Unit {0}) (Stop E)) → OnOk r (Takes (AreAll g old list) of (λ p x q. takes (inner p) x (inner q)) before after) → OnOk r (Takes (AreAll g old list) of takes (inner before) (inner after))
+    done (Ok u) h = (h.0, folds_inner inner takes before h.0 after h.1, h.2)
+    done (Err stop) h = tt
+
+    broken : (r : Result (Unit {0}) (Stop E)) → IfErr r (BreaksOff (AreFirst g old list) of (λ p x q. takes (inner p) x (inner q)) (λ p x e q. stops (inner p) x e (inner q)) before after)
+        → IfErr r (BreaksOff (AreFirst g old list) of takes stops (inner before) (inner after))
+    broken (Ok u) h = tt
+    broken (Err (Failed fault)) h = (h.0, (h.1.0, folds_inner inner takes before h.1.0 after h.1.1, h.1.2))
+    broken (Err (Cause e)) h = (h.0, h.1, inner h.2, folds_inner inner takes before h.0 h.2 h.3, h.4, h.5)

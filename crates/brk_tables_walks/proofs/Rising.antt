@@ -34,7 +34,9 @@ rising_more ns n rising last i j h k = elim (cases_Bool (nat_lt j (length ns))) 
 pub among : (ns : List ℕ) (n : ℕ) (r : Result ℕ ℕ) → AreRising ns → IsBinarySearchResult (λ m. nat_cmp m n) ns r → is_ok r ≡ contains_number n ns
 among ns n (Ok i) rising found =
     let at = searched ns n (Ok i) found rising in sym (list_any_at (λ m. m == n) ns i 0 at.0 (eq-eqb (get_or ns i 0) n at.1))
-among ns n (Err i) rising found = sym (none ns (λ k h. grind arith))
+among ns n (Err i) rising found =
+    let at = searched ns n (Err i) found rising in
+    sym (none ns (λ k h e. elim (cases_Bool (nat_lt k i)) [ inl a ↦ omega (arith, at.1 k (ltb-true k i a), e) | inr a ↦ omega (arith, at.2 k (omega (arith, ltb-false k i a)) h, e) ]))
   where
     none : (ms : List ℕ) → ((k : ℕ) → k < length ms → get_or ms k 0 ≡ n → ⊥) → contains_number n ms ≡ false
     none [] h = refl

@@ -64,7 +64,6 @@ impl AccountTrades {
     }
 
     /// Whether a trade is one of them.
-    #[tactic(auto, using(crate::proofs::Rising::among))]
     pub fn contains(&self, trade: Id) -> bool
         ensures { result ≡ contains_number trade self.now }
     {
