@@ -4,4 +4,3 @@ pub mod Asking
 pub mod Keeping
 pub mod Keys
 pub mod Stops
-pub mod Heads

@@ -26,9 +26,14 @@ breaks_behind xs ys a b c (Refused r) h k = absurd k
 breaks_behind xs ys a b c (Desk f) h k =
     let w = k.1 in
     (k.0, (xs ++ w.0, w.1, w.2, append_assoc xs w.0 (w.1 ∷ w.2) ∙ ap (λ (l : List Text). xs ++ l) w.3, then_all xs w.0 a b c h w.4))
-breaks_behind xs ys a b c Write h k =
-    (xs ++ k.0, k.1, k.2, k.3, append_assoc xs k.0 (k.1 ∷ k.2) ∙ ap (λ (l : List Text). xs ++ l) k.4,
-    subst (Appends a c) (sym (append_assoc (lines_text xs) (lines_text k.0) (take k.3 (ended k.1))) ∙ ap (λ (l : Text). l ++ take k.3 (ended k.1)) (sym (lines_parts xs k.0))) (Appends-trans _ _ _ _ _ h k.5))
+breaks_behind xs ys a b c Write h k = (
+  xs ++ k.0,
+  k.1,
+  k.2,
+  k.3,
+  append_assoc xs k.0 (k.1 ∷ k.2) ∙ ap (λ (l : List Text). xs ++ l) k.4,
+  subst (Appends a c) (sym (append_assoc (lines_text xs) (lines_text k.0) (take k.3 (ended k.1))) ∙ ap (λ (l : Text). l ++ take k.3 (ended k.1)) (sym (lines_parts xs k.0))) (Appends-trans _ _ _ _ _ h k.5),
+)
 
 -- lines that broke off, with more to come behind them
 pub breaks_before : (xs ys : List Text) (a b : Option Text) (e : StatementFault) → BreaksIn xs a b e → BreaksIn (xs ++ ys) a b e

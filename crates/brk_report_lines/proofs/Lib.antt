@@ -1,2 +1,1 @@
 pub mod Composed
-pub mod DayStamps

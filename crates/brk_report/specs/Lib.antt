@@ -1,3 +1,0 @@
-pub mod Stated
-pub mod Stops
-pub mod Parts
