@@ -1,5 +1,5 @@
 #!/usr/bin/env python3
-"""Writes the parts of the crates brk_tables_form, brk_tables_making, brk_tables_reference, brk_tables_trading and brk_tables_whole that
+"""Writes the parts of the crates brk_tables_form, brk_tables_making, brk_tables_reference, brk_tables_trading, brk_tables_walks and brk_tables_whole that
 follow from the list of tables and statements below: the shapes and cells of the tables (brk_tables_form), which text makes which table
 (brk_tables_making), the names of all columns (brk_tables_whole), and what each SQL text means over any schema (in the crate of the
 statement). Run it at the top of the repository after a change of the
@@ -80,15 +80,22 @@ def conj(parts):
         out = f'e.Binary operator.And ({out}) ({p})'
     return out
 
+def compare(test):
+    """How a test (column, parameter) or (column, parameter, comparison) compares"""
+    return test[2] if len(test) > 2 else 'Eq'
+
+def sign(test):
+    return {'Eq': '=', 'Le': '<=', 'Ge': '>='}[compare(test)]
+
 def test_expr(tests):
-    return conj([f'e.Binary operator.Eq (e.Column None ({q(c)})) (e.Parameter {n})' for c, n in tests])
+    return conj([f'e.Binary operator.{compare(x)} (e.Column None ({q(x[0])})) (e.Parameter {x[1]})' for x in tests])
 
 def test_terms(t, tests):
-    return lst(f'op2 (Compare Eq Binary) (col 1 {place(t, c)}) (col 0 {n - 1})' for c, n in tests)
+    return lst(f'op2 (Compare {compare(x)} Binary) (col 1 {place(t, x[0])}) (col 0 {x[1] - 1})' for x in tests)
 
 def test_lemmas(t, tests, shown, found_first):
     out = ['found'] if found_first else []
-    for c, n in tests:
+    for c, *_ in tests:
         out.append(col_is(t, c, shown, 'false', 'true'))
         if place(t, c) != 0:
             out.append('found')
@@ -99,7 +106,7 @@ use Rattle.std.proofs.Common.{{◌≡◌, ◌⊎◌, ℕ, ◌-◌, pos, negsuc, 
 use Rattle.sqlite_value.specs.declared.keys.Collation.TheVariants.{{Binary}}
 use Rattle.sqlite.specs.declared.types.Value.TheVariants.{{Null, Int, Text}}
 use Rattle.sqlite_sql.specs.declared.ops.BinaryOp.TheVariants.{{Compare}}
-use Rattle.sqlite_sql.specs.declared.ops.CompareOp.TheVariants.{{Eq}}
+use Rattle.sqlite_sql.specs.declared.ops.CompareOp.TheVariants.{{Eq, Le, Ge}}
 use Rattle.sqlite_value.specs.declared.keys.Key.{{Key}}
 use Rattle.sqlite.specs.Term.{{Term, lit, col, op2}}
 use Rattle.sqlite.specs.Schema.{{Schema}}
@@ -276,7 +283,7 @@ def select(crate, name, t, tests, order, limit=None, shown=None):
     names = shown or [c for c, _ in cols]
     text = f'SELECT {", ".join(names)} FROM {sql}'
     if tests:
-        text += f' WHERE {" AND ".join(f"{c} = ?{n}" for c, n in tests)}'
+        text += f' WHERE {" AND ".join(f"{x[0]} {sign(x)} ?{x[1]}" for x in tests)}'
     text += f' ORDER BY {", ".join(c + (" DESC" if f else "") for c, f in order)}'
     if limit is not None:
         text += f' LIMIT ' + (f'?{limit}' if isinstance(limit, int) else str(limit[1]))
@@ -692,6 +699,11 @@ STATEMENTS = {
         (insert, 'AddCash', 'cash', [1, 2, 3, 4]),
         (update, 'SetBalance', 'account', [('CA_BAL', 1)], [('CA_ID', 2)]),
         (update, 'SetBrokerNumbers', 'broker', [('B_NUM_TRADES', 1), ('B_COMM_TOTAL', 2)], [('B_ID', 3)]),
+    ],
+    'brk_tables_walks': [
+        (select, 'TradesOf', 'trade', [('T_CA_ID', 1)], [('T_ID', False)], None, ['T_ID']),
+        (select, 'CashBetween', 'cash', [('CT_DTS', 1, 'Ge'), ('CT_DTS', 2, 'Le')], [('CT_DTS', False), ('CT_T_ID', False)]),
+        (select, 'LotsBySymbol', 'holding', [('H_CA_ID', 1)], [('H_S_SYMB', False), ('H_DTS', False), ('H_T_ID', False)]),
     ],
 }
 

@@ -1,0 +1,38 @@
+//! Texts in columns of at most 22 places. A longer text is not cut.
+
+ghost use Rattle.std.specs.Prelude.{◌≡◌, ◌++◌, ◌≤◌, Err, OnErr, OnOk, replicate};
+ghost use Rattle.brk_money.specs.declared.fault.Fault.TheVariants.{Memory};
+ghost use Rattle.brk_model.specs.Statement.{at_left, at_right};
+
+use brk_money::Fault;
+
+fn put_spaces(out: &mut Vec<u8>, count: usize) -> Result<(), Fault>
+    requires { count ≤ 22 }
+    ensures ok { OnOk result (out.new.items ≡ out.old.items ++ replicate count 32) }
+    ensures fault { OnErr result (result ≡ Err Memory) }
+{
+    let spaces = [b' '; 22];
+    out.extend_from_slice(&spaces[..count])?;
+    Ok(())
+}
+
+/// A text in so many places, to the left.
+pub(crate) fn put_left(out: &mut Vec<u8>, places: usize, text: &[u8]) -> Result<(), Fault>
+    requires { places ≤ 22 }
+    ensures ok { OnOk result (out.new.items ≡ out.old.items ++ at_left places text.now) }
+    ensures fault { OnErr result (result ≡ Err Memory) }
+{
+    out.extend_from_slice(text)?;
+    put_spaces(out, places.saturating_sub(text.len()))
+}
+
+/// A text in so many places, to the right.
+pub(crate) fn put_right(out: &mut Vec<u8>, places: usize, text: &[u8]) -> Result<(), Fault>
+    requires { places ≤ 22 }
+    ensures ok { OnOk result (out.new.items ≡ out.old.items ++ at_right places text.now) }
+    ensures fault { OnErr result (result ≡ Err Memory) }
+{
+    put_spaces(out, places.saturating_sub(text.len()))?;
+    out.extend_from_slice(text)?;
+    Ok(())
+}

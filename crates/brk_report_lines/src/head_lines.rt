@@ -1,0 +1,77 @@
+//! The lines of a statement beside those of rows. Each has its line feed.
+
+ghost use Rattle.std.specs.Prelude.{◌≡◌, ◌++◌, Err, IfOk, OnErr, codes, decimal};
+ghost use Rattle.brk_money.specs.Spelling.{day_text};
+ghost use Rattle.brk_money.specs.declared.fault.Fault.TheVariants.{Memory};
+ghost use Rattle.brk_model.specs.Statement as statement;
+ghost use Rattle.brk_report_lines.specs.Written.{ended};
+
+use crate::columns::{put_left, put_right};
+use brk_money::{Day, Fault, Id, Wide, write_cents, write_day};
+use brk_ref::Name;
+use itoa::Buffer;
+use std::alloc::Global;
+
+/// Whose statement it is.
+pub fn title_line(alloc: Global, account: Id) -> Result<Vec<u8>, Fault>
+    ensures line { IfOk result (λ line. line.items ≡ ended (codes "Statement of account " ++ decimal account)) }
+    ensures fault { OnErr result (result ≡ Err Memory) }
+{
+    let mut buffer = Buffer::new();
+    let mut line = Vec::from_slice(alloc, b"Statement of account ")?;
+    line.extend_from_slice(buffer.format(account.get()).as_bytes())?;
+    line.push(b'\n')?;
+    Ok(line)
+}
+
+/// The account's name.
+pub fn name_line(alloc: Global, name: &Name) -> Result<Vec<u8>, Fault>
+    ensures line { IfOk result (λ line. line.items ≡ ended name.now) }
+    ensures fault { OnErr result (result ≡ Err Memory) }
+{
+    let mut line = Vec::from_slice(alloc, name.as_str().as_bytes())?;
+    line.push(b'\n')?;
+    Ok(line)
+}
+
+/// The days that it tells of, both included.
+pub fn days_line(alloc: Global, from: Day, to: Day) -> Result<Vec<u8>, Fault>
+    ensures line { IfOk result (λ line. line.items ≡ ended (codes "From " ++ day_text from ++ codes " to " ++ day_text to)) }
+    ensures fault { OnErr result (result ≡ Err Memory) }
+{
+    let mut line = Vec::from_slice(alloc, b"From ")?;
+    write_day(&mut line, from)?;
+    line.extend_from_slice(b" to ")?;
+    write_day(&mut line, to)?;
+    line.push(b'\n')?;
+    Ok(line)
+}
+
+/// A word, left in 10 places, and an amount, right in 22.
+pub fn amount_line(alloc: Global, word: &str, amount: Wide) -> Result<Vec<u8>, Fault>
+    ensures line { IfOk result (λ line. line.items ≡ ended (statement.amount_line word.now amount)) }
+    ensures fault { OnErr result (result ≡ Err Memory) }
+{
+    let mut cents = Vec::new(alloc);
+    write_cents(&mut cents, amount)?;
+    let mut line = Vec::new(alloc);
+    put_left(&mut line, 10, word.as_bytes())?;
+    line.push(b' ')?;
+    put_right(&mut line, 22, cents.as_slice())?;
+    line.push(b'\n')?;
+    Ok(line)
+}
+
+/// How many cash rows and lots it tells of.
+pub fn counts_line(alloc: Global, cash: u64, lots: u64) -> Result<Vec<u8>, Fault>
+    ensures line { IfOk result (λ line. line.items ≡ ended (codes "Cash rows " ++ decimal cash ++ codes ", lots " ++ decimal lots)) }
+    ensures fault { OnErr result (result ≡ Err Memory) }
+{
+    let mut buffer = Buffer::new();
+    let mut line = Vec::from_slice(alloc, b"Cash rows ")?;
+    line.extend_from_slice(buffer.format(cash).as_bytes())?;
+    line.extend_from_slice(b", lots ")?;
+    line.extend_from_slice(buffer.format(lots).as_bytes())?;
+    line.push(b'\n')?;
+    Ok(line)
+}

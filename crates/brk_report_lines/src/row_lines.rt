@@ -1,0 +1,51 @@
+//! The lines of rows in their columns. Each has its line feed.
+
+ghost use Rattle.std.specs.Prelude.{◌≡◌, Err, IfOk, OnErr};
+ghost use Rattle.brk_money.specs.declared.fault.Fault.TheVariants.{Memory};
+ghost use Rattle.brk_changes.specs.Rows.{cash_row_of, holding_row_of};
+ghost use Rattle.brk_model.specs.Statement as statement;
+ghost use Rattle.brk_report_lines.specs.Written.{ended};
+
+use crate::columns::{put_left, put_right};
+use brk_changes::{CashRow, HoldingRow};
+use brk_money::{Fault, Wide, day_of, write_cents, write_day};
+use itoa::Buffer;
+use std::alloc::Global;
+
+/// A cash row: its day, what it moved, and its text.
+pub fn cash_line(alloc: Global, row: &CashRow) -> Result<Vec<u8>, Fault>
+    ensures line { IfOk result (λ line. line.items ≡ ended (statement.cash_line (cash_row_of row.now))) }
+    ensures fault { OnErr result (result ≡ Err Memory) }
+{
+    let mut cents = Vec::new(alloc);
+    write_cents(&mut cents, Wide::from(row.amount))?;
+    let mut line = Vec::new(alloc);
+    write_day(&mut line, day_of(row.stamp))?;
+    line.push(b' ')?;
+    put_right(&mut line, 22, cents.as_slice())?;
+    line.push(b' ')?;
+    line.extend_from_slice(row.name.as_bytes())?;
+    line.push(b'\n')?;
+    Ok(line)
+}
+
+/// A lot: its symbol, the trade that opened it, its quantity, below 0 where it was sold short, and its price.
+pub fn lot_line(alloc: Global, row: &HoldingRow) -> Result<Vec<u8>, Fault>
+    ensures line { IfOk result (λ line. line.items ≡ ended (statement.lot_line (holding_row_of row.now))) }
+    ensures fault { OnErr result (result ≡ Err Memory) }
+{
+    let mut price = Vec::new(alloc);
+    write_cents(&mut price, Wide::new(i128::from(row.price.get())))?;
+    let mut trade = Buffer::new();
+    let mut qty = Buffer::new();
+    let mut line = Vec::new(alloc);
+    put_left(&mut line, 15, row.symbol.as_str().as_bytes())?;
+    line.push(b' ')?;
+    put_right(&mut line, 13, trade.format(row.trade.get()).as_bytes())?;
+    line.push(b' ')?;
+    put_right(&mut line, 11, qty.format(row.qty).as_bytes())?;
+    line.push(b' ')?;
+    put_right(&mut line, 10, price.as_slice())?;
+    line.push(b'\n')?;
+    Ok(line)
+}

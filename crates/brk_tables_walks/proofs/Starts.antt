@@ -1,0 +1,42 @@
+-- Rows that were given first are those of a whole answer, so what is told of answers is told of them.
+use Rattle.std.proofs.Common.{◌≡◌, ◌⊎◌, ℕ, List, [], ◌++◌, Ok, Err, refl, sym, subst, ◌∙◌, IsTrue}
+use Rattle.sqlite_value.specs.declared.keys.Key.{Key}
+use Rattle.sqlite_value.specs.Order.{Row}
+use Rattle.sqlite_sql.specs.Term.{Term}
+use Rattle.sqlite_schema.specs.declared.schema.Schema.{Schema}
+use Rattle.sqlite_schema.specs.declared.command.Command.TheVariants.{Select}
+use Rattle.sqlite_syntax.specs.declared.statement.Parsed.{Parsed}
+use Rattle.sqlite_resolve.specs.Compile.{compiled}
+use Rattle.sqlite_resolve.specs.declared.compiled.Compiled.{Compiled}
+use Rattle.sqlite_resolve.specs.declared.error.CompileError.TheVariants.{Mismatch}
+use Rattle.sqlite.specs.Effect.{Database}
+use Rattle.sqlite.specs.State.{State, Shown, Begins, IsUnchanged, IsStatement}
+use Rattle.sqlite.specs.Clock.{timed}
+use Rattle.sqlite.specs.Listing.{IsSourceOf, reads_listing}
+use Rattle.sqlite.proofs.Callers.{EndsIn, begins_shown}
+use Rattle.brk_rows.specs.Desk.{Desk, Stands, HasTables, Tells}
+use Rattle.brk_rows.proofs.Effects.{same_value}
+use Rattle.brk_rows.proofs.Meant.{meant, known, when_understood}
+use Rattle.brk_rows.proofs.Pick.{selection}
+
+-- an open database that nothing is done to
+pub still : (s : State) → IsTrue s.is_open → IsUnchanged s s
+still s unshut = (record { was_open = unshut; is_open = unshut; now_is = refl; committed_is = refl; mode = refl }, record { changes = refl; last_rowid = refl }, refl)
+
+module _ {W T : Type 0} (desk : Desk W T) (w : W) (text : List ℕ) (params : Row) (p : Parsed) (terms project : List Term) (order : List (Term × Key)) (paging : Term × Term) (names : List (List ℕ))
+    (either : (schema : Schema) (at tree : ℕ) → Stands schema (desk.shape w tree) at
+    → (compiled schema text ≡ Ok (meant p [] (Select (record { lets = []; body = selection tree terms project order paging }) names))) ⊎ (compiled schema text ≡ Err Mismatch))
+    (s : State) (rows : List Row) (begins : Begins text params s rows) (unshut : IsTrue s.is_open) where
+  pub begins_whole : (at tree : ℕ) → Stands s.now.schema (desk.shape w tree) at → (tail : List Row) × Shown text params s s (rows ++ tail)
+  unfolding Begins
+  begins_whole at tree h =
+      let c = meant p [] (Select (record { lets = []; body = selection tree terms project order paging }) names) in
+      let sure = known s.now.schema text c (when_understood s.now.schema text begins.0 c begins.1.is (either s.now.schema at tree h)) in
+      begins_shown text params s s rows begins (still s unshut)
+      (λ d db it from. subst (λ k. EndsIn k.command db (timed params k.formats it.now)) (same_value (sym sure.0 ∙ it.is)) tt)
+
+  -- what is told of each answer is told of one that begins so
+  pub tells_start : (P : T → List Row → Type 0) → ((all : List Row) → Shown text params s s all → Tells desk (λ t. P t all) s.now) → Tells desk (λ t. (tail : List Row) × P t (rows ++ tail)) s.now
+  tells_start P tells t tree h =
+      let whole = begins_whole (h.place w) (tree w) (h.stands w) in
+      (whole.0, tells (rows ++ whole.0) whole.1 t tree h)

@@ -1,0 +1,22 @@
+use Rattle.std.proofs.Common.{◌≡◌, [], ◌∷◌, rules}
+use Rattle.sqlite.specs.Held.{state}
+use Rattle.sqlite.specs.State.{HasCleanDisk}
+use Rattle.brk_tables_form.specs.Cells.{nat, holding_cells}
+use Rattle.brk_changes.specs.Rows.{holding_row_of}
+use Rattle.brk_tables_walks.proofs.Records.{holding_back, holding_is_back}
+use Rattle.brk_tables_walks.specs.Lists.{lots_by_symbol}
+use Rattle.brk_tables_walks.proofs.LotsBySymbol
+use Rattle.brk_tables_walks.proofs.Telling.{tells_lots_by_symbol, lots_start}
+use Rattle.brk_tables_walks.proofs.Walks.{walks}
+use Rattle.brk_tables_walks.proofs.lots.walk_lots.Goals as goal
+
+pub walk-requires-clause-query : goal.walk-requires-clause-query
+walk-requires-clause-query g c = LotsBySymbol.plain
+
+pub returns-clause-walked : goal.returns-clause-walked
+returns-clause-walked g c =
+    let old = c.args.conn.now in
+    let new = c.walk.new.conn in
+    walks holding_row_of holding_cells holding_back holding_is_back g.S.Store old new (lots_by_symbol c.args.account) g.V.Visitor.takes g.V.Visitor.stops _ _ _ LotsBySymbol.statement (nat c.args.account ∷ [])
+    (tells_lots_by_symbol (state g.S.Store old) (state g.S.Store old) c.args.account) (λ rows up begins. lots_start (state g.S.Store old) c.args.account rows up begins)
+    c.walk.ensures.crash (c.is_autocommit-settled.ensures.settled (search rules)) (rw c.id_value.ensures at c.walk.ensures.all) (rw c.id_value.ensures at c.walk.ensures.early) c.walk.ensures.kept

@@ -1,0 +1,4 @@
+pub mod Walk
+pub mod Walks
+pub mod Lists
+pub mod Numbers

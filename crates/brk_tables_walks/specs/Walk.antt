@@ -1,0 +1,44 @@
+-- What a walk over the rows of a query comes to.
+use Rattle.std.specs.Prelude.{◌≡◌, ◌⊎◌, ℕ, List, [], ◌∷◌, ◌++◌, Ok, None, map, IsTrue}
+use Rattle.std.specs.List.{FoldsTo}
+use Rattle.sqlite_schema.specs.declared.schema.Schema.{Schema}
+use Rattle.sqlite_resolve.specs.declared.compiled.Compiled.{Compiled}
+use Rattle.sqlite_value.specs.Order.{Row}
+use Rattle.sqlite.specs.Listing.{understood}
+use Rattle.sqlite.specs.State.{State, Shown, Begins}
+use Rattle.brk_model.specs.Run.{MayFail}
+use Rattle.brk_tables_walks.specs.declared.walking.Stop.{Stop}
+use Rattle.brk_tables_walks.specs.declared.walking.Stop.TheVariants.{Failed, Cause}
+
+-- whatever the schema is, it shows rows and changes none
+abbrev pub IsQuery : List ℕ → Type 0
+IsQuery sql = (schema : Schema) (c : Compiled) → understood schema sql ≡ Ok c → c.returning ≡ None
+
+module _ {V X : Type 0} (cells : X → Row) (takes : V → X → V → Type 0) where
+  -- it took all records of an answer, in its order
+  pub record TakesAll (sql : List ℕ) (params : Row) (db : State) (old new : V) : Type 0 where
+    pub records : List X
+    pub is_open : IsTrue db.is_open
+    pub shown : Shown sql params db db (map cells records)
+    pub taken : FoldsTo takes old records new
+
+  -- it took the first records of an answer
+  pub record TakesFirst (sql : List ℕ) (params : Row) (db : State) (old new : V) : Type 0 where
+    pub records : List X
+    pub begins : (records ≡ []) ⊎ (IsTrue db.is_open × Begins sql params db (map cells records))
+    pub taken : FoldsTo takes old records new
+
+  -- it took the first records of an answer, and stopped at the next
+  pub record StopsAt {E : Type 0} (stops : V → X → E → V → Type 0) (sql : List ℕ) (params : Row) (db : State) (old : V) (e : E) (new : V) : Type 0 where
+    pub records : List X
+    pub next : X
+    pub is_open : IsTrue db.is_open
+    pub begins : Begins sql params db (map cells (records ++ next ∷ []))
+    pub at : V
+    pub taken : FoldsTo takes old records at
+    pub stopped : stops at next e new
+
+  -- it ended before the last: for want of memory, at the store, or where the visitor stopped
+  abbrev pub EndsEarly : {E : Type 0} → (V → X → E → V → Type 0) → List ℕ → Row → State → V → V → Stop E → Type 0
+  EndsEarly stops sql params db old new (Failed fault) = MayFail fault × TakesFirst sql params db old new
+  EndsEarly stops sql params db old new (Cause e) = StopsAt stops sql params db old e new

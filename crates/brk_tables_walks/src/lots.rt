@@ -1,0 +1,35 @@
+//! The lots of an account, one at a time.
+
+ghost use Rattle.std.specs.Prelude.{◌≡◌, false};
+ghost use Rattle.brk_changes.specs.Rows.{holding_row_of};
+ghost use Rattle.brk_tables_walks.specs.Lists.{lots_by_symbol};
+ghost use Rattle.brk_tables_walks.specs.Walks.{Walks};
+
+use crate::visitor::Visitor;
+use crate::walking::{Stop, walk};
+use brk_changes::HoldingRow;
+use brk_money::Id;
+use brk_tables_form::values::id_value;
+use sqlite::{Alter, Connection};
+
+/// Hands the lots of an account to a visitor, by symbol and then by the moment of opening, until it stops at one.
+pub fn walk_lots<S: Alter, E, V: Visitor<HoldingRow, E>>(
+    conn: &mut Connection<S>,
+    account: Id,
+    visitor: &mut V,
+) -> Result<(), Stop<E>>
+    requires mode { conn.old.in_transaction ≡ false }
+    requires ready { V.ready visitor.old }
+    ensures mode { conn.new.in_transaction ≡ false }
+    ensures ready { V.ready visitor.new }
+    ensures leads { V.leads visitor.old visitor.new }
+    ensures walked { Walks S.Store conn.old conn.new holding_row_of (lots_by_symbol account) V.takes V.stops visitor.old visitor.new result }
+{
+    let _settled = conn.is_autocommit();
+    walk::<S, HoldingRow, E, V>(
+        conn,
+        "SELECT H_T_ID, H_CA_ID, H_S_SYMB, H_DTS, H_PRICE, H_QTY FROM HOLDING WHERE H_CA_ID = ?1 ORDER BY H_S_SYMB, H_DTS, H_T_ID",
+        &[id_value(account)],
+        visitor,
+    )
+}

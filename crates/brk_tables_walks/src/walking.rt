@@ -1,0 +1,76 @@
+ghost use Rattle.std.specs.Prelude.{◌≡◌, ◌⊎◌, IfErr, IfOk, OnOk, false};
+ghost use Rattle.sqlite.specs.Held.{state};
+ghost use Rattle.sqlite.specs.State.{HasCleanDisk, IsRolledBack, IsUnchanged, Survives};
+ghost use Rattle.sqlite.specs.Values.{bound};
+ghost use Rattle.brk_model.specs.Run.{MayFail};
+ghost use Rattle.brk_tables_walks.specs.Walk.{EndsEarly, IsQuery, TakesAll};
+
+use crate::visitor::Visitor;
+use brk_money::Fault;
+use brk_tables_form::misread::Misread;
+use brk_tables_form::record::Record;
+use sqlite::{Alter, Connection, Row};
+use sqlite_value::value::ValueRef;
+
+/// Why a walk ended early.
+#[derive(Debug, Drop)]
+pub enum Stop<E> {
+    /// Want of memory, the database, or its disk.
+    Failed(Fault),
+    /// The visitor's own cause.
+    Cause(E),
+}
+
+// The record that a row shows.
+fn record_in<R: Record>(row: &Row) -> Result<R, Fault>
+    ensures value { IfOk result (λ r. R.cells r ≡ row.now) }
+    ensures fault { IfErr result MayFail }
+{
+    match R::from_row(row) {
+        Ok(record) => Ok(record),
+        Err(Misread::Form) => Err(Fault::Store),
+        Err(Misread::Memory) => Err(Fault::Memory),
+    }
+}
+
+/// Hands the records that the rows of a query show to a visitor, one at a time and in order, until it stops at one.
+pub fn walk<S: Alter, R: Record, E, V: Visitor<R, E>>(
+    conn: &mut Connection<S>,
+    sql: &str,
+    params: &[ValueRef<'_>],
+    visitor: &mut V,
+) -> Result<(), Stop<E>>
+    requires query { IsQuery sql.now }
+    requires ready { V.ready visitor.old }
+    ensures ready { V.ready visitor.new }
+    ensures leads { V.leads visitor.old visitor.new }
+    // At Ok it has taken all records of the answer, in its order.
+    ensures all { HasCleanDisk (state S.Store conn.new) → OnOk result (TakesAll R.cells V.takes sql.now (bound params.now) (state S.Store conn.old) visitor.old visitor.new) }
+    // At its own cause it has taken those before the record at which it stopped, and else the first of them.
+    ensures early { HasCleanDisk (state S.Store conn.new) → IfErr result (EndsEarly R.cells V.takes V.stops sql.now (bound params.now) (state S.Store conn.old) visitor.old visitor.new) }
+    ensures same { HasCleanDisk (state S.Store conn.new) → OnOk result (IsUnchanged (state S.Store conn.old) (state S.Store conn.new)) }
+    ensures kept { HasCleanDisk (state S.Store conn.new) → IsUnchanged (state S.Store conn.old) (state S.Store conn.new) ⊎ IsRolledBack (state S.Store conn.old) (state S.Store conn.new) }
+    ensures mode { conn.old.in_transaction ≡ false → conn.new.in_transaction ≡ false }
+    ensures crash { Survives (state S.Store conn.old) (state S.Store conn.new) (λ _. ⊥) }
+{
+    let mut rows = match conn.query(sql, params) {
+        Ok(rows) => rows,
+        Err(_) => return Err(Stop::Failed(Fault::Store)),
+    };
+    'rows: for _ in 0..u64::MAX {
+        let row = match rows.next() {
+            Ok(Some(row)) => row,
+            Ok(None) => return Ok(()),
+            Err(_) => return Err(Stop::Failed(Fault::Store)),
+        };
+        let item = match record_in::<R>(row) {
+            Ok(item) => item,
+            Err(fault) => return Err(Stop::Failed(fault)),
+        };
+        match visitor.visit(&item) {
+            Ok(()) => (),
+            Err(cause) => return Err(Stop::Cause(cause)),
+        }
+    }
+    Err(Stop::Failed(Fault::Store))
+}
