@@ -7,8 +7,8 @@ mod input;
 mod next;
 mod rest;
 
-pub use rest::consume;
 pub use fields::{FieldFacts, field_facts};
 pub use head::{HeadFacts, parse_front};
 pub use input::{InputFault, fill, head_len, read_body, read_head};
 pub use next::{Front, Places, next_request};
+pub use rest::consume;

@@ -4,9 +4,9 @@ ghost use Rattle.brk_web.specs.Found.{Found, Finds};
 ghost use Rattle.brk_requests.specs.Moves.{Moves};
 ghost use Rattle.brk_requests.specs.Shown.{Shows, IsRequestWithin};
 
-use brk_web::{HeadEnd, Problem};
 use crate::head::parse_front;
 use crate::input::{InputFault, read_body, read_head};
+use brk_web::{HeadEnd, Problem};
 use httparse::spans::Span;
 use std::io::Read;
 

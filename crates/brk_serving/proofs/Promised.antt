@@ -22,10 +22,9 @@ around base after clock later was now = record { base = base; after = after; clo
 -- ---- over the bases that a desk stands for
 
 module _ {D B C : Type 0} (forms : Forms) (acts : Does D) (does : Does B) (honest : D → Type 0) (stands : D → B → Type 0)
-  (earlier : (old : D) (now : ℕ) (call : Call) (outcome : Outcome) (new : D) → acts old now call outcome new → honest new → honest old)
-  (steps : (old : D) (now : ℕ) (call : Call) (outcome : Outcome) (new : D) → acts old now call outcome new → honest new → (base : B) → stands old base
-      → (after : B) × stands new after × does base now call outcome after) (gives : C → ℕ → C → Type 0) where
-
+    (earlier : (old : D) (now : ℕ) (call : Call) (outcome : Outcome) (new : D) → acts old now call outcome new → honest new → honest old)
+    (steps : (old : D) (now : ℕ) (call : Call) (outcome : Outcome) (new : D) → acts old now call outcome new → honest new → (base : B) → stands old base
+    → (after : B) × stands new after × does base now call outcome after) (gives : C → ℕ → C → Type 0) where
   abbrev Carries : D → D → (B → B → Type 0) → Type 0
   Carries old new P = honest new → honest old × ((base : B) → stands old base → (after : B) × stands new after × P base after)
 

@@ -110,4 +110,3 @@ seek_two {K} key b c v w byte plain byte2 plain2 =
     let skipped : seek {K = K} (length v) ((47 ∷ param_token ∷ [], key) ∷ []) (v ++ 47 ∷ c ∷ w) ≡ Some key =
     seek_skip v (47 ∷ c ∷ w) ((47 ∷ param_token ∷ [], key) ∷ []) ∙ seek_byte ((47 ∷ param_token ∷ [], key) ∷ []) 47 (c ∷ w) refl refl ∙ seek_last key c w byte2 plain2 in
     rw (byte, seek_nil {K = K} 0 (v ++ 47 ∷ c ∷ w), step_is key b v (c ∷ w) plain, e, skipped) refl
-

@@ -8,10 +8,9 @@ use Rattle.brk_web.specs.Replies.{Response}
 use Rattle.brk_web.specs.Stream.{Does, Next, Ends, GoesOn, One, Replied, RepliedTo, Replies, Begins, Responds}
 
 module _ {D B : Type 0} (forms : Forms) (acts : Does D) (does : Does B) (honest : D → Type 0) (stands : D → B → Type 0)
-  (earlier : (old : D) (now : ℕ) (call : Call) (outcome : Outcome) (new : D) → acts old now call outcome new → honest new → honest old)
-  (steps : (old : D) (now : ℕ) (call : Call) (outcome : Outcome) (new : D) → acts old now call outcome new → honest new → (base : B) → stands old base
-      → (after : B) × stands new after × does base now call outcome after) where
-
+    (earlier : (old : D) (now : ℕ) (call : Call) (outcome : Outcome) (new : D) → acts old now call outcome new → honest new → honest old)
+    (steps : (old : D) (now : ℕ) (call : Call) (outcome : Outcome) (new : D) → acts old now call outcome new → honest new → (base : B) → stands old base
+    → (after : B) × stands new after × does base now call outcome after) where
   -- the state before was honest, and over each base that it stood for the same is true
   abbrev Carries : D → D → (B → B → Type 0) → Type 0
   Carries old new P = honest new → honest old × ((base : B) → stands old base → (after : B) × stands new after × P base after)
@@ -29,9 +28,11 @@ module _ {D B : Type 0} (forms : Forms) (acts : Does D) (does : Does B) (honest 
   replied n (Unreadable problem) old new taken reply next (is, ends, none, same) good =
       (subst honest same good, λ base stood. (base, subst (λ d. stands d base) (sym same) stood, (is, ends, none, refl)))
   replied n (Asks request rest) old new taken reply next h good =
-      let r = responds (asked_of forms request) old new taken h.response h.responds good in
-      (r.0, λ base stood. let k = r.1 base stood in
-      (k.0, k.1, record { response = h.response; closes = h.closes; responds = k.2; last = h.last; bytes = h.bytes; follows = h.follows }))
+      let r = responds (asked_of forms request) old new taken h.response h.responds good in (
+        r.0,
+        λ base stood. let k = r.1 base stood in
+            (k.0, k.1, record { response = h.response; closes = h.closes; responds = k.2; last = h.last; bytes = h.bytes; follows = h.follows }),
+      )
 
   pub one : (n : ℕ) (input : Text) (old new : D) (taken : List ℕ) (reply : Text) (next : Next) → One forms acts n input old taken reply next new
       → Carries old new (λ base after. One forms does n input base taken reply next after)
@@ -48,11 +49,13 @@ module _ {D B : Type 0} (forms : Forms) (acts : Does D) (does : Does B) (honest 
       (subst honest same good, λ base stood. (base, subst (λ d. stands d base) (sym same) stood, (none, asked, refl)))
   replies_carry (reply ∷ rs) n (GoesOn input) old new moments (taken, more, next, mid, split, first, others) good =
       let later = replies_carry rs (n + 1) next mid new more others good in
-      let now = one n input old mid taken reply next first later.0 in
-      (now.0, λ base stood.
-      let k = now.1 base stood in
-      let l = later.1 k.0 k.1 in
-      (l.0, l.1, (taken, more, next, k.0, split, k.2, l.2)))
+      let now = one n input old mid taken reply next first later.0 in (
+        now.0,
+        λ base stood.
+            let k = now.1 base stood in
+            let l = later.1 k.0 k.1 in
+            (l.0, l.1, (taken, more, next, k.0, split, k.2, l.2)),
+      )
 
   -- and so are the first replies
   pub begins_carry : (rs : List Text) (n : ℕ) (input rest : Text) (old new : D) (moments : List ℕ) → Begins forms acts n input old moments rs rest new
@@ -61,8 +64,10 @@ module _ {D B : Type 0} (forms : Forms) (acts : Does D) (does : Does B) (honest 
       (subst honest same good, λ base stood. (base, subst (λ d. stands d base) (sym same) stood, (is, asked, refl)))
   begins_carry (reply ∷ rs) n input rest old new moments (taken, more, left, mid, split, first, others) good =
       let later = begins_carry rs (n + 1) left rest mid new more others good in
-      let now = one n input old mid taken reply (GoesOn left) first later.0 in
-      (now.0, λ base stood.
-      let k = now.1 base stood in
-      let l = later.1 k.0 k.1 in
-      (l.0, l.1, (taken, more, left, k.0, split, k.2, l.2)))
+      let now = one n input old mid taken reply (GoesOn left) first later.0 in (
+        now.0,
+        λ base stood.
+            let k = now.1 base stood in
+            let l = later.1 k.0 k.1 in
+            (l.0, l.1, (taken, more, left, k.0, split, k.2, l.2)),
+      )

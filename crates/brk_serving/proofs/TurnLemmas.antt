@@ -110,6 +110,10 @@ module _ {B C : Type 0} (forms : Forms) (does : Does B) (gives : C → ℕ → C
     where
       over : (a : Option Text) → IfSome a (λ xs. (found : Found) × Finds (x ++ xs) found × Shows (Whole q) y left found) → IfSome a (λ xs. Turned forms does gives n (x ++ xs) span (prepend_known z left) turn.Open)
       over None h = tt
-      over (Some xs) (found, finds, (rest, some, is)) =
-          (reply, rest, subst (λ b. Answered forms does gives n (x ++ xs) span reply (next_after b rest)) goes_on (answered (asked_at y q) (x ++ xs) rest closes reply found finds is acted),
-          wrote, ap (λ front. prepend_known front left) cut ∙ some)
+      over (Some xs) (found, finds, (rest, some, is)) = (
+        reply,
+        rest,
+        subst (λ b. Answered forms does gives n (x ++ xs) span reply (next_after b rest)) goes_on (answered (asked_at y q) (x ++ xs) rest closes reply found finds is acted),
+        wrote,
+        ap (λ front. prepend_known front left) cut ∙ some,
+      )

@@ -7,8 +7,8 @@ ghost use Rattle.brk_serving.specs.Codes.{asked_is, key_for, response_of};
 
 use crate::asking::Asking;
 use crate::service::{RowAnswer, Service};
-use brk_outside::Clock;
 use brk_money::{Fault, Refusal, Stamp};
+use brk_outside::Clock;
 use brk_ref::Key;
 use brk_web::Problem;
 use std::alloc::Global;
@@ -47,7 +47,11 @@ fn act_on_row<D: Service>(
 }
 
 // Answers a query.
-fn act_on_query<D: Service>(alloc: Global, desk: &mut D::Desk, query: &D::Query) -> Told<D::Reply, D::View>
+fn act_on_query<D: Service>(
+    alloc: Global,
+    desk: &mut D::Desk,
+    query: &D::Query,
+) -> Told<D::Reply, D::View>
     ensures { (outcome : Outcome) × (response_of D.told D.shown result ≡ Came outcome)
         × D.acts desk.old 0 (Ask (D.query_of query.now)) outcome desk.new }
 {

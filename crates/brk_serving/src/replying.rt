@@ -136,11 +136,7 @@ fn add_line(head: &mut String, line: &str) -> Result<(), AllocError>
 fn add_line_if(head: &mut String, stands: bool, line: &str) -> Result<(), AllocError>
     ensures { OnOk result (string_bytes head.new ≡ string_bytes head.old ++ line_if stands line.now) }
 {
-    if stands {
-        add_line(head, line)
-    } else {
-        Ok(())
-    }
+    if stands { add_line(head, line) } else { Ok(()) }
 }
 
 // The phrase of a status.
@@ -220,7 +216,13 @@ pub fn reply_text<D: Service>(
     ensures { IfOk result (λ s. string_bytes s ≡ reply_text (response_of D.told D.shown told.now) closes) }
 {
     let body = body_of::<D>(alloc, told)?;
-    reply_with(alloc, status_of(told), asks_for_post(told), closes, body.as_str())
+    reply_with(
+        alloc,
+        status_of(told),
+        asks_for_post(told),
+        closes,
+        body.as_str(),
+    )
 }
 
 /// The reply to what is no request, which ends its stream.

@@ -9,8 +9,8 @@ ghost use Rattle.brk_serving.specs.Turns.{Acted, Failed, Turned};
 
 use crate::acting::act;
 use crate::asking::asking_of;
-use crate::router::Kind;
 use crate::replying::{is_fault, problem_text, reply_text};
+use crate::router::Kind;
 use crate::service::Service;
 use brk_outside::Clock;
 use brk_requests::{Front, InputFault, Places, consume, next_request};
