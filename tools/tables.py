@@ -1,7 +1,8 @@
 #!/usr/bin/env python3
 """Writes the parts of the crates brk_tables_form, brk_tables_making, brk_tables_reference, brk_tables_trading and brk_tables_whole that
 follow from the list of tables and statements below: the shapes and cells of the tables (brk_tables_form), which text makes which table
-(brk_tables_making), and what each SQL text means over any schema (in the crate of the statement). Run it at the top of the repository after a change of the
+(brk_tables_making), the names of all columns (brk_tables_whole), and what each SQL text means over any schema (in the crate of the
+statement). Run it at the top of the repository after a change of the
 list; `.ci/run` does so first. It lays out what it wrote by `rt fmt`, so where nothing changed it leaves the tree as it was, and
 it prints nothing. With `--texts` it prints the SQL texts as well, for the Rust code. What it writes is checked like any other
 file."""
@@ -592,6 +593,43 @@ all_probed = {'('.join(f'({d[0]}_probed, ' for d in DATA).replace('((','(')}tt{'
 """
     save(f'{MAKING}/Probing.antt', out)
 
+def star_text(d):
+    return f'SELECT * FROM {d[1]}'
+
+def stars():
+    out = f"""-- Written by tools/tables.py: what a statement that shows all columns of a table, and is not run, tells of them.
+use Rattle.std.proofs.Common.{{◌≡◌, ℕ, List, codes, map, Some, Ok, refl, slice_get}}
+use Rattle.sqlite_schema.specs.declared.schema.Schema.{{Schema}}
+use Rattle.sqlite_schema.specs.declared.schema.Table.{{Table}}
+use Rattle.sqlite_schema.specs.Names.{{table_named}}
+use Rattle.sqlite_resolve.specs.declared.compiled.Compiled.{{Compiled}}
+use Rattle.sqlite.specs.Listing.{{listing_schema, understood}}
+use Rattle.sqlite.specs.Steps.{{column_names}}
+use Rattle.sqlite_tied.specs.Compute.{{everything}}
+use Rattle.brk_rows.proofs.Stars.{{shown_columns}}
+use Rattle.brk_rows.proofs.Texts.{{read}}
+use Rattle.brk_tables_form.specs.Desk.{{Which, {', '.join(d[2] for d in DATA)}, shape}}
+
+abbrev pub star : Which → List ℕ
+"""
+    out += ''.join(f'star {d[2]} = {q(star_text(d))}\n' for d in DATA)
+    out += """
+pub columns_told : (w : Which) (schema : Schema) (at : ℕ) (table : Table) → table_named schema (shape w 0).name ≡ Some at → slice_get schema.tables at ≡ Some table
+    → (c : Compiled) → understood schema (star w) ≡ Ok c → column_names c ≡ map (λ c. c.name) table.columns
+unfolding everything listing_schema
+"""
+    out += ''.join(f'columns_told {d[2]} = shown_columns (star {d[2]}) (read (star {d[2]})) ({q(d[1])}) refl refl refl refl\n' for d in DATA)
+    save('crates/brk_tables_whole/proofs/Stars.antt', out)
+
+def column_names():
+    names = lambda d: ', '.join(f'"{c}"' for c, _, _, _ in d[7])
+    out = f"""//! Written by tools/tables.py: for each table a statement that shows all of its columns, and their names in their order.
+
+pub(crate) const COLUMN_NAMES: [(&str, &[&str]); {len(DATA)}] = [
+"""
+    out += ''.join(f'("{star_text(d)}", &[{names(d)}]),\n' for d in DATA) + '];\n'
+    save('crates/brk_tables_whole/src/column_names.rt', out)
+
 # for each crate: its statements, each with its name, its table, and what it takes
 STATEMENTS = {
     'brk_tables_form': [
@@ -721,6 +759,8 @@ if __name__ == '__main__':
     splits()
     making()
     probing()
+    stars()
+    column_names()
     whole()
     texts = [create_text(table) for table in DATA]
     for crate, statements in STATEMENTS.items():

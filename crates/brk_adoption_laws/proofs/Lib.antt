@@ -10,4 +10,3 @@ pub mod Sorted
 pub mod Again
 pub mod AgainStatus
 pub mod Passed
-pub mod CountRows

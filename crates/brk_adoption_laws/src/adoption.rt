@@ -1,9 +1,6 @@
 //! Rows that pass every condition are the tables of a base in order.
 
-ghost use Rattle.std.specs.Prelude.{◌≡◌, ◌↔◌, IsTrue, pos};
-ghost use Rattle.std.specs.List.{AllByRecursion};
-ghost use Rattle.brk_money.specs.declared.fault.Condition.TheVariants.{Count};
-ghost use Rattle.brk_model.specs.Audit.{Holds};
+ghost use Rattle.std.specs.Prelude.{◌≡◌, IsTrue};
 ghost use Rattle.brk_model.specs.Base.{Base};
 ghost use Rattle.brk_model.specs.Tables.{Tables};
 ghost use Rattle.brk_model.specs.Adopted.{base_of};
@@ -11,7 +8,7 @@ ghost use Rattle.brk_model.specs.Form.{has_form};
 ghost use Rattle.brk_model.specs.Ways.{has_status_rows};
 ghost use Rattle.brk_model.specs.Sheets.{sheets};
 ghost use Rattle.brk_trade_laws.specs.Books.{IsBooks};
-ghost use Rattle.brk_adoption_laws.specs.Passing.{Passes, count_of_rows};
+ghost use Rattle.brk_adoption_laws.specs.Passing.{Passes};
 ghost use Rattle.brk_adoption_laws.specs.Told.{IsTold, sorted};
 
 /// Rows that pass every condition are the tables of the base that they give, which is in order; for its order form and
@@ -29,11 +26,4 @@ pub fn tables_of_books_pass()
     ensures tables { (base : Base) → IsBooks base → IsTold base → sheets (base_of (sheets base)) ≡ sheets base }
     ensures passes { (base : Base) → IsBooks base → IsTold base → IsTrue (has_form (sheets base)) → Passes (sheets base) }
     ensures status { (base : Base) → IsBooks base → IsTold base → IsTrue (has_status_rows (sheets base)) }
-{}
-
-/// Over rows in form with right statuses, the condition on counts is one on each broker's row, in terms of the rows alone: what a checker
-/// compares.
-pub fn counts_are_compared_row_by_row()
-    ensures { (rows : Tables) → IsTrue (has_form rows) → IsTrue (has_status_rows rows)
-        → Holds Count rows ↔ AllByRecursion (λ b. b.trades ≡ pos (count_of_rows rows b.id)) rows.brokers }
 {}

@@ -17,29 +17,10 @@ use Rattle.brk_model.specs.Tables.{TradeRow}
 use Rattle.brk_lots.specs.Deals.{AreDeals, IsLater}
 use Rattle.brk_trade_laws.proofs.Order.{NoneBefore, Sorted, key_one_way, key_splits, key_total}
 use Rattle.brk_trade_laws.proofs.Same.{All-map}
+use Rattle.brk_audit_form.proofs.KeyOrders.{gt_lt, numbers_before, texts_before}
 use Rattle.brk_audit.specs.Positions.{Heads, clash, place_before, place_key, row_deal, same_place}
 
 -- ---- a comparison tells it
-
-texts_before : (s t : List ℕ) → text_before s t ≡ is_gt (slice_cmp nat_cmp t s)
-texts_before [] [] = refl
-texts_before (x ∷ s) [] = refl
-texts_before [] (y ∷ t) = refl
-texts_before (x ∷ s) (y ∷ t) = elim (cases_Bool (nat_lt y x)) [
-  | inl b ↦ let a : nat_lt x y ≡ false = elim (cases_Bool (nat_lt x y)) [ inl a ↦ absurd (omega (arith, ltb-true x y a, ltb-true y x b)) | inr a ↦ a ] in rw (a, b) refl
-  | inr b ↦ elim (cases_Bool (nat_lt x y)) [
-    | inl a ↦ let e : (y == x) ≡ false = ne_eqb y x (λ e. omega (arith, ltb-true x y a, e)) in rw (a, b, e) refl
-    | inr a ↦ let e : (y == x) ≡ true = eq-eqb y x (omega (arith, ltb-false x y a, ltb-false y x b)) in rw (a, b, e) (texts_before s t)
-  ]
-]
-
-gt_lt : (o p : Ordering) → o ≡ ordering_reverse p → is_gt o ≡ is_lt p
-gt_lt o Less e = ap is_gt e
-gt_lt o Equal e = ap is_gt e
-gt_lt o Greater e = ap is_gt e
-
-numbers_before : (m n : ℕ) → nat_lt m n ≡ is_lt (nat_cmp m n)
-numbers_before m n = grind (arith, nat_tests)
 
 numbers_behind : (m n : ℕ) → nat_lt n m ≡ is_gt (nat_cmp m n)
 numbers_behind m n = numbers_before n m ∙ sym (gt_lt (nat_cmp m n) (nat_cmp n m) (nat_cmp_total.antisymm m n))

@@ -24,12 +24,12 @@ texts_before (x ∷ s) (y ∷ t) = elim (cases_Bool (nat_lt y x)) [
   ]
 ]
 
-gt_lt : (o p : Ordering) → o ≡ ordering_reverse p → is_gt o ≡ is_lt p
+pub gt_lt : (o p : Ordering) → o ≡ ordering_reverse p → is_gt o ≡ is_lt p
 gt_lt o Less e = ap is_gt e
 gt_lt o Equal e = ap is_gt e
 gt_lt o Greater e = ap is_gt e
 
-numbers_before : (m n : ℕ) → nat_lt m n ≡ is_lt (nat_cmp m n)
+pub numbers_before : (m n : ℕ) → nat_lt m n ≡ is_lt (nat_cmp m n)
 numbers_before m n = grind (arith, nat_tests)
 
 -- how a part goes before another, one way and the other

@@ -2,21 +2,9 @@ ghost use Rattle.std.specs.Prelude.{◌≡◌, IsTrue, map};
 ghost use Rattle.std.specs.List.{list_all};
 ghost use Rattle.brk_model.specs.Form as form;
 ghost use Rattle.brk_model.specs.Keys.{band_key};
-ghost use Rattle.brk_model.specs.Tests.{bands_meet};
 ghost use Rattle.brk_ref.specs.Records.{band_of};
 
-use brk_ref::Band;
-
-// Whether two bands share a quantity of a tier, a type and an exchange.
-fn meet(one: &Band, other: &Band) -> bool
-    ensures { result ≡ bands_meet (band_of one.now) (band_of other.now) }
-{
-    one.tier == other.tier
-        && one.kind == other.kind
-        && one.exchange.as_str() == other.exchange.as_str()
-        && one.from_qty.get() <= other.to_qty.get()
-        && other.from_qty.get() <= one.to_qty.get()
-}
+use brk_ref::{Band, share_quantity};
 
 /// Whether no two bands share a quantity. As they rise by key and the bounds of each are in order, it is enough that no
 /// neighbours do.
@@ -25,5 +13,5 @@ pub(crate) fn are_apart(bands: &[Band]) -> bool
     requires bounds { IsTrue (list_all form.band_form (map band_of bands.now)) }
     ensures { result ≡ form.no_overlap (map band_of bands.now) }
 {
-    bands.is_sorted_by(|band, next| !meet(band, next))
+    bands.is_sorted_by(|band, next| !share_quantity(band, next))
 }

@@ -1,5 +1,5 @@
-use crate::ending::Ending;
-use crate::file;
+use brk_endings::Ending;
+use brk_files as file;
 
 /// Audits the desk in the file at a path, and prints `ok` where its tables follow from one another.
 pub fn run(rt: &HostRuntime, path: &str) -> Ending {

@@ -1,7 +1,7 @@
-use crate::ending::{Ending, after_close};
-use crate::file;
 use crate::moment::Moments;
 use brk_desk::Desk;
+use brk_endings::{Ending, after_close};
+use brk_files as file;
 use brk_import::run_batch;
 use brk_money::{Fault, Stamp};
 use brk_store::Store;
@@ -42,9 +42,9 @@ fn run_on_file(rt: &HostRuntime, path: &str, at: Option<Stamp>) -> Ending {
 
 /// Runs a batch from standard input, over the file at a path or a new database in memory, with its lines on standard
 /// output.
-pub fn run(rt: &HostRuntime, db: Option<&str>, at: Option<Stamp>) -> Ending {
+pub fn run(rt: &HostRuntime, db: Option<String>, at: Option<Stamp>) -> Ending {
     match db {
-        Some(path) => run_on_file(rt, path, at),
+        Some(path) => run_on_file(rt, path.as_str(), at),
         None => run_in_memory(rt, at),
     }
 }

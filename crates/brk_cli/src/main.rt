@@ -3,29 +3,36 @@
 
 mod audit;
 mod batch;
-mod ending;
-mod file;
 mod moment;
-mod words;
 
-use crate::ending::{Ending, end_with};
-use crate::words::{Job, UsageFault, read_words};
+use brk_endings::{Ending, end_with};
+use brk_words::{Job, UsageFault, no_text, read_words};
 use std::alloc::AllocError;
 use std::env;
+use std::io::ErrorKind;
 use std::process::ExitCode;
+
+// The words of the command line.
+fn given_words(rt: &HostRuntime) -> Result<Vec<String>, UsageFault> {
+    match env::args(rt) {
+        Ok(words) => {
+            let all: Result<Vec<String>, AllocError> = words.collect(rt.alloc());
+            Ok(all?)
+        }
+        Err(error) => match error.kind() {
+            ErrorKind::OutOfMemory => Err(UsageFault::Memory),
+            _ => Err(no_text(rt.alloc())),
+        },
+    }
+}
 
 // Does what the words of the command line ask for.
 fn run(rt: &HostRuntime) -> Ending {
-    let Ok(words) = env::args(rt) else {
-        return Ending::Usage(UsageFault::Memory);
-    };
-    let all: Result<Vec<String>, AllocError> = words.collect(rt.alloc());
-    let Ok(all) = all else {
-        return Ending::Usage(UsageFault::Memory);
-    };
-    match read_words(rt.alloc(), &all) {
+    match given_words(rt).and_then(read_words) {
         Ok(Job::Batch { db, at }) => batch::run(rt, db, at),
-        Ok(Job::Audit { db }) => audit::run(rt, db),
+        Ok(Job::Statement { .. }) => Ending::Usage(UsageFault::NotYet),
+        Ok(Job::Audit { db }) => audit::run(rt, db.as_str()),
+        Ok(Job::Serve { .. }) => Ending::Usage(UsageFault::NotYet),
         Err(UsageFault::Help(text)) => show(rt, text),
         Err(fault) => Ending::Usage(fault),
     }
@@ -44,6 +51,3 @@ fn main(rt: HostRuntime) -> ExitCode {
     let mut errors = rt.stderr();
     ExitCode::from(end_with(&ending, &mut errors))
 }
-
-#[cfg(test)]
-mod tests;

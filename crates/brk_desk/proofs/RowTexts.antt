@@ -5,7 +5,6 @@ use Rattle.std.specs.Prelude.{◌&&◌, string_bytes}
 use Rattle.std.specs.List.{AllByRecursion, list_all}
 use Rattle.std.specs.Str.{is_utf8}
 use Rattle.std.proofs.lemmas.Bool.{and_from, and_parts}
-use Rattle.std.proofs.lemmas.Str.{IsUtf8-string_bytes, is_utf8-from_IsUtf8}
 use Rattle.brk_model.specs.Keys.{cash_key, kept_key, row_before, trade_key}
 use Rattle.brk_model.specs.Records.{Kept}
 use Rattle.brk_model.specs.Tables.{CashRow, Tables, TradeRow, no_rows}
@@ -19,6 +18,7 @@ use Rattle.brk_trade_laws.proofs.Order.{All-insert}
 use Rattle.brk_trade_laws.proofs.Places.{All-updated}
 use Rattle.brk_adoption_laws.proofs.AgainStatus.{all_list}
 use Rattle.brk_adoption_laws.proofs.Climbs.{list_all_true}
+use Rattle.brk_store.proofs.Texts.{text_is_utf8}
 
 abbrev kept_in_text : Kept → Bool
 kept_in_text k = is_utf8 k.row_text && is_utf8 k.line
@@ -37,9 +37,6 @@ record InText (t : Tables) : Type 0 where
   names : AllByRecursion IsNamedInText t.trades
   cash : AllByRecursion IsToldInText t.cash
 
-string_text : {Z : Type 0} (s : Rattle.std.specs.Prelude.String Z) → is_utf8 (string_bytes s) ≡ true
-string_text s = is_utf8-from_IsUtf8 (string_bytes s) (IsUtf8-string_bytes s)
-
 -- ---- one change, some changes
 
 changed : (t : Tables) (change : Change) → InText t → InText (after_change change t)
@@ -53,7 +50,7 @@ changed t (AddCharge charge) h = record { kept = h.kept; names = h.names; cash =
 changed t (AddBand band) h = record { kept = h.kept; names = h.names; cash = h.cash }
 changed t (AddTaxRate tax) h = record { kept = h.kept; names = h.names; cash = h.cash }
 changed t (AddCustomerTax pays) h = record { kept = h.kept; names = h.names; cash = h.cash }
-changed t (AddTrade row) h = record { kept = h.kept; names = All-insert IsNamedInText (row_before trade_key) (trade_row_of row) t.trades (string_text row.executor) h.names; cash = h.cash }
+changed t (AddTrade row) h = record { kept = h.kept; names = All-insert IsNamedInText (row_before trade_key) (trade_row_of row) t.trades (text_is_utf8 row.executor) h.names; cash = h.cash }
 changed t (SetStatus trade status stamp) h = record {
   kept = h.kept;
   names = All-updated IsNamedInText (λ r. r.id == trade) (λ r. record r { status = status; stamp = stamp }) t.trades (λ r e. e) h.names;
@@ -77,12 +74,12 @@ changed t (SetSummary row) h = record { kept = h.kept; names = h.names; cash = h
 changed t (RemoveSummary account symbol) h = record { kept = h.kept; names = h.names; cash = h.cash }
 changed t (AddSettlement row) h = record { kept = h.kept; names = h.names; cash = h.cash }
 changed t (AddCash row) h =
-    record { kept = h.kept; names = h.names; cash = All-insert IsToldInText (row_before cash_key) (cash_row_of row) t.cash (string_text row.name) h.cash }
+    record { kept = h.kept; names = h.names; cash = All-insert IsToldInText (row_before cash_key) (cash_row_of row) t.cash (text_is_utf8 row.name) h.cash }
 changed t (SetBalance account balance) h = record { kept = h.kept; names = h.names; cash = h.cash }
 changed t (SetBrokerNumbers broker trades commissions) h = record { kept = h.kept; names = h.names; cash = h.cash }
 changed t (Keep kept) h = record {
   kept = All-insert IsKeptInText (row_before kept_key) (kept_of kept) t.kept
-      (and_from (is_utf8 (string_bytes kept.row_text)) (is_utf8 (string_bytes kept.line)) (string_text kept.row_text) (string_text kept.line)) h.kept;
+      (and_from (is_utf8 (string_bytes kept.row_text)) (is_utf8 (string_bytes kept.line)) (text_is_utf8 kept.row_text) (text_is_utf8 kept.line)) h.kept;
   names = h.names;
   cash = h.cash;
 }

@@ -117,8 +117,8 @@ fn holds(band: &Band, qty: Qty) -> bool
     band.from_qty.get() <= qty.get() && qty.get() <= band.to_qty.get()
 }
 
-// Whether two bands of a tier, a type and an exchange share a quantity.
-fn meet(one: &Band, other: &Band) -> bool
+/// Whether two bands share a quantity of a tier, a type and an exchange.
+pub fn share_quantity(one: &Band, other: &Band) -> bool
     ensures { result ≡ bands_meet (band_of one.now) (band_of other.now) }
 {
     one.tier == other.tier
@@ -142,5 +142,5 @@ pub fn band_for(bands: &[Band], qty: Qty) -> Option<Rate>
 pub fn overlaps(bands: &[Band], band: &Band) -> bool
     ensures { result ≡ list_any (bands_meet (band_of band.now)) (map band_of bands.now) }
 {
-    bands.iter().any(|other| meet(band, other))
+    bands.iter().any(|other| share_quantity(band, other))
 }

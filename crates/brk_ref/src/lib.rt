@@ -31,7 +31,7 @@ pub mod volume;
 
 pub use account::{Account, AccountRow, check_account};
 pub use acl::Acl;
-pub use band::{Band, band_for, check_band, overlaps};
+pub use band::{Band, band_for, check_band, overlaps, share_quantity};
 pub use batch_name::BatchName;
 pub use broker::{Broker, BrokerRow, check_broker};
 pub use charge::{Charge, check_charge};

@@ -1,5 +1,5 @@
 -- What a statement does to the trees, whatever else the schema has.
-use Rattle.std.proofs.Common.{◌≡◌, ◌⊎◌, inl, inr, ℕ, ℤ, if◌then◌else◌, ◌==◌, ◌/◌, List, [], ◌∷◌, length, slice_get, Bool, true, false, not, ◌&&◌, Some, None, Option, Ok, Err, Result, refl, sym, ap, subst, subst₂, ◌∙◌}
+use Rattle.std.proofs.Common.{◌≡◌, ◌⊎◌, inl, inr, ℕ, ℤ, if◌then◌else◌, ◌==◌, ◌/◌, List, [], ◌∷◌, length, slice_get, Bool, true, false, ◌&&◌, Some, None, Option, Ok, Err, Result, refl, sym, ap, subst, subst₂, ◌∙◌}
 use Rattle.std.specs.List.{list_all, filter_map, flat_map}
 use Rattle.std.specs.Prelude.{MatchBool}
 use Rattle.sqlite_value.specs.Order.{Row}
@@ -25,7 +25,7 @@ use Rattle.sqlite_resolve.specs.Compile.{compiled}
 use Rattle.sqlite.specs.Effect.{Database, Answers, IsDatabase, value_rows}
 use Rattle.sqlite.specs.Does.{Tally, OnRows, WritesRows, AtPlace}
 use Rattle.sqlite.specs.Rows.{Task, Written, stamped, rowids_for, count_of}
-use Rattle.sqlite.specs.State.{State, mode_of, Writes, Runs, Executes}
+use Rattle.sqlite.specs.State.{State, mode_of, Runs, Executes}
 use Rattle.sqlite.proofs.Callers.{IsPlain, command_of, statement_of, runs_as, one_step}
 use Rattle.sqlite.specs.Listing.{understood}
 use Rattle.brk_rows.proofs.Meant.{meant, known, when_understood}

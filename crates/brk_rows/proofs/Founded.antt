@@ -5,7 +5,7 @@ use Rattle.sqlite_trees.specs.Tree.{Trees}
 use Rattle.sqlite_catalog.specs.Change.{KeepsRows}
 use Rattle.sqlite_schema.specs.declared.schema.Table.{Table}
 use Rattle.sqlite.specs.Effect.{Database, IsDatabase}
-use Rattle.brk_rows.specs.Desk.{Desk, Stands, Makes, KeepsOthers, is_inert, is_calm_at, IsCalm, Founds}
+use Rattle.brk_rows.specs.Desk.{Desk, Stands, Makes, is_inert, is_calm_at, IsCalm, Founds}
 use Rattle.brk_rows.proofs.Created.{all_at}
 use Rattle.brk_rows.proofs.Effects.{split}
 use Rattle.brk_rows.proofs.Kept.{none_held}

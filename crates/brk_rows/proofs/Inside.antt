@@ -15,7 +15,7 @@ use Rattle.sqlite.proofs.InsideLemmas.{keeps_then}
 use Rattle.sqlite.proofs.StateLemmas.{survives_then}
 use Rattle.brk_rows.specs.Model.{IsStep, Selected}
 
-on_err : {V E : Type 0} (out : Result V E) (P : V → Type 0) → IsErr out → IfOk out P
+pub on_err : {V E : Type 0} (out : Result V E) (P : V → Type 0) → IsErr out → IfOk out P
 on_err (Ok x) P h = absurd (let e = h in cc)
 on_err (Err e) P h = tt
 

@@ -1,5 +1,5 @@
 -- Whether a table is there, by preparing a DELETE of it that is never run.
-use Rattle.std.proofs.Common.{◌≡◌, inl, inr, ℕ, List, [], ◌∷◌, is_some, slice_get, Bool, true, false, None, Some, Option, Ok, Err, Result, refl, sym, ◌∙◌, arith, subst, IsTrue}
+use Rattle.std.proofs.Common.{◌≡◌, ◌↔◌, inl, inr, ℕ, List, [], ◌∷◌, is_some, slice_get, Bool, true, false, None, Some, Option, Ok, Err, Result, refl, sym, ◌∙◌, arith, subst, IsErr, IsTrue}
 use Rattle.sqlite_schema.specs.declared.schema.Schema.{Schema}
 use Rattle.sqlite_schema.specs.declared.schema.Table.{Table}
 use Rattle.sqlite_schema.specs.Names.{table_named}
@@ -25,8 +25,8 @@ use Rattle.sqlite.specs.declared.error.Error.{Error}
 use Rattle.sqlite.specs.declared.error.Error.TheVariants.{SqlInputError}
 use Rattle.sqlite.specs.State.{State, HasCleanDisk, KeepsCommit, Survives, IsUnchanged, IsNotRun, store_error}
 use Rattle.brk_rows.specs.Model.{IsStep}
-use Rattle.brk_rows.specs.Desk.{Probes}
-use Rattle.brk_rows.proofs.Inside.{kept_unchanged, kept_rolled}
+use Rattle.brk_rows.specs.Desk.{Heads, Probes}
+use Rattle.brk_rows.proofs.Inside.{kept_unchanged, kept_rolled, on_err}
 use Rattle.brk_rows.proofs.Meant.{deletes_or}
 
 module _ (text : List ℕ) (p : Parsed) (name : Name) (is : first text ≡ Ok p) (statement : p.statement ≡ written.Delete name None []) (untimed : p.formats ≡ []) (unlisted : compiled listing_schema text ≡ Err NoSuchTable) where
@@ -114,9 +114,23 @@ module _ (text : List ℕ) (old new : State) (survives : Survives old new (λ _.
         survives = survives;
       }
 
-  pub says_neither : (e f : Error) → (HasCleanDisk new → IsNotRun old new text [] e) → IsStep {E = Error} old new (Err f) Says
-  says_neither e f fails = record {
-    kept = λ clean. not_run_kept text [] old new e (fails clean);
-    made = λ clean on. tt;
-    survives = survives;
-  }
+-- ---- what the columns of a statement say
+
+headed : (text : List ℕ) (schema : Schema) (o : Outline) (names : List (List ℕ)) (has : Bool) → Outlines (understood schema text) o → (IsTrue has ↔ o.columns ≡ names) → Heads text names has schema
+headed text schema o names has h tells = go (understood schema text) refl h
+  where
+    go : (r : Result Compiled CompileError) → understood schema text ≡ r → Outlines r o → Heads text names has schema
+    go (Ok c) e h = (c, e, subst (λ columns. IsTrue has ↔ columns ≡ names) h.2 tells)
+    go (Err e) _ h = absurd h
+
+pub says_columns : (text : List ℕ) (old new : State) (names : List (List ℕ)) (has : Bool) (o : Outline) → Survives old new (λ _. ⊥) → (HasCleanDisk new → IsUnchanged old new) → (HasCleanDisk new → Outlines (understood old.now.schema text) o)
+    → (IsTrue has ↔ o.columns ≡ names) → IsStep {E = Error} old new (Ok has) (λ has before after. IsTrue before.is_open × (after.now ≡ before.now) × Heads text names has before.now.schema)
+says_columns text old new names has o survives same shape tells = record {
+  kept = λ clean. kept_unchanged old new (same clean);
+  made = λ clean on. let u = same clean in (subst IsTrue (sym u.0.mode) on, (u.0.was_open, u.0.now_is, headed text old.now.schema o names has (shape clean) tells));
+  survives = survives;
+}
+
+-- an error tells nothing, whatever was asked
+pub says_nothing : {V : Type 0} (text : List ℕ) (old new : State) (made : V → State → State → Type 0) (e : Error) (out : Result V Error) → IsErr out → Survives old new (λ _. ⊥) → (HasCleanDisk new → IsNotRun old new text [] e) → IsStep old new out made
+says_nothing text old new made e out failed survives fails = record { kept = λ clean. not_run_kept text [] old new e (fails clean); made = λ clean on. on_err out _ failed; survives = survives }

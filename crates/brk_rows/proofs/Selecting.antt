@@ -1,5 +1,5 @@
 -- A SELECT over one table, with no WITH, GROUP BY or HAVING, and no second part.
-use Rattle.std.proofs.Common.{◌≡◌, ℕ, ◌+◌, List, [], ◌∷◌, ◌++◌, map, false, None, Some, Ok, refl}
+use Rattle.std.proofs.Common.{◌≡◌, ℕ, Bool, List, [], ◌∷◌, ◌++◌, map, true, false, None, Some, Ok, Err, refl}
 use Rattle.sqlite_value.specs.declared.keys.Key.{Key}
 use Rattle.sqlite_sql.specs.Term.{Term}
 use Rattle.sqlite_schema.specs.declared.schema.Schema.{Schema}
@@ -20,6 +20,8 @@ use Rattle.sqlite_resolve.specs.Order.{sorts, keys}
 use Rattle.sqlite_resolve.specs.Body.{body, bounds, result, matching, tests}
 use Rattle.sqlite_resolve.specs.Select.{outermost, inside, parts, having, named, assembled, ungrouped, paging}
 use Rattle.sqlite_resolve.specs.Program.{query, query_to, level, with, whole, alone, single, sources, source, viewing}
+use Rattle.sqlite_resolve.specs.declared.error.CompileError.{CompileError}
+use Rattle.sqlite_resolve.specs.declared.error.CompileError.TheVariants.{TooBig, NoSuchTable}
 use Rattle.brk_rows.proofs.Scoped.{bound_is}
 
 abbrev pub level_one : Name → ℕ → List Output → Level
@@ -53,6 +55,25 @@ module _ (schema : Schema) (core : Core) (source : Source) (name : Name) (at : �
         ≡ Ok (ungrouped (joined.steps ++ s4.steps) joined.filter columns (out-Core core).distinct order page.0 page.1, map (λ o. o.name) columns, map (λ o. o.carried.collation) columns)
     unfolding named assembled
     named_is by order s4 page a b sorted = rw (parts_is by order s4 a b sorted)
+
+-- an error of the columns that are shown: above 2,000, or none
+abbrev pub error_of : Bool → CompileError
+error_of true = TooBig
+error_of false = NoSuchTable
+
+-- what the columns are refused for, the SELECT is
+pub named_off : (schema : Schema) (core : Core) (source : Source) (name : Name) (at : ℕ) → table_named schema name ≡ Some at → (out-Core core).from ≡ source ∷ [] → (out-Source source).origin ≡ Table name
+    → (out-Source source).alias ≡ None → (out-Source source).using ≡ [] → (e : CompileError) (by : List Sort) (page : Term × Term)
+    → result lower (outermost schema) (level_one name at []) core (fresh 2 max_budget) ≡ Err e → named schema core by page ≡ Err e
+unfolding named parts body
+named_off schema core source name at named_at from origin alias using e by page off = rw (from, bounds_is schema core source name at named_at from origin alias using, off)
+
+pub query_off : (schema : Schema) (s : Select) (core : Core) (source' : Source) (name : Name) (page : Term × Term) (big : Bool)
+    → (out-Select s).with ≡ [] → (out-Select s).first ≡ core → (out-Select s).others ≡ [] → (out-Core core).from ≡ source' ∷ [] → (out-Source source').origin ≡ Table name
+    → paging schema s ≡ Ok page → named schema core (out-Select s).order page ≡ Err (error_of big) → query schema s ≡ Err (error_of big)
+unfolding query query_to level with whole alone single sources source viewing
+query_off schema s core source' name page true a first b from origin paged named = rw (a, paged, b, first, from, origin, named)
+query_off schema s core source' name page false a first b from origin paged named = rw (a, paged, b, first, from, origin, named)
 
 pub query_is : (schema : Schema) (s : Select) (core : Core) (source' : Source) (name : Name) (page : Term × Term) (shown : _)
     → (out-Select s).with ≡ [] → (out-Select s).first ≡ core → (out-Select s).others ≡ [] → (out-Core core).from ≡ source' ∷ [] → (out-Source source').origin ≡ Table name

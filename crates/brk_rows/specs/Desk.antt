@@ -17,10 +17,11 @@ use Rattle.sqlite_schema.specs.declared.schema.Keys.TheVariants.{Enforced}
 use Rattle.sqlite_schema.specs.Names.{table_named}
 use Rattle.sqlite_rules.specs.Action.{deed_for}
 use Rattle.sqlite.specs.Effect.{Database, IsDatabase}
-use Rattle.std.specs.Prelude.{Ok, Err}
+use Rattle.std.specs.Prelude.{◌↔◌, Ok, Err, IsTrue}
 use Rattle.sqlite_resolve.specs.declared.compiled.Compiled.{Compiled}
 use Rattle.sqlite_resolve.specs.declared.error.CompileError.TheVariants.{NoSuchTable}
 use Rattle.sqlite.specs.Listing.{understood}
+use Rattle.sqlite.specs.Steps.{column_names}
 use Rattle.brk_rows.specs.Rows.{Holds, IsSheet}
 
 -- ---- what a table is made of
@@ -149,3 +150,7 @@ AdoptsSound desk w db =
 abbrev pub Probes : List ℕ → Bool → Schema → Type 0
 Probes text true schema = (c : Compiled) × (understood schema text ≡ Ok c)
 Probes text false schema = understood schema text ≡ Err NoSuchTable
+
+-- what it says of a text that was understood: whether it shows just the columns of these names, in their order
+abbrev pub Heads : List ℕ → List (List ℕ) → Bool → Schema → Type 0
+Heads text names has schema = (c : Compiled) × (understood schema text ≡ Ok c) × (IsTrue has ↔ column_names c ≡ names)

@@ -1,6 +1,8 @@
 //! The tables of a program as lists of records, in a database that may have others.
 #![tactic(auto)]
 
+mod columns;
+
 ghost use Rattle.std.specs.Prelude.{◌≡◌, IfOk, IsTrue, None, map};
 ghost use Rattle.sqlite_value.specs.declared.value.Value.TheVariants.{Int};
 ghost use Rattle.sqlite_value.specs.Order.{column};
@@ -12,6 +14,7 @@ ghost use Rattle.brk_rows.specs.Rows.{climbs_from, IsSheet};
 ghost use Rattle.brk_rows.specs.Model.{Steps};
 ghost use Rattle.brk_rows.specs.Desk.{Probes};
 
+pub use columns::shows_columns;
 use sqlite::{Alter, Connection, Error, Row, Transaction};
 use sqlite_resolve::error::CompileError;
 use std::alloc::Global;

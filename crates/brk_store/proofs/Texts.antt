@@ -16,7 +16,7 @@ use Rattle.brk_changes.specs.declared.trade_row.TradeRow as trade
 and_both : (a b : Bool) → a ≡ true → b ≡ true → a && b ≡ true
 and_both a b p q = rw (p, q) refl
 
-text_is_utf8 : {Z : Type 0} (s : String Z) → is_utf8 (string_bytes s) ≡ true
+pub text_is_utf8 : {Z : Type 0} (s : String Z) → is_utf8 (string_bytes s) ≡ true
 text_is_utf8 s = is_utf8-from_IsUtf8 (string_bytes s) (IsUtf8-string_bytes s)
 
 kept_texts : (ks : List kept.Kept) → list_all (λ k. is_utf8 k.row_text && is_utf8 k.line) (map kept_of ks) ≡ true

@@ -36,7 +36,7 @@ pub fn an_audit_tells_of_the_rows<S: Alter>()
 {}
 
 /// A store whose rows pass holds the tables of a base in order and sound, of the base that the rows give; so does one that was adopted.
-pub fn an_adopted_store_keeps_its_books<S: Alter>()
+pub fn an_adopted_store_holds_its_books<S: Alter>()
     ensures rows { (store : Held S) (t : Tables) → Holds S.Store store t → Passes t → IsTrue (has_texts t) → HoldsBooks S.Store store (base_of t) }
     ensures adopted { (old new : Held S) → IsAdopted S.Store old new (Ok tt) → IsDefinedIn S.Store old → (base : Base) × HoldsBooks S.Store new base }
 {}

@@ -1,12 +1,13 @@
 //! Calls of the database within a transaction. Each of its errors is the fault `Store`.
 
-ghost use Rattle.std.specs.Prelude.{◌≡◌, Ok, None, Err, OnErr, IsTrue};
+ghost use Rattle.std.specs.Prelude.{◌≡◌, ℕ, List, map, Ok, None, Err, OnErr, IsTrue};
+ghost use Rattle.std.specs.Borrow.{Bor};
 ghost use Rattle.brk_money.specs.declared.fault.Fault.TheVariants.{Store};
 ghost use Rattle.sqlite.specs.Listing.{understood};
 ghost use Rattle.sqlite.specs.Values.{bound};
 ghost use Rattle.sqlite_resolve.specs.declared.compiled.Compiled.{Compiled};
 ghost use Rattle.sqlite_schema.specs.declared.schema.Schema.{Schema};
-ghost use Rattle.brk_rows.specs.Desk.{Probes};
+ghost use Rattle.brk_rows.specs.Desk.{Heads, Probes};
 ghost use Rattle.brk_rows.specs.Model.{Ran, Selected, Steps};
 
 use brk_money::Fault;
@@ -53,6 +54,22 @@ pub fn is_understood<S: Alter>(tx: &mut Transaction<'_, S>, text: &str) -> Resul
     ensures fault { OnErr result (result ≡ Err Store) }
 {
     match brk_rows::is_understood(tx, text) {
+        Ok(has) => Ok(has),
+        Err(_) => Err(Fault::Store),
+    }
+}
+
+/// Whether the rows that a statement shows have just the columns of these names, in their order. It runs nothing.
+pub fn shows_columns<S: Alter>(
+    tx: &mut Transaction<'_, S>,
+    text: &str,
+    names: &[&str],
+) -> Result<bool, Fault>
+    ensures same_reference { tx.new.conn.ghost_name ≡ tx.old.conn.ghost_name }
+    ensures step { Steps S.Store tx.old tx.new result (λ has a b. IsTrue a.is_open × (b.now ≡ a.now) × Heads text.now (map (λ (name : Bor (List ℕ)). name.now) names.now) has a.now.schema) }
+    ensures fault { OnErr result (result ≡ Err Store) }
+{
+    match brk_rows::shows_columns(tx, text, names) {
         Ok(has) => Ok(has),
         Err(_) => Err(Fault::Store),
     }

@@ -1,11 +1,10 @@
 -- A database that has the tables of a desk with some rows is defined, and the desk is there.
-use Rattle.std.proofs.Common.{◌≡◌, ◌∙◌, ℕ, suc, zero, true, List, [], ◌∷◌, map, length, slice_get, Some, refl, sym, ap, subst, inl, inr}
+use Rattle.std.proofs.Common.{◌≡◌, ◌∙◌, ℕ, suc, zero, List, [], ◌∷◌, map, length, slice_get, Some, refl, sym, ap, subst, inl, inr}
 use Rattle.std.specs.List.{AllByRecursion}
 use Rattle.std.specs.List.Sorted.{IsPermutation}
 use Rattle.std.proofs.lemmas.List.Sorted.{length_permutation}
 use Rattle.sqlite_value.specs.declared.value.Value.{Value}
 use Rattle.sqlite_value.specs.Order.{Row}
-use Rattle.sqlite_catalog.proofs.StepLemmas.{same_itself}
 use Rattle.sqlite_rules.specs.Lists.{Has}
 use Rattle.sqlite_schema.specs.Names.{table_named}
 use Rattle.sqlite_schema.specs.declared.schema.Table.{Table}
@@ -18,7 +17,7 @@ use Rattle.brk_tables_form.specs.Cells.{maybe, nat}
 use Rattle.brk_tables_form.specs.Desk.{Which, TheDesk, KeptRows, Brokers, Customers, Accounts, Permissions, Securities, LastTrades, Charges, Bands, TaxRates, CustomerTaxes, Trades, TradeHistory, Requests, Holdings, Summaries, HoldingHistory, Settlements, CashRows, placed, shape}
 use Rattle.brk_tables_form.specs.Made.{HasRows}
 use Rattle.brk_tables_form.specs.Shapes.{desk_row}
-use Rattle.brk_tables_whole.specs.Schemas.{HasDesk, HasTable, IsDefined, IsKeyed, all_tables, first_schema, names_of, same_names}
+use Rattle.brk_tables_whole.specs.Schemas.{HasDesk, HasTable, IsDefined, IsKeyed, all_tables, first_schema, names_of}
 
 -- ---- a table's names are no matter of its tree
 
@@ -43,10 +42,6 @@ names_alike Summaries m n = refl
 names_alike HoldingHistory m n = refl
 names_alike Settlements m n = refl
 names_alike CashRows m n = refl
-
-pub names_themselves : (names : List (List ℕ)) → same_names names names ≡ true
-names_themselves [] = refl
-names_themselves (name ∷ names) = rw (same_itself name, names_themselves names) refl
 
 some_same : {X : Type 0} (x y : X) → Some x ≡ Some y → x ≡ y
 some_same x y e = cc
@@ -89,7 +84,7 @@ module _ (t : Tables) (db : Database) (has : HasRows t db) where
     record {
       named = ap (λ n. table_named db.schema n.name) (names_alike w 0 (tree w)) ∙ (stands w).named;
       found = (stands w).found;
-      columns = ap (λ n. same_names n.columns (names_of (shape w 0)).columns) (names_alike w (tree w) 0) ∙ names_themselves (names_of (shape w 0)).columns;
+      columns = ap (λ n. n.columns) (names_alike w (tree w) 0);
     },
   )
 
@@ -109,7 +104,7 @@ module _ (t : Tables) (db : Database) (has : HasRows t db) where
   desk_there = record { tables = all_there all_tables; row = the_row }
 
   pub defined : IsDefined db
-  defined = record {
+  defined _ = record {
     sound = has.1.sound;
     shaped = λ w at table named found.
         let e : table ≡ shape w (tree w) = found_table w at table named found in

@@ -24,10 +24,12 @@ pub mod Firsts
 pub mod FormedTables
 pub mod Formless
 pub mod Four
+pub mod Headed
 pub mod InForm
 pub mod Keyed
 pub mod Reading
 pub mod Sheeted
 pub mod Shown
+pub mod Stars
 pub mod There
 pub mod Whole

@@ -11,7 +11,7 @@ use Rattle.brk_changes.specs.declared.sheets.Sheets.{Sheets}
 use Rattle.brk_changes.specs.Sheets.{tables_in_sheets}
 use Rattle.brk_tables_form.specs.Desk.{Which, TheDesk, KeptRows, Brokers, Customers, Accounts, Permissions, Securities, LastTrades, Charges, Bands, TaxRates, CustomerTaxes, Trades, TradeHistory, Requests, Holdings, Summaries, HoldingHistory, Settlements, CashRows, shape, list}
 use Rattle.brk_tables_form.specs.Made.{HasRows}
-use Rattle.brk_tables_whole.specs.Schemas.{HasDesk, HasTable, IsDefined, first_schema, names_of}
+use Rattle.brk_tables_whole.specs.Schemas.{HasDesk, HasTable, IsDefined, IsMadeAlike, first_schema, names_of}
 use Rattle.brk_tables_whole.specs.Whole.{ShowsAll}
 use Rattle.brk_tables_whole.specs.Raw.{raw_rows}
 use Rattle.brk_tables_whole.specs.Decoded.{AreSheets, formed}
@@ -63,6 +63,9 @@ module _ (db : Database) (has : HasDesk first_schema db) (defined : IsDefined db
   table_of Settlements = has.tables.1.1.1.1.1.1.1.1.1.1.1.1.1.1.1.1.1.1.0
   table_of CashRows = has.tables.1.1.1.1.1.1.1.1.1.1.1.1.1.1.1.1.1.1.1.0
 
+  alike : IsMadeAlike db
+  alike = defined has.tables
+
   abbrev pub tree : Which → ℕ
   tree w = (table_of w).1.tree
 
@@ -74,7 +77,7 @@ module _ (db : Database) (has : HasDesk first_schema db) (defined : IsDefined db
       let h = (table_of w).2 in
       record {
         named = subst (λ name. table_named db.schema name ≡ Some (place w)) (same_name_at w 0 (tree w)) h.named;
-        found = h.found ∙ ap Some (defined.shaped w (place w) (table_of w).1 h.named h.found);
+        found = h.found ∙ ap Some (alike.shaped w (place w) (table_of w).1 h.named h.found);
       }
 
   -- what was read is what the tables hold
@@ -84,10 +87,10 @@ module _ (db : Database) (has : HasDesk first_schema db) (defined : IsDefined db
     record {
       place = place;
       stands = stands;
-      apart = λ v w same. defined.apart v w (place v) (place w) (tree v) (stands v) (subst (λ n. Stands db.schema (shape w n) (place w)) (sym same) (stands w));
-      calm = λ w. defined.calm w (place w) (tree w) (stands w);
-      sound = defined.sound;
-      rows = λ w. (shown w (place w) (tree w) (stands w)).held (list w (tables_in_sheets sheets)) defined.sound (defined.keyed w (place w) (tree w) (stands w)) (are w);
+      apart = λ v w same. alike.apart v w (place v) (place w) (tree v) (stands v) (subst (λ n. Stands db.schema (shape w n) (place w)) (sym same) (stands w));
+      calm = λ w. alike.calm w (place w) (tree w) (stands w);
+      sound = alike.sound;
+      rows = λ w. (shown w (place w) (tree w) (stands w)).held (list w (tables_in_sheets sheets)) alike.sound (alike.keyed w (place w) (tree w) (stands w)) (are w);
     },
   )
 

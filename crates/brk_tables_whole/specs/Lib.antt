@@ -1,3 +1,4 @@
+pub mod Headings
 pub mod Schemas
 pub mod Whole
 pub mod Raw

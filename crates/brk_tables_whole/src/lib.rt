@@ -2,6 +2,8 @@
 //! form. Each call is made within an open transaction. An error that the database answers is the fault `Store`.
 #![tactic(auto)]
 
+mod column_names;
+pub mod columns;
 pub mod decoding;
 pub mod raw;
 pub mod rows;

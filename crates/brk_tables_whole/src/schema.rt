@@ -5,9 +5,9 @@ ghost use Rattle.brk_money.specs.declared.fault.Fault.TheVariants.{Store};
 ghost use Rattle.brk_rows.specs.Model.{Steps};
 ghost use Rattle.brk_tables_whole.specs.Schemas.{HasDesk, IsDefined, IsFirstRow, SaysFirst, first_schema};
 
+use crate::columns::has_tables;
 use crate::rows::desk_rows;
 use brk_money::Fault;
-use brk_tables_making::has_every_table;
 use sqlite::{Alter, Row, Transaction};
 use sqlite_value::value::ValueRef;
 
@@ -52,7 +52,7 @@ pub fn has_desk<S: Alter>(tx: &mut Transaction<'_, S>) -> Result<bool, Fault>
     ensures step { Steps S.Store tx.old tx.new result (λ has a b. IsTrue a.is_open × (b.now ≡ a.now) × (IsDefined a.now → IsTrue has ↔ HasDesk first_schema a.now)) }
     ensures fault { OnErr result (result ≡ Err Store) }
 {
-    if !has_every_table(tx)? {
+    if !has_tables(tx)? {
         return Ok(false);
     }
     Ok(says_first(&desk_rows(tx)?))

@@ -4,14 +4,38 @@ use crate::damages::{ORDERED, expect_told};
 use brk_money::Condition;
 use std::test::Fail;
 
-// The tables and the row of DESK.
-const SCHEMAS: [(&str, Option<Condition>); 4] = [
+// The tables, their columns and the row of DESK.
+const SCHEMAS: [(&str, Option<Condition>); 10] = [
     ("DELETE FROM DESK", Some(Condition::Schema)),
     (
         "INSERT INTO DESK VALUES (2, 1, NULL)",
         Some(Condition::Schema),
     ),
     ("DROP TABLE CASH_TRANSACTION", Some(Condition::Schema)),
+    (
+        "DROP TABLE CHARGE; CREATE TABLE CHARGE (CH_TT_ID TEXT NOT NULL, CH_C_TIER INTEGER NOT NULL, PRIMARY KEY (CH_TT_ID, CH_C_TIER)) STRICT",
+        Some(Condition::Schema),
+    ),
+    (
+        "DROP TABLE CHARGE; CREATE TABLE CHARGE (CH_TT_ID TEXT NOT NULL, CH_C_TIER INTEGER NOT NULL, CH_CHRG INTEGER NOT NULL, CH_NOTE TEXT, PRIMARY KEY (CH_TT_ID, CH_C_TIER)) STRICT",
+        Some(Condition::Schema),
+    ),
+    (
+        "DROP TABLE CHARGE; CREATE TABLE CHARGE (CH_C_TIER INTEGER NOT NULL, CH_TT_ID TEXT NOT NULL, CH_CHRG INTEGER NOT NULL, PRIMARY KEY (CH_TT_ID, CH_C_TIER)) STRICT",
+        Some(Condition::Schema),
+    ),
+    (
+        "DROP TABLE CHARGE; CREATE TABLE CHARGE (CH_TT_ID TEXT NOT NULL, CH_C_TIER INTEGER NOT NULL, CH_AMOUNT INTEGER NOT NULL, PRIMARY KEY (CH_TT_ID, CH_C_TIER)) STRICT",
+        Some(Condition::Schema),
+    ),
+    (
+        "DROP TABLE CHARGE; CREATE TABLE CHARGE (CH_TT_ID TEXT NOT NULL, CH_C_TIER INTEGER NOT NULL, ch_chrg INTEGER NOT NULL, PRIMARY KEY (CH_TT_ID, CH_C_TIER)) STRICT",
+        Some(Condition::Schema),
+    ),
+    (
+        "DROP TABLE CHARGE; CREATE TABLE CHARGE (CH_TT_ID TEXT NOT NULL, CH_C_TIER INTEGER NOT NULL, CH_CHRG INTEGER NOT NULL, PRIMARY KEY (CH_TT_ID, CH_C_TIER)) STRICT",
+        None,
+    ),
     ("CREATE TABLE STRANGE (A TEXT)", None),
 ];
 

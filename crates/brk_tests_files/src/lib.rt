@@ -9,3 +9,5 @@ mod desks;
 mod files;
 #[cfg(test)]
 mod forms;
+#[cfg(test)]
+mod paths;

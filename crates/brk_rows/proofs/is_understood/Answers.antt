@@ -1,7 +1,7 @@
-use Rattle.std.proofs.Common.{[], ap, ◌∙◌}
+use Rattle.std.proofs.Common.{[], refl, ap, ◌∙◌}
 use Rattle.sqlite.specs.Held.{state}
 use Rattle.sqlite.specs.declared.error.Error.TheVariants.{SqlInputError}
-use Rattle.brk_rows.proofs.Probe.{says_there, says_absent, says_neither}
+use Rattle.brk_rows.proofs.Probe.{Says, says_there, says_absent, says_nothing}
 use Rattle.brk_rows.proofs.is_understood.Goals.{in-Ok, in-Err-SqlInputError-NoSuchTable, in-Err+in-Err}
 use Rattle.brk_rows.proofs.is_understood.Goals as goal
 
@@ -14,5 +14,5 @@ returns-clause-step g c =
       | in-Err-SqlInputError-NoSuchTable w ↦
           let it = w.in-Err-SqlInputError-NoSuchTable in
           rw w.result-is (says_absent c.args.text.now old new c.prepare.ensures.survives it.field-0 (it.field-0-is ∙ ap SqlInputError it.field-0-0-is) (λ clean. it.ensures.err clean []))
-      | in-Err+in-Err w ↦ rw w.result-is (says_neither c.args.text.now old new c.prepare.ensures.survives _ _ (λ clean. w.in-Err.ensures.err clean []))
+      | in-Err+in-Err w ↦ rw w.result-is (says_nothing c.args.text.now old new (Says c.args.text.now old new c.prepare.ensures.survives) _ _ refl c.prepare.ensures.survives (λ clean. w.in-Err.ensures.err clean []))
     ]

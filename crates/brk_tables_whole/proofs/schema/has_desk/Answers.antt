@@ -1,40 +1,39 @@
-use Rattle.std.proofs.Common.{◌≡◌, ◌∙◌, ◌↔◌, true, false, Ok, List, sym, subst}
+use Rattle.std.proofs.Common.{◌≡◌, ◌∙◌, ◌↔◌, true, false, Ok, List, subst}
 use Rattle.std.specs.Prelude.{IsTrue}
 use Rattle.sqlite_value.specs.Order.{Row}
 use Rattle.sqlite.specs.Held.{state}
 use Rattle.sqlite.specs.State.{State}
 use Rattle.brk_rows.proofs.Inside.{step_then, step_read}
 use Rattle.brk_tables_form.specs.Desk.{TheDesk}
-use Rattle.brk_tables_making.specs.Present.{has_tables_of_desk}
-use Rattle.brk_tables_whole.specs.Schemas.{HasDesk, SaysFirst, first_schema}
+use Rattle.brk_tables_whole.specs.Schemas.{HasDesk, HasTablesOf, SaysFirst, first_schema}
 use Rattle.brk_tables_whole.specs.Whole.{ShowsAll}
-use Rattle.brk_tables_whole.proofs.There.{none_there, row_tells}
+use Rattle.brk_tables_whole.proofs.There.{desk_is_not, row_tells}
 use Rattle.brk_tables_whole.proofs.schema.has_desk.Goals as goal
 
 pub returns-then-not-branch-clause-step : goal.returns-then-not-branch-clause-step
 returns-then-not-branch-clause-step g c =
     let old = state g.S.Store c.args.tx.now.conn.now in
-    let new = state g.S.Store c.has_every_table.new.tx.conn.now in
-    step_read old new c.in_ok-has_every_table.field-0 (Ok false) (λ has a b. IsTrue a.is_open × (b.now ≡ a.now) × (has ≡ has_tables_of_desk a.now.schema)) _
-    (λ w e p. let f : w ≡ false = cc in (p.0, p.1, λ defined. none_there old.now defined w (sym p.2 ∙ c.if-not-branch.true) f))
-    c.in_ok-has_every_table.ensures.step
+    let new = state g.S.Store c.has_tables.new.tx.conn.now in
+    step_read old new c.in_ok-has_tables.field-0 (Ok false) (λ has a b. IsTrue a.is_open × (b.now ≡ a.now) × (IsTrue has ↔ HasTablesOf first_schema a.now.schema)) _
+    (λ w e p. let f : w ≡ false = cc in (p.0, p.1, λ defined. desk_is_not old.now c.in_ok-has_tables.field-0 w p.2 c.if-not-branch.true f))
+    c.in_ok-has_tables.ensures.step
 
 pub returns-clause-step : goal.returns-clause-step
 returns-clause-step g c =
     let old = state g.S.Store c.args.tx.now.conn.now in
-    let mid = state g.S.Store c.has_every_table.new.tx.conn.now in
+    let mid = state g.S.Store c.has_tables.new.tx.conn.now in
     let new = state g.S.Store c.desk_rows.new.tx.conn.now in
-    let has = c.in_ok-has_every_table.field-0 in
+    let has = c.in_ok-has_tables.field-0 in
     let rows = c.in_ok-desk_rows.field-0.items in
     let is : c.deref.result.now ≡ rows = c.deref.ensures.value in
-    let made : List Row → State → State → Type 0 = λ rows a b. IsTrue a.is_open × (b.now ≡ a.now) × (has ≡ has_tables_of_desk a.now.schema) × ShowsAll TheDesk rows a.now in
+    let made : List Row → State → State → Type 0 = λ rows a b. IsTrue a.is_open × (b.now ≡ a.now) × (IsTrue has ↔ HasTablesOf first_schema a.now.schema) × ShowsAll TheDesk rows a.now in
     step_read old new c.in_ok-desk_rows.field-0 (Ok c.says_first.result) (λ v a b. made v.items a b) _
     (λ w e p.
     let f : c.says_first.result ≡ w = cc in (
       p.0,
       p.1,
       λ defined. subst (λ w. IsTrue w ↔ HasDesk first_schema old.now) f
-          (row_tells old.now defined c.says_first.result rows (sym p.2 ∙ c.if-not-branch.false) p.3 (subst (λ l. c.says_first.result ≡ true → SaysFirst l) is c.says_first.ensures.first) (subst (λ l. c.says_first.result ≡ false → SaysFirst l → ⊥) is c.says_first.ensures.other)),
+          (row_tells old.now defined (p.2.0 c.if-not-branch.false) c.says_first.result rows p.3 (subst (λ l. c.says_first.result ≡ true → SaysFirst l) is c.says_first.ensures.first) (subst (λ l. c.says_first.result ≡ false → SaysFirst l → ⊥) is c.says_first.ensures.other)),
     ))
-    (step_then old mid new has (Ok c.in_ok-desk_rows.field-0) (λ has a b. IsTrue a.is_open × (b.now ≡ a.now) × (has ≡ has_tables_of_desk a.now.schema)) (λ rows a b. IsTrue a.is_open × (b.now ≡ a.now) × ShowsAll TheDesk rows.items a.now) (λ v a b. made v.items a b)
-    (λ v p q. (p.0, q.1 ∙ p.1, p.2, subst (ShowsAll TheDesk v.items) p.1 q.2)) c.in_ok-has_every_table.ensures.step c.in_ok-desk_rows.ensures.step)
+    (step_then old mid new has (Ok c.in_ok-desk_rows.field-0) (λ has a b. IsTrue a.is_open × (b.now ≡ a.now) × (IsTrue has ↔ HasTablesOf first_schema a.now.schema)) (λ rows a b. IsTrue a.is_open × (b.now ≡ a.now) × ShowsAll TheDesk rows.items a.now) (λ v a b. made v.items a b)
+    (λ v p q. (p.0, q.1 ∙ p.1, p.2, subst (ShowsAll TheDesk v.items) p.1 q.2)) c.in_ok-has_tables.ensures.step c.in_ok-desk_rows.ensures.step)

@@ -1,0 +1,20 @@
+-- The lines that the program writes to standard error.
+use Rattle.std.specs.Prelude.{◌≡◌, ℕ, List, [], ◌∷◌, ◌++◌, codes, Option}
+use Rattle.std.specs.Borrow.{Bor}
+use Rattle.std.specs.Io.KnownBytes.{Appends}
+use Rattle.brk_money.specs.Kinds.{condition_word}
+use Rattle.brk_money.specs.declared.fault.Fault.{Fault}
+use Rattle.brk_money.specs.declared.fault.Fault.TheVariants as fault
+
+-- its two parts and a line feed
+abbrev pub told : Bor (List ℕ) × Bor (List ℕ) → List ℕ
+told line = line.0.now ++ (line.1.now ++ (10 ∷ []))
+
+-- known bytes grew by the front of these, or by all of them
+abbrev pub WritesFront : Option (List ℕ) → Option (List ℕ) → List ℕ → Type 0
+WritesFront old new line = (front : List ℕ) × (left : List ℕ) × Appends old new front × (line ≡ front ++ left)
+
+abbrev pub fault_line : Fault → List ℕ
+fault_line fault.Memory = codes "brk: fault: memory\n"
+fault_line fault.Store = codes "brk: fault: store\n"
+fault_line (fault.Damaged condition) = codes "brk: damaged: " ++ (condition_word condition ++ (10 ∷ []))

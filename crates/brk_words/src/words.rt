@@ -1,0 +1,212 @@
+use crate::job::{Job, UsageFault};
+use brk_money::{Day, Id, Stamp, parse_day};
+use clap::error::ErrorKind;
+use clap::{Arg, ArgMatches, Command, Error, value_parser};
+use std::alloc::{AllocError, Global};
+
+const VERSION: &str = "0.1.0";
+
+// A file that is made where it is missing or empty.
+fn made_file<'a>(alloc: Global) -> Arg<'a> {
+    Arg::new(alloc, "db").long("db").value_name("FILE").help(
+        "The file that keeps the desk, made where it is missing or empty; without it the desk is forgotten",
+    )
+}
+
+// A file that has to be there.
+fn kept_file<'a>(alloc: Global) -> Arg<'a> {
+    Arg::new(alloc, "db")
+        .long("db")
+        .value_name("FILE")
+        .help("The file that keeps the desk")
+        .required(true)
+}
+
+fn moment<'a>(alloc: Global) -> Arg<'a> {
+    Arg::new(alloc, "at")
+        .long("at")
+        .value_name("MS")
+        .value_parser(value_parser!(i64).range(0..=Stamp::GREATEST))
+        .help(
+            "The moment of every command, in milliseconds since 1970-01-01 UTC; without it the clock is asked",
+        )
+}
+
+fn day<'a>(alloc: Global, name: &'static str, help: &'static str) -> Arg<'a> {
+    Arg::new(alloc, name)
+        .long(name)
+        .value_name("DAY")
+        .help(help)
+        .required(true)
+}
+
+// The words of `brk batch`.
+fn batch<'a>(alloc: Global) -> Result<Command<'a>, AllocError> {
+    Command::new(alloc, "batch")
+        .about("Reads a batch from standard input and writes a line for each row")
+        .arg(made_file(alloc))?
+        .arg(moment(alloc))
+}
+
+// The words of `brk statement`.
+fn statement<'a>(alloc: Global) -> Result<Command<'a>, AllocError> {
+    let account = Arg::new(alloc, "account")
+        .long("account")
+        .value_name("ID")
+        .value_parser(value_parser!(u64).range(1..=Id::GREATEST as i64))
+        .help("The account")
+        .required(true);
+    Command::new(alloc, "statement")
+        .about(
+            "Prints the statement of an account: its cash from day to day, and the lots that it holds",
+        )
+        .arg(kept_file(alloc))?
+        .arg(account)?
+        .arg(day(alloc, "from", "The first day, as 2024-03-01"))?
+        .arg(day(alloc, "to", "The last day"))
+}
+
+// The words of `brk audit`.
+fn audit<'a>(alloc: Global) -> Result<Command<'a>, AllocError> {
+    Command::new(alloc, "audit")
+        .about("Tests that the tables of a desk follow from one another, and prints ok")
+        .arg(kept_file(alloc))
+}
+
+// The words of `brk serve`.
+fn serve<'a>(alloc: Global) -> Result<Command<'a>, AllocError> {
+    let port = Arg::new(alloc, "port")
+        .long("port")
+        .value_name("P")
+        .value_parser(value_parser!(u16).range(1..=65_535))
+        .help("The port of 127.0.0.1 that is listened at")
+        .required(true);
+    let streams = Arg::new(alloc, "streams")
+        .long("streams")
+        .value_name("N")
+        .value_parser(value_parser!(u32).range(1..=1_000_000))
+        .default_value("1")
+        .help("How many streams are served before the program ends");
+    Command::new(alloc, "serve")
+        .about("Serves the desk over HTTP, one stream after the other")
+        .arg(port)?
+        .arg(made_file(alloc))?
+        .arg(moment(alloc))?
+        .arg(streams)
+}
+
+// The words that `brk` takes.
+fn grammar<'a>(alloc: Global) -> Result<Command<'a>, AllocError> {
+    let batch = batch(alloc)?;
+    let statement = statement(alloc)?;
+    let audit = audit(alloc)?;
+    let serve = serve(alloc)?;
+    Command::new(alloc, "brk")
+        .bin_name("brk")?
+        .version(VERSION)
+        .about("A brokerage back office")
+        .subcommand_required(true)
+        .arg_required_else_help(true)
+        .subcommand(batch)?
+        .subcommand(statement)?
+        .subcommand(audit)?
+        .subcommand(serve)
+}
+
+// A text that was given.
+fn text_of(alloc: Global, matches: &ArgMatches<'_>, name: &str) -> Result<String, AllocError> {
+    String::from_str(alloc, matches.get_str(name).unwrap_or(""))
+}
+
+fn file_of(alloc: Global, matches: &ArgMatches<'_>) -> Result<Option<String>, AllocError> {
+    match matches.get_str("db") {
+        Some(path) => Ok(Some(String::from_str(alloc, path)?)),
+        None => Ok(None),
+    }
+}
+
+fn moment_of(matches: &ArgMatches<'_>) -> Option<Stamp> {
+    matches.get_one::<i64>("at").and_then(Stamp::new)
+}
+
+fn day_of(matches: &ArgMatches<'_>, name: &str) -> Result<Day, UsageFault> {
+    let text = matches.get_str(name).unwrap_or("");
+    parse_day(text.as_bytes()).ok_or(UsageFault::Day)
+}
+
+fn statement_of(alloc: Global, matches: &ArgMatches<'_>) -> Result<Job, UsageFault> {
+    let Some(account) = matches.get_one::<u64>("account").and_then(Id::new) else {
+        return Err(UsageFault::Words(String::new(alloc)));
+    };
+    Ok(Job::Statement {
+        db: text_of(alloc, matches, "db")?,
+        account,
+        from: day_of(matches, "from")?,
+        to: day_of(matches, "to")?,
+    })
+}
+
+fn serve_of(alloc: Global, matches: &ArgMatches<'_>) -> Result<Job, UsageFault> {
+    Ok(Job::Serve {
+        port: matches.get_one("port").unwrap_or(0),
+        db: file_of(alloc, matches)?,
+        at: moment_of(matches),
+        streams: matches.get_one("streams").unwrap_or(1),
+    })
+}
+
+// The job that the matched words ask for.
+fn job_of(alloc: Global, name: &str, matches: &ArgMatches<'_>) -> Result<Job, UsageFault> {
+    if name == "statement" {
+        return statement_of(alloc, matches);
+    }
+    if name == "serve" {
+        return serve_of(alloc, matches);
+    }
+    if name == "audit" {
+        let db = text_of(alloc, matches, "db")?;
+        return Ok(Job::Audit { db });
+    }
+    Ok(Job::Batch {
+        db: file_of(alloc, matches)?,
+        at: moment_of(matches),
+    })
+}
+
+// What an error of the words is told as.
+fn fault_of(alloc: Global, error: &Error) -> UsageFault {
+    let kind = error.kind();
+    if kind == ErrorKind::OutOfMemory {
+        return UsageFault::Memory;
+    }
+    let Ok(text) = error.to_string(alloc) else {
+        return UsageFault::Memory;
+    };
+    if kind == ErrorKind::DisplayHelp || kind == ErrorKind::DisplayVersion {
+        UsageFault::Help(text)
+    } else {
+        UsageFault::Words(text)
+    }
+}
+
+/// What is told of a word that is no text.
+pub fn no_text(alloc: Global) -> UsageFault {
+    match String::from_str(alloc, "error: a word that is no UTF-8\n") {
+        Ok(text) => UsageFault::Words(text),
+        Err(_) => UsageFault::Memory,
+    }
+}
+
+/// Reads the words of the command line, the program's own name first. Of help that was asked for it answers the text.
+pub fn read_words(words: Vec<String>) -> Result<Job, UsageFault> {
+    let alloc = *words.allocator();
+    let command = grammar(alloc)?;
+    let matched = command.try_get_matches_from(words.as_slice());
+    match matched {
+        Ok(matches) => match matches.subcommand() {
+            Some((name, given)) => job_of(alloc, name, given),
+            None => Err(UsageFault::Words(String::new(alloc))),
+        },
+        Err(error) => Err(fault_of(alloc, &error)),
+    }
+}
