@@ -1,5 +1,5 @@
 #!/usr/bin/env python3
-"""Writes the tables of docs/DEFINITIONS.md from the comments above the definitions of brk_money and brk_model. The headings
+"""Writes the tables of docs/DEFINITIONS.md from the comments above the definitions of brk_money, brk_model and brk_web. The headings
 of that page and the text that stands elsewhere in it are written by hand: under a heading '### FILE' the script writes what
 the file's head says and a row for each of its definitions, in their order. Run it at the top of the repository after a change
 of a definition; `.ci/run` does so first. It prints nothing where all is well."""
@@ -7,7 +7,7 @@ import re
 import sys
 
 PAGE = 'docs/DEFINITIONS.md'
-CRATES = ['brk_money', 'brk_model']
+CRATES = ['brk_money', 'brk_model', 'brk_web']
 
 # What a file's definitions are from, where that is not this project's own profile.
 FILES = {
@@ -149,7 +149,10 @@ def page(lines):
 
 def cited(lines):
     """Each definition that the table of rules names by its file stands there"""
-    known = {name: {word for word, _ in definitions(crate, name)[1]} for crate in CRATES for name in files(crate)}
+    known = {}
+    for crate in CRATES:
+        for name in files(crate):
+            known.setdefault(name, set()).update(word for word, _ in definitions(crate, name)[1])
     for line in lines:
         for words, name in re.findall(r'((?:`\w+`, )*`\w+`) \((\w+)\)', line):
             for word in re.findall(r'`(\w+)`', words):

@@ -1,0 +1,4 @@
+pub mod Moves
+pub mod Heads
+pub mod Seen
+pub mod Shown

@@ -1,0 +1,11 @@
+pub mod BodyLemmas
+pub mod PieceLemmas
+pub mod ReplyLemmas
+pub mod AskLemmas
+pub mod TurnLemmas
+pub mod StreamLemmas
+pub mod Simulated
+pub mod Promised
+pub mod RouteLemmas
+pub mod Seeking
+pub mod Routing

@@ -1,0 +1,27 @@
+use Rattle.std.proofs.Common.{ap, arith, Ok, None}
+use Rattle.brk_serving.proofs.StreamLemmas.{at_first, closed_here, ended_here, failed_here, open_here}
+use Rattle.brk_serving.proofs.stream.serve_by.Goals as goal
+
+pub serving-init : goal.serving-init
+serving-init g c = record { few = omega arith; so_far = at_first g.D.Service.forms g.D.Service.acts g.C.Clock.gives _ _ _ _ _ c.new-buffer.ensures.items }
+
+pub returns-in-Ok-Ended : goal.returns-in-Ok-Ended
+returns-in-Ok-Ended g c =
+    let t = rw c.in-Ok-Ended.field-0-is at c.in-Ok-Ended.ensures.ok in
+    ended_here g.D.Service.forms g.D.Service.acts g.C.Clock.gives _ _ _ _ _ _ _ _ None c.serving.invariant.so_far t
+
+pub returns-in-Ok-Closed : goal.returns-in-Ok-Closed
+returns-in-Ok-Closed g c =
+    let t = rw c.in-Ok-Closed.field-0-is at c.in-Ok-Closed.ensures.ok in
+    closed_here g.D.Service.forms g.D.Service.acts g.C.Clock.gives _ _ _ _ _ _ _ _ None c.serving.invariant.so_far t
+
+pub serving-preserved : goal.serving-preserved
+serving-preserved g c =
+    let t = rw c.in-Ok-Open.field-0-is at c.in-Ok-Open.ensures.ok in
+    record {
+      few = c.in-Ok-Open.ensures.open (ap (λ x. Ok x) c.in-Ok-Open.field-0-is);
+      so_far = open_here g.D.Service.forms g.D.Service.acts g.C.Clock.gives _ _ _ _ _ _ _ _ _ _ c.serving.invariant.so_far t;
+    }
+
+pub returns-in-Err : goal.returns-in-Err
+returns-in-Err g c = failed_here g.D.Service.forms g.D.Service.acts g.C.Clock.gives _ _ _ _ _ _ _ _ _ c.serving.invariant.so_far c.in-Err.ensures.err

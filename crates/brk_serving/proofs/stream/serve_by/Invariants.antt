@@ -1,0 +1,15 @@
+use Rattle.std.proofs.Common.{◌<◌, ◌-◌}
+use Rattle.brk_web.specs.Stream.{most_requests}
+use Rattle.brk_serving.proofs.StreamLemmas.{SoFar}
+use Rattle.brk_serving.proofs.stream.serve_by.Given as goal
+
+abbrev pub invariant-serving : goal.invariant-serving
+invariant-serving g l = record {
+  few : l.done < most_requests;
+  so_far : SoFar g.D.Service.forms g.D.Service.acts g.C.Clock.gives (g.R.Read.remaining l.fn.reader)
+      (record { base = l.fn.desk; after = l.desk; clock = l.fn.clock; later = l.clock; old = g.W.Write.contents l.fn.writer; new = g.W.Write.contents l.writer })
+      l.done l.buffer.items (g.R.Read.remaining l.reader);
+}
+
+abbrev pub decreases-serving : goal.decreases-serving
+decreases-serving g l = most_requests - l.done

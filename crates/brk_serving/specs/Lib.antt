@@ -1,0 +1,6 @@
+pub mod Rows
+pub mod Lines
+pub mod Words
+pub mod Codes
+pub mod Turns
+pub mod Promises

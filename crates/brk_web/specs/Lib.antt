@@ -1,0 +1,9 @@
+pub mod Heads
+pub mod Fields
+pub mod Found
+pub mod Bodies
+pub mod Routes
+pub mod Replies
+pub mod Asked
+pub mod Stream
+pub mod Computed
