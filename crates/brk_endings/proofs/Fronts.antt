@@ -1,5 +1,5 @@
 -- Lines that were written up to where the writer failed.
-use Rattle.std.proofs.Common.{◌≡◌, ◌++◌, ◌∙◌, ℕ, List, Option, Result, Ok, Err, OnErr, take, drop, sym, ap, append_assoc, take-append-drop}
+use Rattle.std.proofs.Common.{◌++◌, ◌∙◌, ℕ, List, Option, Result, Ok, Err, OnErr, take, drop, sym, ap, append_assoc, take-append-drop}
 use Rattle.std.specs.Io.KnownBytes.{Appends}
 use Rattle.std.proofs.KnownBytes.{Appends-trans}
 use Rattle.brk_endings.specs.Lines.{WritesFront}

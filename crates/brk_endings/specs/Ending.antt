@@ -1,5 +1,5 @@
 -- The exit status of each ending, and its line.
-use Rattle.std.specs.Prelude.{ℕ, List, [], Result, Ok, Err, codes, string_bytes}
+use Rattle.std.specs.Prelude.{ℕ, List, [], Result, Err, codes, string_bytes}
 use Rattle.brk_money.specs.declared.fault.Fault.{Fault}
 use Rattle.brk_money.specs.declared.fault.Fault.TheVariants as fault
 use Rattle.brk_import.specs.declared.batch_fault.FaultKind.{FaultKind}
