@@ -9,5 +9,3 @@ mod desks;
 mod files;
 #[cfg(test)]
 mod forms;
-#[cfg(test)]
-mod paths;
