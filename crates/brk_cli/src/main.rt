@@ -4,6 +4,7 @@
 mod audit;
 mod batch;
 mod moment;
+mod serve;
 
 use brk_endings::{Ending, end_with};
 use brk_words::{Job, UsageFault, no_text, read_words};
@@ -32,7 +33,12 @@ fn run(rt: &HostRuntime) -> Ending {
         Ok(Job::Batch { db, at }) => batch::run(rt, db, at),
         Ok(Job::Statement { .. }) => Ending::Usage(UsageFault::NotYet),
         Ok(Job::Audit { db }) => audit::run(rt, db.as_str()),
-        Ok(Job::Serve { .. }) => Ending::Usage(UsageFault::NotYet),
+        Ok(Job::Serve {
+            port,
+            db,
+            at,
+            streams,
+        }) => serve::run(rt, port, db, at, streams),
         Err(UsageFault::Help(text)) => show(rt, text),
         Err(fault) => Ending::Usage(fault),
     }

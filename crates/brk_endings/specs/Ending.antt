@@ -4,6 +4,8 @@ use Rattle.brk_money.specs.declared.fault.Fault.{Fault}
 use Rattle.brk_money.specs.declared.fault.Fault.TheVariants as fault
 use Rattle.brk_import.specs.declared.batch_fault.FaultKind.{FaultKind}
 use Rattle.brk_import.specs.declared.batch_fault.FaultKind.TheVariants as kind
+use Rattle.brk_serving.specs.declared.turning.FaultKind.{FaultKind as StreamFault}
+use Rattle.brk_serving.specs.declared.turning.FaultKind.TheVariants as stream
 use Rattle.brk_endings.specs.declared.ending.Ending.{Ending}
 use Rattle.brk_endings.specs.declared.ending.Ending.TheVariants as ending
 use Rattle.brk_words.specs.declared.job.UsageFault.{UsageFault}
@@ -30,6 +32,8 @@ abbrev pub status_of : Ending → ℕ
 status_of ending.Done = 0
 status_of (ending.Open fault) = fault_status fault
 status_of (ending.Batch fault) = batch_status fault.kind
+status_of (ending.Serve fault) = 3
+status_of ending.Net = 3
 status_of ending.Output = 3
 status_of (ending.Usage (usage.Help text)) = 0
 status_of (ending.Usage (usage.Words text)) = 2
@@ -51,6 +55,12 @@ batch_line kind.Read = codes "brk: fault: read\n"
 batch_line kind.Write = codes "brk: fault: write\n"
 batch_line (kind.Desk fault) = fault_line fault
 
+-- the line of a stream that ended early
+abbrev pub stream_line : StreamFault → List ℕ
+stream_line stream.Read = codes "brk: fault: read\n"
+stream_line stream.Write = codes "brk: fault: write\n"
+stream_line stream.Memory = codes "brk: fault: memory\n"
+
 -- the line of words that are wrong, or what there is to say of them
 abbrev pub usage_line : UsageFault → List ℕ
 usage_line (usage.Words text) = string_bytes text
@@ -64,5 +74,7 @@ abbrev pub line_of : Ending → List ℕ
 line_of ending.Done = []
 line_of (ending.Open fault) = fault_line fault
 line_of (ending.Batch fault) = batch_line fault.kind
+line_of (ending.Serve fault) = stream_line fault.kind
+line_of ending.Net = codes "brk: fault: net\n"
 line_of ending.Output = codes "brk: fault: write\n"
 line_of (ending.Usage fault) = usage_line fault

@@ -6,6 +6,7 @@ ghost use Rattle.brk_endings.specs.Lines as line;
 use crate::telling::{Line, fault_line, write_line};
 use brk_import::{BatchFault, FaultKind};
 use brk_money::Fault;
+use brk_serving::{FaultKind as StreamFault, ServeFault};
 use brk_words::UsageFault;
 use brk_writing::{NotWritten, write_out};
 use std::io::Write;
@@ -19,6 +20,10 @@ pub enum Ending {
     Open(Fault),
     /// The batch ended early.
     Batch(BatchFault),
+    /// A stream of requests ended for want of memory.
+    Serve(ServeFault),
+    /// No stream could be taken: the port is in use, or the machine gives no more.
+    Net,
     /// What was asked for could not be printed.
     Output,
     /// The words of the command line ask for no job.
@@ -35,6 +40,16 @@ fn batch_line(kind: FaultKind) -> Line
         FaultKind::Read => ("brk: fault: ", "read"),
         FaultKind::Write => ("brk: fault: ", "write"),
         FaultKind::Desk(fault) => fault_line(fault),
+    }
+}
+
+fn stream_line(kind: StreamFault) -> Line
+    ensures { line.told result ≡ spec.stream_line kind }
+{
+    match kind {
+        StreamFault::Read => ("brk: fault: ", "read"),
+        StreamFault::Write => ("brk: fault: ", "write"),
+        StreamFault::Memory => ("brk: fault: ", "memory"),
     }
 }
 
@@ -65,6 +80,8 @@ fn status(ending: &Ending) -> u8
         Ending::Done => 0,
         Ending::Open(fault) => fault_status(*fault),
         Ending::Batch(fault) => batch_status(fault.kind),
+        Ending::Serve(_) => 3,
+        Ending::Net => 3,
         Ending::Output => 3,
         Ending::Usage(UsageFault::Help(_)) => 0,
         Ending::Usage(UsageFault::Words(_) | UsageFault::Day | UsageFault::NotYet) => 2,
@@ -105,6 +122,8 @@ fn tell<W: Write>(ending: &Ending, errors: &mut W) -> Result<(), NotWritten>
         Ending::Done => Ok(()),
         Ending::Open(fault) => write_line(errors, fault_line(*fault)),
         Ending::Batch(fault) => write_line(errors, batch_line(fault.kind)),
+        Ending::Serve(fault) => write_line(errors, stream_line(fault.kind)),
+        Ending::Net => write_line(errors, ("brk: fault: ", "net")),
         Ending::Output => write_line(errors, ("brk: fault: ", "write")),
         Ending::Usage(fault) => tell_usage(fault, errors),
     }

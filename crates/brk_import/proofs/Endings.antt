@@ -16,9 +16,10 @@ use Rattle.brk_model.specs.Forms.{Read}
 use Rattle.brk_model.specs.Input.{AreAll, Begins, IsEnd, IsName, end_of, header_of}
 use Rattle.brk_model.specs.Lines.{answer_line, end_line, lines_from}
 use Rattle.brk_model.specs.Run.{MayFail}
-use Rattle.brk_import.specs.Batch.{BatchGives, EndsRight, Faulted, IsUntouched, LeavesAt, Span, Stopped}
+use Rattle.brk_import.specs.Batch.{BatchGives, EndsRight, Faulted, LeavesAt, Stopped}
+use Rattle.brk_outside.specs.Span.{IsUntouched, Span}
 use Rattle.brk_import.specs.Counts.{counts_line}
-use Rattle.brk_import.specs.Moments.{AskedOnce}
+use Rattle.brk_outside.specs.Moments.{AskedOnce}
 use Rattle.brk_import.specs.Parts.{CutPart, EndPart, HeaderPart, Part}
 use Rattle.brk_import.specs.declared.counts.Counts.{Counts}
 use Rattle.brk_import.specs.declared.batch_fault.FaultKind.{FaultKind}

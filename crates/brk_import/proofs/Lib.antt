@@ -1,4 +1,3 @@
-pub mod Bytes
 pub mod Reading
 pub mod Turns
 pub mod Pushes

@@ -16,7 +16,7 @@ use Rattle.brk_model.specs.Forms.{Read}
 use Rattle.brk_model.specs.Input.{header_of}
 use Rattle.brk_model.specs.Lines.{answer_line, count_again, count_done, count_refused, is_again, is_done, is_refused, lines_from}
 use Rattle.brk_import.specs.Counts.{counted, counts_of}
-use Rattle.brk_import.specs.Moments.{Moments}
+use Rattle.brk_outside.specs.Moments.{Moments}
 use Rattle.brk_import.specs.Reading.{Stands}
 use Rattle.brk_import.specs.declared.counts.Counts.{Counts}
 use Rattle.brk_import.proofs.Pushes.{lines_push}

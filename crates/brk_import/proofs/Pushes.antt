@@ -8,7 +8,7 @@ use Rattle.brk_model.specs.Commands.{Answer, Refused}
 use Rattle.brk_model.specs.Forms.{Read}
 use Rattle.brk_model.specs.Lines.{answer_line, lines_from}
 use Rattle.brk_import.specs.Answers.{AnsweredBy, scripted}
-use Rattle.brk_import.specs.Moments.{Moments}
+use Rattle.brk_outside.specs.Moments.{Moments}
 
 pub moments_push : {C : Type 0} (gives : C → ℕ → C → Type 0) (old mid new : C) (ms : List ℕ) (m : ℕ)
     → Moments gives old ms mid → gives mid m new → Moments gives old (ms ++ (m ∷ [])) new

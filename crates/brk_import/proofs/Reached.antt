@@ -10,7 +10,8 @@ use Rattle.brk_model.specs.Commands.{Answer}
 use Rattle.brk_model.specs.Forms.{Read}
 use Rattle.brk_model.specs.Input.{IsEnd, IsName, header_of}
 use Rattle.brk_import.specs.Answers.{AnsweredBy, Keeps, StandsBy, scripted}
-use Rattle.brk_import.specs.Batch.{BatchGives, Comes, LeavesAt, Outside, Span, with_base}
+use Rattle.brk_import.specs.Batch.{BatchGives, Comes, LeavesAt}
+use Rattle.brk_outside.specs.Span.{Outside, Span, with_base}
 use Rattle.brk_import.specs.Counts.{counted, counts_of}
 use Rattle.brk_import.specs.declared.batch_fault.BatchFault.{BatchFault}
 use Rattle.brk_import.specs.declared.counts.Counts.{Counts}

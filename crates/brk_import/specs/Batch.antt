@@ -13,26 +13,12 @@ use Rattle.brk_model.specs.Lines.{answer_line, end_line, lines_from}
 use Rattle.brk_model.specs.Run.{MayFail}
 use Rattle.brk_import.specs.Answers.{scripted}
 use Rattle.brk_import.specs.Counts.{counts_of}
-use Rattle.brk_import.specs.Moments.{AskedOnce, Moments}
+use Rattle.brk_outside.specs.Moments.{AskedOnce, Moments}
+use Rattle.brk_outside.specs.Span.{IsUntouched, Outside, Span, with_base}
 use Rattle.brk_import.specs.declared.batch_fault.BatchFault.{BatchFault}
 use Rattle.brk_import.specs.declared.batch_fault.FaultKind.{FaultKind}
 use Rattle.brk_import.specs.declared.batch_fault.FaultKind.TheVariants as kinds
 use Rattle.brk_import.specs.declared.counts.Counts.{Counts}
-
--- the desk's base, the clock and what the writer holds, before and after
-pub record Span (S C : Type 0) : Type 0 where
-  pub base : S
-  pub after : S
-  pub clock : C
-  pub later : C
-  pub old : Option Text
-  pub new : Option Text
-
--- nothing was asked, written or changed
-pub record IsUntouched {S C : Type 0} (span : Span S C) : Type 0 where
-  pub base : span.after ≡ span.base
-  pub clock : span.later ≡ span.clock
-  pub written : Appends span.old span.new []
 
 -- the batch came to this ending: what was written is its batch text, at the moments that the clock gave
 pub record CameTo {S X C : Type 0} (form : Fields → Read X) (step : RowStep S X) (gives : C → ℕ → C → Type 0)
@@ -109,17 +95,6 @@ abbrev pub BatchGives : {S X C : Type 0} → (Fields → Read X) → RowStep S X
 BatchGives form step gives text span (Ok counts) =
     (c : CameTo form step gives text span model.EndedWell (counts.ok + counts.again + counts.no)) × (counts ≡ counts_of c.answered.answers)
 BatchGives form step gives text span (Err fault) = Faulted form step gives text span fault.rows fault.kind
-
--- the clock and what the writer holds, before and after
-pub record Outside (C : Type 0) : Type 0 where
-  pub clock : C
-  pub later : C
-  pub old : Option Text
-  pub new : Option Text
-
--- these with the desk's base before and after
-abbrev pub with_base : {S C : Type 0} → S → S → Outside C → Span S C
-with_base base after outside = record { base = base; after = after; clock = outside.clock; later = outside.later; old = outside.old; new = outside.new }
 
 -- whatever the desk answered, the batch is answered with just these answers
 abbrev pub TellsAnswers : {X C : Type 0} → (Fields → Read X) → (C → ℕ → C → Type 0) → Option Text → Outside C → Result Counts BatchFault → Type 0

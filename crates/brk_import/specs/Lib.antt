@@ -1,4 +1,3 @@
-pub mod Moments
 pub mod Counts
 pub mod Leaving
 pub mod Answers

@@ -2,12 +2,12 @@ ghost use Rattle.std.specs.Prelude.{◌≤◌, IfErr, IfOk, OnErr};
 ghost use Rattle.csv.specs.Records.{fields_of};
 ghost use Rattle.brk_model.specs.Run.{MayFail};
 ghost use Rattle.brk_import.specs.Answers.{AnsweredBy, Keeps, MayActBy, StandsBy, answer_of};
-ghost use Rattle.brk_import.specs.Moments.{AskedOnce};
+ghost use Rattle.brk_outside.specs.Moments.{AskedOnce};
 
-use crate::clock::Clock;
 use crate::records::fields_list;
 use crate::rows::Rows;
 use brk_money::{Fault, Refusal};
+use brk_outside::Clock;
 use brk_ref::BatchName;
 use csv::ByteRecord;
 use std::alloc::Global;

@@ -10,10 +10,10 @@ ghost use Rattle.sqlite.specs.Held.{state};
 ghost use Rattle.sqlite.specs.State.{HasCleanDisk};
 
 use crate::batch_fault::BatchFault;
-use crate::clock::Clock;
 use crate::counts::Counts;
 use crate::engine::run;
 use brk_desk::Desk;
+use brk_outside::Clock;
 use sqlite::Alter;
 use std::alloc::Global;
 use std::io::{Read, Write};

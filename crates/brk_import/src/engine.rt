@@ -14,13 +14,14 @@ ghost use Rattle.brk_import.specs.Reading.{ReadsBatch, Stands};
 
 use crate::answer::{RowAnswer, answer_row};
 use crate::batch_fault::{BatchFault, FaultKind};
-use crate::clock::Clock;
 use crate::counts::Counts;
-use crate::lines::{last_line, line_of, write_out};
+use crate::lines::{last_line, line_of};
 use crate::records::{MOST_BYTES, header_name, is_end, is_end_of, open_records, read_record};
 use crate::rows::Rows;
 use brk_money::{Fault, Refusal};
+use brk_outside::Clock;
 use brk_ref::BatchName;
+use brk_writing::write_out;
 use csv::{ByteRecord, Reader};
 use std::alloc::Global;
 use std::io::{Read, Write};

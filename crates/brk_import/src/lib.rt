@@ -5,7 +5,6 @@
 mod answer;
 mod batch;
 mod batch_fault;
-mod clock;
 mod counts;
 mod desk;
 mod engine;
@@ -15,7 +14,7 @@ mod rows;
 
 pub use batch::run_batch;
 pub use batch_fault::{BatchFault, FaultKind};
-pub use clock::Clock;
+pub use brk_outside::Clock;
 pub use counts::Counts;
 pub use records::MOST_BYTES;
 

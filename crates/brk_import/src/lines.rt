@@ -1,5 +1,4 @@
-ghost use Rattle.std.specs.Prelude.{◌≡◌, ℕ, take, IfOk, OnOk, OnErr, string_bytes};
-ghost use Rattle.std.specs.Io.KnownBytes.{Appends};
+ghost use Rattle.std.specs.Prelude.{◌≡◌, IfOk, string_bytes};
 ghost use Rattle.brk_model.specs.Commands.{Reply};
 ghost use Rattle.brk_model.specs.Lines.{answer_line, answer_text};
 ghost use Rattle.brk_import.specs.Answers.{answer_of};
@@ -10,26 +9,6 @@ use crate::counts::Counts;
 use crate::rows::Rows;
 use itoa::Buffer;
 use std::alloc::{AllocError, Global};
-use std::io::Write;
-
-/// The writer failed, or took no byte.
-#[derive(Clone, Copy, Debug, PartialEq, Eq)]
-pub struct NotWritten;
-
-/// Writes the bytes by `write` alone. A count of 0 stops it, and so does each error, an interrupted write too.
-pub fn write_out<W: Write>(writer: &mut W, bytes: &[u8]) -> Result<(), NotWritten>
-    ensures ok { OnOk result (Appends (W.contents writer.old) (W.contents writer.new) bytes.now) }
-    ensures err { OnErr result ((k : ℕ) × Appends (W.contents writer.old) (W.contents writer.new) (take k bytes.now)) }
-{
-    let mut at = 0;
-    while at < bytes.len() {
-        match writer.write(&bytes[at..]) {
-            Ok(0) | Err(_) => return Err(NotWritten),
-            Ok(n) => at += n,
-        }
-    }
-    Ok(())
-}
 
 // The word of an answer and its fields, joined by commas.
 fn answer_text<D: Rows>(alloc: Global, answer: &RowAnswer<D::Reply>) -> Result<String, AllocError>

@@ -1,0 +1,10 @@
+//! Streams of HTTP requests over a desk: rows with or without keys, and queries, answered in JSON one after the other.
+#![tactic(auto)]
+
+mod at_desk;
+mod streams;
+
+pub use at_desk::AtDesk;
+pub use brk_outside::Clock;
+pub use brk_serving::{FaultKind, ServeFault};
+pub use streams::serve_stream;

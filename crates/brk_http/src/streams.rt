@@ -1,0 +1,42 @@
+ghost use Rattle.std.specs.Prelude.{IfSome};
+ghost use Rattle.brk_desk.specs.Keeping.{KeepsBase};
+ghost use Rattle.brk_http.specs.Forms.{known_forms};
+ghost use Rattle.brk_model.specs.Run.{Answers};
+ghost use Rattle.brk_serving.specs.Promises.{KeepsBooks, TellsOutcomes};
+ghost use Rattle.sqlite.specs.Held.{state};
+ghost use Rattle.sqlite.specs.State.{HasCleanDisk};
+
+use crate::at_desk::AtDesk;
+use brk_desk::Desk;
+use brk_outside::Clock;
+use brk_serving::{ServeFault, serve};
+use sqlite::Alter;
+use std::alloc::Global;
+use std::io::{Read, Write};
+
+/// Answers the requests of a stream, one after the other, each before the next one is read, and says how many there were:
+/// 1,000 at most.
+///
+/// `POST /rows` and `POST /rows/BATCH/N` with a JSON list of texts run a row, without a key or with the key (BATCH, N), under
+/// which it acts once; `POST /ask/VIEW` answers a query. The clock is asked once for each row in form. A stream ends with
+/// its input, after a reply that says `Connection: close`, and at a fault: `Read`, where nothing of the request was done;
+/// `Write`, where a part of the reply was written; `Memory`. After the last two the request may have acted: its key tells.
+/// A fault of the desk itself is a reply, 503, and the last one.
+pub fn serve_stream<R: Read + Drop, W: Write, C: Clock, S: Alter>(
+    alloc: Global,
+    reader: R,
+    writer: &mut W,
+    clock: &mut C,
+    desk: &mut Desk<S>,
+) -> Result<u64, ServeFault>
+    // Whatever the desk answers, the replies are those of its outcomes.
+    ensures told { IfSome (R.remaining reader) (λ input. TellsOutcomes known_forms C.gives input
+        (record { clock = clock.old; later = clock.new; old = W.contents writer.old; new = W.contents writer.new }) result) }
+    // As far as the disk returns what was written, they are those of the abstract brokerage, from each base whose books the
+    // desk kept, and it keeps those of the base after them.
+    ensures kept { IfSome (R.remaining reader) (λ input. KeepsBooks (λ desk. HasCleanDisk (state S.Store desk)) (λ desk. KeepsBase S.Store desk)
+        known_forms Answers C.gives input desk.old desk.new
+        (record { clock = clock.old; later = clock.new; old = W.contents writer.old; new = W.contents writer.new }) result) }
+{
+    serve::<R, W, C, AtDesk<S>>(alloc, reader, writer, clock, desk)
+}

@@ -1,0 +1,6 @@
+//! Streams taken from a listener and served to programs on the same machine, one after the other.
+#![tactic(auto)]
+
+mod listening;
+
+pub use listening::{ListenFault, PATIENCE, serve_on};
