@@ -1,8 +1,8 @@
 //! Queries at a desk.
 
-use crate::desks::{Step, expect, set_desk};
 use brk_desk::{Call, Desk, Outcome};
 use brk_money::{Refusal, Stamp};
+use brk_tests_desks::desks::{Step, expect, set_desk};
 use brk_tests_plans::fields::fields_of;
 use brk_tests_plans::told::told_view;
 use brk_view::{View, parse_query};
@@ -66,15 +66,15 @@ fn a_desk_tells_what_it_is_asked(rt: HostRuntime) -> Result<(), Fail> {
     let alloc = rt.alloc();
     let purchase = fields_of(alloc, PURCHASE)?;
     let strange = fields_of(alloc, STRANGE)?;
-    let mut desk = set_desk(&rt, alloc)?;
+    let mut desk = set_desk(alloc)?;
     expect_answer(&rt, alloc, &mut desk, "submitted", &[], "")?;
-    expect(&rt, alloc, &mut desk, "orders", ORDERS)?;
+    expect(alloc, &mut desk, "orders", ORDERS)?;
     let estimate = "9.50,0.00,0.00,0.00,9.50,5.00,10000.00\n";
     let wanted = "2,TLB,ABC,10,10.00\n";
     expect_answer(&rt, alloc, &mut desk, "submitted", &[], wanted)?;
     expect_answer(&rt, alloc, &mut desk, "estimate", &purchase, estimate)?;
     expect_answer(&rt, alloc, &mut desk, "estimate", &strange, "no,1")?;
-    expect(&rt, alloc, &mut desk, "more orders", MORE_ORDERS)?;
+    expect(alloc, &mut desk, "more orders", MORE_ORDERS)?;
     let wanted = "2,TLB,ABC,10,10.00\n3,TLS,ABC,10,10.50\n4,TMS,ABC,999999,10.50\n";
     expect_answer(&rt, alloc, &mut desk, "submitted", &[], wanted)
 }
@@ -96,7 +96,7 @@ fn a_run_tells_what_it_is_asked(rt: HostRuntime) -> Result<(), Fail> {
     calls.push(ask(alloc, "submitted", &[])?)?;
     calls.push(ask(alloc, "estimate", &strange)?)?;
     let mut out = Vec::new(alloc);
-    let mut desk = set_desk(&rt, alloc)?;
+    let mut desk = set_desk(alloc)?;
     desk.run(alloc, &calls, &mut out)?;
     assert_eq!(rt; out.len(), 2);
     assert!(rt; matches!(&out[0], Outcome::Saw(View::Submitted(trades)) if trades.is_empty()));

@@ -1,35 +1,11 @@
 //! Runs of calls at a desk.
 
-use crate::desks::new_desk;
-use brk_desk::{Answer, Call, Outcome, parse_row};
+use brk_desk::{Answer, Outcome};
 use brk_money::{Refusal, Stamp};
-use brk_ref::{BatchName, Key, RowNumber};
-use brk_tests_plans::fields::fields_of;
-use brk_tests_plans::worked::FIRST_MOMENT;
+use brk_tests_desks::calls::{call_of, keyed};
+use brk_tests_desks::desks::new_desk;
 use brk_trade::Reply;
-use std::alloc::Global;
 use std::test::Fail;
-
-fn key_of(alloc: Global, batch: &[u8], row: u64) -> Result<Key, Fail> {
-    let row = RowNumber::new(row).ok_or("a row's number")?;
-    let batch = BatchName::parse(alloc, batch)?.ok_or("a batch's name")?;
-    Ok(Key { batch, row })
-}
-
-/// The call of a row, at 2024-03-01 00:00 UTC, under a key or none.
-pub fn call_of(alloc: Global, row: &str, key: Option<Key>) -> Result<(Stamp, Call), Fail> {
-    let fields = fields_of(alloc, row)?;
-    match parse_row(alloc, &fields)? {
-        Ok(command) => Ok((Stamp::nearest(FIRST_MOMENT), Call::Do(command, key))),
-        Err(_) => Err("out of form")?,
-    }
-}
-
-/// The call of a row of a batch, under its key.
-pub fn keyed(alloc: Global, batch: &[u8], n: u64, row: &str) -> Result<(Stamp, Call), Fail> {
-    let key = key_of(alloc, batch, n)?;
-    call_of(alloc, row, Some(key))
-}
 
 fn stamp_of(outcome: &Outcome) -> Option<Stamp> {
     match outcome {

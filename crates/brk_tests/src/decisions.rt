@@ -1,16 +1,15 @@
 //! What is decided on the tables of a store.
 
-use crate::desks::{Step, expect, set_desk};
 use brk_decisions::{decide_cancel, decide_estimate, decide_feed, decide_order, decide_result};
 use brk_money::{Id, Stamp};
 use brk_orders::{check_feed, check_order, check_result};
 use brk_store::Store;
+use brk_tests_desks::desks::{Step, expect, set_desk};
 use brk_tests_plans::fields::fields_of;
 use brk_tests_plans::told::{told_plan, told_view};
 use brk_view::View;
 use sqlite::MemStore;
 use std::alloc::Global;
-use std::process::Abort;
 use std::test::Fail;
 
 // A stop loss at 9.50 waits for its price, and a purchase is at the market.
@@ -24,9 +23,9 @@ const ORDERS: Step = Step::Done(
 );
 
 // A store that was set up, with these orders.
-fn ordered(rt: &impl Abort, alloc: Global) -> Result<Store<MemStore>, Fail> {
-    let mut desk = set_desk(rt, alloc)?;
-    expect(rt, alloc, &mut desk, "orders", ORDERS)?;
+fn ordered(alloc: Global) -> Result<Store<MemStore>, Fail> {
+    let mut desk = set_desk(alloc)?;
+    expect(alloc, &mut desk, "orders", ORDERS)?;
     Ok(desk.into_store())
 }
 
@@ -64,7 +63,7 @@ fn commands_are_decided_on(rt: HostRuntime) -> Result<(), Fail> {
     let completion = check_result(&[b"2", b"10.10"]).map_err(|_| "a result")?;
     let now = Stamp::nearest(0);
     // Nothing is booked, so each command meets the same tables.
-    let mut store = ordered(&rt, alloc)?;
+    let mut store = ordered(alloc)?;
     let (estimate, told) = order_told(alloc, &mut store)?;
     assert_eq!(rt;
         estimate.as_str(),

@@ -1,8 +1,8 @@
-use crate::desks::set_desk;
 use brk_changes::{Amount, Change, HistoryRow, RequestRow, TradeRow};
 use brk_money::{Id, Price, Qty, Stamp, Status, TradeType};
 use brk_ref::{ChargeAmount, LastTrade, Symbol, Volume};
 use brk_store::Store;
+use brk_tests_desks::desks::set_desk;
 use sqlite::MemStore;
 use std::alloc::Global;
 use std::process::Abort;
@@ -169,7 +169,7 @@ fn expect_history(rt: &impl Abort, store: Store<MemStore>, statuses: i64) -> Res
 #[test]
 fn a_trade_and_what_comes_of_it(rt: HostRuntime) -> Result<(), Fail> {
     let alloc = rt.alloc();
-    let mut store = set_desk(&rt, alloc)?.into_store();
+    let mut store = set_desk(alloc)?.into_store();
     assert!(rt; store.last_trade_id()?.is_none());
     let trade = Id::new(1).ok_or("trade")?;
     let placed = Stamp::nearest(1_709_251_200_016);

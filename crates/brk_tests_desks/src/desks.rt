@@ -7,7 +7,6 @@ use brk_store::Store;
 use brk_tests_plans::worked::{FIRST_MOMENT, SET, SET_LINES};
 use sqlite::{Connection, MemStore};
 use std::alloc::Global;
-use std::process::Abort;
 use std::test::Fail;
 
 // A clock that stands still.
@@ -45,9 +44,9 @@ pub fn new_desk(alloc: Global) -> Result<Desk<MemStore>, Fail> {
 }
 
 /// A desk in memory that was set up.
-pub fn set_desk(rt: &impl Abort, alloc: Global) -> Result<Desk<MemStore>, Fail> {
+pub fn set_desk(alloc: Global) -> Result<Desk<MemStore>, Fail> {
     let mut desk = new_desk(alloc)?;
-    expect(rt, alloc, &mut desk, "set", Step::Done(SET, SET_LINES))?;
+    expect(alloc, &mut desk, "set", Step::Done(SET, SET_LINES))?;
     Ok(desk)
 }
 
@@ -67,23 +66,32 @@ pub fn answer_at(
 }
 
 // Compares the lines of a batch one by one.
-fn expect_lines(rt: &impl Abort, name: &str, told: &[u8], wanted: &str) -> Result<(), Fail> {
+fn expect_lines(name: &str, told: &[u8], wanted: &str) -> Result<(), Fail> {
     let told = str::from_utf8(told).map_err(|_| "no text")?;
     let mut row = 0u64;
     for (line, want) in told.lines().zip(wanted.lines()) {
         row = row.saturating_add(1);
-        assert!(rt; line == want, "{name}: line {row}");
+        if line != want {
+            return Err(Fail::new(format_args!("{name}: line {row}")));
+        }
     }
-    assert!(rt;
-        told == wanted,
-        "{name}: lines that are missing, or more lines"
-    );
+    if told != wanted {
+        return Err(Fail::new(format_args!("{name}: lines that are missing, or more lines")));
+    }
     Ok(())
+}
+
+// Fails with these words where something does not hold.
+fn holds(is_so: bool, name: &str, what: &str) -> Result<(), Fail> {
+    if is_so {
+        Ok(())
+    } else {
+        Err(Fail::new(format_args!("{name}: {what}")))
+    }
 }
 
 // Compares how a batch ends: the last of its lines has the counts, or a fault comes after a line for each settled row.
 fn expect_ending(
-    rt: &impl Abort,
     alloc: Global,
     name: &str,
     ended: Result<Counts, BatchFault>,
@@ -93,23 +101,19 @@ fn expect_ending(
     match ended {
         Ok(Counts { ok, again, no }) => {
             let last = format!(in alloc; "end,{ok},{again},{no}\n")?;
-            assert!(rt; lines.ends_with(last.as_str()), "{name}: the counts");
-            assert!(rt; fault.is_none(), "{name}: no fault");
+            holds(lines.ends_with(last.as_str()), name, "the counts")?;
+            holds(fault.is_none(), name, "no fault")
         }
         Err(BatchFault { rows, kind }) => {
-            assert!(rt;
-                rows == lines.lines().count() as u64,
-                "{name}: the settled rows"
-            );
-            assert!(rt; Some(kind) == fault, "{name}: the fault");
+            let settled = lines.lines().count() as u64;
+            holds(rows == settled, name, "the settled rows")?;
+            holds(Some(kind) == fault, name, "the fault")
         }
     }
-    Ok(())
 }
 
 /// Answers a batch, and compares its lines and how it ends.
 pub fn expect(
-    rt: &impl Abort,
     alloc: Global,
     desk: &mut Desk<MemStore>,
     name: &str,
@@ -121,38 +125,37 @@ pub fn expect(
         Step::Cut(input, lines, fault) => (FIRST_MOMENT, input, lines, Some(fault)),
     };
     let (lines, ended) = answer_at(alloc, desk, at, input);
-    expect_lines(rt, name, &lines, wanted)?;
-    expect_ending(rt, alloc, name, ended, fault, wanted)
+    expect_lines(name, &lines, wanted)?;
+    expect_ending(alloc, name, ended, fault, wanted)
 }
 
 /// Answers these batches in turn.
 pub fn expect_steps(
-    rt: &impl Abort,
     alloc: Global,
     desk: &mut Desk<MemStore>,
     name: &str,
     steps: &[Step<'_>],
 ) -> Result<(), Fail> {
     for step in steps {
-        expect(rt, alloc, desk, name, *step)?;
+        expect(alloc, desk, name, *step)?;
     }
     Ok(())
 }
 
 /// Answers the batches of each case at a desk of its own that was set up.
-pub fn expect_cases(rt: &impl Abort, alloc: Global, cases: &[Case]) -> Result<(), Fail> {
+pub fn expect_cases(alloc: Global, cases: &[Case]) -> Result<(), Fail> {
     for (name, steps) in cases {
-        let mut desk = set_desk(rt, alloc)?;
-        expect_steps(rt, alloc, &mut desk, name, steps)?;
+        let mut desk = set_desk(alloc)?;
+        expect_steps(alloc, &mut desk, name, steps)?;
     }
     Ok(())
 }
 
 /// Answers the batches of each case at a desk of its own at which nothing was booked.
-pub fn expect_new(rt: &impl Abort, alloc: Global, cases: &[Case]) -> Result<(), Fail> {
+pub fn expect_new(alloc: Global, cases: &[Case]) -> Result<(), Fail> {
     for (name, steps) in cases {
         let mut desk = new_desk(alloc)?;
-        expect_steps(rt, alloc, &mut desk, name, steps)?;
+        expect_steps(alloc, &mut desk, name, steps)?;
     }
     Ok(())
 }

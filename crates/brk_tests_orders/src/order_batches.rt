@@ -1,5 +1,5 @@
-use crate::desks::{Case, Step, expect_cases};
 use brk_money::Stamp;
+use brk_tests_desks::desks::{Case, Step, expect_cases};
 use std::test::Fail;
 
 // Three orders, a cancel and a tick, and what is refused after them.
@@ -117,5 +117,5 @@ fn order_batches(rt: HostRuntime) -> Result<(), Fail> {
         ("orders_a_cancel_and_ticks", &ORDERS_A_CANCEL_AND_TICKS),
         ("the_last_moment_for_orders", &THE_LAST_MOMENT_FOR_ORDERS),
     ];
-    expect_cases(&rt, rt.alloc(), &cases)
+    expect_cases(rt.alloc(), &cases)
 }

@@ -1,4 +1,4 @@
-use crate::desks::{Case, Step, expect_cases, expect_new};
+use brk_tests_desks::desks::{Case, Step, expect_cases, expect_new};
 use std::test::Fail;
 
 const NAMES_AT_THEIR_LIMIT: [Step; 1] = [Step::Done(
@@ -213,7 +213,7 @@ const NAMES_OF_BATCHES: [Step; 3] = [
 #[test]
 fn limits(rt: HostRuntime) -> Result<(), Fail> {
     let cases: [Case; 1] = [("names_of_batches", &NAMES_OF_BATCHES)];
-    expect_new(&rt, rt.alloc(), &cases)?;
+    expect_new(rt.alloc(), &cases)?;
     let cases: [Case; 7] = [
         ("names_at_their_limit", &NAMES_AT_THEIR_LIMIT),
         ("words_at_their_limit", &WORDS_AT_THEIR_LIMIT),
@@ -226,5 +226,5 @@ fn limits(rt: HostRuntime) -> Result<(), Fail> {
             &QUANTITIES_AND_RATES_AT_THEIR_LIMITS,
         ),
     ];
-    expect_cases(&rt, rt.alloc(), &cases)
+    expect_cases(rt.alloc(), &cases)
 }

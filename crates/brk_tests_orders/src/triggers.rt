@@ -1,4 +1,4 @@
-use crate::desks::{Case, Step, expect_cases};
+use brk_tests_desks::desks::{Case, Step, expect_cases};
 use std::test::Fail;
 
 const TWO_TICKS_IN_A_FEED: [Step; 1] = [Step::Done(
@@ -114,5 +114,5 @@ fn triggers(rt: HostRuntime) -> Result<(), Fail> {
             &AT_THE_PRICE_AND_A_CENT_BESIDE_IT,
         ),
     ];
-    expect_cases(&rt, rt.alloc(), &cases)
+    expect_cases(rt.alloc(), &cases)
 }

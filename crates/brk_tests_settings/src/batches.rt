@@ -1,5 +1,5 @@
-use crate::desks::{Case, Step, expect_new};
 use brk_import::FaultKind;
+use brk_tests_desks::desks::{Case, Step, expect_new};
 use std::test::Fail;
 
 const THE_FIRST_RUN: [Step; 1] = [Step::Done(
@@ -102,5 +102,5 @@ fn batches(rt: HostRuntime) -> Result<(), Fail> {
         ("refusals_in_their_order", &REFUSALS_IN_THEIR_ORDER),
         ("ten_accounts_and_no_more", &TEN_ACCOUNTS_AND_NO_MORE),
     ];
-    expect_new(&rt, rt.alloc(), &cases)
+    expect_new(rt.alloc(), &cases)
 }

@@ -5,7 +5,6 @@ use brk_store::Store;
 use sqlite::types::ValueRef;
 use sqlite::{Connection, MemStore, Row};
 use std::alloc::Global;
-use std::process::Abort;
 use std::test::Fail;
 
 // The tables that no trade changes, and the rows that set a desk up.
@@ -124,7 +123,6 @@ fn lines_of(
 
 // Compares these tables with the rows that are wanted.
 fn expect_rows(
-    rt: &impl Abort,
     alloc: Global,
     conn: &mut Connection<MemStore>,
     name: &str,
@@ -135,50 +133,49 @@ fn expect_rows(
     let mut at = 0u64;
     for (row, want) in told.lines().zip(wanted.lines()) {
         at = at.saturating_add(1);
-        assert!(rt; row == want, "{name}: line {at} of the tables");
+        if row != want {
+            return Err(Fail::new(format_args!("{name}: line {at} of the tables")));
+        }
     }
-    assert!(rt;
-        told.as_str() == wanted,
-        "{name}: rows that are missing, or more rows"
-    );
+    if told.as_str() != wanted {
+        return Err(Fail::new(format_args!("{name}: rows that are missing, or more rows")));
+    }
     Ok(())
 }
 
 /// Compares all tables of a store that was set up: those that no trade changes with what was set up, the others with the
 /// rows that are wanted.
 pub fn expect_tables(
-    rt: &impl Abort,
     alloc: Global,
     store: Store<MemStore>,
     name: &str,
     wanted: &str,
 ) -> Result<(), Fail> {
     let mut conn = store.into_conn();
-    expect_rows(rt, alloc, &mut conn, name, &REFERENCE, SET_TABLES)?;
-    expect_rows(rt, alloc, &mut conn, name, &TRADING, wanted)
+    expect_rows(alloc, &mut conn, name, &REFERENCE, SET_TABLES)?;
+    expect_rows(alloc, &mut conn, name, &TRADING, wanted)
 }
 
 /// Compares the tables in which trades change or remove rows.
 pub fn expect_standing(
-    rt: &impl Abort,
     alloc: Global,
     store: Store<MemStore>,
     name: &str,
     wanted: &str,
 ) -> Result<(), Fail> {
     let mut conn = store.into_conn();
-    expect_rows(rt, alloc, &mut conn, name, &STANDING, wanted)
+    expect_rows(alloc, &mut conn, name, &STANDING, wanted)
 }
 
 /// What is told of a case that fails, its batches one after another, and all tables after them.
 pub type Booked = (&'static str, &'static [Step<'static>], &'static str);
 
 /// Answers the batches of each case at a desk of its own that was set up, and compares all tables after them.
-pub fn expect_booked(rt: &impl Abort, alloc: Global, cases: &[Booked]) -> Result<(), Fail> {
+pub fn expect_booked(alloc: Global, cases: &[Booked]) -> Result<(), Fail> {
     for (name, steps, tables) in cases {
-        let mut desk = set_desk(rt, alloc)?;
-        expect_steps(rt, alloc, &mut desk, name, steps)?;
-        expect_tables(rt, alloc, desk.into_store(), name, tables)?;
+        let mut desk = set_desk(alloc)?;
+        expect_steps(alloc, &mut desk, name, steps)?;
+        expect_tables(alloc, desk.into_store(), name, tables)?;
     }
     Ok(())
 }

@@ -1,4 +1,4 @@
-use crate::desks::{Case, Step, expect_cases};
+use brk_tests_desks::desks::{Case, Step, expect_cases};
 use std::test::Fail;
 
 // Orders by others than the customer.
@@ -108,5 +108,5 @@ fn order_refusals(rt: HostRuntime) -> Result<(), Fail> {
         ("who_may_order", &WHO_MAY_ORDER),
         ("charges_and_bands_of_a_tier", &CHARGES_AND_BANDS_OF_A_TIER),
     ];
-    expect_cases(&rt, rt.alloc(), &cases)
+    expect_cases(rt.alloc(), &cases)
 }

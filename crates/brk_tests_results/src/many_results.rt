@@ -1,11 +1,11 @@
 //! A batch of five hundred orders and their results, and the same calls in one run.
 
-use crate::calls::keyed;
-use crate::desks::{answer_at, set_desk};
 use brk_desk::{Answer, Call, Desk, Outcome, line_text};
 use brk_import::Counts;
 use brk_money::{Id, Stamp};
 use brk_store::Store;
+use brk_tests_desks::calls::keyed;
+use brk_tests_desks::desks::{answer_at, set_desk};
 use brk_tests_plans::worked::FIRST_MOMENT;
 use sqlite::MemStore;
 use std::alloc::Global;
@@ -64,7 +64,7 @@ fn expect_sums(rt: &impl Abort, alloc: Global, mut store: Store<MemStore>) -> Re
 // The rows as one batch, and compares that each is accepted and where the last leaves the account.
 fn expect_batch(rt: &impl Abort, alloc: Global, rows: &[String]) -> Result<Vec<u8>, Fail> {
     let batch = batch_of(alloc, rows)?;
-    let mut desk = set_desk(rt, alloc)?;
+    let mut desk = set_desk(alloc)?;
     let (lines, ended) = answer_at(alloc, &mut desk, FIRST_MOMENT, batch.as_bytes());
     let all = Counts {
         ok: 1_000,
@@ -123,7 +123,7 @@ fn lines_of(alloc: Global, outcomes: &[Outcome]) -> Result<String, Fail> {
 
 // The lines of the same rows in one run.
 fn lines_of_run(rt: &impl Abort, alloc: Global, rows: &[String]) -> Result<String, Fail> {
-    let mut desk = set_desk(rt, alloc)?;
+    let mut desk = set_desk(alloc)?;
     let lines = lines_of(alloc, &outcomes(alloc, &mut desk, rows)?)?;
     expect_sums(rt, alloc, desk.into_store())?;
     Ok(lines)

@@ -1,5 +1,5 @@
-use crate::desks::{Case, Step, expect_cases};
 use brk_import::FaultKind;
+use brk_tests_desks::desks::{Case, Step, expect_cases};
 use brk_tests_plans::worked::{SET, SET_AGAIN};
 use std::test::Fail;
 
@@ -151,5 +151,5 @@ fn keys(rt: HostRuntime) -> Result<(), Fail> {
             &A_BATCH_THAT_WAS_CUT_OFF_IS_SENT_AGAIN,
         ),
     ];
-    expect_cases(&rt, rt.alloc(), &cases)
+    expect_cases(rt.alloc(), &cases)
 }

@@ -2,30 +2,24 @@ use crate::booked::{
     AFTER_A_COVER, AFTER_A_PURCHASE, AFTER_A_SALE_OF_THE_FIRST, AFTER_A_SALE_OF_THE_LAST,
     AFTER_A_SHORT_SALE, AFTER_ALL_IS_SOLD, AFTER_TWO_PURCHASES,
 };
-use crate::desks::{Step, expect, set_desk};
-use crate::tables::{expect_standing, expect_tables};
 use brk_desk::Desk;
+use brk_tests_desks::desks::{Step, expect, set_desk};
+use brk_tests_desks::tables::{expect_standing, expect_tables};
 use brk_tests_plans::worked::{
     FIRST_MOMENT, LAST_FIRST_LINES, LAST_FIRST_ROWS, LINES, ROWS, accepted, add_lines, batch_of,
     repeated,
 };
 use sqlite::MemStore;
 use std::alloc::Global;
-use std::process::Abort;
 use std::test::Fail;
 
 // A desk that was set up and then accepted these rows with these lines.
-fn traded(
-    rt: &impl Abort,
-    alloc: Global,
-    rows: &[&str],
-    lines: &[&str],
-) -> Result<Desk<MemStore>, Fail> {
+fn traded(alloc: Global, rows: &[&str], lines: &[&str]) -> Result<Desk<MemStore>, Fail> {
     let batch = batch_of(alloc, rows)?;
     let told = accepted(alloc, lines)?;
-    let mut desk = set_desk(rt, alloc)?;
+    let mut desk = set_desk(alloc)?;
     let step = Step::Done(batch.as_bytes(), told.as_str());
-    expect(rt, alloc, &mut desk, "trades", step)?;
+    expect(alloc, &mut desk, "trades", step)?;
     Ok(desk)
 }
 
@@ -39,12 +33,11 @@ fn the_books_after_each_trade(rt: HostRuntime) -> Result<(), Fail> {
         ("a short sale", 8, AFTER_A_SHORT_SALE),
         ("a cover", 10, AFTER_A_COVER),
     ] {
-        let desk = traded(&rt, alloc, &ROWS[..count], &LINES[..count])?;
-        expect_standing(&rt, alloc, desk.into_store(), name, tables)?;
+        let desk = traded(alloc, &ROWS[..count], &LINES[..count])?;
+        expect_standing(alloc, desk.into_store(), name, tables)?;
     }
-    let desk = traded(&rt, alloc, &LAST_FIRST_ROWS, &LAST_FIRST_LINES)?;
+    let desk = traded(alloc, &LAST_FIRST_ROWS, &LAST_FIRST_LINES)?;
     expect_tables(
-        &rt,
         alloc,
         desk.into_store(),
         "a sale of the last",
@@ -55,12 +48,12 @@ fn the_books_after_each_trade(rt: HostRuntime) -> Result<(), Fail> {
 #[test]
 fn results_are_booked_once(rt: HostRuntime) -> Result<(), Fail> {
     let alloc = rt.alloc();
-    let mut desk = traded(&rt, alloc, &ROWS, &LINES)?;
+    let mut desk = traded(alloc, &ROWS, &LINES)?;
     let batch = batch_of(alloc, &ROWS)?;
     let told = repeated(alloc, &LINES)?;
     let later = FIRST_MOMENT + 100_000;
     let step = Step::DoneAt(later, batch.as_bytes(), told.as_str());
-    expect(&rt, alloc, &mut desk, "sent again", step)?;
+    expect(alloc, &mut desk, "sent again", step)?;
     let mut rows = ROWS;
     rows[0] = "order,101,TMB,ABC,100,,cash,fifo,Ann,Lee,T10";
     let batch = batch_of(alloc, &rows)?;
@@ -68,12 +61,6 @@ fn results_are_booked_once(rt: HostRuntime) -> Result<(), Fail> {
     add_lines(&mut told, 2, "again", &LINES[1..])?;
     told.push_str("end,0,11,1\n")?;
     let step = Step::Done(batch.as_bytes(), told.as_str());
-    expect(&rt, alloc, &mut desk, "the first row changed", step)?;
-    expect_tables(
-        &rt,
-        alloc,
-        desk.into_store(),
-        "all is sold",
-        AFTER_ALL_IS_SOLD,
-    )
+    expect(alloc, &mut desk, "the first row changed", step)?;
+    expect_tables(alloc, desk.into_store(), "all is sold", AFTER_ALL_IS_SOLD)
 }

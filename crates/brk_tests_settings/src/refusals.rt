@@ -1,4 +1,4 @@
-use crate::desks::{Case, Step, expect_cases};
+use brk_tests_desks::desks::{Case, Step, expect_cases};
 use std::test::Fail;
 
 const TOO_FEW_FIELDS_OR_TOO_MANY: [Step; 1] = [Step::Done(
@@ -209,5 +209,5 @@ fn refusals(rt: HostRuntime) -> Result<(), Fail> {
         ("charges_and_bands", &CHARGES_AND_BANDS),
         ("taxes", &TAXES),
     ];
-    expect_cases(&rt, rt.alloc(), &cases)
+    expect_cases(rt.alloc(), &cases)
 }

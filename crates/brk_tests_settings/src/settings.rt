@@ -1,5 +1,5 @@
-use crate::desks::{Case, Step, expect_cases, expect_new};
 use brk_money::Stamp;
+use brk_tests_desks::desks::{Case, Step, expect_cases, expect_new};
 use brk_tests_plans::worked::{SET, SET_AGAIN, SET_LINES};
 use std::test::Fail;
 
@@ -195,7 +195,7 @@ const NAMES_WITH_QUOTES_AND_COMMAS: [Step; 2] = [
 #[test]
 fn settings(rt: HostRuntime) -> Result<(), Fail> {
     let cases: [Case; 1] = [("the_setting_and_its_repeat", &THE_SETTING_AND_ITS_REPEAT)];
-    expect_new(&rt, rt.alloc(), &cases)?;
+    expect_new(rt.alloc(), &cases)?;
     let cases: [Case; 6] = [
         (
             "a_changed_row_under_a_kept_key",
@@ -216,5 +216,5 @@ fn settings(rt: HostRuntime) -> Result<(), Fail> {
             &NAMES_WITH_QUOTES_AND_COMMAS,
         ),
     ];
-    expect_cases(&rt, rt.alloc(), &cases)
+    expect_cases(rt.alloc(), &cases)
 }

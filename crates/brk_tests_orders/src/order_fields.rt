@@ -1,4 +1,4 @@
-use crate::desks::{Case, Step, expect_cases};
+use brk_tests_desks::desks::{Case, Step, expect_cases};
 use std::test::Fail;
 
 const ORDERS_OUT_OF_FORM: [Step; 1] = [Step::Done(
@@ -189,5 +189,5 @@ fn order_fields(rt: HostRuntime) -> Result<(), Fail> {
         ("feeds_out_of_form", &FEEDS_OUT_OF_FORM),
         ("cancels_and_what_they_meet", &CANCELS_AND_WHAT_THEY_MEET),
     ];
-    expect_cases(&rt, rt.alloc(), &cases)
+    expect_cases(rt.alloc(), &cases)
 }

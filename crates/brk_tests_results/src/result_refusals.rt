@@ -1,6 +1,6 @@
-use crate::desks::{Case, Step, expect_cases};
-use crate::tables::{Booked, expect_booked};
 use brk_money::Stamp;
+use brk_tests_desks::desks::{Case, Step, expect_cases};
+use brk_tests_desks::tables::{Booked, expect_booked};
 use std::test::Fail;
 
 // What the tables hold after the results that were accepted.
@@ -226,7 +226,7 @@ fn result_refusals(rt: HostRuntime) -> Result<(), Fail> {
             LAST,
         ),
     ];
-    expect_booked(&rt, alloc, &cases)?;
+    expect_booked(alloc, &cases)?;
     let cases: [Case; 1] = [("balances_at_their_ends", &BALANCES_AT_THEIR_ENDS)];
-    expect_cases(&rt, alloc, &cases)
+    expect_cases(alloc, &cases)
 }

@@ -1,5 +1,5 @@
-use crate::desks::{Case, Step, expect_cases};
-use crate::tables::{Booked, expect_booked};
+use brk_tests_desks::desks::{Case, Step, expect_cases};
+use brk_tests_desks::tables::{Booked, expect_booked};
 use std::test::Fail;
 
 // What the tables hold after a purchase on margin.
@@ -225,7 +225,7 @@ fn settlements(rt: HostRuntime) -> Result<(), Fail> {
             TAX_STATUSES,
         ),
     ];
-    expect_booked(&rt, alloc, &cases)?;
+    expect_booked(alloc, &cases)?;
     let cases: [Case; 2] = [
         (
             "another_account_of_the_customer",
@@ -236,5 +236,5 @@ fn settlements(rt: HostRuntime) -> Result<(), Fail> {
             &A_TAX_IS_ROUNDED_ONCE_WITH_THE_RATES_OF_ITS_MOMENT,
         ),
     ];
-    expect_cases(&rt, alloc, &cases)
+    expect_cases(alloc, &cases)
 }

@@ -1,4 +1,4 @@
-use crate::desks::{Case, Step, expect_cases};
+use brk_tests_desks::desks::{Case, Step, expect_cases};
 use std::test::Fail;
 
 // Orders of each type.
@@ -226,5 +226,5 @@ fn orders(rt: HostRuntime) -> Result<(), Fail> {
             &ORDERS_BY_TIER_TYPE_AND_EXCHANGE,
         ),
     ];
-    expect_cases(&rt, rt.alloc(), &cases)
+    expect_cases(rt.alloc(), &cases)
 }

@@ -1,0 +1,13 @@
+//! Tests of batches of results, with all tables after them.
+#![tactic(auto)]
+
+#[cfg(test)]
+mod booked;
+#[cfg(test)]
+mod many_results;
+#[cfg(test)]
+mod result_refusals;
+#[cfg(test)]
+mod results;
+#[cfg(test)]
+mod settlements;
