@@ -12,6 +12,7 @@ mod keeping;
 
 pub use answer::Answer;
 pub use brk_commands::{Command, line_text, parse_row, row_text};
+pub use brk_store;
 pub use brk_view::{Query, View, parse_query, view_fields};
 pub use call::{Call, Outcome};
 pub use desk::Desk;

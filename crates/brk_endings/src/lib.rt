@@ -4,4 +4,5 @@
 pub mod ending;
 pub mod telling;
 
+pub use brk_import;
 pub use ending::{Ending, after_close, end_with};

@@ -5,6 +5,7 @@ mod at_desk;
 mod streams;
 
 pub use at_desk::AtDesk;
+pub use brk_desk;
 pub use brk_outside::Clock;
 pub use brk_serving::{FaultKind, ServeFault};
 pub use streams::serve_stream;

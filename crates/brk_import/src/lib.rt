@@ -14,6 +14,7 @@ mod rows;
 
 pub use batch::run_batch;
 pub use batch_fault::{BatchFault, FaultKind};
+pub use brk_desk;
 pub use brk_outside::Clock;
 pub use counts::Counts;
 pub use records::MOST_BYTES;

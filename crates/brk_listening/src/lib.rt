@@ -3,4 +3,5 @@
 
 mod listening;
 
+pub use brk_http;
 pub use listening::{ListenFault, PATIENCE, serve_on};

@@ -1,4 +1,4 @@
-use brk_desk::Desk;
+use brk_http::brk_desk::Desk;
 use brk_http::{Clock, FaultKind, ServeFault, serve_stream};
 use sqlite::Alter;
 use std::alloc::Global;

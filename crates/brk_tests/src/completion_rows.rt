@@ -4,7 +4,7 @@ use brk_changes::{
 };
 use brk_money::{Cents, Day, Id, Price, Qty, Stamp, Status, TradeType};
 use brk_ref::{ChargeAmount, Symbol, check_account, check_broker, check_customer, check_security};
-use brk_store::Store;
+use brk_tests_desks::store::Store;
 use sqlite::{Connection, MemStore};
 use std::alloc::Global;
 use std::process::Abort;

@@ -1,7 +1,7 @@
 use brk_changes::{Amount, Change, HistoryRow, RequestRow, TradeRow};
 use brk_money::{Id, Price, Qty, Stamp, Status, TradeType};
 use brk_ref::{ChargeAmount, LastTrade, Symbol, Volume};
-use brk_store::Store;
+use brk_tests_desks::store::Store;
 use brk_tests_desks::desks::set_desk;
 use sqlite::MemStore;
 use std::alloc::Global;

@@ -1,6 +1,6 @@
 //! The calls of rows.
 
-use brk_desk::{Call, parse_row};
+use brk_import::brk_desk::{Call, parse_row};
 use brk_money::Stamp;
 use brk_ref::{BatchName, Key, RowNumber};
 use brk_tests_plans::fields::fields_of;

@@ -4,3 +4,8 @@
 pub mod calls;
 pub mod desks;
 pub mod tables;
+
+pub use brk_import as import;
+pub use brk_import::brk_desk as desk;
+pub use brk_import::brk_desk::brk_store as store;
+pub use brk_tests_plans as plans;

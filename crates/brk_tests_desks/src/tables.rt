@@ -1,7 +1,7 @@
 //! What the tables of a desk hold, row by row.
 
 use crate::desks::{Step, expect_steps, set_desk};
-use brk_store::Store;
+use brk_import::brk_desk::brk_store::Store;
 use sqlite::types::ValueRef;
 use sqlite::{Connection, MemStore, Row};
 use std::alloc::Global;

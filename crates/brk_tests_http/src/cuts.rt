@@ -1,8 +1,9 @@
 //! A stream that is cut at each of its bytes, a reader that fails there, and a writer that takes so many bytes.
 
-use crate::streams::{Pieces, Still, Told, post, reply, served, set_desk};
-use brk_desk::Desk;
-use brk_http::{FaultKind, ServeFault, serve_stream};
+use crate::streams::{Pieces, Still, Told, post, reply, served};
+use brk_tests_desks::desks::set_desk;
+use brk_tests_desks::desk::Desk;
+use brk_listening::brk_http::{FaultKind, ServeFault, serve_stream};
 use sqlite::MemStore;
 use std::alloc::{AllocError, Global};
 use std::io;

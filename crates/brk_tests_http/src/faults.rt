@@ -1,8 +1,8 @@
 //! A desk whose disk fails: the reply that tells it is the last of its stream.
 
 use crate::streams::{Told, post, reply, served};
-use brk_desk::Desk;
-use brk_store::Store;
+use brk_tests_desks::desk::Desk;
+use brk_tests_desks::store::Store;
 use sqlite::{Connection, FileStore, Files, Options};
 use sqlite_disk::{Fuse, Memory};
 use std::alloc::Global;

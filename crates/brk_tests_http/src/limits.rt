@@ -1,6 +1,7 @@
 //! The limits of heads, fields, bodies and streams.
 
-use crate::streams::{Told, answers, reply, served, set_desk};
+use crate::streams::{Told, answers, reply, served};
+use brk_tests_desks::desks::set_desk;
 use std::alloc::{AllocError, Global};
 use std::test::Fail;
 

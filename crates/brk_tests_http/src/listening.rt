@@ -1,6 +1,7 @@
 //! Streams over sockets of this machine, in one process.
 
-use crate::streams::{Still, new_desk};
+use crate::streams::Still;
+use brk_tests_desks::desks::new_desk;
 use brk_listening::serve_on;
 use std::io;
 use std::io::Write;

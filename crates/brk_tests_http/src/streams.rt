@@ -1,12 +1,11 @@
 //! Streams that are sent to a desk, and the replies that are wanted.
 
-use brk_desk::Desk;
-use brk_http::{Clock, ServeFault, serve_stream};
-use brk_import::run_batch;
+use brk_tests_desks::desk::Desk;
+use brk_tests_desks::desks::set_desk;
+use brk_listening::brk_http::{Clock, ServeFault, serve_stream};
 use brk_money::Stamp;
-use brk_store::Store;
-use brk_tests_plans::worked::{FIRST_MOMENT, SET};
-use sqlite::{Alter, Connection, MemStore};
+use brk_tests_desks::plans::worked::FIRST_MOMENT;
+use sqlite::Alter;
 use std::alloc::{AllocError, Global};
 use std::io;
 use std::io::Read;
@@ -46,24 +45,6 @@ pub enum Told {
     Open(&'static str, &'static str),
     /// It ends the stream.
     Last(&'static str, &'static str),
-}
-
-/// A desk in memory at which nothing was booked.
-pub fn new_desk(alloc: Global) -> Result<Desk<MemStore>, Fail> {
-    let Ok(store) = Store::create(Connection::open_in_memory(alloc)?) else {
-        return Err("no store")?;
-    };
-    Ok(Desk::new(store))
-}
-
-/// A desk in memory that was set up.
-pub fn set_desk(alloc: Global) -> Result<Desk<MemStore>, Fail> {
-    let mut desk = new_desk(alloc)?;
-    let mut lines = Vec::new(alloc);
-    match run_batch(alloc, SET, &mut lines, &mut Still, &mut desk) {
-        Ok(_) => Ok(desk),
-        Err(_) => Err("not set up")?,
-    }
 }
 
 /// What a desk writes to a stream whose bytes come in pieces of a size, and how the stream ends.

@@ -1,7 +1,8 @@
 //! Worked streams, byte for byte.
 
-use crate::streams::{Still, Told, answers, post, reply, served, set_desk};
-use brk_import::run_batch;
+use crate::streams::{Still, Told, answers, post, reply, served};
+use brk_tests_desks::desks::set_desk;
+use brk_tests_desks::import::run_batch;
 use std::test::Fail;
 
 const A_ROW_WITH_A_KEY_AGAIN_AND_WITHOUT: &str =

@@ -2,10 +2,10 @@ use crate::booked::{
     AFTER_A_COVER, AFTER_A_PURCHASE, AFTER_A_SALE_OF_THE_FIRST, AFTER_A_SALE_OF_THE_LAST,
     AFTER_A_SHORT_SALE, AFTER_ALL_IS_SOLD, AFTER_TWO_PURCHASES,
 };
-use brk_desk::Desk;
+use brk_tests_desks::desk::Desk;
 use brk_tests_desks::desks::{Step, expect, set_desk};
 use brk_tests_desks::tables::{expect_standing, expect_tables};
-use brk_tests_plans::worked::{
+use brk_tests_desks::plans::worked::{
     FIRST_MOMENT, LAST_FIRST_LINES, LAST_FIRST_ROWS, LINES, ROWS, accepted, add_lines, batch_of,
     repeated,
 };

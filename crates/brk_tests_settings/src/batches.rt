@@ -1,4 +1,4 @@
-use brk_import::FaultKind;
+use brk_tests_desks::import::FaultKind;
 use brk_tests_desks::desks::{Case, Step, expect_new};
 use std::test::Fail;
 
