@@ -24,7 +24,7 @@ use Rattle.sqlite_rules.specs.Calls.{ids_of}
 use Rattle.sqlite_rules.specs.Lists.{Has}
 use Rattle.sqlite_rules.specs.Action.{Writes as WritesOn}
 use Rattle.sqlite_rules.specs.declared.error.Rowids.TheVariants.{Chosen, Given}
-use Rattle.sqlite_rules.proofs.ListLemmas.{all_has, all_from, has_filtered}
+use Rattle.sqlite_rules.proofs.ListLemmas.{all_has, all_from, has_filtered, has_got}
 use Rattle.sqlite_rules.proofs.PlaceLemmas.{given}
 use Rattle.sqlite_syntax.specs.declared.statement.Parsed.{Parsed}
 use Rattle.sqlite_resolve.specs.Compile.{compiled}
@@ -34,8 +34,7 @@ use Rattle.sqlite.specs.Effect.{Database, IsDatabase, value_rows}
 use Rattle.sqlite.specs.Rows.{stamped}
 use Rattle.sqlite.specs.State.{State, Executes}
 use Rattle.brk_rows.specs.Rows.{cells, same_rowid, Holds}
-use Rattle.brk_rows.specs.Desk.{Desk, Stands, IsCalm, HasTables, Turns}
-use Rattle.brk_rows.proofs.Created.{all_at}
+use Rattle.brk_rows.specs.Desk.{Desk, Stands, IsCalm, HasTables, SparesStrangers, Turns}
 use Rattle.brk_rows.proofs.Effects.{inserted, took, altered}
 use Rattle.brk_rows.proofs.Kept.{held_with, held_without, held_changed, row_of, record_of}
 use Rattle.brk_rows.proofs.Meant.{meant}
@@ -104,24 +103,37 @@ module _ {W T : Type 0} (desk : Desk W T) (w : W) (place : Place desk w) where
 
   -- ---- the other tables
 
-  pub framed : (t : T) (xs : List Item) (tree : W → ℕ) (old new : Database) → HasTables desk t tree old → new.schema ≡ old.schema → ((v : W) → v ≢ w → new.trees (tree v) ≡ old.trees (tree v))
-      → Holds (shape (tree w)) (desk.encode w) (desk.order w) xs (new.trees (tree w)) → IsDatabase new → HasTables desk (place.put xs t) tree new
-  framed t xs tree old new h schema others this sound =
+  -- what a statement on this table leaves of any other
+  abbrev Leaves : (tree : W → ℕ) (old new : Database) → Table → Type 0
+  Leaves tree old new k = k.tree ≢ tree w → IsCalm old.schema k.tree → new.trees k.tree ≡ old.trees k.tree
+
+  pub framed : (t : T) (xs : List Item) (tree : W → ℕ) (old new : Database) → HasTables desk t tree old → new.schema ≡ old.schema → ((k : Table) → Has old.schema.tables k → Leaves tree old new k)
+      → Holds (shape (tree w)) (desk.encode w) (desk.order w) xs (new.trees (tree w)) → IsDatabase new → HasTables desk (place.put xs t) tree new × SparesStrangers tree old new
+  framed t xs tree old new h schema leaves this sound =
       let u = place.put xs t in
-      let back = sym schema in
-      record {
-        place = h.place;
-        stands = λ v. subst (λ s. Stands s (desk.shape v (tree v)) (h.place v)) back (h.stands v);
-        apart = h.apart;
-        calm = λ v. subst (λ s. IsCalm s (tree v)) back (h.calm v);
-        sound = sound;
-        rows = λ v. elim (place.split v) [
-          | inl same ↦ subst (λ v. Holds (desk.shape v (tree v)) (desk.encode v) (desk.order v) (desk.list v u) (new.trees (tree v))) (sym same)
-              (subst (λ ys. Holds (shape (tree w)) (desk.encode w) (desk.order w) ys (new.trees (tree w))) (sym (place.put_this xs t)) this)
-          | inr other ↦ subst (λ ys. Holds (desk.shape v (tree v)) (desk.encode v) (desk.order v) ys (new.trees (tree v))) (sym (place.put_others v other xs t))
-              (subst (Holds (desk.shape v (tree v)) (desk.encode v) (desk.order v) (desk.list v t)) (sym (others v other)) (h.rows v))
-        ];
-      }
+      let back = sym schema in (
+        record {
+          place = h.place;
+          stands = λ v. subst (λ s. Stands s (desk.shape v (tree v)) (h.place v)) back (h.stands v);
+          apart = h.apart;
+          calm = λ v. subst (λ s. IsCalm s (tree v)) back (h.calm v);
+          sound = sound;
+          rows = λ v. elim (place.split v) [
+            | inl same ↦ subst (λ v. Holds (desk.shape v (tree v)) (desk.encode v) (desk.order v) (desk.list v u) (new.trees (tree v))) (sym same)
+                (subst (λ ys. Holds (shape (tree w)) (desk.encode w) (desk.order w) ys (new.trees (tree w))) (sym (place.put_this xs t)) this)
+            | inr other ↦ subst (λ ys. Holds (desk.shape v (tree v)) (desk.encode v) (desk.order v) ys (new.trees (tree v))) (sym (place.put_others v other xs t))
+                (subst (Holds (desk.shape v (tree v)) (desk.encode v) (desk.order v) (desk.list v t)) (sym (others v other)) (h.rows v))
+          ];
+        },
+        record { schema = schema; rows = all_from _ old.schema.tables (λ k there apart calm. leaves k there (apart w) calm) },
+      )
+    where
+      others : (v : W) → v ≢ w → new.trees (tree v) ≡ old.trees (tree v)
+      others v other =
+          let table = desk.shape v (tree v) in
+          let at : table.tree ≡ tree v = desk.placed v (tree v) in
+          subst (λ n. new.trees n ≡ old.trees n) at
+          (leaves table (has_got old.schema.tables (h.place v) table (h.stands v).found) (λ same. other (h.apart v w (sym at ∙ same))) (subst (IsCalm old.schema) (sym at) (h.calm v)))
 
   -- ---- a step on this table, and all that it sets off
 
@@ -129,13 +141,12 @@ module _ {W T : Type 0} (desk : Desk W T) (w : W) (place : Place desk w) where
     at_tree : e.table.tree ≡ tree w
     at_tree = ap (λ (k : Table). k.tree) is ∙ desk.placed w (tree w)
 
-    pub step_others : (v : W) → v ≢ w → new.trees (tree v) ≡ old.trees (tree v)
-    step_others v other =
-        keeps_ours (tree v) old.schema (h.calm v) (h.place v) (desk.shape v (tree v)) (h.stands v).found (desk.placed v (tree v)) old.trees new.trees e (λ same. other (h.apart v w (sym same ∙ at_tree))) writes
+    pub step_leaves : (k : Table) → Has old.schema.tables k → Leaves tree old new k
+    step_leaves k there apart calm = keeps_ours k.tree old.schema calm k there refl old.trees new.trees e (λ same. apart (sym same ∙ at_tree)) writes
 
     pub step_this : (new.trees (tree w) ≡ edited old.trees e) × (are_fresh (left_by old.trees e) e.news ≡ true)
     step_this =
-        let o = writes_ours (tree w) old.schema (h.calm w) (h.place w) (shape (tree w)) (h.stands w).found (desk.placed w (tree w)) old.trees new.trees e at_tree writes in
+        let o = writes_ours (tree w) old.schema (h.calm w) (shape (tree w)) (has_got old.schema.tables (h.place w) (shape (tree w)) (h.stands w).found) (desk.placed w (tree w)) old.trees new.trees e at_tree writes in
         (o.2 ∙ ap o.0 (sym at_tree) ∙ o.1.rows, o.1.fresh)
 
   -- ---- DELETE
@@ -159,7 +170,7 @@ module _ {W T : Type 0} (desk : Desk W T) (w : W) (place : Place desk w) where
         let named : ids_of it.1.0 ≡ ids_of k.picked = ap ids_of k.is ∙ map_twice _ _ k.picked ∙ map_on _ _ k.picked (λ r there. ids r) in
         let left : without_all (db table.tree) (ids_of it.1.0) ≡ filter (λ r. not (passes params terms r)) rows =
         ap₂ without_all (ap db at) named ∙ remains (passes params terms) rows k.picked held.keyed held.apart k.same in
-        framed t _ tree old.now new.now h it.0 (step_others t tree old.now new.now h e refl it.1.2)
+        framed t _ tree old.now new.now h it.0 (step_leaves t tree old.now new.now h e refl it.1.2)
         (subst (Holds table (desk.encode w) (desk.order w) (delete_where q (desk.list w t))) (sym (step.0 ∙ left)) (held_without table (desk.encode w) (desk.order w) (passes params terms) q (same (tree w)) (desk.list w t) rows held)) it.2
 
     -- ---- UPDATE of columns that are no key
@@ -197,7 +208,7 @@ module _ {W T : Type 0} (desk : Desk W T) (w : W) (place : Place desk w) where
         let perm : IsPermutation (map (λ r. if test r then write r else r) rows) (put_all (filter (λ r. not (test r)) rows) (map write k.picked)) =
         IsPermutation-trans _ _ _ (IsPermutation-sym _ _ (changed_is test write rows))
         (IsPermutation-trans _ _ _ (IsPermutation-append _ _ _ _ (IsPermutation-map write (filter test rows) k.picked k.same) (IsPermutation-refl (filter (λ r. not (test r)) rows))) (put_all_is (map write k.picked) _ fresh)) in
-        framed t _ tree old.now new.now h it.0 (step_others t tree old.now new.now h e refl it.1.2)
+        framed t _ tree old.now new.now h it.0 (step_leaves t tree old.now new.now h e refl it.1.2)
         (subst (Holds table (desk.encode w) (desk.order w) (update_where q to (desk.list w t))) (sym those)
         (held_changed table (desk.encode w) (desk.order w) test write q to keeps before after (same (tree w)) (shows (tree w)) (desk.list w t) rows _ perm held)) it.2
 
@@ -241,8 +252,7 @@ module _ {W T : Type 0} (desk : Desk W T) (w : W) (place : Place desk w) where
             (subst (λ l. Has l r) (sym (ap new.now.trees at ∙ those)) hr) (subst (λ l. Has l s) (sym (ap new.now.trees at ∙ those)) hs) apart) whole
       ] in
       framed t _ tree old.now new.now h it.0
-      (λ v other. subst (λ n. n ≢ table.tree → new.now.trees n ≡ db n) (desk.placed v (tree v))
-      (all_at (λ k. k.tree ≢ table.tree → new.now.trees k.tree ≡ db k.tree) old.now.schema.tables (h.place v) (desk.shape v (tree v)) (h.stands v).found a.tables) (λ same. other (h.apart v w (same ∙ at))))
+      (λ k there apart calm. all_has (λ k. k.tree ≢ table.tree → new.now.trees k.tree ≡ db k.tree) old.now.schema.tables k a.tables there (λ same. apart (same ∙ at)))
       (subst (Holds table (desk.encode w) (desk.order w) (insert_sorted (desk.order w) x (desk.list w t))) (sym those)
       (held_with table (desk.encode w) (desk.order w) place.total comer x (shows (tree w) rows) whole (desk.list w t) rows free absent held)) it.2
     where

@@ -1,5 +1,5 @@
 -- The tables of one program in a database that may have others.
-use Rattle.std.specs.Prelude.{◌≡◌, ◌≢◌, ◌==◌, ℕ, Bool, true, false, List, [], ◌∷◌, ◌++◌, Option, Some, is_some, not, ◌||◌, slice_get}
+use Rattle.std.specs.Prelude.{◌≡◌, ◌≢◌, ◌==◌, ℕ, Bool, true, false, List, [], ◌∷◌, ◌++◌, Option, Some, not, ◌||◌, slice_get}
 use Rattle.std.specs.List.{list_all, AllByRecursion}
 use Rattle.std.specs.declared.cmp.Ordering.{Ordering}
 use Rattle.sqlite_value.specs.Order.{Row}
@@ -10,12 +10,11 @@ use Rattle.sqlite_schema.specs.declared.schema.Kind.{Kind}
 use Rattle.sqlite_schema.specs.declared.schema.Kind.TheVariants.{Integer, Text}
 use Rattle.sqlite_schema.specs.declared.schema.Column.{Column}
 use Rattle.sqlite_schema.specs.declared.schema.Reference.{Reference}
-use Rattle.sqlite_schema.specs.declared.schema.Action.TheVariants.{NoAction}
+use Rattle.sqlite_schema.specs.declared.schema.Action.{Action}
+use Rattle.sqlite_schema.specs.declared.schema.Action.TheVariants.{NoAction, Restrict, Cascade, SetNull, SetDefault}
 use Rattle.sqlite_schema.specs.declared.schema.Table.{Table}
 use Rattle.sqlite_schema.specs.declared.schema.Schema.{Schema}
-use Rattle.sqlite_schema.specs.declared.schema.Keys.TheVariants.{Enforced}
 use Rattle.sqlite_schema.specs.Names.{table_named}
-use Rattle.sqlite_rules.specs.Action.{deed_for}
 use Rattle.sqlite.specs.Effect.{Database, IsDatabase}
 use Rattle.std.specs.Prelude.{◌↔◌, Ok, Err, IsTrue}
 use Rattle.sqlite_resolve.specs.declared.compiled.Compiled.{Compiled}
@@ -65,9 +64,17 @@ pub record Stands (schema : Schema) (table : Table) (at : ℕ) : Type 0 where
   pub named : table_named schema table.name ≡ Some at
   pub found : slice_get schema.tables at ≡ Some table
 
--- an action on the children of a row that is deleted, or that gets another key
+-- what a foreign key does to the rows that refer: it writes them, or it refuses at most
+abbrev pub writes_rows : Action → Bool
+writes_rows NoAction = false
+writes_rows Restrict = false
+writes_rows Cascade = true
+writes_rows SetNull = true
+writes_rows SetDefault = true
+
+-- it writes them where the row that they refer to is deleted, or gets another key
 abbrev pub acts : Reference → Bool
-acts ref = is_some (deed_for Enforced true ref) || is_some (deed_for Enforced false ref)
+acts ref = writes_rows ref.on_delete || writes_rows ref.on_update
 
 abbrev pub is_calm_at : ℕ → Table → Bool
 is_calm_at tree t = not (t.tree == tree) || list_all (λ ref. not (acts ref)) t.references
@@ -116,9 +123,14 @@ pub record HasTables {W T : Type 0} (desk : Desk W T) (t : T) (tree : W → ℕ)
   pub sound : IsDatabase db
   pub rows : (w : W) → Holds (desk.shape w (tree w)) (desk.encode w) (desk.order w) (desk.list w t) (db.trees (tree w))
 
--- whatever the tables hold before, they hold f of it after, at the same trees
+-- The schema stays, and so do the rows of each table in none of these trees, unless a foreign key of its own acts on them.
+pub record SparesStrangers {W : Type 0} (tree : W → ℕ) (old new : Database) : Type 0 where
+  pub schema : new.schema ≡ old.schema
+  pub rows : AllByRecursion (λ k. ((w : W) → k.tree ≢ tree w) → IsCalm old.schema k.tree → new.trees k.tree ≡ old.trees k.tree) old.schema.tables
+
+-- whatever the tables hold before, they hold f of it after, at the same trees, and the tables of others stay
 abbrev pub Turns : {W T : Type 0} → Desk W T → (T → T) → Database → Database → Type 0
-Turns {W} {T} desk f old new = (t : T) (tree : W → ℕ) → HasTables desk t tree old → HasTables desk (f t) tree new
+Turns {W} {T} desk f old new = (t : T) (tree : W → ℕ) → HasTables desk t tree old → HasTables desk (f t) tree new × SparesStrangers tree old new
 
 -- whatever the tables hold, this is so of it
 abbrev pub Tells : {W T : Type 0} → Desk W T → (T → Type 0) → Database → Type 0

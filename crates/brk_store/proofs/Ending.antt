@@ -10,7 +10,7 @@ use Rattle.sqlite.specs.declared.error.Error.{Error}
 use Rattle.sqlite.proofs.Callers.{survives_begin}
 use Rattle.sqlite.proofs.StateLemmas.{survives_then, survives_weaker}
 use Rattle.brk_model.specs.Tables.{Tables}
-use Rattle.brk_rows.specs.Desk.{HasTables, Turns}
+use Rattle.brk_rows.specs.Desk.{Turns}
 use Rattle.brk_rows.specs.Model.{IsStep, Looks}
 use Rattle.brk_rows.proofs.Inside.{clean_before, commits_all, commits_crash, step_then}
 use Rattle.brk_money.specs.declared.fault.Fault.{Fault}
@@ -81,7 +81,7 @@ module _ {S L E F : Type 0} (g : Ghosts S) (old first mid : Held S) (last : L) (
   pub after_look : IsStep (state g (begun old)) (state g mid) r (λ _ a b. Turns desk after a.now b.now)
   after_look =
       step_then (state g (begun old)) (state g first) (state g mid) last r (λ l. Looks desk (P l)) (λ _ a b. Turns desk after a.now b.now) (λ _ a b. Turns desk after a.now b.now)
-      (λ _ p q t tree h. q t tree (subst (HasTables desk t tree) (sym p.1) h)) look changes
+      (λ _ p q. subst (λ d. Turns desk after d (state g mid).now) p.1 q) look changes
 
   pub open_at_look : HasCleanDisk (state g mid) → IsTrue (state g old).is_open
   open_at_look clean = (look.made (clean_before (state g first) (state g mid) (λ _. ⊥) changes.survives clean) refl).1.0
@@ -117,15 +117,16 @@ module _ {S : Type 0} (g : Ghosts S) (old mid end : Held S) (settled : IsTrue (s
       made = λ t holds clean o.
           let it = all clean in
           let has = holds (clean_before (state g old) (state g end) _ whole clean) it.0 in
-          (has.0, turns _ _ it.2 t has.0 has.1);
+          (has.0, (turns _ _ it.2 t has.0 has.1).0);
       opened = λ clean. let it = all clean in (it.0, it.1, it.3);
+      others = λ clean t tree has. (turns _ _ (all clean).2 t tree has).1;
       kept = tt;
       same = λ clean o. tt;
-      survives = survives_weaker (state g old) (state g end) _ _ (λ clean db h. ((all clean).0, (λ t has. (h.0, (has.0, turns _ _ h.1 t has.0 has.1), h.2)))) whole;
+      survives = survives_weaker (state g old) (state g end) _ _ (λ clean db h. ((all clean).0, (λ t has. (h.0, (has.0, (turns _ _ h.1 t has.0 has.1).0), h.2)))) whole;
       durable = λ clean t holds trees may.
           let it = all clean in
           let has = holds (clean_before (state g old) (state g end) _ whole clean) it.0 in
-          ((state g end).now, (has.0, turns _ _ it.2 t has.0 has.1), leaves_now law clean trees may);
+          ((state g end).now, (has.0, (turns _ _ it.2 t has.0 has.1).0), leaves_now law clean trees may);
     }
 
     pub creates : ((db : Trees) → IsTrue (state g end).is_open → (state g end).may_leave db → db ≡ (state g end).committed.trees) → ((a b : Database) → made a b → (has_table_of_desk a.schema ≡ false) × MakesDesk a b)
@@ -147,10 +148,11 @@ module _ {S : Type 0} (g : Ghosts S) (old mid end : Held S) (settled : IsTrue (s
     applies_none was_open fault after turns = record {
       made = tt;
       opened = λ clean. tt;
+      others = λ clean. tt;
       kept = still_holds g old mid end settled _ whole (kept_at e fails);
       same = kept_at e fails;
       survives = survives_weaker (state g old) (state g end) _ _
-          (λ clean db h. (was_open (clean_before (state g mid) (state g end) _ late clean), (λ t has. (h.0, (has.0, turns _ _ h.1 t has.0 has.1), h.2)))) whole;
+          (λ clean db h. (was_open (clean_before (state g mid) (state g end) _ late clean), (λ t has. (h.0, (has.0, (turns _ _ h.1 t has.0 has.1).0), h.2)))) whole;
       durable = λ clean. tt;
     }
 

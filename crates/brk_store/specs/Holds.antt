@@ -1,5 +1,5 @@
 -- What a store holds, and what its calls do to it.
-use Rattle.std.specs.Prelude.{◌≡◌, true, false, Result, Err, IfOk, OnOk, OnErr, IsTrue}
+use Rattle.std.specs.Prelude.{◌≡◌, ℕ, true, false, Result, Err, IfOk, OnOk, OnErr, IsTrue}
 use Rattle.sqlite_trees.specs.declared.store.Store.{Ghosts}
 use Rattle.sqlite_trees.specs.Tree.{Trees}
 use Rattle.sqlite.specs.Effect.{Database}
@@ -9,7 +9,8 @@ use Rattle.brk_money.specs.declared.fault.Condition.TheVariants.{NotEmpty}
 use Rattle.brk_money.specs.declared.fault.Fault.{Fault}
 use Rattle.brk_money.specs.declared.fault.Fault.TheVariants.{Damaged}
 use Rattle.brk_model.specs.Tables.{Tables, no_rows}
-use Rattle.brk_rows.specs.Desk.{KeepsOthers}
+use Rattle.brk_rows.specs.Desk.{HasTables, KeepsOthers, SparesStrangers}
+use Rattle.brk_tables_form.specs.Desk.{Which, desk}
 use Rattle.brk_tables_form.specs.Made.{HasRows}
 use Rattle.brk_tables_making.specs.Present.{has_table_of_desk}
 
@@ -49,6 +50,8 @@ pub record IsApplied {S V E : Type 0} (g : Ghosts S) (old new : Held S) (result 
   -- at Ok the rows are the changed ones, and committed
   pub made : OnOk result ((t : Tables) → Holds g old t → Holds g new (after t))
   pub opened : HasCleanDisk (state g new) → OnOk result (IsTrue (state g old).is_open × IsTrue (state g new).is_open × ((state g new).committed ≡ (state g new).now))
+  -- the schema stays, and so does each row of a table that is not the desk's, unless a foreign key of that table acts on it
+  pub others : HasCleanDisk (state g new) → OnOk result ((t : Tables) (tree : Which → ℕ) → HasTables desk t tree (state g old).now → SparesStrangers tree (state g old).now (state g new).now)
   -- at a fault they are those from before, and the whole database is as it was
   pub kept : OnErr result ((t : Tables) → Holds g old t → Holds g new t)
   pub same : HasCleanDisk (state g new) → IsTrue (state g new).is_open → OnErr result (IsSame (state g old) (state g new))

@@ -28,7 +28,7 @@ use Rattle.brk_tables_form.proofs.DeskRows
 
 -- a row is put where its key goes
 pub added : (w : Which) (place : Place desk w) (x : Item w) (old new : Database) → Turns desk (λ t. place.put (insert_sorted (order w) x (list w t)) t) old new → Turns desk (λ t. place.put (insert_row (key w) x (list w t)) t) old new
-added w place x old new turns = λ t tree h. subst (λ xs. HasTables desk (place.put xs t) tree new) (sym (inserted (key w) x (list w t))) (turns t tree h)
+added w place x old new turns = λ t tree h. let turned = turns t tree h in (subst (λ xs. HasTables desk (place.put xs t) tree new) (sym (inserted (key w) x (list w t))) turned.0, turned.1)
 
 pub sets_last : (old new : State) (stamp : ℕ) → Ran SetLast.statement (nat stamp ∷ nat 1 ∷ []) old new → Turns desk (with_last stamp) old.now new.now
 sets_last old new stamp ran = λ t tree h.
@@ -39,7 +39,7 @@ sets_last old new stamp ran = λ t tree h.
     rw (a, cast_int (pos x.schema), cast_int (pos stamp), cast_null) (ap (λ v. v ∷ Null ∷ nat x.schema ∷ nat stamp ∷ []) (cast_whole (column r 0) whole)))
     (λ tree r x e. let a : column r 0 ≡ nat x.id = cc in let b : column r 2 ≡ nat x.schema = cc in rw (a, b) refl) old new ran.0 ran.1
     (record { rows = desk_rows t.last; tables = t }) tree (widened tree old.now t h) in
-    narrowed tree new.now (desk_rows (Some stamp)) t (with_last stamp t) refl (λ w other. others w other t) turned
+    (narrowed tree new.now (desk_rows (Some stamp)) t (with_last stamp t) refl (λ w other. others w other t) turned.0, turned.1)
   where
     others : (w : Which) → w ≢ TheDesk → (t : Tables) → list w (with_last stamp t) ≡ list w t
     others TheDesk other t = absurd (other refl)

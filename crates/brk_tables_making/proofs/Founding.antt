@@ -127,7 +127,7 @@ founds_desk a old new f ran =
     let left = all_left (λ t. t.tree ≢ f.tree TheDesk → new.now.trees t.tree ≡ old.now.trees t.tree) a.schema.tables f.others.more
     (subst (AllByRecursion (λ t. t.tree ≢ f.tree TheDesk → new.now.trees t.tree ≡ old.now.trees t.tree)) f.others.tables alone.1) in
     record {
-      rows = (f.tree, narrowed f.tree new.now (desk_rows None) no_rows no_rows refl (λ w other. refl) turned);
+      rows = (f.tree, narrowed f.tree new.now (desk_rows None) no_rows no_rows refl (λ w other. refl) turned.0);
       others = record {
         more = f.others.more;
         tables = ap (λ (s : Schema). s.tables) alone.0 ∙ f.others.tables;
