@@ -58,12 +58,16 @@ order_read g old first mid end order last found lots one two three =
 
 -- ---- the lots
 
-lots_given : (t : Tables) (order : Order) (lots given : List Lot) → given ≡ from_end order.is_lifo lots → HeldLots t order.account order.symbol lots → AreLots t order given
-lots_given t order lots given e k = record { held = k.held; rows = k.rows; given = e ∙ ap (from_end order.is_lifo) k.given }
+-- what is given are these lots, from the order's end
+abbrev pub Gives : Order → List Lot → (List Lot → Type 0) → Type 0
+Gives order lots given = given (from_end order.is_lifo lots)
+
+lots_given : (t : Tables) (order : Order) (lots : List Lot) (given : List Lot → Type 0) → Gives order lots given → HeldLots t order.account order.symbol lots → AreLots t order given
+lots_given t order lots given h k = subst (λ (ls : List Lot). given (from_end order.is_lifo ls)) k h
 
 -- ---- an order
 
-module _ (order : Order) (found : OrderFound) (last : Option ℕ) (now : ℕ) (lots given : List Lot) (moment : now ≤ last_stamp) (e : given ≡ from_end order.is_lifo lots) where
+module _ (order : Order) (found : OrderFound) (last : Option ℕ) (now : ℕ) (lots : List Lot) (given : List Lot → Type 0) (moment : now ≤ last_stamp) (e : Gives order lots given) where
   looked_up : (t : Tables) → KnownForOrder order last found lots t → (base : Base) → IsBooks base → t ≡ sheets base → IsReadForPlan base order found last now
   looked_up t known base books s = record {
     books = books;
@@ -88,7 +92,7 @@ module _ (order : Order) (found : OrderFound) (last : Option ℕ) (now : ℕ) (l
 
 -- ---- an estimate
 
-module _ (order : Order) (found : OrderFound) (lots given : List Lot) (e : given ≡ from_end order.is_lifo lots) where
+module _ (order : Order) (found : OrderFound) (lots : List Lot) (given : List Lot → Type 0) (e : Gives order lots given) where
   estimated : (result : Result Estimate Refusal) → MatchResult result (IsEstimated order found given) (λ refusal. first_refusal (order_tests found) ≡ Some refusal)
       → (t : Tables) → KnownForEstimate order found lots t → Tells (order_of order) result t
   estimated (Ok estimate) p t known base books s =

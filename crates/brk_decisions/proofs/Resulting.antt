@@ -25,6 +25,31 @@ use Rattle.brk_decisions.specs.Decisions.{Decides}
 use Rattle.brk_decisions.specs.ResultFinds.{IsFoundAt, IsFoundOf, found_in, lots_met}
 use Rattle.brk_decisions.proofs.Looking.{read_both}
 
+-- what is planned over lots is planned over those of them that are known to be given
+planned_over : (found : Option ResultFound) (price : ℕ) (given known : List Lot → Type 0) (last : Option ℕ) (now : ℕ) → ((ls : List Lot) → known ls → given ls) → (result : Result Plan Refusal)
+    → MatchResult result (IsCompleted found price given last now) (IsRefused found price given last now) → MatchResult result (IsCompleted found price known last now) (IsRefused found price known last now)
+planned_over None price given known last now is_given (Ok plan) p = p
+planned_over None price given known last now is_given (Err refusal) p = p
+planned_over (Some found) price given known last now is_given (Ok plan) p = record {
+  stamp = p.stamp;
+  closing = p.closing;
+  stamped = p.stamped;
+  closes = λ ls met. p.closes ls ((is_given (from_end found.trade.is_lifo ls) met.0.0, met.0.1), met.1);
+  accepted = p.accepted;
+  told = p.told;
+  changes = p.changes;
+}
+planned_over (Some found) price given known last now is_given (Err refusal) p = record {
+  early = p.early;
+  late = λ ls stamp met. p.late ls stamp ((is_given (from_end found.trade.is_lifo ls) met.0.0, met.0.1), met.1);
+}
+
+pub result_over : (found : Option ResultFound) (price : ℕ) (given known : List Lot → Type 0) (last : Option ℕ) (now : ℕ) → ((ls : List Lot) → known ls → given ls) → (result : Result (Result Plan Refusal) Fault)
+    → IfOk result (λ planned. MatchResult planned (IsCompleted found price given last now) (IsRefused found price given last now))
+    → IfOk result (λ planned. MatchResult planned (IsCompleted found price known last now) (IsRefused found price known last now))
+result_over found price given known last now is_given (Ok result) p = planned_over found price given known last now is_given result p
+result_over found price given known last now is_given (Err fault) p = tt
+
 -- the last stamp, and what was found for a result
 abbrev pub Known : ℕ → Option ℕ → Option (ResultFound × List Lot) → Tables → Type 0
 Known id last found t = (last ≡ t.last) × IsFoundAt t id found
@@ -58,8 +83,7 @@ module _ (id price : ℕ) (last : Option ℕ) (now : ℕ) (moment : now ≤ last
         books = books;
         trade_read = ap (λ x. trade_in x id) (sym e) ∙ known.1.trade;
         looked_up = subst (λ x. IsFoundForResult x f.0) e k.read;
-        lots_read = λ p. subst (λ x. AreLotsOfTrade x f.0.trade (from_end f.0.trade.is_lifo f.1)) e
-            (let h = k.met p in record { held = h.held; rows = h.rows; given = ap (from_end f.0.trade.is_lifo) h.given });
+        lots_read = λ p. subst (λ x. AreLotsOfTrade x f.0.trade (lots_met (Some f))) e (sym (ap (from_end f.0.trade.is_lifo) (k.met p)));
         some_shares = shares;
         last_read = known.0 ∙ ap (λ x. x.last) e;
         moment = moment;

@@ -66,7 +66,7 @@ pub record IsFoundAt (t : Tables) (id : ℕ) (found : Option (ResultFound × Lis
 abbrev pub found_in : Option (ResultFound × List Lot) → Option ResultFound
 found_in found = option_map (λ f. f.0) found
 
--- the lots that it meets, from its end
-abbrev pub lots_met : Option (ResultFound × List Lot) → List Lot
-lots_met None = []
-lots_met (Some f) = from_end f.0.trade.is_lifo f.1
+-- the lots that it meets are given, from its end
+abbrev pub lots_met : Option (ResultFound × List Lot) → List Lot → Type 0
+lots_met None ls = ls ≡ []
+lots_met (Some f) ls = ls ≡ from_end f.0.trade.is_lifo f.1

@@ -1,9 +1,8 @@
 //! Results of trades, decided on.
 
-ghost use Rattle.std.specs.Prelude.{IfErr, IfOk, IfSome, MatchResult};
+ghost use Rattle.std.specs.Prelude.{IfErr, IfOk, MatchResult};
 ghost use Rattle.brk_decisions.specs.Decisions.{Decides};
 ghost use Rattle.brk_decisions.specs.ResultFinds.{found_in, lots_met};
-ghost use Rattle.brk_lots.specs.Position.{IsNew};
 ghost use Rattle.brk_model.specs.Commands.{CompleteTrade};
 ghost use Rattle.brk_model.specs.Run.{MayFail};
 ghost use Rattle.brk_store.specs.Holds.{IsRead};
@@ -26,7 +25,6 @@ fn plan_found(
     last: Option<Stamp>,
     now: Stamp,
 ) -> Planned<Plan>
-    requires { IfSome found (λ f. IsNew f.0.trade.id f.1) }
     ensures planned { IfOk result (λ planned. MatchResult planned
         (IsCompleted (found_in found) price (lots_met found) last now)
         (IsRefused (found_in found) price (lots_met found) last now)) }

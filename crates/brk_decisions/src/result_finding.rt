@@ -1,11 +1,8 @@
 //! What the tables hold that decides on a result.
 
-ghost use Rattle.std.specs.Prelude.{◌≡◌, ◌≢◌, ◌<◌, ◌↔◌, IfErr, IfOk, IfSome, IsTrue, option_map};
-ghost use Rattle.std.specs.List.{All};
+ghost use Rattle.std.specs.Prelude.{◌≡◌, ◌<◌, IfErr, IfOk, IfSome, option_map};
 ghost use Rattle.brk_trade_laws.specs.TradeReads.{summary_in};
-ghost use Rattle.brk_decisions.specs.Finds.{HeldLots};
 ghost use Rattle.brk_decisions.specs.ResultFinds.{IsFoundAt, IsFoundOf, IsHolding, IsListedAs};
-ghost use Rattle.brk_lots.specs.Position.{IsNew};
 ghost use Rattle.brk_model.specs.Joins.{security_in};
 ghost use Rattle.brk_model.specs.Run.{MayFail};
 ghost use Rattle.brk_store.specs.Holds.{IsRead};
@@ -14,7 +11,7 @@ use crate::known::known_security;
 use crate::parties::find_parties;
 use crate::position_finding::find_position;
 use crate::tested::find_band_rate;
-use brk_lots::{Lot, Position};
+use brk_lots::Position;
 use brk_money::{Fault, Id, Rate};
 use brk_ref::{Name, Symbol, Tier};
 use brk_store::Store;
@@ -86,7 +83,7 @@ fn shares_in(summary: Option<SummaryRow>) -> Option<i64>
 }
 
 // How many shares of a security an account holds in all, where it holds some.
-fn find_summary<S: Alter>(
+pub(crate) fn find_summary<S: Alter>(
     store: &mut Store<S>,
     account: Id,
     symbol: &Symbol,
@@ -98,31 +95,6 @@ fn find_summary<S: Alter>(
     Ok(shares_in(summary))
 }
 
-// Whether a trade opened none of the lots.
-fn is_new(trade: Id, lots: &[Lot]) -> bool
-    ensures { IsTrue result ↔ All (λ l. l.trade ≢ trade) lots.now }
-{
-    lots.iter().all(|lot| lot.trade != trade)
-}
-
-// The lots that a trade meets; one that it opened itself is a fault of the store.
-fn known_lots<S: Alter>(
-    alloc: Global,
-    store: &mut Store<S>,
-    trade: &TradeRow,
-) -> Result<Position, Fault>
-    ensures read { IsRead S.Store store.old store.new result (λ lots t. HeldLots t trade.now.account trade.now.symbol lots) }
-    ensures fresh { IfOk result (λ lots. IsNew trade.now.id lots) }
-    ensures fault { IfErr result MayFail }
-{
-    let position = find_position(alloc, store, trade.account, &trade.symbol)?;
-    if is_new(trade.id, position.lots()) {
-        Ok(position)
-    } else {
-        Err(Fault::Store)
-    }
-}
-
 // What an account holds of its trade's security. The lots of a trade that is not at the market are not looked at.
 fn find_holding<S: Alter>(
     alloc: Global,
@@ -130,7 +102,6 @@ fn find_holding<S: Alter>(
     trade: &TradeRow,
 ) -> Result<Holding, Fault>
     ensures read { IsRead S.Store store.old store.new result (λ holding t. IsHolding t trade.now holding) }
-    ensures fresh { IfOk result (λ holding. IsNew trade.now.id holding.lots) }
     ensures fault { IfErr result MayFail }
 {
     let summary = find_summary(store, trade.account, &trade.symbol)?;
@@ -141,7 +112,7 @@ fn find_holding<S: Alter>(
             lots: none,
         });
     }
-    let lots = known_lots(alloc, store, trade)?;
+    let lots = find_position(alloc, store, trade.account, &trade.symbol)?;
     Ok(Holding { summary, lots })
 }
 
@@ -152,7 +123,6 @@ fn find_of_trade<S: Alter>(
     trade: TradeRow,
 ) -> Result<(ResultFound, Position), Fault>
     ensures read { IsRead S.Store store.old store.new result (λ found t. IsFoundOf t trade found.0 found.1) }
-    ensures fresh { IfOk result (λ found. IsNew found.0.trade.id found.1) }
     ensures some_shares { IfOk result (λ found. 0 < found.0.trade.qty) }
     ensures fault { IfErr result MayFail }
 {
@@ -174,14 +144,13 @@ fn find_of_trade<S: Alter>(
 
 /// What the tables hold that decides on a result of a trade, with the lots that the trade meets; none where there is no
 /// such trade. An account, a customer, a broker or a security of the trade that is not there is a fault of the store,
-/// and so are lots that are those of no position or one that the trade itself opened.
+/// and so are lots that are those of no position.
 pub(crate) fn find_for_result<S: Alter>(
     alloc: Global,
     store: &mut Store<S>,
     trade: Id,
 ) -> Result<Option<(ResultFound, Position)>, Fault>
     ensures read { IsRead S.Store store.old store.new result (λ found t. IsFoundAt t trade found) }
-    ensures fresh { IfOk result (λ found. IfSome found (λ f. IsNew f.0.trade.id f.1)) }
     ensures some_shares { IfOk result (λ found. IfSome found (λ f. 0 < f.0.trade.qty)) }
     ensures fault { IfErr result MayFail }
 {

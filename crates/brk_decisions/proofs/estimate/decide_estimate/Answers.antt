@@ -13,4 +13,4 @@ returns-clause-read g c =
     let lots = c.in_ok-position.position in
     decided g.S.Store old end lots (KnownForEstimate order found) (Tells (order_of order)) c.plan_estimate.result
     (estimate_read g.S.Store old c.find_for_estimate.new.store end order found lots c.in_ok-found.ensures.read c.in_ok-position.ensures.read)
-    (estimate_decided order found lots _ c.from_end-lots.ensures.rest c.plan_estimate.result c.plan_estimate.ensures.planned)
+    (estimate_decided order found lots _ (tt, c.from_end-lots.ensures.rests) c.plan_estimate.result c.plan_estimate.ensures.planned)

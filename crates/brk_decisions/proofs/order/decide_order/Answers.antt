@@ -15,4 +15,4 @@ returns-clause-read g c =
     let lots = c.in_ok-position.position in
     decided g.S.Store old end lots (KnownForOrder order last found) (Decides c.args.now (PlaceOrder (order_of order))) c.plan_order.result
     (order_read g.S.Store old c.last.new.self c.find_for_order.new.store end order last found lots c.in_ok-last.ensures.read c.in_ok-found.ensures.read c.in_ok-position.ensures.read)
-    (order_decided order found last c.args.now lots _ c.get-moment.ensures.high c.from_end-lots.ensures.rest c.plan_order.result c.plan_order.ensures.planned)
+    (order_decided order found last c.args.now lots _ c.get-moment.ensures.high (tt, c.from_end-lots.ensures.rests) c.plan_order.result c.plan_order.ensures.planned)

@@ -1,9 +1,12 @@
-use Rattle.std.proofs.Common.{subst, sym}
-use Rattle.brk_lots.specs.Position.{IsNew}
+use Rattle.std.proofs.Common.{◌∙◌, None, Some}
+use Rattle.brk_lots.specs.Sources.{AsTold}
+use Rattle.brk_decisions.specs.ResultFinds.{lots_met}
+use Rattle.brk_decisions.proofs.Resulting.{result_over}
 use Rattle.brk_decisions.proofs.result.plan_found.Goals as goal
 
-pub plan_result-requires-clause-fresh : goal.plan_result-requires-clause-fresh
-plan_result-requires-clause-fresh c =
-    let id = c.in-Some.found.trade.id in
-    let fresh : IsNew id c.in-Some.position = rw c.in-Some.is at c.requires in
-    subst (IsNew id) (sym c.from_end-lots.ensures.rest) (c.from_end-lots.ensures.fresh id fresh)
+pub returns-in-Some-clause-planned : goal.returns-in-Some-clause-planned
+returns-in-Some-clause-planned c =
+    let found = c.in-Some.found in
+    rw c.in-Some.is
+    (result_over (Some found) c.args.price _ (lots_met (Some (found, c.in-Some.position))) c.args.last c.args.now (λ ls e. (tt, e ∙ c.from_end-lots.ensures.rests))
+    c.plan_result.result c.plan_result.ensures.planned)

@@ -1,5 +1,4 @@
-use Rattle.std.proofs.Common.{◌≡◌, ◌∙◌, option_map, subst, sym}
-use Rattle.brk_lots.specs.Position.{IsNew}
+use Rattle.std.proofs.Common.{◌≡◌, ◌∙◌, option_map, sym}
 use Rattle.brk_money.specs.declared.fault.Fault.{Fault}
 use Rattle.brk_model.specs.Tables.{SummaryRow, Tables}
 use Rattle.brk_trade_laws.specs.TradeReads.{summary_in}
@@ -23,16 +22,13 @@ returns-then-not-is_submitted-clause-read g c =
     (λ t e. record { summary = e; lots = not_needed t trade none (sym c.is_submitted.ensures ∙ c.if-not-is_submitted.true) })
     c.in_ok-summary.ensures.read
 
-pub returns-then-not-is_submitted-clause-fresh : goal.returns-then-not-is_submitted-clause-fresh
-returns-then-not-is_submitted-clause-fresh g c = subst (IsNew c.args.trade.now.id) (sym c.new-none.ensures) tt
-
 pub returns-clause-read : goal.returns-clause-read
 returns-clause-read g c =
     let trade = c.args.trade.now in
     let summary = c.in_ok-summary.summary in
     let lots = c.in_ok-lots.lots in
     let holding : Holding = record { summary = summary; lots = lots } in
-    read_both g.S.Store c.args.store.now c.find_summary.new.store c.known_lots.new.store {H = Fault} summary lots holding
+    read_both g.S.Store c.args.store.now c.find_summary.new.store c.find_position.new.store {H = Fault} summary lots holding
     (λ qty (t : Tables). qty ≡ option_map (λ (r : SummaryRow). r.qty) (summary_in t trade.account trade.symbol))
     (λ lots (t : Tables). HeldLots t trade.account trade.symbol lots)
     (λ holding (t : Tables). IsHolding t trade holding)
