@@ -1,5 +1,4 @@
 use Rattle.std.proofs.Common.{◌∙◌, None, Some}
-use Rattle.brk_lots.specs.Sources.{AsTold}
 use Rattle.brk_decisions.specs.ResultFinds.{lots_met}
 use Rattle.brk_decisions.proofs.Resulting.{result_over}
 use Rattle.brk_decisions.proofs.result.plan_found.Goals as goal
