@@ -49,6 +49,7 @@ impl Write for Narrow {
 }
 
 // Three requests, where each ends, and what they are answered with.
+#[derive(Drop)]
 struct Three {
     input: String,
     ends: [usize; 3],
@@ -112,7 +113,7 @@ fn a_stream_may_be_cut_at_each_byte(rt: HostRuntime) -> Result<(), Fail> {
         }
         let mut desk = set_desk(alloc)?;
         let (out, ended) = served(alloc, &mut desk, &all.input.as_bytes()[..len], 64);
-        assert!(rt; out == wanted.as_bytes(), "cut at {len}");
+        assert!(rt; out.as_slice() == wanted.as_bytes(), "cut at {len}");
         assert!(rt; ended == Ok(done), "cut at {len}");
     }
     Ok(())
@@ -141,7 +142,7 @@ fn a_reader_may_fail_at_each_byte(rt: HostRuntime) -> Result<(), Fail> {
         let mut desk = set_desk(alloc)?;
         let (out, ended) = interrupted(alloc, &mut desk, &all.input.as_bytes()[..len]);
         let kind = FaultKind::Read;
-        assert!(rt; out == wanted.as_bytes(), "fails at {len}");
+        assert!(rt; out.as_slice() == wanted.as_bytes(), "fails at {len}");
         assert!(rt; ended == Err(ServeFault { done, kind }), "fails at {len}");
     }
     Ok(())
@@ -175,7 +176,7 @@ fn a_writer_may_stop_at_each_byte(rt: HostRuntime) -> Result<(), Fail> {
         };
         let kind = FaultKind::Write;
         assert!(rt;
-            writer.taken == &wanted.as_bytes()[..room],
+            writer.taken.as_slice() == &wanted.as_bytes()[..room],
             "room for {room}"
         );
         assert!(rt; ended == Err(ServeFault { done, kind }), "room for {room}");

@@ -43,7 +43,7 @@ fn a_fault_of_the_store_ends_a_stream(rt: HostRuntime) -> Result<(), Fail> {
             booked = true;
             break;
         }
-        assert!(rt; out == wanted.as_bytes(), "after {calls} calls");
+        assert!(rt; out.as_slice() == wanted.as_bytes(), "after {calls} calls");
         faults = faults.saturating_add(1);
     }
     assert!(rt; faults > 0 && booked);

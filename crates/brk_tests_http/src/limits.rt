@@ -91,7 +91,7 @@ fn a_stream_has_1_000_requests_at_most(rt: HostRuntime) -> Result<(), Fail> {
     wanted.push_str(reply(alloc, Told::Last("200 OK", "{\"view\":[]}"))?.as_str())?;
     let mut desk = set_desk(alloc)?;
     let (out, ended) = served(alloc, &mut desk, input.as_bytes(), 4096);
-    assert!(rt; out == wanted.as_bytes());
+    assert!(rt; out.as_slice() == wanted.as_bytes());
     assert!(rt; ended == Ok(1_000));
     Ok(())
 }
