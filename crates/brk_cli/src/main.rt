@@ -33,12 +33,14 @@ fn run(rt: &HostRuntime) -> Ending {
         Ok(Job::Batch { db, at }) => batch::run(rt, db, at),
         Ok(Job::Statement { .. }) => Ending::Usage(UsageFault::NotYet),
         Ok(Job::Audit { db }) => audit::run(rt, db.as_str()),
-        Ok(Job::Serve {
-            port,
-            db,
-            at,
-            streams,
-        }) => serve::run(rt, port, db, at, streams),
+        Ok(
+            Job::Serve {
+                port,
+                db,
+                at,
+                streams,
+            },
+        ) => serve::run(rt, port, db, at, streams),
         Err(UsageFault::Help(text)) => show(rt, text),
         Err(fault) => Ending::Usage(fault),
     }

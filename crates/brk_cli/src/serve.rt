@@ -2,11 +2,11 @@
 
 use crate::moment::Moments;
 use brk_endings::brk_import::brk_desk::Desk;
+use brk_endings::brk_import::brk_desk::brk_store::Store;
 use brk_endings::{Ending, after_close};
 use brk_files as file;
 use brk_listening::{ListenFault, serve_on};
 use brk_money::{Fault, Stamp};
-use brk_endings::brk_import::brk_desk::brk_store::Store;
 use sqlite::{Alter, Connection};
 use std::net::TcpListener;
 
@@ -41,13 +41,7 @@ fn run_in_memory(rt: &HostRuntime, port: u16, at: Option<Stamp>, streams: u32) -
 }
 
 // Over the file at a path, which is closed at the end.
-fn run_on_file(
-    rt: &HostRuntime,
-    port: u16,
-    path: &str,
-    at: Option<Stamp>,
-    streams: u32,
-) -> Ending {
+fn run_on_file(rt: &HostRuntime, port: u16, path: &str, at: Option<Stamp>, streams: u32) -> Ending {
     let store = match file::open_or_make(rt, path) {
         Ok(store) => store,
         Err(fault) => return Ending::Open(fault),

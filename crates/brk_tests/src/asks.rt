@@ -1,7 +1,7 @@
 //! Queries at a desk.
 
-use brk_tests_desks::desk::{Call, Desk, Outcome};
 use brk_money::{Refusal, Stamp};
+use brk_tests_desks::desk::{Call, Desk, Outcome};
 use brk_tests_desks::desks::{Step, expect, set_desk};
 use brk_tests_desks::plans::fields::fields_of;
 use brk_tests_desks::plans::told::told_view;

@@ -1,8 +1,8 @@
 //! Runs of calls at a desk.
 
-use brk_tests_desks::desk::{Answer, Outcome};
 use brk_money::{Refusal, Stamp};
 use brk_tests_desks::calls::{call_of, keyed};
+use brk_tests_desks::desk::{Answer, Outcome};
 use brk_tests_desks::desks::new_desk;
 use brk_trade::Reply;
 use std::test::Fail;

@@ -3,10 +3,10 @@
 use brk_decisions::{decide_cancel, decide_estimate, decide_feed, decide_order, decide_result};
 use brk_money::{Id, Stamp};
 use brk_orders::{check_feed, check_order, check_result};
-use brk_tests_desks::store::Store;
 use brk_tests_desks::desks::{Step, expect, set_desk};
 use brk_tests_desks::plans::fields::fields_of;
 use brk_tests_desks::plans::told::{told_plan, told_view};
+use brk_tests_desks::store::Store;
 use brk_view::View;
 use sqlite::MemStore;
 use std::alloc::Global;

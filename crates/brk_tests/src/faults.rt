@@ -1,9 +1,9 @@
 //! A desk whose disk fails.
 
-use brk_tests_desks::desk::{Answer, Desk, parse_row};
 use brk_money::{Fault, Stamp};
-use brk_tests_desks::store::Store;
+use brk_tests_desks::desk::{Answer, Desk, parse_row};
 use brk_tests_desks::plans::fields::fields_of;
+use brk_tests_desks::store::Store;
 use brk_trade::Reply;
 use sqlite::{Alter, Connection, FileStore, Files, Options};
 use sqlite_disk::{Fuse, Memory};

@@ -1,8 +1,8 @@
 use brk_changes::{Amount, Change, HistoryRow, RequestRow, TradeRow};
 use brk_money::{Id, Price, Qty, Stamp, Status, TradeType};
 use brk_ref::{ChargeAmount, LastTrade, Symbol, Volume};
-use brk_tests_desks::store::Store;
 use brk_tests_desks::desks::set_desk;
+use brk_tests_desks::store::Store;
 use sqlite::MemStore;
 use std::alloc::Global;
 use std::process::Abort;

@@ -1,9 +1,9 @@
 //! Desks in memory, and batches that are sent to them.
 
 use brk_import::brk_desk::Desk;
+use brk_import::brk_desk::brk_store::Store;
 use brk_import::{BatchFault, Clock, Counts, FaultKind, run_batch};
 use brk_money::Stamp;
-use brk_import::brk_desk::brk_store::Store;
 use brk_tests_plans::worked::{FIRST_MOMENT, SET, SET_LINES};
 use sqlite::{Connection, MemStore};
 use std::alloc::Global;

@@ -1,9 +1,9 @@
 //! A stream that is cut at each of its bytes, a reader that fails there, and a writer that takes so many bytes.
 
 use crate::streams::{Pieces, Still, Told, post, reply, served};
-use brk_tests_desks::desks::set_desk;
-use brk_tests_desks::desk::Desk;
 use brk_listening::brk_http::{FaultKind, ServeFault, serve_stream};
+use brk_tests_desks::desk::Desk;
+use brk_tests_desks::desks::set_desk;
 use sqlite::MemStore;
 use std::alloc::{AllocError, Global};
 use std::io;
@@ -56,7 +56,7 @@ struct Three {
     replies: [String; 3],
 }
 
-fn three(alloc: Global) -> Result<Three, AllocError> {
+fn three_requests(alloc: Global) -> Result<Three, AllocError> {
     let first = post(alloc, "/rows/C/1", "[\"broker\",\"2\",\"Cy\"]")?;
     let second = post(alloc, "/rows/C/1", "[\"broker\",\"2\",\"Cy\"]")?;
     let third = post(alloc, "/ask/submitted", "[]")?;
@@ -103,7 +103,7 @@ fn first_replies(
 #[test]
 fn a_stream_may_be_cut_at_each_byte(rt: HostRuntime) -> Result<(), Fail> {
     let alloc = rt.alloc();
-    let all = three(alloc)?;
+    let all = three_requests(alloc)?;
     for len in 0..=all.input.len() {
         let (mut wanted, mut done, part) = first_replies(alloc, &all, len)?;
         if part {
@@ -120,7 +120,7 @@ fn a_stream_may_be_cut_at_each_byte(rt: HostRuntime) -> Result<(), Fail> {
 }
 
 // Serves an input whose reader fails at its end.
-fn interrupted(
+fn until_interrupted(
     alloc: Global,
     desk: &mut Desk<MemStore>,
     bytes: &[u8],
@@ -136,11 +136,11 @@ fn interrupted(
 #[test]
 fn a_reader_may_fail_at_each_byte(rt: HostRuntime) -> Result<(), Fail> {
     let alloc = rt.alloc();
-    let all = three(alloc)?;
+    let all = three_requests(alloc)?;
     for len in 0..=all.input.len() {
         let (wanted, done, _) = first_replies(alloc, &all, len)?;
         let mut desk = set_desk(alloc)?;
-        let (out, ended) = interrupted(alloc, &mut desk, &all.input.as_bytes()[..len]);
+        let (out, ended) = until_interrupted(alloc, &mut desk, &all.input.as_bytes()[..len]);
         let kind = FaultKind::Read;
         assert!(rt; out.as_slice() == wanted.as_bytes(), "fails at {len}");
         assert!(rt; ended == Err(ServeFault { done, kind }), "fails at {len}");
@@ -151,7 +151,7 @@ fn a_reader_may_fail_at_each_byte(rt: HostRuntime) -> Result<(), Fail> {
 #[test]
 fn a_writer_may_stop_at_each_byte(rt: HostRuntime) -> Result<(), Fail> {
     let alloc = rt.alloc();
-    let all = three(alloc)?;
+    let all = three_requests(alloc)?;
     let (wanted, _, _) = first_replies(alloc, &all, all.input.len())?;
     for room in 0..wanted.len() {
         let mut desk = set_desk(alloc)?;

@@ -1,8 +1,8 @@
 //! Streams over sockets of this machine, in one process.
 
 use crate::streams::Still;
-use brk_tests_desks::desks::new_desk;
 use brk_listening::serve_on;
+use brk_tests_desks::desks::new_desk;
 use std::io;
 use std::io::Write;
 use std::net::{Shutdown, TcpListener, TcpStream};

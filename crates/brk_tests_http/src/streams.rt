@@ -1,9 +1,9 @@
 //! Streams that are sent to a desk, and the replies that are wanted.
 
-use brk_tests_desks::desk::Desk;
-use brk_tests_desks::desks::set_desk;
 use brk_listening::brk_http::{Clock, ServeFault, serve_stream};
 use brk_money::Stamp;
+use brk_tests_desks::desk::Desk;
+use brk_tests_desks::desks::set_desk;
 use brk_tests_desks::plans::worked::FIRST_MOMENT;
 use sqlite::Alter;
 use std::alloc::{AllocError, Global};

@@ -21,7 +21,10 @@ fn a_row_with_a_key_again_and_without(rt: HostRuntime) -> Result<(), Fail> {
         let mut desk = set_desk(rt.alloc())?;
         let input = A_ROW_WITH_A_KEY_AGAIN_AND_WITHOUT.as_bytes();
         let (out, ended) = served(rt.alloc(), &mut desk, input, size);
-        assert!(rt; out.as_slice() == ITS_REPLIES.as_bytes(), "in pieces of {size}");
+        assert!(rt;
+            out.as_slice() == ITS_REPLIES.as_bytes(),
+            "in pieces of {size}"
+        );
         assert!(rt; ended == Ok(3), "in pieces of {size}");
     }
     Ok(())

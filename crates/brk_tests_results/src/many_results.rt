@@ -1,12 +1,12 @@
 //! A batch of five hundred orders and their results, and the same calls in one run.
 
-use brk_tests_desks::desk::{Answer, Call, Desk, Outcome, line_text};
-use brk_tests_desks::import::Counts;
 use brk_money::{Id, Stamp};
-use brk_tests_desks::store::Store;
 use brk_tests_desks::calls::keyed;
+use brk_tests_desks::desk::{Answer, Call, Desk, Outcome, line_text};
 use brk_tests_desks::desks::{answer_at, set_desk};
+use brk_tests_desks::import::Counts;
 use brk_tests_desks::plans::worked::FIRST_MOMENT;
+use brk_tests_desks::store::Store;
 use sqlite::MemStore;
 use std::alloc::Global;
 use std::process::Abort;

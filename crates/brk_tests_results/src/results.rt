@@ -4,11 +4,11 @@ use crate::booked::{
 };
 use brk_tests_desks::desk::Desk;
 use brk_tests_desks::desks::{Step, expect, set_desk};
-use brk_tests_desks::tables::{expect_standing, expect_tables};
 use brk_tests_desks::plans::worked::{
     FIRST_MOMENT, LAST_FIRST_LINES, LAST_FIRST_ROWS, LINES, ROWS, accepted, add_lines, batch_of,
     repeated,
 };
+use brk_tests_desks::tables::{expect_standing, expect_tables};
 use sqlite::MemStore;
 use std::alloc::Global;
 use std::test::Fail;

@@ -1,5 +1,5 @@
-use brk_tests_desks::import::FaultKind;
 use brk_tests_desks::desks::{Case, Step, expect_cases};
+use brk_tests_desks::import::FaultKind;
 use brk_tests_desks::plans::worked::{SET, SET_AGAIN};
 use std::test::Fail;
 

@@ -1,5 +1,5 @@
-use brk_endings::{Ending, end_with};
 use brk_endings::brk_import::{BatchFault, FaultKind};
+use brk_endings::{Ending, end_with};
 use brk_money::{Condition, Fault};
 use brk_words::UsageFault;
 use std::io;
