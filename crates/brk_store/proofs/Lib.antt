@@ -5,3 +5,5 @@ pub mod Found
 pub mod Retelling
 pub mod Taking
 pub mod Texts
+pub mod WalkedLists
+pub mod Walking
