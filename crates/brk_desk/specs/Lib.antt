@@ -4,3 +4,4 @@ pub mod Asking
 pub mod Keeping
 pub mod Keys
 pub mod Stops
+pub mod Heads

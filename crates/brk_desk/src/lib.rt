@@ -8,11 +8,14 @@ mod booking;
 pub mod call;
 mod deciding;
 pub mod desk;
+pub mod head;
 mod keeping;
 
 pub use answer::Answer;
 pub use brk_commands::{Command, line_text, parse_row, row_text};
 pub use brk_store;
+pub use brk_store::{Stop, Visitor};
 pub use brk_view::{Query, View, parse_query, view_fields};
 pub use call::{Call, Outcome};
 pub use desk::Desk;
+pub use head::Head;

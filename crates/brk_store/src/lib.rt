@@ -4,6 +4,7 @@
 pub mod adopting;
 mod auditing;
 mod beginning;
+pub mod calling;
 mod changing;
 mod numbers;
 mod reading;
@@ -11,5 +12,7 @@ pub mod reopening;
 pub mod store;
 mod terms;
 mod trades;
+pub mod walks;
 
+pub use brk_tables_walks::{Stop, Visitor};
 pub use store::Store;

@@ -1,0 +1,3 @@
+pub mod Keeping
+pub mod Section
+pub mod Parts

@@ -1,0 +1,158 @@
+//! Visitors that write a line of each record, count them, and add up what they moved.
+
+ghost use Rattle.std.specs.Prelude.{◌≡◌, ◌+ℤ◌, Err, IfErr, IfOk, OnErr};
+ghost use Rattle.brk_money.specs.Spelling.{Text};
+ghost use Rattle.brk_model.specs.Run.{MayFail};
+ghost use Rattle.brk_money.specs.declared.fault.Fault.TheVariants as fault;
+ghost use Rattle.brk_report_lines.specs.Written.{ended};
+ghost use Rattle.brk_report_lines.specs.declared.fault.StatementFault.TheVariants.{Desk};
+
+use brk_changes::{CashRow, HoldingRow};
+use brk_desk::Visitor;
+use brk_money::{Cents, Fault, Wide};
+use brk_report_lines::{StatementFault, cash_line, lot_line, write_line};
+use std::alloc::Global;
+use std::io::Write;
+
+/// A record that has a line.
+pub trait Line {
+    ghost line: { Self → Text };
+
+    /// The line with its line feed.
+    fn line(&self, alloc: Global) -> Result<Vec<u8>, Fault>
+        ensures line { IfOk result (λ l. l.items ≡ ended (line self.now)) }
+        ensures fault { IfErr result MayFail };
+}
+
+impl Line for HoldingRow {
+    ghost use Rattle.brk_model.specs.Statement.{lot_line};
+    ghost use Rattle.brk_changes.specs.Rows.{holding_row_of};
+
+    ghost line = { λ r. lot_line (holding_row_of r) };
+
+    fn line(&self, alloc: Global) -> Result<Vec<u8>, Fault> {
+        lot_line(alloc, self)
+    }
+}
+
+impl Line for CashRow {
+    ghost use Rattle.brk_model.specs.Statement.{cash_line};
+    ghost use Rattle.brk_changes.specs.Rows.{cash_row_of};
+
+    ghost line = { λ r. cash_line (cash_row_of r) };
+
+    fn line(&self, alloc: Global) -> Result<Vec<u8>, Fault> {
+        cash_line(alloc, self)
+    }
+}
+
+// An amount with one more.
+fn added(total: Wide, amount: Cents) -> Result<Wide, StatementFault>
+    ensures sum { IfOk result (λ sum. sum ≡ total +ℤ amount) }
+    ensures fault { OnErr result (result ≡ Err (Desk fault.Store)) }
+{
+    match total.get().checked_add(i128::from(amount.get())) {
+        Some(sum) => Ok(Wide::new(sum)),
+        None => Err(StatementFault::Desk(Fault::Store)),
+    }
+}
+
+/// Adds up cash rows.
+#[derive(Drop)]
+pub struct Sum {
+    pub total: Wide,
+}
+
+impl Visitor<CashRow, StatementFault> for Sum {
+    ghost use Rattle.std.specs.Prelude.{◌≡◌, ◌+ℤ◌};
+    ghost use Rattle.brk_money.specs.declared.fault.Fault.TheVariants.{Store};
+    ghost use Rattle.brk_report_lines.specs.declared.fault.StatementFault.TheVariants.{Desk};
+
+    ghost ready = { λ _. Unit {0} };
+
+    ghost leads = { λ _ _. Unit {0} };
+
+    ghost takes = { λ p row q. q.total ≡ p.total +ℤ row.amount };
+
+    ghost stops = { λ p row e q. e ≡ Desk Store };
+
+    fn visit(&mut self, item: &CashRow) -> Result<(), StatementFault> {
+        self.total = added(self.total, item.amount)?;
+        Ok(())
+    }
+
+    ghost stays = { λ _. tt };
+
+    ghost goes_on = { λ _ _ _ _ _. tt };
+}
+
+/// Writes a line of each record, and counts them.
+#[derive(Drop)]
+pub struct Lines<'a, W> {
+    pub alloc: Global,
+    pub writer: &'a mut W,
+    pub count: u64,
+}
+
+impl<R: Line, W: Write> Visitor<R, StatementFault> for Lines<'_, W> {
+    ghost use Rattle.std.specs.Prelude.{◌≡◌, ◌+◌, [], ◌∷◌, Result, Err, refl};
+    ghost use Rattle.std.proofs.Common.{◌∙◌};
+    ghost use Rattle.std.specs.Io.KnownBytes.{Appends};
+    ghost use Rattle.brk_report_lines.specs.Written.{BreaksIn, ended};
+
+    ghost ready = { λ _. Unit {0} };
+
+    ghost leads = { λ p q. q.writer.ghost_name ≡ p.writer.ghost_name };
+
+    ghost takes = { λ p r q. (q.count ≡ p.count + 1) × Appends (W.contents p.writer.now) (W.contents q.writer.now) (ended (R.line r)) };
+
+    ghost stops = { λ p r e q. BreaksIn (R.line r ∷ []) (W.contents p.writer.now) (W.contents q.writer.now) e };
+
+    fn visit(&mut self, item: &R) -> Result<(), StatementFault> {
+        let Some(count) = self.count.checked_add(1) else {
+            return Err(StatementFault::Desk(Fault::Store));
+        };
+        write_line(self.writer, item.line(self.alloc))?;
+        self.count = count;
+        Ok(())
+    }
+
+    ghost stays = { λ _. refl };
+
+    ghost goes_on = { λ _ _ _ a b. b ∙ a };
+}
+
+/// Writes a line of each cash row, counts them, and adds them up.
+#[derive(Drop)]
+pub struct CashLines<'a, W> {
+    pub lines: Lines<'a, W>,
+    pub total: Wide,
+}
+
+impl<W: Write> Visitor<CashRow, StatementFault> for CashLines<'_, W> {
+    ghost use Rattle.std.specs.Prelude.{◌≡◌, ◌+◌, ◌+ℤ◌, [], ◌∷◌, refl};
+    ghost use Rattle.std.proofs.Common.{◌∙◌};
+    ghost use Rattle.std.specs.Io.KnownBytes.{Appends};
+    ghost use Rattle.brk_changes.specs.Rows.{cash_row_of};
+    ghost use Rattle.brk_model.specs.Statement.{cash_line};
+    ghost use Rattle.brk_report_lines.specs.Written.{BreaksIn, ended};
+
+    ghost ready = { λ _. Unit {0} };
+
+    ghost leads = { λ p q. q.lines.writer.ghost_name ≡ p.lines.writer.ghost_name };
+
+    ghost takes = { λ p r q. (q.total ≡ p.total +ℤ r.amount) × (q.lines.count ≡ p.lines.count + 1) × Appends (W.contents p.lines.writer.now) (W.contents q.lines.writer.now) (ended (cash_line (cash_row_of r))) };
+
+    ghost stops = { λ p r e q. BreaksIn (cash_line (cash_row_of r) ∷ []) (W.contents p.lines.writer.now) (W.contents q.lines.writer.now) e };
+
+    fn visit(&mut self, item: &CashRow) -> Result<(), StatementFault> {
+        let total = added(self.total, item.amount)?;
+        self.lines.visit(item)?;
+        self.total = total;
+        Ok(())
+    }
+
+    ghost stays = { λ _. refl };
+
+    ghost goes_on = { λ _ _ _ a b. b ∙ a };
+}
