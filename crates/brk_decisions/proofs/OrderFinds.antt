@@ -38,6 +38,7 @@ no_account t order e = record {
   rate = λ p. absurd (not_none NoAccount p);
   rates = λ p. absurd (not_none NoAccount p);
   assets = λ p. absurd (not_none NoAccount p);
+  summary = λ p. absurd (not_none NoAccount p);
 }
 
 module _ (t : Tables) (account : ℕ) (a : ref.AccountRow) (c : customer.Customer) (there : Some (account_row_of a) ≡ account_in t account) (k : IsCustomer t a.account.customer c) where
@@ -48,7 +49,7 @@ module _ (t : Tables) (account : ℕ) (a : ref.AccountRow) (c : customer.Custome
   if_customer holds h = if_account (λ a. IfSome (find (λ r. r.id == a.customer) t.customers) holds) (subst (λ x. IfSome x holds) (sym k) h)
 
 pub all_found : (t : Tables) (order : Order) (a : ref.AccountRow) (c : customer.Customer) (tested : Tested) (amounts : Amounts) → IsCustomer t a.account.customer c
-    → AreTested t order c tested → AreAmounts t a amounts → IsFoundOf t order a (found_of a tested amounts)
+    → AreTested t order c tested → AreAmounts t a order amounts → IsFoundOf t order a (found_of a tested amounts)
 all_found t order a c tested amounts k x y there = record {
   account = ap (option_map order_account) there;
   last_price = λ p. x.last_price;
@@ -59,6 +60,7 @@ all_found t order a c tested amounts k x y there = record {
       (λ c. IfSome (security_in t order.symbol) (λ s. tested.rate ≡ option_map (λ b. b.rate) (band_in t c.tier (kind_of order.order_type) s.exchange order.qty))) x.rate;
   rates = λ p. if_account t order.account a c there k (λ a. amounts.rates ≡ rates_of t a.customer) y.rates;
   assets = λ p. if_account t order.account a c there k (λ a. amounts.assets ≡ a.balance +ℤ asset_total t a) y.assets;
+  summary = λ p. y.summary;
 }
 
 -- the last trade is no part of an estimate
@@ -71,6 +73,7 @@ with_last_trade t order found last k = record {
   rate = k.rate;
   rates = k.rates;
   assets = k.assets;
+  summary = k.summary;
 }
 
 -- ---- sums

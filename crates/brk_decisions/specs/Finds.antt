@@ -1,6 +1,5 @@
 -- What is found in the tables for an order.
-use Rattle.std.specs.Prelude.{◌≡◌, ℕ, ◌==◌, ◌+ℤ◌, ◌*ℤ◌, ℤ, pos, false, List, filter, find, map, Some, None, IfSome, option_map}
-use Rattle.brk_lots.specs.declared.lot.Lot.{Lot}
+use Rattle.std.specs.Prelude.{◌≡◌, ℕ, ◌==◌, ◌+ℤ◌, ◌*ℤ◌, ℤ, pos, false, List, filter, find, Some, None, IfSome, option_map}
 use Rattle.brk_model.specs.Joins.{account_in, price_in, security_in}
 use Rattle.brk_model.specs.Lists.{total_by}
 use Rattle.brk_model.specs.Orders.{permitted}
@@ -11,12 +10,10 @@ use Rattle.brk_orders.specs.declared.order.Order.{Order}
 use Rattle.brk_ref.specs.Records.{account_row_of, customer_of, executor_of}
 use Rattle.brk_ref.specs.declared.account.AccountRow.{AccountRow}
 use Rattle.brk_ref.specs.declared.customer.Customer.{Customer}
-use Rattle.brk_changes.specs.Rows.{holding_row_of}
 use Rattle.brk_trade.specs.declared.order.OrderFound.{OrderFound}
-use Rattle.brk_changes.specs.declared.holding_row.HoldingRow.{HoldingRow}
-use Rattle.brk_trade_laws.specs.OrderPlans.{IsFoundForEstimate, charge_in, last_price_in, lot_in}
+use Rattle.brk_trade_laws.specs.OrderPlans.{IsFoundForEstimate, charge_in, last_price_in}
 use Rattle.brk_trade_laws.specs.Reads.{rates_of}
-use Rattle.brk_trade_laws.specs.TradeReads.{band_in, lots_in, permission_in}
+use Rattle.brk_trade_laws.specs.TradeReads.{band_in, permission_in, summary_in}
 use Rattle.brk_decisions.specs.declared.tested.Tested.{Tested}
 use Rattle.brk_decisions.specs.declared.amounts.Amounts.{Amounts}
 
@@ -39,20 +36,15 @@ worth_in t row = row.qty *ℤ pos (price_in t row.symbol)
 abbrev pub worth_of : Tables → ℕ → ℤ
 worth_of t account = total_by (worth_in t) (filter (λ row. row.account == account) t.summaries)
 
--- the amounts that an account's orders are estimated by
-pub record AreAmounts (t : Tables) (account : AccountRow) (amounts : Amounts) : Type 0 where
+-- the amounts that an order of an account is estimated by
+pub record AreAmounts (t : Tables) (account : AccountRow) (order : Order) (amounts : Amounts) : Type 0 where
   pub rates : amounts.rates ≡ rates_of t account.account.customer
   pub assets : amounts.assets ≡ account.balance +ℤ worth_of t account.account.id
-
--- the lots that an account holds of a symbol, the oldest first
-pub record HeldLots (t : Tables) (account : ℕ) (symbol : Text) (lots : List Lot) : Type 0 where
-  pub held : List HoldingRow
-  pub rows : map holding_row_of held ≡ lots_in t account symbol
-  pub given : lots ≡ map lot_in held
+  pub summary : amounts.summary ≡ option_map (λ r. r.qty) (summary_in t order.account order.symbol)
 
 -- what is found for an order of no account
 abbrev pub nothing : OrderFound
-nothing = record { account = None; last_price = None; is_permitted = false; charge = None; rate = None; rates = 0; assets = pos 0; last_trade = None }
+nothing = record { account = None; last_price = None; is_permitted = false; charge = None; rate = None; rates = 0; assets = pos 0; summary = None; last_trade = None }
 
 -- what is found for an order of an account, but for the last trade
 abbrev pub found_of : AccountRow → Tested → Amounts → OrderFound
@@ -64,6 +56,7 @@ found_of account tested amounts = record {
   rate = tested.rate;
   rates = amounts.rates;
   assets = amounts.assets;
+  summary = amounts.summary;
   last_trade = None;
 }
 

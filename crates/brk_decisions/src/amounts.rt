@@ -8,21 +8,25 @@ ghost use Rattle.brk_store.specs.Holds.{IsRead};
 ghost use Rattle.brk_changes.specs.Rows.{summary_row_of};
 
 use crate::known::known_price;
+use crate::summary_finding::find_summary;
 use crate::terms::sum_rates;
 use brk_money::{Cents, Fault, Id, Price, TaxRate, Wide};
+use brk_orders::Order;
 use brk_ref::AccountRow;
 use brk_store::Store;
 use brk_trade::SummaryRow;
 use sqlite::Alter;
 use std::alloc::Global;
 
-/// The amounts that an account's orders are estimated by.
+/// The amounts that an order of an account is estimated by.
 #[derive(Clone, Copy)]
 pub struct Amounts {
     /// The sum of the tax rates that its customer pays.
     pub rates: TaxRate,
     /// Its balance and the worth of what it holds, in cents.
     pub assets: Wide,
+    /// How many shares of the order's symbol it holds in all (HS_QTY), where it holds some.
+    pub summary: Option<i64>,
 }
 
 // The rates that a customer pays; a sum beyond the whole is a fault of the store.
@@ -105,16 +109,22 @@ fn find_assets<S: Alter>(
     }
 }
 
-// The amounts that an account's orders are estimated by.
+// The amounts that an order of an account is estimated by.
 pub(crate) fn find_amounts<S: Alter>(
     alloc: Global,
     store: &mut Store<S>,
     account: &AccountRow,
+    order: &Order,
 ) -> Result<Amounts, Fault>
-    ensures read { IsRead S.Store store.old store.new result (λ amounts t. AreAmounts t account.now amounts) }
+    ensures read { IsRead S.Store store.old store.new result (λ amounts t. AreAmounts t account.now order.now amounts) }
     ensures fault { IfErr result MayFail }
 {
     let rates = find_rates(alloc, store, account.account.customer)?;
     let assets = find_assets(alloc, store, account)?;
-    Ok(Amounts { rates, assets })
+    let summary = find_summary(store, order.account, &order.symbol)?;
+    Ok(Amounts {
+        rates,
+        assets,
+        summary,
+    })
 }

@@ -29,6 +29,7 @@ fn nothing() -> OrderFound
         rate: None,
         rates: TaxRate::new(0).unwrap(),
         assets: Wide::new(0),
+        summary: None,
         last_trade: None,
     }
 }
@@ -48,6 +49,7 @@ fn found_of(account: &AccountRow, tested: Tested, amounts: Amounts) -> OrderFoun
         rate: tested.rate,
         rates: amounts.rates,
         assets: amounts.assets,
+        summary: amounts.summary,
         last_trade: None,
     }
 }
@@ -64,7 +66,7 @@ fn find_of_account<S: Alter>(
 {
     let customer = known_customer(store, account.account.customer)?;
     let tested = find_tested(alloc, store, order, &customer)?;
-    let amounts = find_amounts(alloc, store, account)?;
+    let amounts = find_amounts(alloc, store, account, order)?;
     Ok(found_of(account, tested, amounts))
 }
 

@@ -161,7 +161,7 @@ cost_after s (d ∷ ds) us h =
 
 -- ---- lots add up to what their shares add up to
 
-lots_net : (ls : List Lot) → lots_total ls ≡ net (shares_of ls)
+pub lots_net : (ls : List Lot) → lots_total ls ≡ net (shares_of ls)
 unfolding total_by
 lots_net [] = refl
 lots_net (l ∷ ls) =

@@ -56,10 +56,6 @@ pub all_back : {X : Type 0} (P : X → Type 0) (lifo : Bool) (xs : List X) → A
 all_back P true xs p = subst (AllByRecursion P) (reverse-reverse xs) (all_reverse P (reverse xs) p)
 all_back P false xs p = p
 
-pub walk_back : (lifo : Bool) (ls : List Lot) → IsWalk (from_end lifo ls) → IsWalk ls
-walk_back true ls w = subst IsWalk (reverse-reverse ls) (walk_reverse (reverse ls) w)
-walk_back false ls w = w
-
 -- ---- the shares from the other end
 
 reverse_run : {X : Type 0} (n : ℕ) (x : X) → reverse (replicate n x) ≡ replicate n x

@@ -7,6 +7,7 @@ pub mod Plain
 pub mod Deals
 pub mod Upon
 pub mod Closed
+pub mod Unmet
 pub mod Left
 pub mod Books
 pub mod Chains

@@ -1,5 +1,7 @@
 pub mod Lots
 pub mod Position
+pub mod Sources
+pub mod Against
 pub mod Closing
 pub mod Deals
 pub mod Books

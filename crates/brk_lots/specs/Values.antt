@@ -1,8 +1,10 @@
 -- What shares were bought for and sold for.
-use Rattle.std.specs.Prelude.{ℕ, List}
+use Rattle.std.specs.Prelude.{◌≡◌, ℕ, ◌+◌, ◌*◌, List}
 use Rattle.brk_money.specs.declared.side.Side.{Side}
 use Rattle.brk_model.specs.Shares.{Share, Deal, buy_value, sell_value}
-use Rattle.brk_lots.specs.Walks.{bought, sold}
+use Rattle.brk_lots.specs.Walks.{met, rows_taken, paid, bought, sold}
+use Rattle.brk_lots.specs.declared.lot.Lot.{Lot}
+use Rattle.brk_lots.specs.declared.lot.Touch.{Touch}
 use Rattle.brk_lots.specs.declared.values.Values.{Values}
 
 -- what a deal's closed shares were bought for, and what they were sold for
@@ -12,3 +14,9 @@ values_of d shares = record { buy_value = buy_value d shares; sell_value = sell_
 -- the values of shares that are closed at one value and were opened at another
 abbrev pub values_by : Side → ℕ → ℕ → Values
 values_by side closed opened = record { buy_value = bought side closed opened; sell_value = sold side closed opened }
+
+-- what a trade takes of lots: what is left of its quantity, the rows of the lots, and what the shares were bought for and sold for
+pub record IsTraded (side : Side) (qty price : ℕ) (ls : List Lot) (taken : List Touch) (over : ℕ) (worth : Values) : Type 0 where
+  pub left : over + met side qty ls ≡ qty
+  pub rows : taken ≡ rows_taken (met side qty ls) ls
+  pub values : worth ≡ values_by side (met side qty ls * price) (paid (met side qty ls) ls)

@@ -1,5 +1,5 @@
 -- Closing lot by lot, for the contracts of private helpers.
-use Rattle.std.specs.Prelude.{ℕ, ◌+◌, ◌*◌, ◌-◌, min, nat_eq, if◌then◌else◌, List, [], ◌∷◌, length, ℤ, pos}
+use Rattle.std.specs.Prelude.{◌≡◌, ℕ, ◌+◌, ◌*◌, ◌-◌, min, nat_eq, if◌then◌else◌, List, [], ◌∷◌, length, ℤ, pos}
 use Rattle.std.specs.List.{flat_map}
 use Rattle.std.specs.Ordering.{int_eq}
 use Rattle.std.specs.Int.RustNames.{unsigned_abs}
@@ -27,6 +27,12 @@ rows_taken k (l ∷ ls) =
 abbrev pub paid : ℕ → List Lot → ℕ
 paid k [] = 0
 paid k (l ∷ ls) = min k (unsigned_abs l.qty) * l.price + paid (k - unsigned_abs l.qty) ls
+
+-- what a walk takes of lots: what is left of the quantity, the rows of the lots, and what their shares cost
+pub record IsTaken (side : Side) (qty : ℕ) (ls : List Lot) (taken : List Touch) (over cost : ℕ) : Type 0 where
+  pub left : over + met side qty ls ≡ qty
+  pub rows : taken ≡ rows_taken (met side qty ls) ls
+  pub shares : cost ≡ paid (met side qty ls) ls
 
 -- the value of a trade's own price and that of the closed shares' prices, as what was bought and what was sold
 abbrev pub bought : Side → ℕ → ℕ → ℕ

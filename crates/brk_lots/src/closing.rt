@@ -3,9 +3,10 @@ ghost use Rattle.std.specs.Option.{option_to_list};
 ghost use Rattle.brk_model.specs.Limits.{greatest_price};
 ghost use Rattle.brk_model.specs.Shares.{lots};
 ghost use Rattle.brk_lots.specs.declared.lot.Lot.{Lot};
-ghost use Rattle.brk_lots.specs.Lots.{from_end, plain_lot};
-ghost use Rattle.brk_lots.specs.Position.{IsWalk, IsNew};
+ghost use Rattle.brk_lots.specs.Lots.{plain_lot};
+ghost use Rattle.brk_lots.specs.Position.{IsNew};
 ghost use Rattle.brk_lots.specs.Closing.{IsClosing};
+ghost use Rattle.brk_lots.specs.Sources.{AreGiven, AsTold};
 
 use crate::lot::{Lot, Touch, signed_qty};
 use crate::source::LotSource;
@@ -27,7 +28,13 @@ pub struct Closing {
 }
 
 // The lot that a trade opens with so many shares.
-fn opened_lot(side: Side, shares: u32, trade: Id, price: Price, stamp: Stamp) -> Option<Lot>
+pub(crate) fn opened_lot(
+    side: Side,
+    shares: u32,
+    trade: Id,
+    price: Price,
+    stamp: Stamp,
+) -> Option<Lot>
     ensures { map plain_lot (option_to_list result) ≡ lots (replicate shares (record { side = side; trade = trade; price = price; stamp = stamp })) }
 {
     if shares == 0 {
@@ -42,8 +49,8 @@ fn opened_lot(side: Side, shares: u32, trade: Id, price: Price, stamp: Stamp) ->
 }
 
 /// Closes lots of the other side until the quantity is used up, and opens a lot with what is left (Trade-Result). The
-/// trade is none that opened one of the lots. It asks for at most one lot more than it touches; a fault is the source's
-/// or want of memory.
+/// trade is none that opened one of the lots. Where it succeeds it has asked for at most one lot more than it touches; a
+/// fault is the source's or want of memory.
 pub fn close<L: LotSource>(
     alloc: Global,
     source: &mut L,
@@ -53,10 +60,9 @@ pub fn close<L: LotSource>(
     price: Price,
     stamp: Stamp,
 ) -> Result<Closing, Fault>
-    requires walk { IsWalk (L.rest source.old) }
-    requires fresh { IsNew trade (L.rest source.old) }
+    ensures leads { L.leads source.old source.new }
     // Over the lots of a position from the trade's end it is what the trade does to the shares of that position.
-    ensures closing { IfOk result (λ closing. (ls : List Lot) (lifo : Bool) → L.rest source.old ≡ from_end lifo ls →
+    ensures closing { IfOk result (λ closing. (ls : List Lot) (lifo : Bool) → AreGiven (AsTold (L.is_told source.new) (L.rests source.old)) lifo ls → IsNew trade ls →
         IsClosing (record { trade = trade; side = side; qty = qty; price = price; stamp = stamp; is_lifo = lifo }) ls closing) }
     // Neither value is below 0, and neither is above that of the quantity at the greatest price.
     ensures bought { IfOk result (λ closing. (pos 0 ≤ℤ closing.buy_value) × (closing.buy_value ≤ℤ pos (qty * greatest_price))) }
@@ -65,7 +71,7 @@ pub fn close<L: LotSource>(
     // No fault of the source is passed over, and each is answered as it came.
     ensures faulted { IfOk result (λ closing. L.faulted source.new ≡ L.faulted source.old) }
     ensures fault { IfErr result (λ fault. (fault ≡ Fault.Memory) ⊎ ((before : L) × L.fails before fault source.new)) }
-    ensures rest { (n : ℕ) × (L.rest source.new ≡ drop n (L.rest source.old)) }
+    ensures rest { (ls : List Lot) → AsTold (L.is_told source.new) (L.rests source.old) ls → (n : ℕ) × L.rests source.new (drop n ls) }
 {
     let mut touched = Vec::new(alloc);
     let taken = take_lots(source, side, qty, price, &mut touched)?;

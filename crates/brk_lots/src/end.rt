@@ -1,4 +1,5 @@
-ghost use Rattle.std.specs.Prelude.{◌≡◌};
+ghost use Rattle.std.specs.Prelude.{◌≡◌, ◌≢◌, ⊤, pos};
+ghost use Rattle.std.specs.List.{All};
 ghost use Rattle.brk_lots.specs.Lots.{from_end};
 
 use crate::lot::Lot;
@@ -10,18 +11,24 @@ use brk_money::Fault;
 pub struct PositionEnd<'a> {
     lots: &'a [Lot],
     lifo: bool,
+    ghost some_shares: { All (λ l. l.qty ≢ pos 0) lots.now },
 }
 
 impl<'a> PositionEnd<'a> {
     pub(crate) fn new(lots: &'a [Lot], lifo: bool) -> PositionEnd<'a>
-        ensures { ⟦<PositionEnd<'static> as LotSource>⟧.rest result ≡ from_end lifo lots.now }
+        requires { All (λ l. l.qty ≢ pos 0) lots.now }
+        ensures { ⟦<PositionEnd<'static> as LotSource>⟧.rests result (from_end lifo lots.now) }
     {
         PositionEnd { lots, lifo }
     }
 }
 
 impl LotSource for PositionEnd<'_> {
-    ghost rest = { λ end. from_end end.lifo end.lots.now };
+    ghost rests = { λ end ls. ls ≡ from_end end.lifo end.lots.now };
+
+    ghost is_told = { λ _. ⊤ };
+
+    ghost leads = { λ _ _. ⊤ };
 
     ghost asked = { λ _. 0 };
 
@@ -44,4 +51,10 @@ impl LotSource for PositionEnd<'_> {
             Ok(Some(*first))
         }
     }
+
+    ghost stays = { λ _. tt };
+
+    ghost goes_on = { λ _ _ _ _ _. tt };
+
+    ghost told_before = { λ _ _ _ _. tt };
 }

@@ -1,6 +1,7 @@
 //! Lots of a position, and how a trade closes them first in first out or last in first out (Trade-Result).
 #![tactic(auto)]
 
+pub mod against;
 pub mod closing;
 mod cutting;
 pub mod deal;
@@ -15,6 +16,7 @@ pub mod source;
 pub mod values;
 mod walk;
 
+pub use against::{is_against, no_values, open_whole};
 pub use closing::{Closing, close};
 pub use deal::Deal;
 pub use end::PositionEnd;

@@ -92,9 +92,8 @@ impl Position {
 
     /// The lots from the back for last in first out, else from the front. It takes no memory.
     pub fn from_end(&self, lifo: bool) -> PositionEnd<'_>
-        ensures rest { ⟦<PositionEnd<'static> as LotSource>⟧.rest result ≡ from_end lifo self.now }
-        ensures walk { IsWalk (from_end lifo self.now) }
-        ensures fresh { (trade : ℕ) → IsNew trade self.now → IsNew trade (from_end lifo self.now) }
+        ensures rests { ⟦<PositionEnd<'static> as LotSource>⟧.rests result (from_end lifo self.now) }
+        ensures walk { IsWalk self.now }
     {
         PositionEnd::new(self.lots(), lifo)
     }

@@ -1,4 +1,4 @@
-ghost use Rattle.std.specs.Prelude.{◌≡◌, ◌+◌, ◌≤◌, ℕ, List, [], ◌∷◌, IfOk, IfErr, MatchOption};
+ghost use Rattle.std.specs.Prelude.{◌≡◌, ◌≢◌, ◌+◌, ◌≤◌, ℕ, List, [], ◌∷◌, IfOk, IfErr, IfSome, MatchOption, pos};
 ghost use Rattle.brk_lots.specs.declared.lot.Lot.{Lot};
 ghost use Rattle.brk_money.specs.declared.fault.Fault.{Fault};
 
@@ -7,8 +7,14 @@ use brk_money::Fault;
 
 /// Gives the lots of a position from one of its ends, none skipped and none twice.
 pub trait LotSource {
-    /// The lots that it has still to give, in the order in which it gives them.
-    ghost rest: { Self → List Lot };
+    /// Whether these are the lots that it has still to give, in the order in which it gives them.
+    ghost rests: { Self → List Lot → Type 0 };
+
+    /// Whether what it reads from has told it the truth so far. A source that reads from no disk is always told it.
+    ghost is_told: { Self → Type 0 };
+
+    /// What its calls may make of it, and of what it reads from.
+    ghost leads: { Self → Self → Type 0 };
 
     /// How often it was asked.
     ghost asked: { Self → ℕ };
@@ -21,8 +27,22 @@ pub trait LotSource {
 
     /// The next lot, or none at the end. A fault leaves what it has still to give, so it may be asked again.
     fn next(&mut self) -> Result<Option<Lot>, Fault>
-        ensures given { IfOk result (λ given. MatchOption given ((rest self.old ≡ []) × (rest self.new ≡ [])) (λ lot. rest self.old ≡ lot ∷ rest self.new)) }
-        ensures fault { IfErr result (λ fault. (rest self.new ≡ rest self.old) × fails self.old fault self.new) }
+        ensures leads { leads self.old self.new }
+        ensures given { IfOk result (λ given. is_told self.new → (ls : List Lot) → rests self.old ls →
+            MatchOption given ((ls ≡ []) × rests self.new []) (λ lot. (more : List Lot) × (ls ≡ lot ∷ more) × rests self.new more)) }
+        // No lot is empty, whatever the source was told.
+        ensures some_shares { IfOk result (λ given. IfSome given (λ lot. lot.qty ≢ pos 0)) }
+        ensures fault { IfErr result (λ fault. fails self.old fault self.new) }
+        ensures kept { IfErr result (λ _. (ls : List Lot) → rests self.old ls → rests self.new ls) }
         ensures asked { asked self.new ≤ asked self.old + 1 }
         ensures faulted { IfOk result (λ given. faulted self.new ≡ faulted self.old) };
+
+    /// No call leads nowhere else.
+    ghost stays: { (p : Self) → leads p p };
+
+    /// A call after another leads on.
+    ghost goes_on: { (p q r : Self) → leads p q → leads q r → leads p r };
+
+    /// What told the truth to the last told it before.
+    ghost told_before: { (p q : Self) → leads p q → is_told q → is_told p };
 }

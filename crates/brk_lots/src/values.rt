@@ -2,8 +2,9 @@ ghost use Rattle.std.specs.Prelude.{◌≡◌, ◌+◌, ◌≤◌, ℕ, List, Bo
 ghost use Rattle.brk_model.specs.Limits.{greatest_amount};
 ghost use Rattle.brk_model.specs.Shares.{touches};
 ghost use Rattle.brk_lots.specs.declared.lot.Lot.{Lot};
-ghost use Rattle.brk_lots.specs.Lots.{from_end, shares_of};
-ghost use Rattle.brk_lots.specs.Position.{IsWalk, IsNew};
+ghost use Rattle.brk_lots.specs.Lots.{shares_of};
+ghost use Rattle.brk_lots.specs.Position.{IsNew};
+ghost use Rattle.brk_lots.specs.Sources.{AreGiven, AsTold};
 ghost use Rattle.brk_lots.specs.Values.{values_by, values_of};
 
 use crate::rows::NoRows;
@@ -39,26 +40,26 @@ pub(crate) fn values_at(side: Side, traded: u64, opened: u64) -> Values
 }
 
 /// What an order would close of the lots that a source gives, at a price (Trade-Order). It changes no lot and takes no
-/// memory. It asks for at most one lot more than it would touch; a fault is the source's.
+/// memory. Where it succeeds it has asked for at most one lot more than it would touch; a fault is the source's.
 pub fn estimate_values<L: LotSource>(
     source: &mut L,
     side: Side,
     qty: Qty,
     price: Price,
 ) -> Result<Values, Fault>
-    requires { IsWalk (L.rest source.old) }
+    ensures leads { L.leads source.old source.new }
     // Over the lots of a position from the order's end: the values of the very shares that a trade at that price would close.
     ensures values { IfOk result (λ values. (ls : List Lot) (trade stamp : ℕ) (lifo : Bool) →
-        L.rest source.old ≡ from_end lifo ls →
+        AreGiven (AsTold (L.is_told source.new) (L.rests source.old)) lifo ls →
         values ≡ values_of (record { trade = trade; side = side; qty = qty; price = price; stamp = stamp; is_lifo = lifo }) (shares_of ls)) }
     // It asks for at most one lot more than a trade that opened none of them would touch.
     ensures asked { IfOk result (λ values. (ls : List Lot) (trade stamp : ℕ) (lifo : Bool) →
-        L.rest source.old ≡ from_end lifo ls → IsNew trade ls →
+        AreGiven (AsTold (L.is_told source.new) (L.rests source.old)) lifo ls → IsNew trade ls →
         L.asked source.new ≤ L.asked source.old + length (touches (record { trade = trade; side = side; qty = qty; price = price; stamp = stamp; is_lifo = lifo }) (shares_of ls)) + 1) }
     // No fault of the source is passed over, and each is answered as it came.
     ensures faulted { IfOk result (λ values. L.faulted source.new ≡ L.faulted source.old) }
     ensures fault { IfErr result (λ fault. (before : L) × L.fails before fault source.new) }
-    ensures rest { (n : ℕ) × (L.rest source.new ≡ drop n (L.rest source.old)) }
+    ensures rest { (ls : List Lot) → AsTold (L.is_told source.new) (L.rests source.old) ls → (n : ℕ) × L.rests source.new (drop n ls) }
 {
     let taken = take_lots(source, side, qty, price, &mut NoRows)?;
     Ok(taken.values)

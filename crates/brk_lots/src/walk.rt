@@ -1,8 +1,11 @@
-ghost use Rattle.std.specs.Prelude.{◌≡◌, ◌+◌, ◌*◌, ◌≤◌, ℕ, [], drop, length, IfOk, IfErr, OnOk, ◌⊎◌};
+ghost use Rattle.std.specs.Prelude.{◌≡◌, ◌+◌, ◌*◌, ◌≤◌, ℕ, List, [], drop, length, IfOk, IfErr, OnOk, ◌⊎◌};
 ghost use Rattle.brk_model.specs.Limits.{greatest_price};
+ghost use Rattle.brk_lots.specs.declared.lot.Lot.{Lot};
+ghost use Rattle.brk_lots.specs.declared.lot.Touch.{Touch};
 ghost use Rattle.brk_lots.specs.Position.{IsWalk};
-ghost use Rattle.brk_lots.specs.Values.{values_by};
-ghost use Rattle.brk_lots.specs.Walks.{met, rows_taken, paid};
+ghost use Rattle.brk_lots.specs.Sources.{AsTold};
+ghost use Rattle.brk_lots.specs.Values.{IsTraded};
+ghost use Rattle.brk_lots.specs.Walks.{IsTaken};
 
 use crate::lot::is_same;
 use crate::rows::Rows;
@@ -31,16 +34,16 @@ fn walk<L: LotSource, R: Rows>(
     qty: Qty,
     rows: &mut R,
 ) -> Result<Walked, Fault>
-    requires walk { IsWalk (L.rest source.old) }
-    requires empty { R.holds rows.old [] }
-    ensures left { IfOk result (λ walked. walked.left + met side qty (L.rest source.old) ≡ qty) }
-    ensures rows { OnOk result (R.holds rows.new (rows_taken (met side qty (L.rest source.old)) (L.rest source.old))) }
-    ensures cost { IfOk result (λ walked. walked.cost ≡ paid (met side qty (L.rest source.old)) (L.rest source.old)) }
+    requires { R.holds rows.old [] }
+    ensures leads { L.leads source.old source.new }
+    // The rows that it handed on, for each of which it asked once, are those of the lots.
+    ensures taken { IfOk result (λ walked. (touched : List Touch) × R.holds rows.new touched × (L.asked source.new ≤ L.asked source.old + length touched + 1)
+        × ((ls : List Lot) → AsTold (L.is_told source.new) (L.rests source.old) ls → IsWalk ls → IsTaken side qty ls touched walked.left walked.cost)) }
+    ensures left { IfOk result (λ walked. walked.left ≤ qty) }
     ensures limit { IfOk result (λ walked. walked.cost ≤ qty * greatest_price) }
-    ensures asked { OnOk result (L.asked source.new ≤ L.asked source.old + length (rows_taken (met side qty (L.rest source.old)) (L.rest source.old)) + 1) }
     ensures faulted { OnOk result (L.faulted source.new ≡ L.faulted source.old) }
     ensures fault { IfErr result (λ fault. R.fails fault ⊎ ((before : L) × L.fails before fault source.new)) }
-    ensures rest { (n : ℕ) × (L.rest source.new ≡ drop n (L.rest source.old)) }
+    ensures rest { (ls : List Lot) → AsTold (L.is_told source.new) (L.rests source.old) ls → (n : ℕ) × L.rests source.new (drop n ls) }
 {
     let mut left = qty.get();
     let mut cost: u64 = 0;
@@ -67,18 +70,16 @@ pub(crate) fn take_lots<L: LotSource, R: Rows>(
     price: Price,
     rows: &mut R,
 ) -> Result<Taken, Fault>
-    requires walk { IsWalk (L.rest source.old) }
-    requires empty { R.holds rows.old [] }
-    ensures left { IfOk result (λ taken. taken.left + met side qty (L.rest source.old) ≡ qty) }
-    ensures values { IfOk result (λ taken. taken.values ≡
-        values_by side (met side qty (L.rest source.old) * price) (paid (met side qty (L.rest source.old)) (L.rest source.old))) }
+    requires { R.holds rows.old [] }
+    ensures leads { L.leads source.old source.new }
+    // The rows that it handed on, for each of which it asked once, are those of the lots.
+    ensures taken { IfOk result (λ taken. (touched : List Touch) × R.holds rows.new touched × (L.asked source.new ≤ L.asked source.old + length touched + 1)
+        × ((ls : List Lot) → AsTold (L.is_told source.new) (L.rests source.old) ls → IsWalk ls → IsTraded side qty price ls touched taken.left taken.values)) }
     ensures bought { IfOk result (λ taken. taken.values.buy_value ≤ qty * greatest_price) }
     ensures sold { IfOk result (λ taken. taken.values.sell_value ≤ qty * greatest_price) }
-    ensures rows { OnOk result (R.holds rows.new (rows_taken (met side qty (L.rest source.old)) (L.rest source.old))) }
-    ensures asked { OnOk result (L.asked source.new ≤ L.asked source.old + length (rows_taken (met side qty (L.rest source.old)) (L.rest source.old)) + 1) }
     ensures faulted { OnOk result (L.faulted source.new ≡ L.faulted source.old) }
     ensures fault { IfErr result (λ fault. R.fails fault ⊎ ((before : L) × L.fails before fault source.new)) }
-    ensures rest { (n : ℕ) × (L.rest source.new ≡ drop n (L.rest source.old)) }
+    ensures rest { (ls : List Lot) → AsTold (L.is_told source.new) (L.rests source.old) ls → (n : ℕ) × L.rests source.new (drop n ls) }
 {
     let walked = walk(source, side, qty, rows)?;
     let closed = qty.get() - walked.left;

@@ -5,3 +5,4 @@ pub mod Found
 pub mod Retelling
 pub mod Taking
 pub mod Texts
+pub mod Turning

@@ -1,3 +1,6 @@
 pub mod Audited
 pub mod Holds
+pub mod Kept
 pub mod Numbers
+pub mod Pages
+pub mod Resting

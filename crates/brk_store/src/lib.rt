@@ -6,10 +6,12 @@ mod auditing;
 mod beginning;
 mod changing;
 mod numbers;
+pub mod pages;
 mod reading;
 pub mod reopening;
 pub mod store;
 mod terms;
 mod trades;
 
+pub use pages::{LotPages, Page, Pages};
 pub use store::Store;

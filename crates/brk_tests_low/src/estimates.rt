@@ -15,6 +15,7 @@ fn sale() -> Result<Terms, Fail> {
         rate: Rate::new(100).ok_or("rate")?,
         charge: ChargeAmount::new(500).ok_or("charge")?,
         assets: Wide::new(1_000_000),
+        held: 60,
     })
 }
 

@@ -21,8 +21,8 @@ const STOP_LOSS: &str = "100,TSL,ABC,10,9.50,cash,fifo,Ann,Lee,T10";
 const PURCHASE: &str = "100,TMB,ABC,100,,cash,fifo,Ann,Lee,T10";
 
 // What is found for an order while ABC is at 10.00: a tax of a fifth, a commission of a hundredth and a charge of 5.00,
-// the account's assets, and how many trades there are.
-fn found(assets: i128, trades: u64) -> Result<OrderFound, Fail> {
+// the account's assets, how many shares it holds, and how many trades there are.
+fn found(assets: i128, summary: Option<i64>, trades: u64) -> Result<OrderFound, Fail> {
     let account = OrderAccount {
         broker: Id::new(1).ok_or("broker")?,
         tax_status: TaxStatus::Withheld,
@@ -36,6 +36,7 @@ fn found(assets: i128, trades: u64) -> Result<OrderFound, Fail> {
         rate: Rate::new(100),
         rates,
         assets: Wide::new(assets),
+        summary,
         last_trade: Id::new(trades),
     })
 }
@@ -91,7 +92,8 @@ fn expect_both(
     numbers: &str,
 ) -> Result<(), Fail> {
     let trades = lots.last().map_or(0, |lot| lot.trade.get());
-    let found = found(assets, trades)?;
+    // Of the shares that are held their side alone counts.
+    let found = found(assets, lots.last().map(|lot| lot.qty), trades)?;
     let told = told_of(alloc, row, &found, lots)?;
     let wanted = format!(in alloc; "{head},{numbers}")?;
     assert!(rt; told == wanted, "{row}: {told}");
@@ -144,7 +146,7 @@ fn an_order_upon_lots(rt: HostRuntime) -> Result<(), Fail> {
 
 // Compares what is told of a purchase after so many trades.
 fn expect_purchase(rt: &impl Abort, alloc: Global, trades: u64, wanted: &str) -> Result<(), Fail> {
-    let found = found(1_000_000, trades)?;
+    let found = found(1_000_000, None, trades)?;
     let told = told_of(alloc, PURCHASE, &found, &[])?;
     assert!(rt; told.as_str() == wanted, "{trades}: {told}");
     Ok(())

@@ -1,11 +1,12 @@
 -- What a result comes to does not hang on the moment, and what is closed tells it.
-use Rattle.std.proofs.Common.{◌≡◌, ℕ, nat_abs, Bool, true, false, List, [], ◌∷◌, ◌++◌, length, refl, sym, ap, ◌∙◌, Some, None}
+use Rattle.std.proofs.Common.{◌≡◌, ℕ, nat_abs, Bool, true, false, List, [], ◌∷◌, ◌++◌, length, refl, sym, ap, ◌∙◌, Option, Some, None}
 use Rattle.std.proofs.lemmas.List.{append_assoc, length-map, length-reverse}
 use Rattle.brk_lots.specs.Values.{values_of}
 use Rattle.brk_lots.specs.Closing.{IsClosing}
 use Rattle.brk_lots.specs.Lots.{from_end, plain_touch, shares_of}
 use Rattle.brk_lots.specs.declared.closing.Closing.{Closing}
 use Rattle.brk_lots.specs.declared.lot.Lot.{Lot}
+use Rattle.brk_lots.specs.declared.values.Values.{Values}
 use Rattle.brk_model.specs.Shares.{Deal, Share, buy_value, buy_value_by, sell_value, sell_value_by, touches}
 use Rattle.brk_model.specs.Tests.{Test, first_refusal}
 use Rattle.brk_money.specs.Kinds.{side_of}
@@ -20,6 +21,12 @@ use Rattle.brk_changes.specs.declared.trade_row.TradeRow.{TradeRow}
 -- where the first tests find no cause, the first refusal is that of the others
 pub first_after : (ts us : List Test) → first_refusal ts ≡ None → first_refusal (ts ++ us) ≡ first_refusal us
 first_after ts us e = first_joined ts us ∙ ap (λ refusal. first_of refusal (first_refusal us)) e
+
+-- what the first tests refuse is refused for their reason
+pub first_refuses : (found : ResultFound) (price : ℕ) (values : Values) (clock : Option ℕ) (refusal : Refusal)
+    → first_refusal (first_tests found) ≡ Some refusal → first_refusal (result_tests found price values clock) ≡ Some refusal
+first_refuses found price values clock refusal e =
+    first_joined (first_tests found) (last_tests found price values clock) ∙ ap (λ cause. first_of cause (first_refusal (last_tests found price values clock))) e
 
 -- the values of the shares that a trade closes are the same at any moment
 same_bought : (side : Side) (t : TradeRow) (price stamp other : ℕ) (us : List Share)

@@ -1,5 +1,5 @@
 -- What an order is estimated by.
-use Rattle.std.specs.Prelude.{◌≡◌, ℕ, pos, ◌-ℤ◌, Some, option_map, if◌then◌else◌}
+use Rattle.std.specs.Prelude.{◌≡◌, ℕ, ◌+◌, ◌≤◌, Bool, List, length, pos, ◌-ℤ◌, Some, option_map, if◌then◌else◌}
 use Rattle.brk_money.specs.OrderTypes.{kind_of}
 use Rattle.brk_money.specs.Amounts.{commission, tax}
 use Rattle.brk_money.specs.Kinds.{side_of}
@@ -8,6 +8,11 @@ use Rattle.brk_model.specs.Base.{Base, bears_tax, tax_status_in, rates_of, custo
 use Rattle.brk_model.specs.Commands.{Order}
 use Rattle.brk_model.specs.Orders.{requested_price, assets_of}
 use Rattle.brk_trade.specs.declared.estimate.Terms.{Terms}
+use Rattle.brk_model.specs.Shares.{Deal, touches}
+use Rattle.brk_lots.specs.Lots.{shares_of}
+use Rattle.brk_lots.specs.Position.{IsNew}
+use Rattle.brk_lots.specs.Sources.{AreGiven}
+use Rattle.brk_lots.specs.declared.lot.Lot.{Lot}
 use Rattle.brk_lots.specs.declared.values.Values.{Values}
 
 -- the tax on a gain, where the status bears one
@@ -30,3 +35,13 @@ pub record AreTerms (base : Base) (o : Order) (terms : Terms) : Type 0 where
   -- the charge that was found
   pub charge : option_map (λ c. c.amount) (charge_with base (kind_of o.order_type) (tier_of base o.account)) ≡ Some terms.charge
   pub assets : terms.assets ≡ assets_of base o.account
+
+-- an order by its terms as a deal
+abbrev pub deal_by : Terms → (trade stamp : ℕ) → Bool → Deal
+deal_by terms trade stamp lifo = record { trade = trade; side = terms.side; qty = terms.qty; price = terms.price; stamp = stamp; is_lifo = lifo }
+
+-- a source is asked for at most one lot more than the order would touch
+abbrev pub AsksFew : Terms → (List Lot → Type 0) → (before after : ℕ) → Type 0
+AsksFew terms given before after =
+    (ls : List Lot) (trade stamp : ℕ) (lifo : Bool) → AreGiven given lifo ls → IsNew trade ls
+    → after ≤ before + length (touches (deal_by terms trade stamp lifo) (shares_of ls)) + 1

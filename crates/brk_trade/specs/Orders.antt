@@ -1,19 +1,19 @@
 -- Orders: what is tested, what they are estimated by, and what an accepted one comes to.
-use Rattle.std.specs.Prelude.{◌≡◌, ℕ, ◌+◌, ◌≤◌, Bool, not, nat_le, is_none, unwrap_or, if◌then◌else◌, List, [], ◌∷◌, ◌++◌, length, map, Option, Some, None, option_to_list}
+use Rattle.std.specs.Prelude.{◌≡◌, ℕ, ◌+◌, Bool, not, nat_le, is_none, unwrap_or, if◌then◌else◌, pos, List, [], ◌∷◌, ◌++◌, map, Option, Some, None, option_to_list}
 use Rattle.std.specs.Option.{option_map_or}
 use Rattle.brk_trade.specs.Estimates.{AreTerms, commission_by}
 use Rattle.brk_plans.specs.Replies.{told}
 use Rattle.brk_plans.specs.declared.estimate.Estimate.{Estimate}
 use Rattle.brk_trade.specs.declared.estimate.Terms.{Terms}
-use Rattle.brk_lots.specs.Lots.{from_end, shares_of}
-use Rattle.brk_lots.specs.Position.{IsNew}
+use Rattle.brk_lots.specs.Lots.{shares_of}
+use Rattle.brk_lots.specs.Books.{lots_total}
+use Rattle.brk_lots.specs.Sources.{AreGiven}
 use Rattle.brk_lots.specs.declared.lot.Lot.{Lot}
 use Rattle.brk_model.specs.Base.{Base, completed}
 use Rattle.brk_model.specs.Commands as model
 use Rattle.brk_model.specs.Derived.{shares_in}
 use Rattle.brk_model.specs.Orders as model_orders
 use Rattle.brk_model.specs.Limits.{greatest_id}
-use Rattle.brk_model.specs.Shares.{Deal, touches}
 use Rattle.brk_model.specs.Tables as tables
 use Rattle.brk_model.specs.Tests.{Test, first_refusal}
 use Rattle.brk_money.specs.OrderTypes.{kind_of, price_asked}
@@ -46,7 +46,7 @@ order_tests found =
 abbrev pub requested_price : Order → ℕ → ℕ
 requested_price order last = unwrap_or (price_asked order.order_type) last
 
--- what an order is estimated by; 0 and no tax stand for what was not found
+-- what an order is estimated by; 0 and no tax stand for what was not found, and 0 shares for no summary
 abbrev pub terms_of : Order → OrderFound → Terms
 terms_of order found = record {
   side = side_of (kind_of order.order_type);
@@ -57,6 +57,7 @@ terms_of order found = record {
   rate = unwrap_or found.rate 0;
   charge = unwrap_or found.charge 0;
   assets = found.assets;
+  held = unwrap_or found.summary (pos 0);
 }
 
 -- what an order that nothing refuses is placed by, with what was found
@@ -65,26 +66,16 @@ pub record IsPlacement (order : Order) (found : OrderFound) (placement : Placeme
   pub terms : placement.terms ≡ terms_of order found
   pub broker : placement.broker ≡ option_map_or (λ a. a.broker) found.account 0
 
--- the estimate by some terms over lots: of a base that has these terms, upon the shares that it has, it is that of the definitions
-abbrev pub IsEstimate : Terms → List Lot → Estimate → Type 0
-IsEstimate terms lots estimate =
+-- the estimate by some terms over the lots that are given: of a base that has these terms, upon the shares that it has, it is that of the definitions
+abbrev pub IsEstimate : Terms → (List Lot → Type 0) → Estimate → Type 0
+IsEstimate terms given estimate =
     (base : Base) (o : model.Order) (ls : List Lot) → AreTerms base o terms → shares_in (completed base) o.account o.symbol ≡ shares_of ls
-    → lots ≡ from_end o.is_lifo ls → estimate ≡ told (model_orders.estimate base o)
+    → AreGiven given o.is_lifo ls → terms.held ≡ lots_total ls → estimate ≡ told (model_orders.estimate base o)
 
 -- the estimate of an order that nothing refuses
-pub record IsEstimated (order : Order) (found : OrderFound) (lots : List Lot) (estimate : Estimate) : Type 0 where
+pub record IsEstimated (order : Order) (found : OrderFound) (given : List Lot → Type 0) (estimate : Estimate) : Type 0 where
   pub accepted : first_refusal (order_tests found) ≡ None
-  pub estimated : IsEstimate (terms_of order found) lots estimate
-
--- an order by its terms as a deal
-abbrev pub deal_by : Terms → (trade stamp : ℕ) → Bool → Deal
-deal_by terms trade stamp lifo = record { trade = trade; side = terms.side; qty = terms.qty; price = terms.price; stamp = stamp; is_lifo = lifo }
-
--- a source is asked for at most one lot more than the order would touch
-abbrev pub AsksFew : Terms → List Lot → (before after : ℕ) → Type 0
-AsksFew terms lots before after =
-    (ls : List Lot) (trade stamp : ℕ) (lifo : Bool) → lots ≡ from_end lifo ls → IsNew trade ls
-    → after ≤ before + length (touches (deal_by terms trade stamp lifo) (shares_of ls)) + 1
+  pub estimated : IsEstimate (terms_of order found) given estimate
 
 -- an id has to be left for the trade; trades are numbered from 1 without a gap
 abbrev pub trades_test : Option ℕ → Test
@@ -138,11 +129,11 @@ pub record AreChanges (order : Order) (terms : Terms) (broker trade stamp : ℕ)
 
 -- the plan of an order that is accepted: its trade is added, with its first status, and with a request where it waits; the
 -- last stamp is moved; its number, its status and what it is estimated at are told
-pub record IsOrdered (order : Order) (found : OrderFound) (lots : List Lot) (last : Option ℕ) (now : ℕ) (plan : Plan) : Type 0 where
+pub record IsOrdered (order : Order) (found : OrderFound) (given : List Lot → Type 0) (last : Option ℕ) (now : ℕ) (plan : Plan) : Type 0 where
   pub stamp : ℕ
   pub estimate : Estimate
   pub accepted : first_refusal (order_tests found ++ trades_test found.last_trade ∷ clock_test last now ∷ []) ≡ None
   pub stamped : stamp_after last now ≡ Some stamp
-  pub estimated : IsEstimate (terms_of order found) lots estimate
+  pub estimated : IsEstimate (terms_of order found) given estimate
   pub told : plan.reply ≡ Ordered (record { stamp = stamp; trade = next_trade found.last_trade; status = model_orders.first_status (kind_of order.order_type); estimate = estimate })
   pub changes : AreChanges order (terms_of order found) (option_map_or (λ a. a.broker) found.account 0) (next_trade found.last_trade) stamp plan.changes.items

@@ -1,8 +1,12 @@
 -- Results of submitted trades: the changes of a completion, and what a result comes to.
-use Rattle.std.specs.Prelude.{◌≡◌, ℕ, ◌+◌, ◌≤◌, Bool, ℤ, pos, if◌then◌else◌, List, [], ◌∷◌, ◌++◌, codes, decimal, length, flat_map, Option, Some, None, option_map, option_to_list, unwrap_or}
+use Rattle.std.specs.Prelude.{◌≡◌, ℕ, ◌+◌, ◌≤◌, IfSome, Bool, false, ℤ, pos, if◌then◌else◌, List, [], ◌∷◌, ◌++◌, codes, decimal, length, flat_map, Option, Some, None, option_map, option_to_list, unwrap_or}
 use Rattle.brk_lots.specs.Values.{values_of}
 use Rattle.brk_lots.specs.Closing.{IsClosing}
-use Rattle.brk_lots.specs.Lots.{from_end, shares_of}
+use Rattle.brk_lots.specs.Lots.{shares_of}
+use Rattle.brk_lots.specs.Against.{is_against}
+use Rattle.brk_lots.specs.Books.{lots_total}
+use Rattle.brk_lots.specs.Position.{IsNew}
+use Rattle.brk_lots.specs.Sources.{AreGiven}
 use Rattle.brk_lots.specs.declared.closing.Closing.{Closing}
 use Rattle.brk_lots.specs.declared.lot.Lot.{Lot}
 use Rattle.brk_lots.specs.declared.lot.Touch.{Touch}
@@ -10,14 +14,14 @@ use Rattle.brk_model.specs.Lists.{is_zero}
 use Rattle.brk_model.specs.Shares.{touches}
 use Rattle.brk_model.specs.Tables as tables
 use Rattle.brk_model.specs.Tests.{first_refusal}
-use Rattle.brk_money.specs.Kinds.{type_name}
+use Rattle.brk_money.specs.Kinds.{side_of, type_name}
 use Rattle.brk_money.specs.Moments.{stamp_after}
 use Rattle.brk_money.specs.Spelling.{Text}
 use Rattle.brk_money.specs.declared.refusal.Refusal.{Refusal}
 use Rattle.brk_money.specs.declared.refusal.Refusal.TheVariants.{NoTrade}
 use Rattle.brk_money.specs.declared.status.Status.TheVariants as status
 use Rattle.brk_changes.specs.Rows.{cash_row_of}
-use Rattle.brk_trade.specs.Outcomes.{deal_of, result_tests, outcome_of, values_in}
+use Rattle.brk_trade.specs.Outcomes.{deal_of, first_tests, result_tests, outcome_of, values_in}
 use Rattle.brk_changes.specs.declared.cash_row.CashRow.{CashRow}
 use Rattle.brk_changes.specs.declared.cash_type.CashType.{CashType}
 use Rattle.brk_changes.specs.declared.cash_type.CashType.TheVariants as cash_type
@@ -128,36 +132,53 @@ told_of outcome = record {
   balance = outcome.balance;
 }
 
+-- how many shares the account holds in all
+abbrev pub held_by : ResultFound → ℤ
+held_by found = unwrap_or found.summary (pos 0)
+
+-- lots from the trade's end are given, none of which the trade opened, and they are all that the summary sums up
+abbrev pub AreMet : (List Lot → Type 0) → ResultFound → List Lot → Type 0
+AreMet given found ls = AreGiven given found.trade.is_lifo ls × IsNew found.trade.id ls × (held_by found ≡ lots_total ls)
+
+-- nothing that the account holds is on the other side of the trade
+abbrev pub MeetsNone : ResultFound → Type 0
+MeetsNone found = is_against (side_of found.trade.kind) (held_by found) ≡ false
+
 -- the plan of a result that is accepted, by the lots of the account and symbol from the trade's end: what `closing` closes and
 -- opens of them, and what follows from its values
-pub record IsCompletion (found : ResultFound) (price : ℕ) (lots : List Lot) (last : Option ℕ) (now : ℕ) (plan : Plan) : Type 0 where
+pub record IsCompletion (found : ResultFound) (price : ℕ) (given : List Lot → Type 0) (last : Option ℕ) (now : ℕ) (plan : Plan) : Type 0 where
   pub stamp : ℕ
   pub closing : Closing
   pub stamped : stamp_after last now ≡ Some stamp
-  pub closes : (ls : List Lot) → lots ≡ from_end found.trade.is_lifo ls → IsClosing (deal_of found.trade price stamp) ls closing
+  pub closes : (ls : List Lot) → AreMet given found ls → IsClosing (deal_of found.trade price stamp) ls closing
   pub accepted : first_refusal (result_tests found price (values_in closing) (Some stamp)) ≡ None
   pub told : plan.reply ≡ reply.Completed (told_of (outcome_of found price (values_in closing) stamp))
   pub changes : AreChanges found price closing (outcome_of found price (values_in closing) stamp) plan.changes.items
 
 -- the plan of a result of a trade that is there
-abbrev pub IsCompleted : Option ResultFound → ℕ → List Lot → Option ℕ → ℕ → Plan → Type 0
-IsCompleted None price lots last now plan = ⊥
-IsCompleted (Some found) price lots last now plan = IsCompletion found price lots last now plan
+abbrev pub IsCompleted : Option ResultFound → ℕ → (List Lot → Type 0) → Option ℕ → ℕ → Plan → Type 0
+IsCompleted None price given last now plan = ⊥
+IsCompleted (Some found) price given last now plan = IsCompletion found price given last now plan
 
--- why a result is refused: there is no such trade, or the first test of it that finds a cause, by the values of the shares of
--- those lots that it would close
-abbrev pub IsRefused : Option ResultFound → ℕ → List Lot → Option ℕ → ℕ → Refusal → Type 0
-IsRefused None price lots last now refusal = refusal ≡ NoTrade
-IsRefused (Some found) price lots last now refusal =
-    (ls : List Lot) (stamp : ℕ) → lots ≡ from_end found.trade.is_lifo ls
-    → first_refusal (result_tests found price (values_of (deal_of found.trade price stamp) (shares_of ls)) (stamp_after last now)) ≡ Some refusal
+-- why the result of a trade that is there is refused
+pub record IsRefusal (found : ResultFound) (price : ℕ) (given : List Lot → Type 0) (last : Option ℕ) (now : ℕ) (refusal : Refusal) : Type 0 where
+  -- what is tested before the lots are looked at refuses it whatever they are
+  pub early : IfSome (first_refusal (first_tests found)) (λ cause. refusal ≡ cause)
+  -- it is the first test that finds a cause, by the values of the shares of those lots that it would close
+  pub late : (ls : List Lot) (stamp : ℕ) → AreMet given found ls
+      → first_refusal (result_tests found price (values_of (deal_of found.trade price stamp) (shares_of ls)) (stamp_after last now)) ≡ Some refusal
+
+-- why a result is refused: there is no such trade, or what was found of it
+abbrev pub IsRefused : Option ResultFound → ℕ → (List Lot → Type 0) → Option ℕ → ℕ → Refusal → Type 0
+IsRefused None price given last now refusal = refusal ≡ NoTrade
+IsRefused (Some found) price given last now refusal = IsRefusal found price given last now refusal
 
 -- the moment that an opened lot has: the stamp, or while none is left the moment at hand
 abbrev pub moment_of : Option ℕ → ℕ → ℕ
 moment_of stamp now = unwrap_or stamp now
 
 -- a source is asked for at most one lot more than the trade touches, and for none where there is no trade
-abbrev pub AsksFew : Option ResultFound → ℕ → ℕ → List Lot → (before after : ℕ) → Type 0
-AsksFew None price stamp lots before after = after ≤ before
-AsksFew (Some found) price stamp lots before after =
-    (ls : List Lot) → lots ≡ from_end found.trade.is_lifo ls → after ≤ before + length (touches (deal_of found.trade price stamp) (shares_of ls)) + 1
+abbrev pub AsksFew : Option ResultFound → ℕ → ℕ → (List Lot → Type 0) → (before after : ℕ) → Type 0
+AsksFew None price stamp given before after = after ≤ before
+AsksFew (Some found) price stamp given before after =
+    (ls : List Lot) → AreMet given found ls → after ≤ before + length (touches (deal_of found.trade price stamp) (shares_of ls)) + 1

@@ -1,17 +1,19 @@
-ghost use Rattle.std.specs.Prelude.{◌≡◌, ◌+◌, ◌≤◌, ◌-ℤ◌, ℕ, Bool, List, drop, length, IfOk, IfErr, pos};
+ghost use Rattle.std.specs.Prelude.{◌≡◌, ◌-ℤ◌, ℕ, Bool, List, drop, false, IfOk, IfErr, pos};
 ghost use Rattle.brk_model.specs.Base as spec;
 ghost use Rattle.brk_model.specs.Base.{Base, completed};
 ghost use Rattle.brk_model.specs.Commands.{Order};
 ghost use Rattle.brk_model.specs.Derived.{shares_in};
 ghost use Rattle.brk_model.specs.Orders as spec_orders;
-ghost use Rattle.brk_model.specs.Shares.{touches};
 ghost use Rattle.brk_lots.specs.declared.lot.Lot.{Lot};
-ghost use Rattle.brk_lots.specs.Lots.{from_end, shares_of};
-ghost use Rattle.brk_lots.specs.Position.{IsWalk, IsNew};
-ghost use Rattle.brk_trade.specs.Estimates.{AreTerms, commission_by, tax_at};
+ghost use Rattle.brk_lots.specs.Lots.{shares_of};
+ghost use Rattle.brk_lots.specs.Against.{is_against};
+ghost use Rattle.brk_lots.specs.Books.{lots_total};
+ghost use Rattle.brk_lots.specs.Sources.{AreGiven, AsTold};
+ghost use Rattle.brk_lots.specs.Values.{values_of};
+ghost use Rattle.brk_trade.specs.Estimates.{AreTerms, AsksFew, commission_by, deal_by, tax_at};
 ghost use Rattle.brk_plans.specs.Replies.{told};
 
-use brk_lots::{LotSource, Values, estimate_values};
+use brk_lots::{LotSource, Values, estimate_values, is_against, no_values};
 use brk_money::{
     Amount, Cents, Fault, Price, Qty, Rate, Side, TaxRate, TaxStatus, Wide, commission, tax,
 };
@@ -34,6 +36,8 @@ pub struct Terms {
     pub charge: ChargeAmount,
     /// The account's balance and the worth of what it holds, in cents.
     pub assets: Wide,
+    /// How many shares of the security the account holds in all, below 0 where they were sold short.
+    pub held: i64,
 }
 
 // Whether gains are taxed at a tax status.
@@ -64,25 +68,45 @@ pub fn tax_on(values: Values, status: TaxStatus, rates: TaxRate) -> Amount
     }
 }
 
+// What the shares that an order would close were bought for and sold for. Where none that are held are on its other side no
+// lot is asked for.
+fn values_upon<L: LotSource>(source: &mut L, terms: &Terms) -> Result<Values, Fault>
+    ensures leads { L.leads source.old source.new }
+    ensures values { IfOk result (λ values. (ls : List Lot) (trade stamp : ℕ) (lifo : Bool) →
+        AreGiven (AsTold (L.is_told source.new) (L.rests source.old)) lifo ls → terms.now.held ≡ lots_total ls →
+        values ≡ values_of (deal_by terms.now trade stamp lifo) (shares_of ls)) }
+    ensures asked { IfOk result (λ values. AsksFew terms.now (AsTold (L.is_told source.new) (L.rests source.old)) (L.asked source.old) (L.asked source.new)) }
+    ensures unmet { is_against terms.now.side terms.now.held ≡ false → source.new ≡ source.old }
+    ensures faulted { IfOk result (λ values. L.faulted source.new ≡ L.faulted source.old) }
+    ensures fault { IfErr result (λ fault. (before : L) × L.fails before fault source.new) }
+    ensures rest { (ls : List Lot) → AsTold (L.is_told source.new) (L.rests source.old) ls → (n : ℕ) × L.rests source.new (drop n ls) }
+{
+    if is_against(terms.side, terms.held) {
+        estimate_values(source, terms.side, terms.qty, terms.price)
+    } else {
+        Ok(no_values())
+    }
+}
+
 /// The numbers of an order, by the lots of its account and symbol that a source gives from the order's end (Trade-Order). It
-/// changes nothing and takes no memory; a fault is the source's.
+/// changes nothing and takes no memory; a fault is the source's. Where none of the shares that are held are on the order's
+/// other side it asks for no lot.
 pub fn estimate_order<L: LotSource>(source: &mut L, terms: &Terms) -> Result<Estimate, Fault>
-    requires { IsWalk (L.rest source.old) }
+    ensures leads { L.leads source.old source.new }
     // Of what a base has, upon the shares that it has, the estimate is that of the definitions.
     ensures estimate { IfOk result (λ estimate. (base : Base) (o : Order) (ls : List Lot) →
-        AreTerms base o terms.now → shares_in (completed base) o.account o.symbol ≡ shares_of ls → L.rest source.old ≡ from_end o.is_lifo ls →
-        estimate ≡ told (spec_orders.estimate base o)) }
+        AreTerms base o terms.now → shares_in (completed base) o.account o.symbol ≡ shares_of ls → AreGiven (AsTold (L.is_told source.new) (L.rests source.old)) o.is_lifo ls →
+        terms.now.held ≡ lots_total ls → estimate ≡ told (spec_orders.estimate base o)) }
     ensures commission { IfOk result (λ estimate. estimate.commission ≡ commission_by terms.now) }
-    // It asks for at most one lot more than a trade that opened none of them would touch.
-    ensures asked { IfOk result (λ estimate. (ls : List Lot) (trade stamp : ℕ) (lifo : Bool) →
-        L.rest source.old ≡ from_end lifo ls → IsNew trade ls →
-        L.asked source.new ≤ L.asked source.old + length (touches (record { trade = trade; side = terms.now.side; qty = terms.now.qty; price = terms.now.price; stamp = stamp; is_lifo = lifo }) (shares_of ls)) + 1) }
+    // It asks for at most one lot more than a trade that opened none of them would touch, and for none where it would close none.
+    ensures asked { IfOk result (λ estimate. AsksFew terms.now (AsTold (L.is_told source.new) (L.rests source.old)) (L.asked source.old) (L.asked source.new)) }
+    ensures unmet { is_against terms.now.side terms.now.held ≡ false → source.new ≡ source.old }
     // No fault of the source is passed over, and each is answered as it came.
     ensures faulted { IfOk result (λ estimate. L.faulted source.new ≡ L.faulted source.old) }
     ensures fault { IfErr result (λ fault. (before : L) × L.fails before fault source.new) }
-    ensures rest { (n : ℕ) × (L.rest source.new ≡ drop n (L.rest source.old)) }
+    ensures rest { (ls : List Lot) → AsTold (L.is_told source.new) (L.rests source.old) ls → (n : ℕ) × L.rests source.new (drop n ls) }
 {
-    let values = estimate_values(source, terms.side, terms.qty, terms.price)?;
+    let values = values_upon(source, terms)?;
     Ok(Estimate {
         price: terms.price,
         buy_value: values.buy_value,

@@ -1,16 +1,18 @@
-ghost use Rattle.std.specs.Prelude.{◌≡◌, ◌⊎◌, ◌++◌, ◌∷◌, [], ℕ, drop, IfOk, IfErr, OnOk, OnErr, MatchResult, MatchOption, Some, None, string_bytes};
-ghost use Rattle.brk_lots.specs.Position.{IsWalk};
+ghost use Rattle.std.specs.Prelude.{◌≡◌, ◌⊎◌, ◌++◌, ◌∷◌, [], ℕ, List, drop, IfOk, IfErr, OnOk, OnErr, MatchResult, MatchOption, Some, None, false, string_bytes};
+ghost use Rattle.brk_lots.specs.declared.lot.Lot.{Lot};
+ghost use Rattle.brk_lots.specs.Against.{is_against};
+ghost use Rattle.brk_lots.specs.Sources.{AsTold};
 ghost use Rattle.brk_model.specs.Orders as model;
 ghost use Rattle.brk_model.specs.Tests.{first_refusal};
 ghost use Rattle.brk_money.specs.declared.fault.Fault.{Fault};
 ghost use Rattle.brk_ref.specs.Records.{executor_of};
 ghost use Rattle.brk_money.specs.declared.refusal.Limit.TheVariants as limit;
 ghost use Rattle.brk_money.specs.declared.refusal.Refusal.TheVariants.{Range};
-ghost use Rattle.brk_trade.specs.Estimates.{commission_by};
+ghost use Rattle.brk_trade.specs.Estimates.{AsksFew, commission_by};
 ghost use Rattle.brk_trade.specs.Orders as spec;
 ghost use Rattle.brk_plans.specs.Reference.{clock_test};
 ghost use Rattle.brk_changes.specs.Rows.{trade_row_of};
-ghost use Rattle.brk_trade.specs.Orders.{AreChanges, AsksFew, IsEstimated, IsOrdered, IsPlacement, order_tests, terms_of, trades_test};
+ghost use Rattle.brk_trade.specs.Orders.{AreChanges, IsEstimated, IsOrdered, IsPlacement, order_tests, terms_of, trades_test};
 
 use crate::estimate::{Terms, estimate_order};
 use brk_changes::{Amount, Change, HistoryRow, RequestRow, TradeRow};
@@ -50,6 +52,8 @@ pub struct OrderFound {
     pub rates: TaxRate,
     /// The account's balance and the worth of what it holds, in cents.
     pub assets: Wide,
+    /// How many shares of its security the account holds in all (HS_QTY), where it holds some.
+    pub summary: Option<i64>,
     /// The greatest id of a trade, which is the number of trades; none where there is no trade.
     pub last_trade: Option<Id>,
 }
@@ -99,6 +103,7 @@ fn placement_of(order: &Order, found: &OrderFound) -> Result<Placement, Refusal>
             rate,
             charge,
             assets: found.assets,
+            held: found.summary.unwrap_or(0),
         },
         broker: account.broker,
     })
@@ -106,23 +111,25 @@ fn placement_of(order: &Order, found: &OrderFound) -> Result<Placement, Refusal>
 
 /// Plans the estimate of an order, by what was found in the tables and the lots of its account and symbol that a source
 /// gives from the order's end (Trade-Order). It is refused with the first of `NoAccount`, `NoSecurity`, `NotPermitted`,
-/// `NoCharge` and `NoRate` that there is cause for, and then asks the source for nothing. It takes no memory; a fault is
-/// the source's.
+/// `NoCharge` and `NoRate` that there is cause for, and then asks the source for nothing. It does so too where the account
+/// holds nothing that the order would close. It takes no memory; a fault is the source's.
 pub fn plan_estimate<L: LotSource>(
     order: &Order,
     found: &OrderFound,
     source: &mut L,
 ) -> Planned<Estimate>
-    requires { IsWalk (L.rest source.old) }
+    ensures leads { L.leads source.old source.new }
     ensures planned { IfOk result (λ planned. MatchResult planned
-        (IsEstimated order.now found.now (L.rest source.old))
+        (IsEstimated order.now found.now (AsTold (L.is_told source.new) (L.rests source.old)))
         (λ refusal. first_refusal (order_tests found.now) ≡ Some refusal)) }
     ensures refused { IfOk result (λ planned. OnErr planned (source.new ≡ source.old)) }
-    ensures asked { IfOk result (λ planned. OnOk planned (AsksFew (terms_of order.now found.now) (L.rest source.old) (L.asked source.old) (L.asked source.new))) }
+    ensures asked { IfOk result (λ planned. OnOk planned (AsksFew (terms_of order.now found.now) (AsTold (L.is_told source.new) (L.rests source.old)) (L.asked source.old) (L.asked source.new))) }
+    // It asks for none where none of the shares that are held are on the order's other side.
+    ensures unmet { is_against (terms_of order.now found.now).side (terms_of order.now found.now).held ≡ false → source.new ≡ source.old }
     // No fault of the source is passed over, and each is answered as it came.
     ensures faulted { IfOk result (λ planned. L.faulted source.new ≡ L.faulted source.old) }
     ensures fault { IfErr result (λ fault. (before : L) × L.fails before fault source.new) }
-    ensures rest { (n : ℕ) × (L.rest source.new ≡ drop n (L.rest source.old)) }
+    ensures rest { (ls : List Lot) → AsTold (L.is_told source.new) (L.rests source.old) ls → (n : ℕ) × L.rests source.new (drop n ls) }
 {
     let placement = match placement_of(order, found) {
         Ok(placement) => placement,
@@ -282,8 +289,8 @@ fn order_changes(
 /// order's end, and the stamp of the last accepted command (Trade-Order). It is refused with the first of `NoAccount`,
 /// `NoSecurity`, `NotPermitted`, `NoCharge`, `NoRate`, `Range(Trades)` (no id is left) and `ClockEnd` (no later stamp is
 /// left) that there is cause for, and then asks the source for nothing. Else its trade is added with its first status, and
-/// with a request where it has to wait for its price, and the last stamp is moved; what it is estimated at is told. A
-/// fault is the source's or want of memory.
+/// with a request where it has to wait for its price, and the last stamp is moved; what it is estimated at is told. Where
+/// the account holds nothing that the order would close, no lot is asked for. A fault is the source's or want of memory.
 pub fn plan_order<L: LotSource>(
     alloc: Global,
     order: &Order,
@@ -292,16 +299,18 @@ pub fn plan_order<L: LotSource>(
     last: Option<Stamp>,
     now: Stamp,
 ) -> Planned<Plan>
-    requires { IsWalk (L.rest source.old) }
+    ensures leads { L.leads source.old source.new }
     ensures planned { IfOk result (λ planned. MatchResult planned
-        (IsOrdered order.now found.now (L.rest source.old) last now)
+        (IsOrdered order.now found.now (AsTold (L.is_told source.new) (L.rests source.old)) last now)
         (λ refusal. first_refusal (order_tests found.now ++ trades_test found.now.last_trade ∷ clock_test last now ∷ []) ≡ Some refusal)) }
     ensures refused { IfOk result (λ planned. OnErr planned (source.new ≡ source.old)) }
-    ensures asked { IfOk result (λ planned. OnOk planned (AsksFew (terms_of order.now found.now) (L.rest source.old) (L.asked source.old) (L.asked source.new))) }
+    ensures asked { IfOk result (λ planned. OnOk planned (AsksFew (terms_of order.now found.now) (AsTold (L.is_told source.new) (L.rests source.old)) (L.asked source.old) (L.asked source.new))) }
+    // It asks for none where none of the shares that are held are on the order's other side.
+    ensures unmet { is_against (terms_of order.now found.now).side (terms_of order.now found.now).held ≡ false → source.new ≡ source.old }
     // No fault of the source is passed over, and each is answered as it came.
     ensures faulted { IfOk result (λ planned. L.faulted source.new ≡ L.faulted source.old) }
     ensures fault { IfErr result (λ fault. (fault ≡ Fault.Memory) ⊎ ((before : L) × L.fails before fault source.new)) }
-    ensures rest { (n : ℕ) × (L.rest source.new ≡ drop n (L.rest source.old)) }
+    ensures rest { (ls : List Lot) → AsTold (L.is_told source.new) (L.rests source.old) ls → (n : ℕ) × L.rests source.new (drop n ls) }
 {
     let placement = match placement_of(order, found) {
         Ok(placement) => placement,

@@ -1,13 +1,17 @@
-ghost use Rattle.std.specs.Prelude.{◌≡◌, ◌⊎◌, ℕ, drop, option_map, IfOk, IfErr, IfSome, MatchResult};
-ghost use Rattle.brk_lots.specs.Position.{IsNew, IsWalk};
+ghost use Rattle.std.specs.Prelude.{◌≡◌, ◌⊎◌, ◌+◌, ◌*◌, ◌≤◌, ◌≤ℤ◌, ℕ, List, drop, option_map, pos, vec_len, IfOk, IfErr, IfSome, MatchResult};
+ghost use Rattle.brk_lots.specs.declared.lot.Lot.{Lot};
+ghost use Rattle.brk_lots.specs.Closing.{IsClosing};
+ghost use Rattle.brk_lots.specs.Sources.{AsTold};
+ghost use Rattle.brk_model.specs.Limits.{greatest_price};
 ghost use Rattle.brk_money.specs.Moments as moments;
 ghost use Rattle.brk_money.specs.declared.fault.Fault.{Fault};
-ghost use Rattle.brk_trade.specs.Results.{AsksFew, IsCompleted, IsRefused, moment_of, told_of};
+ghost use Rattle.brk_trade.specs.Outcomes.{deal_of};
+ghost use Rattle.brk_trade.specs.Results.{AreMet, AsksFew, IsCompleted, IsRefused, MeetsNone, moment_of, told_of};
 
 use crate::completion::completion_changes;
 use crate::outcome::{Outcome, complete, rate_and_summary};
 use crate::result_found::ResultFound;
-use brk_lots::{LotSource, close};
+use brk_lots::{Closing, LotSource, close, is_against, open_whole};
 use brk_money::{Fault, Planned, Price, Refusal, Stamp, stamp_after};
 use brk_plans::{Completed, Plan, Reply};
 use std::alloc::Global;
@@ -28,14 +32,44 @@ fn told(outcome: &Outcome) -> Completed
     }
 }
 
+// What the trade does to the lots of its account and symbol. Where nothing that is held is on its other side no lot is asked
+// for.
+fn close_met<L: LotSource>(
+    alloc: Global,
+    source: &mut L,
+    found: &ResultFound,
+    price: Price,
+    stamp: Stamp,
+) -> Result<Closing, Fault>
+    ensures leads { L.leads source.old source.new }
+    ensures closing { IfOk result (λ closing. (ls : List Lot) → AreMet (AsTold (L.is_told source.new) (L.rests source.old)) found.now ls →
+        IsClosing (deal_of found.now.trade price stamp) ls closing) }
+    ensures bought { IfOk result (λ closing. (pos 0 ≤ℤ closing.buy_value) × (closing.buy_value ≤ℤ pos (found.now.trade.qty * greatest_price))) }
+    ensures sold { IfOk result (λ closing. (pos 0 ≤ℤ closing.sell_value) × (closing.sell_value ≤ℤ pos (found.now.trade.qty * greatest_price))) }
+    ensures asked { IfOk result (λ closing. L.asked source.new ≤ L.asked source.old + vec_len closing.touched + 1) }
+    ensures unmet { MeetsNone found.now → source.new ≡ source.old }
+    ensures faulted { IfOk result (λ closing. L.faulted source.new ≡ L.faulted source.old) }
+    ensures fault { IfErr result (λ fault. (fault ≡ Fault.Memory) ⊎ ((before : L) × L.fails before fault source.new)) }
+    ensures rest { (ls : List Lot) → AsTold (L.is_told source.new) (L.rests source.old) ls → (n : ℕ) × L.rests source.new (drop n ls) }
+{
+    let trade = &found.trade;
+    let side = trade.kind.side();
+    if is_against(side, found.summary.unwrap_or(0)) {
+        close(alloc, source, side, trade.qty, trade.id, price, stamp)
+    } else {
+        Ok(open_whole(alloc, side, trade.qty, trade.id, price, stamp))
+    }
+}
+
 /// Plans the result of a trade at a price, by what was found in the tables, where there is such a trade, the lots of its
 /// account and symbol that a source gives from the trade's end, and the stamp of the last accepted command
-/// (Trade-Result). None of the lots was opened by the trade. It is refused with the first of `NoTrade`, `WrongStatus` (it
+/// (Trade-Result). It is refused with the first of `NoTrade`, `WrongStatus` (it
 /// was not submitted, or is completed), `NoRate`, `Range(Summary)`, `Range(Balance)` (of a cash trade), `Range(Broker)` and
 /// `ClockEnd` (no later stamp is left, or it would settle after the last day) that there is cause for. Else the trade is
 /// completed: lots are closed and what is left of it opens one, the account's summary is moved, the broker's numbers
-/// grow, it settles, a cash trade moves its account's balance, and the last stamp is moved; what it comes to is told. A
-/// fault is the source's or want of memory.
+/// grow, it settles, a cash trade moves its account's balance, and the last stamp is moved; what it comes to is told. Where
+/// nothing that the account holds is on the trade's other side no lot is asked for. A fault is the source's or want of
+/// memory.
 pub fn plan_result<L: LotSource>(
     alloc: Global,
     found: Option<&ResultFound>,
@@ -44,16 +78,17 @@ pub fn plan_result<L: LotSource>(
     last: Option<Stamp>,
     now: Stamp,
 ) -> Planned<Plan>
-    requires walk { IsWalk (L.rest source.old) }
-    requires fresh { IfSome found (λ f. IsNew f.now.trade.id (L.rest source.old)) }
+    ensures leads { L.leads source.old source.new }
     ensures planned { IfOk result (λ planned. MatchResult planned
-        (IsCompleted (option_map (λ f. f.now) found.entry) price (L.rest source.old) last now)
-        (IsRefused (option_map (λ f. f.now) found.entry) price (L.rest source.old) last now)) }
-    ensures asked { IfOk result (λ planned. AsksFew (option_map (λ f. f.now) found.entry) price (moment_of (moments.stamp_after last now) now) (L.rest source.old) (L.asked source.old) (L.asked source.new)) }
+        (IsCompleted (option_map (λ f. f.now) found.entry) price (AsTold (L.is_told source.new) (L.rests source.old)) last now)
+        (IsRefused (option_map (λ f. f.now) found.entry) price (AsTold (L.is_told source.new) (L.rests source.old)) last now)) }
+    ensures asked { IfOk result (λ planned. AsksFew (option_map (λ f. f.now) found.entry) price (moment_of (moments.stamp_after last now) now) (AsTold (L.is_told source.new) (L.rests source.old)) (L.asked source.old) (L.asked source.new)) }
+    // It asks for none where nothing that the account holds is on the trade's other side.
+    ensures unmet { IfSome (option_map (λ f. f.now) found.entry) (λ f. MeetsNone f → source.new ≡ source.old) }
     // No fault of the source is passed over, and each is answered as it came.
     ensures faulted { IfOk result (λ planned. L.faulted source.new ≡ L.faulted source.old) }
     ensures fault { IfErr result (λ fault. (fault ≡ Fault.Memory) ⊎ ((before : L) × L.fails before fault source.new)) }
-    ensures rest { (n : ℕ) × (L.rest source.new ≡ drop n (L.rest source.old)) }
+    ensures rest { (ls : List Lot) → AsTold (L.is_told source.new) (L.rests source.old) ls → (n : ℕ) × L.rests source.new (drop n ls) }
 {
     let Some(found) = found else {
         return Ok(Err(Refusal::NoTrade));
@@ -68,15 +103,7 @@ pub fn plan_result<L: LotSource>(
         Some(stamp) => stamp,
         None => now,
     };
-    let closing = close(
-        alloc,
-        source,
-        found.trade.kind.side(),
-        found.trade.qty,
-        found.trade.id,
-        price,
-        at,
-    )?;
+    let closing = close_met(alloc, source, found, price, at)?;
     let outcome = match complete(found, price, &known, &closing, moved) {
         Ok(outcome) => outcome,
         Err(refusal) => return Ok(Err(refusal)),

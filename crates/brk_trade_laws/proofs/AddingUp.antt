@@ -25,11 +25,11 @@ use Rattle.brk_trade_laws.specs.Books.{DistinctAccounts, IsBooks}
 use Rattle.brk_trade_laws.specs.Sums.{AddUp, IsBalance, IsBrokerSum, IsSummary, IsSummed, held_in, is_lot_of}
 use Rattle.brk_trade_laws.specs.TradeReads.{lots_in, position_in, row_lot}
 use Rattle.brk_trade_laws.proofs.Bools.{numbers_back}
+use Rattle.brk_trade_laws.proofs.Holding.{total_is}
 use Rattle.brk_trade_laws.proofs.LotLives.{lots_live_on}
 use Rattle.brk_trade_laws.proofs.LotOrder.{position_read}
 use Rattle.brk_trade_laws.proofs.LotReading.{All-sort, holdings_in_order, is_left}
 use Rattle.brk_trade_laws.proofs.NewKeys.{and_both, same_bytes}
-use Rattle.brk_trade_laws.proofs.RunLaws.{quantities_sum}
 use Rattle.brk_trade_laws.proofs.Same.{All-append, All-filter, All-map, All-mapped, All-of}
 use Rattle.brk_trade_laws.proofs.SumReading.{broker_trades, cash_moves, length-map, sum-map, total-map}
 use Rattle.brk_trade_laws.proofs.Summaries.{all_summaries, reads_summary_row}
@@ -89,27 +89,15 @@ balances_add base books =
 
 -- ---- what is held
 
-total-sort : {X : Type 0} (f : X → ℤ) (before : X → X → Bool) (xs : List X) → total_by f (sort_by before xs) ≡ total_by f xs
-unfolding total_by sort_by
-total-sort f before [] = refl
-total-sort f before (x ∷ xs) = total-insert f before x (sort_by before xs) ∙ ap (λ n. f x +ℤ n) (total-sort f before xs)
-
 lots_held : (base : Base) (account : ℕ) (symbol : Text) → lots_total (position_in (sheets base) account symbol) ≡ held_in (sheets base) account symbol
 lots_held base account symbol =
     let own : List HoldingRow = filter (is_lot_of account symbol) (sheets base).holdings in
     total-map (λ l. l.qty) row_lot (lots_in (sheets base) account symbol)
     ∙ total-sorted (λ r. number r.stamp ∷ number r.trade ∷ []) (λ h. h.qty) own
 
-deals_summed : (done : List Trade) (account : ℕ) (symbol : Text)
-    → total_by (λ d. signed d.side d.qty) (map deal_of (sort_by_key moment_of (of_position done account symbol))) ≡ summary_of done account symbol
-unfolding summary_of
-deals_summed done account symbol =
-    total-map (λ d. signed d.side d.qty) deal_of (sort_by_key moment_of (of_position done account symbol))
-    ∙ total-sort (λ t. signed (side_of t.kind) t.qty) _ (of_position done account symbol)
-
 pub held_is : (base : Base) (account : ℕ) (symbol : Text) → IsBooks base → held_in (sheets base) account symbol ≡ summary_of (completed base) account symbol
 held_is base account symbol books =
-    sym (lots_held base account symbol) ∙ quantities_sum base account symbol books ∙ deals_summed (completed base) account symbol
+    sym (lots_held base account symbol) ∙ total_is base account symbol books
 
 -- ---- summaries
 

@@ -39,10 +39,12 @@ use Rattle.brk_plans.specs.declared.plan.Plan.{Plan}
 use Rattle.brk_changes.specs.declared.request_row.RequestRow.{RequestRow}
 use Rattle.brk_changes.specs.declared.trade_row.TradeRow.{TradeRow}
 use Rattle.brk_trade_laws.specs.Books.{IsBooks}
-use Rattle.brk_trade_laws.specs.OrderPlans.{AreLots, IsFoundForEstimate, IsFoundForOrder, IsReadForPlan, lot_in}
+use Rattle.brk_trade_laws.specs.OrderPlans.{AreLots, IsFoundForEstimate, IsFoundForOrder, IsReadForPlan}
 use Rattle.brk_trade_laws.specs.Plans.{DoesCommand, IsDone, base_then}
+use Rattle.brk_trade_laws.specs.TradeReads.{position_in}
 use Rattle.brk_trade_laws.specs.Trading.{order_rows, request_of, requested_if, status_row}
-use Rattle.brk_trade_laws.proofs.Holding.{lots_read}
+use Rattle.brk_trade_laws.proofs.Holding.{lots_given}
+use Rattle.brk_trade_laws.proofs.LotOrder.{shares_read}
 use Rattle.brk_trade_laws.proofs.OrderFinding.{AllFound, all_found, all_passed, terms_read, tests_read}
 use Rattle.brk_trade_laws.proofs.Planning.{clock_read}
 use Rattle.brk_trade_laws.proofs.Tested.{none_refuse}
@@ -80,10 +82,11 @@ found_refuses_none found last now e =
 
 -- ---- the estimate
 
-pub estimate_told : (base : Base) (order : Order) (found : OrderFound) (lots : List Lot) (e : Estimate) → IsBooks base → IsFoundForEstimate (sheets base) order found
-    → AreLots (sheets base) order lots → IsEstimated order found lots e → e ≡ told (estimate base (order_of order))
-estimate_told base order found lots e books k l h =
-    h.estimated base (order_of order) (map lot_in l.held) (terms_read base order found books k h.accepted) (lots_read base order lots books l) l.given
+pub estimate_told : (base : Base) (order : Order) (found : OrderFound) (given : List Lot → Type 0) (e : Estimate) → IsBooks base → IsFoundForEstimate (sheets base) order found
+    → AreLots (sheets base) order given → IsEstimated order found given e → e ≡ told (estimate base (order_of order))
+estimate_told base order found given e books k l h =
+    h.estimated base (order_of order) (position_in (sheets base) order.account order.symbol) (terms_read base order found books k h.accepted)
+    (sym (shares_read base order.account order.symbol books)) (lots_given base order.account order.symbol order.is_lifo given books l) (all_found base order found books k h.accepted).held
 
 told_back : (e : model.Estimate) → estimate_of (told e) ≡ e
 told_back e = refl
@@ -94,12 +97,12 @@ unfolding ask query_tests
 estimate_refused base order found refusal books k e =
     ap (λ o. unless o (answer_of base (EstimateOf (order_of order)))) (sym (tests_read base order found [] [] books k (λ n. refl)) ∙ e)
 
-pub estimate_answered : (base : Base) (order : Order) (found : OrderFound) (lots : List Lot) (e : Estimate) → IsBooks base → IsFoundForEstimate (sheets base) order found
-    → AreLots (sheets base) order lots → IsEstimated order found lots e → ask base (EstimateOf (order_of order)) ≡ Ok (estimate_fields (estimate_of e) ∷ [])
+pub estimate_answered : (base : Base) (order : Order) (found : OrderFound) (given : List Lot → Type 0) (e : Estimate) → IsBooks base → IsFoundForEstimate (sheets base) order found
+    → AreLots (sheets base) order given → IsEstimated order found given e → ask base (EstimateOf (order_of order)) ≡ Ok (estimate_fields (estimate_of e) ∷ [])
 unfolding ask query_tests answer_of
-estimate_answered base order found lots e books k l h =
+estimate_answered base order found given e books k l h =
     ap (λ o. unless o (estimate_fields (estimate base (order_of order)) ∷ [])) (sym (tests_read base order found [] [] books k (λ n. refl)) ∙ h.accepted)
-    ∙ ap (λ e. Ok (estimate_fields e ∷ [])) (sym (ap estimate_of (estimate_told base order found lots e books k l h) ∙ told_back (estimate base (order_of order))))
+    ∙ ap (λ e. Ok (estimate_fields e ∷ [])) (sym (ap estimate_of (estimate_told base order found given e books k l h) ∙ told_back (estimate base (order_of order))))
 
 -- ---- the rows
 
@@ -163,14 +166,14 @@ order_made base order found last now stamp k t s =
     (λ books e. step_order base now o books e ∙ (λ i. with_last (next_stamp base now) (order_rows (row i) (not (is_market (kind_of order.order_type))) (sym f.broker i) (sheets base))))
     (books_order base now o)
 
-pub plan_order_does : (base : Base) (order : Order) (found : OrderFound) (lots : List Lot) (last : Option ℕ) (now : ℕ) (plan : Plan) → IsReadForPlan base order found last now
-    → AreLots (sheets base) order lots → IsOrdered order found lots last now plan → DoesCommand base now (PlaceOrder (order_of order)) plan
-plan_order_does base order found lots last now plan k l p =
+pub plan_order_does : (base : Base) (order : Order) (found : OrderFound) (given : List Lot → Type 0) (last : Option ℕ) (now : ℕ) (plan : Plan) → IsReadForPlan base order found last now
+    → AreLots (sheets base) order given → IsOrdered order found given last now plan → DoesCommand base now (PlaceOrder (order_of order)) plan
+plan_order_does base order found given last now plan k l p =
     let o : model.Order = order_of order in
     let tested = found_refuses_none found last now p.accepted in
     let d = order_made base order found last now p.stamp k p.accepted p.stamped in
     let est : estimate_of p.estimate ≡ estimate base o =
-    ap estimate_of (estimate_told base order found lots p.estimate k.books k.looked_up.estimate l (record { accepted = tested; estimated = p.estimated })) ∙ told_back (estimate base o) in
+    ap estimate_of (estimate_told base order found given p.estimate k.books k.looked_up.estimate l (record { accepted = tested; estimated = p.estimated })) ∙ told_back (estimate base o) in
     record {
       steps = d.steps ∙ ap (λ reply. Ok (reply, base_then base now (PlaceOrder o)))
           ((λ i. model.Ordered p.stamp (next_trade found.last_trade) (first_status (kind_of order.order_type)) (sym est i)) ∙ sym (ap reply_of p.told));

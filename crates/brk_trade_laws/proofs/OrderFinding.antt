@@ -23,10 +23,12 @@ use Rattle.brk_ref.specs.Records.{executor_of}
 use Rattle.brk_trade.specs.Orders.{order_tests, terms_of}
 use Rattle.brk_trade.specs.declared.order.OrderFound.{OrderFound}
 use Rattle.brk_model.specs.Names.{KnowsCustomer}
+use Rattle.brk_lots.specs.Books.{lots_total}
 use Rattle.brk_trade_laws.specs.Books.{IsBooks}
 use Rattle.brk_trade_laws.specs.OrderPlans.{IfCustomer, IsFoundForEstimate, Passes, charge_in, order_account}
 use Rattle.brk_trade_laws.specs.Reads.{rates_of}
-use Rattle.brk_trade_laws.specs.TradeReads.{band_in, permission_in}
+use Rattle.brk_trade_laws.specs.TradeReads.{band_in, permission_in, position_in}
+use Rattle.brk_trade_laws.proofs.Holding.{held_read, total_is}
 use Rattle.brk_trade_laws.proofs.Same.{find-All}
 use Rattle.brk_trade_laws.proofs.Places.{some_of}
 use Rattle.brk_trade_laws.proofs.Reading.{is_none-map, reads_account, reads_customer}
@@ -199,6 +201,7 @@ all_assets base order found books k f e =
 pub record AllFound (base : Base) (order : Order) (found : OrderFound) : Type 0 where
   pub broker : option_map_or (λ a. a.broker) found.account 0 ≡ broker_of base order.account
   pub terms : AreTerms base (order_of order) (terms_of order found)
+  pub held : (terms_of order found).held ≡ lots_total (position_in (sheets base) order.account order.symbol)
 
 broker_or : (accounts : List Account) (done : List Trade) (a : Option Account)
     → option_map_or (λ a. a.broker) (option_map order_account (option_map (account_row accounts done) a)) 0 ≡ option_map_or (λ a. a.broker) a 0
@@ -229,6 +232,7 @@ all_found base order found books k e =
         charge = sym (charge_read base order found k f three) ∙ some_or found.charge charged;
         assets = all_assets base order found books k f e;
       };
+      held = held_read base order.account order.symbol found.summary books (ap is_some f.there) listed (k.summary e) ∙ sym (total_is base order.account order.symbol books);
     }
 
 pub terms_read : (base : Base) (order : Order) (found : OrderFound) → IsBooks base → IsFoundForEstimate (sheets base) order found → first_refusal (order_tests found) ≡ None

@@ -45,12 +45,11 @@ use Rattle.brk_plans.specs.declared.plan.Plan.{Plan}
 use Rattle.brk_plans.specs.declared.reply.Reply.TheVariants as reply
 use Rattle.brk_changes.specs.declared.summary_row.SummaryRow as summary
 use Rattle.brk_changes.specs.declared.trade_row.TradeRow as planned
-use Rattle.brk_trade_laws.specs.OrderPlans.{lot_in}
 use Rattle.brk_trade_laws.specs.Books.{IsBooks}
 use Rattle.brk_trade_laws.specs.Plans.{DoesCommand, IsDone, base_then}
-use Rattle.brk_trade_laws.specs.ResultPlans.{AreLotsOfTrade, IsReadForResult, PassesFirst}
+use Rattle.brk_trade_laws.specs.ResultPlans.{IsReadForResult, PassesFirst}
 use Rattle.brk_trade_laws.specs.Results.{cash_rows, completed_rows, opened_rows, result_rows, rows_of_result, summary_rows_moved, touched_rows}
-use Rattle.brk_trade_laws.specs.TradeReads.{row_of_summary, summary_in}
+use Rattle.brk_trade_laws.specs.TradeReads.{position_in, row_of_summary, summary_in}
 use Rattle.brk_trade_laws.specs.Trading.{status_row}
 use Rattle.brk_trade_laws.proofs.QuotedTicks.{after_more}
 use Rattle.brk_trade_laws.proofs.ResultFinding.{TradeFound, amount_read, balance_read, broker_found, commission_read, commissions_read, held_found, account_found, passes_rate, passes_status, passes_summary, result_refusal, result_values, security_found, summary_found, summary_read, tax_read, trade_found}
@@ -60,7 +59,7 @@ use Rattle.brk_trade_laws.proofs.ResultSums.{count_grows}
 use Rattle.brk_trade_laws.proofs.Summaries.{reads_summary_row}
 use Rattle.brk_trade_laws.proofs.Tested.{none_refuse}
 use Rattle.brk_trade_laws.proofs.TradePlanning.{is_done, stamp_read}
-use Rattle.brk_trade_laws.proofs.ResultRefusing.{deal_read, lots_shares, trade_of}
+use Rattle.brk_trade_laws.proofs.ResultRefusing.{at_market, deal_read, held_by_row, lots_met, lots_shares, trade_of}
 
 -- ---- the rows
 
@@ -345,18 +344,19 @@ result_done base id price now stamp t books e accepted next =
     ∙ (λ i. CompletedTrade (sym next i) (completion base (sym next i) price t)))
     (step_result base now id price t e) (books_result base now id price)
 
-pub result_plan_does : (base : Base) (id price : ℕ) (found : Option ResultFound) (ls : List Lot) (last : Option ℕ) (now : ℕ) (plan : Plan) → IsReadForResult base id found ls last now
-    → IsCompleted found price ls last now plan → DoesCommand base now (CompleteTrade id price) plan
-result_plan_does base id price None ls last now plan k p = absurd p
-result_plan_does base id price (Some found) ls last now plan k p =
+pub result_plan_does : (base : Base) (id price : ℕ) (found : Option ResultFound) (given : List Lot → Type 0) (last : Option ℕ) (now : ℕ) (plan : Plan) → IsReadForResult base id found given last now
+    → IsCompleted found price given last now plan → DoesCommand base now (CompleteTrade id price) plan
+result_plan_does base id price None given last now plan k p = absurd p
+result_plan_does base id price (Some found) given last now plan k p =
     let t = trade_of base id (trade_row_of found.trade) k.trade_read in
     let f : TradeFound base t.0 found = trade_found base id t.0 found k.books t.1 t.2 k.looked_up in
     let next : p.stamp ≡ next_stamp base now = stamp_read base last now p.stamp k.last_read p.stamped in
     let tests = none_refuse (result_tests found price (values_in p.closing) (Some p.stamp)) p.accepted in
-    let lots_given : AreLotsOfTrade (sheets base) found.trade ls = k.lots_read (passes_status found tests.0) in
-    let closes : IsClosing (deal_of found.trade price p.stamp) (map lot_in lots_given.held) p.closing = p.closes (map lot_in lots_given.held) lots_given.given in
+    let held = position_in (sheets base) found.trade.account found.trade.symbol in
+    let met = lots_met base id found given k.books k.trade_read (at_market found tests.0) (k.lots_read (passes_status found tests.0)) (held_by_row base t.0 found f (passes_rate found tests.0 tests.1.0)) in
+    let closes : IsClosing (deal_of found.trade price p.stamp) held p.closing = p.closes held met in
     let deal : deal_of found.trade price p.stamp ≡ result_deal p.stamp price t.0 = deal_read t.0 found price p.stamp t.2 in
-    let same : shares_of (map lot_in lots_given.held) ≡ shares_in (completed base) t.0.account t.0.symbol = lots_shares base t.0 found ls f lots_given in
+    let same : shares_of held ≡ shares_in (completed base) t.0.account t.0.symbol = lots_shares base t.0 found f in
     let values : values_in p.closing ≡ result_values base p.stamp price t.0 = λ i. record {
       buy_value = (ap nat_abs closes.bought ∙ (λ i. shares.buy_value (deal i) (same i))) i;
       sell_value = (ap nat_abs closes.sold ∙ (λ i. shares.sell_value (deal i) (same i))) i;

@@ -36,6 +36,7 @@ use Rattle.brk_trade_laws.specs.OrderPlans.{IfCustomer}
 use Rattle.brk_trade_laws.specs.Reads.{rates_of}
 use Rattle.brk_trade_laws.specs.ResultPlans.{IsFoundForResult, PassesFirst, result_account}
 use Rattle.brk_trade_laws.specs.TradeReads.{band_in, summary_held, summary_in}
+use Rattle.brk_trade_laws.proofs.Holding.{held_read}
 use Rattle.brk_trade_laws.proofs.Same.{find-All}
 use Rattle.brk_trade_laws.proofs.Places.{FoundAt, find-at, some_of}
 use Rattle.brk_trade_laws.proofs.Reading.{is_none-map, reads_broker}
@@ -46,7 +47,6 @@ use Rattle.brk_trade_laws.proofs.Planning.{clock_read}
 use Rattle.brk_trade_laws.proofs.ResultKeeping.{Found, found_at}
 use Rattle.brk_trade_laws.proofs.ResultRows.{IsResult}
 use Rattle.brk_trade_laws.proofs.ResultSums.{balance_grows, balance_stays, commissions_grow, summary_grows}
-use Rattle.brk_trade_laws.proofs.Summaries.{reads_held}
 use Rattle.brk_trade_laws.proofs.Tested.{not_not}
 use Rattle.brk_trade_laws.proofs.TradePlanning.{stamp_read}
 
@@ -99,10 +99,6 @@ rate_read base t found k p =
     ∙ ap (option_map (λ b. b.rate)) (reads_band base k.owner.c.tier t.kind k.listed.exchange t.qty k.books
     ∙ (λ i. band_with base (sym (tier_found base t.account k.owner) i) t.kind (sym exchange i) t.qty))
 
-number_or : (o : Option SummaryRow) → unwrap_or (option_map (λ r. r.qty) o) (pos 0) ≡ summary_held o
-number_or None = refl
-number_or (Some r) = refl
-
 pub summary_found : (base : Base) (t : Trade) (found : ResultFound) → TradeFound base t found → PassesFirst 2 found
     → found.summary ≡ option_map (λ r. r.qty) (summary_in (sheets base) t.account t.symbol)
 summary_found base t found k p =
@@ -111,8 +107,7 @@ summary_found base t found k p =
 pub held_found : (base : Base) (t : Trade) (found : ResultFound) → TradeFound base t found → PassesFirst 2 found
     → unwrap_or found.summary (pos 0) ≡ summary_of (completed base) t.account t.symbol
 held_found base t found k p =
-    ap (λ o. unwrap_or o (pos 0)) (summary_found base t found k p) ∙ number_or (summary_in (sheets base) t.account t.symbol)
-    ∙ reads_held base t.account t.symbol k.books (ap is_some k.owner.there) (ap is_some k.listed_is)
+    held_read base t.account t.symbol found.summary k.books (ap is_some k.owner.there) (ap is_some k.listed_is) (summary_found base t found k p)
 
 -- an account, as the definitions have it
 abbrev pub account_is : Base → Trade → ResultAccount

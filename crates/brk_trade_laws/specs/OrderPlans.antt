@@ -1,5 +1,5 @@
 -- What is read from the tables before an order is planned or estimated.
-use Rattle.std.specs.Prelude.{◌≡◌, ◌≤◌, ℕ, ◌==◌, ◌&&◌, ◌+ℤ◌, List, find, map, reverse, slice_get, take, IfSome, Option, None, option_map, bytes_eq}
+use Rattle.std.specs.Prelude.{◌≡◌, ◌≤◌, ℕ, Bool, ◌==◌, ◌&&◌, ◌+ℤ◌, List, find, reverse, slice_get, take, IfSome, Option, None, option_map, bytes_eq}
 use Rattle.brk_lots.specs.Lots.{from_end}
 use Rattle.brk_lots.specs.declared.lot.Lot.{Lot}
 use Rattle.brk_model.specs.Base.{Base}
@@ -18,13 +18,12 @@ use Rattle.brk_money.specs.declared.trade_type.TradeType.{TradeType}
 use Rattle.brk_orders.specs.declared.order.Order.{Order}
 use Rattle.brk_ref.specs.Records.{executor_of}
 use Rattle.brk_trade.specs.Orders.{order_tests}
-use Rattle.brk_changes.specs.Rows.{holding_row_of}
 use Rattle.brk_changes.specs.declared.holding_row.HoldingRow.{HoldingRow}
 use Rattle.brk_trade.specs.declared.order.OrderAccount.{OrderAccount}
 use Rattle.brk_trade.specs.declared.order.OrderFound.{OrderFound}
 use Rattle.brk_trade_laws.specs.Books.{IsBooks}
 use Rattle.brk_trade_laws.specs.Reads.{rates_of}
-use Rattle.brk_trade_laws.specs.TradeReads.{band_in, lots_in, permission_in}
+use Rattle.brk_trade_laws.specs.TradeReads.{band_in, permission_in, position_in, summary_in}
 
 -- ---- look-ups
 
@@ -69,6 +68,8 @@ pub record IsFoundForEstimate (t : Tables) (order : Order) (found : OrderFound) 
   pub rates : Passes 5 found → IfSome (account_in t order.account) (λ a. found.rates ≡ rates_of t a.customer)
   -- the balance and the worth of what is held
   pub assets : Passes 5 found → IfSome (account_in t order.account) (λ a. found.assets ≡ a.balance +ℤ asset_total t a)
+  -- the number of the summary
+  pub summary : Passes 5 found → found.summary ≡ option_map (λ r. r.qty) (summary_in t order.account order.symbol)
 
 -- what was found for an order is what was found for its estimate, and the number of the last trade
 pub record IsFoundForOrder (t : Tables) (order : Order) (found : OrderFound) : Type 0 where
@@ -81,11 +82,13 @@ pub record IsFoundForOrder (t : Tables) (order : Order) (found : OrderFound) : T
 abbrev pub lot_in : HoldingRow → Lot
 lot_in r = record { trade = r.trade; price = r.price; qty = r.qty; stamp = r.stamp }
 
--- the lots that are given for an order are those of its account and symbol from the order's end, where they stand with the oldest first
-pub record AreLots (t : Tables) (order : Order) (lots : List Lot) : Type 0 where
-  pub held : List HoldingRow
-  pub rows : map holding_row_of held ≡ lots_in t order.account order.symbol
-  pub given : lots ≡ from_end order.is_lifo (map lot_in held)
+-- the lots of an account in a symbol are given from an end
+abbrev pub GivesLots : Tables → ℕ → Text → Bool → (List Lot → Type 0) → Type 0
+GivesLots t account symbol lifo given = given (from_end lifo (position_in t account symbol))
+
+-- the lots that are given for an order are those of its account and symbol from the order's end
+abbrev pub AreLots : Tables → Order → (List Lot → Type 0) → Type 0
+AreLots t order given = GivesLots t order.account order.symbol order.is_lifo given
 
 -- ---- an order
 

@@ -1,6 +1,5 @@
 -- What is read from the tables before a result is planned.
-use Rattle.std.specs.Prelude.{◌≡◌, ◌≤◌, ◌<◌, ℕ, ◌==◌, List, find, map, take, IfSome, Option, None, option_map, pos}
-use Rattle.brk_lots.specs.Lots.{from_end}
+use Rattle.std.specs.Prelude.{◌≡◌, ◌≤◌, ◌<◌, ℕ, ◌==◌, List, find, take, IfSome, Option, None, option_map, pos}
 use Rattle.brk_lots.specs.declared.lot.Lot.{Lot}
 use Rattle.brk_model.specs.Base.{Base}
 use Rattle.brk_model.specs.Joins.{account_in, security_in, trade_in}
@@ -9,15 +8,14 @@ use Rattle.brk_model.specs.Tables.{AccountRow, Tables}
 use Rattle.brk_model.specs.Tests.{first_refusal}
 use Rattle.brk_money.specs.Moments.{last_stamp}
 use Rattle.brk_trade.specs.Outcomes.{first_tests}
-use Rattle.brk_changes.specs.Rows.{holding_row_of, trade_row_of}
-use Rattle.brk_changes.specs.declared.holding_row.HoldingRow.{HoldingRow}
+use Rattle.brk_changes.specs.Rows.{trade_row_of}
 use Rattle.brk_trade.specs.declared.result_found.ResultAccount.{ResultAccount}
 use Rattle.brk_trade.specs.declared.result_found.ResultFound.{ResultFound}
 use Rattle.brk_changes.specs.declared.trade_row.TradeRow.{TradeRow}
 use Rattle.brk_trade_laws.specs.Books.{IsBooks}
-use Rattle.brk_trade_laws.specs.OrderPlans.{IfCustomer, lot_in}
+use Rattle.brk_trade_laws.specs.OrderPlans.{GivesLots, IfCustomer}
 use Rattle.brk_trade_laws.specs.Reads.{rates_of}
-use Rattle.brk_trade_laws.specs.TradeReads.{band_in, lots_in, summary_in}
+use Rattle.brk_trade_laws.specs.TradeReads.{band_in, summary_in}
 
 -- ---- what was found
 
@@ -48,22 +46,19 @@ pub record IsFoundForResult (t : Tables) (found : ResultFound) : Type 0 where
 
 -- ---- lots
 
--- the lots that are given for a result are those of the account and the symbol of its trade from the trade's end, where they stand with the
--- oldest first
-pub record AreLotsOfTrade (t : Tables) (trade : TradeRow) (lots : List Lot) : Type 0 where
-  pub held : List HoldingRow
-  pub rows : map holding_row_of held ≡ lots_in t trade.account trade.symbol
-  pub given : lots ≡ from_end trade.is_lifo (map lot_in held)
+-- the lots that are given for a result are those of the account and the symbol of its trade from the trade's end
+abbrev pub AreLotsOfTrade : Tables → TradeRow → (List Lot → Type 0) → Type 0
+AreLotsOfTrade t trade given = GivesLots t trade.account trade.symbol trade.is_lifo given
 
 -- ---- a result
 
 -- what is known where a result is planned: the base is in order, its tables were looked up at a moment that there is, the lots that are given
 -- are those of a trade at the market, and the trade that was found is of some shares
-pub record IsReadForResult (base : Base) (id : ℕ) (found : Option ResultFound) (lots : List Lot) (last : Option ℕ) (now : ℕ) : Type 0 where
+pub record IsReadForResult (base : Base) (id : ℕ) (found : Option ResultFound) (given : List Lot → Type 0) (last : Option ℕ) (now : ℕ) : Type 0 where
   pub books : IsBooks base
   pub trade_read : trade_in (sheets base) id ≡ option_map (λ f. trade_row_of f.trade) found
   pub looked_up : IfSome found (IsFoundForResult (sheets base))
-  pub lots_read : IfSome found (λ f. PassesFirst 1 f → AreLotsOfTrade (sheets base) f.trade lots)
+  pub lots_read : IfSome found (λ f. PassesFirst 1 f → AreLotsOfTrade (sheets base) f.trade given)
   pub some_shares : IfSome found (λ f. 0 < f.trade.qty)
   pub last_read : last ≡ (sheets base).last
   pub moment : now ≤ last_stamp

@@ -4,6 +4,7 @@ ghost use Rattle.std.specs.Prelude.{◌≡◌, ◌∷◌, ◌++◌, [], ℕ, Err
 ghost use Rattle.brk_trade.specs.Estimates.{AreTerms};
 ghost use Rattle.brk_plans.specs.Replies.{told};
 ghost use Rattle.brk_plans.specs.declared.estimate.Estimate.{Estimate};
+ghost use Rattle.brk_lots.specs.Sources.{Exactly};
 ghost use Rattle.brk_lots.specs.declared.lot.Lot.{Lot};
 ghost use Rattle.brk_model.specs.Ask.{ask};
 ghost use Rattle.brk_model.specs.Base.{Base};
@@ -41,7 +42,7 @@ pub fn order_plans_do_commands()
         → first_refusal (order_tests found ++ trades_test found.last_trade ∷ clock_test last now ∷ []) ≡ Some refusal
         → step base now (PlaceOrder (order_of order)) ≡ Err refusal }
     ensures done { (base : Base) (order : Order) (found : OrderFound) (lots : List Lot) (last : Option ℕ) (now : ℕ) (plan : Plan) → IsReadForPlan base order found last now
-        → AreLots (sheets base) order lots → IsOrdered order found lots last now plan → DoesCommand base now (PlaceOrder (order_of order)) plan }
+        → AreLots (sheets base) order (Exactly lots) → IsOrdered order found (Exactly lots) last now plan → DoesCommand base now (PlaceOrder (order_of order)) plan }
 {}
 
 /// An estimate is refused by what was found as by the base; else it is that of the definitions, and its fields are the view.
@@ -49,8 +50,8 @@ pub fn estimate_plans_answer_queries()
     ensures refused { (base : Base) (order : Order) (found : OrderFound) (refusal : Refusal) → IsBooks base → IsFoundForEstimate (sheets base) order found
         → first_refusal (order_tests found) ≡ Some refusal → ask base (EstimateOf (order_of order)) ≡ Err refusal }
     ensures told { (base : Base) (order : Order) (found : OrderFound) (lots : List Lot) (e : Estimate) → IsBooks base → IsFoundForEstimate (sheets base) order found
-        → AreLots (sheets base) order lots → IsEstimated order found lots e → e ≡ told (estimate base (order_of order)) }
+        → AreLots (sheets base) order (Exactly lots) → IsEstimated order found (Exactly lots) e → e ≡ told (estimate base (order_of order)) }
     ensures answered { (base : Base) (order : Order) (found : OrderFound) (lots : List Lot) (e : Estimate) → IsBooks base → IsFoundForEstimate (sheets base) order found
-        → AreLots (sheets base) order lots → IsEstimated order found lots e
+        → AreLots (sheets base) order (Exactly lots) → IsEstimated order found (Exactly lots) e
         → ask base (EstimateOf (order_of order)) ≡ Ok (estimate_fields (estimate_of e) ∷ []) }
 {}

@@ -2,15 +2,12 @@
 
 ghost use Rattle.std.specs.Prelude.{◌≡◌, ◌∷◌, ◌++◌, [], true, false, ℕ, Err, List, None, Option, Some, map};
 ghost use Rattle.std.specs.List.{list_any};
-ghost use Rattle.brk_money.specs.Kinds.{same_status};
 ghost use Rattle.brk_money.specs.declared.refusal.Refusal.{Refusal};
 ghost use Rattle.brk_money.specs.declared.status.Status.{Status};
-ghost use Rattle.brk_money.specs.declared.status.Status.TheVariants.{Submitted};
-ghost use Rattle.brk_lots.specs.Position.{IsNew, IsWalk};
+ghost use Rattle.brk_lots.specs.Sources.{Exactly};
 ghost use Rattle.brk_lots.specs.declared.lot.Lot.{Lot};
 ghost use Rattle.brk_model.specs.Base.{Base};
 ghost use Rattle.brk_model.specs.Commands.{CancelTrade, CompleteTrade, FeedTicks};
-ghost use Rattle.brk_model.specs.Joins.{trade_in};
 ghost use Rattle.brk_model.specs.Sheets.{sheets};
 ghost use Rattle.brk_model.specs.Step.{step};
 ghost use Rattle.brk_model.specs.Tables.{Tables};
@@ -22,14 +19,13 @@ ghost use Rattle.brk_plans.specs.Cancel.{IsCancel, cancel_tests};
 ghost use Rattle.brk_plans.specs.Feed.{Held, IsFeed, feed_tests, held, is_of};
 ghost use Rattle.brk_plans.specs.Reference.{clock_test};
 ghost use Rattle.brk_trade.specs.Results.{IsCompleted, IsRefused};
-ghost use Rattle.brk_changes.specs.Rows.{request_row_of, trade_row_of};
+ghost use Rattle.brk_changes.specs.Rows.{request_row_of};
 ghost use Rattle.brk_trade.specs.declared.result_found.ResultFound.{ResultFound};
 ghost use Rattle.brk_plans.specs.declared.plan.Plan.{Plan};
 ghost use Rattle.brk_plans.specs.declared.quote.Quote.{Quote};
-ghost use Rattle.brk_changes.specs.declared.trade_row.TradeRow.{TradeRow};
 ghost use Rattle.brk_trade_laws.specs.Books.{IsBooks};
 ghost use Rattle.brk_trade_laws.specs.Plans.{DoesCommand};
-ghost use Rattle.brk_trade_laws.specs.ResultPlans.{AreLotsOfTrade, IsReadForResult};
+ghost use Rattle.brk_trade_laws.specs.ResultPlans.{IsReadForResult};
 ghost use Rattle.brk_trade_laws.specs.TradePlans.{AreQuotes, IsReadForCancel, IsReadForFeed};
 ghost use Rattle.brk_trade_laws.specs.TradeReads.{last_trade_in, requests_of};
 
@@ -66,18 +62,11 @@ pub fn quotes_are_read_tick_by_tick()
         → map request_row_of quote.requests.items ≡ requests_of t tick.symbol → AreQuotes t (ticks ++ tick ∷ []) (held (quotes ++ quote ∷ [])) }
 {}
 
-/// The lots that are given for a result are those of a position, from one of its ends, and none of them was opened by a trade at the market.
-pub fn lots_of_results_are_lawful()
-    ensures walk { (base : Base) (trade : TradeRow) (lots : List Lot) → IsBooks base → AreLotsOfTrade (sheets base) trade lots → IsWalk lots }
-    ensures fresh { (base : Base) (id : ℕ) (trade : TradeRow) (lots : List Lot) → IsBooks base → trade_in (sheets base) id ≡ Some (trade_row_of trade)
-        → same_status trade.status Submitted ≡ true → AreLotsOfTrade (sheets base) trade lots → IsNew trade.id lots }
-{}
-
 /// A result is refused by what was found for its trade as by the base, whatever stamp its values are taken at; the plan of one that is not
 /// refused does the result.
 pub fn result_plans_do_commands()
     ensures refused { (base : Base) (id price : ℕ) (found : Option ResultFound) (lots : List Lot) (last : Option ℕ) (now : ℕ) (refusal : Refusal)
-        → IsReadForResult base id found lots last now → IsRefused found price lots last now refusal → step base now (CompleteTrade id price) ≡ Err refusal }
+        → IsReadForResult base id found (Exactly lots) last now → IsRefused found price (Exactly lots) last now refusal → step base now (CompleteTrade id price) ≡ Err refusal }
     ensures done { (base : Base) (id price : ℕ) (found : Option ResultFound) (lots : List Lot) (last : Option ℕ) (now : ℕ) (plan : Plan)
-        → IsReadForResult base id found lots last now → IsCompleted found price lots last now plan → DoesCommand base now (CompleteTrade id price) plan }
+        → IsReadForResult base id found (Exactly lots) last now → IsCompleted found price (Exactly lots) last now plan → DoesCommand base now (CompleteTrade id price) plan }
 {}

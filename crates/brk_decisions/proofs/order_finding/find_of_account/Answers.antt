@@ -16,7 +16,7 @@ returns-clause-read g c =
     let amounts = c.in_ok-amounts.amounts in
     read_both g.S.Store old c.find_tested.new.store c.find_amounts.new.store {H = Fault} tested amounts c.found_of.result
     (λ tested (t : Tables). IsCustomer t account.account.customer customer × AreTested t order customer tested)
-    (λ amounts (t : Tables). AreAmounts t account amounts)
+    (λ amounts (t : Tables). AreAmounts t account order amounts)
     (λ found (t : Tables). IsFoundOf t order account found)
     (λ t k y. subst (λ found. IsFoundOf t order account found) (sym c.found_of.ensures) (all_found t order account customer tested amounts k.0 k.1 y))
     (read_both g.S.Store old c.known_customer.new.store c.find_tested.new.store {H = Fault} customer tested tested

@@ -1,27 +1,25 @@
-use Rattle.std.proofs.Common.{arith, ◌≡◌, ◌*◌, ◌-◌, ◌≢◌, ℕ, pos, replicate, ap, ◌∙◌, subst}
+use Rattle.std.proofs.Common.{arith, ◌≡◌, ◌*◌, ◌-◌, ℕ, pos, replicate, ap, ◌∙◌}
 use Rattle.brk_model.specs.Shares.{Deal, Share, lots}
 use Rattle.brk_lots.specs.Lots.{from_end}
-use Rattle.brk_lots.specs.Position.{IsWalk, IsNew}
 use Rattle.brk_lots.specs.Values.{values_by}
 use Rattle.brk_lots.specs.Walks.{met, paid}
 use Rattle.brk_lots.specs.declared.values.Values.{Values}
-use Rattle.brk_lots.proofs.Ends.{walk_back, all_back}
+use Rattle.brk_lots.proofs.Ends.{walk_end}
 use Rattle.brk_lots.proofs.Upon.{closes}
 use Rattle.brk_lots.proofs.closing.close.Goals as goal
 
 pub returns-clause-closing : goal.returns-clause-closing
-returns-clause-closing g c ls lifo e =
+returns-clause-closing g c ls lifo given fresh =
     let d : Deal = record { trade = c.args.trade; side = c.args.side; qty = c.args.qty; price = c.args.price; stamp = c.args.stamp; is_lifo = lifo } in
     let walk = from_end lifo ls in
     let k : ℕ = met d.side d.qty walk in
-    let w : IsWalk ls = walk_back lifo ls (subst IsWalk e c.requires.walk) in
-    let fresh : IsNew d.trade ls = all_back (λ l. l.trade ≢ d.trade) lifo ls (subst (IsNew d.trade) e c.requires.fresh) in
     let u : Share = record { side = d.side; trade = d.trade; price = d.price; stamp = d.stamp } in
-    let sum = rw e at c.in_ok-taken.ensures.left in
-    let left : c.in_ok-taken.taken.left ≡ d.qty - k = omega (arith, sum) in
-    let values : c.in_ok-taken.taken.values ≡ values_by d.side (k * d.price) (paid k walk) = rw e at c.in_ok-taken.ensures.values in
-    closes d ls _ w fresh
-    (rw e at c.in_ok-taken.ensures.rows)
+    let all = c.in_ok-taken.ensures.taken in
+    let taken = all.3 walk given.0 (walk_end lifo ls given.1) in
+    let left : c.in_ok-taken.taken.left ≡ d.qty - k = omega (arith, taken.left) in
+    let values : c.in_ok-taken.taken.values ≡ values_by d.side (k * d.price) (paid k walk) = taken.values in
+    closes d ls _ given.1 fresh
+    (all.1 ∙ taken.rows)
     (c.opened_lot.ensures ∙ ap (λ n. lots (replicate n u)) left)
     (c.from.ensures ∙ ap (λ (v : Values). pos v.buy_value) values)
     (c.from-2.ensures ∙ ap (λ (v : Values). pos v.sell_value) values)

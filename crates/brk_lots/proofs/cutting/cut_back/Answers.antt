@@ -1,4 +1,4 @@
-use Rattle.std.proofs.Common.{rules, arith, ◌≡◌, ◌≢◌, ◌++◌, ◌+◌, ◌<◌, ℕ, ℤ, pos, List, [], ◌∷◌, length, get_or, set, take, w64, to_z, of_z, refl, sym, ap, ◌∙◌, subst}
+use Rattle.std.proofs.Common.{rules, arith, ◌≡◌, ◌≢◌, ◌++◌, ◌+◌, ◌<◌, ℕ, ℤ, pos, List, [], ◌∷◌, length, get_or, set, take, w64, to_z, of_z, refl, sym, ap, ◌∙◌}
 use Rattle.std.specs.Int.RustNames.{FitsSigned}
 use Rattle.std.proofs.Math.Seq.{take-set-lt}
 use Rattle.std.proofs.lemmas.Int.{to_z-of_z}

@@ -1,11 +1,11 @@
-use Rattle.std.proofs.Common.{rules, arith, ◌≡◌, ◌≢◌, ◌++◌, ◌+◌, ◌-◌, ◌<◌, ◌≤◌, ℕ, List, length, get_or, drop, take, w64, to_z, of_z, refl, sym, ap, ◌∙◌, subst}
+use Rattle.std.proofs.Common.{rules, arith, ◌≡◌, ◌≢◌, ◌++◌, ◌+◌, ◌-◌, ◌<◌, ◌≤◌, ℕ, List, length, get_or, drop, take, w64, to_z, of_z, sym, ap, ◌∙◌, subst}
 use Rattle.std.specs.Int.RustNames.{FitsSigned}
 use Rattle.std.proofs.lemmas.Int.{to_z-of_z}
 use Rattle.std.proofs.lemmas.List.{drop-append-le, drop-drop, drop-take, get_or-drop, get_or_default, length-drop, length-take}
 use Rattle.brk_lots.specs.declared.lot.Lot.{Lot}
 use Rattle.brk_lots.specs.declared.lot.Touch.{Touch}
 use Rattle.brk_lots.specs.Lots.{from_end}
-use Rattle.brk_lots.specs.Walks.{rows_taken, smaller, lots_left}
+use Rattle.brk_lots.specs.Walks.{rows_taken, smaller}
 use Rattle.brk_lots.proofs.Cuts.{rows_fit_end, left_front, left_back, left_whole}
 use Rattle.brk_lots.proofs.cutting.cut_lots.Goals as goal
 

@@ -1,5 +1,6 @@
 use Rattle.std.proofs.Common.{◌≡◌, ◌+◌, ◌*◌, ◌≤◌, ◌++◌, ℕ, List, drop, length}
 use Rattle.brk_model.specs.Limits.{greatest_price}
+use Rattle.brk_lots.specs.declared.lot.Lot.{Lot}
 use Rattle.brk_lots.specs.declared.lot.Touch.{Touch}
 use Rattle.brk_lots.specs.Position.{IsWalk}
 use Rattle.brk_lots.specs.Walks.{met, rows_taken, paid}
@@ -8,16 +9,18 @@ use Rattle.brk_lots.proofs.walk.walk.Given as goal
 -- what was done so far and what is to be done with the lots that are left are what the whole walk does
 abbrev pub invariant-loop-left : goal.invariant-loop-left
 invariant-loop-left g l =
-    let rest = g.L.LotSource.rest l.source in
-    let all = g.L.LotSource.rest l.fn.source in
     record {
-      walk : IsWalk rest;
-      left : l.left + met l.side l.fn.qty all ≡ l.fn.qty + met l.side l.left rest;
-      rows : (given : List Touch) × g.R.Rows.holds l.rows given × (given ++ rows_taken (met l.side l.left rest) rest ≡ rows_taken (met l.side l.fn.qty all) all) × (g.L.LotSource.asked l.source ≤ g.L.LotSource.asked l.fn.source + length given);
-      paid : l.cost + paid (met l.side l.left rest) rest ≡ paid (met l.side l.fn.qty all) all;
+      leads : g.L.LotSource.leads l.fn.source l.source;
+      taken : (touched : List Touch) × g.R.Rows.holds l.rows touched × (g.L.LotSource.asked l.source ≤ g.L.LotSource.asked l.fn.source + length touched)
+          × (g.L.LotSource.is_told l.source → (all : List Lot) → g.L.LotSource.rests l.fn.source all → IsWalk all
+          → (rest : List Lot) × g.L.LotSource.rests l.source rest × IsWalk rest
+          × (l.left + met l.side l.fn.qty all ≡ l.fn.qty + met l.side l.left rest)
+          × (touched ++ rows_taken (met l.side l.left rest) rest ≡ rows_taken (met l.side l.fn.qty all) all)
+          × (l.cost + paid (met l.side l.left rest) rest ≡ paid (met l.side l.fn.qty all) all));
+      short : l.left ≤ l.fn.qty;
       bound : l.cost + l.left * greatest_price ≤ l.fn.qty * greatest_price;
       faulted : g.L.LotSource.faulted l.source ≡ g.L.LotSource.faulted l.fn.source;
-      given : (n : ℕ) × (rest ≡ drop n all);
+      given : g.L.LotSource.is_told l.source → (all : List Lot) → g.L.LotSource.rests l.fn.source all → (n : ℕ) × g.L.LotSource.rests l.source (drop n all);
     }
 
 abbrev pub decreases-loop-left : goal.decreases-loop-left

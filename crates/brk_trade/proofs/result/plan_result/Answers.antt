@@ -1,12 +1,17 @@
-use Rattle.std.proofs.Common.{rules, arith, ◌≡◌, Some, sym, ap, subst, ◌∙◌}
+use Rattle.std.proofs.Common.{rules, arith, ◌≡◌, ℕ, List, Some, refl, sym, ap, subst, ◌∙◌}
 use Rattle.brk_lots.specs.Closing.{IsClosing}
+use Rattle.brk_lots.specs.Lots.{shares_of}
+use Rattle.brk_lots.specs.Sources.{AsTold}
+use Rattle.brk_lots.specs.Values.{values_of}
+use Rattle.brk_lots.specs.declared.lot.Lot.{Lot}
+use Rattle.brk_model.specs.Tests.{first_refusal}
 use Rattle.brk_money.specs.Moments.{stamp_after}
-use Rattle.brk_trade.specs.Outcomes.{deal_of, first_tests, last_tests, values_in}
-use Rattle.brk_trade.specs.Results.{AreChanges, IsCompletion, moment_of, told_of}
+use Rattle.brk_trade.specs.Outcomes.{deal_of, first_tests, last_tests, result_tests, values_in}
+use Rattle.brk_trade.specs.Results.{AreChanges, AreMet, IsCompletion, moment_of, told_of}
 use Rattle.brk_trade.specs.declared.outcome.Outcome.{Outcome}
 use Rattle.brk_plans.specs.declared.plan.Plan.{Plan}
 use Rattle.brk_plans.specs.declared.reply.Reply.TheVariants.{Completed}
-use Rattle.brk_trade.proofs.Results.{first_after, refused_by_values, touched_count}
+use Rattle.brk_trade.proofs.Results.{first_after, first_refuses, refused_by_values, touched_count}
 use Rattle.brk_trade.proofs.result.plan_result.Goals as goal
 use Rattle.brk_trade.proofs.result.plan_result.Goals.{in-Some-moved, in-None}
 
@@ -16,17 +21,20 @@ returns-in-Err-complete-clause-planned g c =
     let closing = c.in_ok-closing.closing in
     let moved : c.match-moved.moved ≡ stamp_after c.args.last c.args.now = elim c.match-moved.branch [ in-Some-moved w ↦ search rules | in-None w ↦ search rules ] in
     let told = rw moved at c.in-Err-complete.ensures in
-    rw c.in-Some.is (λ ls stamp e.
-    let closes : IsClosing (deal_of found.trade c.args.price c.match-moved.at) ls closing = rw c.side.ensures at (c.in_ok-closing.ensures.closing ls found.trade.is_lifo e) in
-    refused_by_values found c.args.price ls c.match-moved.at stamp closing (stamp_after c.args.last c.args.now) c.in-Err-complete.refusal closes c.in-Ok.ensures.0 told)
+    let refusal = c.in-Err-complete.refusal in
+    let late : (ls : List Lot) (stamp : ℕ) → AreMet (AsTold (g.L.LotSource.is_told c.close_met.new.source) (g.L.LotSource.rests c.args.source.now)) found ls
+    → first_refusal (result_tests found c.args.price (values_of (deal_of found.trade c.args.price stamp) (shares_of ls)) (stamp_after c.args.last c.args.now)) ≡ Some refusal = λ ls stamp met.
+    let closes : IsClosing (deal_of found.trade c.args.price c.match-moved.at) ls closing = c.in_ok-closing.ensures.closing ls met in
+    refused_by_values found c.args.price ls c.match-moved.at stamp closing (stamp_after c.args.last c.args.now) refusal closes c.in-Ok.ensures.0 told in
+    rw c.in-Some.is (record { early = rw c.in-Ok.ensures.0 tt; late = late })
 
 pub returns-in-Err-complete-clause-asked : goal.returns-in-Err-complete-clause-asked
 returns-in-Err-complete-clause-asked g c =
     let found = c.in-Some.found.now in
     let closing = c.in_ok-closing.closing in
     let at : c.match-moved.at ≡ moment_of (stamp_after c.args.last c.args.now) c.args.now = elim c.match-moved.branch [ in-Some-moved w ↦ search rules | in-None w ↦ search rules ] in
-    rw (c.in-Some.is, ← at) (λ ls e.
-    let closes : IsClosing (deal_of found.trade c.args.price c.match-moved.at) ls closing = rw c.side.ensures at (c.in_ok-closing.ensures.closing ls found.trade.is_lifo e) in
+    rw (c.in-Some.is, ← at) (λ ls met.
+    let closes : IsClosing (deal_of found.trade c.args.price c.match-moved.at) ls closing = c.in_ok-closing.ensures.closing ls met in
     let count = touched_count (deal_of found.trade c.args.price c.match-moved.at) ls closing closes in
     omega (arith, c.in_ok-closing.ensures.asked, count, closing.touched.ok.0))
 
@@ -44,11 +52,11 @@ returns-clause-planned g c =
     let tested = rw done.1 at done.0 in
     let changed : Outcome → Type 0 = λ o. AreChanges found price closing o c.in_ok-changes.changes.items in
     let plan : Plan = record { changes = c.in_ok-changes.changes; reply = Completed c.told.result } in
-    let completed : IsCompletion found price (g.L.LotSource.rest c.args.source.now) c.args.last c.args.now plan = record {
+    let completed : IsCompletion found price (AsTold (g.L.LotSource.is_told c.close_met.new.source) (g.L.LotSource.rests c.args.source.now)) c.args.last c.args.now plan = record {
       stamp = outcome.stamp;
       closing = closing;
       stamped = stamped;
-      closes = λ ls e. rw (c.side.ensures, stamp) at (c.in_ok-closing.ensures.closing ls found.trade.is_lifo e);
+      closes = λ ls met. rw stamp at (c.in_ok-closing.ensures.closing ls met);
       accepted = first_after (first_tests found) (last_tests found price (values_in closing) (Some outcome.stamp)) c.in-Ok.ensures.0 ∙ tested;
       told = ap Completed (c.told.ensures ∙ ap told_of done.2);
       changes = subst changed done.2 c.in_ok-changes.ensures.changes;
@@ -60,7 +68,16 @@ returns-clause-asked g c =
     let found = c.in-Some.found.now in
     let closing = c.in_ok-closing.closing in
     let at : c.match-moved.at ≡ moment_of (stamp_after c.args.last c.args.now) c.args.now = elim c.match-moved.branch [ in-Some-moved w ↦ search rules | in-None w ↦ search rules ] in
-    rw (c.in-Some.is, ← at) (λ ls e.
-    let closes : IsClosing (deal_of found.trade c.args.price c.match-moved.at) ls closing = rw c.side.ensures at (c.in_ok-closing.ensures.closing ls found.trade.is_lifo e) in
+    rw (c.in-Some.is, ← at) (λ ls met.
+    let closes : IsClosing (deal_of found.trade c.args.price c.match-moved.at) ls closing = c.in_ok-closing.ensures.closing ls met in
     let count = touched_count (deal_of found.trade c.args.price c.match-moved.at) ls closing closes in
     omega (arith, c.in_ok-closing.ensures.asked, count, closing.touched.ok.0))
+
+pub returns-in-Err-clause-planned : goal.returns-in-Err-clause-planned
+returns-in-Err-clause-planned g c =
+    let found = c.in-Some.found.now in
+    let cause = c.in-Err.ensures in
+    rw c.in-Some.is (record {
+      early = rw cause refl;
+      late = λ ls stamp met. first_refuses found c.args.price (values_of (deal_of found.trade c.args.price stamp) (shares_of ls)) (stamp_after c.args.last c.args.now) c.in-Err.refusal cause;
+    })

@@ -1,3 +1,4 @@
+use Rattle.brk_lots.specs.Sources.{Exactly}
 use Rattle.brk_trade_laws.proofs.OrderDoing.{order_refusal_read, order_refused, plan_order_does}
 use Rattle.brk_trade_laws.proofs.order_plans.order_plans_do_commands.Goals as goal
 
@@ -8,4 +9,4 @@ pub returns-clause-refused : goal.returns-clause-refused
 returns-clause-refused c = order_refused
 
 pub returns-clause-done : goal.returns-clause-done
-returns-clause-done c = plan_order_does
+returns-clause-done c base order found lots = plan_order_does base order found (Exactly lots)

@@ -1,4 +1,4 @@
-use Rattle.std.proofs.Common.{arith, ◌≡◌, ◌≢◌, ◌+◌, ◌++◌, List, ◌∷◌, drop, map, sym, ap, ◌∙◌}
+use Rattle.std.proofs.Common.{arith, ◌≡◌, ◌+◌, ◌++◌, List, ◌∷◌, drop, map, sym, ap, ◌∙◌}
 use Rattle.std.proofs.lemmas.List.{append_assoc, drop_more}
 use Rattle.brk_model.specs.Shares.{Share, shares_after}
 use Rattle.brk_model.specs.Tables.{HoldingHistoryRow}
@@ -7,19 +7,8 @@ use Rattle.brk_lots.specs.declared.deal.Deal.{Deal}
 use Rattle.brk_lots.specs.Lots.{shares_of, plain_deal}
 use Rattle.brk_lots.specs.Position.{IsPosition}
 use Rattle.brk_lots.specs.Closing.{IsClosing}
-use Rattle.brk_lots.proofs.Ends.{all_end}
 use Rattle.brk_lots.proofs.Deals.{old_lots, older_after}
 use Rattle.brk_lots.proofs.position.Position.replay_with.Goals as goal
-
-pub close-requires-clause-fresh : goal.close-requires-clause-fresh
-close-requires-clause-fresh c =
-    let deals = c.args.deals.now in
-    let i = c.loop-deal.deal-index in
-    let d : Deal = c.deal-item.result in
-    let e : drop i deals ≡ d ∷ drop (i + 1) deals = drop_more deals i d (omega arith) ∙ ap (λ (x : Deal). x ∷ drop (i + 1) deals) (sym c.deal-item.is) in
-    let h = rw e at c.loop-deal.invariant.older in
-    let p : IsPosition c.loop-deal.position = rw (← c.position.view_is) c.position.invariant.1 in
-    rw c.from_end-end.ensures.rest (all_end (λ l. l.trade ≢ d.trade) d.lifo c.loop-deal.position (old_lots (plain_deal d) c.loop-deal.position p h.0).0)
 
 pub apply-requires : goal.apply-requires
 apply-requires c =
@@ -30,7 +19,7 @@ apply-requires c =
     let h = rw e at c.loop-deal.invariant.older in
     let p : IsPosition c.loop-deal.position = rw (← c.position.view_is) c.position.invariant.1 in
     let o = old_lots (plain_deal d) c.loop-deal.position p h.0 in
-    let k : IsClosing (plain_deal d) c.loop-deal.position c.in_ok-closing.closing = c.in_ok-closing.ensures.closing c.loop-deal.position d.lifo c.from_end-end.ensures.rest in
+    let k : IsClosing (plain_deal d) c.loop-deal.position c.in_ok-closing.closing = c.in_ok-closing.ensures.closing c.loop-deal.position d.lifo ((tt, c.from_end-end.ensures.rests), c.from_end-end.ensures.walk) o.0 in
     (plain_deal d, record { closes = k; fresh = o.0; later = o.1 })
 
 pub loop-deal-preserved : goal.loop-deal-preserved
@@ -44,7 +33,7 @@ loop-deal-preserved c =
     let s = rw e at c.loop-deal.invariant.shares in
     let p : IsPosition c.loop-deal.position = rw (← c.position.view_is) c.position.invariant.1 in
     let o = old_lots (plain_deal d) c.loop-deal.position p h.0 in
-    let k : IsClosing (plain_deal d) c.loop-deal.position c.in_ok-closing.closing = c.in_ok-closing.ensures.closing c.loop-deal.position d.lifo c.from_end-end.ensures.rest in
+    let k : IsClosing (plain_deal d) c.loop-deal.position c.in_ok-closing.closing = c.in_ok-closing.ensures.closing c.loop-deal.position d.lifo ((tt, c.from_end-end.ensures.rests), c.from_end-end.ensures.walk) o.0 in
     let t : shares_of c.apply.new.self ≡ shares_after (shares_of c.loop-deal.position) (plain_deal d) = c.in_ok-apply.ensures.shares (plain_deal d) (record { closes = k; fresh = o.0; later = o.1 }) in
     let d' = plain_deal d in
     let us = shares_of c.loop-deal.position in

@@ -1,0 +1,61 @@
+//! Trades that close nothing of what is held.
+
+ghost use Rattle.std.specs.Prelude.{◌≡◌, List, Bool, false, pos};
+ghost use Rattle.brk_model.specs.Shares as model;
+ghost use Rattle.brk_lots.specs.declared.lot.Lot.{Lot};
+ghost use Rattle.brk_lots.specs.Against.{is_against};
+ghost use Rattle.brk_lots.specs.Books.{lots_total};
+ghost use Rattle.brk_lots.specs.Closing.{IsClosing};
+ghost use Rattle.brk_lots.specs.Lots.{shares_of};
+ghost use Rattle.brk_lots.specs.Position.{IsNew, IsWalk};
+ghost use Rattle.brk_lots.specs.Values.{values_of};
+
+use crate::closing::{Closing, opened_lot};
+use crate::values::Values;
+use brk_money::{Amount, Id, Price, Qty, Side, Stamp, Wide};
+use std::alloc::Global;
+
+/// Whether so many shares, held in all (HS_QTY), are on the other side of a trade: bought ones for a sale, and those sold
+/// short for a purchase. Where they are not, the trade closes no lot.
+pub fn is_against(side: Side, held: i64) -> bool
+    ensures { result ≡ is_against side held }
+{
+    match side {
+        Side::Buy => held < 0,
+        Side::Sell => held > 0,
+    }
+}
+
+/// What a trade does to a position that has nothing on its other side: it opens a lot of all its shares (Trade-Result). It
+/// takes no memory.
+pub fn open_whole(
+    alloc: Global,
+    side: Side,
+    qty: Qty,
+    trade: Id,
+    price: Price,
+    stamp: Stamp,
+) -> Closing
+    ensures closing { (ls : List Lot) (lifo : Bool) → IsWalk ls → IsNew trade ls → is_against side (lots_total ls) ≡ false →
+        IsClosing (record { trade = trade; side = side; qty = qty; price = price; stamp = stamp; is_lifo = lifo }) ls result }
+    ensures bought { result.buy_value ≡ pos 0 }
+    ensures sold { result.sell_value ≡ pos 0 }
+{
+    Closing {
+        touched: Vec::new(alloc),
+        opened: opened_lot(side, qty.get(), trade, price, stamp),
+        buy_value: Wide::new(0),
+        sell_value: Wide::new(0),
+    }
+}
+
+/// What the shares were bought for and sold for that an order would close of a position that has nothing on its other side:
+/// nothing.
+pub fn no_values() -> Values
+    ensures { (d : model.Deal) (ls : List Lot) → IsWalk ls → is_against d.side (lots_total ls) ≡ false → result ≡ values_of d (shares_of ls) }
+{
+    Values {
+        buy_value: Amount::new(0).unwrap(),
+        sell_value: Amount::new(0).unwrap(),
+    }
+}
