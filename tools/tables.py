@@ -277,8 +277,9 @@ use Rattle.sqlite_resolve.specs.declared.compiled.Compiled.{Compiled}
 use Rattle.sqlite.specs.Listing.{understood}
 '''
 
-def select(crate, name, t, tests, order, limit=None, shown=None):
-    """order: [(column, falls)]; limit: a parameter's number or ('lit', n); shown: columns, and else all of them."""
+def select(crate, name, t, tests, order, limit=None, shown=None, offset=None):
+    """order: [(column, falls)]; limit: a parameter's number or ('lit', n); shown: columns, and else all of them; offset: a
+    parameter's number."""
     sql, cols, rowkey = TABLES[t]
     names = shown or [c for c, _ in cols]
     text = f'SELECT {", ".join(names)} FROM {sql}'
@@ -287,8 +288,12 @@ def select(crate, name, t, tests, order, limit=None, shown=None):
     text += f' ORDER BY {", ".join(c + (" DESC" if f else "") for c, f in order)}'
     if limit is not None:
         text += f' LIMIT ' + (f'?{limit}' if isinstance(limit, int) else str(limit[1]))
+    if offset is not None:
+        text += f' OFFSET ?{offset}'
     lim_e = 'None' if limit is None else ('Some (e.Parameter %d)' % limit if isinstance(limit, int) else f'Some (e.Integer ({q(limit[1])}))')
     lim_t = 'lit (Int (negsuc 0))' if limit is None else (f'col 0 {limit - 1}' if isinstance(limit, int) else f'lit (Int (pos {limit[1]}))')
+    off_e = 'None' if offset is None else f'Some (e.Parameter {offset})'
+    off_t = 'lit (Int (pos 0))' if offset is None else f'col 0 {offset - 1}'
     b = lambda x: 'true' if x else 'false'
     n1 = len(names)
     n2 = n1 + (4 * len(tests) - 1 if tests else 0)
@@ -324,7 +329,7 @@ abbrev pub by : List Sort
 by = {lst(f'roll-Sort (record {{ key = e.Column None ({q(c)}); descending = {b(f)}; nulls_first = None }})' for c, f in order)}
 
 abbrev pub select : ast.Select
-select = ast.roll-Select (record {{ with = []; first = core; others = []; order = by; limit = {lim_e}; offset = None }})
+select = ast.roll-Select (record {{ with = []; first = core; others = []; order = by; limit = {lim_e}; offset = {off_e} }})
 
 abbrev pub terms : List Term
 terms = {test_terms(t, tests)}
@@ -336,7 +341,7 @@ abbrev pub order : List (Term × Key)
 order = {lst(f'(col 1 {place(t, c)}, record {{ collation = Binary; descending = {b(f)} }})' for c, f in order)}
 
 abbrev pub paging : Term × Term
-paging = ({lim_t}, lit (Int (pos 0)))
+paging = ({lim_t}, {off_t})
 
 abbrev pub draft : ℕ → Draft
 draft tree = record {{ from = chain (Inner tree ∷ []); filter = terms; group = None; project = project; distinct = false; collations = []; order = order; limit = paging.0; offset = paging.1 }}
@@ -686,6 +691,8 @@ STATEMENTS = {
         (update, 'SetStatus', 'trade', [('T_ST_ID', 1), ('T_DTS', 2)], [('T_ID', 3)]),
         (update, 'CompleteTrade', 'trade', [('T_ST_ID', 1), ('T_DTS', 2), ('T_TRADE_PRICE', 3), ('T_COMM', 4), ('T_TAX', 5)], [('T_ID', 6)]),
         (select, 'LotsOf', 'holding', [('H_CA_ID', 1), ('H_S_SYMB', 2)], [('H_DTS', False), ('H_T_ID', False)]),
+        (select, 'OldestLots', 'holding', [('H_CA_ID', 1), ('H_S_SYMB', 2)], [('H_DTS', False), ('H_T_ID', False)], ('lit', 16), None, 3),
+        (select, 'NewestLots', 'holding', [('H_CA_ID', 1), ('H_S_SYMB', 2)], [('H_DTS', True), ('H_T_ID', True)], ('lit', 16), None, 3),
         (select, 'SummaryOf', 'summary', [('HS_CA_ID', 1), ('HS_S_SYMB', 2)], [('HS_CA_ID', False), ('HS_S_SYMB', False)]),
         (select, 'SummariesOf', 'summary', [('HS_CA_ID', 1)], [('HS_CA_ID', False), ('HS_S_SYMB', False)]),
         (insert, 'AddLot', 'holding', [1, 2, 3, 4, 5, 6]),

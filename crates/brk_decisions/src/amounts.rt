@@ -8,7 +8,7 @@ ghost use Rattle.brk_store.specs.Holds.{IsRead};
 ghost use Rattle.brk_changes.specs.Rows.{summary_row_of};
 
 use crate::known::known_price;
-use crate::result_finding::find_summary;
+use crate::summary_finding::find_summary;
 use crate::terms::sum_rates;
 use brk_money::{Cents, Fault, Id, Price, TaxRate, Wide};
 use brk_orders::Order;

@@ -10,10 +10,10 @@ mod known;
 pub mod order;
 mod order_finding;
 mod parties;
-mod position_finding;
 pub mod reference;
 pub mod result;
 mod result_finding;
+mod summary_finding;
 mod terms;
 mod tested;
 

@@ -8,3 +8,4 @@ pub mod Taking
 pub mod Texts
 pub mod WalkedLists
 pub mod Walking
+pub mod Turning

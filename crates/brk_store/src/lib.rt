@@ -7,6 +7,7 @@ mod beginning;
 pub mod calling;
 mod changing;
 mod numbers;
+pub mod pages;
 mod reading;
 pub mod reopening;
 pub mod store;
@@ -15,4 +16,5 @@ mod trades;
 pub mod walks;
 
 pub use brk_tables_walks::{Stop, Visitor};
+pub use pages::{LotPages, Page, Pages};
 pub use store::Store;

@@ -10,6 +10,9 @@ pub mod SubmittedTrades
 pub mod RequestsOf
 pub mod LastTradeBySymbol
 pub mod LotsOf
+pub mod OldestLots
+pub mod NewestLots
+pub mod Turned
 pub mod SummariesOf
 pub mod SummaryOf
 pub mod SetLastTrade

@@ -5,7 +5,7 @@ use Rattle.brk_changes.specs.Rows.{summary_row_of}
 use Rattle.brk_trade_laws.specs.TradeReads.{summary_in}
 use Rattle.brk_store.proofs.Retelling.{retold}
 use Rattle.brk_decisions.proofs.ResultReading.{number_in}
-use Rattle.brk_decisions.proofs.result_finding.find_summary.Goals as goal
+use Rattle.brk_decisions.proofs.summary_finding.find_summary.Goals as goal
 
 pub returns-clause-read : goal.returns-clause-read
 returns-clause-read g c =
