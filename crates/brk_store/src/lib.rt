@@ -11,5 +11,6 @@ pub mod reopening;
 pub mod store;
 mod terms;
 mod trades;
+mod updates;
 
 pub use store::Store;
