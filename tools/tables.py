@@ -706,6 +706,13 @@ STATEMENTS = {
         (insert, 'AddCash', 'cash', [1, 2, 3, 4]),
         (update, 'SetBalance', 'account', [('CA_BAL', 1)], [('CA_ID', 2)]),
         (update, 'SetBrokerNumbers', 'broker', [('B_NUM_TRADES', 1), ('B_COMM_TOTAL', 2)], [('B_ID', 3)]),
+        (select, 'CompletedOfAccount', 'trade', [('T_ST_ID', 1), ('T_CA_ID', 2), ('T_DTS', 3, 'Ge'), ('T_DTS', 4, 'Le')], [('T_DTS', False), ('T_ID', False)], ('lit', 20)),
+        (select, 'CompletedCashOfSymbol', 'trade', [('T_ST_ID', 1), ('T_IS_CASH', 2), ('T_S_SYMB', 3), ('T_DTS', 4, 'Ge'), ('T_DTS', 5, 'Le')], [('T_DTS', False), ('T_ID', False)], ('lit', 20)),
+        (select, 'SettlementByTrade', 'settlement', [('SE_T_ID', 1)], [('SE_T_ID', False)]),
+        (select, 'CashByTrade', 'cash', [('CT_T_ID', 1)], [('CT_T_ID', False)]),
+        (update, 'SetExecutor', 'trade', [('T_EXEC_NAME', 1)], [('T_ID', 2)]),
+        (update, 'SetCashType', 'settlement', [('SE_CASH_TYPE', 1)], [('SE_T_ID', 2)]),
+        (update, 'SetCashName', 'cash', [('CT_NAME', 1)], [('CT_T_ID', 2)]),
     ],
     'brk_tables_walks': [
         (select, 'TradesOf', 'trade', [('T_CA_ID', 1)], [('T_ID', False)], None, ['T_ID']),

@@ -11,6 +11,7 @@ use brk_decisions::{decide_cancel, decide_feed, decide_order, decide_reference, 
 use brk_money::{Planned, Stamp};
 use brk_store::Store;
 use brk_trade::Plan;
+use brk_updates::decide_update;
 use sqlite::Alter;
 use std::alloc::Global;
 
@@ -30,5 +31,6 @@ pub(crate) fn decide<S: Alter>(
         Command::Feed(feed) => decide_feed(alloc, store, now, feed),
         Command::Cancel(trade) => decide_cancel(alloc, store, now, *trade),
         Command::Complete(completion) => decide_result(alloc, store, now, completion),
+        Command::Update(update) => decide_update(alloc, store, now, update),
     }
 }

@@ -14,6 +14,7 @@ pub mod store;
 mod terms;
 mod trades;
 pub mod walks;
+mod updates;
 
 pub use brk_tables_walks::{Stop, Visitor};
 pub use pages::{LotPages, Page, Pages};

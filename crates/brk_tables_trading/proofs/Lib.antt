@@ -33,3 +33,12 @@ pub mod AddCash
 pub mod SetBalance
 pub mod SetBrokerNumbers
 pub mod HoldingWrites
+pub mod CompletedOfAccount
+pub mod CompletedCashOfSymbol
+pub mod SettlementByTrade
+pub mod CashByTrade
+pub mod SetExecutor
+pub mod SetCashType
+pub mod SetCashName
+pub mod UpdateReads
+pub mod UpdateWrites
