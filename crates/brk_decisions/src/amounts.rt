@@ -65,8 +65,12 @@ fn add_worth<S: Alter>(store: &mut Store<S>, amount: Wide, row: &SummaryRow) -> 
     }
 }
 
-// The worth of what an account holds at the last prices, in cents.
-fn sum_worth<S: Alter>(alloc: Global, store: &mut Store<S>, account: Id) -> Result<Wide, Fault>
+/// The worth of what an account holds at the last prices, in cents. Shares that were sold short count below 0.
+pub fn sum_worth<S: Alter>(
+    alloc: Global,
+    store: &mut Store<S>,
+    account: Id,
+) -> Result<Wide, Fault>
     ensures read { IsRead S.Store store.old store.new result (λ worth t. worth ≡ worth_of t account) }
     ensures fault { IfErr result MayFail }
 {

@@ -1,7 +1,7 @@
 //! What is decided on a command: the tables are read, and the command is refused or planned.
 #![tactic(auto)]
 
-mod amounts;
+pub mod amounts;
 pub mod cancel;
 pub mod estimate;
 pub mod feed;
@@ -17,6 +17,7 @@ mod result_finding;
 mod terms;
 mod tested;
 
+pub use amounts::sum_worth;
 pub use cancel::decide_cancel;
 pub use estimate::decide_estimate;
 pub use feed::decide_feed;

@@ -5,6 +5,7 @@ pub mod adopting;
 mod auditing;
 mod beginning;
 mod changing;
+mod looking;
 mod numbers;
 mod reading;
 pub mod reopening;

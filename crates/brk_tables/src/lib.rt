@@ -13,7 +13,7 @@ pub use brk_tables_reference::{
 };
 pub use brk_tables_trading::{
     add_cash, add_lot, add_lot_change, add_request, add_settlement, add_summary, add_trade,
-    add_trade_history, complete_trade, last_trade_by_symbol, last_trade_id, lots_of, remove_lot,
+    add_trade_history, complete_trade, history_of, last_fifty_of_account, last_ten_of_account, last_trade_by_symbol, last_trade_id, lots_of, remove_lot,
     remove_request, remove_summary, requests_of, set_balance, set_broker_numbers, set_last_trade,
     set_lot, set_status, set_summary, submitted_trades, summaries_of, summary_of, trade_by_id,
 };
