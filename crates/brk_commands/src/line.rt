@@ -82,8 +82,8 @@ fn canceled_text(alloc: Global, stamp: Stamp) -> Result<String, AllocError>
     format!(in alloc; "{},CNCL", stamp.get().unsigned_abs())
 }
 
-// The text of a day.
-fn day_text(alloc: Global, day: Day) -> Result<String, Fault>
+/// The text of a day, YYYY-MM-DD.
+pub fn day_text(alloc: Global, day: Day) -> Result<String, Fault>
     ensures text { IfOk result (λ text. string_bytes text ≡ spelling.day_text day) }
     ensures fault { OnErr result (result ≡ Err Memory) }
 {

@@ -1,6 +1,5 @@
 pub mod Commands
 pub mod Answers
-pub mod Asking
 pub mod Keeping
 pub mod Keys
 pub mod Stops

@@ -6,6 +6,7 @@ mod auditing;
 mod beginning;
 pub mod calling;
 mod changing;
+mod looking;
 mod numbers;
 pub mod pages;
 mod reading;

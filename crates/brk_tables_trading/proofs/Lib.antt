@@ -20,6 +20,10 @@ pub mod SetStatus
 pub mod CompleteTrade
 pub mod Writes
 pub mod Tells
+pub mod LastTenOfAccount
+pub mod LastFiftyOfAccount
+pub mod HistoryOf
+pub mod LookingReads
 pub mod Holding
 pub mod AddLot
 pub mod SetLot

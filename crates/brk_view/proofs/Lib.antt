@@ -1,1 +1,4 @@
 pub mod ById
+pub mod Joined
+pub mod Putting
+pub mod Shown

@@ -5,9 +5,9 @@ use Rattle.brk_model.specs.Queries.{SubmittedTrades}
 use Rattle.brk_model.specs.Tables.{Tables, TradeRow}
 use Rattle.brk_changes.specs.Rows.{trade_row_of}
 use Rattle.brk_store.proofs.Retelling.{retold}
-use Rattle.brk_desk.specs.Asking.{Shows}
-use Rattle.brk_desk.proofs.Asked.{submitted_shown}
-use Rattle.brk_desk.proofs.asking.see_submitted.Goals as goal
+use Rattle.brk_looking.specs.Shows.{Shows}
+use Rattle.brk_looking.proofs.Orders.{submitted_shown}
+use Rattle.brk_looking.proofs.orders.see_submitted.Goals as goal
 
 pub returns-clause-read : goal.returns-clause-read
 returns-clause-read g c =

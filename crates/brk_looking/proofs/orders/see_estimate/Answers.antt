@@ -4,9 +4,9 @@ use Rattle.brk_orders.specs.Records.{order_of}
 use Rattle.brk_view.specs.declared.view.View.TheVariants as views
 use Rattle.brk_store.proofs.Retelling.{retold}
 use Rattle.brk_decisions.specs.Decisions.{Tells}
-use Rattle.brk_desk.specs.Asking.{Shows}
-use Rattle.brk_desk.proofs.Asked.{estimate_refused, estimate_shown}
-use Rattle.brk_desk.proofs.asking.see_estimate.Goals as goal
+use Rattle.brk_looking.specs.Shows.{Shows}
+use Rattle.brk_looking.proofs.Orders.{estimate_refused, estimate_shown}
+use Rattle.brk_looking.proofs.orders.see_estimate.Goals as goal
 
 pub returns-in-Ok-clause-read : goal.returns-in-Ok-clause-read
 returns-in-Ok-clause-read g c =

@@ -1,0 +1,5 @@
+pub mod Asking
+pub mod Each
+pub mod Orders
+pub mod Accounts
+pub mod Recents
