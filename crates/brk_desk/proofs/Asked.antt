@@ -10,7 +10,7 @@ use Rattle.brk_model.specs.Sheets.{sheets}
 use Rattle.brk_view.specs.declared.view.View.{View}
 use Rattle.brk_rows.proofs.Inside.{clean_before}
 use Rattle.brk_store.specs.Holds.{IsRead}
-use Rattle.brk_looking.specs.Shows.{Shows}
+use Rattle.brk_desk.specs.Shows.{Shows}
 use Rattle.brk_desk.specs.Keeping.{IsAsked}
 use Rattle.brk_desk.proofs.Seen.{still_kept}
 

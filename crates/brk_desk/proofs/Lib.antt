@@ -1,3 +1,10 @@
+mod Correcting
+mod CorrectionsFinding
+pub mod Asking
+pub mod Each
+pub mod Orders
+pub mod Accounts
+pub mod Recents
 pub mod Seen
 pub mod RowTexts
 pub mod Audits

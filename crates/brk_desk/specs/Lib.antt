@@ -1,3 +1,4 @@
+pub mod Shows
 pub mod Commands
 pub mod Answers
 pub mod Keeping

@@ -11,5 +11,5 @@ use std::alloc::Global;
 pub(crate) fn look<S: Alter>(alloc: Global, store: &mut Store<S>, query: &Query) -> Planned<View>
     ensures asked { IsAsked S.Store store.old store.new (query_of query.now) result }
 {
-    brk_looking::look(alloc, store, query)
+    crate::looking::look(alloc, store, query)
 }

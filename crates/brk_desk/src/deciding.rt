@@ -11,7 +11,7 @@ use brk_decisions::{decide_cancel, decide_feed, decide_order, decide_reference, 
 use brk_money::{Planned, Stamp};
 use brk_store::Store;
 use brk_trade::Plan;
-use brk_updates::decide_update;
+use crate::corrections::decide_update;
 use sqlite::Alter;
 use std::alloc::Global;
 

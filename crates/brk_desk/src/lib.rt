@@ -1,15 +1,22 @@
 //! The desk: commands booked as they are decided on, with or without keys, and queries answered.
 #![tactic(auto)]
 
+mod accounts;
 pub mod answer;
 mod asking;
 pub mod beginning;
 mod booking;
 pub mod call;
+pub mod corrections;
+mod corrections_finding;
+mod corrections_known;
 mod deciding;
 pub mod desk;
 pub mod head;
 mod keeping;
+pub mod looking;
+mod orders;
+mod recents;
 
 pub use answer::Answer;
 pub use brk_commands::{Command, line_text, parse_row, row_text};

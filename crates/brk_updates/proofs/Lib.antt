@@ -1,2 +1,0 @@
-mod Deciding
-mod Finding
