@@ -34,14 +34,14 @@ planned_over (Some found) price given known last now is_given (Ok plan) p = reco
   stamp = p.stamp;
   closing = p.closing;
   stamped = p.stamped;
-  closes = λ ls met. p.closes ls ((is_given (from_end found.trade.is_lifo ls) met.0.0, met.0.1), met.1);
+  closes = λ ls met. p.closes ls ((is_given (from_end found.trade.is_lifo ls) met.0.0, met.0.1), met.1, met.2);
   accepted = p.accepted;
   told = p.told;
   changes = p.changes;
 }
 planned_over (Some found) price given known last now is_given (Err refusal) p = record {
   early = p.early;
-  late = λ ls stamp met. p.late ls stamp ((is_given (from_end found.trade.is_lifo ls) met.0.0, met.0.1), met.1);
+  late = λ ls stamp met. p.late ls stamp ((is_given (from_end found.trade.is_lifo ls) met.0.0, met.0.1), met.1, met.2);
 }
 
 -- and so it is over the lots of whatever tables are held
