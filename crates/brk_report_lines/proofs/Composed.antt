@@ -7,7 +7,7 @@ use Rattle.brk_money.specs.Spelling.{Text}
 use Rattle.brk_model.specs.Statement.{lines_text}
 use Rattle.brk_report_lines.specs.declared.fault.StatementFault.{StatementFault}
 use Rattle.brk_report_lines.specs.declared.fault.StatementFault.TheVariants.{Refused, Desk, Write}
-use Rattle.brk_report_lines.specs.Written.{BreaksIn, BreaksOff, WroteFirst, WrotePart, ended}
+use Rattle.brk_report_lines.specs.Written.{BreaksIn, BreaksOff, WroteFirst, ended}
 
 pub appends_none : (a : Option Text) → Appends a a []
 appends_none None = tt
