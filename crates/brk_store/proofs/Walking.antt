@@ -3,7 +3,7 @@ use Rattle.std.proofs.Common.{◌≡◌, ℕ, Bool, true, false, cond, MatchBool
 use Rattle.std.specs.List.{FoldsTo}
 use Rattle.sqlite_trees.specs.declared.store.Store.{Ghosts}
 use Rattle.sqlite.specs.Held.{Held, state}
-use Rattle.sqlite.specs.State.{State, HasCleanDisk, Survives}
+use Rattle.sqlite.specs.State.{HasCleanDisk}
 use Rattle.sqlite.proofs.StateLemmas.{survives_then}
 use Rattle.brk_model.specs.Lists.{contains_number}
 use Rattle.brk_model.specs.Run.{MayFail}
@@ -15,7 +15,7 @@ use Rattle.brk_tables_walks.specs.Walks as tables
 use Rattle.brk_tables_walks.specs.Walks.{BreaksOff, Takes, Walks}
 use Rattle.brk_tables_walks.specs.declared.walking.Stop.{Stop}
 use Rattle.brk_tables_walks.specs.declared.walking.Stop.TheVariants.{Failed, Cause}
-use Rattle.brk_store.specs.Holds.{Holds, IsRead, IsSame}
+use Rattle.brk_store.specs.Holds.{IsRead}
 use Rattle.brk_store.specs.Walked.{AreAll, AreFirst, IsWalked}
 
 -- ---- lists
@@ -149,10 +149,13 @@ module _ {S X M V W E : Type 0} (g : Ghosts S) (old mid new : Held S) (of : X �
     }
       where
         done : (r : Result (Unit {0}) (Stop E)) → HasCleanDisk (state g new) → OnOk r (Takes (tables.AreAll (state g mid) walked) of TakesMine before after) → OnOk r (Takes (AreAll g old list) of takes (inner before) (inner after))
-        done (Ok u) clean h =
-            (filter is_mine h.0, (mine_taken before h.0 after is_before h.1).0, λ t holds.
-            let has = read.kept t holds (clean_mid clean) h.2.0 in
-            map_filter of is_mine is_row (λ x. refl) h.0 ∙ ap (filter is_row) (h.2.1 t has) ∙ same t has (read.told (clean_mid clean) t holds))
+        done (Ok u) clean h = (
+          filter is_mine h.0,
+          (mine_taken before h.0 after is_before h.1).0,
+          λ t holds.
+              let has = read.kept t holds (clean_mid clean) h.2.0 in
+              map_filter of is_mine is_row (λ x. refl) h.0 ∙ ap (filter is_row) (h.2.1 t has) ∙ same t has (read.told (clean_mid clean) t holds),
+        )
         done (Err stop) clean h = tt
 
         opens : (r : Result (Unit {0}) (Stop E)) → HasCleanDisk (state g new) → OnOk r (IsTrue (state g old).is_open)

@@ -54,7 +54,12 @@ impl<S: Alter> Store<S> {
             trades: &trades,
             visitor,
         };
-        brk_tables_walks::walk_cash_between::<S, E, OfTrades<'_, V>>(&mut self.conn, from, to, &mut passing)
+        brk_tables_walks::walk_cash_between::<S, E, OfTrades<'_, V>>(
+            &mut self.conn,
+            from,
+            to,
+            &mut passing,
+        )
     }
 
     /// Hands the lots of an account to a visitor, by symbol and then by the moment of opening, until it stops at one.

@@ -1,4 +1,4 @@
-use Rattle.std.proofs.Common.{◌≡◌, refl, rules, subst}
+use Rattle.std.proofs.Common.{refl, rules, subst}
 use Rattle.brk_changes.specs.Rows.{cash_row_of}
 use Rattle.brk_tables_walks.specs.declared.cash.OfTrades.{OfTrades}
 use Rattle.brk_store.specs.Walked.{IsWalked, cash_of}
