@@ -1,3 +1,3 @@
 pub mod Keeping
 pub mod Section
-pub mod Parts
+pub mod Whole

@@ -14,6 +14,7 @@ use std::alloc::Global;
 use std::io::Write;
 
 /// How many cash rows were written, and the amount with what they moved.
+#[derive(Drop)]
 pub struct Moved {
     pub count: u64,
     pub total: Wide,
