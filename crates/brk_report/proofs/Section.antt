@@ -16,8 +16,8 @@ use Rattle.brk_store.specs.Walked.{AreFirst, IsWalked}
 use Rattle.brk_tables_walks.specs.declared.walking.Stop.{Stop}
 use Rattle.brk_tables_walks.specs.declared.walking.Stop.TheVariants.{Failed, Cause}
 use Rattle.brk_report_lines.specs.Written.{BreaksIn, BreaksOff, ended}
-use Rattle.brk_report_lines.specs.declared.fault.StatementFault.{StatementFault}
-use Rattle.brk_report_lines.specs.declared.fault.StatementFault.TheVariants.{Refused, Desk, Write}
+use Rattle.brk_report_lines.specs.declared.fault.LinesFault.{LinesFault}
+use Rattle.brk_report_lines.specs.declared.fault.LinesFault.TheVariants.{Desk, Write}
 use Rattle.brk_report_lines.proofs.Composed.{appends_none, breaks_before, breaks_behind}
 use lib.IntN.{+ℤ_assoc, +ℤ_idr}
 use Rattle.brk_report.specs.Stops.{fault_of}
@@ -27,17 +27,16 @@ map_parts f [] ys = refl
 map_parts f (x ∷ xs) ys = ap (λ l. f x ∷ l) (map_parts f xs ys)
 
 -- a part that may end with any line is one that may have all its lines written
-weaker : (lines : List Text) (a b : Option Text) (e : StatementFault) → BreaksIn lines a b e → BreaksOff lines a b e
-weaker lines a b (Refused r) h = absurd h
+weaker : (lines : List Text) (a b : Option Text) (e : LinesFault) → BreaksIn lines a b e → BreaksOff lines a b e
 weaker lines a b (Desk f) h = (h.0, (h.1.0, h.1.1 ∷ h.1.2, h.1.3, h.1.4))
 weaker lines a b Write h = h
 
-module _ {S X M V : Type 0} (g : Ghosts S) (old new : Held S) (of : X → M) (list : Tables → List M) (takes : V → X → V → Type 0) (stops : V → X → StatementFault → V → Type 0) (before after : V)
-    (t : Tables) (clean : HasCleanDisk (state g new)) (holds : Holds g old t) (result : Result (Unit {0}) (Stop StatementFault)) (walked : IsWalked g old new of list takes stops before after result) where
+module _ {S X M V : Type 0} (g : Ghosts S) (old new : Held S) (of : X → M) (list : Tables → List M) (takes : V → X → V → Type 0) (stops : V → X → LinesFault → V → Type 0) (before after : V)
+    (t : Tables) (clean : HasCleanDisk (state g new)) (holds : Holds g old t) (result : Result (Unit {0}) (Stop LinesFault)) (walked : IsWalked g old new of list takes stops before after result) where
   -- ---- lines
 
   module _ (line : M → Text) (contents : V → Option Text) (count : V → ℕ) (writes : (p : V) (x : X) (q : V) → takes p x q → Appends (contents p) (contents q) (ended (line (of x))) × (count q ≡ count p + 1))
-      (breaks : (p : V) (x : X) (e : StatementFault) (q : V) → stops p x e q → BreaksIn (line (of x) ∷ []) (contents p) (contents q) e) where
+      (breaks : (p : V) (x : X) (e : LinesFault) (q : V) → stops p x e q → BreaksIn (line (of x) ∷ []) (contents p) (contents q) e) where
     lines_taken : (p : V) (xs : List X) (q : V) → FoldsTo takes p xs q → Appends (contents p) (contents q) (lines_text (map line (map of xs))) × (count q ≡ count p + length (map of xs))
     lines_taken p [] q h = (subst (λ v. Appends (contents p) (contents v) []) h (appends_none (contents p)), omega (arith, ap count h))
     lines_taken p (x ∷ xs) q h =
@@ -52,7 +51,7 @@ module _ {S X M V : Type 0} (g : Ghosts S) (old new : Held S) (of : X → M) (li
         let same : map of h.0 ≡ list t = h.2 t holds in
         (subst (λ ms. Appends (contents before) (contents after) (lines_text (map line ms))) same f.0, omega (arith, f.1, none, ap length same))
 
-    pub written_first : (stop : Stop StatementFault) → result ≡ Err stop → BreaksOff (map line (list t)) (contents before) (contents after) (fault_of stop)
+    pub written_first : (stop : Stop LinesFault) → result ≡ Err stop → BreaksOff (map line (list t)) (contents before) (contents after) (fault_of stop)
     written_first (Failed fault) e =
         let h = rw e at (walked.early clean) in
         let b = h.1.2 t holds in

@@ -6,7 +6,7 @@ use Rattle.brk_model.specs.Statement.{amount_line, cash_before, cash_in, cash_li
 use Rattle.brk_model.specs.Tables.{Tables}
 use Rattle.brk_desk.specs.declared.head.Head.{Head}
 use Rattle.brk_report_lines.specs.Written.{BreaksIn}
-use Rattle.brk_report_lines.specs.declared.fault.StatementFault.{StatementFault}
+use Rattle.brk_report_lines.specs.declared.fault.LinesFault.{LinesFault}
 
 -- the first four
 abbrev pub top_lines : ℕ → Text → ℕ → ℕ → ℤ → List Text
@@ -19,7 +19,7 @@ days_lines t account from to opening =
     map cash_line (cash_within from to (cash_in t account)) ++ amount_line (codes "Closing") (opening +ℤ cash_total (cash_within from to (cash_in t account))) ∷ []
 
 -- they are written, and the answer is how many rows there are
-abbrev pub WritesDays : Tables → ℕ → ℕ → ℕ → ℤ → Option Text → Option Text → Result ℕ StatementFault → Type 0
+abbrev pub WritesDays : Tables → ℕ → ℕ → ℕ → ℤ → Option Text → Option Text → Result ℕ LinesFault → Type 0
 WritesDays t account from to opening old new (Ok count) = Appends old new (lines_text (days_lines t account from to opening)) × (count ≡ length (cash_within from to (cash_in t account)))
 WritesDays t account from to opening old new (Err e) = BreaksIn (days_lines t account from to opening) old new e
 

@@ -12,6 +12,8 @@ use Rattle.brk_model.specs.Statement.{cash_in, cash_line, cash_total, cash_withi
 use Rattle.brk_model.specs.Tables.{AccountRow, Tables}
 use Rattle.brk_store.specs.Holds.{Holds, IsSame}
 use Rattle.brk_report_lines.specs.Written.{BreaksOff, WroteFirst, WrotePart}
+use Rattle.brk_report_lines.specs.declared.fault.LinesFault.{LinesFault}
+use Rattle.brk_report_lines.specs.declared.fault.LinesFault.TheVariants as lines
 use Rattle.brk_report_lines.specs.declared.fault.StatementFault.{StatementFault}
 use Rattle.brk_report_lines.specs.declared.fault.StatementFault.TheVariants.{Refused, Desk, Write}
 use Rattle.brk_report.specs.declared.sections.Moved.{Moved}
@@ -32,19 +34,19 @@ OverRows g old new So = HasCleanDisk (state g new) → (t : Tables) → Holds g 
 -- ---- the parts of a statement
 
 -- the amount with cash rows, or a fault of the desk
-abbrev pub IsTotal : ℤ → Result ℤ StatementFault → Type 0
+abbrev pub IsTotal : ℤ → Result ℤ LinesFault → Type 0
 IsTotal total (Ok sum) = sum ≡ total
-IsTotal total (Err e) = (f : Fault) × (e ≡ Desk f) × MayFail f
+IsTotal total (Err e) = (f : Fault) × (e ≡ lines.Desk f) × MayFail f
 
 -- the lines of the cash rows of the days, how many they are, and an amount with what they moved
-abbrev pub WritesCash : Tables → ℕ → ℕ → ℕ → ℤ → Option Text → Option Text → Result Moved StatementFault → Type 0
+abbrev pub WritesCash : Tables → ℕ → ℕ → ℕ → ℤ → Option Text → Option Text → Result Moved LinesFault → Type 0
 WritesCash t account from to amount old new (Ok moved) =
     Appends old new (lines_text (map cash_line (cash_within from to (cash_in t account)))) × (moved.count ≡ length (cash_within from to (cash_in t account)))
     × (moved.total ≡ amount +ℤ cash_total (cash_within from to (cash_in t account)))
 WritesCash t account from to amount old new (Err e) = BreaksOff (map cash_line (cash_within from to (cash_in t account))) old new e
 
 -- the lines of the lots, and how many they are
-abbrev pub WritesLots : Tables → ℕ → Option Text → Option Text → Result ℕ StatementFault → Type 0
+abbrev pub WritesLots : Tables → ℕ → Option Text → Option Text → Result ℕ LinesFault → Type 0
 WritesLots t account old new (Ok count) = Appends old new (lines_text (map lot_line (lots_in t account))) × (count ≡ length (lots_in t account))
 WritesLots t account old new (Err e) = BreaksOff (map lot_line (lots_in t account)) old new e
 

@@ -8,7 +8,7 @@ use crate::sections::{write_cash, write_lots};
 use brk_desk::{Desk, Head};
 use brk_money::{Day, Id, Wide};
 use brk_report_lines::{
-    StatementFault, amount_line, counts_line, days_line, name_line, title_line, write_line,
+    LinesFault, amount_line, counts_line, days_line, name_line, title_line, write_line,
 };
 use sqlite::Alter;
 use std::alloc::Global;
@@ -23,7 +23,7 @@ pub(crate) fn write_top<W: Write>(
     to: Day,
     opening: Wide,
     writer: &mut W,
-) -> Result<(), StatementFault>
+) -> Result<(), LinesFault>
     ensures { Writes (top_lines account head.now.name from to opening) (W.contents writer.old) (W.contents writer.new) result }
 {
     write_line(writer, title_line(alloc, account))?;
@@ -41,7 +41,7 @@ pub(crate) fn write_days<W: Write, S: Alter>(
     to: Day,
     opening: Wide,
     writer: &mut W,
-) -> Result<u64, StatementFault>
+) -> Result<u64, LinesFault>
     ensures keeps { Keeps S.Store desk.old desk.new }
     ensures written { OverRows S.Store desk.old desk.new (λ t. WritesDays t account from to opening (W.contents writer.old) (W.contents writer.new) result) }
 {
@@ -58,7 +58,7 @@ pub(crate) fn write_held<W: Write, S: Alter>(
     holdings: Wide,
     cash: u64,
     writer: &mut W,
-) -> Result<(), StatementFault>
+) -> Result<(), LinesFault>
     ensures keeps { Keeps S.Store desk.old desk.new }
     ensures written { OverRows S.Store desk.old desk.new (λ t. Writes (held_lines t account holdings cash) (W.contents writer.old) (W.contents writer.new) result) }
 {

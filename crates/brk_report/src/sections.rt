@@ -8,23 +8,24 @@ ghost use Rattle.brk_report.specs.Stops.{fault_of};
 use crate::visitors::{CashLines, Lines, Sum};
 use brk_desk::{Desk, Stop};
 use brk_money::{Cents, Day, Id, Stamp, Wide};
-use brk_report_lines::{StatementFault, first_stamp, last_stamp, stamp_before};
+use brk_report_lines::{LinesFault, first_stamp, last_stamp, stamp_before};
 use sqlite::Alter;
 use std::alloc::Global;
 use std::io::Write;
 
 /// How many cash rows were written, and the amount with what they moved.
+#[derive(Drop)]
 pub struct Moved {
     pub count: u64,
     pub total: Wide,
 }
 
 // Why a walk of a statement ended.
-fn broken(stop: Stop<StatementFault>) -> StatementFault
+fn broken(stop: Stop<LinesFault>) -> LinesFault
     ensures { result ≡ fault_of stop }
 {
     match stop {
-        Stop::Failed(fault) => StatementFault::Desk(fault),
+        Stop::Failed(fault) => LinesFault::Desk(fault),
         Stop::Cause(fault) => fault,
     }
 }
@@ -36,7 +37,7 @@ pub(crate) fn sum_before<S: Alter>(
     account: Id,
     from: Day,
     opening: Cents,
-) -> Result<Wide, StatementFault>
+) -> Result<Wide, LinesFault>
     ensures keeps { Keeps S.Store desk.old desk.new }
     ensures sum { OverRows S.Store desk.old desk.new (λ t. IsTotal (opening +ℤ cash_total (cash_before from (cash_in t account))) result) }
 {
@@ -61,7 +62,7 @@ pub(crate) fn write_cash<W: Write, S: Alter>(
     to: Day,
     opening: Wide,
     writer: &mut W,
-) -> Result<Moved, StatementFault>
+) -> Result<Moved, LinesFault>
     ensures keeps { Keeps S.Store desk.old desk.new }
     ensures written { OverRows S.Store desk.old desk.new (λ t. WritesCash t account from to opening (W.contents writer.old) (W.contents writer.new) result) }
 {
@@ -88,7 +89,7 @@ pub(crate) fn write_lots<W: Write, S: Alter>(
     desk: &mut Desk<S>,
     account: Id,
     writer: &mut W,
-) -> Result<u64, StatementFault>
+) -> Result<u64, LinesFault>
     ensures keeps { Keeps S.Store desk.old desk.new }
     ensures written { OverRows S.Store desk.old desk.new (λ t. WritesLots t account (W.contents writer.old) (W.contents writer.new) result) }
 {

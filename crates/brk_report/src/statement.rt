@@ -6,7 +6,7 @@ use crate::parts::{write_days, write_held, write_top};
 use crate::sections::sum_before;
 use brk_desk::{Desk, Head};
 use brk_money::{Day, Id, Refusal};
-use brk_report_lines::StatementFault;
+use brk_report_lines::{LinesFault, StatementFault};
 use sqlite::Alter;
 use std::alloc::Global;
 use std::io::Write;
@@ -20,7 +20,7 @@ fn write_all<W: Write, S: Alter>(
     from: Day,
     to: Day,
     writer: &mut W,
-) -> Result<(), StatementFault>
+) -> Result<(), LinesFault>
     ensures keeps { Keeps S.Store desk.old desk.new }
     ensures written { OverRows S.Store desk.old desk.new (λ t. Writes (all_lines t account head.now from to) (W.contents writer.old) (W.contents writer.new) result) }
 {
@@ -55,5 +55,9 @@ pub fn statement<W: Write, S: Alter>(
         Ok(None) => return Err(StatementFault::Refused(Refusal::NoAccount)),
         Err(fault) => return Err(StatementFault::Desk(fault)),
     };
-    write_all(alloc, desk, account, &head, from, to, writer)
+    match write_all(alloc, desk, account, &head, from, to, writer) {
+        Ok(()) => Ok(()),
+        Err(LinesFault::Desk(fault)) => Err(StatementFault::Desk(fault)),
+        Err(LinesFault::Write) => Err(StatementFault::Write),
+    }
 }

@@ -5,12 +5,12 @@ ghost use Rattle.brk_money.specs.Spelling.{Text};
 ghost use Rattle.brk_model.specs.Run.{MayFail};
 ghost use Rattle.brk_money.specs.declared.fault.Fault.TheVariants as fault;
 ghost use Rattle.brk_report_lines.specs.Written.{ended};
-ghost use Rattle.brk_report_lines.specs.declared.fault.StatementFault.TheVariants.{Desk};
+ghost use Rattle.brk_report_lines.specs.declared.fault.LinesFault.TheVariants.{Desk};
 
 use brk_changes::{CashRow, HoldingRow};
 use brk_desk::Visitor;
 use brk_money::{Cents, Fault, Wide};
-use brk_report_lines::{StatementFault, cash_line, lot_line, write_line};
+use brk_report_lines::{LinesFault, cash_line, lot_line, write_line};
 use std::alloc::Global;
 use std::io::Write;
 
@@ -47,13 +47,13 @@ impl Line for CashRow {
 }
 
 // An amount with one more.
-fn added(total: Wide, amount: Cents) -> Result<Wide, StatementFault>
+fn added(total: Wide, amount: Cents) -> Result<Wide, LinesFault>
     ensures sum { IfOk result (λ sum. sum ≡ total +ℤ amount) }
     ensures fault { OnErr result (result ≡ Err (Desk fault.Store)) }
 {
     match total.get().checked_add(i128::from(amount.get())) {
         Some(sum) => Ok(Wide::new(sum)),
-        None => Err(StatementFault::Desk(Fault::Store)),
+        None => Err(LinesFault::Desk(Fault::Store)),
     }
 }
 
@@ -63,10 +63,10 @@ pub struct Sum {
     pub total: Wide,
 }
 
-impl Visitor<CashRow, StatementFault> for Sum {
+impl Visitor<CashRow, LinesFault> for Sum {
     ghost use Rattle.std.specs.Prelude.{◌≡◌, ◌+ℤ◌};
     ghost use Rattle.brk_money.specs.declared.fault.Fault.TheVariants.{Store};
-    ghost use Rattle.brk_report_lines.specs.declared.fault.StatementFault.TheVariants.{Desk};
+    ghost use Rattle.brk_report_lines.specs.declared.fault.LinesFault.TheVariants.{Desk};
 
     ghost ready = { λ _. Unit {0} };
 
@@ -76,7 +76,7 @@ impl Visitor<CashRow, StatementFault> for Sum {
 
     ghost stops = { λ p row e q. e ≡ Desk Store };
 
-    fn visit(&mut self, item: &CashRow) -> Result<(), StatementFault> {
+    fn visit(&mut self, item: &CashRow) -> Result<(), LinesFault> {
         self.total = added(self.total, item.amount)?;
         Ok(())
     }
@@ -94,7 +94,7 @@ pub struct Lines<'a, W> {
     pub count: u64,
 }
 
-impl<R: Line, W: Write> Visitor<R, StatementFault> for Lines<'_, W> {
+impl<R: Line, W: Write> Visitor<R, LinesFault> for Lines<'_, W> {
     ghost use Rattle.std.specs.Prelude.{◌≡◌, ◌+◌, [], ◌∷◌, Result, Err, refl};
     ghost use Rattle.std.proofs.Common.{◌∙◌};
     ghost use Rattle.std.specs.Io.KnownBytes.{Appends};
@@ -108,9 +108,9 @@ impl<R: Line, W: Write> Visitor<R, StatementFault> for Lines<'_, W> {
 
     ghost stops = { λ p r e q. BreaksIn (R.line r ∷ []) (W.contents p.writer.now) (W.contents q.writer.now) e };
 
-    fn visit(&mut self, item: &R) -> Result<(), StatementFault> {
+    fn visit(&mut self, item: &R) -> Result<(), LinesFault> {
         let Some(count) = self.count.checked_add(1) else {
-            return Err(StatementFault::Desk(Fault::Store));
+            return Err(LinesFault::Desk(Fault::Store));
         };
         write_line(self.writer, item.line(self.alloc))?;
         self.count = count;
@@ -129,7 +129,7 @@ pub struct CashLines<'a, W> {
     pub total: Wide,
 }
 
-impl<W: Write> Visitor<CashRow, StatementFault> for CashLines<'_, W> {
+impl<W: Write> Visitor<CashRow, LinesFault> for CashLines<'_, W> {
     ghost use Rattle.std.specs.Prelude.{◌≡◌, ◌+◌, ◌+ℤ◌, [], ◌∷◌, refl};
     ghost use Rattle.std.proofs.Common.{◌∙◌};
     ghost use Rattle.std.specs.Io.KnownBytes.{Appends};
@@ -145,7 +145,7 @@ impl<W: Write> Visitor<CashRow, StatementFault> for CashLines<'_, W> {
 
     ghost stops = { λ p r e q. BreaksIn (cash_line (cash_row_of r) ∷ []) (W.contents p.lines.writer.now) (W.contents q.lines.writer.now) e };
 
-    fn visit(&mut self, item: &CashRow) -> Result<(), StatementFault> {
+    fn visit(&mut self, item: &CashRow) -> Result<(), LinesFault> {
         let total = added(self.total, item.amount)?;
         self.lines.visit(item)?;
         self.total = total;

@@ -1,5 +1,5 @@
 -- The stamps of days.
-use Rattle.std.proofs.Common.{◌≡◌, ℕ, ◌+◌, ◌-◌, ◌*◌, ◌/◌, ◌<◌, ◌≤◌, Bool, ◌&&◌, arith, refl, ◌∙◌}
+use Rattle.std.proofs.Common.{◌≡◌, ℕ, ◌+◌, ◌-◌, ◌*◌, ◌/◌, ◌<◌, ◌≤◌, ◌&&◌, arith, ◌∙◌}
 use Rattle.std.specs.Prelude.{nat_le, nat_lt}
 use Rattle.std.specs.Cmp.{both_ways}
 use Rattle.std.proofs.lemmas.Bool.{le-leb, leb-true, lt-ltb, ltb-true}
@@ -21,5 +21,6 @@ within_days from to stamp = λ i. from_day from stamp i && to_day to stamp i
 -- up to the last stamp before a day
 pub before_day : (from stamp : ℕ) → 0 < from → (nat_le 0 stamp && nat_le stamp (from * 86400000 - 1)) ≡ nat_lt (day_of stamp) from
 before_day from stamp some =
-    both_ways (nat_le stamp (from * 86400000 - 1)) (nat_lt (day_of stamp) from)
+    (λ i. le-leb 0 stamp (omega arith) i && nat_le stamp (from * 86400000 - 1))
+    ∙ both_ways (nat_le stamp (from * 86400000 - 1)) (nat_lt (day_of stamp) from)
     (λ h. lt-ltb (day_of stamp) from (omega (arith, some, leb-true stamp (from * 86400000 - 1) h))) (λ h. le-leb stamp (from * 86400000 - 1) (omega (arith, some, ltb-true (day_of stamp) from h)))

@@ -117,13 +117,13 @@ lots_same account t climb =
 
 filter_swap : {X : Type 0} (p q : X → Bool) (xs : List X) → filter p (filter q xs) ≡ filter q (filter p xs)
 filter_swap p q [] = refl
-filter_swap p q (x ∷ xs) = go (p x) (q x) refl refl
+filter_swap p q (x ∷ xs) = go (filter_swap p q xs) (p x) (q x) refl refl
   where
-    go : (a b : Bool) → p x ≡ a → q x ≡ b → filter p (filter q (x ∷ xs)) ≡ filter q (filter p (x ∷ xs))
-    go true true e f = rw (e, f, e, f) (ap (λ l. x ∷ l) (filter_swap p q xs))
-    go true false e f = rw (e, f, e, f) (filter_swap p q xs)
-    go false true e f = rw (e, f, e, f) (filter_swap p q xs)
-    go false false e f = rw (e, f, e, f) (filter_swap p q xs)
+    go : filter p (filter q xs) ≡ filter q (filter p xs) → (a b : Bool) → p x ≡ a → q x ≡ b → filter p (filter q (x ∷ xs)) ≡ filter q (filter p (x ∷ xs))
+    go more true true e f = rw (e, f, e) (ap (λ l. x ∷ l) more)
+    go more true false e f = rw (e, f) more
+    go more false true e f = rw (e, f, e) more
+    go more false false e f = rw (e, f) more
 
 -- whether a cash row is of an account's trade
 abbrev pub is_of : Tables → ℕ → CashRow → Bool
@@ -147,22 +147,22 @@ cash_same account from to t climb =
 
 none_above : (n account : ℕ) (xs : List TradeRow) → AllByRecursion (λ y. nat_lt n y.id ≡ true) xs → contains_number n (map (λ r. r.id) (filter (λ r. r.account == account) xs)) ≡ false
 none_above n account [] h = refl
-none_above n account (x ∷ xs) h = go (x.account == account) refl
+none_above n account (x ∷ xs) h = go (none_above n account xs h.1) (x.account == account) refl
   where
-    go : (b : Bool) → (x.account == account) ≡ b → contains_number n (map (λ r. r.id) (filter (λ r. r.account == account) (x ∷ xs))) ≡ false
-    go true e = let other : (x.id == n) ≡ false = grind (arith, nat_tests, h.0) in rw (e, other) (none_above n account xs h.1)
-    go false e = rw e (none_above n account xs h.1)
+    go : contains_number n (map (λ r. r.id) (filter (λ r. r.account == account) xs)) ≡ false → (b : Bool) → (x.account == account) ≡ b → contains_number n (map (λ r. r.id) (filter (λ r. r.account == account) (x ∷ xs))) ≡ false
+    go more true e = let other : (x.id == n) ≡ false = grind (arith, nat_tests, h.0) in rw (e, other) more
+    go more false e = rw e more
 
 pub trades_same : (n account : ℕ) (xs : List TradeRow) → Climb (λ r. r.id) xs → contains_number n (map (λ r. r.id) (filter (λ r. r.account == account) xs)) ≡ option_map_or (λ t. t.account == account) (find (λ r. r.id == n) xs) false
 trades_same n account [] h = refl
-trades_same n account (x ∷ xs) h = go (x.id == n) (x.account == account) refl refl
+trades_same n account (x ∷ xs) h = go (trades_same n account xs h.1) (x.id == n) (x.account == account) refl refl
   where
-    go : (a b : Bool) → (x.id == n) ≡ a → (x.account == account) ≡ b
+    go : contains_number n (map (λ r. r.id) (filter (λ r. r.account == account) xs)) ≡ option_map_or (λ t. t.account == account) (find (λ r. r.id == n) xs) false → (a b : Bool) → (x.id == n) ≡ a → (x.account == account) ≡ b
         → contains_number n (map (λ r. r.id) (filter (λ r. r.account == account) (x ∷ xs))) ≡ option_map_or (λ t. t.account == account) (find (λ r. r.id == n) (x ∷ xs)) false
-    go true true e f = rw (f, e, f) refl
-    go true false e f = rw (f, e, f) (none_above n account xs (subst (λ m. AllByRecursion (λ (y : TradeRow). nat_lt m y.id ≡ true) xs) (eqb-true x.id n e) h.0))
-    go false true e f = rw (f, e) (trades_same n account xs h.1)
-    go false false e f = rw (f, e) (trades_same n account xs h.1)
+    go more true true e f = rw (f, e, f) refl
+    go more true false e f = rw (f, e, f) (none_above n account xs (subst (λ m. AllByRecursion (λ (y : TradeRow). nat_lt m y.id ≡ true) xs) (eqb-true x.id n e) h.0))
+    go more false true e f = rw (f, e) more
+    go more false false e f = rw (f, e) more
 
 -- ---- tables of a database climb
 

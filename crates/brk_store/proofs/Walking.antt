@@ -3,7 +3,7 @@ use Rattle.std.proofs.Common.{◌≡◌, ℕ, Bool, true, false, cond, MatchBool
 use Rattle.std.specs.List.{FoldsTo}
 use Rattle.sqlite_trees.specs.declared.store.Store.{Ghosts}
 use Rattle.sqlite.specs.Held.{Held, state}
-use Rattle.sqlite.specs.State.{State, HasCleanDisk, Survives}
+use Rattle.sqlite.specs.State.{HasCleanDisk}
 use Rattle.sqlite.proofs.StateLemmas.{survives_then}
 use Rattle.brk_model.specs.Lists.{contains_number}
 use Rattle.brk_model.specs.Run.{MayFail}
@@ -15,26 +15,26 @@ use Rattle.brk_tables_walks.specs.Walks as tables
 use Rattle.brk_tables_walks.specs.Walks.{BreaksOff, Takes, Walks}
 use Rattle.brk_tables_walks.specs.declared.walking.Stop.{Stop}
 use Rattle.brk_tables_walks.specs.declared.walking.Stop.TheVariants.{Failed, Cause}
-use Rattle.brk_store.specs.Holds.{Holds, IsRead, IsSame}
+use Rattle.brk_store.specs.Holds.{IsRead}
 use Rattle.brk_store.specs.Walked.{AreAll, AreFirst, IsWalked}
 
 -- ---- lists
 
 map_filter : {X M : Type 0} (of : X → M) (p : X → Bool) (q : M → Bool) → ((x : X) → q (of x) ≡ p x) → (xs : List X) → map of (filter p xs) ≡ filter q (map of xs)
 map_filter of p q same [] = refl
-map_filter of p q same (x ∷ xs) = go (p x) refl
+map_filter of p q same (x ∷ xs) = go (map_filter of p q same xs) (p x) refl
   where
-    go : (b : Bool) → p x ≡ b → map of (filter p (x ∷ xs)) ≡ filter q (map of (x ∷ xs))
-    go true e = rw (e, same x, e) (ap (λ l. of x ∷ l) (map_filter of p q same xs))
-    go false e = rw (e, same x, e) (map_filter of p q same xs)
+    go : map of (filter p xs) ≡ filter q (map of xs) → (b : Bool) → p x ≡ b → map of (filter p (x ∷ xs)) ≡ filter q (map of (x ∷ xs))
+    go more true e = rw (e, same x, e) (ap (λ l. of x ∷ l) more)
+    go more false e = rw (e, same x, e) more
 
 filter_parts : {X : Type 0} (p : X → Bool) (xs ys : List X) → filter p (xs ++ ys) ≡ filter p xs ++ filter p ys
 filter_parts p [] ys = refl
-filter_parts p (x ∷ xs) ys = go (p x) refl
+filter_parts p (x ∷ xs) ys = go (filter_parts p xs ys) (p x) refl
   where
-    go : (b : Bool) → p x ≡ b → filter p ((x ∷ xs) ++ ys) ≡ filter p (x ∷ xs) ++ filter p ys
-    go true e = rw (e, e) (ap (λ l. x ∷ l) (filter_parts p xs ys))
-    go false e = rw (e, e) (filter_parts p xs ys)
+    go : filter p (xs ++ ys) ≡ filter p xs ++ filter p ys → (b : Bool) → p x ≡ b → filter p ((x ∷ xs) ++ ys) ≡ filter p (x ∷ xs) ++ filter p ys
+    go more true e = rw e (ap (λ l. x ∷ l) more)
+    go more false e = rw e more
 
 filter_last : {X : Type 0} (p : X → Bool) (xs : List X) (x : X) → p x ≡ true → filter p (xs ++ x ∷ []) ≡ filter p xs ++ x ∷ []
 filter_last p xs x e = filter_parts p xs (x ∷ []) ∙ ap (λ b. filter p xs ++ cond b (x ∷ []) []) e
@@ -104,17 +104,14 @@ module _ {S X M V W E : Type 0} (g : Ghosts S) (old mid new : Held S) (of : X �
 
   mine_taken : (p : W) (xs : List X) (q : W) → trades p ≡ ns → FoldsTo TakesMine p xs q → FoldsTo takes (inner p) (filter is_mine xs) (inner q) × (trades q ≡ ns)
   mine_taken p [] q e h = (ap inner h, sym (ap trades h) ∙ e)
-  mine_taken p (x ∷ xs) q e h = go (is_mine x) refl
+  mine_taken p (x ∷ xs) q e h = go (mine_taken h.0 xs q (h.1.0 ∙ e) h.2) (is_mine x) refl
     where
-      more : FoldsTo takes (inner h.0) (filter is_mine xs) (inner q) × (trades q ≡ ns)
-      more = mine_taken h.0 xs q (h.1.0 ∙ e) h.2
-
       step : MatchBool (is_mine x) (takes (inner p) x (inner h.0)) (inner h.0 ≡ inner p)
       step = subst (λ ms. MatchBool (contains_number (number (of x)) ms) (takes (inner p) x (inner h.0)) (inner h.0 ≡ inner p)) e h.1.1
 
-      go : (b : Bool) → is_mine x ≡ b → FoldsTo takes (inner p) (filter is_mine (x ∷ xs)) (inner q) × (trades q ≡ ns)
-      go true k = rw k ((inner h.0, (rw k at step), more.0), more.1)
-      go false k = rw k (subst (λ v. FoldsTo takes v (filter is_mine xs) (inner q)) (rw k at step) more.0, more.1)
+      go : FoldsTo takes (inner h.0) (filter is_mine xs) (inner q) × (trades q ≡ ns) → (b : Bool) → is_mine x ≡ b → FoldsTo takes (inner p) (filter is_mine (x ∷ xs)) (inner q) × (trades q ≡ ns)
+      go more true k = rw k ((inner h.0, (rw k at step), more.0), more.1)
+      go more false k = rw k (subst (λ v. FoldsTo takes v (filter is_mine xs) (inner q)) (rw k at step) more.0, more.1)
 
   abbrev is_row : M → Bool
   is_row m = contains_number (number m) ns
@@ -152,10 +149,13 @@ module _ {S X M V W E : Type 0} (g : Ghosts S) (old mid new : Held S) (of : X �
     }
       where
         done : (r : Result (Unit {0}) (Stop E)) → HasCleanDisk (state g new) → OnOk r (Takes (tables.AreAll (state g mid) walked) of TakesMine before after) → OnOk r (Takes (AreAll g old list) of takes (inner before) (inner after))
-        done (Ok u) clean h =
-            (filter is_mine h.0, (mine_taken before h.0 after is_before h.1).0, λ t holds.
-            let has = read.kept t holds (clean_mid clean) h.2.0 in
-            map_filter of is_mine is_row (λ x. refl) h.0 ∙ ap (filter is_row) (h.2.1 t has) ∙ same t has (read.told (clean_mid clean) t holds))
+        done (Ok u) clean h = (
+          filter is_mine h.0,
+          (mine_taken before h.0 after is_before h.1).0,
+          λ t holds.
+              let has = read.kept t holds (clean_mid clean) h.2.0 in
+              map_filter of is_mine is_row (λ x. refl) h.0 ∙ ap (filter is_row) (h.2.1 t has) ∙ same t has (read.told (clean_mid clean) t holds),
+        )
         done (Err stop) clean h = tt
 
         opens : (r : Result (Unit {0}) (Stop E)) → HasCleanDisk (state g new) → OnOk r (IsTrue (state g old).is_open)

@@ -32,7 +32,7 @@ impl<S: Alter> Store<S> {
 
     /// Hands the cash rows of an account from one stamp to another, both included, to a visitor, by stamp, until it stops at
     /// one. It holds a row at a time, and the numbers of the account's trades.
-    #[tactic(auto, using(crate::proofs::WalkedLists::cash_walked, crate::proofs::Walking::is_not_walked))]
+    #[tactic(auto, using(crate::proofs::Walking::is_not_walked))]
     pub fn visit_cash<E, V: Visitor<CashRow, E>>(
         &mut self,
         alloc: Global,
@@ -54,11 +54,15 @@ impl<S: Alter> Store<S> {
             trades: &trades,
             visitor,
         };
-        brk_tables_walks::walk_cash_between::<S, E, OfTrades<'_, V>>(&mut self.conn, from, to, &mut passing)
+        brk_tables_walks::walk_cash_between::<S, E, OfTrades<'_, V>>(
+            &mut self.conn,
+            from,
+            to,
+            &mut passing,
+        )
     }
 
     /// Hands the lots of an account to a visitor, by symbol and then by the moment of opening, until it stops at one.
-    #[tactic(auto, using(crate::proofs::WalkedLists::lots_walked))]
     pub fn visit_lots<E, V: Visitor<HoldingRow, E>>(
         &mut self,
         account: Id,

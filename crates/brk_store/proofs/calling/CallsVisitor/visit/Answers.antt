@@ -1,4 +1,4 @@
-use Rattle.std.proofs.Common.{◌≡◌, Result, Ok, Err, OnOk, IfErr, refl, Bor}
+use Rattle.std.proofs.Common.{Result, Ok, Err, OnOk, IfErr, refl, Bor}
 use Rattle.std.specs.Fn.{CalledAt, Mut}
 use Rattle.brk_store.proofs.calling.CallsVisitor.visit.Goals as goal
 
