@@ -1,10 +1,10 @@
 use crate::moment::Moments;
-use brk_endings::brk_import::brk_desk::Desk;
-use brk_endings::brk_import::brk_desk::brk_store::Store;
-use brk_endings::brk_import::run_batch;
+use brk_desk::Desk;
 use brk_endings::{Ending, after_close};
 use brk_files as file;
+use brk_import::run_batch;
 use brk_money::{Fault, Stamp};
+use brk_store::Store;
 use sqlite::{Alter, Connection};
 
 // Runs a batch from standard input over a desk, with its lines on standard output.

@@ -1,4 +1,4 @@
-use brk_endings::brk_import::Clock;
+use brk_import::Clock;
 use brk_money::Stamp;
 use std::rt;
 use std::time::{SystemTime, UNIX_EPOCH};

@@ -1,12 +1,12 @@
 //! A desk that is served to programs on the same machine.
 
 use crate::moment::Moments;
-use brk_endings::brk_import::brk_desk::Desk;
-use brk_endings::brk_import::brk_desk::brk_store::Store;
+use brk_desk::Desk;
 use brk_endings::{Ending, after_close};
 use brk_files as file;
 use brk_listening::{ListenFault, serve_on};
 use brk_money::{Fault, Stamp};
+use brk_store::Store;
 use sqlite::{Alter, Connection};
 use std::net::TcpListener;
 
