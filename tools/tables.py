@@ -1,6 +1,6 @@
 #!/usr/bin/env python3
-"""Writes the parts of the crates brk_tables_form, brk_tables_making, brk_tables_reference, brk_tables_trading, brk_tables_walks and brk_tables_whole that
-follow from the list of tables and statements below: the shapes and cells of the tables (brk_tables_form), which text makes which table
+"""Writes the parts of the crates brk_tables_form, brk_tables_making, brk_tables_reference, brk_tables_trading, brk_tables_views, brk_tables_walks and
+brk_tables_whole that follow from the list of tables and statements below: the shapes and cells of the tables (brk_tables_form), which text makes which table
 (brk_tables_making), the names of all columns (brk_tables_whole), and what each SQL text means over any schema (in the crate of the
 statement). Run it at the top of the repository after a change of the
 list; `.ci/run` does so first. It lays out what it wrote by `rt fmt`, so where nothing changed it leaves the tree as it was, and
@@ -277,8 +277,9 @@ use Rattle.sqlite_resolve.specs.declared.compiled.Compiled.{Compiled}
 use Rattle.sqlite.specs.Listing.{understood}
 '''
 
-def select(crate, name, t, tests, order, limit=None, shown=None):
-    """order: [(column, falls)]; limit: a parameter's number or ('lit', n); shown: columns, and else all of them."""
+def select(crate, name, t, tests, order, limit=None, shown=None, offset=None):
+    """order: [(column, falls)]; limit: a parameter's number or ('lit', n); shown: columns, and else all of them; offset: a
+    parameter's number."""
     sql, cols, rowkey = TABLES[t]
     names = shown or [c for c, _ in cols]
     text = f'SELECT {", ".join(names)} FROM {sql}'
@@ -287,8 +288,12 @@ def select(crate, name, t, tests, order, limit=None, shown=None):
     text += f' ORDER BY {", ".join(c + (" DESC" if f else "") for c, f in order)}'
     if limit is not None:
         text += f' LIMIT ' + (f'?{limit}' if isinstance(limit, int) else str(limit[1]))
+    if offset is not None:
+        text += f' OFFSET ?{offset}'
     lim_e = 'None' if limit is None else ('Some (e.Parameter %d)' % limit if isinstance(limit, int) else f'Some (e.Integer ({q(limit[1])}))')
     lim_t = 'lit (Int (negsuc 0))' if limit is None else (f'col 0 {limit - 1}' if isinstance(limit, int) else f'lit (Int (pos {limit[1]}))')
+    off_e = 'None' if offset is None else f'Some (e.Parameter {offset})'
+    off_t = 'lit (Int (pos 0))' if offset is None else f'col 0 {offset - 1}'
     b = lambda x: 'true' if x else 'false'
     n1 = len(names)
     n2 = n1 + (4 * len(tests) - 1 if tests else 0)
@@ -324,7 +329,7 @@ abbrev pub by : List Sort
 by = {lst(f'roll-Sort (record {{ key = e.Column None ({q(c)}); descending = {b(f)}; nulls_first = None }})' for c, f in order)}
 
 abbrev pub select : ast.Select
-select = ast.roll-Select (record {{ with = []; first = core; others = []; order = by; limit = {lim_e}; offset = None }})
+select = ast.roll-Select (record {{ with = []; first = core; others = []; order = by; limit = {lim_e}; offset = {off_e} }})
 
 abbrev pub terms : List Term
 terms = {test_terms(t, tests)}
@@ -336,7 +341,7 @@ abbrev pub order : List (Term × Key)
 order = {lst(f'(col 1 {place(t, c)}, record {{ collation = Binary; descending = {b(f)} }})' for c, f in order)}
 
 abbrev pub paging : Term × Term
-paging = ({lim_t}, lit (Int (pos 0)))
+paging = ({lim_t}, {off_t})
 
 abbrev pub draft : ℕ → Draft
 draft tree = record {{ from = chain (Inner tree ∷ []); filter = terms; group = None; project = project; distinct = false; collations = []; order = order; limit = paging.0; offset = paging.1 }}
@@ -680,12 +685,17 @@ STATEMENTS = {
         (select, 'TradeById', 'trade', [('T_ID', 1)], [('T_ID', False)]),
         (select, 'LastTradeId', 'trade', [], [('T_ID', True)], ('lit', 1), ['T_ID']),
         (select, 'SubmittedTrades', 'trade', [('T_ST_ID', 1)], [('T_ID', False)]),
+        (select, 'LastTenOfAccount', 'trade', [('T_CA_ID', 1)], [('T_DTS', True), ('T_ID', True)], ('lit', 10)),
+        (select, 'LastFiftyOfAccount', 'trade', [('T_CA_ID', 1)], [('T_DTS', True), ('T_ID', True)], ('lit', 50)),
+        (select, 'HistoryOf', 'history', [('TH_T_ID', 1)], [('TH_T_ID', False), ('TH_ST_ID', False)]),
         (select, 'RequestsOf', 'request', [('TR_S_SYMB', 1)], [('TR_T_ID', False)]),
         (select, 'LastTradeBySymbol', 'last_trade', [('LT_S_SYMB', 1)], [('LT_S_SYMB', False)]),
         (update, 'SetLastTrade', 'last_trade', [('LT_DTS', 1), ('LT_PRICE', 2), ('LT_VOL', 3)], [('LT_S_SYMB', 4)]),
         (update, 'SetStatus', 'trade', [('T_ST_ID', 1), ('T_DTS', 2)], [('T_ID', 3)]),
         (update, 'CompleteTrade', 'trade', [('T_ST_ID', 1), ('T_DTS', 2), ('T_TRADE_PRICE', 3), ('T_COMM', 4), ('T_TAX', 5)], [('T_ID', 6)]),
         (select, 'LotsOf', 'holding', [('H_CA_ID', 1), ('H_S_SYMB', 2)], [('H_DTS', False), ('H_T_ID', False)]),
+        (select, 'OldestLots', 'holding', [('H_CA_ID', 1), ('H_S_SYMB', 2)], [('H_DTS', False), ('H_T_ID', False)], ('lit', 16), None, 3),
+        (select, 'NewestLots', 'holding', [('H_CA_ID', 1), ('H_S_SYMB', 2)], [('H_DTS', True), ('H_T_ID', True)], ('lit', 16), None, 3),
         (select, 'SummaryOf', 'summary', [('HS_CA_ID', 1), ('HS_S_SYMB', 2)], [('HS_CA_ID', False), ('HS_S_SYMB', False)]),
         (select, 'SummariesOf', 'summary', [('HS_CA_ID', 1)], [('HS_CA_ID', False), ('HS_S_SYMB', False)]),
         (insert, 'AddLot', 'holding', [1, 2, 3, 4, 5, 6]),
@@ -699,11 +709,27 @@ STATEMENTS = {
         (insert, 'AddCash', 'cash', [1, 2, 3, 4]),
         (update, 'SetBalance', 'account', [('CA_BAL', 1)], [('CA_ID', 2)]),
         (update, 'SetBrokerNumbers', 'broker', [('B_NUM_TRADES', 1), ('B_COMM_TOTAL', 2)], [('B_ID', 3)]),
+        (select, 'CompletedOfAccount', 'trade', [('T_ST_ID', 1), ('T_CA_ID', 2), ('T_DTS', 3, 'Ge'), ('T_DTS', 4, 'Le')], [('T_DTS', False), ('T_ID', False)], ('lit', 20)),
+        (select, 'CompletedCashOfSymbol', 'trade', [('T_ST_ID', 1), ('T_IS_CASH', 2), ('T_S_SYMB', 3), ('T_DTS', 4, 'Ge'), ('T_DTS', 5, 'Le')], [('T_DTS', False), ('T_ID', False)], ('lit', 20)),
+        (select, 'SettlementByTrade', 'settlement', [('SE_T_ID', 1)], [('SE_T_ID', False)]),
+        (select, 'CashByTrade', 'cash', [('CT_T_ID', 1)], [('CT_T_ID', False)]),
+        (update, 'SetExecutor', 'trade', [('T_EXEC_NAME', 1)], [('T_ID', 2)]),
+        (update, 'SetCashType', 'settlement', [('SE_CASH_TYPE', 1)], [('SE_T_ID', 2)]),
+        (update, 'SetCashName', 'cash', [('CT_NAME', 1)], [('CT_T_ID', 2)]),
     ],
     'brk_tables_walks': [
         (select, 'TradesOf', 'trade', [('T_CA_ID', 1)], [('T_ID', False)], None, ['T_ID']),
         (select, 'CashBetween', 'cash', [('CT_DTS', 1, 'Ge'), ('CT_DTS', 2, 'Le')], [('CT_DTS', False), ('CT_T_ID', False)]),
         (select, 'LotsBySymbol', 'holding', [('H_CA_ID', 1)], [('H_S_SYMB', False), ('H_DTS', False), ('H_T_ID', False)]),
+    ],
+    'brk_tables_views': [
+        (select, 'TwentyOfAccount', 'trade', [('T_CA_ID', 1), ('T_DTS', 2, 'Ge'), ('T_DTS', 3, 'Le')], [('T_DTS', False), ('T_ID', False)], ('lit', 20)),
+        (select, 'TwentyOfSymbol', 'trade', [('T_S_SYMB', 1), ('T_DTS', 2, 'Ge'), ('T_DTS', 3, 'Le')], [('T_DTS', False), ('T_ID', False)], ('lit', 20)),
+        (select, 'FirstSince', 'trade', [('T_CA_ID', 1), ('T_DTS', 2, 'Ge')], [('T_DTS', False), ('T_ID', False)], ('lit', 1)),
+        (select, 'ChangesBy', 'holding_history', [('HH_T_ID', 1)], [('HH_H_T_ID', False), ('HH_T_ID', False)]),
+        (select, 'ChangesOf', 'holding_history', [('HH_H_T_ID', 1)], [('HH_H_T_ID', False), ('HH_T_ID', False)]),
+        (select, 'BrokersNamed', 'broker', [('B_NAME', 1)], [('B_ID', False)]),
+        (select, 'RequestsOfBroker', 'request', [('TR_B_ID', 1)], [('TR_T_ID', False)]),
     ],
 }
 

@@ -1,5 +1,5 @@
 -- What a change of one row makes of the tables, whose rows stand by rising key.
-use Rattle.std.specs.Prelude.{ℕ, ℤ, ◌==◌, ◌&&◌, not, filter, bytes_eq, pos, List, fold, Some}
+use Rattle.std.specs.Prelude.{ℕ, ℤ, ◌==◌, ◌&&◌, not, filter, bytes_eq, pos, List, fold, Some, string_bytes}
 use Rattle.brk_money.specs.Spelling.{Text}
 use Rattle.brk_money.specs.declared.status.Status.{Status}
 use Rattle.brk_money.specs.declared.status.Status.TheVariants.{Completed}
@@ -8,9 +8,9 @@ use Rattle.brk_model.specs.Records.{Broker, Customer, Account, Permission, Charg
 use Rattle.brk_model.specs.Tables.{Tables, SecurityRow, LastTradeRow, TradeRow, HistoryRow, RequestRow, HoldingRow, SummaryRow, HoldingHistoryRow, SettlementRow, CashRow}
 use Rattle.brk_model.specs.Keys.{insert_row, broker_key, customer_key, account_key, permission_key, security_key, last_trade_key, charge_key, band_key, tax_rate_key, customer_tax_key, kept_key, trade_key, history_key, request_key, holding_key, summary_key, holding_history_key, settlement_key, cash_key}
 use Rattle.brk_ref.specs.Records.{broker_of, customer_of, account_of, permission_of, security_of, last_trade_of, charge_of, band_of, tax_of, customer_tax_of, kept_of}
-use Rattle.brk_changes.specs.Rows.{trade_row_of, history_row_of, request_row_of, holding_row_of, summary_row_of, lot_change_of, settlement_row_of, cash_row_of}
+use Rattle.brk_changes.specs.Rows.{trade_row_of, history_row_of, request_row_of, holding_row_of, summary_row_of, lot_change_of, cash_type_word, settlement_row_of, cash_row_of}
 use Rattle.brk_changes.specs.declared.change.Change.{Change}
-use Rattle.brk_changes.specs.declared.change.Change.TheVariants.{AddBroker, AddCustomer, AddAccount, AddPermission, AddSecurity, AddLastTrade, AddCharge, AddBand, AddTaxRate, AddCustomerTax, AddTrade, SetStatus, AddHistory, AddRequest, RemoveRequest, SetLastTrade, CompleteTrade, AddLot, SetLot, RemoveLot, AddLotChange, AddSummary, SetSummary, RemoveSummary, AddSettlement, AddCash, SetBalance, SetBrokerNumbers, Keep, SetLast}
+use Rattle.brk_changes.specs.declared.change.Change.TheVariants.{AddBroker, AddCustomer, AddAccount, AddPermission, AddSecurity, AddLastTrade, AddCharge, AddBand, AddTaxRate, AddCustomerTax, AddTrade, SetStatus, AddHistory, AddRequest, RemoveRequest, SetLastTrade, CompleteTrade, AddLot, SetLot, RemoveLot, AddLotChange, AddSummary, SetSummary, RemoveSummary, AddSettlement, AddCash, SetBalance, SetBrokerNumbers, SetExecutor, SetCashType, SetCashName, Keep, SetLast}
 
 -- a broker more, without trades and commissions
 abbrev pub with_broker : Broker → Tables → Tables
@@ -134,6 +134,18 @@ abbrev pub with_broker_numbers : ℕ → ℤ → ℕ → Tables → Tables
 with_broker_numbers broker trades commissions t =
     record t { brokers = update_where (λ r. r.id == broker) (λ r. record r { trades = trades; commissions = commissions }) t.brokers }
 
+-- another name of a trade's executor
+abbrev pub with_executor : ℕ → Text → Tables → Tables
+with_executor trade name t = record t { trades = update_where (λ r. r.id == trade) (λ r. record r { executor = name }) t.trades }
+
+-- another word for how a trade is settled
+abbrev pub with_cash_type : ℕ → Text → Tables → Tables
+with_cash_type trade word t = record t { settlements = update_where (λ r. r.trade == trade) (λ r. record r { cash_type = word }) t.settlements }
+
+-- another text of what a trade moved
+abbrev pub with_cash_name : ℕ → Text → Tables → Tables
+with_cash_name trade name t = record t { cash = update_where (λ r. r.trade == trade) (λ r. record r { name = name }) t.cash }
+
 -- a kept row more
 abbrev pub with_kept : Kept → Tables → Tables
 with_kept k t = record t { kept = insert_row kept_key k t.kept }
@@ -172,6 +184,9 @@ after_change (AddSettlement row) = with_settlement (settlement_row_of row)
 after_change (AddCash row) = with_cash (cash_row_of row)
 after_change (SetBalance account balance) = with_balance account balance
 after_change (SetBrokerNumbers broker trades commissions) = with_broker_numbers broker trades commissions
+after_change (SetExecutor trade executor) = with_executor trade (string_bytes executor)
+after_change (SetCashType trade cash_type) = with_cash_type trade (cash_type_word cash_type)
+after_change (SetCashName trade name) = with_cash_name trade (string_bytes name)
 after_change (Keep kept) = with_kept (kept_of kept)
 after_change (SetLast stamp) = with_last stamp
 

@@ -1,3 +1,4 @@
 pub mod Rows
 pub mod Changes
 pub mod Sheets
+pub mod Chosen

@@ -1,4 +1,5 @@
 use crate::cash_row::CashRow;
+use crate::cash_type::CashType;
 use crate::history_row::HistoryRow;
 use crate::holding_row::HoldingRow;
 use crate::lot_change::LotChange;
@@ -93,6 +94,21 @@ pub enum Change {
         broker: Id,
         trades: i64,
         commissions: Amount,
+    },
+    /// Another name of a trade's executor (T_EXEC_NAME).
+    SetExecutor {
+        trade: Id,
+        executor: String,
+    },
+    /// Another word for how a trade is settled (SE_CASH_TYPE).
+    SetCashType {
+        trade: Id,
+        cash_type: CashType,
+    },
+    /// Another text of what a trade moved (CT_NAME).
+    SetCashName {
+        trade: Id,
+        name: String,
     },
     /// An accepted row under its key.
     Keep(Kept),

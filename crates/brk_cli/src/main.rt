@@ -5,6 +5,7 @@ mod audit;
 mod batch;
 mod moment;
 mod serve;
+mod statement;
 
 use brk_endings::{Ending, end_with};
 use brk_words::{Job, UsageFault, no_text, read_words};
@@ -31,7 +32,14 @@ fn given_words(rt: &HostRuntime) -> Result<Vec<String>, UsageFault> {
 fn run(rt: &HostRuntime) -> Ending {
     match given_words(rt).and_then(read_words) {
         Ok(Job::Batch { db, at }) => batch::run(rt, db, at),
-        Ok(Job::Statement { .. }) => Ending::Usage(UsageFault::NotYet),
+        Ok(
+            Job::Statement {
+                db,
+                account,
+                from,
+                to,
+            },
+        ) => statement::run(rt, db.as_str(), account, from, to),
         Ok(Job::Audit { db }) => audit::run(rt, db.as_str()),
         Ok(
             Job::Serve {

@@ -4,7 +4,7 @@ use Rattle.std.proofs.lemmas.List.{append-nil, flat_map_more, take_more}
 use Rattle.std.specs.Prelude.{map, flat_map, decimal}
 use Rattle.std.specs.List.{join_with_byte}
 use Rattle.brk_money.specs.Spelling.{Text}
-use Rattle.brk_model.specs.Commands.{FeedTicks, Ticked}
+use Rattle.brk_model.specs.Commands.{ChangeExecutors, FeedTicks, Ticked}
 use Rattle.brk_model.specs.Rows.{tick_fields, row_fields, reply_fields, row_text, line_text}
 use Rattle.brk_orders.specs.Records.{tick_of, ticks_of}
 use Rattle.brk_orders.specs.declared.tick.Tick as tick
@@ -39,6 +39,15 @@ trades_line stamp trades = ap (λ (text : Text). decimal stamp ++ text) (sym (ea
     each : (trades : List ℕ) → more_fields 44 (map decimal trades) ≡ flat_map (λ trade. 44 ∷ decimal trade) trades
     each [] = refl
     each (trade ∷ trades) = ap (λ (text : Text). (44 ∷ decimal trade) ++ text) (each trades)
+
+-- trades whose executors' names are corrected
+pub trades_row : (trades : List ℕ) → codes "upname" ++ flat_map (λ trade. 31 ∷ decimal trade) trades ≡ row_text (ChangeExecutors trades)
+unfolding row_fields
+trades_row trades = ap (λ (text : Text). codes "upname" ++ text) (sym (each trades)) ∙ sym (joined 31 (codes "upname") (map decimal trades))
+  where
+    each : (trades : List ℕ) → more_fields 31 (map decimal trades) ≡ flat_map (λ trade. 31 ∷ decimal trade) trades
+    each [] = refl
+    each (trade ∷ trades) = ap (λ (text : Text). (31 ∷ decimal trade) ++ text) (each trades)
 
 -- fields that were added after others
 pub added : (separator : ℕ) (first : Text) (xs ys : List Text) (was now : Text) → was ≡ join_with_byte separator (first ∷ xs) → now ≡ was ++ more_fields separator ys

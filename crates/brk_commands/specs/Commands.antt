@@ -1,7 +1,7 @@
 -- What commands are in the abstract brokerage.
 use Rattle.brk_model.specs.Commands.{Command, PlaceOrder, FeedTicks, CancelTrade}
 use Rattle.brk_trade_laws.specs.Commands as books
-use Rattle.brk_orders.specs.Records.{order_of, result_of, ticks_of}
+use Rattle.brk_orders.specs.Records.{order_of, result_of, ticks_of, update_of}
 use Rattle.brk_commands.specs.declared.command.Command as told
 use Rattle.brk_commands.specs.declared.command.Command.TheVariants as command
 
@@ -11,3 +11,4 @@ command_of (command.Order order) = PlaceOrder (order_of order)
 command_of (command.Feed ticks) = FeedTicks (ticks_of ticks)
 command_of (command.Cancel trade) = CancelTrade trade
 command_of (command.Complete completion) = result_of completion
+command_of (command.Update update) = update_of update

@@ -1,5 +1,5 @@
 use brk_money::Id;
-use brk_orders::{Completion, Feed, Order};
+use brk_orders::{Completion, Feed, Order, Update};
 use brk_trade::Reference;
 
 /// What the desk is told. A command is in form.
@@ -15,4 +15,6 @@ pub enum Command {
     Cancel(Id),
     /// A submitted trade is completed (Trade-Result).
     Complete(Completion),
+    /// Words of trades are corrected (Trade-Update).
+    Update(Update),
 }

@@ -5,12 +5,12 @@ ghost use Rattle.std.specs.List.{AllByRecursion};
 ghost use Rattle.brk_trade_laws.specs.Commands as books;
 ghost use Rattle.brk_commands.specs.Commands.{command_of};
 ghost use Rattle.brk_model.specs.Commands.{AddAccount, AddBand, AddBroker, AddCharge, AddCustomer, AddCustomerTax, AddPermission, AddSecurity, AddTaxRate};
-ghost use Rattle.brk_orders.specs.Records.{order_of, ticks_of};
+ghost use Rattle.brk_orders.specs.Records.{order_of, ticks_of, update_of};
 ghost use Rattle.brk_ref.specs.Records.{account_of, band_of, broker_of, charge_of, customer_of, customer_tax_of, key_of, listing_of, permission_of, tax_of};
 ghost use Rattle.brk_sound_laws.specs.InForm.{IsInForm, IsKeyInForm, IsOrderInForm, IsTickInForm};
 
 use crate::command::Command;
-use brk_orders::{Order, Tick};
+use brk_orders::{Order, Tick, Update};
 use brk_ref::{Account, Band, Broker, Charge, Customer, Key, Listing, Permission, Tax};
 use brk_trade::Reference;
 
@@ -116,6 +116,14 @@ fn ticks_are_in_form(ticks: &[Tick])
     }
 }
 
+fn update_is_in_form(update: &Update)
+    ensures { IsInForm (update_of update.now) }
+{
+    match update {
+        Update::Executors(_) | Update::CashTypes { .. } | Update::CashNames { .. } => (),
+    }
+}
+
 /// The fields of a command are in form. There is nothing to call it for but this fact.
 pub fn command_is_in_form(command: &Command)
     ensures { IsInForm (command_of command.now) }
@@ -128,6 +136,7 @@ pub fn command_is_in_form(command: &Command)
         Command::Complete(completion) => {
             let _ = completion.price.get();
         }
+        Command::Update(update) => update_is_in_form(update),
     }
 }
 

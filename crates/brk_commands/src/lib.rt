@@ -7,11 +7,14 @@ pub mod line;
 pub mod order_row;
 pub mod parse;
 mod parse_order;
+mod parse_update;
 pub mod row;
+pub mod update_row;
 
 pub use command::Command;
 pub use in_form::{command_is_in_form, key_is_in_form};
-pub use line::line_text;
-pub use order_row::{cancel_text, feed_text, order_text, result_text};
+pub use line::{day_text, line_text};
+pub use order_row::{cancel_text, cash_word, end_word, feed_text, order_text, result_text};
 pub use parse::parse_row;
 pub use row::{reference_text, row_text};
+pub use update_row::update_text;

@@ -82,8 +82,8 @@ fn canceled_text(alloc: Global, stamp: Stamp) -> Result<String, AllocError>
     format!(in alloc; "{},CNCL", stamp.get().unsigned_abs())
 }
 
-// The text of a day.
-fn day_text(alloc: Global, day: Day) -> Result<String, Fault>
+/// The text of a day, YYYY-MM-DD.
+pub fn day_text(alloc: Global, day: Day) -> Result<String, Fault>
     ensures text { IfOk result (λ text. string_bytes text ≡ spelling.day_text day) }
     ensures fault { OnErr result (result ≡ Err Memory) }
 {
@@ -139,6 +139,12 @@ fn completed_text(alloc: Global, completed: &Completed) -> Result<String, Fault>
     Ok(line)
 }
 
+fn changed_text(alloc: Global, stamp: Stamp, count: usize) -> Result<String, AllocError>
+    ensures { IfOk result (λ line. string_bytes line ≡ model.line_text (replies.Changed stamp count)) }
+{
+    format!(in alloc; "{},{count}", stamp.get().unsigned_abs())
+}
+
 /// The fields that are told of a reply, joined by commas: the stamp first. No field holds a comma.
 pub fn line_text(alloc: Global, reply: &Reply) -> Result<String, Fault>
     ensures line { IfOk result (λ line. string_bytes line ≡ model.line_text (reply_of reply.now)) }
@@ -150,6 +156,7 @@ pub fn line_text(alloc: Global, reply: &Reply) -> Result<String, Fault>
         Reply::Ticked(stamp, triggered) => ticked_text(alloc, *stamp, triggered)?,
         Reply::Canceled(stamp) => canceled_text(alloc, *stamp)?,
         Reply::Completed(completed) => completed_text(alloc, completed)?,
+        Reply::Changed(stamp, count) => changed_text(alloc, *stamp, *count)?,
     };
     Ok(line)
 }

@@ -14,15 +14,15 @@ use brk_money::{Id, OrderType, Wide};
 use brk_orders::{Completion, Order, Tick};
 use std::alloc::{AllocError, Global};
 
-// The word of a trade's cash account or margin.
-fn cash_word(is_cash: bool) -> &'static str
+/// The word of a trade's cash account or margin.
+pub fn cash_word(is_cash: bool) -> &'static str
     ensures { result.now ≡ model.cash_word is_cash }
 {
     if is_cash { "cash" } else { "margin" }
 }
 
-// The word of the end from which lots are closed.
-fn end_word(is_lifo: bool) -> &'static str
+/// The word of the end from which lots are closed.
+pub fn end_word(is_lifo: bool) -> &'static str
     ensures { result.now ≡ model.end_word is_lifo }
 {
     if is_lifo { "lifo" } else { "fifo" }

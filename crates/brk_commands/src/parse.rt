@@ -1,10 +1,9 @@
 ghost use Rattle.std.specs.Prelude.{◌≡◌, ◌∷◌, ◌++◌, IfOk, OnErr, Err};
-ghost use Rattle.brk_model.specs.Parse.{parse_by, read_account, read_as, read_band, read_broker, read_charge, read_customer, read_customer_tax, read_permission, read_security, read_tax_rate, order_readers, result_readers, term_readers};
+ghost use Rattle.brk_model.specs.Parse.{parse_by, read_account, read_as, read_band, read_broker, read_charge, read_customer, read_customer_tax, read_permission, read_security, read_tax_rate, order_readers, readers, result_readers, term_readers, update_readers};
 ghost use Rattle.brk_money.specs.declared.fault.Fault.TheVariants.{Memory};
 ghost use Rattle.brk_model.specs.Commands.{AddAccount, AddBand, AddBroker, AddCharge, AddCustomer, AddCustomerTax, AddPermission, AddSecurity, AddTaxRate};
 ghost use Rattle.brk_ref.specs.Fields.{Reads, texts};
 ghost use Rattle.brk_commands.specs.Commands.{command_of};
-ghost use Rattle.brk_commands.specs.Kinds.{known_readers};
 
 use crate::command::Command;
 use crate::parse_order::parse_trading;
@@ -106,7 +105,7 @@ fn parse_customer_tax(fields: &[&[u8]]) -> Result<Command, Refusal>
 
 // The command of one of the kinds of what is agreed, or of a kind after them.
 fn parse_term(alloc: Global, kind: &[u8], fields: &[&[u8]]) -> Planned<Command>
-    ensures read { IfOk result (λ read. Reads command_of read (parse_by (term_readers ++ order_readers ++ result_readers) (kind.now ∷ texts fields.now))) }
+    ensures read { IfOk result (λ read. Reads command_of read (parse_by (term_readers ++ order_readers ++ result_readers ++ update_readers) (kind.now ∷ texts fields.now))) }
     ensures fault { OnErr result (result ≡ Err Memory) }
 {
     if kind == b"permission".as_slice() {
@@ -132,7 +131,7 @@ fn parse_term(alloc: Global, kind: &[u8], fields: &[&[u8]]) -> Planned<Command>
 
 // The command of a kind that the fields after it are.
 fn parse_kind(alloc: Global, kind: &[u8], fields: &[&[u8]]) -> Planned<Command>
-    ensures read { IfOk result (λ read. Reads command_of read (parse_by known_readers (kind.now ∷ texts fields.now))) }
+    ensures read { IfOk result (λ read. Reads command_of read (parse_by readers (kind.now ∷ texts fields.now))) }
     ensures fault { OnErr result (result ≡ Err Memory) }
 {
     if kind == b"broker".as_slice() {
@@ -150,7 +149,7 @@ fn parse_kind(alloc: Global, kind: &[u8], fields: &[&[u8]]) -> Planned<Command>
 /// The command that the fields of a row are, the kind first, or the refusal of their form. An unknown kind is
 /// `BadText`.
 pub fn parse_row(alloc: Global, fields: &[&[u8]]) -> Planned<Command>
-    ensures read { IfOk result (λ read. Reads command_of read (parse_by known_readers (texts fields.now))) }
+    ensures read { IfOk result (λ read. Reads command_of read (parse_by readers (texts fields.now))) }
     ensures fault { OnErr result (result ≡ Err Memory) }
 {
     let [kind, fields @ ..] = fields else {

@@ -11,6 +11,7 @@ ghost use Rattle.brk_ref.specs.Records.{account_of, band_of, broker_of, charge_o
 
 use crate::command::Command;
 use crate::order_row::{cancel_text, feed_text, order_text, result_text};
+use crate::update_row::update_text;
 use brk_money::{Fault, Wide};
 use brk_ref::{Account, Band, Broker, Charge, Customer, CustomerTax, Listing, Permission, Tax};
 use brk_trade::Reference;
@@ -147,6 +148,7 @@ pub fn row_text(alloc: Global, command: &Command) -> Result<String, Fault>
         Command::Feed(feed) => feed_text(alloc, feed.ticks()),
         Command::Cancel(trade) => cancel_text(alloc, *trade),
         Command::Complete(completion) => result_text(alloc, completion),
+        Command::Update(update) => update_text(alloc, update),
     };
     Ok(row?)
 }

@@ -1,14 +1,9 @@
 -- What was found of a trade's account, of its security and of what is held is what is found for its result.
-use Rattle.std.proofs.Common.{◌≡◌, ◌==◌, ◌∙◌, ℕ, List, Option, Some, None, ap, find, option_map, refl, subst, sym}
-use Rattle.std.specs.Prelude.{◌∷◌, [], Bool, IfSome, false, not, true}
-use Rattle.brk_lots.specs.declared.lot.Lot.{Lot}
+use Rattle.std.proofs.Common.{◌≡◌, ◌==◌, ◌∙◌, ℕ, ℤ, Option, Some, None, ap, find, option_map, refl, subst, sym}
+use Rattle.std.specs.Prelude.{IfSome}
 use Rattle.brk_model.specs.Joins.{account_in, security_in, trade_in}
 use Rattle.brk_model.specs.Records.{Customer}
 use Rattle.brk_model.specs.Tables.{AccountRow, SecurityRow, SummaryRow, Tables}
-use Rattle.brk_model.specs.Tests.{first_refusal}
-use Rattle.brk_money.specs.Kinds.{same_status}
-use Rattle.brk_money.specs.declared.refusal.Refusal.TheVariants.{WrongStatus}
-use Rattle.brk_money.specs.declared.status.Status.TheVariants.{Submitted}
 use Rattle.brk_ref.specs.declared.account.AccountRow as ref
 use Rattle.brk_ref.specs.declared.customer.Customer as customer
 use Rattle.brk_ref.specs.Records.{account_row_of}
@@ -18,12 +13,11 @@ use Rattle.brk_trade.specs.declared.result_found.ResultFound.{ResultFound}
 use Rattle.brk_changes.specs.declared.summary_row.SummaryRow as summary
 use Rattle.brk_changes.specs.declared.trade_row.TradeRow.{TradeRow}
 use Rattle.brk_trade_laws.specs.Reads.{rates_of}
-use Rattle.brk_trade_laws.specs.ResultPlans.{IsFoundForResult, PassesFirst, result_account}
-use Rattle.brk_trade_laws.specs.TradeReads.{band_in}
-use Rattle.brk_decisions.specs.Finds.{HeldLots, IsCustomer}
-use Rattle.brk_decisions.specs.ResultFinds.{AreNumbers, AreParties, IsFoundAt, IsFoundOf, IsHolding, IsListedAs}
+use Rattle.brk_trade_laws.specs.ResultPlans.{result_account}
+use Rattle.brk_trade_laws.specs.TradeReads.{band_in, summary_in}
+use Rattle.brk_decisions.specs.Finds.{IsCustomer}
+use Rattle.brk_decisions.specs.ResultFinds.{AreNumbers, AreParties, IsFoundAt, IsFoundOf, IsListedAs}
 use Rattle.brk_decisions.specs.declared.parties.Parties.{Parties}
-use Rattle.brk_decisions.specs.declared.result_finding.Holding.{Holding}
 use Rattle.brk_decisions.specs.declared.result_finding.Listed.{Listed}
 
 -- what holds of what is there leads to what holds of it
@@ -49,27 +43,19 @@ parties_known t row customer rates broker k e n = record {
   broker = n;
 }
 
--- what was found of a trade, of its account, of its security and of what the account holds of it
-abbrev pub found_with : TradeRow → Parties → Listed → Holding → ResultFound
-found_with trade parties listed holding = record {
+-- what was found of a trade, of its account, of its security and of how many shares the account holds of it
+abbrev pub found_with : TradeRow → Parties → Listed → Option ℤ → ResultFound
+found_with trade parties listed summary = record {
   trade = trade;
   account = parties.account;
   broker = parties.broker;
-  summary = holding.summary;
+  summary = summary;
   security = listed.name;
   rate = listed.rate;
   rates = parties.rates;
 }
 
--- a trade that passes its first test is at the market
-pub at_market : (found : ResultFound) → PassesFirst 1 found → same_status found.trade.status Submitted ≡ true
-at_market found p = by_status (same_status found.trade.status Submitted) p
-  where
-    by_status : (b : Bool) → first_refusal ((not b, WrongStatus found.trade.status) ∷ []) ≡ None → b ≡ true
-    by_status true p = refl
-    by_status false p = absurd (cc)
-
-module _ (t : Tables) (trade : TradeRow) (parties : Parties) (listed : Listed) (holding : Holding) where
+module _ (t : Tables) (trade : TradeRow) (parties : Parties) (listed : Listed) (held : Option ℤ) where
   -- the account of the trade, where it is there
   abbrev pub OwnerKnown : Type 0
   OwnerKnown = IfSome (account_in t trade.account) (λ a. AreParties t a parties)
@@ -93,22 +79,22 @@ module _ (t : Tables) (trade : TradeRow) (parties : Parties) (listed : Listed) (
       of_security k (λ s. listed.rate ≡ option_map (λ b. b.rate) (band_in t c.tier trade.kind s.exchange trade.qty))
       (λ s l. l.rate ∙ ap (λ tier. option_map (λ b. b.rate) (band_in t tier trade.kind s.exchange trade.qty)) e)
 
-  read_known : OwnerKnown → SecurityKnown → IsHolding t trade holding → IsFoundForResult t (found_with trade parties listed holding)
-  read_known owner security held = record {
-    rate = λ p. of_owner owner (λ a. IfSome (find (λ r. r.id == a.customer) t.customers) RateOf)
-        (λ a k. if_there (find (λ r. r.id == a.customer) t.customers) (λ c. parties.tier ≡ c.tier) RateOf (rate_at security) k.tier);
-    summary = λ p. held.summary;
-    account = λ p. of_owner owner (λ a. parties.account ≡ result_account a) (λ a k. k.account);
-    rates = λ p. of_owner owner (λ a. parties.rates ≡ rates_of t a.customer) (λ a k. k.rates);
-    broker = λ p. of_owner owner (λ a. AreNumbers t a.broker parties.broker) (λ a k. k.broker);
-    security = λ p. of_security security (λ s. listed.name ≡ s.name) (λ s l. l.name);
-  }
+  -- how many shares the account holds
+  abbrev pub SummaryKnown : Type 0
+  SummaryKnown = held ≡ option_map (λ r. r.qty) (summary_in t trade.account trade.symbol)
 
-  pub found_known : OwnerKnown → SecurityKnown → IsHolding t trade holding → IsFoundOf t trade (found_with trade parties listed holding) holding.lots
-  found_known owner security held = record {
+  pub found_known : OwnerKnown → SecurityKnown → SummaryKnown → IsFoundOf t trade (found_with trade parties listed held)
+  found_known owner security summary = record {
     own = refl;
-    read = read_known owner security held;
-    met = λ p. held.lots (at_market (found_with trade parties listed holding) p);
+    read = record {
+      rate = λ p. of_owner owner (λ a. IfSome (find (λ r. r.id == a.customer) t.customers) RateOf)
+          (λ a k. if_there (find (λ r. r.id == a.customer) t.customers) (λ c. parties.tier ≡ c.tier) RateOf (rate_at security) k.tier);
+      summary = λ p. summary;
+      account = λ p. of_owner owner (λ a. parties.account ≡ result_account a) (λ a k. k.account);
+      rates = λ p. of_owner owner (λ a. parties.rates ≡ rates_of t a.customer) (λ a k. k.rates);
+      broker = λ p. of_owner owner (λ a. AreNumbers t a.broker parties.broker) (λ a k. k.broker);
+      security = λ p. of_security security (λ s. listed.name ≡ s.name) (λ s l. l.name);
+    };
   }
 
 -- the number in a summary, which is that of its row
@@ -116,14 +102,9 @@ pub number_in : (o : Option summary.SummaryRow) → option_map (λ (r : summary.
 number_in None = refl
 number_in (Some r) = refl
 
--- the lots of a trade that is not at the market are not needed
-pub not_needed : (t : Tables) (trade : TradeRow) (lots : List Lot) → same_status trade.status Submitted ≡ false
-    → same_status trade.status Submitted ≡ true → HeldLots t trade.account trade.symbol lots
-not_needed t trade lots e f = let g : false ≡ true = sym e ∙ f in absurd (cc)
-
 -- of a trade that was found with its row
-pub there : (t : Tables) (id : ℕ) (row : TradeRow) (f : ResultFound × List Lot) → Some (trade_row_of row) ≡ trade_in t id → IsFoundOf t row f.0 f.1 → IsFoundAt t id (Some f)
-there t id row f e k = record {
+pub there : (t : Tables) (id : ℕ) (row : TradeRow) (found : ResultFound) → Some (trade_row_of row) ≡ trade_in t id → IsFoundOf t row found → IsFoundAt t id (Some found)
+there t id row found e k = record {
   trade = sym e ∙ ap (λ r. Some (trade_row_of r)) (sym k.own);
-  read = subst (λ r. IsFoundOf t r f.0 f.1) (sym k.own) k;
+  read = subst (λ r. IsFoundOf t r found) (sym k.own) k;
 }

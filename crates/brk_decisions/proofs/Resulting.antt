@@ -1,5 +1,5 @@
 -- What was read for a result decides on it.
-use Rattle.std.proofs.Common.{◌≡◌, ◌≤◌, ◌<◌, ◌∙◌, ℕ, List, Option, Result, Ok, Err, IfOk, None, Some, ap, subst, sym}
+use Rattle.std.proofs.Common.{◌≡◌, ◌≤◌, ◌<◌, ◌∙◌, ℕ, List, Option, Result, Ok, Err, IfOk, None, Some, ap, refl, subst, sym}
 use Rattle.std.specs.Prelude.{IfSome, MatchResult}
 use Rattle.sqlite_trees.specs.declared.store.Store.{Ghosts}
 use Rattle.sqlite.specs.Held.{Held}
@@ -13,16 +13,17 @@ use Rattle.brk_model.specs.Tables.{Tables}
 use Rattle.brk_money.specs.Moments.{last_stamp}
 use Rattle.brk_money.specs.declared.fault.Fault.{Fault}
 use Rattle.brk_money.specs.declared.refusal.Refusal.{Refusal}
+use Rattle.brk_money.specs.declared.refusal.Refusal.TheVariants.{NoTrade}
 use Rattle.brk_trade.specs.Results.{IsCompleted, IsRefused}
 use Rattle.brk_trade.specs.declared.result_found.ResultFound.{ResultFound}
 use Rattle.brk_plans.specs.declared.plan.Plan.{Plan}
 use Rattle.brk_trade_laws.specs.Books.{IsBooks}
-use Rattle.brk_trade_laws.specs.ResultPlans.{AreLotsOfTrade, IsFoundForResult, IsReadForResult}
+use Rattle.brk_trade_laws.specs.ResultPlans.{IsFoundForResult, IsReadForResult}
 use Rattle.brk_trade_laws.proofs.ResultDoing.{result_plan_does}
 use Rattle.brk_trade_laws.proofs.ResultRefusing.{result_refused}
 use Rattle.brk_store.specs.Holds.{IsRead}
 use Rattle.brk_decisions.specs.Decisions.{Decides}
-use Rattle.brk_decisions.specs.ResultFinds.{IsFoundAt, IsFoundOf, found_in, lots_met}
+use Rattle.brk_decisions.specs.ResultFinds.{IsFoundAt, lots_met}
 use Rattle.brk_decisions.proofs.Looking.{read_both}
 
 -- what is planned over lots is planned over those of them that are known to be given
@@ -44,30 +45,39 @@ planned_over (Some found) price given known last now is_given (Err refusal) p = 
   late = λ ls stamp met. p.late ls stamp ((is_given (from_end found.trade.is_lifo ls) met.0.0, met.0.1), met.1, met.2);
 }
 
-pub result_over : (found : Option ResultFound) (price : ℕ) (given known : List Lot → Type 0) (last : Option ℕ) (now : ℕ) → ((ls : List Lot) → known ls → given ls) → (result : Result (Result Plan Refusal) Fault)
+-- and so it is over the lots of whatever tables are held
+pub result_over : (found : Option ResultFound) (price : ℕ) (given : List Lot → Type 0) (last : Option ℕ) (now : ℕ) (Held : Tables → Type 0)
+    → ((t : Tables) → Held t → (ls : List Lot) → lots_met t found ls → given ls) → (result : Result (Result Plan Refusal) Fault)
     → IfOk result (λ planned. MatchResult planned (IsCompleted found price given last now) (IsRefused found price given last now))
-    → IfOk result (λ planned. MatchResult planned (IsCompleted found price known last now) (IsRefused found price known last now))
-result_over found price given known last now is_given (Ok result) p = planned_over found price given known last now is_given result p
-result_over found price given known last now is_given (Err fault) p = tt
+    → IfOk result (λ planned. (t : Tables) → Held t → MatchResult planned (IsCompleted found price (lots_met t found) last now) (IsRefused found price (lots_met t found) last now))
+result_over found price given last now Held is_given (Ok result) p = λ t held. planned_over found price given (lots_met t found) last now (is_given t held) result p
+result_over found price given last now Held is_given (Err fault) p = tt
+
+-- of no trade it is, whatever is held
+pub none_over : (Held : Tables → Type 0) (result : Result (Result Plan Refusal) Fault) → IfOk result (λ planned. MatchResult planned (λ plan. ⊥) (λ refusal. refusal ≡ NoTrade))
+    → IfOk result (λ planned. (t : Tables) → Held t → MatchResult planned (λ plan. ⊥) (λ refusal. refusal ≡ NoTrade))
+none_over Held (Ok (Ok plan)) p = λ t held. p
+none_over Held (Ok (Err refusal)) p = λ t held. p
+none_over Held (Err fault) p = tt
 
 -- the last stamp, and what was found for a result
-abbrev pub Known : ℕ → Option ℕ → Option (ResultFound × List Lot) → Tables → Type 0
+abbrev pub Known : ℕ → Option ℕ → Option ResultFound → Tables → Type 0
 Known id last found t = (last ≡ t.last) × IsFoundAt t id found
 
 -- they are known after two reads
-pub last_and_found : {S E F : Type 0} (g : Ghosts S) (old mid end : Held S) (id : ℕ) (last : Option ℕ) (found : Option (ResultFound × List Lot))
+pub last_and_found : {S E F : Type 0} (g : Ghosts S) (old mid end : Held S) (id : ℕ) (last : Option ℕ) (found : Option ResultFound)
     → IsRead {E = E} g old mid (Ok last) (λ last t. last ≡ t.last) → IsRead {E = F} g mid end (Ok found) (λ found t. IsFoundAt t id found) → IsRead {E = Fault} g old end (Ok found) (Known id last)
 last_and_found g old mid end id last found at_last at_found =
     read_both g old mid end {H = Fault} last found found (λ last t. last ≡ t.last) (λ found t. IsFoundAt t id found) (Known id last) (λ t e f. (e, f)) at_last at_found
 
 -- a trade that was found is of some shares
-abbrev pub HasShares : Option (ResultFound × List Lot) → Type 0
-HasShares found = IfSome found (λ f. 0 < f.0.trade.qty)
+abbrev pub HasShares : Option ResultFound → Type 0
+HasShares found = IfSome found (λ f. 0 < f.trade.qty)
 
 -- a result's plan does it, and its refusal is that of the command
 module _ (id price : ℕ) (last : Option ℕ) (now : ℕ) (moment : now ≤ last_stamp) where
-  looked_up : (found : Option (ResultFound × List Lot)) → HasShares found → (t : Tables) → Known id last found t → (base : Base) → IsBooks base → t ≡ sheets base
-      → IsReadForResult base id (found_in found) (lots_met found) last now
+  looked_up : (found : Option ResultFound) → HasShares found → (t : Tables) → Known id last found t → (base : Base) → IsBooks base → t ≡ sheets base
+      → IsReadForResult base id found (lots_met (sheets base) found) last now
   looked_up None shares t known base books e = record {
     books = books;
     trade_read = ap (λ x. trade_in x id) (sym e) ∙ known.1.trade;
@@ -77,28 +87,27 @@ module _ (id price : ℕ) (last : Option ℕ) (now : ℕ) (moment : now ≤ last
     last_read = known.0 ∙ ap (λ x. x.last) e;
     moment = moment;
   }
-  looked_up (Some f) shares t known base books e =
-      let k : IsFoundOf t f.0.trade f.0 f.1 = known.1.read in
-      record {
-        books = books;
-        trade_read = ap (λ x. trade_in x id) (sym e) ∙ known.1.trade;
-        looked_up = subst (λ x. IsFoundForResult x f.0) e k.read;
-        lots_read = λ p. subst (λ x. AreLotsOfTrade x f.0.trade (lots_met (Some f))) e (sym (ap (from_end f.0.trade.is_lifo) (k.met p)));
-        some_shares = shares;
-        last_read = known.0 ∙ ap (λ x. x.last) e;
-        moment = moment;
-      }
+  looked_up (Some f) shares t known base books e = record {
+    books = books;
+    trade_read = ap (λ x. trade_in x id) (sym e) ∙ known.1.trade;
+    looked_up = subst (λ x. IsFoundForResult x f) e known.1.read.read;
+    lots_read = λ p. refl;
+    some_shares = shares;
+    last_read = known.0 ∙ ap (λ x. x.last) e;
+    moment = moment;
+  }
 
-  planned : (found : Option (ResultFound × List Lot)) → HasShares found → (result : Result Plan Refusal)
-      → MatchResult result (IsCompleted (found_in found) price (lots_met found) last now) (IsRefused (found_in found) price (lots_met found) last now)
-      → (t : Tables) → Known id last found t → Decides now (CompleteTrade id price) result t
-  planned found shares (Ok plan) p t known base books e =
-      result_plan_does base id price (found_in found) (lots_met found) last now plan (looked_up found shares t known base books e) p
-  planned found shares (Err refusal) p t known base books e =
-      result_refused base id price (found_in found) (lots_met found) last now refusal (looked_up found shares t known base books e) p
+  planned : (found : Option ResultFound) → HasShares found → (t : Tables) → Known id last found t → (result : Result Plan Refusal)
+      → MatchResult result (IsCompleted found price (lots_met t found) last now) (IsRefused found price (lots_met t found) last now) → Decides now (CompleteTrade id price) result t
+  planned found shares t known (Ok plan) p base books e =
+      result_plan_does base id price found (lots_met (sheets base) found) last now plan (looked_up found shares t known base books e)
+      (subst (λ x. IsCompleted found price (lots_met x found) last now plan) e p)
+  planned found shares t known (Err refusal) p base books e =
+      result_refused base id price found (lots_met (sheets base) found) last now refusal (looked_up found shares t known base books e)
+      (subst (λ x. IsRefused found price (lots_met x found) last now refusal) e p)
 
-  pub result_decided : (found : Option (ResultFound × List Lot)) → HasShares found → (result : Result (Result Plan Refusal) Fault)
-      → IfOk result (λ planned. MatchResult planned (IsCompleted (found_in found) price (lots_met found) last now) (IsRefused (found_in found) price (lots_met found) last now))
-      → IfOk result (λ planned. (t : Tables) → Known id last found t → Decides now (CompleteTrade id price) planned t)
-  result_decided found shares (Ok result) p = planned found shares result p
-  result_decided found shares (Err fault) p = tt
+  pub result_decided : (found : Option ResultFound) → HasShares found → (Held : Tables → Type 0) → (result : Result (Result Plan Refusal) Fault)
+      → IfOk result (λ planned. (t : Tables) → Held t → MatchResult planned (IsCompleted found price (lots_met t found) last now) (IsRefused found price (lots_met t found) last now))
+      → IfOk result (λ planned. (t : Tables) → Held t → Known id last found t → Decides now (CompleteTrade id price) planned t)
+  result_decided found shares Held (Ok result) p = λ t held known. planned found shares t known result (p t held)
+  result_decided found shares Held (Err fault) p = tt

@@ -1,12 +1,10 @@
 -- What is found in the tables for an order.
-use Rattle.std.specs.Prelude.{◌≡◌, ℕ, ◌==◌, ◌+ℤ◌, ◌*ℤ◌, ℤ, pos, false, List, filter, find, Some, None, IfSome, option_map}
-use Rattle.brk_lots.specs.declared.lot.Lot.{Lot}
+use Rattle.std.specs.Prelude.{◌≡◌, ℕ, ◌==◌, ◌+ℤ◌, ◌*ℤ◌, ℤ, pos, false, filter, find, Some, None, IfSome, option_map}
 use Rattle.brk_model.specs.Joins.{account_in, price_in, security_in}
 use Rattle.brk_model.specs.Lists.{total_by}
 use Rattle.brk_model.specs.Orders.{permitted}
 use Rattle.brk_model.specs.Tables.{SummaryRow, Tables}
 use Rattle.brk_money.specs.OrderTypes.{kind_of}
-use Rattle.brk_money.specs.Spelling.{Text}
 use Rattle.brk_orders.specs.declared.order.Order.{Order}
 use Rattle.brk_ref.specs.Records.{account_row_of, customer_of, executor_of}
 use Rattle.brk_ref.specs.declared.account.AccountRow.{AccountRow}
@@ -14,7 +12,7 @@ use Rattle.brk_ref.specs.declared.customer.Customer.{Customer}
 use Rattle.brk_trade.specs.declared.order.OrderFound.{OrderFound}
 use Rattle.brk_trade_laws.specs.OrderPlans.{IsFoundForEstimate, charge_in, last_price_in}
 use Rattle.brk_trade_laws.specs.Reads.{rates_of}
-use Rattle.brk_trade_laws.specs.TradeReads.{band_in, permission_in, position_in, summary_in}
+use Rattle.brk_trade_laws.specs.TradeReads.{band_in, permission_in, summary_in}
 use Rattle.brk_decisions.specs.declared.tested.Tested.{Tested}
 use Rattle.brk_decisions.specs.declared.amounts.Amounts.{Amounts}
 
@@ -42,10 +40,6 @@ pub record AreAmounts (t : Tables) (account : AccountRow) (order : Order) (amoun
   pub rates : amounts.rates ≡ rates_of t account.account.customer
   pub assets : amounts.assets ≡ account.balance +ℤ worth_of t account.account.id
   pub summary : amounts.summary ≡ option_map (λ r. r.qty) (summary_in t order.account order.symbol)
-
--- the lots that an account holds of a symbol, the oldest first
-abbrev pub HeldLots : Tables → ℕ → Text → List Lot → Type 0
-HeldLots t account symbol lots = lots ≡ position_in t account symbol
 
 -- what is found for an order of no account
 abbrev pub nothing : OrderFound

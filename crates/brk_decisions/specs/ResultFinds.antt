@@ -1,12 +1,11 @@
 -- What is found in the tables for a result.
-use Rattle.std.specs.Prelude.{◌≡◌, ℕ, ◌==◌, List, [], find, IfSome, Option, Some, None, option_map, pos, true}
+use Rattle.std.specs.Prelude.{◌≡◌, ℕ, ◌==◌, List, [], find, IfSome, Option, Some, None, option_map, pos}
 use Rattle.brk_lots.specs.Lots.{from_end}
+use Rattle.brk_lots.specs.Sources.{Exactly}
 use Rattle.brk_lots.specs.declared.lot.Lot.{Lot}
 use Rattle.brk_model.specs.Joins.{account_in, security_in, trade_in}
 use Rattle.brk_model.specs.Tables.{AccountRow, SecurityRow, Tables}
-use Rattle.brk_money.specs.Kinds.{same_status}
 use Rattle.brk_money.specs.Spelling.{Text}
-use Rattle.brk_money.specs.declared.status.Status.TheVariants.{Submitted}
 use Rattle.brk_ref.specs.Records.{account_row_of, security_of}
 use Rattle.brk_ref.specs.declared.account.AccountRow as ref
 use Rattle.brk_ref.specs.declared.security.Security.{Security}
@@ -15,11 +14,9 @@ use Rattle.brk_changes.specs.declared.broker_numbers.BrokerNumbers.{BrokerNumber
 use Rattle.brk_trade.specs.declared.result_found.ResultFound.{ResultFound}
 use Rattle.brk_changes.specs.declared.trade_row.TradeRow.{TradeRow}
 use Rattle.brk_trade_laws.specs.Reads.{rates_of}
-use Rattle.brk_trade_laws.specs.ResultPlans.{IsFoundForResult, PassesFirst, result_account}
-use Rattle.brk_trade_laws.specs.TradeReads.{band_in, summary_in}
-use Rattle.brk_decisions.specs.Finds.{HeldLots}
+use Rattle.brk_trade_laws.specs.ResultPlans.{IsFoundForResult, result_account}
+use Rattle.brk_trade_laws.specs.TradeReads.{band_in, position_in}
 use Rattle.brk_decisions.specs.declared.parties.Parties.{Parties}
-use Rattle.brk_decisions.specs.declared.result_finding.Holding.{Holding}
 use Rattle.brk_decisions.specs.declared.result_finding.Listed.{Listed}
 
 -- the account with an id
@@ -46,27 +43,17 @@ pub record IsListedAs (t : Tables) (trade : TradeRow) (tier : ℕ) (row : Securi
   pub name : listed.name ≡ row.name
   pub rate : listed.rate ≡ option_map (λ b. b.rate) (band_in t tier trade.kind row.exchange trade.qty)
 
--- what an account holds of the security of its trade; its lots are needed of a trade at the market alone
-pub record IsHolding (t : Tables) (trade : TradeRow) (holding : Holding) : Type 0 where
-  pub summary : holding.summary ≡ option_map (λ r. r.qty) (summary_in t trade.account trade.symbol)
-  pub lots : same_status trade.status Submitted ≡ true → HeldLots t trade.account trade.symbol holding.lots
-
--- what is found for a result of a trade that is there, with the lots that the trade meets
-pub record IsFoundOf (t : Tables) (trade : TradeRow) (found : ResultFound) (lots : List Lot) : Type 0 where
+-- what is found for a result of a trade that is there
+pub record IsFoundOf (t : Tables) (trade : TradeRow) (found : ResultFound) : Type 0 where
   pub own : found.trade ≡ trade
   pub read : IsFoundForResult t found
-  pub met : PassesFirst 1 found → HeldLots t trade.account trade.symbol lots
 
 -- what is found for a result of the trade with an id, where there is such a trade
-pub record IsFoundAt (t : Tables) (id : ℕ) (found : Option (ResultFound × List Lot)) : Type 0 where
-  pub trade : trade_in t id ≡ option_map (λ f. trade_row_of f.0.trade) found
-  pub read : IfSome found (λ f. IsFoundOf t f.0.trade f.0 f.1)
+pub record IsFoundAt (t : Tables) (id : ℕ) (found : Option ResultFound) : Type 0 where
+  pub trade : trade_in t id ≡ option_map (λ f. trade_row_of f.trade) found
+  pub read : IfSome found (λ f. IsFoundOf t f.trade f)
 
--- what was found of the trade
-abbrev pub found_in : Option (ResultFound × List Lot) → Option ResultFound
-found_in found = option_map (λ f. f.0) found
-
--- the lots that it meets are given, from its end
-abbrev pub lots_met : Option (ResultFound × List Lot) → List Lot → Type 0
-lots_met None ls = ls ≡ []
-lots_met (Some f) ls = ls ≡ from_end f.0.trade.is_lifo f.1
+-- the lots that a trade meets are given, from its end
+abbrev pub lots_met : Tables → Option ResultFound → List Lot → Type 0
+lots_met t None = Exactly []
+lots_met t (Some f) = Exactly (from_end f.trade.is_lifo (position_in t f.trade.account f.trade.symbol))

@@ -8,7 +8,7 @@ ghost use Rattle.brk_store.specs.Holds.{IsRead};
 ghost use Rattle.brk_changes.specs.Rows.{summary_row_of};
 
 use crate::known::known_price;
-use crate::result_finding::find_summary;
+use crate::summary_finding::find_summary;
 use crate::terms::sum_rates;
 use brk_money::{Cents, Fault, Id, Price, TaxRate, Wide};
 use brk_orders::Order;
@@ -69,8 +69,8 @@ fn add_worth<S: Alter>(store: &mut Store<S>, amount: Wide, row: &SummaryRow) -> 
     }
 }
 
-// The worth of what an account holds at the last prices, in cents.
-fn sum_worth<S: Alter>(alloc: Global, store: &mut Store<S>, account: Id) -> Result<Wide, Fault>
+/// The worth of what an account holds at the last prices, in cents. Shares that were sold short count below 0.
+pub fn sum_worth<S: Alter>(alloc: Global, store: &mut Store<S>, account: Id) -> Result<Wide, Fault>
     ensures read { IsRead S.Store store.old store.new result (λ worth t. worth ≡ worth_of t account) }
     ensures fault { IfErr result MayFail }
 {

@@ -7,7 +7,6 @@ ghost use Rattle.brk_orders.specs.Records.{order_of};
 ghost use Rattle.brk_store.specs.Holds.{IsRead};
 
 use crate::order_finding::find_for_estimate;
-use crate::position_finding::find_position;
 use brk_money::Planned;
 use brk_orders::Order;
 use brk_store::Store;
@@ -26,7 +25,6 @@ pub fn decide_estimate<S: Alter>(
     ensures fault { IfErr result MayFail }
 {
     let found = find_for_estimate(alloc, store, order)?;
-    let position = find_position(alloc, store, order.account, &order.symbol)?;
-    let mut lots = position.from_end(order.is_lifo);
+    let mut lots = store.lot_pages(alloc, order.account, &order.symbol, order.is_lifo);
     plan_estimate(order, &found, &mut lots)
 }

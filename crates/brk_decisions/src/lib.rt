@@ -1,7 +1,7 @@
 //! What is decided on a command: the tables are read, and the command is refused or planned.
 #![tactic(auto)]
 
-mod amounts;
+pub mod amounts;
 pub mod cancel;
 pub mod estimate;
 pub mod feed;
@@ -10,13 +10,14 @@ mod known;
 pub mod order;
 mod order_finding;
 mod parties;
-mod position_finding;
 pub mod reference;
 pub mod result;
 mod result_finding;
+mod summary_finding;
 mod terms;
 mod tested;
 
+pub use amounts::sum_worth;
 pub use cancel::decide_cancel;
 pub use estimate::decide_estimate;
 pub use feed::decide_feed;

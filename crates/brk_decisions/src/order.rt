@@ -8,7 +8,6 @@ ghost use Rattle.brk_orders.specs.Records.{order_of};
 ghost use Rattle.brk_store.specs.Holds.{IsRead};
 
 use crate::order_finding::find_for_order;
-use crate::position_finding::find_position;
 use brk_money::{Planned, Stamp};
 use brk_orders::Order;
 use brk_store::Store;
@@ -30,7 +29,6 @@ pub fn decide_order<S: Alter>(
     let _moment = now.get();
     let last = store.last()?;
     let found = find_for_order(alloc, store, order)?;
-    let position = find_position(alloc, store, order.account, &order.symbol)?;
-    let mut lots = position.from_end(order.is_lifo);
+    let mut lots = store.lot_pages(alloc, order.account, &order.symbol, order.is_lifo);
     plan_order(alloc, order, &found, &mut lots, last, now)
 }

@@ -1,11 +1,15 @@
 //! Results of trades, decided on.
 
 ghost use Rattle.std.specs.Prelude.{IfErr, IfOk, MatchResult};
+ghost use Rattle.sqlite.specs.Held.{state};
+ghost use Rattle.sqlite.specs.State.{HasCleanDisk};
 ghost use Rattle.brk_decisions.specs.Decisions.{Decides};
-ghost use Rattle.brk_decisions.specs.ResultFinds.{found_in, lots_met};
+ghost use Rattle.brk_decisions.specs.ResultFinds.{lots_met};
 ghost use Rattle.brk_model.specs.Commands.{CompleteTrade};
 ghost use Rattle.brk_model.specs.Run.{MayFail};
-ghost use Rattle.brk_store.specs.Holds.{IsRead};
+ghost use Rattle.brk_model.specs.Tables.{Tables};
+ghost use Rattle.brk_store.specs.Holds.{Holds, IsRead};
+ghost use Rattle.brk_store.specs.Kept.{IsKept};
 ghost use Rattle.brk_trade.specs.Results.{IsCompleted, IsRefused};
 
 use crate::result_finding::find_for_result;
@@ -17,22 +21,25 @@ use brk_trade::{Plan, ResultFound, plan_result};
 use sqlite::Alter;
 use std::alloc::Global;
 
-// Plans a result by what was found for it, and by the lots that its trade meets.
-fn plan_found(
+// Plans a result by what was found for it, and by the lots that its trade meets, as far as they are asked for.
+fn plan_found<S: Alter>(
     alloc: Global,
-    found: Option<(ResultFound, Position)>,
+    store: &mut Store<S>,
+    found: Option<ResultFound>,
     price: Price,
     last: Option<Stamp>,
     now: Stamp,
 ) -> Planned<Plan>
-    ensures planned { IfOk result (λ planned. MatchResult planned
-        (IsCompleted (found_in found) price (lots_met found) last now)
-        (IsRefused (found_in found) price (lots_met found) last now)) }
+    ensures kept { IsKept S.Store store.old store.new }
+    ensures planned { HasCleanDisk (state S.Store store.new) → IfOk result (λ planned. (t : Tables) → Holds S.Store store.old t → MatchResult planned
+        (IsCompleted found price (lots_met t found) last now)
+        (IsRefused found price (lots_met t found) last now)) }
     ensures fault { IfErr result MayFail }
 {
     match found {
-        Some((found, position)) => {
-            let mut lots = position.from_end(found.trade.is_lifo);
+        Some(found) => {
+            let trade = &found.trade;
+            let mut lots = store.lot_pages(alloc, trade.account, &trade.symbol, trade.is_lifo);
             plan_result(alloc, Some(&found), price, &mut lots, last, now)
         }
         None => {
@@ -57,5 +64,5 @@ pub fn decide_result<S: Alter>(
     let _moment = now.get();
     let last = store.last()?;
     let found = find_for_result(alloc, store, completion.trade)?;
-    plan_found(alloc, found, completion.price, last, now)
+    plan_found(alloc, store, found, completion.price, last, now)
 }

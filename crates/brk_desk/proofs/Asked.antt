@@ -1,62 +1,24 @@
 -- Queries over what was read: each has the view of the definitions, or is refused for the same reason.
-use Rattle.std.proofs.Common.{◌≡◌, ◌∙◌, List, [], ◌∷◌, Result, Ok, Err, IfErr, refl, sym, ap, filter, map}
+use Rattle.std.proofs.Common.{Result, Ok, Err, IfErr, refl}
 use Rattle.sqlite_trees.specs.declared.store.Store.{Ghosts}
 use Rattle.sqlite.specs.Held.{Held, state}
-use Rattle.brk_plans.specs.Replies.{told}
-use Rattle.brk_plans.specs.declared.estimate.Estimate.{Estimate}
-use Rattle.brk_money.specs.Kinds.{same_status}
 use Rattle.brk_money.specs.declared.fault.Fault.{Fault}
 use Rattle.brk_money.specs.declared.refusal.Refusal.{Refusal}
-use Rattle.brk_money.specs.declared.status.Status.TheVariants.{Submitted}
-use Rattle.brk_model.specs.Ask.{answer_of, ask, query_tests}
-use Rattle.brk_model.specs.Commands as model
-use Rattle.brk_model.specs.Orders.{estimate}
-use Rattle.brk_model.specs.Queries.{EstimateOf, Query, SubmittedTrades}
-use Rattle.brk_model.specs.Rows.{estimate_fields}
+use Rattle.brk_model.specs.Queries.{Query}
 use Rattle.brk_model.specs.Run.{MayFail}
-use Rattle.brk_model.specs.Sheets.{sheets, sheets_of}
-use Rattle.brk_model.specs.StatusView.{submitted_view}
-use Rattle.brk_model.specs.Tables.{Tables, tables_of}
-use Rattle.brk_model.specs.Views.{view_of}
-use Rattle.brk_plans.specs.Replies.{estimate_of}
-use Rattle.brk_changes.specs.Rows.{trade_row_of}
-use Rattle.brk_changes.specs.declared.trade_row.TradeRow.{TradeRow}
-use Rattle.brk_view.specs.Views.{estimate_record, fields_of, is_submitted}
+use Rattle.brk_model.specs.Sheets.{sheets}
 use Rattle.brk_view.specs.declared.view.View.{View}
-use Rattle.brk_view.specs.declared.view.View.TheVariants as views
 use Rattle.brk_rows.proofs.Inside.{clean_before}
 use Rattle.brk_store.specs.Holds.{IsRead}
-use Rattle.brk_decisions.specs.Decisions.{Tells}
-use Rattle.brk_desk.specs.Asking.{Shows}
+use Rattle.brk_desk.specs.Shows.{Shows}
 use Rattle.brk_desk.specs.Keeping.{IsAsked}
 use Rattle.brk_desk.proofs.Seen.{still_kept}
-
--- the submitted rows that were read show what is at the market
-pub submitted_shown : (rows given : List TradeRow) (view : View) → given ≡ rows
-    → ((t : Tables) → map trade_row_of given ≡ filter is_submitted (sheets_of t).trades → fields_of view ≡ submitted_view t)
-    → (t : Tables) → map trade_row_of rows ≡ filter (λ r. same_status r.status Submitted) t.trades → Shows SubmittedTrades (Ok view) t
-unfolding ask query_tests answer_of view_of
-submitted_shown rows given view e view_is t read base books s =
-    ap Ok (sym (view_is (tables_of base) (ap (map trade_row_of) e ∙ read ∙ ap (λ x. filter is_submitted x.trades) s)))
-
--- an estimate of the definitions is shown as they show it
-shown_as_told : (e : Estimate) (m : model.Estimate) → e ≡ told m → estimate_fields (estimate_of e) ≡ estimate_record e
-shown_as_told e m is = rw is refl
-
--- an estimate that was told is the view of its order, and so is its refusal
-pub estimate_shown : (order : model.Order) (e : Estimate) (t : Tables) → Tells order (Ok e) t → Shows (EstimateOf order) (Ok (views.Estimate e)) t
-estimate_shown order e t tells base books s =
-    let it = tells base books s in
-    it.1 ∙ ap (λ fields. Ok (fields ∷ [])) (shown_as_told e (estimate base order) it.0)
-
-pub estimate_refused : (order : model.Order) (refusal : Refusal) (t : Tables) → Tells order (Err refusal) t → Shows (EstimateOf order) (Err refusal) t
-estimate_refused order refusal t tells base books s = tells base books s
 
 -- what was read answers a query over each base whose books are kept
 pub is_asked : {S : Type 0} (g : Ghosts S) (old new : Held S) (query : Query) (result : Result (Result View Refusal) Fault) → IsRead g old new result (Shows query)
     → IfErr result MayFail → IsAsked g old new query result
 is_asked g old new query (Ok seen) read may = record {
-  answered = λ clean base keeps. read.told clean (sheets base) keeps.rows base keeps.books refl;
+  answered = λ clean base keeps. read.told clean (sheets base) keeps.rows base keeps.books keeps.sound refl;
   kept = λ base keeps. still_kept g old new base (read.kept (sheets base)) keeps;
   fault = may;
   survives = read.survives;

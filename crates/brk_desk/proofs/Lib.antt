@@ -1,3 +1,10 @@
+mod Correcting
+mod CorrectionsFinding
+pub mod Tested
+pub mod Each
+pub mod OrderViews
+pub mod AccountViews
+pub mod RecentViews
 pub mod Seen
 pub mod RowTexts
 pub mod Audits
@@ -9,3 +16,7 @@ pub mod Running
 pub mod Stopping
 pub mod AtFirst
 pub mod Promise
+pub mod StatusViews
+pub mod LookupViews
+pub mod LotViews
+pub mod VolumeViews

@@ -11,7 +11,7 @@ use Rattle.brk_model.specs.Tables.{CashRow, Tables, TradeRow, no_rows}
 use Rattle.brk_changes.specs.Changes.{after_change, after_changes}
 use Rattle.brk_changes.specs.Rows.{cash_row_of, trade_row_of}
 use Rattle.brk_changes.specs.declared.change.Change.{Change}
-use Rattle.brk_changes.specs.declared.change.Change.TheVariants.{AddBroker, AddCustomer, AddAccount, AddPermission, AddSecurity, AddLastTrade, AddCharge, AddBand, AddTaxRate, AddCustomerTax, AddTrade, SetStatus, AddHistory, AddRequest, RemoveRequest, SetLastTrade, CompleteTrade, AddLot, SetLot, RemoveLot, AddLotChange, AddSummary, SetSummary, RemoveSummary, AddSettlement, AddCash, SetBalance, SetBrokerNumbers, Keep, SetLast}
+use Rattle.brk_changes.specs.declared.change.Change.TheVariants.{AddBroker, AddCustomer, AddAccount, AddPermission, AddSecurity, AddLastTrade, AddCharge, AddBand, AddTaxRate, AddCustomerTax, AddTrade, SetStatus, AddHistory, AddRequest, RemoveRequest, SetLastTrade, CompleteTrade, AddLot, SetLot, RemoveLot, AddLotChange, AddSummary, SetSummary, RemoveSummary, AddSettlement, AddCash, SetBalance, SetBrokerNumbers, SetExecutor, SetCashType, SetCashName, Keep, SetLast}
 use Rattle.brk_money.specs.declared.status.Status.TheVariants.{Completed}
 use Rattle.brk_ref.specs.Records.{kept_of}
 use Rattle.brk_trade_laws.proofs.Order.{All-insert}
@@ -77,6 +77,17 @@ changed t (AddCash row) h =
     record { kept = h.kept; names = h.names; cash = All-insert IsToldInText (row_before cash_key) (cash_row_of row) t.cash (text_is_utf8 row.name) h.cash }
 changed t (SetBalance account balance) h = record { kept = h.kept; names = h.names; cash = h.cash }
 changed t (SetBrokerNumbers broker trades commissions) h = record { kept = h.kept; names = h.names; cash = h.cash }
+changed t (SetExecutor trade executor) h = record {
+  kept = h.kept;
+  names = All-updated IsNamedInText (λ r. r.id == trade) (λ r. record r { executor = string_bytes executor }) t.trades (λ r e. text_is_utf8 executor) h.names;
+  cash = h.cash;
+}
+changed t (SetCashType trade cash_type) h = record { kept = h.kept; names = h.names; cash = h.cash }
+changed t (SetCashName trade name) h = record {
+  kept = h.kept;
+  names = h.names;
+  cash = All-updated IsToldInText (λ r. r.trade == trade) (λ r. record r { name = string_bytes name }) t.cash (λ r e. text_is_utf8 name) h.cash;
+}
 changed t (Keep kept) h = record {
   kept = All-insert IsKeptInText (row_before kept_key) (kept_of kept) t.kept
       (and_from (is_utf8 (string_bytes kept.row_text)) (is_utf8 (string_bytes kept.line)) (text_is_utf8 kept.row_text) (text_is_utf8 kept.line)) h.kept;

@@ -3,7 +3,6 @@ use Rattle.std.specs.Prelude.{Result, Ok, Err, string_bytes}
 use Rattle.brk_money.specs.declared.fault.Fault.{Fault}
 use Rattle.brk_money.specs.declared.refusal.Refusal.{Refusal}
 use Rattle.brk_model.specs.Commands.{Answer, Done, Again, Refused}
-use Rattle.brk_model.specs.Queries as model
 use Rattle.brk_model.specs.Run as run
 use Rattle.brk_plans.specs.Replies.{reply_of}
 use Rattle.brk_view.specs.Views.{fields_of}
@@ -23,11 +22,6 @@ outcome_of (came.Did answer) = run.Did (answer_of answer)
 outcome_of (came.Saw view) = run.Saw (fields_of view)
 outcome_of (came.NoView refusal) = run.NoView refusal
 outcome_of (came.Failed fault) = run.Failed fault
-
--- what a query is answered with: its view as records of texts, or the refusal
-abbrev pub seen_of : Result View Refusal → Result model.View Refusal
-seen_of (Ok view) = Ok (fields_of view)
-seen_of (Err refusal) = Err refusal
 
 -- what came of a command is its answer or its fault
 abbrev pub outcome_for : Result desk.Answer Fault → Outcome

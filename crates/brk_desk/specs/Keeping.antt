@@ -25,9 +25,10 @@ use Rattle.brk_sound_laws.specs.InForm.{IsInForm, IsKeyInForm}
 use Rattle.brk_sound_laws.specs.Runs.{IsCallInForm}
 use Rattle.brk_store.specs.Audited.{HoldsBooks, IsAudited, OnAnswer}
 use Rattle.brk_store.specs.Holds.{AreTreesOf, Holds, IsSame, LeavesOnly}
+use Rattle.brk_desk.specs.Shows.{seen_of}
 use Rattle.brk_view.specs.Queries.{query_of}
 use Rattle.brk_view.specs.declared.view.View.{View}
-use Rattle.brk_desk.specs.Answers.{BookedNothing, IsDone, answer_of, outcome_for, outcome_of, outcome_seen, seen_of}
+use Rattle.brk_desk.specs.Answers.{BookedNothing, IsDone, answer_of, outcome_for, outcome_of, outcome_seen}
 use Rattle.brk_commands.specs.Commands.{command_of}
 use Rattle.brk_desk.specs.Commands.{call_of, key_for}
 use Rattle.brk_desk.specs.Stops.{MayStand}

@@ -1,6 +1,11 @@
+pub mod Shows
 pub mod Commands
 pub mod Answers
-pub mod Asking
 pub mod Keeping
 pub mod Keys
 pub mod Stops
+pub mod Heads
+pub mod Parties
+pub mod LookedUp
+pub mod Touched
+pub mod Volumes

@@ -6,6 +6,7 @@ ghost use Rattle.brk_decisions.specs.Decisions.{Decides};
 ghost use Rattle.brk_model.specs.Run.{MayFail};
 ghost use Rattle.brk_store.specs.Holds.{IsRead};
 
+use crate::corrections::decide_update;
 use brk_commands::Command;
 use brk_decisions::{decide_cancel, decide_feed, decide_order, decide_reference, decide_result};
 use brk_money::{Planned, Stamp};
@@ -30,5 +31,6 @@ pub(crate) fn decide<S: Alter>(
         Command::Feed(feed) => decide_feed(alloc, store, now, feed),
         Command::Cancel(trade) => decide_cancel(alloc, store, now, *trade),
         Command::Complete(completion) => decide_result(alloc, store, now, completion),
+        Command::Update(update) => decide_update(alloc, store, now, update),
     }
 }

@@ -2,10 +2,13 @@ use crate::answer::Answer;
 use crate::asking::look;
 use crate::booking::book;
 use crate::call::{Call, Outcome};
+use crate::head::{Head, find_head};
+use brk_changes::{CashRow, HoldingRow};
 use brk_commands::Command;
-use brk_money::{Fault, Planned, Stamp};
+use brk_lots::Lot;
+use brk_money::{Fault, Id, Planned, Stamp};
 use brk_ref::Key;
-use brk_store::Store;
+use brk_store::{Stop, Store, Visitor};
 use brk_view::{Query, View};
 use sqlite::Alter;
 use std::alloc::Global;
@@ -43,6 +46,14 @@ impl<S: Alter> Desk<S> {
     ghost use Rattle.brk_money.specs.declared.fault.Condition.TheVariants.{NotEmpty};
     ghost use Rattle.brk_money.specs.declared.fault.Fault.TheVariants.{Damaged, Memory};
     ghost use Rattle.brk_view.specs.Queries.{query_of};
+    ghost use Rattle.std.specs.Fn.{CalledAt};
+    ghost use Rattle.brk_changes.specs.Rows.{cash_row_of, holding_row_of};
+    ghost use Rattle.brk_desk.specs.Heads.{IsHead};
+    ghost use Rattle.brk_model.specs.Run.{MayFail};
+    ghost use Rattle.brk_model.specs.Statement.{lots_in};
+    ghost use Rattle.brk_store.specs.Calling.{CalledAtLot};
+    ghost use Rattle.brk_store.specs.Holds.{IsRead};
+    ghost use Rattle.brk_store.specs.Walked.{CallsEach, IsWalked, cash_of};
 
     /// A desk that keeps its books in a store, which `Store::create` made, `Store::adopt` found to pass or an earlier desk gave back.
     pub fn new(store: Store<S>) -> Desk<S>
@@ -119,6 +130,77 @@ impl<S: Alter> Desk<S> {
         ensures condition { IfErr result (λ fault. fault ≢ Damaged NotEmpty) }
     {
         self.store.audit(alloc)
+    }
+
+    /// What a statement of an account tells beside its rows, where there is such an account. Nothing is changed.
+    pub fn head(&mut self, alloc: Global, account: Id) -> Result<Option<Head>, Fault>
+        ensures read { IsRead S.Store self.old self.new result (IsHead account) }
+        ensures fault { IfErr result MayFail }
+    {
+        find_head(alloc, &mut self.store, account)
+    }
+
+    /// Hands the cash rows of an account from one stamp to another, both included, to a visitor, by stamp, until it stops at
+    /// one. Nothing is changed.
+    pub fn visit_cash<E, V: Visitor<CashRow, E>>(
+        &mut self,
+        alloc: Global,
+        account: Id,
+        from: Stamp,
+        to: Stamp,
+        visitor: &mut V,
+    ) -> Result<(), Stop<E>>
+        requires ready { V.ready visitor.old }
+        ensures ready { V.ready visitor.new }
+        ensures leads { V.leads visitor.old visitor.new }
+        ensures walked { IsWalked S.Store self.old self.new cash_row_of (cash_of account from to) V.takes V.stops visitor.old visitor.new result }
+    {
+        self.store
+            .visit_cash::<E, V>(alloc, account, from, to, visitor)
+    }
+
+    /// Hands the lots of an account to a visitor, by symbol and then by the moment of opening, until it stops at one. Nothing
+    /// is changed.
+    pub fn visit_lots<E, V: Visitor<HoldingRow, E>>(
+        &mut self,
+        account: Id,
+        visitor: &mut V,
+    ) -> Result<(), Stop<E>>
+        requires ready { V.ready visitor.old }
+        ensures ready { V.ready visitor.new }
+        ensures leads { V.leads visitor.old visitor.new }
+        ensures walked { IsWalked S.Store self.old self.new holding_row_of (λ t. lots_in t account) V.takes V.stops visitor.old visitor.new result }
+    {
+        self.store.visit_lots::<E, V>(account, visitor)
+    }
+
+    /// Calls a closure at each cash row of an account from one stamp to another, both included, by stamp. Its first error ends
+    /// the walk and is the answer. Nothing is changed.
+    pub fn walk_cash<E: From<Fault>, F: FnMut(&CashRow) -> Result<(), E> + Drop>(
+        &mut self,
+        alloc: Global,
+        account: Id,
+        from: Stamp,
+        to: Stamp,
+        call: F,
+    ) -> Result<(), E>
+        requires callable { F.IsAlwaysCallable call }
+        ensures called { CallsEach S.Store self.old self.new cash_row_of (cash_of account from to) (CalledAt F.FnMut) E.from_gives call result }
+    {
+        self.store.walk_cash::<E, F>(alloc, account, from, to, call)
+    }
+
+    /// Calls a closure at each lot of an account, with its symbol, by symbol and then by the moment of opening. Its first error
+    /// ends the walk and is the answer. Nothing is changed.
+    pub fn walk_lots<E: From<Fault>, F: FnMut(&str, &Lot) -> Result<(), E> + Drop>(
+        &mut self,
+        account: Id,
+        call: F,
+    ) -> Result<(), E>
+        requires callable { F.IsAlwaysCallable call }
+        ensures called { CallsEach S.Store self.old self.new holding_row_of (λ t. lots_in t account) (CalledAtLot F.FnMut) E.from_gives call result }
+    {
+        self.store.walk_lots::<E, F>(account, call)
     }
 
     /// The store, with the books of the calls that were accepted.

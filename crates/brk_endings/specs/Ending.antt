@@ -1,7 +1,10 @@
 -- The exit status of each ending, and its line.
-use Rattle.std.specs.Prelude.{ℕ, List, [], Result, Err, codes, string_bytes}
+use Rattle.std.specs.Prelude.{ℕ, List, [], ◌∷◌, ◌++◌, Result, Err, codes, decimal, string_bytes}
 use Rattle.brk_money.specs.declared.fault.Fault.{Fault}
 use Rattle.brk_money.specs.declared.fault.Fault.TheVariants as fault
+use Rattle.brk_money.specs.Kinds.{refusal_number}
+use Rattle.brk_report_lines.specs.declared.fault.StatementFault.{StatementFault}
+use Rattle.brk_report_lines.specs.declared.fault.StatementFault.TheVariants as statement
 use Rattle.brk_import.specs.declared.batch_fault.FaultKind.{FaultKind}
 use Rattle.brk_import.specs.declared.batch_fault.FaultKind.TheVariants as kind
 use Rattle.brk_serving.specs.declared.turning.FaultKind.{FaultKind as StreamFault}
@@ -27,11 +30,18 @@ batch_status kind.Read = 3
 batch_status kind.Write = 3
 batch_status (kind.Desk fault) = fault_status fault
 
+-- 1 for a statement that is refused
+abbrev pub statement_status : StatementFault → ℕ
+statement_status (statement.Refused refusal) = 1
+statement_status (statement.Desk fault) = fault_status fault
+statement_status statement.Write = 3
+
 -- 0 for what was done and for help, 2 for wrong words
 abbrev pub status_of : Ending → ℕ
 status_of ending.Done = 0
 status_of (ending.Open fault) = fault_status fault
 status_of (ending.Batch fault) = batch_status fault.kind
+status_of (ending.Statement fault) = statement_status fault
 status_of (ending.Serve fault) = 3
 status_of ending.Net = 3
 status_of ending.Output = 3
@@ -61,6 +71,12 @@ stream_line stream.Read = codes "brk: fault: read\n"
 stream_line stream.Write = codes "brk: fault: write\n"
 stream_line stream.Memory = codes "brk: fault: memory\n"
 
+-- the line of a statement that is refused, or ended early
+abbrev pub statement_line : StatementFault → List ℕ
+statement_line (statement.Refused refusal) = codes "brk: refused: " ++ (decimal (refusal_number refusal) ++ (10 ∷ []))
+statement_line (statement.Desk fault) = fault_line fault
+statement_line statement.Write = codes "brk: fault: write\n"
+
 -- the line of words that are wrong, or what there is to say of them
 abbrev pub usage_line : UsageFault → List ℕ
 usage_line (usage.Words text) = string_bytes text
@@ -74,6 +90,7 @@ abbrev pub line_of : Ending → List ℕ
 line_of ending.Done = []
 line_of (ending.Open fault) = fault_line fault
 line_of (ending.Batch fault) = batch_line fault.kind
+line_of (ending.Statement fault) = statement_line fault
 line_of (ending.Serve fault) = stream_line fault.kind
 line_of ending.Net = codes "brk: fault: net\n"
 line_of ending.Output = codes "brk: fault: write\n"

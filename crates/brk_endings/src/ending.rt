@@ -6,9 +6,11 @@ ghost use Rattle.brk_endings.specs.Lines as line;
 use crate::telling::{Line, fault_line, write_line};
 use brk_import::{BatchFault, FaultKind};
 use brk_money::Fault;
+use brk_report_lines::StatementFault;
 use brk_serving::{FaultKind as StreamFault, ServeFault};
 use brk_words::UsageFault;
 use brk_writing::{NotWritten, write_out};
+use itoa::Buffer;
 use std::io::Write;
 
 /// How the program ends.
@@ -20,6 +22,8 @@ pub enum Ending {
     Open(Fault),
     /// The batch ended early.
     Batch(BatchFault),
+    /// The statement is refused, or ended early.
+    Statement(StatementFault),
     /// A stream of requests ended for want of memory.
     Serve(ServeFault),
     /// No stream could be taken: the port is in use, or the machine gives no more.
@@ -30,7 +34,7 @@ pub enum Ending {
     Usage(UsageFault),
 }
 
-fn batch_line(kind: FaultKind) -> Line
+fn batch_line(kind: FaultKind) -> Line<'static>
     ensures { line.told result ≡ spec.batch_line kind }
 {
     match kind {
@@ -43,7 +47,7 @@ fn batch_line(kind: FaultKind) -> Line
     }
 }
 
-fn stream_line(kind: StreamFault) -> Line
+fn stream_line(kind: StreamFault) -> Line<'static>
     ensures { line.told result ≡ spec.stream_line kind }
 {
     match kind {
@@ -73,6 +77,16 @@ fn batch_status(kind: FaultKind) -> u8
     }
 }
 
+fn statement_status(fault: &StatementFault) -> u8
+    ensures { result ≡ spec.statement_status fault.now }
+{
+    match fault {
+        StatementFault::Refused(_) => 1,
+        StatementFault::Desk(fault) => fault_status(*fault),
+        StatementFault::Write => 3,
+    }
+}
+
 fn status(ending: &Ending) -> u8
     ensures { result ≡ spec.status_of ending.now }
 {
@@ -80,6 +94,7 @@ fn status(ending: &Ending) -> u8
         Ending::Done => 0,
         Ending::Open(fault) => fault_status(*fault),
         Ending::Batch(fault) => batch_status(fault.kind),
+        Ending::Statement(fault) => statement_status(fault),
         Ending::Serve(_) => 3,
         Ending::Net => 3,
         Ending::Output => 3,
@@ -97,6 +112,20 @@ pub fn after_close(ending: Ending, closed: Result<(), Fault>) -> Ending
     match (ending, closed) {
         (Ending::Done, Err(fault)) => Ending::Open(fault),
         (ending, _) => ending,
+    }
+}
+
+fn tell_statement<W: Write>(fault: &StatementFault, errors: &mut W) -> Result<(), NotWritten>
+    ensures ok { OnOk result (Appends (W.contents errors.old) (W.contents errors.new) (spec.statement_line fault.now)) }
+    ensures err { OnErr result (line.WritesFront (W.contents errors.old) (W.contents errors.new) (spec.statement_line fault.now)) }
+{
+    match fault {
+        StatementFault::Refused(refusal) => {
+            let mut buffer = Buffer::new();
+            write_line(errors, ("brk: refused: ", buffer.format(refusal.number())))
+        }
+        StatementFault::Desk(fault) => write_line(errors, fault_line(*fault)),
+        StatementFault::Write => write_line(errors, ("brk: fault: ", "write")),
     }
 }
 
@@ -122,6 +151,7 @@ fn tell<W: Write>(ending: &Ending, errors: &mut W) -> Result<(), NotWritten>
         Ending::Done => Ok(()),
         Ending::Open(fault) => write_line(errors, fault_line(*fault)),
         Ending::Batch(fault) => write_line(errors, batch_line(fault.kind)),
+        Ending::Statement(fault) => tell_statement(fault, errors),
         Ending::Serve(fault) => write_line(errors, stream_line(fault.kind)),
         Ending::Net => write_line(errors, ("brk: fault: ", "net")),
         Ending::Output => write_line(errors, ("brk: fault: ", "write")),

@@ -7,10 +7,10 @@ use brk_writing::{NotWritten, write_out};
 use std::io::Write;
 
 /// The line of a fault: what it is about after the program's name, and what is wrong.
-pub type Line = (&'static str, &'static str);
+pub type Line<'a> = (&'a str, &'a str);
 
 /// The line of a fault of a desk.
-pub fn fault_line(fault: Fault) -> Line
+pub fn fault_line(fault: Fault) -> Line<'static>
     ensures { spec.told result ≡ spec.fault_line fault }
 {
     match fault {
@@ -21,7 +21,7 @@ pub fn fault_line(fault: Fault) -> Line
 }
 
 /// Writes a line, or its front where the writer fails.
-pub fn write_line<W: Write>(writer: &mut W, line: Line) -> Result<(), NotWritten>
+pub fn write_line<W: Write>(writer: &mut W, line: Line<'_>) -> Result<(), NotWritten>
     ensures ok { OnOk result (Appends (W.contents writer.old) (W.contents writer.new) (spec.told line.entry)) }
     ensures err { OnErr result (spec.WritesFront (W.contents writer.old) (W.contents writer.new) (spec.told line.entry)) }
 {

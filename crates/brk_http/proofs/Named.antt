@@ -1,21 +1,20 @@
 -- The views that a desk knows.
-use Rattle.std.proofs.Common.{◌≡◌, ◌≢◌, List, Bool, true, false, refl, cond, codes, subst, sym}
+use Rattle.std.proofs.Common.{◌≡◌, ◌≢◌, List, [], ◌∷◌, Bool, true, false, refl, subst, sym}
 use Rattle.std.specs.Prelude.{◌||◌, bytes_eq}
-use Rattle.std.specs.List.{list_any}
+use Rattle.std.specs.List.{AllByRecursion, list_any}
 use Rattle.std.proofs.lemmas.Slice.Eq.{bytes_eq-Decides}
 use Rattle.brk_money.specs.Spelling.{Text}
 use Rattle.brk_http.specs.Forms.{known_forms}
 
-pub submitted_is : (name : Text) → name ≡ codes "submitted" → list_any (λ v. bytes_eq v name) known_forms.views ≡ true
-submitted_is name e = subst (λ n. list_any (λ v. bytes_eq v n) known_forms.views ≡ true) (sym e) refl
+-- a name is that of a view that is known
+pub is_named : (name view : Text) → list_any (λ v. bytes_eq v view) known_forms.views ≡ true → name ≡ view → list_any (λ v. bytes_eq v name) known_forms.views ≡ true
+is_named name view known e = subst (λ n. list_any (λ v. bytes_eq v n) known_forms.views ≡ true) (sym e) known
 
-pub estimate_is : (name : Text) → name ≡ codes "estimate" → list_any (λ v. bytes_eq v name) known_forms.views ≡ true
-estimate_is name e = subst (λ n. list_any (λ v. bytes_eq v n) known_forms.views ≡ true) (sym e) refl
-
-pub no_other_is : (name : Text) → name ≢ codes "submitted" → name ≢ codes "estimate" → list_any (λ v. bytes_eq v name) known_forms.views ≡ false
-no_other_is name a b = neither (bytes_eq (codes "submitted") name) (bytes_eq (codes "estimate") name) ((bytes_eq-Decides (codes "submitted") name).0) ((bytes_eq-Decides (codes "estimate") name).0)
+-- a name is that of none of some views
+pub not_named : (name : Text) (views : List Text) → AllByRecursion (λ v. name ≢ v) views → list_any (λ v. bytes_eq v name) views ≡ false
+not_named name [] h = refl
+not_named name (v ∷ views) h = by_test (not_named name views h.1) (bytes_eq v name) ((bytes_eq-Decides v name).0)
   where
-    neither : (x y : Bool) → (x ≡ true → codes "submitted" ≡ name) → (y ≡ true → codes "estimate" ≡ name) → (x || (y || false)) ≡ false
-    neither false false f g = refl
-    neither true y f g = elim (a (sym (f refl))) [ ]
-    neither false true f g = elim (b (sym (g refl))) [ ]
+    by_test : list_any (λ v. bytes_eq v name) views ≡ false → (b : Bool) → (b ≡ true → v ≡ name) → b || list_any (λ v. bytes_eq v name) views ≡ false
+    by_test ih false f = ih
+    by_test ih true f = absurd (h.0 (sym (f refl)))

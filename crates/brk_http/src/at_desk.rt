@@ -63,15 +63,21 @@ impl<S: Alter> Service for AtDesk<S> {
         parse_row(alloc, row)
     }
 
-    #[tactic(auto, using(crate::proofs::Named::submitted_is, crate::proofs::Named::estimate_is, crate::proofs::Named::no_other_is))]
     fn view_named(name: &str) -> Option<&'static str> {
-        if name == "submitted" {
-            return Some("submitted");
+        match name {
+            "submitted" => Some("submitted"),
+            "estimate" => Some("estimate"),
+            "customer" => Some("customer"),
+            "taxid" => Some("taxid"),
+            "recent" => Some("recent"),
+            "status" => Some("status"),
+            "trades" => Some("trades"),
+            "accounttrades" => Some("accounttrades"),
+            "symboltrades" => Some("symboltrades"),
+            "lots" => Some("lots"),
+            "volume" => Some("volume"),
+            _ => None,
         }
-        if name == "estimate" {
-            return Some("estimate");
-        }
-        None
     }
 
     fn parse_query(alloc: Global, view: &str, arguments: &[&[u8]]) -> Planned<Query> {

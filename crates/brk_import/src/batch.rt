@@ -1,8 +1,7 @@
 ghost use Rattle.std.specs.Prelude.{option_map};
 ghost use Rattle.brk_model.specs.Batch.{row_step};
 ghost use Rattle.brk_model.specs.Input.{text_of};
-ghost use Rattle.brk_commands.specs.Kinds.{known_readers};
-ghost use Rattle.brk_model.specs.Parse.{parse_by};
+ghost use Rattle.brk_model.specs.Parse.{parse_by, readers};
 ghost use Rattle.brk_desk.specs.Keeping.{KeepsBase};
 ghost use Rattle.brk_import.specs.Batch.{KeepsBooks, LeavesBooks, TellsAnswers};
 ghost use Rattle.brk_import.specs.Leaving.{LeavesOneOf};
@@ -34,16 +33,16 @@ pub fn run_batch<R: Read + Drop, W: Write, C: Clock, S: Alter>(
     desk: &mut Desk<S>,
 ) -> Result<Counts, BatchFault>
     // Whatever the desk answers to the rows that are in form, the lines are those of its answers.
-    ensures told { TellsAnswers (parse_by known_readers) C.gives (option_map text_of (R.remaining reader))
+    ensures told { TellsAnswers (parse_by readers) C.gives (option_map text_of (R.remaining reader))
         (record { clock = clock.old; later = clock.new; old = W.contents writer.old; new = W.contents writer.new }) result }
     // As far as the disk returns what was written, the answers are those of the steps, from each base whose books the
     // desk kept, and it keeps those of the base after them.
-    ensures kept { KeepsBooks (λ desk. HasCleanDisk (state S.Store desk)) (λ desk. KeepsBase S.Store desk) (parse_by known_readers) row_step C.gives
+    ensures kept { KeepsBooks (λ desk. HasCleanDisk (state S.Store desk)) (λ desk. KeepsBase S.Store desk) (parse_by readers) row_step C.gives
         (option_map text_of (R.remaining reader)) desk.old desk.new
         (record { clock = clock.old; later = clock.new; old = W.contents writer.old; new = W.contents writer.new }) result }
     // Where a stop before the batch leaves the tables of such a base alone, one after it leaves those of the base after
     // them, and where the desk answered a row with a fault perhaps those after that row's command.
-    ensures left { LeavesBooks (λ desk. HasCleanDisk (state S.Store desk)) (λ desk. KeepsBase S.Store desk) (LeavesOneOf S.Store) (parse_by known_readers) row_step
+    ensures left { LeavesBooks (λ desk. HasCleanDisk (state S.Store desk)) (λ desk. KeepsBase S.Store desk) (LeavesOneOf S.Store) (parse_by readers) row_step
         C.gives (option_map text_of (R.remaining reader)) desk.old desk.new
         (record { clock = clock.old; later = clock.new; old = W.contents writer.old; new = W.contents writer.new }) result }
 {

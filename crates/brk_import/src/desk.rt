@@ -4,9 +4,8 @@ ghost use Rattle.brk_ref.specs.Records.{key_of};
 ghost use Rattle.brk_model.specs.Base.{Base};
 ghost use Rattle.brk_model.specs.Batch.{row_step};
 ghost use Rattle.brk_model.specs.Commands as model;
-ghost use Rattle.brk_model.specs.Parse.{parse_by};
+ghost use Rattle.brk_model.specs.Parse.{parse_by, readers};
 ghost use Rattle.brk_commands.specs.Commands.{command_of};
-ghost use Rattle.brk_commands.specs.Kinds.{known_readers};
 ghost use Rattle.brk_plans.specs.Replies.{reply_of};
 ghost use Rattle.brk_desk.specs.Keeping.{KeepsBase};
 ghost use Rattle.brk_import.specs.Leaving.{LeavesOneOf};
@@ -53,7 +52,7 @@ impl<S: Alter> Rows for Desk<S> {
 
     ghost told = { reply_of };
 
-    ghost form = { parse_by known_readers };
+    ghost form = { parse_by readers };
 
     ghost step = { row_step };
 

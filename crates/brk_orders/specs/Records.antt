@@ -1,13 +1,15 @@
 -- What is asked for, in the abstract brokerage.
-use Rattle.std.specs.Prelude.{List, [], ◌∷◌, map}
+use Rattle.std.specs.Prelude.{ℕ, List, [], ◌∷◌, map}
 use Rattle.std.specs.Global.{Vec}
 use Rattle.brk_money.specs.Spelling.{Text}
-use Rattle.brk_model.specs.Commands.{Command, Order, Tick, CompleteTrade}
+use Rattle.brk_model.specs.Commands.{Command, Order, Tick, CompleteTrade, ChangeExecutors, ChangeCashTypes, ChangeCashNames}
 use Rattle.brk_ref.specs.Records.{executor_of}
 use Rattle.brk_orders.specs.declared.completion.Completion as completion
 use Rattle.brk_orders.specs.declared.order.Order as order
 use Rattle.brk_orders.specs.declared.order.Told as told
 use Rattle.brk_orders.specs.declared.tick.Tick as tick
+use Rattle.brk_orders.specs.declared.update.Update as told_update
+use Rattle.brk_orders.specs.declared.update.Update.TheVariants as update
 
 abbrev pub order_of : order.Order → Order
 order_of o = record { account = o.account; order_type = o.order_type; symbol = o.symbol; qty = o.qty; is_cash = o.is_cash; is_lifo = o.is_lifo; executor = executor_of o.executor }
@@ -34,3 +36,13 @@ items_of ticks = ticks_of ticks.items
 -- a trade that is completed, and its price
 abbrev pub result_of : completion.Completion → Command
 result_of c = CompleteTrade c.trade c.price
+
+-- the ids that were taken so far
+abbrev pub ids_in : Vec ℕ → List ℕ
+ids_in ids = ids.items
+
+-- words of trades that are corrected
+abbrev pub update_of : told_update.Update → Command
+update_of (update.Executors trades) = ChangeExecutors trades
+update_of (update.CashTypes account span) = ChangeCashTypes account span.first span.last
+update_of (update.CashNames symbol span) = ChangeCashNames symbol span.first span.last

@@ -3,3 +3,4 @@ pub mod Reference
 pub mod Waiting
 pub mod Cancel
 pub mod Feed
+pub mod Update

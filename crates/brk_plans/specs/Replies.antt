@@ -1,6 +1,6 @@
 -- What replies are in the abstract brokerage.
 use Rattle.brk_model.specs.Commands as model
-use Rattle.brk_model.specs.Commands.{Reply, Booked, Ordered, Ticked, CanceledTrade, CompletedTrade}
+use Rattle.brk_model.specs.Commands.{Reply, Booked, Ordered, Ticked, CanceledTrade, CompletedTrade, Changed}
 use Rattle.brk_plans.specs.declared.estimate.Estimate.{Estimate}
 use Rattle.brk_plans.specs.declared.reply.Completed.{Completed}
 use Rattle.brk_plans.specs.declared.reply.Reply as trade
@@ -37,6 +37,7 @@ reply_of (reply.Ordered ordered) = Ordered ordered.stamp ordered.trade ordered.s
 reply_of (reply.Ticked stamp triggered) = Ticked stamp triggered.items
 reply_of (reply.Canceled stamp) = CanceledTrade stamp
 reply_of (reply.Completed completed) = CompletedTrade completed.stamp (completion_of completed)
+reply_of (reply.Changed stamp count) = Changed stamp count
 
 -- an estimate of the definitions, as the program has it
 abbrev pub told : model.Estimate → Estimate

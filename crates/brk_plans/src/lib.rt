@@ -1,20 +1,25 @@
 //! What a plan is, a reply and the changes of rows that go with it, and the plans of commands that look at no lots: reference
-//! rows, ticks of the market, cancels.
+//! rows, ticks of the market, cancels, corrections of words.
 #![tactic(auto)]
 
 pub mod cancel;
+pub mod corrected;
 pub mod estimate;
 pub mod feed;
 pub mod plan;
 pub mod quote;
 pub mod reference;
 pub mod reply;
+pub mod update;
 mod waiting;
+mod wording;
 
 pub use cancel::plan_cancel;
+pub use corrected::{Corrected, Paid, Settled};
 pub use estimate::Estimate;
 pub use feed::{has_no_quote, plan_feed, triggers};
 pub use plan::Plan;
 pub use quote::Quote;
 pub use reference::{Found, Reference, plan_reference};
 pub use reply::{Completed, Ordered, Reply};
+pub use update::plan_update;

@@ -45,4 +45,6 @@ pub enum Reply {
     Canceled(Stamp),
     /// A submitted trade was completed.
     Completed(Completed),
+    /// Words of so many trades were corrected.
+    Changed(Stamp, usize),
 }

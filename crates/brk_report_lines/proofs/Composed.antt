@@ -5,9 +5,9 @@ use Rattle.std.proofs.KnownBytes.{Appends-trans}
 use Rattle.std.proofs.lemmas.List.{append_assoc}
 use Rattle.brk_money.specs.Spelling.{Text}
 use Rattle.brk_model.specs.Statement.{lines_text}
-use Rattle.brk_report_lines.specs.declared.fault.StatementFault.{StatementFault}
-use Rattle.brk_report_lines.specs.declared.fault.StatementFault.TheVariants.{Refused, Desk, Write}
-use Rattle.brk_report_lines.specs.Written.{BreaksIn, BreaksOff, WroteFirst, WrotePart, ended}
+use Rattle.brk_report_lines.specs.declared.fault.LinesFault.{LinesFault}
+use Rattle.brk_report_lines.specs.declared.fault.LinesFault.TheVariants.{Desk, Write}
+use Rattle.brk_report_lines.specs.Written.{BreaksIn, BreaksOff, WroteFirst, ended}
 
 pub appends_none : (a : Option Text) → Appends a a []
 appends_none None = tt
@@ -21,8 +21,7 @@ lines_parts (x ∷ xs) ys = ap (λ (l : Text). ended x ++ l) (lines_parts xs ys)
 pub then_all : (xs ys : List Text) (a b c : Option Text) → Appends a b (lines_text xs) → Appends b c (lines_text ys) → Appends a c (lines_text (xs ++ ys))
 then_all xs ys a b c h k = subst (Appends a c) (sym (lines_parts xs ys)) (Appends-trans _ _ _ _ _ h k)
 
-pub breaks_behind : (xs ys : List Text) (a b c : Option Text) (e : StatementFault) → Appends a b (lines_text xs) → BreaksIn ys b c e → BreaksIn (xs ++ ys) a c e
-breaks_behind xs ys a b c (Refused r) h k = absurd k
+pub breaks_behind : (xs ys : List Text) (a b c : Option Text) (e : LinesFault) → Appends a b (lines_text xs) → BreaksIn ys b c e → BreaksIn (xs ++ ys) a c e
 breaks_behind xs ys a b c (Desk f) h k =
     let w = k.1 in
     (k.0, (xs ++ w.0, w.1, w.2, append_assoc xs w.0 (w.1 ∷ w.2) ∙ ap (λ (l : List Text). xs ++ l) w.3, then_all xs w.0 a b c h w.4))
@@ -36,14 +35,12 @@ breaks_behind xs ys a b c Write h k = (
 )
 
 -- lines that broke off, with more to come behind them
-pub breaks_before : (xs ys : List Text) (a b : Option Text) (e : StatementFault) → BreaksIn xs a b e → BreaksIn (xs ++ ys) a b e
-breaks_before xs ys a b (Refused r) h = absurd h
+pub breaks_before : (xs ys : List Text) (a b : Option Text) (e : LinesFault) → BreaksIn xs a b e → BreaksIn (xs ++ ys) a b e
 breaks_before xs ys a b (Desk f) h = let w = h.1 in (h.0, (w.0, w.1, w.2 ++ ys, sym (append_assoc w.0 (w.1 ∷ w.2) ys) ∙ ap (λ (l : List Text). l ++ ys) w.3, w.4))
 breaks_before xs ys a b Write h = (h.0, h.1, h.2 ++ ys, h.3, sym (append_assoc h.0 (h.1 ∷ h.2) ys) ∙ ap (λ (l : List Text). l ++ ys) h.4, h.5)
 
 -- lines that may all be written, with one more behind them that is not
-pub breaks_off : (xs : List Text) (y : Text) (ys : List Text) (a b : Option Text) (e : StatementFault) → BreaksOff xs a b e → BreaksIn (xs ++ y ∷ ys) a b e
-breaks_off xs y ys a b (Refused r) h = absurd h
+pub breaks_off : (xs : List Text) (y : Text) (ys : List Text) (a b : Option Text) (e : LinesFault) → BreaksOff xs a b e → BreaksIn (xs ++ y ∷ ys) a b e
 breaks_off xs y ys a b (Desk f) h = (h.0, next h.1.0 h.1.1 h.1.2 h.1.3)
   where
     next : (first rest : List Text) → first ++ rest ≡ xs → Appends a b (lines_text first) → WroteFirst (xs ++ y ∷ ys) a b

@@ -3,25 +3,22 @@ ghost use Rattle.brk_money.specs.Spelling.{Text};
 ghost use Rattle.brk_model.specs.Run.{MayFail};
 ghost use Rattle.brk_report_lines.specs.Written.{Writes, ended};
 
-use crate::fault::StatementFault;
+use crate::fault::LinesFault;
 use brk_money::Fault;
 use brk_writing::write_out;
 use std::io::Write;
 
 /// Writes a line, which was made or could not be.
-pub fn write_line<W: Write>(
-    writer: &mut W,
-    line: Result<Vec<u8>, Fault>,
-) -> Result<(), StatementFault>
+pub fn write_line<W: Write>(writer: &mut W, line: Result<Vec<u8>, Fault>) -> Result<(), LinesFault>
     ensures written { (text : Text) → IfOk line (λ l. l.items ≡ ended text) → IfErr line MayFail → Writes (text ∷ []) (W.contents writer.old) (W.contents writer.new) result }
 {
     let line = match line {
         Ok(line) => line,
-        Err(fault) => return Err(StatementFault::Desk(fault)),
+        Err(fault) => return Err(LinesFault::Desk(fault)),
     };
     match write_out(writer, line.as_slice()) {
         Ok(()) => (),
-        Err(_) => return Err(StatementFault::Write),
+        Err(_) => return Err(LinesFault::Write),
     }
     Ok(())
 }

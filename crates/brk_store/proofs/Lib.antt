@@ -6,3 +6,6 @@ pub mod Making
 pub mod Retelling
 pub mod Taking
 pub mod Texts
+pub mod WalkedLists
+pub mod Walking
+pub mod Turning

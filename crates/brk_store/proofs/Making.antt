@@ -1,6 +1,6 @@
 -- Changes that are made one after another.
 use Rattle.std.proofs.Common.{◌≡◌, Result, Ok, inl, refl, sym, subst, arith}
-use Rattle.sqlite.specs.State.{State, Survives}
+use Rattle.sqlite.specs.State.{State}
 use Rattle.brk_rows.specs.Desk.{Turns}
 use Rattle.brk_rows.specs.Model.{IsStep}
 use Rattle.brk_rows.proofs.Strangers.{spares_itself}

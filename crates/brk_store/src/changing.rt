@@ -65,6 +65,15 @@ fn make<S: Alter>(tx: &mut Transaction<'_, S>, change: &Change) -> Result<(), Fa
             trades,
             commissions,
         } => brk_tables::set_broker_numbers(tx, *broker, *trades, *commissions),
+        Change::SetExecutor { trade, executor } => brk_tables::set_executor(
+            tx,
+            *trade,
+            executor.as_str(),
+        ),
+        Change::SetCashType { trade, cash_type } => brk_tables::set_cash_type(
+            tx, *trade, *cash_type,
+        ),
+        Change::SetCashName { trade, name } => brk_tables::set_cash_name(tx, *trade, name.as_str()),
         Change::Keep(kept) => brk_tables::add_kept(tx, kept),
         Change::SetLast(stamp) => brk_tables::set_last_stamp(tx, *stamp),
     }

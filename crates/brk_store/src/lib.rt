@@ -4,12 +4,22 @@
 pub mod adopting;
 mod auditing;
 mod beginning;
+mod brokers;
+pub mod calling;
 mod changing;
+mod looking;
+mod lot_changes;
+mod moments;
 mod numbers;
+pub mod pages;
 mod reading;
 pub mod reopening;
 pub mod store;
 mod terms;
 mod trades;
+mod updates;
+pub mod walks;
 
+pub use brk_tables_walks::{Stop, Visitor};
+pub use pages::{LotPages, Page, Pages};
 pub use store::Store;

@@ -10,6 +10,7 @@ ghost use Rattle.brk_changes.specs.Rows.{holding_row_of, oldest_lots_first, requ
 ghost use Rattle.brk_store.specs.Holds.{IsRead};
 ghost use Rattle.brk_tables_form.specs.Desk.{LastTrades, Requests, Summaries, Trades};
 ghost use Rattle.brk_tables_form.specs.Statements.{Found, Listed};
+ghost use Rattle.brk_tables_trading.specs.Pages.{lots_held, on_page};
 
 use crate::Store;
 use crate::beginning::begin;
@@ -78,6 +79,36 @@ impl<S: Alter> Store<S> {
     {
         let mut tx = begin(&mut self.conn);
         brk_tables::lots_of(&mut tx, alloc, account, symbol)
+    }
+
+    /// A page of the lots of an account in a security, the oldest first: at most 16, behind so many.
+    pub fn oldest_lots(
+        &mut self,
+        alloc: Global,
+        account: Id,
+        symbol: &Symbol,
+        skipped: u32,
+    ) -> Result<Vec<HoldingRow>, Fault>
+        ensures read { IsRead S.Store self.old self.new result (λ all t. map holding_row_of all.items ≡ on_page skipped (lots_held account symbol.now t)) }
+        ensures fault { IfErr result MayFail }
+    {
+        let mut tx = begin(&mut self.conn);
+        brk_tables::oldest_lots(&mut tx, alloc, account, symbol, skipped)
+    }
+
+    /// The same, the newest first.
+    pub fn newest_lots(
+        &mut self,
+        alloc: Global,
+        account: Id,
+        symbol: &Symbol,
+        skipped: u32,
+    ) -> Result<Vec<HoldingRow>, Fault>
+        ensures read { IsRead S.Store self.old self.new result (λ all t. map holding_row_of all.items ≡ on_page skipped (reverse (lots_held account symbol.now t))) }
+        ensures fault { IfErr result MayFail }
+    {
+        let mut tx = begin(&mut self.conn);
+        brk_tables::newest_lots(&mut tx, alloc, account, symbol, skipped)
     }
 
     /// How many shares an account holds of each security, by rising symbol.

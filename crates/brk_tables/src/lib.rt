@@ -13,8 +13,15 @@ pub use brk_tables_reference::{
 };
 pub use brk_tables_trading::{
     add_cash, add_lot, add_lot_change, add_request, add_settlement, add_summary, add_trade,
-    add_trade_history, complete_trade, last_trade_by_symbol, last_trade_id, lots_of, remove_lot,
-    remove_request, remove_summary, requests_of, set_balance, set_broker_numbers, set_last_trade,
-    set_lot, set_status, set_summary, submitted_trades, summaries_of, summary_of, trade_by_id,
+    add_trade_history, cash_by_trade, complete_trade, completed_cash_of_symbol,
+    completed_of_account, history_of, last_fifty_of_account, last_ten_of_account,
+    last_trade_by_symbol, last_trade_id, lots_of, newest_lots, oldest_lots, remove_lot,
+    remove_request, remove_summary, requests_of, set_balance, set_broker_numbers, set_cash_name,
+    set_cash_type, set_executor, set_last_trade, set_lot, set_status, set_summary,
+    settlement_by_trade, submitted_trades, summaries_of, summary_of, trade_by_id,
+};
+pub use brk_tables_views::{
+    brokers_named, changes_by, changes_of, first_since, requests_of_broker, twenty_of_account,
+    twenty_of_symbol,
 };
 pub use brk_tables_whole::{has_desk, read_sheets};

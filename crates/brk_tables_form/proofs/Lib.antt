@@ -13,3 +13,4 @@ pub mod KeptByKey
 pub mod Steps
 pub mod Keeping
 pub mod TradeCells
+pub mod Compared

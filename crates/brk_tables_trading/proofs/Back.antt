@@ -10,7 +10,7 @@ use Rattle.brk_rows.proofs.Decode.{text_in}
 use Rattle.brk_tables_form.specs.Cells.{nat, flag, maybe, trade_cells, request_cells, last_trade_cells}
 use Rattle.brk_tables_form.proofs.Back.{number_in, maybe_in, maybe_back, type_at, type_back}
 
-abbrev status_at : List ℕ → Status
+abbrev pub status_at : List ℕ → Status
 status_at code =
     if bytes_eq code (codes "CMPT") then Completed
     else if bytes_eq code (codes "ACTV") then Active
@@ -18,7 +18,7 @@ status_at code =
     else if bytes_eq code (codes "PNDG") then Pending
     else Canceled
 
-status_back : (s : Status) → status_at (status_code s) ≡ s
+pub status_back : (s : Status) → status_at (status_code s) ≡ s
 status_back Completed = refl
 status_back Active = refl
 status_back Submitted = refl

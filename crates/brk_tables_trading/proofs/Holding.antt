@@ -1,7 +1,10 @@
 -- What the statements that read lots and summaries tell of the tables.
-use Rattle.std.proofs.Common.{◌≡◌, ℕ, List, [], ◌∷◌, true, ◌&&◌, map, filter, ◌==◌, Ordering, Less, Equal, Greater, is_eq, refl, sym, ap, ◌∙◌}
-use Rattle.std.specs.Prelude.{bytes_eq}
-use Rattle.std.specs.Ordering.{ordering_then}
+use Rattle.std.proofs.Common.{◌≡◌, ℕ, List, [], ◌∷◌, Bool, true, false, Some, ◌&&◌, map, filter, reverse, ◌==◌, Ordering, Less, Equal, Greater, is_eq, refl, sym, ap, ◌∙◌}
+use Rattle.std.proofs.lemmas.Cmp.{back_total}
+use Rattle.std.proofs.lemmas.List.{drop-map}
+use Rattle.std.specs.List.{AllByRecursion}
+use Rattle.std.specs.Prelude.{bytes_eq, drop, take}
+use Rattle.std.specs.Ordering.{ordering_reverse, ordering_then}
 use Rattle.sqlite_value.specs.declared.value.Value.TheVariants.{Text as Words}
 use Rattle.sqlite_value.specs.Order.{Row, column, value_cmp}
 use Rattle.sqlite_keyed.specs.Lists.{sort_by}
@@ -9,7 +12,14 @@ use Rattle.sqlite_rules.specs.Edit.{id_in}
 use Rattle.sqlite_tied.proofs.RuleLemmas.{and_true}
 use Rattle.sqlite.specs.State.{State, Shown}
 use Rattle.brk_model.specs.Tables.{HoldingRow, SummaryRow}
-use Rattle.brk_model.specs.Keys.{KeyPart, by_key, insert_row, summary_key}
+use Rattle.sqlite_sql.specs.Term.{Term}
+use Rattle.sqlite_trees.specs.Tree.{IsAscending}
+use Rattle.sqlite_keyed.proofs.ListLemmas.{ascending-filter}
+use Rattle.brk_model.specs.Keys.{KeyPart, by_key, insert_row, holding_key, summary_key}
+use Rattle.brk_rows.specs.Rows.{Rises, cells}
+use Rattle.brk_rows.proofs.Answer.{limited_map}
+use Rattle.brk_rows.proofs.Pick.{passes}
+use Rattle.brk_tables_form.specs.Shapes.{holding}
 use Rattle.brk_rows.specs.Desk.{Tells}
 use Rattle.brk_rows.proofs.Decode.{text_in}
 use Rattle.brk_rows.proofs.Looks.{tells_rising, tells_sorted}
@@ -21,7 +31,11 @@ use Rattle.brk_tables_form.proofs.Back.{number_in}
 use Rattle.brk_tables_form.proofs.Order.{key_total, inserted}
 use Rattle.brk_tables_form.proofs.Tests.{same_number, same_text}
 use Rattle.brk_changes.specs.Rows.{age_key, oldest_lots_first}
+use Rattle.brk_tables_trading.specs.Pages.{lots_held, on_page, page_size}
 use Rattle.brk_tables_trading.proofs.LotsOf
+use Rattle.brk_tables_trading.proofs.NewestLots
+use Rattle.brk_tables_trading.proofs.OldestLots
+use Rattle.brk_tables_trading.proofs.Turned.{flipped, turned_sort}
 use Rattle.brk_tables_trading.proofs.SummariesOf
 use Rattle.brk_tables_trading.proofs.SummaryOf
 
@@ -49,6 +63,11 @@ unfolding Rattle.brk_model.specs.Lists.sort_by
 sorted key [] = refl
 sorted key (x ∷ xs) = ap (insert_row key x) (sorted key xs) ∙ inserted key x (sort_by (by_key_values key) xs)
 
+reversed_eq : (o : Ordering) → is_eq (ordering_reverse o) ≡ is_eq o
+reversed_eq Less = refl
+reversed_eq Equal = refl
+reversed_eq Greater = refl
+
 second : (a b : Ordering) → is_eq (ordering_then a b) ≡ true → is_eq b ≡ true
 second Less b h = absurd (let f = h in cc)
 second Equal b h = h
@@ -69,6 +88,66 @@ tells_lots old new account symbol rows shown = λ t tree h.
     rw (p0, q0, p1, q1) refl)
     old new rows shown (λ x y e. second (value_cmp (nat x.stamp) (nat y.stamp)) _ e) t tree h
     ∙ ap (map holding_cells) (sym (sorted age_key (filter (λ (r : HoldingRow). (r.account == account) && bytes_eq r.symbol symbol) t.holdings)))
+
+-- ---- pages of them
+
+page_map : {X Y : Type 0} (f : X → Y) (n : ℕ) (xs : List X) → on_page n (map f xs) ≡ map f (on_page n xs)
+page_map f n xs = ap (take page_size) (drop-map f n xs) ∙ limited_map f (Some page_size) (drop n xs)
+
+abbrev is_held : ℕ → List ℕ → HoldingRow → Bool
+is_held account symbol r = (r.account == account) && bytes_eq r.symbol symbol
+
+held_test : (account skipped : ℕ) (symbol : List ℕ) (terms : List Term) → terms ≡ LotsOf.terms → (tree : ℕ) (r : Row) (x : HoldingRow) → cells (holding tree) r ≡ holding_cells x
+    → passes (nat account ∷ Words symbol ∷ nat skipped ∷ []) terms r ≡ is_held account symbol x
+held_test account skipped symbol terms is tree r x e =
+    let a0 : column r 2 ≡ nat x.account = ap (λ row. column row 1) e in
+    let a1 : column r 3 ≡ Words x.symbol = ap (λ row. column row 2) e in
+    rw (is, a0, a1, same_number x.account account, same_text x.symbol symbol) (ap (λ c. (x.account == account) && c) (and_true _))
+
+pub tells_oldest : (old new : State) (account skipped : ℕ) (symbol : List ℕ) (rows : List Row) → Shown OldestLots.statement (nat account ∷ Words symbol ∷ nat skipped ∷ []) old new rows
+    → Tells desk (λ t. rows ≡ map holding_cells (on_page skipped (oldest_lots_first (filter (is_held account symbol) t.holdings)))) old.now
+tells_oldest old new account skipped symbol rows shown = λ t tree h.
+    tells_sorted desk Holdings OldestLots.statement (nat account ∷ Words symbol ∷ nat skipped ∷ []) (read OldestLots.statement) OldestLots.terms OldestLots.project OldestLots.order OldestLots.paging OldestLots.names OldestLots.understood_as
+    (is_held account symbol) (held_test account skipped symbol OldestLots.terms refl) holding_cells (λ tree r x e. e) (by_key_values age_key) (key_total age_key)
+    (λ tree a b x y e f.
+    let p0 : column a 4 ≡ nat x.stamp = ap (λ row. column row 3) e in
+    let q0 : column b 4 ≡ nat y.stamp = ap (λ row. column row 3) f in
+    let p1 : column a 0 ≡ nat x.trade = ap (λ row. column row 0) e in
+    let q1 : column b 0 ≡ nat y.trade = ap (λ row. column row 0) f in
+    rw (p0, q0, p1, q1) refl)
+    old new rows shown (λ x y e. second (value_cmp (nat x.stamp) (nat y.stamp)) _ e) t tree h
+    ∙ page_map holding_cells skipped (sort_by (by_key_values age_key) (filter (is_held account symbol) t.holdings))
+    ∙ ap (λ (xs : List HoldingRow). map holding_cells (on_page skipped xs)) (sym (sorted age_key (filter (is_held account symbol) t.holdings)))
+
+-- rows that rise by their trades tie by no age
+untied : (xs : List HoldingRow) → Rises (order Holdings) xs → IsAscending (λ x y. is_eq (by_key_values age_key x y) ≡ false) xs
+untied [] up = tt
+untied (x ∷ xs) up = (each xs up.0, untied xs up.1)
+  where
+    off : (b : Bool) (o : Ordering) → o ≡ Less → (b ≡ true → is_eq o ≡ true) → b ≡ false
+    off true o e k = absurd (let f = ap is_eq (sym e) ∙ k refl in cc)
+    off false o e k = refl
+
+    each : (ys : List HoldingRow) → AllByRecursion (λ y. order Holdings x y ≡ Less) ys → AllByRecursion (λ y. is_eq (by_key_values age_key x y) ≡ false) ys
+    each [] all = tt
+    each (y ∷ ys) all = (off _ (order Holdings x y) all.0 (λ e. second (value_cmp (nat x.stamp) (nat y.stamp)) _ e), each ys all.1)
+
+pub tells_newest : (old new : State) (account skipped : ℕ) (symbol : List ℕ) (rows : List Row) → Shown NewestLots.statement (nat account ∷ Words symbol ∷ nat skipped ∷ []) old new rows
+    → Tells desk (λ t. rows ≡ map holding_cells (on_page skipped (reverse (oldest_lots_first (filter (is_held account symbol) t.holdings))))) old.now
+tells_newest old new account skipped symbol rows shown = λ t tree h.
+    let held = filter (is_held account symbol) t.holdings in
+    tells_sorted desk Holdings NewestLots.statement (nat account ∷ Words symbol ∷ nat skipped ∷ []) (read NewestLots.statement) NewestLots.terms NewestLots.project NewestLots.order NewestLots.paging NewestLots.names NewestLots.understood_as
+    (is_held account symbol) (held_test account skipped symbol NewestLots.terms refl) holding_cells (λ tree r x e. e) (flipped (by_key_values age_key)) (back_total (key_total age_key))
+    (λ tree a b x y e f.
+    let p0 : column a 4 ≡ nat x.stamp = ap (λ row. column row 3) e in
+    let q0 : column b 4 ≡ nat y.stamp = ap (λ row. column row 3) f in
+    let p1 : column a 0 ≡ nat x.trade = ap (λ row. column row 0) e in
+    let q1 : column b 0 ≡ nat y.trade = ap (λ row. column row 0) f in
+    rw (p0, q0, p1, q1) refl)
+    old new rows shown (λ x y e. ap is_eq ((key_total holding_key).antisymm x y) ∙ reversed_eq (order Holdings y x) ∙ second (value_cmp (nat y.stamp) (nat x.stamp)) _ e) t tree h
+    ∙ page_map holding_cells skipped (sort_by (flipped (by_key_values age_key)) held)
+    ∙ ap (λ (xs : List HoldingRow). map holding_cells (on_page skipped xs))
+    (turned_sort (by_key_values age_key) (key_total age_key) held (untied held (ascending-filter _ (is_held account symbol) t.holdings (h.rows Holdings).rising)) ∙ ap reverse (sym (sorted age_key held)))
 
 -- ---- summaries
 

@@ -10,6 +10,9 @@ pub mod SubmittedTrades
 pub mod RequestsOf
 pub mod LastTradeBySymbol
 pub mod LotsOf
+pub mod OldestLots
+pub mod NewestLots
+pub mod Turned
 pub mod SummariesOf
 pub mod SummaryOf
 pub mod SetLastTrade
@@ -17,6 +20,10 @@ pub mod SetStatus
 pub mod CompleteTrade
 pub mod Writes
 pub mod Tells
+pub mod LastTenOfAccount
+pub mod LastFiftyOfAccount
+pub mod HistoryOf
+pub mod LookingReads
 pub mod Holding
 pub mod AddLot
 pub mod SetLot
@@ -30,3 +37,12 @@ pub mod AddCash
 pub mod SetBalance
 pub mod SetBrokerNumbers
 pub mod HoldingWrites
+pub mod CompletedOfAccount
+pub mod CompletedCashOfSymbol
+pub mod SettlementByTrade
+pub mod CashByTrade
+pub mod SetExecutor
+pub mod SetCashType
+pub mod SetCashName
+pub mod UpdateReads
+pub mod UpdateWrites

@@ -1,11 +1,14 @@
 //! What accounts hold: their lots, and how many shares of each security in all.
 
-ghost use Rattle.std.specs.Prelude.{◌≡◌, ◌==◌, ◌&&◌, Err, IfErr, OnErr, bytes_eq, filter, map};
+ghost use Rattle.std.specs.Prelude.{◌≡◌, ◌==◌, ◌&&◌, Err, IfErr, OnErr, bytes_eq, filter, map, pos, reverse};
+ghost use Rattle.sqlite_value.specs.Value.{owned};
+ghost use Rattle.sqlite_value.specs.declared.value.Value.TheVariants.{Int};
 ghost use Rattle.brk_money.specs.declared.fault.Fault.TheVariants.{Store};
 ghost use Rattle.brk_model.specs.Run.{MayFail};
 ghost use Rattle.brk_changes.specs.Rows.{holding_row_of, oldest_lots_first, summary_row_of};
 ghost use Rattle.brk_tables_form.specs.Desk.{Summaries};
 ghost use Rattle.brk_tables_form.specs.Statements.{Finds, Lists, Reads};
+ghost use Rattle.brk_tables_trading.specs.Pages.{lots_held, on_page};
 
 use brk_changes::{HoldingRow, SummaryRow};
 use brk_money::{Fault, Id};
@@ -14,6 +17,7 @@ use brk_tables_form::calls::select;
 use brk_tables_form::record::{all_rows, first_row};
 use brk_tables_form::values::{id_value, text_value};
 use sqlite::{Alter, Transaction};
+use sqlite_value::value::ValueRef;
 use std::alloc::Global;
 
 /// The lots of an account in a security, by the moment of opening and then by trade, the oldest first.
@@ -31,6 +35,62 @@ pub fn lots_of<S: Alter>(
         tx,
         "SELECT H_T_ID, H_CA_ID, H_S_SYMB, H_DTS, H_PRICE, H_QTY FROM HOLDING WHERE H_CA_ID = ?1 AND H_S_SYMB = ?2 ORDER BY H_DTS, H_T_ID",
         &[id_value(account), text_value(symbol.as_str())],
+    )?;
+    all_rows(alloc, &rows)
+}
+
+// How many rows are passed over.
+fn skip_value<'a>(skipped: u32) -> ValueRef<'a>
+    ensures { owned result ≡ Int (pos skipped) }
+{
+    ValueRef::Int(skipped as i64)
+}
+
+/// A page of the lots of an account in a security: at most 16, behind so many, by the moment of opening and then by
+/// trade, the oldest first.
+pub fn oldest_lots<S: Alter>(
+    tx: &mut Transaction<'_, S>,
+    alloc: Global,
+    account: Id,
+    symbol: &Symbol,
+    skipped: u32,
+) -> Result<Vec<HoldingRow>, Fault>
+    ensures same_reference { tx.new.conn.ghost_name ≡ tx.old.conn.ghost_name }
+    ensures step { Reads S.Store tx.old tx.new result (λ all t. map holding_row_of all.items ≡ on_page skipped (lots_held account symbol.now t)) }
+    ensures fault { IfErr result MayFail }
+{
+    let rows = select(
+        tx,
+        "SELECT H_T_ID, H_CA_ID, H_S_SYMB, H_DTS, H_PRICE, H_QTY FROM HOLDING WHERE H_CA_ID = ?1 AND H_S_SYMB = ?2 ORDER BY H_DTS, H_T_ID LIMIT 16 OFFSET ?3",
+        &[
+            id_value(account),
+            text_value(symbol.as_str()),
+            skip_value(skipped),
+        ],
+    )?;
+    all_rows(alloc, &rows)
+}
+
+/// The same, the newest first.
+pub fn newest_lots<S: Alter>(
+    tx: &mut Transaction<'_, S>,
+    alloc: Global,
+    account: Id,
+    symbol: &Symbol,
+    skipped: u32,
+) -> Result<Vec<HoldingRow>, Fault>
+    ensures same_reference { tx.new.conn.ghost_name ≡ tx.old.conn.ghost_name }
+    ensures step { Reads S.Store tx.old tx.new result (λ all t. map holding_row_of all.items ≡ on_page skipped (reverse (lots_held account symbol.now t))) }
+    ensures fault { IfErr result MayFail }
+{
+    let rows = select(
+        tx,
+        "SELECT H_T_ID, H_CA_ID, H_S_SYMB, H_DTS, H_PRICE, H_QTY FROM HOLDING WHERE H_CA_ID = ?1 AND H_S_SYMB = ?2 ORDER BY H_DTS DESC, H_T_ID DESC LIMIT 16 OFFSET ?3",
+        &[
+            id_value(account),
+            text_value(symbol.as_str()),
+            skip_value(skipped),
+        ],
     )?;
     all_rows(alloc, &rows)
 }

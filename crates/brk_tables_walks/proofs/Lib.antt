@@ -1,4 +1,3 @@
-pub mod Compared
 pub mod Starts
 pub mod Records
 pub mod TradesOf

@@ -14,7 +14,7 @@ use Rattle.brk_tables_form.specs.Desk.{CashRows, desk}
 use Rattle.brk_tables_form.specs.Order.{by_key_values}
 use Rattle.brk_tables_form.proofs.Order.{key_total}
 use Rattle.brk_tables_walks.specs.Lists.{stamp_key, cash_between, is_between}
-use Rattle.brk_tables_walks.proofs.Compared.{at_least, at_most}
+use Rattle.brk_tables_form.proofs.Compared.{at_least, at_most}
 use Rattle.brk_tables_walks.proofs.CashBetween
 use Rattle.brk_tables_walks.proofs.Telling.{second, sorted}
 

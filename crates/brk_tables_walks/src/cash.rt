@@ -22,7 +22,11 @@ pub struct OfTrades<'a, V> {
 }
 
 impl<V> Drop for OfTrades<'_, V> {
-    fn drop(self) {
+    ghost use Rattle.std.specs.Prelude.{◌≡◌};
+
+    fn drop(self)
+        ensures { self.exit.1.0.now ≡ self.entry.visitor.now }
+    {
         let OfTrades {
             trades: _,
             visitor: _,

@@ -167,6 +167,18 @@ pub fn expect_standing(
     expect_rows(alloc, &mut conn, name, &STANDING, wanted)
 }
 
+/// Compares these tables.
+pub fn expect_these(
+    alloc: Global,
+    store: Store<MemStore>,
+    name: &str,
+    tables: &[&str],
+    wanted: &str,
+) -> Result<(), Fail> {
+    let mut conn = store.into_conn();
+    expect_rows(alloc, &mut conn, name, tables, wanted)
+}
+
 /// What is told of a case that fails, its batches one after another, and all tables after them.
 pub type Booked = (&'static str, &'static [Step<'static>], &'static str);
 

@@ -18,12 +18,14 @@ const NOT_ALLOWED: Told = Told::Open(
 
 const BAD: Told = Told::Open("400 Bad Request", "{\"error\":\"bad request\"}");
 
+const REFUSED: Told = Told::Open("409 Conflict", "{\"no\":[\"18\"]}");
+
 const EMPTY: Told = Told::Open("200 OK", "{\"view\":[]}");
 
 const SAID: Told = Told::Last("200 OK", "{\"view\":[]}");
 
 // A stream and its replies. What follows a reply that ends a stream is not read.
-const STREAMS: [(&str, &[Told]); 46] = [
+const STREAMS: [(&str, &[Told]); 47] = [
     ("", &[]),
     ("\r\n", &[CLOSED]),
     (
@@ -116,6 +118,10 @@ const STREAMS: [(&str, &[Told]); 46] = [
     ("post /rows HTTP/1.1\r\n\r\n", &[NOT_ALLOWED]),
     ("HEAD /ask/submitted HTTP/1.1\r\n\r\n", &[NOT_ALLOWED]),
     ("POST /rows HTTP/1.1\r\n\r\n", &[BAD]),
+    (
+        "POST /ask/submitted HTTP/1.1\r\nContent-Length: 5\r\n\r\n[\"1\"]",
+        &[REFUSED],
+    ),
     // which targets have a route
     ("POST /rows/ HTTP/1.1\r\n\r\n", &[NOT_FOUND]),
     ("POST /ROWS HTTP/1.1\r\n\r\n", &[NOT_FOUND]),

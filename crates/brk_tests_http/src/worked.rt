@@ -31,7 +31,7 @@ fn a_row_with_a_key_again_and_without(rt: HostRuntime) -> Result<(), Fail> {
 }
 
 // A target, a body, and the reply to it: one stream in this order.
-const ORDERS: [(&str, &str, Told); 12] = [
+const ORDERS: [(&str, &str, Told); 22] = [
     (
         "/rows/T/1",
         "[\"order\",\"100\",\"TMB\",\"ABC\",\"100\",\"\",\"cash\",\"fifo\",\"Ann\",\"Lee\",\"T10\"]",
@@ -93,6 +93,11 @@ const ORDERS: [(&str, &str, Told); 12] = [
         ),
     ),
     (
+        "/ask/volume",
+        "[\"Tech\",\"Bo\"]",
+        Told::Open("200 OK", "{\"view\":[[\"Bo\",\"1\",\"95.00\"]]}"),
+    ),
+    (
         "/rows/T/4",
         "[\"feed\",\"ABC\",\"9.50\",\"10\"]",
         Told::Open("200 OK", "{\"ok\":[\"1709251200019\",\"2\"]}"),
@@ -107,10 +112,64 @@ const ORDERS: [(&str, &str, Told); 12] = [
         "[\"taxrate\",\"2\",\"Fed\",\"80001\"]",
         Told::Open("200 OK", "{\"ok\":[\"1709251200020\"]}"),
     ),
+    (
+        "/ask/customer",
+        "[\"10\"]",
+        Told::Open("200 OK", "{\"view\":[[\"100\",\"8974.90\",\"950.00\"]]}"),
+    ),
+    (
+        "/ask/recent",
+        "[\"100\"]",
+        Told::Open(
+            "200 OK",
+            "{\"view\":[[\"trade\",\"2\",\"ABC\",\"10\"],[\"trade\",\"1\",\"ABC\",\"100\"],[\"history\",\"2\",\"Submitted\",\"1709251200019\"],[\"history\",\"2\",\"Pending\",\"1709251200018\"],[\"history\",\"1\",\"Completed\",\"1709251200017\"],[\"history\",\"1\",\"Submitted\",\"1709251200016\"]]}",
+        ),
+    ),
+    (
+        "/ask/status",
+        "[\"100\"]",
+        Told::Open(
+            "200 OK",
+            "{\"view\":[[\"Lee\",\"Ann\",\"Bo\"],[\"2\",\"1709251200019\",\"Submitted\",\"Stop-Loss\",\"ABC\",\"10\",\"Ann Lee\",\"5.00\",\"Acme\",\"NYSE\"],[\"1\",\"1709251200017\",\"Completed\",\"Market-Buy\",\"ABC\",\"100\",\"Ann Lee\",\"5.00\",\"Acme\",\"NYSE\"]]}",
+        ),
+    ),
+    (
+        "/ask/trades",
+        "[\"2\"]",
+        Told::Open(
+            "200 OK",
+            "{\"view\":[[\"trade\",\"2\",\"1709251200019\",\"SBMT\",\"TSL\",\"ABC\",\"10\",\"9.50\",\"Ann Lee\",\"\",\"5.00\",\"0.95\",\"0.00\",\"cash\",\"fifo\"],[\"history\",\"1709251200018\",\"PNDG\"],[\"history\",\"1709251200019\",\"SBMT\"]]}",
+        ),
+    ),
+    (
+        "/ask/trades",
+        "[\"1\",\"1\"]",
+        Told::Open("409 Conflict", "{\"no\":[\"18\"]}"),
+    ),
+    (
+        "/ask/lots",
+        "[\"100\",\"0\"]",
+        Told::Open("200 OK", "{\"view\":[[\"1\"],[\"1\",\"1\",\"0\",\"100\"]]}"),
+    ),
+    (
+        "/ask/taxid",
+        "[\"T99\"]",
+        Told::Open("409 Conflict", "{\"no\":[\"2\"]}"),
+    ),
+    (
+        "/ask/accounttrades",
+        "[\"101\",\"0\",\"1\"]",
+        Told::Open("409 Conflict", "{\"no\":[\"1\"]}"),
+    ),
+    (
+        "/ask/symboltrades",
+        "[\"QQQ\",\"0\",\"1\"]",
+        Told::Open("409 Conflict", "{\"no\":[\"4\"]}"),
+    ),
 ];
 
 #[test]
-fn orders_results_ticks_and_a_view(rt: HostRuntime) -> Result<(), Fail> {
+fn orders_results_ticks_and_views(rt: HostRuntime) -> Result<(), Fail> {
     let alloc = rt.alloc();
     let mut desk = set_desk(alloc)?;
     for (target, body, wanted) in ORDERS {

@@ -10,4 +10,6 @@ mod result_refusals;
 #[cfg(test)]
 mod results;
 #[cfg(test)]
+mod rows_read;
+#[cfg(test)]
 mod settlements;

@@ -44,7 +44,7 @@ fn batch_of(alloc: Global, rows: &[String]) -> Result<String, Fail> {
     Ok(batch)
 }
 
-// Compares the sums after all trades: 83,667 shares were bought and 41,583 were sold.
+// Compares the sums after all trades: 83,667 shares were bought and 41,583 were sold. Nothing is found wrong with the tables.
 fn expect_sums(rt: &impl Abort, alloc: Global, mut store: Store<MemStore>) -> Result<(), Fail> {
     let account = Id::new(100).ok_or("account")?;
     let broker = Id::new(1).ok_or("broker")?;
@@ -58,6 +58,7 @@ fn expect_sums(rt: &impl Abort, alloc: Global, mut store: Store<MemStore>) -> Re
         }
         None => Err("no broker")?,
     }
+    store.audit(alloc)?;
     Ok(())
 }
 

@@ -1,6 +1,7 @@
 use brk_endings::brk_import::{BatchFault, FaultKind};
+use brk_endings::brk_report_lines::StatementFault;
 use brk_endings::{Ending, end_with};
-use brk_money::{Condition, Fault};
+use brk_money::{Condition, Fault, Refusal};
 use brk_words::UsageFault;
 use std::io;
 use std::io::Write;
@@ -43,6 +44,26 @@ fn tells_each_ending(rt: HostRuntime) -> Result<(), Fail> {
             batch(FaultKind::Desk(Fault::Store)),
             3,
             "brk: fault: store\n",
+        ),
+        (
+            Ending::Statement(StatementFault::Refused(Refusal::NoAccount)),
+            1,
+            "brk: refused: 1\n",
+        ),
+        (
+            Ending::Statement(StatementFault::Refused(Refusal::BadText)),
+            1,
+            "brk: refused: 18\n",
+        ),
+        (
+            Ending::Statement(StatementFault::Desk(Fault::Store)),
+            3,
+            "brk: fault: store\n",
+        ),
+        (
+            Ending::Statement(StatementFault::Write),
+            3,
+            "brk: fault: write\n",
         ),
     ];
     for (ending, status, text) in endings {

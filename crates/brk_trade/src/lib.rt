@@ -15,8 +15,8 @@ pub use brk_changes::{
     RequestRow, SettlementRow, SummaryRow, TradeCount, TradeRow, is_submitted,
 };
 pub use brk_plans::{
-    Completed, Estimate, Found, Ordered, Plan, Quote, Reference, Reply, has_no_quote, plan_cancel,
-    plan_feed, plan_reference, triggers,
+    Completed, Corrected, Estimate, Found, Ordered, Paid, Plan, Quote, Reference, Reply, Settled,
+    has_no_quote, plan_cancel, plan_feed, plan_reference, plan_update, triggers,
 };
 pub use estimate::{Terms, estimate_order, tax_on};
 pub use order::{OrderAccount, OrderFound, plan_estimate, plan_order};

@@ -1,2 +1,9 @@
+pub mod BrokerNames
+pub mod Lookup
+pub mod Lots
 pub mod Queries
+pub mod Recent
+pub mod Status
 pub mod Views
+pub mod Volume
+pub mod Worths

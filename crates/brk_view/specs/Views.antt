@@ -1,5 +1,5 @@
 -- What a view is in the abstract brokerage: its records of texts.
-use Rattle.std.specs.Prelude.{Bool, List, [], ◌∷◌, map, decimal, pos, String, string_bytes}
+use Rattle.std.specs.Prelude.{Bool, List, [], ◌∷◌, flat_map, map, decimal, pos, String, string_bytes}
 use Rattle.std.specs.Global.{Global, Vec}
 use Rattle.brk_plans.specs.declared.estimate.Estimate as estimate
 use Rattle.brk_money.specs.Kinds.{type_code, same_status}
@@ -8,6 +8,12 @@ use Rattle.brk_money.specs.declared.status.Status.TheVariants.{Submitted}
 use Rattle.brk_model.specs.Queries as model
 use Rattle.brk_model.specs.Rows.{price_text}
 use Rattle.brk_model.specs.Tables.{TradeRow}
+use Rattle.brk_view.specs.Lookup.{looked_up_records}
+use Rattle.brk_view.specs.Lots.{touched_records}
+use Rattle.brk_view.specs.Recent.{recent_records}
+use Rattle.brk_view.specs.Status.{status_records}
+use Rattle.brk_view.specs.Volume.{volume_record}
+use Rattle.brk_view.specs.Worths.{worth_record}
 use Rattle.brk_view.specs.declared.view.SubmittedTrade.{SubmittedTrade}
 use Rattle.brk_view.specs.declared.view.View.{View}
 use Rattle.brk_view.specs.declared.view.View.TheVariants as view
@@ -32,6 +38,12 @@ estimate_record e =
 
 -- the records of a view
 abbrev pub fields_of : View → model.View
+fields_of (view.Position accounts) = map worth_record accounts.items
+fields_of (view.Recent recent) = recent_records recent
+fields_of (view.Status account) = status_records account
+fields_of (view.Lookup trades) = flat_map looked_up_records trades.items
+fields_of (view.Lots lots) = touched_records lots
+fields_of (view.Volume brokers) = map volume_record brokers.items
 fields_of (view.Submitted trades) = map trade_record trades.items
 fields_of (view.Estimate estimate) = estimate_record estimate ∷ []
 

@@ -9,26 +9,15 @@ ghost use Rattle.brk_money.specs.declared.fault.Fault.TheVariants.{Memory};
 ghost use Rattle.brk_view.specs.Views.{estimate_record, fields_of, record_of, records_of, trade_record};
 ghost use Rattle.brk_view.specs.declared.view.View.TheVariants as views;
 
+use crate::account_fields::{recent_records, status_records, worth_records};
+use crate::lookup_fields::lookup_records;
+use crate::lot_fields::lot_records;
+use crate::texts::{amount_text, number_text};
 use crate::view::{SubmittedTrade, View};
+use crate::volume_fields::volume_records;
 use brk_money::{Fault, Wide};
 use brk_trade::Estimate;
 use std::alloc::Global;
-
-// A number, as it is printed.
-fn number_text(alloc: Global, number: u64) -> Result<String, Fault>
-    ensures text { IfOk result (λ text. string_bytes text ≡ decimal number) }
-    ensures fault { OnErr result (result ≡ Err Memory) }
-{
-    Ok(format!(in alloc; "{}", number)?)
-}
-
-// An amount, as it is printed.
-fn amount_text(alloc: Global, amount: Wide) -> Result<String, Fault>
-    ensures text { IfOk result (λ text. string_bytes text ≡ cents_text amount) }
-    ensures fault { OnErr result (result ≡ Err Memory) }
-{
-    Ok(format!(in alloc; "{}", amount)?)
-}
 
 // The amounts in their order, as they are printed.
 fn amount_texts(alloc: Global, amounts: &[Wide]) -> Result<Vec<String>, Fault>
@@ -99,6 +88,12 @@ pub fn view_fields(alloc: Global, view: &View) -> Result<Vec<Vec<String>>, Fault
     ensures fault { OnErr result (result ≡ Err Memory) }
 {
     match view {
+        View::Position(accounts) => worth_records(alloc, accounts),
+        View::Recent(recent) => recent_records(alloc, recent),
+        View::Status(account) => status_records(alloc, account),
+        View::Lookup(trades) => lookup_records(alloc, trades),
+        View::Lots(lots) => lot_records(alloc, lots),
+        View::Volume(brokers) => volume_records(alloc, brokers),
         View::Submitted(trades) => submitted_records(alloc, trades),
         View::Estimate(estimate) => estimate_records(alloc, estimate),
     }

@@ -1,11 +1,16 @@
-ghost use Rattle.std.specs.Prelude.{◌≡◌, ◌∷◌, IfOk, OnErr, Err};
-ghost use Rattle.brk_model.specs.Ask.{order_views, read_none};
+ghost use Rattle.std.specs.Prelude.{◌≡◌, ◌∷◌, ◌++◌, IfOk, OnErr, Err};
+ghost use Rattle.brk_model.specs.Ask as model;
+ghost use Rattle.brk_model.specs.Ask.{account_views, lookup_views, read_none, volume_views};
 ghost use Rattle.brk_model.specs.Parse.{parse_by, read_as, read_order};
 ghost use Rattle.brk_model.specs.Queries.{EstimateOf, SubmittedTrades};
 ghost use Rattle.brk_money.specs.declared.fault.Fault.TheVariants.{Memory};
 ghost use Rattle.brk_ref.specs.Fields.{Reads, texts};
 ghost use Rattle.brk_view.specs.Queries.{query_of};
 
+use crate::parse_accounts::{parse_position, parse_position_of_tax_id, parse_recent, parse_status};
+use crate::parse_lookups::{
+    parse_account_trades, parse_lots, parse_symbol_trades, parse_trades, parse_volume,
+};
 use crate::query::Query;
 use brk_money::{Planned, Refusal};
 use brk_orders::check_order;
@@ -32,15 +37,51 @@ fn parse_estimate(alloc: Global, arguments: &[&[u8]]) -> Planned<Query>
     }
 }
 
-/// The query that a view's name and its arguments are, or the refusal of their form: `submitted` has no argument, and
-/// `estimate` the ten fields of an order, with their refusals. An unknown name is `BadText`.
+// The query of one of the views of trades looked up, or of what brokers have to trade.
+fn parse_lookup_view(alloc: Global, view: &str, arguments: &[&[u8]]) -> Planned<Query>
+    ensures read { IfOk result (λ read. Reads query_of read (parse_by (lookup_views ++ volume_views) (view.now ∷ texts arguments.now))) }
+    ensures fault { OnErr result (result ≡ Err Memory) }
+{
+    match view {
+        "trades" => parse_trades(alloc, arguments),
+        "accounttrades" => Ok(parse_account_trades(arguments)),
+        "symboltrades" => parse_symbol_trades(alloc, arguments),
+        "lots" => Ok(parse_lots(arguments)),
+        "volume" => parse_volume(alloc, arguments),
+        _ => Ok(Err(Refusal::BadText)),
+    }
+}
+
+// The query of one of the views of accounts, or of a view after them.
+fn parse_account_view(alloc: Global, view: &str, arguments: &[&[u8]]) -> Planned<Query>
+    ensures read { IfOk result (λ read. Reads query_of read (parse_by (account_views ++ lookup_views ++ volume_views) (view.now ∷ texts arguments.now))) }
+    ensures fault { OnErr result (result ≡ Err Memory) }
+{
+    match view {
+        "customer" => Ok(parse_position(arguments)),
+        "taxid" => parse_position_of_tax_id(alloc, arguments),
+        "recent" => Ok(parse_recent(arguments)),
+        "status" => Ok(parse_status(arguments)),
+        _ => parse_lookup_view(alloc, view, arguments),
+    }
+}
+
+/// The query that a view's name and its arguments are, or the refusal of their form. An unknown name is `BadText`, and so
+/// is a wrong number of arguments.
+///
+/// `submitted` has no argument, and `estimate` the ten fields of an order, with their refusals. `customer` has the id of a
+/// customer, `taxid` a tax id, `recent` and `status` the id of an account. `trades` has 1 to 20 different ids of trades,
+/// `accounttrades` an account and two stamps, `symboltrades` a symbol and two stamps, `lots` an account and a stamp.
+/// `volume` has a sector and 1 to 20 names of brokers, each counted once. More than 20 ids or names are `TooMany`, where
+/// nothing else is out of form.
+#[tactic(auto, unfolding(brk_model::specs::Ask::parse_query))]
 pub fn parse_query(alloc: Global, view: &str, arguments: &[&[u8]]) -> Planned<Query>
-    ensures read { IfOk result (λ read. Reads query_of read (parse_by order_views (view.now ∷ texts arguments.now))) }
+    ensures read { IfOk result (λ read. Reads query_of read (model.parse_query view.now (texts arguments.now))) }
     ensures fault { OnErr result (result ≡ Err Memory) }
 {
     match view {
         "submitted" => Ok(parse_submitted(arguments)),
         "estimate" => parse_estimate(alloc, arguments),
-        _ => Ok(Err(Refusal::BadText)),
+        _ => parse_account_view(alloc, view, arguments),
     }
 }

@@ -1,11 +1,26 @@
-use Rattle.std.proofs.Common.{◌∙◌, None, Some}
-use Rattle.brk_decisions.specs.ResultFinds.{lots_met}
-use Rattle.brk_decisions.proofs.Resulting.{result_over}
+use Rattle.std.proofs.Common.{Some, rules}
+use Rattle.sqlite.specs.Held.{state}
+use Rattle.sqlite.specs.State.{HasCleanDisk}
+use Rattle.brk_store.specs.Holds.{Holds}
+use Rattle.brk_store.specs.Kept.{kept_none}
+use Rattle.brk_decisions.proofs.Deciding.{kept_at}
+use Rattle.brk_decisions.proofs.Resulting.{none_over, result_over}
 use Rattle.brk_decisions.proofs.result.plan_found.Goals as goal
 
+pub returns-in-Some-clause-kept : goal.returns-in-Some-clause-kept
+returns-in-Some-clause-kept g c =
+    kept_at g.S.Store c.args.store.now c.plan_result.new.source.store.now _ (search rules) (rw c.lot_pages-lots.ensures.same at c.plan_result.ensures.leads.1)
+
 pub returns-in-Some-clause-planned : goal.returns-in-Some-clause-planned
-returns-in-Some-clause-planned c =
-    let found = c.in-Some.found in
+returns-in-Some-clause-planned g c clean =
+    let was : HasCleanDisk (state g.S.Store c.plan_result.new.source.store.now) = search rules in
     rw c.in-Some.is
-    (result_over (Some found) c.args.price _ (lots_met (Some (found, c.in-Some.position))) c.args.last c.args.now (λ ls e. (tt, e ∙ c.from_end-lots.ensures.rests))
-    c.plan_result.result c.plan_result.ensures.planned)
+    (result_over (Some c.in-Some.found) c.args.price _ c.args.last c.args.now (Holds g.S.Store c.args.store.now)
+    (λ t holds ls e. (was, rw e (c.lot_pages-lots.ensures.rests t holds))) c.plan_result.result c.plan_result.ensures.planned)
+
+pub returns-in-None-clause-kept : goal.returns-in-None-clause-kept
+returns-in-None-clause-kept g c = kept_none c.args.store.now
+
+pub returns-in-None-clause-planned : goal.returns-in-None-clause-planned
+returns-in-None-clause-planned g c clean =
+    rw c.in-None.is (none_over (Holds g.S.Store c.args.store.now) c.plan_result-in-None.result c.plan_result-in-None.ensures.planned)

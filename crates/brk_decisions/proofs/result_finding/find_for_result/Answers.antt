@@ -1,5 +1,4 @@
-use Rattle.std.proofs.Common.{◌≡◌, ◌==◌, List, None, Option, Some, find, option_map, sym}
-use Rattle.brk_lots.specs.declared.lot.Lot.{Lot}
+use Rattle.std.proofs.Common.{◌≡◌, ◌==◌, None, Option, Some, find, option_map, sym}
 use Rattle.brk_money.specs.declared.fault.Fault.{Fault}
 use Rattle.brk_model.specs.Tables as tables
 use Rattle.brk_model.specs.Tables.{Tables}
@@ -18,14 +17,14 @@ returns-in_ok-found-in-Some-clause-read g c =
     let found = c.in_ok-found-in-Some.found in
     read_both g.S.Store c.args.store.now c.trade.new.self c.find_of_trade.new.store {H = Fault} (Some row) found (Some found)
     (λ o (t : Tables). option_map trade_row_of o ≡ find (λ (r : tables.TradeRow). r.id == c.args.trade) t.trades)
-    (λ found (t : Tables). IsFoundOf t row found.0 found.1)
+    (λ found (t : Tables). IsFoundOf t row found)
     (λ o (t : Tables). IsFoundAt t c.args.trade o)
     (λ t e k. there t c.args.trade row found e k)
     (rw c.in-Some.is at c.in_ok-row.ensures.read) c.in_ok-found-in-Some.ensures.read
 
 pub returns-in-None-clause-read : goal.returns-in-None-clause-read
 returns-in-None-clause-read g c =
-    retold g.S.Store c.args.store.now c.trade.new.self {V = Option TradeRow} {X = Option (ResultFound × List Lot)} None None
+    retold g.S.Store c.args.store.now c.trade.new.self {V = Option TradeRow} {X = Option ResultFound} None None
     (λ o (t : Tables). option_map trade_row_of o ≡ find (λ (r : tables.TradeRow). r.id == c.args.trade) t.trades)
     (λ o (t : Tables). IsFoundAt t c.args.trade o)
     (λ t e. record { trade = sym e; read = tt })

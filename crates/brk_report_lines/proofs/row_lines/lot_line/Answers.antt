@@ -1,4 +1,4 @@
-use Rattle.std.proofs.Common.{◌≡◌, ◌++◌, ◌∷◌, [], rules}
+use Rattle.std.proofs.Common.{rules}
 use Rattle.std.proofs.lemmas.List.{append_assoc}
 use Rattle.brk_report_lines.proofs.row_lines.lot_line.Goals as goal
 

@@ -1,7 +1,5 @@
 use Rattle.std.proofs.Common.{◌≡◌, [], refl, ◌∙◌, append-nil}
-use Rattle.std.specs.Io.KnownBytes.{Appends}
-use Rattle.brk_model.specs.Run.{MayFail}
-use Rattle.brk_report_lines.specs.Written.{Writes, ended}
+use Rattle.brk_report_lines.specs.Written.{ended}
 use Rattle.brk_report_lines.proofs.Composed.{appends_none}
 use Rattle.brk_report_lines.proofs.writing.write_line.Goals as goal
 

@@ -96,3 +96,12 @@ returns-in-Keep-clause-step g c = made _ _ _ _ _ c.in-Keep.is c.add_kept.ensures
 
 pub returns-in-SetLast-clause-step : goal.returns-in-SetLast-clause-step
 returns-in-SetLast-clause-step g c = made _ _ _ _ _ c.in-SetLast.is c.set_last_stamp.ensures.step
+
+pub returns-in-SetExecutor-clause-step : goal.returns-in-SetExecutor-clause-step
+returns-in-SetExecutor-clause-step g c = made _ _ _ _ _ c.in-SetExecutor.is (rw c.as_str.ensures.value at c.set_executor.ensures.step)
+
+pub returns-in-SetCashType-clause-step : goal.returns-in-SetCashType-clause-step
+returns-in-SetCashType-clause-step g c = made _ _ _ _ _ c.in-SetCashType.is c.set_cash_type.ensures.step
+
+pub returns-in-SetCashName-clause-step : goal.returns-in-SetCashName-clause-step
+returns-in-SetCashName-clause-step g c = made _ _ _ _ _ c.in-SetCashName.is (rw c.as_str-in-SetCashName.ensures.value at c.set_cash_name.ensures.step)

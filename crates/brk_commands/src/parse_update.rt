@@ -1,0 +1,58 @@
+ghost use Rattle.std.specs.Prelude.{◌≡◌, ◌∷◌, IfOk, OnErr, Err};
+ghost use Rattle.brk_model.specs.Commands.{ChangeExecutors};
+ghost use Rattle.brk_model.specs.Forms.{read_ids};
+ghost use Rattle.brk_model.specs.Parse.{parse_by, read_as, read_upcash, read_uptext, update_readers};
+ghost use Rattle.brk_money.specs.declared.fault.Fault.TheVariants.{Memory};
+ghost use Rattle.brk_ref.specs.Fields.{Reads, texts};
+ghost use Rattle.brk_commands.specs.Commands.{command_of};
+
+use crate::command::Command;
+use brk_money::{Planned, Refusal};
+use brk_orders::{check_upcash, check_upname, check_uptext};
+use std::alloc::Global;
+
+fn parse_upname(alloc: Global, fields: &[&[u8]]) -> Planned<Command>
+    ensures read { IfOk result (λ read. Reads command_of read (read_as ChangeExecutors read_ids (texts fields.now))) }
+    ensures fault { OnErr result (result ≡ Err Memory) }
+{
+    match check_upname(alloc, fields)? {
+        Ok(update) => Ok(Ok(Command::Update(update))),
+        Err(refusal) => Ok(Err(refusal)),
+    }
+}
+
+fn parse_upcash(fields: &[&[u8]]) -> Result<Command, Refusal>
+    ensures { Reads command_of result (read_upcash (texts fields.now)) }
+{
+    match check_upcash(fields) {
+        Ok(update) => Ok(Command::Update(update)),
+        Err(refusal) => Err(refusal),
+    }
+}
+
+fn parse_uptext(alloc: Global, fields: &[&[u8]]) -> Planned<Command>
+    ensures read { IfOk result (λ read. Reads command_of read (read_uptext (texts fields.now))) }
+    ensures fault { OnErr result (result ≡ Err Memory) }
+{
+    match check_uptext(alloc, fields)? {
+        Ok(update) => Ok(Ok(Command::Update(update))),
+        Err(refusal) => Ok(Err(refusal)),
+    }
+}
+
+// The command of one of the kinds of corrections.
+pub(crate) fn parse_update(alloc: Global, kind: &[u8], fields: &[&[u8]]) -> Planned<Command>
+    ensures read { IfOk result (λ read. Reads command_of read (parse_by update_readers (kind.now ∷ texts fields.now))) }
+    ensures fault { OnErr result (result ≡ Err Memory) }
+{
+    if kind == b"upname".as_slice() {
+        return parse_upname(alloc, fields);
+    }
+    if kind == b"upcash".as_slice() {
+        return Ok(parse_upcash(fields));
+    }
+    if kind == b"uptext".as_slice() {
+        return parse_uptext(alloc, fields);
+    }
+    Ok(Err(Refusal::BadText))
+}

@@ -1,0 +1,62 @@
+//! The texts of corrections that are kept with their keys.
+#![tactic(auto, unfolding(brk_model::specs::Rows::row_fields))]
+
+ghost use Rattle.std.specs.Prelude.{◌≡◌, ◌∷◌, ◌++◌, IfOk, OnOk, decimal, string_bytes};
+ghost use Rattle.brk_model.specs.Commands.{ChangeCashNames, ChangeCashTypes, ChangeExecutors};
+ghost use Rattle.brk_model.specs.Rows as model;
+ghost use Rattle.brk_orders.specs.Records.{update_of};
+
+use brk_money::Id;
+use brk_orders::{Span, Update};
+use brk_ref::Symbol;
+use std::alloc::{AllocError, Global};
+
+// Adds the field of a trade.
+fn add_trade(row: &mut String, trade: Id) -> Result<(), AllocError>
+    ensures { OnOk result (string_bytes row.new ≡ string_bytes row.old ++ 31 ∷ decimal trade) }
+{
+    write!(row, "\x1f{}", trade.get())
+}
+
+fn upname_text(alloc: Global, trades: &[Id]) -> Result<String, AllocError>
+    ensures { IfOk result (λ row. string_bytes row ≡ model.row_text (ChangeExecutors trades.now)) }
+{
+    let mut row = String::from_str(alloc, "upname")?;
+    for trade in trades {
+        add_trade(&mut row, *trade)?;
+    }
+    Ok(row)
+}
+
+fn upcash_text(alloc: Global, account: Id, span: Span) -> Result<String, AllocError>
+    ensures { IfOk result (λ row. string_bytes row ≡ model.row_text (ChangeCashTypes account span.first span.last)) }
+{
+    format!(in alloc;
+        "upcash\x1f{}\x1f{}\x1f{}",
+        account.get(),
+        span.first.get().unsigned_abs(),
+        span.last.get().unsigned_abs()
+    )
+}
+
+fn uptext_text(alloc: Global, symbol: &Symbol, span: Span) -> Result<String, AllocError>
+    ensures { IfOk result (λ row. string_bytes row ≡ model.row_text (ChangeCashNames symbol.now span.first span.last)) }
+{
+    format!(in alloc;
+        "uptext\x1f{}\x1f{}\x1f{}",
+        symbol.as_str(),
+        span.first.get().unsigned_abs(),
+        span.last.get().unsigned_abs()
+    )
+}
+
+/// The row of a correction.
+pub fn update_text(alloc: Global, update: &Update) -> Result<String, AllocError>
+    ensures { IfOk result (λ row. string_bytes row ≡ model.row_text (update_of update.now)) }
+{
+    match update {
+        Update::Executors(trades) => upname_text(alloc, trades.ids()),
+        Update::CashTypes { account, span } => upcash_text(alloc, *account, *span),
+        Update::CashNames { symbol, span } => uptext_text(alloc, symbol, *span),
+    }
+}

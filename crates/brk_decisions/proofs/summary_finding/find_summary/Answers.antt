@@ -1,0 +1,16 @@
+use Rattle.std.proofs.Common.{◌≡◌, ◌==◌, ◌∙◌, ap, find, option_map}
+use Rattle.std.specs.Prelude.{◌&&◌, bytes_eq}
+use Rattle.brk_model.specs.Tables.{SummaryRow, Tables}
+use Rattle.brk_changes.specs.Rows.{summary_row_of}
+use Rattle.brk_trade_laws.specs.TradeReads.{summary_in}
+use Rattle.brk_store.proofs.Retelling.{retold}
+use Rattle.brk_decisions.proofs.ResultReading.{number_in}
+use Rattle.brk_decisions.proofs.summary_finding.find_summary.Goals as goal
+
+pub returns-clause-read : goal.returns-clause-read
+returns-clause-read g c =
+    retold g.S.Store c.args.store.now c.summary_of.new.self c.in_ok-summary.summary c.shares_in.result
+    (λ o (t : Tables). option_map summary_row_of o ≡ find (λ (r : SummaryRow). (r.account == c.args.account) && bytes_eq r.symbol c.args.symbol.now) t.summaries)
+    (λ qty (t : Tables). qty ≡ option_map (λ (r : SummaryRow). r.qty) (summary_in t c.args.account c.args.symbol.now))
+    (λ t e. c.shares_in.ensures ∙ number_in c.in_ok-summary.summary ∙ ap (option_map (λ (r : SummaryRow). r.qty)) e)
+    c.in_ok-summary.ensures.read

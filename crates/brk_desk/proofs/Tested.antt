@@ -1,0 +1,23 @@
+-- A query with one test: refused where it fails, and else answered.
+use Rattle.std.proofs.Common.{◌≡◌, [], ◌∷◌, Bool, true, false, cond, Option, Some, None, Ok, Err, refl}
+use Rattle.std.specs.Prelude.{is_none}
+use Rattle.brk_money.specs.declared.refusal.Refusal.{Refusal}
+use Rattle.brk_model.specs.Queries.{View}
+use Rattle.brk_model.specs.Step.{unless}
+use Rattle.brk_model.specs.Tests.{first_refusal}
+
+pub refused : (failed : Bool) (refusal : Refusal) (view : View) → failed ≡ true → unless (first_refusal ((failed, refusal) ∷ [])) view ≡ Err refusal
+refused true refusal view e = refl
+refused false refusal view e = absurd (cc)
+
+pub answered : (failed : Bool) (refusal : Refusal) (view : View) → failed ≡ false → unless (first_refusal ((failed, refusal) ∷ [])) view ≡ Ok view
+answered false refusal view e = refl
+answered true refusal view e = absurd (cc)
+
+pub is_missing : {X : Type 0} (o : Option X) → None ≡ o → is_none o ≡ true
+is_missing None e = refl
+is_missing (Some x) e = absurd (cc)
+
+pub is_there : {X : Type 0} (x : X) (o : Option X) → Some x ≡ o → is_none o ≡ false
+is_there x None e = absurd (cc)
+is_there x (Some y) e = refl

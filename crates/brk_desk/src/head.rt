@@ -1,0 +1,41 @@
+ghost use Rattle.std.specs.Prelude.{IfErr};
+ghost use Rattle.brk_desk.specs.Heads.{IsHead};
+ghost use Rattle.brk_model.specs.Run.{MayFail};
+ghost use Rattle.brk_store.specs.Holds.{IsRead};
+
+use brk_decisions::sum_worth;
+use brk_money::{Cents, Fault, Id, Wide};
+use brk_ref::Name;
+use brk_store::Store;
+use sqlite::Alter;
+use std::alloc::Global;
+
+/// What a statement tells of an account beside its rows.
+#[derive(Drop)]
+pub struct Head {
+    pub name: Name,
+    /// The balance that it began with.
+    pub opening: Cents,
+    /// The worth of what it holds at the last prices, in cents.
+    pub holdings: Wide,
+}
+
+/// The head of an account, where there is such an account.
+pub(crate) fn find_head<S: Alter>(
+    alloc: Global,
+    store: &mut Store<S>,
+    account: Id,
+) -> Result<Option<Head>, Fault>
+    ensures read { IsRead S.Store store.old store.new result (IsHead account) }
+    ensures fault { IfErr result MayFail }
+{
+    let Some(row) = store.account(account)? else {
+        return Ok(None);
+    };
+    let holdings = sum_worth(alloc, store, account)?;
+    Ok(Some(Head {
+        name: row.account.name,
+        opening: row.account.opening,
+        holdings,
+    }))
+}

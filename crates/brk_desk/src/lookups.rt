@@ -1,0 +1,109 @@
+//! Trades looked up, with what became of them.
+
+ghost use Rattle.std.specs.Prelude.{IfErr, map};
+ghost use Rattle.brk_changes.specs.Rows.{trade_row_of};
+ghost use Rattle.brk_desk.specs.LookedUp.{AreLookedUp, IsLookedUp};
+ghost use Rattle.brk_desk.specs.Shows.{Shows};
+ghost use Rattle.brk_model.specs.Queries.{TradesOfAccount, TradesOfSymbol, TradesWith};
+ghost use Rattle.brk_model.specs.Run.{MayFail};
+ghost use Rattle.brk_store.specs.Holds.{IsRead};
+
+use crate::corrections_finding::find_trades;
+use brk_money::{Fault, Id, Planned, Refusal};
+use brk_orders::Span;
+use brk_ref::Symbol;
+use brk_store::Store;
+use brk_trade::TradeRow;
+use brk_view::{
+    LookedUp, NamedTrades, View, looked_up, lookup_account, lookup_ids, lookup_symbol, oldest_first,
+};
+use sqlite::Alter;
+use std::alloc::Global;
+
+// A trade with what became of it.
+fn look_up<S: Alter>(
+    alloc: Global,
+    store: &mut Store<S>,
+    trade: TradeRow,
+) -> Result<LookedUp, Fault>
+    ensures read { IsRead S.Store store.old store.new result (IsLookedUp (trade_row_of trade)) }
+    ensures fault { IfErr result MayFail }
+{
+    let settlement = store.settlement(trade.id)?;
+    let cash = store.cash_row(trade.id)?;
+    let history = store.history_of(alloc, trade.id)?;
+    looked_up(alloc, trade, settlement, cash, &history)
+}
+
+// Trades in their order, each with what became of it.
+fn look_up_all<S: Alter>(
+    alloc: Global,
+    store: &mut Store<S>,
+    trades: Vec<TradeRow>,
+) -> Result<Vec<LookedUp>, Fault>
+    ensures read { IsRead S.Store store.old store.new result (λ found. AreLookedUp (map trade_row_of trades.items) found.items) }
+    ensures fault { IfErr result MayFail }
+{
+    let _last = store.last()?;
+    let mut rest = trades;
+    let mut found = Vec::new(alloc);
+    while let Some(trade) = rest.pop() {
+        let one = look_up(alloc, store, trade)?;
+        found.push(one)?;
+    }
+    found.reverse();
+    Ok(found)
+}
+
+// Trades that are named by their ids.
+pub(crate) fn see_trades<S: Alter>(
+    alloc: Global,
+    store: &mut Store<S>,
+    trades: &NamedTrades,
+) -> Planned<View>
+    ensures read { IsRead S.Store store.old store.new result (Shows (TradesWith trades.now.trades)) }
+    ensures fault { IfErr result MayFail }
+{
+    let Some(named) = find_trades(alloc, store, trades.trades.ids())? else {
+        return Ok(Err(Refusal::NoTrade));
+    };
+    let ordered = oldest_first(alloc, named)?;
+    let found = look_up_all(alloc, store, ordered)?;
+    Ok(Ok(lookup_ids(found)))
+}
+
+// The first trades of an account between two stamps.
+pub(crate) fn see_account_trades<S: Alter>(
+    alloc: Global,
+    store: &mut Store<S>,
+    account: Id,
+    span: Span,
+) -> Planned<View>
+    ensures read { IsRead S.Store store.old store.new result (Shows (TradesOfAccount account span.first span.last)) }
+    ensures fault { IfErr result MayFail }
+{
+    let Some(_row) = store.account(account)? else {
+        return Ok(Err(Refusal::NoAccount));
+    };
+    let trades = store.twenty_of_account(alloc, account, span)?;
+    let found = look_up_all(alloc, store, trades)?;
+    Ok(Ok(lookup_account(found)))
+}
+
+// The first trades of a security between two stamps.
+pub(crate) fn see_symbol_trades<S: Alter>(
+    alloc: Global,
+    store: &mut Store<S>,
+    symbol: &Symbol,
+    span: Span,
+) -> Planned<View>
+    ensures read { IsRead S.Store store.old store.new result (Shows (TradesOfSymbol symbol.now span.first span.last)) }
+    ensures fault { IfErr result MayFail }
+{
+    let Some(_row) = store.security(symbol)? else {
+        return Ok(Err(Refusal::NoSecurity));
+    };
+    let trades = store.twenty_of_symbol(alloc, symbol, span)?;
+    let found = look_up_all(alloc, store, trades)?;
+    Ok(Ok(lookup_symbol(found)))
+}

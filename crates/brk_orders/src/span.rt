@@ -1,0 +1,23 @@
+ghost use Rattle.std.specs.Prelude.{◌≡◌};
+ghost use Rattle.std.specs.Option.{ok_or};
+ghost use Rattle.brk_model.specs.Forms.{read_stamp};
+ghost use Rattle.brk_money.specs.declared.refusal.Refusal.TheVariants.{BadText};
+
+use brk_money::{Stamp, parse_whole};
+
+/// The stamps from one to another, both included; none where the first is above the last.
+#[derive(Clone, Copy)]
+pub struct Span {
+    pub first: Stamp,
+    pub last: Stamp,
+}
+
+/// The stamp that the bytes spell.
+pub fn parse_stamp(bytes: &[u8]) -> Option<Stamp>
+    ensures { ok_or result BadText ≡ read_stamp bytes.now }
+{
+    let Some(millis) = parse_whole(bytes, Stamp::GREATEST as u64) else {
+        return None;
+    };
+    Stamp::new(millis as i64)
+}

@@ -1,0 +1,102 @@
+ghost use Rattle.std.specs.Prelude.{◌≡◌, ◌==◌, IfOk, OnErr, Err};
+ghost use Rattle.brk_model.specs.Forms.{distinct_ids, read_each, read_id, read_ids};
+ghost use Rattle.brk_model.specs.Lists.{all_distinct, contains_number};
+ghost use Rattle.brk_money.specs.declared.fault.Fault.TheVariants.{Memory};
+ghost use Rattle.brk_orders.specs.Records.{ids_in};
+ghost use Rattle.brk_ref.specs.Fields.{Reads, texts};
+
+use brk_money::{Id, Planned, Refusal};
+use brk_ref::parse_id;
+use std::alloc::Global;
+use std::marker::Model;
+
+/// Different trades in the order in which they are named, 1 to 20 of them.
+#[derive(Drop)]
+pub struct TradeIds {
+    ids: Vec<Id>,
+}
+
+impl Model for TradeIds {
+    ghost use Rattle.std.specs.Prelude.{ℕ, List, length, ◌≤◌, ◌≡◌, true};
+    ghost use Rattle.brk_model.specs.Lists.{all_distinct};
+
+    ghost Value = { List ℕ };
+
+    ghost view = { λ trades. trades.ids.items };
+
+    ghost invariant = { λ trades. (1 ≤ length trades.ids.items) × (length trades.ids.items ≤ 20) × (all_distinct trades.ids.items ≡ true) };
+}
+
+impl TradeIds {
+    /// The most trades that are named at once.
+    pub const MOST: usize = 20;
+
+    /// These trades, or the refusal of one that is named twice or of none (18), or of too many (20). It takes no memory.
+    pub fn new(ids: Vec<Id>) -> Result<TradeIds, Refusal>
+        ensures { Reads (λ trades. trades) result (distinct_ids ids.items) }
+    {
+        if !are_distinct(&ids) {
+            return Err(Refusal::BadText);
+        }
+        if ids.is_empty() {
+            return Err(Refusal::BadText);
+        }
+        if ids.len() > TradeIds::MOST {
+            return Err(Refusal::TooMany);
+        }
+        Ok(TradeIds { ids })
+    }
+
+    /// The trades in their order.
+    pub fn ids(&self) -> &[Id]
+        ensures { result.now ≡ self.now }
+    {
+        &self.ids
+    }
+}
+
+// Whether a trade is among some.
+fn is_among(id: Id, ids: &[Id]) -> bool
+    ensures { result ≡ contains_number id ids.now }
+{
+    ids.iter().any(|other| *other == id)
+}
+
+// Whether no trade is named twice.
+fn are_distinct(ids: &[Id]) -> bool
+    ensures { result ≡ all_distinct ids.now }
+{
+    for i in 0..ids.len() {
+        if is_among(ids[i], &ids[i + 1..]) {
+            return false;
+        }
+    }
+    true
+}
+
+// The trades that these texts name, each an id.
+fn ids_from(alloc: Global, fields: &[&[u8]]) -> Planned<Vec<Id>>
+    ensures read { IfOk result (λ read. Reads ids_in read (read_each read_id (texts fields.now))) }
+    ensures fault { OnErr result (result ≡ Err Memory) }
+{
+    let mut ids = Vec::new(alloc);
+    for field in fields {
+        let Some(id) = parse_id(field) else {
+            return Ok(Err(Refusal::BadText));
+        };
+        ids.push(id)?;
+    }
+    Ok(Ok(ids))
+}
+
+/// The trades that the fields name, or the refusal of their form: 1 to 20 different ids. All fields are tested before
+/// the number of trades.
+pub fn check_ids(alloc: Global, fields: &[&[u8]]) -> Planned<TradeIds>
+    ensures read { IfOk result (λ read. Reads (λ trades. trades) read (read_ids (texts fields.now))) }
+    ensures fault { OnErr result (result ≡ Err Memory) }
+{
+    match ids_from(alloc, fields)? {
+        Ok(ids) => Ok(TradeIds::new(ids)),
+        Err(refusal) => Ok(Err(refusal)),
+    }
+}

@@ -1,0 +1,78 @@
+ghost use Rattle.std.specs.Prelude.{◌≡◌, IfOk, OnErr, Err};
+ghost use Rattle.brk_model.specs.Commands.{ChangeExecutors};
+ghost use Rattle.brk_model.specs.Forms.{read_ids};
+ghost use Rattle.brk_model.specs.Parse.{read_as, read_upcash, read_uptext};
+ghost use Rattle.brk_money.specs.declared.fault.Fault.TheVariants.{Memory};
+ghost use Rattle.brk_orders.specs.Records.{update_of};
+ghost use Rattle.brk_ref.specs.Fields.{Reads, texts};
+
+use crate::span::{Span, parse_stamp};
+use crate::trade_ids::{TradeIds, check_ids};
+use brk_money::{Id, Planned, Refusal};
+use brk_ref::{Symbol, parse_id};
+use std::alloc::Global;
+
+/// Words of trades that are to be corrected (Trade-Update).
+#[derive(Drop)]
+pub enum Update {
+    /// The executors' names of these trades.
+    Executors(TradeIds),
+    /// How an account's trades are settled, of those that were completed between two stamps.
+    CashTypes { account: Id, span: Span },
+    /// The texts of what a security's cash trades moved, of those that were completed between two stamps.
+    CashNames { symbol: Symbol, span: Span },
+}
+
+/// The correction of executors' names that the fields, 1 to 20 different ids of trades, ask for, or the refusal of their
+/// form.
+pub fn check_upname(alloc: Global, fields: &[&[u8]]) -> Planned<Update>
+    ensures read { IfOk result (λ read. Reads update_of read (read_as ChangeExecutors read_ids (texts fields.now))) }
+    ensures fault { OnErr result (result ≡ Err Memory) }
+{
+    match check_ids(alloc, fields)? {
+        Ok(trades) => Ok(Ok(Update::Executors(trades))),
+        Err(refusal) => Ok(Err(refusal)),
+    }
+}
+
+/// The correction of settlements that the fields ACCOUNT, FROM and TO ask for, or the refusal of their form. It takes no
+/// memory.
+pub fn check_upcash(fields: &[&[u8]]) -> Result<Update, Refusal>
+    ensures { Reads update_of result (read_upcash (texts fields.now)) }
+{
+    let [account, first, last] = fields else {
+        return Err(Refusal::BadText);
+    };
+    let Some(account) = parse_id(account) else {
+        return Err(Refusal::BadText);
+    };
+    let Some(first) = parse_stamp(first) else {
+        return Err(Refusal::BadText);
+    };
+    let Some(last) = parse_stamp(last) else {
+        return Err(Refusal::BadText);
+    };
+    let span = Span { first, last };
+    Ok(Update::CashTypes { account, span })
+}
+
+/// The correction of texts that the fields SYMBOL, FROM and TO ask for, or the refusal of their form.
+pub fn check_uptext(alloc: Global, fields: &[&[u8]]) -> Planned<Update>
+    ensures read { IfOk result (λ read. Reads update_of read (read_uptext (texts fields.now))) }
+    ensures fault { OnErr result (result ≡ Err Memory) }
+{
+    let [symbol, first, last] = fields else {
+        return Ok(Err(Refusal::BadText));
+    };
+    let Some(symbol) = Symbol::parse(alloc, symbol)? else {
+        return Ok(Err(Refusal::BadText));
+    };
+    let Some(first) = parse_stamp(first) else {
+        return Ok(Err(Refusal::BadText));
+    };
+    let Some(last) = parse_stamp(last) else {
+        return Ok(Err(Refusal::BadText));
+    };
+    let span = Span { first, last };
+    Ok(Ok(Update::CashNames { symbol, span }))
+}

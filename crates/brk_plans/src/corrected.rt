@@ -1,0 +1,31 @@
+use brk_changes::{CashType, TradeRow};
+use brk_money::{Id, Qty, TradeType};
+use brk_ref::Name;
+
+/// What tells how a completed trade is settled (SE_CASH_TYPE).
+#[derive(Clone, Copy)]
+pub struct Settled {
+    pub trade: Id,
+    pub is_cash: bool,
+    pub cash_type: CashType,
+}
+
+/// What tells the text of what a completed cash trade moved (CT_NAME), and that text.
+#[derive(Drop)]
+pub struct Paid {
+    pub trade: Id,
+    pub kind: TradeType,
+    pub qty: Qty,
+    pub name: String,
+}
+
+/// The trades of which words are corrected, in their order, with what tells the words.
+#[derive(Drop)]
+pub enum Corrected {
+    /// Trades whose executors' names are corrected.
+    Executors(Vec<TradeRow>),
+    /// Trades whose settlements are corrected.
+    CashTypes(Vec<Settled>),
+    /// Trades whose texts are corrected, of a security of this name.
+    CashNames(Name, Vec<Paid>),
+}

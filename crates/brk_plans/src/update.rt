@@ -1,0 +1,148 @@
+ghost use Rattle.std.specs.Prelude.{◌≡◌, ◌∷◌, ◌++◌, [], IfOk, OnErr, OnOk, Err, MatchResult, MatchOption, Some, map};
+ghost use Rattle.brk_model.specs.Tests.{first_refusal};
+ghost use Rattle.brk_money.specs.declared.fault.Fault.TheVariants.{Memory};
+ghost use Rattle.brk_changes.specs.Changes.{after_change};
+ghost use Rattle.brk_plans.specs.Reference.{clock_test};
+ghost use Rattle.brk_plans.specs.Update as spec;
+ghost use Rattle.brk_plans.specs.Update.{IsUpdate, cash_name_set, cash_type_set, count_of, executor_set, update_tests, words_set};
+
+use crate::corrected::{Corrected, Paid, Settled};
+use crate::plan::Plan;
+use crate::reply::Reply;
+use crate::wording::{changed_cash_name, changed_cash_type, changed_executor};
+use brk_changes::{Change, TradeRow};
+use brk_money::{Fault, Planned, Refusal, Stamp, stamp_after};
+use brk_orders::Update;
+use brk_ref::Name;
+use std::alloc::Global;
+
+// The refusal where what an update names is not there.
+fn missing(update: &Update) -> Refusal
+    ensures { result ≡ spec.missing update.now }
+{
+    match update {
+        Update::Executors(_) => Refusal::NoTrade,
+        Update::CashTypes { .. } => Refusal::NoAccount,
+        Update::CashNames { .. } => Refusal::NoSecurity,
+    }
+}
+
+// The change of an executor's name.
+fn set_executor(alloc: Global, trade: &TradeRow) -> Result<Change, Fault>
+    ensures change { IfOk result (λ change. after_change change ≡ executor_set trade.now) }
+    ensures fault { OnErr result (result ≡ Err Memory) }
+{
+    let executor = changed_executor(alloc, trade.executor.as_str())?;
+    Ok(Change::SetExecutor {
+        trade: trade.id,
+        executor,
+    })
+}
+
+// The change of how a trade is settled.
+fn set_cash_type(settled: &Settled) -> Change
+    ensures { after_change result ≡ cash_type_set settled.now }
+{
+    Change::SetCashType {
+        trade: settled.trade,
+        cash_type: changed_cash_type(settled.is_cash, settled.cash_type),
+    }
+}
+
+// The change of the text of what a trade moved.
+fn set_cash_name(alloc: Global, security: &Name, paid: &Paid) -> Result<Change, Fault>
+    ensures change { IfOk result (λ change. after_change change ≡ cash_name_set security.now paid.now) }
+    ensures fault { OnErr result (result ≡ Err Memory) }
+{
+    let name = changed_cash_name(alloc, paid, security)?;
+    Ok(Change::SetCashName {
+        trade: paid.trade,
+        name,
+    })
+}
+
+fn set_executors(alloc: Global, trades: &[TradeRow]) -> Result<Vec<Change>, Fault>
+    ensures changes { IfOk result (λ changes. map after_change changes.items ≡ map executor_set trades.now) }
+    ensures fault { OnErr result (result ≡ Err Memory) }
+{
+    let mut changes = Vec::new(alloc);
+    for trade in trades {
+        changes.push(set_executor(alloc, trade)?)?;
+    }
+    Ok(changes)
+}
+
+fn set_cash_types(alloc: Global, settled: &[Settled]) -> Result<Vec<Change>, Fault>
+    ensures changes { IfOk result (λ changes. map after_change changes.items ≡ map cash_type_set settled.now) }
+    ensures fault { OnErr result (result ≡ Err Memory) }
+{
+    let mut changes = Vec::new(alloc);
+    for one in settled {
+        changes.push(set_cash_type(one))?;
+    }
+    Ok(changes)
+}
+
+fn set_cash_names(alloc: Global, security: &Name, paid: &[Paid]) -> Result<Vec<Change>, Fault>
+    ensures changes { IfOk result (λ changes. map after_change changes.items ≡ map (cash_name_set security.now) paid.now) }
+    ensures fault { OnErr result (result ≡ Err Memory) }
+{
+    let mut changes = Vec::new(alloc);
+    for one in paid {
+        changes.push(set_cash_name(alloc, security, one)?)?;
+    }
+    Ok(changes)
+}
+
+// The changes of the words of trades.
+fn set_words(alloc: Global, found: &Corrected) -> Result<Vec<Change>, Fault>
+    ensures changes { IfOk result (λ changes. map after_change changes.items ≡ words_set found.now) }
+    ensures fault { OnErr result (result ≡ Err Memory) }
+{
+    match found {
+        Corrected::Executors(trades) => set_executors(alloc, trades),
+        Corrected::CashTypes(settled) => set_cash_types(alloc, settled),
+        Corrected::CashNames(security, paid) => set_cash_names(alloc, security, paid),
+    }
+}
+
+// How many trades are corrected.
+fn count(found: &Corrected) -> usize
+    ensures { result ≡ count_of found.now }
+{
+    match found {
+        Corrected::Executors(trades) => trades.len(),
+        Corrected::CashTypes(settled) => settled.len(),
+        Corrected::CashNames(_, paid) => paid.len(),
+    }
+}
+
+/// Plans a correction of words (Trade-Update), by the trades that were found for it, none where what it names is not
+/// there, and the stamp of the last accepted command. It is refused with `NoTrade`, `NoAccount` or `NoSecurity` where
+/// nothing was found, and with `ClockEnd` where no later stamp is left; else the words of each trade are changed and the
+/// last stamp is moved. No status and no moment of a trade changes.
+pub fn plan_update(
+    alloc: Global,
+    update: &Update,
+    found: Option<Corrected>,
+    last: Option<Stamp>,
+    now: Stamp,
+) -> Planned<Plan>
+    ensures planned { IfOk result (λ planned. MatchResult planned
+        (λ plan. MatchOption found ⊥ (λ found. IsUpdate found last now plan))
+        (λ refusal. first_refusal (update_tests update.now found ++ clock_test last now ∷ []) ≡ Some refusal)) }
+    ensures fault { OnErr result (result ≡ Err Memory) }
+{
+    let Some(found) = found else {
+        return Ok(Err(missing(update)));
+    };
+    let Some(stamp) = stamp_after(last, now) else {
+        return Ok(Err(Refusal::ClockEnd));
+    };
+    let mut changes = set_words(alloc, &found)?;
+    changes.push(Change::SetLast(stamp))?;
+    Ok(Ok(Plan {
+        changes,
+        reply: Reply::Changed(stamp, count(&found)),
+    }))
+}

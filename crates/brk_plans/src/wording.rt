@@ -1,0 +1,88 @@
+//! Words that are corrected: the name of an executor, how a trade is settled, the text of what it moved.
+
+ghost use Rattle.std.specs.Prelude.{◌≡◌, ◌≤◌, ◌∷◌, ◌++◌, IfOk, OnOk, codes, decimal, length, string_bytes};
+ghost use Rattle.brk_model.specs.Lists.{holds_text, replace_text};
+ghost use Rattle.brk_model.specs.Updates as definition;
+ghost use Rattle.brk_changes.specs.Rows.{cash_type_word};
+ghost use Rattle.brk_plans.specs.Update as spec;
+
+use crate::corrected::Paid;
+use brk_changes::CashType;
+use brk_money::Qty;
+use brk_ref::Name;
+use std::alloc::{AllocError, Global};
+
+// A text with each occurrence of a part replaced, taken from the left without overlap.
+fn replaced(alloc: Global, text: &str, part: &str, new: &str) -> Result<String, AllocError>
+    requires { 1 ≤ length part.now }
+    ensures { IfOk result (λ result. string_bytes result ≡ replace_text part.now new.now text.now) }
+{
+    let mut written = String::new(alloc);
+    let mut rest = text;
+    while let Some((before, after)) = rest.split_once(part) {
+        written.push_str(before)?;
+        written.push_str(new)?;
+        rest = after;
+    }
+    written.push_str(rest)?;
+    Ok(written)
+}
+
+// Whether a text holds a part.
+fn holds(text: &str, part: &str) -> bool
+    ensures { result ≡ holds_text part.now text.now }
+{
+    text.contains(part)
+}
+
+/// The name of an executor without " X " where it holds that, each time as one space; else with " X " for each space.
+pub fn changed_executor(alloc: Global, name: &str) -> Result<String, AllocError>
+    ensures { IfOk result (λ result. string_bytes result ≡ definition.changed_executor name.now) }
+{
+    if holds(name, " X ") {
+        replaced(alloc, name, " X ", " ")
+    } else {
+        replaced(alloc, name, " ", " X ")
+    }
+}
+
+/// The other word for how a trade is settled, in cash or on margin.
+pub fn changed_cash_type(is_cash: bool, cash_type: CashType) -> CashType
+    ensures { cash_type_word result ≡ spec.changed_cash_type is_cash (cash_type_word cash_type) }
+{
+    match (is_cash, cash_type) {
+        (true, CashType::CashAccount) => CashType::Cash,
+        (true, _) => CashType::CashAccount,
+        (false, CashType::MarginAccount) => CashType::Margin,
+        (false, _) => CashType::MarginAccount,
+    }
+}
+
+// Adds how many shares were traded, and these words.
+fn add_shares(text: &mut String, qty: Qty, words: &str) -> Result<(), AllocError>
+    ensures { OnOk result (string_bytes text.new ≡ string_bytes text.old ++ 32 ∷ decimal qty ++ words.now) }
+{
+    write!(text, " {}{words}", qty.get())
+}
+
+// The text of what a cash trade moved, with these words and the name of its security.
+fn cash_text(alloc: Global, paid: &Paid, words: &str, security: &Name) -> Result<String, AllocError>
+    ensures { IfOk result (λ text. string_bytes text ≡ spec.cash_text words.now paid.now.kind paid.now.qty security.now) }
+{
+    let mut text = String::from_str(alloc, paid.kind.name())?;
+    add_shares(&mut text, paid.qty, words)?;
+    text.push_str(security.as_str())?;
+    Ok(text)
+}
+
+/// The text of what a cash trade moved, written anew with the name of its security: with " Shares of " where the old one
+/// holds " shares of ", else with " shares of ".
+pub fn changed_cash_name(alloc: Global, paid: &Paid, security: &Name) -> Result<String, AllocError>
+    ensures { IfOk result (λ text. string_bytes text ≡ spec.changed_cash_name security.now paid.now) }
+{
+    if holds(paid.name.as_str(), " shares of ") {
+        cash_text(alloc, paid, " Shares of ", security)
+    } else {
+        cash_text(alloc, paid, " shares of ", security)
+    }
+}

@@ -1,0 +1,43 @@
+-- Reads and walks, one after another, change nothing.
+use Rattle.std.proofs.Common.{Result, arith, inl, refl, ◌∙◌}
+use Rattle.sqlite_trees.specs.declared.store.Store.{Ghosts}
+use Rattle.sqlite.specs.Held.{Held, state}
+use Rattle.sqlite.specs.State.{HasCleanDisk, State, Survives}
+use Rattle.sqlite.proofs.StateLemmas.{survives_then}
+use Rattle.brk_model.specs.Tables.{Tables}
+use Rattle.brk_store.specs.Holds.{IsRead}
+use Rattle.brk_store.specs.Walked.{IsWalked}
+use Rattle.brk_tables_walks.specs.declared.walking.Stop.{Stop}
+use Rattle.brk_report.specs.Stated.{Keeps}
+
+clean_before : (a b : State) → Survives a b (λ _. ⊥) → HasCleanDisk b → HasCleanDisk a
+clean_before a b s clean = omega (arith, s.clean)
+
+module _ {S : Type 0} (g : Ghosts S) where
+  pub keeps_still : (store : Held S) → Keeps g store store
+  keeps_still store = record {
+    kept = λ t holds. holds;
+    same = λ clean o. record { was_open = o; now = refl; committed = refl };
+    survives = record { clean = omega arith; shield = λ x. x; counts = omega arith; limit = refl; closes = λ _ o. inl o; crash = λ _ db may. inl may };
+  }
+
+  pub keeps_read : {V E : Type 0} (old new : Held S) (result : Result V E) (P : V → Tables → Type 0) → IsRead g old new result P → Keeps g old new
+  keeps_read old new result P read = record { kept = read.kept; same = read.same; survives = read.survives }
+
+  pub keeps_walked : {X M V E : Type 0} (old new : Held S) (of : X → M) (list : Tables → _) (takes : V → X → V → Type 0) (stops : V → X → E → V → Type 0) (before after : V) (result : Result (Unit {0}) (Stop E))
+      → IsWalked g old new of list takes stops before after result → Keeps g old new
+  keeps_walked old new of list takes stops before after result walked = record { kept = walked.kept; same = walked.same; survives = walked.survives }
+
+  pub keeps_then : (old mid new : Held S) → Keeps g old mid → Keeps g mid new → Keeps g old new
+  keeps_then old mid new a b = record {
+    kept = λ t holds. b.kept t (a.kept t holds);
+    same = λ clean o.
+        let s = b.same clean o in
+        let r = a.same (clean_before (state g mid) (state g new) b.survives clean) s.was_open in
+        record { was_open = r.was_open; now = s.now ∙ r.now; committed = s.committed ∙ r.committed };
+    survives = survives_then (state g old) (state g mid) (state g new) (λ _. ⊥) (λ _. ⊥) (λ _. ⊥) (λ _ db none. none) (λ _ db none. none) a.survives b.survives;
+  }
+
+  -- a disk that has returned what was written had done so before
+  pub clean_then : (mid new : Held S) → Keeps g mid new → HasCleanDisk (state g new) → HasCleanDisk (state g mid)
+  clean_then mid new b clean = clean_before (state g mid) (state g new) b.survives clean

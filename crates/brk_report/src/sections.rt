@@ -1,0 +1,101 @@
+//! The parts of a statement that the desk walks over. Each keeps what the desk's store held.
+
+ghost use Rattle.std.specs.Prelude.{◌≡◌, ◌+ℤ◌};
+ghost use Rattle.brk_model.specs.Statement.{cash_before, cash_in, cash_total};
+ghost use Rattle.brk_report.specs.Stated.{IsTotal, Keeps, OverRows, WritesCash, WritesLots};
+ghost use Rattle.brk_report.specs.Stops.{fault_of};
+
+use crate::visitors::{CashLines, Lines, Moved, Sum};
+use brk_desk::{Desk, Stop};
+use brk_money::{Cents, Day, Id, Stamp, Wide};
+use brk_report_lines::{LinesFault, first_stamp, last_stamp, stamp_before};
+use sqlite::Alter;
+use std::alloc::Global;
+use std::io::Write;
+
+// Why a walk of a statement ended.
+fn broken(stop: Stop<LinesFault>) -> LinesFault
+    ensures { result ≡ fault_of stop }
+{
+    match stop {
+        Stop::Failed(fault) => LinesFault::Desk(fault),
+        Stop::Cause(fault) => fault,
+    }
+}
+
+/// The opening balance with the cash rows of earlier days.
+pub(crate) fn sum_before<S: Alter>(
+    alloc: Global,
+    desk: &mut Desk<S>,
+    account: Id,
+    from: Day,
+    opening: Cents,
+) -> Result<Wide, LinesFault>
+    ensures keeps { Keeps S.Store desk.old desk.new }
+    ensures sum { OverRows S.Store desk.old desk.new (λ t. IsTotal (opening +ℤ cash_total (cash_before from (cash_in t account))) result) }
+{
+    let Some(last) = stamp_before(from) else {
+        return Ok(Wide::from(opening));
+    };
+    let mut sum = Sum {
+        total: Wide::from(opening),
+    };
+    match desk.visit_cash(alloc, account, Stamp::nearest(0), last, &mut sum) {
+        Ok(()) => Ok(sum.total),
+        Err(stop) => Err(broken(stop)),
+    }
+}
+
+/// A line of each cash row of the days.
+pub(crate) fn write_cash<W: Write, S: Alter>(
+    alloc: Global,
+    desk: &mut Desk<S>,
+    account: Id,
+    from: Day,
+    to: Day,
+    opening: Wide,
+    writer: &mut W,
+) -> Result<Moved, LinesFault>
+    ensures keeps { Keeps S.Store desk.old desk.new }
+    ensures written { OverRows S.Store desk.old desk.new (λ t. WritesCash t account from to opening (W.contents writer.old) (W.contents writer.new) result) }
+{
+    let mut visitor = CashLines {
+        alloc,
+        writer,
+        moved: Moved {
+            count: 0,
+            total: opening,
+        },
+    };
+    match desk.visit_cash(
+        alloc,
+        account,
+        first_stamp(from),
+        last_stamp(to),
+        &mut visitor,
+    ) {
+        Ok(()) => Ok(visitor.moved()),
+        Err(stop) => Err(broken(stop)),
+    }
+}
+
+/// A line of each lot, and how many they are.
+pub(crate) fn write_lots<W: Write, S: Alter>(
+    alloc: Global,
+    desk: &mut Desk<S>,
+    account: Id,
+    writer: &mut W,
+) -> Result<u64, LinesFault>
+    ensures keeps { Keeps S.Store desk.old desk.new }
+    ensures written { OverRows S.Store desk.old desk.new (λ t. WritesLots t account (W.contents writer.old) (W.contents writer.new) result) }
+{
+    let mut lines = Lines {
+        alloc,
+        writer,
+        count: 0,
+    };
+    match desk.visit_lots(account, &mut lines) {
+        Ok(()) => Ok(lines.count),
+        Err(stop) => Err(broken(stop)),
+    }
+}

@@ -1,0 +1,63 @@
+ghost use Rattle.brk_report.specs.Parts.{all_lines};
+ghost use Rattle.brk_report.specs.Stated.{IsStated, Keeps, OverRows};
+ghost use Rattle.brk_report_lines.specs.Written.{Writes};
+
+use crate::parts::{write_days, write_held, write_top};
+use crate::sections::sum_before;
+use brk_desk::{Desk, Head};
+use brk_money::{Day, Id, Refusal};
+use brk_report_lines::{LinesFault, StatementFault};
+use sqlite::Alter;
+use std::alloc::Global;
+use std::io::Write;
+
+// All lines of a statement that is not refused.
+fn write_all<W: Write, S: Alter>(
+    alloc: Global,
+    desk: &mut Desk<S>,
+    account: Id,
+    head: &Head,
+    from: Day,
+    to: Day,
+    writer: &mut W,
+) -> Result<(), LinesFault>
+    ensures keeps { Keeps S.Store desk.old desk.new }
+    ensures written { OverRows S.Store desk.old desk.new (λ t. Writes (all_lines t account head.now from to) (W.contents writer.old) (W.contents writer.new) result) }
+{
+    let opening = sum_before(alloc, desk, account, from, head.opening)?;
+    write_top(alloc, account, head, from, to, opening, writer)?;
+    let cash = write_days(alloc, desk, account, from, to, opening, writer)?;
+    write_held(alloc, desk, account, head.holdings, cash, writer)
+}
+
+/// Writes the statement of an account over some days, both included: its opening balance and the cash rows of earlier days,
+/// each cash row of the days, the closing amount, each lot that it holds now, and their worth at the last prices. The desk is
+/// only read, and a row of a walk is held at a time.
+///
+/// It is refused where `from` is after `to` (18), and then where there is no such account (1); nothing is written then. At a
+/// fault of the desk or want of memory whole lines are written, the first of the text and never the last. At a fault of the
+/// writer they are a first part of the text, with each line before the one that failed.
+pub fn statement<W: Write, S: Alter>(
+    alloc: Global,
+    desk: &mut Desk<S>,
+    account: Id,
+    from: Day,
+    to: Day,
+    writer: &mut W,
+) -> Result<(), StatementFault>
+    ensures stated { IsStated S.Store desk.old desk.new account from to (W.contents writer.old) (W.contents writer.new) result }
+{
+    if to.get() < from.get() {
+        return Err(StatementFault::Refused(Refusal::BadText));
+    }
+    let head = match desk.head(alloc, account) {
+        Ok(Some(head)) => head,
+        Ok(None) => return Err(StatementFault::Refused(Refusal::NoAccount)),
+        Err(fault) => return Err(StatementFault::Desk(fault)),
+    };
+    match write_all(alloc, desk, account, &head, from, to, writer) {
+        Ok(()) => Ok(()),
+        Err(LinesFault::Desk(fault)) => Err(StatementFault::Desk(fault)),
+        Err(LinesFault::Write) => Err(StatementFault::Write),
+    }
+}

@@ -1,0 +1,178 @@
+//! Visitors that write a line of each record, count them, and add up what they moved.
+
+ghost use Rattle.std.specs.Prelude.{◌≡◌, ◌+ℤ◌, Err, IfErr, IfOk, OnErr};
+ghost use Rattle.brk_money.specs.Spelling.{Text};
+ghost use Rattle.brk_model.specs.Run.{MayFail};
+ghost use Rattle.brk_money.specs.declared.fault.Fault.TheVariants as fault;
+ghost use Rattle.brk_report_lines.specs.Written.{ended};
+ghost use Rattle.brk_report_lines.specs.declared.fault.LinesFault.TheVariants.{Desk};
+
+use brk_changes::{CashRow, HoldingRow};
+use brk_desk::Visitor;
+use brk_money::{Cents, Fault, Wide};
+use brk_report_lines::{LinesFault, cash_line, lot_line, write_line};
+use std::alloc::Global;
+use std::io::Write;
+
+/// A record that has a line.
+pub trait Line {
+    ghost line: { Self → Text };
+
+    /// The line with its line feed.
+    fn line(&self, alloc: Global) -> Result<Vec<u8>, Fault>
+        ensures line { IfOk result (λ l. l.items ≡ ended (line self.now)) }
+        ensures fault { IfErr result MayFail };
+}
+
+impl Line for HoldingRow {
+    ghost use Rattle.brk_model.specs.Statement.{lot_line};
+    ghost use Rattle.brk_changes.specs.Rows.{holding_row_of};
+
+    ghost line = { λ r. lot_line (holding_row_of r) };
+
+    fn line(&self, alloc: Global) -> Result<Vec<u8>, Fault> {
+        lot_line(alloc, self)
+    }
+}
+
+impl Line for CashRow {
+    ghost use Rattle.brk_model.specs.Statement.{cash_line};
+    ghost use Rattle.brk_changes.specs.Rows.{cash_row_of};
+
+    ghost line = { λ r. cash_line (cash_row_of r) };
+
+    fn line(&self, alloc: Global) -> Result<Vec<u8>, Fault> {
+        cash_line(alloc, self)
+    }
+}
+
+// An amount with one more.
+fn added(total: Wide, amount: Cents) -> Result<Wide, LinesFault>
+    ensures sum { IfOk result (λ sum. sum ≡ total +ℤ amount) }
+    ensures fault { OnErr result (result ≡ Err (Desk fault.Store)) }
+{
+    match total.get().checked_add(i128::from(amount.get())) {
+        Some(sum) => Ok(Wide::new(sum)),
+        None => Err(LinesFault::Desk(Fault::Store)),
+    }
+}
+
+/// Adds up cash rows.
+#[derive(Drop)]
+pub struct Sum {
+    pub total: Wide,
+}
+
+impl Visitor<CashRow, LinesFault> for Sum {
+    ghost use Rattle.std.specs.Prelude.{◌≡◌, ◌+ℤ◌};
+    ghost use Rattle.brk_money.specs.declared.fault.Fault.TheVariants.{Store};
+    ghost use Rattle.brk_report_lines.specs.declared.fault.LinesFault.TheVariants.{Desk};
+
+    ghost ready = { λ _. Unit {0} };
+
+    ghost leads = { λ _ _. Unit {0} };
+
+    ghost takes = { λ p row q. q.total ≡ p.total +ℤ row.amount };
+
+    ghost stops = { λ p row e q. e ≡ Desk Store };
+
+    fn visit(&mut self, item: &CashRow) -> Result<(), LinesFault> {
+        self.total = added(self.total, item.amount)?;
+        Ok(())
+    }
+
+    ghost stays = { λ _. tt };
+
+    ghost goes_on = { λ _ _ _ _ _. tt };
+}
+
+/// Writes a line of each record, and counts them.
+#[derive(Drop)]
+pub struct Lines<'a, W> {
+    pub alloc: Global,
+    pub writer: &'a mut W,
+    pub count: u64,
+}
+
+impl<R: Line, W: Write> Visitor<R, LinesFault> for Lines<'_, W> {
+    ghost use Rattle.std.specs.Prelude.{◌≡◌, ◌+◌, [], ◌∷◌, Result, Err, refl};
+    ghost use Rattle.std.proofs.Common.{◌∙◌};
+    ghost use Rattle.std.specs.Io.KnownBytes.{Appends};
+    ghost use Rattle.brk_report_lines.specs.Written.{BreaksIn, ended};
+
+    ghost ready = { λ _. Unit {0} };
+
+    ghost leads = { λ p q. q.writer.ghost_name ≡ p.writer.ghost_name };
+
+    ghost takes = { λ p r q. (q.count ≡ p.count + 1) × Appends (W.contents p.writer.now) (W.contents q.writer.now) (ended (R.line r)) };
+
+    ghost stops = { λ p r e q. BreaksIn (R.line r ∷ []) (W.contents p.writer.now) (W.contents q.writer.now) e };
+
+    fn visit(&mut self, item: &R) -> Result<(), LinesFault> {
+        let Some(count) = self.count.checked_add(1) else {
+            return Err(LinesFault::Desk(Fault::Store));
+        };
+        write_line(self.writer, item.line(self.alloc))?;
+        self.count = count;
+        Ok(())
+    }
+
+    ghost stays = { λ _. refl };
+
+    ghost goes_on = { λ _ _ _ a b. b ∙ a };
+}
+
+/// How many cash rows were written, and an amount with what they moved.
+#[derive(Clone, Copy)]
+pub struct Moved {
+    pub count: u64,
+    pub total: Wide,
+}
+
+/// Writes a line of each cash row, counts them, and adds them up.
+#[derive(Drop)]
+pub struct CashLines<'a, W> {
+    pub alloc: Global,
+    pub writer: &'a mut W,
+    pub moved: Moved,
+}
+
+impl<W> CashLines<'_, W> {
+    /// What was counted and added up so far.
+    pub fn moved(&self) -> Moved
+        ensures { result ≡ self.now.moved }
+    {
+        self.moved
+    }
+}
+
+impl<W: Write> Visitor<CashRow, LinesFault> for CashLines<'_, W> {
+    ghost use Rattle.std.specs.Prelude.{◌≡◌, ◌+◌, ◌+ℤ◌, [], ◌∷◌, refl};
+    ghost use Rattle.std.proofs.Common.{◌∙◌};
+    ghost use Rattle.std.specs.Io.KnownBytes.{Appends};
+    ghost use Rattle.brk_changes.specs.Rows.{cash_row_of};
+    ghost use Rattle.brk_model.specs.Statement.{cash_line};
+    ghost use Rattle.brk_report_lines.specs.Written.{BreaksIn, ended};
+
+    ghost ready = { λ _. Unit {0} };
+
+    ghost leads = { λ p q. q.writer.ghost_name ≡ p.writer.ghost_name };
+
+    ghost takes = { λ p r q. (q.moved.total ≡ p.moved.total +ℤ r.amount) × (q.moved.count ≡ p.moved.count + 1) × Appends (W.contents p.writer.now) (W.contents q.writer.now) (ended (cash_line (cash_row_of r))) };
+
+    ghost stops = { λ p r e q. BreaksIn (cash_line (cash_row_of r) ∷ []) (W.contents p.writer.now) (W.contents q.writer.now) e };
+
+    fn visit(&mut self, item: &CashRow) -> Result<(), LinesFault> {
+        let total = added(self.moved.total, item.amount)?;
+        let Some(count) = self.moved.count.checked_add(1) else {
+            return Err(LinesFault::Desk(Fault::Store));
+        };
+        write_line(self.writer, item.line(self.alloc))?;
+        self.moved = Moved { count, total };
+        Ok(())
+    }
+
+    ghost stays = { λ _. refl };
+
+    ghost goes_on = { λ _ _ _ a b. b ∙ a };
+}

@@ -1,0 +1,82 @@
+-- A page is turned.
+use Rattle.std.specs.Prelude.{MatchOption, option_map}
+use Rattle.std.proofs.Common.{Option, ◌≡◌, ◌+◌, ℕ, zero, suc, List, [], ◌∷◌, ◌++◌, Bool, true, false, nat_lt, drop, take, length, map, reverse, min, slice_get, Some, refl, sym, ap, ◌∙◌, subst, arith}
+use Rattle.std.proofs.lemmas.Bool.{ltb-true, ltb-false}
+use mathlib.Core.List.{reverse-cons}
+use Rattle.std.proofs.lemmas.List.{map-append, take-append-drop, take_all, drop-drop, append-nil, length-map, length-take}
+use Rattle.sqlite_trees.specs.declared.store.Store.{Ghosts}
+use Rattle.sqlite.specs.Held.{Held}
+use Rattle.brk_lots.specs.Lots.{from_end}
+use Rattle.brk_lots.specs.declared.lot.Lot.{Lot}
+use Rattle.brk_trade_laws.specs.OrderPlans.{lot_in}
+use Rattle.brk_money.specs.Spelling.{Text}
+use Rattle.brk_store.specs.Holds.{Holds}
+use Rattle.brk_model.specs.Tables.{Tables, HoldingRow}
+use Rattle.brk_changes.specs.Rows.{holding_row_of}
+use Rattle.brk_changes.specs.declared.holding_row.HoldingRow as row
+use Rattle.brk_tables_trading.specs.Pages.{on_page, page_size}
+use Rattle.brk_trade_laws.specs.TradeReads.{row_lot}
+use Rattle.brk_store.specs.Pages.{left_of, further, rows_from}
+
+pub page_turned : (rows : List HoldingRow) (read : ℕ) (page : List row.HoldingRow) → map holding_row_of page ≡ on_page read rows
+    → left_of page (nat_lt (length page) page_size) (read + length page) rows ≡ map row_lot (drop read rows)
+page_turned rows read page e = ap (map row_lot) (go (nat_lt (length page) page_size) refl)
+  where
+    k : List HoldingRow
+    k = drop read rows
+
+    size : length page ≡ min 16 (length k)
+    size = sym (length-map page holding_row_of) ∙ ap length e ∙ length-take 16 k
+
+    go : (b : Bool) → nat_lt (length page) page_size ≡ b → map holding_row_of page ++ further b (read + length page) rows ≡ k
+    go true h = append-nil (map holding_row_of page) ∙ e ∙ take_all 16 k (omega (arith, ltb-true (length page) 16 h, size))
+    go false h =
+        let full : length page ≡ 16 = omega (arith, ltb-false (length page) 16 h, size) in
+        ap (λ (n : ℕ). map holding_row_of page ++ drop (read + n) rows) full
+        ∙ ap (λ (l : List HoldingRow). l ++ drop (read + 16) rows) e
+        ∙ ap (λ (l : List HoldingRow). take 16 k ++ l) (sym (drop-drop 16 read rows))
+        ∙ take-append-drop 16 k
+
+after_row : {X : Type 0} (xs : List X) (n : ℕ) (x : X) → slice_get xs n ≡ Some x → drop n xs ≡ x ∷ drop (suc n) xs
+after_row [] n x e = absurd (let f = e in cc)
+after_row (y ∷ ys) zero x e = let f : y ≡ x = cc in ap (λ z. z ∷ ys) f
+after_row (y ∷ ys) (suc n) x e = after_row ys n x e
+
+pub next_row : {X : Type 0} (xs : List X) (n : ℕ) (x : X) → slice_get xs n ≡ Some x → drop n xs ≡ x ∷ drop (n + 1) xs
+next_row xs n x e = let f : n + 1 ≡ suc n = omega arith in rw f (after_row xs n x e)
+
+module _ {S : Type 0} (g : Ghosts S) (held : Held S) (lifo : Bool) (account : ℕ) (symbol : Text) where
+  -- these lots are left behind so many
+  abbrev pub RestOf : List row.HoldingRow → Bool → ℕ → List Lot → Type 0
+  RestOf pending ended read ls = (t : Tables) × Holds g held t × (ls ≡ left_of pending ended read (rows_from lifo account symbol t))
+
+  -- the first lot of a page, and what is left then
+  pub turned : (t : Tables) (holds : Holds g held t) (read read' : ℕ) (page : List row.HoldingRow) (ended : Bool) (first : Option Lot) (ls : List Lot)
+      → map holding_row_of page ≡ on_page read (rows_from lifo account symbol t) → read' ≡ read + length page → ended ≡ nat_lt (length page) page_size → first ≡ option_map lot_in (slice_get page 0)
+      → ls ≡ map row_lot (drop read (rows_from lifo account symbol t))
+      → MatchOption first ((ls ≡ []) × RestOf (drop 1 page) ended read' []) (λ lot. (more : List Lot) × (ls ≡ lot ∷ more) × RestOf (drop 1 page) ended read' more)
+  turned t holds read read' page ended first ls shown count last is left =
+      let rows = rows_from lifo account symbol t in
+      let whole : ls ≡ left_of page ended read' rows = left ∙ sym (page_turned rows read page shown) ∙ ap (λ b. left_of page b (read + length page) rows) (sym last) ∙ ap (λ n. left_of page ended n rows) (sym count) in
+      go page is last whole
+    where
+      go : (page : List row.HoldingRow) → first ≡ option_map lot_in (slice_get page 0) → ended ≡ nat_lt (length page) page_size → ls ≡ left_of page ended read' (rows_from lifo account symbol t)
+          → MatchOption first ((ls ≡ []) × RestOf (drop 1 page) ended read' []) (λ lot. (more : List Lot) × (ls ≡ lot ∷ more) × RestOf (drop 1 page) ended read' more)
+      go [] f l w =
+          let none : left_of [] ended read' (rows_from lifo account symbol t) ≡ [] = ap (λ b. left_of [] b read' (rows_from lifo account symbol t)) l in
+          subst (λ o. MatchOption o ((ls ≡ []) × RestOf [] ended read' []) (λ lot. (more : List Lot) × (ls ≡ lot ∷ more) × RestOf [] ended read' more)) (sym f) (w ∙ none, (t, holds, sym none))
+      go (p ∷ ps) f l w =
+          subst (λ o. MatchOption o ((ls ≡ []) × RestOf ps ended read' []) (λ lot. (more : List Lot) × (ls ≡ lot ∷ more) × RestOf ps ended read' more)) (sym f)
+          (left_of ps ended read' (rows_from lifo account symbol t), w, (t, holds, refl))
+
+-- ---- from an end
+
+map_turned : {X Y : Type 0} (f : X → Y) (xs : List X) → reverse (map f xs) ≡ map f (reverse xs)
+map_turned f [] = refl
+map_turned {X} {Y} f (x ∷ xs) =
+    reverse-cons (f x) (map f xs) ∙ ap (λ (l : List Y). l ++ f x ∷ []) (map_turned f xs)
+    ∙ sym (map-append f (reverse xs) (x ∷ [])) ∙ ap (map f) (sym (reverse-cons x xs))
+
+pub map_end : {X Y : Type 0} (lifo : Bool) (f : X → Y) (xs : List X) → from_end lifo (map f xs) ≡ map f (from_end lifo xs)
+map_end true f xs = map_turned f xs
+map_end false f xs = refl

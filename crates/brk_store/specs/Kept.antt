@@ -1,0 +1,40 @@
+-- Reads one after another.
+use Rattle.std.proofs.Common.{IsTrue, ◌∙◌, refl, inl}
+use Rattle.std.proofs.Math.Nat.{le_refl}
+use Rattle.sqlite_trees.specs.declared.store.Store.{Ghosts}
+use Rattle.sqlite.specs.Held.{Held, state}
+use Rattle.sqlite.specs.State.{HasCleanDisk, Survives}
+use Rattle.sqlite.proofs.StateLemmas.{survives_then}
+use Rattle.brk_model.specs.Tables.{Tables}
+use Rattle.brk_rows.proofs.Inside.{clean_before}
+use Rattle.brk_store.specs.Holds.{Holds, IsRead, IsSame}
+
+-- what reads may make of a store: it holds what it held, the whole database is as it was, and a crash leaves what it left
+pub record IsKept {S : Type 0} (g : Ghosts S) (old new : Held S) : Type 0 where
+  pub kept : (t : Tables) → Holds g old t → Holds g new t
+  pub same : HasCleanDisk (state g new) → IsTrue (state g new).is_open → IsSame (state g old) (state g new)
+  pub survives : Survives (state g old) (state g new) (λ _. ⊥)
+
+module _ {S : Type 0} {g : Ghosts S} where
+  pub clean_at : (old new : Held S) → IsKept g old new → HasCleanDisk (state g new) → HasCleanDisk (state g old)
+  clean_at old new k = clean_before (state g old) (state g new) (λ _. ⊥) k.survives
+
+  pub kept_then : (p q r : Held S) → IsKept g p q → IsKept g q r → IsKept g p r
+  kept_then p q r a b = record {
+    kept = λ t h. b.kept t (a.kept t h);
+    same = λ clean o.
+        let late = b.same clean o in
+        let early = a.same (clean_at q r b clean) late.was_open in
+        record { was_open = early.was_open; now = late.now ∙ early.now; committed = late.committed ∙ early.committed };
+    survives = survives_then (state g p) (state g q) (state g r) (λ _. ⊥) (λ _. ⊥) (λ _. ⊥) (λ _ db none. none) (λ _ db none. none) a.survives b.survives;
+  }
+
+  pub kept_read : {V E : Type 0} (old new : Held S) (result : _) (Told : _) → IsRead {V = V} {E = E} g old new result Told → IsKept g old new
+  kept_read old new result Told r = record { kept = r.kept; same = r.same; survives = r.survives }
+
+pub kept_none : {S : Type 0} {g : Ghosts S} (old : Held S) → IsKept g old old
+kept_none {S} {g} old = record {
+  kept = λ t h. h;
+  same = λ clean o. record { was_open = o; now = refl; committed = refl };
+  survives = record { clean = le_refl _; shield = λ s. s; counts = le_refl _; limit = refl; closes = λ clean o. inl o; crash = λ clean db h. inl h };
+}

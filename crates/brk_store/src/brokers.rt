@@ -1,0 +1,42 @@
+//! Reads of brokers by their names, and of a broker's requests. Each is a transaction of its own, which is rolled back.
+
+ghost use Rattle.std.specs.Prelude.{◌==◌, IfErr, bytes_eq};
+ghost use Rattle.brk_changes.specs.Rows.{request_row_of};
+ghost use Rattle.brk_model.specs.Run.{MayFail};
+ghost use Rattle.brk_ref.specs.Records.{broker_row_of};
+ghost use Rattle.brk_store.specs.Holds.{IsRead};
+ghost use Rattle.brk_tables_form.specs.Desk.{Brokers, Requests};
+ghost use Rattle.brk_tables_form.specs.Statements.{Listed};
+
+use crate::Store;
+use crate::beginning::begin;
+use brk_changes::RequestRow;
+use brk_money::{Fault, Id};
+use brk_ref::{BrokerRow, Name};
+use sqlite::Alter;
+use std::alloc::Global;
+
+#[tactic(auto, using(crate::proofs::Ending::is_read_of))]
+impl<S: Alter> Store<S> {
+    /// The brokers with a name, by rising id.
+    pub fn brokers_named(&mut self, alloc: Global, name: &Name) -> Result<Vec<BrokerRow>, Fault>
+        ensures read { IsRead S.Store self.old self.new result (Listed Brokers broker_row_of (λ r. bytes_eq r.name name.now)) }
+        ensures fault { IfErr result MayFail }
+    {
+        let mut tx = begin(&mut self.conn);
+        brk_tables::brokers_named(&mut tx, alloc, name)
+    }
+
+    /// The requests of a broker, by rising trade.
+    pub fn requests_of_broker(
+        &mut self,
+        alloc: Global,
+        broker: Id,
+    ) -> Result<Vec<RequestRow>, Fault>
+        ensures read { IsRead S.Store self.old self.new result (Listed Requests request_row_of (λ r. r.broker == broker)) }
+        ensures fault { IfErr result MayFail }
+    {
+        let mut tx = begin(&mut self.conn);
+        brk_tables::requests_of_broker(&mut tx, alloc, broker)
+    }
+}

@@ -1,0 +1,65 @@
+//! Closures as visitors.
+
+use brk_changes::HoldingRow;
+use brk_lots::Lot;
+use brk_tables_walks::Visitor;
+
+/// Calls a closure at each record.
+#[derive(Drop)]
+pub struct Calls<F> {
+    pub call: F,
+}
+
+impl<R, E, F: FnMut(&R) -> Result<(), E>> Visitor<R, E> for Calls<F> {
+    ghost use Rattle.std.specs.Fn.{CalledAt};
+    ghost use Rattle.std.specs.Prelude.{Ok, Err};
+
+    ghost ready = { λ v. F.IsAlwaysCallable v.call };
+
+    ghost leads = { λ _ _. Unit {0} };
+
+    ghost takes = { λ p item q. CalledAt F.FnMut p.call item (Ok tt) q.call };
+
+    ghost stops = { λ p item e q. CalledAt F.FnMut p.call item (Err e) q.call };
+
+    fn visit(&mut self, item: &R) -> Result<(), E> {
+        (self.call)(item)
+    }
+
+    ghost stays = { λ _. tt };
+
+    ghost goes_on = { λ _ _ _ _ _. tt };
+}
+
+/// Calls a closure at each lot, with its symbol.
+#[derive(Drop)]
+pub struct LotCalls<F> {
+    pub call: F,
+}
+
+impl<E, F: FnMut(&str, &Lot) -> Result<(), E>> Visitor<HoldingRow, E> for LotCalls<F> {
+    ghost use Rattle.brk_store.specs.Calling.{CalledAtLot};
+    ghost use Rattle.std.specs.Prelude.{Ok, Err};
+
+    ghost ready = { λ v. F.IsAlwaysCallable v.call };
+
+    ghost leads = { λ _ _. Unit {0} };
+
+    ghost takes = { λ p item q. CalledAtLot F.FnMut p.call item (Ok tt) q.call };
+
+    ghost stops = { λ p item e q. CalledAtLot F.FnMut p.call item (Err e) q.call };
+
+    fn visit(&mut self, item: &HoldingRow) -> Result<(), E> {
+        let lot = Lot {
+            trade: item.trade,
+            price: item.price,
+            qty: item.qty,
+            stamp: item.stamp,
+        };
+        (self.call)(item.symbol.as_str(), &lot)
+    }
+
+    ghost stays = { λ _. tt };
+
+    ghost goes_on = { λ _ _ _ _ _. tt };
+}

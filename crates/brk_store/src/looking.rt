@@ -1,0 +1,54 @@
+//! Reads of what views of an account's trades show. Each is a transaction of its own, which is rolled back.
+
+ghost use Rattle.std.specs.Prelude.{◌≡◌, ◌==◌, IfErr, map, take};
+ghost use Rattle.brk_changes.specs.Rows.{history_row_of, trade_row_of};
+ghost use Rattle.brk_model.specs.Joins.{recent_first, trades_in};
+ghost use Rattle.brk_model.specs.Run.{MayFail};
+ghost use Rattle.brk_store.specs.Holds.{IsRead};
+ghost use Rattle.brk_tables_form.specs.Desk.{TradeHistory};
+ghost use Rattle.brk_tables_form.specs.Statements.{Listed};
+
+use crate::Store;
+use crate::beginning::begin;
+use brk_changes::{HistoryRow, TradeRow};
+use brk_money::{Fault, Id};
+use sqlite::Alter;
+use std::alloc::Global;
+
+#[tactic(auto, using(crate::proofs::Ending::is_read_of))]
+impl<S: Alter> Store<S> {
+    /// The last ten trades of an account, the most recent first.
+    pub fn last_ten_of_account(
+        &mut self,
+        alloc: Global,
+        account: Id,
+    ) -> Result<Vec<TradeRow>, Fault>
+        ensures read { IsRead S.Store self.old self.new result (λ all t. map trade_row_of all.items ≡ take 10 (recent_first (trades_in t account))) }
+        ensures fault { IfErr result MayFail }
+    {
+        let mut tx = begin(&mut self.conn);
+        brk_tables::last_ten_of_account(&mut tx, alloc, account)
+    }
+
+    /// The last fifty trades of an account, the most recent first.
+    pub fn last_fifty_of_account(
+        &mut self,
+        alloc: Global,
+        account: Id,
+    ) -> Result<Vec<TradeRow>, Fault>
+        ensures read { IsRead S.Store self.old self.new result (λ all t. map trade_row_of all.items ≡ take 50 (recent_first (trades_in t account))) }
+        ensures fault { IfErr result MayFail }
+    {
+        let mut tx = begin(&mut self.conn);
+        brk_tables::last_fifty_of_account(&mut tx, alloc, account)
+    }
+
+    /// When a trade came to its statuses, by the codes of these.
+    pub fn history_of(&mut self, alloc: Global, trade: Id) -> Result<Vec<HistoryRow>, Fault>
+        ensures read { IsRead S.Store self.old self.new result (Listed TradeHistory history_row_of (λ r. r.trade == trade)) }
+        ensures fault { IfErr result MayFail }
+    {
+        let mut tx = begin(&mut self.conn);
+        brk_tables::history_of(&mut tx, alloc, trade)
+    }
+}

@@ -1,0 +1,36 @@
+//! Reads of what trades made of lots, by lot and then by trade. Each is a transaction of its own, which is rolled back.
+
+ghost use Rattle.std.specs.Prelude.{◌==◌, IfErr};
+ghost use Rattle.brk_changes.specs.Rows.{lot_change_of};
+ghost use Rattle.brk_model.specs.Run.{MayFail};
+ghost use Rattle.brk_store.specs.Holds.{IsRead};
+ghost use Rattle.brk_tables_form.specs.Desk.{HoldingHistory};
+ghost use Rattle.brk_tables_form.specs.Statements.{Listed};
+
+use crate::Store;
+use crate::beginning::begin;
+use brk_changes::LotChange;
+use brk_money::{Fault, Id};
+use sqlite::Alter;
+use std::alloc::Global;
+
+#[tactic(auto, using(crate::proofs::Ending::is_read_of))]
+impl<S: Alter> Store<S> {
+    /// What a trade made of the lots that it touched.
+    pub fn changes_by(&mut self, alloc: Global, trade: Id) -> Result<Vec<LotChange>, Fault>
+        ensures read { IsRead S.Store self.old self.new result (Listed HoldingHistory lot_change_of (λ r. r.trade == trade)) }
+        ensures fault { IfErr result MayFail }
+    {
+        let mut tx = begin(&mut self.conn);
+        brk_tables::changes_by(&mut tx, alloc, trade)
+    }
+
+    /// What trades made of the lot that a trade opened.
+    pub fn changes_of(&mut self, alloc: Global, lot: Id) -> Result<Vec<LotChange>, Fault>
+        ensures read { IsRead S.Store self.old self.new result (Listed HoldingHistory lot_change_of (λ r. r.lot == lot)) }
+        ensures fault { IfErr result MayFail }
+    {
+        let mut tx = begin(&mut self.conn);
+        brk_tables::changes_of(&mut tx, alloc, lot)
+    }
+}

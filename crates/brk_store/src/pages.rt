@@ -1,0 +1,264 @@
+//! The lots of a position, read from the tables by pages.
+
+ghost use Rattle.std.specs.Prelude.{◌≡◌, ◌≢◌, ◌≤◌, ◌+◌, IfErr, IfOk, IsTrue, length, map, pos};
+ghost use Rattle.std.specs.List.{All};
+ghost use Rattle.brk_model.specs.Run.{MayFail};
+ghost use Rattle.brk_changes.specs.Rows.{holding_row_of};
+ghost use Rattle.brk_tables_trading.specs.Pages.{on_page, page_size};
+ghost use Rattle.brk_trade_laws.specs.OrderPlans.{lot_in};
+ghost use Rattle.brk_store.specs.Holds.{IsRead};
+ghost use Rattle.brk_store.specs.Pages.{rows_from};
+
+use crate::Store;
+use brk_changes::HoldingRow;
+use brk_lots::{Lot, LotSource};
+use brk_money::{Fault, Id};
+use brk_ref::Symbol;
+use sqlite::Alter;
+use std::alloc::Global;
+
+// How many rows a page has, unless it is the last. The statements have this number too.
+const PAGE_SIZE: usize = 16;
+
+/// The rows of a page, and how many of them were given as lots.
+#[derive(Drop)]
+pub struct Page {
+    rows: Vec<HoldingRow>,
+    given: usize,
+    ghost few: { length rows.items ≤ given + 15 },
+    ghost some_shares: { All (λ r. r.qty ≢ pos 0) rows.items },
+}
+
+/// The lots of an account in a security from one end, read 16 at a time. While it is there nothing else is asked of the
+/// store.
+pub type LotPages<'a, S> = Pages<'a, S, Page>;
+
+/// Pages of a store that they were lent. That a page is a type parameter lets a caller know what the store is afterwards.
+pub struct Pages<'a, S: Alter, P> {
+    store: &'a mut Store<S>,
+    alloc: Global,
+    account: Id,
+    symbol: &'a Symbol,
+    lifo: bool,
+    page: P,
+    // how many rows were read, and whether there are no more
+    read: u32,
+    ended: bool,
+}
+
+impl<S: Alter, P: Drop> Drop for Pages<'_, S, P> {
+    ghost use Rattle.std.specs.Prelude.{◌≡◌};
+
+    fn drop(self)
+        ensures { self.exit.0.now ≡ self.entry.store.now }
+    {
+        let Pages {
+            store: _,
+            alloc: _,
+            account: _,
+            symbol: _,
+            lifo: _,
+            page: _,
+            read: _,
+            ended: _,
+        } = self;
+    }
+}
+
+// A page from one end, behind so many.
+fn read_page<S: Alter>(
+    store: &mut Store<S>,
+    alloc: Global,
+    account: Id,
+    symbol: &Symbol,
+    lifo: bool,
+    skipped: u32,
+) -> Result<Vec<HoldingRow>, Fault>
+    ensures read { IsRead S.Store store.old store.new result (λ all t. map holding_row_of all.items ≡ on_page skipped (rows_from lifo account symbol.now t)) }
+    ensures fault { IfErr result MayFail }
+{
+    if lifo {
+        store.newest_lots(alloc, account, symbol, skipped)
+    } else {
+        store.oldest_lots(alloc, account, symbol, skipped)
+    }
+}
+
+// Whether they are no more than a page, and each has shares.
+fn is_page(rows: &[HoldingRow]) -> bool
+    ensures { IsTrue result → (length rows.now ≤ page_size) × All (λ r. r.qty ≢ pos 0) rows.now }
+{
+    rows.len() <= PAGE_SIZE && rows.iter().all(|row| row.qty != 0)
+}
+
+// The next page. One of more rows than were asked for, or with a lot of no shares, is a fault of the store.
+fn known_page<S: Alter>(
+    store: &mut Store<S>,
+    alloc: Global,
+    account: Id,
+    symbol: &Symbol,
+    lifo: bool,
+    skipped: u32,
+) -> Result<Vec<HoldingRow>, Fault>
+    ensures read { IsRead S.Store store.old store.new result (λ all t. map holding_row_of all.items ≡ on_page skipped (rows_from lifo account symbol.now t)) }
+    ensures few { IfOk result (λ all. length all.items ≤ page_size) }
+    ensures some_shares { IfOk result (λ all. All (λ r. r.qty ≢ pos 0) all.items) }
+    ensures fault { IfErr result MayFail }
+{
+    let page = read_page(store, alloc, account, symbol, lifo, skipped)?;
+    if is_page(&page) {
+        Ok(page)
+    } else {
+        Err(Fault::Store)
+    }
+}
+
+// The lot of a row.
+fn lot_of(row: &HoldingRow) -> Lot
+    ensures { result ≡ lot_in row.now }
+{
+    Lot {
+        trade: row.trade,
+        price: row.price,
+        qty: row.qty,
+        stamp: row.stamp,
+    }
+}
+
+impl<S: Alter> Store<S> {
+    ghost use Rattle.std.specs.Prelude.{◌≡◌};
+    ghost use Rattle.brk_lots.specs.Lots.{from_end};
+    ghost use Rattle.brk_model.specs.Tables.{Tables};
+    ghost use Rattle.brk_store.specs.Holds.{Holds};
+    ghost use Rattle.brk_store.specs.Resting.{lent, read_by};
+    ghost use Rattle.brk_trade_laws.specs.TradeReads.{position_in};
+
+    /// The lots of an account in a security, from the newest for last in first out, else from the oldest. Nothing is read
+    /// yet.
+    pub fn lot_pages<'a>(
+        &'a mut self,
+        alloc: Global,
+        account: Id,
+        symbol: &'a Symbol,
+        lifo: bool,
+    ) -> LotPages<'a, S>
+        ensures same_reference { (lent result).ghost_name ≡ self.entry.ghost_name }
+        ensures same { (lent result).now ≡ self.old }
+        ensures rests { (t : Tables) → Holds S.Store self.old t → ⟦<Pages<'static, S, Page> as LotSource>⟧.rests result (from_end lifo (position_in t account symbol.now)) }
+        ensures asked { ⟦<Pages<'static, S, Page> as LotSource>⟧.asked result ≡ 0 }
+        ensures unread { read_by result ≡ 0 }
+    {
+        let page = Page {
+            rows: Vec::new(alloc),
+            given: 0,
+        };
+        Pages {
+            store: self,
+            alloc,
+            account,
+            symbol,
+            lifo,
+            page,
+            read: 0,
+            ended: false,
+        }
+    }
+}
+
+impl<S: Alter> Pages<'_, S, Page> {
+    ghost use Rattle.std.specs.Prelude.{◌≡◌, ◌≢◌, ◌≤◌, ◌+◌, ◌-◌, ◌∷◌, IfErr, IfOk, IfSome, List, MatchOption, [], length, pos};
+    ghost use Rattle.sqlite.specs.Held.{state};
+    ghost use Rattle.sqlite.specs.State.{HasCleanDisk};
+    ghost use Rattle.brk_lots.specs.declared.lot.Lot.{Lot as TheLot};
+    ghost use Rattle.brk_model.specs.Run.{MayFail};
+    ghost use Rattle.brk_store.specs.Kept.{IsKept};
+    ghost use Rattle.brk_store.specs.Resting.{Rests, read_by};
+
+    /// How many rows it has read: at least as many as it gave lots, and at most 15 more. After `close` these are at most 16
+    /// more than were touched.
+    pub fn rows_read(&self) -> u64
+        ensures counted { result ≡ read_by self.now }
+        ensures least { ⟦<Pages<'static, S, Page> as LotSource>⟧.asked self.now ≤ result }
+        ensures most { result ≤ ⟦<Pages<'static, S, Page> as LotSource>⟧.asked self.now + 15 }
+    {
+        u64::from(self.read)
+    }
+
+    // Turns to the next page, and gives its first lot.
+    fn turn(&mut self) -> Result<Option<Lot>, Fault>
+        requires { length self.old.page.rows.items ≤ self.old.page.given }
+        ensures same_reference { self.new.store.ghost_name ≡ self.old.store.ghost_name }
+        ensures store { IsKept S.Store self.old.store.now self.new.store.now }
+        ensures given { IfOk result (λ given. HasCleanDisk (state S.Store self.new.store.now) → (ls : List TheLot) → Rests S.Store self.old ls →
+            MatchOption given ((ls ≡ []) × Rests S.Store self.new []) (λ lot. (more : List TheLot) × (ls ≡ lot ∷ more) × Rests S.Store self.new more)) }
+        ensures some_shares { IfOk result (λ given. IfSome given (λ lot. lot.qty ≢ pos 0)) }
+        ensures kept { IfErr result (λ _. (ls : List TheLot) → Rests S.Store self.old ls → Rests S.Store self.new ls) }
+        ensures asked { self.new.read - (length self.new.page.rows.items - self.new.page.given) ≤ self.old.read + 1 }
+        ensures fault { IfErr result MayFail }
+    {
+        if self.ended {
+            return Ok(None);
+        }
+        let page = known_page(
+            self.store,
+            self.alloc,
+            self.account,
+            self.symbol,
+            self.lifo,
+            self.read,
+        )?;
+        let Some(read) = self.read.checked_add(page.len() as u32) else {
+            return Err(Fault::Store);
+        };
+        let first = match page.first() {
+            Some(row) => Some(lot_of(row)),
+            None => None,
+        };
+        self.read = read;
+        self.ended = page.len() < PAGE_SIZE;
+        self.page = Page {
+            rows: page,
+            given: 1,
+        };
+        Ok(first)
+    }
+}
+
+impl<S: Alter> LotSource for Pages<'_, S, Page> {
+    ghost use Rattle.std.specs.Prelude.{◌≡◌, ◌-◌, length, refl};
+    ghost use Rattle.std.proofs.Common.{◌∙◌};
+    ghost use Rattle.sqlite.specs.Held.{state};
+    ghost use Rattle.sqlite.specs.State.{HasCleanDisk};
+    ghost use Rattle.brk_model.specs.Run.{MayFail};
+    ghost use Rattle.brk_store.specs.Kept.{IsKept, clean_at, kept_none, kept_then};
+    ghost use Rattle.brk_store.specs.Resting.{Rests};
+
+    ghost rests = { λ p ls. Rests S.Store p ls };
+
+    ghost is_told = { λ p. HasCleanDisk (state S.Store p.store.now) };
+
+    ghost leads = { λ p q. (q.store.ghost_name ≡ p.store.ghost_name) × IsKept S.Store p.store.now q.store.now };
+
+    ghost asked = { λ p. p.read - (length p.page.rows.items - p.page.given) };
+
+    ghost faulted = { λ _. 0 };
+
+    ghost fails = { λ _ fault _. MayFail fault };
+
+    fn next(&mut self) -> Result<Option<Lot>, Fault> {
+        match self.page.rows.get(self.page.given) {
+            Some(row) => {
+                let lot = lot_of(row);
+                self.page.given += 1;
+                Ok(Some(lot))
+            }
+            None => self.turn(),
+        }
+    }
+
+    ghost stays = { λ p. (refl, kept_none p.store.now) };
+
+    ghost goes_on = { λ p q r a b. (b.0 ∙ a.0, kept_then p.store.now q.store.now r.store.now a.1 b.1) };
+
+    ghost told_before = { λ p q m. clean_at p.store.now q.store.now m.1 };
+}

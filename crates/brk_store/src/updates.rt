@@ -1,0 +1,68 @@
+//! Reads of trades whose words are corrected. Each is a transaction of its own, which is rolled back.
+
+ghost use Rattle.std.specs.Prelude.{◌≡◌, ◌==◌, Err, IfErr, OnErr, map};
+ghost use Rattle.brk_money.specs.declared.fault.Fault.TheVariants as fault;
+ghost use Rattle.brk_model.specs.Run.{MayFail};
+ghost use Rattle.brk_changes.specs.Chosen as chosen;
+ghost use Rattle.brk_changes.specs.Rows.{cash_row_of, settlement_row_of, trade_row_of};
+ghost use Rattle.brk_store.specs.Holds.{IsRead};
+ghost use Rattle.brk_tables_form.specs.Desk.{CashRows, Settlements};
+ghost use Rattle.brk_tables_form.specs.Statements.{Found};
+
+use crate::Store;
+use crate::beginning::begin;
+use brk_changes::{CashRow, SettlementRow, TradeRow};
+use brk_money::{Fault, Id};
+use brk_orders::Span;
+use brk_ref::Symbol;
+use sqlite::Alter;
+use std::alloc::Global;
+
+#[tactic(auto, using(crate::proofs::Ending::is_read_of))]
+impl<S: Alter> Store<S> {
+    /// The first twenty trades of an account that were completed between two stamps, the oldest first.
+    pub fn completed_of_account(
+        &mut self,
+        alloc: Global,
+        account: Id,
+        span: Span,
+    ) -> Result<Vec<TradeRow>, Fault>
+        ensures read { IsRead S.Store self.old self.new result (λ all t. map trade_row_of all.items ≡ chosen.completed_of_account account span.first span.last t) }
+        ensures fault { IfErr result MayFail }
+    {
+        let mut tx = begin(&mut self.conn);
+        brk_tables::completed_of_account(&mut tx, alloc, account, span.first, span.last)
+    }
+
+    /// The first twenty trades in cash of a symbol that were completed between two stamps, the oldest first.
+    pub fn completed_cash_of_symbol(
+        &mut self,
+        alloc: Global,
+        symbol: &Symbol,
+        span: Span,
+    ) -> Result<Vec<TradeRow>, Fault>
+        ensures read { IsRead S.Store self.old self.new result (λ all t. map trade_row_of all.items ≡ chosen.completed_cash_of_symbol symbol.now span.first span.last t) }
+        ensures fault { IfErr result MayFail }
+    {
+        let mut tx = begin(&mut self.conn);
+        brk_tables::completed_cash_of_symbol(&mut tx, alloc, symbol, span.first, span.last)
+    }
+
+    /// What a trade settles for, where it is completed.
+    pub fn settlement(&mut self, trade: Id) -> Result<Option<SettlementRow>, Fault>
+        ensures read { IsRead S.Store self.old self.new result (Found Settlements settlement_row_of (λ r. r.trade == trade)) }
+        ensures fault { OnErr result (result ≡ Err fault.Store) }
+    {
+        let mut tx = begin(&mut self.conn);
+        brk_tables::settlement_by_trade(&mut tx, trade)
+    }
+
+    /// What a trade moved, where it is completed and in cash.
+    pub fn cash_row(&mut self, trade: Id) -> Result<Option<CashRow>, Fault>
+        ensures read { IsRead S.Store self.old self.new result (Found CashRows cash_row_of (λ r. r.trade == trade)) }
+        ensures fault { OnErr result (result ≡ Err fault.Store) }
+    {
+        let mut tx = begin(&mut self.conn);
+        brk_tables::cash_by_trade(&mut tx, trade)
+    }
+}

@@ -1,0 +1,22 @@
+use Rattle.std.proofs.Common.{pos, [], ◌∷◌}
+use Rattle.sqlite_value.specs.declared.value.Value.TheVariants.{Int, Text}
+use Rattle.sqlite.specs.Held.{state}
+use Rattle.brk_rows.proofs.Answer.{look_all}
+use Rattle.brk_tables_form.specs.Cells.{holding_cells}
+use Rattle.brk_tables_form.specs.Desk.{desk}
+use Rattle.brk_changes.specs.Rows.{holding_row_of}
+use Rattle.brk_tables_trading.specs.Pages.{lots_held, on_page}
+use Rattle.brk_tables_trading.proofs.Holding.{holding_back, holding_is_back, tells_oldest}
+use Rattle.brk_tables_trading.proofs.OldestLots
+use Rattle.brk_tables_trading.proofs.OldestLots.{plain}
+use Rattle.brk_tables_trading.proofs.holdings.oldest_lots.Goals as goal
+
+pub select-requires : goal.select-requires
+select-requires g c = record { plain = plain }
+
+pub returns-clause-step : goal.returns-clause-step
+returns-clause-step g c =
+    let old = state g.S.Store c.args.tx.now.conn.now in
+    let new = state g.S.Store c.select.new.tx.conn.now in
+    look_all desk holding_cells holding_back holding_is_back holding_row_of OldestLots.statement (Int (pos c.args.account) ∷ Text c.args.symbol.now ∷ Int (pos c.args.skipped) ∷ []) old new c.in_ok-rows.rows (λ rows. rows.items) _ c.deref.ensures.value (rw (c.id_value.ensures, c.text_value.ensures, c.as_str.ensures, c.skip_value.ensures) at c.in_ok-rows.ensures.step)
+    (λ all. all.items) c.all_rows.result c.all_rows.ensures.value (λ t. on_page c.args.skipped (lots_held c.args.account c.args.symbol.now t)) (tells_oldest old new c.args.account c.args.skipped c.args.symbol.now _)

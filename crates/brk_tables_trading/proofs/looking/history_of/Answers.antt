@@ -1,0 +1,22 @@
+use Rattle.std.proofs.Common.{[], ◌∷◌, filter, ◌==◌}
+use Rattle.sqlite.specs.Held.{state}
+use Rattle.brk_model.specs.Tables.{HistoryRow}
+use Rattle.brk_rows.proofs.Answer.{look_all}
+use Rattle.brk_tables_form.specs.Cells.{nat, history_cells}
+use Rattle.brk_tables_form.specs.Desk.{desk}
+use Rattle.brk_changes.specs.Rows.{history_row_of}
+use Rattle.brk_tables_trading.proofs.LookingReads.{history_back, history_is_back}
+use Rattle.brk_tables_trading.proofs.HistoryOf
+use Rattle.brk_tables_trading.proofs.HistoryOf.{plain}
+use Rattle.brk_tables_trading.proofs.LookingReads.{tells_history}
+use Rattle.brk_tables_trading.proofs.looking.history_of.Goals as goal
+
+pub select-requires : goal.select-requires
+select-requires g c = record { plain = plain }
+
+pub returns-clause-step : goal.returns-clause-step
+returns-clause-step g c =
+    let old = state g.S.Store c.args.tx.now.conn.now in
+    let new = state g.S.Store c.select.new.tx.conn.now in
+    look_all desk history_cells history_back history_is_back history_row_of HistoryOf.statement (nat c.args.trade ∷ []) old new c.in_ok-rows.rows (λ rows. rows.items) _ c.deref.ensures.value (rw (c.id_value.ensures) at c.in_ok-rows.ensures.step)
+    (λ all. all.items) c.all_rows.result c.all_rows.ensures.value (λ t. filter (λ (r : HistoryRow). r.trade == c.args.trade) t.history) (tells_history old new c.args.trade _)

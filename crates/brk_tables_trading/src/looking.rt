@@ -1,0 +1,70 @@
+//! What views of an account's trades show: its last trades, and when they came to their statuses.
+
+ghost use Rattle.std.specs.Prelude.{◌≡◌, ◌==◌, IfErr, map, take};
+ghost use Rattle.brk_model.specs.Joins.{recent_first, trades_in};
+ghost use Rattle.brk_model.specs.Run.{MayFail};
+ghost use Rattle.brk_changes.specs.Rows.{history_row_of, trade_row_of};
+ghost use Rattle.brk_tables_form.specs.Desk.{TradeHistory};
+ghost use Rattle.brk_tables_form.specs.Statements.{Lists, Reads};
+
+use brk_changes::{HistoryRow, TradeRow};
+use brk_money::{Fault, Id};
+use brk_tables_form::calls::select;
+use brk_tables_form::record::all_rows;
+use brk_tables_form::values::id_value;
+use sqlite::{Alter, Transaction};
+use std::alloc::Global;
+
+/// The last ten trades of an account, the most recent first.
+pub fn last_ten_of_account<S: Alter>(
+    tx: &mut Transaction<'_, S>,
+    alloc: Global,
+    account: Id,
+) -> Result<Vec<TradeRow>, Fault>
+    ensures same_reference { tx.new.conn.ghost_name ≡ tx.old.conn.ghost_name }
+    ensures step { Reads S.Store tx.old tx.new result (λ all t. map trade_row_of all.items ≡ take 10 (recent_first (trades_in t account))) }
+    ensures fault { IfErr result MayFail }
+{
+    let rows = select(
+        tx,
+        "SELECT T_ID, T_DTS, T_ST_ID, T_TT_ID, T_IS_CASH, T_S_SYMB, T_QTY, T_BID_PRICE, T_CA_ID, T_EXEC_NAME, T_TRADE_PRICE, T_CHRG, T_COMM, T_TAX, T_LIFO FROM TRADE WHERE T_CA_ID = ?1 ORDER BY T_DTS DESC, T_ID DESC LIMIT 10",
+        &[id_value(account)],
+    )?;
+    all_rows(alloc, &rows)
+}
+
+/// The last fifty trades of an account, the most recent first.
+pub fn last_fifty_of_account<S: Alter>(
+    tx: &mut Transaction<'_, S>,
+    alloc: Global,
+    account: Id,
+) -> Result<Vec<TradeRow>, Fault>
+    ensures same_reference { tx.new.conn.ghost_name ≡ tx.old.conn.ghost_name }
+    ensures step { Reads S.Store tx.old tx.new result (λ all t. map trade_row_of all.items ≡ take 50 (recent_first (trades_in t account))) }
+    ensures fault { IfErr result MayFail }
+{
+    let rows = select(
+        tx,
+        "SELECT T_ID, T_DTS, T_ST_ID, T_TT_ID, T_IS_CASH, T_S_SYMB, T_QTY, T_BID_PRICE, T_CA_ID, T_EXEC_NAME, T_TRADE_PRICE, T_CHRG, T_COMM, T_TAX, T_LIFO FROM TRADE WHERE T_CA_ID = ?1 ORDER BY T_DTS DESC, T_ID DESC LIMIT 50",
+        &[id_value(account)],
+    )?;
+    all_rows(alloc, &rows)
+}
+
+/// When a trade came to its statuses, by the codes of these.
+pub fn history_of<S: Alter>(
+    tx: &mut Transaction<'_, S>,
+    alloc: Global,
+    trade: Id,
+) -> Result<Vec<HistoryRow>, Fault>
+    ensures same_reference { tx.new.conn.ghost_name ≡ tx.old.conn.ghost_name }
+    ensures step { Lists S.Store tx.old tx.new result TradeHistory history_row_of (λ r. r.trade == trade) }
+    ensures fault { IfErr result MayFail }
+{
+    let rows = select(
+        tx,
+        "SELECT TH_T_ID, TH_ST_ID, TH_DTS FROM TRADE_HISTORY WHERE TH_T_ID = ?1 ORDER BY TH_T_ID, TH_ST_ID",
+        &[id_value(trade)],
+    )?;
+    all_rows(alloc, &rows)
+}

@@ -1,0 +1,157 @@
+//! Words of trades that are corrected: the trades that are chosen for it, what tells their words, and the words set anew.
+
+ghost use Rattle.std.specs.Prelude.{◌≡◌, ◌==◌, Err, IfErr, OnErr, map};
+ghost use Rattle.brk_money.specs.declared.fault.Fault.TheVariants.{Store};
+ghost use Rattle.brk_model.specs.Run.{MayFail};
+ghost use Rattle.brk_changes.specs.Changes.{with_cash_name, with_cash_type, with_executor};
+ghost use Rattle.brk_changes.specs.Chosen as chosen;
+ghost use Rattle.brk_changes.specs.Rows.{cash_row_of, cash_type_word, settlement_row_of, trade_row_of};
+ghost use Rattle.brk_tables_form.specs.Desk.{CashRows, Settlements};
+ghost use Rattle.brk_tables_form.specs.Statements.{Finds, Reads, Writes};
+
+use brk_changes::{CashRow, CashType, SettlementRow, TradeRow};
+use brk_money::{Fault, Id, Stamp, Status};
+use brk_ref::Symbol;
+use brk_tables_form::calls::{run, select};
+use brk_tables_form::record::{all_rows, first_row};
+use brk_tables_form::values::{
+    cash_type_value, flag_value, id_value, stamp_value, status_value, text_value,
+};
+use sqlite::{Alter, Transaction};
+use std::alloc::Global;
+
+/// The first twenty trades of an account that were completed between two stamps, the oldest first.
+pub fn completed_of_account<S: Alter>(
+    tx: &mut Transaction<'_, S>,
+    alloc: Global,
+    account: Id,
+    first: Stamp,
+    last: Stamp,
+) -> Result<Vec<TradeRow>, Fault>
+    ensures same_reference { tx.new.conn.ghost_name ≡ tx.old.conn.ghost_name }
+    ensures step { Reads S.Store tx.old tx.new result (λ all t. map trade_row_of all.items ≡ chosen.completed_of_account account first last t) }
+    ensures fault { IfErr result MayFail }
+{
+    let rows = select(
+        tx,
+        "SELECT T_ID, T_DTS, T_ST_ID, T_TT_ID, T_IS_CASH, T_S_SYMB, T_QTY, T_BID_PRICE, T_CA_ID, T_EXEC_NAME, T_TRADE_PRICE, T_CHRG, T_COMM, T_TAX, T_LIFO FROM TRADE WHERE T_ST_ID = ?1 AND T_CA_ID = ?2 AND T_DTS >= ?3 AND T_DTS <= ?4 ORDER BY T_DTS, T_ID LIMIT 20",
+        &[
+            status_value(Status::Completed),
+            id_value(account),
+            stamp_value(first),
+            stamp_value(last),
+        ],
+    )?;
+    all_rows(alloc, &rows)
+}
+
+/// The first twenty trades in cash of a symbol that were completed between two stamps, the oldest first.
+pub fn completed_cash_of_symbol<S: Alter>(
+    tx: &mut Transaction<'_, S>,
+    alloc: Global,
+    symbol: &Symbol,
+    first: Stamp,
+    last: Stamp,
+) -> Result<Vec<TradeRow>, Fault>
+    ensures same_reference { tx.new.conn.ghost_name ≡ tx.old.conn.ghost_name }
+    ensures step { Reads S.Store tx.old tx.new result (λ all t. map trade_row_of all.items ≡ chosen.completed_cash_of_symbol symbol.now first last t) }
+    ensures fault { IfErr result MayFail }
+{
+    let rows = select(
+        tx,
+        "SELECT T_ID, T_DTS, T_ST_ID, T_TT_ID, T_IS_CASH, T_S_SYMB, T_QTY, T_BID_PRICE, T_CA_ID, T_EXEC_NAME, T_TRADE_PRICE, T_CHRG, T_COMM, T_TAX, T_LIFO FROM TRADE WHERE T_ST_ID = ?1 AND T_IS_CASH = ?2 AND T_S_SYMB = ?3 AND T_DTS >= ?4 AND T_DTS <= ?5 ORDER BY T_DTS, T_ID LIMIT 20",
+        &[
+            status_value(Status::Completed),
+            flag_value(true),
+            text_value(symbol.as_str()),
+            stamp_value(first),
+            stamp_value(last),
+        ],
+    )?;
+    all_rows(alloc, &rows)
+}
+
+/// What a trade settles for.
+pub fn settlement_by_trade<S: Alter>(
+    tx: &mut Transaction<'_, S>,
+    trade: Id,
+) -> Result<Option<SettlementRow>, Fault>
+    ensures same_reference { tx.new.conn.ghost_name ≡ tx.old.conn.ghost_name }
+    ensures step { Finds S.Store tx.old tx.new result Settlements settlement_row_of (λ r. r.trade == trade) }
+    ensures fault { OnErr result (result ≡ Err Store) }
+{
+    let rows = select(
+        tx,
+        "SELECT SE_T_ID, SE_CASH_TYPE, SE_CASH_DUE_DATE, SE_AMT FROM SETTLEMENT WHERE SE_T_ID = ?1 ORDER BY SE_T_ID",
+        &[id_value(trade)],
+    )?;
+    first_row(&rows)
+}
+
+/// What a trade moved.
+pub fn cash_by_trade<S: Alter>(
+    tx: &mut Transaction<'_, S>,
+    trade: Id,
+) -> Result<Option<CashRow>, Fault>
+    ensures same_reference { tx.new.conn.ghost_name ≡ tx.old.conn.ghost_name }
+    ensures step { Finds S.Store tx.old tx.new result CashRows cash_row_of (λ r. r.trade == trade) }
+    ensures fault { OnErr result (result ≡ Err Store) }
+{
+    let rows = select(
+        tx,
+        "SELECT CT_T_ID, CT_DTS, CT_AMT, CT_NAME FROM CASH_TRANSACTION WHERE CT_T_ID = ?1 ORDER BY CT_T_ID",
+        &[id_value(trade)],
+    )?;
+    first_row(&rows)
+}
+
+/// Sets the name of a trade's executor.
+pub fn set_executor<S: Alter>(
+    tx: &mut Transaction<'_, S>,
+    trade: Id,
+    executor: &str,
+) -> Result<(), Fault>
+    ensures same_reference { tx.new.conn.ghost_name ≡ tx.old.conn.ghost_name }
+    ensures step { Writes S.Store tx.old tx.new result (with_executor trade executor.now) }
+    ensures fault { OnErr result (result ≡ Err Store) }
+{
+    run(
+        tx,
+        "UPDATE TRADE SET T_EXEC_NAME = ?1 WHERE T_ID = ?2",
+        &[text_value(executor), id_value(trade)],
+    )
+}
+
+/// Sets the word for how a trade is settled.
+pub fn set_cash_type<S: Alter>(
+    tx: &mut Transaction<'_, S>,
+    trade: Id,
+    cash_type: CashType,
+) -> Result<(), Fault>
+    ensures same_reference { tx.new.conn.ghost_name ≡ tx.old.conn.ghost_name }
+    ensures step { Writes S.Store tx.old tx.new result (with_cash_type trade (cash_type_word cash_type)) }
+    ensures fault { OnErr result (result ≡ Err Store) }
+{
+    run(
+        tx,
+        "UPDATE SETTLEMENT SET SE_CASH_TYPE = ?1 WHERE SE_T_ID = ?2",
+        &[cash_type_value(cash_type), id_value(trade)],
+    )
+}
+
+/// Sets the text of what a trade moved.
+pub fn set_cash_name<S: Alter>(
+    tx: &mut Transaction<'_, S>,
+    trade: Id,
+    name: &str,
+) -> Result<(), Fault>
+    ensures same_reference { tx.new.conn.ghost_name ≡ tx.old.conn.ghost_name }
+    ensures step { Writes S.Store tx.old tx.new result (with_cash_name trade name.now) }
+    ensures fault { OnErr result (result ≡ Err Store) }
+{
+    run(
+        tx,
+        "UPDATE CASH_TRANSACTION SET CT_NAME = ?1 WHERE CT_T_ID = ?2",
+        &[text_value(name), id_value(trade)],
+    )
+}

@@ -1,0 +1,10 @@
+pub mod Records
+pub mod TwentyOfAccount
+pub mod TwentyOfSymbol
+pub mod FirstSince
+pub mod ChangesBy
+pub mod ChangesOf
+pub mod BrokersNamed
+pub mod RequestsOfBroker
+pub mod MomentReads
+pub mod ListReads

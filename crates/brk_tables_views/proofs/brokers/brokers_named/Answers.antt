@@ -1,0 +1,24 @@
+use Rattle.std.proofs.Common.{[], ◌∷◌, filter}
+use Rattle.std.specs.Prelude.{bytes_eq}
+use Rattle.sqlite_value.specs.declared.value.Value.TheVariants.{Text as Words}
+use Rattle.sqlite.specs.Held.{state}
+use Rattle.brk_model.specs.Tables.{BrokerRow}
+use Rattle.brk_rows.proofs.Answer.{look_all}
+use Rattle.brk_tables_form.specs.Cells.{broker_cells}
+use Rattle.brk_tables_form.specs.Desk.{desk}
+use Rattle.brk_ref.specs.Records.{broker_row_of}
+use Rattle.brk_tables_form.proofs.Back.{broker_back, broker_is_back}
+use Rattle.brk_tables_views.proofs.ListReads.{tells_brokers_named}
+use Rattle.brk_tables_views.proofs.BrokersNamed
+use Rattle.brk_tables_views.proofs.BrokersNamed.{plain}
+use Rattle.brk_tables_views.proofs.brokers.brokers_named.Goals as goal
+
+pub select-requires : goal.select-requires
+select-requires g c = record { plain = plain }
+
+pub returns-clause-step : goal.returns-clause-step
+returns-clause-step g c =
+    let old = state g.S.Store c.args.tx.now.conn.now in
+    let new = state g.S.Store c.select.new.tx.conn.now in
+    look_all desk broker_cells broker_back broker_is_back broker_row_of BrokersNamed.statement (Words c.args.name.now ∷ []) old new c.in_ok-rows.rows (λ rows. rows.items) _ c.deref.ensures.value (rw (c.text_value.ensures, c.as_str.ensures) at c.in_ok-rows.ensures.step)
+    (λ all. all.items) c.all_rows.result c.all_rows.ensures.value (λ t. filter (λ (r : BrokerRow). bytes_eq r.name c.args.name.now) t.brokers) (tells_brokers_named old new c.args.name.now _)

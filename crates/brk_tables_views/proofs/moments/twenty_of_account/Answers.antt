@@ -1,0 +1,25 @@
+use Rattle.std.proofs.Common.{[], ◌∷◌, ◌&&◌, ◌==◌, filter, take}
+use Rattle.sqlite.specs.Held.{state}
+use Rattle.brk_model.specs.Joins.{oldest_first_rows}
+use Rattle.brk_model.specs.LookupView.{is_between}
+use Rattle.brk_model.specs.Tables.{TradeRow}
+use Rattle.brk_rows.proofs.Answer.{look_all}
+use Rattle.brk_tables_form.specs.Cells.{nat, trade_cells}
+use Rattle.brk_tables_form.specs.Desk.{desk}
+use Rattle.brk_changes.specs.Rows.{trade_row_of}
+use Rattle.brk_tables_views.proofs.MomentReads.{tells_twenty_of_account}
+use Rattle.brk_tables_views.proofs.Records.{trade_back, trade_is_back}
+use Rattle.brk_tables_views.proofs.TwentyOfAccount
+use Rattle.brk_tables_views.proofs.TwentyOfAccount.{plain}
+use Rattle.brk_tables_views.proofs.moments.twenty_of_account.Goals as goal
+
+pub select-requires : goal.select-requires
+select-requires g c = record { plain = plain }
+
+pub returns-clause-step : goal.returns-clause-step
+returns-clause-step g c =
+    let old = state g.S.Store c.args.tx.now.conn.now in
+    let new = state g.S.Store c.select.new.tx.conn.now in
+    look_all desk trade_cells trade_back trade_is_back trade_row_of TwentyOfAccount.statement (nat c.args.account ∷ nat c.args.first ∷ nat c.args.last ∷ []) old new c.in_ok-rows.rows (λ rows. rows.items) _ c.deref.ensures.value
+    (rw (c.id_value.ensures, c.stamp_value.ensures, c.stamp_value-2.ensures) at c.in_ok-rows.ensures.step)
+    (λ all. all.items) c.all_rows.result c.all_rows.ensures.value (λ t. take 20 (oldest_first_rows (filter (λ (r : TradeRow). (r.account == c.args.account) && is_between c.args.first c.args.last r) t.trades))) (tells_twenty_of_account old new c.args.account c.args.first c.args.last _)

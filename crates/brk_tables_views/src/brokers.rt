@@ -1,0 +1,53 @@
+//! Brokers by their names, which more than one may have, and the requests of a broker.
+
+ghost use Rattle.std.specs.Prelude.{◌≡◌, ◌==◌, IfErr, bytes_eq};
+ghost use Rattle.brk_model.specs.Run.{MayFail};
+ghost use Rattle.brk_ref.specs.Records.{broker_row_of};
+ghost use Rattle.brk_changes.specs.Rows.{request_row_of};
+ghost use Rattle.brk_tables_form.specs.Desk.{Brokers, Requests};
+ghost use Rattle.brk_tables_form.specs.Statements.{Lists};
+
+use brk_changes::RequestRow;
+use brk_money::{Fault, Id};
+use brk_ref::{BrokerRow, Name};
+use brk_tables_form::calls::select;
+use brk_tables_form::record::all_rows;
+use brk_tables_form::values::{id_value, text_value};
+use sqlite::{Alter, Transaction};
+use std::alloc::Global;
+
+/// The brokers with a name, by rising id.
+pub fn brokers_named<S: Alter>(
+    tx: &mut Transaction<'_, S>,
+    alloc: Global,
+    name: &Name,
+) -> Result<Vec<BrokerRow>, Fault>
+    ensures same_reference { tx.new.conn.ghost_name ≡ tx.old.conn.ghost_name }
+    ensures step { Lists S.Store tx.old tx.new result Brokers broker_row_of (λ r. bytes_eq r.name name.now) }
+    ensures fault { IfErr result MayFail }
+{
+    let rows = select(
+        tx,
+        "SELECT B_ID, B_NAME, B_NUM_TRADES, B_COMM_TOTAL FROM BROKER WHERE B_NAME = ?1 ORDER BY B_ID",
+        &[text_value(name.as_str())],
+    )?;
+    all_rows(alloc, &rows)
+}
+
+/// The requests of a broker, by rising trade.
+pub fn requests_of_broker<S: Alter>(
+    tx: &mut Transaction<'_, S>,
+    alloc: Global,
+    broker: Id,
+) -> Result<Vec<RequestRow>, Fault>
+    ensures same_reference { tx.new.conn.ghost_name ≡ tx.old.conn.ghost_name }
+    ensures step { Lists S.Store tx.old tx.new result Requests request_row_of (λ r. r.broker == broker) }
+    ensures fault { IfErr result MayFail }
+{
+    let rows = select(
+        tx,
+        "SELECT TR_T_ID, TR_TT_ID, TR_S_SYMB, TR_QTY, TR_BID_PRICE, TR_B_ID FROM TRADE_REQUEST WHERE TR_B_ID = ?1 ORDER BY TR_T_ID",
+        &[id_value(broker)],
+    )?;
+    all_rows(alloc, &rows)
+}

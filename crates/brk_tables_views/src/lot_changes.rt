@@ -1,0 +1,51 @@
+//! What trades made of lots: rows of HOLDING_HISTORY in the order of their key, by lot and then by trade.
+
+ghost use Rattle.std.specs.Prelude.{◌≡◌, ◌==◌, IfErr};
+ghost use Rattle.brk_model.specs.Run.{MayFail};
+ghost use Rattle.brk_changes.specs.Rows.{lot_change_of};
+ghost use Rattle.brk_tables_form.specs.Desk.{HoldingHistory};
+ghost use Rattle.brk_tables_form.specs.Statements.{Lists};
+
+use brk_changes::LotChange;
+use brk_money::{Fault, Id};
+use brk_tables_form::calls::select;
+use brk_tables_form::record::all_rows;
+use brk_tables_form::values::id_value;
+use sqlite::{Alter, Transaction};
+use std::alloc::Global;
+
+/// What a trade made of the lots that it touched.
+pub fn changes_by<S: Alter>(
+    tx: &mut Transaction<'_, S>,
+    alloc: Global,
+    trade: Id,
+) -> Result<Vec<LotChange>, Fault>
+    ensures same_reference { tx.new.conn.ghost_name ≡ tx.old.conn.ghost_name }
+    ensures step { Lists S.Store tx.old tx.new result HoldingHistory lot_change_of (λ r. r.trade == trade) }
+    ensures fault { IfErr result MayFail }
+{
+    let rows = select(
+        tx,
+        "SELECT HH_H_T_ID, HH_T_ID, HH_BEFORE_QTY, HH_AFTER_QTY FROM HOLDING_HISTORY WHERE HH_T_ID = ?1 ORDER BY HH_H_T_ID, HH_T_ID",
+        &[id_value(trade)],
+    )?;
+    all_rows(alloc, &rows)
+}
+
+/// What trades made of the lot that a trade opened.
+pub fn changes_of<S: Alter>(
+    tx: &mut Transaction<'_, S>,
+    alloc: Global,
+    lot: Id,
+) -> Result<Vec<LotChange>, Fault>
+    ensures same_reference { tx.new.conn.ghost_name ≡ tx.old.conn.ghost_name }
+    ensures step { Lists S.Store tx.old tx.new result HoldingHistory lot_change_of (λ r. r.lot == lot) }
+    ensures fault { IfErr result MayFail }
+{
+    let rows = select(
+        tx,
+        "SELECT HH_H_T_ID, HH_T_ID, HH_BEFORE_QTY, HH_AFTER_QTY FROM HOLDING_HISTORY WHERE HH_H_T_ID = ?1 ORDER BY HH_H_T_ID, HH_T_ID",
+        &[id_value(lot)],
+    )?;
+    all_rows(alloc, &rows)
+}

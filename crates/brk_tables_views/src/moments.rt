@@ -1,0 +1,80 @@
+//! Trades of any status by the moments at which they came to their last one.
+
+ghost use Rattle.std.specs.Prelude.{◌≡◌, ◌==◌, ◌&&◌, Err, IfErr, OnErr, bytes_eq, filter, map, nat_le, option_map, option_to_list, take};
+ghost use Rattle.brk_money.specs.declared.fault.Fault.TheVariants.{Store};
+ghost use Rattle.brk_model.specs.Joins.{oldest_first_rows, trades_in};
+ghost use Rattle.brk_model.specs.LookupView.{is_between};
+ghost use Rattle.brk_model.specs.Run.{MayFail};
+ghost use Rattle.brk_changes.specs.Rows.{trade_row_of};
+ghost use Rattle.brk_tables_form.specs.Statements.{Reads};
+
+use brk_changes::TradeRow;
+use brk_money::{Fault, Id, Stamp};
+use brk_ref::Symbol;
+use brk_tables_form::calls::select;
+use brk_tables_form::record::{all_rows, first_row};
+use brk_tables_form::values::{id_value, stamp_value, text_value};
+use sqlite::{Alter, Transaction};
+use std::alloc::Global;
+
+/// The first twenty trades of an account between two stamps, both included, the oldest first.
+pub fn twenty_of_account<S: Alter>(
+    tx: &mut Transaction<'_, S>,
+    alloc: Global,
+    account: Id,
+    first: Stamp,
+    last: Stamp,
+) -> Result<Vec<TradeRow>, Fault>
+    ensures same_reference { tx.new.conn.ghost_name ≡ tx.old.conn.ghost_name }
+    ensures step { Reads S.Store tx.old tx.new result (λ all t. map trade_row_of all.items ≡ take 20 (oldest_first_rows (filter (λ r. (r.account == account) && is_between first last r) t.trades))) }
+    ensures fault { IfErr result MayFail }
+{
+    let rows = select(
+        tx,
+        "SELECT T_ID, T_DTS, T_ST_ID, T_TT_ID, T_IS_CASH, T_S_SYMB, T_QTY, T_BID_PRICE, T_CA_ID, T_EXEC_NAME, T_TRADE_PRICE, T_CHRG, T_COMM, T_TAX, T_LIFO FROM TRADE WHERE T_CA_ID = ?1 AND T_DTS >= ?2 AND T_DTS <= ?3 ORDER BY T_DTS, T_ID LIMIT 20",
+        &[id_value(account), stamp_value(first), stamp_value(last)],
+    )?;
+    all_rows(alloc, &rows)
+}
+
+/// The first twenty trades in a security between two stamps, both included, the oldest first.
+pub fn twenty_of_symbol<S: Alter>(
+    tx: &mut Transaction<'_, S>,
+    alloc: Global,
+    symbol: &Symbol,
+    first: Stamp,
+    last: Stamp,
+) -> Result<Vec<TradeRow>, Fault>
+    ensures same_reference { tx.new.conn.ghost_name ≡ tx.old.conn.ghost_name }
+    ensures step { Reads S.Store tx.old tx.new result (λ all t. map trade_row_of all.items ≡ take 20 (oldest_first_rows (filter (λ r. bytes_eq r.symbol symbol.now && is_between first last r) t.trades))) }
+    ensures fault { IfErr result MayFail }
+{
+    let rows = select(
+        tx,
+        "SELECT T_ID, T_DTS, T_ST_ID, T_TT_ID, T_IS_CASH, T_S_SYMB, T_QTY, T_BID_PRICE, T_CA_ID, T_EXEC_NAME, T_TRADE_PRICE, T_CHRG, T_COMM, T_TAX, T_LIFO FROM TRADE WHERE T_S_SYMB = ?1 AND T_DTS >= ?2 AND T_DTS <= ?3 ORDER BY T_DTS, T_ID LIMIT 20",
+        &[
+            text_value(symbol.as_str()),
+            stamp_value(first),
+            stamp_value(last),
+        ],
+    )?;
+    all_rows(alloc, &rows)
+}
+
+/// The oldest trade of an account at or after a stamp.
+pub fn first_since<S: Alter>(
+    tx: &mut Transaction<'_, S>,
+    account: Id,
+    first: Stamp,
+) -> Result<Option<TradeRow>, Fault>
+    ensures same_reference { tx.new.conn.ghost_name ≡ tx.old.conn.ghost_name }
+    ensures step { Reads S.Store tx.old tx.new result (λ o t. option_to_list (option_map trade_row_of o) ≡ take 1 (oldest_first_rows (filter (λ r. nat_le first r.stamp) (trades_in t account)))) }
+    ensures fault { OnErr result (result ≡ Err Store) }
+{
+    let rows = select(
+        tx,
+        "SELECT T_ID, T_DTS, T_ST_ID, T_TT_ID, T_IS_CASH, T_S_SYMB, T_QTY, T_BID_PRICE, T_CA_ID, T_EXEC_NAME, T_TRADE_PRICE, T_CHRG, T_COMM, T_TAX, T_LIFO FROM TRADE WHERE T_CA_ID = ?1 AND T_DTS >= ?2 ORDER BY T_DTS, T_ID LIMIT 1",
+        &[id_value(account), stamp_value(first)],
+    )?;
+    first_row(&rows)
+}

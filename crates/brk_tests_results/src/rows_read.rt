@@ -1,0 +1,74 @@
+//! How many rows a sale reads of a position of forty lots of one share each.
+
+use brk_lots::close;
+use brk_money::{Id, Price, Qty, Side, Stamp};
+use brk_ref::Symbol;
+use brk_tests_desks::desks::{answer_at, set_desk};
+use brk_tests_desks::plans::worked::FIRST_MOMENT;
+use brk_tests_desks::store::Store;
+use sqlite::MemStore;
+use std::alloc::Global;
+use std::test::Fail;
+
+const LOTS: u64 = 40;
+
+// The orders and results of purchases of one share each.
+fn purchases(alloc: Global) -> Result<String, Fail> {
+    let mut batch = String::from_str(alloc, "batch,P\n")?;
+    for n in 1..=LOTS {
+        writeln!(batch, "order,100,TMB,ABC,1,,cash,fifo,Ann,Lee,T10")?;
+        writeln!(batch, "result,{n},10.00")?;
+    }
+    writeln!(batch, "end,{}", 2 * LOTS)?;
+    Ok(batch)
+}
+
+// A store whose account 100 has these lots.
+fn store_of_lots(alloc: Global) -> Result<Store<MemStore>, Fail> {
+    let batch = purchases(alloc)?;
+    let mut desk = set_desk(alloc)?;
+    let (_, ended) = answer_at(alloc, &mut desk, FIRST_MOMENT, batch.as_bytes());
+    match ended {
+        Ok(_) => Ok(desk.into_store()),
+        Err(_) => Err("the purchases")?,
+    }
+}
+
+// How many lots a sale of so many shares touches, and how many rows it reads.
+fn sale(
+    alloc: Global,
+    store: &mut Store<MemStore>,
+    count: u32,
+    lifo: bool,
+) -> Result<(usize, u64), Fail> {
+    let account = Id::new(100).ok_or("account")?;
+    let trade = Id::new(41).ok_or("trade")?;
+    let qty = Qty::new(count).ok_or("quantity")?;
+    let price = Price::new(1_000).ok_or("price")?;
+    let symbol = Symbol::parse(alloc, b"ABC")?.ok_or("symbol")?;
+    let mut lots = store.lot_pages(alloc, account, &symbol, lifo);
+    let closing = close(
+        alloc,
+        &mut lots,
+        Side::Sell,
+        qty,
+        trade,
+        price,
+        Stamp::nearest(FIRST_MOMENT),
+    )?;
+    Ok((closing.touched.len(), lots.rows_read()))
+}
+
+#[test]
+fn reads_as_many_pages_as_it_needs(rt: HostRuntime) -> Result<(), Fail> {
+    let alloc = rt.alloc();
+    let mut store = store_of_lots(alloc)?;
+    for lifo in [false, true] {
+        assert!(rt; sale(alloc, &mut store, 1, lifo)? == (1, 16));
+        assert!(rt; sale(alloc, &mut store, 16, lifo)? == (16, 16));
+        assert!(rt; sale(alloc, &mut store, 17, lifo)? == (17, 32));
+        assert!(rt; sale(alloc, &mut store, 40, lifo)? == (40, 40));
+        assert!(rt; sale(alloc, &mut store, 41, lifo)? == (40, 40));
+    }
+    Ok(())
+}

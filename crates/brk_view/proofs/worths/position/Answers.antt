@@ -1,0 +1,7 @@
+use Rattle.std.proofs.Common.{◌∙◌, ap, map}
+use Rattle.brk_view.specs.Worths.{worth_record}
+use Rattle.brk_view.proofs.Shown.{position_shown}
+use Rattle.brk_view.proofs.worths.position.Goals as goal
+
+pub returns-clause-view : goal.returns-clause-view
+returns-clause-view c = λ t test e. ap (map worth_record) c.in_ok-ordered.ensures.order ∙ position_shown t test c.args.accounts.items e

@@ -1,0 +1,62 @@
+-- What is shown of trades that are looked up.
+use Rattle.std.specs.Prelude.{◌≡◌, Bool, ◌==◌, nat_lt, List, [], ◌∷◌, ◌++◌, filter, map, codes, decimal, Option, option_map, option_to_list}
+use Rattle.std.specs.Option.{option_map_or}
+use Rattle.brk_changes.specs.Rows.{cash_row_of, history_row_of, settlement_row_of, trade_row_of}
+use Rattle.brk_changes.specs.declared.cash_row.CashRow.{CashRow}
+use Rattle.brk_changes.specs.declared.history_row.HistoryRow.{HistoryRow}
+use Rattle.brk_changes.specs.declared.settlement_row.SettlementRow.{SettlementRow}
+use Rattle.brk_changes.specs.declared.trade_row.TradeRow.{TradeRow}
+use Rattle.brk_model.specs.Joins.{history_in}
+use Rattle.brk_model.specs.Lists.{rising}
+use Rattle.brk_model.specs.LookupView as model
+use Rattle.brk_model.specs.Queries.{View}
+use Rattle.brk_model.specs.Rows.{cash_word, end_word, price_text}
+use Rattle.brk_model.specs.Tables as tables
+use Rattle.brk_model.specs.Tables.{Tables}
+use Rattle.brk_money.specs.Kinds.{status_code, type_code}
+use Rattle.brk_money.specs.Spelling.{Text}
+use Rattle.brk_view.specs.declared.lookups.LookedUp.{LookedUp}
+use Rattle.brk_view.specs.declared.lookups.StatusMoment.{StatusMoment}
+
+-- by rising stamp
+abbrev pub older_moment : StatusMoment → StatusMoment → Bool
+older_moment a b = nat_lt a.stamp b.stamp
+
+-- by rising stamp of the last status, then rising id
+abbrev pub older : TradeRow → TradeRow → Bool
+older a b = rising a.stamp b.stamp a.id b.id
+
+-- a row of the history without its trade
+abbrev pub moment_of : HistoryRow → StatusMoment
+moment_of r = record { stamp = r.stamp; status = r.status }
+
+-- the record of a status that a trade came to
+abbrev pub moment_record : StatusMoment → List Text
+moment_record m = codes "history" ∷ decimal m.stamp ∷ status_code m.status ∷ []
+
+-- the fifteen fields of a trade: how it stands, what was asked for and by whom, what it costs, and its conditions
+abbrev pub state_fields : tables.TradeRow → List Text
+state_fields t = codes "trade" ∷ decimal t.id ∷ decimal t.stamp ∷ status_code t.status ∷ type_code t.kind ∷ []
+
+abbrev pub term_fields : tables.TradeRow → List Text
+term_fields t = t.symbol ∷ decimal t.qty ∷ price_text t.bid ∷ t.executor ∷ []
+
+abbrev pub cost_fields : tables.TradeRow → List Text
+cost_fields t = option_map_or price_text t.price [] ∷ price_text t.charge ∷ price_text t.commission ∷ price_text t.tax ∷ []
+
+abbrev pub condition_fields : tables.TradeRow → List Text
+condition_fields t = cash_word t.is_cash ∷ end_word t.is_lifo ∷ []
+
+-- a trade, its settlement and its cash row where they are there, and its statuses
+abbrev pub looked_up_records : LookedUp → View
+looked_up_records l =
+    model.trade_record (trade_row_of l.trade)
+    ∷ map model.settlement_record (option_to_list (option_map settlement_row_of l.settlement))
+    ++ map model.cash_record (option_to_list (option_map cash_row_of l.cash))
+    ++ map moment_record l.history.items
+
+-- what became of a trade stands in its rows
+pub record IsOfTrade (t : Tables) (trade : TradeRow) (settlement : Option SettlementRow) (cash : Option CashRow) (history : List HistoryRow) : Type 0 where
+  pub settles : option_to_list (option_map settlement_row_of settlement) ≡ filter (λ s. s.trade == trade.id) t.settlements
+  pub moves : option_to_list (option_map cash_row_of cash) ≡ filter (λ c. c.trade == trade.id) t.cash
+  pub comes : map history_row_of history ≡ history_in t trade.id

@@ -1,0 +1,41 @@
+-- What is shown of the lots that a trade touched.
+use Rattle.std.specs.Prelude.{◌≡◌, ℕ, Bool, nat_le, List, [], ◌∷◌, filter, map, take, decimal, Option, Some, None, option_map, option_to_list, IfSome}
+use Rattle.std.specs.Fmt.{signed_decimal}
+use Rattle.brk_model.specs.Joins.{oldest_first_rows, trades_in}
+use Rattle.brk_model.specs.Lists.{rising, sort_by}
+use Rattle.brk_model.specs.LookupView.{is_touched_by, touch_stamp}
+use Rattle.brk_model.specs.Queries as model
+use Rattle.brk_model.specs.Tables.{Tables, HoldingHistoryRow, TradeRow}
+use Rattle.brk_money.specs.Spelling.{Text}
+use Rattle.brk_view.specs.declared.lots.LotTouch.{LotTouch}
+use Rattle.brk_view.specs.declared.lots.TouchedLots.{TouchedLots}
+
+-- by rising stamp, then rising lot
+abbrev pub touch_before : LotTouch → LotTouch → Bool
+touch_before a b = rising a.stamp b.stamp a.change.lot b.change.lot
+
+-- the record of a change
+abbrev pub touch_record : LotTouch → List Text
+touch_record touch = decimal touch.change.lot ∷ decimal touch.change.trade ∷ signed_decimal touch.change.before ∷ signed_decimal touch.change.after ∷ []
+
+-- the trade that was found, then the changes of its lots
+abbrev pub touched_records : Option TouchedLots → model.View
+touched_records None = []
+touched_records (Some lots) = (decimal lots.trade ∷ []) ∷ map touch_record lots.changes.items
+
+-- a row of HOLDING_HISTORY with the stamp of its trade
+abbrev pub touch_in : Tables → HoldingHistoryRow → LotTouch
+touch_in t row = record { change = record { lot = row.lot; trade = row.trade; before = row.before; after = row.after }; stamp = touch_stamp t row }
+
+-- the changes of the lots that a trade touched
+abbrev pub touches_of : Tables → ℕ → List LotTouch
+touches_of t trade = map (touch_in t) (filter (λ row. is_touched_by t trade row.lot) t.holding_history)
+
+-- the oldest trade of an account at or after a stamp
+abbrev pub first_since : Tables → ℕ → ℕ → List TradeRow
+first_since t account first = take 1 (oldest_first_rows (filter (λ row. nat_le first row.stamp) (trades_in t account)))
+
+-- the oldest trade of an account at or after a stamp was found, with the first twenty changes of its lots; or there is none
+pub record IsTouched (t : Tables) (account first : ℕ) (lots : Option TouchedLots) : Type 0 where
+  pub found : map (λ row. row.id) (first_since t account first) ≡ option_to_list (option_map (λ l. l.trade) lots)
+  pub changes : IfSome lots (λ l. l.changes.items ≡ take 20 (sort_by touch_before (touches_of t l.trade)))

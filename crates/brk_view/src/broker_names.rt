@@ -1,0 +1,103 @@
+ghost use Rattle.std.specs.Prelude.{◌≡◌, ℕ, List, IfOk, OnOk, OnErr, Err};
+ghost use Rattle.brk_model.specs.Ask.{read_names};
+ghost use Rattle.brk_model.specs.Forms.{read_each, read_name, some_of};
+ghost use Rattle.brk_model.specs.Lists.{distinct_texts};
+ghost use Rattle.brk_money.specs.declared.fault.Fault.TheVariants.{Memory};
+ghost use Rattle.brk_ref.specs.Fields.{Reads, texts};
+ghost use Rattle.brk_view.specs.BrokerNames.{each_once, is_named, names_in, with_name};
+
+use brk_money::{Fault, Planned, Refusal};
+use brk_ref::Name;
+use std::alloc::Global;
+use std::marker::Model;
+
+/// Different names of brokers in the order in which they are told, 1 to 20 of them.
+#[derive(Drop)]
+pub struct BrokerNames {
+    names: Vec<Name>,
+}
+
+impl Model for BrokerNames {
+    ghost use Rattle.std.specs.Prelude.{ℕ, List, length, ◌≤◌, ◌≡◌};
+    ghost use Rattle.brk_model.specs.Lists.{distinct_texts};
+
+    ghost Value = { List (List ℕ) };
+
+    ghost view = { λ names. names.names.items };
+
+    ghost invariant = { λ names. (1 ≤ length names.names.items) × (length names.names.items ≤ 20) × (distinct_texts names.names.items ≡ names.names.items) };
+}
+
+impl BrokerNames {
+    /// The most names that are told at once.
+    pub const MOST: usize = 20;
+
+    // These names, of which none stands twice, or the refusal of none (18) or of too many (20).
+    fn of(names: Vec<Name>) -> Result<BrokerNames, Refusal>
+        requires { distinct_texts names.items ≡ names.items }
+        ensures { Reads (λ told. told) result (some_of names.items) }
+    {
+        if names.is_empty() {
+            return Err(Refusal::BadText);
+        }
+        if names.len() > BrokerNames::MOST {
+            return Err(Refusal::TooMany);
+        }
+        Ok(BrokerNames { names })
+    }
+
+    /// The names in their order.
+    pub fn names(&self) -> &[Name]
+        ensures names { result.now ≡ self.now }
+        ensures distinct { distinct_texts result.now ≡ result.now }
+    {
+        &self.names
+    }
+}
+
+// Whether a name is among some.
+fn is_among(name: &Name, names: &[Name]) -> bool
+    ensures { result ≡ is_named names.now name.now }
+{
+    names.iter().any(|other| name.as_str() == other.as_str())
+}
+
+// Adds a name, where it is not there yet.
+#[tactic(auto, using(crate::proofs::Distinct::still_distinct))]
+fn add_once(names: &mut Vec<Name>, name: Name) -> Result<(), Fault>
+    ensures names { OnOk result (names.new.items ≡ with_name names.old.items name) }
+    ensures fault { OnErr result (result ≡ Err Memory) }
+{
+    if !is_among(&name, names) {
+        names.push(name)?;
+    }
+    Ok(())
+}
+
+// The names that the fields spell, each once, where it first stands.
+fn names_from(alloc: Global, fields: &[&[u8]]) -> Planned<Vec<Name>>
+    ensures read { IfOk result (λ read. Reads names_in read (each_once (read_each read_name (texts fields.now)))) }
+    ensures distinct { IfOk result (λ read. IfOk read (λ names. distinct_texts names.items ≡ names.items)) }
+    ensures fault { OnErr result (result ≡ Err Memory) }
+{
+    let mut names = Vec::new(alloc);
+    for field in fields {
+        let Some(name) = Name::parse(alloc, field)? else {
+            return Ok(Err(Refusal::BadText));
+        };
+        add_once(&mut names, name)?;
+    }
+    Ok(Ok(names))
+}
+
+/// The names of brokers that the fields spell, each counted once, or the refusal of their form: 1 to 20 of them. All fields
+/// are tested before the number of names.
+pub fn check_names(alloc: Global, fields: &[&[u8]]) -> Planned<BrokerNames>
+    ensures read { IfOk result (λ read. Reads (λ names. names) read (read_names (texts fields.now))) }
+    ensures fault { OnErr result (result ≡ Err Memory) }
+{
+    match names_from(alloc, fields)? {
+        Ok(names) => Ok(BrokerNames::of(names)),
+        Err(refusal) => Ok(Err(refusal)),
+    }
+}

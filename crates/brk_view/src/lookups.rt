@@ -1,0 +1,133 @@
+//! Trades looked up, with what became of them.
+
+ghost use Rattle.std.specs.Prelude.{◌≡◌, ◌&&◌, ◌==◌, ℕ, Bool, Err, IfOk, List, OnErr, bytes_eq, filter, flat_map, map, take};
+ghost use Rattle.brk_changes.specs.Rows.{trade_row_of};
+ghost use Rattle.brk_model.specs.Joins.{oldest_first_rows};
+ghost use Rattle.brk_model.specs.Lists.{contains_number, sort_by};
+ghost use Rattle.brk_model.specs.LookupView.{is_between, lookup_records, lookup_view};
+ghost use Rattle.brk_model.specs.Tables.{Tables};
+ghost use Rattle.brk_money.specs.declared.fault.Fault.TheVariants.{Memory};
+ghost use Rattle.brk_view.specs.Lookup.{IsOfTrade, looked_up_records, moment_of, older, older_moment};
+ghost use Rattle.brk_view.specs.Views.{fields_of};
+
+use crate::ordering::{Ranked, in_order};
+use crate::view::View;
+use brk_money::{Fault, Stamp, Status};
+use brk_trade::{CashRow, HistoryRow, SettlementRow, TradeRow};
+use std::alloc::Global;
+
+/// When a trade came to a status.
+#[derive(Clone, Copy)]
+pub struct StatusMoment {
+    pub stamp: Stamp,
+    pub status: Status,
+}
+
+impl Ranked for StatusMoment {
+    ghost before = { older_moment };
+
+    fn goes_before(&self, other: &StatusMoment) -> bool {
+        self.stamp.get() < other.stamp.get()
+    }
+}
+
+impl Ranked for TradeRow {
+    ghost before = { older };
+
+    fn goes_before(&self, other: &TradeRow) -> bool {
+        if self.stamp.get() == other.stamp.get() {
+            return self.id.get() < other.id.get();
+        }
+        self.stamp.get() < other.stamp.get()
+    }
+}
+
+/// A trade with what became of it.
+#[derive(Drop)]
+pub struct LookedUp {
+    pub trade: TradeRow,
+    /// What it settles for, where it is completed.
+    pub settlement: Option<SettlementRow>,
+    /// What it moved, where it is completed and in cash.
+    pub cash: Option<CashRow>,
+    /// When it came to its statuses, the oldest first.
+    pub history: Vec<StatusMoment>,
+}
+
+// The moments of a trade's statuses, the oldest first.
+fn moments_of(alloc: Global, history: &[HistoryRow]) -> Result<Vec<StatusMoment>, Fault>
+    ensures order { IfOk result (λ moments. moments.items ≡ sort_by older_moment (map moment_of history.now)) }
+    ensures fault { OnErr result (result ≡ Err Memory) }
+{
+    let mut moments = Vec::new(alloc);
+    for row in history {
+        moments.push(StatusMoment {
+            stamp: row.stamp,
+            status: row.status,
+        })?;
+    }
+    in_order(alloc, moments)
+}
+
+/// A trade with what became of it, given the rows of its settlement, its cash and its history.
+#[tactic(auto, using(crate::proofs::Shown::one_shown))]
+pub fn looked_up(
+    alloc: Global,
+    trade: TradeRow,
+    settlement: Option<SettlementRow>,
+    cash: Option<CashRow>,
+    history: &[HistoryRow],
+) -> Result<LookedUp, Fault>
+    ensures records { IfOk result (λ found. (t : Tables) → IsOfTrade t trade settlement cash history.now → looked_up_records found ≡ lookup_records t (trade_row_of trade)) }
+    ensures fault { OnErr result (result ≡ Err Memory) }
+{
+    let history = moments_of(alloc, history)?;
+    Ok(LookedUp {
+        trade,
+        settlement,
+        cash,
+        history,
+    })
+}
+
+/// Trades by the moments of their last statuses, and those of one moment by id: the oldest first.
+#[tactic(auto, using(crate::proofs::Shown::older_shown))]
+pub fn oldest_first(alloc: Global, trades: Vec<TradeRow>) -> Result<Vec<TradeRow>, Fault>
+    ensures order { IfOk result (λ ordered. map trade_row_of ordered.items ≡ oldest_first_rows (map trade_row_of trades.items)) }
+    ensures fault { OnErr result (result ≡ Err Memory) }
+{
+    in_order(alloc, trades)
+}
+
+/// The view of trades that were named by their ids (Trade-Lookup), given them with what became of them, the oldest first.
+/// It takes no memory.
+pub fn lookup_ids(trades: Vec<LookedUp>) -> View
+    ensures shown { fields_of result ≡ flat_map looked_up_records trades.items }
+    ensures view { (t : Tables) (ids : List ℕ)
+        → map looked_up_records trades.items ≡ map (lookup_records t) (take 20 (oldest_first_rows (filter (λ row. contains_number row.id ids) t.trades)))
+        → fields_of result ≡ lookup_view t (λ row. contains_number row.id ids) }
+{
+    View::Lookup(trades)
+}
+
+/// The view of an account's trades between two stamps (Trade-Lookup), given the first twenty with what became of them, the
+/// oldest first. It takes no memory.
+pub fn lookup_account(trades: Vec<LookedUp>) -> View
+    ensures shown { fields_of result ≡ flat_map looked_up_records trades.items }
+    ensures view { (t : Tables) (account first last : ℕ)
+        → map looked_up_records trades.items ≡ map (lookup_records t) (take 20 (oldest_first_rows (filter (λ row. (row.account == account) && is_between first last row) t.trades)))
+        → fields_of result ≡ lookup_view t (λ row. (row.account == account) && is_between first last row) }
+{
+    View::Lookup(trades)
+}
+
+/// The view of a security's trades between two stamps (Trade-Lookup), given the first twenty with what became of them, the
+/// oldest first. It takes no memory.
+pub fn lookup_symbol(trades: Vec<LookedUp>) -> View
+    ensures shown { fields_of result ≡ flat_map looked_up_records trades.items }
+    ensures view { (t : Tables) (symbol : List ℕ) (first last : ℕ)
+        → map looked_up_records trades.items ≡ map (lookup_records t) (take 20 (oldest_first_rows (filter (λ row. bytes_eq row.symbol symbol && is_between first last row) t.trades)))
+        → fields_of result ≡ lookup_view t (λ row. bytes_eq row.symbol symbol && is_between first last row) }
+{
+    View::Lookup(trades)
+}

@@ -1,0 +1,40 @@
+ghost use Rattle.std.specs.Prelude.{◌≡◌, ◌≤◌, Err, IfOk, OnErr, length, true};
+ghost use Rattle.brk_model.specs.Forms.{distinct_ids, read_ids};
+ghost use Rattle.brk_model.specs.Lists.{all_distinct};
+ghost use Rattle.brk_money.specs.declared.fault.Fault.TheVariants.{Memory};
+ghost use Rattle.brk_ref.specs.Fields.{Reads, texts};
+
+use brk_money::{Id, Planned, Refusal};
+use brk_orders::{TradeIds, check_ids};
+use std::alloc::Global;
+
+/// Different trades that are asked for by their ids, 1 to 20 of them.
+#[derive(Drop)]
+pub struct NamedTrades {
+    pub trades: TradeIds,
+    ghost distinct: { all_distinct trades ≡ true },
+    ghost few: { length trades ≤ 20 },
+}
+
+impl NamedTrades {
+    /// These trades, or the refusal of one that is named twice or of none (18), or of too many (20). It takes no memory.
+    pub fn new(ids: Vec<Id>) -> Result<NamedTrades, Refusal>
+        ensures { Reads (λ named. named.trades) result (distinct_ids ids.items) }
+    {
+        match TradeIds::new(ids) {
+            Ok(trades) => Ok(NamedTrades { trades }),
+            Err(refusal) => Err(refusal),
+        }
+    }
+}
+
+/// The trades that the fields name, or the refusal of their form.
+pub fn check_named(alloc: Global, fields: &[&[u8]]) -> Planned<NamedTrades>
+    ensures read { IfOk result (λ read. Reads (λ named. named.trades) read (read_ids (texts fields.now))) }
+    ensures fault { OnErr result (result ≡ Err Memory) }
+{
+    match check_ids(alloc, fields)? {
+        Ok(trades) => Ok(Ok(NamedTrades { trades })),
+        Err(refusal) => Ok(Err(refusal)),
+    }
+}

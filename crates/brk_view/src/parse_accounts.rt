@@ -1,0 +1,66 @@
+ghost use Rattle.std.specs.Prelude.{◌≡◌, IfOk, OnErr, Err};
+ghost use Rattle.brk_model.specs.Ask.{read_one};
+ghost use Rattle.brk_model.specs.Forms.{read_id, read_tax_id};
+ghost use Rattle.brk_model.specs.Parse.{read_as};
+ghost use Rattle.brk_model.specs.Queries.{PositionOf, PositionOfTaxId, RecentOf, StatusOf};
+ghost use Rattle.brk_money.specs.declared.fault.Fault.TheVariants.{Memory};
+ghost use Rattle.brk_ref.specs.Fields.{Reads, texts};
+ghost use Rattle.brk_view.specs.Queries.{query_of};
+
+use crate::query::Query;
+use brk_money::{Planned, Refusal};
+use brk_ref::{TaxId, parse_id};
+use std::alloc::Global;
+
+// The query of a customer's accounts.
+pub(crate) fn parse_position(arguments: &[&[u8]]) -> Result<Query, Refusal>
+    ensures { Reads query_of result (read_one (read_as PositionOf read_id) (texts arguments.now)) }
+{
+    let [customer] = arguments else {
+        return Err(Refusal::BadText);
+    };
+    let Some(customer) = parse_id(customer) else {
+        return Err(Refusal::BadText);
+    };
+    Ok(Query::Position(customer))
+}
+
+// The query of the accounts of the customer with a tax id.
+pub(crate) fn parse_position_of_tax_id(alloc: Global, arguments: &[&[u8]]) -> Planned<Query>
+    ensures read { IfOk result (λ read. Reads query_of read (read_one (read_as PositionOfTaxId read_tax_id) (texts arguments.now))) }
+    ensures fault { OnErr result (result ≡ Err Memory) }
+{
+    let [tax_id] = arguments else {
+        return Ok(Err(Refusal::BadText));
+    };
+    let Some(tax_id) = TaxId::parse(alloc, tax_id)? else {
+        return Ok(Err(Refusal::BadText));
+    };
+    Ok(Ok(Query::PositionOfTaxId(tax_id)))
+}
+
+// The query of what an account did last.
+pub(crate) fn parse_recent(arguments: &[&[u8]]) -> Result<Query, Refusal>
+    ensures { Reads query_of result (read_one (read_as RecentOf read_id) (texts arguments.now)) }
+{
+    let [account] = arguments else {
+        return Err(Refusal::BadText);
+    };
+    let Some(account) = parse_id(account) else {
+        return Err(Refusal::BadText);
+    };
+    Ok(Query::Recent(account))
+}
+
+// The query of whose account it is, and of its last trades.
+pub(crate) fn parse_status(arguments: &[&[u8]]) -> Result<Query, Refusal>
+    ensures { Reads query_of result (read_one (read_as StatusOf read_id) (texts arguments.now)) }
+{
+    let [account] = arguments else {
+        return Err(Refusal::BadText);
+    };
+    let Some(account) = parse_id(account) else {
+        return Err(Refusal::BadText);
+    };
+    Ok(Query::Status(account))
+}

@@ -1,0 +1,102 @@
+ghost use Rattle.std.specs.Prelude.{◌≡◌, IfOk, OnErr, Err};
+ghost use Rattle.brk_model.specs.Ask.{read_lots, read_span, read_volume};
+ghost use Rattle.brk_model.specs.Forms.{read_id, read_ids, read_symbol};
+ghost use Rattle.brk_model.specs.Parse.{read_as};
+ghost use Rattle.brk_model.specs.Queries.{TradesOfAccount, TradesOfSymbol, TradesWith};
+ghost use Rattle.brk_money.specs.declared.fault.Fault.TheVariants.{Memory};
+ghost use Rattle.brk_ref.specs.Fields.{Reads, texts};
+ghost use Rattle.brk_view.specs.Queries.{query_of};
+
+use crate::broker_names::check_names;
+use crate::named_trades::check_named;
+use crate::query::Query;
+use brk_money::{Planned, Refusal};
+use brk_orders::{Span, parse_stamp};
+use brk_ref::{Name, Symbol, parse_id};
+use std::alloc::Global;
+
+// The query of trades by their ids.
+pub(crate) fn parse_trades(alloc: Global, arguments: &[&[u8]]) -> Planned<Query>
+    ensures read { IfOk result (λ read. Reads query_of read (read_as TradesWith read_ids (texts arguments.now))) }
+    ensures fault { OnErr result (result ≡ Err Memory) }
+{
+    match check_named(alloc, arguments)? {
+        Ok(trades) => Ok(Ok(Query::Trades(trades))),
+        Err(refusal) => Ok(Err(refusal)),
+    }
+}
+
+// The query of an account's trades between two stamps.
+pub(crate) fn parse_account_trades(arguments: &[&[u8]]) -> Result<Query, Refusal>
+    ensures { Reads query_of result (read_span read_id (λ account first last. TradesOfAccount account first last) (texts arguments.now)) }
+{
+    let [account, first, last] = arguments else {
+        return Err(Refusal::BadText);
+    };
+    let Some(account) = parse_id(account) else {
+        return Err(Refusal::BadText);
+    };
+    let Some(first) = parse_stamp(first) else {
+        return Err(Refusal::BadText);
+    };
+    let Some(last) = parse_stamp(last) else {
+        return Err(Refusal::BadText);
+    };
+    let span = Span { first, last };
+    Ok(Query::AccountTrades { account, span })
+}
+
+// The query of a security's trades between two stamps.
+pub(crate) fn parse_symbol_trades(alloc: Global, arguments: &[&[u8]]) -> Planned<Query>
+    ensures read { IfOk result (λ read. Reads query_of read (read_span read_symbol (λ symbol first last. TradesOfSymbol symbol first last) (texts arguments.now))) }
+    ensures fault { OnErr result (result ≡ Err Memory) }
+{
+    let [symbol, first, last] = arguments else {
+        return Ok(Err(Refusal::BadText));
+    };
+    let Some(symbol) = Symbol::parse(alloc, symbol)? else {
+        return Ok(Err(Refusal::BadText));
+    };
+    let Some(first) = parse_stamp(first) else {
+        return Ok(Err(Refusal::BadText));
+    };
+    let Some(last) = parse_stamp(last) else {
+        return Ok(Err(Refusal::BadText));
+    };
+    let span = Span { first, last };
+    Ok(Ok(Query::SymbolTrades { symbol, span }))
+}
+
+// The query of the lots that an account's first trade at or after a stamp touched.
+pub(crate) fn parse_lots(arguments: &[&[u8]]) -> Result<Query, Refusal>
+    ensures { Reads query_of result (read_lots (texts arguments.now)) }
+{
+    let [account, first] = arguments else {
+        return Err(Refusal::BadText);
+    };
+    let Some(account) = parse_id(account) else {
+        return Err(Refusal::BadText);
+    };
+    let Some(first) = parse_stamp(first) else {
+        return Err(Refusal::BadText);
+    };
+    Ok(Query::Lots { account, first })
+}
+
+// The query of what brokers have to trade in a sector. All fields are tested before the number of names.
+#[tactic(auto, using(brk_ref::proofs::Applied::text_left, brk_ref::proofs::Applied::text_right))]
+pub(crate) fn parse_volume(alloc: Global, arguments: &[&[u8]]) -> Planned<Query>
+    ensures read { IfOk result (λ read. Reads query_of read (read_volume (texts arguments.now))) }
+    ensures fault { OnErr result (result ≡ Err Memory) }
+{
+    let [sector, names @ ..] = arguments else {
+        return Ok(Err(Refusal::BadText));
+    };
+    let Some(sector) = Name::parse(alloc, sector)? else {
+        return Ok(Err(Refusal::BadText));
+    };
+    match check_names(alloc, names)? {
+        Ok(names) => Ok(Ok(Query::Volume { sector, names })),
+        Err(refusal) => Ok(Err(refusal)),
+    }
+}

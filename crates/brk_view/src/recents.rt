@@ -1,0 +1,52 @@
+//! What an account did last.
+
+ghost use Rattle.std.specs.Prelude.{◌≡◌, ◌++◌, ℕ, Err, IfOk, OnErr, flat_map, map};
+ghost use Rattle.brk_changes.specs.Rows.{history_row_of, trade_row_of};
+ghost use Rattle.brk_model.specs.Joins.{history_in};
+ghost use Rattle.brk_model.specs.Lists.{sort_by};
+ghost use Rattle.brk_model.specs.PositionView.{last_ten, recent_view};
+ghost use Rattle.brk_model.specs.Tables.{Tables};
+ghost use Rattle.brk_money.specs.declared.fault.Fault.TheVariants.{Memory};
+ghost use Rattle.brk_view.specs.Recent.{newer, recent_status, recent_trade};
+ghost use Rattle.brk_view.specs.Views.{fields_of};
+
+use crate::ordering::{Ranked, in_order};
+use crate::view::View;
+use brk_money::Fault;
+use brk_trade::{HistoryRow, TradeRow};
+use std::alloc::Global;
+
+/// The last trades of an account, and when they came to their statuses.
+#[derive(Drop)]
+pub struct Activity {
+    /// The trades, the most recent first.
+    pub trades: Vec<TradeRow>,
+    /// Their statuses, the newest first.
+    pub history: Vec<HistoryRow>,
+}
+
+impl Ranked for HistoryRow {
+    ghost before = { newer };
+
+    fn goes_before(&self, other: &HistoryRow) -> bool {
+        if self.stamp.get() == other.stamp.get() {
+            return self.trade.get() > other.trade.get();
+        }
+        self.stamp.get() > other.stamp.get()
+    }
+}
+
+/// The view of what an account did last (Customer-Position), given its last trades, the most recent first, and all rows of
+/// their history, which it shows by falling stamp and then falling trade.
+pub fn recent(alloc: Global, trades: Vec<TradeRow>, history: Vec<HistoryRow>) -> Result<View, Fault>
+    ensures shown { IfOk result (λ view. fields_of view ≡ map recent_trade (map trade_row_of trades.items) ++ map recent_status (sort_by newer history.items)) }
+    // Of the last ten trades of an account it is the view of the definitions.
+    ensures view { IfOk result (λ view. (t : Tables) (account : ℕ)
+        → map trade_row_of trades.items ≡ last_ten t account
+        → map history_row_of history.items ≡ flat_map (λ row. history_in t row.id) (last_ten t account)
+        → fields_of view ≡ recent_view t account) }
+    ensures fault { OnErr result (result ≡ Err Memory) }
+{
+    let history = in_order(alloc, history)?;
+    Ok(View::Recent(Activity { trades, history }))
+}

@@ -1,0 +1,54 @@
+//! Whose account it is, and its last trades.
+
+ghost use Rattle.std.specs.Prelude.{◌≡◌, ◌==◌, ◌∷◌, [], ℕ, Some, filter, flat_map, map, take};
+ghost use Rattle.brk_changes.specs.Rows.{trade_row_of};
+ghost use Rattle.brk_model.specs.Joins.{recent_first, security_in, trades_in};
+ghost use Rattle.brk_model.specs.StatusView.{status_head, status_record, status_view};
+ghost use Rattle.brk_model.specs.Tables.{Tables};
+ghost use Rattle.brk_ref.specs.Records.{security_of};
+ghost use Rattle.brk_view.specs.Status.{shown_trade, status_names};
+ghost use Rattle.brk_view.specs.Views.{fields_of};
+
+use crate::view::View;
+use brk_ref::{Name, Security};
+use brk_trade::TradeRow;
+
+/// A trade with the security that it is in.
+#[derive(Drop)]
+pub struct TradeStatus {
+    pub trade: TradeRow,
+    pub security: Security,
+}
+
+/// Whose account it is, and its last trades, the most recent first.
+#[derive(Drop)]
+pub struct AccountStatus {
+    /// The last and the first name of the account's customer.
+    pub last_name: Name,
+    pub first_name: Name,
+    /// The name of the account's broker.
+    pub broker: Name,
+    pub trades: Vec<TradeStatus>,
+}
+
+/// A trade with the security that it is in. It takes no memory.
+#[tactic(auto, using(crate::proofs::Shown::trade_shown))]
+pub fn trade_status(trade: TradeRow, security: Security) -> TradeStatus
+    ensures shown { (t : Tables) → security_in t trade.symbol ≡ Some (security_of security) → shown_trade result ≡ status_record t (trade_row_of trade) }
+{
+    TradeStatus { trade, security }
+}
+
+/// The view of an account's trades (Trade-Status), given whose account it is and its last trades, the most recent first,
+/// each with its security. It takes no memory.
+#[tactic(auto, using(crate::proofs::Shown::status_shown))]
+pub fn status(account: AccountStatus) -> View
+    ensures shown { fields_of result ≡ status_names account ∷ map shown_trade account.trades.items }
+    // Of the last fifty trades of an account that is there it is the view of the definitions.
+    ensures view { (t : Tables) (id : ℕ)
+        → flat_map (status_head t) (filter (λ a. a.id == id) t.accounts) ≡ status_names account ∷ []
+        → map shown_trade account.trades.items ≡ map (status_record t) (take 50 (recent_first (trades_in t id)))
+        → fields_of result ≡ status_view t id }
+{
+    View::Status(account)
+}

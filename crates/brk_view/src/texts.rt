@@ -1,0 +1,53 @@
+//! The texts of numbers and of what may be missing, as views show them.
+
+ghost use Rattle.std.specs.Prelude.{◌≡◌, [], Err, IfOk, OnErr, decimal, string_bytes};
+ghost use Rattle.std.specs.Option.{option_map_or};
+ghost use Rattle.brk_model.specs.Rows.{price_text as text_of_price};
+ghost use Rattle.brk_money.specs.Spelling.{cents_text};
+ghost use Rattle.brk_money.specs.declared.fault.Fault.TheVariants.{Memory};
+
+use brk_money::{Fault, Price, Stamp, Wide};
+use std::alloc::Global;
+
+// A text of its own.
+pub(crate) fn word_text(alloc: Global, word: &str) -> Result<String, Fault>
+    ensures text { IfOk result (λ text. string_bytes text ≡ word.now) }
+    ensures fault { OnErr result (result ≡ Err Memory) }
+{
+    Ok(String::from_str(alloc, word)?)
+}
+
+// A number, as it is printed.
+pub(crate) fn number_text(alloc: Global, number: u64) -> Result<String, Fault>
+    ensures text { IfOk result (λ text. string_bytes text ≡ decimal number) }
+    ensures fault { OnErr result (result ≡ Err Memory) }
+{
+    Ok(format!(in alloc; "{}", number)?)
+}
+
+// A stamp, as it is printed.
+pub(crate) fn stamp_text(alloc: Global, stamp: Stamp) -> Result<String, Fault>
+    ensures text { IfOk result (λ text. string_bytes text ≡ decimal stamp) }
+    ensures fault { OnErr result (result ≡ Err Memory) }
+{
+    number_text(alloc, stamp.get().unsigned_abs())
+}
+
+// An amount, as it is printed.
+pub(crate) fn amount_text(alloc: Global, amount: Wide) -> Result<String, Fault>
+    ensures text { IfOk result (λ text. string_bytes text ≡ cents_text amount) }
+    ensures fault { OnErr result (result ≡ Err Memory) }
+{
+    Ok(format!(in alloc; "{}", amount)?)
+}
+
+// A price, and an empty text where there is none.
+pub(crate) fn maybe_price_text(alloc: Global, price: Option<Price>) -> Result<String, Fault>
+    ensures text { IfOk result (λ text. string_bytes text ≡ option_map_or text_of_price price []) }
+    ensures fault { OnErr result (result ≡ Err Memory) }
+{
+    match price {
+        Some(price) => amount_text(alloc, Wide::from(price)),
+        None => word_text(alloc, ""),
+    }
+}

@@ -1,0 +1,86 @@
+//! What brokers have to trade.
+
+ghost use Rattle.std.specs.Prelude.{◌≡◌, ◌≤◌, Err, IfOk, List, OnErr, filter, map, pos, sum_by};
+ghost use Rattle.brk_changes.specs.Rows.{request_row_of};
+ghost use Rattle.brk_model.specs.Lists.{sort_by};
+ghost use Rattle.brk_model.specs.Tables.{BrokerRow, Tables};
+ghost use Rattle.brk_model.specs.VolumeView.{by_volume, volume_view};
+ghost use Rattle.brk_money.specs.Spelling.{Text};
+ghost use Rattle.brk_money.specs.declared.fault.Fault.TheVariants.{Memory};
+ghost use Rattle.brk_view.specs.Views.{fields_of};
+ghost use Rattle.brk_view.specs.Volume as volume;
+ghost use Rattle.brk_view.specs.Volume.{is_shown, name_before, request_worth, volume_before, volume_record};
+
+use crate::ordering::{Ranked, in_order};
+use crate::view::View;
+use brk_money::{Fault, Id, Wide};
+use brk_ref::Name;
+use brk_trade::RequestRow;
+use std::alloc::Global;
+use std::cmp::Ordering;
+
+/// What a broker has to trade.
+#[derive(Drop)]
+pub struct BrokerVolume {
+    pub broker: Id,
+    pub name: Name,
+    /// The worth of its pending requests at the prices that were asked for, in cents.
+    pub volume: Wide,
+}
+
+// Whether a broker goes before another by its name, and where they share a name by its id.
+#[tactic(auto, using(crate::proofs::Names::names_compared))]
+fn is_named_before(one: &BrokerVolume, other: &BrokerVolume) -> bool
+    ensures { result ≡ name_before one.now other.now }
+{
+    match one.name.as_str().cmp(other.name.as_str()) {
+        Ordering::Less => true,
+        Ordering::Equal => one.broker.get() < other.broker.get(),
+        Ordering::Greater => false,
+    }
+}
+
+impl Ranked for BrokerVolume {
+    ghost before = { volume_before };
+
+    fn goes_before(&self, other: &BrokerVolume) -> bool {
+        if self.volume.get() == other.volume.get() {
+            return is_named_before(self, other);
+        }
+        self.volume.get() > other.volume.get()
+    }
+}
+
+// The worth of a request, in cents.
+fn worth_of(request: &RequestRow) -> u128
+    ensures worth { result ≡ request_worth (request_row_of request.now) }
+    ensures limit { result ≤ 9999989000001 }
+{
+    u128::from(request.qty.get()) * u128::from(request.bid.get())
+}
+
+/// The worth of some requests, in cents.
+pub fn request_volume(requests: &[RequestRow]) -> Wide
+    ensures { result ≡ pos (sum_by request_worth (map request_row_of requests.now)) }
+{
+    let mut cents: u128 = 0;
+    for request in requests {
+        cents += worth_of(request);
+    }
+    Wide::new(cents as i128)
+}
+
+/// The view of what brokers have to trade in a sector (Broker-Volume), given those with one of some names that have a pending
+/// request there: by falling volume, then name, then id.
+pub fn broker_volume(alloc: Global, brokers: Vec<BrokerVolume>) -> Result<View, Fault>
+    ensures shown { IfOk result (λ view. fields_of view ≡ map volume_record (sort_by volume_before brokers.items)) }
+    // Of the brokers with these names that have a request, in whatever order, it is the view of the definitions.
+    ensures view { IfOk result (λ view. (t : Tables) (sector : Text) (names : List Text) (rows : List BrokerRow)
+        → brokers.items ≡ map (volume.broker_volume t sector) rows
+        → sort_by (by_volume t sector) rows ≡ sort_by (by_volume t sector) (filter (is_shown t sector names) t.brokers)
+        → fields_of view ≡ volume_view t sector names) }
+    ensures fault { OnErr result (result ≡ Err Memory) }
+{
+    let ordered = in_order(alloc, brokers)?;
+    Ok(View::Volume(ordered))
+}

@@ -1,0 +1,14 @@
+pub mod Sorting
+pub mod OneRow
+pub mod Worths
+pub mod Owners
+pub mod Trades
+pub mod RecentRows
+pub mod StatusRows
+pub mod Gathering
+pub mod LookupRows
+pub mod Touches
+pub mod TouchRows
+pub mod VolumeRows
+pub mod FoundRows
+pub mod AllViews

@@ -1,0 +1,96 @@
+#!/usr/bin/env python3
+"""Asks a desk for views over HTTP, and prints each as a table.
+
+    ./brk serve --port 8123 --at 1709251200000 --streams 9 &
+    python3 examples/views.py 8123
+    python3 examples/views.py 8123 status 100
+
+Without a view it first books the rows of examples/day.csv, each under its key, so that a second run books nothing, and then asks for
+all eleven views. With one it asks for that alone. docs/FORMATS.md, "Queries", has the views, and says what their numbers mean.
+"""
+
+import csv
+import http.client
+import json
+import pathlib
+import shlex
+import sys
+
+DAY = pathlib.Path(__file__).resolve().parent / "day.csv"
+
+HEADS = {
+    "customer": ["ACCOUNT", "BALANCE", "HOLDINGS"],
+    "taxid": ["ACCOUNT", "BALANCE", "HOLDINGS"],
+    "submitted": ["TRADE", "TYPE", "SYMBOL", "QTY", "PRICE"],
+    "estimate": ["PRICE", "BUY", "SELL", "TAX", "COMMISSION", "CHARGE", "ASSETS"],
+    "lots": ["LOT", "TRADE", "BEFORE", "AFTER"],
+    "volume": ["BROKER", "ID", "VOLUME"],
+}
+
+QUERIES = [
+    ["customer", "10"],
+    ["taxid", "T10"],
+    ["recent", "100"],
+    ["status", "100"],
+    ["submitted"],
+    ["estimate", "100", "TMS", "ABC", "60", "", "cash", "fifo", "Ann", "Lee", "T10"],
+    ["trades", "5"],
+    ["accounttrades", "100", "1709251200022", "1709251200022"],
+    ["symboltrades", "ABC", "1709251200030", "253402300799999"],
+    ["lots", "100", "1709251200022"],
+    ["volume", "Tech", "Bo"],
+]
+
+
+def send(stream, target, texts):
+    """The reply to a request: its word, and what it tells."""
+    # A body of bytes has its length told; one of an iterator would be chunked, and refused.
+    stream.request("POST", target, json.dumps(texts).encode())
+    reply = stream.getresponse()
+    told = json.loads(reply.read())
+    if reply.status not in (200, 409):
+        sys.exit(f"{target}: {reply.status} {told['error']}")
+    return next(iter(told.items()))
+
+
+def book(stream):
+    """Books the day; a row that was booked before is answered again, and acts no more."""
+    with open(DAY, newline="") as file:
+        header, *rows, _ = csv.reader(file)
+    counts = {"ok": 0, "again": 0, "no": 0}
+    for number, row in enumerate(rows, start=1):
+        word, _ = send(stream, f"/rows/{header[1]}/{number}", row)
+        counts[word] += 1
+    print(", ".join(f"{count} {word}" for word, count in counts.items()))
+
+
+def show(stream, view, arguments):
+    """Asks for a view, and prints its records in columns."""
+    print(f"\n{shlex.join([view, *arguments])}")
+    word, told = send(stream, f"/ask/{view}", arguments)
+    if word == "no":
+        print(f"  refused with {told[0]}")
+        return
+    records = [HEADS[view]] + told if view in HEADS and told else told
+    most = max(map(len, records), default=0)
+    widths = [max(len(record[at]) for record in records if at < len(record)) for at in range(most)]
+    for record in records:
+        print("  " + "  ".join(text.ljust(width) for text, width in zip(record, widths)).rstrip())
+    if not records:
+        print("  nothing")
+
+
+def main():
+    port = int(sys.argv[1]) if len(sys.argv) > 1 else 8123
+    stream = http.client.HTTPConnection("127.0.0.1", port, timeout=60)
+    if len(sys.argv) > 2:
+        show(stream, sys.argv[2], sys.argv[3:])
+    else:
+        book(stream)
+        for view, *arguments in QUERIES:
+            show(stream, view, arguments)
+    stream.close()
+
+
+if __name__ == "__main__":
+    main()
