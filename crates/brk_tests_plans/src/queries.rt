@@ -7,6 +7,14 @@ use brk_view::{Query, parse_query, submitted};
 use std::alloc::Global;
 use std::test::Fail;
 
+// Whether these arguments ask for the estimate of an order of 100 shares.
+fn estimates_100(alloc: Global, order: &[&[u8]]) -> Result<bool, Fail> {
+    match parse_query(alloc, "estimate", order)? {
+        Ok(query) => Ok(matches!(&query, Query::Estimate(order) if order.qty.get() == 100)),
+        Err(_) => Ok(false),
+    }
+}
+
 #[test]
 fn reads_a_query(rt: HostRuntime) -> Result<(), Fail> {
     let alloc = rt.alloc();
@@ -17,12 +25,7 @@ fn reads_a_query(rt: HostRuntime) -> Result<(), Fail> {
             _ => false,
         }
     );
-    assert!(rt;
-        match parse_query(alloc, "estimate", &order)? {
-            Ok(Query::Estimate(order)) => order.qty.get() == 100,
-            _ => false,
-        }
-    );
+    assert!(rt; estimates_100(alloc, &order)?);
     let one: [&[u8]; 1] = [b"1"];
     assert!(rt; parse_query(alloc, "submitted", &one)?.err() == Some(Refusal::BadText));
     assert!(rt; parse_query(alloc, "orders", &[])?.err() == Some(Refusal::BadText));
