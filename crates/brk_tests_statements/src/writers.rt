@@ -42,22 +42,27 @@ const WANTED: &str = "Statement of account 100\n\
     Holdings                  1500.00\n\
     Cash rows 3, lots 1\n";
 
-// How a writer stops: it takes no byte, fails, or is interrupted.
-const STOPS: [Option<ErrorKind>; 3] = [None, Some(ErrorKind::Other), Some(ErrorKind::Interrupted)];
+// How a writer with room for so many bytes stops: it takes no byte, fails, or is interrupted.
+fn stop_of(room: usize) -> Option<ErrorKind> {
+    match room % 3 {
+        0 => None,
+        1 => Some(ErrorKind::Other),
+        _ => Some(ErrorKind::Interrupted),
+    }
+}
 
-// A statement whose writer has room for so many bytes, of fewer than all.
+// Compares a statement whose writer has room for so many bytes.
 fn expect_cut(
     rt: &impl Abort,
     alloc: Global,
     desk: &mut Desk<MemStore>,
     room: usize,
-    error: Option<ErrorKind>,
 ) -> Result<(), Fail> {
     let asked = asked(100, "2024-03-01", "2024-03-31")?;
     let mut writer = Narrow {
         taken: Vec::new(alloc),
         room,
-        error,
+        error: stop_of(room),
     };
     let ended = statement(
         alloc,
@@ -70,15 +75,15 @@ fn expect_cut(
     let is_cut = matches!(&ended, Err(StatementFault::Write));
     assert!(rt;
         is_cut == (room < WANTED.len()),
-        "room for {room}: the ending"
+        "room for {room}: the fault"
     );
-    let is_whole = ended.is_ok();
     assert!(rt;
-        is_whole == (room == WANTED.len()),
+        ended.is_ok() == (room == WANTED.len()),
         "room for {room}: the end"
     );
+    let taken = writer.taken.as_slice();
     assert!(rt;
-        writer.taken.as_slice() == &WANTED.as_bytes()[..room],
+        taken.len() == room && WANTED.as_bytes().starts_with(taken),
         "room for {room}"
     );
     Ok(())
@@ -89,10 +94,8 @@ fn a_writer_may_stop_at_each_byte(rt: HostRuntime) -> Result<(), Fail> {
     let alloc = rt.alloc();
     let mut desk = set_desk(alloc)?;
     expect(alloc, &mut desk, "trades", BOUGHT)?;
-    for error in STOPS {
-        for room in 0..=WANTED.len() {
-            expect_cut(&rt, alloc, &mut desk, room, error)?;
-        }
+    for room in 0..=WANTED.len() {
+        expect_cut(&rt, alloc, &mut desk, room)?;
     }
     Ok(())
 }
