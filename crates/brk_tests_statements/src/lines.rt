@@ -1,0 +1,40 @@
+//! Amounts in their column: as wide as it, and wider.
+
+use brk_money::Wide;
+use brk_report_lines::amount_line;
+use std::test::Fail;
+
+// A word, an amount in cents, and their line.
+const AMOUNTS: [(&str, i128, &str); 6] = [
+    ("Opening", 0, "Opening                      0.00\n"),
+    ("Closing", -1, "Closing                     -0.01\n"),
+    (
+        "Holdings",
+        123_456_789_012_345_678_901,
+        "Holdings   1234567890123456789.01\n",
+    ),
+    (
+        "Holdings",
+        -12_345_678_901_234_567_890,
+        "Holdings   -123456789012345678.90\n",
+    ),
+    (
+        "Holdings",
+        1_234_567_890_123_456_789_012,
+        "Holdings   12345678901234567890.12\n",
+    ),
+    (
+        "Holdings",
+        -1_234_567_890_123_456_789_012_345,
+        "Holdings   -12345678901234567890123.45\n",
+    ),
+];
+
+#[test]
+fn an_amount_is_never_cut(rt: HostRuntime) -> Result<(), Fail> {
+    for (word, cents, wanted) in AMOUNTS {
+        let line = amount_line(rt.alloc(), word, Wide::new(cents))?;
+        assert!(rt; line.as_slice() == wanted.as_bytes(), "{cents}");
+    }
+    Ok(())
+}

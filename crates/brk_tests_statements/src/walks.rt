@@ -1,0 +1,198 @@
+//! Walks: the rows in order, both ends of the span among them, and the first error of the closure ends the walk.
+
+use brk_changes::CashRow;
+use brk_lots::Lot;
+use brk_money::{Fault, Id, Stamp};
+use brk_tests_desks::desks::{Step, expect, set_desk};
+use std::test::Fail;
+
+// Two purchases, a sale that takes the last lot first, and a short sale on margin of another symbol.
+const TRADES: Step = Step::Done(
+    b"batch,W\n\
+        order,100,TMB,ABC,100,,cash,fifo,Ann,Lee,T10\n\
+        result,1,10.10\n\
+        order,100,TMB,ABC,200,,cash,fifo,Ann,Lee,T10\n\
+        result,2,12.00\n\
+        order,100,TMS,ABC,150,,cash,lifo,Ann,Lee,T10\n\
+        result,3,13.00\n\
+        security,AB,Abe,NYSE,Tech,2.50\n\
+        order,100,TMS,AB,10,,margin,fifo,Ann,Lee,T10\n\
+        result,4,2.60\n\
+        end,9\n",
+    "1,ok,1709251200016,1,SBMT,10.00,0.00,0.00,0.00,10.00,5.00,10000.00\n\
+        2,ok,1709251200017,10.10,0.00,-1025.10,2024-03-03,0.00,0.00,8974.90\n\
+        3,ok,1709251200018,2,SBMT,10.00,0.00,0.00,0.00,20.00,5.00,9974.90\n\
+        4,ok,1709251200019,24.00,0.00,-2429.00,2024-03-03,0.00,0.00,6545.90\n\
+        5,ok,1709251200020,3,SBMT,10.00,1800.00,1500.00,0.00,15.00,5.00,9545.90\n\
+        6,ok,1709251200021,19.50,30.00,1895.50,2024-03-03,1800.00,1950.00,8441.40\n\
+        7,ok,1709251200022\n\
+        8,ok,1709251200023,4,SBMT,2.50,0.00,0.00,0.00,0.25,5.00,9941.40\n\
+        9,ok,1709251200024,0.26,0.00,20.74,2024-03-03,0.00,0.00,8441.40\nend,9,0,0\n",
+);
+
+// Why a walk ended early: a fault, or the trade at whose row it was to stop.
+#[derive(Debug, PartialEq, Eq, Clone, Copy)]
+enum Ended {
+    Fault(Fault),
+    At(u64),
+}
+
+impl From<Fault> for Ended {
+    fn from(fault: Fault) -> Ended {
+        Ended::Fault(fault)
+    }
+}
+
+// What a walk saw, and how many rows it is still to see.
+#[derive(Drop)]
+struct Seen {
+    rows: String,
+    left: u64,
+}
+
+// Counts a row of a trade, if it is still to be seen.
+fn count(seen: &mut Seen, trade: Id) -> Result<(), Ended> {
+    if seen.left == 0 {
+        return Err(Ended::At(trade.get()));
+    }
+    seen.left = seen.left.saturating_sub(1);
+    Ok(())
+}
+
+fn see_cash(seen: &mut Seen, row: &CashRow) -> Result<(), Ended> {
+    count(seen, row.trade)?;
+    let (trade, stamp, amount) = (row.trade.get(), row.stamp.get(), row.amount.get());
+    match writeln!(seen.rows, "{trade} {stamp} {amount} {}", row.name) {
+        Ok(()) => Ok(()),
+        Err(_) => Err(Ended::Fault(Fault::Memory)),
+    }
+}
+
+fn see_lot(seen: &mut Seen, symbol: &str, lot: &Lot) -> Result<(), Ended> {
+    count(seen, lot.trade)?;
+    let (trade, stamp, price) = (lot.trade.get(), lot.stamp.get(), lot.price.get());
+    match writeln!(seen.rows, "{trade} {stamp} {} {symbol} {price}", lot.qty) {
+        Ok(()) => Ok(()),
+        Err(_) => Err(Ended::Fault(Fault::Memory)),
+    }
+}
+
+// Two stamps, how many rows a walk is to see, those that it sees, and how it ends.
+const CASH: [(i64, i64, u64, &str, Result<(), Ended>); 9] = [
+    (
+        0,
+        253_402_300_799_999,
+        9,
+        "1 1709251200017 -102510 Market-Buy 100 shares of Acme\n\
+            2 1709251200019 -242900 Market-Buy 200 shares of Acme\n\
+            3 1709251200021 189550 Market-Sell 150 shares of Acme\n",
+        Ok(()),
+    ),
+    (
+        1_709_251_200_017,
+        1_709_251_200_021,
+        3,
+        "1 1709251200017 -102510 Market-Buy 100 shares of Acme\n\
+            2 1709251200019 -242900 Market-Buy 200 shares of Acme\n\
+            3 1709251200021 189550 Market-Sell 150 shares of Acme\n",
+        Ok(()),
+    ),
+    (
+        1_709_251_200_018,
+        1_709_251_200_020,
+        9,
+        "2 1709251200019 -242900 Market-Buy 200 shares of Acme\n",
+        Ok(()),
+    ),
+    (
+        1_709_251_200_019,
+        1_709_251_200_019,
+        9,
+        "2 1709251200019 -242900 Market-Buy 200 shares of Acme\n",
+        Ok(()),
+    ),
+    (1_709_251_200_020, 1_709_251_200_020, 9, "", Ok(())),
+    (1_709_251_200_021, 1_709_251_200_017, 9, "", Ok(())),
+    (0, 1_709_251_200_021, 0, "", Err(Ended::At(1))),
+    (
+        0,
+        1_709_251_200_021,
+        1,
+        "1 1709251200017 -102510 Market-Buy 100 shares of Acme\n",
+        Err(Ended::At(2)),
+    ),
+    (
+        0,
+        1_709_251_200_021,
+        2,
+        "1 1709251200017 -102510 Market-Buy 100 shares of Acme\n\
+            2 1709251200019 -242900 Market-Buy 200 shares of Acme\n",
+        Err(Ended::At(3)),
+    ),
+];
+
+#[test]
+fn cash_rows_are_walked_by_their_stamps(rt: HostRuntime) -> Result<(), Fail> {
+    let alloc = rt.alloc();
+    let account = Id::new(100).ok_or("an account")?;
+    let mut desk = set_desk(alloc)?;
+    expect(alloc, &mut desk, "trades", TRADES)?;
+    for (from, to, left, rows, wanted) in CASH {
+        let mut seen = Seen {
+            rows: String::new(alloc),
+            left,
+        };
+        let ended = desk.walk_cash(
+            alloc,
+            account,
+            Stamp::nearest(from),
+            Stamp::nearest(to),
+            |row: &CashRow| see_cash(&mut seen, row),
+        );
+        assert!(rt; ended == wanted, "{from} to {to}, {left}");
+        assert!(rt; seen.rows.as_str() == rows, "{from} to {to}, {left}");
+    }
+    Ok(())
+}
+
+// An account, how many lots a walk is to see, those that it sees, and how it ends.
+const LOTS: [(u64, u64, &str, Result<(), Ended>); 5] = [
+    (
+        100,
+        9,
+        "4 1709251200024 -10 AB 260\n1 1709251200017 100 ABC 1010\n\
+            2 1709251200019 50 ABC 1200\n",
+        Ok(()),
+    ),
+    (100, 0, "", Err(Ended::At(4))),
+    (100, 1, "4 1709251200024 -10 AB 260\n", Err(Ended::At(1))),
+    (
+        100,
+        2,
+        "4 1709251200024 -10 AB 260\n1 1709251200017 100 ABC 1010\n",
+        Err(Ended::At(2)),
+    ),
+    (101, 9, "", Ok(())),
+];
+
+#[test]
+fn lots_are_walked_by_symbol(rt: HostRuntime) -> Result<(), Fail> {
+    let alloc = rt.alloc();
+    let mut desk = set_desk(alloc)?;
+    expect(alloc, &mut desk, "trades", TRADES)?;
+    for (account, left, rows, wanted) in LOTS {
+        let mut seen = Seen {
+            rows: String::new(alloc),
+            left,
+        };
+        let Some(account) = Id::new(account) else {
+            return Err("an account")?;
+        };
+        let ended = desk.walk_lots(account, |symbol: &str, lot: &Lot| {
+            see_lot(&mut seen, symbol, lot)
+        });
+        assert!(rt; ended == wanted, "{left} lots");
+        assert!(rt; seen.rows.as_str() == rows, "{left} lots");
+    }
+    Ok(())
+}

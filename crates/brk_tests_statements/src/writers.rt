@@ -1,0 +1,101 @@
+//! A writer that stops at each byte of a statement: what it took before is written, and nothing after.
+
+use crate::asking::{Narrow, asked};
+use brk_report::{StatementFault, statement};
+use brk_tests_desks::desk::Desk;
+use brk_tests_desks::desks::{Step, expect, set_desk};
+use sqlite::MemStore;
+use std::alloc::Global;
+use std::io::ErrorKind;
+use std::process::Abort;
+use std::test::Fail;
+
+// Two purchases and a sale of a part.
+const BOUGHT: Step = Step::Done(
+    b"batch,T\n\
+        order,100,TMB,ABC,100,,cash,fifo,Ann,Lee,T10\n\
+        result,1,10.10\n\
+        order,100,TMB,ABC,200,,cash,fifo,Ann,Lee,T10\n\
+        result,2,12.00\n\
+        order,100,TMS,ABC,150,,cash,fifo,Ann,Lee,T10\n\
+        result,3,13.00\n\
+        end,6\n",
+    "1,ok,1709251200016,1,SBMT,10.00,0.00,0.00,0.00,10.00,5.00,10000.00\n\
+        2,ok,1709251200017,10.10,0.00,-1025.10,2024-03-03,0.00,0.00,8974.90\n\
+        3,ok,1709251200018,2,SBMT,10.00,0.00,0.00,0.00,20.00,5.00,9974.90\n\
+        4,ok,1709251200019,24.00,0.00,-2429.00,2024-03-03,0.00,0.00,6545.90\n\
+        5,ok,1709251200020,3,SBMT,10.00,1610.00,1500.00,0.00,15.00,5.00,9545.90\n\
+        6,ok,1709251200021,19.50,68.00,1857.50,2024-03-03,1610.00,1950.00,8403.40\n\
+        end,6,0,0\n",
+);
+
+// The statement of their month.
+const WANTED: &str = "Statement of account 100\n\
+    Main\n\
+    From 2024-03-01 to 2024-03-31\n\
+    Opening                  10000.00\n\
+    2024-03-01               -1025.10 Market-Buy 100 shares of Acme\n\
+    2024-03-01               -2429.00 Market-Buy 200 shares of Acme\n\
+    2024-03-01                1857.50 Market-Sell 150 shares of Acme\n\
+    Closing                   8403.40\n\
+    ABC                         2         150      12.00\n\
+    Holdings                  1500.00\n\
+    Cash rows 3, lots 1\n";
+
+// How a writer with room for so many bytes stops: it takes no byte, fails, or is interrupted.
+fn stop_of(room: usize) -> Option<ErrorKind> {
+    match room % 3 {
+        0 => None,
+        1 => Some(ErrorKind::Other),
+        _ => Some(ErrorKind::Interrupted),
+    }
+}
+
+// Compares a statement whose writer has room for so many bytes.
+fn expect_cut(
+    rt: &impl Abort,
+    alloc: Global,
+    desk: &mut Desk<MemStore>,
+    room: usize,
+) -> Result<(), Fail> {
+    let asked = asked(100, "2024-03-01", "2024-03-31")?;
+    let mut writer = Narrow {
+        taken: Vec::new(alloc),
+        room,
+        error: stop_of(room),
+    };
+    let ended = statement(
+        alloc,
+        desk,
+        asked.account,
+        asked.from,
+        asked.to,
+        &mut writer,
+    );
+    let is_cut = matches!(&ended, Err(StatementFault::Write));
+    assert!(rt;
+        is_cut == (room < WANTED.len()),
+        "room for {room}: the fault"
+    );
+    assert!(rt;
+        ended.is_ok() == (room == WANTED.len()),
+        "room for {room}: the end"
+    );
+    let taken = writer.taken.as_slice();
+    assert!(rt;
+        taken.len() == room && WANTED.as_bytes().starts_with(taken),
+        "room for {room}"
+    );
+    Ok(())
+}
+
+#[test]
+fn a_writer_may_stop_at_each_byte(rt: HostRuntime) -> Result<(), Fail> {
+    let alloc = rt.alloc();
+    let mut desk = set_desk(alloc)?;
+    expect(alloc, &mut desk, "trades", BOUGHT)?;
+    for room in 0..=WANTED.len() {
+        expect_cut(&rt, alloc, &mut desk, room)?;
+    }
+    Ok(())
+}
