@@ -5,7 +5,7 @@ use crate::asking::{Stage, expect_stages};
 use brk_tests_desks::desks::set_desk;
 use std::test::Fail;
 
-const STAGES: [Stage; 2] = [
+const STAGES: [Stage; 3] = [
     (
         "batch,V\nbroker,2,Bo\nbroker,3,Al\ncustomer,11,2,T11,X X,Ann\ncustomer,12,3,T12,Ray,Bob\n\
             account,110,11,2,Second,0,0.00\naccount,99,10,3,Third,2,-5.00\n\
@@ -154,6 +154,30 @@ const STAGES: [Stage; 2] = [
                 "no trade is as late",
                 &["lots,99,1709251200033", "lots,110,1709251200035"],
                 "",
+            ),
+        ],
+    ),
+    (
+        "batch,X\nupname,2\nupcash,110,0,253402300799999\nuptext,BIG,0,253402300799999\nend,3\n",
+        &[
+            (
+                "words that were corrected, at the stamps that they had",
+                &["trades,2,7"],
+                "trade,2,1709251200034,CMPT,TLB,ABC,9,3.00,Ann X,2.50,1.00,0.00,0.00,margin,lifo\n\
+                    settlement,Margin Account,2024-03-03,-23.50\n\
+                    history,1709251200027,PNDG\nhistory,1709251200032,SBMT\n\
+                    history,1709251200034,CMPT\n\
+                    trade,7,1709251200036,CMPT,TMB,BIG,10,5.00,Ann Lee,5.00,5.00,0.50,0.00,cash,fifo\n\
+                    settlement,Cash Account,2024-03-03,-55.50\n\
+                    cash,1709251200036,-55.50,Market-Buy 10 Shares of Big shares of Small\n\
+                    history,1709251200035,SBMT\nhistory,1709251200036,CMPT\n",
+            ),
+            (
+                "of the one trade alone",
+                &["status,110"],
+                "X X,Ann,Bo\n\
+                    2,1709251200034,Completed,Limit-Buy,ABC,9,Ann X,1.00,Acme,NYSE\n\
+                    5,1709251200030,Pending,Limit-Buy,BIG,7,Ann X X,1.00,Big shares of Small,NYSE\n",
             ),
         ],
     ),
