@@ -66,9 +66,8 @@ fn sent<S: Alter + Drop>(
     drop(run_batch(alloc, batch, lines, &mut Still, &mut desk));
     let is_sound = desk.audit(alloc).is_ok();
     let mut conn = desk.into_store().into_conn();
-    let tables = all_tables(alloc, &mut conn);
     if is_sound {
-        tables
+        all_tables(alloc, &mut conn)
     } else {
         Err("a desk that fails its audit after a batch")?
     }
