@@ -39,6 +39,7 @@ impl Read for Failing<'_> {
 fn expect_read(alloc: Global, batch: &str, len: usize, kind: ErrorKind) -> Result<(), Fail> {
     let name = format!(in alloc; "the reader fails after {len}")?;
     let before = batch.get(..len).ok_or("no such place")?;
+    let after = batch.as_bytes().get(len..).ok_or("no such place")?;
     let settled = before.split('\n').count().saturating_sub(3);
     let lines = first_lines(alloc, settled)?;
     let mut told = Vec::new(alloc);
@@ -46,7 +47,7 @@ fn expect_read(alloc: Global, batch: &str, len: usize, kind: ErrorKind) -> Resul
     let reader = Failing {
         before: before.as_bytes(),
         fault: Some(kind),
-        after: &batch.as_bytes()[len..],
+        after,
     };
     let ended = run_batch(alloc, reader, &mut told, &mut Still, &mut desk);
     expect_fault(name.as_str(), ended, settled, FaultKind::Read)?;
