@@ -263,7 +263,7 @@ completed-by form name base mid last moments others front more answers told none
 -- ---- the rows of a text
 
 -- the rows before the first end record begin with those that were settled
-prefix : (rows others rest : List Fields) (end : Fields) (more : List Fields) → AllByRecursion (λ row. ¬ (IsEnd row)) rows → IsEnd end → rows ++ rest ≡ others ++ end ∷ more
+pub prefix : (rows others rest : List Fields) (end : Fields) (more : List Fields) → AllByRecursion (λ row. ¬ (IsEnd row)) rows → IsEnd end → rows ++ rest ≡ others ++ end ∷ more
     → (back : List Fields) × (others ≡ rows ++ back)
 prefix [] others rest end more only h e = (others, refl)
 prefix (row ∷ rows) [] rest end more only h e = absurd (only.0 (subst IsEnd (sym (first-same row end (rows ++ rest) more e)) h))
