@@ -1,8 +1,9 @@
 -- A batch that was stopped behind some rows, with perhaps one more that was booked, and is sent again.
-use Rattle.std.proofs.Common.{◌≡◌, ◌⊎◌, ℕ, ◌+◌, Bool, true, false, List, [], ◌∷◌, ◌++◌, length, take, drop, refl, sym, ◌∙◌, ap, subst, arith, inl, inr, append_assoc, Ok, append-nil, Some}
+use Rattle.std.proofs.Common.{◌≡◌, ◌⊎◌, ℕ, ◌+◌, Bool, true, false, List, [], ◌∷◌, ◌++◌, length, take, drop, refl, sym, ◌∙◌, ap, subst, arith, inl, inr, append_assoc, Ok, Err, append-nil, Some}
 use Rattle.std.specs.List.{AllByRecursion}
 use Rattle.csv.specs.Reading.{records, default_config}
 use Rattle.brk_money.specs.Spelling.{Text}
+use Rattle.brk_money.specs.declared.refusal.Refusal.TheVariants.{BadText}
 use Rattle.brk_model.specs.Base.{Base}
 use Rattle.brk_model.specs.Forms.{Read}
 use Rattle.brk_model.specs.Records.{Key}
@@ -11,6 +12,7 @@ use Rattle.brk_model.specs.Answers.{Fields, InTurn, calls_of, formed_from, with_
 use Rattle.brk_model.specs.Batch.{AreSettled, row_step}
 use Rattle.brk_model.specs.Input.{Begins, IsEnd, end_of, header_of}
 use Rattle.brk_model.specs.Lines.{count_refused, is_refused}
+use Rattle.brk_model.specs.Parse.{parse_by, readers}
 use Rattle.brk_model_laws.specs.Laws.{IsBookedNext, IsCompleted, StandsAfter}
 use Rattle.brk_model_laws.proofs.AgainLaws.{first-same, name-same, none-first, others-same, right_end}
 use Rattle.brk_model_laws.proofs.BatchLaws.{All-front}
@@ -18,7 +20,7 @@ use Rattle.brk_model_laws.proofs.PartLaws.{completed-by, joined, none-with, pref
 use Rattle.brk_model_laws.proofs.RunLaws.{keyed_step-says}
 
 -- the law of completion by its record
-completed : (form : Fields → Read Command) (name : Text) (base mid last : Base) (moments others : List ℕ) (front more : List Fields) (answers told : List Answer)
+pub completed : (form : Fields → Read Command) (name : Text) (base mid last : Base) (moments others : List ℕ) (front more : List Fields) (answers told : List Answer)
     → count_refused answers ≡ 0 → AreSettled form row_step name base moments front answers mid → AreSettled form row_step name mid others (front ++ more) told last
     → IsCompleted form name base moments others (front ++ more) answers told last
 completed form name base mid last moments others front more answers told none one two =
@@ -139,3 +141,7 @@ next-goes-on text name other rows others row only begins whole apart = (on.0, by
         let next : row ≡ r = after-front rows row r begins.0 (rest ++ end_of (length others) ∷ whole.0)
         (same ∙ ap (λ (l : List Fields). l ++ end_of (length others) ∷ whole.0) e ∙ append_assoc rows (r ∷ rest) (end_of (length others) ∷ whole.0)) in
         (rest, e ∙ ap (λ (f : Fields). rows ++ f ∷ rest) (sym next))
+
+-- an end record is no row in form
+pub end-apart : (n : ℕ) (command : Command) → parse_by readers (end_of n) ≡ Ok command → ⊥
+end-apart n command e = let no : Err BadText ≡ Ok command = e in absurd (cc)
