@@ -20,4 +20,4 @@ pub mod StatusViews
 pub mod LookupViews
 pub mod LotViews
 pub mod VolumeViews
-pub mod Reopening
+pub mod Reopened

@@ -25,7 +25,7 @@ use Rattle.brk_store.specs.Audited.{IsAdopted, OnAnswer}
 use Rattle.brk_store.specs.Holds.{AreTreesOf}
 use Rattle.brk_desk.specs.Keeping.{KeepsBase}
 use Rattle.brk_desk.specs.Reopening.{CanBeKept, IsReopened, StandsAlone}
-use Rattle.brk_desk.proofs.Reopening.{Settles, kept_can_be, taken_over}
+use Rattle.brk_desk.proofs.Reopened.{Settles, kept_can_be, taken_over}
 use Rattle.brk_import.specs.Batch.{BatchGives, CameTo, Faulted, IsUnderWay, KeepsBooks, LeavesAt, LeavesBooks, Stopped}
 use Rattle.brk_import.specs.Leaving.{LeavesOneOf}
 use Rattle.brk_import.specs.SentAgain.{IsSentAgain}

@@ -17,7 +17,7 @@ use Rattle.brk_desk.specs.Keeping.{IsCalled, KeepsBase}
 use Rattle.brk_desk.specs.Reopening.{CanBeKept}
 use Rattle.brk_desk.specs.declared.answer.Answer.{Answer}
 use Rattle.brk_desk.specs.declared.answer.Answer.TheVariants as given
-use Rattle.brk_desk.proofs.Reopening.{booked_can_be}
+use Rattle.brk_desk.proofs.Reopened.{booked_can_be}
 use Rattle.brk_desk.proofs.Stopping.{quiet_leaves}
 use Rattle.brk_import.specs.Answers.{Acts, MayAct, StandsBy}
 use Rattle.brk_import.specs.Leaving.{LeavesOneOf}

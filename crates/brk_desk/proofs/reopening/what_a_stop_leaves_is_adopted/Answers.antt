@@ -1,4 +1,4 @@
-use Rattle.brk_desk.proofs.Reopening.{adopted_stands, call_taken_over, made_stands, making_taken_over, run_taken_over}
+use Rattle.brk_desk.proofs.Reopened.{adopted_stands, call_taken_over, made_stands, making_taken_over, run_taken_over}
 use Rattle.brk_desk.proofs.reopening.what_a_stop_leaves_is_adopted.Goals as goal
 
 pub returns-clause-made : goal.returns-clause-made
