@@ -35,7 +35,7 @@ use Rattle.brk_import.specs.declared.batch_fault.FaultKind.TheVariants as kinds
 use Rattle.brk_import.specs.declared.counts.Counts.{Counts}
 use Rattle.brk_import.proofs.Reading.{begins_front}
 
-module _ {S C : Type 0} (g : Ghosts S) (settled : Settles g) (form : Fields → Read Command) (apart : (n : ℕ) (command : Command) → form (end_of n) ≡ Ok command → ⊥) (gives : C → ℕ → C → Type 0)
+module _ {S C : Type 0} (g : Ghosts S) (rests : Settles g) (form : Fields → Read Command) (apart : (n : ℕ) (command : Command) → form (end_of n) ≡ Ok command → ⊥) (gives : C → ℕ → C → Type 0)
     (text : Text) (one : Outside C) (base : Base) where
   -- what the first sending settled
   record Part (after : Base) : Type 0 where
@@ -92,7 +92,7 @@ module _ {S C : Type 0} (g : Ghosts S) (settled : Settles g) (form : Fields → 
     begins = ending_begins ending c.answered.name c.answered.rows c.answered.answers c.answered.told c.lines c.answered.ends;
   }
 
-  stopped : (count : ℕ) (after : Base) → Stopped form row_step gives (Some text) (with_base base after one) count → Part after
+  abbrev stopped : (count : ℕ) (after : Base) → Stopped form row_step gives (Some text) (with_base base after one) count → Part after
   stopped count after s = record {
     name = s.name;
     rows = s.rows;
@@ -272,7 +272,7 @@ module _ {S C : Type 0} (g : Ghosts S) (settled : Settles g) (form : Fields → 
       → (after : Base) × KeepsBase g last after × IsSentAgain form gives (Some text) base after one two)
   sent_again first left conn store last two ended taken counts at leaves clean again adopted next =
       let f = found first left ended at leaves clean again.0 again.1 in
-      let t = taken_over g settled again.0 conn store taken again.2 adopted next f.stood f.can f.are (λ (b : Base). b ≡ f.stood) refl in (
+      let t = taken_over g rests again.0 conn store taken again.2 adopted next f.stood f.can f.are (λ (b : Base). b ≡ f.stood) refl in (
         t.undamaged,
         λ keeps good.
             let k = keeps good f.stood (subst (KeepsBase g store) t.may t.stands.keeps) in
