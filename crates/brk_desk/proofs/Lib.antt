@@ -20,3 +20,4 @@ pub mod StatusViews
 pub mod LookupViews
 pub mod LotViews
 pub mod VolumeViews
+pub mod Reopened

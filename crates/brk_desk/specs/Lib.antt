@@ -9,3 +9,4 @@ pub mod Parties
 pub mod LookedUp
 pub mod Touched
 pub mod Volumes
+pub mod Reopening

@@ -20,6 +20,7 @@ mod lots;
 mod orders;
 mod parties;
 mod recents;
+pub mod reopening;
 mod statuses;
 mod volumes;
 

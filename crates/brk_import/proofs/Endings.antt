@@ -167,6 +167,7 @@ answer_left form step gives leaves rem start now later new text p last f h (inr 
   cause = f;
   kind = refl;
   stopped = stopped_of form step gives rem start now later new text p h;
+  told = refl;
   row = now.row;
   begins = begins_at rem text _ now.reader (p.stands text h);
   command = way.1;

@@ -6,3 +6,4 @@ pub mod Endings
 pub mod Reached
 pub mod Listed
 pub mod Under
+pub mod SentAgain

@@ -14,8 +14,10 @@ use Rattle.brk_model.specs.Sheets.{sheets}
 use Rattle.brk_store.specs.Holds.{AreTreesOf}
 use Rattle.brk_desk.specs.Answers.{answer_of}
 use Rattle.brk_desk.specs.Keeping.{IsCalled, KeepsBase}
+use Rattle.brk_desk.specs.Reopening.{CanBeKept}
 use Rattle.brk_desk.specs.declared.answer.Answer.{Answer}
 use Rattle.brk_desk.specs.declared.answer.Answer.TheVariants as given
+use Rattle.brk_desk.proofs.Reopened.{booked_can_be}
 use Rattle.brk_desk.proofs.Stopping.{quiet_leaves}
 use Rattle.brk_import.specs.Answers.{Acts, MayAct, StandsBy}
 use Rattle.brk_import.specs.Leaving.{LeavesOneOf}
@@ -39,9 +41,9 @@ module _ {S : Type 0} (g : Ghosts S) (old new : Held S) (now : ℕ) (command : C
         told.2,
       )
     where
-      either : (trees : Trees) (base : Base) → AreTreesOf (sheets base) trees ⊎ AreTreesOf (sheets base) trees → AreTreesOf (sheets base) trees
+      either : (trees : Trees) (base : Base) → AreTreesOf (sheets base) trees ⊎ (AreTreesOf (sheets base) trees × CanBeKept base) → AreTreesOf (sheets base) trees
       either trees base (inl are) = are
-      either trees base (inr are) = are
+      either trees base (inr are) = are.0
 
   answered_left : (key : Key) (answer : Answer) → IsCalled g old new now command (Some key) (Ok answer)
       → Acts (λ desk. HasCleanDisk (state g desk)) (StandsBy (λ desk. KeepsBase g desk) (LeavesOneOf g) true) row_step old new now command key (answer_of answer)
@@ -68,7 +70,9 @@ module _ {S : Type 0} (g : Ghosts S) (old new : Held S) (now : ℕ) (command : C
   -- it was not answered
   pub may_act : (key same : Key) (fault : Fault) → key ≡ same → IsCalled g old new now command (Some key) (Err fault)
       → MayAct (λ desk. HasCleanDisk (state g desk)) (λ desk. KeepsBase g desk) (LeavesOneOf g) row_step old new now command same
-  may_act key same fault e called clean base keeps alone trees may = elim ((subst (λ k. IsCalled g old new now command (Some k) (Err fault)) e called).survives.crash clean trees may) [
-    | inl earlier ↦ elim (alone trees earlier) [ inl are ↦ inl are | inr are ↦ inl are ]
-    | inr come ↦ inr (come.1 base keeps)
-  ]
+  may_act key same fault e called clean base keeps alone trees may =
+      let same_called : IsCalled g old new now command (Some same) (Err fault) = subst (λ k. IsCalled g old new now command (Some k) (Err fault)) e called in
+      elim (same_called.survives.crash clean trees may) [
+        | inl earlier ↦ elim (alone trees earlier) [ inl are ↦ inl are | inr are ↦ inl are.0 ]
+        | inr come ↦ inr (come.1 base keeps, booked_can_be g old new base now command (Some same) (Err fault) trees same_called keeps come)
+      ]

@@ -111,6 +111,7 @@ pub record IsUnderWay {D S X C : Type 0} (form : Fields → Read X) (step : RowS
   pub cause : Fault
   pub kind : fault.kind ≡ kinds.Desk cause
   pub stopped : Stopped form step gives text span fault.rows
+  pub told : stopped.told ≡ stopped.answers
   pub row : Fields
   pub begins : Begins text (header_of stopped.name ∷ (stopped.rows ++ (row ∷ [])))
   pub command : X

@@ -11,6 +11,7 @@ mod engine;
 mod lines;
 mod records;
 mod rows;
+pub mod sent_again;
 
 pub use batch::run_batch;
 pub use batch_fault::{BatchFault, FaultKind};

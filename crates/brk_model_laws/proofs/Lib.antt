@@ -12,3 +12,4 @@ pub mod Sides
 pub mod LotLaws
 pub mod PartLaws
 pub mod LeftLaws
+pub mod StoppedLaws

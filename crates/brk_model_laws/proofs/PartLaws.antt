@@ -163,7 +163,7 @@ parted form name base moments front more answers after s = record {
     firsts = length-turned (calls_of name p.front own) t.first base t.mid t.before ∙ length-calls name p.front own (let e = p.counted in omega (e, arith))
 
 -- the second part after another settling of the first one
-joined : (form : Fields → Read Command) (name : Text) (base mid after : Base) (early late : List ℕ) (front more : List Fields) (first replies : List Answer)
+pub joined : (form : Fields → Read Command) (name : Text) (base mid after : Base) (early late : List ℕ) (front more : List Fields) (first replies : List Answer)
     → AreSettled form row_step name base early front first mid → AllByRecursion (λ row. ¬ (IsEnd row)) (front ++ more)
     → length late ≡ length (formed_from form (1 + length front) more)
     → InTurn row_step mid (calls_of name late (formed_from form (1 + length front) more)) replies after
@@ -210,7 +210,7 @@ joined form name base mid after early late front more first replies s only lates
 
 -- ---- a part settled again
 
-none-with : (x : Answer) (xs : List Answer) → is_refused x ≡ false → count_refused xs ≡ 0 → count_refused (x ∷ xs) ≡ 0
+pub none-with : (x : Answer) (xs : List Answer) → is_refused x ≡ false → count_refused xs ≡ 0 → count_refused (x ∷ xs) ≡ 0
 none-with x xs h k = sum_by-cons (λ a. cond (is_refused a) 1 0) x xs ∙ (λ i. cond (h i) 1 0 + k i)
 
 none-front : (xs ys : List Answer) → count_refused (xs ++ ys) ≡ 0 → count_refused xs ≡ 0
@@ -263,7 +263,7 @@ completed-by form name base mid last moments others front more answers told none
 -- ---- the rows of a text
 
 -- the rows before the first end record begin with those that were settled
-prefix : (rows others rest : List Fields) (end : Fields) (more : List Fields) → AllByRecursion (λ row. ¬ (IsEnd row)) rows → IsEnd end → rows ++ rest ≡ others ++ end ∷ more
+pub prefix : (rows others rest : List Fields) (end : Fields) (more : List Fields) → AllByRecursion (λ row. ¬ (IsEnd row)) rows → IsEnd end → rows ++ rest ≡ others ++ end ∷ more
     → (back : List Fields) × (others ≡ rows ++ back)
 prefix [] others rest end more only h e = (others, refl)
 prefix (row ∷ rows) [] rest end more only h e = absurd (only.0 (subst IsEnd (sym (first-same row end (rows ++ rest) more e)) h))

@@ -1,5 +1,5 @@
 -- Words for the laws: what is accepted, which stamps rise, what a base begins with, and what comes again.
-use Rattle.std.specs.Prelude.{◌≡◌, ⊤, ℕ, ◌<◌, ◌++◌, if◌then◌else◌, List, [], ◌∷◌, filter, Option, Some, None, IfSome, is_none}
+use Rattle.std.specs.Prelude.{◌≡◌, ◌⊎◌, ⊤, ℕ, ◌+◌, ◌<◌, ◌++◌, if◌then◌else◌, List, [], ◌∷◌, drop, filter, length, map, take, Option, Some, None, Ok, IfSome, is_none}
 use Rattle.brk_money.specs.Spelling.{Text}
 use Rattle.brk_model.specs.Records.{Key, Kept}
 use Rattle.brk_model.specs.Base.{Base, empty_base}
@@ -10,7 +10,7 @@ use Rattle.brk_model.specs.Answers.{Fields, RowCall}
 use Rattle.brk_model.specs.Forms.{Read}
 use Rattle.brk_model.specs.Input.{text_of}
 use Rattle.brk_model.specs.Lines.{count_refused}
-use Rattle.brk_model.specs.Batch.{Batch, EndedWell, IsAnswered, row_step}
+use Rattle.brk_model.specs.Batch.{AreSettled, Batch, EndedWell, IsAnswered, row_step}
 use Rattle.brk_model.specs.Run.{Call, Do, Ask, Outcome, Did, Saw, NoView, Failed, Run}
 
 -- the stamp of a reply
@@ -116,3 +116,25 @@ IsKeptAnswer base (Some k) call answer = answer ≡ (repeated base call.command 
 abbrev pub AreKeptAnswers : Base → List (RowCall Command) → List Answer → Type 0
 AreKeptAnswers base (call ∷ calls) (answer ∷ answers) = IsKeptAnswer base (kept_under base call.key) call answer × AreKeptAnswers base calls answers
 AreKeptAnswers base calls answers = ⊤
+
+-- ---- rows of a batch that was stopped
+
+-- behind some first rows of a batch the next one was booked at a moment, and not answered
+pub record IsBookedNext (form : Fields → Read Command) (name : Text) (mid : Base) (front more : List Fields) (moment : ℕ) (answer : Answer) (stood : Base) : Type 0 where
+  pub row : Fields
+  pub rest : List Fields
+  pub next : more ≡ row ∷ rest
+  pub command : Command
+  pub formed : form row ≡ Ok command
+  -- what would have been answered, and the base that stands
+  pub booked : row_step mid moment command (record { batch = name; row = length front + 1 }) ≡ (answer, stood)
+
+-- what stands is the base after these first rows, or the next one was booked
+abbrev pub StandsAfter : (Fields → Read Command) → Text → Base → List Fields → List Fields → Base → Type 0
+StandsAfter form name mid front more stood = (stood ≡ mid) ⊎ ((moment : ℕ) × (answer : Answer) × IsBookedNext form name mid front more moment answer stood)
+
+-- Rows that are all settled by now were settled as by one sending: those that had answers before at the earlier moments and with those answers, the
+-- others at the later moments and as they are told now. Those that had answers are told them again.
+pub record IsCompleted (form : Fields → Read Command) (name : Text) (base : Base) (earlier later : List ℕ) (rows : List Fields) (answers told : List Answer) (last : Base) : Type 0 where
+  pub again : take (length answers) told ≡ map again_of answers
+  pub settled : AreSettled form row_step name base (earlier ++ drop (length earlier) later) rows (answers ++ drop (length answers) told) last

@@ -1,6 +1,6 @@
 //! Laws of batches.
 
-ghost use Rattle.std.specs.Prelude.{◌≡◌, ◌≤◌, ◌∷◌, ◌++◌, ℕ, List, Some, drop, length, map, take};
+ghost use Rattle.std.specs.Prelude.{◌≡◌, ◌⊎◌, ◌≤◌, [], ◌∷◌, ◌++◌, ℕ, List, Some, drop, length, map, take};
 ghost use Rattle.csv.specs.Reading.{records, default_config};
 ghost use Rattle.brk_model.specs.Base.{Base};
 ghost use Rattle.brk_model.specs.Commands.{Answer, Command};
@@ -11,7 +11,7 @@ ghost use Rattle.brk_model.specs.Batch.{AreSettled, Batch, BatchText, IsBatch, r
 ghost use Rattle.brk_model.specs.Lines.{count_refused};
 ghost use Rattle.brk_model.specs.Computed.{batch, told_whole};
 ghost use Rattle.brk_model.specs.Run.{Did, Run};
-ghost use Rattle.brk_model_laws.specs.Laws.{AreKeptAnswers, LeadsTo, WentThrough, again_of, answers_left, call_of, calls_left};
+ghost use Rattle.brk_model_laws.specs.Laws.{AreKeptAnswers, IsBookedNext, IsCompleted, LeadsTo, StandsAfter, WentThrough, again_of, answers_left, call_of, calls_left};
 
 /// The function that computes a batch gives its batch text, where there are moments enough, and takes the first of them.
 pub fn batch_is_computed()
@@ -57,4 +57,16 @@ pub fn a_batch_sent_again_is_completed()
         → (take (length front) told ≡ map again_of answers)
         × AreSettled form row_step name base (moments ++ drop (length moments) others) (front ++ more)
         (answers ++ drop (length front) told) last }
+{}
+
+/// A batch that was stopped behind some first rows, none of them refused, and of which perhaps the next row was booked and not answered: once all of
+/// its rows are settled over what stood, this comes to one undisturbed sending. The booked row is settled in it at its moment, with what would have been
+/// answered, unless that was a refusal.
+pub fn a_stopped_batch_is_completed()
+    ensures { (form : Fields → Read Command) (name : List ℕ) (base mid stood last : Base) (moments others : List ℕ) (front more : List Fields)
+        (answers told : List Answer) → count_refused answers ≡ 0 → AreSettled form row_step name base moments front answers mid
+        → StandsAfter form name mid front more stood → AreSettled form row_step name stood others (front ++ more) told last
+        → IsCompleted form name base moments others (front ++ more) answers told last
+        ⊎ ((moment : ℕ) × (answer : Answer) × IsBookedNext form name mid front more moment answer stood
+        × IsCompleted form name base (moments ++ moment ∷ []) others (front ++ more) (answers ++ answer ∷ []) told last) }
 {}

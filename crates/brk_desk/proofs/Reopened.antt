@@ -1,0 +1,138 @@
+-- What a stop left is opened again and adopted.
+use Rattle.std.proofs.Common.{◌≡◌, ◌⊎◌, ◌∙◌, inl, inr, ℕ, List, map, Option, Result, Ok, IsTrue, refl, sym, ap, subst}
+use Rattle.sqlite_trees.specs.declared.store.Store.{Ghosts}
+use Rattle.sqlite_trees.specs.Tree.{Trees}
+use Rattle.sqlite.specs.Effect.{Database}
+use Rattle.sqlite.specs.Held.{Held, state}
+use Rattle.sqlite.specs.State.{HasCleanDisk}
+use Rattle.brk_money.specs.declared.fault.Fault.{Fault}
+use Rattle.brk_model.specs.Adopted.{base_of}
+use Rattle.brk_model.specs.Base.{Base, empty_base}
+use Rattle.brk_model.specs.Commands.{Command}
+use Rattle.brk_model.specs.Form.{has_texts}
+use Rattle.brk_model.specs.Records.{Key}
+use Rattle.brk_model.specs.Sheets.{sheets}
+use Rattle.brk_model.specs.Tables.{Tables}
+use Rattle.brk_rows.proofs.Inside.{clean_before}
+use Rattle.brk_trade_laws.proofs.Steps.{empty_books, empty_rows}
+use Rattle.brk_adoption_laws.specs.Passing.{Passes}
+use Rattle.brk_adoption_laws.proofs.Passing.{passing_tables}
+use Rattle.brk_sound_laws.proofs.SoundRuns.{keyed_both}
+use Rattle.brk_sound_laws.proofs.SoundSteps.{empty_sound}
+use Rattle.brk_store.specs.Audited.{IsAdopted, IsDefinedIn}
+use Rattle.brk_store.specs.Holds.{AreTreesOf, IsCreated, LeavesOnly}
+use Rattle.brk_store.proofs.Found.{found_again}
+use Rattle.brk_store.proofs.Taking.{passing_books_held, sound_books_pass}
+use Rattle.brk_desk.specs.Answers.{outcome_of}
+use Rattle.brk_desk.specs.Commands.{call_of}
+use Rattle.brk_desk.specs.Keeping.{IsCalled, IsRun, KeepsBase, MayCome, base_after_call}
+use Rattle.brk_desk.specs.Reopening.{CanBeKept, IsJustOpened, IsReopened, IsTakenOver, StandsAlone}
+use Rattle.brk_desk.specs.Stops.{MayStand}
+use Rattle.brk_desk.specs.declared.answer.Answer.{Answer}
+use Rattle.brk_desk.specs.declared.call.Call.{Call}
+use Rattle.brk_desk.specs.declared.call.Outcome.{Outcome}
+use Rattle.brk_desk.proofs.AtFirst.{made_keeps, stands}
+use Rattle.brk_desk.proofs.Seen.{still_kept}
+
+pub made_stands : {S : Type 0} (g : Ghosts S) (conn store : Held S) → IsCreated g conn store (Ok tt) → HasCleanDisk (state g store) → StandsAlone g store empty_base
+made_stands g conn store created clean = record {
+  keeps = made_keeps g store created.made;
+  alone = λ trees may. subst (λ (t : Tables). AreTreesOf t trees) (sym empty_rows) (created.durable clean trees may);
+}
+
+-- ---- what can be kept
+
+pub kept_can_be : {S : Type 0} (g : Ghosts S) (store : Held S) (base : Base) → KeepsBase g store base → CanBeKept base
+kept_can_be g store base keeps = record { books = keeps.books; sound = keeps.sound; texts = keeps.texts }
+
+-- what may come of a call can be kept too
+pub booked_can_be : {S : Type 0} (g : Ghosts S) (old new : Held S) (base : Base) (now : ℕ) (command : Command) (key : Option Key) (answer : Result Answer Fault) (trees : Trees)
+    → IsCalled g old new now command key answer → KeepsBase g old base → MayCome g old now command key trees → CanBeKept (base_after_call base now command key)
+booked_can_be g old new base now command key answer trees called keeps come =
+    let both = keyed_both base now command key (keeps.books, keeps.sound) called.in_form.0 called.in_form.1 in
+    record { books = both.0; sound = both.1; texts = come.2 base keeps }
+
+-- ---- what was left is adopted
+
+-- while a store is open a crash leaves its last commit
+abbrev pub Settles : {S : Type 0} → Ghosts S → Type 0
+Settles {S} g = (s : S) (db : Trees) → IsTrue (g.view s).is_open → g.recovers s db → db ≡ (g.view s).committed
+
+module _ {S : Type 0} (g : Ghosts S) (settled : Settles g) where
+  -- a connection that was just opened leaves its trees alone
+  leaves_alone : (trees : Trees) (conn : Held S) → IsJustOpened g trees conn → HasCleanDisk (state g conn) → LeavesOnly g conn (λ left. left ≡ trees)
+  leaves_alone trees conn opened clean left may =
+      let o = opened.opens clean in
+      settled conn.store left o.is_open may ∙ sym (ap (λ (db : Database). db.trees) o.clean) ∙ opened.over.same clean
+
+  module _ (trees : Trees) (conn store : Held S) (result : Result (Unit {0}) Fault) (opened : IsJustOpened g trees conn) (adopted : IsAdopted g conn store result) (clean : HasCleanDisk (state g store)) where
+    clean_conn : HasCleanDisk (state g conn)
+    clean_conn = clean_before (state g conn) (state g store) (λ _. ⊥) adopted.audited.survives clean
+
+    -- and an audit leaves them too
+    stays_alone : LeavesOnly g store (λ left. left ≡ trees)
+    stays_alone left may = elim (adopted.audited.survives.crash clean left may) [ inl was ↦ leaves_alone trees conn opened clean_conn left was | inr none ↦ absurd none ]
+
+    -- over the tables of sound books in order
+    pub taken_over : (base : Base) → CanBeKept base → AreTreesOf (sheets base) trees → (May : Base → Type 0) → May base → IsTakenOver g store result May
+    taken_over base can are May may = record {
+      base = base;
+      may = may;
+      undamaged = sound_books_pass g conn store result adopted.audited base held clean;
+      stands = record {
+        keeps = still_kept g conn store base (adopted.audited.kept (sheets base)) held;
+        alone = λ left m. subst (AreTreesOf (sheets base)) (sym (stays_alone left m)) are;
+      };
+    }
+      where
+        held : KeepsBase g conn base
+        held = record { books = can.books; sound = can.sound; texts = can.texts; rows = found_again g (sheets base) trees conn are opened.over }
+
+  pub adopted_stands : (trees : Trees) (conn store : Held S) → IsJustOpened g trees conn → IsDefinedIn g conn → IsAdopted g conn store (Ok tt) → HasCleanDisk (state g store)
+      → (rows : Tables) × Passes rows × StandsAlone g store (base_of rows)
+  adopted_stands trees conn store opened defined adopted clean =
+      let told = adopted.audited.told clean defined in
+      let before = clean_conn trees conn store (Ok tt) opened adopted clean in (
+        told.0,
+        told.3,
+        record {
+          keeps = passing_books_held g store told.0 (adopted.audited.kept told.0 (λ _ _. told.1)) told.3 told.2;
+          alone = λ left may.
+              let trees_are : AreTreesOf told.0 left = ((state g conn).now, told.1, stays_alone trees conn store (Ok tt) opened adopted clean left may ∙ sym (opened.over.same before)) in
+              subst (λ (t : Tables). AreTreesOf t left) (sym (passing_tables told.0 told.3)) trees_are;
+        },
+      )
+
+  -- a stop within the making of the tables
+  pub making_taken_over : (first left conn store : Held S) (made result : Result (Unit {0}) Fault) (trees : Trees) → IsCreated g first left made → HasCleanDisk (state g left)
+      → (state g left).may_leave trees → IsJustOpened g trees conn → IsAdopted g conn store result → HasCleanDisk (state g store)
+      → (state g first).may_leave trees ⊎ IsTakenOver g store result (λ base. base ≡ empty_base)
+  making_taken_over first left conn store made result trees created clean may opened adopted after =
+      elim (created.survives.crash clean trees may) [
+        | inl was ↦ inl was
+        | inr none ↦ inr (taken_over trees conn store result opened adopted after empty_base (record { books = empty_books; sound = empty_sound; texts = ap has_texts empty_rows })
+            (subst (λ (t : Tables). AreTreesOf t trees) (sym empty_rows) none) (λ base. base ≡ empty_base) refl)
+      ]
+
+  module _ (first left conn store : Held S) (base : Base) (result : Result (Unit {0}) Fault) (at : StandsAlone g first base) (clean : HasCleanDisk (state g left)) (again : IsReopened g left conn)
+      (adopted : IsAdopted g conn store result) (after : HasCleanDisk (state g store)) where
+    -- a stop within a call
+    pub call_taken_over : (now : ℕ) (command : Command) (key : Option Key) (answer : Result Answer Fault) → IsCalled g first left now command key answer
+        → IsTakenOver g store result (λ stood. (stood ≡ base) ⊎ (stood ≡ base_after_call base now command key))
+    call_taken_over now command key answer called =
+        elim (called.survives.crash clean again.0 again.1) [
+          | inl was ↦ taken_over again.0 conn store result again.2 adopted after base (kept_can_be g first base at.keeps) (at.alone again.0 was) May (inl refl)
+          | inr come ↦ taken_over again.0 conn store result again.2 adopted after (base_after_call base now command key) (booked_can_be g first left base now command key answer again.0 called at.keeps come)
+              (come.1 base at.keeps) May (inr refl)
+        ]
+      where
+        May : Base → Type 0
+        May stood = (stood ≡ base) ⊎ (stood ≡ base_after_call base now command key)
+
+    -- a stop within or behind a run
+    pub run_taken_over : (calls : List (ℕ × Call)) (outcomes : List Outcome) → IsRun g first left calls outcomes
+        → IsTakenOver g store result (MayStand base (map call_of calls) (map outcome_of outcomes))
+    run_taken_over calls outcomes run =
+        let l = run.leaves clean base at.keeps at.alone again.0 again.1 in
+        let both = stands base (map call_of calls) (map outcome_of outcomes) l.0 run.in_form (at.keeps.books, at.keeps.sound) l.1 in
+        taken_over again.0 conn store result again.2 adopted after l.0 (record { books = both.0; sound = both.1; texts = l.3 }) l.2 (MayStand base (map call_of calls) (map outcome_of outcomes)) l.1

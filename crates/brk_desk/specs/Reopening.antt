@@ -1,0 +1,42 @@
+-- What was left by a stop, opened again and adopted.
+use Rattle.std.specs.Prelude.{◌≡◌, None, Result, IsTrue}
+use Rattle.sqlite_trees.specs.declared.store.Store.{Ghosts}
+use Rattle.sqlite_trees.specs.Tree.{Trees}
+use Rattle.sqlite.specs.Held.{Held, state}
+use Rattle.sqlite.specs.State.{HasCleanDisk, Opens}
+use Rattle.brk_money.specs.declared.fault.Fault.{Fault}
+use Rattle.brk_model.specs.Base.{Base}
+use Rattle.brk_model.specs.Form.{has_texts}
+use Rattle.brk_model.specs.Sheets.{sheets}
+use Rattle.brk_trade_laws.specs.Books.{IsBooks}
+use Rattle.brk_sound_laws.specs.Sound.{IsSound}
+use Rattle.brk_store.specs.Audited.{OnAnswer}
+use Rattle.brk_store.specs.Holds.{AreTreesOf, IsOpenedOver, LeavesOnly}
+use Rattle.brk_desk.specs.Keeping.{KeepsBase}
+
+-- the books of a base are in order and sound, so that their tables pass an audit, and their texts can be read
+pub record CanBeKept (base : Base) : Type 0 where
+  pub books : IsBooks base
+  pub sound : IsSound base
+  pub texts : IsTrue (has_texts (sheets base))
+
+-- the books of a base are kept, and a stop leaves the tables of that base and nothing else
+pub record StandsAlone {S : Type 0} (g : Ghosts S) (store : Held S) (base : Base) : Type 0 where
+  pub keeps : KeepsBase g store base
+  pub alone : LeavesOnly g store (AreTreesOf (sheets base))
+
+-- a connection that was just opened over these trees
+pub record IsJustOpened {S : Type 0} (g : Ghosts S) (trees : Trees) (conn : Held S) : Type 0 where
+  pub over : IsOpenedOver g trees conn
+  pub opens : HasCleanDisk (state g conn) → Opens (state g conn)
+
+-- a connection was opened over what a stop left of a store
+abbrev pub IsReopened : {S : Type 0} → Ghosts S → Held S → Held S → Type 0
+IsReopened g left conn = (trees : Trees) × (state g left).may_leave trees × IsJustOpened g trees conn
+
+-- An adoption found no condition that fails, and the books of one of these bases stand. So it is with the connection that comes back from a fault too.
+pub record IsTakenOver {S : Type 0} (g : Ghosts S) (store : Held S) (result : Result (Unit {0}) Fault) (May : Base → Type 0) : Type 0 where
+  pub base : Base
+  pub may : May base
+  pub undamaged : OnAnswer result (λ failing. failing ≡ None)
+  pub stands : StandsAlone g store base

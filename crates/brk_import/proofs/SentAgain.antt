@@ -1,0 +1,280 @@
+-- A batch that was stopped and is sent again.
+use Rattle.std.proofs.Common.{◌≡◌, ◌⊎◌, ◌∙◌, inl, inr, ℕ, ◌+◌, List, [], ◌∷◌, ◌++◌, length, Some, None, Result, Ok, Err, refl, sym, ap, subst}
+use Rattle.csv.specs.Reading.{records, default_config}
+use Rattle.sqlite_trees.specs.Tree.{Trees}
+use Rattle.sqlite_trees.specs.declared.store.Store.{Ghosts}
+use Rattle.sqlite.specs.Held.{Held, state}
+use Rattle.sqlite.specs.State.{HasCleanDisk}
+use Rattle.std.specs.Io.KnownBytes.{Appends}
+use Rattle.brk_money.specs.Spelling.{Text}
+use Rattle.brk_money.specs.declared.fault.Fault.{Fault}
+use Rattle.brk_model.specs.Answers.{Fields}
+use Rattle.brk_model.specs.Base.{Base}
+use Rattle.brk_model.specs.Batch as model
+use Rattle.brk_model.specs.Batch.{AreSettled, Ending, Ends, row_step}
+use Rattle.brk_model.specs.Commands.{Answer, Command}
+use Rattle.brk_model.specs.Forms.{Read}
+use Rattle.brk_model.specs.Input.{Begins, end_of, header_of}
+use Rattle.brk_model.specs.Lines.{end_line, lines_from}
+use Rattle.brk_model.specs.Sheets.{sheets}
+use Rattle.brk_model_laws.specs.Laws.{IsBookedNext, IsCompleted}
+use Rattle.brk_model_laws.proofs.StoppedLaws.{booked-completed, completed, next-goes-on, rows-go-on}
+use Rattle.brk_outside.specs.Moments.{Moments}
+use Rattle.brk_outside.specs.Span.{Outside, with_base}
+use Rattle.brk_store.specs.Audited.{IsAdopted, OnAnswer}
+use Rattle.brk_store.specs.Holds.{AreTreesOf}
+use Rattle.brk_desk.specs.Keeping.{KeepsBase}
+use Rattle.brk_desk.specs.Reopening.{CanBeKept, IsReopened, StandsAlone}
+use Rattle.brk_desk.proofs.Reopened.{Settles, kept_can_be, taken_over}
+use Rattle.brk_import.specs.Batch.{BatchGives, CameTo, Faulted, IsUnderWay, KeepsBooks, LeavesAt, LeavesBooks, Stopped}
+use Rattle.brk_import.specs.Leaving.{LeavesOneOf}
+use Rattle.brk_import.specs.SentAgain.{IsSentAgain}
+use Rattle.brk_import.specs.declared.batch_fault.BatchFault.{BatchFault}
+use Rattle.brk_import.specs.declared.batch_fault.FaultKind.{FaultKind}
+use Rattle.brk_import.specs.declared.batch_fault.FaultKind.TheVariants as kinds
+use Rattle.brk_import.specs.declared.counts.Counts.{Counts}
+use Rattle.brk_import.proofs.Reading.{begins_front}
+
+module _ {S C : Type 0} (g : Ghosts S) (rests : Settles g) (form : Fields → Read Command) (apart : (n : ℕ) (command : Command) → form (end_of n) ≡ Ok command → ⊥) (gives : C → ℕ → C → Type 0)
+    (text : Text) (one : Outside C) (base : Base) where
+  -- what the first sending settled
+  record Part (after : Base) : Type 0 where
+    pub name : Text
+    pub rows : List Fields
+    pub answers : List Answer
+    pub moments : List ℕ
+    pub mid : C
+    pub taken : Moments gives one.clock moments mid
+    pub settled : AreSettled form row_step name base moments rows answers after
+    pub begins : Begins (Some text) (header_of name ∷ rows)
+
+  -- a row was under way behind it
+  record Under (after stood : Base) : Type 0 where
+    pub part : Part after
+    pub row : Fields
+    pub begins : Begins (Some text) (header_of part.name ∷ (part.rows ++ row ∷ []))
+    pub command : Command
+    pub formed : form row ≡ Ok command
+    pub moment : ℕ
+    pub given : gives part.mid moment one.later
+    pub booked : (row_step after moment command (record { batch = part.name; row = length part.rows + 1 })).1 ≡ stood
+
+  -- nothing was settled, or a part
+  abbrev First : Base → Type 0
+  First after = (after ≡ base) ⊎ Part after
+
+  -- what stands, of what a stop left
+  record Found (trees : Trees) : Type 0 where
+    pub after : Base
+    pub stood : Base
+    pub can : CanBeKept stood
+    pub are : AreTreesOf (sheets stood) trees
+    pub how : ((stood ≡ after) × First after) ⊎ Under after stood
+
+  -- ---- the first sending
+
+  ending_begins : (ending : Ending) (name : Text) (rows : List Fields) (answers told : List Answer) (out : Text) → Ends (Some text) ending name rows answers told out → Begins (Some text) (header_of name ∷ rows)
+  ending_begins model.EndedWell name rows answers told out ends = begins_front (Some text) (header_of name ∷ rows) (end_of (length rows) ∷ []) ends.0
+  ending_begins model.BadEnd name rows answers told out ends = begins_front (Some text) (header_of name ∷ rows) (ends.0.0 ∷ []) ends.0.3
+  ending_begins model.NoEnd name rows answers told out (inl cut, said) = ([], subst (λ (rs : List Fields). records default_config text ≡ header_of name ∷ (rs ++ [])) (sym cut.0) cut.1)
+  ending_begins model.NoEnd name rows answers told out (inr cut, said) = (cut.0 ∷ [], cut.2)
+  ending_begins model.BadHeader name rows answers told out ends = absurd ends
+
+  ended : (ending : Ending) (count : ℕ) (after : Base) → CameTo form row_step gives (Some text) (with_base base after one) ending count → Part after
+  ended ending count after c = record {
+    name = c.answered.name;
+    rows = c.answered.rows;
+    answers = c.answered.answers;
+    moments = c.moments;
+    mid = one.later;
+    taken = c.taken;
+    settled = c.answered.settled;
+    begins = ending_begins ending c.answered.name c.answered.rows c.answered.answers c.answered.told c.lines c.answered.ends;
+  }
+
+  abbrev stopped : (count : ℕ) (after : Base) → Stopped form row_step gives (Some text) (with_base base after one) count → Part after
+  stopped count after s = record {
+    name = s.name;
+    rows = s.rows;
+    answers = s.answers;
+    moments = s.moments;
+    mid = s.mid;
+    taken = s.taken;
+    settled = s.settled;
+    begins = s.begins;
+  }
+
+  by_kind : (count : ℕ) (kind : FaultKind) (after : Base) → Faulted form row_step gives (Some text) (with_base base after one) count kind → First after
+  by_kind count kinds.BadHeader after f = inl f.0.base
+  by_kind count kinds.NoEnd after f = inr (ended model.NoEnd count after f)
+  by_kind count kinds.BadEnd after f = inr (ended model.BadEnd count after f)
+  by_kind count kinds.Read after (inl f) = inl f.1.base
+  by_kind count kinds.Read after (inr f) = inr (stopped count after f.0)
+  by_kind count kinds.Write after f = inr (stopped count after f.0)
+  by_kind count (kinds.Desk fault) after (inl f) = inl f.2.base
+  by_kind count (kinds.Desk fault) after (inr (inl f)) = inr (stopped count after f.0)
+  by_kind count (kinds.Desk fault) after (inr (inr f)) = inr (stopped count after f.0)
+
+  by_result : (result : Result Counts BatchFault) (after : Base) → BatchGives form row_step gives (Some text) (with_base base after one) result → First after
+  by_result (Ok counts) after h = inr (ended model.EndedWell (counts.ok + counts.again + counts.no) after h.0)
+  by_result (Err fault) after h = by_kind fault.rows fault.kind after h
+
+  under_way : (after : Base) (left : Held S) (fault : BatchFault) (w : IsUnderWay form row_step gives (LeavesOneOf g) (Some text) (with_base base after one) left fault)
+      → Under after (row_step after w.moment w.command (record { batch = w.stopped.name; row = fault.rows + 1 })).1
+  under_way after left fault w = record {
+    part = stopped fault.rows after w.stopped;
+    row = w.row;
+    begins = w.begins;
+    command = w.command;
+    formed = w.formed;
+    moment = w.moment;
+    given = w.given;
+    booked =
+        ap (λ (n : ℕ). (row_step after w.moment w.command (record { batch = w.stopped.name; row = n + 1 })).1)
+        (sym (w.stopped.counted ∙ ap (λ (l : List Answer). length l) w.told ∙ w.stopped.settled.each));
+  }
+
+  module _ (left : Held S) (trees : Trees) (may : (state g left).may_leave trees) (after : Base) (keeps : KeepsBase g left after) (first : First after) where
+    found_alone : LeavesOneOf g left after after → Found trees
+    found_alone only = record {
+      after = after;
+      stood = after;
+      can = kept_can_be g left after keeps;
+      are = elim (only trees may) [ inl are ↦ are | inr are ↦ are.0 ];
+      how = inl (refl, first);
+    }
+
+    found_under : (fault : BatchFault) → IsUnderWay form row_step gives (LeavesOneOf g) (Some text) (with_base base after one) left fault → Found trees
+    found_under fault w = elim (w.may trees may) [
+      | inl are ↦ record { after = after; stood = after; can = kept_can_be g left after keeps; are = are; how = inl (refl, first) }
+      | inr booked ↦ record {
+        after = after;
+        stood = (row_step after w.moment w.command (record { batch = w.stopped.name; row = fault.rows + 1 })).1;
+        can = booked.1;
+        are = booked.0;
+        how = inr (under_way after left fault w);
+      }
+    ]
+
+    found_at : (result : Result Counts BatchFault) → LeavesAt form row_step gives (LeavesOneOf g) (Some text) (with_base base after one) left result → Found trees
+    found_at (Ok counts) only = found_alone only
+    found_at (Err fault) (inl only) = found_alone only
+    found_at (Err fault) (inr w) = found_under fault w
+
+  found : (first left : Held S) (result : Result Counts BatchFault) → StandsAlone g first base
+      → LeavesBooks (λ desk. HasCleanDisk (state g desk)) (λ desk. KeepsBase g desk) (LeavesOneOf g) form row_step gives (Some text) first left one result
+      → HasCleanDisk (state g left) → (trees : Trees) → (state g left).may_leave trees → Found trees
+  found first left result at leaves clean trees may =
+      let l = leaves clean base at.keeps (λ t m. inl (at.alone t m)) in
+      found_at left trees may l.0 l.1 (by_result result l.0 l.2) result l.3
+
+  -- ---- the second one
+
+  module _ (after stood last : Base) (two : Outside C) (count : ℕ) (c : CameTo form row_step gives (Some text) (with_base stood last two) model.EndedWell count) where
+    -- where nothing was settled, no row was
+    none_settled : after ≡ base → Part after
+    none_settled same = record {
+      name = c.answered.name;
+      rows = [];
+      answers = [];
+      moments = [];
+      mid = one.clock;
+      taken = refl;
+      settled = record { named = c.answered.settled.named; rows_only = tt; answered = record { replies = []; one_each = refl; run = same; all = refl }; each = refl };
+      begins = begins_front (Some text) (header_of c.answered.name ∷ []) (c.answered.rows ++ end_of (length c.answered.rows) ∷ []) c.answered.ends.0;
+    }
+
+    part_of : First after → Part after
+    part_of (inl same) = none_settled same
+    part_of (inr part) = part
+
+    wrote : Appends two.old two.new (lines_from 1 c.answered.answers ++ end_line c.answered.answers)
+    wrote = subst (λ l. Appends two.old two.new l) c.answered.ends.2 c.written
+
+    module _ (p : Part after) (more : List Fields) (named : p.name ≡ c.answered.name) (rows_are : c.answered.rows ≡ p.rows ++ more) where
+      second : AreSettled form row_step p.name stood c.moments (p.rows ++ more) c.answered.answers last
+      second =
+          subst (λ (rs : List Fields). AreSettled form row_step p.name stood c.moments rs c.answered.answers last) rows_are
+          (subst (λ (n : Text). AreSettled form row_step n stood c.moments c.answered.rows c.answered.answers last) (sym named) c.answered.settled)
+
+      named_again : (moments : List ℕ) (answers : List Answer) → IsCompleted form p.name base moments c.moments (p.rows ++ more) answers c.answered.answers last
+          → IsCompleted form c.answered.name base moments c.moments c.answered.rows answers c.answered.answers last
+      named_again moments answers k =
+          subst (λ (n : Text). IsCompleted form n base moments c.moments c.answered.rows answers c.answered.answers last) named
+          (subst (λ (rs : List Fields). IsCompleted form p.name base moments c.moments rs answers c.answered.answers last) (sym rows_are) k)
+
+    -- no row was under way
+    from_part : stood ≡ after → Part after → IsSentAgain form gives (Some text) base last one two
+    from_part same p = record {
+      name = c.answered.name;
+      rows = c.answered.rows;
+      whole = c.answered.ends.0;
+      answers = p.answers;
+      moments = p.moments;
+      mid = p.mid;
+      taken = p.taken;
+      told = c.answered.answers;
+      others = c.moments;
+      asked = c.taken;
+      written = wrote;
+      completed = λ none. inl (named_again p on.1.0 on.0 on.1.1 p.moments p.answers
+          (completed form p.name base after last p.moments c.moments p.rows on.1.0 p.answers c.answered.answers none p.settled
+          (subst (λ (b : Base). AreSettled form row_step p.name b c.moments (p.rows ++ on.1.0) c.answered.answers last) same (second p on.1.0 on.0 on.1.1))));
+    }
+      where
+        on : (p.name ≡ c.answered.name) × ((back : List Fields) × (c.answered.rows ≡ p.rows ++ back))
+        on = rows-go-on text p.name c.answered.name p.rows c.answered.rows p.settled.rows_only p.begins c.answered.ends.0
+
+    -- a row was
+    from_under : Under after stood → IsSentAgain form gives (Some text) base last one two
+    from_under u = record {
+      name = c.answered.name;
+      rows = c.answered.rows;
+      whole = c.answered.ends.0;
+      answers = p.answers;
+      moments = p.moments;
+      mid = p.mid;
+      taken = p.taken;
+      told = c.answered.answers;
+      others = c.moments;
+      asked = c.taken;
+      written = wrote;
+      completed = λ none.
+          elim (booked-completed form p.name base after stood last p.moments c.moments p.rows (u.row ∷ on.1.0) p.answers c.answered.answers u.moment answer none p.settled next (second p (u.row ∷ on.1.0) on.0 on.1.1)) [
+            | inl k ↦ inl (named_again p (u.row ∷ on.1.0) on.0 on.1.1 p.moments p.answers k)
+            | inr k ↦ inr (u.moment, answer, u.given, named_again p (u.row ∷ on.1.0) on.0 on.1.1 (p.moments ++ u.moment ∷ []) (p.answers ++ answer ∷ []) k)
+          ];
+    }
+      where
+        p : Part after
+        p = u.part
+
+        on : (p.name ≡ c.answered.name) × ((rest : List Fields) × (c.answered.rows ≡ p.rows ++ u.row ∷ rest))
+        on = next-goes-on text p.name c.answered.name p.rows c.answered.rows u.row p.settled.rows_only u.begins c.answered.ends.0 (λ n e. apart n u.command (ap form (sym e) ∙ u.formed))
+
+        answer : Answer
+        answer = (row_step after u.moment u.command (record { batch = p.name; row = length p.rows + 1 })).0
+
+        next : IsBookedNext form p.name after p.rows (u.row ∷ on.1.0) u.moment answer stood
+        next = record { row = u.row; rest = on.1.0; next = refl; command = u.command; formed = u.formed; booked = ap (λ (b : Base). (answer, b)) u.booked }
+
+    from_how : ((stood ≡ after) × First after) ⊎ Under after stood → IsSentAgain form gives (Some text) base last one two
+    from_how (inl (same, first)) = from_part same (part_of first)
+    from_how (inr u) = from_under u
+
+  -- ---- both
+
+  pub sent_again : (first left conn store last : Held S) (two : Outside C) (ended : Result Counts BatchFault) (taken : Result (Unit {0}) Fault) (counts : Counts) → StandsAlone g first base
+      → LeavesBooks (λ desk. HasCleanDisk (state g desk)) (λ desk. KeepsBase g desk) (LeavesOneOf g) form row_step gives (Some text) first left one ended
+      → HasCleanDisk (state g left) → IsReopened g left conn → IsAdopted g conn store taken → HasCleanDisk (state g store)
+      → OnAnswer taken (λ failing. failing ≡ None)
+      × (KeepsBooks (λ desk. HasCleanDisk (state g desk)) (λ desk. KeepsBase g desk) form row_step gives (Some text) store last two (Ok counts) → HasCleanDisk (state g last)
+      → (after : Base) × KeepsBase g last after × IsSentAgain form gives (Some text) base after one two)
+  sent_again first left conn store last two ended taken counts at leaves clean again adopted next =
+      let f = found first left ended at leaves clean again.0 again.1 in
+      let t = taken_over g rests again.0 conn store taken again.2 adopted next f.stood f.can f.are (λ (b : Base). b ≡ f.stood) refl in (
+        t.undamaged,
+        λ keeps good.
+            let k = keeps good f.stood (subst (KeepsBase g store) t.may t.stands.keeps) in
+            (k.0, k.1, from_how f.after f.stood k.0 two (counts.ok + counts.again + counts.no) k.2.0 f.how),
+      )
