@@ -1,8 +1,13 @@
 //! A desk's database in a file.
 
+ghost use Rattle.std.specs.Prelude.{◌≡◌, IfErr, IfOk, false};
+ghost use Rattle.sqlite.specs.Files.{over_files};
+ghost use Rattle.brk_files.specs.Opened.{StandsOnRows};
+
 use brk_money::{Condition, Fault};
 use brk_store::Store;
-use sqlite::{Connection, File, FileStore};
+use sqlite::{Alter, Connection, File, FileStore};
+use std::alloc::Global;
 use std::fs;
 use std::io::ErrorKind;
 
@@ -21,16 +26,30 @@ fn shut(conn: Connection<FileStore<File>>) -> Result<(), Fault> {
     }
 }
 
-fn connect(rt: &HostRuntime, path: &str) -> Result<Connection<FileStore<File>>, Fault> {
+fn connect(rt: &HostRuntime, path: &str) -> Result<Connection<FileStore<File>>, Fault>
+    ensures { IfOk result (λ conn. conn.in_transaction ≡ false) }
+{
     match Connection::open(rt, path) {
         Ok(conn) => Ok(conn),
         Err(_) => Err(Fault::Store),
     }
 }
 
+// The desk of a connection on which no transaction is open.
+fn take<S: Alter>(alloc: Global, conn: Connection<S>) -> Result<Store<S>, (Connection<S>, Fault)>
+    requires { conn.in_transaction ≡ false }
+    ensures { IfOk result (λ store. StandsOnRows S.Store store) }
+{
+    let _settled = conn.is_autocommit();
+    Store::adopt(alloc, conn)
+}
+
 // The desk of a connection. Where it is none the file is closed all the same.
-fn adopt(rt: &HostRuntime, conn: Connection<FileStore<File>>) -> Result<FileDesk, Fault> {
-    match Store::adopt(rt.alloc(), conn) {
+fn adopt(rt: &HostRuntime, conn: Connection<FileStore<File>>) -> Result<FileDesk, Fault>
+    requires { conn.in_transaction ≡ false }
+    ensures { IfOk result (λ store. StandsOnRows over_files store) }
+{
+    match take(rt.alloc(), conn) {
         Ok(store) => Ok(store),
         Err((conn, fault)) => {
             let _ = shut(conn);
@@ -42,7 +61,9 @@ fn adopt(rt: &HostRuntime, conn: Connection<FileStore<File>>) -> Result<FileDesk
 /// Opens the desk in a file, or makes one where the file is missing or empty or has no table of a desk. A desk that was
 /// made is closed and opened once more: so its tables stand in the file itself, and a file that then loses its log is
 /// never taken for a new one.
-pub fn open_or_make(rt: &HostRuntime, path: &str) -> Result<FileDesk, Fault> {
+pub fn open_or_make(rt: &HostRuntime, path: &str) -> Result<FileDesk, Fault>
+    ensures stands { IfOk result (λ store. StandsOnRows over_files store) }
+{
     match Store::create(connect(rt, path)?) {
         Ok(store) => {
             close(store)?;
@@ -65,7 +86,9 @@ fn is_missing(rt: &HostRuntime, path: &str) -> bool {
 }
 
 /// Opens the desk in a file, and makes none: a file that is missing or empty has no desk's tables.
-pub fn open(rt: &HostRuntime, path: &str) -> Result<FileDesk, Fault> {
+pub fn open(rt: &HostRuntime, path: &str) -> Result<FileDesk, Fault>
+    ensures stands { IfOk result (λ store. StandsOnRows over_files store) }
+{
     if is_missing(rt, path) {
         return Err(Fault::Damaged(Condition::Schema));
     }
