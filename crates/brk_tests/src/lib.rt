@@ -10,6 +10,4 @@ mod completion_rows;
 #[cfg(test)]
 mod decisions;
 #[cfg(test)]
-mod faults;
-#[cfg(test)]
 mod trade_tables;

@@ -14,7 +14,7 @@ pub struct Asked {
 }
 
 /// An account by its number and two days by their texts.
-pub fn asked(account: u64, from: &str, to: &str) -> Result<Asked, Fail> {
+pub fn span_of(account: u64, from: &str, to: &str) -> Result<Asked, Fail> {
     let account = Id::new(account).ok_or("an account")?;
     let from = parse_day(from.as_bytes()).ok_or("a first day")?;
     let to = parse_day(to.as_bytes()).ok_or("a last day")?;

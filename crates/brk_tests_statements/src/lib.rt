@@ -1,10 +1,8 @@
-//! Tests of statements, byte for byte, and of walks, over desks in memory and over a disk that fails.
+//! Tests of statements, byte for byte, and of walks, over desks in memory.
 #![tactic(auto)]
 
 #[cfg(test)]
 mod asking;
-#[cfg(test)]
-mod disks;
 #[cfg(test)]
 mod lines;
 #[cfg(test)]

@@ -1,6 +1,6 @@
 //! Statements that are refused: nothing is written.
 
-use crate::asking::{Narrow, asked};
+use crate::asking::{Narrow, span_of};
 use brk_report::{StatementFault, statement};
 use brk_tests_desks::desks::set_desk;
 use std::test::Fail;
@@ -27,7 +27,7 @@ fn a_refused_statement_writes_nothing(rt: HostRuntime) -> Result<(), Fail> {
     let alloc = rt.alloc();
     let mut desk = set_desk(alloc)?;
     for (account, from, to, number) in REFUSED {
-        let asked = asked(account, from, to)?;
+        let asked = span_of(account, from, to)?;
         let mut writer = Narrow {
             taken: Vec::new(alloc),
             room: usize::MAX,

@@ -1,6 +1,6 @@
 //! Statements between trades: before, within and after their days, with lots of several symbols, long and short.
 
-use crate::asking::{Narrow, asked};
+use crate::asking::{Narrow, span_of};
 use brk_report::statement;
 use brk_tests_desks::desk::Desk;
 use brk_tests_desks::desks::{Step, expect_steps, set_desk};
@@ -387,7 +387,7 @@ fn expect_statement(
     told: &Told,
 ) -> Result<(), Fail> {
     let (account, from, to, wanted) = told;
-    let asked = asked(*account, from, to)?;
+    let asked = span_of(*account, from, to)?;
     let mut writer = Narrow {
         taken: Vec::new(alloc),
         room: usize::MAX,

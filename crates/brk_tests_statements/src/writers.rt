@@ -1,6 +1,6 @@
 //! A writer that stops at each byte of a statement: what it took before is written, and nothing after.
 
-use crate::asking::{Narrow, asked};
+use crate::asking::{Narrow, span_of};
 use brk_report::{StatementFault, statement};
 use brk_tests_desks::desk::Desk;
 use brk_tests_desks::desks::{Step, expect, set_desk};
@@ -58,7 +58,7 @@ fn expect_cut(
     desk: &mut Desk<MemStore>,
     room: usize,
 ) -> Result<(), Fail> {
-    let asked = asked(100, "2024-03-01", "2024-03-31")?;
+    let asked = span_of(100, "2024-03-01", "2024-03-31")?;
     let mut writer = Narrow {
         taken: Vec::new(alloc),
         room,
