@@ -41,8 +41,8 @@ fn told_of(alloc: Global, desk: &mut Desk<MemStore>, asked: &str) -> Result<Stri
     }
 }
 
-// Asks a desk in several ways, each of which is answered alike.
-fn expect_alike(
+/// Asks a desk in several ways, each of which is answered alike.
+pub fn expect_alike(
     alloc: Global,
     desk: &mut Desk<MemStore>,
     shown: &str,

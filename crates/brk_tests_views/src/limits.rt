@@ -2,7 +2,7 @@
 //! lots, and the ten accounts that a customer may have. Fifty-two orders of one share come to the market at one stamp, so ids
 //! decide which trades are left out. A trade has three statuses at most, so ten trades never have more than thirty.
 
-use crate::asking::{Stage, book, expect_stages, expect_views};
+use crate::asking::{Stage, book, expect_alike, expect_stages};
 use brk_tests_desks::desk::Desk;
 use brk_tests_desks::desks::set_desk;
 use sqlite::MemStore;
@@ -55,37 +55,29 @@ fn all_submitted(alloc: Global) -> Result<String, Fail> {
     Ok(told)
 }
 
-// Asks what is shown of all purchases while they are at the market.
-fn expect_purchases(alloc: Global, desk: &mut Desk<MemStore>) -> Result<(), Fail> {
-    let batch = purchases(alloc)?;
-    let last = last_fifty(alloc)?;
-    let first = first_twenty(alloc)?;
-    let all = all_submitted(alloc)?;
-    book(alloc, desk, batch.as_str())?;
-    let cases = [
-        (
-            "the last fifty trades",
-            ["status,100"].as_slice(),
-            last.as_str(),
-        ),
-        (
-            "the first twenty trades",
-            [
-                "accounttrades,100,0,253402300799999",
-                "symboltrades,ABC,1709251200068,1709251200068",
-                "trades,20,19,18,17,16,15,14,13,12,11,10,9,8,7,6,5,4,3,2,1",
-            ]
-            .as_slice(),
-            first.as_str(),
-        ),
-        (
-            "all trades at the market",
-            ["submitted"].as_slice(),
-            all.as_str(),
-        ),
-    ];
-    expect_views(alloc, desk, &cases)
+// Asks for the last fifty trades of the account.
+fn expect_last_fifty(alloc: Global, desk: &mut Desk<MemStore>) -> Result<(), Fail> {
+    let told = last_fifty(alloc)?;
+    expect_alike(alloc, desk, "fifty trades", &["status,100"], told.as_str())
 }
+
+// Looks up the first twenty trades in each way.
+fn expect_first_twenty(alloc: Global, desk: &mut Desk<MemStore>) -> Result<(), Fail> {
+    let told = first_twenty(alloc)?;
+    expect_alike(alloc, desk, "twenty trades", &LOOKUPS, told.as_str())
+}
+
+// Asks for all trades at the market.
+fn expect_all_submitted(alloc: Global, desk: &mut Desk<MemStore>) -> Result<(), Fail> {
+    let told = all_submitted(alloc)?;
+    expect_alike(alloc, desk, "all trades", &["submitted"], told.as_str())
+}
+
+const LOOKUPS: [&str; 3] = [
+    "accounttrades,100,0,253402300799999",
+    "symboltrades,ABC,1709251200068,1709251200068",
+    "trades,20,19,18,17,16,15,14,13,12,11,10,9,8,7,6,5,4,3,2,1",
+];
 
 const STAGES: [Stage; 4] = [
     (
@@ -166,9 +158,18 @@ const STAGES: [Stage; 4] = [
     ),
 ];
 
+// Sends the purchases.
+fn book_purchases(alloc: Global, desk: &mut Desk<MemStore>) -> Result<(), Fail> {
+    let batch = purchases(alloc)?;
+    book(alloc, desk, batch.as_str())
+}
+
 // Asks while the purchases are at the market, and then what became of some of them.
 fn expect_limits(alloc: Global, desk: &mut Desk<MemStore>) -> Result<(), Fail> {
-    expect_purchases(alloc, desk)?;
+    book_purchases(alloc, desk)?;
+    expect_last_fifty(alloc, desk)?;
+    expect_first_twenty(alloc, desk)?;
+    expect_all_submitted(alloc, desk)?;
     expect_stages(alloc, desk, &STAGES)
 }
 
