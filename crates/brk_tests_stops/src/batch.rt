@@ -1,7 +1,7 @@
 //! The batch of the sweeps: its rows, its lines, the tables after it, and how it is completed.
 
 use brk_import::brk_desk::Desk;
-use brk_import::{BatchFault, Clock, Counts, FaultKind};
+use brk_import::{BatchFault, Clock, Counts};
 use brk_money::Stamp;
 use brk_tests_desks::desks::{Step, expect};
 use brk_tests_desks::plans::worked::{FIRST_MOMENT, add_lines};
@@ -87,27 +87,18 @@ pub fn all_lines(alloc: Global, booked: usize) -> Result<String, Fail> {
     Ok(told)
 }
 
-/// Compares the fault that ends a batch.
+/// Compares the fault that ends a batch, and what was written.
 pub fn expect_fault(
     name: &str,
     ended: Result<Counts, BatchFault>,
-    rows: usize,
-    kind: FaultKind,
+    wanted: BatchFault,
+    told: &[u8],
+    lines: &str,
 ) -> Result<(), Fail> {
-    let rows = rows as u64;
-    if ended == Err(BatchFault { rows, kind }) {
+    if ended == Err(wanted) && told == lines.as_bytes() {
         Ok(())
     } else {
-        Err(Fail::new(format_args!("{name}: the fault")))
-    }
-}
-
-/// Compares what was written.
-pub fn expect_told(name: &str, told: &[u8], wanted: &[u8]) -> Result<(), Fail> {
-    if told == wanted {
-        Ok(())
-    } else {
-        Err(Fail::new(format_args!("{name}: the lines")))
+        Err(Fail::new(format_args!("{name}: the fault, or the lines")))
     }
 }
 

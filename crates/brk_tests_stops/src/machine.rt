@@ -2,17 +2,15 @@
 //! it, and comes back.
 
 use crate::batch::Still;
+use crate::tables::add_tables;
 use brk_import::brk_desk::Desk;
 use brk_import::brk_desk::brk_store::Store;
 use brk_import::run_batch;
 use brk_money::{Condition, Fault};
-use sqlite::{Alter, Connection, FileStore, Files, Options};
+use sqlite::{Alter, Connection, Files, Options};
 use sqlite_disk::{Crash, Disk, Fuse, Memory};
-use std::alloc::Global;
+use std::alloc::{AllocError, Global};
 use std::test::Fail;
-
-/// A database in files that may be stopped.
-pub type Stopping = FileStore<Fuse<Memory>>;
 
 /// A file of a desk.
 #[derive(Clone, Copy)]
@@ -21,20 +19,22 @@ pub enum File {
     Database,
 }
 
-/// A machine that stops: one file takes so many calls and fails at each one after. What was not synced is lost or kept.
+/// A machine that stops: a file takes so many calls and fails at each one after. What was not synced is lost or kept.
 #[derive(Clone, Copy)]
 pub struct Stop {
+    pub name: &'static str,
     pub file: File,
-    pub calls: u64,
     pub loses: bool,
+    pub calls: u64,
 }
 
 impl Stop {
     /// A machine that does not stop.
     pub const NEVER: Stop = Stop {
+        name: "no stop",
         file: File::Log,
-        calls: u64::MAX,
         loses: false,
+        calls: u64::MAX,
     };
 }
 
@@ -55,43 +55,25 @@ impl Held {
     }
 }
 
-// A file with these bytes, which takes so many calls.
-fn file_of(alloc: Global, bytes: &[u8], calls: u64) -> Result<Fuse<Memory>, Fail> {
-    let mut file = Memory::new(alloc);
-    if file.write_at(0, bytes).is_err() || file.sync().is_err() {
-        return Err("no memory for a file")?;
+/// What was seen of a batch at a desk: all tables before and after it, its lines, and whether an audit passed after it.
+#[derive(Drop)]
+pub struct Seen {
+    pub before: String,
+    pub lines: Vec<u8>,
+    pub is_sound: bool,
+    pub after: String,
+}
+
+impl Seen {
+    /// What is seen before a batch.
+    pub fn nothing(alloc: Global) -> Seen {
+        Seen {
+            before: String::new(alloc),
+            lines: Vec::new(alloc),
+            is_sound: false,
+            after: String::new(alloc),
+        }
     }
-    Ok(Fuse::new(file, calls))
-}
-
-// The files with these bytes.
-fn files_of(alloc: Global, held: &Held, stop: Stop) -> Result<Files<Fuse<Memory>>, Fail> {
-    let (log_calls, db_calls) = match stop.file {
-        File::Log => (stop.calls, u64::MAX),
-        File::Database => (u64::MAX, stop.calls),
-    };
-    let log = file_of(alloc, &held.log, log_calls)?;
-    let db = file_of(alloc, &held.db, db_calls)?;
-    Ok(Files { log, db })
-}
-
-// Whether a file was stopped, or takes no call more.
-fn is_stopped(file: &mut Fuse<Memory>) -> bool {
-    !file.may_be_used() || file.len().is_err()
-}
-
-// The bytes that files hold once the machine comes back, and whether it was stopped.
-fn came_back(alloc: Global, files: Files<Fuse<Memory>>, loses: bool) -> Result<(Held, bool), Fail> {
-    let Files { mut log, mut db } = files;
-    let was_stopped = is_stopped(&mut log) || is_stopped(&mut db);
-    if loses {
-        log.crash();
-        db.crash();
-    }
-    let mut held = Held::nothing(alloc);
-    held.log.extend_from_slice(log.inner().bytes())?;
-    held.db.extend_from_slice(db.inner().bytes())?;
-    Ok((held, was_stopped))
 }
 
 // The desk of a database, which is made where there is none, and has to pass its audit.
@@ -106,68 +88,85 @@ fn desk_of<S: Alter + Drop>(alloc: Global, conn: Connection<S>) -> Result<Desk<S
     }
 }
 
-// Sends a batch to the desk in these files as far as it comes, and gives the files back as they are.
-fn run_over(
+/// Sends a batch to the desk of a database, as far as it comes.
+pub fn book<S: Alter + Drop>(
+    alloc: Global,
+    mut conn: Connection<S>,
+    batch: &[u8],
+    seen: &mut Seen,
+) -> Connection<S> {
+    add_tables(alloc, &mut seen.before, &mut conn);
+    match desk_of(alloc, conn) {
+        Ok(mut desk) => {
+            drop(run_batch(alloc, batch, &mut seen.lines, &mut Still, &mut desk));
+            seen.is_sound = desk.audit(alloc).is_ok();
+            let mut conn = desk.into_store().into_conn();
+            add_tables(alloc, &mut seen.after, &mut conn);
+            conn
+        }
+        Err(conn) => conn,
+    }
+}
+
+// Opens these files, sends a batch to the desk in them, and closes them, as far as it comes.
+fn book_in(
     alloc: Global,
     files: Files<Fuse<Memory>>,
     batch: &[u8],
-    lines: &mut Vec<u8>,
+    seen: &mut Seen,
 ) -> Files<Fuse<Memory>> {
     if !files.log.may_be_used() || !files.db.may_be_used() {
         return files;
     }
     match Connection::open_files(alloc, files, Options::new(1)) {
-        Ok(conn) => match desk_of(alloc, conn) {
-            Ok(mut desk) => {
-                drop(run_batch(alloc, batch, lines, &mut Still, &mut desk));
-                desk.into_store().into_conn().into_store().close()
-            }
-            Err(conn) => conn.into_store().close(),
+        Ok(conn) => match book(alloc, conn, batch, seen).close_files() {
+            Ok(files) => files,
+            Err((_, store)) => store.close(),
         },
         Err((_, left)) => left.into_files(),
     }
 }
 
+// A file with these bytes, which takes so many calls.
+fn file_of(alloc: Global, bytes: &[u8], calls: u64) -> Result<Fuse<Memory>, Fail> {
+    let mut file = Memory::new(alloc);
+    if file.write_at(0, bytes).is_err() || file.sync().is_err() {
+        return Err("no memory for a file")?;
+    }
+    Ok(Fuse::new(file, calls))
+}
+
+// Takes the bytes that a file holds once the machine comes back. Tells whether it was stopped, or takes no call more.
+fn come_back(
+    file: &mut Fuse<Memory>,
+    loses: bool,
+    bytes: &mut Vec<u8>,
+) -> Result<bool, AllocError> {
+    let was_stopped = !file.may_be_used() || file.len().is_err();
+    if loses {
+        file.crash();
+    }
+    bytes.extend_from_slice(file.inner().bytes())?;
+    Ok(was_stopped)
+}
+
 /// Sends a batch to the desk in these files until the machine stops: what they hold after it, and whether it did stop.
-pub fn run_until(
+pub fn run(
     alloc: Global,
     held: &Held,
     stop: Stop,
     batch: &[u8],
-    lines: &mut Vec<u8>,
+    seen: &mut Seen,
 ) -> Result<(Held, bool), Fail> {
-    let files = files_of(alloc, held, stop)?;
-    let files = run_over(alloc, files, batch, lines);
-    came_back(alloc, files, stop.loses)
-}
-
-/// The database in these files.
-pub fn opened(alloc: Global, held: &Held) -> Result<Connection<Stopping>, Fail> {
-    let files = files_of(alloc, held, Stop::NEVER)?;
-    if !files.log.may_be_used() || !files.db.may_be_used() {
-        return Err("files that failed")?;
-    }
-    match Connection::open_files(alloc, files, Options::new(1)) {
-        Ok(conn) => Ok(conn),
-        Err(_) => Err("files that are no database")?,
-    }
-}
-
-/// The desk in these files, made where there is none. It has to pass its audit.
-pub fn desk_in(alloc: Global, held: &Held) -> Result<Desk<Stopping>, Fail> {
-    match desk_of(alloc, opened(alloc, held)?) {
-        Ok(desk) => Ok(desk),
-        Err(_) => Err("a desk that fails its audit")?,
-    }
-}
-
-/// These files once their log was copied into the database file.
-pub fn closed(alloc: Global, held: &Held) -> Result<Held, Fail> {
-    match opened(alloc, held)?.close_files() {
-        Ok(files) => Ok(came_back(alloc, files, false)?.0),
-        Err((_, store)) => {
-            drop(store.close());
-            Err("files that were not closed")?
-        }
-    }
+    let (log_calls, db_calls) = match stop.file {
+        File::Log => (stop.calls, u64::MAX),
+        File::Database => (u64::MAX, stop.calls),
+    };
+    let log = file_of(alloc, &held.log, log_calls)?;
+    let db = file_of(alloc, &held.db, db_calls)?;
+    let Files { mut log, mut db } = book_in(alloc, Files { log, db }, batch, seen);
+    let mut left = Held::nothing(alloc);
+    let is_log = come_back(&mut log, stop.loses, &mut left.log)?;
+    let is_db = come_back(&mut db, stop.loses, &mut left.db)?;
+    Ok((left, is_log || is_db))
 }

@@ -1,7 +1,7 @@
 //! A batch whose reader fails once at each of its bytes, or is interrupted there.
 
-use crate::batch::{ROWS, Still, complete, expect_fault, expect_told, first_lines};
-use brk_import::{FaultKind, run_batch};
+use crate::batch::{ROWS, Still, complete, expect_fault, first_lines};
+use brk_import::{BatchFault, FaultKind, run_batch};
 use brk_tests_desks::desks::set_desk;
 use brk_tests_desks::plans::worked::batch_of;
 use std::alloc::Global;
@@ -50,9 +50,12 @@ fn expect_read(alloc: Global, batch: &str, len: usize, kind: ErrorKind) -> Resul
         after,
     };
     let ended = run_batch(alloc, reader, &mut told, &mut Still, &mut desk);
-    expect_fault(name.as_str(), ended, settled, FaultKind::Read)?;
-    expect_told(name.as_str(), &told, lines.as_bytes())?;
-    complete(alloc, desk, name.as_str(), batch, settled)
+    complete(alloc, desk, name.as_str(), batch, settled)?;
+    let wanted = BatchFault {
+        rows: settled as u64,
+        kind: FaultKind::Read,
+    };
+    expect_fault(name.as_str(), ended, wanted, &told, lines.as_str())
 }
 
 #[test]

@@ -3,7 +3,6 @@
 use sqlite::types::ValueRef;
 use sqlite::{Alter, Connection, Row};
 use std::alloc::Global;
-use std::test::Fail;
 
 // All tables. Where a key has more columns than two, the first two part its rows here.
 const ALL: [&str; 20] = [
@@ -29,44 +28,58 @@ const ALL: [&str; 20] = [
     "CASH_TRANSACTION",
 ];
 
-// Adds the values of a row, each after a comma.
-fn add_row(lines: &mut String, row: &Row) -> Result<(), Fail> {
-    for at in 0..row.column_count() {
-        match row.get_ref(at)? {
-            ValueRef::Null => lines.push_str(",")?,
-            ValueRef::Int(number) => write!(lines, ",{number}")?,
-            ValueRef::Text(bytes) => {
-                let text = str::from_utf8(bytes).map_err(|_| "no text")?;
-                write!(lines, ",{text}")?;
-            }
-            ValueRef::Real(_) | ValueRef::Blob(_) => Err("a value of another kind")?,
-        }
+// Adds a value after a comma, and tells whether it could; a null is no text.
+fn add_value(lines: &mut String, value: ValueRef<'_>) -> bool {
+    match value {
+        ValueRef::Null => lines.push_str(",").is_ok(),
+        ValueRef::Int(number) => write!(lines, ",{number}").is_ok(),
+        ValueRef::Text(bytes) => match str::from_utf8(bytes) {
+            Ok(text) => write!(lines, ",{text}").is_ok(),
+            Err(_) => false,
+        },
+        ValueRef::Real(_) | ValueRef::Blob(_) => false,
     }
-    lines.push_str("\n")?;
-    Ok(())
 }
 
-// Adds the name of a table and its rows by rising key.
+// Adds the values of a row, and tells whether it could.
+fn add_row(lines: &mut String, row: &Row) -> bool {
+    for at in 0..row.column_count() {
+        let is_added = match row.get_ref(at) {
+            Ok(value) => add_value(lines, value),
+            Err(_) => false,
+        };
+        if !is_added {
+            return false;
+        }
+    }
+    lines.push_str("\n").is_ok()
+}
+
+// Adds the name of a table and its rows by rising key, and tells whether it could.
 fn add_table<S: Alter>(
     alloc: Global,
     lines: &mut String,
     conn: &mut Connection<S>,
     table: &str,
-) -> Result<(), Fail> {
-    writeln!(lines, "{table}")?;
-    let sql = format!(in alloc; "SELECT * FROM {table} ORDER BY 1, 2")?;
-    let rows = conn.query_all(sql.as_str(), &[])?;
+) -> bool {
+    let Ok(sql) = format!(in alloc; "SELECT * FROM {table} ORDER BY 1, 2") else {
+        return false;
+    };
+    let Ok(rows) = conn.query_all(sql.as_str(), &[]) else {
+        return false;
+    };
+    let mut is_added = writeln!(lines, "{table}").is_ok();
     for row in &rows {
-        add_row(lines, row)?;
+        is_added = is_added && add_row(lines, row);
     }
-    Ok(())
+    is_added
 }
 
-/// The names and the rows of all tables.
-pub fn all_tables<S: Alter>(alloc: Global, conn: &mut Connection<S>) -> Result<String, Fail> {
-    let mut lines = String::new(alloc);
+/// Adds the names and the rows of all tables, as far as they can be read.
+pub fn add_tables<S: Alter>(alloc: Global, lines: &mut String, conn: &mut Connection<S>) {
     for table in ALL {
-        add_table(alloc, &mut lines, conn, table)?;
+        if !add_table(alloc, lines, conn, table) {
+            return;
+        }
     }
-    Ok(lines)
 }

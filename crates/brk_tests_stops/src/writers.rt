@@ -1,7 +1,7 @@
 //! A batch whose writer takes so many bytes, and then none, fails, or is interrupted.
 
-use crate::batch::{ROWS, Still, all_lines, complete, expect_fault, expect_told};
-use brk_import::{FaultKind, run_batch};
+use crate::batch::{ROWS, Still, all_lines, complete, expect_fault};
+use brk_import::{BatchFault, FaultKind, run_batch};
 use brk_tests_desks::desks::set_desk;
 use brk_tests_desks::plans::worked::batch_of;
 use std::alloc::Global;
@@ -48,16 +48,19 @@ fn expect_written(
     let name = format!(in alloc; "the writer fails after {room}")?;
     let wanted = lines.get(..room).ok_or("no such place")?;
     let settled = wanted.split('\n').count().min(6);
-    let mut desk = set_desk(alloc)?;
     let mut writer = Failing {
         taken: Vec::new(alloc),
         room,
         fault,
     };
+    let mut desk = set_desk(alloc)?;
     let ended = run_batch(alloc, batch.as_bytes(), &mut writer, &mut Still, &mut desk);
-    expect_fault(name.as_str(), ended, settled, FaultKind::Write)?;
-    expect_told(name.as_str(), &writer.taken, wanted.as_bytes())?;
-    complete(alloc, desk, name.as_str(), batch, settled)
+    complete(alloc, desk, name.as_str(), batch, settled)?;
+    let fault = BatchFault {
+        rows: settled as u64,
+        kind: FaultKind::Write,
+    };
+    expect_fault(name.as_str(), ended, fault, &writer.taken, wanted)
 }
 
 #[test]
