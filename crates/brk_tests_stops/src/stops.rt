@@ -11,6 +11,9 @@ use std::test::Fail;
 // More calls than a file takes in any run.
 const MOST_CALLS: u64 = 10_000;
 
+// The name of the last table. Tables that are compared with these are read to their end too.
+const LAST_TABLE: &str = "\nCASH_TRANSACTION\n";
+
 // A batch without rows.
 const NO_ROWS: &[u8] = b"batch,Z\nend,0\n";
 
@@ -58,7 +61,12 @@ fn tables_after(alloc: Global, rows: usize) -> Result<String, Fail> {
     let mut seen = Seen::nothing(alloc);
     let conn = set_desk(alloc)?.into_store().into_conn();
     drop(book(alloc, conn, batch.as_bytes(), &mut seen));
-    Ok(seen.after)
+    let Seen { after, .. } = seen;
+    if after.contains(LAST_TABLE) {
+        Ok(after)
+    } else {
+        Err("tables that were not read to their end")?
+    }
 }
 
 // Whether a batch that was sent after a stop had these lines, passed its audit, and left these tables.
