@@ -4,7 +4,7 @@ use crate::moment::Moments;
 use brk_desk::Desk;
 use brk_endings::{Ending, after_close};
 use brk_files as file;
-use brk_listening::{ListenFault, serve_on};
+use brk_http::{ListenFault, serve_on};
 use brk_money::{Fault, Stamp};
 use brk_store::Store;
 use sqlite::{Alter, Connection};

@@ -5,8 +5,8 @@ use Rattle.brk_money.specs.declared.fault.Fault.TheVariants as fault
 use Rattle.brk_money.specs.Kinds.{refusal_number}
 use Rattle.brk_report_lines.specs.declared.fault.StatementFault.{StatementFault}
 use Rattle.brk_report_lines.specs.declared.fault.StatementFault.TheVariants as statement
-use Rattle.brk_import.specs.declared.batch_fault.FaultKind.{FaultKind}
-use Rattle.brk_import.specs.declared.batch_fault.FaultKind.TheVariants as kind
+use Rattle.brk_outside.specs.declared.batch_fault.FaultKind.{FaultKind}
+use Rattle.brk_outside.specs.declared.batch_fault.FaultKind.TheVariants as kind
 use Rattle.brk_serving.specs.declared.turning.FaultKind.{FaultKind as StreamFault}
 use Rattle.brk_serving.specs.declared.turning.FaultKind.TheVariants as stream
 use Rattle.brk_endings.specs.declared.ending.Ending.{Ending}

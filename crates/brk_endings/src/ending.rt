@@ -4,8 +4,8 @@ ghost use Rattle.brk_endings.specs.Ending as spec;
 ghost use Rattle.brk_endings.specs.Lines as line;
 
 use crate::telling::{Line, fault_line, write_line};
-use brk_import::{BatchFault, FaultKind};
 use brk_money::Fault;
+use brk_outside::{BatchFault, FaultKind};
 use brk_report_lines::StatementFault;
 use brk_serving::{FaultKind as StreamFault, ServeFault};
 use brk_words::UsageFault;

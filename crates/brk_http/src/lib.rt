@@ -1,11 +1,13 @@
-//! Streams of HTTP requests over a desk: rows with or without keys, and queries, answered in JSON one after the other.
+//! Streams of HTTP requests over a desk: rows with or without keys, and queries, answered in JSON one after the other; and the streams of a listener, served in turn.
 #![tactic(auto)]
 
 mod at_desk;
+mod listening;
 mod streams;
 
 pub use at_desk::AtDesk;
 pub use brk_desk;
 pub use brk_outside::Clock;
 pub use brk_serving::{FaultKind, ServeFault};
+pub use listening::{ListenFault, PATIENCE, serve_on};
 pub use streams::serve_stream;

@@ -1,9 +1,2 @@
-pub mod Reading
-pub mod Turns
-pub mod Pushes
-pub mod Progress
-pub mod Endings
-pub mod Reached
-pub mod Listed
 pub mod Under
 pub mod SentAgain

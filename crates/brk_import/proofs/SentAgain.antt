@@ -26,14 +26,14 @@ use Rattle.brk_store.specs.Holds.{AreTreesOf}
 use Rattle.brk_desk.specs.Keeping.{KeepsBase}
 use Rattle.brk_desk.specs.Reopening.{CanBeKept, IsReopened, StandsAlone}
 use Rattle.brk_desk.proofs.Reopened.{Settles, kept_can_be, taken_over}
-use Rattle.brk_import.specs.Batch.{BatchGives, CameTo, Faulted, IsUnderWay, KeepsBooks, LeavesAt, LeavesBooks, Stopped}
+use Rattle.brk_batches.specs.Batch.{BatchGives, CameTo, Faulted, IsUnderWay, KeepsBooks, LeavesAt, LeavesBooks, Stopped}
 use Rattle.brk_import.specs.Leaving.{LeavesOneOf}
 use Rattle.brk_import.specs.SentAgain.{IsSentAgain}
-use Rattle.brk_import.specs.declared.batch_fault.BatchFault.{BatchFault}
-use Rattle.brk_import.specs.declared.batch_fault.FaultKind.{FaultKind}
-use Rattle.brk_import.specs.declared.batch_fault.FaultKind.TheVariants as kinds
-use Rattle.brk_import.specs.declared.counts.Counts.{Counts}
-use Rattle.brk_import.proofs.Reading.{begins_front}
+use Rattle.brk_outside.specs.declared.batch_fault.BatchFault.{BatchFault}
+use Rattle.brk_outside.specs.declared.batch_fault.FaultKind.{FaultKind}
+use Rattle.brk_outside.specs.declared.batch_fault.FaultKind.TheVariants as kinds
+use Rattle.brk_batches.specs.declared.counts.Counts.{Counts}
+use Rattle.brk_batches.proofs.Reading.{begins_front}
 
 module _ {S C : Type 0} (g : Ghosts S) (rests : Settles g) (form : Fields → Read Command) (apart : (n : ℕ) (command : Command) → form (end_of n) ≡ Ok command → ⊥) (gives : C → ℕ → C → Type 0)
     (text : Text) (one : Outside C) (base : Base) where

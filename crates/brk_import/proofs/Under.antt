@@ -19,7 +19,7 @@ use Rattle.brk_desk.specs.declared.answer.Answer.{Answer}
 use Rattle.brk_desk.specs.declared.answer.Answer.TheVariants as given
 use Rattle.brk_desk.proofs.Reopened.{booked_can_be}
 use Rattle.brk_desk.proofs.Stopping.{quiet_leaves}
-use Rattle.brk_import.specs.Answers.{Acts, MayAct, StandsBy}
+use Rattle.brk_batches.specs.Answers.{Acts, MayAct, StandsBy}
 use Rattle.brk_import.specs.Leaving.{LeavesOneOf}
 
 module _ {S : Type 0} (g : Ghosts S) (old new : Held S) (now : ℕ) (command : Command) where

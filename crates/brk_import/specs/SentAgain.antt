@@ -10,7 +10,7 @@ use Rattle.brk_model.specs.Lines.{count_refused, end_line, lines_from}
 use Rattle.brk_model_laws.specs.Laws.{IsCompleted}
 use Rattle.brk_outside.specs.Moments.{Moments}
 use Rattle.brk_outside.specs.Span.{Outside}
-use Rattle.brk_import.specs.Batch.{EndsRight}
+use Rattle.brk_batches.specs.Batch.{EndsRight}
 
 -- the first sending began at one base, and the second one, which ended well, led to the other
 pub record IsSentAgain {C : Type 0} (form : Fields → Read Command) (gives : C → ℕ → C → Type 0) (text : Option Text) (base after : Base) (one two : Outside C) : Type 0 where

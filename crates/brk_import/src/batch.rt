@@ -3,16 +3,15 @@ ghost use Rattle.brk_model.specs.Batch.{row_step};
 ghost use Rattle.brk_model.specs.Input.{text_of};
 ghost use Rattle.brk_model.specs.Parse.{parse_by, readers};
 ghost use Rattle.brk_desk.specs.Keeping.{KeepsBase};
-ghost use Rattle.brk_import.specs.Batch.{KeepsBooks, LeavesBooks, TellsAnswers};
+ghost use Rattle.brk_batches.specs.Batch.{KeepsBooks, LeavesBooks, TellsAnswers};
 ghost use Rattle.brk_import.specs.Leaving.{LeavesOneOf};
 ghost use Rattle.sqlite.specs.Held.{state};
 ghost use Rattle.sqlite.specs.State.{HasCleanDisk};
 
-use crate::batch_fault::BatchFault;
-use crate::counts::Counts;
-use crate::engine::run;
+use crate::at_desk::AtDesk;
+use brk_batches::{Counts, run};
 use brk_desk::Desk;
-use brk_outside::Clock;
+use brk_outside::{BatchFault, Clock};
 use sqlite::Alter;
 use std::alloc::Global;
 use std::io::{Read, Write};
@@ -46,5 +45,5 @@ pub fn run_batch<R: Read + Drop, W: Write, C: Clock, S: Alter>(
         C.gives (option_map text_of (R.remaining reader)) desk.old desk.new
         (record { clock = clock.old; later = clock.new; old = W.contents writer.old; new = W.contents writer.new }) result }
 {
-    run(alloc, reader, writer, clock, desk)
+    run::<R, W, C, AtDesk<S>>(alloc, reader, writer, clock, desk)
 }

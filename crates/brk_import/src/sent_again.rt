@@ -3,11 +3,11 @@
 ghost use Rattle.std.specs.Prelude.{◌≡◌, ℕ, List, None, Ok, Result, Some};
 ghost use Rattle.brk_desk.specs.Keeping.{KeepsBase};
 ghost use Rattle.brk_desk.specs.Reopening.{IsReopened, StandsAlone};
-ghost use Rattle.brk_import.specs.Batch.{KeepsBooks, LeavesBooks};
+ghost use Rattle.brk_batches.specs.Batch.{KeepsBooks, LeavesBooks};
 ghost use Rattle.brk_import.specs.Leaving.{LeavesOneOf};
 ghost use Rattle.brk_import.specs.SentAgain.{IsSentAgain};
-ghost use Rattle.brk_import.specs.declared.batch_fault.BatchFault as faults;
-ghost use Rattle.brk_import.specs.declared.counts.Counts as counted;
+ghost use Rattle.brk_outside.specs.declared.batch_fault.BatchFault as faults;
+ghost use Rattle.brk_batches.specs.declared.counts.Counts as counted;
 ghost use Rattle.brk_model.specs.Base.{Base};
 ghost use Rattle.brk_model.specs.Batch.{row_step};
 ghost use Rattle.brk_model.specs.Input.{text_of};

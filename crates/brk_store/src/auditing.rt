@@ -12,7 +12,7 @@ use crate::Store;
 use crate::beginning::begin;
 use brk_audit::audit_rows;
 use brk_money::{Condition, Fault};
-use brk_tables::{has_desk, read_sheets};
+use brk_tables_whole::{has_desk, read_sheets};
 use sqlite::{Alter, Connection, Transaction};
 use std::alloc::Global;
 

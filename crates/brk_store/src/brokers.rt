@@ -24,7 +24,7 @@ impl<S: Alter> Store<S> {
         ensures fault { IfErr result MayFail }
     {
         let mut tx = begin(&mut self.conn);
-        brk_tables::brokers_named(&mut tx, alloc, name)
+        brk_tables_views::brokers_named(&mut tx, alloc, name)
     }
 
     /// The requests of a broker, by rising trade.
@@ -37,6 +37,6 @@ impl<S: Alter> Store<S> {
         ensures fault { IfErr result MayFail }
     {
         let mut tx = begin(&mut self.conn);
-        brk_tables::requests_of_broker(&mut tx, alloc, broker)
+        brk_tables_views::requests_of_broker(&mut tx, alloc, broker)
     }
 }

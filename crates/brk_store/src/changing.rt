@@ -21,61 +21,67 @@ fn make<S: Alter>(tx: &mut Transaction<'_, S>, change: &Change) -> Result<(), Fa
     ensures fault { OnErr result (result ≡ Err fault.Store) }
 {
     match change {
-        Change::AddBroker(broker) => brk_tables::add_broker(tx, broker),
-        Change::AddCustomer(customer) => brk_tables::add_customer(tx, customer),
-        Change::AddAccount(account) => brk_tables::add_account(tx, account),
-        Change::AddPermission(permission) => brk_tables::add_permission(tx, permission),
-        Change::AddSecurity(security) => brk_tables::add_security(tx, security),
-        Change::AddLastTrade(last_trade) => brk_tables::add_last_trade(tx, last_trade),
-        Change::AddCharge(charge) => brk_tables::add_charge(tx, charge),
-        Change::AddBand(band) => brk_tables::add_band(tx, band),
-        Change::AddTaxRate(tax) => brk_tables::add_tax_rate(tx, tax),
-        Change::AddCustomerTax(pays) => brk_tables::add_customer_tax(tx, pays),
-        Change::AddTrade(trade) => brk_tables::add_trade(tx, trade),
+        Change::AddBroker(broker) => brk_tables_reference::add_broker(tx, broker),
+        Change::AddCustomer(customer) => brk_tables_reference::add_customer(tx, customer),
+        Change::AddAccount(account) => brk_tables_reference::add_account(tx, account),
+        Change::AddPermission(permission) => brk_tables_reference::add_permission(tx, permission),
+        Change::AddSecurity(security) => brk_tables_reference::add_security(tx, security),
+        Change::AddLastTrade(last_trade) => brk_tables_reference::add_last_trade(tx, last_trade),
+        Change::AddCharge(charge) => brk_tables_reference::add_charge(tx, charge),
+        Change::AddBand(band) => brk_tables_reference::add_band(tx, band),
+        Change::AddTaxRate(tax) => brk_tables_reference::add_tax_rate(tx, tax),
+        Change::AddCustomerTax(pays) => brk_tables_reference::add_customer_tax(tx, pays),
+        Change::AddTrade(trade) => brk_tables_trading::add_trade(tx, trade),
         Change::SetStatus {
             trade,
             status,
             stamp,
-        } => brk_tables::set_status(tx, *trade, *status, *stamp),
-        Change::AddHistory(mark) => brk_tables::add_trade_history(tx, mark),
-        Change::AddRequest(request) => brk_tables::add_request(tx, request),
-        Change::RemoveRequest(trade) => brk_tables::remove_request(tx, *trade),
-        Change::SetLastTrade(last_trade) => brk_tables::set_last_trade(tx, last_trade),
+        } => brk_tables_trading::set_status(tx, *trade, *status, *stamp),
+        Change::AddHistory(mark) => brk_tables_trading::add_trade_history(tx, mark),
+        Change::AddRequest(request) => brk_tables_trading::add_request(tx, request),
+        Change::RemoveRequest(trade) => brk_tables_trading::remove_request(tx, *trade),
+        Change::SetLastTrade(last_trade) => brk_tables_trading::set_last_trade(tx, last_trade),
         Change::CompleteTrade {
             trade,
             stamp,
             price,
             commission,
             tax,
-        } => brk_tables::complete_trade(tx, *trade, *stamp, *price, *commission, *tax),
-        Change::AddLot(lot) => brk_tables::add_lot(tx, lot),
-        Change::SetLot { trade, qty } => brk_tables::set_lot(tx, *trade, *qty),
-        Change::RemoveLot(trade) => brk_tables::remove_lot(tx, *trade),
-        Change::AddLotChange(made) => brk_tables::add_lot_change(tx, made),
-        Change::AddSummary(summary) => brk_tables::add_summary(tx, summary),
-        Change::SetSummary(summary) => brk_tables::set_summary(tx, summary),
-        Change::RemoveSummary { account, symbol } => brk_tables::remove_summary(
+        } => brk_tables_trading::complete_trade(tx, *trade, *stamp, *price, *commission, *tax),
+        Change::AddLot(lot) => brk_tables_trading::add_lot(tx, lot),
+        Change::SetLot { trade, qty } => brk_tables_trading::set_lot(tx, *trade, *qty),
+        Change::RemoveLot(trade) => brk_tables_trading::remove_lot(tx, *trade),
+        Change::AddLotChange(made) => brk_tables_trading::add_lot_change(tx, made),
+        Change::AddSummary(summary) => brk_tables_trading::add_summary(tx, summary),
+        Change::SetSummary(summary) => brk_tables_trading::set_summary(tx, summary),
+        Change::RemoveSummary { account, symbol } => brk_tables_trading::remove_summary(
             tx, *account, symbol,
         ),
-        Change::AddSettlement(settlement) => brk_tables::add_settlement(tx, settlement),
-        Change::AddCash(cash) => brk_tables::add_cash(tx, cash),
-        Change::SetBalance { account, balance } => brk_tables::set_balance(tx, *account, *balance),
+        Change::AddSettlement(settlement) => brk_tables_trading::add_settlement(tx, settlement),
+        Change::AddCash(cash) => brk_tables_trading::add_cash(tx, cash),
+        Change::SetBalance { account, balance } => brk_tables_trading::set_balance(
+            tx, *account, *balance,
+        ),
         Change::SetBrokerNumbers {
             broker,
             trades,
             commissions,
-        } => brk_tables::set_broker_numbers(tx, *broker, *trades, *commissions),
-        Change::SetExecutor { trade, executor } => brk_tables::set_executor(
+        } => brk_tables_trading::set_broker_numbers(tx, *broker, *trades, *commissions),
+        Change::SetExecutor { trade, executor } => brk_tables_trading::set_executor(
             tx,
             *trade,
             executor.as_str(),
         ),
-        Change::SetCashType { trade, cash_type } => brk_tables::set_cash_type(
+        Change::SetCashType { trade, cash_type } => brk_tables_trading::set_cash_type(
             tx, *trade, *cash_type,
         ),
-        Change::SetCashName { trade, name } => brk_tables::set_cash_name(tx, *trade, name.as_str()),
-        Change::Keep(kept) => brk_tables::add_kept(tx, kept),
-        Change::SetLast(stamp) => brk_tables::set_last_stamp(tx, *stamp),
+        Change::SetCashName { trade, name } => brk_tables_trading::set_cash_name(
+            tx,
+            *trade,
+            name.as_str(),
+        ),
+        Change::Keep(kept) => brk_tables_form::add_kept(tx, kept),
+        Change::SetLast(stamp) => brk_tables_form::set_last_stamp(tx, *stamp),
     }
 }
 
@@ -100,7 +106,7 @@ pub(crate) fn apply_all<S: Alter>(conn: &mut Connection<S>, changes: &[Change]) 
     let _settled = conn.is_autocommit();
     let mut tx = conn.transaction();
     // What it tells is known already; that it answers shows that the store is open.
-    let _last = brk_tables::last_stamp(&mut tx)?;
+    let _last = brk_tables_form::last_stamp(&mut tx)?;
     make_all(&mut tx, changes)?;
     match tx.commit() {
         Ok(()) => Ok(()),
@@ -117,10 +123,10 @@ pub(crate) fn make_desk<S: Alter>(conn: &mut Connection<S>) -> Result<(), Fault>
 {
     let _settled = conn.is_autocommit();
     let mut tx = conn.transaction();
-    if brk_tables::has_some_table(&mut tx)? {
+    if brk_tables_making::has_some_table(&mut tx)? {
         return Err(Fault::Damaged(Condition::NotEmpty));
     }
-    brk_tables::make_tables(&mut tx)?;
+    brk_tables_making::make_tables(&mut tx)?;
     match tx.commit() {
         Ok(()) => Ok(()),
         Err(_) => Err(Fault::Store),

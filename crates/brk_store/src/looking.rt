@@ -27,7 +27,7 @@ impl<S: Alter> Store<S> {
         ensures fault { IfErr result MayFail }
     {
         let mut tx = begin(&mut self.conn);
-        brk_tables::last_ten_of_account(&mut tx, alloc, account)
+        brk_tables_trading::last_ten_of_account(&mut tx, alloc, account)
     }
 
     /// The last fifty trades of an account, the most recent first.
@@ -40,7 +40,7 @@ impl<S: Alter> Store<S> {
         ensures fault { IfErr result MayFail }
     {
         let mut tx = begin(&mut self.conn);
-        brk_tables::last_fifty_of_account(&mut tx, alloc, account)
+        brk_tables_trading::last_fifty_of_account(&mut tx, alloc, account)
     }
 
     /// When a trade came to its statuses, by the codes of these.
@@ -49,6 +49,6 @@ impl<S: Alter> Store<S> {
         ensures fault { IfErr result MayFail }
     {
         let mut tx = begin(&mut self.conn);
-        brk_tables::history_of(&mut tx, alloc, trade)
+        brk_tables_trading::history_of(&mut tx, alloc, trade)
     }
 }

@@ -22,7 +22,7 @@ impl<S: Alter> Store<S> {
         ensures fault { IfErr result MayFail }
     {
         let mut tx = begin(&mut self.conn);
-        brk_tables::changes_by(&mut tx, alloc, trade)
+        brk_tables_views::changes_by(&mut tx, alloc, trade)
     }
 
     /// What trades made of the lot that a trade opened.
@@ -31,6 +31,6 @@ impl<S: Alter> Store<S> {
         ensures fault { IfErr result MayFail }
     {
         let mut tx = begin(&mut self.conn);
-        brk_tables::changes_of(&mut tx, alloc, lot)
+        brk_tables_views::changes_of(&mut tx, alloc, lot)
     }
 }

@@ -31,7 +31,7 @@ impl<S: Alter> Store<S> {
         ensures fault { IfErr result MayFail }
     {
         let mut tx = begin(&mut self.conn);
-        brk_tables::twenty_of_account(&mut tx, alloc, account, span.first, span.last)
+        brk_tables_views::twenty_of_account(&mut tx, alloc, account, span.first, span.last)
     }
 
     /// The first twenty trades in a security between two stamps, both included, the oldest first.
@@ -45,7 +45,7 @@ impl<S: Alter> Store<S> {
         ensures fault { IfErr result MayFail }
     {
         let mut tx = begin(&mut self.conn);
-        brk_tables::twenty_of_symbol(&mut tx, alloc, symbol, span.first, span.last)
+        brk_tables_views::twenty_of_symbol(&mut tx, alloc, symbol, span.first, span.last)
     }
 
     /// The oldest trade of an account at or after a stamp.
@@ -54,6 +54,6 @@ impl<S: Alter> Store<S> {
         ensures fault { OnErr result (result ≡ Err fault.Store) }
     {
         let mut tx = begin(&mut self.conn);
-        brk_tables::first_since(&mut tx, account, first)
+        brk_tables_views::first_since(&mut tx, account, first)
     }
 }

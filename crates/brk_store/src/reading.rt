@@ -23,7 +23,7 @@ impl<S: Alter> Store<S> {
         ensures fault { OnErr result (result ≡ Err fault.Store) }
     {
         let mut tx = begin(&mut self.conn);
-        brk_tables::last_stamp(&mut tx)
+        brk_tables_form::last_stamp(&mut tx)
     }
 
     /// The broker with an id.
@@ -32,7 +32,7 @@ impl<S: Alter> Store<S> {
         ensures fault { OnErr result (result ≡ Err fault.Store) }
     {
         let mut tx = begin(&mut self.conn);
-        brk_tables::broker_by_id(&mut tx, id)
+        brk_tables_reference::broker_by_id(&mut tx, id)
     }
 
     /// The customer with an id.
@@ -41,7 +41,7 @@ impl<S: Alter> Store<S> {
         ensures fault { OnErr result (result ≡ Err fault.Store) }
     {
         let mut tx = begin(&mut self.conn);
-        brk_tables::customer_by_id(&mut tx, id)
+        brk_tables_reference::customer_by_id(&mut tx, id)
     }
 
     /// The customer with a tax id.
@@ -50,7 +50,7 @@ impl<S: Alter> Store<S> {
         ensures fault { OnErr result (result ≡ Err fault.Store) }
     {
         let mut tx = begin(&mut self.conn);
-        brk_tables::customer_by_tax_id(&mut tx, tax_id)
+        brk_tables_reference::customer_by_tax_id(&mut tx, tax_id)
     }
 
     /// The account with an id.
@@ -59,7 +59,7 @@ impl<S: Alter> Store<S> {
         ensures fault { OnErr result (result ≡ Err fault.Store) }
     {
         let mut tx = begin(&mut self.conn);
-        brk_tables::account_by_id(&mut tx, id)
+        brk_tables_reference::account_by_id(&mut tx, id)
     }
 
     /// The accounts of a customer, by rising id.
@@ -68,7 +68,7 @@ impl<S: Alter> Store<S> {
         ensures fault { IfErr result MayFail }
     {
         let mut tx = begin(&mut self.conn);
-        brk_tables::accounts_of_customer(&mut tx, alloc, customer)
+        brk_tables_reference::accounts_of_customer(&mut tx, alloc, customer)
     }
 
     /// The row that is kept under a key.
@@ -77,6 +77,6 @@ impl<S: Alter> Store<S> {
         ensures fault { OnErr result (result ≡ Err fault.Store) }
     {
         let mut tx = begin(&mut self.conn);
-        brk_tables::kept_by_key(&mut tx, key)
+        brk_tables_form::kept_by_key(&mut tx, key)
     }
 }

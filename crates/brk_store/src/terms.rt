@@ -26,7 +26,7 @@ impl<S: Alter> Store<S> {
         ensures fault { OnErr result (result ≡ Err fault.Store) }
     {
         let mut tx = begin(&mut self.conn);
-        brk_tables::permission_by_key(&mut tx, account, tax_id)
+        brk_tables_reference::permission_by_key(&mut tx, account, tax_id)
     }
 
     /// The security with a symbol.
@@ -35,7 +35,7 @@ impl<S: Alter> Store<S> {
         ensures fault { OnErr result (result ≡ Err fault.Store) }
     {
         let mut tx = begin(&mut self.conn);
-        brk_tables::security_by_symbol(&mut tx, symbol)
+        brk_tables_reference::security_by_symbol(&mut tx, symbol)
     }
 
     /// The charge of a type and a tier.
@@ -44,7 +44,7 @@ impl<S: Alter> Store<S> {
         ensures fault { OnErr result (result ≡ Err fault.Store) }
     {
         let mut tx = begin(&mut self.conn);
-        brk_tables::charge_by_key(&mut tx, kind, tier)
+        brk_tables_reference::charge_by_key(&mut tx, kind, tier)
     }
 
     /// The bands of a tier, a type and an exchange, by rising lower bound.
@@ -59,7 +59,7 @@ impl<S: Alter> Store<S> {
         ensures fault { IfErr result MayFail }
     {
         let mut tx = begin(&mut self.conn);
-        brk_tables::bands_for(&mut tx, alloc, tier, kind, exchange)
+        brk_tables_reference::bands_for(&mut tx, alloc, tier, kind, exchange)
     }
 
     /// The tax with an id.
@@ -68,7 +68,7 @@ impl<S: Alter> Store<S> {
         ensures fault { OnErr result (result ≡ Err fault.Store) }
     {
         let mut tx = begin(&mut self.conn);
-        brk_tables::tax_rate_by_id(&mut tx, id)
+        brk_tables_reference::tax_rate_by_id(&mut tx, id)
     }
 
     /// The row of a customer and a tax, where the customer pays it.
@@ -77,7 +77,7 @@ impl<S: Alter> Store<S> {
         ensures fault { OnErr result (result ≡ Err fault.Store) }
     {
         let mut tx = begin(&mut self.conn);
-        brk_tables::customer_tax_by_key(&mut tx, customer, tax)
+        brk_tables_reference::customer_tax_by_key(&mut tx, customer, tax)
     }
 
     /// The taxes that a customer pays, by rising id of the tax.
@@ -90,6 +90,6 @@ impl<S: Alter> Store<S> {
         ensures fault { IfErr result MayFail }
     {
         let mut tx = begin(&mut self.conn);
-        brk_tables::customer_taxes_of(&mut tx, alloc, customer)
+        brk_tables_reference::customer_taxes_of(&mut tx, alloc, customer)
     }
 }

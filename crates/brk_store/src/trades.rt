@@ -28,7 +28,7 @@ impl<S: Alter> Store<S> {
         ensures fault { OnErr result (result ≡ Err fault.Store) }
     {
         let mut tx = begin(&mut self.conn);
-        brk_tables::trade_by_id(&mut tx, id)
+        brk_tables_trading::trade_by_id(&mut tx, id)
     }
 
     /// The greatest id of a trade, where there is a trade.
@@ -37,7 +37,7 @@ impl<S: Alter> Store<S> {
         ensures fault { OnErr result (result ≡ Err fault.Store) }
     {
         let mut tx = begin(&mut self.conn);
-        brk_tables::last_trade_id(&mut tx)
+        brk_tables_trading::last_trade_id(&mut tx)
     }
 
     /// The trades that are at the market, by rising id.
@@ -46,7 +46,7 @@ impl<S: Alter> Store<S> {
         ensures fault { IfErr result MayFail }
     {
         let mut tx = begin(&mut self.conn);
-        brk_tables::submitted_trades(&mut tx, alloc)
+        brk_tables_trading::submitted_trades(&mut tx, alloc)
     }
 
     /// The requests of a symbol, by rising trade.
@@ -55,7 +55,7 @@ impl<S: Alter> Store<S> {
         ensures fault { IfErr result MayFail }
     {
         let mut tx = begin(&mut self.conn);
-        brk_tables::requests_of(&mut tx, alloc, symbol)
+        brk_tables_trading::requests_of(&mut tx, alloc, symbol)
     }
 
     /// The last trade of the security with a symbol.
@@ -64,7 +64,7 @@ impl<S: Alter> Store<S> {
         ensures fault { OnErr result (result ≡ Err fault.Store) }
     {
         let mut tx = begin(&mut self.conn);
-        brk_tables::last_trade_by_symbol(&mut tx, symbol)
+        brk_tables_trading::last_trade_by_symbol(&mut tx, symbol)
     }
 
     /// The lots of an account in a security, by the moment of opening and then by trade, the oldest first.
@@ -78,7 +78,7 @@ impl<S: Alter> Store<S> {
         ensures fault { IfErr result MayFail }
     {
         let mut tx = begin(&mut self.conn);
-        brk_tables::lots_of(&mut tx, alloc, account, symbol)
+        brk_tables_trading::lots_of(&mut tx, alloc, account, symbol)
     }
 
     /// A page of the lots of an account in a security, the oldest first: at most 16, behind so many.
@@ -93,7 +93,7 @@ impl<S: Alter> Store<S> {
         ensures fault { IfErr result MayFail }
     {
         let mut tx = begin(&mut self.conn);
-        brk_tables::oldest_lots(&mut tx, alloc, account, symbol, skipped)
+        brk_tables_trading::oldest_lots(&mut tx, alloc, account, symbol, skipped)
     }
 
     /// The same, the newest first.
@@ -108,7 +108,7 @@ impl<S: Alter> Store<S> {
         ensures fault { IfErr result MayFail }
     {
         let mut tx = begin(&mut self.conn);
-        brk_tables::newest_lots(&mut tx, alloc, account, symbol, skipped)
+        brk_tables_trading::newest_lots(&mut tx, alloc, account, symbol, skipped)
     }
 
     /// How many shares an account holds of each security, by rising symbol.
@@ -117,7 +117,7 @@ impl<S: Alter> Store<S> {
         ensures fault { IfErr result MayFail }
     {
         let mut tx = begin(&mut self.conn);
-        brk_tables::summaries_of(&mut tx, alloc, account)
+        brk_tables_trading::summaries_of(&mut tx, alloc, account)
     }
 
     /// How many shares an account holds of a security, where it holds some.
@@ -126,6 +126,6 @@ impl<S: Alter> Store<S> {
         ensures fault { OnErr result (result ≡ Err fault.Store) }
     {
         let mut tx = begin(&mut self.conn);
-        brk_tables::summary_of(&mut tx, account, symbol)
+        brk_tables_trading::summary_of(&mut tx, account, symbol)
     }
 }

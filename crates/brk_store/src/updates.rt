@@ -31,7 +31,7 @@ impl<S: Alter> Store<S> {
         ensures fault { IfErr result MayFail }
     {
         let mut tx = begin(&mut self.conn);
-        brk_tables::completed_of_account(&mut tx, alloc, account, span.first, span.last)
+        brk_tables_trading::completed_of_account(&mut tx, alloc, account, span.first, span.last)
     }
 
     /// The first twenty trades in cash of a symbol that were completed between two stamps, the oldest first.
@@ -45,7 +45,7 @@ impl<S: Alter> Store<S> {
         ensures fault { IfErr result MayFail }
     {
         let mut tx = begin(&mut self.conn);
-        brk_tables::completed_cash_of_symbol(&mut tx, alloc, symbol, span.first, span.last)
+        brk_tables_trading::completed_cash_of_symbol(&mut tx, alloc, symbol, span.first, span.last)
     }
 
     /// What a trade settles for, where it is completed.
@@ -54,7 +54,7 @@ impl<S: Alter> Store<S> {
         ensures fault { OnErr result (result ≡ Err fault.Store) }
     {
         let mut tx = begin(&mut self.conn);
-        brk_tables::settlement_by_trade(&mut tx, trade)
+        brk_tables_trading::settlement_by_trade(&mut tx, trade)
     }
 
     /// What a trade moved, where it is completed and in cash.
@@ -63,6 +63,6 @@ impl<S: Alter> Store<S> {
         ensures fault { OnErr result (result ≡ Err fault.Store) }
     {
         let mut tx = begin(&mut self.conn);
-        brk_tables::cash_by_trade(&mut tx, trade)
+        brk_tables_trading::cash_by_trade(&mut tx, trade)
     }
 }

@@ -1,7 +1,7 @@
 //! A stream that is cut at each of its bytes, a reader that fails there, and a writer that takes so many bytes.
 
 use crate::streams::{Pieces, Still, Told, post, reply, served};
-use brk_listening::brk_http::{FaultKind, ServeFault, serve_stream};
+use brk_http::{FaultKind, ServeFault, serve_stream};
 use brk_tests_desks::desk::Desk;
 use brk_tests_desks::desks::set_desk;
 use sqlite::MemStore;

@@ -1,7 +1,7 @@
 //! Streams over sockets of this machine, in one process.
 
 use crate::streams::Still;
-use brk_listening::serve_on;
+use brk_http::serve_on;
 use brk_tests_desks::desks::new_desk;
 use std::io;
 use std::io::Write;

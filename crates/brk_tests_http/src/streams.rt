@@ -1,6 +1,6 @@
 //! Streams that are sent to a desk, and the replies that are wanted.
 
-use brk_listening::brk_http::{Clock, ServeFault, serve_stream};
+use brk_http::{Clock, ServeFault, serve_stream};
 use brk_money::Stamp;
 use brk_tests_desks::desk::Desk;
 use brk_tests_desks::desks::set_desk;

@@ -1,6 +1,8 @@
-//! Tests of the crates below the tables: amounts, moments and numbers, reference rows, lots, and an estimate.
+//! Tests of the crates below the tables: amounts, moments and numbers, reference rows, lots, an estimate, and batches over a desk of the tests' own.
 #![tactic(auto)]
 
+#[cfg(test)]
+mod batches;
 #[cfg(test)]
 mod estimates;
 #[cfg(test)]

@@ -1,0 +1,7 @@
+pub mod Reading
+pub mod Turns
+pub mod Pushes
+pub mod Progress
+pub mod Endings
+pub mod Reached
+pub mod Listed

@@ -1,0 +1,5 @@
+pub mod Counts
+pub mod Answers
+pub mod Reading
+pub mod Batch
+pub mod Parts
