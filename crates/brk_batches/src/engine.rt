@@ -23,7 +23,7 @@ use brk_ref::BatchName;
 use brk_writing::write_out;
 use csv::{ByteRecord, Reader};
 use std::alloc::Global;
-use std::io::{Read, Write};
+use std::io::{Read, Take, Write};
 use std::mem;
 
 // Writes the line of row n.
@@ -191,7 +191,7 @@ pub fn run<R: Read + Drop, W: Write, C: Clock, D: Rows>(
 {
     let mut records = open_records(alloc, reader);
     match read_header(alloc, &mut records) {
-        Ok(name) => run_rows::<R, W, C, D>(alloc, &mut records, &name, writer, clock, desk),
+        Ok(name) => run_rows::<Take<R>, W, C, D>(alloc, &mut records, &name, writer, clock, desk),
         Err(kind) => Err(BatchFault { rows: 0, kind }),
     }
 }
