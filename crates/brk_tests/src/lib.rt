@@ -1,4 +1,4 @@
-//! Tests of calls, runs and queries at a desk in memory, of what is decided, and of the store.
+//! Tests of batches of orders, ticks and cancels, of calls, runs and queries at a desk in memory, and of what is decided.
 #![tactic(auto)]
 
 #[cfg(test)]
@@ -6,8 +6,14 @@ mod asks;
 #[cfg(test)]
 mod calls;
 #[cfg(test)]
-mod completion_rows;
-#[cfg(test)]
 mod decisions;
 #[cfg(test)]
-mod trade_tables;
+mod order_batches;
+#[cfg(test)]
+mod order_fields;
+#[cfg(test)]
+mod order_refusals;
+#[cfg(test)]
+mod orders;
+#[cfg(test)]
+mod triggers;

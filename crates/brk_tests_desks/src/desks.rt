@@ -9,10 +9,24 @@ use sqlite::{Connection, MemStore};
 use std::alloc::Global;
 use std::test::Fail;
 
-// A clock that stands still.
+/// A clock that stands still.
 #[derive(Drop)]
-struct Still {
+pub struct Still {
     at: Stamp,
+}
+
+impl Still {
+    /// A clock that stands still at a moment.
+    pub fn at(moment: i64) -> Still {
+        Still {
+            at: Stamp::nearest(moment),
+        }
+    }
+
+    /// A clock that stands still at 2024-03-01 00:00 UTC.
+    pub fn first() -> Still {
+        Still::at(FIRST_MOMENT)
+    }
 }
 
 impl Clock for Still {
@@ -58,9 +72,7 @@ pub fn answer_at(
     input: &[u8],
 ) -> (Vec<u8>, Result<Counts, BatchFault>) {
     let mut lines = Vec::new(alloc);
-    let mut clock = Still {
-        at: Stamp::nearest(at),
-    };
+    let mut clock = Still::at(at);
     let ended = run_batch(alloc, input, &mut lines, &mut clock, desk);
     (lines, ended)
 }

@@ -3,7 +3,7 @@
 use crate::desks::{Step, expect_steps, set_desk};
 use brk_import::brk_desk::brk_store::Store;
 use sqlite::types::ValueRef;
-use sqlite::{Connection, MemStore, Row};
+use sqlite::{Alter, Connection, MemStore, Row};
 use std::alloc::Global;
 use std::test::Fail;
 
@@ -93,10 +93,10 @@ fn add_row(lines: &mut String, row: &Row) -> Result<(), Fail> {
 }
 
 // Adds the name of a table and its rows by rising key.
-fn add_table(
+fn add_table<S: Alter>(
     alloc: Global,
     lines: &mut String,
-    conn: &mut Connection<MemStore>,
+    conn: &mut Connection<S>,
     table: &str,
 ) -> Result<(), Fail> {
     writeln!(lines, "{table}")?;
@@ -108,16 +108,24 @@ fn add_table(
     Ok(())
 }
 
-// The names and the rows of these tables.
-fn lines_of(
+// Adds the names and the rows of these tables.
+fn add_tables<S: Alter>(
     alloc: Global,
-    conn: &mut Connection<MemStore>,
+    lines: &mut String,
+    conn: &mut Connection<S>,
     tables: &[&str],
-) -> Result<String, Fail> {
-    let mut lines = String::new(alloc);
+) -> Result<(), Fail> {
     for table in tables {
-        add_table(alloc, &mut lines, conn, table)?;
+        add_table(alloc, lines, conn, table)?;
     }
+    Ok(())
+}
+
+/// The names and the rows of all tables.
+pub fn all_tables<S: Alter>(alloc: Global, conn: &mut Connection<S>) -> Result<String, Fail> {
+    let mut lines = String::new(alloc);
+    add_tables(alloc, &mut lines, conn, &REFERENCE)?;
+    add_tables(alloc, &mut lines, conn, &TRADING)?;
     Ok(lines)
 }
 
@@ -129,7 +137,8 @@ fn expect_rows(
     tables: &[&str],
     wanted: &str,
 ) -> Result<(), Fail> {
-    let told = lines_of(alloc, conn, tables)?;
+    let mut told = String::new(alloc);
+    add_tables(alloc, &mut told, conn, tables)?;
     let mut at = 0u64;
     for (row, want) in told.lines().zip(wanted.lines()) {
         at = at.saturating_add(1);

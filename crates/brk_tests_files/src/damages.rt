@@ -1,6 +1,6 @@
 //! Each condition of an audit, and the changes after which it fails.
 
-use crate::desks::told_after;
+use crate::told::told_after;
 use brk_money::{Condition, Fault};
 use std::alloc::Global;
 use std::process::Abort;

@@ -1,11 +1,26 @@
-//! Tests of desks that other programs change, and of desks in files.
+//! Tests of desks that other programs change, of desks in files, and sweeps of hostile use: a batch whose store is stopped at each
+//! of its calls, whose reader or writer fails at each place, and which is cut at each byte. Sent again it is completed.
 #![tactic(auto)]
 
 #[cfg(test)]
-mod damages;
+mod batch;
 #[cfg(test)]
-mod desks;
+mod cuts;
+#[cfg(test)]
+mod damages;
 #[cfg(test)]
 mod files;
 #[cfg(test)]
 mod forms;
+#[cfg(test)]
+mod machine;
+#[cfg(test)]
+mod readers;
+#[cfg(test)]
+mod stops;
+#[cfg(test)]
+mod streams;
+#[cfg(test)]
+mod told;
+#[cfg(test)]
+mod writers;

@@ -1,9 +1,9 @@
 //! A stream that is cut at each of its bytes, a reader that fails there, and a writer that takes so many bytes.
 
-use crate::streams::{Pieces, Still, Told, post, reply, served};
+use crate::streams::{Pieces, Told, post, reply, served};
 use brk_http::{FaultKind, ServeFault, serve_stream};
 use brk_tests_desks::desk::Desk;
-use brk_tests_desks::desks::set_desk;
+use brk_tests_desks::desks::{Still, set_desk};
 use sqlite::MemStore;
 use std::alloc::{AllocError, Global};
 use std::io;
@@ -129,7 +129,7 @@ fn until_interrupted(
     let reader = Interrupted {
         pieces: Pieces { bytes, size: 64 },
     };
-    let ended = serve_stream(alloc, reader, &mut out, &mut Still, desk);
+    let ended = serve_stream(alloc, reader, &mut out, &mut Still::first(), desk);
     (out, ended)
 }
 
@@ -163,7 +163,7 @@ fn a_writer_may_stop_at_each_byte(rt: HostRuntime) -> Result<(), Fail> {
             alloc,
             all.input.as_bytes(),
             &mut writer,
-            &mut Still,
+            &mut Still::first(),
             &mut desk,
         );
         let one = all.replies[0].len();

@@ -8,8 +8,6 @@ mod checks;
 #[cfg(test)]
 mod cuts;
 #[cfg(test)]
-mod faults;
-#[cfg(test)]
 mod limits;
 #[cfg(test)]
 mod listening;

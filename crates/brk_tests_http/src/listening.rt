@@ -1,8 +1,7 @@
 //! Streams over sockets of this machine, in one process.
 
-use crate::streams::Still;
 use brk_http::serve_on;
-use brk_tests_desks::desks::new_desk;
+use brk_tests_desks::desks::{Still, new_desk};
 use std::io;
 use std::io::Write;
 use std::net::{Shutdown, TcpListener, TcpStream};
@@ -35,7 +34,7 @@ fn streams_share_a_desk(rt: HostRuntime) -> Result<(), Fail> {
         let mut peer = TcpStream::connect(&rt, listener.local_addr()?)?;
         peer.write_all(input.as_bytes())?;
         peer.shutdown(Shutdown::Write)?;
-        assert!(rt; serve_on(rt.alloc(), &listener, 1, &mut Still, &mut desk).is_ok());
+        assert!(rt; serve_on(rt.alloc(), &listener, 1, &mut Still::first(), &mut desk).is_ok());
         let told = io::read_to_string(rt.alloc(), peer)?;
         assert!(rt; told.as_str() == wanted, "{input:?}");
     }

@@ -1,25 +1,13 @@
 //! Streams that are sent to a desk, and the replies that are wanted.
 
-use brk_http::{Clock, ServeFault, serve_stream};
-use brk_money::Stamp;
+use brk_http::{ServeFault, serve_stream};
 use brk_tests_desks::desk::Desk;
-use brk_tests_desks::desks::set_desk;
-use brk_tests_desks::plans::worked::FIRST_MOMENT;
+use brk_tests_desks::desks::{Still, set_desk};
 use sqlite::Alter;
 use std::alloc::{AllocError, Global};
 use std::io;
 use std::io::Read;
 use std::test::Fail;
-
-/// A clock that stands still at 2024-03-01 00:00 UTC.
-#[derive(Drop)]
-pub struct Still;
-
-impl Clock for Still {
-    fn now(&mut self) -> Stamp {
-        Stamp::nearest(FIRST_MOMENT)
-    }
-}
 
 /// Gives its bytes in pieces of at most this size.
 #[derive(Drop)]
@@ -55,7 +43,13 @@ pub fn served<S: Alter>(
     size: usize,
 ) -> (Vec<u8>, Result<u64, ServeFault>) {
     let mut out = Vec::new(alloc);
-    let ended = serve_stream(alloc, Pieces { bytes, size }, &mut out, &mut Still, desk);
+    let ended = serve_stream(
+        alloc,
+        Pieces { bytes, size },
+        &mut out,
+        &mut Still::first(),
+        desk,
+    );
     (out, ended)
 }
 

@@ -1,7 +1,7 @@
 //! Worked streams, byte for byte.
 
-use crate::streams::{Still, Told, answers, post, reply, served};
-use brk_tests_desks::desks::set_desk;
+use crate::streams::{Told, answers, post, reply, served};
+use brk_tests_desks::desks::{Still, set_desk};
 use brk_tests_desks::import::run_batch;
 use std::test::Fail;
 
@@ -201,7 +201,16 @@ fn a_key_is_one_over_batches_and_requests(rt: HostRuntime) -> Result<(), Fail> {
     assert!(rt; ended == Ok(1), "booked by a request");
     let mut lines = Vec::new(alloc);
     let batch = b"batch,B\nbroker,3,Di\nend,1\n";
-    assert!(rt; run_batch(alloc, batch.as_slice(), &mut lines, &mut Still, &mut desk).is_ok());
+    assert!(rt;
+        run_batch(
+            alloc,
+            batch.as_slice(),
+            &mut lines,
+            &mut Still::first(),
+            &mut desk
+        )
+        .is_ok()
+    );
     assert!(rt;
         lines.as_slice() == b"1,again,1709251200016\nend,0,1,0\n".as_slice(),
         "again in a batch"

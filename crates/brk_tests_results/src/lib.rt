@@ -1,8 +1,10 @@
-//! Tests of batches of results, with all tables after them.
+//! Tests of batches of results, with all tables after them, and of the rows of a trade in the store.
 #![tactic(auto)]
 
 #[cfg(test)]
 mod booked;
+#[cfg(test)]
+mod completion_rows;
 #[cfg(test)]
 mod many_results;
 #[cfg(test)]
@@ -13,3 +15,5 @@ mod results;
 mod rows_read;
 #[cfg(test)]
 mod settlements;
+#[cfg(test)]
+mod trade_tables;

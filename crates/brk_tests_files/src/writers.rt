@@ -1,8 +1,8 @@
 //! A batch whose writer takes so many bytes, and then none, fails, or is interrupted.
 
-use crate::batch::{ROWS, Still, all_lines, complete, expect_fault};
+use crate::batch::{ROWS, all_lines, complete, expect_fault};
 use brk_import::{BatchFault, FaultKind, run_batch};
-use brk_tests_desks::desks::set_desk;
+use brk_tests_desks::desks::{Still, set_desk};
 use brk_tests_desks::plans::worked::batch_of;
 use std::alloc::Global;
 use std::io;
@@ -54,7 +54,13 @@ fn expect_written(
         fault,
     };
     let mut desk = set_desk(alloc)?;
-    let ended = run_batch(alloc, batch.as_bytes(), &mut writer, &mut Still, &mut desk);
+    let ended = run_batch(
+        alloc,
+        batch.as_bytes(),
+        &mut writer,
+        &mut Still::first(),
+        &mut desk,
+    );
     complete(alloc, desk, name.as_str(), batch, settled)?;
     let fault = BatchFault {
         rows: settled as u64,

@@ -1,12 +1,12 @@
 //! A machine with the two files of a desk in memory: it stops at a call of one of them, loses what was not synced or keeps
 //! it, and comes back.
 
-use crate::batch::Still;
-use crate::tables::add_tables;
-use brk_import::brk_desk::Desk;
-use brk_import::brk_desk::brk_store::Store;
 use brk_import::run_batch;
 use brk_money::{Condition, Fault};
+use brk_tests_desks::desk::Desk;
+use brk_tests_desks::desks::Still;
+use brk_tests_desks::store::Store;
+use brk_tests_desks::tables::all_tables;
 use sqlite::{Alter, Connection, Files, Options};
 use sqlite_disk::{Crash, Disk, Fuse, Memory};
 use std::alloc::{AllocError, Global};
@@ -55,7 +55,8 @@ impl Held {
     }
 }
 
-/// What was seen of a batch at a desk: all tables before and after it, its lines, and whether an audit passed after it.
+/// What was seen of a batch at a desk: all tables before and after it, or nothing where they could not be read, its lines, and whether an
+/// audit passed after it.
 #[derive(Drop)]
 pub struct Seen {
     pub before: String,
@@ -95,13 +96,23 @@ pub fn book<S: Alter + Drop>(
     batch: &[u8],
     seen: &mut Seen,
 ) -> Connection<S> {
-    add_tables(alloc, &mut seen.before, &mut conn);
+    if let Ok(tables) = all_tables(alloc, &mut conn) {
+        seen.before = tables;
+    }
     match desk_of(alloc, conn) {
         Ok(mut desk) => {
-            drop(run_batch(alloc, batch, &mut seen.lines, &mut Still, &mut desk));
+            drop(run_batch(
+                alloc,
+                batch,
+                &mut seen.lines,
+                &mut Still::first(),
+                &mut desk,
+            ));
             seen.is_sound = desk.audit(alloc).is_ok();
             let mut conn = desk.into_store().into_conn();
-            add_tables(alloc, &mut seen.after, &mut conn);
+            if let Ok(tables) = all_tables(alloc, &mut conn) {
+                seen.after = tables;
+            }
             conn
         }
         Err(conn) => conn,

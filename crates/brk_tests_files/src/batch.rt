@@ -1,24 +1,13 @@
 //! The batch of the sweeps: its rows, its lines, the tables after it, and how it is completed.
 
-use brk_import::brk_desk::Desk;
-use brk_import::{BatchFault, Clock, Counts};
-use brk_money::Stamp;
+use brk_import::{BatchFault, Counts};
+use brk_tests_desks::desk::Desk;
 use brk_tests_desks::desks::{Step, expect};
-use brk_tests_desks::plans::worked::{FIRST_MOMENT, add_lines};
+use brk_tests_desks::plans::worked::add_lines;
 use brk_tests_desks::tables::expect_tables;
 use sqlite::MemStore;
 use std::alloc::Global;
 use std::test::Fail;
-
-/// A clock that stands still at 2024-03-01 00:00 UTC.
-#[derive(Drop)]
-pub struct Still;
-
-impl Clock for Still {
-    fn now(&mut self) -> Stamp {
-        Stamp::nearest(FIRST_MOMENT)
-    }
-}
 
 /// A purchase and its result, an order that waits, a tick that triggers it, its result, and a correction that would turn
 /// back what it did if it acted twice.

@@ -1,8 +1,8 @@
 //! A batch whose reader fails once at each of its bytes, or is interrupted there.
 
-use crate::batch::{ROWS, Still, complete, expect_fault, first_lines};
+use crate::batch::{ROWS, complete, expect_fault, first_lines};
 use brk_import::{BatchFault, FaultKind, run_batch};
-use brk_tests_desks::desks::set_desk;
+use brk_tests_desks::desks::{Still, set_desk};
 use brk_tests_desks::plans::worked::batch_of;
 use std::alloc::Global;
 use std::io;
@@ -49,7 +49,7 @@ fn expect_read(alloc: Global, batch: &str, len: usize, kind: ErrorKind) -> Resul
         fault: Some(kind),
         after,
     };
-    let ended = run_batch(alloc, reader, &mut told, &mut Still, &mut desk);
+    let ended = run_batch(alloc, reader, &mut told, &mut Still::first(), &mut desk);
     complete(alloc, desk, name.as_str(), batch, settled)?;
     let wanted = BatchFault {
         rows: settled as u64,
