@@ -4,6 +4,6 @@
 pub mod ending;
 pub mod telling;
 
-pub use brk_import;
+pub use brk_outside;
 pub use brk_report_lines;
 pub use ending::{Ending, after_close, end_with};

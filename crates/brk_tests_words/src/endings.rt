@@ -1,4 +1,4 @@
-use brk_endings::brk_import::{BatchFault, FaultKind};
+use brk_endings::brk_outside::{BatchFault, FaultKind};
 use brk_endings::brk_report_lines::StatementFault;
 use brk_endings::{Ending, end_with};
 use brk_money::{Condition, Fault, Refusal};
