@@ -67,29 +67,33 @@ const SET_TABLES: &str =
     SET,14,band\x1f1\x1fTLB\x1fNYSE\x1f1\x1f999999\x1f100,1709251200013\n\
     SET,15,taxrate\x1f1\x1fState\x1f20000,1709251200014\nSET,16,custtax\x1f10\x1f1,1709251200015\n";
 
+/// Tables that could not be read, or not be told.
+#[derive(Clone, Copy, Debug, PartialEq, Eq)]
+pub struct Unread;
+
 // Adds a value; a null is no text.
-fn add_value(lines: &mut String, value: ValueRef<'_>) -> Result<(), Fail> {
+fn add_value(lines: &mut String, value: ValueRef<'_>) -> Result<(), Unread> {
     match value {
         ValueRef::Null => Ok(()),
-        ValueRef::Int(number) => Ok(write!(lines, "{number}")?),
+        ValueRef::Int(number) => write!(lines, "{number}").map_err(|_| Unread),
         ValueRef::Text(bytes) => {
-            let text = str::from_utf8(bytes).map_err(|_| "no text")?;
-            Ok(lines.push_str(text)?)
+            let text = str::from_utf8(bytes).map_err(|_| Unread)?;
+            lines.push_str(text).map_err(|_| Unread)
         }
-        ValueRef::Real(_) | ValueRef::Blob(_) => Err("a value of another kind")?,
+        ValueRef::Real(_) | ValueRef::Blob(_) => Err(Unread),
     }
 }
 
 // Adds a row, its values joined by commas.
-fn add_row(lines: &mut String, row: &Row) -> Result<(), Fail> {
+fn add_row(lines: &mut String, row: &Row) -> Result<(), Unread> {
     for at in 0..row.column_count() {
         if at > 0 {
-            lines.push_str(",")?;
+            lines.push_str(",").map_err(|_| Unread)?;
         }
-        add_value(lines, row.get_ref(at)?)?;
+        let value = row.get_ref(at).map_err(|_| Unread)?;
+        add_value(lines, value)?;
     }
-    lines.push_str("\n")?;
-    Ok(())
+    lines.push_str("\n").map_err(|_| Unread)
 }
 
 // Adds the name of a table and its rows by rising key.
@@ -98,10 +102,10 @@ fn add_table<S: Alter>(
     lines: &mut String,
     conn: &mut Connection<S>,
     table: &str,
-) -> Result<(), Fail> {
-    writeln!(lines, "{table}")?;
-    let sql = format!(in alloc; "SELECT * FROM {table} ORDER BY 1, 2")?;
-    let rows = conn.query_all(sql.as_str(), &[])?;
+) -> Result<(), Unread> {
+    writeln!(lines, "{table}").map_err(|_| Unread)?;
+    let sql = format!(in alloc; "SELECT * FROM {table} ORDER BY 1, 2").map_err(|_| Unread)?;
+    let rows = conn.query_all(sql.as_str(), &[]).map_err(|_| Unread)?;
     for row in &rows {
         add_row(lines, row)?;
     }
@@ -114,7 +118,7 @@ fn add_tables<S: Alter>(
     lines: &mut String,
     conn: &mut Connection<S>,
     tables: &[&str],
-) -> Result<(), Fail> {
+) -> Result<(), Unread> {
     for table in tables {
         add_table(alloc, lines, conn, table)?;
     }
@@ -122,7 +126,7 @@ fn add_tables<S: Alter>(
 }
 
 /// The names and the rows of all tables.
-pub fn all_tables<S: Alter>(alloc: Global, conn: &mut Connection<S>) -> Result<String, Fail> {
+pub fn all_tables<S: Alter>(alloc: Global, conn: &mut Connection<S>) -> Result<String, Unread> {
     let mut lines = String::new(alloc);
     add_tables(alloc, &mut lines, conn, &REFERENCE)?;
     add_tables(alloc, &mut lines, conn, &TRADING)?;
@@ -138,7 +142,7 @@ fn expect_rows(
     wanted: &str,
 ) -> Result<(), Fail> {
     let mut told = String::new(alloc);
-    add_tables(alloc, &mut told, conn, tables)?;
+    add_tables(alloc, &mut told, conn, tables).map_err(|_| "tables that cannot be read")?;
     let mut at = 0u64;
     for (row, want) in told.lines().zip(wanted.lines()) {
         at = at.saturating_add(1);
