@@ -26,9 +26,10 @@ mod volumes;
 
 pub use answer::Answer;
 pub use brk_commands::{Command, line_text, parse_row, row_text};
+pub use brk_shown::view_fields;
 pub use brk_store;
 pub use brk_store::{Stop, Visitor};
-pub use brk_view::{Query, View, parse_query, view_fields};
+pub use brk_view::{Query, View, parse_query};
 pub use call::{Call, Outcome};
 pub use desk::Desk;
 pub use head::Head;

@@ -1,7 +1,8 @@
 use brk_commands::line_text;
 use brk_money::{Fault, Refusal};
+use brk_shown::view_fields;
 use brk_trade::Plan;
-use brk_view::{View, view_fields};
+use brk_view::View;
 use std::alloc::Global;
 
 /// The line that a plan is answered with, or its refusal after `no`.

@@ -1,6 +1,5 @@
 pub mod ById
 pub mod Distinct
-pub mod Joined
 pub mod Kept
 pub mod Names
 pub mod Passed

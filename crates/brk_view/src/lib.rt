@@ -1,13 +1,9 @@
 //! What can be asked of a desk, and what it answers: queries read from texts, and views made of typed rows.
 #![tactic(auto)]
 
-mod account_fields;
 pub mod broker_names;
-pub mod fields;
 pub mod laws;
-mod lookup_fields;
 pub mod lookups;
-mod lot_fields;
 pub mod lots;
 pub mod named_trades;
 pub mod ordering;
@@ -18,14 +14,11 @@ pub mod query;
 pub mod recents;
 pub mod statuses;
 pub mod submitted_rows;
-mod texts;
 pub mod view;
-mod volume_fields;
 pub mod volumes;
 pub mod worths;
 
 pub use broker_names::{BrokerNames, check_names};
-pub use fields::view_fields;
 pub use lookups::{LookedUp, looked_up, lookup_account, lookup_ids, lookup_symbol, oldest_first};
 pub use lots::{LotTouch, MOST_CHANGES, TouchedLots, keep_first, lookup_lots};
 pub use named_trades::{NamedTrades, check_named};

@@ -1,0 +1,100 @@
+//! The texts of a view.
+
+ghost use Rattle.std.specs.Prelude.{◌≡◌, ◌∷◌, [], IfOk, OnErr, Err, decimal, map, string_bytes};
+ghost use Rattle.brk_plans.specs.Replies.{told};
+ghost use Rattle.brk_model.specs.Commands as model;
+ghost use Rattle.brk_model.specs.Rows.{estimate_fields};
+ghost use Rattle.brk_money.specs.Spelling.{cents_text};
+ghost use Rattle.brk_money.specs.declared.fault.Fault.TheVariants.{Memory};
+ghost use Rattle.brk_view.specs.Views.{estimate_record, fields_of, record_of, records_of, trade_record};
+ghost use Rattle.brk_view.specs.declared.view.View.TheVariants as views;
+
+use crate::account_fields::{recent_records, status_records, worth_records};
+use crate::lookup_fields::lookup_records;
+use crate::lot_fields::lot_records;
+use crate::texts::{amount_text, number_text};
+use crate::volume_fields::volume_records;
+use brk_money::{Fault, Wide};
+use brk_trade::Estimate;
+use brk_view::view::{SubmittedTrade, View};
+use std::alloc::Global;
+
+// The amounts in their order, as they are printed.
+fn amount_texts(alloc: Global, amounts: &[Wide]) -> Result<Vec<String>, Fault>
+    ensures texts { IfOk result (λ texts. record_of texts ≡ map cents_text amounts.now) }
+    ensures fault { OnErr result (result ≡ Err Memory) }
+{
+    let mut texts = Vec::new(alloc);
+    for amount in amounts {
+        let text = amount_text(alloc, *amount)?;
+        texts.push(text)?;
+    }
+    Ok(texts)
+}
+
+// The record of a submitted trade.
+fn trade_texts(alloc: Global, trade: &SubmittedTrade) -> Result<Vec<String>, Fault>
+    ensures texts { IfOk result (λ texts. record_of texts ≡ trade_record trade.now) }
+    ensures fault { OnErr result (result ≡ Err Memory) }
+{
+    let mut texts = Vec::new(alloc);
+    texts.push(number_text(alloc, trade.id.get())?)?;
+    texts.push(String::from_str(alloc, trade.kind.code())?)?;
+    texts.push(String::from_str(alloc, trade.symbol.as_str())?)?;
+    texts.push(number_text(alloc, u64::from(trade.qty.get()))?)?;
+    texts.push(amount_text(alloc, Wide::from(trade.bid))?)?;
+    Ok(texts)
+}
+
+// A record for each trade.
+fn submitted_records(alloc: Global, trades: &[SubmittedTrade]) -> Result<Vec<Vec<String>>, Fault>
+    ensures records { IfOk result (λ records. records_of records ≡ map trade_record trades.now) }
+    ensures fault { OnErr result (result ≡ Err Memory) }
+{
+    let mut records = Vec::new(alloc);
+    for trade in trades {
+        let texts = trade_texts(alloc, trade)?;
+        records.push(texts)?;
+    }
+    Ok(records)
+}
+
+// The one record of an estimate.
+fn estimate_records(alloc: Global, estimate: &Estimate) -> Result<Vec<Vec<String>>, Fault>
+    ensures records { IfOk result (λ records. records_of records ≡ estimate_record estimate.now ∷ []) }
+    ensures fault { OnErr result (result ≡ Err Memory) }
+{
+    let amounts = [
+        Wide::from(estimate.price),
+        Wide::from(estimate.buy_value),
+        Wide::from(estimate.sell_value),
+        Wide::from(estimate.tax),
+        Wide::from(estimate.commission),
+        Wide::from(estimate.charge),
+        estimate.assets,
+    ];
+    let texts = amount_texts(alloc, &amounts)?;
+    let mut records = Vec::new(alloc);
+    records.push(texts)?;
+    Ok(records)
+}
+
+/// The records of texts that a view is shown as. Of a submitted trade: T_ID, TYPE, SYMBOL, QTY, T_BID_PRICE; of an
+/// estimate: PRICE, BUY, SELL, TAX, COMMISSION, CHARGE, ASSETS. Each amount is in its one spelling.
+pub fn view_fields(alloc: Global, view: &View) -> Result<Vec<Vec<String>>, Fault>
+    ensures records { IfOk result (λ records. records_of records ≡ fields_of view.now) }
+    // An estimate of the definitions is shown as they show it.
+    ensures estimate { IfOk result (λ records. (e : model.Estimate) → view.now ≡ views.Estimate (told e) → records_of records ≡ estimate_fields e ∷ []) }
+    ensures fault { OnErr result (result ≡ Err Memory) }
+{
+    match view {
+        View::Position(accounts) => worth_records(alloc, accounts),
+        View::Recent(recent) => recent_records(alloc, recent),
+        View::Status(account) => status_records(alloc, account),
+        View::Lookup(trades) => lookup_records(alloc, trades),
+        View::Lots(lots) => lot_records(alloc, lots),
+        View::Volume(brokers) => volume_records(alloc, brokers),
+        View::Submitted(trades) => submitted_records(alloc, trades),
+        View::Estimate(estimate) => estimate_records(alloc, estimate),
+    }
+}

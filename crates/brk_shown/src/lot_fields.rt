@@ -1,0 +1,77 @@
+//! The records of lots that a trade touched.
+
+ghost use Rattle.std.specs.Prelude.{◌≡◌, ◌++◌, ◌∷◌, [], Err, IfOk, OnErr, OnOk, decimal, map, string_bytes};
+ghost use Rattle.std.specs.Fmt.{signed_decimal};
+ghost use Rattle.brk_money.specs.declared.fault.Fault.TheVariants.{Memory};
+ghost use Rattle.brk_view.specs.Lots.{touch_record, touched_records};
+ghost use Rattle.brk_view.specs.Views.{record_of, records_of};
+
+use crate::texts::number_text;
+use brk_money::Fault;
+use brk_view::lots::{LotTouch, TouchedLots};
+use std::alloc::Global;
+
+// A quantity, as it is printed, with a minus where shares were sold short.
+fn shares_text(alloc: Global, shares: i64) -> Result<String, Fault>
+    ensures text { IfOk result (λ text. string_bytes text ≡ signed_decimal shares) }
+    ensures fault { OnErr result (result ≡ Err Memory) }
+{
+    Ok(format!(in alloc; "{}", shares)?)
+}
+
+// The record of a change.
+fn touch_texts(alloc: Global, touch: LotTouch) -> Result<Vec<String>, Fault>
+    ensures texts { IfOk result (λ texts. record_of texts ≡ touch_record touch) }
+    ensures fault { OnErr result (result ≡ Err Memory) }
+{
+    let change = touch.change;
+    let mut texts = Vec::new(alloc);
+    texts.push(number_text(alloc, change.lot.get())?)?;
+    texts.push(number_text(alloc, change.trade.get())?)?;
+    texts.push(shares_text(alloc, change.before)?)?;
+    texts.push(shares_text(alloc, change.after)?)?;
+    Ok(texts)
+}
+
+// Adds a record for each change.
+fn add_touches(
+    alloc: Global,
+    records: &mut Vec<Vec<String>>,
+    touches: &[LotTouch],
+) -> Result<(), Fault>
+    ensures records { OnOk result (records_of records.new ≡ records_of records.old ++ map touch_record touches.now) }
+    ensures fault { OnErr result (result ≡ Err Memory) }
+{
+    for touch in touches {
+        let texts = touch_texts(alloc, *touch)?;
+        records.push(texts)?;
+    }
+    Ok(())
+}
+
+// The id of the trade that was found, alone in its record.
+fn found_texts(alloc: Global, lots: &TouchedLots) -> Result<Vec<String>, Fault>
+    ensures texts { IfOk result (λ texts. record_of texts ≡ decimal lots.now.trade ∷ []) }
+    ensures fault { OnErr result (result ≡ Err Memory) }
+{
+    let mut texts = Vec::new(alloc);
+    texts.push(number_text(alloc, lots.trade.get())?)?;
+    Ok(texts)
+}
+
+// The trade that was found, then the changes of the lots that it touched; no record where there is none.
+pub(crate) fn lot_records(
+    alloc: Global,
+    lots: &Option<TouchedLots>,
+) -> Result<Vec<Vec<String>>, Fault>
+    ensures records { IfOk result (λ records. records_of records ≡ touched_records lots.now) }
+    ensures fault { OnErr result (result ≡ Err Memory) }
+{
+    let mut records = Vec::new(alloc);
+    if let Some(lots) = lots {
+        let found = found_texts(alloc, lots)?;
+        records.push(found)?;
+        add_touches(alloc, &mut records, &lots.changes)?;
+    }
+    Ok(records)
+}
