@@ -1,12 +1,21 @@
-//! Tests of batches of orders, ticks and cancels, of calls, runs and queries at a desk in memory, and of what is decided.
+//! Tests of batches that set a desk up and of batches of orders, ticks and cancels; of calls, runs and queries at a desk in memory; and of
+//! what is decided.
 #![tactic(auto)]
 
 #[cfg(test)]
 mod asks;
 #[cfg(test)]
+mod batches;
+#[cfg(test)]
 mod calls;
 #[cfg(test)]
 mod decisions;
+#[cfg(test)]
+mod keys;
+#[cfg(test)]
+mod limits;
+#[cfg(test)]
+mod made;
 #[cfg(test)]
 mod order_batches;
 #[cfg(test)]
@@ -15,5 +24,9 @@ mod order_fields;
 mod order_refusals;
 #[cfg(test)]
 mod orders;
+#[cfg(test)]
+mod refusals;
+#[cfg(test)]
+mod settings;
 #[cfg(test)]
 mod triggers;

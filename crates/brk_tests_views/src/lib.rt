@@ -1,4 +1,4 @@
-//! Tests of what a desk tells when it is asked for its views, and of batches that correct words.
+//! Tests of what a desk tells when it is asked for its views and for statements, and of batches that correct words.
 #![tactic(auto)]
 
 #[cfg(test)]
@@ -9,6 +9,8 @@ mod first_twenty;
 mod limits;
 #[cfg(test)]
 mod setting;
+#[cfg(test)]
+mod statements;
 #[cfg(test)]
 mod trades;
 #[cfg(test)]

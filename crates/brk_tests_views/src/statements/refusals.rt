@@ -1,6 +1,6 @@
 //! Statements that are refused: nothing is written.
 
-use crate::asking::{Narrow, span_of};
+use crate::statements::asking::{Narrow, span_of};
 use brk_report::{StatementFault, statement};
 use brk_tests_desks::desks::set_desk;
 use std::test::Fail;

@@ -1,6 +1,6 @@
 //! A writer that stops at each byte of a statement: what it took before is written, and nothing after.
 
-use crate::asking::{Narrow, span_of};
+use crate::statements::asking::{Narrow, span_of};
 use brk_report::{StatementFault, statement};
 use brk_tests_desks::desk::Desk;
 use brk_tests_desks::desks::{Step, expect, set_desk};

@@ -1,6 +1,6 @@
 //! Statements between trades: before, within and after their days, with lots of several symbols, long and short.
 
-use crate::asking::{Narrow, span_of};
+use crate::statements::asking::{Narrow, span_of};
 use brk_report::statement;
 use brk_tests_desks::desk::Desk;
 use brk_tests_desks::desks::{Step, expect_steps, set_desk};
