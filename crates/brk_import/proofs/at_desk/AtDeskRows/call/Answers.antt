@@ -7,21 +7,21 @@ use Rattle.brk_import.proofs.at_desk.AtDeskRows.call.Goals as goal
 
 pub returns-in-Done-clause-ok : goal.returns-in-Done-clause-ok
 returns-in-Done-clause-ok g c =
-    under g.S.Store c.args.desk.now c.call.new.desk c.args.now (command_of c.args.command.now) (key_of c.in_ok-key.key) (record { batch = c.args.batch.now; row = c.args.n })
+    under g.S.Store c.args.desk.now c.call.new.self c.args.now (command_of c.args.command.now) (key_of c.in_ok-key.key) (record { batch = c.args.batch.now; row = c.args.n })
     (given.Done c.in-Done.reply) c.in_ok-key.ensures.key (rw c.in-Done.is at c.in_ok-reply.ensures.called)
 
 pub returns-in-Again-clause-ok : goal.returns-in-Again-clause-ok
 returns-in-Again-clause-ok g c =
-    under g.S.Store c.args.desk.now c.call.new.desk c.args.now (command_of c.args.command.now) (key_of c.in_ok-key.key) (record { batch = c.args.batch.now; row = c.args.n })
+    under g.S.Store c.args.desk.now c.call.new.self c.args.now (command_of c.args.command.now) (key_of c.in_ok-key.key) (record { batch = c.args.batch.now; row = c.args.n })
     (given.Again c.in-Again.line) c.in_ok-key.ensures.key (rw c.in-Again.is at c.in_ok-reply.ensures.called)
 
 pub returns-clause-ok : goal.returns-clause-ok
 returns-clause-ok g c =
-    under g.S.Store c.args.desk.now c.call.new.desk c.args.now (command_of c.args.command.now) (key_of c.in_ok-key.key) (record { batch = c.args.batch.now; row = c.args.n })
+    under g.S.Store c.args.desk.now c.call.new.self c.args.now (command_of c.args.command.now) (key_of c.in_ok-key.key) (record { batch = c.args.batch.now; row = c.args.n })
     (given.Refused c.in-Refused.refusal) c.in_ok-key.ensures.key (rw c.in-Refused.is at c.in_ok-reply.ensures.called)
 
 pub returns-in_err-reply-clause-stop : goal.returns-in_err-reply-clause-stop
 returns-in_err-reply-clause-stop g c =
     let p = err_from_is_err_and c.from_residual-in_err-reply.result c.from_residual-in_err-reply.ensures.1 in
-    rw p.1 (may_act g.S.Store c.args.desk.now c.call.new.desk c.args.now (command_of c.args.command.now) (key_of c.in_ok-key.key) (record { batch = c.args.batch.now; row = c.args.n })
+    rw p.1 (may_act g.S.Store c.args.desk.now c.call.new.self c.args.now (command_of c.args.command.now) (key_of c.in_ok-key.key) (record { batch = c.args.batch.now; row = c.args.n })
     _ c.in_ok-key.ensures.key c.in_err-reply.ensures.called)
