@@ -1,6 +1,6 @@
 //! The limits of heads, fields, bodies and streams.
 
-use crate::streams::{Told, answers, reply, served};
+use crate::http::streams::{Told, answers, reply, served};
 use brk_tests_desks::desks::set_desk;
 use std::alloc::{AllocError, Global};
 use std::test::Fail;

@@ -1,6 +1,6 @@
 //! Which bodies are a JSON list of texts, and how texts are told.
 
-use crate::streams::{Told, answers, post};
+use crate::http::streams::{Told, answers, post};
 use std::test::Fail;
 
 const BAD: Told = Told::Open("400 Bad Request", "{\"error\":\"bad request\"}");

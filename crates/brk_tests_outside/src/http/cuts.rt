@@ -1,6 +1,6 @@
 //! A stream that is cut at each of its bytes, a reader that fails there, and a writer that takes so many bytes.
 
-use crate::streams::{Pieces, Told, post, reply, served};
+use crate::http::streams::{Pieces, Told, post, reply, served};
 use brk_http::{FaultKind, ServeFault, serve_stream};
 use brk_tests_desks::desk::Desk;
 use brk_tests_desks::desks::{Still, set_desk};

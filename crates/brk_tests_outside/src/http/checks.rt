@@ -1,6 +1,6 @@
 //! Each check against the next one: where two are wrong at once, the first is told. And what ends a stream.
 
-use crate::streams::{Told, answers};
+use crate::http::streams::{Told, answers};
 use std::test::Fail;
 
 const LARGE: Told = Told::Last("413 Payload Too Large", "{\"error\":\"too large\"}");

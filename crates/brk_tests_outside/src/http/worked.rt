@@ -1,6 +1,6 @@
 //! Worked streams, byte for byte.
 
-use crate::streams::{Told, answers, post, reply, served};
+use crate::http::streams::{Told, answers, post, reply, served};
 use brk_tests_desks::desks::{Still, set_desk};
 use brk_tests_desks::import::run_batch;
 use std::test::Fail;
