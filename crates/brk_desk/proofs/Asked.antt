@@ -12,7 +12,7 @@ use Rattle.brk_rows.proofs.Inside.{clean_before}
 use Rattle.brk_store.specs.Holds.{IsRead}
 use Rattle.brk_desk.specs.Shows.{Shows}
 use Rattle.brk_desk.specs.Keeping.{IsAsked}
-use Rattle.brk_desk.proofs.Seen.{still_kept}
+use Rattle.brk_booking.proofs.Seen.{still_kept}
 
 -- what was read answers a query over each base whose books are kept
 pub is_asked : {S : Type 0} (g : Ghosts S) (old new : Held S) (query : Query) (result : Result (Result View Refusal) Fault) → IsRead g old new result (Shows query)

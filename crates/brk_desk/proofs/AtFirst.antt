@@ -12,7 +12,7 @@ use Rattle.brk_sound_laws.specs.Runs.{IsCallInForm}
 use Rattle.brk_sound_laws.proofs.SoundRuns.{Both, keyed_both, run_both}
 use Rattle.brk_sound_laws.proofs.SoundSteps.{empty_sound}
 use Rattle.brk_store.specs.Holds.{Holds}
-use Rattle.brk_desk.specs.Keeping.{KeepsBase}
+use Rattle.brk_booking.specs.Booked.{KeepsBase}
 use Rattle.brk_desk.specs.Stops.{MayStand}
 
 pub made_keeps : {S : Type 0} (g : Ghosts S) (store : Held S) → Holds g store no_rows → KeepsBase g store empty_base

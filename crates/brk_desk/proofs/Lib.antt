@@ -1,16 +1,9 @@
-mod Correcting
-mod CorrectionsFinding
 pub mod Tested
 pub mod Each
 pub mod OrderViews
 pub mod AccountViews
 pub mod RecentViews
-pub mod Seen
-pub mod RowTexts
 pub mod Audits
-pub mod Leaving
-pub mod Kept
-pub mod Calling
 pub mod Asked
 pub mod Running
 pub mod Stopping

@@ -9,7 +9,8 @@ use Rattle.brk_trade_laws.proofs.RunSums.{run_adds_up}
 use Rattle.brk_sound_laws.proofs.Adopted.{sound_passes}
 use Rattle.brk_desk.specs.Answers.{outcome_of}
 use Rattle.brk_desk.specs.Commands.{call_of}
-use Rattle.brk_desk.specs.Keeping.{IsRun, KeepsBase, KeepsPromise, Leads}
+use Rattle.brk_booking.specs.Booked.{KeepsBase}
+use Rattle.brk_desk.specs.Keeping.{IsRun, KeepsPromise, Leads}
 use Rattle.brk_desk.specs.declared.call.Call.{Call}
 use Rattle.brk_desk.specs.declared.call.Outcome.{Outcome}
 use Rattle.brk_store.proofs.Taking.{passing_books_held}

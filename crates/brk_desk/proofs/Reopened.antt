@@ -25,14 +25,15 @@ use Rattle.brk_store.proofs.Found.{found_again}
 use Rattle.brk_store.proofs.Taking.{passing_books_held, sound_books_pass}
 use Rattle.brk_desk.specs.Answers.{outcome_of}
 use Rattle.brk_desk.specs.Commands.{call_of}
-use Rattle.brk_desk.specs.Keeping.{IsCalled, IsRun, KeepsBase, MayCome, base_after_call}
+use Rattle.brk_booking.specs.Booked.{IsCalled, KeepsBase, MayCome, base_after_call}
+use Rattle.brk_desk.specs.Keeping.{IsRun}
 use Rattle.brk_desk.specs.Reopening.{CanBeKept, IsJustOpened, IsReopened, IsTakenOver, StandsAlone}
 use Rattle.brk_desk.specs.Stops.{MayStand}
-use Rattle.brk_desk.specs.declared.answer.Answer.{Answer}
+use Rattle.brk_booking.specs.declared.answer.Answer.{Answer}
 use Rattle.brk_desk.specs.declared.call.Call.{Call}
 use Rattle.brk_desk.specs.declared.call.Outcome.{Outcome}
 use Rattle.brk_desk.proofs.AtFirst.{made_keeps, stands}
-use Rattle.brk_desk.proofs.Seen.{still_kept}
+use Rattle.brk_booking.proofs.Seen.{still_kept}
 
 pub made_stands : {S : Type 0} (g : Ghosts S) (conn store : Held S) → IsCreated g conn store (Ok tt) → HasCleanDisk (state g store) → StandsAlone g store empty_base
 made_stands g conn store created clean = record {

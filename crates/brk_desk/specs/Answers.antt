@@ -1,21 +1,14 @@
--- What answers and outcomes are in the abstract brokerage.
-use Rattle.std.specs.Prelude.{Result, Ok, Err, string_bytes}
+-- What outcomes are in the abstract brokerage.
+use Rattle.std.specs.Prelude.{Result, Ok, Err}
 use Rattle.brk_money.specs.declared.fault.Fault.{Fault}
 use Rattle.brk_money.specs.declared.refusal.Refusal.{Refusal}
-use Rattle.brk_model.specs.Commands.{Answer, Done, Again, Refused}
 use Rattle.brk_model.specs.Run as run
-use Rattle.brk_plans.specs.Replies.{reply_of}
 use Rattle.brk_view.specs.Views.{fields_of}
 use Rattle.brk_view.specs.declared.view.View.{View}
-use Rattle.brk_desk.specs.declared.answer.Answer as desk
-use Rattle.brk_desk.specs.declared.answer.Answer.TheVariants as given
+use Rattle.brk_booking.specs.Answers.{answer_of}
+use Rattle.brk_booking.specs.declared.answer.Answer as desk
 use Rattle.brk_desk.specs.declared.call.Outcome.{Outcome}
 use Rattle.brk_desk.specs.declared.call.Outcome.TheVariants as came
-
-abbrev pub answer_of : desk.Answer → Answer
-answer_of (given.Done reply) = Done (reply_of reply)
-answer_of (given.Again line) = Again (string_bytes line)
-answer_of (given.Refused refusal) = Refused refusal
 
 abbrev pub outcome_of : Outcome → run.Outcome
 outcome_of (came.Did answer) = run.Did (answer_of answer)
@@ -33,17 +26,3 @@ abbrev pub outcome_seen : Result (Result View Refusal) Fault → Outcome
 outcome_seen (Ok (Ok view)) = came.Saw view
 outcome_seen (Ok (Err refusal)) = came.NoView refusal
 outcome_seen (Err fault) = came.Failed fault
-
--- nothing was booked: the call was refused or failed, or had been answered before
-abbrev pub BookedNothing : Result desk.Answer Fault → Type 0
-BookedNothing (Ok (given.Done reply)) = ⊥
-BookedNothing (Ok (given.Again line)) = Unit {0}
-BookedNothing (Ok (given.Refused refusal)) = Unit {0}
-BookedNothing (Err fault) = Unit {0}
-
--- it was booked just now
-abbrev pub IsDone : Result desk.Answer Fault → Type 0
-IsDone (Ok (given.Done reply)) = Unit {0}
-IsDone (Ok (given.Again line)) = ⊥
-IsDone (Ok (given.Refused refusal)) = ⊥
-IsDone (Err fault) = ⊥

@@ -1,17 +1,11 @@
 -- What calls are in the abstract brokerage.
-use Rattle.std.specs.Prelude.{ℕ, Option, option_map}
+use Rattle.std.specs.Prelude.{ℕ}
+use Rattle.brk_booking.specs.Keys.{key_for}
 use Rattle.brk_commands.specs.Commands.{command_of}
-use Rattle.brk_model.specs.Records as records
 use Rattle.brk_model.specs.Run as run
-use Rattle.brk_ref.specs.Records.{key_of}
-use Rattle.brk_ref.specs.declared.key.Key.{Key}
 use Rattle.brk_view.specs.Queries.{query_of}
 use Rattle.brk_desk.specs.declared.call.Call.{Call}
 use Rattle.brk_desk.specs.declared.call.Call.TheVariants as call
-
--- the key of a call, if it has one
-abbrev pub key_for : Option Key → Option records.Key
-key_for key = option_map key_of key
 
 -- a call at its moment
 abbrev pub call_of : ℕ × Call → ℕ × run.Call

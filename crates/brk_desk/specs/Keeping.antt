@@ -1,83 +1,37 @@
 -- The books behind a desk, and what its calls do to them.
 use Rattle.brk_model.specs.Form.{has_texts}
-use Rattle.std.specs.Prelude.{◌≡◌, ℕ, List, Option, None, map, length, Result, IfOk, IfErr, IfSome, OnErr, IsTrue}
+use Rattle.std.specs.Prelude.{◌≡◌, ℕ, List, None, map, length, Result, IfOk, IfErr, IsTrue}
 use Rattle.std.specs.List.{AllByRecursion}
 use Rattle.sqlite_trees.specs.declared.store.Store.{Ghosts}
 use Rattle.sqlite.specs.Held.{Held, state}
 use Rattle.sqlite.specs.State.{HasCleanDisk, Survives}
-use Rattle.sqlite_trees.specs.Tree.{Trees}
 use Rattle.brk_money.specs.declared.fault.Fault.{Fault}
 use Rattle.brk_money.specs.declared.refusal.Refusal.{Refusal}
 use Rattle.brk_model.specs.Adopted.{base_of}
 use Rattle.brk_model.specs.Ask.{ask}
 use Rattle.brk_model.specs.Base.{Base, empty_base}
 use Rattle.brk_model.specs.Sheets.{sheets}
-use Rattle.brk_model.specs.Commands.{Command}
-use Rattle.brk_model.specs.Records.{Key}
-use Rattle.brk_model.specs.Keyed.{keyed_step}
 use Rattle.brk_model.specs.Queries.{Query}
 use Rattle.brk_model.specs.Run.{MayFail, Run}
 use Rattle.brk_model.specs.Tables.{Tables, no_rows}
-use Rattle.brk_trade_laws.specs.Books.{IsBooks}
 use Rattle.brk_trade_laws.specs.Runs.{RunAddsUp}
 use Rattle.brk_adoption_laws.specs.Passing.{Passes}
-use Rattle.brk_sound_laws.specs.InForm.{IsInForm, IsKeyInForm}
 use Rattle.brk_sound_laws.specs.Runs.{IsCallInForm}
-use Rattle.brk_store.specs.Audited.{HoldsBooks, IsAudited, OnAnswer}
+use Rattle.brk_store.specs.Audited.{IsAudited, OnAnswer}
 use Rattle.brk_store.specs.Holds.{AreTreesOf, Holds, IsSame, LeavesOnly}
 use Rattle.brk_desk.specs.Shows.{seen_of}
 use Rattle.brk_view.specs.Queries.{query_of}
 use Rattle.brk_view.specs.declared.view.View.{View}
-use Rattle.brk_desk.specs.Answers.{BookedNothing, IsDone, answer_of, outcome_for, outcome_of, outcome_seen}
+use Rattle.brk_booking.specs.Booked.{IsCalled, KeepsBase, StillKeeps}
+use Rattle.brk_desk.specs.Answers.{outcome_for, outcome_of, outcome_seen}
 use Rattle.brk_commands.specs.Commands.{command_of}
-use Rattle.brk_desk.specs.Commands.{call_of, key_for}
+use Rattle.brk_booking.specs.Keys.{key_for}
+use Rattle.brk_desk.specs.Commands.{call_of}
 use Rattle.brk_desk.specs.Stops.{MayStand}
-use Rattle.brk_desk.specs.declared.answer.Answer as desk
+use Rattle.brk_booking.specs.declared.answer.Answer as desk
 use Rattle.brk_desk.specs.declared.call.Call.{Call}
 use Rattle.brk_desk.specs.declared.call.Call.TheVariants as call
 use Rattle.brk_desk.specs.declared.call.Outcome.{Outcome}
-
--- a store keeps the books of a base: it holds its tables, the base is in order and sound, so that they pass an audit, and their texts can be read
-abbrev pub KeepsBase : {S : Type 0} → Ghosts S → Held S → Base → Type 0
-KeepsBase g store base = HoldsBooks g store base
-
--- over each base whose books were kept, the command is answered by its step under its key, and the books of the base after it are kept
-abbrev pub Steps : {S : Type 0} → Ghosts S → Held S → Held S → ℕ → Command → Option Key → desk.Answer → Type 0
-Steps g old new now command key answer =
-    (base : Base) → KeepsBase g old base → (after : Base) × KeepsBase g new after × (keyed_step base now command key ≡ (answer_of answer, after))
-
--- the books that were kept still are
-abbrev pub StillKeeps : {S : Type 0} → Ghosts S → Held S → Held S → Type 0
-StillKeeps g old new = (base : Base) → KeepsBase g old base → KeepsBase g new base
-
--- the base after a command under its key
-abbrev pub base_after_call : Base → ℕ → Command → Option Key → Base
-base_after_call base now command key = (keyed_step base now command key).1
-
--- these are the trees of the tables after the command, whose texts can be read, over each base whose books were kept in a store that was open
-abbrev pub MayCome : {S : Type 0} → Ghosts S → Held S → ℕ → Command → Option Key → Trees → Type 0
-MayCome g old now command key trees =
-    IsTrue (state g old).is_open × ((base : Base) → KeepsBase g old base → AreTreesOf (sheets (base_after_call base now command key)) trees)
-    × ((base : Base) → KeepsBase g old base → IsTrue (has_texts (sheets (base_after_call base now command key))))
-
--- a command at a moment is answered, or fails and changes nothing; all of it as far as the disk returns what was written
-pub record IsCalled {S : Type 0} (g : Ghosts S) (old new : Held S) (now : ℕ) (command : Command) (key : Option Key) (result : Result desk.Answer Fault) : Type 0 where
-  pub answered : HasCleanDisk (state g new) → IfOk result (Steps g old new now command key)
-  pub kept : OnErr result (StillKeeps g old new)
-  -- it fails for want of memory or for its store
-  pub fault : IfErr result MayFail
-  -- a crash leaves what it could leave before, or the tables after the command
-  pub survives : Survives (state g old) (state g new) (MayCome g old now command key)
-  -- once the command is done it leaves those and nothing else
-  pub durable : HasCleanDisk (state g new) → IsDone result → (base : Base) → KeepsBase g old base → LeavesOnly g new (AreTreesOf (sheets (base_after_call base now command key)))
-  -- its store was open, is open, and has committed what it holds
-  pub opened : HasCleanDisk (state g new) → IsDone result → IsTrue (state g old).is_open × IsTrue (state g new).is_open × ((state g new).committed ≡ (state g new).now)
-  -- where nothing was booked the whole database is as it was
-  pub same : HasCleanDisk (state g new) → IsTrue (state g new).is_open → BookedNothing result → IsSame (state g old) (state g new)
-  -- a disk that returned what was written had done so before
-  pub clean : HasCleanDisk (state g new) → HasCleanDisk (state g old)
-  -- its fields and those of its key are in form
-  pub in_form : IsInForm command × IfSome key IsKeyInForm
 
 -- a query is answered with its view of each base whose books were kept, or fails; nothing is changed, whatever the answer; all of it as far as the disk returns what was written
 pub record IsAsked {S : Type 0} (g : Ghosts S) (old new : Held S) (query : Query) (result : Result (Result View Refusal) Fault) : Type 0 where

@@ -12,7 +12,7 @@ use Rattle.brk_trade_laws.specs.Books.{IsBooks}
 use Rattle.brk_sound_laws.specs.Sound.{IsSound}
 use Rattle.brk_store.specs.Audited.{OnAnswer}
 use Rattle.brk_store.specs.Holds.{AreTreesOf, IsOpenedOver, LeavesOnly}
-use Rattle.brk_desk.specs.Keeping.{KeepsBase}
+use Rattle.brk_booking.specs.Booked.{KeepsBase}
 
 -- the books of a base are in order and sound, so that their tables pass an audit, and their texts can be read
 pub record CanBeKept (base : Base) : Type 0 where

@@ -6,7 +6,7 @@ ghost use Rattle.std.specs.List.{AllByRecursion};
 ghost use Rattle.sqlite.specs.Held.{Held};
 ghost use Rattle.sqlite_trees.specs.Tree.{Trees};
 ghost use Rattle.brk_adoption_laws.specs.Passing.{Passes};
-ghost use Rattle.brk_desk.specs.Keeping.{KeepsBase};
+ghost use Rattle.brk_booking.specs.Booked.{KeepsBase};
 ghost use Rattle.brk_desk.specs.Stops.{MayStand};
 ghost use Rattle.brk_model.specs.Adopted.{base_of};
 ghost use Rattle.brk_model.specs.Base.{Base, empty_base};

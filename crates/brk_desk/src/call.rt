@@ -1,7 +1,7 @@
 ghost use Rattle.std.specs.Prelude.{◌≡◌};
 ghost use Rattle.brk_desk.specs.Answers.{outcome_for, outcome_seen};
 
-use crate::answer::Answer;
+use brk_booking::Answer;
 use brk_commands::Command;
 use brk_money::{Fault, Planned, Refusal};
 use brk_ref::Key;

@@ -1,8 +1,7 @@
-use crate::answer::Answer;
 use crate::asking::look;
-use crate::booking::book;
 use crate::call::{Call, Outcome};
 use crate::head::{Head, find_head};
+use brk_booking::{Answer, book};
 use brk_changes::{CashRow, HoldingRow};
 use brk_commands::Command;
 use brk_lots::Lot;
@@ -40,8 +39,9 @@ impl<S: Alter> Desk<S> {
     ghost use Rattle.std.specs.Prelude.{◌≡◌, ◌≢◌, ◌++◌, List, Err, IfErr, OnOk, OnErr};
     ghost use Rattle.std.specs.Option.{option_copied};
     ghost use Rattle.brk_commands.specs.Commands.{command_of};
-    ghost use Rattle.brk_desk.specs.Commands.{key_for};
-    ghost use Rattle.brk_desk.specs.Keeping.{IsAsked, IsCalled, IsDeskAudited, IsMade, IsRun, KeepsPromise};
+    ghost use Rattle.brk_booking.specs.Keys.{key_for};
+    ghost use Rattle.brk_booking.specs.Booked.{IsCalled};
+    ghost use Rattle.brk_desk.specs.Keeping.{IsAsked, IsDeskAudited, IsMade, IsRun, KeepsPromise};
     ghost use Rattle.brk_desk.specs.declared.call.Outcome as came;
     ghost use Rattle.brk_money.specs.declared.fault.Condition.TheVariants.{NotEmpty};
     ghost use Rattle.brk_money.specs.declared.fault.Fault.TheVariants.{Damaged, Memory};

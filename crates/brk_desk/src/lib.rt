@@ -1,19 +1,12 @@
-//! The desk: commands booked as they are decided on, with or without keys, and queries answered.
+//! The desk: commands booked, with or without keys, and queries answered; one call, or a list of them.
 #![tactic(auto)]
 
 mod accounts;
-pub mod answer;
 mod asking;
 pub mod beginning;
-mod booking;
 pub mod call;
-pub mod corrections;
-mod corrections_finding;
-mod corrections_known;
-mod deciding;
 pub mod desk;
 pub mod head;
-mod keeping;
 pub mod looking;
 mod lookups;
 mod lots;
@@ -24,7 +17,7 @@ pub mod reopening;
 mod statuses;
 mod volumes;
 
-pub use answer::Answer;
+pub use brk_booking::Answer;
 pub use brk_commands::{Command, line_text, parse_row, row_text};
 pub use brk_shown::view_fields;
 pub use brk_store;

@@ -9,9 +9,10 @@ use Rattle.brk_model.specs.Commands.{Command}
 use Rattle.brk_model.specs.Queries.{Query}
 use Rattle.brk_model.specs.Records.{Key}
 use Rattle.brk_model.specs.Run.{Ask, Did, Do, Failed, NoView, Saw}
-use Rattle.brk_desk.specs.Answers.{answer_of}
-use Rattle.brk_desk.specs.Keeping.{IsAsked, IsCalled}
-use Rattle.brk_desk.specs.declared.answer.Answer.{Answer}
+use Rattle.brk_booking.specs.Answers.{answer_of}
+use Rattle.brk_booking.specs.Booked.{IsCalled}
+use Rattle.brk_desk.specs.Keeping.{IsAsked}
+use Rattle.brk_booking.specs.declared.answer.Answer.{Answer}
 use Rattle.brk_view.specs.Views.{fields_of}
 use Rattle.brk_view.specs.declared.view.View.{View}
 use Rattle.brk_serving.specs.Codes.{query_outcome}

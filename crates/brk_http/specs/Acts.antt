@@ -3,7 +3,7 @@ use Rattle.std.specs.Prelude.{ℕ}
 use Rattle.sqlite_trees.specs.declared.store.Store.{Ghosts}
 use Rattle.sqlite.specs.Held.{Held, state}
 use Rattle.sqlite.specs.State.{HasCleanDisk}
-use Rattle.brk_desk.specs.Keeping.{KeepsBase}
+use Rattle.brk_booking.specs.Booked.{KeepsBase}
 use Rattle.brk_model.specs.Base.{Base}
 use Rattle.brk_model.specs.Run.{Answers, Call, Outcome}
 

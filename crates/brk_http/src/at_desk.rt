@@ -1,6 +1,6 @@
 ghost use Rattle.std.specs.Prelude.{◌≡◌, Ok};
 ghost use Rattle.brk_commands.specs.Commands.{command_of};
-ghost use Rattle.brk_desk.specs.Answers.{answer_of};
+ghost use Rattle.brk_booking.specs.Answers.{answer_of};
 ghost use Rattle.brk_http.specs.Acts.{DeskActs};
 ghost use Rattle.brk_http.specs.Forms.{known_forms};
 ghost use Rattle.brk_model.specs.Run.{Did};

@@ -1,5 +1,5 @@
 ghost use Rattle.std.specs.Prelude.{IfSome};
-ghost use Rattle.brk_desk.specs.Keeping.{KeepsBase};
+ghost use Rattle.brk_booking.specs.Booked.{KeepsBase};
 ghost use Rattle.brk_http.specs.Forms.{known_forms};
 ghost use Rattle.brk_model.specs.Run.{Answers};
 ghost use Rattle.brk_serving.specs.Promises.{KeepsBooks, TellsOutcomes};

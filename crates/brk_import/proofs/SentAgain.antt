@@ -23,7 +23,7 @@ use Rattle.brk_outside.specs.Moments.{Moments}
 use Rattle.brk_outside.specs.Span.{Outside, with_base}
 use Rattle.brk_store.specs.Audited.{IsAdopted, OnAnswer}
 use Rattle.brk_store.specs.Holds.{AreTreesOf}
-use Rattle.brk_desk.specs.Keeping.{KeepsBase}
+use Rattle.brk_booking.specs.Booked.{KeepsBase}
 use Rattle.brk_desk.specs.Reopening.{CanBeKept, IsReopened, StandsAlone}
 use Rattle.brk_desk.proofs.Reopened.{Settles, kept_can_be, taken_over}
 use Rattle.brk_batches.specs.Batch.{BatchGives, CameTo, Faulted, IsUnderWay, KeepsBooks, LeavesAt, LeavesBooks, Stopped}

@@ -12,11 +12,11 @@ use Rattle.brk_model.specs.Commands.{Command}
 use Rattle.brk_model.specs.Records.{Key}
 use Rattle.brk_model.specs.Sheets.{sheets}
 use Rattle.brk_store.specs.Holds.{AreTreesOf}
-use Rattle.brk_desk.specs.Answers.{answer_of}
-use Rattle.brk_desk.specs.Keeping.{IsCalled, KeepsBase}
+use Rattle.brk_booking.specs.Answers.{answer_of}
+use Rattle.brk_booking.specs.Booked.{IsCalled, KeepsBase}
 use Rattle.brk_desk.specs.Reopening.{CanBeKept}
-use Rattle.brk_desk.specs.declared.answer.Answer.{Answer}
-use Rattle.brk_desk.specs.declared.answer.Answer.TheVariants as given
+use Rattle.brk_booking.specs.declared.answer.Answer.{Answer}
+use Rattle.brk_booking.specs.declared.answer.Answer.TheVariants as given
 use Rattle.brk_desk.proofs.Reopened.{booked_can_be}
 use Rattle.brk_desk.proofs.Stopping.{quiet_leaves}
 use Rattle.brk_batches.specs.Answers.{Acts, MayAct, StandsBy}

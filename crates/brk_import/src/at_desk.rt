@@ -7,7 +7,7 @@ ghost use Rattle.brk_model.specs.Commands as model;
 ghost use Rattle.brk_model.specs.Parse.{parse_by, readers};
 ghost use Rattle.brk_commands.specs.Commands.{command_of};
 ghost use Rattle.brk_plans.specs.Replies.{reply_of};
-ghost use Rattle.brk_desk.specs.Keeping.{KeepsBase};
+ghost use Rattle.brk_booking.specs.Booked.{KeepsBase};
 ghost use Rattle.brk_import.specs.Leaving.{LeavesOneOf};
 ghost use Rattle.sqlite.specs.Held.{state};
 ghost use Rattle.sqlite.specs.State.{HasCleanDisk};

@@ -2,7 +2,7 @@ ghost use Rattle.std.specs.Prelude.{option_map};
 ghost use Rattle.brk_model.specs.Batch.{row_step};
 ghost use Rattle.brk_model.specs.Input.{text_of};
 ghost use Rattle.brk_model.specs.Parse.{parse_by, readers};
-ghost use Rattle.brk_desk.specs.Keeping.{KeepsBase};
+ghost use Rattle.brk_booking.specs.Booked.{KeepsBase};
 ghost use Rattle.brk_batches.specs.Batch.{KeepsBooks, LeavesBooks, TellsAnswers};
 ghost use Rattle.brk_import.specs.Leaving.{LeavesOneOf};
 ghost use Rattle.sqlite.specs.Held.{state};

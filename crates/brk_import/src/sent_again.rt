@@ -1,7 +1,7 @@
 //! A batch that was stopped and is sent again.
 
 ghost use Rattle.std.specs.Prelude.{◌≡◌, ℕ, List, None, Ok, Result, Some};
-ghost use Rattle.brk_desk.specs.Keeping.{KeepsBase};
+ghost use Rattle.brk_booking.specs.Booked.{KeepsBase};
 ghost use Rattle.brk_desk.specs.Reopening.{IsReopened, StandsAlone};
 ghost use Rattle.brk_batches.specs.Batch.{KeepsBooks, LeavesBooks};
 ghost use Rattle.brk_import.specs.Leaving.{LeavesOneOf};

@@ -1,7 +1,7 @@
 use Rattle.std.proofs.Common.{None, Option, List, ℕ, Some, IfSome}
 use Rattle.sqlite.specs.Held.{state}
 use Rattle.sqlite.specs.State.{HasCleanDisk}
-use Rattle.brk_desk.specs.Keeping.{KeepsBase}
+use Rattle.brk_booking.specs.Booked.{KeepsBase}
 use Rattle.brk_model.specs.Run.{Answers}
 use Rattle.brk_serving.proofs.Promised.{keeps, tells}
 use Rattle.brk_http.specs.Acts.{DeskActs}

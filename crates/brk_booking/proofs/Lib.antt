@@ -1,0 +1,7 @@
+mod Correcting
+mod CorrectionsFinding
+pub mod Seen
+pub mod RowTexts
+pub mod Leaving
+pub mod Kept
+pub mod Calling

@@ -1,0 +1,3 @@
+pub mod Answers
+pub mod Booked
+pub mod Keys
