@@ -20,6 +20,8 @@ mod machine;
 #[cfg(test)]
 mod readers;
 #[cfg(test)]
+mod statements;
+#[cfg(test)]
 mod stops;
 #[cfg(test)]
 mod told;

@@ -41,8 +41,8 @@ impl Stop {
 /// The bytes of the two files of a desk.
 #[derive(Drop)]
 pub struct Held {
-    log: Vec<u8>,
-    db: Vec<u8>,
+    pub log: Vec<u8>,
+    pub db: Vec<u8>,
 }
 
 impl Held {
@@ -138,8 +138,8 @@ fn book_in(
     }
 }
 
-// A file with these bytes, which takes so many calls.
-fn file_of(alloc: Global, bytes: &[u8], calls: u64) -> Result<Fuse<Memory>, Fail> {
+/// A file with these bytes, which takes so many calls and fails at each one after.
+pub fn file_of(alloc: Global, bytes: &[u8], calls: u64) -> Result<Fuse<Memory>, Fail> {
     let mut file = Memory::new(alloc);
     if file.write_at(0, bytes).is_err() || file.sync().is_err() {
         return Err("no memory for a file")?;
