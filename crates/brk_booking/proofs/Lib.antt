@@ -1,5 +1,3 @@
-mod Correcting
-mod CorrectionsFinding
 pub mod Seen
 pub mod RowTexts
 pub mod Leaving

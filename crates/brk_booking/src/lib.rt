@@ -3,9 +3,6 @@
 
 pub mod answer;
 pub mod booking;
-mod corrections;
-mod corrections_finding;
-mod corrections_known;
 mod deciding;
 mod keeping;
 

@@ -6,7 +6,7 @@ use brk_report::{StatementFault, statement};
 use brk_tests_desks::desk::Desk;
 use brk_tests_desks::store::Store;
 use sqlite::{Connection, FileStore, Files, Options};
-use sqlite_disk::{Fuse, Memory};
+use sqlite_disk::{Disk, Fuse, Memory};
 use std::alloc::Global;
 use std::test::Fail;
 
@@ -98,7 +98,7 @@ fn a_disk_may_fail_within_a_statement(rt: HostRuntime) -> Result<(), Fail> {
             }
             Some(Err(ended)) => {
                 assert!(rt;
-                    ended == StatementFault::Desk(Fault::Store),
+                    matches!(&ended, StatementFault::Desk(Fault::Store)),
                     "after {calls} calls"
                 );
                 assert!(rt; is_of_first_lines(&text), "after {calls} calls");

@@ -11,8 +11,8 @@ use Rattle.brk_plans.specs.declared.corrected.Paid.{Paid}
 use Rattle.brk_decisions.proofs.Looking.{read_both}
 use Rattle.brk_store.proofs.Retelling.{retold}
 use Rattle.brk_update_laws.specs.Corrections.{ArePaid, paid_in, paid_row, cash_in}
-use Rattle.brk_booking.proofs.CorrectionsFinding.{one_more, twice}
-use Rattle.brk_booking.proofs.corrections_finding.find_paid.Goals as goal
+use Rattle.brk_decisions.proofs.CorrectionsFinding.{one_more, twice}
+use Rattle.brk_decisions.proofs.corrections_finding.find_paid.Goals as goal
 
 -- what was read is of the first of the trades that are chosen
 abbrev FirstPaid : Text → (first last : ℕ) → List TradeRow → List Paid → ℕ → Tables → Type 0

@@ -10,8 +10,8 @@ use Rattle.brk_plans.specs.declared.corrected.Corrected.TheVariants.{CashTypes}
 use Rattle.brk_decisions.proofs.Looking.{read_both}
 use Rattle.brk_store.proofs.Retelling.{retold}
 use Rattle.brk_update_laws.specs.Corrections.{AreSettled, IsFoundForUpdate}
-use Rattle.brk_booking.proofs.CorrectionsFinding.{missing_if, present_if}
-use Rattle.brk_booking.proofs.corrections_finding.find_cash_types.Goals as goal
+use Rattle.brk_decisions.proofs.CorrectionsFinding.{missing_if, present_if}
+use Rattle.brk_decisions.proofs.corrections_finding.find_cash_types.Goals as goal
 
 pub returns-then-not-branch-clause-read : goal.returns-then-not-branch-clause-read
 returns-then-not-branch-clause-read g c =

@@ -6,8 +6,8 @@ use Rattle.brk_decisions.specs.Decisions.{Decides}
 use Rattle.brk_decisions.proofs.Deciding.{decided}
 use Rattle.brk_decisions.proofs.Looking.{read_both}
 use Rattle.brk_update_laws.specs.Corrections.{IsFoundForUpdate}
-use Rattle.brk_booking.proofs.Correcting.{Known, update_decided}
-use Rattle.brk_booking.proofs.corrections.decide_update.Goals as goal
+use Rattle.brk_decisions.proofs.Correcting.{Known, update_decided}
+use Rattle.brk_decisions.proofs.corrections.decide_update.Goals as goal
 
 pub returns-clause-read : goal.returns-clause-read
 returns-clause-read g c =

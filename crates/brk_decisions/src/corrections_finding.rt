@@ -18,8 +18,8 @@ use brk_trade::{Corrected, Paid, Settled, TradeRow};
 use sqlite::Alter;
 use std::alloc::Global;
 
-// The trades with these ids, where there are such trades.
-pub(crate) fn find_trades<S: Alter>(
+/// The trades with these ids, where there are such trades: none where one of them is missing.
+pub fn find_trades<S: Alter>(
     alloc: Global,
     store: &mut Store<S>,
     ids: &[Id],

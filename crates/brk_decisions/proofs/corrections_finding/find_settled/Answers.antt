@@ -9,8 +9,8 @@ use Rattle.brk_plans.specs.declared.corrected.Settled.{Settled}
 use Rattle.brk_decisions.proofs.Looking.{read_both}
 use Rattle.brk_store.proofs.Retelling.{retold}
 use Rattle.brk_update_laws.specs.Corrections.{AreSettled, settled_in, settled_row, settlement_in}
-use Rattle.brk_booking.proofs.CorrectionsFinding.{one_more, twice}
-use Rattle.brk_booking.proofs.corrections_finding.find_settled.Goals as goal
+use Rattle.brk_decisions.proofs.CorrectionsFinding.{one_more, twice}
+use Rattle.brk_decisions.proofs.corrections_finding.find_settled.Goals as goal
 
 -- what was read is of the first of the trades that are chosen
 abbrev FirstSettled : (account first last : ℕ) → List TradeRow → List Settled → ℕ → Tables → Type 0

@@ -7,7 +7,7 @@ use Rattle.brk_ref.specs.Records.{security_of}
 use Rattle.brk_ref.specs.declared.security.Security.{Security}
 use Rattle.brk_store.proofs.Retelling.{retold}
 use Rattle.brk_update_laws.specs.Corrections.{IsNamed}
-use Rattle.brk_booking.proofs.corrections_finding.name_of.Goals as goal
+use Rattle.brk_decisions.proofs.corrections_finding.name_of.Goals as goal
 
 pub returns-in-Some-clause-read : goal.returns-in-Some-clause-read
 returns-in-Some-clause-read g c =

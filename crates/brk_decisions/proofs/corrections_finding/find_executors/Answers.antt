@@ -10,7 +10,7 @@ use Rattle.brk_store.proofs.Retelling.{retold}
 use Rattle.brk_update_laws.specs.Corrections.{AreTradesOf, IsFoundForUpdate}
 use Rattle.brk_plans.specs.declared.corrected.Corrected.{Corrected}
 use Rattle.brk_plans.specs.declared.corrected.Corrected.TheVariants.{Executors}
-use Rattle.brk_booking.proofs.corrections_finding.find_executors.Goals as goal
+use Rattle.brk_decisions.proofs.corrections_finding.find_executors.Goals as goal
 
 pub returns-in-Some-clause-read : goal.returns-in-Some-clause-read
 returns-in-Some-clause-read g c =

@@ -11,7 +11,7 @@ use Rattle.brk_plans.specs.declared.corrected.Corrected.TheVariants.{CashNames}
 use Rattle.brk_decisions.proofs.Looking.{read_both}
 use Rattle.brk_store.proofs.Retelling.{retold}
 use Rattle.brk_update_laws.specs.Corrections.{ArePaid, IsFoundForUpdate, IsNamed}
-use Rattle.brk_booking.proofs.corrections_finding.find_cash_names.Goals as goal
+use Rattle.brk_decisions.proofs.corrections_finding.find_cash_names.Goals as goal
 
 -- the name that a look-up gave, none where there is no such security
 abbrev IsNameOf : Text → Option Text → Tables → Type 0

@@ -4,7 +4,7 @@ use Rattle.brk_model.specs.Tables.{CashRow, Tables}
 use Rattle.brk_changes.specs.Rows.{cash_row_of}
 use Rattle.brk_store.proofs.Retelling.{retold}
 use Rattle.brk_update_laws.specs.Corrections.{cash_in}
-use Rattle.brk_booking.proofs.corrections_known.known_cash_name.Goals as goal
+use Rattle.brk_decisions.proofs.corrections_known.known_cash_name.Goals as goal
 
 pub returns-in-Some-clause-read : goal.returns-in-Some-clause-read
 returns-in-Some-clause-read g c =

@@ -11,8 +11,8 @@ use Rattle.brk_changes.specs.declared.trade_row.TradeRow as row
 use Rattle.brk_decisions.proofs.Looking.{read_both}
 use Rattle.brk_store.proofs.Retelling.{retold}
 use Rattle.brk_update_laws.specs.Corrections.{AreTradesOf}
-use Rattle.brk_booking.proofs.CorrectionsFinding.{one_more, some_missing}
-use Rattle.brk_booking.proofs.corrections_finding.find_trades.Goals as goal
+use Rattle.brk_decisions.proofs.CorrectionsFinding.{one_more, some_missing}
+use Rattle.brk_decisions.proofs.corrections_finding.find_trades.Goals as goal
 
 -- the trades that were read are those of the first ids
 abbrev FirstTrades : List ℕ → List row.TradeRow → ℕ → Tables → Type 0

@@ -4,7 +4,7 @@ use Rattle.brk_changes.specs.Chosen.{completed_cash_of_symbol}
 use Rattle.brk_changes.specs.Rows.{trade_row_of}
 use Rattle.brk_store.specs.Holds.{IsRead}
 use Rattle.brk_update_laws.specs.Corrections.{paid_in, paid_row}
-use Rattle.brk_booking.proofs.corrections_finding.find_paid.Given as goal
+use Rattle.brk_decisions.proofs.corrections_finding.find_paid.Given as goal
 
 abbrev pub invariant-loop-trade : goal.invariant-loop-trade
 invariant-loop-trade g l = IsRead {V = Unit {0}} {E = Fault} g.S.Store l.fn.store l.store (Ok tt)

@@ -5,7 +5,7 @@ use Rattle.brk_model.specs.Tables.{Tables}
 use Rattle.brk_ref.specs.Records.{account_row_of}
 use Rattle.brk_trade_laws.proofs.Reading.{is_there}
 use Rattle.brk_store.proofs.Retelling.{retold}
-use Rattle.brk_booking.proofs.corrections_finding.is_account_there.Goals as goal
+use Rattle.brk_decisions.proofs.corrections_finding.is_account_there.Goals as goal
 
 pub returns : goal.returns
 returns g c = record {
