@@ -7,7 +7,7 @@ use brk_tests_desks::desk::Desk;
 use brk_tests_desks::desks::Still;
 use brk_tests_desks::store::Store;
 use brk_tests_desks::tables::all_tables;
-use sqlite::{Alter, Connection, Files, Options};
+use sqlite::{Alter, Connection, FileStore, Files, Options};
 use sqlite_disk::{Crash, Disk, Fuse, Memory};
 use std::alloc::{AllocError, Global};
 use std::test::Fail;
@@ -87,6 +87,21 @@ fn desk_of<S: Alter + Drop>(alloc: Global, conn: Connection<S>) -> Result<Desk<S
         },
         Err((conn, _)) => Err(conn),
     }
+}
+
+/// The desk in files, where they can be opened and it can be made or passes its audit.
+pub fn desk_in(
+    alloc: Global,
+    files: Files<Fuse<Memory>>,
+    options: Options,
+) -> Option<Desk<FileStore<Fuse<Memory>>>> {
+    if !files.log.may_be_used() || !files.db.may_be_used() {
+        return None;
+    }
+    let Ok(conn) = Connection::open_files(alloc, files, options) else {
+        return None;
+    };
+    desk_of(alloc, conn).ok()
 }
 
 /// Sends a batch to the desk of a database, as far as it comes.

@@ -1,12 +1,9 @@
 //! A disk that fails within a statement, at each of its calls in turn: whole first lines are written, and never the last.
 
-use crate::machine::{Held, Seen, Stop, file_of, run};
+use crate::machine::{Held, Seen, Stop, desk_in, file_of, run};
 use brk_money::{Fault, Id, parse_day};
 use brk_report::{StatementFault, statement};
-use brk_tests_desks::desk::Desk;
-use brk_tests_desks::store::Store;
-use sqlite::{Connection, FileStore, Files, Options};
-use sqlite_disk::{Disk, Fuse, Memory};
+use sqlite::{Files, Options};
 use std::alloc::Global;
 use std::test::Fail;
 
@@ -41,22 +38,6 @@ const WANTED: &[u8] = b"Statement of account 100\n\
     Holdings                  1500.00\n\
     Cash rows 3, lots 1\n";
 
-// The desk in files of which that of the database takes so many calls, where it can be opened. It keeps one page in memory.
-fn desk_in(alloc: Global, files: Files<Fuse<Memory>>) -> Option<Desk<FileStore<Fuse<Memory>>>> {
-    if !files.log.may_be_used() || !files.db.may_be_used() {
-        return None;
-    }
-    let mut options = Options::new(1);
-    options.cache_pages = 1;
-    let Ok(conn) = Connection::open_files(alloc, files, options) else {
-        return None;
-    };
-    match Store::adopt(alloc, conn) {
-        Ok(store) => Some(Desk::new(store)),
-        Err(_) => None,
-    }
-}
-
 // Writes the statement of the month over a disk that takes so many calls, where the desk can be opened.
 fn written(
     alloc: Global,
@@ -69,7 +50,10 @@ fn written(
     let to = parse_day(b"2024-03-31").ok_or("a last day")?;
     let log = file_of(alloc, &held.log, u64::MAX)?;
     let db = file_of(alloc, &held.db, calls)?;
-    let Some(mut desk) = desk_in(alloc, Files { log, db }) else {
+    // The desk keeps one page in memory, so that rows are read from the disk.
+    let mut options = Options::new(1);
+    options.cache_pages = 1;
+    let Some(mut desk) = desk_in(alloc, Files { log, db }, options) else {
         return Ok(None);
     };
     Ok(Some(statement(alloc, &mut desk, account, from, to, text)))

@@ -1,9 +1,9 @@
 //! A desk whose disk fails: the reply that tells it is the last of its stream.
 
 use crate::http::streams::{Told, post, reply, served};
+use crate::machine::desk_in;
 use brk_tests_desks::desk::Desk;
-use brk_tests_desks::store::Store;
-use sqlite::{Connection, FileStore, Files, Options};
+use sqlite::{FileStore, Files, Options};
 use sqlite_disk::{Fuse, Memory};
 use std::alloc::Global;
 use std::test::Fail;
@@ -14,13 +14,7 @@ fn desk_of(alloc: Global, calls: u64) -> Option<Desk<FileStore<Fuse<Memory>>>> {
         log: Fuse::new(Memory::new(alloc), calls),
         db: Fuse::new(Memory::new(alloc), u64::MAX),
     };
-    let Ok(conn) = Connection::open_files(alloc, files, Options::new(1)) else {
-        return None;
-    };
-    match Store::create(conn) {
-        Ok(store) => Some(Desk::new(store)),
-        Err(_) => None,
-    }
+    desk_in(alloc, files, Options::new(1))
 }
 
 #[test]
