@@ -42,7 +42,7 @@ use Rattle.brk_adoption_laws.proofs.Climbs.{In, each_in}
 use Rattle.brk_audit.specs.Completed.{done_rows, is_done}
 use Rattle.brk_audit.specs.Positions.{Leave, clash, lot_row, nothing, place_before, position, row_deal, run_rows, same_place}
 use Rattle.brk_audit.proofs.Completed.{completed_rows, done_moments}
-use Rattle.brk_audit.proofs.Orders.{Ascends, Rises, SameSums, one_order, permuted, sum_append, sum_both, sum_filter, sum_map, sum_same, sum_sort}
+use Rattle.brk_trade_laws.proofs.Orders.{Ascends, Rises, SameSums, one_order, permuted, sum_append, sum_both, sum_filter, sum_map, sum_same, sum_sort}
 use Rattle.brk_audit.proofs.Places.{AtOne, all_back, at_one, moment_order, one_place, same_self}
 
 -- ---- rows of lots at a trade's position

@@ -9,7 +9,6 @@ pub mod LotRows
 pub mod Maps
 pub mod MoveRows
 pub mod Moves
-pub mod Orders
 pub mod Places
 pub mod Postings
 pub mod Settling

@@ -49,7 +49,7 @@ use Rattle.brk_audit.specs.Completed.{done_rows, is_done}
 use Rattle.brk_audit.specs.Positions.{Leave, clash, place_before, row_deal, same_place}
 use Rattle.brk_audit.proofs.Completed.{completed_rows, done_moments, right_rows}
 use Rattle.brk_audit.proofs.Leaving.{any_in, at_any, at_place, leave_sums}
-use Rattle.brk_audit.proofs.Orders.{Ascends, Rises, SameSums, one_order, permuted, sum_filter, sum_map, sum_same, sum_sort}
+use Rattle.brk_trade_laws.proofs.Orders.{Ascends, Rises, SameSums, one_order, permuted, sum_filter, sum_map, sum_same, sum_sort}
 use Rattle.brk_audit.proofs.Places.{AtOne, at_one, moment_order}
 use Rattle.brk_audit.proofs.Stretches.{seen}
 

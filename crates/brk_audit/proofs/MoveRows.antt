@@ -34,7 +34,7 @@ use Rattle.brk_audit.proofs.Completed.{completed_rows}
 use Rattle.brk_audit.proofs.Leaving.{AreDealt, deals_among, own_run}
 use Rattle.brk_audit.proofs.LotRows.{dealt}
 use Rattle.brk_audit.proofs.Moves.{is_move, run_sums}
-use Rattle.brk_audit.proofs.Orders.{SameSums, permuted, sum_append, sum_map, sum_none, sum_same, sum_sort}
+use Rattle.brk_trade_laws.proofs.Orders.{SameSums, permuted, sum_append, sum_map, sum_none, sum_same, sum_sort}
 use Rattle.brk_audit.proofs.Places.{all_back, at_one, same_self}
 
 -- ---- in one order

@@ -10,7 +10,7 @@ use Rattle.brk_model.specs.Tables.{TradeRow}
 use Rattle.brk_trade_laws.proofs.Order.{Sorted}
 use Rattle.brk_adoption_laws.proofs.Members.{map-map}
 use Rattle.brk_audit.specs.Positions.{Heads, clash, place_before, row_deal, same_place}
-use Rattle.brk_audit.proofs.Orders.{sorted_by, sorted_map}
+use Rattle.brk_trade_laws.proofs.Orders.{sorted_by, sorted_map}
 use Rattle.brk_audit.proofs.Places.{deals_follow, distinct_drop, distinct_front, others, place_order, same_self, sorted_drop, sorted_front}
 
 -- a row behind a reference, as the definitions have it

@@ -1,7 +1,10 @@
 -- What was read for a feed decides on it.
-use Rattle.std.proofs.Common.{◌≡◌, ◌≤◌, ◌∙◌, ℕ, Bool, true, false, not, List, Option, Result, Ok, Err, IfOk, ap, map, refl, subst, sym}
+use Rattle.std.proofs.Common.{◌≡◌, ◌≤◌, ◌∙◌, ℕ, Bool, true, false, not, List, Option, Result, Ok, Err, IfOk, ap, filter, map, refl, subst, sym}
 use Rattle.std.specs.Prelude.{IfSome, MatchResult, ◌∷◌, ◌++◌, [], None, Some, option_map}
 use Rattle.std.specs.List.{list_any}
+use Rattle.std.specs.List.Sorted.{IsNonDecreasingBy, IsPermutation}
+use Rattle.std.proofs.lemmas.List.Sorted.{IsPermutation-map, IsPermutation-trans}
+use Rattle.std.proofs.lemmas.List.{map-append}
 use Rattle.brk_money.specs.Moments.{last_stamp}
 use Rattle.brk_money.specs.Spelling.{Text}
 use Rattle.brk_money.specs.declared.fault.Fault.{Fault}
@@ -14,39 +17,62 @@ use Rattle.brk_model.specs.Tests.{first_refusal}
 use Rattle.brk_orders.specs.Records.{ticks_of}
 use Rattle.brk_orders.specs.declared.tick.Tick.{Tick}
 use Rattle.brk_ref.specs.Records.{last_trade_of}
-use Rattle.brk_plans.specs.Feed.{Held, IsFeed, feed_tests, held, is_of, lacks_quote}
+use Rattle.brk_ref.specs.declared.last_trade.LastTrade.{LastTrade}
+use Rattle.brk_plans.specs.Feed.{Held, IsFeed, feed_tests, held, held_of, is_of, lacks_quote, span_of}
 use Rattle.brk_plans.specs.Reference.{clock_test}
 use Rattle.brk_changes.specs.Rows.{request_row_of}
+use Rattle.brk_changes.specs.declared.request_row.RequestRow as request
 use Rattle.brk_plans.specs.declared.plan.Plan.{Plan}
 use Rattle.brk_plans.specs.declared.quote.Quote.{Quote}
 use Rattle.brk_trade_laws.specs.Books.{IsBooks}
-use Rattle.brk_trade_laws.specs.TradePlans.{AreQuotes, IsReadForFeed}
+use Rattle.brk_trade_laws.specs.TradePlans.{AreQuotes, IsQuote, IsReadForFeed}
 use Rattle.brk_trade_laws.specs.TradeReads.{last_trade_in, requests_of}
 use Rattle.brk_trade_laws.proofs.FeedPlanning.{feed_plan_does, feed_refused}
-use Rattle.brk_trade_laws.proofs.Quotes.{quoted_before, not_listed, quote_read}
+use Rattle.brk_trade_laws.proofs.Quotes.{quoted_before, not_listed, quote_read, read_quote}
+use Rattle.brk_trade_laws.proofs.Waiting.{limit_buys, limit_sells, may, selected, span_spans, stop_losses}
 use Rattle.brk_trade_laws.proofs.Tested.{not_not}
 use Rattle.brk_decisions.specs.Decisions.{Decides}
 
--- the quote of a symbol, where it has a last trade
-abbrev pub IsQuoteOf : Text → Option Quote → Tables → Type 0
-IsQuoteOf symbol quote t =
-    (option_map (λ q. last_trade_of q.last) quote ≡ last_trade_in t symbol) × IfSome quote (λ q. map request_row_of q.requests.items ≡ requests_of t symbol)
+-- by all ticks of a feed the quote of a symbol, where it has a last trade
+abbrev pub IsQuoteOf : List Tick → Text → Option Quote → Tables → Type 0
+IsQuoteOf all symbol quote t = (option_map (λ q. last_trade_of q.last) quote ≡ last_trade_in t symbol) × IfSome quote (λ q. IsQuote t all (held_of q))
 
--- the last stamp, and the quotes of the symbols of ticks
-abbrev pub Known : List Tick → List Held → Option ℕ → Tables → Type 0
-Known ticks quotes last t = (last ≡ t.last) × AreQuotes t ticks quotes
+-- the last stamp, and by all ticks of a feed the quotes of the symbols of some
+abbrev pub Known : (all ticks : List Tick) → List Held → Option ℕ → Tables → Type 0
+Known all ticks quotes last t = (last ≡ t.last) × AreQuotes t all ticks quotes
+
+-- what the selections of a tick's symbol brought, merged, is its quote
+pub selected_quote : (t : Tables) (tick : Tick) (ticks : List Tick) (last : LastTrade) (losses sells buys : List request.RequestRow) (quote : Quote)
+    → Some (last_trade_of last) ≡ last_trade_in t tick.symbol
+    → map request_row_of losses ≡ stop_losses t tick.symbol (span_of tick ticks)
+    → map request_row_of sells ≡ limit_sells t tick.symbol (span_of tick ticks)
+    → map request_row_of buys ≡ limit_buys t tick.symbol (span_of tick ticks)
+    → quote.last ≡ last → IsPermutation ((losses ++ sells) ++ buys) quote.requests.items → IsNonDecreasingBy (λ (r : request.RequestRow). r.trade) quote.requests.items
+    → IsQuoteOf ticks tick.symbol (Some quote) t
+selected_quote t tick ticks last losses sells buys quote l e f g same p o =
+    let span = span_of tick ticks in
+    let listed : Some (last_trade_of quote.last) ≡ last_trade_in t tick.symbol = ap (λ x. Some (last_trade_of x)) same ∙ l in
+    let joined : map request_row_of ((losses ++ sells) ++ buys) ≡ (stop_losses t tick.symbol span ++ limit_sells t tick.symbol span) ++ limit_buys t tick.symbol span =
+    map-append request_row_of (losses ++ sells) buys ∙ ap (λ xs. xs ++ map request_row_of buys) (map-append request_row_of losses sells) ∙ (λ i. (e i ++ f i) ++ g i) in
+    let moved : IsPermutation ((stop_losses t tick.symbol span ++ limit_sells t tick.symbol span) ++ limit_buys t tick.symbol span) (map request_row_of quote.requests.items) =
+    subst (λ xs. IsPermutation xs (map request_row_of quote.requests.items)) joined (IsPermutation-map request_row_of ((losses ++ sells) ++ buys) quote.requests.items p) in (
+      listed,
+      read_quote t ticks tick.symbol span (held_of quote) (sym listed) (span_spans tick ticks)
+          (IsPermutation-trans (filter (may span) (requests_of t tick.symbol)) ((stop_losses t tick.symbol span ++ limit_sells t tick.symbol span) ++ limit_buys t tick.symbol span)
+          (map request_row_of quote.requests.items) (selected t tick.symbol span) moved) o,
+    )
 
 -- with each tick they are known of one tick more
-module _ (ticks : List Tick) (tick : Tick) (quotes : List Quote) (last : Option ℕ) where
-  pub one_quoted : lacks_quote (held quotes) tick ≡ false → (t : Tables) → Known ticks (held quotes) last t → Known (ticks ++ tick ∷ []) (held quotes) last t
-  one_quoted e t k = (k.0, quoted_before t ticks tick quotes k.1 (not_not (list_any (is_of tick.symbol) (held quotes)) e))
+module _ (all ticks : List Tick) (tick : Tick) (quotes : List Quote) (last : Option ℕ) where
+  pub one_quoted : lacks_quote (held quotes) tick ≡ false → (t : Tables) → Known all ticks (held quotes) last t → Known all (ticks ++ tick ∷ []) (held quotes) last t
+  one_quoted e t k = (k.0, quoted_before t all ticks tick quotes k.1 (not_not (list_any (is_of tick.symbol) (held quotes)) e))
 
-  pub one_not_listed : (t : Tables) → Known ticks (held quotes) last t → IsQuoteOf tick.symbol None t → Known (ticks ++ tick ∷ []) (held quotes) last t
-  one_not_listed t k l = (k.0, not_listed t ticks tick quotes k.1 (sym l.0))
+  pub one_not_listed : (t : Tables) → Known all ticks (held quotes) last t → IsQuoteOf all tick.symbol None t → Known all (ticks ++ tick ∷ []) (held quotes) last t
+  one_not_listed t k l = (k.0, not_listed t all ticks tick quotes k.1 (sym l.0))
 
-  pub one_read : (quote : Quote) → lacks_quote (held quotes) tick ≡ true → (t : Tables) → Known ticks (held quotes) last t → IsQuoteOf tick.symbol (Some quote) t
-      → Known (ticks ++ tick ∷ []) (held (quotes ++ quote ∷ [])) last t
-  one_read quote e t k l = (k.0, quote_read t ticks tick quotes quote k.1 (is_false (list_any (is_of tick.symbol) (held quotes)) e) (sym l.0) l.1)
+  pub one_read : (quote : Quote) → lacks_quote (held quotes) tick ≡ true → (t : Tables) → Known all ticks (held quotes) last t → IsQuoteOf all tick.symbol (Some quote) t
+      → Known all (ticks ++ tick ∷ []) (held (quotes ++ quote ∷ [])) last t
+  one_read quote e t k l = (k.0, quote_read t all ticks tick quotes quote k.1 (is_false (list_any (is_of tick.symbol) (held quotes)) e) (sym l.0) l.1)
     where
       is_false : (b : Bool) → not b ≡ true → b ≡ false
       is_false true e = absurd (cc)
@@ -54,17 +80,17 @@ module _ (ticks : List Tick) (tick : Tick) (quotes : List Quote) (last : Option 
 
 -- a feed's plan does it, and its refusal is that of the command
 module _ (ticks : List Tick) (quotes : List Held) (last : Option ℕ) (now : ℕ) (moment : now ≤ last_stamp) where
-  looked_up : (t : Tables) → Known ticks quotes last t → (base : Base) → IsBooks base → t ≡ sheets base → IsReadForFeed base ticks quotes last now
+  looked_up : (t : Tables) → Known ticks ticks quotes last t → (base : Base) → IsBooks base → t ≡ sheets base → IsReadForFeed base ticks quotes last now
   looked_up t known base books e = record {
     books = books;
-    quotes_read = subst (λ x. AreQuotes x ticks quotes) e known.1;
+    quotes_read = subst (λ x. AreQuotes x ticks ticks quotes) e known.1;
     last_read = known.0 ∙ ap (λ x. x.last) e;
     moment = moment;
   }
 
   pub feed_decided : (result : Result (Result Plan Refusal) Fault)
       → IfOk result (λ planned. MatchResult planned (IsFeed ticks quotes last now) (λ refusal. (stamp : ℕ) → first_refusal (feed_tests stamp ticks quotes ++ clock_test last now ∷ []) ≡ Some refusal))
-      → IfOk result (λ planned. (t : Tables) → Known ticks quotes last t → Decides now (FeedTicks (ticks_of ticks)) planned t)
+      → IfOk result (λ planned. (t : Tables) → Known ticks ticks quotes last t → Decides now (FeedTicks (ticks_of ticks)) planned t)
   feed_decided (Ok (Ok plan)) p = λ t known base books e. feed_plan_does base ticks quotes last now plan (looked_up t known base books e) p
   feed_decided (Ok (Err refusal)) p = λ t known base books e. feed_refused base 0 ticks quotes last now refusal (looked_up t known base books e) (p 0)
   feed_decided (Err fault) p = tt

@@ -1,41 +1,50 @@
 //! Feeds of the market, decided on.
 
-ghost use Rattle.std.specs.Prelude.{◌≡◌, IfErr, IfSome, map, option_map};
-ghost use Rattle.brk_trade_laws.specs.TradePlans.{AreQuotes};
-ghost use Rattle.brk_trade_laws.specs.TradeReads.{last_trade_in, requests_of};
+ghost use Rattle.std.specs.Prelude.{◌≡◌, IfErr, IfSome, option_map};
+ghost use Rattle.brk_trade_laws.specs.TradePlans.{AreQuotes, IsQuote};
+ghost use Rattle.brk_trade_laws.specs.TradeReads.{last_trade_in};
 ghost use Rattle.brk_decisions.specs.Decisions.{Decides};
 ghost use Rattle.brk_model.specs.Commands.{FeedTicks};
 ghost use Rattle.brk_model.specs.Run.{MayFail};
 ghost use Rattle.brk_orders.specs.Records.{ticks_of};
 ghost use Rattle.brk_ref.specs.Records.{last_trade_of};
 ghost use Rattle.brk_store.specs.Holds.{IsRead};
-ghost use Rattle.brk_plans.specs.Feed.{held};
-ghost use Rattle.brk_changes.specs.Rows.{request_row_of};
+ghost use Rattle.brk_plans.specs.Feed.{held, held_of};
 
-use brk_money::{Fault, Planned, Stamp};
+use brk_money::{Fault, Planned, Stamp, TradeType};
 use brk_orders::{Feed, Tick};
-use brk_ref::Symbol;
 use brk_store::Store;
-use brk_trade::{Plan, Quote, has_no_quote, plan_feed};
+use brk_trade::{Plan, Quote, has_no_quote, plan_feed, quote_with, span_of};
 use sqlite::Alter;
 use std::alloc::Global;
 
-// The quote of a symbol, where it has a last trade.
+// The quote of a tick's symbol, where it has a last trade: of the requests that wait, those that some price of the feed's
+// ticks may trigger, by a selection for each type.
 fn quote_of<S: Alter>(
     alloc: Global,
     store: &mut Store<S>,
-    symbol: &Symbol,
+    tick: &Tick,
+    ticks: &[Tick],
 ) -> Result<Option<Quote>, Fault>
     ensures read { IsRead S.Store store.old store.new result (λ quote t.
-        (option_map (λ q. last_trade_of q.last) quote ≡ last_trade_in t symbol.now)
-        × IfSome quote (λ q. map request_row_of q.requests.items ≡ requests_of t symbol.now)) }
+        (option_map (λ q. last_trade_of q.last) quote ≡ last_trade_in t tick.now.symbol)
+        × IfSome quote (λ q. IsQuote t ticks.now (held_of q))) }
     ensures fault { IfErr result MayFail }
 {
-    let Some(last) = store.last_trade(symbol)? else {
+    let Some(last) = store.last_trade(&tick.symbol)? else {
         return Ok(None);
     };
-    let requests = store.requests_of(alloc, symbol)?;
-    Ok(Some(Quote { last, requests }))
+    let span = span_of(tick, ticks);
+    let losses = store.requests_at_or_above(alloc, &tick.symbol, TradeType::StopLoss, span.lowest)?;
+    let sells = store.requests_at_or_below(
+        alloc,
+        &tick.symbol,
+        TradeType::LimitSell,
+        span.highest,
+    )?;
+    let buys = store.requests_at_or_above(alloc, &tick.symbol, TradeType::LimitBuy, span.lowest)?;
+    let quote = quote_with(last, losses, sells, buys)?;
+    Ok(Some(quote))
 }
 
 // The last stamp, and the quotes of the symbols of ticks, one for each symbol that has a last trade.
@@ -44,14 +53,14 @@ fn read_market<S: Alter>(
     store: &mut Store<S>,
     ticks: &[Tick],
 ) -> Result<(Option<Stamp>, Vec<Quote>), Fault>
-    ensures read { IsRead S.Store store.old store.new result (λ market t. (market.0 ≡ t.last) × AreQuotes t ticks.now (held market.1.items)) }
+    ensures read { IsRead S.Store store.old store.new result (λ market t. (market.0 ≡ t.last) × AreQuotes t ticks.now ticks.now (held market.1.items)) }
     ensures fault { IfErr result MayFail }
 {
     let last = store.last()?;
     let mut quotes = Vec::new(alloc);
     for tick in ticks {
         if has_no_quote(&quotes, tick) {
-            if let Some(quote) = quote_of(alloc, store, &tick.symbol)? {
+            if let Some(quote) = quote_of(alloc, store, tick, ticks)? {
                 quotes.push(quote)?;
             }
         }

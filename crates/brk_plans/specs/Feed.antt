@@ -1,5 +1,5 @@
 -- Ticks of the market: what is tested, which changes they come to, and which trades they trigger.
-use Rattle.std.specs.Prelude.{◌≡◌, ℕ, ◌+◌, Bool, not, nat_lt, List, [], ◌∷◌, ◌++◌, map, filter, flat_map, fold, bytes_eq, Option, None, Some}
+use Rattle.std.specs.Prelude.{◌≡◌, ℕ, ◌+◌, Bool, if◌then◌else◌, not, nat_lt, List, [], ◌∷◌, ◌++◌, map, filter, flat_map, fold, bytes_eq, Option, None, Some}
 use Rattle.std.specs.List.{list_any}
 use Rattle.brk_money.specs.Moments.{stamp_after}
 use Rattle.brk_money.specs.Spelling.{Text}
@@ -20,6 +20,7 @@ use Rattle.brk_plans.specs.declared.plan.Plan.{Plan}
 use Rattle.brk_plans.specs.declared.quote.Quote.{Quote}
 use Rattle.brk_plans.specs.declared.reply.Reply.{Reply}
 use Rattle.brk_plans.specs.declared.reply.Reply.TheVariants as reply
+use Rattle.brk_plans.specs.declared.span.Span.{Span}
 use Rattle.brk_changes.specs.declared.request_row.RequestRow.{RequestRow}
 
 -- what is held of one symbol: its last trade, and the requests that wait for a price of it
@@ -36,6 +37,21 @@ held quotes = map held_of quotes
 -- whether this is held of a symbol
 abbrev pub is_of : Text → Held → Bool
 is_of symbol quote = bytes_eq quote.last.symbol symbol
+
+-- the lowest and the highest price of some, with a price more
+abbrev pub widened : ℕ → Span → Span
+widened price span = record {
+  lowest = if nat_lt price span.lowest then price else span.lowest;
+  highest = if nat_lt span.highest price then price else span.highest;
+}
+
+-- with a tick more, where it is of a symbol
+abbrev pub widened_by : Text → Span → Tick → Span
+widened_by symbol span tick = if bytes_eq tick.symbol symbol then widened tick.price span else span
+
+-- the lowest and the highest price of ticks of a symbol: that of the first one, and those of the others that are of the same symbol
+abbrev pub span_of : Tick → List Tick → Span
+span_of first others = fold (widened_by first.symbol) (record { lowest = first.price; highest = first.price }) others
 
 -- whether a price triggers a request
 abbrev pub is_triggered : ℕ → RequestRow → Bool

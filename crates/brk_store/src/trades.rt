@@ -1,9 +1,9 @@
 //! Reads of trades and of what follows from them. Each is a transaction of its own, which is rolled back.
 
-ghost use Rattle.std.specs.Prelude.{◌≡◌, ◌==◌, ◌&&◌, Err, IfErr, OnErr, bytes_eq, filter, map, option_map, reverse, slice_get};
+ghost use Rattle.std.specs.Prelude.{◌≡◌, ◌==◌, ◌&&◌, Err, IfErr, OnErr, bytes_eq, filter, map, nat_le, option_map, reverse, slice_get};
 ghost use Rattle.brk_money.specs.declared.fault.Fault.TheVariants as fault;
 ghost use Rattle.brk_model.specs.Run.{MayFail};
-ghost use Rattle.brk_money.specs.Kinds.{same_status};
+ghost use Rattle.brk_money.specs.Kinds.{same_status, same_type};
 ghost use Rattle.brk_money.specs.declared.status.Status.TheVariants.{Submitted};
 ghost use Rattle.brk_ref.specs.Records.{last_trade_of};
 ghost use Rattle.brk_changes.specs.Rows.{holding_row_of, oldest_lots_first, request_row_of, summary_row_of, trade_row_of};
@@ -15,7 +15,7 @@ ghost use Rattle.brk_tables_trading.specs.Pages.{lots_held, on_page};
 use crate::Store;
 use crate::beginning::begin;
 use brk_changes::{HoldingRow, RequestRow, SummaryRow, TradeRow};
-use brk_money::{Fault, Id};
+use brk_money::{Fault, Id, Price, TradeType};
 use brk_ref::{LastTrade, Symbol};
 use sqlite::Alter;
 use std::alloc::Global;
@@ -49,13 +49,34 @@ impl<S: Alter> Store<S> {
         brk_tables_trading::submitted_trades(&mut tx, alloc)
     }
 
-    /// The requests of a symbol, by rising trade.
-    pub fn requests_of(&mut self, alloc: Global, symbol: &Symbol) -> Result<Vec<RequestRow>, Fault>
-        ensures read { IsRead S.Store self.old self.new result (Listed Requests request_row_of (λ r. bytes_eq r.symbol symbol.now)) }
+    /// The requests of a symbol and a type whose bid is at a price or above it, by rising trade.
+    pub fn requests_at_or_above(
+        &mut self,
+        alloc: Global,
+        symbol: &Symbol,
+        kind: TradeType,
+        price: Price,
+    ) -> Result<Vec<RequestRow>, Fault>
+        ensures read { IsRead S.Store self.old self.new result (Listed Requests request_row_of (λ r. bytes_eq r.symbol symbol.now && (same_type r.kind kind && nat_le price r.bid))) }
         ensures fault { IfErr result MayFail }
     {
         let mut tx = begin(&mut self.conn);
-        brk_tables_trading::requests_of(&mut tx, alloc, symbol)
+        brk_tables_trading::requests_at_or_above(&mut tx, alloc, symbol, kind, price)
+    }
+
+    /// The requests of a symbol and a type whose bid is at a price or below it, by rising trade.
+    pub fn requests_at_or_below(
+        &mut self,
+        alloc: Global,
+        symbol: &Symbol,
+        kind: TradeType,
+        price: Price,
+    ) -> Result<Vec<RequestRow>, Fault>
+        ensures read { IsRead S.Store self.old self.new result (Listed Requests request_row_of (λ r. bytes_eq r.symbol symbol.now && (same_type r.kind kind && nat_le r.bid price))) }
+        ensures fault { IfErr result MayFail }
+    {
+        let mut tx = begin(&mut self.conn);
+        brk_tables_trading::requests_at_or_below(&mut tx, alloc, symbol, kind, price)
     }
 
     /// The last trade of the security with a symbol.

@@ -7,7 +7,8 @@ pub mod RemoveRequest
 pub mod TradeById
 pub mod LastTradeId
 pub mod SubmittedTrades
-pub mod RequestsOf
+pub mod RequestsAbove
+pub mod RequestsBelow
 pub mod LastTradeBySymbol
 pub mod LotsOf
 pub mod OldestLots

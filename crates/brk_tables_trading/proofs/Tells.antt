@@ -1,14 +1,15 @@
 -- What the statements that read tell of the tables.
 use Rattle.std.proofs.Common.{◌≡◌, ℕ, List, [], ◌∷◌, true, Some, map, filter, take, reverse, ◌==◌, refl, ap, ◌∙◌}
-use Rattle.std.specs.Prelude.{bytes_eq}
+use Rattle.std.specs.Prelude.{◌&&◌, bytes_eq, nat_le}
 use Rattle.std.proofs.lemmas.Cmp.{back_total}
 use Rattle.sqlite_value.specs.declared.value.Value.TheVariants.{Text as Words}
 use Rattle.sqlite_value.specs.Order.{Row, column}
 use Rattle.sqlite_tied.proofs.RuleLemmas.{and_true}
 use Rattle.sqlite.specs.State.{State, Shown}
-use Rattle.brk_money.specs.Kinds.{same_status, status_code}
+use Rattle.brk_money.specs.Kinds.{same_status, same_type, status_code, type_code}
 use Rattle.brk_money.specs.declared.status.Status.{Status}
 use Rattle.brk_money.specs.declared.status.Status.TheVariants.{Completed, Active, Submitted, Pending, Canceled}
+use Rattle.brk_money.specs.declared.trade_type.TradeType.{TradeType}
 use Rattle.brk_model.specs.Tables.{TradeRow, RequestRow, LastTradeRow}
 use Rattle.brk_model.specs.Keys.{trade_key, request_key, last_trade_key}
 use Rattle.brk_rows.specs.Desk.{Tells}
@@ -18,12 +19,14 @@ use Rattle.brk_rows.proofs.Looks.{tells_rising, tells_falling}
 use Rattle.brk_rows.proofs.Texts.{read}
 use Rattle.brk_tables_form.specs.Cells.{nat, trade_cells, request_cells, last_trade_cells}
 use Rattle.brk_tables_form.specs.Desk.{Trades, Requests, LastTrades, desk, order}
+use Rattle.brk_tables_form.proofs.Compared.{at_least, at_most}
 use Rattle.brk_tables_form.proofs.Order.{key_total}
-use Rattle.brk_tables_form.proofs.Tests.{same_number, same_text}
+use Rattle.brk_tables_form.proofs.Tests.{same_code, same_number, same_text}
 use Rattle.brk_tables_trading.proofs.TradeById
 use Rattle.brk_tables_trading.proofs.LastTradeId
 use Rattle.brk_tables_trading.proofs.SubmittedTrades
-use Rattle.brk_tables_trading.proofs.RequestsOf
+use Rattle.brk_tables_trading.proofs.RequestsAbove
+use Rattle.brk_tables_trading.proofs.RequestsBelow
 use Rattle.brk_tables_trading.proofs.LastTradeBySymbol
 
 pub tells_trade : (old new : State) (id : ℕ) (rows : List Row) → Shown TradeById.statement (nat id ∷ []) old new rows → Tells desk (λ t. rows ≡ map trade_cells (filter (λ r. r.id == id) t.trades)) old.now
@@ -63,10 +66,32 @@ tells_submitted old new rows shown =
     trade_cells (λ tree r x e. e) (order Trades) (key_total trade_key)
     (λ tree a b x y e f. let p : column a 0 ≡ nat x.id = cc in let q : column b 0 ≡ nat y.id = cc in rw (p, q) refl) old new rows shown (λ x y. refl)
 
-pub tells_requests : (old new : State) (symbol : List ℕ) (rows : List Row) → Shown RequestsOf.statement (Words symbol ∷ []) old new rows → Tells desk (λ t. rows ≡ map request_cells (filter (λ r. bytes_eq r.symbol symbol) t.requests)) old.now
-tells_requests old new symbol rows shown =
-    tells_rising desk Requests RequestsOf.statement (Words symbol ∷ []) (read RequestsOf.statement) RequestsOf.terms RequestsOf.project RequestsOf.order RequestsOf.paging RequestsOf.names RequestsOf.understood_as
-    (λ (r : RequestRow). bytes_eq r.symbol symbol) (λ tree r x e. let a : column r 3 ≡ Words x.symbol = cc in rw (a, same_text x.symbol symbol) (and_true _)) request_cells (λ tree r x e. e) (order Requests) (key_total request_key)
+pub tells_requests_above : (old new : State) (symbol : List ℕ) (kind : TradeType) (price : ℕ) (rows : List Row) → Shown RequestsAbove.statement (Words symbol ∷ Words (type_code kind) ∷ nat price ∷ []) old new rows
+    → Tells desk (λ t. rows ≡ map request_cells (filter (λ r. bytes_eq r.symbol symbol && (same_type r.kind kind && nat_le price r.bid)) t.requests)) old.now
+tells_requests_above old new symbol kind price rows shown =
+    tells_rising desk Requests RequestsAbove.statement (Words symbol ∷ Words (type_code kind) ∷ nat price ∷ []) (read RequestsAbove.statement) RequestsAbove.terms RequestsAbove.project RequestsAbove.order RequestsAbove.paging RequestsAbove.names RequestsAbove.understood_as
+    (λ (r : RequestRow). bytes_eq r.symbol symbol && (same_type r.kind kind && nat_le price r.bid))
+    (λ tree r x e.
+    let a3 : column r 3 ≡ Words x.symbol = cc in
+    let a2 : column r 2 ≡ Words (type_code x.kind) = cc in
+    let a5 : column r 5 ≡ nat x.bid = cc in
+    rw (a3, a2, a5, same_text x.symbol symbol, same_code x.kind kind, at_least x.bid price)
+    (ap (λ c. bytes_eq x.symbol symbol && (same_type x.kind kind && c)) (and_true _)))
+    request_cells (λ tree r x e. e) (order Requests) (key_total request_key)
+    (λ tree a b x y e f. let p : column a 0 ≡ nat x.trade = cc in let q : column b 0 ≡ nat y.trade = cc in rw (p, q) refl) old new rows shown (λ x y. refl)
+
+pub tells_requests_below : (old new : State) (symbol : List ℕ) (kind : TradeType) (price : ℕ) (rows : List Row) → Shown RequestsBelow.statement (Words symbol ∷ Words (type_code kind) ∷ nat price ∷ []) old new rows
+    → Tells desk (λ t. rows ≡ map request_cells (filter (λ r. bytes_eq r.symbol symbol && (same_type r.kind kind && nat_le r.bid price)) t.requests)) old.now
+tells_requests_below old new symbol kind price rows shown =
+    tells_rising desk Requests RequestsBelow.statement (Words symbol ∷ Words (type_code kind) ∷ nat price ∷ []) (read RequestsBelow.statement) RequestsBelow.terms RequestsBelow.project RequestsBelow.order RequestsBelow.paging RequestsBelow.names RequestsBelow.understood_as
+    (λ (r : RequestRow). bytes_eq r.symbol symbol && (same_type r.kind kind && nat_le r.bid price))
+    (λ tree r x e.
+    let a3 : column r 3 ≡ Words x.symbol = cc in
+    let a2 : column r 2 ≡ Words (type_code x.kind) = cc in
+    let a5 : column r 5 ≡ nat x.bid = cc in
+    rw (a3, a2, a5, same_text x.symbol symbol, same_code x.kind kind, at_most x.bid price)
+    (ap (λ c. bytes_eq x.symbol symbol && (same_type x.kind kind && c)) (and_true _)))
+    request_cells (λ tree r x e. e) (order Requests) (key_total request_key)
     (λ tree a b x y e f. let p : column a 0 ≡ nat x.trade = cc in let q : column b 0 ≡ nat y.trade = cc in rw (p, q) refl) old new rows shown (λ x y. refl)
 
 pub tells_last_trade : (old new : State) (symbol : List ℕ) (rows : List Row) → Shown LastTradeBySymbol.statement (Words symbol ∷ []) old new rows → Tells desk (λ t. rows ≡ map last_trade_cells (filter (λ r. bytes_eq r.symbol symbol) t.last_trades)) old.now

@@ -25,7 +25,7 @@ pub use holdings::{lots_of, newest_lots, oldest_lots, summaries_of, summary_of};
 pub use last_trades::{last_trade_by_symbol, set_last_trade};
 pub use looking::{history_of, last_fifty_of_account, last_ten_of_account};
 pub use lots::{add_lot, add_lot_change, remove_lot, set_lot};
-pub use requests::{add_request, remove_request, requests_of};
+pub use requests::{add_request, remove_request, requests_at_or_above, requests_at_or_below};
 pub use settlements::{add_cash, add_settlement};
 pub use summaries::{add_summary, remove_summary, set_summary};
 pub use trades::{

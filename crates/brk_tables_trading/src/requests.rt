@@ -1,4 +1,5 @@
-ghost use Rattle.std.specs.Prelude.{◌≡◌, Err, IfErr, OnErr, bytes_eq};
+ghost use Rattle.std.specs.Prelude.{◌≡◌, ◌&&◌, Err, IfErr, OnErr, bytes_eq, nat_le};
+ghost use Rattle.brk_money.specs.Kinds.{same_type};
 ghost use Rattle.brk_money.specs.declared.fault.Fault.TheVariants.{Store};
 ghost use Rattle.brk_model.specs.Run.{MayFail};
 ghost use Rattle.brk_changes.specs.Changes.{with_request, without_request};
@@ -7,7 +8,7 @@ ghost use Rattle.brk_tables_form.specs.Desk.{Requests};
 ghost use Rattle.brk_tables_form.specs.Statements.{Lists, Writes};
 
 use brk_changes::RequestRow;
-use brk_money::{Fault, Id};
+use brk_money::{Fault, Id, Price, TradeType};
 use brk_ref::Symbol;
 use brk_tables_form::calls::{run, select};
 use brk_tables_form::record::all_rows;
@@ -48,20 +49,50 @@ pub fn remove_request<S: Alter>(tx: &mut Transaction<'_, S>, trade: Id) -> Resul
     )
 }
 
-/// The requests of a symbol, by rising trade.
-pub fn requests_of<S: Alter>(
+/// The requests of a symbol and a type whose bid is at a price or above it, by rising trade.
+pub fn requests_at_or_above<S: Alter>(
     tx: &mut Transaction<'_, S>,
     alloc: Global,
     symbol: &Symbol,
+    kind: TradeType,
+    price: Price,
 ) -> Result<Vec<RequestRow>, Fault>
     ensures same_reference { tx.new.conn.ghost_name ≡ tx.old.conn.ghost_name }
-    ensures step { Lists S.Store tx.old tx.new result Requests request_row_of (λ r. bytes_eq r.symbol symbol.now) }
+    ensures step { Lists S.Store tx.old tx.new result Requests request_row_of (λ r. bytes_eq r.symbol symbol.now && (same_type r.kind kind && nat_le price r.bid)) }
     ensures fault { IfErr result MayFail }
 {
     let rows = select(
         tx,
-        "SELECT TR_T_ID, TR_TT_ID, TR_S_SYMB, TR_QTY, TR_BID_PRICE, TR_B_ID FROM TRADE_REQUEST WHERE TR_S_SYMB = ?1 ORDER BY TR_T_ID",
-        &[text_value(symbol.as_str())],
+        "SELECT TR_T_ID, TR_TT_ID, TR_S_SYMB, TR_QTY, TR_BID_PRICE, TR_B_ID FROM TRADE_REQUEST WHERE TR_S_SYMB = ?1 AND TR_TT_ID = ?2 AND TR_BID_PRICE >= ?3 ORDER BY TR_T_ID",
+        &[
+            text_value(symbol.as_str()),
+            type_value(kind),
+            price_value(price),
+        ],
+    )?;
+    all_rows(alloc, &rows)
+}
+
+/// The requests of a symbol and a type whose bid is at a price or below it, by rising trade.
+pub fn requests_at_or_below<S: Alter>(
+    tx: &mut Transaction<'_, S>,
+    alloc: Global,
+    symbol: &Symbol,
+    kind: TradeType,
+    price: Price,
+) -> Result<Vec<RequestRow>, Fault>
+    ensures same_reference { tx.new.conn.ghost_name ≡ tx.old.conn.ghost_name }
+    ensures step { Lists S.Store tx.old tx.new result Requests request_row_of (λ r. bytes_eq r.symbol symbol.now && (same_type r.kind kind && nat_le r.bid price)) }
+    ensures fault { IfErr result MayFail }
+{
+    let rows = select(
+        tx,
+        "SELECT TR_T_ID, TR_TT_ID, TR_S_SYMB, TR_QTY, TR_BID_PRICE, TR_B_ID FROM TRADE_REQUEST WHERE TR_S_SYMB = ?1 AND TR_TT_ID = ?2 AND TR_BID_PRICE <= ?3 ORDER BY TR_T_ID",
+        &[
+            text_value(symbol.as_str()),
+            type_value(kind),
+            price_value(price),
+        ],
     )?;
     all_rows(alloc, &rows)
 }

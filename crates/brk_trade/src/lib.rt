@@ -16,7 +16,8 @@ pub use brk_changes::{
 };
 pub use brk_plans::{
     Completed, Corrected, Estimate, Found, Ordered, Paid, Plan, Quote, Reference, Reply, Settled,
-    has_no_quote, plan_cancel, plan_feed, plan_reference, plan_update, triggers,
+    Span, has_no_quote, plan_cancel, plan_feed, plan_reference, plan_update, quote_with, span_of,
+    triggers,
 };
 pub use estimate::{Terms, estimate_order, tax_on};
 pub use order::{OrderAccount, OrderFound, plan_estimate, plan_order};

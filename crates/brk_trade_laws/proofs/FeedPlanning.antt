@@ -24,7 +24,7 @@ use Rattle.brk_plans.specs.declared.plan.Plan.{Plan}
 use Rattle.brk_plans.specs.declared.reply.Reply.{Reply}
 use Rattle.brk_plans.specs.declared.reply.Reply.TheVariants as reply
 use Rattle.brk_trade_laws.specs.Plans.{base_then, DoesCommand}
-use Rattle.brk_trade_laws.specs.TradePlans.{AreQuotes, IsQuoted, IsReadForFeed}
+use Rattle.brk_trade_laws.specs.TradePlans.{IsQuoted, IsReadForFeed, QuotesApart}
 use Rattle.brk_trade_laws.specs.TradeReads.{last_trade_in}
 use Rattle.brk_trade_laws.specs.TradeTests.{exceeds_volume, feed_tests, is_unknown}
 use Rattle.brk_trade_laws.specs.Trading.{fed_trades}
@@ -33,28 +33,33 @@ use Rattle.brk_trade_laws.proofs.Tested.{not_not}
 use Rattle.brk_trade_laws.proofs.Ticks.{base_apart}
 use Rattle.brk_trade_laws.proofs.Bools.{both_ways}
 use Rattle.brk_trade_laws.proofs.TradePlanning.{feed_refusal, feed_done, refused_first, refused_step}
-use Rattle.brk_trade_laws.proofs.Quotes.{quote_of}
+use Rattle.brk_trade_laws.proofs.Quotes.{IsHeld, is_held, quote_of}
 use Rattle.brk_trade_laws.proofs.QuotedTicks.{HaveQuotes, Quoted, after_more, ticks_changes, ticks_ids}
 use Rattle.brk_trade_laws.proofs.QuotedVolumes.{quotes_exceed}
 
 -- ---- what is tested
 
 -- a symbol that has a last trade has a quote, and no other has
-same_known : (t : Tables) (ticks : List Tick) (quotes : List Held) (tick : Tick) → AreQuotes t ticks quotes → IsQuoted t quotes tick
+same_known : (t : Tables) (ticks : List Tick) (quotes : List Held) (tick : Tick) → AllByRecursion (IsHeld t ticks) quotes → QuotesApart quotes → IsQuoted t quotes tick
     → list_any (is_of tick.symbol) quotes ≡ is_some (last_trade_in t tick.symbol)
-same_known t ticks quotes tick k h = both_ways (list_any (is_of tick.symbol) quotes) (is_some (last_trade_in t tick.symbol)) there h
+same_known t ticks quotes tick k d h = both_ways (list_any (is_of tick.symbol) quotes) (is_some (last_trade_in t tick.symbol)) there h
   where
     there : list_any (is_of tick.symbol) quotes ≡ true → is_some (last_trade_in t tick.symbol) ≡ true
     there e =
-        let q = quote_of t tick.symbol quotes k.read k.apart e in
+        let q = quote_of t ticks tick.symbol quotes k d e in
         ap is_some (sym (ap (last_trade_in t) q.same) ∙ q.read.last_trade)
 
-same_unknown : (t : Tables) (ticks : List Tick) (quotes : List Held) → AreQuotes t ticks quotes → list_any (lacks_quote quotes) ticks ≡ list_any (is_unknown t) (ticks_of ticks)
-same_unknown t ticks quotes k = each ticks k.quoted
+same_unknown : (t : Tables) (ticks : List Tick) (quotes : List Held) → AllByRecursion (IsHeld t ticks) quotes → QuotesApart quotes → AllByRecursion (IsQuoted t quotes) ticks
+    → list_any (lacks_quote quotes) ticks ≡ list_any (is_unknown t) (ticks_of ticks)
+same_unknown t ticks quotes k d quoted = each ticks quoted
   where
     each : (us : List Tick) → AllByRecursion (IsQuoted t quotes) us → list_any (lacks_quote quotes) us ≡ list_any (is_unknown t) (ticks_of us)
     each [] h = refl
-    each (u ∷ us) h = λ i. not (same_known t ticks quotes u k h.0 i) || each us h.1 i
+    each (u ∷ us) h = λ i. not (same_known t ticks quotes u k d h.0 i) || each us h.1 i
+
+-- quotes that were read of a base in order are held
+held_quotes : (base : Base) (ticks : List Tick) (quotes : List Held) (last : Option ℕ) (now : ℕ) → IsReadForFeed base ticks quotes last now → AllByRecursion (IsHeld (sheets base) ticks) quotes
+held_quotes base ticks quotes last now k = All-map quotes (λ quote q. is_held base ticks quote k.books q) k.quotes_read.read
 
 known_quotes : (ticks : List Tick) (quotes : List Held) → list_any (lacks_quote quotes) ticks ≡ false → HaveQuotes quotes ticks
 known_quotes ticks quotes e = All-map ticks (λ tick n. not_not (list_any (is_of tick.symbol) quotes) n) (any-none (lacks_quote quotes) ticks e)
@@ -64,7 +69,7 @@ read_tests : (base : Base) (stamp : ℕ) (ticks : List Tick) (quotes : List Held
 read_tests base stamp ticks quotes last now k = by_unknown (list_any (lacks_quote quotes) ticks) refl
   where
     same : list_any (lacks_quote quotes) ticks ≡ list_any (is_unknown (sheets base)) (ticks_of ticks)
-    same = same_unknown (sheets base) ticks quotes k.quotes_read
+    same = same_unknown (sheets base) ticks quotes (held_quotes base ticks quotes last now k) k.quotes_read.apart k.quotes_read.quoted
 
     by_unknown : (b : Bool) → list_any (lacks_quote quotes) ticks ≡ b → first_refusal (planner.feed_tests stamp ticks quotes ++ clock_test last now ∷ [])
         ≡ first_refusal (feed_tests (sheets base) (ticks_of ticks) (sheets base).last now)
@@ -73,7 +78,7 @@ read_tests base stamp ticks quotes last now k = by_unknown (list_any (lacks_quot
         ((list_any exceeds (quotes_after stamp ticks quotes), Range limit.Volume) ∷ clock_test last now ∷ [])
         ((list_any (exceeds_volume (sheets base) (ticks_of ticks)) (ticks_of ticks), Range limit.Volume) ∷ clock_test (sheets base).last now ∷ []) e (sym same ∙ e)
     by_unknown false e =
-        let volumes = quotes_exceed base stamp ticks quotes k.books k.quotes_read.read k.quotes_read.apart (known_quotes ticks quotes e) in
+        let volumes = quotes_exceed base stamp ticks quotes k.books (held_quotes base ticks quotes last now k) k.quotes_read.apart (known_quotes ticks quotes e) in
         λ i. first_refusal ((same i, NoSecurity) ∷ (volumes i, Range limit.Volume) ∷ clock_test (k.last_read i) now ∷ [])
 
 pub feed_read : (base : Base) (stamp : ℕ) (ticks : List Tick) (quotes : List Held) (last : Option ℕ) (now : ℕ) → IsReadForFeed base ticks quotes last now
@@ -108,7 +113,7 @@ feed_plan_does base ticks quotes last now plan k p =
     let known : HaveQuotes quotes ticks = known_quotes ticks quotes (first_false (list_any (lacks_quote quotes) ticks) NoSecurity
     ((list_any exceeds (quotes_after p.stamp ticks quotes), Range limit.Volume) ∷ clock_test last now ∷ []) p.accepted) in
     let quoted : Quoted t ticks quotes =
-    record { read = k.quotes_read.read; apart = k.quotes_read.apart; requests = base_apart base k.books; known = known } in
+    record { read = held_quotes base ticks quotes last now k; apart = k.quotes_read.apart; requests = base_apart base k.books; known = known } in
     let stamped : stamp_after t.last now ≡ Some p.stamp = sym (ap (λ o. stamp_after o now) k.last_read) ∙ p.stamped in
     let done = feed_done base now (ticks_of ticks) p.stamp k.books k.moment (sym (read_tests base p.stamp ticks quotes last now k) ∙ p.accepted) stamped in
     let told : Ticked p.stamp (fed_trades p.stamp (ticks_of ticks) t) ≡ reply_of plan.reply =

@@ -25,6 +25,7 @@ pub mod Runs
 pub mod LotReading
 pub mod Positions
 pub mod LotOrder
+pub mod Orders
 pub mod Touching
 pub mod Each
 pub mod Completing
@@ -46,6 +47,7 @@ pub mod OrderDoing
 pub mod Keeping
 pub mod Ticks
 pub mod CancelPlanning
+pub mod Waiting
 pub mod Quotes
 pub mod QuotedTicks
 pub mod QuotedVolumes

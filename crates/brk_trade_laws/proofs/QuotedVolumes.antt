@@ -17,7 +17,7 @@ use Rattle.brk_ref.specs.Records.{last_trade_of}
 use Rattle.brk_plans.specs.Feed.{Held, exceeds, is_of, quote_after, quotes_after, quotes_after_tick}
 use Rattle.brk_trade_laws.specs.Books.{IsBooks, DistinctSymbols, HasVolume}
 use Rattle.brk_trade_laws.specs.TradeReads.{volume_in}
-use Rattle.brk_trade_laws.specs.TradePlans.{IsQuote, QuotesApart}
+use Rattle.brk_trade_laws.specs.TradePlans.{QuotesApart}
 use Rattle.brk_trade_laws.specs.TradeTests.{exceeds_volume, qty_fed}
 use Rattle.brk_trade_laws.proofs.Same.{All-map, All-mapped, find-All}
 use Rattle.brk_trade_laws.proofs.Reading.{find-map, is_some-map, some-is-any}
@@ -25,7 +25,7 @@ use Rattle.brk_trade_laws.proofs.TermReading.{reads_last_trade}
 use Rattle.brk_trade_laws.proofs.TradeReading.{reads_volume}
 use Rattle.brk_trade_laws.proofs.Feeding.{KnowsTicks}
 use Rattle.brk_trade_laws.proofs.Volumes.{reads_exceeds}
-use Rattle.brk_trade_laws.proofs.Quotes.{quote_of, quote_volume}
+use Rattle.brk_trade_laws.proofs.Quotes.{IsHeld, quote_of, quote_volume}
 use Rattle.brk_trade_laws.proofs.QuotedTicks.{HaveQuotes}
 
 -- ---- a market of the quotes' securities alone, which is a base in order
@@ -105,13 +105,13 @@ market_knows quotes ticks known = All-mapped (λ u. is_some (security_with (mark
         ap is_some (find-map (λ s. bytes_eq s.symbol symbol) security_of quotes) ∙ is_some-map security_of (find (is_of symbol) quotes) ∙ some-is-any (is_of symbol) quotes
 
 -- their volumes are those that the tables have
-market_volume : (t : Tables) (symbol : Text) (quotes : List Held) → AllByRecursion (IsQuote t) quotes → QuotesApart quotes → list_any (is_of symbol) quotes ≡ true
+market_volume : (t : Tables) (ticks : List Tick) (symbol : Text) (quotes : List Held) → AllByRecursion (IsHeld t ticks) quotes → QuotesApart quotes → list_any (is_of symbol) quotes ≡ true
     → volume_in (sheets (market quotes)) symbol ≡ volume_in t symbol
-market_volume t symbol quotes k d e =
-    let q = quote_of t symbol quotes k d e in
+market_volume t ticks symbol quotes k d e =
+    let q = quote_of t ticks symbol quotes k d e in
     reads_volume (market quotes) symbol
     ∙ ap (λ o. option_map_or (λ s. s.volume) o 0) (find-map (λ s. bytes_eq s.symbol symbol) security_of quotes ∙ ap (option_map security_of) q.found)
-    ∙ sym (quote_volume t q.quote q.read)
+    ∙ sym (quote_volume t ticks q.quote q.read)
     ∙ ap (volume_in t) q.same
 
 any-each : {X : Type 0} (p q : X → Bool) (xs : List X) → AllByRecursion (λ x. p x ≡ q x) xs → list_any p xs ≡ list_any q xs
@@ -121,8 +121,8 @@ any-each p q (x ∷ xs) h = λ i. h.0 i || any-each p q xs h.1 i
 -- ---- quotes of a base that is in order
 
 -- their volumes are within the limit
-pub quotes_within : (base : Base) (quotes : List Held) → IsBooks base → AllByRecursion (IsQuote (sheets base)) quotes → AllByRecursion (λ quote. quote.last.volume ≤ greatest_amount) quotes
-quotes_within base quotes books k = All-map quotes (λ quote q. by_security quote (security_with base quote.last.symbol) refl (sym (reads_last_trade base quote.last.symbol) ∙ q.last_trade)) k
+pub quotes_within : (base : Base) (ticks : List Tick) (quotes : List Held) → IsBooks base → AllByRecursion (IsHeld (sheets base) ticks) quotes → AllByRecursion (λ quote. quote.last.volume ≤ greatest_amount) quotes
+quotes_within base ticks quotes books k = All-map quotes (λ quote q. by_security quote (security_with base quote.last.symbol) refl (sym (reads_last_trade base quote.last.symbol) ∙ q.last_trade)) k
   where
     by_security : (quote : Held) (o : Option Security) → security_with base quote.last.symbol ≡ o
         → option_map last_trade_row (security_with base quote.last.symbol) ≡ Some (last_trade_of quote.last) → quote.last.volume ≤ greatest_amount
@@ -132,12 +132,12 @@ quotes_within base quotes books k = All-map quotes (λ quote q. by_security quot
         subst (λ n. n ≤ greatest_amount) (ap (λ o. option_map_or (λ r. r.volume) o 0) g)
         (find-All HasVolume (λ u. bytes_eq u.symbol quote.last.symbol) base.securities s books.volumes e)
 
-pub quotes_exceed : (base : Base) (stamp : ℕ) (ticks : List Tick) (quotes : List Held) → IsBooks base → AllByRecursion (IsQuote (sheets base)) quotes → QuotesApart quotes
+pub quotes_exceed : (base : Base) (stamp : ℕ) (ticks : List Tick) (quotes : List Held) → IsBooks base → AllByRecursion (IsHeld (sheets base) ticks) quotes → QuotesApart quotes
     → HaveQuotes quotes ticks → list_any exceeds (quotes_after stamp ticks quotes) ≡ list_any (exceeds_volume (sheets base) (ticks_of ticks)) (ticks_of ticks)
 quotes_exceed base stamp ticks quotes books k d known =
     market_exceeds (quotes_after stamp ticks quotes)
     ∙ sym (ap (λ b. list_any (λ s. nat_lt greatest_amount s.volume) b.securities) (market_ticks stamp ticks quotes))
-    ∙ sym (reads_exceeds (market quotes) stamp (ticks_of ticks) (market_books quotes d (quotes_within base quotes books k)) (market_knows quotes ticks known))
+    ∙ sym (reads_exceeds (market quotes) stamp (ticks_of ticks) (market_books quotes d (quotes_within base ticks quotes books k)) (market_knows quotes ticks known))
     ∙ any-each (exceeds_volume (sheets (market quotes)) (ticks_of ticks)) (exceeds_volume (sheets base) (ticks_of ticks)) (ticks_of ticks)
     (All-mapped (λ u. exceeds_volume (sheets (market quotes)) (ticks_of ticks) u ≡ exceeds_volume (sheets base) (ticks_of ticks) u) tick_of ticks
-    (All-map ticks (λ tick h. ap (λ volume. nat_lt greatest_amount (volume + qty_fed tick.symbol (ticks_of ticks))) (market_volume (sheets base) tick.symbol quotes k d h)) known))
+    (All-map ticks (λ tick h. ap (λ volume. nat_lt greatest_amount (volume + qty_fed tick.symbol (ticks_of ticks))) (market_volume (sheets base) ticks tick.symbol quotes k d h)) known))

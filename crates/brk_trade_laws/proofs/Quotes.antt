@@ -1,21 +1,29 @@
 -- Quotes that were read, one after another, and the one of a symbol.
-use Rattle.std.proofs.Common.{◌≡◌, Bool, true, false, List, [], ◌∷◌, ◌++◌, refl, sym, subst, ◌∙◌, ap, map, filter, Some, None}
+use Rattle.std.proofs.Common.{◌≡◌, ◌≤◌, ℕ, Bool, true, false, List, [], ◌∷◌, ◌++◌, refl, sym, subst, ◌∙◌, ap, map, filter, Some, None}
 use Rattle.std.specs.Prelude.{◌||◌, find, is_some, bytes_eq}
 use Rattle.std.specs.Option.{option_map_or}
 use Rattle.std.specs.List.{AllByRecursion, list_any}
+use Rattle.std.specs.List.Sorted.{IsNonDecreasingBy, IsPermutation}
 use Rattle.brk_money.specs.Spelling.{Text}
-use Rattle.brk_model.specs.Tables.{Tables, LastTradeRow}
+use Rattle.brk_model.specs.Base.{Base}
+use Rattle.brk_model.specs.Sheets.{sheets}
+use Rattle.brk_model.specs.Tables.{Tables, LastTradeRow, RequestRow}
 use Rattle.brk_orders.specs.declared.tick.Tick.{Tick}
 use Rattle.brk_ref.specs.Records.{last_trade_of}
 use Rattle.brk_plans.specs.Feed.{Held, held, held_of, is_of}
 use Rattle.brk_changes.specs.Rows.{request_row_of}
+use Rattle.brk_changes.specs.declared.request_row.RequestRow as request
 use Rattle.brk_plans.specs.declared.quote.Quote.{Quote}
+use Rattle.brk_plans.specs.declared.span.Span.{Span}
+use Rattle.brk_trade_laws.specs.Books.{IsBooks}
 use Rattle.brk_trade_laws.specs.TradeReads.{last_trade_in, requests_of, volume_in}
-use Rattle.brk_trade_laws.specs.TradePlans.{AreQuotes, IsQuote, IsQuoted, QuotesApart}
+use Rattle.brk_trade_laws.specs.TradePlans.{AreQuotes, IsQuote, IsQuoted, QuotesApart, Spans}
 use Rattle.brk_trade_laws.proofs.Bools.{same_text, texts_back}
-use Rattle.brk_trade_laws.proofs.Same.{NonePass, All-append, All-map, any-none, filter-none, find-All, map-last}
+use Rattle.brk_trade_laws.proofs.Same.{NonePass, All-append, All-map, All-mapped, any-none, filter-none, find-All, map-last}
 use Rattle.brk_trade_laws.proofs.Places.{FoundAt, filter-one, find-at, some_of}
 use Rattle.brk_trade_laws.proofs.Reading.{some-is-any}
+use Rattle.brk_trade_laws.proofs.Orders.{Ascends, ascends}
+use Rattle.brk_trade_laws.proofs.Waiting.{in_order, may}
 
 -- ---- tests
 
@@ -37,21 +45,42 @@ any-at_last p (y ∷ xs) x e = ap (λ b. p y || b) (any-at_last p xs x e) ∙ or
 
 -- ---- the quote of a symbol
 
+-- what is held of a symbol: the last trade, and in their order the requests that may be triggered within a span in which the prices of ticks lie
+pub record IsHeld (t : Tables) (ticks : List Tick) (quote : Held) : Type 0 where
+  pub last_trade : last_trade_in t quote.last.symbol ≡ Some (last_trade_of quote.last)
+  pub span : Span
+  pub spans : Spans span quote.last.symbol ticks
+  pub requests : map request_row_of quote.requests ≡ filter (may span) (requests_of t quote.last.symbol)
+
+ascends_map : {X Y : Type 0} (n : Y → ℕ) (f : X → Y) (xs : List X) → Ascends (λ x. n (f x)) xs → Ascends n (map f xs)
+ascends_map n f [] a = tt
+ascends_map n f (x ∷ xs) a = (All-mapped (λ y. n (f x) ≤ n y) f xs a.0, ascends_map n f xs a.1)
+
+-- a quote that was read of a base in order is held
+pub is_held : (base : Base) (ticks : List Tick) (quote : Held) → IsBooks base → IsQuote (sheets base) ticks quote → IsHeld (sheets base) ticks quote
+is_held base ticks quote books k = record {
+  last_trade = k.last_trade;
+  span = k.span;
+  spans = k.spans;
+  requests = in_order base quote.last.symbol k.span (map request_row_of quote.requests) books k.requests
+      (ascends_map (λ (r : RequestRow). r.trade) request_row_of quote.requests (ascends (λ (r : request.RequestRow). r.trade) quote.requests k.order));
+}
+
 -- the one quote of a symbol, and it is what stands in the tables of it
-pub record QuoteOf (t : Tables) (symbol : Text) (quotes : List Held) : Type 0 where
+pub record QuoteOf (t : Tables) (ticks : List Tick) (symbol : Text) (quotes : List Held) : Type 0 where
   pub quote : Held
   pub found : find (is_of symbol) quotes ≡ Some quote
   pub alone : filter (is_of symbol) quotes ≡ quote ∷ []
-  pub read : IsQuote t quote
+  pub read : IsHeld t ticks quote
   pub same : quote.last.symbol ≡ symbol
 
 none_after : (before : List Held) (quote : Held) (after : List Held) → QuotesApart (before ++ quote ∷ after) → NonePass (is_of quote.last.symbol) after
 none_after [] quote after d = d.0
 none_after (q ∷ before) quote after d = none_after before quote after d.1
 
-pub quote_of : (t : Tables) (symbol : Text) (quotes : List Held) → AllByRecursion (IsQuote t) quotes → QuotesApart quotes → list_any (is_of symbol) quotes ≡ true
-    → QuoteOf t symbol quotes
-quote_of t symbol quotes r d e =
+pub quote_of : (t : Tables) (ticks : List Tick) (symbol : Text) (quotes : List Held) → AllByRecursion (IsHeld t ticks) quotes → QuotesApart quotes → list_any (is_of symbol) quotes ≡ true
+    → QuoteOf t ticks symbol quotes
+quote_of t ticks symbol quotes r d e =
     let found = some_of (find (is_of symbol) quotes) (some-is-any (is_of symbol) quotes ∙ e) in
     let f : FoundAt Held (is_of symbol) found.0 quotes = find-at (is_of symbol) quotes found.0 found.1 in
     let same : found.0.last.symbol ≡ symbol = same_text found.0.last.symbol symbol f.passes in
@@ -62,27 +91,27 @@ quote_of t symbol quotes r d e =
       found = found.1;
       alone = ap (filter (is_of symbol)) f.stands ∙ filter-one (is_of symbol) f.before found.0 f.after f.passes
           ∙ (λ i. filter-none (is_of symbol) f.before f.others i ++ found.0 ∷ filter-none (is_of symbol) f.after others i);
-      read = find-All (IsQuote t) (is_of symbol) quotes found.0 r found.1;
+      read = find-All (IsHeld t ticks) (is_of symbol) quotes found.0 r found.1;
       same = same;
     }
 
 -- its volume is that of its symbol
-pub quote_volume : (t : Tables) (quote : Held) → IsQuote t quote → volume_in t quote.last.symbol ≡ quote.last.volume
-quote_volume t quote k = ap (λ o. option_map_or (λ r. r.volume) o 0) k.last_trade
+pub quote_volume : (t : Tables) (ticks : List Tick) (quote : Held) → IsHeld t ticks quote → volume_in t quote.last.symbol ≡ quote.last.volume
+quote_volume t ticks quote k = ap (λ o. option_map_or (λ r. r.volume) o 0) k.last_trade
 
 -- ---- quotes are read one by one
 
-pub no_quotes : (t : Tables) → AreQuotes t [] []
-no_quotes t = record { read = tt; apart = tt; quoted = tt }
+pub no_quotes : (t : Tables) (all : List Tick) → AreQuotes t all [] []
+no_quotes t all = record { read = tt; apart = tt; quoted = tt }
 
-pub quoted_before : (t : Tables) (ticks : List Tick) (tick : Tick) (quotes : List Quote) → AreQuotes t ticks (held quotes) → list_any (is_of tick.symbol) (held quotes) ≡ true
-    → AreQuotes t (ticks ++ tick ∷ []) (held quotes)
-quoted_before t ticks tick quotes k e =
+pub quoted_before : (t : Tables) (all ticks : List Tick) (tick : Tick) (quotes : List Quote) → AreQuotes t all ticks (held quotes) → list_any (is_of tick.symbol) (held quotes) ≡ true
+    → AreQuotes t all (ticks ++ tick ∷ []) (held quotes)
+quoted_before t all ticks tick quotes k e =
     record { read = k.read; apart = k.apart; quoted = All-append (IsQuoted t (held quotes)) ticks (tick ∷ []) k.quoted ((λ h. e), tt) }
 
-pub not_listed : (t : Tables) (ticks : List Tick) (tick : Tick) (quotes : List Quote) → AreQuotes t ticks (held quotes) → last_trade_in t tick.symbol ≡ None
-    → AreQuotes t (ticks ++ tick ∷ []) (held quotes)
-not_listed t ticks tick quotes k e =
+pub not_listed : (t : Tables) (all ticks : List Tick) (tick : Tick) (quotes : List Quote) → AreQuotes t all ticks (held quotes) → last_trade_in t tick.symbol ≡ None
+    → AreQuotes t all (ticks ++ tick ∷ []) (held quotes)
+not_listed t all ticks tick quotes k e =
     record { read = k.read; apart = k.apart; quoted = All-append (IsQuoted t (held quotes)) ticks (tick ∷ []) k.quoted ((λ h. absurd (none (sym (ap is_some e) ∙ h))), tt) }
   where
     none : false ≡ true → ⊥
@@ -95,26 +124,40 @@ apart_last (q ∷ quotes) quote d h = (
   apart_last quotes quote d.1 h.1,
 )
 
+-- what was read for a symbol is a quote
+pub read_quote : (t : Tables) (all : List Tick) (symbol : Text) (span : Span) (quote : Held) → last_trade_in t symbol ≡ Some (last_trade_of quote.last) → Spans span symbol all
+    → IsPermutation (filter (may span) (requests_of t symbol)) (map request_row_of quote.requests) → IsNonDecreasingBy (λ (r : request.RequestRow). r.trade) quote.requests → IsQuote t all quote
+read_quote t all symbol span quote l w p o =
+    let f : FoundAt LastTradeRow (λ row. bytes_eq row.symbol symbol) (last_trade_of quote.last) t.last_trades =
+    find-at (λ row. bytes_eq row.symbol symbol) t.last_trades (last_trade_of quote.last) l in
+    let same : quote.last.symbol ≡ symbol = same_text quote.last.symbol symbol f.passes in
+    record {
+      last_trade = ap (last_trade_in t) same ∙ l;
+      span = span;
+      spans = subst (λ s. Spans span s all) (sym same) w;
+      requests = subst (λ s. IsPermutation (filter (may span) (requests_of t s)) (map request_row_of quote.requests)) (sym same) p;
+      order = o;
+    }
+
 -- a quote more, of a symbol that had none
-one_more : (t : Tables) (ticks : List Tick) (tick : Tick) (quotes : List Held) (quote : Held) → AreQuotes t ticks quotes → list_any (is_of tick.symbol) quotes ≡ false
-    → last_trade_in t tick.symbol ≡ Some (last_trade_of quote.last) → map request_row_of quote.requests ≡ requests_of t tick.symbol
-    → AreQuotes t (ticks ++ tick ∷ []) (quotes ++ quote ∷ [])
-one_more t ticks tick quotes quote k e l r =
+one_more : (t : Tables) (all ticks : List Tick) (tick : Tick) (quotes : List Held) (quote : Held) → AreQuotes t all ticks quotes → list_any (is_of tick.symbol) quotes ≡ false
+    → last_trade_in t tick.symbol ≡ Some (last_trade_of quote.last) → IsQuote t all quote
+    → AreQuotes t all (ticks ++ tick ∷ []) (quotes ++ quote ∷ [])
+one_more t all ticks tick quotes quote k e l r =
     let f : FoundAt LastTradeRow (λ row. bytes_eq row.symbol tick.symbol) (last_trade_of quote.last) t.last_trades =
     find-at (λ row. bytes_eq row.symbol tick.symbol) t.last_trades (last_trade_of quote.last) l in
     let same : quote.last.symbol ≡ tick.symbol = same_text quote.last.symbol tick.symbol f.passes in
     let none : NonePass (is_of quote.last.symbol) quotes = subst (λ s. NonePass (is_of s) quotes) (sym same) (any-none (is_of tick.symbol) quotes e) in
     record {
-      read = All-append (IsQuote t) quotes (quote ∷ []) k.read
-          (record { last_trade = ap (last_trade_in t) same ∙ l; requests = r ∙ ap (requests_of t) (sym same) }, tt);
+      read = All-append (IsQuote t all) quotes (quote ∷ []) k.read (r, tt);
       apart = apart_last quotes quote k.apart none;
       quoted = All-append (IsQuoted t (quotes ++ quote ∷ [])) ticks (tick ∷ [])
           (All-map ticks (λ u h s. any-last (is_of u.symbol) quotes quote (h s)) k.quoted)
           ((λ s. any-at_last (is_of tick.symbol) quotes quote f.passes), tt);
     }
 
-pub quote_read : (t : Tables) (ticks : List Tick) (tick : Tick) (quotes : List Quote) (quote : Quote) → AreQuotes t ticks (held quotes)
+pub quote_read : (t : Tables) (all ticks : List Tick) (tick : Tick) (quotes : List Quote) (quote : Quote) → AreQuotes t all ticks (held quotes)
     → list_any (is_of tick.symbol) (held quotes) ≡ false → last_trade_in t tick.symbol ≡ Some (last_trade_of quote.last)
-    → map request_row_of quote.requests.items ≡ requests_of t tick.symbol → AreQuotes t (ticks ++ tick ∷ []) (held (quotes ++ quote ∷ []))
-quote_read t ticks tick quotes quote k e l r =
-    subst (AreQuotes t (ticks ++ tick ∷ [])) (sym (map-last held_of quotes quote)) (one_more t ticks tick (held quotes) (held_of quote) k e l r)
+    → IsQuote t all (held_of quote) → AreQuotes t all (ticks ++ tick ∷ []) (held (quotes ++ quote ∷ []))
+quote_read t all ticks tick quotes quote k e l r =
+    subst (AreQuotes t all (ticks ++ tick ∷ [])) (sym (map-last held_of quotes quote)) (one_more t all ticks tick (held quotes) (held_of quote) k e l r)

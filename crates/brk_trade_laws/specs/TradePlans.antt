@@ -1,8 +1,12 @@
 -- What is known where a cancel or a feed is planned: what was read from the tables of a base that is in order.
-use Rattle.std.specs.Prelude.{◌≡◌, ◌≤◌, ⊤, ℕ, true, false, is_some, List, [], ◌∷◌, map, Option, Some, option_map}
+use Rattle.std.specs.Prelude.{◌≡◌, ◌≤◌, ⊤, ℕ, Bool, true, false, is_some, nat_le, List, [], ◌∷◌, filter, map, Option, Some, option_map}
 use Rattle.std.specs.List.{AllByRecursion, list_any}
+use Rattle.std.specs.List.Sorted.{IsNonDecreasingBy, IsPermutation}
 use Rattle.brk_money.specs.Moments.{last_stamp}
+use Rattle.brk_money.specs.Spelling.{Text}
 use Rattle.brk_money.specs.declared.status.Status.{Status}
+use Rattle.brk_money.specs.declared.trade_type.TradeType.{TradeType}
+use Rattle.brk_money.specs.declared.trade_type.TradeType.TheVariants.{MarketBuy, MarketSell, StopLoss, LimitSell, LimitBuy}
 use Rattle.brk_model.specs.Base.{Base}
 use Rattle.brk_model.specs.Joins.{trade_in}
 use Rattle.brk_model.specs.Sheets.{sheets}
@@ -10,6 +14,8 @@ use Rattle.brk_model.specs.Tables.{Tables}
 use Rattle.brk_orders.specs.declared.tick.Tick.{Tick}
 use Rattle.brk_ref.specs.Records.{last_trade_of}
 use Rattle.brk_plans.specs.Feed.{Held, is_of}
+use Rattle.brk_plans.specs.declared.span.Span.{Span}
+use Rattle.brk_changes.specs.declared.request_row.RequestRow as request
 use Rattle.brk_changes.specs.Rows.{request_row_of}
 use Rattle.brk_trade_laws.specs.Books.{IsBooks}
 use Rattle.brk_trade_laws.specs.TradeReads.{last_trade_in, requests_of}
@@ -26,10 +32,30 @@ pub record IsReadForCancel (base : Base) (id : ℕ) (found : Option Status) (las
 
 -- ---- a feed
 
--- a quote is what stands in the tables of its symbol: the last trade, and the requests
-pub record IsQuote (t : Tables) (quote : Held) : Type 0 where
+-- a price lies within a span, both its ends included
+abbrev pub is_within : Span → ℕ → Type 0
+is_within span price = (span.lowest ≤ price) × (price ≤ span.highest)
+
+-- the prices of a symbol's ticks lie within a span
+abbrev pub Spans : Span → Text → List Tick → Type 0
+Spans span symbol ticks = AllByRecursion (λ tick. tick.symbol ≡ symbol → is_within span tick.price) ticks
+
+-- whether some price within a span may trigger a bid: the lowest price a stop loss or a limit buy, the highest price a limit sell
+abbrev pub may_trigger : Span → TradeType → ℕ → Bool
+may_trigger span StopLoss bid = nat_le span.lowest bid
+may_trigger span LimitSell bid = nat_le bid span.highest
+may_trigger span LimitBuy bid = nat_le span.lowest bid
+may_trigger span MarketBuy bid = false
+may_trigger span MarketSell bid = false
+
+-- a quote is what stands in the tables of its symbol: the last trade, and by rising trade the requests that may be triggered within a span in
+-- which the prices of its ticks lie
+pub record IsQuote (t : Tables) (ticks : List Tick) (quote : Held) : Type 0 where
   pub last_trade : last_trade_in t quote.last.symbol ≡ Some (last_trade_of quote.last)
-  pub requests : map request_row_of quote.requests ≡ requests_of t quote.last.symbol
+  pub span : Span
+  pub spans : Spans span quote.last.symbol ticks
+  pub requests : IsPermutation (filter (λ r. may_trigger span r.kind r.bid) (requests_of t quote.last.symbol)) (map request_row_of quote.requests)
+  pub order : IsNonDecreasingBy (λ (r : request.RequestRow). r.trade) quote.requests
 
 -- no two quotes are of one symbol
 abbrev pub QuotesApart : List Held → Type 0
@@ -40,15 +66,15 @@ QuotesApart (quote ∷ quotes) = AllByRecursion (λ other. is_of quote.last.symb
 abbrev pub IsQuoted : Tables → List Held → Tick → Type 0
 IsQuoted t quotes tick = is_some (last_trade_in t tick.symbol) ≡ true → list_any (is_of tick.symbol) quotes ≡ true
 
--- quotes are what stands in the tables of the symbols of ticks, one quote for each symbol that has a last trade
-pub record AreQuotes (t : Tables) (ticks : List Tick) (quotes : List Held) : Type 0 where
-  pub read : AllByRecursion (IsQuote t) quotes
+-- quotes are what stands in the tables, by all ticks of a feed, of the symbols of some of them, one quote for each symbol that has a last trade
+pub record AreQuotes (t : Tables) (all ticks : List Tick) (quotes : List Held) : Type 0 where
+  pub read : AllByRecursion (IsQuote t all) quotes
   pub apart : QuotesApart quotes
   pub quoted : AllByRecursion (IsQuoted t quotes) ticks
 
 -- what is known where a feed is planned: the base is in order, and the quotes of its ticks were read at a moment that there is
 pub record IsReadForFeed (base : Base) (ticks : List Tick) (quotes : List Held) (last : Option ℕ) (now : ℕ) : Type 0 where
   pub books : IsBooks base
-  pub quotes_read : AreQuotes (sheets base) ticks quotes
+  pub quotes_read : AreQuotes (sheets base) ticks ticks quotes
   pub last_read : last ≡ (sheets base).last
   pub moment : now ≤ last_stamp

@@ -1,6 +1,6 @@
 //! What is planned of cancels and feeds from what was read is what the definitions say.
 
-ghost use Rattle.std.specs.Prelude.{◌≡◌, ◌∷◌, ◌++◌, [], true, false, ℕ, Err, List, None, Option, Some, map};
+ghost use Rattle.std.specs.Prelude.{◌≡◌, ◌∷◌, ◌++◌, [], true, false, ℕ, Err, List, None, Option, Some};
 ghost use Rattle.std.specs.List.{list_any};
 ghost use Rattle.brk_money.specs.declared.refusal.Refusal.{Refusal};
 ghost use Rattle.brk_money.specs.declared.status.Status.{Status};
@@ -16,18 +16,17 @@ ghost use Rattle.brk_orders.specs.Records.{ticks_of};
 ghost use Rattle.brk_orders.specs.declared.tick.Tick.{Tick};
 ghost use Rattle.brk_ref.specs.Records.{last_trade_of};
 ghost use Rattle.brk_plans.specs.Cancel.{IsCancel, cancel_tests};
-ghost use Rattle.brk_plans.specs.Feed.{Held, IsFeed, feed_tests, held, is_of};
+ghost use Rattle.brk_plans.specs.Feed.{Held, IsFeed, feed_tests, held, held_of, is_of};
 ghost use Rattle.brk_plans.specs.Reference.{clock_test};
 ghost use Rattle.brk_trade.specs.Results.{IsCompleted, IsRefused};
-ghost use Rattle.brk_changes.specs.Rows.{request_row_of};
 ghost use Rattle.brk_trade.specs.declared.result_found.ResultFound.{ResultFound};
 ghost use Rattle.brk_plans.specs.declared.plan.Plan.{Plan};
 ghost use Rattle.brk_plans.specs.declared.quote.Quote.{Quote};
 ghost use Rattle.brk_trade_laws.specs.Books.{IsBooks};
 ghost use Rattle.brk_trade_laws.specs.Plans.{DoesCommand};
 ghost use Rattle.brk_trade_laws.specs.ResultPlans.{IsReadForResult};
-ghost use Rattle.brk_trade_laws.specs.TradePlans.{AreQuotes, IsReadForCancel, IsReadForFeed};
-ghost use Rattle.brk_trade_laws.specs.TradeReads.{last_trade_in, requests_of};
+ghost use Rattle.brk_trade_laws.specs.TradePlans.{AreQuotes, IsQuote, IsReadForCancel, IsReadForFeed};
+ghost use Rattle.brk_trade_laws.specs.TradeReads.{last_trade_in};
 
 /// A cancel is refused by the status of its trade as by the base; the plan of one that is not does the cancel.
 pub fn cancel_plans_do_commands()
@@ -49,17 +48,17 @@ pub fn feed_plans_do_commands()
         → IsFeed ticks quotes last now plan → DoesCommand base now (FeedTicks (ticks_of ticks)) plan }
 {}
 
-/// Quotes are read tick by tick: of a tick whose symbol has a quote nothing is read, of one whose symbol has no last trade nothing comes, and
-/// of any other a quote more.
+/// Quotes are read tick by tick, each by all ticks of its feed: of a tick whose symbol has a quote nothing is read, of one whose symbol has no
+/// last trade nothing comes, and of any other a quote more.
 pub fn quotes_are_read_tick_by_tick()
-    ensures none { (t : Tables) → AreQuotes t [] [] }
-    ensures again { (t : Tables) (ticks : List Tick) (tick : Tick) (quotes : List Quote) → AreQuotes t ticks (held quotes)
-        → list_any (is_of tick.symbol) (held quotes) ≡ true → AreQuotes t (ticks ++ tick ∷ []) (held quotes) }
-    ensures not_listed { (t : Tables) (ticks : List Tick) (tick : Tick) (quotes : List Quote) → AreQuotes t ticks (held quotes)
-        → last_trade_in t tick.symbol ≡ None → AreQuotes t (ticks ++ tick ∷ []) (held quotes) }
-    ensures read { (t : Tables) (ticks : List Tick) (tick : Tick) (quotes : List Quote) (quote : Quote) → AreQuotes t ticks (held quotes)
+    ensures none { (t : Tables) (all : List Tick) → AreQuotes t all [] [] }
+    ensures again { (t : Tables) (all ticks : List Tick) (tick : Tick) (quotes : List Quote) → AreQuotes t all ticks (held quotes)
+        → list_any (is_of tick.symbol) (held quotes) ≡ true → AreQuotes t all (ticks ++ tick ∷ []) (held quotes) }
+    ensures not_listed { (t : Tables) (all ticks : List Tick) (tick : Tick) (quotes : List Quote) → AreQuotes t all ticks (held quotes)
+        → last_trade_in t tick.symbol ≡ None → AreQuotes t all (ticks ++ tick ∷ []) (held quotes) }
+    ensures read { (t : Tables) (all ticks : List Tick) (tick : Tick) (quotes : List Quote) (quote : Quote) → AreQuotes t all ticks (held quotes)
         → list_any (is_of tick.symbol) (held quotes) ≡ false → last_trade_in t tick.symbol ≡ Some (last_trade_of quote.last)
-        → map request_row_of quote.requests.items ≡ requests_of t tick.symbol → AreQuotes t (ticks ++ tick ∷ []) (held (quotes ++ quote ∷ [])) }
+        → IsQuote t all (held_of quote) → AreQuotes t all (ticks ++ tick ∷ []) (held (quotes ++ quote ∷ [])) }
 {}
 
 /// A result is refused by what was found for its trade as by the base, whatever stamp its values are taken at; the plan of one that is not

@@ -17,7 +17,7 @@ use Rattle.brk_audit.specs.Completed.{done_rows}
 use Rattle.brk_audit.specs.Positions.{place_before}
 use Rattle.brk_audit.proofs.LotRows.{all_moved, clash_apart, clash_moved, priced_rows, rows_moved}
 use Rattle.brk_audit.proofs.MoveRows.{moves_told}
-use Rattle.brk_audit.proofs.Orders.{sorted_by, sorted_map}
+use Rattle.brk_trade_laws.proofs.Orders.{sorted_by, sorted_map}
 use Rattle.brk_audit.proofs.Places.{key_order, place_order}
 use Rattle.brk_audit.proofs.Stretches.{seen}
 use Rattle.brk_audit.proofs.history.has_lot_history.Goals as goal

@@ -20,8 +20,8 @@ one_more ticks i tick inside is = ap (λ x. take i ticks ++ x ∷ []) is ∙ sym
 pub loop-tick-init : goal.loop-tick-init
 loop-tick-init g c =
     retold g.S.Store c.args.store.now c.last.new.self c.in_ok-last.last tt
-    (λ last (t : Tables). last ≡ t.last) (λ _. Known [] (held c.new-quotes.result.items) c.in_ok-last.last)
-    (λ t e. (e, subst (λ quotes. AreQuotes t [] (held quotes)) (sym c.new-quotes.ensures.items) (no_quotes t)))
+    (λ last (t : Tables). last ≡ t.last) (λ _. Known c.args.ticks.now [] (held c.new-quotes.result.items) c.in_ok-last.last)
+    (λ t e. (e, subst (λ quotes. AreQuotes t c.args.ticks.now [] (held quotes)) (sym c.new-quotes.ensures.items) (no_quotes t c.args.ticks.now)))
     c.in_ok-last.ensures.read
 
 pub loop-tick-preserved : goal.loop-tick-preserved
@@ -32,28 +32,28 @@ loop-tick-preserved g c =
     let last = c.in_ok-last.last in
     let before = c.loop-tick.quotes.items in
     let lacks : lacks_quote (held before) tick ≡ c.has_no_quote.result = sym (ap (λ quotes. lacks_quote (held quotes) tick) c.deref.ensures.value) ∙ sym c.has_no_quote.ensures in
-    let after : IsRead {V = Unit {0}} {E = Fault} g.S.Store c.args.store.now c.if-has_no_quote.store (Ok tt) (λ _. Known (take i ticks ++ tick ∷ []) (held c.if-has_no_quote.quotes.items) last) =
+    let after : IsRead {V = Unit {0}} {E = Fault} g.S.Store c.args.store.now c.if-has_no_quote.store (Ok tt) (λ _. Known ticks (take i ticks ++ tick ∷ []) (held c.if-has_no_quote.quotes.items) last) =
     elim c.if-has_no_quote.branch [
       | then-has_no_quote+in_ok-quote+in-Some+in_ok-push w ↦
           rw (w.store-is, w.quotes-is, w.in_ok-push.ensures.items)
           (read_both g.S.Store c.args.store.now c.loop-tick.store w.quote_of.new.store {X = Unit {0}} {H = Fault} tt (Some w.in-Some.quote) tt
-          (λ _. Known (take i ticks) (held before) last) (IsQuoteOf tick.symbol) (λ _. Known (take i ticks ++ tick ∷ []) (held (before ++ w.in-Some.quote ∷ [])) last)
-          (one_read (take i ticks) tick before last w.in-Some.quote (lacks ∙ w.if-has_no_quote.true))
+          (λ _. Known ticks (take i ticks) (held before) last) (IsQuoteOf ticks tick.symbol) (λ _. Known ticks (take i ticks ++ tick ∷ []) (held (before ++ w.in-Some.quote ∷ [])) last)
+          (one_read ticks (take i ticks) tick before last w.in-Some.quote (lacks ∙ w.if-has_no_quote.true))
           c.loop-tick.invariant (rw w.in-Some.is at w.in_ok-quote.ensures.read))
       | then-has_no_quote+in_ok-quote+in_default w ↦
           rw (w.store-is, w.quotes-is)
           (read_both g.S.Store c.args.store.now c.loop-tick.store w.quote_of.new.store {W = Option Quote} {X = Unit {0}} {H = Fault} tt None tt
-          (λ _. Known (take i ticks) (held before) last) (IsQuoteOf tick.symbol) (λ _. Known (take i ticks ++ tick ∷ []) (held before) last)
-          (one_not_listed (take i ticks) tick before last)
+          (λ _. Known ticks (take i ticks) (held before) last) (IsQuoteOf ticks tick.symbol) (λ _. Known ticks (take i ticks ++ tick ∷ []) (held before) last)
+          (one_not_listed ticks (take i ticks) tick before last)
           c.loop-tick.invariant (rw w.in_default.is at w.in_ok-quote.ensures.read))
       | else-has_no_quote w ↦
           rw (w.store-is, w.quotes-is)
           (retold g.S.Store c.args.store.now c.loop-tick.store {X = Unit {0}} {H = Fault} tt tt
-          (λ _. Known (take i ticks) (held before) last) (λ _. Known (take i ticks ++ tick ∷ []) (held before) last)
-          (one_quoted (take i ticks) tick before last (lacks ∙ w.if-has_no_quote.false))
+          (λ _. Known ticks (take i ticks) (held before) last) (λ _. Known ticks (take i ticks ++ tick ∷ []) (held before) last)
+          (one_quoted ticks (take i ticks) tick before last (lacks ∙ w.if-has_no_quote.false))
           c.loop-tick.invariant)
     ] in
-    subst (λ us. IsRead {V = Unit {0}} {E = Fault} g.S.Store c.args.store.now c.if-has_no_quote.store (Ok tt) (λ _. Known us (held c.if-has_no_quote.quotes.items) last))
+    subst (λ us. IsRead {V = Unit {0}} {E = Fault} g.S.Store c.args.store.now c.if-has_no_quote.store (Ok tt) (λ _. Known ticks us (held c.if-has_no_quote.quotes.items) last))
     (one_more ticks i tick c.loop-tick-test.true c.tick-item.is) after
 
 pub returns-clause-read : goal.returns-clause-read
@@ -63,6 +63,6 @@ returns-clause-read g c =
     let last = c.in_ok-last.last in
     let quotes = c.loop-tick.quotes in
     retold g.S.Store c.args.store.now c.loop-tick.store tt (last, quotes)
-    (λ _. Known (take i ticks) (held quotes.items) last) (λ market. Known ticks (held market.1.items) market.0)
-    (λ t k. subst (λ us. Known us (held quotes.items) last t) (take_all i ticks c.loop-tick-test.false) k)
+    (λ _. Known ticks (take i ticks) (held quotes.items) last) (λ market. Known ticks ticks (held market.1.items) market.0)
+    (λ t k. subst (λ us. Known ticks us (held quotes.items) last t) (take_all i ticks c.loop-tick-test.false) k)
     c.loop-tick.invariant

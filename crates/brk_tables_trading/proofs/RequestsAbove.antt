@@ -3,7 +3,7 @@ use Rattle.std.proofs.Common.{◌≡◌, ◌⊎◌, ℕ, ◌-◌, pos, negsuc, L
 use Rattle.sqlite_value.specs.declared.keys.Collation.TheVariants.{Binary}
 use Rattle.sqlite.specs.declared.types.Value.TheVariants.{Int}
 use Rattle.sqlite_sql.specs.declared.ops.BinaryOp.TheVariants.{Compare}
-use Rattle.sqlite_sql.specs.declared.ops.CompareOp.TheVariants.{Eq}
+use Rattle.sqlite_sql.specs.declared.ops.CompareOp.TheVariants.{Eq, Ge}
 use Rattle.sqlite_value.specs.declared.keys.Key.{Key}
 use Rattle.sqlite.specs.Term.{Term, lit, col, op2}
 use Rattle.sqlite.specs.Schema.{Schema}
@@ -44,7 +44,7 @@ use Rattle.sqlite_resolve.specs.declared.compiled.Compiled.{Compiled}
 use Rattle.sqlite.specs.Listing.{understood}
 
 abbrev pub statement : List ℕ
-statement = codes "SELECT TR_T_ID, TR_TT_ID, TR_S_SYMB, TR_QTY, TR_BID_PRICE, TR_B_ID FROM TRADE_REQUEST WHERE TR_S_SYMB = ?1 ORDER BY TR_T_ID"
+statement = codes "SELECT TR_T_ID, TR_TT_ID, TR_S_SYMB, TR_QTY, TR_BID_PRICE, TR_B_ID FROM TRADE_REQUEST WHERE TR_S_SYMB = ?1 AND TR_TT_ID = ?2 AND TR_BID_PRICE >= ?3 ORDER BY TR_T_ID"
 
 abbrev pub source : Source
 source = roll-Source (record { is_left = false; origin = Table (codes "TRADE_REQUEST"); alias = None; on = None; using = [] })
@@ -54,7 +54,7 @@ core = roll-Core (record {
   distinct = false;
   shown = One (e.Column None (codes "TR_T_ID")) None (codes "TR_T_ID") ∷ One (e.Column None (codes "TR_TT_ID")) None (codes "TR_TT_ID") ∷ One (e.Column None (codes "TR_S_SYMB")) None (codes "TR_S_SYMB") ∷ One (e.Column None (codes "TR_QTY")) None (codes "TR_QTY") ∷ One (e.Column None (codes "TR_BID_PRICE")) None (codes "TR_BID_PRICE") ∷ One (e.Column None (codes "TR_B_ID")) None (codes "TR_B_ID") ∷ [];
   from = source ∷ [];
-  filter = Some (e.Binary operator.Eq (e.Column None (codes "TR_S_SYMB")) (e.Parameter 1));
+  filter = Some (e.Binary operator.And (e.Binary operator.And (e.Binary operator.Eq (e.Column None (codes "TR_S_SYMB")) (e.Parameter 1)) (e.Binary operator.Eq (e.Column None (codes "TR_TT_ID")) (e.Parameter 2))) (e.Binary operator.Ge (e.Column None (codes "TR_BID_PRICE")) (e.Parameter 3)));
   group = [];
   having = None;
 })
@@ -66,7 +66,7 @@ abbrev pub select : ast.Select
 select = ast.roll-Select (record { with = []; first = core; others = []; order = by; limit = None; offset = None })
 
 abbrev pub terms : List Term
-terms = op2 (Compare Eq Binary) (col 1 3) (col 0 0) ∷ []
+terms = op2 (Compare Eq Binary) (col 1 3) (col 0 0) ∷ op2 (Compare Eq Binary) (col 1 2) (col 0 1) ∷ op2 (Compare Ge Binary) (col 1 5) (col 0 2) ∷ []
 
 abbrev pub project : List Term
 project = col 1 0 ∷ col 1 2 ∷ col 1 3 ∷ col 1 4 ∷ col 1 5 ∷ col 1 6 ∷ []
@@ -118,11 +118,11 @@ module _ (schema : Schema) (at tree : ℕ) (h : Stands schema (request tree) at)
       )
 
   matches : matching lower (outermost schema) (level_one (codes "TRADE_REQUEST") at columns) core (after 6 binary)
-      ≡ Ok (record { steps = Inner tree ∷ []; filter = terms }, after 9 nothing)
+      ≡ Ok (record { steps = Inner tree ∷ []; filter = terms }, after 17 nothing)
   unfolding lowering
-  matches = rw (found, column_is schema at (request tree) found (codes "TRADE_REQUEST") columns [] false true (codes "TR_S_SYMB") 2 (text (codes "TR_S_SYMB")) refl refl, found)
+  matches = rw (found, column_is schema at (request tree) found (codes "TRADE_REQUEST") columns [] false true (codes "TR_S_SYMB") 2 (text (codes "TR_S_SYMB")) refl refl, found, column_is schema at (request tree) found (codes "TRADE_REQUEST") columns [] false true (codes "TR_TT_ID") 1 (text (codes "TR_TT_ID")) refl refl, found, column_is schema at (request tree) found (codes "TRADE_REQUEST") columns [] false true (codes "TR_BID_PRICE") 4 (whole (codes "TR_BID_PRICE")) refl refl, found)
 
-  sorted : sorts lower (inside schema (level_one (codes "TRADE_REQUEST") at columns) false) columns by (after 9 nothing) ≡ Ok ((draft tree).order, after 10 nothing)
+  sorted : sorts lower (inside schema (level_one (codes "TRADE_REQUEST") at columns) false) columns by (after 17 nothing) ≡ Ok ((draft tree).order, after 18 nothing)
   unfolding lowering
   sorted =
       rw (column_is schema at (request tree) found (codes "TRADE_REQUEST") columns [] false true (codes "TR_T_ID") 0 (whole (codes "TR_T_ID")) refl refl)
@@ -131,7 +131,7 @@ module _ (schema : Schema) (at tree : ℕ) (h : Stands schema (request tree) at)
   unfolding everything
   meaning_is = query_is schema select core source (codes "TRADE_REQUEST") paging _ refl refl refl refl refl refl
       (named_is schema core source (codes "TRADE_REQUEST") at h.named refl refl refl refl columns (after 6 binary)
-      (record { steps = Inner tree ∷ []; filter = terms }) (after 9 nothing) shows matches by _ (after 10 nothing) _ refl refl sorted)
+      (record { steps = Inner tree ∷ []; filter = terms }) (after 17 nothing) shows matches by _ (after 18 nothing) _ refl refl sorted)
 
   pub understood_as : (compiled schema statement ≡ Ok (meant (read statement) [] (Select (record { lets = []; body = selection tree terms project order paging }) names))) ⊎ (compiled schema statement ≡ Err Mismatch)
   unfolding everything

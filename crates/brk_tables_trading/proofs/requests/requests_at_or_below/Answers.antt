@@ -1,0 +1,25 @@
+use Rattle.std.proofs.Common.{[], ◌∷◌, filter}
+use Rattle.std.specs.Prelude.{◌&&◌, bytes_eq, nat_le}
+use Rattle.sqlite_value.specs.declared.value.Value.TheVariants.{Text}
+use Rattle.sqlite.specs.Held.{state}
+use Rattle.brk_money.specs.Kinds.{same_type, type_code}
+use Rattle.brk_model.specs.Tables.{RequestRow}
+use Rattle.brk_rows.proofs.Answer.{look_all}
+use Rattle.brk_tables_form.specs.Cells.{nat, request_cells}
+use Rattle.brk_tables_form.specs.Desk.{desk}
+use Rattle.brk_changes.specs.Rows.{request_row_of}
+use Rattle.brk_tables_trading.proofs.Back.{request_back, request_is_back}
+use Rattle.brk_tables_trading.proofs.RequestsBelow
+use Rattle.brk_tables_trading.proofs.RequestsBelow.{plain}
+use Rattle.brk_tables_trading.proofs.Tells.{tells_requests_below}
+use Rattle.brk_tables_trading.proofs.requests.requests_at_or_below.Goals as goal
+
+pub select-requires : goal.select-requires
+select-requires g c = record { plain = plain }
+
+pub returns-clause-step : goal.returns-clause-step
+returns-clause-step g c =
+    let old = state g.S.Store c.args.tx.now.conn.now in
+    let new = state g.S.Store c.select.new.tx.conn.now in
+    look_all desk request_cells request_back request_is_back request_row_of RequestsBelow.statement (Text c.args.symbol.now ∷ Text (type_code c.args.kind) ∷ nat c.args.price ∷ []) old new c.in_ok-rows.rows (λ rows. rows.items) _ c.deref.ensures.value (rw (c.text_value.ensures, c.as_str.ensures, c.type_value.ensures, c.price_value.ensures) at c.in_ok-rows.ensures.step)
+    (λ all. all.items) c.all_rows.result c.all_rows.ensures.value (λ t. filter (λ (r : RequestRow). bytes_eq r.symbol c.args.symbol.now && (same_type r.kind c.args.kind && nat_le r.bid c.args.price)) t.requests) (tells_requests_below old new c.args.symbol.now c.args.kind c.args.price _)
