@@ -24,8 +24,9 @@ use Rattle.brk_changes.specs.Rows.{request_row_of}
 use Rattle.brk_changes.specs.declared.request_row.RequestRow as request
 use Rattle.brk_plans.specs.declared.plan.Plan.{Plan}
 use Rattle.brk_plans.specs.declared.quote.Quote.{Quote}
+use Rattle.brk_plans.specs.declared.span.Span.{Span}
 use Rattle.brk_trade_laws.specs.Books.{IsBooks}
-use Rattle.brk_trade_laws.specs.TradePlans.{AreQuotes, IsQuote, IsReadForFeed}
+use Rattle.brk_trade_laws.specs.TradePlans.{AreQuotes, IsQuote, IsReadForFeed, Spans}
 use Rattle.brk_trade_laws.specs.TradeReads.{last_trade_in, requests_of}
 use Rattle.brk_trade_laws.proofs.FeedPlanning.{feed_plan_does, feed_refused}
 use Rattle.brk_trade_laws.proofs.Quotes.{quoted_before, not_listed, quote_read, read_quote}
@@ -42,22 +43,21 @@ abbrev pub Known : (all ticks : List Tick) → List Held → Option ℕ → Tabl
 Known all ticks quotes last t = (last ≡ t.last) × AreQuotes t all ticks quotes
 
 -- what the selections of a tick's symbol brought, merged, is its quote
-pub selected_quote : (t : Tables) (tick : Tick) (ticks : List Tick) (last : LastTrade) (losses sells buys : List request.RequestRow) (quote : Quote)
+pub selected_quote : (t : Tables) (tick : Tick) (ticks : List Tick) (span : Span) (last : LastTrade) (losses sells buys : List request.RequestRow) (quote : Quote) → span ≡ span_of tick ticks
     → Some (last_trade_of last) ≡ last_trade_in t tick.symbol
-    → map request_row_of losses ≡ stop_losses t tick.symbol (span_of tick ticks)
-    → map request_row_of sells ≡ limit_sells t tick.symbol (span_of tick ticks)
-    → map request_row_of buys ≡ limit_buys t tick.symbol (span_of tick ticks)
+    → map request_row_of losses ≡ stop_losses t tick.symbol span
+    → map request_row_of sells ≡ limit_sells t tick.symbol span
+    → map request_row_of buys ≡ limit_buys t tick.symbol span
     → quote.last ≡ last → IsPermutation ((losses ++ sells) ++ buys) quote.requests.items → IsNonDecreasingBy (λ (r : request.RequestRow). r.trade) quote.requests.items
     → IsQuoteOf ticks tick.symbol (Some quote) t
-selected_quote t tick ticks last losses sells buys quote l e f g same p o =
-    let span = span_of tick ticks in
+selected_quote t tick ticks span last losses sells buys quote is l e f g same p o =
     let listed : Some (last_trade_of quote.last) ≡ last_trade_in t tick.symbol = ap (λ x. Some (last_trade_of x)) same ∙ l in
     let joined : map request_row_of ((losses ++ sells) ++ buys) ≡ (stop_losses t tick.symbol span ++ limit_sells t tick.symbol span) ++ limit_buys t tick.symbol span =
     map-append request_row_of (losses ++ sells) buys ∙ ap (λ xs. xs ++ map request_row_of buys) (map-append request_row_of losses sells) ∙ (λ i. (e i ++ f i) ++ g i) in
     let moved : IsPermutation ((stop_losses t tick.symbol span ++ limit_sells t tick.symbol span) ++ limit_buys t tick.symbol span) (map request_row_of quote.requests.items) =
     subst (λ xs. IsPermutation xs (map request_row_of quote.requests.items)) joined (IsPermutation-map request_row_of ((losses ++ sells) ++ buys) quote.requests.items p) in (
       listed,
-      read_quote t ticks tick.symbol span (held_of quote) (sym listed) (span_spans tick ticks)
+      read_quote t ticks tick.symbol span (held_of quote) (sym listed) (subst (λ s. Spans s tick.symbol ticks) (sym is) (span_spans tick ticks))
           (IsPermutation-trans (filter (may span) (requests_of t tick.symbol)) ((stop_losses t tick.symbol span ++ limit_sells t tick.symbol span) ++ limit_buys t tick.symbol span)
           (map request_row_of quote.requests.items) (selected t tick.symbol span) moved) o,
     )

@@ -1,5 +1,5 @@
 -- Reads of a store one after another.
-use Rattle.std.proofs.Common.{◌∙◌, Ok}
+use Rattle.std.proofs.Common.{◌∙◌, Err, Ok}
 use Rattle.sqlite_trees.specs.declared.store.Store.{Ghosts}
 use Rattle.sqlite.specs.Held.{Held, state}
 use Rattle.sqlite.specs.State.{State, Survives}
@@ -24,6 +24,19 @@ module _ {S : Type 0} (g : Ghosts S) where
         record {
           told = λ clean t holds. tell t (first.told (before clean) t holds) (second.told clean t (first.kept t holds));
           opened = λ clean. first.opened (before clean);
+          kept = λ t holds. second.kept t (first.kept t holds);
+          same = λ clean o. let s = second.same clean o in same_then (state g old) (state g mid) (state g end) (first.same (before clean) s.was_open) s;
+          survives = none_then (state g old) (state g mid) (state g end) (λ _. ⊥) first.survives second.survives;
+        }
+
+    -- where what comes after two reads fails, they changed nothing
+    pub read_failed : {V W X E F H : Type 0} (v : V) (w : W) (e : H) (P : V → Tables → Type 0) (Q : W → Tables → Type 0) (R : X → Tables → Type 0)
+        → IsRead {E = E} g old mid (Ok v) P → IsRead {E = F} g mid end (Ok w) Q → IsRead {E = H} g old end (Err e) R
+    read_failed v w e P Q R first second =
+        let before = clean_before (state g mid) (state g end) (λ _. ⊥) second.survives in
+        record {
+          told = λ clean. tt;
+          opened = λ clean. tt;
           kept = λ t holds. second.kept t (first.kept t holds);
           same = λ clean o. let s = second.same clean o in same_then (state g old) (state g mid) (state g end) (first.same (before clean) s.was_open) s;
           survives = none_then (state g old) (state g mid) (state g end) (λ _. ⊥) first.survives second.survives;

@@ -4,7 +4,6 @@ use Rattle.brk_model.specs.Tables.{Tables}
 use Rattle.brk_ref.specs.Records.{last_trade_of}
 use Rattle.brk_ref.specs.declared.last_trade.LastTrade.{LastTrade}
 use Rattle.brk_changes.specs.Rows.{request_row_of}
-use Rattle.brk_plans.specs.Feed.{span_of}
 use Rattle.brk_plans.specs.declared.quote.Quote.{Quote}
 use Rattle.brk_trade_laws.specs.TradeReads.{last_trade_in}
 use Rattle.brk_trade_laws.proofs.Waiting.{limit_buys, limit_sells, stop_losses}
@@ -25,23 +24,23 @@ returns-clause-read g c =
     let tick = c.args.tick.now in
     let symbol = tick.symbol in
     let ticks = c.args.ticks.now in
+    let span = c.span_of-span.result in
     let last = c.in-Some.last in
     let losses = c.in_ok-losses.losses in
     let sells = c.in_ok-sells.sells in
     let buys = c.in_ok-buys.buys in
     let quote = c.in_ok-quote.quote in
     let found : Tables → Type 0 = λ t. Some (last_trade_of last) ≡ last_trade_in t symbol in
-    let lost : Tables → Type 0 = λ t. map request_row_of losses.items ≡ stop_losses t symbol (span_of tick ticks) in
-    let sold : Tables → Type 0 = λ t. map request_row_of sells.items ≡ limit_sells t symbol (span_of tick ticks) in
-    let bought : Tables → Type 0 = λ t. map request_row_of buys.items ≡ limit_buys t symbol (span_of tick ticks) in
+    let lost : Tables → Type 0 = λ t. map request_row_of losses.items ≡ stop_losses t symbol span in
+    let sold : Tables → Type 0 = λ t. map request_row_of sells.items ≡ limit_sells t symbol span in
     let one =
     read_both g.S.Store c.args.store.now c.last_trade.new.self c.requests_at_or_above.new.self {X = Unit {0}} {H = Fault} (Some last) losses tt
-    (λ o (t : Tables). option_map last_trade_of o ≡ last_trade_in t symbol) (λ _. lost) (λ _ t. found t × lost t) (λ t e f. (e, f))
-    (rw c.in-Some.is at c.in_ok-last.ensures.read) (rw c.span_of-span.ensures at c.in_ok-losses.ensures.read) in
+    (λ o (t : Tables). option_map last_trade_of o ≡ last_trade_in t symbol) (λ all (t : Tables). map request_row_of all.items ≡ stop_losses t symbol span) (λ _ t. found t × lost t) (λ t e f. (e, f))
+    (rw c.in-Some.is at c.in_ok-last.ensures.read) c.in_ok-losses.ensures.read in
     let two =
     read_both g.S.Store c.args.store.now c.requests_at_or_above.new.self c.requests_at_or_below.new.self {X = Unit {0}} {H = Fault} tt sells tt
-    (λ _ t. found t × lost t) (λ _. sold) (λ _ t. (found t × lost t) × sold t) (λ t e f. (e, f)) one (rw c.span_of-span.ensures at c.in_ok-sells.ensures.read) in
+    (λ _ t. found t × lost t) (λ all (t : Tables). map request_row_of all.items ≡ limit_sells t symbol span) (λ _ t. (found t × lost t) × sold t) (λ t e f. (e, f)) one c.in_ok-sells.ensures.read in
     read_both g.S.Store c.args.store.now c.requests_at_or_below.new.self c.requests_at_or_above-2.new.self {X = Option Quote} {H = Fault} tt buys (Some quote)
-    (λ _ t. (found t × lost t) × sold t) (λ _. bought) (IsQuoteOf ticks symbol)
-    (λ t e f. selected_quote t tick ticks last losses.items sells.items buys.items quote e.0.0 e.0.1 e.1 f c.in_ok-quote.ensures.last c.in_ok-quote.ensures.requests c.in_ok-quote.ensures.order)
-    two (rw c.span_of-span.ensures at c.in_ok-buys.ensures.read)
+    (λ _ t. (found t × lost t) × sold t) (λ all (t : Tables). map request_row_of all.items ≡ limit_buys t symbol span) (IsQuoteOf ticks symbol)
+    (λ t e f. selected_quote t tick ticks span last losses.items sells.items buys.items quote c.span_of-span.ensures e.0.0 e.0.1 e.1 f c.in_ok-quote.ensures.last c.in_ok-quote.ensures.requests c.in_ok-quote.ensures.order)
+    two c.in_ok-buys.ensures.read

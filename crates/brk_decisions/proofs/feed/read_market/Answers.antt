@@ -1,5 +1,6 @@
 use Rattle.std.proofs.Common.{◌≡◌, ◌∙◌, ◌+◌, ◌<◌, ℕ, List, [], ◌∷◌, ◌++◌, Ok, Some, None, Option, ap, get_or, length, subst, sym, take}
 use Rattle.std.proofs.lemmas.List.{take_all, take_more}
+use Rattle.std.proofs.lemmas.Result.{err_from_is_err_and}
 use Rattle.brk_money.specs.declared.fault.Fault.{Fault}
 use Rattle.brk_model.specs.Tables.{Tables}
 use Rattle.brk_orders.specs.declared.tick.Tick.{Tick}
@@ -10,7 +11,7 @@ use Rattle.brk_trade_laws.proofs.Quotes.{no_quotes}
 use Rattle.brk_store.specs.Holds.{IsRead}
 use Rattle.brk_decisions.proofs.Feeds.{IsQuoteOf, Known, one_quoted, one_not_listed, one_read}
 use Rattle.brk_store.proofs.Retelling.{retold}
-use Rattle.brk_decisions.proofs.Looking.{read_both}
+use Rattle.brk_decisions.proofs.Looking.{read_both, read_failed}
 use Rattle.brk_decisions.proofs.feed.read_market.Goals as goal
 use Rattle.brk_decisions.proofs.feed.read_market.Goals.{then-has_no_quote+in_ok-quote+in-Some+in_ok-push, then-has_no_quote+in_ok-quote+in_default, else-has_no_quote}
 
@@ -66,3 +67,13 @@ returns-clause-read g c =
     (λ _. Known ticks (take i ticks) (held quotes.items) last) (λ market. Known ticks ticks (held market.1.items) market.0)
     (λ t k. subst (λ us. Known ticks us (held quotes.items) last t) (take_all i ticks c.loop-tick-test.false) k)
     c.loop-tick.invariant
+
+pub returns-in_err-push-clause-read : goal.returns-in_err-push-clause-read
+returns-in_err-push-clause-read g c =
+    let ticks = c.args.ticks.now in
+    let tick = c.tick-item.result in
+    let last = c.in_ok-last.last in
+    let p = err_from_is_err_and c.from_residual-in_err-push.result c.from_residual-in_err-push.ensures.1 in
+    rw (p.1)
+    (read_failed g.S.Store c.args.store.now c.loop-tick.store c.quote_of.new.store tt c.in_ok-quote.field-0 p.0
+    (λ _. Known ticks (take c.loop-tick.tick-index ticks) (held c.loop-tick.quotes.items) last) (IsQuoteOf ticks tick.symbol) _ c.loop-tick.invariant c.in_ok-quote.ensures.read)
