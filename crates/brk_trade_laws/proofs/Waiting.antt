@@ -1,9 +1,9 @@
 -- The requests that the ticks of a feed may trigger: a selection for each type that waits, merged by rising trade, is all of them.
-use Rattle.std.proofs.Common.{◌≡◌, ◌≤◌, ◌<◌, ℕ, ◌+◌, ◌==◌, eqb, Bool, true, false, not, cond, List, [], ◌∷◌, ◌++◌, refl, sym, ◌∙◌, ap, subst, map, filter, arith, Some, None}
-use Rattle.std.specs.Prelude.{◌&&◌, ◌||◌, fold, nat_le, nat_lt, bytes_eq}
+use Rattle.std.proofs.Common.{◌≡◌, ◌≤◌, ◌<◌, ℕ, ◌+◌, ◌==◌, Bool, true, false, not, cond, List, [], ◌∷◌, ◌++◌, refl, sym, ◌∙◌, ap, subst, map, filter, arith}
+use Rattle.std.specs.Prelude.{◌&&◌, fold, nat_le, nat_lt, bytes_eq}
 use Rattle.std.specs.Bool.{Decides}
 use Rattle.std.specs.List.{AllByRecursion}
-use Rattle.std.specs.List.Sorted.{IsNonDecreasingBy, IsPermutation}
+use Rattle.std.specs.List.Sorted.{IsPermutation}
 use Rattle.std.proofs.lemmas.Bool.{and_from, and_parts, eq-eqb, eqb-true}
 use Rattle.std.proofs.lemmas.Bool.Decides.{nat_tests}
 use Rattle.std.proofs.lemmas.List.Sorted.{IsPermutation-append, IsPermutation-filter_both, IsPermutation-refl, IsPermutation-trans}
@@ -16,7 +16,6 @@ use Rattle.brk_money.specs.declared.trade_type.TradeType.TheVariants.{MarketBuy,
 use Rattle.brk_model.specs.Base.{Base, has_status}
 use Rattle.brk_model.specs.Derived.{pending}
 use Rattle.brk_model.specs.Feed.{triggers}
-use Rattle.brk_model.specs.Names.{NumberedFrom}
 use Rattle.brk_model.specs.Records.{Account, Trade}
 use Rattle.brk_model.specs.Sheets.{sheets}
 use Rattle.brk_model.specs.Tables.{RequestRow, Tables, request_row}
@@ -28,7 +27,7 @@ use Rattle.brk_trade_laws.specs.TradePlans.{Spans, is_within, may_trigger}
 use Rattle.brk_trade_laws.specs.TradeReads.{requests_of}
 use Rattle.brk_trade_laws.proofs.LotReading.{IdsRise, numbered_rise, rise_filter}
 use Rattle.brk_trade_laws.proofs.Orders.{Ascends, Rises, one_order, permuted}
-use Rattle.brk_trade_laws.proofs.Same.{All-filter, All-map, All-of, filter-same}
+use Rattle.brk_trade_laws.proofs.Same.{All-filter, All-of, filter-same}
 use Rattle.brk_trade_laws.proofs.Ticks.{filter-filter}
 use Rattle.brk_trade_laws.proofs.TradeReading.{requests_in_order}
 
