@@ -300,14 +300,6 @@ all_moved P xs ys p h = from_places P ys (All-permutation P xs ys p (by_place P 
 pub clash_moved : (rs ss : List TradeRow) → IsPermutation rs ss → IsDistinct clash rs → IsDistinct clash ss
 clash_moved rs ss p d = IsDistinct-IsPermutation clash (λ r s. (λ i. numbers_back r.id s.id i || numbers_back r.stamp s.stamp i)) rs ss p d
 
-pub ascends_map : {X Y : Type 0} (n : Y → ℕ) (g : X → Y) (xs : List X) → Ascends (λ x. n (g x)) xs → Ascends n (map g xs)
-ascends_map n g [] a = tt
-ascends_map {X = X} n g (x ∷ xs) a = (mapped xs a.0, ascends_map n g xs a.1)
-  where
-    mapped : (ys : List X) → AllByRecursion (λ y. n (g x) ≤ n (g y)) ys → AllByRecursion (λ y. n (g x) ≤ n y) (map g ys)
-    mapped [] h = tt
-    mapped (y ∷ ys) h = (h.0, mapped ys h.1)
-
 -- the rows are those of the tables
 pub rows_moved : (rows now : List trade.TradeRow) (t : Tables) (done held : List (Bor trade.TradeRow)) → now ≡ rows → held ≡ done → t.trades ≡ map trade_row_of rows → IsPermutation (filter is_done (map trade_row_of now)) (map seen done) → IsPermutation (done_rows t) (map seen held)
 rows_moved rows now t done held e h u p =

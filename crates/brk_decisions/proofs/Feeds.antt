@@ -1,7 +1,7 @@
 -- What was read for a feed decides on it.
 use Rattle.std.proofs.Common.{◌≡◌, ◌≤◌, ◌∙◌, ℕ, Bool, true, false, not, List, Option, Result, Ok, Err, IfOk, ap, filter, map, refl, subst, sym}
 use Rattle.std.specs.Prelude.{IfSome, MatchResult, ◌∷◌, ◌++◌, [], None, Some, option_map}
-use Rattle.std.specs.List.{list_any}
+use Rattle.std.specs.List.{Contains, list_any}
 use Rattle.std.specs.List.Sorted.{IsNonDecreasingBy, IsPermutation}
 use Rattle.std.proofs.lemmas.List.Sorted.{IsPermutation-map, IsPermutation-trans}
 use Rattle.std.proofs.lemmas.List.{map-append}
@@ -26,17 +26,17 @@ use Rattle.brk_plans.specs.declared.plan.Plan.{Plan}
 use Rattle.brk_plans.specs.declared.quote.Quote.{Quote}
 use Rattle.brk_plans.specs.declared.span.Span.{Span}
 use Rattle.brk_trade_laws.specs.Books.{IsBooks}
-use Rattle.brk_trade_laws.specs.TradePlans.{AreQuotes, IsQuote, IsReadForFeed, Spans}
+use Rattle.brk_trade_laws.specs.TradePlans.{AreQuotes, IsQuote, IsReadForFeed}
 use Rattle.brk_trade_laws.specs.TradeReads.{last_trade_in, requests_of}
 use Rattle.brk_trade_laws.proofs.FeedPlanning.{feed_plan_does, feed_refused}
 use Rattle.brk_trade_laws.proofs.Quotes.{quoted_before, not_listed, quote_read, read_quote}
-use Rattle.brk_trade_laws.proofs.Waiting.{limit_buys, limit_sells, may, selected, span_spans, stop_losses}
+use Rattle.brk_trade_laws.proofs.Waiting.{limit_buys, limit_sells, may, selected, stop_losses}
 use Rattle.brk_trade_laws.proofs.Tested.{not_not}
 use Rattle.brk_decisions.specs.Decisions.{Decides}
 
--- by all ticks of a feed the quote of a symbol, where it has a last trade
-abbrev pub IsQuoteOf : List Tick → Text → Option Quote → Tables → Type 0
-IsQuoteOf all symbol quote t = (option_map (λ q. last_trade_of q.last) quote ≡ last_trade_in t symbol) × IfSome quote (λ q. IsQuote t all (held_of q))
+-- by all ticks of a feed the quote of one, where its symbol has a last trade
+abbrev pub IsQuoteOf : List Tick → Tick → Option Quote → Tables → Type 0
+IsQuoteOf all tick quote t = (option_map (λ q. last_trade_of q.last) quote ≡ last_trade_in t tick.symbol) × IfSome quote (λ q. IsQuote t tick all (held_of q))
 
 -- the last stamp, and by all ticks of a feed the quotes of the symbols of some
 abbrev pub Known : (all ticks : List Tick) → List Held → Option ℕ → Tables → Type 0
@@ -49,17 +49,18 @@ pub selected_quote : (t : Tables) (tick : Tick) (ticks : List Tick) (span : Span
     → map request_row_of sells ≡ limit_sells t tick.symbol span
     → map request_row_of buys ≡ limit_buys t tick.symbol span
     → quote.last ≡ last → IsPermutation ((losses ++ sells) ++ buys) quote.requests.items → IsNonDecreasingBy (λ (r : request.RequestRow). r.trade) quote.requests.items
-    → IsQuoteOf ticks tick.symbol (Some quote) t
+    → IsQuoteOf ticks tick (Some quote) t
 selected_quote t tick ticks span last losses sells buys quote is l e f g same p o =
     let listed : Some (last_trade_of quote.last) ≡ last_trade_in t tick.symbol = ap (λ x. Some (last_trade_of x)) same ∙ l in
     let joined : map request_row_of ((losses ++ sells) ++ buys) ≡ (stop_losses t tick.symbol span ++ limit_sells t tick.symbol span) ++ limit_buys t tick.symbol span =
     map-append request_row_of (losses ++ sells) buys ∙ ap (λ xs. xs ++ map request_row_of buys) (map-append request_row_of losses sells) ∙ (λ i. (e i ++ f i) ++ g i) in
     let moved : IsPermutation ((stop_losses t tick.symbol span ++ limit_sells t tick.symbol span) ++ limit_buys t tick.symbol span) (map request_row_of quote.requests.items) =
-    subst (λ xs. IsPermutation xs (map request_row_of quote.requests.items)) joined (IsPermutation-map request_row_of ((losses ++ sells) ++ buys) quote.requests.items p) in (
+    subst (λ xs. IsPermutation xs (map request_row_of quote.requests.items)) joined (IsPermutation-map request_row_of ((losses ++ sells) ++ buys) quote.requests.items p) in
+    let all : IsPermutation (filter (may span) (requests_of t tick.symbol)) (map request_row_of quote.requests.items) =
+    IsPermutation-trans (filter (may span) (requests_of t tick.symbol)) ((stop_losses t tick.symbol span ++ limit_sells t tick.symbol span) ++ limit_buys t tick.symbol span)
+    (map request_row_of quote.requests.items) (selected t tick.symbol span) moved in (
       listed,
-      read_quote t ticks tick.symbol span (held_of quote) (sym listed) (subst (λ s. Spans s tick.symbol ticks) (sym is) (span_spans tick ticks))
-          (IsPermutation-trans (filter (may span) (requests_of t tick.symbol)) ((stop_losses t tick.symbol span ++ limit_sells t tick.symbol span) ++ limit_buys t tick.symbol span)
-          (map request_row_of quote.requests.items) (selected t tick.symbol span) moved) o,
+      read_quote t ticks tick (held_of quote) (sym listed) (subst (λ s. IsPermutation (filter (may s) (requests_of t tick.symbol)) (map request_row_of quote.requests.items)) is all) o,
     )
 
 -- with each tick they are known of one tick more
@@ -67,12 +68,12 @@ module _ (all ticks : List Tick) (tick : Tick) (quotes : List Quote) (last : Opt
   pub one_quoted : lacks_quote (held quotes) tick ≡ false → (t : Tables) → Known all ticks (held quotes) last t → Known all (ticks ++ tick ∷ []) (held quotes) last t
   one_quoted e t k = (k.0, quoted_before t all ticks tick quotes k.1 (not_not (list_any (is_of tick.symbol) (held quotes)) e))
 
-  pub one_not_listed : (t : Tables) → Known all ticks (held quotes) last t → IsQuoteOf all tick.symbol None t → Known all (ticks ++ tick ∷ []) (held quotes) last t
+  pub one_not_listed : (t : Tables) → Known all ticks (held quotes) last t → IsQuoteOf all tick None t → Known all (ticks ++ tick ∷ []) (held quotes) last t
   one_not_listed t k l = (k.0, not_listed t all ticks tick quotes k.1 (sym l.0))
 
-  pub one_read : (quote : Quote) → lacks_quote (held quotes) tick ≡ true → (t : Tables) → Known all ticks (held quotes) last t → IsQuoteOf all tick.symbol (Some quote) t
+  pub one_read : (quote : Quote) → Contains all tick → lacks_quote (held quotes) tick ≡ true → (t : Tables) → Known all ticks (held quotes) last t → IsQuoteOf all tick (Some quote) t
       → Known all (ticks ++ tick ∷ []) (held (quotes ++ quote ∷ [])) last t
-  one_read quote e t k l = (k.0, quote_read t all ticks tick quotes quote k.1 (is_false (list_any (is_of tick.symbol) (held quotes)) e) (sym l.0) l.1)
+  one_read quote m e t k l = (k.0, quote_read t all ticks tick quotes quote k.1 (is_false (list_any (is_of tick.symbol) (held quotes)) e) m l.1)
     where
       is_false : (b : Bool) → not b ≡ true → b ≡ false
       is_false true e = absurd (cc)

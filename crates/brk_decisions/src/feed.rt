@@ -28,7 +28,7 @@ fn quote_of<S: Alter>(
 ) -> Result<Option<Quote>, Fault>
     ensures read { IsRead S.Store store.old store.new result (λ quote t.
         (option_map (λ q. last_trade_of q.last) quote ≡ last_trade_in t tick.now.symbol)
-        × IfSome quote (λ q. IsQuote t ticks.now (held_of q))) }
+        × IfSome quote (λ q. IsQuote t tick.now ticks.now (held_of q))) }
     ensures fault { IfErr result MayFail }
 {
     let Some(last) = store.last_trade(&tick.symbol)? else {

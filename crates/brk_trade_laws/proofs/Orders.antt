@@ -10,7 +10,7 @@ use Rattle.std.proofs.lemmas.List.Sums.{sum_by-cons}
 use Rattle.std.proofs.lemmas.List.Sorted.{sum_by-IsPermutation}
 use Rattle.brk_model.specs.Lists.{insert_by, sort_by}
 use Rattle.brk_trade_laws.proofs.Order.{NoneBefore, Sorted}
-use Rattle.brk_trade_laws.proofs.Same.{All-map}
+use Rattle.brk_trade_laws.proofs.Same.{All-map, All-mapped}
 
 -- ---- lists that hold the same
 
@@ -132,6 +132,10 @@ ascends {X = X} n (x ∷ xs) h = (all_from xs (λ k b. h 0 (suc k) x (omega arit
     all_from : (ys : List X) → ((k : ℕ) → k < length ys → n x ≤ n (get_or ys k x)) → AllByRecursion (λ y. n x ≤ n y) ys
     all_from [] g = tt
     all_from (y ∷ ys) g = (g 0 (omega arith), all_from ys (λ k b. g (suc k) (omega (arith, b))))
+
+pub ascends_map : {X Y : Type 0} (n : Y → ℕ) (f : X → Y) (xs : List X) → Ascends (λ x. n (f x)) xs → Ascends n (map f xs)
+ascends_map n f [] a = tt
+ascends_map n f (x ∷ xs) a = (All-mapped (λ y. n (f x) ≤ n y) f xs a.0, ascends_map n f xs a.1)
 
 pub sorted_by : {X : Type 0} (lt : X → X → Bool) → IsStrictWeakOrder lt → (xs : List X) → IsSortedBy lt xs → Sorted lt xs
 sorted_by lt o [] h = tt

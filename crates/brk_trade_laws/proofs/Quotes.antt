@@ -2,7 +2,7 @@
 use Rattle.std.proofs.Common.{◌≡◌, ◌≤◌, ℕ, Bool, true, false, List, [], ◌∷◌, ◌++◌, refl, sym, subst, ◌∙◌, ap, map, filter, Some, None}
 use Rattle.std.specs.Prelude.{◌||◌, find, is_some, bytes_eq}
 use Rattle.std.specs.Option.{option_map_or}
-use Rattle.std.specs.List.{AllByRecursion, list_any}
+use Rattle.std.specs.List.{AllByRecursion, Contains, list_any}
 use Rattle.std.specs.List.Sorted.{IsNonDecreasingBy, IsPermutation}
 use Rattle.brk_money.specs.Spelling.{Text}
 use Rattle.brk_model.specs.Base.{Base}
@@ -10,20 +10,20 @@ use Rattle.brk_model.specs.Sheets.{sheets}
 use Rattle.brk_model.specs.Tables.{Tables, LastTradeRow, RequestRow}
 use Rattle.brk_orders.specs.declared.tick.Tick.{Tick}
 use Rattle.brk_ref.specs.Records.{last_trade_of}
-use Rattle.brk_plans.specs.Feed.{Held, held, held_of, is_of}
+use Rattle.brk_plans.specs.Feed.{Held, held, held_of, is_of, span_of}
 use Rattle.brk_changes.specs.Rows.{request_row_of}
 use Rattle.brk_changes.specs.declared.request_row.RequestRow as request
 use Rattle.brk_plans.specs.declared.quote.Quote.{Quote}
 use Rattle.brk_plans.specs.declared.span.Span.{Span}
 use Rattle.brk_trade_laws.specs.Books.{IsBooks}
 use Rattle.brk_trade_laws.specs.TradeReads.{last_trade_in, requests_of, volume_in}
-use Rattle.brk_trade_laws.specs.TradePlans.{AreQuotes, IsQuote, IsQuoted, QuotesApart, Spans}
+use Rattle.brk_trade_laws.specs.TradePlans.{AreQuotes, IsQuote, IsQuoteOfOne, IsQuoted, QuotesApart}
 use Rattle.brk_trade_laws.proofs.Bools.{same_text, texts_back}
-use Rattle.brk_trade_laws.proofs.Same.{NonePass, All-append, All-map, All-mapped, any-none, filter-none, find-All, map-last}
+use Rattle.brk_trade_laws.proofs.Same.{NonePass, All-append, All-map, any-none, filter-none, find-All, map-last}
 use Rattle.brk_trade_laws.proofs.Places.{FoundAt, filter-one, find-at, some_of}
 use Rattle.brk_trade_laws.proofs.Reading.{some-is-any}
-use Rattle.brk_trade_laws.proofs.Orders.{Ascends, ascends}
-use Rattle.brk_trade_laws.proofs.Waiting.{in_order, may}
+use Rattle.brk_trade_laws.proofs.Orders.{ascends, ascends_map}
+use Rattle.brk_trade_laws.proofs.Waiting.{Spans, in_order, may, span_spans}
 
 -- ---- tests
 
@@ -52,19 +52,21 @@ pub record IsHeld (t : Tables) (ticks : List Tick) (quote : Held) : Type 0 where
   pub spans : Spans span quote.last.symbol ticks
   pub requests : map request_row_of quote.requests ≡ filter (may span) (requests_of t quote.last.symbol)
 
-ascends_map : {X Y : Type 0} (n : Y → ℕ) (f : X → Y) (xs : List X) → Ascends (λ x. n (f x)) xs → Ascends n (map f xs)
-ascends_map n f [] a = tt
-ascends_map n f (x ∷ xs) a = (All-mapped (λ y. n (f x) ≤ n y) f xs a.0, ascends_map n f xs a.1)
-
 -- a quote that was read of a base in order is held
-pub is_held : (base : Base) (ticks : List Tick) (quote : Held) → IsBooks base → IsQuote (sheets base) ticks quote → IsHeld (sheets base) ticks quote
-is_held base ticks quote books k = record {
-  last_trade = k.last_trade;
-  span = k.span;
-  spans = k.spans;
-  requests = in_order base quote.last.symbol k.span (map request_row_of quote.requests) books k.requests
-      (ascends_map (λ (r : RequestRow). r.trade) request_row_of quote.requests (ascends (λ (r : request.RequestRow). r.trade) quote.requests k.order));
-}
+pub is_held : (base : Base) (ticks : List Tick) (quote : Held) → IsBooks base → IsQuoteOfOne (sheets base) ticks quote → IsHeld (sheets base) ticks quote
+is_held base ticks quote books k =
+    let t = sheets base in
+    let is = k.is in
+    let span = span_of k.tick ticks in
+    let back = sym is.symbol in
+    record {
+      last_trade = ap (last_trade_in t) is.symbol ∙ is.last_trade;
+      span = span;
+      spans = subst (λ s. Spans span s ticks) back (span_spans k.tick ticks);
+      requests = in_order base k.tick.symbol span (map request_row_of quote.requests) books is.requests
+          (ascends_map (λ (r : RequestRow). r.trade) request_row_of quote.requests (ascends (λ (r : request.RequestRow). r.trade) quote.requests is.order))
+          ∙ ap (λ s. filter (may span) (requests_of t s)) back;
+    }
 
 -- the one quote of a symbol, and it is what stands in the tables of it
 pub record QuoteOf (t : Tables) (ticks : List Tick) (symbol : Text) (quotes : List Held) : Type 0 where
@@ -124,40 +126,33 @@ apart_last (q ∷ quotes) quote d h = (
   apart_last quotes quote d.1 h.1,
 )
 
--- what was read for a symbol is a quote
-pub read_quote : (t : Tables) (all : List Tick) (symbol : Text) (span : Span) (quote : Held) → last_trade_in t symbol ≡ Some (last_trade_of quote.last) → Spans span symbol all
-    → IsPermutation (filter (may span) (requests_of t symbol)) (map request_row_of quote.requests) → IsNonDecreasingBy (λ (r : request.RequestRow). r.trade) quote.requests → IsQuote t all quote
-read_quote t all symbol span quote l w p o =
+-- whose last trade was read
+listed : (t : Tables) (symbol : Text) (quote : Held) → last_trade_in t symbol ≡ Some (last_trade_of quote.last) → is_of symbol quote ≡ true
+listed t symbol quote l =
     let f : FoundAt LastTradeRow (λ row. bytes_eq row.symbol symbol) (last_trade_of quote.last) t.last_trades =
     find-at (λ row. bytes_eq row.symbol symbol) t.last_trades (last_trade_of quote.last) l in
-    let same : quote.last.symbol ≡ symbol = same_text quote.last.symbol symbol f.passes in
-    record {
-      last_trade = ap (last_trade_in t) same ∙ l;
-      span = span;
-      spans = subst (λ s. Spans span s all) (sym same) w;
-      requests = subst (λ s. IsPermutation (filter (may span) (requests_of t s)) (map request_row_of quote.requests)) (sym same) p;
-      order = o;
-    }
+    f.passes
+
+-- what was read for a tick is its quote
+pub read_quote : (t : Tables) (all : List Tick) (tick : Tick) (quote : Held) → last_trade_in t tick.symbol ≡ Some (last_trade_of quote.last)
+    → IsPermutation (filter (may (span_of tick all)) (requests_of t tick.symbol)) (map request_row_of quote.requests) → IsNonDecreasingBy (λ (r : request.RequestRow). r.trade) quote.requests
+    → IsQuote t tick all quote
+read_quote t all tick quote l p o = record { symbol = same_text quote.last.symbol tick.symbol (listed t tick.symbol quote l); last_trade = l; requests = p; order = o }
 
 -- a quote more, of a symbol that had none
 one_more : (t : Tables) (all ticks : List Tick) (tick : Tick) (quotes : List Held) (quote : Held) → AreQuotes t all ticks quotes → list_any (is_of tick.symbol) quotes ≡ false
-    → last_trade_in t tick.symbol ≡ Some (last_trade_of quote.last) → IsQuote t all quote
-    → AreQuotes t all (ticks ++ tick ∷ []) (quotes ++ quote ∷ [])
-one_more t all ticks tick quotes quote k e l r =
-    let f : FoundAt LastTradeRow (λ row. bytes_eq row.symbol tick.symbol) (last_trade_of quote.last) t.last_trades =
-    find-at (λ row. bytes_eq row.symbol tick.symbol) t.last_trades (last_trade_of quote.last) l in
-    let same : quote.last.symbol ≡ tick.symbol = same_text quote.last.symbol tick.symbol f.passes in
-    let none : NonePass (is_of quote.last.symbol) quotes = subst (λ s. NonePass (is_of s) quotes) (sym same) (any-none (is_of tick.symbol) quotes e) in
+    → Contains all tick → IsQuote t tick all quote → AreQuotes t all (ticks ++ tick ∷ []) (quotes ++ quote ∷ [])
+one_more t all ticks tick quotes quote k e m r =
+    let none : NonePass (is_of quote.last.symbol) quotes = subst (λ s. NonePass (is_of s) quotes) (sym r.symbol) (any-none (is_of tick.symbol) quotes e) in
     record {
-      read = All-append (IsQuote t all) quotes (quote ∷ []) k.read (r, tt);
+      read = All-append (IsQuoteOfOne t all) quotes (quote ∷ []) k.read (record { tick = tick; among = m; is = r }, tt);
       apart = apart_last quotes quote k.apart none;
       quoted = All-append (IsQuoted t (quotes ++ quote ∷ [])) ticks (tick ∷ [])
           (All-map ticks (λ u h s. any-last (is_of u.symbol) quotes quote (h s)) k.quoted)
-          ((λ s. any-at_last (is_of tick.symbol) quotes quote f.passes), tt);
+          ((λ s. any-at_last (is_of tick.symbol) quotes quote (listed t tick.symbol quote r.last_trade)), tt);
     }
 
 pub quote_read : (t : Tables) (all ticks : List Tick) (tick : Tick) (quotes : List Quote) (quote : Quote) → AreQuotes t all ticks (held quotes)
-    → list_any (is_of tick.symbol) (held quotes) ≡ false → last_trade_in t tick.symbol ≡ Some (last_trade_of quote.last)
-    → IsQuote t all (held_of quote) → AreQuotes t all (ticks ++ tick ∷ []) (held (quotes ++ quote ∷ []))
-quote_read t all ticks tick quotes quote k e l r =
-    subst (AreQuotes t all (ticks ++ tick ∷ [])) (sym (map-last held_of quotes quote)) (one_more t all ticks tick (held quotes) (held_of quote) k e l r)
+    → list_any (is_of tick.symbol) (held quotes) ≡ false → Contains all tick → IsQuote t tick all (held_of quote) → AreQuotes t all (ticks ++ tick ∷ []) (held (quotes ++ quote ∷ []))
+quote_read t all ticks tick quotes quote k e m r =
+    subst (AreQuotes t all (ticks ++ tick ∷ [])) (sym (map-last held_of quotes quote)) (one_more t all ticks tick (held quotes) (held_of quote) k e m r)

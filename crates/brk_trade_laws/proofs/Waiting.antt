@@ -23,7 +23,7 @@ use Rattle.brk_orders.specs.declared.tick.Tick.{Tick}
 use Rattle.brk_plans.specs.Feed.{span_of, widened, widened_by}
 use Rattle.brk_plans.specs.declared.span.Span.{Span}
 use Rattle.brk_trade_laws.specs.Books.{IsBooks}
-use Rattle.brk_trade_laws.specs.TradePlans.{Spans, is_within, may_trigger}
+use Rattle.brk_trade_laws.specs.TradePlans.{may_trigger}
 use Rattle.brk_trade_laws.specs.TradeReads.{requests_of}
 use Rattle.brk_trade_laws.proofs.LotReading.{IdsRise, numbered_rise, rise_filter}
 use Rattle.brk_trade_laws.proofs.Orders.{Ascends, Rises, one_order, permuted}
@@ -32,6 +32,14 @@ use Rattle.brk_trade_laws.proofs.Ticks.{filter-filter}
 use Rattle.brk_trade_laws.proofs.TradeReading.{requests_in_order}
 
 -- ---- the prices of a symbol's ticks lie within their span
+
+-- a price lies within a span, both its ends included
+abbrev pub is_within : Span → ℕ → Type 0
+is_within span price = (span.lowest ≤ price) × (price ≤ span.highest)
+
+-- the prices of a symbol's ticks lie within a span
+abbrev pub Spans : Span → Text → List Tick → Type 0
+Spans span symbol ticks = AllByRecursion (λ tick. tick.symbol ≡ symbol → is_within span tick.price) ticks
 
 -- one span lies within another
 record Wider (inner outer : Span) : Type 0 where

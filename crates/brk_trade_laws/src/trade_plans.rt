@@ -1,7 +1,7 @@
 //! What is planned of cancels and feeds from what was read is what the definitions say.
 
 ghost use Rattle.std.specs.Prelude.{◌≡◌, ◌∷◌, ◌++◌, [], true, false, ℕ, Err, List, None, Option, Some};
-ghost use Rattle.std.specs.List.{list_any};
+ghost use Rattle.std.specs.List.{Contains, list_any};
 ghost use Rattle.brk_money.specs.declared.refusal.Refusal.{Refusal};
 ghost use Rattle.brk_money.specs.declared.status.Status.{Status};
 ghost use Rattle.brk_lots.specs.Sources.{Exactly};
@@ -14,7 +14,6 @@ ghost use Rattle.brk_model.specs.Tables.{Tables};
 ghost use Rattle.brk_model.specs.Tests.{first_refusal, refusal_of};
 ghost use Rattle.brk_orders.specs.Records.{ticks_of};
 ghost use Rattle.brk_orders.specs.declared.tick.Tick.{Tick};
-ghost use Rattle.brk_ref.specs.Records.{last_trade_of};
 ghost use Rattle.brk_plans.specs.Cancel.{IsCancel, cancel_tests};
 ghost use Rattle.brk_plans.specs.Feed.{Held, IsFeed, feed_tests, held, held_of, is_of};
 ghost use Rattle.brk_plans.specs.Reference.{clock_test};
@@ -57,8 +56,8 @@ pub fn quotes_are_read_tick_by_tick()
     ensures not_listed { (t : Tables) (all ticks : List Tick) (tick : Tick) (quotes : List Quote) → AreQuotes t all ticks (held quotes)
         → last_trade_in t tick.symbol ≡ None → AreQuotes t all (ticks ++ tick ∷ []) (held quotes) }
     ensures read { (t : Tables) (all ticks : List Tick) (tick : Tick) (quotes : List Quote) (quote : Quote) → AreQuotes t all ticks (held quotes)
-        → list_any (is_of tick.symbol) (held quotes) ≡ false → last_trade_in t tick.symbol ≡ Some (last_trade_of quote.last)
-        → IsQuote t all (held_of quote) → AreQuotes t all (ticks ++ tick ∷ []) (held (quotes ++ quote ∷ [])) }
+        → list_any (is_of tick.symbol) (held quotes) ≡ false → Contains all tick → IsQuote t tick all (held_of quote)
+        → AreQuotes t all (ticks ++ tick ∷ []) (held (quotes ++ quote ∷ [])) }
 {}
 
 /// A result is refused by what was found for its trade as by the base, whatever stamp its values are taken at; the plan of one that is not

@@ -15,7 +15,7 @@ use Rattle.brk_decisions.proofs.feed.quote_of.Goals as goal
 pub returns-in_default-clause-read : goal.returns-in_default-clause-read
 returns-in_default-clause-read g c =
     retold g.S.Store c.args.store.now c.last_trade.new.self {V = Option LastTrade} {X = Option Quote} None None
-    (λ o (t : Tables). option_map last_trade_of o ≡ last_trade_in t c.args.tick.now.symbol) (IsQuoteOf c.args.ticks.now c.args.tick.now.symbol)
+    (λ o (t : Tables). option_map last_trade_of o ≡ last_trade_in t c.args.tick.now.symbol) (IsQuoteOf c.args.ticks.now c.args.tick.now)
     (λ t e. (e, tt))
     (rw c.in_default.is at c.in_ok-last.ensures.read)
 
@@ -41,6 +41,6 @@ returns-clause-read g c =
     read_both g.S.Store c.args.store.now c.requests_at_or_above.new.self c.requests_at_or_below.new.self {X = Unit {0}} {H = Fault} tt sells tt
     (λ _ t. found t × lost t) (λ all (t : Tables). map request_row_of all.items ≡ limit_sells t symbol span) (λ _ t. (found t × lost t) × sold t) (λ t e f. (e, f)) one c.in_ok-sells.ensures.read in
     read_both g.S.Store c.args.store.now c.requests_at_or_below.new.self c.requests_at_or_above-2.new.self {X = Option Quote} {H = Fault} tt buys (Some quote)
-    (λ _ t. (found t × lost t) × sold t) (λ all (t : Tables). map request_row_of all.items ≡ limit_buys t symbol span) (IsQuoteOf ticks symbol)
+    (λ _ t. (found t × lost t) × sold t) (λ all (t : Tables). map request_row_of all.items ≡ limit_buys t symbol span) (IsQuoteOf ticks tick)
     (λ t e f. selected_quote t tick ticks span last losses.items sells.items buys.items quote c.span_of-span.ensures e.0.0 e.0.1 e.1 f c.in_ok-quote.ensures.last c.in_ok-quote.ensures.requests c.in_ok-quote.ensures.order)
     two c.in_ok-buys.ensures.read

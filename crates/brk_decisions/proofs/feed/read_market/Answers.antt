@@ -38,13 +38,13 @@ loop-tick-preserved g c =
       | then-has_no_quote+in_ok-quote+in-Some+in_ok-push w ↦
           rw (w.store-is, w.quotes-is, w.in_ok-push.ensures.items)
           (read_both g.S.Store c.args.store.now c.loop-tick.store w.quote_of.new.store {X = Unit {0}} {H = Fault} tt (Some w.in-Some.quote) tt
-          (λ _. Known ticks (take i ticks) (held before) last) (IsQuoteOf ticks tick.symbol) (λ _. Known ticks (take i ticks ++ tick ∷ []) (held (before ++ w.in-Some.quote ∷ [])) last)
-          (one_read ticks (take i ticks) tick before last w.in-Some.quote (lacks ∙ w.if-has_no_quote.true))
+          (λ _. Known ticks (take i ticks) (held before) last) (IsQuoteOf ticks tick) (λ _. Known ticks (take i ticks ++ tick ∷ []) (held (before ++ w.in-Some.quote ∷ [])) last)
+          (one_read ticks (take i ticks) tick before last w.in-Some.quote (i, c.loop-tick-test.true, sym c.tick-item.is) (lacks ∙ w.if-has_no_quote.true))
           c.loop-tick.invariant (rw w.in-Some.is at w.in_ok-quote.ensures.read))
       | then-has_no_quote+in_ok-quote+in_default w ↦
           rw (w.store-is, w.quotes-is)
           (read_both g.S.Store c.args.store.now c.loop-tick.store w.quote_of.new.store {W = Option Quote} {X = Unit {0}} {H = Fault} tt None tt
-          (λ _. Known ticks (take i ticks) (held before) last) (IsQuoteOf ticks tick.symbol) (λ _. Known ticks (take i ticks ++ tick ∷ []) (held before) last)
+          (λ _. Known ticks (take i ticks) (held before) last) (IsQuoteOf ticks tick) (λ _. Known ticks (take i ticks ++ tick ∷ []) (held before) last)
           (one_not_listed ticks (take i ticks) tick before last)
           c.loop-tick.invariant (rw w.in_default.is at w.in_ok-quote.ensures.read))
       | else-has_no_quote w ↦
@@ -76,4 +76,4 @@ returns-in_err-push-clause-read g c =
     let p = err_from_is_err_and c.from_residual-in_err-push.result c.from_residual-in_err-push.ensures.1 in
     rw (p.1)
     (read_failed g.S.Store c.args.store.now c.loop-tick.store c.quote_of.new.store tt c.in_ok-quote.field-0 p.0
-    (λ _. Known ticks (take c.loop-tick.tick-index ticks) (held c.loop-tick.quotes.items) last) (IsQuoteOf ticks tick.symbol) _ c.loop-tick.invariant c.in_ok-quote.ensures.read)
+    (λ _. Known ticks (take c.loop-tick.tick-index ticks) (held c.loop-tick.quotes.items) last) (IsQuoteOf ticks tick) _ c.loop-tick.invariant c.in_ok-quote.ensures.read)
