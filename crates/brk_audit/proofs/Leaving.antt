@@ -1,49 +1,29 @@
 -- The lots that completed trades leave, position by position, are those of the tables of their base.
-use Rattle.std.proofs.Common.{◌≡◌, ◌≢◌, ℕ, zero, suc, ◌+◌, ◌<◌, ◌≤◌, ◌==◌, ◌&&◌, Bool, true, false, cond, List, [], ◌∷◌, ◌++◌, refl, sym, ap, ◌∙◌, subst, map, filter, length, get_or, arith, inl, inr}
-use Rattle.std.specs.Prelude.{bytes_eq, ⊤, nat_lt}
-use Rattle.std.specs.Bool.{Decides}
-use Rattle.std.specs.List.{AllByRecursion, IsDistinct, list_any, sum_by}
-use Rattle.std.specs.List.Sorted.{IsPermutation}
-use Rattle.std.specs.Ordering.{int_eq}
-use Rattle.std.proofs.lemmas.Bool.{and_from, and_parts, eq-eqb, eqb-true, ltb-true}
-use Rattle.std.proofs.lemmas.Bool.Decides.{Decides-int_eq}
+use Rattle.std.proofs.Common.{◌≡◌, ℕ, ◌+◌, ◌==◌, ◌&&◌, Bool, true, false, cond, List, [], ◌∷◌, ◌++◌, refl, sym, ap, ◌∙◌, map, filter, arith, inl, inr}
+use Rattle.std.specs.Prelude.{bytes_eq}
+use Rattle.std.specs.List.{AllByRecursion, list_any, sum_by}
+use Rattle.std.proofs.lemmas.Bool.{and_from, and_parts, eq-eqb, eqb-true}
 use Rattle.std.proofs.lemmas.Slice.Eq.{bytes_eq-Decides}
-use Rattle.std.proofs.lemmas.List.Sorted.{list_any-IsPermutation}
-use Rattle.brk_money.specs.Kinds.{same_side}
-use Rattle.brk_money.specs.Spelling.{Text}
-use Rattle.brk_money.specs.declared.side.Side.{Side}
-use Rattle.brk_money.specs.declared.side.Side.TheVariants.{Buy, Sell}
-use Rattle.brk_model.specs.Records.{Trade}
-use Rattle.brk_model.specs.Base.{Base, completed, is_completed, moment_of}
-use Rattle.brk_model.specs.Derived.{deal_of, deals_in, of_account, of_position, shares_in}
+use Rattle.brk_model.specs.Base.{Base, completed}
+use Rattle.brk_model.specs.Derived.{deals_in, shares_in}
 use Rattle.brk_model.specs.Keys.{number, row_before}
-use Rattle.brk_model.specs.Lists.{sort_by, sort_by_key}
 use Rattle.brk_model.specs.Shares.{Deal, Share, lots, replay}
-use Rattle.brk_model.specs.Tables.{HoldingRow, Tables, TradeRow, holding_row}
+use Rattle.brk_model.specs.Tables.{HoldingRow, TradeRow}
 use Rattle.brk_model.specs.Sheets.{sheets}
-use Rattle.brk_model.specs.Adopted.{base_of, trade_of_row}
-use Rattle.brk_model.specs.Ways.{has_status_rows, trade_status}
-use Rattle.brk_model.specs.Form.{has_form}
 use Rattle.brk_lots.specs.declared.lot.Lot.{Lot}
-use Rattle.brk_lots.specs.Lots.{plain_lot, shares_of}
+use Rattle.brk_lots.specs.Lots.{plain_lot}
 use Rattle.brk_lots.proofs.Ends.{walk_of}
-use Rattle.brk_lots.proofs.Left.{same_is}
 use Rattle.brk_lots.proofs.Plain.{lots_walk}
-use Rattle.brk_trade_laws.specs.Books.{IsBooks, MomentsApart}
+use Rattle.brk_trade_laws.specs.Books.{IsBooks}
 use Rattle.brk_trade_laws.specs.TradeReads.{lots_in, position_in, row_lot}
-use Rattle.brk_trade_laws.proofs.Bools.{numbers_back}
-use Rattle.brk_trade_laws.proofs.LotOrder.{Follows, InOrder, held_in_order, position_read, shares_read, trades_held}
-use Rattle.brk_trade_laws.proofs.LotReading.{All-sort, IdsApart, IdsRise, all_pass, filter-map, holdings_in_order, is_left, numbered_rise, rise_apart, rise_filter}
-use Rattle.brk_trade_laws.proofs.Order.{Sorted, sorted_filter}
+use Rattle.brk_trade_laws.proofs.LotOrder.{position_read, shares_read}
+use Rattle.brk_trade_laws.proofs.LotReading.{All-sort, all_pass}
 use Rattle.brk_trade_laws.proofs.Places.{filter-all, filter-append}
-use Rattle.brk_trade_laws.proofs.Same.{All-filter, All-map, All-of, filter-none, filter-same}
-use Rattle.brk_adoption_laws.proofs.AdoptedBooks.{adopted_books}
-use Rattle.brk_adoption_laws.proofs.Climbs.{In, each_in}
-use Rattle.brk_audit.specs.Completed.{done_rows, is_done}
-use Rattle.brk_audit.specs.Positions.{Leave, clash, lot_row, nothing, place_before, position, row_deal, run_rows, same_place}
-use Rattle.brk_audit.proofs.Completed.{completed_rows, done_moments}
-use Rattle.brk_trade_laws.proofs.Orders.{Ascends, Rises, SameSums, one_order, permuted, sum_append, sum_both, sum_filter, sum_map, sum_same, sum_sort}
-use Rattle.brk_audit.proofs.Places.{AtOne, all_back, at_one, moment_order, one_place, same_self}
+use Rattle.brk_trade_laws.proofs.Same.{All-map, All-of, filter-none}
+use Rattle.brk_adoption_laws.proofs.Climbs.{In}
+use Rattle.brk_audit.specs.Positions.{Leave, lot_row, nothing, position, row_deal, run_rows, same_place}
+use Rattle.brk_trade_laws.proofs.Orders.{sum_append, sum_both, sum_filter, sum_same, sum_sort}
+use Rattle.brk_audit.proofs.Places.{all_back, at_one, one_place, same_self}
 
 -- ---- rows of lots at a trade's position
 

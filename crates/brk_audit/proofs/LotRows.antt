@@ -1,6 +1,6 @@
 -- The lots of a database's trades: what form and statuses give to a replay, and when its lots are those of the tables.
-use Rattle.std.proofs.Common.{◌≡◌, ◌≢◌, ℕ, zero, suc, ◌+◌, ◌<◌, ◌≤◌, ◌==◌, ◌&&◌, ◌||◌, not, Bool, true, false, cond, List, [], ◌∷◌, ◌++◌, refl, sym, ap, ◌∙◌, subst, map, filter, length, get_or, arith, inl, inr, Option, Some, None, Bor}
-use Rattle.std.specs.Prelude.{bytes_eq, ⊤, nat_lt, nat_le, IsSome}
+use Rattle.std.proofs.Common.{◌≡◌, ℕ, zero, suc, ◌<◌, ◌≤◌, ◌==◌, ◌&&◌, ◌||◌, not, Bool, true, false, cond, List, [], ◌∷◌, refl, sym, ap, ◌∙◌, subst, map, filter, length, get_or, arith, inl, inr, Option, Some, None, Bor}
+use Rattle.std.specs.Prelude.{bytes_eq, nat_lt, nat_le, IsSome}
 use Rattle.std.specs.Bool.{Decides}
 use Rattle.std.specs.List.{AllByRecursion, IsDistinct, list_any, sum_by}
 use Rattle.std.specs.List.Sorted.{IsPermutation}
@@ -11,16 +11,15 @@ use Rattle.std.proofs.lemmas.Bool.Decides.{Decides-int_eq}
 use Rattle.std.proofs.lemmas.Slice.Eq.{bytes_eq-Decides}
 use Rattle.std.proofs.lemmas.List.Sorted.{All-permutation, list_any-IsPermutation}
 use Rattle.std.proofs.lemmas.Map.Keys.{IsDistinct-IsPermutation}
-use Rattle.brk_money.specs.Kinds.{same_side, same_status, side_of}
+use Rattle.brk_money.specs.Kinds.{same_side, same_status}
 use Rattle.brk_money.specs.Spelling.{Text}
 use Rattle.brk_money.specs.declared.side.Side.{Side}
 use Rattle.brk_money.specs.declared.side.Side.TheVariants.{Buy, Sell}
 use Rattle.brk_money.specs.declared.status.Status.TheVariants.{Completed}
 use Rattle.brk_model.specs.Limits.{greatest_amount, greatest_charge}
 use Rattle.brk_model.specs.Records.{Trade}
-use Rattle.brk_model.specs.Base.{Base, completed, is_completed, moment_of, price_of}
-use Rattle.brk_model.specs.Derived.{deal_of, deals_in, of_account, of_position, shares_in}
-use Rattle.brk_model.specs.Lists.{is_zero, sort_by, sort_by_key}
+use Rattle.brk_model.specs.Base.{Base, completed, is_completed, moment_of}
+use Rattle.brk_model.specs.Derived.{deal_of, deals_in, of_position}
 use Rattle.brk_model.specs.Shares.{Deal}
 use Rattle.brk_model.specs.Tables.{HoldingRow, Tables, TradeRow, holding_row}
 use Rattle.brk_model.specs.Sheets.{sheets}
@@ -41,7 +40,7 @@ use Rattle.brk_trade_laws.proofs.Places.{filter-all}
 use Rattle.brk_trade_laws.proofs.Same.{NonePass, All-filter, All-map, All-of}
 use Rattle.brk_adoption_laws.proofs.AdoptedBooks.{adopted_books}
 use Rattle.brk_adoption_laws.proofs.Again.{both_all}
-use Rattle.brk_adoption_laws.proofs.Climbs.{In, each_in, list_all_true}
+use Rattle.brk_adoption_laws.proofs.Climbs.{In, list_all_true}
 use Rattle.brk_adoption_laws.proofs.Marks.{IsOf, Lasts, filtered, last_is_row, lasts, same_statuses}
 use Rattle.brk_adoption_laws.proofs.Members.{in_filter}
 use Rattle.brk_adoption_laws.proofs.Parts.{FormParts, form_parts, parts10}
@@ -49,8 +48,8 @@ use Rattle.brk_audit.specs.Completed.{done_rows, is_done}
 use Rattle.brk_audit.specs.Positions.{Leave, clash, place_before, row_deal, same_place}
 use Rattle.brk_audit.proofs.Completed.{completed_rows, done_moments, right_rows}
 use Rattle.brk_audit.proofs.Leaving.{any_in, at_any, at_place, leave_sums}
-use Rattle.brk_trade_laws.proofs.Orders.{Ascends, Rises, SameSums, one_order, permuted, sum_filter, sum_map, sum_same, sum_sort}
-use Rattle.brk_audit.proofs.Places.{AtOne, at_one, moment_order}
+use Rattle.brk_trade_laws.proofs.Orders.{Ascends, Rises, one_order, permuted, sum_filter, sum_map, sum_same, sum_sort}
+use Rattle.brk_audit.proofs.Places.{at_one, moment_order}
 use Rattle.brk_audit.proofs.Stretches.{seen}
 
 -- ---- completed trades have prices, and clash nowhere

@@ -1,6 +1,6 @@
 -- What completed trades did to lots, position by position, is the history of lots of their base.
-use Rattle.std.proofs.Common.{◌≡◌, ◌≢◌, ℕ, ◌+◌, ◌<◌, ◌==◌, ◌&&◌, Bool, true, false, cond, List, [], ◌∷◌, ◌++◌, refl, sym, ap, ◌∙◌, subst, map, filter, arith, inl, inr}
-use Rattle.std.specs.Prelude.{⊤, ◌↔◌, flat_map}
+use Rattle.std.proofs.Common.{◌≡◌, ℕ, ◌+◌, ◌==◌, ◌&&◌, Bool, true, false, cond, List, [], ◌∷◌, ◌++◌, refl, sym, ap, ◌∙◌, subst, map, filter, arith, inl, inr}
+use Rattle.std.specs.Prelude.{◌↔◌, flat_map}
 use Rattle.std.specs.Bool.{Decides}
 use Rattle.std.specs.List.{AllByRecursion, sum_by}
 use Rattle.std.specs.List.Sorted.{IsPermutation}
@@ -9,9 +9,9 @@ use Rattle.std.proofs.lemmas.Bool.{and_from, and_parts, cases_Bool, eq-eqb, eqb-
 use Rattle.std.proofs.lemmas.Bool.Decides.{Decides-int_eq}
 use Rattle.std.proofs.lemmas.List.Sums.{sum_by-cons}
 use Rattle.brk_model.specs.Records.{Trade}
-use Rattle.brk_model.specs.Base.{Base, completed, moment_of}
+use Rattle.brk_model.specs.Base.{Base, completed}
 use Rattle.brk_model.specs.Derived.{deal_of, deals_in}
-use Rattle.brk_model.specs.Keys.{KeyPart, by_key, key_before, row_before, holding_history_key}
+use Rattle.brk_model.specs.Keys.{KeyPart, by_key, row_before, holding_history_key}
 use Rattle.brk_model.specs.Shares.{Deal}
 use Rattle.brk_model.specs.Tables.{HoldingHistoryRow, Tables, TradeRow, lot_history, lot_rows, tables_of}
 use Rattle.brk_model.specs.Sheets.{sheets, sheets_of}
@@ -27,7 +27,7 @@ use Rattle.brk_trade_laws.proofs.Order.{Sorted, key_one_way, key_splits, sorted_
 use Rattle.brk_trade_laws.proofs.Same.{All-map, All-of}
 use Rattle.brk_adoption_laws.proofs.AdoptedBooks.{adopted_books}
 use Rattle.brk_adoption_laws.proofs.Climbs.{Climbs}
-use Rattle.brk_adoption_laws.proofs.Parts.{FormParts, form_parts, key_parts}
+use Rattle.brk_adoption_laws.proofs.Parts.{form_parts, key_parts}
 use Rattle.brk_audit.specs.Completed.{done_rows}
 use Rattle.brk_audit.specs.Positions.{Trace, moves, place_before, row_deal, same_place, untouched}
 use Rattle.brk_audit.proofs.Completed.{completed_rows}

@@ -1,5 +1,5 @@
 -- Completed trades by position, and the lots that they leave.
-use Rattle.std.specs.Prelude.{◌≡◌, ℕ, ◌&&◌, ◌||◌, ◌==◌, Bool, true, false, ⊤, List, [], ◌∷◌, ◌++◌, map, unwrap_or, bytes_eq}
+use Rattle.std.specs.Prelude.{◌≡◌, ◌&&◌, ◌||◌, ◌==◌, Bool, true, false, ⊤, List, [], ◌∷◌, ◌++◌, map, unwrap_or, bytes_eq}
 use Rattle.std.specs.List.{AllByRecursion}
 use Rattle.brk_money.specs.Kinds.{side_of}
 use Rattle.brk_model.specs.Keys.{KeyPart, number, word, row_before}

@@ -9,16 +9,14 @@ use Rattle.brk_lots.specs.Books.{lots_total}
 use Rattle.brk_lots.specs.Lots.{side_of_qty}
 use Rattle.brk_lots.specs.Position.{IsPosition}
 use Rattle.brk_lots.specs.declared.lot.Lot.{Lot}
-use Rattle.brk_money.specs.Kinds.{side_of}
 use Rattle.brk_money.specs.Spelling.{Text}
 use Rattle.brk_money.specs.declared.side.Side.TheVariants.{Buy, Sell}
-use Rattle.brk_model.specs.Base.{Base, account_with, completed, is_completed, moment_of, security_with}
-use Rattle.brk_model.specs.Derived.{balance_of, commissions_of, deal_of, of_broker, of_position, summary_of, trade_count_of}
+use Rattle.brk_model.specs.Base.{Base, account_with, completed, is_completed, security_with}
+use Rattle.brk_model.specs.Derived.{balance_of, commissions_of, of_broker, summary_of, trade_count_of}
 use Rattle.brk_model.specs.Keys.{account_key, broker_key, number, row_before, summary_key}
-use Rattle.brk_model.specs.Lists.{insert_by, is_zero, sort_by, sort_by_key, total_by}
+use Rattle.brk_model.specs.Lists.{insert_by, is_zero, sort_by, total_by}
 use Rattle.brk_model.specs.Names.{KnowsAccount, KnowsSecurity}
-use Rattle.brk_model.specs.Records.{Account, Broker, Trade}
-use Rattle.brk_model.specs.Shares.{signed}
+use Rattle.brk_model.specs.Records.{Account, Broker}
 use Rattle.brk_model.specs.Sheets.{sheets, sheets_of}
 use Rattle.brk_model.specs.Tables.{AccountRow, BrokerRow, HoldingRow, SummaryRow, account_row, broker_row, holding_row, summary_rows, tables_of, trade_row}
 use Rattle.brk_trade_laws.specs.Books.{DistinctAccounts, IsBooks}
@@ -34,7 +32,7 @@ use Rattle.brk_trade_laws.proofs.Same.{All-append, All-filter, All-map, All-mapp
 use Rattle.brk_trade_laws.proofs.SumReading.{broker_trades, cash_moves, length-map, sum-map, total-map}
 use Rattle.brk_trade_laws.proofs.Summaries.{all_summaries, reads_summary_row}
 use Rattle.brk_trade_laws.proofs.Volumes.{All-both}
-use Rattle.brk_trade_laws.proofs.Worth.{total-insert, total-sorted}
+use Rattle.brk_trade_laws.proofs.Worth.{total-sorted}
 
 -- ---- brokers
 

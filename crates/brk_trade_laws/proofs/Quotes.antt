@@ -1,5 +1,5 @@
 -- Quotes that were read, one after another, and the one of a symbol.
-use Rattle.std.proofs.Common.{◌≡◌, ◌≤◌, ℕ, Bool, true, false, List, [], ◌∷◌, ◌++◌, refl, sym, subst, ◌∙◌, ap, map, filter, Some, None}
+use Rattle.std.proofs.Common.{◌≡◌, Bool, true, false, List, [], ◌∷◌, ◌++◌, refl, sym, subst, ◌∙◌, ap, map, filter, Some, None}
 use Rattle.std.specs.Prelude.{◌||◌, find, is_some, bytes_eq}
 use Rattle.std.specs.Option.{option_map_or}
 use Rattle.std.specs.List.{AllByRecursion, Contains, list_any}

@@ -16,7 +16,7 @@ use Rattle.brk_model.specs.Records.{Account, Band, Broker, Mark, Security, Trade
 use Rattle.brk_model.specs.Results.{completed_trade, result_deal, with_result}
 use Rattle.brk_model.specs.Shares.{gain, signed}
 use Rattle.brk_model.specs.Sheets.{sheets}
-use Rattle.brk_model.specs.Tables.{SummaryRow, TradeRow, broker_row, security_row, status_of, trade_row}
+use Rattle.brk_model.specs.Tables.{TradeRow, broker_row, security_row, status_of, trade_row}
 use Rattle.brk_model.specs.Tests as model
 use Rattle.brk_model.specs.Tests.{Test, first_refusal, next_stamp, refusal_of, tests}
 use Rattle.brk_money.specs.Amounts.{commission, tax}
@@ -35,7 +35,7 @@ use Rattle.brk_trade_laws.specs.Books.{IsBooks}
 use Rattle.brk_trade_laws.specs.OrderPlans.{IfCustomer}
 use Rattle.brk_trade_laws.specs.Reads.{rates_of}
 use Rattle.brk_trade_laws.specs.ResultPlans.{IsFoundForResult, PassesFirst, result_account}
-use Rattle.brk_trade_laws.specs.TradeReads.{band_in, summary_held, summary_in}
+use Rattle.brk_trade_laws.specs.TradeReads.{band_in, summary_in}
 use Rattle.brk_trade_laws.proofs.Holding.{held_read}
 use Rattle.brk_trade_laws.proofs.Same.{find-All}
 use Rattle.brk_trade_laws.proofs.Places.{FoundAt, find-at, some_of}

@@ -3,7 +3,6 @@ use Rattle.std.proofs.Common.{◌≡◌, ℕ, ◌==◌, Bool, true, false, not, 
 use Rattle.std.specs.Prelude.{option_map, Err}
 use Rattle.std.proofs.lemmas.Bool.{eqb-true}
 use Rattle.brk_lots.specs.Values.{values_of}
-use Rattle.brk_lots.specs.declared.values.Values.{Values}
 use Rattle.brk_lots.specs.Lots.{shares_of}
 use Rattle.brk_lots.specs.declared.lot.Lot.{Lot}
 use Rattle.brk_lots.specs.Position.{IsNew}
@@ -20,14 +19,12 @@ use Rattle.brk_model.specs.Tests.{first_refusal, next_stamp, refusal_of}
 use Rattle.brk_money.specs.Kinds.{same_status, side_of}
 use Rattle.brk_money.specs.Moments.{stamp_after}
 use Rattle.brk_money.specs.declared.refusal.Refusal.{Refusal}
-use Rattle.brk_money.specs.declared.refusal.Refusal.TheVariants.{WrongStatus}
 use Rattle.brk_money.specs.declared.status.Status.TheVariants.{Submitted}
 use Rattle.brk_trade.specs.Outcomes.{deal_of, first_tests, result_tests}
 use Rattle.brk_trade.specs.Results.{AreMet, IsRefused, held_by}
 use Rattle.brk_trade.proofs.Results.{first_refuses}
 use Rattle.brk_changes.specs.Rows.{trade_row_of}
 use Rattle.brk_trade.specs.declared.result_found.ResultFound.{ResultFound}
-use Rattle.brk_changes.specs.declared.trade_row.TradeRow as planned
 use Rattle.brk_trade_laws.specs.Books.{IsBooks}
 use Rattle.brk_trade_laws.specs.ResultPlans.{AreLotsOfTrade, IsReadForResult, PassesFirst}
 use Rattle.brk_trade_laws.specs.TradeReads.{position_in}

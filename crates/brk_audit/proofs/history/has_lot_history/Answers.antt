@@ -1,16 +1,13 @@
-use Rattle.std.proofs.Common.{◌≡◌, List, filter, map, sym, ap, ◌∙◌, subst, Bor}
+use Rattle.std.proofs.Common.{◌≡◌, map, sym, ap, ◌∙◌, subst}
 use Rattle.std.specs.Prelude.{◌↔◌, IsSome}
-use Rattle.std.specs.List.{AllByRecursion, IsDistinct}
 use Rattle.std.specs.List.Sorted.{IsPermutation}
 use Rattle.std.proofs.lemmas.List.Sorted.{IsPermutation-map}
 use Rattle.brk_changes.specs.Rows.{lot_change_of}
 use Rattle.brk_changes.specs.Sheets.{tables_in_sheets}
-use Rattle.brk_changes.specs.declared.trade_row.TradeRow as trade
 use Rattle.brk_lots.specs.Chains.{plain_row}
-use Rattle.brk_lots.specs.declared.replay.DealTouch.{DealTouch}
 use Rattle.brk_model.specs.Audit.{Holds, expected}
 use Rattle.brk_model.specs.Keys.{holding_history_key, row_before}
-use Rattle.brk_model.specs.Tables.{HoldingHistoryRow, Tables, TradeRow}
+use Rattle.brk_model.specs.Tables.{Tables}
 use Rattle.brk_sound_laws.proofs.FormBack.{All-unmapped}
 use Rattle.brk_trade_laws.proofs.Order.{Sorted}
 use Rattle.brk_audit.specs.Completed.{done_rows}

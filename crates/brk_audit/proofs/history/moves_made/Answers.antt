@@ -1,19 +1,9 @@
-use Rattle.std.proofs.Common.{arith, ◌≡◌, ◌+◌, ◌-◌, ◌<◌, ◌++◌, ℕ, zero, suc, true, false, List, [], ◌∷◌, length, drop, get_or, take, map, refl, sym, ap, ◌∙◌, subst, append-nil, Bor}
-use Rattle.std.specs.List.{AllByRecursion, IsDistinct}
-use Rattle.std.specs.List.Sorted.{IsSortedBy}
-use Rattle.std.proofs.lemmas.List.{append_assoc, drop-drop, drop_all, drop_more, length-drop, length-take, map-append, take-append-drop, take_rest}
+use Rattle.std.proofs.Common.{arith, ◌≡◌, ◌+◌, ◌-◌, ◌++◌, true, false, List, [], ◌∷◌, length, drop, take, map, sym, ap, ◌∙◌, subst, append-nil}
+use Rattle.std.proofs.lemmas.List.{append_assoc, drop_all, length-drop, length-take}
 use Rattle.brk_lots.specs.Chains.{plain_row, replay_rows}
-use Rattle.brk_changes.specs.declared.trade_row.TradeRow as code
-use Rattle.brk_lots.specs.declared.lot.Lot.{Lot}
 use Rattle.brk_lots.specs.Deals.{AreDeals}
-use Rattle.brk_lots.specs.Position.{IsPosition}
-use Rattle.brk_lots.specs.Lots.{plain_lot, shares_of}
-use Rattle.brk_lots.proofs.Ends.{walk_of}
-use Rattle.brk_lots.proofs.Plain.{lots_walk}
-use Rattle.brk_model.specs.Shares.{Deal, lots, replay}
+use Rattle.brk_model.specs.Shares.{Deal}
 use Rattle.brk_model.specs.Tables.{HoldingHistoryRow, TradeRow}
-use Rattle.brk_trade_laws.proofs.Order.{Sorted}
-use Rattle.brk_adoption_laws.proofs.Members.{map-map}
 use Rattle.brk_audit.specs.Positions.{Trace, moves, row_deal, untouched}
 use Rattle.brk_audit.proofs.Stretches.{Stretch, deals_are, seen, stretch}
 use Rattle.brk_audit.proofs.history.moves_made.Goals as goal

@@ -1,4 +1,4 @@
-use Rattle.std.proofs.Common.{rules, ◌≡◌, List, filter, map, sym, ap, ◌∙◌, subst, Bor}
+use Rattle.std.proofs.Common.{rules, ◌≡◌, map, sym, ap, ◌∙◌, subst}
 use Rattle.std.specs.Prelude.{IsSome}
 use Rattle.std.specs.List.Sorted.{IsNonDecreasingBy, IsPermutation}
 use Rattle.std.proofs.lemmas.List.Sorted.{IsNonDecreasingBy-from_sort_by_key, IsPermutation-map}
@@ -7,10 +7,10 @@ use Rattle.brk_changes.specs.Sheets.{tables_in_sheets}
 use Rattle.brk_changes.specs.declared.holding_row.HoldingRow as code
 use Rattle.brk_changes.specs.declared.trade_row.TradeRow as trade
 use Rattle.brk_model.specs.Audit.{Holds, expected}
-use Rattle.brk_model.specs.Tables.{HoldingRow, Tables, TradeRow}
+use Rattle.brk_model.specs.Tables.{HoldingRow, Tables}
 use Rattle.brk_sound_laws.proofs.FormBack.{All-unmapped}
 use Rattle.brk_trade_laws.proofs.Order.{Sorted}
-use Rattle.brk_audit.specs.Completed.{done_rows, is_done}
+use Rattle.brk_audit.specs.Completed.{done_rows}
 use Rattle.brk_audit.specs.Positions.{place_before}
 use Rattle.brk_audit.proofs.LotRows.{all_moved, clash_apart, clash_moved, lots_told, priced_rows, rows_moved}
 use Rattle.brk_trade_laws.proofs.Orders.{Ascends, ascends, ascends_map, sorted_by, sorted_map}

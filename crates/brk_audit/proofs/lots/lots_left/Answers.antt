@@ -1,9 +1,6 @@
-use Rattle.std.proofs.Common.{arith, ◌≡◌, ◌+◌, ◌-◌, ◌<◌, ◌++◌, ℕ, zero, suc, true, false, List, [], ◌∷◌, length, drop, get_or, take, map, refl, sym, ap, ◌∙◌, subst, append-nil, Bor}
-use Rattle.std.specs.List.{AllByRecursion, IsDistinct}
-use Rattle.std.specs.List.Sorted.{IsSortedBy}
-use Rattle.std.proofs.lemmas.List.{append_assoc, drop-drop, drop_all, drop_more, length-drop, length-take, map-append, take-append-drop, take_rest}
-use Rattle.brk_changes.specs.Rows.{holding_row_of, trade_row_of}
-use Rattle.brk_changes.specs.declared.trade_row.TradeRow as code
+use Rattle.std.proofs.Common.{arith, ◌≡◌, ◌+◌, ◌-◌, ◌++◌, true, false, List, [], ◌∷◌, length, drop, take, map, sym, ap, ◌∙◌, subst, append-nil}
+use Rattle.std.proofs.lemmas.List.{append_assoc, drop_all, length-drop, length-take}
+use Rattle.brk_changes.specs.Rows.{holding_row_of}
 use Rattle.brk_lots.specs.declared.lot.Lot.{Lot}
 use Rattle.brk_lots.specs.Deals.{AreDeals}
 use Rattle.brk_lots.specs.Position.{IsPosition}
@@ -12,9 +9,7 @@ use Rattle.brk_lots.proofs.Ends.{walk_of}
 use Rattle.brk_lots.proofs.Plain.{lots_walk}
 use Rattle.brk_model.specs.Shares.{Deal, lots, replay}
 use Rattle.brk_model.specs.Tables.{HoldingRow, TradeRow}
-use Rattle.brk_trade_laws.proofs.Order.{Sorted}
-use Rattle.brk_adoption_laws.proofs.Members.{map-map}
-use Rattle.brk_audit.specs.Positions.{Heads, Leave, clash, lot_row, nothing, place_before, position, row_deal, run_rows, same_place}
+use Rattle.brk_audit.specs.Positions.{Leave, lot_row, nothing, position, row_deal, run_rows}
 use Rattle.brk_audit.proofs.Stretches.{Stretch, deals_are, seen, stretch}
 use Rattle.brk_audit.proofs.lots.lots_left.Goals as goal
 
