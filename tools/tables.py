@@ -694,7 +694,6 @@ STATEMENTS = {
         (update, 'SetLastTrade', 'last_trade', [('LT_DTS', 1), ('LT_PRICE', 2), ('LT_VOL', 3)], [('LT_S_SYMB', 4)]),
         (update, 'SetStatus', 'trade', [('T_ST_ID', 1), ('T_DTS', 2)], [('T_ID', 3)]),
         (update, 'CompleteTrade', 'trade', [('T_ST_ID', 1), ('T_DTS', 2), ('T_TRADE_PRICE', 3), ('T_COMM', 4), ('T_TAX', 5)], [('T_ID', 6)]),
-        (select, 'LotsOf', 'holding', [('H_CA_ID', 1), ('H_S_SYMB', 2)], [('H_DTS', False), ('H_T_ID', False)]),
         (select, 'OldestLots', 'holding', [('H_CA_ID', 1), ('H_S_SYMB', 2)], [('H_DTS', False), ('H_T_ID', False)], ('lit', 16), None, 3),
         (select, 'NewestLots', 'holding', [('H_CA_ID', 1), ('H_S_SYMB', 2)], [('H_DTS', True), ('H_T_ID', True)], ('lit', 16), None, 3),
         (select, 'SummaryOf', 'summary', [('HS_CA_ID', 1), ('HS_S_SYMB', 2)], [('HS_CA_ID', False), ('HS_S_SYMB', False)]),

@@ -32,7 +32,7 @@ fn write_all<W: Write, S: Alter>(
 
 /// Writes the statement of an account over some days, both included: its opening balance and the cash rows of earlier days,
 /// each cash row of the days, the closing amount, each lot that it holds now, and their worth at the last prices. The desk is
-/// only read, and a row of a walk is held at a time.
+/// only read. Of the rows that the database hands out one is held at a time.
 ///
 /// It is refused where `from` is after `to` (18), and then where there is no such account (1); nothing is written then. At a
 /// fault of the desk or want of memory whole lines are written, the first of the text and never the last. At a fault of the

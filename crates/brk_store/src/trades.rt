@@ -1,12 +1,12 @@
 //! Reads of trades and of what follows from them. Each is a transaction of its own, which is rolled back.
 
-ghost use Rattle.std.specs.Prelude.{◌≡◌, ◌==◌, ◌&&◌, Err, IfErr, OnErr, bytes_eq, filter, map, nat_le, option_map, reverse, slice_get};
+ghost use Rattle.std.specs.Prelude.{◌≡◌, ◌==◌, ◌&&◌, Err, IfErr, OnErr, bytes_eq, map, nat_le, option_map, reverse, slice_get};
 ghost use Rattle.brk_money.specs.declared.fault.Fault.TheVariants as fault;
 ghost use Rattle.brk_model.specs.Run.{MayFail};
 ghost use Rattle.brk_money.specs.Kinds.{same_status, same_type};
 ghost use Rattle.brk_money.specs.declared.status.Status.TheVariants.{Submitted};
 ghost use Rattle.brk_ref.specs.Records.{last_trade_of};
-ghost use Rattle.brk_changes.specs.Rows.{holding_row_of, oldest_lots_first, request_row_of, summary_row_of, trade_row_of};
+ghost use Rattle.brk_changes.specs.Rows.{holding_row_of, request_row_of, summary_row_of, trade_row_of};
 ghost use Rattle.brk_store.specs.Holds.{IsRead};
 ghost use Rattle.brk_tables_form.specs.Desk.{LastTrades, Requests, Summaries, Trades};
 ghost use Rattle.brk_tables_form.specs.Statements.{Found, Listed};
@@ -88,21 +88,8 @@ impl<S: Alter> Store<S> {
         brk_tables_trading::last_trade_by_symbol(&mut tx, symbol)
     }
 
-    /// The lots of an account in a security, by the moment of opening and then by trade, the oldest first.
-    pub fn lots_of(
-        &mut self,
-        alloc: Global,
-        account: Id,
-        symbol: &Symbol,
-    ) -> Result<Vec<HoldingRow>, Fault>
-        ensures read { IsRead S.Store self.old self.new result (λ all t. map holding_row_of all.items ≡ oldest_lots_first (filter (λ r. (r.account == account) && bytes_eq r.symbol symbol.now) t.holdings)) }
-        ensures fault { IfErr result MayFail }
-    {
-        let mut tx = begin(&mut self.conn);
-        brk_tables_trading::lots_of(&mut tx, alloc, account, symbol)
-    }
-
-    /// A page of the lots of an account in a security, the oldest first: at most 16, behind so many.
+    /// A page of the lots of an account in a security, by the moment of opening and then by trade, the oldest first: at most
+    /// 16, behind so many.
     pub fn oldest_lots(
         &mut self,
         alloc: Global,

@@ -31,7 +31,7 @@ impl<S: Alter> Store<S> {
     }
 
     /// Hands the cash rows of an account from one stamp to another, both included, to a visitor, by stamp, until it stops at
-    /// one. It holds a row at a time, and the numbers of the account's trades.
+    /// one. Of the rows that the database hands out it holds one at a time, and the numbers of the account's trades.
     #[tactic(auto, using(crate::proofs::Walking::is_not_walked))]
     pub fn visit_cash<E, V: Visitor<CashRow, E>>(
         &mut self,

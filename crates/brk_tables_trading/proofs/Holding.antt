@@ -31,8 +31,7 @@ use Rattle.brk_tables_form.proofs.Back.{number_in}
 use Rattle.brk_tables_form.proofs.Order.{key_total, inserted}
 use Rattle.brk_tables_form.proofs.Tests.{same_number, same_text}
 use Rattle.brk_changes.specs.Rows.{age_key, oldest_lots_first}
-use Rattle.brk_tables_trading.specs.Pages.{lots_held, on_page, page_size}
-use Rattle.brk_tables_trading.proofs.LotsOf
+use Rattle.brk_tables_trading.specs.Pages.{on_page, page_size}
 use Rattle.brk_tables_trading.proofs.NewestLots
 use Rattle.brk_tables_trading.proofs.OldestLots
 use Rattle.brk_tables_trading.proofs.Turned.{flipped, turned_sort}
@@ -73,22 +72,6 @@ second Less b h = absurd (let f = h in cc)
 second Equal b h = h
 second Greater b h = absurd (let f = h in cc)
 
-pub tells_lots : (old new : State) (account : ℕ) (symbol : List ℕ) (rows : List Row) → Shown LotsOf.statement (nat account ∷ Words symbol ∷ []) old new rows
-    → Tells desk (λ t. rows ≡ map holding_cells (oldest_lots_first (filter (λ r. (r.account == account) && bytes_eq r.symbol symbol) t.holdings))) old.now
-tells_lots old new account symbol rows shown = λ t tree h.
-    tells_sorted desk Holdings LotsOf.statement (nat account ∷ Words symbol ∷ []) (read LotsOf.statement) LotsOf.terms LotsOf.project LotsOf.order LotsOf.paging LotsOf.names LotsOf.understood_as
-    (λ (r : HoldingRow). (r.account == account) && bytes_eq r.symbol symbol)
-    (λ tree r x e. let a0 : column r 2 ≡ nat x.account = ap (λ row. column row 1) e in let a1 : column r 3 ≡ Words x.symbol = ap (λ row. column row 2) e in rw (a0, a1, same_number x.account account, same_text x.symbol symbol) (ap (λ c. (x.account == account) && c) (and_true _)))
-    holding_cells (λ tree r x e. e) (by_key_values age_key) (key_total age_key)
-    (λ tree a b x y e f.
-    let p0 : column a 4 ≡ nat x.stamp = ap (λ row. column row 3) e in
-    let q0 : column b 4 ≡ nat y.stamp = ap (λ row. column row 3) f in
-    let p1 : column a 0 ≡ nat x.trade = ap (λ row. column row 0) e in
-    let q1 : column b 0 ≡ nat y.trade = ap (λ row. column row 0) f in
-    rw (p0, q0, p1, q1) refl)
-    old new rows shown (λ x y e. second (value_cmp (nat x.stamp) (nat y.stamp)) _ e) t tree h
-    ∙ ap (map holding_cells) (sym (sorted age_key (filter (λ (r : HoldingRow). (r.account == account) && bytes_eq r.symbol symbol) t.holdings)))
-
 -- ---- pages of them
 
 page_map : {X Y : Type 0} (f : X → Y) (n : ℕ) (xs : List X) → on_page n (map f xs) ≡ map f (on_page n xs)
@@ -97,7 +80,7 @@ page_map f n xs = ap (take page_size) (drop-map f n xs) ∙ limited_map f (Some 
 abbrev is_held : ℕ → List ℕ → HoldingRow → Bool
 is_held account symbol r = (r.account == account) && bytes_eq r.symbol symbol
 
-held_test : (account skipped : ℕ) (symbol : List ℕ) (terms : List Term) → terms ≡ LotsOf.terms → (tree : ℕ) (r : Row) (x : HoldingRow) → cells (holding tree) r ≡ holding_cells x
+held_test : (account skipped : ℕ) (symbol : List ℕ) (terms : List Term) → terms ≡ OldestLots.terms → (tree : ℕ) (r : Row) (x : HoldingRow) → cells (holding tree) r ≡ holding_cells x
     → passes (nat account ∷ Words symbol ∷ nat skipped ∷ []) terms r ≡ is_held account symbol x
 held_test account skipped symbol terms is tree r x e =
     let a0 : column r 2 ≡ nat x.account = ap (λ row. column row 1) e in

@@ -10,7 +10,6 @@ pub mod SubmittedTrades
 pub mod RequestsAbove
 pub mod RequestsBelow
 pub mod LastTradeBySymbol
-pub mod LotsOf
 pub mod OldestLots
 pub mod NewestLots
 pub mod Turned

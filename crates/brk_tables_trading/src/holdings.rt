@@ -1,11 +1,11 @@
 //! What accounts hold: their lots, and how many shares of each security in all.
 
-ghost use Rattle.std.specs.Prelude.{◌≡◌, ◌==◌, ◌&&◌, Err, IfErr, OnErr, bytes_eq, filter, map, pos, reverse};
+ghost use Rattle.std.specs.Prelude.{◌≡◌, ◌==◌, ◌&&◌, Err, IfErr, OnErr, bytes_eq, map, pos, reverse};
 ghost use Rattle.sqlite_value.specs.Value.{owned};
 ghost use Rattle.sqlite_value.specs.declared.value.Value.TheVariants.{Int};
 ghost use Rattle.brk_money.specs.declared.fault.Fault.TheVariants.{Store};
 ghost use Rattle.brk_model.specs.Run.{MayFail};
-ghost use Rattle.brk_changes.specs.Rows.{holding_row_of, oldest_lots_first, summary_row_of};
+ghost use Rattle.brk_changes.specs.Rows.{holding_row_of, summary_row_of};
 ghost use Rattle.brk_tables_form.specs.Desk.{Summaries};
 ghost use Rattle.brk_tables_form.specs.Statements.{Finds, Lists, Reads};
 ghost use Rattle.brk_tables_trading.specs.Pages.{lots_held, on_page};
@@ -19,25 +19,6 @@ use brk_tables_form::values::{id_value, text_value};
 use sqlite::{Alter, Transaction};
 use sqlite_value::value::ValueRef;
 use std::alloc::Global;
-
-/// The lots of an account in a security, by the moment of opening and then by trade, the oldest first.
-pub fn lots_of<S: Alter>(
-    tx: &mut Transaction<'_, S>,
-    alloc: Global,
-    account: Id,
-    symbol: &Symbol,
-) -> Result<Vec<HoldingRow>, Fault>
-    ensures same_reference { tx.new.conn.ghost_name ≡ tx.old.conn.ghost_name }
-    ensures step { Reads S.Store tx.old tx.new result (λ all t. map holding_row_of all.items ≡ oldest_lots_first (filter (λ r. (r.account == account) && bytes_eq r.symbol symbol.now) t.holdings)) }
-    ensures fault { IfErr result MayFail }
-{
-    let rows = select(
-        tx,
-        "SELECT H_T_ID, H_CA_ID, H_S_SYMB, H_DTS, H_PRICE, H_QTY FROM HOLDING WHERE H_CA_ID = ?1 AND H_S_SYMB = ?2 ORDER BY H_DTS, H_T_ID",
-        &[id_value(account), text_value(symbol.as_str())],
-    )?;
-    all_rows(alloc, &rows)
-}
 
 // How many rows are passed over.
 fn skip_value<'a>(skipped: u32) -> ValueRef<'a>

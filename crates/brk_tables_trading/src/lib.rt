@@ -21,7 +21,7 @@ pub mod updates;
 pub use balances::set_balance;
 pub use broker_numbers::set_broker_numbers;
 pub use history::add_trade_history;
-pub use holdings::{lots_of, newest_lots, oldest_lots, summaries_of, summary_of};
+pub use holdings::{newest_lots, oldest_lots, summaries_of, summary_of};
 pub use last_trades::{last_trade_by_symbol, set_last_trade};
 pub use looking::{history_of, last_fifty_of_account, last_ten_of_account};
 pub use lots::{add_lot, add_lot_change, remove_lot, set_lot};
