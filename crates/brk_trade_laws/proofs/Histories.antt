@@ -46,7 +46,7 @@ rows_last lot shares (e ∷ deals) d =
     ap (λ rows. record { lot = lot; trade = e.trade; before = lot_qty shares lot; after = lot_qty (shares_after shares e) lot } ∷ rows) (rows_last lot (shares_after shares e) deals d)
 
 -- none of the deals is of a trade
-abbrev Others : ℕ → List Deal → Type 0
+abbrev pub Others : ℕ → List Deal → Type 0
 Others id deals = AllByRecursion (λ d. (d.trade == id) ≡ false) deals
 
 rows_of_others : (id lot : ℕ) (shares : List Share) (deals : List Deal) → Others id deals → AllByRecursion (λ r. (r.trade == id) ≡ false) (lot_rows lot shares deals)
@@ -54,7 +54,7 @@ rows_of_others id lot shares [] h = tt
 rows_of_others id lot shares (d ∷ deals) h = (h.0, rows_of_others id lot (shares_after shares d) deals h.1)
 
 -- a lot that no deal opens has no rows
-no_rows : (id : ℕ) (shares : List Share) (deals : List Deal) → Without id shares → Others id deals → filter is_moved (lot_rows id shares deals) ≡ []
+pub no_rows : (id : ℕ) (shares : List Share) (deals : List Deal) → Without id shares → Others id deals → filter is_moved (lot_rows id shares deals) ≡ []
 no_rows id shares [] w h = refl
 no_rows id shares (d ∷ deals) w h =
     let next : Without id (shares_after shares d) = all_after (λ s. (s.trade == id) ≡ false) d shares h.0 w in

@@ -3,9 +3,16 @@ use Rattle.std.proofs.Common.{◌≡◌, ◌<◌, ℕ, ◌==◌, Bool, true, fal
 use Rattle.std.specs.Prelude.{⊤, find, flat_map, is_some, nat_lt, option_map}
 use Rattle.std.specs.Option.{option_map_or}
 use Rattle.std.specs.List.{AllByRecursion}
-use Rattle.std.proofs.lemmas.Bool.{eqb-true}
+use Rattle.std.proofs.lemmas.Bool.{eqb-true, ne_eqb}
 use Rattle.std.proofs.lemmas.Bool.Decides.{nat_tests}
+use Rattle.std.proofs.lemmas.Int.{ints}
+use Rattle.brk_money.specs.declared.side.Side.{Side}
+use Rattle.brk_money.specs.declared.side.Side.TheVariants.{Buy}
 use Rattle.brk_lots.specs.Chains.{IsLife, rows_of, touch_by}
+use Rattle.brk_lots.specs.Deals.{AreDeals}
+use Rattle.brk_lots.proofs.Books.{side_after}
+use Rattle.brk_lots.proofs.Counts.{OneSide}
+use Rattle.brk_lots.proofs.Deals.{all_after}
 use Rattle.brk_model.specs.Base.{Base, completed, is_completed, moment_of, trade_with}
 use Rattle.brk_model.specs.Derived.{deal_of, deals_in, shares_in}
 use Rattle.brk_model.specs.Joins.{trade_in}
@@ -17,16 +24,17 @@ use Rattle.brk_model.specs.Shares.{Deal, Share, is_change, lot_qty, shares_after
 use Rattle.brk_model.specs.Sheets.{sheets, sheets_of}
 use Rattle.brk_model.specs.Tables.{HoldingHistoryRow, HoldingRow, holding_row, lot_history, lot_rows, tables_of, trade_row}
 use Rattle.brk_trade_laws.specs.Books.{IsBooks}
-use Rattle.brk_trade_laws.specs.Lives.{LotsLive, changes_in, left_in, touch_in}
-use Rattle.brk_trade_laws.proofs.Histories.{filter-flat_map}
+use Rattle.brk_trade_laws.specs.Lives.{IsLotLife, IsOpened, LotsLive, changes_in, left_in, touch_in}
+use Rattle.brk_trade_laws.proofs.Histories.{Others, filter-flat_map, no_rows}
 use Rattle.brk_trade_laws.proofs.LotOrder.{Follows, InOrder, held_in_order, of_held, trades_held}
 use Rattle.brk_trade_laws.proofs.LotReading.{All-sort, IdsApart, holdings_in_order, is_left, numbered_rise, rise_apart, rise_filter}
 use Rattle.brk_trade_laws.proofs.Order.{by_key-filter, insert_commute, insert_front}
 use Rattle.brk_trade_laws.proofs.Places.{FoundAt, filter-all, find-at, map-append}
 use Rattle.brk_trade_laws.proofs.References.{append_nil}
-use Rattle.brk_trade_laws.proofs.RunLaws.{lot_lives}
+use Rattle.brk_trade_laws.proofs.RunLaws.{deals_are, lot_lives}
 use Rattle.brk_trade_laws.proofs.Same.{NonePass, All-filter, All-map, All-mapped, filter-none, find-none, flat_map-append, flat_map-empty}
 use Rattle.brk_trade_laws.proofs.SumReading.{found_each}
+use Rattle.brk_trade_laws.proofs.Touching.{Without, lot_without, unchanged, without_of}
 use Rattle.brk_trade_laws.proofs.TradeReading.{reads_trade}
 
 -- ---- rows that rise by a number
@@ -101,6 +109,50 @@ touches_are lot shares (d ∷ deals) = by_test (is_change (touch_by lot d shares
         → map touch_in (cond b (row ∷ rest) rest) ≡ cond b (touch_by lot d shares ∷ rows_of lot deals (shares_after shares d)) (rows_of lot deals (shares_after shares d))
     by_test true e = ap (λ rows. touch_by lot d shares ∷ rows) e
     by_test false e = e
+
+zero_is : (z : ℤ) → is_zero z ≡ true → z ≡ pos 0
+zero_is (pos zero) e = refl
+zero_is (pos (suc n)) e = absurd (cc)
+zero_is (negsuc n) e = absurd (cc)
+
+-- what is left of nothing is nothing
+zero_left : (a b : ℤ) → a ≡ pos 0 → not (is_zero (a -ℤ b)) ≡ false → is_zero b ≡ true
+zero_left a b e f = let d : a -ℤ b ≡ pos 0 = zero_is (a -ℤ b) (is_true (is_zero (a -ℤ b)) f) in let none : b ≡ pos 0 = omega (arith, ints, d, e) in ap is_zero none
+  where
+    is_true : (c : Bool) → not c ≡ false → c ≡ true
+    is_true true f = refl
+    is_true false f = absurd (cc)
+
+-- the first deal that changes the lot of a trade is that trade's
+opened_first : (id : ℕ) (side : Side) (shares : List Share) (deals : List Deal) → OneSide side shares → Without id shares → AreDeals deals → IsOpened id (filter is_moved (lot_rows id shares deals))
+opened_first id side shares [] one w a = tt
+opened_first id side shares (d ∷ deals) one w a = by_trade (d.trade == id) refl (opened_first id next.0 after deals next.1)
+  where
+    after : List Share
+    after = shares_after shares d
+
+    next : (s : Side) × OneSide s after
+    next = side_after side d shares one
+
+    row : HoldingHistoryRow
+    row = record { lot = id; trade = d.trade; before = lot_qty shares id; after = lot_qty after id }
+
+    rest : List HoldingHistoryRow
+    rest = filter is_moved (lot_rows id after deals)
+
+    others : d.trade ≡ id → Others id deals
+    others own = All-map deals (λ e l. ne_eqb e.trade id (λ same. l.0 (own ∙ sym same))) a.0
+
+    by_own : (b : Bool) → is_moved row ≡ b → d.trade ≡ id → IsOpened id (cond b (row ∷ rest) rest)
+    by_own true e own = own
+    by_own false e own =
+        let none : Without id after = without_of next.0 id after next.1 (zero_left (lot_qty shares id) (lot_qty after id) (lot_without id shares w) e) in
+        subst (IsOpened id) (sym (no_rows id after deals none (others own))) tt
+
+    by_trade : (b : Bool) → (d.trade == id) ≡ b → (Without id after → AreDeals deals → IsOpened id rest) → IsOpened id (cond (is_moved row) (row ∷ rest) rest)
+    by_trade true e again = by_own (is_moved row) refl (eqb-true d.trade id e)
+    by_trade false e again =
+        subst (λ c. IsOpened id (cond c (row ∷ rest) rest)) (sym (unchanged id d shares e w)) (again (all_after (λ s. (s.trade == id) ≡ false) d shares e w) a.1)
 
 -- the stamp of a trade, as the tables tell it
 abbrev stamp_in : Base → ℕ → ℕ
@@ -222,18 +274,22 @@ left_is base lot t books f =
 
 -- ---- each lot
 
-of_done : (base : Base) (lot : ℕ) (t : Trade) → IsBooks base → find (λ u. u.id == lot) (completed base) ≡ Some t
-    → IsLife (map touch_in (changes_in (sheets base) lot)) (left_in (sheets base) lot)
+of_done : (base : Base) (lot : ℕ) (t : Trade) → IsBooks base → find (λ u. u.id == lot) (completed base) ≡ Some t → IsLotLife (sheets base) lot
 unfolding shares_in
 of_done base lot t books e =
     let f : FoundAt Trade (λ u. u.id == lot) t (completed base) = find-at (λ u. u.id == lot) (completed base) t e in
-    let rows : map touch_in (changes_in (sheets base) lot) ≡ rows_of t.id (deals_in (completed base) t.account t.symbol) [] =
-    ap (map touch_in) (changes_of base lot (lot_history (completed base) t) (own_changes (completed base) lot t (done_apart base books) f) (history_rises base t books))
-    ∙ touches_are t.id [] (deals_in (completed base) t.account t.symbol) in
-    subst (λ rs. IsLife rs (left_in (sheets base) lot)) (sym rows)
-    (subst (λ q. IsLife (rows_of t.id (deals_in (completed base) t.account t.symbol) []) q) (sym (left_is base lot t books f)) (lot_lives base t.account t.symbol t.id books))
+    let deals : List Deal = deals_in (completed base) t.account t.symbol in
+    let same : t.id ≡ lot = eqb-true t.id lot f.passes in
+    let changes : changes_in (sheets base) lot ≡ lot_history (completed base) t =
+    changes_of base lot (lot_history (completed base) t) (own_changes (completed base) lot t (done_apart base books) f) (history_rises base t books) in
+    let rows : map touch_in (changes_in (sheets base) lot) ≡ rows_of t.id deals [] = ap (map touch_in) changes ∙ touches_are t.id [] deals in
+    record {
+      opened = subst (IsOpened lot) (sym changes) (subst (λ (n : ℕ). IsOpened n (lot_history (completed base) t)) same (opened_first t.id Buy [] deals tt tt (deals_are base t.account t.symbol books)));
+      life = subst (λ rs. IsLife rs (left_in (sheets base) lot)) (sym rows)
+          (subst (λ q. IsLife (rows_of t.id deals []) q) (sym (left_is base lot t books f)) (lot_lives base t.account t.symbol t.id books));
+    }
 
-of_none : (base : Base) (lot : ℕ) → IsBooks base → find (λ u. u.id == lot) (completed base) ≡ None → IsLife (map touch_in (changes_in (sheets base) lot)) (left_in (sheets base) lot)
+of_none : (base : Base) (lot : ℕ) → IsBooks base → find (λ u. u.id == lot) (completed base) ≡ None → IsLotLife (sheets base) lot
 of_none base lot books e =
     let none : NonePass (λ u. u.id == lot) (completed base) = find-none (λ u. u.id == lot) (completed base) (ap is_some e) in
     let rows : changes_in (sheets base) lot ≡ [] =
@@ -244,11 +300,11 @@ of_none base lot books e =
     ∙ none_found (opened lot) (filter is_left (map (holding_row (completed base)) (completed base)))
     (All-filter (λ h. opened lot h ≡ false) is_left (map (holding_row (completed base)) (completed base))
     (All-mapped (λ h. opened lot h ≡ false) (holding_row (completed base)) (completed base) none))) in
-    subst (λ rs. IsLife (map touch_in rs) (left_in (sheets base) lot)) (sym rows) (sym left)
+    record { opened = subst (IsOpened lot) (sym rows) tt; life = subst (λ rs. IsLife (map touch_in rs) (left_in (sheets base) lot)) (sym rows) (sym left) }
 
 pub lots_live_on : (base : Base) → IsBooks base → LotsLive (sheets base)
 lots_live_on base books lot = by_trade (find (λ u. u.id == lot) (completed base)) refl
   where
-    by_trade : (o : Option Trade) → find (λ u. u.id == lot) (completed base) ≡ o → IsLife (map touch_in (changes_in (sheets base) lot)) (left_in (sheets base) lot)
+    by_trade : (o : Option Trade) → find (λ u. u.id == lot) (completed base) ≡ o → IsLotLife (sheets base) lot
     by_trade (Some t) e = of_done base lot t books e
     by_trade None e = of_none base lot books e

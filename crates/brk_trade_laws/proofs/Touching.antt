@@ -52,7 +52,7 @@ signed_zero Sell zero e = refl
 signed_zero Sell (suc n) e = absurd (cc)
 
 -- a lot of 0 has no shares, where all shares have one side
-without_of : (side : Side) (id : ℕ) (shares : List Share) → OneSide side shares → is_zero (lot_qty shares id) ≡ true → Without id shares
+pub without_of : (side : Side) (id : ℕ) (shares : List Share) → OneSide side shares → is_zero (lot_qty shares id) ≡ true → Without id shares
 without_of side id shares one e =
     let k : net (opened_by id shares) ≡ signed side (length (opened_by id shares)) = net_of side (opened_by id shares) (all_filter (λ s. s.side ≡ side) (λ s. s.trade == id) shares one) in
     no_length id shares (signed_zero side (length (opened_by id shares)) (sym (ap is_zero k) ∙ e))

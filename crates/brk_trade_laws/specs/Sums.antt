@@ -65,5 +65,5 @@ pub record AddUp (t : Tables) : Type 0 where
   pub summed : AllByRecursion (IsSummed t) t.holdings
   -- the lots of an account in a symbol are those of a position: none is 0, and all have one side
   pub positions : (account : ℕ) (symbol : Text) → IsPosition (position_in t account symbol)
-  -- what trades made of each lot is a chain from 0 to what was opened, and then ever nearer to 0, to what is left
+  -- what trades made of each lot is a chain: from 0 to what its own trade opened, and then ever nearer to 0, to what is left
   pub lives : LotsLive t
