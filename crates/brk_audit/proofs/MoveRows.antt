@@ -13,7 +13,7 @@ use Rattle.brk_model.specs.Base.{Base, completed}
 use Rattle.brk_model.specs.Derived.{deal_of, deals_in}
 use Rattle.brk_model.specs.Keys.{KeyPart, by_key, row_before, holding_history_key}
 use Rattle.brk_model.specs.Shares.{Deal}
-use Rattle.brk_model.specs.Tables.{HoldingHistoryRow, Tables, TradeRow, lot_history, lot_rows, tables_of}
+use Rattle.brk_model.specs.Tables.{HoldingHistoryRow, Tables, TradeRow, is_moved, lot_history, lot_rows, tables_of}
 use Rattle.brk_model.specs.Sheets.{sheets, sheets_of}
 use Rattle.brk_model.specs.Adopted.{base_of, trade_of_row}
 use Rattle.brk_model.specs.Audit.{expected}
@@ -33,7 +33,7 @@ use Rattle.brk_audit.specs.Positions.{Trace, moves, place_before, row_deal, same
 use Rattle.brk_audit.proofs.Completed.{completed_rows}
 use Rattle.brk_audit.proofs.Leaving.{AreDealt, deals_among, own_run}
 use Rattle.brk_audit.proofs.LotRows.{dealt}
-use Rattle.brk_audit.proofs.Moves.{is_move, run_sums}
+use Rattle.brk_audit.proofs.Moves.{run_sums}
 use Rattle.brk_trade_laws.proofs.Orders.{SameSums, permuted, sum_append, sum_map, sum_none, sum_same, sum_sort}
 use Rattle.brk_audit.proofs.Places.{all_back, at_one, same_self}
 
@@ -99,7 +99,7 @@ key_order_one {X = X} key same d (x ∷ xs) (y ∷ ys) c a h =
 
 -- what the rows of a trade's lot give to a sum
 abbrev pub own : Base → (HoldingHistoryRow → ℕ) → TradeRow → ℕ
-own base f r = sum_by f (filter is_move (lot_rows r.id [] (deals_in (completed base) r.account r.symbol)))
+own base f r = sum_by f (filter is_moved (lot_rows r.id [] (deals_in (completed base) r.account r.symbol)))
 
 deals_of_order : (ts : List Trade) → InOrder ts → AreDeals (map deal_of ts)
 deals_of_order [] o = tt
@@ -117,14 +117,14 @@ trace_sums base books (moves r run later rows same apart l) d f =
     let e : ds ≡ deals_in (completed base) r.account r.symbol = ap (map row_deal) (sym (own_run r run later same apart)) ∙ d.0 in
     let a : AreDeals ds = subst AreDeals (sym e) (deals_of_order (trades_held base r.account r.symbol) (held_in_order base r.account r.symbol books)) in
     let here : sum_by f (replay_rows ds []) ≡ sum_by (own base f) (r ∷ run) =
-    run_sums ds a f ∙ sum_map (λ d. sum_by f (filter is_move (lot_rows d.trade [] ds))) row_deal (r ∷ run)
-    ∙ sum_same (λ s. sum_by f (filter is_move (lot_rows s.id [] ds))) (own base f) (r ∷ run) (All-map (r ∷ run) (λ s p. one s p ds e) (same_self r, same)) in
+    run_sums ds a f ∙ sum_map (λ d. sum_by f (filter is_moved (lot_rows d.trade [] ds))) row_deal (r ∷ run)
+    ∙ sum_same (λ s. sum_by f (filter is_moved (lot_rows s.id [] ds))) (own base f) (r ∷ run) (All-map (r ∷ run) (λ s p. one s p ds e) (same_self r, same)) in
     let rest : AreDealt base later =
     both later apart (all_back (λ s. map row_deal (filter (same_place s) (r ∷ run ++ later)) ≡ deals_in (completed base) s.account s.symbol) run later d.1) in
     sum_append f (replay_rows ds []) rows ∙ (λ i. here i + trace_sums base books l rest f i) ∙ sym (sum_append (own base f) (r ∷ run) later)
   where
-    one : (s : TradeRow) → same_place r s ≡ true → (ds : List Deal) → ds ≡ deals_in (completed base) r.account r.symbol → sum_by f (filter is_move (lot_rows s.id [] ds)) ≡ own base f s
-    one s p ds e = let k = at_one r s p in ap (λ (es : List Deal). sum_by f (filter is_move (lot_rows s.id [] es))) (e ∙ (λ i. deals_in (completed base) (k.account i) (k.symbol i)))
+    one : (s : TradeRow) → same_place r s ≡ true → (ds : List Deal) → ds ≡ deals_in (completed base) r.account r.symbol → sum_by f (filter is_moved (lot_rows s.id [] ds)) ≡ own base f s
+    one s p ds e = let k = at_one r s p in ap (λ (es : List Deal). sum_by f (filter is_moved (lot_rows s.id [] es))) (e ∙ (λ i. deals_in (completed base) (k.account i) (k.symbol i)))
 
     both : (ss : List TradeRow) → AllByRecursion (λ s. same_place r s ≡ false) ss → AllByRecursion (λ s. map row_deal (filter (same_place s) (r ∷ run ++ later)) ≡ deals_in (completed base) s.account s.symbol) ss
         → AllByRecursion (λ s. map row_deal (filter (same_place s) later) ≡ deals_in (completed base) s.account s.symbol) ss

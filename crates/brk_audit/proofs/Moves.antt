@@ -6,9 +6,9 @@ use Rattle.std.proofs.lemmas.Bool.{eq-eqb, eqb-true, eqb-false, ne_eqb}
 use Rattle.std.proofs.lemmas.List.Sums.{sum_by-cons}
 use Rattle.std.proofs.lemmas.List.Sorted.{IsPermutation-reverse}
 use Rattle.brk_model.specs.Lists.{is_zero}
-use Rattle.brk_model.specs.Shares.{Share, Deal, Touch, firsts, history, is_change, lot_qty, lots, opened_shares, shares_after, touch_of, touches}
-use Rattle.brk_model.specs.Tables.{HoldingHistoryRow, lot_rows}
-use Rattle.brk_lots.specs.Chains.{deal_rows, opening_touch, replay_rows, touch_by, touch_row}
+use Rattle.brk_model.specs.Shares.{Share, Deal, Touch, firsts, history, is_change, lot_qty, lots, opened_shares, shares_after, touch_of, touches, touch_by}
+use Rattle.brk_model.specs.Tables.{HoldingHistoryRow, is_moved, lot_rows, touch_row}
+use Rattle.brk_lots.specs.Chains.{deal_rows, opening_touch, replay_rows}
 use Rattle.brk_lots.specs.Deals.{AreDeals, IsLater}
 use Rattle.brk_lots.specs.Lots.{from_end}
 use Rattle.brk_lots.proofs.Changes.{all_firsts}
@@ -188,26 +188,22 @@ deal_sum ks u d us fresh m f =
 
 -- ---- deals one after another
 
--- whether a row changes its lot
-abbrev pub is_move : HoldingHistoryRow → Bool
-is_move r = not (is_zero (r.before -ℤ r.after))
-
 replay_sums : (ks : List ℕ) → Unique ks → (ds : List Deal) (us : List Share) → AreDeals ds → AllByRecursion (λ d. AllByRecursion (IsOlder d) us) ds
     → AllByRecursion (λ v. In v.trade ks) us → AllByRecursion (λ d. In d.trade ks) ds
-    → (f : HoldingHistoryRow → ℕ) → sum_by f (replay_rows ds us) ≡ sum_by (λ t. sum_by f (filter is_move (lot_rows t us ds))) ks
+    → (f : HoldingHistoryRow → ℕ) → sum_by f (replay_rows ds us) ≡ sum_by (λ t. sum_by f (filter is_moved (lot_rows t us ds))) ks
 replay_sums ks u [] us a o m n f = sym (sum_none (λ t. 0) ks (All-of ks (λ t. refl)))
 replay_sums ks u (d ∷ ds) us a o m n f =
     let after : List Share = shares_after us d in
     let there : AllByRecursion (λ v. In v.trade ks) after = all_after (λ v. In v.trade ks) d us n.0 m in
     let here : sum_by f (deal_rows d us) ≡ sum_by (by_lot f d us) ks = deal_sum ks u d us (All-map us (λ v k. k.0) o.0) (All-append (λ v. In v.trade ks) us after m there) f in
-    let ih : sum_by f (replay_rows ds after) ≡ sum_by (λ t. sum_by f (filter is_move (lot_rows t after ds))) ks = replay_sums ks u ds after a.1 (older_after d ds us a.0 o.1) there n.1 f in
+    let ih : sum_by f (replay_rows ds after) ≡ sum_by (λ t. sum_by f (filter is_moved (lot_rows t after ds))) ks = replay_sums ks u ds after a.1 (older_after d ds us a.0 o.1) there n.1 f in
     sum_append f (deal_rows d us) (replay_rows ds after) ∙ (λ i. here i + ih i)
-    ∙ sym (sum_both (by_lot f d us) (λ t. sum_by f (filter is_move (lot_rows t after ds))) ks)
-    ∙ sym (sum_same (λ t. sum_by f (filter is_move (lot_rows t us (d ∷ ds)))) (λ t. by_lot f d us t + sum_by f (filter is_move (lot_rows t after ds))) ks (All-of ks (λ t. first t (is_change (touch_by t d us)))))
+    ∙ sym (sum_both (by_lot f d us) (λ t. sum_by f (filter is_moved (lot_rows t after ds))) ks)
+    ∙ sym (sum_same (λ t. sum_by f (filter is_moved (lot_rows t us (d ∷ ds)))) (λ t. by_lot f d us t + sum_by f (filter is_moved (lot_rows t after ds))) ks (All-of ks (λ t. first t (is_change (touch_by t d us)))))
   where
-    first : (t : ℕ) (b : Bool) → sum_by f (cond b (touch_row d.trade (touch_by t d us) ∷ filter is_move (lot_rows t (shares_after us d) ds)) (filter is_move (lot_rows t (shares_after us d) ds)))
-        ≡ cond b (f (touch_row d.trade (touch_by t d us))) 0 + sum_by f (filter is_move (lot_rows t (shares_after us d) ds))
-    first t true = sum_by-cons f (touch_row d.trade (touch_by t d us)) (filter is_move (lot_rows t (shares_after us d) ds))
+    first : (t : ℕ) (b : Bool) → sum_by f (cond b (touch_row d.trade (touch_by t d us) ∷ filter is_moved (lot_rows t (shares_after us d) ds)) (filter is_moved (lot_rows t (shares_after us d) ds)))
+        ≡ cond b (f (touch_row d.trade (touch_by t d us))) 0 + sum_by f (filter is_moved (lot_rows t (shares_after us d) ds))
+    first t true = sum_by-cons f (touch_row d.trade (touch_by t d us)) (filter is_moved (lot_rows t (shares_after us d) ds))
     first t false = omega arith
 
 trades_unique : (ds : List Deal) → AreDeals ds → Unique (map (λ d. d.trade) ds)
@@ -218,7 +214,7 @@ trades_unique (d ∷ ds) a = (ahead ds a.0, trades_unique ds a.1)
     ahead [] h = tt
     ahead (e ∷ es) h = (h.0.0, ahead es h.1)
 
-pub run_sums : (ds : List Deal) → AreDeals ds → (f : HoldingHistoryRow → ℕ) → sum_by f (replay_rows ds []) ≡ sum_by (λ d. sum_by f (filter is_move (lot_rows d.trade [] ds))) ds
+pub run_sums : (ds : List Deal) → AreDeals ds → (f : HoldingHistoryRow → ℕ) → sum_by f (replay_rows ds []) ≡ sum_by (λ d. sum_by f (filter is_moved (lot_rows d.trade [] ds))) ds
 run_sums ds a f =
     replay_sums (map (λ d. d.trade) ds) (trades_unique ds a) ds [] a (All-of ds (λ d. tt)) tt (All-map ds (λ d m. in_map (λ (e : Deal). e.trade) ds d m) (each_in ds)) f
-    ∙ sum_map (λ t. sum_by f (filter is_move (lot_rows t [] ds))) (λ d. d.trade) ds
+    ∙ sum_map (λ t. sum_by f (filter is_moved (lot_rows t [] ds))) (λ d. d.trade) ds

@@ -1,5 +1,5 @@
 -- The history of a lot is a chain.
-use Rattle.std.proofs.Common.{◌≡◌, ◌≢◌, ℕ, zero, suc, ℤ, pos, negsuc, ◌-ℤ◌, ◌-◌, ◌≤◌, eqb, Bool, true, false, not, cond, List, [], ◌∷◌, length, refl, sym, ap, ◌∙◌, subst, arith, ◌⊎◌, inl, inr}
+use Rattle.std.proofs.Common.{◌≡◌, ◌≢◌, ℕ, zero, suc, ℤ, pos, negsuc, ◌-ℤ◌, ◌-◌, ◌≤◌, eqb, Bool, true, false, not, cond, List, [], ◌∷◌, filter, length, map, refl, sym, ap, ◌∙◌, subst, arith, ◌⊎◌, inl, inr}
 use Rattle.std.specs.Prelude.{fold}
 use Rattle.std.specs.List.{AllByRecursion}
 use Rattle.std.proofs.lemmas.Int.{ints}
@@ -8,9 +8,10 @@ use Rattle.std.proofs.lemmas.Bool.{cases_eq, cases_Bool}
 use Rattle.brk_money.specs.declared.side.Side.{Side}
 use Rattle.brk_money.specs.declared.side.Side.TheVariants.{Buy, Sell}
 use Rattle.brk_model.specs.Lists.{is_zero}
-use Rattle.brk_model.specs.Shares.{Share, Deal, Touch, signed, replay, shares_after, opened_share, closed_count, lot_qty, is_change}
+use Rattle.brk_model.specs.Shares.{Share, Deal, Touch, signed, replay, shares_after, opened_share, closed_count, lot_qty, is_change, touch_by}
 use Rattle.brk_lots.specs.Deals.{IsLater, AreDeals}
-use Rattle.brk_lots.specs.Chains.{touch_by, rows_of, Falls, IsLife}
+use Rattle.brk_model.specs.Tables.{HoldingHistoryRow, is_moved, lot_rows, touch_of_row, touch_row}
+use Rattle.brk_lots.specs.Chains.{rows_of, Falls, IsLife}
 use Rattle.brk_lots.proofs.Runs.{count_of, without}
 use Rattle.brk_lots.proofs.Changes.{all_from, shares_appended}
 use Rattle.brk_lots.proofs.Counts.{OneSide, lot_counts, differ_none, differ, owes}
@@ -34,6 +35,10 @@ change_by t d s us one h =
     ap (λ z. not (is_zero (z -ℤ lot_qty (shares_after us d) t))) (lot_counts s t us one)
     ∙ ap (λ z. not (is_zero (signed s (count_of t us) -ℤ z))) (lot_after d s us t (stays s d us one) h)
 
+-- the rows of the deals that change the lot
+abbrev moved : ℕ → List Deal → List Share → List HoldingHistoryRow
+moved t ds us = filter is_moved (lot_rows t us ds)
+
 -- where no deal opens the lot again, it falls
 falls : (t : ℕ) (ds : List Deal) (s : Side) (us : List Share) → OneSide s us → AllByRecursion (λ d. d.trade ≢ t) ds → Falls (lot_qty us t) (rows_of t ds us) (lot_qty (fold shares_after us ds) t)
 falls t [] s us one h = refl
@@ -55,11 +60,11 @@ falls t (d ∷ ds) s us one h = let a = side_after s d us one in step (falls t d
     | inl e ↦
         let same : lot_qty us t ≡ lot_qty after t = before_is ∙ ap (signed s) e ∙ sym after_was in
         let no : is_change (touch_by t d us) ≡ false = change_by t d s us one h.0 ∙ ap (λ n. not (is_zero (signed s n -ℤ signed s (count_of t after)))) e ∙ ap not (differ_none s (count_of t after)) in
-        subst (λ b. Falls (lot_qty us t) (cond b (touch_by t d us ∷ rows_of t ds after) (rows_of t ds after)) to) (sym no) (subst (λ z. Falls z (rows_of t ds after) to) (sym same) rest)
+        subst (λ b. Falls (lot_qty us t) (map touch_of_row (cond b (touch_row d.trade (touch_by t d us) ∷ moved t ds after) (moved t ds after))) to) (sym no) (subst (λ z. Falls z (rows_of t ds after) to) (sym same) rest)
     | inr n ↦
         let yes : is_change (touch_by t d us) ≡ true = change_by t d s us one h.0 ∙ ap not (differ s (count_of t us) (count_of t after) n) in
         let fewer = count_after t d us h.0 in
-        subst (λ b. Falls (lot_qty us t) (cond b (touch_by t d us ∷ rows_of t ds after) (rows_of t ds after)) to) (sym yes)
+        subst (λ b. Falls (lot_qty us t) (map touch_of_row (cond b (touch_row d.trade (touch_by t d us) ∷ moved t ds after) (moved t ds after))) to) (sym yes)
         (refl, (s, count_of t after, count_of t us, after_was, before_is, omega (arith, n, fewer)), rest)
   ]
 
@@ -100,7 +105,7 @@ life t (d ∷ ds) s us one a z = let b = side_after s d us one in step b.0 b.1 (
   none : lot_qty us t ≡ pos 0
   none = lot_counts s t us one ∙ ap (signed s) z ∙ none_signed s
 
-  opened : (b : Bool) → is_change (touch_by t d us) ≡ b → Falls (lot_qty after t) rows to → IsLife (cond b (touch_by t d us ∷ rows) rows) to
+  opened : (b : Bool) → is_change (touch_by t d us) ≡ b → Falls (lot_qty after t) rows to → IsLife (map touch_of_row (cond b (touch_row d.trade (touch_by t d us) ∷ moved t ds after) (moved t ds after))) to
   opened true e fall = (none, fall)
   opened false e fall =
       let same : is_zero (lot_qty us t -ℤ lot_qty after t) ≡ true = elim (cases_Bool (is_zero (lot_qty us t -ℤ lot_qty after t))) [ inl y ↦ y | inr n ↦ let f : true ≡ false = sym (ap not n) ∙ e in cc ] in
@@ -117,7 +122,7 @@ life t (d ∷ ds) s us one a z = let b = side_after s d us one in step b.0 b.1 (
       let zero_after : count_of t after ≡ 0 = omega (arith, fewer, z) in
       let no : is_change (touch_by t d us) ≡ false =
       change_by t d s us one other ∙ ap (λ n. not (is_zero (signed s n -ℤ signed s (count_of t after)))) (z ∙ sym zero_after) ∙ ap not (differ_none s (count_of t after)) in
-      subst (λ b. IsLife (cond b (touch_by t d us ∷ rows) rows) to) (sym no) (rest zero_after)
+      subst (λ b. IsLife (map touch_of_row (cond b (touch_row d.trade (touch_by t d us) ∷ moved t ds after) (moved t ds after))) to) (sym no) (rest zero_after)
 
 pub lots_live : (ds : List Deal) (t : ℕ) → AreDeals ds → IsLife (rows_of t ds []) (lot_qty (replay ds) t)
 lots_live ds t a = life t ds Buy [] tt a refl

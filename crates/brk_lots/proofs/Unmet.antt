@@ -1,21 +1,20 @@
 -- Of a position that has nothing on the other side of a trade the trade closes nothing.
-use Rattle.std.proofs.Common.{◌≡◌, ℕ, ◌-◌, ◌*◌, zero, suc, pos, min, nat_lt, true, false, cond, List, [], ◌∷◌, Bool, length, map, refl, sym, ap, ◌∙◌, ℤ, arith}
+use Rattle.std.proofs.Common.{◌≡◌, ℕ, ◌-◌, ◌*◌, zero, suc, min, true, false, cond, List, Bool, length, refl, sym, ap, ◌∙◌, arith}
 use Rattle.std.proofs.lemmas.Bool.{ltb-false}
 use Rattle.brk_money.specs.Kinds.{same_side}
 use Rattle.brk_money.specs.declared.side.Side.{Side}
 use Rattle.brk_money.specs.declared.side.Side.TheVariants.{Buy, Sell}
 use Rattle.brk_model.specs.Shares.{Deal, signed}
 use Rattle.brk_lots.specs.declared.lot.Lot.{Lot}
-use Rattle.brk_lots.specs.declared.values.Values.{Values}
 use Rattle.brk_lots.specs.Against.{is_against}
 use Rattle.brk_lots.specs.Books.{lots_total}
-use Rattle.brk_lots.specs.Lots.{from_end, side_of_qty, shares_of}
+use Rattle.brk_lots.specs.Lots.{from_end, shares_of}
 use Rattle.brk_lots.specs.Position.{IsWalk}
 use Rattle.brk_lots.specs.Values.{values_by, values_of}
 use Rattle.brk_lots.specs.Walks.{met, paid}
 use Rattle.brk_lots.proofs.Books.{lots_net}
 use Rattle.brk_lots.proofs.Closed.{values_are}
-use Rattle.brk_lots.proofs.Counts.{OneSide, all_shares, net_of, walk_side}
+use Rattle.brk_lots.proofs.Counts.{all_shares, net_of, walk_side}
 use Rattle.brk_lots.proofs.Ends.{met_all, met_end}
 use Rattle.brk_lots.proofs.Walks.{paid_none}
 

@@ -1,20 +1,14 @@
 -- The history of one lot.
-use Rattle.std.specs.Prelude.{◌≡◌, ℕ, ◌<◌, ℤ, pos, if◌then◌else◌, List, [], ◌∷◌, ◌++◌, map}
+use Rattle.std.specs.Prelude.{◌≡◌, ℕ, ◌<◌, ℤ, pos, List, [], ◌∷◌, ◌++◌, filter, map}
 use Rattle.brk_money.specs.declared.side.Side.{Side}
-use Rattle.brk_model.specs.Shares.{Share, Deal, Lot, Touch, signed, shares_after, lot_qty, is_change, lots, opened_shares, touches}
-use Rattle.brk_model.specs.Tables.{HoldingHistoryRow}
+use Rattle.brk_model.specs.Shares.{Share, Deal, Lot, Touch, signed, shares_after, lots, opened_shares, touches}
+use Rattle.brk_model.specs.Tables.{HoldingHistoryRow, is_moved, lot_rows, touch_of_row, touch_row}
 use Rattle.brk_lots.specs.declared.replay.DealTouch.{DealTouch}
 use Rattle.brk_lots.specs.Lots.{from_end}
 
--- what a deal upon shares does to the lot of a trade
-abbrev pub touch_by : ℕ → Deal → List Share → Touch
-touch_by trade d us = record { lot = trade; before = lot_qty us trade; after = lot_qty (shares_after us d) trade }
-
 -- the history of the lot of a trade: what each deal that changes it does
 abbrev pub rows_of : ℕ → List Deal → List Share → List Touch
-rows_of trade [] us = []
-rows_of trade (d ∷ ds) us =
-    if is_change (touch_by trade d us) then touch_by trade d us ∷ rows_of trade ds (shares_after us d) else rows_of trade ds (shares_after us d)
+rows_of trade ds us = map touch_of_row (filter is_moved (lot_rows trade us ds))
 
 -- fewer shares of the same side
 abbrev pub IsNearer : ℤ → ℤ → Type 0
@@ -33,10 +27,6 @@ IsLife (row ∷ rows) to = (row.before ≡ pos 0) × Falls row.after rows to
 -- the row of a lot that is opened
 abbrev pub opening_touch : Lot → Touch
 opening_touch l = record { lot = l.trade; before = pos 0; after = l.qty }
-
--- the row of a lot that a trade touched or opened
-abbrev pub touch_row : ℕ → Touch → HoldingHistoryRow
-touch_row trade t = record { lot = t.lot; trade = trade; before = t.before; after = t.after }
 
 -- what a deal upon shares does to lots: those that it touches, from its end, and then the one that it opens
 abbrev pub deal_rows : Deal → List Share → List HoldingHistoryRow

@@ -1,7 +1,8 @@
 ghost use Rattle.std.specs.Prelude.{◌≡◌, ◌++◌, [], map, IfOk, IfErr, OnOk};
 ghost use Rattle.std.specs.Option.{option_to_list};
 ghost use Rattle.brk_model.specs.Shares.{replay};
-ghost use Rattle.brk_lots.specs.Chains.{opening_touch, plain_row, replay_rows, touch_row};
+ghost use Rattle.brk_model.specs.Tables.{touch_row};
+ghost use Rattle.brk_lots.specs.Chains.{opening_touch, plain_row, replay_rows};
 ghost use Rattle.brk_lots.specs.Deals.{AreDeals};
 ghost use Rattle.brk_lots.specs.Lots.{shares_of, plain_deal, plain_lot, plain_touch};
 

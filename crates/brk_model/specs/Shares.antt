@@ -129,9 +129,13 @@ pub record Touch : Type 0 where
   pub before : ℤ
   pub after : ℤ
 
--- the lot that a share is of, before and after a deal
+-- what a deal does to the lot that a trade opened
+abbrev pub touch_by : ℕ → Deal → List Share → Touch
+touch_by trade d shares = record { lot = trade; before = lot_qty shares trade; after = lot_qty (shares_after shares d) trade }
+
+-- what a deal does to the lot that a share is of
 abbrev pub touch_of : Deal → List Share → Share → Touch
-touch_of d shares share = record { lot = share.trade; before = lot_qty shares share.trade; after = lot_qty (shares_after shares d) share.trade }
+touch_of d shares share = touch_by share.trade d shares
 
 -- whether a lot changed
 abbrev pub is_change : Touch → Bool

@@ -1,5 +1,5 @@
--- The tables: one list of rows for each, in the order of acceptance.
-use Rattle.std.specs.Prelude.{ℕ, Bool, not, List, [], ◌∷◌, map, filter, flat_map, Option, None, ℤ, pos, ◌-ℤ◌}
+-- The tables: one list of rows for each, in a stated order.
+use Rattle.std.specs.Prelude.{ℕ, Bool, not, List, [], ◌∷◌, map, filter, flat_map, Option, None, ℤ, pos}
 use Rattle.std.specs.Option.{option_map_or}
 use Rattle.brk_money.specs.Spelling.{Text}
 use Rattle.brk_money.specs.declared.trade_type.TradeType.{TradeType}
@@ -9,7 +9,7 @@ use Rattle.brk_money.specs.declared.status.Status.TheVariants.{Canceled}
 use Rattle.brk_model.specs.Lists.{is_zero}
 use Rattle.brk_model.specs.Records.{Broker, Customer, Account, Permission, Security, Charge, Band, TaxRate, CustomerTax, Trade, Kept}
 use Rattle.brk_model.specs.Base.{Base, last_mark, moment_of, broker_in, completed, price_of}
-use Rattle.brk_model.specs.Shares.{Share, Deal, shares_after, lot_qty}
+use Rattle.brk_model.specs.Shares.{Share, Deal, Touch, is_change, lot_qty, shares_after, touch_by}
 use Rattle.brk_model.specs.Derived.{deals_in, shares_in, summary_of, amount_of, due_day, cash_trades, balance_of, trade_count_of, commissions_of, pending}
 
 -- BROKER: B_ID, B_NAME, B_NUM_TRADES, B_COMM_TOTAL
@@ -195,15 +195,26 @@ abbrev pub holding_row : List Trade → Trade → HoldingRow
 holding_row done t =
     record { trade = t.id; account = t.account; symbol = t.symbol; stamp = moment_of t; price = price_of t; qty = lot_qty (shares_in done t.account t.symbol) t.id }
 
--- a lot before and after each of some deals, one after another from some shares
+-- the row of what a trade does to a lot
+abbrev pub touch_row : ℕ → Touch → HoldingHistoryRow
+touch_row trade touch = record { lot = touch.lot; trade = trade; before = touch.before; after = touch.after }
+
+-- what the row of a trade tells of its lot
+abbrev pub touch_of_row : HoldingHistoryRow → Touch
+touch_of_row row = record { lot = row.lot; before = row.before; after = row.after }
+
+-- whether the trade of a row changed its lot
+abbrev pub is_moved : HoldingHistoryRow → Bool
+is_moved row = is_change (touch_of_row row)
+
+-- what some deals do to the lot of a trade, one after another from some shares
 abbrev pub lot_rows : ℕ → List Share → List Deal → List HoldingHistoryRow
 lot_rows lot shares [] = []
-lot_rows lot shares (d ∷ deals) =
-    record { lot = lot; trade = d.trade; before = lot_qty shares lot; after = lot_qty (shares_after shares d) lot } ∷ lot_rows lot (shares_after shares d) deals
+lot_rows lot shares (d ∷ deals) = touch_row d.trade (touch_by lot d shares) ∷ lot_rows lot (shares_after shares d) deals
 
 -- the changes of the lot that a completed trade opened
 abbrev pub lot_history : List Trade → Trade → List HoldingHistoryRow
-lot_history done t = filter (λ row. not (is_zero (row.before -ℤ row.after))) (lot_rows t.id [] (deals_in done t.account t.symbol))
+lot_history done t = filter is_moved (lot_rows t.id [] (deals_in done t.account t.symbol))
 
 -- a position's summary, where it is not 0
 abbrev pub summary_rows : List Trade → ℕ → Text → List SummaryRow

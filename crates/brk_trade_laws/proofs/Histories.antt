@@ -13,7 +13,7 @@ use Rattle.brk_model.specs.Derived.{deal_of, deals_in, of_position, shares_in}
 use Rattle.brk_model.specs.Shares as model
 use Rattle.brk_model.specs.Shares.{Deal, Share, Touch, closed_count, is_change, lot_qty, lots, opened_shares, shares_after, signed, touches}
 use Rattle.brk_model.specs.Keys.{number, by_key, holding_history_key, insert_row}
-use Rattle.brk_model.specs.Tables.{HoldingHistoryRow, lot_history, lot_rows}
+use Rattle.brk_model.specs.Tables.{HoldingHistoryRow, is_moved, lot_history, lot_rows}
 use Rattle.brk_lots.specs.Lots.{from_end}
 use Rattle.brk_lots.proofs.Counts.{differ}
 use Rattle.brk_lots.proofs.Deals.{all_after}
@@ -31,9 +31,6 @@ use Rattle.brk_trade_laws.proofs.Completing.{Completes, deals_elsewhere, deals_h
 use Rattle.brk_trade_laws.proofs.Holdings.{fresh_shares, opened_is, opened_lots, signed_none, signed_some, touch_at, touched_are}
 
 -- ---- the rows of one lot
-
-abbrev is_moved : HoldingHistoryRow → Bool
-is_moved r = not (is_zero (r.before -ℤ r.after))
 
 abbrev row_at : Base → Trade → Trade → HoldingHistoryRow
 row_at base t v = change_of_lot t.id (touch_at base t v)

@@ -11,11 +11,10 @@ use Rattle.brk_model.specs.Records.{Trade}
 use Rattle.brk_model.specs.Base.{Base, completed, is_completed}
 use Rattle.brk_model.specs.Derived.{deal_of, of_position, shares_in}
 use Rattle.brk_model.specs.Shares as model
-use Rattle.brk_model.specs.Shares.{Deal, Touch, closed_count, is_change, lot_qty, lots, opened_share, opened_shares, signed, touches}
+use Rattle.brk_model.specs.Shares.{Deal, Touch, closed_count, is_change, lot_qty, lots, opened_share, opened_shares, signed, touches, touch_by}
 use Rattle.brk_model.specs.Keys.{number, by_key, holding_key, insert_row, row_before}
 use Rattle.brk_model.specs.Sheets.{sheets}
 use Rattle.brk_model.specs.Tables.{HoldingRow, holding_row, trade_row}
-use Rattle.brk_lots.specs.Chains.{touch_by}
 use Rattle.brk_lots.specs.Lots.{from_end}
 use Rattle.brk_lots.proofs.Counts.{all_shares}
 use Rattle.brk_lots.proofs.Ends.{all_back, all_end}

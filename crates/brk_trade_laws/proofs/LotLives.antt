@@ -8,7 +8,7 @@ use Rattle.std.proofs.lemmas.Bool.Decides.{nat_tests}
 use Rattle.std.proofs.lemmas.Int.{ints}
 use Rattle.brk_money.specs.declared.side.Side.{Side}
 use Rattle.brk_money.specs.declared.side.Side.TheVariants.{Buy}
-use Rattle.brk_lots.specs.Chains.{IsLife, rows_of, touch_by}
+use Rattle.brk_lots.specs.Chains.{IsLife, rows_of}
 use Rattle.brk_lots.specs.Deals.{AreDeals}
 use Rattle.brk_lots.proofs.Books.{side_after}
 use Rattle.brk_lots.proofs.Counts.{OneSide}
@@ -20,11 +20,11 @@ use Rattle.brk_model.specs.Keys.{by_key, holding_history_key, row_before}
 use Rattle.brk_model.specs.Lists.{insert_by, is_zero, sort_by}
 use Rattle.brk_model.specs.LookupView.{touch_stamp}
 use Rattle.brk_model.specs.Records.{Trade}
-use Rattle.brk_model.specs.Shares.{Deal, Share, is_change, lot_qty, shares_after}
+use Rattle.brk_model.specs.Shares.{Deal, Share, lot_qty, shares_after}
 use Rattle.brk_model.specs.Sheets.{sheets, sheets_of}
-use Rattle.brk_model.specs.Tables.{HoldingHistoryRow, HoldingRow, holding_row, lot_history, lot_rows, tables_of, trade_row}
+use Rattle.brk_model.specs.Tables.{HoldingHistoryRow, HoldingRow, holding_row, is_moved, lot_history, lot_rows, tables_of, touch_of_row, trade_row}
 use Rattle.brk_trade_laws.specs.Books.{IsBooks}
-use Rattle.brk_trade_laws.specs.Lives.{IsLotLife, IsOpened, LotsLive, changes_in, left_in, touch_in}
+use Rattle.brk_trade_laws.specs.Lives.{IsLotLife, IsOpened, LotsLive, changes_in, left_in}
 use Rattle.brk_trade_laws.proofs.Histories.{Others, filter-flat_map, no_rows}
 use Rattle.brk_trade_laws.proofs.LotOrder.{Follows, InOrder, held_in_order, of_held, trades_held}
 use Rattle.brk_trade_laws.proofs.LotReading.{All-sort, IdsApart, holdings_in_order, is_left, numbered_rise, rise_apart, rise_filter}
@@ -91,24 +91,6 @@ sort_any m before (x ∷ xs) r =
 lots_same : (lot : ℕ) (shares : List Share) (deals : List Deal) → AllByRecursion (λ r. r.lot ≡ lot) (lot_rows lot shares deals)
 lots_same lot shares [] = tt
 lots_same lot shares (d ∷ deals) = (refl, lots_same lot (shares_after shares d) deals)
-
-abbrev is_moved : HoldingHistoryRow → Bool
-is_moved row = not (is_zero (row.before -ℤ row.after))
-
-touches_are : (lot : ℕ) (shares : List Share) (deals : List Deal) → map touch_in (filter is_moved (lot_rows lot shares deals)) ≡ rows_of lot deals shares
-touches_are lot shares [] = refl
-touches_are lot shares (d ∷ deals) = by_test (is_change (touch_by lot d shares)) (touches_are lot (shares_after shares d) deals)
-  where
-    row : HoldingHistoryRow
-    row = record { lot = lot; trade = d.trade; before = lot_qty shares lot; after = lot_qty (shares_after shares d) lot }
-
-    rest : List HoldingHistoryRow
-    rest = filter is_moved (lot_rows lot (shares_after shares d) deals)
-
-    by_test : (b : Bool) → map touch_in rest ≡ rows_of lot deals (shares_after shares d)
-        → map touch_in (cond b (row ∷ rest) rest) ≡ cond b (touch_by lot d shares ∷ rows_of lot deals (shares_after shares d)) (rows_of lot deals (shares_after shares d))
-    by_test true e = ap (λ rows. touch_by lot d shares ∷ rows) e
-    by_test false e = e
 
 zero_is : (z : ℤ) → is_zero z ≡ true → z ≡ pos 0
 zero_is (pos zero) e = refl
@@ -282,7 +264,7 @@ of_done base lot t books e =
     let same : t.id ≡ lot = eqb-true t.id lot f.passes in
     let changes : changes_in (sheets base) lot ≡ lot_history (completed base) t =
     changes_of base lot (lot_history (completed base) t) (own_changes (completed base) lot t (done_apart base books) f) (history_rises base t books) in
-    let rows : map touch_in (changes_in (sheets base) lot) ≡ rows_of t.id deals [] = ap (map touch_in) changes ∙ touches_are t.id [] deals in
+    let rows : map touch_of_row (changes_in (sheets base) lot) ≡ rows_of t.id deals [] = ap (map touch_of_row) changes in
     record {
       opened = subst (IsOpened lot) (sym changes) (subst (λ (n : ℕ). IsOpened n (lot_history (completed base) t)) same (opened_first t.id Buy [] deals tt tt (deals_are base t.account t.symbol books)));
       life = subst (λ rs. IsLife rs (left_in (sheets base) lot)) (sym rows)
@@ -300,7 +282,7 @@ of_none base lot books e =
     ∙ none_found (opened lot) (filter is_left (map (holding_row (completed base)) (completed base)))
     (All-filter (λ h. opened lot h ≡ false) is_left (map (holding_row (completed base)) (completed base))
     (All-mapped (λ h. opened lot h ≡ false) (holding_row (completed base)) (completed base) none))) in
-    record { opened = subst (IsOpened lot) (sym rows) tt; life = subst (λ rs. IsLife (map touch_in rs) (left_in (sheets base) lot)) (sym rows) (sym left) }
+    record { opened = subst (IsOpened lot) (sym rows) tt; life = subst (λ rs. IsLife (map touch_of_row rs) (left_in (sheets base) lot)) (sym rows) (sym left) }
 
 pub lots_live_on : (base : Base) → IsBooks base → LotsLive (sheets base)
 lots_live_on base books lot = by_trade (find (λ u. u.id == lot) (completed base)) refl

@@ -8,9 +8,8 @@ use Rattle.brk_model.specs.Lists.{is_zero, total_by}
 use Rattle.brk_model.specs.Records.{Trade}
 use Rattle.brk_model.specs.Base.{Base, completed}
 use Rattle.brk_model.specs.Derived.{deals_in, shares_in}
-use Rattle.brk_model.specs.Shares.{Deal, Share, Touch, firsts, is_change, lot_qty, net, opened_by, shares_after, signed, touch_of, touches}
+use Rattle.brk_model.specs.Shares.{Deal, Share, Touch, firsts, is_change, lot_qty, net, opened_by, shares_after, signed, touch_of, touches, touch_by}
 use Rattle.brk_model.specs.Sheets.{sheets}
-use Rattle.brk_lots.specs.Chains.{touch_by}
 use Rattle.brk_lots.specs.Lots.{share_of}
 use Rattle.brk_lots.specs.declared.lot.Lot.{Lot}
 use Rattle.brk_lots.proofs.Books.{sides_after}

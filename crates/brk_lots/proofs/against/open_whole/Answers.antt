@@ -1,4 +1,4 @@
-use Rattle.std.proofs.Common.{rules, arith, ◌≡◌, ◌*◌, ◌-◌, ℕ, [], pos, replicate, sym, ap, ◌∙◌}
+use Rattle.std.proofs.Common.{rules, arith, ◌≡◌, ◌*◌, ◌-◌, [], pos, replicate, sym, ap, ◌∙◌}
 use Rattle.brk_model.specs.Shares.{Deal, Share, lots}
 use Rattle.brk_lots.specs.Lots.{from_end}
 use Rattle.brk_lots.specs.Walks.{bought, met, paid, rows_taken, sold}

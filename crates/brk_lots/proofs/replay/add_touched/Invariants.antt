@@ -1,5 +1,6 @@
 use Rattle.std.proofs.Common.{◌≡◌, ◌++◌, map, take}
-use Rattle.brk_lots.specs.Chains.{plain_row, touch_row}
+use Rattle.brk_model.specs.Tables.{touch_row}
+use Rattle.brk_lots.specs.Chains.{plain_row}
 use Rattle.brk_lots.specs.Lots.{plain_touch}
 use Rattle.brk_lots.proofs.replay.add_touched.Given as goal
 

@@ -1,8 +1,8 @@
 use Rattle.std.proofs.Common.{arith, ◌≡◌, ◌+◌, ◌++◌, List, ◌∷◌, drop, map, sym, ap, ◌∙◌}
 use Rattle.std.proofs.lemmas.List.{append_assoc, drop_more}
 use Rattle.brk_model.specs.Shares.{Share, shares_after}
-use Rattle.brk_model.specs.Tables.{HoldingHistoryRow}
-use Rattle.brk_lots.specs.Chains.{deal_rows, opening_touch, plain_row, replay_rows, touch_row}
+use Rattle.brk_model.specs.Tables.{HoldingHistoryRow, touch_row}
+use Rattle.brk_lots.specs.Chains.{deal_rows, opening_touch, plain_row, replay_rows}
 use Rattle.brk_lots.specs.declared.deal.Deal.{Deal}
 use Rattle.brk_lots.specs.Lots.{shares_of, plain_deal}
 use Rattle.brk_lots.specs.Position.{IsPosition}
