@@ -21,7 +21,7 @@ use Rattle.sqlite_resolve.specs.declared.compiled.Compiled.{Compiled}
 use Rattle.sqlite_resolve.specs.declared.error.CompileError.TheVariants.{NoSuchTable}
 use Rattle.sqlite.specs.Listing.{understood}
 use Rattle.sqlite.specs.Steps.{column_names}
-use Rattle.brk_rows.specs.Rows.{Holds, IsSheet}
+use Rattle.brk_rows.specs.Rows.{Holds}
 
 -- ---- what a table is made of
 
@@ -148,15 +148,6 @@ pub record Founds {W T : Type 0} (desk : Desk W T) (t : T) (old new : Database) 
   pub tables : HasTables desk t tree new
   pub fresh : (w : W) → AllByRecursion (λ t. t.tree ≢ tree w) old.schema.tables
   pub others : KeepsOthers old new
-
--- wherever this table stands, its rows are those of some records
-abbrev pub Adopts : {W T : Type 0} → Desk W T → W → Database → Type 0
-Adopts desk w db = (xs : List (desk.Item w)) × ((tree at : ℕ) → Stands db.schema (desk.shape w tree) at → Holds (desk.shape w tree) (desk.encode w) (desk.order w) xs (db.trees tree))
-
--- the same of a sound database whose trees are in order
-abbrev pub AdoptsSound : {W T : Type 0} → Desk W T → W → Database → Type 0
-AdoptsSound desk w db =
-    (xs : List (desk.Item w)) × (IsDatabase db → (tree at : ℕ) → Stands db.schema (desk.shape w tree) at → IsSheet (db.trees tree) → Holds (desk.shape w tree) (desk.encode w) (desk.order w) xs (db.trees tree))
 
 -- what it says of a text that it was understood, or that its table is not there
 abbrev pub Probes : List ℕ → Bool → Schema → Type 0

@@ -6,16 +6,12 @@ mod columns;
 ghost use Rattle.std.specs.Prelude.{◌≡◌, IfOk, IsTrue, None, map};
 ghost use Rattle.sqlite_value.specs.declared.value.Value.TheVariants.{Int};
 ghost use Rattle.sqlite_value.specs.Order.{column};
-ghost use Rattle.std.specs.List.{AllByRecursion};
-ghost use Rattle.sqlite.specs.Effect.{IsDatabase};
-ghost use Rattle.sqlite.specs.Held.{state};
-ghost use Rattle.sqlite.specs.State.{HasCleanDisk};
-ghost use Rattle.brk_rows.specs.Rows.{climbs_from, IsSheet};
+ghost use Rattle.brk_rows.specs.Rows.{climbs_from};
 ghost use Rattle.brk_rows.specs.Model.{Steps};
 ghost use Rattle.brk_rows.specs.Desk.{Probes};
 
 pub use columns::shows_columns;
-use sqlite::{Alter, Connection, Error, Row, Transaction};
+use sqlite::{Alter, Error, Row, Transaction};
 use sqlite_resolve::error::CompileError;
 use std::alloc::Global;
 
@@ -44,23 +40,6 @@ pub fn numbers_in(alloc: Global, rows: &[Row], at: usize) -> Result<Vec<i64>, Er
         all.push(row.get(at)?)?;
     }
     Ok(all)
-}
-
-/// Hands the store over and takes it back, after which the database is known to be sound and the order of each tree is.
-pub fn reopened<S: Alter + Drop>(
-    alloc: Global,
-    conn: Connection<S>,
-) -> Result<Connection<S>, (Error, Option<S>)>
-    ensures { IfOk result (λ c. HasCleanDisk (state S.Store c) → IsDatabase (state S.Store c).now × AllByRecursion (λ t. IsSheet ((state S.Store c).now.trees t.tree)) (state S.Store c).now.schema.tables) }
-{
-    let store = conn.into_store();
-    if store.is_broken() {
-        return Err((Error::InvalidQuery, Some(store)));
-    }
-    match Connection::over(alloc, store) {
-        Ok(conn) => Ok(conn),
-        Err((error, store)) => Err((error, Some(store))),
-    }
 }
 
 /// Whether a text is understood, or names a table that is not there. It runs nothing.

@@ -42,7 +42,7 @@ order_tests found =
     (is_none found.account, NoAccount) ∷ (is_none found.last_price, NoSecurity) ∷ (not found.is_permitted, NotPermitted)
     ∷ (is_none found.charge, NoCharge) ∷ (is_none found.rate, NoRate) ∷ []
 
--- the market's last price for a market type, and else the order's; an order of another type that names none has the market's
+-- the price that the order asks for, and else the market's last price
 abbrev pub requested_price : Order → ℕ → ℕ
 requested_price order last = unwrap_or (price_asked order.order_type) last
 
