@@ -1,6 +1,6 @@
 -- A column that does not read has no form.
-use Rattle.std.proofs.Common.{◌≡◌, ◌≢◌, ◌⊎◌, ◌≤◌, ◌<◌, ◌^◌, ℕ, ℤ, zero, suc, pos, negsuc, List, [], ◌∷◌, length, get_or, Bool, true, false, Option, Some, None, slice_get, refl, sym, ap, ◌∙◌, inl, inr, arith}
-use Rattle.std.specs.Prelude.{◌&&◌, nat_lt}
+use Rattle.std.proofs.Common.{◌≡◌, ◌<◌, ℕ, ℤ, zero, suc, pos, negsuc, List, [], ◌∷◌, length, get_or, Bool, true, false, Some, slice_get, refl, sym, ap, ◌∙◌, arith}
+use Rattle.std.specs.Prelude.{◌&&◌}
 use Rattle.std.specs.Prelude.{Result, Ok, Err, IsErrAnd}
 use Rattle.std.specs.Str.{IsUtf8, is_utf8}
 use Rattle.std.proofs.lemmas.Str.{IsUtf8-from_is_utf8, is_utf8-from_IsUtf8}
@@ -11,7 +11,7 @@ use Rattle.sqlite_value.specs.declared.value.Value.TheVariants.{Null, Int, Real,
 use Rattle.sqlite_value.specs.Order.{Row, column}
 use Rattle.brk_tables_form.specs.declared.misread.Misread.{Misread}
 use Rattle.brk_tables_form.specs.declared.misread.Misread.TheVariants.{Form}
-use Rattle.brk_tables_form.specs.Formed.{natural_cell, maybe_cell, words_cell, number_cell, cents_cell, all_formed}
+use Rattle.brk_tables_form.specs.Formed.{natural_cell, maybe_cell, words_cell, number_cell, all_formed}
 
 -- a form that nothing has
 unformed : (b : Bool) → (b ≡ true → ⊥) → b ≡ false

@@ -7,14 +7,11 @@ use Rattle.sqlite_schema.specs.declared.schema.Schema.{Schema}
 use Rattle.sqlite_schema.specs.declared.command.Command.TheVariants.{Select}
 use Rattle.sqlite_syntax.specs.declared.statement.Parsed.{Parsed}
 use Rattle.sqlite_resolve.specs.Compile.{compiled}
-use Rattle.sqlite_resolve.specs.declared.compiled.Compiled.{Compiled}
 use Rattle.sqlite_resolve.specs.declared.error.CompileError.TheVariants.{Mismatch}
-use Rattle.sqlite.specs.Effect.{Database}
-use Rattle.sqlite.specs.State.{State, Shown, Begins, IsUnchanged, IsStatement}
+use Rattle.sqlite.specs.State.{State, Shown, Begins, IsUnchanged}
 use Rattle.sqlite.specs.Clock.{timed}
-use Rattle.sqlite.specs.Listing.{IsSourceOf, reads_listing}
 use Rattle.sqlite.proofs.Callers.{EndsIn, begins_shown}
-use Rattle.brk_rows.specs.Desk.{Desk, Stands, HasTables, Tells}
+use Rattle.brk_rows.specs.Desk.{Desk, Stands, Tells}
 use Rattle.brk_rows.proofs.Effects.{same_value}
 use Rattle.brk_rows.proofs.Meant.{meant, known, when_understood}
 use Rattle.brk_rows.proofs.Pick.{selection}

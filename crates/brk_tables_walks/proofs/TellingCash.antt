@@ -4,7 +4,6 @@ use Rattle.std.specs.Prelude.{nat_le}
 use Rattle.sqlite_value.specs.Order.{Row, column, value_cmp}
 use Rattle.sqlite_tied.proofs.RuleLemmas.{and_true}
 use Rattle.sqlite.specs.State.{State, Shown, Begins}
-use Rattle.brk_model.specs.Tables.{CashRow}
 use Rattle.brk_rows.specs.Desk.{Tells}
 use Rattle.brk_rows.proofs.Looks.{tells_sorted}
 use Rattle.brk_tables_walks.proofs.Starts.{tells_start}

@@ -7,7 +7,6 @@ use Rattle.brk_model.specs.Tables.{TradeRow}
 use Rattle.brk_model.specs.Keys.{trade_key}
 use Rattle.brk_rows.specs.Desk.{Tells}
 use Rattle.brk_rows.proofs.Looks.{tells_rising}
-use Rattle.brk_rows.proofs.Order.{map_twice}
 use Rattle.brk_rows.proofs.Texts.{read}
 use Rattle.brk_tables_form.specs.Cells.{nat}
 use Rattle.brk_tables_form.specs.Desk.{Trades, desk, order}

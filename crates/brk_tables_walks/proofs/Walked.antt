@@ -1,5 +1,5 @@
 -- What was given, said of the database as it was before the walk.
-use Rattle.std.proofs.Common.{◌≡◌, ◌⊎◌, ℕ, List, [], ◌∷◌, ◌++◌, Result, Ok, Err, Option, Some, None, IsSome, IsTrue, map, refl, sym, ap, subst, ◌∙◌, inl, inr}
+use Rattle.std.proofs.Common.{◌≡◌, ◌⊎◌, ℕ, List, [], ◌∷◌, ◌++◌, Result, Ok, Err, Option, Some, None, IsSome, map, refl, sym, ap, subst, ◌∙◌, inl, inr}
 use Rattle.std.specs.List.{FoldsTo}
 use Rattle.sqlite_value.specs.Order.{Row}
 use Rattle.sqlite_trees.specs.declared.store.Store.{Ghosts}
@@ -12,8 +12,7 @@ use Rattle.sqlite.specs.Clock.{timed}
 use Rattle.sqlite.specs.Listing.{understood, reads_listing, IsSourceOf}
 use Rattle.sqlite.specs.Held.{Held, state}
 use Rattle.sqlite.specs.Given.{HasBegun, HasGiven, Returns}
-use Rattle.sqlite.specs.Values.{bound}
-use Rattle.sqlite.specs.State.{State, HasCleanDisk, IsUnchanged, IsRolledBack, IsStatement, Survives, CommitsShowing, Begins, Shown, ShowsRows, FailsToQuery, FailsToShow, IsNotRun, Fails}
+use Rattle.sqlite.specs.State.{State, IsUnchanged, IsRolledBack, IsStatement, Survives, CommitsShowing, Begins, Shown, ShowsRows, FailsToQuery, FailsToShow, IsNotRun, Fails}
 use Rattle.sqlite.proofs.Callers.{unchanged_then}
 use Rattle.sqlite.proofs.StateLemmas.{survives_then, survives_weaker}
 use Rattle.brk_tables_walks.specs.Walk.{IsQuery}

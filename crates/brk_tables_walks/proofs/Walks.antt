@@ -1,20 +1,18 @@
 -- From the rows of an answer to the records of the tables.
 use Rattle.std.proofs.Common.{◌≡◌, ◌⊎◌, ℕ, List, [], ◌∷◌, ◌++◌, map, Result, Ok, Err, OnOk, IfErr, IsTrue, refl, sym, ap, ◌∙◌, inl, inr}
-use Rattle.std.specs.List.{FoldsTo}
 use Rattle.sqlite_value.specs.Order.{Row}
 use Rattle.sqlite_trees.specs.declared.store.Store.{Ghosts}
 use Rattle.sqlite_keyed.proofs.ListLemmas.{map_back}
 use Rattle.sqlite.specs.Held.{Held, state}
-use Rattle.sqlite.specs.State.{State, HasCleanDisk, Survives, IsUnchanged, IsRolledBack, Shown, Begins}
+use Rattle.sqlite.specs.State.{HasCleanDisk, Survives, IsUnchanged, IsRolledBack, Shown, Begins}
 use Rattle.brk_model.specs.Tables.{Tables}
 use Rattle.brk_rows.specs.Desk.{Tells}
 use Rattle.brk_rows.proofs.Decode.{all_are}
 use Rattle.brk_rows.proofs.Order.{map_twice}
 use Rattle.brk_tables_form.specs.Desk.{desk}
-use Rattle.brk_tables_form.specs.Made.{HasRows}
 use Rattle.brk_tables_walks.specs.declared.walking.Stop.{Stop}
 use Rattle.brk_tables_walks.specs.declared.walking.Stop.TheVariants.{Failed, Cause}
-use Rattle.brk_tables_walks.specs.Walk.{TakesAll, TakesFirst, StopsAt, EndsEarly}
+use Rattle.brk_tables_walks.specs.Walk.{TakesAll, EndsEarly}
 use Rattle.brk_tables_walks.specs.Walks.{AreAll, AreFirst, BreaksOff, Takes, Walks}
 
 map_parts : {X Y : Type 0} (f : X → Y) (xs ys : List X) → map f (xs ++ ys) ≡ map f xs ++ map f ys

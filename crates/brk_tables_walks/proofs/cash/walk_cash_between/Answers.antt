@@ -1,4 +1,4 @@
-use Rattle.std.proofs.Common.{◌≡◌, [], ◌∷◌, rules}
+use Rattle.std.proofs.Common.{[], ◌∷◌, rules}
 use Rattle.sqlite.specs.Held.{state}
 use Rattle.brk_tables_form.specs.Cells.{nat, cash_cells}
 use Rattle.brk_changes.specs.Rows.{cash_row_of}

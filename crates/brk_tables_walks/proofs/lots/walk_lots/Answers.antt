@@ -1,6 +1,5 @@
-use Rattle.std.proofs.Common.{◌≡◌, [], ◌∷◌, rules}
+use Rattle.std.proofs.Common.{[], ◌∷◌, rules}
 use Rattle.sqlite.specs.Held.{state}
-use Rattle.sqlite.specs.State.{HasCleanDisk}
 use Rattle.brk_tables_form.specs.Cells.{nat, holding_cells}
 use Rattle.brk_changes.specs.Rows.{holding_row_of}
 use Rattle.brk_tables_walks.proofs.Records.{holding_back, holding_is_back}

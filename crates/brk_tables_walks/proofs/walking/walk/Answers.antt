@@ -1,13 +1,10 @@
-use Rattle.std.proofs.Common.{◌≡◌, ◌⊎◌, ℕ, List, [], ◌∷◌, ◌++◌, Ok, Err, Some, None, map, refl, sym, ap, subst, ◌∙◌, rules, arith, inl, inr}
-use Rattle.std.specs.List.{FoldsTo}
-use Rattle.sqlite_value.specs.Order.{Row}
-use Rattle.sqlite.specs.Held.{Held, state}
+use Rattle.std.proofs.Common.{[], ◌∷◌, ◌++◌, map, refl, sym, subst, ◌∙◌, rules, arith, inl, inr}
+use Rattle.sqlite.specs.Held.{state}
 use Rattle.sqlite.specs.Given.{HasGiven}
 use Rattle.sqlite.specs.Values.{bound}
-use Rattle.sqlite.specs.State.{State, HasCleanDisk, IsUnchanged, Survives, CommitsShowing, Begins}
+use Rattle.sqlite.specs.State.{HasCleanDisk, IsUnchanged, Survives, CommitsShowing, Begins}
 use Rattle.sqlite.proofs.Callers.{given_begin, unchanged_then}
 use Rattle.brk_tables_walks.proofs.Starts.{still}
-use Rattle.brk_tables_walks.specs.Walk.{IsQuery, TakesAll, TakesFirst, StopsAt}
 use Rattle.brk_tables_walks.proofs.Walked.{begun, begins_at, commits_none, failed, folds_one, map_one, refused, shown_at, through}
 use Rattle.brk_tables_walks.proofs.walking.walk.Goals as goal
 

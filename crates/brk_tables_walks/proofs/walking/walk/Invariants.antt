@@ -1,6 +1,5 @@
 use Rattle.std.proofs.Common.{◌≡◌, false, List, map}
 use Rattle.std.specs.List.{FoldsTo}
-use Rattle.sqlite_value.specs.Order.{Row}
 use Rattle.sqlite.specs.State.{HasCleanDisk, IsUnchanged, Survives}
 use Rattle.sqlite.specs.Held.{state}
 use Rattle.sqlite.specs.Given.{HasGiven}

@@ -1,4 +1,4 @@
-use Rattle.std.proofs.Common.{refl, ap, Err}
+use Rattle.std.proofs.Common.{refl}
 use Rattle.brk_tables_form.specs.Formed.{trade_forms}
 use Rattle.brk_tables_form.proofs.Unformed.{handed_on, no_form_at, wrong_length}
 use Rattle.brk_tables_form.proofs.TradeCells.{row_is}

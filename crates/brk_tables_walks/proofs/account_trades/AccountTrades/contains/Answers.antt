@@ -1,4 +1,4 @@
-use Rattle.std.proofs.Common.{◌≡◌, ◌∙◌, ap}
+use Rattle.std.proofs.Common.{◌∙◌, ap}
 use Rattle.brk_model.specs.Lists.{contains_number}
 use Rattle.brk_tables_walks.proofs.Rising.{among}
 use Rattle.brk_tables_walks.proofs.account_trades.AccountTrades.contains.Goals as goal
