@@ -28,7 +28,8 @@ fn are_in_form(command: &Command, key: Option<&Key>)
     }
 }
 
-/// Books a command, where it is accepted, and keeps it under its key, where it has one.
+/// Books a command, where it is accepted, and keeps it under its key, where it has one. The only faults are want of memory and
+/// the store's; at one of them the store holds the rows that it held.
 pub fn book<S: Alter>(
     alloc: Global,
     store: &mut Store<S>,

@@ -1,12 +1,12 @@
 -- What a customer's accounts are worth, as it was read, is the view of the definitions.
-use Rattle.std.proofs.Common.{◌≡◌, ℕ, ◌==◌, List, Bool, Option, Some, None, Ok, Err, sym, ap, ◌∙◌, map, filter, find}
+use Rattle.std.proofs.Common.{◌≡◌, ℕ, ◌==◌, List, Bool, Some, None, Ok, Err, sym, ap, ◌∙◌, map, filter, find}
 use Rattle.std.specs.Prelude.{◌&&◌, bytes_eq, is_none}
 use Rattle.std.specs.List.{list_any}
 use Rattle.std.proofs.lemmas.Bool.{eqb-true}
 use Rattle.brk_money.specs.Spelling.{Text}
 use Rattle.brk_money.specs.declared.refusal.Refusal.TheVariants.{NoCustomer}
 use Rattle.brk_model.specs.Ask.{answer_of, ask, query_tests}
-use Rattle.brk_model.specs.Base.{Base, customer_with}
+use Rattle.brk_model.specs.Base.{customer_with}
 use Rattle.brk_model.specs.Keys.{customer_key, row_before}
 use Rattle.brk_model.specs.PositionView.{position_view}
 use Rattle.brk_model.specs.Queries.{PositionOf, PositionOfTaxId}

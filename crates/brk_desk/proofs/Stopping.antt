@@ -1,5 +1,5 @@
 -- What a stop may leave, with one call more.
-use Rattle.std.proofs.Common.{◌≡◌, ◌∙◌, ◌⊎◌, inl, inr, ℕ, List, [], ◌∷◌, ◌++◌, Option, Some, None, Result, Ok, Err, refl, sym, ap, subst}
+use Rattle.std.proofs.Common.{◌≡◌, ◌∙◌, inl, inr, ℕ, List, [], ◌∷◌, ◌++◌, Option, Some, None, Result, Ok, Err, refl, sym, ap, subst}
 use Rattle.std.specs.List.{AllByRecursion}
 use Rattle.std.proofs.lemmas.List.{append_assoc}
 use Rattle.brk_money.specs.declared.fault.Fault.{Fault}
@@ -10,7 +10,7 @@ use Rattle.brk_model.specs.Keyed.{acted, kept_of, keyed, keyed_step}
 use Rattle.brk_model.specs.Records.{Kept, Key}
 use Rattle.brk_model.specs.Run.{Answers, Ask, Call, Did, Do, Outcome, Failed, NoView, Run, Saw}
 use Rattle.brk_model.specs.Step.{step}
-use Rattle.brk_desk.specs.Stops.{IsQuiet, IsUnderWay, MayStand}
+use Rattle.brk_desk.specs.Stops.{IsQuiet, MayStand}
 
 pub run_then : (base mid after : Base) (calls : List (ℕ × Call)) (outcomes : List Outcome) (x : ℕ × Call) (o : Outcome) → Run base calls outcomes mid → Answers mid x.0 x.1 o after
     → Run base (calls ++ x ∷ []) (outcomes ++ o ∷ []) after

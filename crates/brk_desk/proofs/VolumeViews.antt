@@ -1,19 +1,18 @@
 -- What brokers have to trade in a sector, as it was read, is the view of the definitions.
 use Rattle.std.proofs.Common.{◌≡◌, ◌==◌, ◌+◌, ◌<◌, ℕ, Bool, true, false, cond, List, [], ◌∷◌, ◌++◌, Ok, refl, sym, ap, ◌∙◌, arith, filter, get_or, length, map, pos, reverse, take}
-use Rattle.std.proofs.lemmas.List.{map-append, reverse-append, take_more}
+use Rattle.std.proofs.lemmas.List.{map-append, reverse-append}
 use Rattle.std.proofs.lemmas.Bool.Decides.{nat_tests}
-use Rattle.std.specs.Prelude.{◌&&◌, bytes_eq, flat_map, nat_lt, sum_by}
+use Rattle.std.specs.Prelude.{bytes_eq, flat_map, nat_lt, sum_by}
 use Rattle.brk_money.specs.Spelling.{Text}
 use Rattle.brk_changes.specs.Rows.{request_row_of}
 use Rattle.brk_changes.specs.declared.request_row.RequestRow as read
 use Rattle.brk_model.specs.Ask.{answer_of, ask, query_tests}
-use Rattle.brk_model.specs.Base.{Base}
 use Rattle.brk_model.specs.Lists.{distinct_texts, sort_by}
 use Rattle.brk_model.specs.Queries.{VolumeOf}
 use Rattle.brk_model.specs.Sheets.{sheets}
-use Rattle.brk_model.specs.Tables.{BrokerRow, RequestRow, Tables, tables_of}
+use Rattle.brk_model.specs.Tables.{BrokerRow, RequestRow, Tables}
 use Rattle.brk_model.specs.Views.{view_of}
-use Rattle.brk_model.specs.VolumeView.{by_volume, requests_in, volume_in, volume_view}
+use Rattle.brk_model.specs.VolumeView.{by_volume, requests_in, volume_view}
 use Rattle.brk_trade_laws.proofs.LotReading.{filter-both}
 use Rattle.brk_trade_laws.proofs.Places.{filter-append}
 use Rattle.brk_view.specs.Views.{fields_of}

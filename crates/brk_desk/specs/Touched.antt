@@ -1,11 +1,9 @@
 -- The changes of lots that were read.
 use Rattle.std.specs.Prelude.{◌≡◌, ◌==◌, ℕ, List, filter, flat_map, map, take}
 use Rattle.std.specs.Option.{option_map_or}
-use Rattle.brk_changes.specs.Rows.{lot_change_of}
-use Rattle.brk_changes.specs.declared.lot_change.LotChange.{LotChange}
 use Rattle.brk_model.specs.Joins.{trade_in}
 use Rattle.brk_model.specs.Lists.{sort_by}
-use Rattle.brk_model.specs.Tables.{HoldingHistoryRow, Tables}
+use Rattle.brk_model.specs.Tables.{Tables}
 use Rattle.brk_view.specs.Lots.{touch_before, touch_in}
 use Rattle.brk_view.specs.declared.lots.LotTouch.{LotTouch}
 use Rattle.brk_view.specs.declared.lots.TouchedLots.{TouchedLots}

@@ -1,7 +1,6 @@
 -- What brokers have to trade in a sector, as it was read.
-use Rattle.std.specs.Prelude.{ℕ, ◌==◌, Bool, false, if◌then◌else◌, List, [], ◌∷◌, ◌++◌, bytes_eq, filter, flat_map, length, map, nat_lt}
+use Rattle.std.specs.Prelude.{Bool, false, if◌then◌else◌, List, [], ◌∷◌, ◌++◌, bytes_eq, filter, length, map, nat_lt}
 use Rattle.std.specs.Option.{option_map_or}
-use Rattle.brk_changes.specs.Rows.{request_row_of}
 use Rattle.brk_changes.specs.declared.request_row.RequestRow as read
 use Rattle.brk_model.specs.Joins.{security_in}
 use Rattle.brk_model.specs.Tables.{BrokerRow, RequestRow, Tables}

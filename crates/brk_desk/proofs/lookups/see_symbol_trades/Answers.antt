@@ -1,4 +1,4 @@
-use Rattle.std.proofs.Common.{◌≡◌, Err, List, None, Ok, Option, Some, filter, find, map, option_map, take}
+use Rattle.std.proofs.Common.{◌≡◌, Err, None, Ok, Option, Some, filter, find, map, option_map, take}
 use Rattle.std.specs.Prelude.{Result, bytes_eq}
 use Rattle.brk_money.specs.Spelling.{Text}
 use Rattle.brk_money.specs.declared.fault.Fault.{Fault}

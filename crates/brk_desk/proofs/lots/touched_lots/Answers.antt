@@ -1,4 +1,4 @@
-use Rattle.std.proofs.Common.{◌≡◌, ◌==◌, ◌∙◌, ◌++◌, ◌∷◌, [], ℕ, List, Ok, ap, filter, map, refl, sym, take}
+use Rattle.std.proofs.Common.{◌≡◌, ◌==◌, ◌∙◌, ◌++◌, ℕ, List, filter, map, refl, sym, take}
 use Rattle.std.specs.Prelude.{flat_map}
 use Rattle.brk_money.specs.declared.fault.Fault.{Fault}
 use Rattle.brk_changes.specs.Rows.{lot_change_of}

@@ -1,6 +1,5 @@
-use Rattle.std.proofs.Common.{◌≡◌, ◌∙◌, Ok, ap, map, sym}
+use Rattle.std.proofs.Common.{◌≡◌, Ok, map}
 use Rattle.std.specs.Prelude.{flat_map}
-use Rattle.brk_model.specs.Lists.{distinct_texts}
 use Rattle.brk_model.specs.Queries.{VolumeOf}
 use Rattle.brk_model.specs.Tables.{Tables}
 use Rattle.brk_store.proofs.Retelling.{retold}
