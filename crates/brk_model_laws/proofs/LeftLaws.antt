@@ -1,14 +1,18 @@
--- Calls whose keys are kept change nothing, so that the others alone lead to the base after all of them.
-use Rattle.std.proofs.Common.{◌≡◌, cond, List, [], ◌∷◌, append-nil, refl, sym, ◌∙◌, ap, subst, Option, Some, None}
+-- Calls whose keys are kept change nothing, so that the others alone lead to the base after all of them; so do those that were accepted.
+use Rattle.std.proofs.Common.{◌≡◌, cond, List, [], ◌∷◌, ◌++◌, append-nil, map, refl, sym, ◌∙◌, ap, subst, Option, Some, None}
 use Rattle.std.specs.Prelude.{is_none}
 use Rattle.brk_model.specs.Records.{Kept}
 use Rattle.brk_model.specs.Base.{Base}
-use Rattle.brk_model.specs.Commands.{Command, Answer}
+use Rattle.brk_model.specs.Commands.{Command, Answer, Done, Again, Refused}
 use Rattle.brk_model.specs.Keyed.{kept_under, keyed, keyed_step, repeated}
 use Rattle.brk_model.specs.Answers.{RowCall, InTurn, call_step}
 use Rattle.brk_model.specs.Batch.{row_step}
-use Rattle.brk_model_laws.specs.Laws.{AreKeptAnswers, IsKeptAnswer, answers_left, calls_left}
-use Rattle.brk_model_laws.proofs.KeptLaws.{Grows, grows-on, keyed_step-grows, stays}
+use Rattle.brk_model.specs.Run.{Did}
+use Rattle.brk_model_laws.specs.Laws.{AreKeptAnswers, AreRemembered, IsKeptAnswer, IsRemembered, answers_left, call_of, calls_left, done_answers, done_calls}
+use Rattle.brk_model_laws.proofs.KeyLaws.{found_again, keeps, row_kept}
+use Rattle.brk_model_laws.proofs.KeptLaws.{Grows, grows-on, keyed_step-grows, run-grows, stays}
+use Rattle.brk_model_laws.proofs.PartLaws.{in-turn-joined}
+use Rattle.brk_model_laws.proofs.RunLaws.{Says, keyed_step-says, rows-run}
 
 -- a call whose key is kept leaves the base
 kept-call : (base : Base) (call : RowCall Command) (k : Kept) → kept_under base call.key ≡ Some k → call_step row_step base call ≡ repeated base call.command k
@@ -44,3 +48,48 @@ left first base after (call ∷ calls) (answer ∷ answers) g r =
 pub left-over : (base after : Base) (calls : List (RowCall Command)) (answers : List Answer) → InTurn row_step base calls answers after
     → InTurn row_step base (calls_left base calls) (answers_left base calls answers) after × AreKeptAnswers base calls answers
 left-over base after calls answers r = left base base after calls answers ([], sym (append-nil base.kept)) r
+
+-- ---- two sendings
+
+-- a row that is answered again or refused leaves the base, so that the accepted rows alone lead to it
+done-alone : (base after : Base) (calls : List (RowCall Command)) (answers : List Answer) → InTurn row_step base calls answers after
+    → InTurn row_step base (done_calls calls answers) (done_answers answers) after
+done-alone base after [] [] r = r
+done-alone base after [] (answer ∷ answers) r = absurd r
+done-alone base after (call ∷ calls) [] r = absurd r
+done-alone base after (call ∷ calls) (answer ∷ answers) r =
+    by_answer answer (λ mid s. done-alone mid after calls answers s)
+    (keyed_step-says base call.now call.command (Some call.key) answer mid (ap (λ a. (a, mid)) (sym r.0))) r
+  where
+    mid : Base
+    mid = (call_step row_step base call).1
+
+    by_answer : (answer : Answer) → ((b : Base) → InTurn row_step b calls answers after → InTurn row_step b (done_calls calls answers) (done_answers answers) after)
+        → Says base answer mid → InTurn row_step base (call ∷ calls) (answer ∷ answers) after
+        → InTurn row_step base (done_calls (call ∷ calls) (answer ∷ answers)) (done_answers (answer ∷ answers)) after
+    by_answer (Done reply) onward says r = (r.0, onward mid r.1)
+    by_answer (Again line) onward says r = onward base (subst (λ b. InTurn row_step b calls answers after) says r.1)
+    by_answer (Refused refusal) onward says r = onward base (subst (λ b. InTurn row_step b calls answers after) says r.1)
+
+pub one-run : (base mid last : Base) (first again : List (RowCall Command)) (answers told : List Answer) → InTurn row_step base first answers mid → InTurn row_step mid again told last
+    → InTurn row_step base (done_calls first answers ++ calls_left mid again) (done_answers answers ++ answers_left mid again told) last
+one-run base mid last first again answers told r s =
+    in-turn-joined base mid last (done_calls first answers) (calls_left mid again) (done_answers answers) (answers_left mid again told)
+    (done-alone base mid first answers r) (left-over mid last again told s).0
+
+-- what was accepted is kept
+pub done-kept : (base after : Base) (calls : List (RowCall Command)) (answers : List Answer) → InTurn row_step base calls answers after → AreRemembered after calls answers
+done-kept base after [] answers r = tt
+done-kept base after (call ∷ calls) [] r = absurd r
+done-kept base after (call ∷ calls) (answer ∷ answers) r = (by_answer answer r.0, done-kept mid after calls answers r.1)
+  where
+    mid : Base
+    mid = (call_step row_step base call).1
+
+    by_answer : (answer : Answer) → answer ≡ (call_step row_step base call).0 → IsRemembered after call answer
+    by_answer (Done reply) e =
+        let k = keeps base call.now call.command call.key reply mid (ap (λ a. (a, mid)) (sym e)) in
+        stays mid after call.key (row_kept call.key call.command reply) (run-grows (map call_of calls) (map Did answers) mid after (rows-run mid calls answers after r.1))
+        (found_again base call.command call.key reply mid k)
+    by_answer (Again line) e = tt
+    by_answer (Refused refusal) e = tt

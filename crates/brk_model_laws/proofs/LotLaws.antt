@@ -13,10 +13,11 @@ use Rattle.brk_model.specs.Base.{Base, is_completed, completed, moment_of}
 use Rattle.brk_model.specs.Shares.{Share, Deal, shares_after, replay, signed, net, opened_by, lot_qty}
 use Rattle.brk_model.specs.Derived.{deal_of, of_account, of_position, shares_in, summary_of}
 use Rattle.brk_model.specs.Tables.{HoldingRow, holding_row, tables_of}
-use Rattle.brk_model_laws.specs.Laws.{IsReached}
+use Rattle.brk_model_laws.specs.Names.{IsNamed}
 use Rattle.brk_model_laws.specs.Positions.{in_position}
 use Rattle.brk_model.specs.Names.{NumberedFrom}
-use Rattle.brk_model_laws.proofs.NameLaws.{is_named}
+use Rattle.brk_model.specs.Run.{Call, Outcome, Run}
+use Rattle.brk_model_laws.proofs.NameLaws.{still-named}
 use Rattle.brk_model_laws.proofs.Sums.{total_by-sum, total_by-zero, total_by-map, total_by-same, total_by-filter, total_by-left_out, total_by-sort, zero-is}
 use Rattle.brk_model_laws.proofs.Sides.{after-All, net-replay}
 
@@ -200,9 +201,13 @@ holdings-total done account symbol h =
     shares : List Share
     shares = shares_in done account symbol
 
--- of each base that is reached
-pub lots-total : (base : Base) → IsReached base → (account : ℕ) (symbol : Text)
+pub lots-total : (base : Base) (account : ℕ) (symbol : Text) → NumberedFrom 1 base.trades
     → total_by (λ row. row.qty) (filter (in_position account symbol) (tables_of base).holdings) ≡ summary_of (completed base) account symbol
 unfolding tables_of
-lots-total base r account symbol =
-    holdings-total (completed base) account symbol (filter-Apart is_completed base.trades (numbered-Apart 1 base.trades (is_named base r).numbered))
+lots-total base account symbol n =
+    holdings-total (completed base) account symbol (filter-Apart is_completed base.trades (numbered-Apart 1 base.trades n))
+
+-- after any calls
+pub lots-after : (base after : Base) (calls : List (ℕ × Call)) (outcomes : List Outcome) (account : ℕ) (symbol : Text) → IsNamed base → Run base calls outcomes after
+    → total_by (λ row. row.qty) (filter (in_position account symbol) (tables_of after).holdings) ≡ summary_of (completed after) account symbol
+lots-after base after calls outcomes account symbol n r = lots-total after account symbol (still-named base after calls outcomes n r).numbered

@@ -1,4 +1,4 @@
--- What a reached base's records name is there.
+-- What a base's records name is there, after any calls from a base where it is so.
 use Rattle.std.proofs.Common.{◌≡◌, ℕ, ◌+◌, ◌==◌, Bool, true, false, cond, List, [], ◌∷◌, ◌++◌, length, find, refl, ◌∙◌, ap, Option, Some, None, arith}
 use Rattle.std.specs.Prelude.{is_some, is_none, bytes_eq, fold}
 use Rattle.std.specs.Option.{option_map_or}
@@ -13,10 +13,11 @@ use Rattle.brk_model.specs.Feed.{ticked, with_tick, with_ticks}
 use Rattle.brk_model.specs.Results.{with_result, completed_trade}
 use Rattle.brk_model.specs.Tests.{next_stamp, tests, refusal_of}
 use Rattle.brk_model.specs.Step.{records_after, base_after}
+use Rattle.brk_model.specs.Run.{Call, Outcome, Run}
 use Rattle.brk_model_laws.specs.Laws.{IsReached}
 use Rattle.brk_model.specs.Names.{NumberedFrom}
 use Rattle.brk_model_laws.specs.Names.{KnowsParties, KnowsPermitted, KnowsTax, KnowsTrade, Names, IsNamed}
-use Rattle.brk_model_laws.proofs.Reached.{passed, reached}
+use Rattle.brk_model_laws.proofs.Reached.{IsKept, passed, reached, run-kept}
 
 -- ---- lists
 
@@ -230,7 +231,14 @@ names-rows (Some key) command reply base n =
     grown base (keeping (Some key) command reply base) base.accounts base.permissions base.customer_taxes base.trades
     (record { brokers = λ id h. h; customers = λ id h. h; accounts = λ id h. h; rates = λ id h. h; securities = λ symbol h. h }) n
 
+names-stay : IsKept IsNamed
+names-stay = record { steps = names-step; rows = names-rows }
+
+-- after any calls from a base where it is so
+pub still-named : (base after : Base) (calls : List (ℕ × Call)) (outcomes : List Outcome) → IsNamed base → Run base calls outcomes after → IsNamed after
+still-named base after calls outcomes n r = run-kept IsNamed names-stay calls outcomes base after r n
+
 -- of each base that is reached
 pub is_named : (base : Base) → IsReached base → IsNamed base
 unfolding empty_base
-is_named base r = reached IsNamed (record { steps = names-step; rows = names-rows }) (record { parties = tt; permitted = tt; taxed = tt; traded = tt; numbered = tt }) base r
+is_named base r = reached IsNamed names-stay (record { parties = tt; permitted = tt; taxed = tt; traded = tt; numbered = tt }) base r

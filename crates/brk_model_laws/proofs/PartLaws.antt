@@ -74,7 +74,7 @@ turned base (call ∷ front) more (answer ∷ answers) after r =
     let t = turned (call_step row_step base call).1 front more answers after r.1 in
     record { mid = t.mid; first = answer ∷ t.first; rest = t.rest; are = ap (λ l. answer ∷ l) t.are; before = (r.0, t.before); then = t.then }
 
-in-turn-joined : (base mid after : Base) (front more : List (RowCall Command)) (first rest : List Answer) → InTurn row_step base front first mid → InTurn row_step mid more rest after
+pub in-turn-joined : (base mid after : Base) (front more : List (RowCall Command)) (first rest : List Answer) → InTurn row_step base front first mid → InTurn row_step mid more rest after
     → InTurn row_step base (front ++ more) (first ++ rest) after
 in-turn-joined base mid after [] more [] rest r s = subst (λ b. InTurn row_step b more rest after) r s
 in-turn-joined base mid after [] more (answer ∷ first) rest r s = absurd r

@@ -4,7 +4,7 @@ use Rattle.brk_money.specs.Spelling.{Text}
 use Rattle.brk_model.specs.Records.{Key, Kept}
 use Rattle.brk_model.specs.Base.{Base, empty_base}
 use Rattle.brk_model.specs.Commands.{Command, Reply, Booked, Ordered, Ticked, CanceledTrade, CompletedTrade, Changed, Answer, Done, Again, Refused}
-use Rattle.brk_model.specs.Rows.{line_text}
+use Rattle.brk_model.specs.Rows.{line_text, row_text}
 use Rattle.brk_model.specs.Keyed.{kept_under, keyed_step, repeated}
 use Rattle.brk_model.specs.Answers.{Fields, RowCall}
 use Rattle.brk_model.specs.Forms.{Read}
@@ -116,6 +116,33 @@ IsKeptAnswer base (Some k) call answer = answer ≡ (repeated base call.command 
 abbrev pub AreKeptAnswers : Base → List (RowCall Command) → List Answer → Type 0
 AreKeptAnswers base (call ∷ calls) (answer ∷ answers) = IsKeptAnswer base (kept_under base call.key) call answer × AreKeptAnswers base calls answers
 AreKeptAnswers base calls answers = ⊤
+
+-- ---- rows that were accepted
+
+-- the calls that were accepted
+abbrev pub done_calls : List (RowCall Command) → List Answer → List (RowCall Command)
+done_calls (call ∷ calls) (Done reply ∷ answers) = call ∷ done_calls calls answers
+done_calls (call ∷ calls) (Again line ∷ answers) = done_calls calls answers
+done_calls (call ∷ calls) (Refused refusal ∷ answers) = done_calls calls answers
+done_calls calls answers = []
+
+-- their answers
+abbrev pub done_answers : List Answer → List Answer
+done_answers [] = []
+done_answers (Done reply ∷ answers) = Done reply ∷ done_answers answers
+done_answers (Again line ∷ answers) = done_answers answers
+done_answers (Refused refusal ∷ answers) = done_answers answers
+
+-- a call that was accepted is kept under its key, with its row and its line
+abbrev pub IsRemembered : Base → RowCall Command → Answer → Type 0
+IsRemembered base call (Done reply) = kept_under base call.key ≡ Some (record { key = call.key; row_text = row_text call.command; line = line_text reply })
+IsRemembered base call (Again line) = ⊤
+IsRemembered base call (Refused refusal) = ⊤
+
+-- so it is with each call that was accepted
+abbrev pub AreRemembered : Base → List (RowCall Command) → List Answer → Type 0
+AreRemembered base (call ∷ calls) (answer ∷ answers) = IsRemembered base call answer × AreRemembered base calls answers
+AreRemembered base calls answers = ⊤
 
 -- ---- rows of a batch that was stopped
 

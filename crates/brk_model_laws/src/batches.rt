@@ -11,7 +11,7 @@ ghost use Rattle.brk_model.specs.Batch.{AreSettled, Batch, BatchText, IsBatch, r
 ghost use Rattle.brk_model.specs.Lines.{count_refused};
 ghost use Rattle.brk_model.specs.Computed.{batch, told_whole};
 ghost use Rattle.brk_model.specs.Run.{Did, Run};
-ghost use Rattle.brk_model_laws.specs.Laws.{AreKeptAnswers, IsBookedNext, IsCompleted, LeadsTo, StandsAfter, WentThrough, again_of, answers_left, call_of, calls_left};
+ghost use Rattle.brk_model_laws.specs.Laws.{AreKeptAnswers, AreRemembered, IsBookedNext, IsCompleted, LeadsTo, StandsAfter, WentThrough, again_of, answers_left, call_of, calls_left, done_answers, done_calls};
 
 /// The function that computes a batch gives its batch text, where there are moments enough, and takes the first of them.
 pub fn batch_is_computed()
@@ -46,6 +46,16 @@ pub fn rows_settled_again_change_nothing()
 pub fn kept_rows_change_nothing()
     ensures { (base after : Base) (calls : List (RowCall Command)) (answers : List Answer) → InTurn row_step base calls answers after
         → InTurn row_step base (calls_left base calls) (answers_left base calls answers) after × AreKeptAnswers base calls answers }
+{}
+
+/// Rows that are sent, and then some again, whatever was refused of either sending: both come to one run, of the rows that the first one accepted, at
+/// its moments, and then of those that were not kept by then, at the moments of the second. What the first one accepted is kept, so it is none of these.
+pub fn two_sendings_are_one_run()
+    ensures run { (base mid last : Base) (first again : List (RowCall Command)) (answers told : List Answer) → InTurn row_step base first answers mid
+        → InTurn row_step mid again told last
+        → InTurn row_step base (done_calls first answers ++ calls_left mid again) (done_answers answers ++ answers_left mid again told) last }
+    ensures kept { (base mid : Base) (first : List (RowCall Command)) (answers : List Answer) → InTurn row_step base first answers mid
+        → AreRemembered mid first answers }
 {}
 
 /// Where some first rows of a batch were settled and none of them was refused, and then all of its rows are settled, this comes to one
