@@ -25,10 +25,10 @@ ghost use Rattle.brk_store.specs.Holds.{IsCreated};
 
 use sqlite::Alter;
 
-/// Whatever a stop leaves, within the making of the tables, within a call or within a run of calls: where it is opened and adopted
-/// no audit finds it damaged, and the books stand of a base that was told, or of one with the command more that was under way. What
-/// stands then is what such a run begins with, so it goes on like this over any number of stops. It begins with tables that were just made, or
-/// with an adopted database.
+/// Whatever a stop leaves within a call or within a run of calls: where it is opened and adopted no audit finds it damaged, and the books
+/// stand of a base that was told, or of one with the command more that was under way. So it is within the making of the tables, unless
+/// what was left could be left before it. What stands then is what such a run begins with, so it goes on like this over any number of
+/// stops. It begins with tables that were just made, or with an adopted database.
 pub fn what_a_stop_leaves_is_adopted<S: Alter>()
     ensures made { (conn store : Held S) → IsCreated S.Store conn store (Ok tt) → HasCleanDisk (state S.Store store) → StandsAlone S.Store store empty_base }
     ensures adopted { (trees : Trees) (conn store : Held S) → IsJustOpened S.Store trees conn → IsDefinedIn S.Store conn → IsAdopted S.Store conn store (Ok tt)
