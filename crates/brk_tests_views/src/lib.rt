@@ -4,6 +4,8 @@
 #[cfg(test)]
 mod asking;
 #[cfg(test)]
+mod day;
+#[cfg(test)]
 mod first_twenty;
 #[cfg(test)]
 mod limits;

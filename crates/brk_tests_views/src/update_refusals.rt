@@ -1,9 +1,9 @@
-//! Corrections that are refused, for their form and for what they name.
+//! Corrections that are refused: for their form, for their key, for what they name, and at the clock's end.
 
 use brk_tests_desks::desks::{Case, Step, expect_cases};
 use std::test::Fail;
 
-const REFUSALS: [Case; 4] = [
+const REFUSALS: [Case; 6] = [
     (
         "names",
         &[Step::Done(
@@ -39,6 +39,31 @@ const REFUSALS: [Case; 4] = [
             "1,no,18\n2,no,18\n3,no,18\n4,no,18\n5,no,18\n6,no,4\n7,no,4\n8,ok,1709251200016,0\n\
                 end,1,0,7\n",
         )],
+    ),
+    (
+        "the clock's end, after what is found at the desk",
+        &[Step::DoneAt(
+            253_402_300_799_999,
+            b"batch,L\norder,100,TLB,ABC,10,9.00,cash,fifo,Ann,Lee,T10\nupname,1\nupcash,100,0,1\n\
+                uptext,ABC,0,1\nupname,2\nupcash,999,0,1\nuptext,XYZ,0,1\nend,7\n",
+            "1,ok,253402300799999,1,PNDG,9.00,0.00,0.00,0.00,0.90,5.00,10000.00\n2,no,21\n3,no,21\n\
+                4,no,21\n5,no,5\n6,no,1\n7,no,4\nend,1,0,6\n",
+        )],
+    ),
+    (
+        "a key that is taken, before what is found at the desk",
+        &[
+            Step::Done(
+                b"batch,K\nupcash,100,0,1\nend,1\n",
+                "1,ok,1709251200016,0\nend,1,0,0\n",
+            ),
+            Step::Done(b"batch,K\nupcash,100,0,2\nend,1\n", "1,no,19\nend,0,0,1\n"),
+            Step::Done(b"batch,K\nupname,1\nend,1\n", "1,no,19\nend,0,0,1\n"),
+            Step::Done(
+                b"batch,K\nupcash,100,0,1\nend,1\n",
+                "1,again,1709251200016,0\nend,0,1,0\n",
+            ),
+        ],
     ),
 ];
 

@@ -101,11 +101,43 @@ const AT_MIDNIGHT: Step = Step::DoneAt(
         end,15,0,0\n",
 );
 
+// A purchase that is completed in the last millisecond of a February, and one in the first of March: in a leap year, and in a
+// year that is none.
+const LEAP_YEAR: Step = Step::DoneAt(
+    1_835_481_599_998,
+    b"batch,L\n\
+        order,100,TMB,ABC,1,,cash,fifo,Ann,Lee,T10\n\
+        result,12,10.00\n\
+        order,100,TMB,ABC,1,,cash,fifo,Ann,Lee,T10\n\
+        result,13,10.00\n\
+        end,4\n",
+    "1,ok,1835481599998,12,SBMT,10.00,0.00,0.00,0.00,0.10,5.00,10610.78\n\
+        2,ok,1835481599999,0.10,0.00,-15.10,2028-03-02,0.00,0.00,10585.68\n\
+        3,ok,1835481600000,13,SBMT,10.00,0.00,0.00,0.00,0.10,5.00,10605.68\n\
+        4,ok,1835481600001,0.10,0.00,-15.10,2028-03-03,0.00,0.00,10570.58\n\
+        end,4,0,0\n",
+);
+
+const YEAR_2100: Step = Step::DoneAt(
+    4_107_542_399_998,
+    b"batch,Y\n\
+        order,100,TMB,ABC,1,,cash,fifo,Ann,Lee,T10\n\
+        result,14,10.00\n\
+        order,100,TMB,ABC,1,,cash,fifo,Ann,Lee,T10\n\
+        result,15,10.00\n\
+        end,4\n",
+    "1,ok,4107542399998,14,SBMT,10.00,0.00,0.00,0.00,0.10,5.00,10600.58\n\
+        2,ok,4107542399999,0.10,0.00,-15.10,2100-03-02,0.00,0.00,10555.48\n\
+        3,ok,4107542400000,15,SBMT,10.00,0.00,0.00,0.00,0.10,5.00,10595.48\n\
+        4,ok,4107542400001,0.10,0.00,-15.10,2100-03-03,0.00,0.00,10540.38\n\
+        end,4,0,0\n",
+);
+
 // The statement of an account from a day to another.
 type Told = (u64, &'static str, &'static str, &'static str);
 
 // Batches that are sent to one desk, and the statements after each.
-const STAGES: [(&str, &[Step], &[Told]); 6] = [
+const STAGES: [(&str, &[Step], &[Told]); 7] = [
     (
         "set up",
         &[],
@@ -373,6 +405,84 @@ const STAGES: [(&str, &[Step], &[Told]); 6] = [
                 ABC                        10           1      12.00\n\
                 Holdings                    10.00\n\
                 Cash rows 1, lots 1\n",
+            ),
+        ],
+    ),
+    (
+        "about the end of February",
+        &[LEAP_YEAR, YEAR_2100],
+        &[
+            (
+                100,
+                "2028-02-29",
+                "2028-02-29",
+                "Statement of account 100\n\
+                Main\n\
+                From 2028-02-29 to 2028-02-29\n\
+                Opening                  10600.78\n\
+                2028-02-29                 -15.10 Market-Buy 1 shares of Acme\n\
+                Closing                  10585.68\n\
+                ABC                        10           1      12.00\n\
+                ABC                        12           1      10.00\n\
+                ABC                        13           1      10.00\n\
+                ABC                        14           1      10.00\n\
+                ABC                        15           1      10.00\n\
+                Holdings                    50.00\n\
+                Cash rows 1, lots 5\n",
+            ),
+            (
+                100,
+                "2028-03-01",
+                "2028-03-01",
+                "Statement of account 100\n\
+                Main\n\
+                From 2028-03-01 to 2028-03-01\n\
+                Opening                  10585.68\n\
+                2028-03-01                 -15.10 Market-Buy 1 shares of Acme\n\
+                Closing                  10570.58\n\
+                ABC                        10           1      12.00\n\
+                ABC                        12           1      10.00\n\
+                ABC                        13           1      10.00\n\
+                ABC                        14           1      10.00\n\
+                ABC                        15           1      10.00\n\
+                Holdings                    50.00\n\
+                Cash rows 1, lots 5\n",
+            ),
+            (
+                100,
+                "2100-02-28",
+                "2100-02-28",
+                "Statement of account 100\n\
+                Main\n\
+                From 2100-02-28 to 2100-02-28\n\
+                Opening                  10570.58\n\
+                2100-02-28                 -15.10 Market-Buy 1 shares of Acme\n\
+                Closing                  10555.48\n\
+                ABC                        10           1      12.00\n\
+                ABC                        12           1      10.00\n\
+                ABC                        13           1      10.00\n\
+                ABC                        14           1      10.00\n\
+                ABC                        15           1      10.00\n\
+                Holdings                    50.00\n\
+                Cash rows 1, lots 5\n",
+            ),
+            (
+                100,
+                "2100-03-01",
+                "9999-12-31",
+                "Statement of account 100\n\
+                Main\n\
+                From 2100-03-01 to 9999-12-31\n\
+                Opening                  10555.48\n\
+                2100-03-01                 -15.10 Market-Buy 1 shares of Acme\n\
+                Closing                  10540.38\n\
+                ABC                        10           1      12.00\n\
+                ABC                        12           1      10.00\n\
+                ABC                        13           1      10.00\n\
+                ABC                        14           1      10.00\n\
+                ABC                        15           1      10.00\n\
+                Holdings                    50.00\n\
+                Cash rows 1, lots 5\n",
             ),
         ],
     ),
