@@ -2,6 +2,7 @@ use brk_endings::brk_outside::{BatchFault, FaultKind};
 use brk_endings::brk_report_lines::StatementFault;
 use brk_endings::{Ending, end_with};
 use brk_money::{Condition, Fault, Refusal};
+use brk_serving::{FaultKind as StreamFault, ServeFault};
 use brk_words::UsageFault;
 use std::io;
 use std::io::Write;
@@ -16,6 +17,10 @@ fn tells_each_ending(rt: HostRuntime) -> Result<(), Fail> {
     let alloc = rt.alloc();
     let words = UsageFault::Words(String::from_str(alloc, "error: no\n")?);
     let help = UsageFault::Help(String::from_str(alloc, "help\n")?);
+    let unserved = ServeFault {
+        done: 2,
+        kind: StreamFault::Memory,
+    };
     let endings = [
         (Ending::Done, 0, ""),
         (Ending::Usage(help), 0, ""),
@@ -46,6 +51,11 @@ fn tells_each_ending(rt: HostRuntime) -> Result<(), Fail> {
             "brk: fault: store\n",
         ),
         (
+            batch(FaultKind::Desk(Fault::Memory)),
+            3,
+            "brk: fault: memory\n",
+        ),
+        (
             Ending::Statement(StatementFault::Refused(Refusal::NoAccount)),
             1,
             "brk: refused: 1\n",
@@ -65,6 +75,8 @@ fn tells_each_ending(rt: HostRuntime) -> Result<(), Fail> {
             3,
             "brk: fault: write\n",
         ),
+        (Ending::Serve(unserved), 3, "brk: fault: memory\n"),
+        (Ending::Net, 3, "brk: fault: net\n"),
     ];
     for (ending, status, text) in endings {
         let mut errors = Vec::new(alloc);

@@ -150,7 +150,7 @@ fn reads_each_job(rt: HostRuntime) -> Result<(), Fail> {
 
 #[test]
 fn refuses_wrong_words(rt: HostRuntime) -> Result<(), Fail> {
-    let wrong: [&[&str]; 24] = [
+    let wrong: [&[&str]; 25] = [
         &[],
         &["bath"],
         &["batch", "first.csv"],
@@ -181,6 +181,15 @@ fn refuses_wrong_words(rt: HostRuntime) -> Result<(), Fail> {
             "--account",
             "1",
             "--to",
+            "2024-03-01",
+        ],
+        &[
+            "statement",
+            "--db",
+            "a",
+            "--account",
+            "1",
+            "--from",
             "2024-03-01",
         ],
         &[
@@ -227,8 +236,23 @@ fn refuses_wrong_words(rt: HostRuntime) -> Result<(), Fail> {
     Ok(())
 }
 
+const HELP: &str = "help: A brokerage back office\n\nUsage: brk <COMMAND>\n\nCommands:\n\
+    \x20 batch      Reads a batch from standard input and writes a line for each row\n\
+    \x20 statement  Prints the statement of an account: its cash from day to day, and the lots that it holds\n\
+    \x20 audit      Tests that the tables of a desk follow from one another, and prints ok\n\
+    \x20 serve      Serves the desk over HTTP, one stream after the other\n\
+    \x20 help       Print this message or the help of the given subcommand(s)\n\nOptions:\n\
+    \x20 -h, --help     Print help\n\x20 -V, --version  Print version\n";
+
+const BATCH_HELP: &str =
+    "help: Reads a batch from standard input and writes a line for each row\n\n\
+    Usage: brk batch [OPTIONS]\n\nOptions:\n\
+    \x20     --db <FILE>  The file that keeps the desk, made where it is missing or empty; without it the desk is forgotten\n\
+    \x20     --at <MS>    The moment of every command, in milliseconds since 1970-01-01 UTC; without it the clock is asked\n\
+    \x20 -h, --help       Print help\n";
+
 // Words, and what a reader of the shell is told.
-const TEXTS: [(&[&str], &str); 5] = [
+const TEXTS: [(&[&str], &str); 9] = [
     (&["--version"], "help: brk 0.1.0\n"),
     (
         &["bath"],
@@ -247,15 +271,23 @@ const TEXTS: [(&[&str], &str); 5] = [
         \x20 -h, --help       Print help\n",
     ),
     (
-        &["--help"],
-        "help: A brokerage back office\n\nUsage: brk <COMMAND>\n\nCommands:\n\
-        \x20 batch      Reads a batch from standard input and writes a line for each row\n\
-        \x20 statement  Prints the statement of an account: its cash from day to day, and the lots that it holds\n\
-        \x20 audit      Tests that the tables of a desk follow from one another, and prints ok\n\
-        \x20 serve      Serves the desk over HTTP, one stream after the other\n\
-        \x20 help       Print this message or the help of the given subcommand(s)\n\nOptions:\n\
-        \x20 -h, --help     Print help\n\x20 -V, --version  Print version\n",
+        &[
+            "statement",
+            "--db",
+            "a",
+            "--from",
+            "2024-03-01",
+            "--to",
+            "2024-03-01",
+        ],
+        "wrong: error: the following required arguments were not provided:\n\x20 --account <ID>\n\n\
+        Usage: brk statement --db <FILE> --account <ID> --from <DAY> --to <DAY>\n\n\
+        For more information, try '--help'.\n",
     ),
+    (&["help", "batch"], BATCH_HELP),
+    (&["batch", "--help"], BATCH_HELP),
+    (&["help"], HELP),
+    (&["--help"], HELP),
 ];
 
 #[test]
