@@ -34,6 +34,7 @@ pub fn answer_row<C: Clock, D: Rows>(
 ) -> Result<RowAnswer<D::Reply>, Fault>
     requires first { 1 ≤ n }
     requires last { n ≤ 67108864 }
+    ensures leads { D.leads desk.old desk.new }
     ensures earlier { D.honest desk.new → D.honest desk.old }
     ensures ok { IfOk result (λ answer. AnsweredBy D.honest (StandsBy D.stands D.leaves) D.step C.gives (D.form (fields_of row.now)) batch.now n
         (answer_of D.told answer) desk.old desk.new clock.old clock.new) }

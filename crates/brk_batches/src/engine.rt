@@ -112,7 +112,8 @@ fn run_rows<R: Read, W: Write, C: Clock, D: Rows>(
 ) -> Result<Counts, BatchFault>
     requires setup { ReadsBatch records.old }
     requires named { IsName name.now }
-    ensures { (text : Option (List ℕ)) → Stands text (header_of name.now ∷ []) (reader_state records.old) (source_of R.remaining records.old)
+    ensures leads { D.leads desk.old desk.new }
+    ensures comes { (text : Option (List ℕ)) → Stands text (header_of name.now ∷ []) (reader_state records.old) (source_of R.remaining records.old)
         → Comes D.honest D.stands D.leaves D.form D.step C.gives text desk.old desk.new
         (record { clock = clock.old; later = clock.new; old = W.contents writer.old; new = W.contents writer.new }) result }
 {
@@ -182,6 +183,7 @@ pub fn run<R: Read + Drop, W: Write, C: Clock, D: Rows>(
     clock: &mut C,
     desk: &mut D::Desk,
 ) -> Result<Counts, BatchFault>
+    ensures leads { D.leads desk.old desk.new }
     ensures told { TellsAnswers D.form C.gives (option_map text_of (R.remaining reader))
         (record { clock = clock.old; later = clock.new; old = W.contents writer.old; new = W.contents writer.new }) result }
     ensures kept { KeepsBooks D.honest D.stands D.form D.step C.gives (option_map text_of (R.remaining reader)) desk.old desk.new

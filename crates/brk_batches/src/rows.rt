@@ -39,6 +39,9 @@ pub trait Rows {
     /// What a stop leaves is that of one of these two bases.
     ghost leaves: { Self.Desk → Base → Base → Type 0 };
 
+    /// What its calls may make of a desk, whatever they answer.
+    ghost leads: { Self.Desk → Self.Desk → Type 0 };
+
     ghost asked: { Self.Command → Asked };
 
     ghost told: { Self.Reply → Reply };
@@ -65,6 +68,7 @@ pub trait Rows {
     ) -> Result<RowAnswer<Self::Reply>, Fault>
         requires first { 1 ≤ n }
         requires last { n ≤ 67108864 }
+        ensures leads { leads desk.old desk.new }
         ensures earlier { honest desk.new → honest desk.old }
         ensures ok { IfOk result (λ answer. (sure : Bool) →
             Acts honest (StandsBy stands leaves sure) step desk.old desk.new now (asked command.now) (record { batch = batch.now; row = n }) (answer_of told answer)) }
@@ -75,4 +79,10 @@ pub trait Rows {
     /// The fields of a reply, joined by commas.
     fn reply_line(alloc: Global, reply: &Self::Reply) -> Result<String, AllocError>
         ensures { IfOk result (λ line. string_bytes line ≡ line_text (told reply.now)) };
+
+    /// No call leads nowhere else.
+    ghost stays: { (first : Self.Desk) → leads first first };
+
+    /// A call after another leads on.
+    ghost goes_on: { (first mid last : Self.Desk) → leads first mid → leads mid last → leads first last };
 }

@@ -1,9 +1,10 @@
 -- A row that was answered, or not, under its key.
-use Rattle.std.proofs.Common.{◌≡◌, ◌⊎◌, ℕ, Bool, true, false, Ok, Err, Some, inl, inr, ap, subst, sym}
+use Rattle.std.proofs.Common.{◌≡◌, ◌⊎◌, ℕ, Bool, true, false, Option, Result, Ok, Err, Some, inl, inr, ap, subst, sym}
 use Rattle.sqlite_trees.specs.Tree.{Trees}
 use Rattle.sqlite_trees.specs.declared.store.Store.{Ghosts}
 use Rattle.sqlite.specs.Held.{Held, state}
-use Rattle.sqlite.specs.State.{HasCleanDisk}
+use Rattle.sqlite.specs.State.{HasCleanDisk, Survives}
+use Rattle.sqlite.proofs.StateLemmas.{survives_weaker}
 use Rattle.brk_money.specs.declared.fault.Fault.{Fault}
 use Rattle.brk_model.specs.Base.{Base}
 use Rattle.brk_model.specs.Batch.{row_step}
@@ -13,7 +14,7 @@ use Rattle.brk_model.specs.Records.{Key}
 use Rattle.brk_model.specs.Sheets.{sheets}
 use Rattle.brk_store.specs.Holds.{AreTreesOf}
 use Rattle.brk_booking.specs.Answers.{answer_of}
-use Rattle.brk_booking.specs.Booked.{IsCalled, KeepsBase}
+use Rattle.brk_booking.specs.Booked.{IsCalled, KeepsBase, MayCome}
 use Rattle.brk_desk.specs.Reopening.{CanBeKept}
 use Rattle.brk_booking.specs.declared.answer.Answer.{Answer}
 use Rattle.brk_booking.specs.declared.answer.Answer.TheVariants as given
@@ -76,3 +77,7 @@ module _ {S : Type 0} (g : Ghosts S) (old new : Held S) (now : ℕ) (command : C
         | inl earlier ↦ elim (alone trees earlier) [ inl are ↦ inl are | inr are ↦ inl are.0 ]
         | inr come ↦ inr (come.1 base keeps, booked_can_be g old new base now command (Some same) (Err fault) trees same_called keeps come)
       ]
+
+  -- whatever is answered, nothing but a fault of the disk shuts the store
+  pub stays_open : (key : Option Key) (result : Result Answer Fault) → IsCalled g old new now command key result → Survives (state g old) (state g new) (λ _. Unit {0})
+  stays_open key result called = survives_weaker (state g old) (state g new) (MayCome g old now command key) (λ _. Unit {0}) (λ _ trees may. tt) called.survives

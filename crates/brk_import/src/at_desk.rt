@@ -8,9 +8,9 @@ ghost use Rattle.brk_model.specs.Parse.{parse_by, readers};
 ghost use Rattle.brk_commands.specs.Commands.{command_of};
 ghost use Rattle.brk_plans.specs.Replies.{reply_of};
 ghost use Rattle.brk_booking.specs.Booked.{KeepsBase};
-ghost use Rattle.brk_import.specs.Leaving.{LeavesOneOf};
+ghost use Rattle.brk_import.specs.Leaving.{LeavesOneOf, survives_both, survives_none};
 ghost use Rattle.sqlite.specs.Held.{state};
-ghost use Rattle.sqlite.specs.State.{HasCleanDisk};
+ghost use Rattle.sqlite.specs.State.{HasCleanDisk, Survives};
 
 use brk_batches::{RowAnswer, Rows};
 use brk_desk::{Answer, Command, Desk, line_text, parse_row};
@@ -55,6 +55,9 @@ impl<S: Alter> Rows for AtDesk<S> {
 
     ghost leaves = { LeavesOneOf S.Store };
 
+    // No fault of the disk is forgotten, and nothing else shuts the store.
+    ghost leads = { λ first last. Survives (state S.Store first) (state S.Store last) (λ _. Unit {0}) };
+
     ghost asked = { command_of };
 
     ghost told = { reply_of };
@@ -67,6 +70,7 @@ impl<S: Alter> Rows for AtDesk<S> {
         parse_row(alloc, row)
     }
 
+    #[tactic(auto, using(crate::specs::Leaving::survives_none, crate::proofs::Under::stays_open))]
     fn call(
         desk: &mut Desk<S>,
         alloc: Global,
@@ -89,4 +93,8 @@ impl<S: Alter> Rows for AtDesk<S> {
             Err(_) => Err(AllocError),
         }
     }
+
+    ghost stays = { λ _. survives_none _ };
+
+    ghost goes_on = { λ _ _ _. survives_both _ _ _ };
 }

@@ -59,6 +59,8 @@ impl Rows for Last {
 
     ghost leaves = { λ _ _ _. Unit {0} };
 
+    ghost leads = { λ _ _. Unit {0} };
+
     ghost asked = { λ command. command };
 
     ghost told = { λ moment. Booked moment };
@@ -116,6 +118,10 @@ impl Rows for Last {
     fn reply_line(alloc: Global, reply: &u64) -> Result<String, AllocError> {
         format!(in alloc; "{reply}")
     }
+
+    ghost stays = { λ _. tt };
+
+    ghost goes_on = { λ _ _ _ _ _. tt };
 }
 
 // Gives its text a byte at a time, and fails once, in place of the byte at `cut`.

@@ -12,4 +12,4 @@ returns g c =
     (record { clock = c.args.clock.now; later = c.args.clock.now; old = g.W.Write.contents c.args.writer.now; new = g.W.Write.contents c.args.writer.now })
     (Err (record { rows = 0; kind = c.in-Err.kind }))
     (λ T other base. header_failed _ _ _ text base _ _ c.in-Err.kind part) in
-    record { told = come.told; kept = come.kept; left = come.left }
+    record { leads = g.met.D.Rows.stays c.args.desk.now; told = come.told; kept = come.kept; left = come.left }
