@@ -7,9 +7,8 @@ ghost use Rattle.brk_model.specs.Run.{MayFail};
 ghost use Rattle.brk_store.specs.Holds.{IsRead};
 
 use brk_commands::Command;
-use brk_decisions::{
-    decide_cancel, decide_feed, decide_order, decide_reference, decide_result, decide_update,
-};
+use brk_corrections::decide_update;
+use brk_decisions::{decide_cancel, decide_feed, decide_order, decide_reference, decide_result};
 use brk_money::{Planned, Stamp};
 use brk_store::Store;
 use brk_trade::Plan;

@@ -7,5 +7,3 @@ pub mod OrderFinds
 pub mod Ordering
 pub mod ResultReading
 pub mod Resulting
-mod Correcting
-pub mod CorrectionsFinding

@@ -3,9 +3,6 @@
 
 pub mod amounts;
 pub mod cancel;
-pub mod corrections;
-pub mod corrections_finding;
-mod corrections_known;
 pub mod estimate;
 pub mod feed;
 mod finding;
@@ -22,8 +19,6 @@ mod tested;
 
 pub use amounts::sum_worth;
 pub use cancel::decide_cancel;
-pub use corrections::decide_update;
-pub use corrections_finding::find_trades;
 pub use estimate::decide_estimate;
 pub use feed::decide_feed;
 pub use order::decide_order;

@@ -8,7 +8,7 @@ ghost use Rattle.brk_model.specs.Queries.{TradesOfAccount, TradesOfSymbol, Trade
 ghost use Rattle.brk_model.specs.Run.{MayFail};
 ghost use Rattle.brk_store.specs.Holds.{IsRead};
 
-use brk_decisions::find_trades;
+use brk_corrections::find_trades;
 use brk_money::{Fault, Id, Planned, Refusal};
 use brk_orders::Span;
 use brk_ref::Symbol;

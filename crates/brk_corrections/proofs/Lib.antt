@@ -1,0 +1,2 @@
+mod Deciding
+pub mod Finding
