@@ -1,2 +1,2 @@
 mod Deciding
-pub mod Finding
+pub mod Found

@@ -34,7 +34,7 @@ use Rattle.brk_view_laws.proofs.LookupRows.{same_lookup}
 use Rattle.brk_desk.specs.LookedUp.{AreLookedUp}
 use Rattle.brk_desk.specs.Shows.{Shows}
 use Rattle.brk_desk.proofs.Tested.{answered, is_missing, is_there, refused}
-use Rattle.brk_corrections.proofs.Finding.{twice}
+use Rattle.brk_corrections.proofs.Found.{twice}
 use Rattle.brk_desk.proofs.RecentViews.{account_missing, account_there}
 
 -- ---- one trade

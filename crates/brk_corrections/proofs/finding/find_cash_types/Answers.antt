@@ -10,7 +10,7 @@ use Rattle.brk_plans.specs.declared.corrected.Corrected.TheVariants.{CashTypes}
 use Rattle.brk_decisions.proofs.Looking.{read_both}
 use Rattle.brk_store.proofs.Retelling.{retold}
 use Rattle.brk_update_laws.specs.Corrections.{AreSettled, IsFoundForUpdate}
-use Rattle.brk_corrections.proofs.Finding.{missing_if, present_if}
+use Rattle.brk_corrections.proofs.Found.{missing_if, present_if}
 use Rattle.brk_corrections.proofs.finding.find_cash_types.Goals as goal
 
 pub returns-then-not-branch-clause-read : goal.returns-then-not-branch-clause-read

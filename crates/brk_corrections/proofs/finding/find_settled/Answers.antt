@@ -9,7 +9,7 @@ use Rattle.brk_plans.specs.declared.corrected.Settled.{Settled}
 use Rattle.brk_decisions.proofs.Looking.{read_both}
 use Rattle.brk_store.proofs.Retelling.{retold}
 use Rattle.brk_update_laws.specs.Corrections.{AreSettled, settled_in, settled_row, settlement_in}
-use Rattle.brk_corrections.proofs.Finding.{one_more, twice}
+use Rattle.brk_corrections.proofs.Found.{one_more, twice}
 use Rattle.brk_corrections.proofs.finding.find_settled.Goals as goal
 
 -- what was read is of the first of the trades that are chosen

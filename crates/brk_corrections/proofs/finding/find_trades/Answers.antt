@@ -11,7 +11,7 @@ use Rattle.brk_changes.specs.declared.trade_row.TradeRow as row
 use Rattle.brk_decisions.proofs.Looking.{read_both}
 use Rattle.brk_store.proofs.Retelling.{retold}
 use Rattle.brk_update_laws.specs.Corrections.{AreTradesOf}
-use Rattle.brk_corrections.proofs.Finding.{one_more, some_missing}
+use Rattle.brk_corrections.proofs.Found.{one_more, some_missing}
 use Rattle.brk_corrections.proofs.finding.find_trades.Goals as goal
 
 -- the trades that were read are those of the first ids
