@@ -1,2 +1,3 @@
 pub mod Acted
 pub mod Named
+pub mod Serving

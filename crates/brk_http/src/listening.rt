@@ -1,3 +1,5 @@
+ghost use Rattle.brk_http.specs.Served.{WasServed};
+
 use crate::streams::serve_stream;
 use brk_desk::Desk;
 use brk_outside::Clock;
@@ -52,7 +54,9 @@ fn serve_one<C: Clock, S: Alter>(
     stream: &TcpStream,
     clock: &mut C,
     desk: &mut Desk<S>,
-) -> Result<(), ListenFault> {
+) -> Result<(), ListenFault>
+    ensures served { WasServed S.Store desk.old desk.new }
+{
     if limit_waiting(stream).is_err() {
         return Ok(());
     }
@@ -73,8 +77,11 @@ pub fn serve_on<C: Clock, S: Alter>(
     streams: u32,
     clock: &mut C,
     desk: &mut Desk<S>,
-) -> Result<(), ListenFault> {
-    for _ in 0..streams {
+) -> Result<(), ListenFault>
+    // However it ends, and whatever the peers sent: calls of the desk were made in turn and nothing else.
+    ensures served { WasServed S.Store desk.old desk.new }
+{
+    'streams: for _ in 0..streams {
         match listener.accept() {
             Ok((stream, _)) => serve_one(alloc, &stream, clock, desk)?,
             Err(error) if error.kind() == ErrorKind::ConnectionAborted => {}

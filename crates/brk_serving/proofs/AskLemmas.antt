@@ -1,8 +1,8 @@
 -- What a request asks, check by check.
-use Rattle.std.proofs.Common.{◌≡◌, ◌≢◌, ◌∙◌, List, Option, Some, None, Bool, true, false, refl, sym, ap, codes, subst}
+use Rattle.std.proofs.Common.{◌≡◌, List, Some, None, true, false, refl, codes}
 use Rattle.std.specs.Prelude.{bytes_eq}
 use Rattle.brk_money.specs.Spelling.{Text}
-use Rattle.brk_web.specs.Asked.{Asked, Answers, Forms, asked_at, asked_by, asked_of, asked_with}
+use Rattle.brk_web.specs.Asked.{Answers, Forms, asked_by, asked_of}
 use Rattle.brk_web.specs.Bodies.{texts_of}
 use Rattle.brk_web.specs.Found.{Request}
 use Rattle.brk_web.specs.Replies.{Wrong}

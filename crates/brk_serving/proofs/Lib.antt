@@ -6,6 +6,7 @@ pub mod TurnLemmas
 pub mod StreamLemmas
 pub mod Simulated
 pub mod Promised
+pub mod Called
 pub mod RouteLemmas
 pub mod Seeking
 pub mod Routing

@@ -1,5 +1,5 @@
 -- From what a stream does over a desk's own states to what it promises.
-use Rattle.std.proofs.Common.{◌≡◌, ℕ, ◌+◌, List, [], ◌∷◌, ◌++◌, length, Option, refl, sym, subst, inl, inr}
+use Rattle.std.proofs.Common.{◌≡◌, ℕ, ◌+◌, List, [], ◌∷◌, length, Option, refl, sym, subst, inl, inr}
 use Rattle.std.specs.Prelude.{Result, Ok, Err}
 use Rattle.brk_money.specs.Spelling.{Text}
 use Rattle.brk_model.specs.Run.{Call, Outcome}
@@ -7,9 +7,9 @@ use Rattle.brk_outside.specs.Span.{IsUntouched, Outside, Span, with_base}
 use Rattle.brk_web.specs.Asked.{Forms, Asked, Answers, Calls, asked_of}
 use Rattle.brk_web.specs.Found.{Found, NoMore, Unreadable, Asks}
 use Rattle.brk_web.specs.Replies.{Response}
-use Rattle.brk_web.specs.Stream.{Does, Next, Ends, GoesOn, One, Replied, RepliedTo, Replies, Begins, Responds}
-use Rattle.brk_serving.specs.Promises.{KeepsBooks, TellsOutcomes, scripted}
-use Rattle.brk_serving.specs.Turns.{Answered, Failed, ServeGives, Served, Stopped}
+use Rattle.brk_web.specs.Stream.{Does, Next, Ends, GoesOn, One, RepliedTo, Replies, Begins, Responds}
+use Rattle.brk_serving.specs.Promises.{AreMade, KeepsBooks, Script, TellsOutcomes, scripted}
+use Rattle.brk_serving.specs.Turns.{Answered, Failed, ServeGives}
 use Rattle.brk_serving.specs.declared.stream.ServeFault.{ServeFault}
 use Rattle.brk_serving.specs.declared.turning.FaultKind.{FaultKind}
 use Rattle.brk_serving.specs.declared.turning.FaultKind.TheVariants as kinds
@@ -79,73 +79,79 @@ module _ {D B C : Type 0} (forms : Forms) (acts : Does D) (does : Does B) (hones
 
 -- ---- whatever the desk answers
 
-module _ {D C : Type 0} (forms : Forms) (acts : Does D) (gives : C → ℕ → C → Type 0) where
-  -- what follows has a list of outcomes, and so has the whole
-  abbrev Told : (List Outcome → List Outcome → Type 0) → Type 0
-  Told P = (after : List Outcome) → (before : List Outcome) × P before after
+module _ {D C : Type 0} (forms : Forms) (acts : Does D) (gives : C → ℕ → C → Type 0) (last : D) where
+  -- what follows are calls that lead to the last desk, and so is the whole
+  abbrev Told : D → D → (Script → Script → Type 0) → Type 0
+  Told old new P = (after : Script) → AreMade acts new after.0 after.1 last → (before : Script) × AreMade acts old before.0 before.1 last × P before after
+
+  -- nothing was asked of it
+  abbrev stayed : (old new : D) (after : Script) → new ≡ old → AreMade acts new after.0 after.1 last → AreMade acts old after.0 after.1 last
+  stayed old new after same made = subst (λ d. AreMade acts d after.0 after.1 last) same made
 
   responds_told : (asked : Asked) (old new : D) (taken : List ℕ) (response : Response) → Responds acts asked old taken response new
-      → Told (λ before after. Responds scripted asked before taken response after)
-  responds_told (Answers said) old new taken response (is, none, same) after = (after, (is, none, refl))
-  responds_told (Calls call) old new taken response (now, outcome, is, took, acted) after = (outcome ∷ after, (now, outcome, is, took, refl))
+      → Told old new (λ before after. Responds scripted asked before taken response after)
+  responds_told (Answers said) old new taken response (is, none, same) after made = (after, stayed old new after same made, (is, none, refl))
+  responds_told (Calls call) old new taken response (now, outcome, is, took, acted) after made =
+      (((now, call) ∷ after.0, outcome ∷ after.1), (new, acted, made), (now, outcome, is, took, (refl, refl)))
 
   replied_told : (n : ℕ) (found : Found) (old new : D) (taken : List ℕ) (reply : Text) (next : Next) → RepliedTo forms acts n found old taken reply next new
-      → Told (λ before after. RepliedTo forms scripted n found before taken reply next after)
-  replied_told n NoMore old new taken reply next h after = elim h [ ]
-  replied_told n (Unreadable problem) old new taken reply next (is, ends, none, same) after = (after, (is, ends, none, refl))
-  replied_told n (Asks request rest) old new taken reply next h after =
-      let r = responds_told (asked_of forms request) old new taken h.response h.responds after in
-      (r.0, record { response = h.response; closes = h.closes; responds = r.1; last = h.last; bytes = h.bytes; follows = h.follows })
+      → Told old new (λ before after. RepliedTo forms scripted n found before taken reply next after)
+  replied_told n NoMore old new taken reply next h after made = elim h [ ]
+  replied_told n (Unreadable problem) old new taken reply next (is, ends, none, same) after made = (after, stayed old new after same made, (is, ends, none, refl))
+  replied_told n (Asks request rest) old new taken reply next h after made =
+      let r = responds_told (asked_of forms request) old new taken h.response h.responds after made in
+      (r.0, r.1, record { response = h.response; closes = h.closes; responds = r.2; last = h.last; bytes = h.bytes; follows = h.follows })
 
   one_told : (n : ℕ) (input : Text) (old new : D) (taken : List ℕ) (reply : Text) (next : Next) → One forms acts n input old taken reply next new
-      → Told (λ before after. One forms scripted n input before taken reply next after)
-  one_told n input old new taken reply next h after =
-      let r = replied_told n h.found old new taken reply next h.replied after in (r.0, record { found = h.found; finds = h.finds; replied = r.1 })
+      → Told old new (λ before after. One forms scripted n input before taken reply next after)
+  one_told n input old new taken reply next h after made =
+      let r = replied_told n h.found old new taken reply next h.replied after made in (r.0, r.1, record { found = h.found; finds = h.finds; replied = r.2 })
 
   replies_told : (rs : List Text) (n : ℕ) (next : Next) (old new : D) (moments : List ℕ) → Replies forms acts n next old moments rs new
-      → Told (λ before after. Replies forms scripted n next before moments rs after)
-  replies_told rs n Ends old new moments (none, asked, same) after = (after, (none, asked, refl))
-  replies_told [] n (GoesOn input) old new moments (none, asked, same) after = (after, (none, asked, refl))
-  replies_told (reply ∷ rs) n (GoesOn input) old new moments (taken, more, next, mid, split, first, others) after =
-      let l = replies_told rs (n + 1) next mid new more others after in
-      let k = one_told n input old mid taken reply next first l.0 in
-      (k.0, (taken, more, next, l.0, split, k.1, l.1))
+      → Told old new (λ before after. Replies forms scripted n next before moments rs after)
+  replies_told rs n Ends old new moments (none, asked, same) after made = (after, stayed old new after same made, (none, asked, refl))
+  replies_told [] n (GoesOn input) old new moments (none, asked, same) after made = (after, stayed old new after same made, (none, asked, refl))
+  replies_told (reply ∷ rs) n (GoesOn input) old new moments (taken, more, next, mid, split, first, others) after made =
+      let l = replies_told rs (n + 1) next mid new more others after made in
+      let k = one_told n input old mid taken reply next first l.0 l.1 in
+      (k.0, k.1, (taken, more, next, l.0, split, k.2, l.2))
 
   begins_told : (rs : List Text) (n : ℕ) (input rest : Text) (old new : D) (moments : List ℕ) → Begins forms acts n input old moments rs rest new
-      → Told (λ before after. Begins forms scripted n input before moments rs rest after)
-  begins_told [] n input rest old new moments (is, asked, same) after = (after, (is, asked, refl))
-  begins_told (reply ∷ rs) n input rest old new moments (taken, more, left, mid, split, first, others) after =
-      let l = begins_told rs (n + 1) left rest mid new more others after in
-      let k = one_told n input old mid taken reply (GoesOn left) first l.0 in
-      (k.0, (taken, more, left, l.0, split, k.1, l.1))
+      → Told old new (λ before after. Begins forms scripted n input before moments rs rest after)
+  begins_told [] n input rest old new moments (is, asked, same) after made = (after, stayed old new after same made, (is, asked, refl))
+  begins_told (reply ∷ rs) n input rest old new moments (taken, more, left, mid, split, first, others) after made =
+      let l = begins_told rs (n + 1) left rest mid new more others after made in
+      let k = one_told n input old mid taken reply (GoesOn left) first l.0 l.1 in
+      (k.0, k.1, (taken, more, left, l.0, split, k.2, l.2))
 
   answered_told : (n : ℕ) (input : Text) (old new : D) (clock later : C) (was now : Option Text) (reply : Text) (next : Next) → Answered forms acts gives n input (around old new clock later was now) reply next
-      → Told (λ before after. Answered forms scripted gives n input (around before after clock later was now) reply next)
-  answered_told n input old new clock later was now reply next h after =
-      let r = one_told n input old new h.taken reply next h.one after in (r.0, record { taken = h.taken; moments = h.moments; one = r.1 })
+      → Told old new (λ before after. Answered forms scripted gives n input (around before after clock later was now) reply next)
+  answered_told n input old new clock later was now reply next h after made =
+      let r = one_told n input old new h.taken reply next h.one after made in (r.0, r.1, record { taken = h.taken; moments = h.moments; one = r.2 })
 
   untouched_told : (old new : D) (clock later : C) (was now : Option Text) → IsUntouched (around old new clock later was now)
-      → Told (λ before after. IsUntouched (around before after clock later was now))
-  untouched_told old new clock later was now h after = (after, record { base = refl; clock = h.clock; written = h.written })
+      → Told old new (λ before after. IsUntouched (around before after clock later was now))
+  untouched_told old new clock later was now h after made = (after, stayed old new after h.base made, record { base = refl; clock = h.clock; written = h.written })
 
   failed_told : (n : ℕ) (input : Text) (old new : D) (clock later : C) (was now : Option Text) (kind : FaultKind) → Failed forms acts gives n input (around old new clock later was now) kind
-      → Told (λ before after. Failed forms scripted gives n input (around before after clock later was now) kind)
-  failed_told n input old new clock later was now kinds.Read h after = untouched_told old new clock later was now h after
-  failed_told n input old new clock later was now kinds.Memory (inl h) after = let r = untouched_told old new clock later was now h after in (r.0, inl r.1)
-  failed_told n input old new clock later was now kinds.Memory (inr (reply, next, h, wrote)) after =
-      let r = answered_told n input old new clock later was now reply next h after in (r.0, inr (reply, next, r.1, wrote))
-  failed_told n input old new clock later was now kinds.Write (reply, next, size, h, wrote) after =
-      let r = answered_told n input old new clock later was now reply next h after in (r.0, (reply, next, size, r.1, wrote))
+      → Told old new (λ before after. Failed forms scripted gives n input (around before after clock later was now) kind)
+  failed_told n input old new clock later was now kinds.Read h after made = untouched_told old new clock later was now h after made
+  failed_told n input old new clock later was now kinds.Memory (inl h) after made = let r = untouched_told old new clock later was now h after made in (r.0, r.1, inl r.2)
+  failed_told n input old new clock later was now kinds.Memory (inr (reply, next, h, wrote)) after made =
+      let r = answered_told n input old new clock later was now reply next h after made in (r.0, r.1, inr (reply, next, r.2, wrote))
+  failed_told n input old new clock later was now kinds.Write (reply, next, size, h, wrote) after made =
+      let r = answered_told n input old new clock later was now reply next h after made in (r.0, r.1, (reply, next, size, r.2, wrote))
 
-  pub tells : (input : Text) (first last : D) (outside : Outside C) (result : Result ℕ ServeFault) → ServeGives forms acts gives input (with_base first last outside) result
-      → TellsOutcomes forms gives input outside result
-  tells input first last outside (Ok count) h =
-      let r = replies_told h.replies 0 (GoesOn input) first last h.moments h.replied [] in
-      (r.0, record { moments = h.moments; replies = h.replies; taken = h.taken; replied = r.1; written = h.written; counted = h.counted })
-  tells input first last outside (Err fault) h =
-      let f = failed_told (length h.replies) h.rest h.mid last h.later outside.later h.between outside.new fault.kind h.failed [] in
-      let r = begins_told h.replies 0 input h.rest first h.mid h.moments h.begun f.0 in (
+  pub tells : (input : Text) (first : D) (outside : Outside C) (result : Result ℕ ServeFault) → ServeGives forms acts gives input (with_base first last outside) result
+      → (script : Script) × AreMade acts first script.0 script.1 last × TellsOutcomes forms gives input script outside result
+  tells input first outside (Ok count) h =
+      let r = replies_told h.replies 0 (GoesOn input) first last h.moments h.replied ([], []) refl in
+      (r.0, r.1, record { moments = h.moments; replies = h.replies; taken = h.taken; replied = r.2; written = h.written; counted = h.counted })
+  tells input first outside (Err fault) h =
+      let f = failed_told (length h.replies) h.rest h.mid last h.later outside.later h.between outside.new fault.kind h.failed ([], []) refl in
+      let r = begins_told h.replies 0 input h.rest first h.mid h.moments h.begun f.0 f.1 in (
         r.0,
+        r.1,
         record {
           moments = h.moments;
           replies = h.replies;
@@ -154,9 +160,9 @@ module _ {D C : Type 0} (forms : Forms) (acts : Does D) (gives : C → ℕ → C
           later = h.later;
           between = h.between;
           taken = h.taken;
-          begun = r.1;
+          begun = r.2;
           written = h.written;
-          failed = f.1;
+          failed = f.2;
           counted = h.counted;
         },
       )

@@ -1,5 +1,5 @@
 -- The lines of a reply, one after another.
-use Rattle.std.proofs.Common.{◌≡◌, ℕ, List, [], ◌∷◌, ◌++◌, Bool, refl, length, codes, append_assoc}
+use Rattle.std.proofs.Common.{◌≡◌, ℕ, [], ◌∷◌, ◌++◌, Bool, refl, length, codes, append_assoc}
 use Rattle.std.specs.Prelude.{decimal, unwrap_or}
 use Rattle.http.specs.StatusCode.{code_digits, reason_phrase}
 use Rattle.brk_money.specs.Spelling.{Text}

@@ -1,5 +1,5 @@
 -- From the parts of a target to its route.
-use Rattle.std.proofs.Common.{◌≡◌, ◌∙◌, List, Option, Some, None, Bool, true, false, cond, refl, ap, subst, sym, IfOk}
+use Rattle.std.proofs.Common.{◌≡◌, ◌∙◌, List, Option, None, Bool, true, false, cond, refl, ap, subst, sym, IfOk}
 use Rattle.std.specs.Prelude.{Result, option_map}
 use Rattle.std.specs.Borrow.{Bor}
 use Rattle.std.specs.Str.{is_utf8, IsUtf8}
@@ -7,7 +7,6 @@ use Rattle.std.proofs.lemmas.Str.{IsUtf8-from_is_utf8, is_utf8-from_IsUtf8}
 use Rattle.brk_money.specs.Spelling.{Text}
 use Rattle.brk_money.specs.declared.fault.Fault.{Fault}
 use Rattle.brk_ref.specs.Fields.{texts}
-use Rattle.brk_web.specs.Routes as web
 use Rattle.brk_web.specs.Routes.{parts_at, route_by, route_of}
 use Rattle.std.specs.Prelude.{is_some}
 use Rattle.std.proofs.Common.{ℕ, ◌<◌, get_or}

@@ -1,10 +1,10 @@
 -- What the router answers for a path of which nothing is known.
-use Rattle.std.proofs.Common.{◌≡◌, ℕ, zero, suc, ◌+◌, ◌-◌, ◌<◌, ◌≤◌, List, [], ◌∷◌, ◌++◌, length, Bool, true, false, cond, ltb, drop, Option, Some, None, refl, sym, ap, ◌∙◌, subst, arith}
+use Rattle.std.proofs.Common.{◌≡◌, ℕ, zero, suc, ◌-◌, ◌<◌, List, [], ◌∷◌, ◌++◌, length, Bool, true, false, cond, ltb, Option, Some, None, refl, sym, ap, ◌∙◌, subst, arith}
 use Rattle.std.specs.Prelude.{◌==◌}
 use Rattle.std.proofs.lemmas.List.{length-append, drop_at}
 use Rattle.std.proofs.lemmas.Bool.Decides.{nat_tests}
 use Rattle.matchit.specs.Rows.{RowsOf, param_token, catch_all_token}
-use Rattle.matchit.specs.Seek.{seek, first, step, own, or_else, param_step, has_slash, segment, cuts, better, longest_suffix, with_suffix, same_text}
+use Rattle.matchit.specs.Seek.{seek, step, own, or_else, param_step, has_slash, segment, cuts, longest_suffix, with_suffix}
 
 -- what a parameter may take where no row has one
 abbrev taken : {K : Type 0} → Bool → ℕ → ℕ × RowsOf K

@@ -1,11 +1,11 @@
 -- What is true of a desk's own states is true of the bases that it stands for.
-use Rattle.std.proofs.Common.{◌≡◌, ℕ, ◌+◌, List, [], ◌∷◌, refl, sym, ap, subst}
+use Rattle.std.proofs.Common.{ℕ, ◌+◌, List, [], ◌∷◌, refl, sym, subst}
 use Rattle.brk_money.specs.Spelling.{Text}
 use Rattle.brk_model.specs.Run.{Call, Outcome}
 use Rattle.brk_web.specs.Asked.{Forms, Asked, Answers, Calls, asked_of}
 use Rattle.brk_web.specs.Found.{Found, NoMore, Unreadable, Asks}
 use Rattle.brk_web.specs.Replies.{Response}
-use Rattle.brk_web.specs.Stream.{Does, Next, Ends, GoesOn, One, Replied, RepliedTo, Replies, Begins, Responds}
+use Rattle.brk_web.specs.Stream.{Does, Next, Ends, GoesOn, One, RepliedTo, Replies, Begins, Responds}
 
 module _ {D B : Type 0} (forms : Forms) (acts : Does D) (does : Does B) (honest : D → Type 0) (stands : D → B → Type 0)
     (earlier : (old : D) (now : ℕ) (call : Call) (outcome : Outcome) (new : D) → acts old now call outcome new → honest new → honest old)

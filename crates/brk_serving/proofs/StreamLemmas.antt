@@ -1,21 +1,20 @@
 -- One turn more of a stream.
 use Rattle.std.proofs.Common.{◌≡◌, ℕ, ◌+◌, List, [], ◌∷◌, ◌++◌, length, Option, Some, None, refl, sym, ap, ◌∙◌, subst, IfSome, append_assoc, arith, inl}
-use Rattle.std.specs.Prelude.{Result, Ok, Err}
+use Rattle.std.specs.Prelude.{Ok}
 use Rattle.std.specs.List.{concat}
 use Rattle.std.specs.Io.KnownBytes.{Appends, prepend_known}
 use Rattle.std.proofs.KnownBytes.{Appends-trans, Appends-nil}
 use Rattle.std.proofs.lemmas.List.{append-nil, length_push}
 use Rattle.brk_money.specs.Spelling.{Text}
-use Rattle.brk_outside.specs.Span.{IsUntouched, Span}
+use Rattle.brk_outside.specs.Span.{Span}
 use Rattle.brk_outside.specs.Moments.{Moments}
 use Rattle.brk_web.specs.Asked.{Forms}
 use Rattle.brk_web.specs.Found.{NoMore, Finds}
 use Rattle.brk_web.specs.Stream.{Does, Next, Ends, GoesOn, One, Replies, Begins}
-use Rattle.brk_serving.specs.Turns.{Answered, Turned, Failed, Served, Stopped, ServeGives}
+use Rattle.brk_serving.specs.Turns.{Answered, Turned, Failed, Stopped, ServeGives}
 use Rattle.brk_serving.specs.declared.turning.Turn.TheVariants as turn
 use Rattle.brk_serving.specs.declared.turning.FaultKind.{FaultKind}
 use Rattle.brk_serving.specs.declared.turning.FaultKind.TheVariants as kinds
-use Rattle.brk_serving.specs.declared.stream.ServeFault.{ServeFault}
 
 concat_push : (xs : List Text) (y : Text) → concat (xs ++ y ∷ []) ≡ concat xs ++ y
 concat_push [] y = append-nil y

@@ -1,14 +1,12 @@
 -- From what was found at the front to a turn of the stream.
-use Rattle.std.proofs.Common.{◌≡◌, ℕ, ◌+◌, List, [], ◌++◌, drop, take, Bool, true, false, Option, Some, None, refl, sym, ap, ◌∙◌, subst, IfSome, inl, inr}
-use Rattle.std.specs.Prelude.{◌==◌, ◌||◌}
+use Rattle.std.proofs.Common.{◌≡◌, ℕ, [], ◌++◌, drop, take, Bool, true, false, Option, Some, None, refl, ap, ◌∙◌, subst, IfSome, inl, inr}
 use Rattle.std.specs.Io.KnownBytes.{Appends, prepend_known}
-use Rattle.std.proofs.KnownBytes.{Appends-nil}
 use Rattle.brk_money.specs.Spelling.{Text}
 use Rattle.brk_outside.specs.Span.{IsUntouched, Span}
-use Rattle.brk_web.specs.Asked.{Forms, asked_of}
+use Rattle.brk_web.specs.Asked.{Forms}
 use Rattle.brk_web.specs.Found.{Request, Found, NoMore, Unreadable, Asks, Finds}
-use Rattle.brk_web.specs.Replies.{Response, Wrong, is_fault, reply_text}
-use Rattle.brk_web.specs.Stream.{Does, Next, Ends, GoesOn, next_after}
+use Rattle.brk_web.specs.Replies.{Wrong, reply_text}
+use Rattle.brk_web.specs.Stream.{Does, Ends, next_after}
 use Rattle.brk_web.specs.declared.problem.Problem.{Problem}
 use Rattle.brk_requests.specs.Shown.{asked_at, Shows}
 use Rattle.brk_requests.specs.declared.next.Places.{Places}

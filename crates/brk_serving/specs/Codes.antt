@@ -1,5 +1,5 @@
 -- What the code's values are in the definitions.
-use Rattle.std.specs.Prelude.{ℕ, List, map, Option, option_map, Result, Ok, Err, String, string_bytes}
+use Rattle.std.specs.Prelude.{List, map, Option, option_map, Result, Ok, Err, String, string_bytes}
 use Rattle.std.specs.Global.{Global, Vec}
 use Rattle.brk_money.specs.Spelling.{Text}
 use Rattle.brk_money.specs.declared.fault.Fault.{Fault}

@@ -1,20 +1,35 @@
 -- What a stream comes to, whatever the desk answers, and over the bases that it stands for.
 use Rattle.std.specs.Prelude.{◌≡◌, ℕ, List, [], ◌∷◌, Result}
 use Rattle.brk_money.specs.Spelling.{Text}
-use Rattle.brk_model.specs.Run.{Outcome}
+use Rattle.brk_model.specs.Run.{Call, Outcome}
 use Rattle.brk_outside.specs.Span.{Outside, with_base}
 use Rattle.brk_serving.specs.Turns.{ServeGives}
 use Rattle.brk_serving.specs.declared.stream.ServeFault.{ServeFault}
 use Rattle.brk_web.specs.Asked.{Forms}
 use Rattle.brk_web.specs.Stream.{Does}
 
--- a desk whose calls come out as a list says, whatever they are
-abbrev pub scripted : Does (List Outcome)
-scripted outcomes now call outcome rest = outcomes ≡ outcome ∷ rest
+-- from one desk to another these calls were made in turn, each at its moment, with these outcomes, and nothing else
+abbrev pub AreMade : {D X O : Type 0} → (D → ℕ → X → O → D → Type 0) → D → List (ℕ × X) → List O → D → Type 0
+AreMade acts old [] [] new = new ≡ old
+AreMade {D} acts old (made ∷ calls) (outcome ∷ outcomes) new = (mid : D) × acts old made.0 made.1 outcome mid × AreMade acts mid calls outcomes new
+AreMade acts old [] (outcome ∷ outcomes) new = ⊥
+AreMade acts old (made ∷ calls) [] new = ⊥
 
--- whatever the desk answered, the stream is answered with just these outcomes
-abbrev pub TellsOutcomes : {C : Type 0} → Forms → (C → ℕ → C → Type 0) → Text → Outside C → Result ℕ ServeFault → Type 0
-TellsOutcomes forms gives input outside result = (script : List Outcome) × ServeGives forms scripted gives input (with_base script [] outside) result
+-- calls of a desk were made, and nothing else
+abbrev pub WasCalled : {D : Type 0} → Does D → D → D → Type 0
+WasCalled acts old new = (calls : List (ℕ × Call)) × (outcomes : List Outcome) × AreMade acts old calls outcomes new
+
+-- calls at their moments, and what came of them
+abbrev pub Script : Type 0
+Script = List (ℕ × Call) × List Outcome
+
+-- a desk of which just these calls are made, with these outcomes, whatever they are
+abbrev pub scripted : Does Script
+scripted script now call outcome rest = (script.0 ≡ (now, call) ∷ rest.0) × (script.1 ≡ outcome ∷ rest.1)
+
+-- whatever the desk answered, the stream asked for just these calls and is answered with their outcomes
+abbrev pub TellsOutcomes : {C : Type 0} → Forms → (C → ℕ → C → Type 0) → Text → Script → Outside C → Result ℕ ServeFault → Type 0
+TellsOutcomes forms gives input script outside result = ServeGives forms scripted gives input (with_base script ([], []) outside) result
 
 -- where the desk is honest, over each base that it stood for, the stream is answered by what calls do to that base, and the desk stands for the base after them
 abbrev pub KeepsBooks : {D B C : Type 0} → (D → Type 0) → (D → B → Type 0) → Forms → Does B → (C → ℕ → C → Type 0) → Text → D → D → Outside C → Result ℕ ServeFault → Type 0

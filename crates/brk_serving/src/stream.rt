@@ -1,6 +1,7 @@
 ghost use Rattle.std.specs.Prelude.{◌≡◌, Bool, IfSome};
 ghost use Rattle.std.specs.List.{list_all};
 ghost use Rattle.brk_serving.specs.Rows.{has_byte, the_routes};
+ghost use Rattle.brk_serving.specs.Promises.{WasCalled};
 ghost use Rattle.brk_serving.specs.Turns.{ServeGives};
 
 use crate::router::{Kind, new_router};
@@ -29,7 +30,8 @@ fn serve_by<R: Read + Drop, W: Write, C: Clock, D: Service>(
 ) -> Result<u64, ServeFault>
     requires routes { router.now ≡ the_routes }
     requires named { list_all has_byte D.forms.views ≡ Bool.true }
-    ensures { IfSome (R.remaining reader) (λ input. ServeGives D.forms D.acts C.gives input
+    ensures called { WasCalled D.acts desk.old desk.new }
+    ensures gives { IfSome (R.remaining reader) (λ input. ServeGives D.forms D.acts C.gives input
         (record { base = desk.old; after = desk.new; clock = clock.old; later = clock.new; old = W.contents writer.old; new = W.contents writer.new }) result) }
 {
     let mut buffer = Vec::new(alloc);
@@ -62,7 +64,8 @@ pub fn serve<R: Read + Drop, W: Write, C: Clock, D: Service>(
     desk: &mut D::Desk,
 ) -> Result<u64, ServeFault>
     requires named { list_all has_byte D.forms.views ≡ Bool.true }
-    ensures { IfSome (R.remaining reader) (λ input. ServeGives D.forms D.acts C.gives input
+    ensures called { WasCalled D.acts desk.old desk.new }
+    ensures gives { IfSome (R.remaining reader) (λ input. ServeGives D.forms D.acts C.gives input
         (record { base = desk.old; after = desk.new; clock = clock.old; later = clock.new; old = W.contents writer.old; new = W.contents writer.new }) result) }
 {
     match new_router(alloc) {

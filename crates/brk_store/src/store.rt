@@ -30,7 +30,7 @@ impl<S: Alter + Drop> Drop for Store<S> {
 }
 
 impl<S: Alter> Store<S> {
-    ghost use Rattle.std.specs.Prelude.{◌≡◌, ◌⊎◌, Err, IfErr, MatchResult, Ok, OnErr, false};
+    ghost use Rattle.std.specs.Prelude.{◌≡◌, ◌⊎◌, Err, IfErr, MatchResult, Ok, OnErr, false, true};
     ghost use Rattle.brk_money.specs.declared.fault.Condition.TheVariants.{NotEmpty};
     ghost use Rattle.brk_money.specs.declared.fault.Fault.TheVariants as fault;
     ghost use Rattle.brk_changes.specs.Changes.{after_changes};
@@ -38,11 +38,13 @@ impl<S: Alter> Store<S> {
 
     /// Makes the tables of a desk in a database that has none of them, whatever others it has, which keep their rows, or
     /// answers `Damaged(NotEmpty)` where it has one of them. At a fault the database is as it was, and the connection
-    /// comes back, with no transaction that it did not have. A connection on which one is open is refused with `Store`.
+    /// comes back, with no transaction that it did not have. A connection on which one is open is refused with `Store`,
+    /// and comes back as it is.
     pub fn create(mut conn: Connection<S>) -> Result<Store<S>, (Connection<S>, Fault)>
         ensures created { MatchResult result (λ store. IsCreated S.Store conn store (Ok tt)) (λ e. IsCreated S.Store conn e.0 (Err e.1)) }
         ensures fault { IfErr result (λ e. (e.1 ≡ fault.Store) ⊎ (e.1 ≡ fault.Damaged NotEmpty)) }
         ensures ended { IfErr result (λ e. conn.in_transaction ≡ false → e.0.in_transaction ≡ false) }
+        ensures refused { conn.in_transaction ≡ true → result ≡ Err (conn, fault.Store) }
     {
         if !conn.is_autocommit() {
             return Err((conn, Fault::Store));

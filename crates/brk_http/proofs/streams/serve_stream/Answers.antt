@@ -3,9 +3,11 @@ use Rattle.sqlite.specs.Held.{state}
 use Rattle.sqlite.specs.State.{HasCleanDisk}
 use Rattle.brk_booking.specs.Booked.{KeepsBase}
 use Rattle.brk_model.specs.Run.{Answers}
-use Rattle.brk_serving.proofs.Promised.{keeps, tells}
+use Rattle.brk_serving.proofs.Promised.{keeps}
 use Rattle.brk_http.specs.Acts.{DeskActs}
 use Rattle.brk_http.specs.Forms.{known_forms}
+use Rattle.brk_http.proofs.Acted.{earlier, steps}
+use Rattle.brk_http.proofs.Serving.{tells_served}
 use Rattle.brk_http.proofs.streams.serve_stream.Goals as goal
 
 if_known : (input : Option (List ℕ)) {P Q : List ℕ → Type 0} → ((text : List ℕ) → P text → Q text) → IfSome input P → IfSome input Q
@@ -14,13 +16,14 @@ if_known (Some text) turn h = turn text h
 
 pub returns-clause-told : goal.returns-clause-told
 returns-clause-told g c =
-    if_known (g.R.Read.remaining c.args.reader) (λ input h.
-    tells known_forms (λ old now call outcome new. DeskActs g.S.Store old now call outcome new) g.C.Clock.gives input c.args.desk.now c.serve.new.desk
-    (record { clock = c.args.clock.now; later = c.serve.new.clock; old = g.W.Write.contents c.args.writer.now; new = g.W.Write.contents c.serve.new.writer }) c.serve.result h) c.serve.ensures
+    tells_served g.S.Store g.C.Clock.gives (g.R.Read.remaining c.args.reader) c.args.desk.now c.serve.new.desk
+    (record { clock = c.args.clock.now; later = c.serve.new.clock; old = g.W.Write.contents c.args.writer.now; new = g.W.Write.contents c.serve.new.writer }) c.serve.result
+    c.serve.ensures.called c.serve.ensures.gives
 
 pub returns-clause-kept : goal.returns-clause-kept
 returns-clause-kept g c =
     if_known (g.R.Read.remaining c.args.reader) (λ input h.
     keeps known_forms (λ old now call outcome new. DeskActs g.S.Store old now call outcome new) Answers (λ desk. HasCleanDisk (state g.S.Store desk)) (λ desk. KeepsBase g.S.Store desk)
-    (λ old now call outcome new acts. acts.clean) (λ old now call outcome new acts. acts.does) g.C.Clock.gives input c.args.desk.now c.serve.new.desk
-    (record { clock = c.args.clock.now; later = c.serve.new.clock; old = g.W.Write.contents c.args.writer.now; new = g.W.Write.contents c.serve.new.writer }) c.serve.result h) c.serve.ensures
+    (λ old now call outcome new acts. earlier g.S.Store old new now call outcome acts) (λ old now call outcome new acts. steps g.S.Store old new now call outcome acts)
+    g.C.Clock.gives input c.args.desk.now c.serve.new.desk
+    (record { clock = c.args.clock.now; later = c.serve.new.clock; old = g.W.Write.contents c.args.writer.now; new = g.W.Write.contents c.serve.new.writer }) c.serve.result h) c.serve.ensures.gives

@@ -1,4 +1,4 @@
-use Rattle.std.proofs.Common.{◌≡◌, map, take, string_bytes}
+use Rattle.std.proofs.Common.{◌≡◌, map, take}
 use Rattle.serde_json.specs.View.{view}
 use Rattle.brk_web.specs.Bodies.{listed}
 use Rattle.brk_serving.specs.Codes.{list_of}

@@ -1,4 +1,4 @@
-use Rattle.std.proofs.Common.{◌≡◌, codes, ◌∙◌, ap, false, refl}
+use Rattle.std.proofs.Common.{◌≡◌, codes, ◌∙◌, ap, false}
 use Rattle.std.proofs.lemmas.Result.{IfOk-weaker}
 use Rattle.serde_json.specs.Data.{object, member, no_members, string}
 use Rattle.serde_json.specs.View.{view}

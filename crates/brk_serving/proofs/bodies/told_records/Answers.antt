@@ -1,4 +1,4 @@
-use Rattle.std.proofs.Common.{◌≡◌, codes, map, string_bytes, ◌∙◌, ap, false, refl}
+use Rattle.std.proofs.Common.{◌≡◌, codes, map, ◌∙◌, ap, false, refl}
 use Rattle.std.proofs.lemmas.Result.{IfOk-weaker}
 use Rattle.serde_json.specs.Data.{array, object, member, no_members}
 use Rattle.serde_json.specs.View.{view, items_of}

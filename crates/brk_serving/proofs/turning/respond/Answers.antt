@@ -1,6 +1,7 @@
-use Rattle.std.proofs.Common.{refl}
+use Rattle.std.proofs.Common.{[], refl}
 use Rattle.brk_web.specs.Replies.{reply_text}
 use Rattle.brk_serving.specs.Codes.{response_of}
+use Rattle.brk_serving.proofs.Called.{responds_called}
 use Rattle.brk_serving.proofs.turning.respond.Goals as goal
 
 pub returns-clause-after : goal.returns-clause-after
@@ -17,3 +18,12 @@ returns-clause-after g c = λ old new is.
         bytes = refl;
       },
     )
+
+pub returns-in_default-clause-called : goal.returns-in_default-clause-called
+returns-in_default-clause-called g c = ([], [], refl)
+
+pub returns-in-Ok-reply_text-clause-called : goal.returns-in-Ok-reply_text-clause-called
+returns-in-Ok-reply_text-clause-called g c = responds_called g.D.Service.acts _ _ _ c.act-told.ensures.0 _ c.act-told.ensures.2
+
+pub returns-clause-called : goal.returns-clause-called
+returns-clause-called g c = responds_called g.D.Service.acts _ _ _ c.act-told.ensures.0 _ c.act-told.ensures.2
