@@ -1,5 +1,5 @@
-//! Tests of batches that set a desk up and of batches of orders, ticks, cancels and results, with all tables after them; of calls, runs and
-//! queries at a desk in memory; and of what is decided.
+//! Tests of a desk in memory: batches that set it up and batches of orders, ticks, cancels and results, with all tables after them; calls, runs
+//! and queries; what is decided; views, corrections and statements.
 #![tactic(auto)]
 
 #[cfg(test)]
@@ -41,4 +41,8 @@ mod settings;
 #[cfg(test)]
 mod settlements;
 #[cfg(test)]
+mod statements;
+#[cfg(test)]
 mod triggers;
+#[cfg(test)]
+mod views;

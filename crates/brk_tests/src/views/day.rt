@@ -1,7 +1,7 @@
 //! The day of a small desk, which sets itself up and is asked about while it is booked; and words that are corrected. Both are
 //! the examples of docs/FORMATS.md, with the views that are shown there.
 
-use crate::asking::{Case, Stage, expect_stages, expect_views};
+use crate::views::asking::{Case, Stage, expect_stages, expect_views};
 use brk_tests_desks::desks::{Step, expect, new_desk};
 use std::test::Fail;
 

@@ -2,7 +2,7 @@
 //! lots, and the ten accounts that a customer may have. Fifty-two orders of one share come to the market at one stamp, so ids
 //! decide which trades are left out. A trade has three statuses at most, so ten trades never have more than thirty.
 
-use crate::asking::{Stage, book, expect_alike, expect_stages};
+use crate::views::asking::{Stage, book, expect_alike, expect_stages};
 use brk_tests_desks::desk::Desk;
 use brk_tests_desks::desks::set_desk;
 use sqlite::MemStore;

@@ -1,0 +1,12 @@
+//! What a desk tells when it is asked for its views, record by record, and batches that correct words.
+
+mod asking;
+mod day;
+mod first_twenty;
+mod limits;
+mod setting;
+mod trades;
+mod update_refusals;
+mod updates;
+mod waiting;
+mod worked;
