@@ -14,3 +14,4 @@ pub mod LookupViews
 pub mod LotViews
 pub mod VolumeViews
 pub mod Reopened
+pub mod Made

@@ -9,3 +9,4 @@ pub mod LookedUp
 pub mod Touched
 pub mod Volumes
 pub mod Reopening
+pub mod Runs

@@ -2,10 +2,10 @@ ghost use Rattle.std.specs.Prelude.{ℕ, IfSome, List, map};
 ghost use Rattle.brk_booking.specs.Booked.{KeepsBase};
 ghost use Rattle.brk_desk.specs.Answers.{outcome_of};
 ghost use Rattle.brk_desk.specs.Commands.{call_of};
+ghost use Rattle.brk_desk.specs.Runs.{IsRunOf};
 ghost use Rattle.brk_desk.specs.declared.call.Call as made;
 ghost use Rattle.brk_desk.specs.declared.call.Outcome as came;
 ghost use Rattle.brk_http.specs.Forms.{known_forms};
-ghost use Rattle.brk_http.specs.Served.{IsServed};
 ghost use Rattle.brk_model.specs.Run.{Answers};
 ghost use Rattle.brk_serving.specs.Promises.{KeepsBooks, TellsOutcomes};
 ghost use Rattle.sqlite.specs.Held.{state};
@@ -36,7 +36,7 @@ pub fn serve_stream<R: Read + Drop, W: Write, C: Clock, S: Alter>(
 ) -> Result<u64, ServeFault>
     // Whatever comes of the stream, calls of the desk were made in turn and nothing else: it keeps all that a run of them promises.
     // Where the reader tells its bytes, these calls are what it asks for, and the replies are those of their outcomes.
-    ensures told { (calls : List (ℕ × made.Call)) × (outcomes : List came.Outcome) × IsServed S.Store desk.old desk.new calls outcomes
+    ensures told { (calls : List (ℕ × made.Call)) × (outcomes : List came.Outcome) × IsRunOf S.Store desk.old desk.new calls outcomes
         × IfSome (R.remaining reader) (λ input. TellsOutcomes known_forms C.gives input (map call_of calls, map outcome_of outcomes)
         (record { clock = clock.old; later = clock.new; old = W.contents writer.old; new = W.contents writer.new }) result) }
     // As far as the disk returns what was written, they are those of the abstract brokerage, from each base whose books the

@@ -1,10 +1,9 @@
 -- A row that was answered, or not, under its key.
-use Rattle.std.proofs.Common.{◌≡◌, ◌⊎◌, ℕ, Bool, true, false, Option, Result, Ok, Err, Some, inl, inr, ap, subst, sym}
+use Rattle.std.proofs.Common.{◌≡◌, ◌⊎◌, ℕ, Bool, true, false, Option, Result, Ok, Err, Some, inl, inr, ap, refl, subst, sym}
 use Rattle.sqlite_trees.specs.Tree.{Trees}
 use Rattle.sqlite_trees.specs.declared.store.Store.{Ghosts}
 use Rattle.sqlite.specs.Held.{Held, state}
-use Rattle.sqlite.specs.State.{HasCleanDisk, Survives}
-use Rattle.sqlite.proofs.StateLemmas.{survives_weaker}
+use Rattle.sqlite.specs.State.{HasCleanDisk}
 use Rattle.brk_money.specs.declared.fault.Fault.{Fault}
 use Rattle.brk_model.specs.Base.{Base}
 use Rattle.brk_model.specs.Batch.{row_step}
@@ -14,8 +13,16 @@ use Rattle.brk_model.specs.Records.{Key}
 use Rattle.brk_model.specs.Sheets.{sheets}
 use Rattle.brk_store.specs.Holds.{AreTreesOf}
 use Rattle.brk_booking.specs.Answers.{answer_of}
-use Rattle.brk_booking.specs.Booked.{IsCalled, KeepsBase, MayCome}
+use Rattle.brk_booking.specs.Booked.{IsCalled, KeepsBase}
+use Rattle.brk_booking.specs.Keys.{key_for}
+use Rattle.brk_commands.specs.Commands.{command_of}
+use Rattle.brk_commands.specs.declared.command.Command as commands
+use Rattle.brk_ref.specs.declared.key.Key as keys
+use Rattle.brk_desk.specs.Answers.{outcome_for}
 use Rattle.brk_desk.specs.Reopening.{CanBeKept}
+use Rattle.brk_desk.specs.Runs.{WasRun}
+use Rattle.brk_desk.specs.declared.call.Call.TheVariants as call
+use Rattle.brk_desk.proofs.Made.{one_run}
 use Rattle.brk_booking.specs.declared.answer.Answer.{Answer}
 use Rattle.brk_booking.specs.declared.answer.Answer.TheVariants as given
 use Rattle.brk_desk.proofs.Reopened.{booked_can_be}
@@ -78,6 +85,7 @@ module _ {S : Type 0} (g : Ghosts S) (old new : Held S) (now : ℕ) (command : C
         | inr come ↦ inr (come.1 base keeps, booked_can_be g old new base now command (Some same) (Err fault) trees same_called keeps come)
       ]
 
-  -- whatever is answered, nothing but a fault of the disk shuts the store
-  pub stays_open : (key : Option Key) (result : Result Answer Fault) → IsCalled g old new now command key result → Survives (state g old) (state g new) (λ _. Unit {0})
-  stays_open key result called = survives_weaker (state g old) (state g new) (MayCome g old now command key) (λ _. Unit {0}) (λ _ trees may. tt) called.survives
+-- one call was made, and nothing else
+pub was_called : {S : Type 0} (g : Ghosts S) (old new : Held S) (now : ℕ) (command : commands.Command) (key : Option keys.Key) (result : Result Answer Fault)
+    → IsCalled g old new now (command_of command) (key_for key) result → WasRun g old new
+was_called g old new now command key result called = one_run g old new now (call.Do command key) (outcome_for result) (result, refl, called)

@@ -8,9 +8,10 @@ ghost use Rattle.brk_model.specs.Parse.{parse_by, readers};
 ghost use Rattle.brk_commands.specs.Commands.{command_of};
 ghost use Rattle.brk_plans.specs.Replies.{reply_of};
 ghost use Rattle.brk_booking.specs.Booked.{KeepsBase};
-ghost use Rattle.brk_import.specs.Leaving.{LeavesOneOf, survives_both, survives_none};
+ghost use Rattle.brk_desk.specs.Runs.{WasRun};
+ghost use Rattle.brk_import.specs.Leaving.{LeavesOneOf, called_then, not_called};
 ghost use Rattle.sqlite.specs.Held.{state};
-ghost use Rattle.sqlite.specs.State.{HasCleanDisk, Survives};
+ghost use Rattle.sqlite.specs.State.{HasCleanDisk};
 
 use brk_batches::{RowAnswer, Rows};
 use brk_desk::{Answer, Command, Desk, line_text, parse_row};
@@ -55,8 +56,7 @@ impl<S: Alter> Rows for AtDesk<S> {
 
     ghost leaves = { LeavesOneOf S.Store };
 
-    // No fault of the disk is forgotten, and nothing else shuts the store.
-    ghost leads = { λ first last. Survives (state S.Store first) (state S.Store last) (λ _. Unit {0}) };
+    ghost leads = { λ first last. WasRun S.Store first last };
 
     ghost asked = { command_of };
 
@@ -70,7 +70,7 @@ impl<S: Alter> Rows for AtDesk<S> {
         parse_row(alloc, row)
     }
 
-    #[tactic(auto, using(crate::specs::Leaving::survives_none, crate::proofs::Under::stays_open))]
+    #[tactic(auto, using(crate::specs::Leaving::not_called, crate::proofs::Under::was_called))]
     fn call(
         desk: &mut Desk<S>,
         alloc: Global,
@@ -94,7 +94,7 @@ impl<S: Alter> Rows for AtDesk<S> {
         }
     }
 
-    ghost stays = { λ _. survives_none _ };
+    ghost stays = { λ _. not_called _ _ };
 
-    ghost goes_on = { λ _ _ _. survives_both _ _ _ };
+    ghost goes_on = { λ _ _ _. called_then _ _ _ _ };
 }

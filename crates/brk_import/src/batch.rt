@@ -4,9 +4,10 @@ ghost use Rattle.brk_model.specs.Input.{text_of};
 ghost use Rattle.brk_model.specs.Parse.{parse_by, readers};
 ghost use Rattle.brk_booking.specs.Booked.{KeepsBase};
 ghost use Rattle.brk_batches.specs.Batch.{KeepsBooks, LeavesBooks, TellsAnswers};
+ghost use Rattle.brk_desk.specs.Runs.{WasRun};
 ghost use Rattle.brk_import.specs.Leaving.{LeavesOneOf};
 ghost use Rattle.sqlite.specs.Held.{state};
-ghost use Rattle.sqlite.specs.State.{HasCleanDisk, Survives};
+ghost use Rattle.sqlite.specs.State.{HasCleanDisk};
 
 use crate::at_desk::AtDesk;
 use brk_batches::{Counts, run};
@@ -31,8 +32,8 @@ pub fn run_batch<R: Read + Drop, W: Write, C: Clock, S: Alter>(
     clock: &mut C,
     desk: &mut Desk<S>,
 ) -> Result<Counts, BatchFault>
-    // However it ends, no fault of the disk is forgotten, and nothing else shuts the store.
-    ensures survives { Survives (state S.Store desk.old) (state S.Store desk.new) (λ _. Unit {0}) }
+    // However it ends, calls of the desk were made in turn and nothing else: it keeps all that a run of them promises.
+    ensures ran { WasRun S.Store desk.old desk.new }
     // Whatever the desk answers to the rows that are in form, the lines are those of its answers.
     ensures told { TellsAnswers (parse_by readers) C.gives (option_map text_of (R.remaining reader))
         (record { clock = clock.old; later = clock.new; old = W.contents writer.old; new = W.contents writer.new }) result }

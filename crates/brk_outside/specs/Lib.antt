@@ -1,2 +1,3 @@
 pub mod Moments
 pub mod Span
+pub mod Calls

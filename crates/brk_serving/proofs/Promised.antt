@@ -3,12 +3,13 @@ use Rattle.std.proofs.Common.{◌≡◌, ℕ, ◌+◌, List, [], ◌∷◌, leng
 use Rattle.std.specs.Prelude.{Result, Ok, Err}
 use Rattle.brk_money.specs.Spelling.{Text}
 use Rattle.brk_model.specs.Run.{Call, Outcome}
+use Rattle.brk_outside.specs.Calls.{AreMade}
 use Rattle.brk_outside.specs.Span.{IsUntouched, Outside, Span, with_base}
 use Rattle.brk_web.specs.Asked.{Forms, Asked, Answers, Calls, asked_of}
 use Rattle.brk_web.specs.Found.{Found, NoMore, Unreadable, Asks}
 use Rattle.brk_web.specs.Replies.{Response}
 use Rattle.brk_web.specs.Stream.{Does, Next, Ends, GoesOn, One, RepliedTo, Replies, Begins, Responds}
-use Rattle.brk_serving.specs.Promises.{AreMade, KeepsBooks, Script, TellsOutcomes, scripted}
+use Rattle.brk_serving.specs.Promises.{KeepsBooks, Script, TellsOutcomes, scripted}
 use Rattle.brk_serving.specs.Turns.{Answered, Failed, ServeGives}
 use Rattle.brk_serving.specs.declared.stream.ServeFault.{ServeFault}
 use Rattle.brk_serving.specs.declared.turning.FaultKind.{FaultKind}

@@ -2,18 +2,12 @@
 use Rattle.std.specs.Prelude.{◌≡◌, ℕ, List, [], ◌∷◌, Result}
 use Rattle.brk_money.specs.Spelling.{Text}
 use Rattle.brk_model.specs.Run.{Call, Outcome}
+use Rattle.brk_outside.specs.Calls.{AreMade}
 use Rattle.brk_outside.specs.Span.{Outside, with_base}
 use Rattle.brk_serving.specs.Turns.{ServeGives}
 use Rattle.brk_serving.specs.declared.stream.ServeFault.{ServeFault}
 use Rattle.brk_web.specs.Asked.{Forms}
 use Rattle.brk_web.specs.Stream.{Does}
-
--- from one desk to another these calls were made in turn, each at its moment, with these outcomes, and nothing else
-abbrev pub AreMade : {D X O : Type 0} → (D → ℕ → X → O → D → Type 0) → D → List (ℕ × X) → List O → D → Type 0
-AreMade acts old [] [] new = new ≡ old
-AreMade {D} acts old (made ∷ calls) (outcome ∷ outcomes) new = (mid : D) × acts old made.0 made.1 outcome mid × AreMade acts mid calls outcomes new
-AreMade acts old [] (outcome ∷ outcomes) new = ⊥
-AreMade acts old (made ∷ calls) [] new = ⊥
 
 -- calls of a desk were made, and nothing else
 abbrev pub WasCalled : {D : Type 0} → Does D → D → D → Type 0

@@ -1,18 +1,18 @@
 use Rattle.std.proofs.Common.{refl, subst, sym}
-use Rattle.brk_http.specs.Served.{WasServed}
-use Rattle.brk_http.proofs.Serving.{not_served, served_then}
+use Rattle.brk_desk.specs.Runs.{WasRun}
+use Rattle.brk_desk.proofs.Made.{not_run, run_then}
 use Rattle.brk_http.proofs.listening.serve_on.Goals.{in-Ok+in_ok-serve_one-in-Ok, in-Err}
 use Rattle.brk_http.proofs.listening.serve_on.Goals as goal
 
 pub streams-init : goal.streams-init
-streams-init g c = not_served g.S.Store _ _ refl
+streams-init g c = not_run g.S.Store _ _ refl
 
 pub streams-preserved : goal.streams-preserved
 streams-preserved g c =
     elim c.match-accept.branch [
-      | in-Ok+in_ok-serve_one-in-Ok w ↦ subst (WasServed g.S.Store c.args.desk.now) (sym w.desk-is) (served_then g.S.Store _ _ _ c.streams.invariant w.serve_one.ensures.served)
-      | in-Err w ↦ subst (WasServed g.S.Store c.args.desk.now) (sym w.desk-is) c.streams.invariant
+      | in-Ok+in_ok-serve_one-in-Ok w ↦ subst (WasRun g.S.Store c.args.desk.now) (sym w.desk-is) (run_then g.S.Store _ _ _ c.streams.invariant w.serve_one.ensures.served)
+      | in-Err w ↦ subst (WasRun g.S.Store c.args.desk.now) (sym w.desk-is) c.streams.invariant
     ]
 
 pub returns-in_err-serve_one-in-Ok : goal.returns-in_err-serve_one-in-Ok
-returns-in_err-serve_one-in-Ok g c = record { served = served_then g.S.Store _ _ _ c.streams.invariant c.serve_one.ensures.served }
+returns-in_err-serve_one-in-Ok g c = record { served = run_then g.S.Store _ _ _ c.streams.invariant c.serve_one.ensures.served }

@@ -7,7 +7,7 @@ use Rattle.brk_serving.proofs.Promised.{keeps}
 use Rattle.brk_http.specs.Acts.{DeskActs}
 use Rattle.brk_http.specs.Forms.{known_forms}
 use Rattle.brk_http.proofs.Acted.{earlier, steps}
-use Rattle.brk_http.proofs.Serving.{tells_served}
+use Rattle.brk_http.proofs.Serving.{tells_run}
 use Rattle.brk_http.proofs.streams.serve_stream.Goals as goal
 
 if_known : (input : Option (List ℕ)) {P Q : List ℕ → Type 0} → ((text : List ℕ) → P text → Q text) → IfSome input P → IfSome input Q
@@ -16,7 +16,7 @@ if_known (Some text) turn h = turn text h
 
 pub returns-clause-told : goal.returns-clause-told
 returns-clause-told g c =
-    tells_served g.S.Store g.C.Clock.gives (g.R.Read.remaining c.args.reader) c.args.desk.now c.serve.new.desk
+    tells_run g.S.Store g.C.Clock.gives (g.R.Read.remaining c.args.reader) c.args.desk.now c.serve.new.desk
     (record { clock = c.args.clock.now; later = c.serve.new.clock; old = g.W.Write.contents c.args.writer.now; new = g.W.Write.contents c.serve.new.writer }) c.serve.result
     c.serve.ensures.called c.serve.ensures.gives
 

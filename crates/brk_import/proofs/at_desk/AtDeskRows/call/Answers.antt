@@ -1,8 +1,9 @@
+use Rattle.std.proofs.Common.{Some}
 use Rattle.std.proofs.lemmas.Result.{err_from_is_err_and}
 use Rattle.brk_ref.specs.Records.{key_of}
 use Rattle.brk_commands.specs.Commands.{command_of}
 use Rattle.brk_booking.specs.declared.answer.Answer.TheVariants as given
-use Rattle.brk_import.proofs.Under.{may_act, under}
+use Rattle.brk_import.proofs.Under.{may_act, under, was_called}
 use Rattle.brk_import.proofs.at_desk.AtDeskRows.call.Goals as goal
 
 pub returns-in-Done-clause-ok : goal.returns-in-Done-clause-ok
@@ -25,3 +26,15 @@ returns-in_err-reply-clause-stop g c =
     let p = err_from_is_err_and c.from_residual-in_err-reply.result c.from_residual-in_err-reply.ensures.1 in
     rw p.1 (may_act g.S.Store c.args.desk.now c.call.new.self c.args.now (command_of c.args.command.now) (key_of c.in_ok-key.key) (record { batch = c.args.batch.now; row = c.args.n })
     _ c.in_ok-key.ensures.key c.in_err-reply.ensures.called)
+
+pub returns-in_err-reply-clause-leads : goal.returns-in_err-reply-clause-leads
+returns-in_err-reply-clause-leads g c = was_called g.S.Store _ _ c.args.now c.args.command.now (Some c.in_ok-key.key) _ c.in_err-reply.ensures.called
+
+pub returns-in-Done-clause-leads : goal.returns-in-Done-clause-leads
+returns-in-Done-clause-leads g c = was_called g.S.Store _ _ c.args.now c.args.command.now (Some c.in_ok-key.key) _ c.in_ok-reply.ensures.called
+
+pub returns-in-Again-clause-leads : goal.returns-in-Again-clause-leads
+returns-in-Again-clause-leads g c = was_called g.S.Store _ _ c.args.now c.args.command.now (Some c.in_ok-key.key) _ c.in_ok-reply.ensures.called
+
+pub returns-clause-leads : goal.returns-clause-leads
+returns-clause-leads g c = was_called g.S.Store _ _ c.args.now c.args.command.now (Some c.in_ok-key.key) _ c.in_ok-reply.ensures.called
