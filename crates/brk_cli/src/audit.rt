@@ -3,7 +3,11 @@ use brk_files as file;
 
 /// Audits the desk in the file at a path, and prints `ok` where its tables follow from one another.
 pub fn run(rt: &HostRuntime, path: &str) -> Ending {
-    match file::open(rt, path).and_then(file::close) {
+    let closed = match file::open(rt, path) {
+        Ok(store) => file::close(store),
+        Err(fault) => Err(fault),
+    };
+    match closed {
         Ok(()) => match rt.print("ok\n") {
             Ok(()) => Ending::Done,
             Err(_) => Ending::Output,

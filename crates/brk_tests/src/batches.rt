@@ -1,5 +1,5 @@
-use brk_tests_desks::desks::{Case, Step, expect_new};
-use brk_tests_desks::import::FaultKind;
+use crate::desks::{Case, Step, expect_new};
+use brk_import::FaultKind;
 use std::test::Fail;
 
 const THE_FIRST_RUN: [Step; 1] = [Step::Done(

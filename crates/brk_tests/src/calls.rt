@@ -1,24 +1,47 @@
 //! Runs of calls at a desk.
 
-use brk_money::{Refusal, Stamp};
-use brk_tests_desks::calls::{call_of, keyed};
-use brk_tests_desks::desk::{Answer, Outcome};
-use brk_tests_desks::desks::new_desk;
+use crate::desks::{new_desk, set_desk};
+use crate::fields::fields_of;
+use crate::row_calls::{ask, call_of, keyed};
+use brk_import::brk_desk::{Answer, Call, Desk, Outcome};
+use brk_money::Stamp;
 use brk_trade::Reply;
+use brk_view::View;
+use sqlite::MemStore;
+use std::alloc::{AllocError, Global};
+use std::process::Abort;
 use std::test::Fail;
 
-fn stamp_of(outcome: &Outcome) -> Option<Stamp> {
+// What is told of an outcome that these tests have.
+fn told(alloc: Global, outcome: &Outcome) -> Result<String, AllocError> {
     match outcome {
-        Outcome::Did(Answer::Done(Reply::Booked(stamp))) => Some(*stamp),
-        _ => None,
+        Outcome::Did(Answer::Done(Reply::Booked(stamp))) => {
+            format!(in alloc; "ok,{}", stamp.get())
+        }
+        Outcome::Did(Answer::Again(line)) => format!(in alloc; "again,{line}"),
+        Outcome::Did(Answer::Refused(refusal)) => format!(in alloc; "no,{refusal}"),
+        Outcome::NoView(refusal) => format!(in alloc; "no,{refusal}"),
+        Outcome::Saw(View::Submitted(trades)) => format!(in alloc; "{} trades", trades.len()),
+        _ => format!(in alloc; "something else"),
     }
 }
 
-fn refusal_of(outcome: &Outcome) -> Option<Refusal> {
-    match outcome {
-        Outcome::Did(Answer::Refused(refusal)) => Some(*refusal),
-        _ => None,
+// Compares what a run of calls comes to.
+fn expect_run(
+    rt: &impl Abort,
+    alloc: Global,
+    desk: &mut Desk<MemStore>,
+    calls: &[(Stamp, Call)],
+    wanted: &[&str],
+) -> Result<(), Fail> {
+    let mut out = Vec::new(alloc);
+    desk.run(alloc, calls, &mut out)?;
+    assert!(rt; out.len() == wanted.len());
+    for (outcome, wanted) in out.iter().zip(wanted) {
+        let told = told(alloc, outcome)?;
+        assert!(rt; told.as_str() == *wanted, "{told}");
     }
+    Ok(())
 }
 
 #[test]
@@ -28,14 +51,8 @@ fn a_run_goes_on_after_a_refusal(rt: HostRuntime) -> Result<(), Fail> {
     for row in ["broker,1,Bo", "broker,1,Cy", "broker,2,Cy"] {
         calls.push(call_of(alloc, row, None)?)?;
     }
-    let mut out = Vec::new(alloc);
-    let mut desk = new_desk(alloc)?;
-    desk.run(alloc, &calls, &mut out)?;
-    assert_eq!(rt; out.len(), 3);
-    assert!(rt; stamp_of(&out[0]) == Stamp::new(1_709_251_200_000));
-    assert!(rt; refusal_of(&out[1]) == Some(Refusal::Exists));
-    assert!(rt; stamp_of(&out[2]) == Stamp::new(1_709_251_200_001));
-    Ok(())
+    let wanted = ["ok,1709251200000", "no,15", "ok,1709251200001"];
+    expect_run(&rt, alloc, &mut new_desk(alloc)?, &calls, &wanted)
 }
 
 #[test]
@@ -50,15 +67,17 @@ fn a_run_answers_a_kept_key_again(rt: HostRuntime) -> Result<(), Fail> {
     ] {
         calls.push(keyed(alloc, b"A", n, row)?)?;
     }
-    let mut out = Vec::new(alloc);
-    let mut desk = new_desk(alloc)?;
-    desk.run(alloc, &calls, &mut out)?;
-    assert_eq!(rt; out.len(), 4);
-    assert!(rt; stamp_of(&out[0]) == Stamp::new(1_709_251_200_000));
-    assert!(rt;
-        matches!(&out[1], Outcome::Did(Answer::Again(line)) if line.as_str() == "1709251200000")
-    );
-    assert!(rt; refusal_of(&out[2]) == Some(Refusal::KeyReused));
-    assert!(rt; refusal_of(&out[3]) == Some(Refusal::Exists));
-    Ok(())
+    let wanted = ["ok,1709251200000", "again,1709251200000", "no,19", "no,15"];
+    expect_run(&rt, alloc, &mut new_desk(alloc)?, &calls, &wanted)
+}
+
+#[test]
+fn a_run_tells_what_it_is_asked(rt: HostRuntime) -> Result<(), Fail> {
+    let alloc = rt.alloc();
+    let stranger = fields_of(alloc, "101,TMB,ABC,100,,cash,fifo,Ann,Lee,T10")?;
+    let mut calls = Vec::new(alloc);
+    calls.push(ask(alloc, "submitted", &[])?)?;
+    calls.push(ask(alloc, "estimate", &stranger)?)?;
+    let wanted = ["0 trades", "no,1"];
+    expect_run(&rt, alloc, &mut set_desk(alloc)?, &calls, &wanted)
 }

@@ -1,6 +1,6 @@
-use brk_tests_desks::desks::{Case, Step, expect_cases};
-use brk_tests_desks::import::FaultKind;
-use brk_tests_desks::plans::worked::{SET, SET_AGAIN};
+use crate::desks::{Case, Step, expect_cases};
+use crate::worked::{SET, SET_AGAIN};
+use brk_import::FaultKind;
 use std::test::Fail;
 
 const FORM_THEN_THE_KEY_THEN_THE_DESK: [Step; 5] = [

@@ -1,9 +1,8 @@
-//! Tests of a desk in memory: batches that set it up and batches of orders, ticks, cancels and results, with all tables after them; calls, runs
-//! and queries; what is decided; views, corrections and statements.
+//! Tests of a desk: batches that set it up and batches of orders, ticks, cancels and results, with all tables after them; calls, runs and queries;
+//! views, corrections and statements. And of what is around it: streams of HTTP requests, other programs that change its tables,
+//! files, and sweeps of hostile use.
 #![tactic(auto)]
 
-#[cfg(test)]
-mod asks;
 #[cfg(test)]
 mod batches;
 #[cfg(test)]
@@ -11,7 +10,19 @@ mod booked;
 #[cfg(test)]
 mod calls;
 #[cfg(test)]
-mod decisions;
+mod cuts;
+#[cfg(test)]
+mod damages;
+#[cfg(test)]
+mod desks;
+#[cfg(test)]
+mod faulty;
+#[cfg(test)]
+mod fields;
+#[cfg(test)]
+mod files;
+#[cfg(test)]
+mod http;
 #[cfg(test)]
 mod keys;
 #[cfg(test)]
@@ -35,6 +46,8 @@ mod result_refusals;
 #[cfg(test)]
 mod results;
 #[cfg(test)]
+mod row_calls;
+#[cfg(test)]
 mod rows_read;
 #[cfg(test)]
 mod settings;
@@ -43,6 +56,10 @@ mod settlements;
 #[cfg(test)]
 mod statements;
 #[cfg(test)]
+mod tables;
+#[cfg(test)]
 mod triggers;
 #[cfg(test)]
 mod views;
+#[cfg(test)]
+mod worked;

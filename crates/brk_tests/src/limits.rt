@@ -1,4 +1,4 @@
-use brk_tests_desks::desks::{Case, Step, expect_cases, expect_new};
+use crate::desks::{Case, Step, expect_cases, expect_new};
 use std::test::Fail;
 
 const NAMES_AT_THEIR_LIMIT: [Step; 1] = [Step::Done(

@@ -1,5 +1,5 @@
+use brk_import::brk_desk::brk_store::Store;
 use brk_money::{Condition, Fault};
-use brk_tests_desks::store::Store;
 use sqlite::{Connection, MemStore};
 use std::test::Fail;
 

@@ -1,12 +1,12 @@
 //! A batch of five hundred orders and their results, and the same calls in one run.
 
+use crate::desks::{answer_at, set_desk};
+use crate::row_calls::keyed;
+use crate::worked::FIRST_MOMENT;
+use brk_import::Counts;
+use brk_import::brk_desk::brk_store::Store;
+use brk_import::brk_desk::{Answer, Call, Desk, Outcome, line_text};
 use brk_money::{Id, Stamp};
-use brk_tests_desks::calls::keyed;
-use brk_tests_desks::desk::{Answer, Call, Desk, Outcome, line_text};
-use brk_tests_desks::desks::{answer_at, set_desk};
-use brk_tests_desks::import::Counts;
-use brk_tests_desks::plans::worked::FIRST_MOMENT;
-use brk_tests_desks::store::Store;
 use sqlite::MemStore;
 use std::alloc::Global;
 use std::process::Abort;
@@ -45,7 +45,7 @@ fn batch_of(alloc: Global, rows: &[String]) -> Result<String, Fail> {
 }
 
 // Compares the sums after all trades: 83,667 shares were bought and 41,583 were sold. Nothing is found wrong with the tables.
-fn expect_sums(rt: &impl Abort, alloc: Global, mut store: Store<MemStore>) -> Result<(), Fail> {
+fn expect_sums(rt: &impl Abort, alloc: Global, store: &mut Store<MemStore>) -> Result<(), Fail> {
     let account = Id::new(100).ok_or("account")?;
     let broker = Id::new(1).ok_or("broker")?;
     let summaries = store.summaries_of(alloc, account)?;
@@ -78,7 +78,7 @@ fn expect_batch(rt: &impl Abort, alloc: Global, rows: &[String]) -> Result<Vec<u
             b"\n1000,ok,1709251201015,50.00,0.00,-5055.00,2024-03-03,0.00,0.00,-425865.00\nend,1000,0,0\n"
         )
     );
-    expect_sums(rt, alloc, desk.into_store())?;
+    expect_sums(rt, alloc, &mut desk.into_store())?;
     Ok(lines)
 }
 
@@ -126,7 +126,7 @@ fn lines_of(alloc: Global, outcomes: &[Outcome]) -> Result<String, Fail> {
 fn lines_of_run(rt: &impl Abort, alloc: Global, rows: &[String]) -> Result<String, Fail> {
     let mut desk = set_desk(alloc)?;
     let lines = lines_of(alloc, &outcomes(alloc, &mut desk, rows)?)?;
-    expect_sums(rt, alloc, desk.into_store())?;
+    expect_sums(rt, alloc, &mut desk.into_store())?;
     Ok(lines)
 }
 

@@ -1,5 +1,5 @@
+use crate::desks::{Case, Step, expect_cases};
 use brk_money::Stamp;
-use brk_tests_desks::desks::{Case, Step, expect_cases};
 use std::test::Fail;
 
 // Three orders, a cancel and a tick, and what is refused after them.

@@ -1,4 +1,4 @@
-use brk_tests_desks::desks::{Case, Step, expect_cases};
+use crate::desks::{Case, Step, expect_cases};
 use std::test::Fail;
 
 const ORDERS_OUT_OF_FORM: [Step; 1] = [Step::Done(

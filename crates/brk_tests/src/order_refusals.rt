@@ -1,4 +1,4 @@
-use brk_tests_desks::desks::{Case, Step, expect_cases};
+use crate::desks::{Case, Step, expect_cases};
 use std::test::Fail;
 
 // Orders by others than the customer.

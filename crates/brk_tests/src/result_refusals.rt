@@ -1,6 +1,6 @@
+use crate::desks::{Case, Step, expect_cases};
+use crate::tables::{Booked, expect_booked};
 use brk_money::Stamp;
-use brk_tests_desks::desks::{Case, Step, expect_cases};
-use brk_tests_desks::tables::{Booked, expect_booked};
 use std::test::Fail;
 
 // What the tables hold after the results that were accepted.

@@ -1,11 +1,11 @@
 //! How many rows a sale reads of a position of forty lots of one share each.
 
+use crate::desks::{answer_at, set_desk};
+use crate::worked::FIRST_MOMENT;
+use brk_import::brk_desk::brk_store::Store;
 use brk_lots::close;
 use brk_money::{Id, Price, Qty, Side, Stamp};
 use brk_ref::Symbol;
-use brk_tests_desks::desks::{answer_at, set_desk};
-use brk_tests_desks::plans::worked::FIRST_MOMENT;
-use brk_tests_desks::store::Store;
 use sqlite::MemStore;
 use std::alloc::Global;
 use std::test::Fail;
@@ -59,16 +59,24 @@ fn sale(
     Ok((closing.touched.len(), lots.rows_read()))
 }
 
+// Shares that are sold, the lots that this touches, and the rows that it reads.
+const SALES: [(u32, usize, u64); 5] = [
+    (1, 1, 16),
+    (16, 16, 16),
+    (17, 17, 32),
+    (40, 40, 40),
+    (41, 40, 40),
+];
+
 #[test]
 fn reads_as_many_pages_as_it_needs(rt: HostRuntime) -> Result<(), Fail> {
     let alloc = rt.alloc();
     let mut store = store_of_lots(alloc)?;
     for lifo in [false, true] {
-        assert!(rt; sale(alloc, &mut store, 1, lifo)? == (1, 16));
-        assert!(rt; sale(alloc, &mut store, 16, lifo)? == (16, 16));
-        assert!(rt; sale(alloc, &mut store, 17, lifo)? == (17, 32));
-        assert!(rt; sale(alloc, &mut store, 40, lifo)? == (40, 40));
-        assert!(rt; sale(alloc, &mut store, 41, lifo)? == (40, 40));
+        for (count, touched, read) in SALES {
+            let found = sale(alloc, &mut store, count, lifo)?;
+            assert!(rt; found == (touched, read), "{count}");
+        }
     }
     Ok(())
 }

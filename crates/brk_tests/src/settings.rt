@@ -1,6 +1,6 @@
+use crate::desks::{Case, Step, expect_cases, expect_new};
+use crate::worked::{SET, SET_AGAIN, SET_LINES};
 use brk_money::Stamp;
-use brk_tests_desks::desks::{Case, Step, expect_cases, expect_new};
-use brk_tests_desks::plans::worked::{SET, SET_AGAIN, SET_LINES};
 use std::test::Fail;
 
 const THE_SETTING_AND_ITS_REPEAT: [Step; 2] = [

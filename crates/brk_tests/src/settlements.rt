@@ -1,5 +1,5 @@
-use brk_tests_desks::desks::{Case, Step, expect_cases};
-use brk_tests_desks::tables::{Booked, expect_booked};
+use crate::desks::{Case, Step, expect_cases};
+use crate::tables::{Booked, expect_booked};
 use std::test::Fail;
 
 // What the tables hold after a purchase on margin.

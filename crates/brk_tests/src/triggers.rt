@@ -1,4 +1,4 @@
-use brk_tests_desks::desks::{Case, Step, expect_cases};
+use crate::desks::{Case, Step, expect_cases};
 use std::test::Fail;
 
 const TWO_TICKS_IN_A_FEED: [Step; 1] = [Step::Done(

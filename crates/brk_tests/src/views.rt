@@ -1,6 +1,7 @@
 //! What a desk tells when it is asked for its views, record by record, and batches that correct words.
 
 mod asking;
+mod at_the_market;
 mod day;
 mod first_twenty;
 mod limits;

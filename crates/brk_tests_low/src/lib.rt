@@ -1,15 +1,22 @@
-//! Tests of the crates below the tables: amounts, moments and numbers, reference rows, lots, an estimate, and batches over a desk of the tests' own.
+//! Tests of what needs no database: amounts, moments and numbers, lots, plans at their limits, batches over a desk of the tests' own, the words of the
+//! command line, and what is said of each ending.
 #![tactic(auto)]
 
 #[cfg(test)]
 mod batches;
 #[cfg(test)]
-mod estimates;
+mod endings;
 #[cfg(test)]
 mod lots;
 #[cfg(test)]
 mod money;
 #[cfg(test)]
-mod refs;
+mod plans;
+#[cfg(test)]
+mod result_plans;
 #[cfg(test)]
 mod slow_lots;
+#[cfg(test)]
+mod told;
+#[cfg(test)]
+mod words;

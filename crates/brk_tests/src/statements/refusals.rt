@@ -1,8 +1,9 @@
 //! Statements that are refused: nothing is written.
 
-use crate::statements::asking::{Narrow, span_of};
+use crate::desks::set_desk;
+use crate::faulty::Narrow;
+use crate::statements::asking::span_of;
 use brk_report::{StatementFault, statement};
-use brk_tests_desks::desks::set_desk;
 use std::test::Fail;
 
 // An account, two days, and the number of the refusal.
@@ -28,11 +29,7 @@ fn a_refused_statement_writes_nothing(rt: HostRuntime) -> Result<(), Fail> {
     let mut desk = set_desk(alloc)?;
     for (account, from, to, number) in REFUSED {
         let asked = span_of(account, from, to)?;
-        let mut writer = Narrow {
-            taken: Vec::new(alloc),
-            room: usize::MAX,
-            error: None,
-        };
+        let mut writer = Narrow::new(alloc, usize::MAX, None);
         let ended = statement(
             alloc,
             &mut desk,

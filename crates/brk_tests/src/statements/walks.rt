@@ -1,9 +1,9 @@
 //! Walks: the rows in order, both ends of the span among them, and the first error of the closure ends the walk.
 
+use crate::desks::{Step, expect, set_desk};
 use brk_changes::CashRow;
 use brk_lots::Lot;
 use brk_money::{Fault, Id, Stamp};
-use brk_tests_desks::desks::{Step, expect, set_desk};
 use std::test::Fail;
 
 // Two purchases, a sale that takes the last lot first, and a short sale on margin of another symbol.

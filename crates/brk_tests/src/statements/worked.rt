@@ -1,9 +1,10 @@
 //! Statements between trades: before, within and after their days, with lots of several symbols, long and short.
 
-use crate::statements::asking::{Narrow, span_of};
+use crate::desks::{Step, expect_steps, set_desk};
+use crate::faulty::Narrow;
+use crate::statements::asking::span_of;
+use brk_import::brk_desk::Desk;
 use brk_report::statement;
-use brk_tests_desks::desk::Desk;
-use brk_tests_desks::desks::{Step, expect_steps, set_desk};
 use sqlite::MemStore;
 use std::alloc::Global;
 use std::process::Abort;
@@ -498,11 +499,7 @@ fn expect_statement(
 ) -> Result<(), Fail> {
     let (account, from, to, wanted) = told;
     let asked = span_of(*account, from, to)?;
-    let mut writer = Narrow {
-        taken: Vec::new(alloc),
-        room: usize::MAX,
-        error: None,
-    };
+    let mut writer = Narrow::new(alloc, usize::MAX, None);
     let ended = statement(
         alloc,
         desk,

@@ -1,9 +1,10 @@
 //! A writer that stops at each byte of a statement: what it took before is written, and nothing after.
 
-use crate::statements::asking::{Narrow, span_of};
+use crate::desks::{Step, expect, set_desk};
+use crate::faulty::Narrow;
+use crate::statements::asking::span_of;
+use brk_import::brk_desk::Desk;
 use brk_report::{StatementFault, statement};
-use brk_tests_desks::desk::Desk;
-use brk_tests_desks::desks::{Step, expect, set_desk};
 use sqlite::MemStore;
 use std::alloc::Global;
 use std::io::ErrorKind;
@@ -59,11 +60,7 @@ fn expect_cut(
     room: usize,
 ) -> Result<(), Fail> {
     let asked = span_of(100, "2024-03-01", "2024-03-31")?;
-    let mut writer = Narrow {
-        taken: Vec::new(alloc),
-        room,
-        error: stop_of(room),
-    };
+    let mut writer = Narrow::new(alloc, room, stop_of(room));
     let ended = statement(
         alloc,
         desk,

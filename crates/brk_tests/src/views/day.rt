@@ -1,8 +1,8 @@
 //! The day of a small desk, which sets itself up and is asked about while it is booked; and words that are corrected. Both are
 //! the examples of docs/FORMATS.md, with the views that are shown there.
 
+use crate::desks::{Step, expect, new_desk};
 use crate::views::asking::{Case, Stage, expect_stages, expect_views};
-use brk_tests_desks::desks::{Step, expect, new_desk};
 use std::test::Fail;
 
 // The rows of the day that are accepted, in three batches.

@@ -1,8 +1,8 @@
 //! Twenty-one trades that are completed from the last to the first: the first twenty by their moments are corrected.
 
-use brk_tests_desks::desks::{Step, answer_at, expect, set_desk};
-use brk_tests_desks::plans::worked::FIRST_MOMENT;
-use brk_tests_desks::tables::expect_these;
+use crate::desks::{Step, answer_at, expect, set_desk};
+use crate::tables::expect_these;
+use crate::worked::FIRST_MOMENT;
 use std::alloc::Global;
 use std::test::Fail;
 

@@ -2,9 +2,9 @@
 //! lots, and the ten accounts that a customer may have. Fifty-two orders of one share come to the market at one stamp, so ids
 //! decide which trades are left out. A trade has three statuses at most, so ten trades never have more than thirty.
 
+use crate::desks::set_desk;
 use crate::views::asking::{Stage, book, expect_alike, expect_stages};
-use brk_tests_desks::desk::Desk;
-use brk_tests_desks::desks::set_desk;
+use brk_import::brk_desk::Desk;
 use sqlite::MemStore;
 use std::alloc::Global;
 use std::test::Fail;

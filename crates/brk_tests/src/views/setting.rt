@@ -1,7 +1,7 @@
 //! A desk that was set up and has no trade: views with nothing to show, what is not there, and each argument out of form.
 
+use crate::desks::set_desk;
 use crate::views::asking::{Case, expect_views};
-use brk_tests_desks::desks::set_desk;
 use std::test::Fail;
 
 const CASES: [Case; 22] = [

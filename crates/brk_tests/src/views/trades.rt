@@ -1,8 +1,8 @@
 //! Trades of several accounts, brokers and sectors: brokers of one name, a trade on margin, a canceled one, one that waits,
 //! and words that look like parts of other texts.
 
+use crate::desks::set_desk;
 use crate::views::asking::{Stage, expect_stages};
-use brk_tests_desks::desks::set_desk;
 use std::test::Fail;
 
 const STAGES: [Stage; 3] = [

@@ -1,6 +1,6 @@
 //! Corrections that are refused: for their form, for their key, for what they name, and at the clock's end.
 
-use brk_tests_desks::desks::{Case, Step, expect_cases};
+use crate::desks::{Case, Step, expect_cases};
 use std::test::Fail;
 
 const REFUSALS: [Case; 6] = [

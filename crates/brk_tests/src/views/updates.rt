@@ -1,9 +1,9 @@
 //! Words that are corrected, and corrected back.
 
-use brk_tests_desks::desk::Desk;
-use brk_tests_desks::desks::{Case, Step, expect, expect_cases, set_desk};
-use brk_tests_desks::plans::worked::{LINES, ROWS, accepted, batch_of};
-use brk_tests_desks::tables::expect_these;
+use crate::desks::{Case, Step, expect, expect_cases, set_desk};
+use crate::tables::expect_these;
+use crate::worked::{LINES, ROWS, accepted, batch_of};
+use brk_import::brk_desk::Desk;
 use sqlite::MemStore;
 use std::alloc::Global;
 use std::test::Fail;

@@ -1,8 +1,8 @@
 //! Three orders that wait, two of which one tick sends to the market. No two commands share a stamp, so only what one tick
 //! triggers comes to its status at one stamp: of these trades ids decide which is first.
 
+use crate::desks::set_desk;
 use crate::views::asking::{Stage, expect_stages};
-use brk_tests_desks::desks::set_desk;
 use std::test::Fail;
 
 const STAGES: [Stage; 2] = [

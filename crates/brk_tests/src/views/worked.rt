@@ -1,10 +1,10 @@
 //! The worked trades of one account, asked about while they are booked: what it has, its trades, its lots on both sides, and
 //! what the next order would come to.
 
+use crate::desks::set_desk;
 use crate::views::asking::{Case, book, expect_views};
-use brk_tests_desks::desk::Desk;
-use brk_tests_desks::desks::set_desk;
-use brk_tests_desks::plans::worked::{ROWS, batch_of};
+use crate::worked::{ROWS, batch_of};
+use brk_import::brk_desk::Desk;
 use sqlite::MemStore;
 use std::alloc::Global;
 use std::test::Fail;

@@ -1,0 +1,110 @@
+//! The batch of the sweeps: its rows, its lines, the tables after it, and how it is completed.
+
+use crate::desks::{Step, expect};
+use crate::tables::expect_tables;
+use crate::worked::add_lines;
+use brk_import::brk_desk::Desk;
+use brk_import::{BatchFault, Counts};
+use sqlite::MemStore;
+use std::alloc::Global;
+use std::test::Fail;
+
+/// A purchase and its result, an order that waits, a tick that triggers it, its result, and a correction that would turn
+/// back what it did if it acted twice.
+pub const ROWS: [&str; 6] = [
+    "order,100,TMB,ABC,100,,cash,fifo,Ann,Lee,T10",
+    "result,1,10.10",
+    "order,100,TSL,ABC,50,9.50,cash,fifo,Ann,Lee,T10",
+    "feed,ABC,9.50,100",
+    "result,2,12.10",
+    "upname,1",
+];
+
+// What they are told after their numbers and words.
+const LINES: [&str; 6] = [
+    "1709251200016,1,SBMT,10.00,0.00,0.00,0.00,10.00,5.00,10000.00",
+    "1709251200017,10.10,0.00,-1025.10,2024-03-03,0.00,0.00,8974.90",
+    "1709251200018,2,PNDG,9.50,505.00,475.00,0.00,4.75,5.00,9974.90",
+    "1709251200019,2",
+    "1709251200020,6.05,20.00,573.95,2024-03-03,505.00,605.00,9548.85",
+    "1709251200021,1",
+];
+
+// The tables after them, but for those that no trade changes.
+const TABLES: &str = "DESK\n1,1,1709251200021\n\
+    BROKER\n1,Bo,2,1615\n\
+    CUSTOMER_ACCOUNT\n100,10,1,Main,1,1000000,954885\n\
+    LAST_TRADE\nABC,1709251200019,950,100\n\
+    TRADE\n\
+    1,1709251200017,CMPT,TMB,1,ABC,100,1000,100,Ann X Lee,1010,500,1010,0,0\n\
+    2,1709251200020,CMPT,TSL,1,ABC,50,950,100,Ann Lee,1210,500,605,2000,0\n\
+    TRADE_HISTORY\n1,CMPT,1709251200017\n1,SBMT,1709251200016\n\
+    2,CMPT,1709251200020\n2,PNDG,1709251200018\n2,SBMT,1709251200019\n\
+    TRADE_REQUEST\n\
+    HOLDING\n1,100,ABC,1709251200017,1010,50\n\
+    HOLDING_SUMMARY\n100,ABC,50\n\
+    HOLDING_HISTORY\n1,1,0,100\n1,2,100,50\n\
+    SETTLEMENT\n1,Cash Account,19785,-102510\n2,Cash Account,19785,57395\n\
+    CASH_TRANSACTION\n1,1709251200017,-102510,Market-Buy 100 shares of Acme\n\
+    2,1709251200020,57395,Stop-Loss 50 shares of Acme\n\
+    KEPT WHERE K_BATCH <> 'SET'\n\
+    T,1,order\x1f100\x1fTMB\x1fABC\x1f100\x1f\x1fcash\x1ffifo\x1fAnn\x1fLee\x1fT10,\
+    1709251200016,1,SBMT,10.00,0.00,0.00,0.00,10.00,5.00,10000.00\n\
+    T,2,result\x1f1\x1f10.10,1709251200017,10.10,0.00,-1025.10,2024-03-03,0.00,0.00,8974.90\n\
+    T,3,order\x1f100\x1fTSL\x1fABC\x1f50\x1f9.50\x1fcash\x1ffifo\x1fAnn\x1fLee\x1fT10,\
+    1709251200018,2,PNDG,9.50,505.00,475.00,0.00,4.75,5.00,9974.90\n\
+    T,4,feed\x1fABC\x1f9.50\x1f100,1709251200019,2\n\
+    T,5,result\x1f2\x1f12.10,1709251200020,6.05,20.00,573.95,2024-03-03,505.00,605.00,9548.85\n\
+    T,6,upname\x1f1,1709251200021,1\n";
+
+/// The lines of the first rows of the batch at a desk that was set up.
+pub fn first_lines(alloc: Global, rows: usize) -> Result<String, Fail> {
+    let (first, _) = LINES.split_at(rows.min(6));
+    let mut told = String::new(alloc);
+    add_lines(&mut told, 1, "ok", first)?;
+    Ok(told)
+}
+
+/// All lines of the batch at a desk that booked the first of its rows before.
+pub fn all_lines(alloc: Global, booked: usize) -> Result<String, Fail> {
+    let booked = booked.min(6);
+    let (again, rest) = LINES.split_at(booked);
+    let mut told = String::new(alloc);
+    add_lines(&mut told, 1, "again", again)?;
+    add_lines(&mut told, (booked as u64).saturating_add(1), "ok", rest)?;
+    writeln!(told, "end,{},{booked},0", rest.len())?;
+    Ok(told)
+}
+
+/// Compares the fault that ends a batch, and what was written.
+pub fn expect_fault(
+    name: &str,
+    ended: Result<Counts, BatchFault>,
+    wanted: BatchFault,
+    told: &[u8],
+    lines: &str,
+) -> Result<(), Fail> {
+    if ended == Err(wanted) && told == lines.as_bytes() {
+        Ok(())
+    } else {
+        Err(Fail::new(format_args!("{name}: the fault, or the lines")))
+    }
+}
+
+/// Sends the whole batch to a desk that booked the first of its rows before, and compares its lines and all tables after it.
+pub fn complete(
+    alloc: Global,
+    mut desk: Desk<MemStore>,
+    name: &str,
+    batch: &str,
+    booked: usize,
+) -> Result<(), Fail> {
+    let lines = all_lines(alloc, booked)?;
+    expect(
+        alloc,
+        &mut desk,
+        name,
+        Step::Done(batch.as_bytes(), lines.as_str()),
+    )?;
+    expect_tables(alloc, desk.into_store(), name, TABLES)
+}

@@ -1,0 +1,51 @@
+//! A batch whose writer takes so many bytes, and then none, fails, or is interrupted.
+
+use crate::cuts::batch::{ROWS, all_lines, complete, expect_fault};
+use crate::desks::{Still, set_desk};
+use crate::faulty::Narrow;
+use crate::worked::batch_of;
+use brk_import::{BatchFault, FaultKind, run_batch};
+use std::alloc::Global;
+use std::io::ErrorKind;
+use std::test::Fail;
+
+// Sends a batch whose writer fails after so many bytes to a desk of its own, and then sends it whole. A row whose line was
+// not written stands.
+fn expect_written(
+    alloc: Global,
+    batch: &str,
+    lines: &str,
+    room: usize,
+    fault: Option<ErrorKind>,
+) -> Result<(), Fail> {
+    let name = format!(in alloc; "the writer fails after {room}")?;
+    let wanted = lines.get(..room).ok_or("no such place")?;
+    let settled = wanted.split('\n').count().min(6);
+    let mut writer = Narrow::new(alloc, room, fault);
+    let mut desk = set_desk(alloc)?;
+    let ended = run_batch(
+        alloc,
+        batch.as_bytes(),
+        &mut writer,
+        &mut Still::first(),
+        &mut desk,
+    );
+    complete(alloc, desk, name.as_str(), batch, settled)?;
+    let fault = BatchFault {
+        rows: settled as u64,
+        kind: FaultKind::Write,
+    };
+    expect_fault(name.as_str(), ended, fault, &writer.taken, wanted)
+}
+
+#[test]
+fn a_writer_may_fail_at_each_byte(rt: HostRuntime) -> Result<(), Fail> {
+    let batch = batch_of(rt.alloc(), &ROWS)?;
+    let lines = all_lines(rt.alloc(), 0)?;
+    for room in 0..lines.len() {
+        for fault in [None, Some(ErrorKind::Other), Some(ErrorKind::Interrupted)] {
+            expect_written(rt.alloc(), batch.as_str(), lines.as_str(), room, fault)?;
+        }
+    }
+    Ok(())
+}

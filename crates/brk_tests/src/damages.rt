@@ -1,0 +1,5 @@
+//! Desks that another program changed.
+
+mod conditions;
+mod forms;
+mod told;

@@ -1,0 +1,57 @@
+//! Desks in files, which are closed, opened again and audited.
+
+use crate::files::machine::{Held, Seen, Stop, run};
+use crate::worked::{
+    LAST_FIRST_LINES, LAST_FIRST_ROWS, LINES, ROWS, SET, accepted, batch_of, repeated,
+};
+use std::alloc::Global;
+use std::test::Fail;
+
+// Sends a batch to the desk in these files, which has to answer with these lines and to pass its audit.
+fn expect_sent(
+    alloc: Global,
+    held: &Held,
+    name: &str,
+    batch: &str,
+    lines: &str,
+) -> Result<Held, Fail> {
+    let mut seen = Seen::nothing(alloc);
+    let (held, _) = run(alloc, held, Stop::NEVER, batch.as_bytes(), &mut seen)?;
+    if seen.is_sound && seen.lines.as_slice() == lines.as_bytes() {
+        Ok(held)
+    } else {
+        Err(Fail::new(format_args!("{name}: the lines, or the audit")))
+    }
+}
+
+// Keeps these trades in files, and sends them again to the desk that is found there.
+fn expect_kept(alloc: Global, name: &str, rows: &[&str], lines: &[&str]) -> Result<(), Fail> {
+    let batch = batch_of(alloc, rows)?;
+    let (told, again) = (accepted(alloc, lines)?, repeated(alloc, lines)?);
+    let nothing = Held::nothing(alloc);
+    let mut seen = Seen::nothing(alloc);
+    let (held, _) = run(alloc, &nothing, Stop::NEVER, SET, &mut seen)?;
+    let held = expect_sent(alloc, &held, name, batch.as_str(), told.as_str())?;
+    expect_sent(alloc, &held, name, batch.as_str(), again.as_str())?;
+    Ok(())
+}
+
+#[test]
+fn desks_last_in_files(rt: HostRuntime) -> Result<(), Fail> {
+    for (name, count) in [
+        ("a purchase", 2),
+        ("two purchases", 4),
+        ("a sale of the first", 6),
+        ("a short sale", 8),
+        ("a cover", 10),
+        ("all is sold", 12),
+    ] {
+        expect_kept(rt.alloc(), name, &ROWS[..count], &LINES[..count])?;
+    }
+    expect_kept(
+        rt.alloc(),
+        "a sale of the last",
+        &LAST_FIRST_ROWS,
+        &LAST_FIRST_LINES,
+    )
+}

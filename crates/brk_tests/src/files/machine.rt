@@ -1,0 +1,198 @@
+//! A machine with the two files of a desk in memory: it stops at a call of one of them, loses what was not synced or keeps
+//! it, and comes back.
+
+use crate::desks::Still;
+use crate::tables::all_tables;
+use brk_import::brk_desk::Desk;
+use brk_import::brk_desk::brk_store::Store;
+use brk_import::run_batch;
+use brk_money::{Condition, Fault};
+use sqlite::{Alter, Connection, FileStore, Files, Options};
+use sqlite_disk::{Crash, Disk, Fuse, Memory};
+use std::alloc::{AllocError, Global};
+use std::test::Fail;
+
+/// A file of a desk.
+#[derive(Clone, Copy)]
+pub enum File {
+    Log,
+    Database,
+}
+
+/// A machine that stops: a file takes so many calls and fails at each one after. What was not synced is lost or kept.
+#[derive(Clone, Copy)]
+pub struct Stop {
+    pub name: &'static str,
+    pub file: File,
+    pub loses: bool,
+    pub calls: u64,
+}
+
+impl Stop {
+    /// A machine that does not stop.
+    pub const NEVER: Stop = Stop {
+        name: "no stop",
+        file: File::Log,
+        loses: false,
+        calls: u64::MAX,
+    };
+}
+
+/// The bytes of the two files of a desk.
+#[derive(Drop)]
+pub struct Held {
+    pub log: Vec<u8>,
+    pub db: Vec<u8>,
+}
+
+impl Held {
+    /// Files without a byte.
+    pub fn nothing(alloc: Global) -> Held {
+        Held {
+            log: Vec::new(alloc),
+            db: Vec::new(alloc),
+        }
+    }
+}
+
+/// What was seen of a batch at a desk: all tables before and after it, or nothing where they could not be read, its lines, and whether an
+/// audit passed after it.
+#[derive(Drop)]
+pub struct Seen {
+    pub before: String,
+    pub lines: Vec<u8>,
+    pub is_sound: bool,
+    pub after: String,
+}
+
+impl Seen {
+    /// What is seen before a batch.
+    pub fn nothing(alloc: Global) -> Seen {
+        Seen {
+            before: String::new(alloc),
+            lines: Vec::new(alloc),
+            is_sound: false,
+            after: String::new(alloc),
+        }
+    }
+}
+
+// The desk of a database, which is made where there is none, and has to pass its audit.
+fn desk_of<S: Alter + Drop>(alloc: Global, conn: Connection<S>) -> Result<Desk<S>, Connection<S>> {
+    match Store::create(conn) {
+        Ok(store) => Ok(Desk::new(store)),
+        Err((conn, Fault::Damaged(Condition::NotEmpty))) => match Store::adopt(alloc, conn) {
+            Ok(store) => Ok(Desk::new(store)),
+            Err((conn, _)) => Err(conn),
+        },
+        Err((conn, _)) => Err(conn),
+    }
+}
+
+/// The desk in files, where they can be opened and it can be made or passes its audit.
+pub fn desk_in(
+    alloc: Global,
+    files: Files<Fuse<Memory>>,
+    options: Options,
+) -> Option<Desk<FileStore<Fuse<Memory>>>> {
+    if !files.log.may_be_used() || !files.db.may_be_used() {
+        return None;
+    }
+    let Ok(conn) = Connection::open_files(alloc, files, options) else {
+        return None;
+    };
+    desk_of(alloc, conn).ok()
+}
+
+/// Sends a batch to the desk of a database, as far as it comes.
+pub fn book<S: Alter + Drop>(
+    alloc: Global,
+    mut conn: Connection<S>,
+    batch: &[u8],
+    seen: &mut Seen,
+) -> Connection<S> {
+    if let Ok(tables) = all_tables(alloc, &mut conn) {
+        seen.before = tables;
+    }
+    match desk_of(alloc, conn) {
+        Ok(mut desk) => {
+            drop(run_batch(
+                alloc,
+                batch,
+                &mut seen.lines,
+                &mut Still::first(),
+                &mut desk,
+            ));
+            seen.is_sound = desk.audit(alloc).is_ok();
+            let mut conn = desk.into_store().into_conn();
+            if let Ok(tables) = all_tables(alloc, &mut conn) {
+                seen.after = tables;
+            }
+            conn
+        }
+        Err(conn) => conn,
+    }
+}
+
+// Opens these files, sends a batch to the desk in them, and closes them, as far as it comes.
+fn book_in(
+    alloc: Global,
+    files: Files<Fuse<Memory>>,
+    batch: &[u8],
+    seen: &mut Seen,
+) -> Files<Fuse<Memory>> {
+    if !files.log.may_be_used() || !files.db.may_be_used() {
+        return files;
+    }
+    match Connection::open_files(alloc, files, Options::new(1)) {
+        Ok(conn) => match book(alloc, conn, batch, seen).close_files() {
+            Ok(files) => files,
+            Err((_, store)) => store.close(),
+        },
+        Err((_, left)) => left.into_files(),
+    }
+}
+
+/// A file with these bytes, which takes so many calls and fails at each one after.
+pub fn file_of(alloc: Global, bytes: &[u8], calls: u64) -> Result<Fuse<Memory>, Fail> {
+    let mut file = Memory::new(alloc);
+    if file.write_at(0, bytes).is_err() || file.sync().is_err() {
+        return Err("no memory for a file")?;
+    }
+    Ok(Fuse::new(file, calls))
+}
+
+// Takes the bytes that a file holds once the machine comes back. Tells whether it was stopped, or takes no call more.
+fn come_back(
+    file: &mut Fuse<Memory>,
+    loses: bool,
+    bytes: &mut Vec<u8>,
+) -> Result<bool, AllocError> {
+    let was_stopped = !file.may_be_used() || file.len().is_err();
+    if loses {
+        file.crash();
+    }
+    bytes.extend_from_slice(file.inner().bytes())?;
+    Ok(was_stopped)
+}
+
+/// Sends a batch to the desk in these files until the machine stops: what they hold after it, and whether it did stop.
+pub fn run(
+    alloc: Global,
+    held: &Held,
+    stop: Stop,
+    batch: &[u8],
+    seen: &mut Seen,
+) -> Result<(Held, bool), Fail> {
+    let (log_calls, db_calls) = match stop.file {
+        File::Log => (stop.calls, u64::MAX),
+        File::Database => (u64::MAX, stop.calls),
+    };
+    let log = file_of(alloc, &held.log, log_calls)?;
+    let db = file_of(alloc, &held.db, db_calls)?;
+    let Files { mut log, mut db } = book_in(alloc, Files { log, db }, batch, seen);
+    let mut left = Held::nothing(alloc);
+    let is_log = come_back(&mut log, stop.loses, &mut left.log)?;
+    let is_db = come_back(&mut db, stop.loses, &mut left.db)?;
+    Ok((left, is_log || is_db))
+}

@@ -1,0 +1,95 @@
+//! A disk that fails within a statement, at each of its calls in turn: whole first lines are written, and never the last.
+
+use crate::files::machine::{Held, Seen, Stop, desk_in, file_of, run};
+use brk_money::{Fault, Id, parse_day};
+use brk_report::{StatementFault, statement};
+use sqlite::{Files, Options};
+use std::alloc::Global;
+use std::test::Fail;
+
+// A desk is set up, an account buys twice and sells a part.
+const BATCH: &[u8] = b"batch,S\n\
+    broker,1,Bo\n\
+    customer,10,1,T10,Lee,Ann\n\
+    account,100,10,1,Main,0,10000.00\n\
+    security,ABC,Acme,NYSE,Tech,10.00\n\
+    charge,TMB,1,5.00\n\
+    charge,TMS,1,5.00\n\
+    band,1,TMB,NYSE,1,999999,100\n\
+    band,1,TMS,NYSE,1,999999,100\n\
+    order,100,TMB,ABC,100,,cash,fifo,Ann,Lee,T10\n\
+    result,1,10.10\n\
+    order,100,TMB,ABC,200,,cash,fifo,Ann,Lee,T10\n\
+    result,2,12.00\n\
+    order,100,TMS,ABC,150,,cash,fifo,Ann,Lee,T10\n\
+    result,3,13.00\n\
+    end,14\n";
+
+// The statement of their month.
+const WANTED: &[u8] = b"Statement of account 100\n\
+    Main\n\
+    From 2024-03-01 to 2024-03-31\n\
+    Opening                  10000.00\n\
+    2024-03-01               -1025.10 Market-Buy 100 shares of Acme\n\
+    2024-03-01               -2429.00 Market-Buy 200 shares of Acme\n\
+    2024-03-01                1925.50 Market-Sell 150 shares of Acme\n\
+    Closing                   8471.40\n\
+    ABC                         2         150      12.00\n\
+    Holdings                  1500.00\n\
+    Cash rows 3, lots 1\n";
+
+// Writes the statement of the month over a disk that takes so many calls, where the desk can be opened.
+fn written(
+    alloc: Global,
+    held: &Held,
+    calls: u64,
+    text: &mut Vec<u8>,
+) -> Result<Option<Result<(), StatementFault>>, Fail> {
+    let account = Id::new(100).ok_or("an account")?;
+    let from = parse_day(b"2024-03-01").ok_or("a first day")?;
+    let to = parse_day(b"2024-03-31").ok_or("a last day")?;
+    let log = file_of(alloc, &held.log, u64::MAX)?;
+    let db = file_of(alloc, &held.db, calls)?;
+    // The desk keeps one page in memory, so that rows are read from the disk.
+    let mut options = Options::new(1);
+    options.cache_pages = 1;
+    let Some(mut desk) = desk_in(alloc, Files { log, db }, options) else {
+        return Ok(None);
+    };
+    Ok(Some(statement(alloc, &mut desk, account, from, to, text)))
+}
+
+// Whether a text is of whole first lines of the statement, without the last.
+fn is_of_first_lines(text: &[u8]) -> bool {
+    let is_whole = text.is_empty() || text.ends_with(b"\n");
+    is_whole && text.len() < WANTED.len() && WANTED.starts_with(text)
+}
+
+#[test]
+fn a_disk_may_fail_within_a_statement(rt: HostRuntime) -> Result<(), Fail> {
+    let alloc = rt.alloc();
+    let mut seen = Seen::nothing(alloc);
+    let (held, _) = run(alloc, &Held::nothing(alloc), Stop::NEVER, BATCH, &mut seen)?;
+    let (mut faults, mut parts) = (0u64, 0u64);
+    for calls in 0..10_000 {
+        let mut text = Vec::new(alloc);
+        match written(alloc, &held, calls, &mut text)? {
+            None => (),
+            Some(Ok(())) => {
+                assert!(rt; text.as_slice() == WANTED, "after {calls} calls");
+                assert!(rt; parts > 0 && faults > parts);
+                return Ok(());
+            }
+            Some(Err(ended)) => {
+                assert!(rt;
+                    matches!(&ended, StatementFault::Desk(Fault::Store)),
+                    "after {calls} calls"
+                );
+                assert!(rt; is_of_first_lines(&text), "after {calls} calls");
+                faults = faults.saturating_add(1);
+                parts = parts.saturating_add(u64::from(!text.is_empty()));
+            }
+        }
+    }
+    Err("no statement was whole")?
+}

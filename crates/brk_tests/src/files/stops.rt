@@ -1,0 +1,204 @@
+//! A store that is stopped at each of its calls, of the log and then of the database file, while its tables are made and
+//! while it books a batch.
+
+use crate::cuts::batch::{ROWS, all_lines};
+use crate::desks::set_desk;
+use crate::files::machine::{File, Held, Seen, Stop, book, run};
+use crate::worked::{SET, SET_LINES, batch_of};
+use std::alloc::Global;
+use std::test::Fail;
+
+// More calls than a file takes in any run.
+const MOST_CALLS: u64 = 10_000;
+
+// A batch without rows.
+const NO_ROWS: &[u8] = b"batch,Z\nend,0\n";
+
+// Each file, and what becomes of what was not synced.
+const STOPS: [Stop; 4] = [
+    Stop {
+        name: "the log, losing",
+        file: File::Log,
+        loses: true,
+        calls: 0,
+    },
+    Stop {
+        name: "the log, keeping",
+        file: File::Log,
+        loses: false,
+        calls: 0,
+    },
+    Stop {
+        name: "the database file, losing",
+        file: File::Database,
+        loses: true,
+        calls: 0,
+    },
+    Stop {
+        name: "the database file, keeping",
+        file: File::Database,
+        loses: false,
+        calls: 0,
+    },
+];
+
+// Fails where something does not hold after a stop.
+fn holds(is_so: bool, stop: Stop, what: &str) -> Result<(), Fail> {
+    if is_so {
+        Ok(())
+    } else {
+        let Stop { name, calls, .. } = stop;
+        Err(Fail::new(format_args!("{name}, call {calls}: {what}")))
+    }
+}
+
+// All tables of a desk in memory that was set up and was sent the first rows of the batch.
+fn tables_after(alloc: Global, rows: usize) -> Result<String, Fail> {
+    let batch = batch_of(alloc, &ROWS[..rows.min(6)])?;
+    let mut seen = Seen::nothing(alloc);
+    let conn = set_desk(alloc)?.into_store().into_conn();
+    drop(book(alloc, conn, batch.as_bytes(), &mut seen));
+    let Seen { after, .. } = seen;
+    if after.is_empty() {
+        return Err("tables that could not be read")?;
+    }
+    Ok(after)
+}
+
+// Whether a batch that was sent after a stop had these lines, passed its audit, and left these tables.
+fn is_done(seen: &Seen, lines: &str, tables: &str) -> bool {
+    seen.is_sound && seen.lines.as_slice() == lines.as_bytes() && seen.after.as_str() == tables
+}
+
+// Makes a desk until a stop, and then sets up the desk that is found, or made where none is found. Tells whether there was a
+// stop.
+fn stops_making(alloc: Global, stop: Stop, tables: &str) -> Result<bool, Fail> {
+    let mut seen = Seen::nothing(alloc);
+    let nothing = Held::nothing(alloc);
+    let (held, was_stopped) = run(alloc, &nothing, stop, NO_ROWS, &mut Seen::nothing(alloc))?;
+    run(alloc, &held, Stop::NEVER, SET, &mut seen)?;
+    holds(is_done(&seen, SET_LINES, tables), stop, "it is not set up")?;
+    Ok(was_stopped)
+}
+
+#[test]
+fn a_store_may_be_stopped_while_it_is_made(rt: HostRuntime) -> Result<(), Fail> {
+    let tables = tables_after(rt.alloc(), 0)?;
+    for stop in STOPS {
+        let mut was_stopped = true;
+        for calls in 0..MOST_CALLS {
+            was_stopped = stops_making(rt.alloc(), Stop { calls, ..stop }, tables.as_str())?;
+            if !was_stopped {
+                break;
+            }
+        }
+        assert!(rt; !was_stopped, "always stopped");
+    }
+    Ok(())
+}
+
+// How many rows of the batch stand after a stop: those that were told, or one more, which was under way.
+fn rows_after(told: &[u8], found: &str, tables: &[String]) -> Option<usize> {
+    let settled = told
+        .split(|byte| *byte == b'\n')
+        .count()
+        .saturating_sub(1)
+        .min(6);
+    for rows in [settled, settled.saturating_add(1)] {
+        if tables.get(rows).map(String::as_str) == Some(found) {
+            return Some(rows);
+        }
+    }
+    None
+}
+
+/// What was seen of the batch until a stop, and of the same sent again to the desk that was found.
+#[derive(Drop)]
+struct Twice {
+    first: Seen,
+    was_stopped: bool,
+    again: Seen,
+}
+
+fn sent_twice(alloc: Global, stop: Stop, start: &Held, batch: &str) -> Result<Twice, Fail> {
+    let mut first = Seen::nothing(alloc);
+    let mut again = Seen::nothing(alloc);
+    let (held, was_stopped) = run(alloc, start, stop, batch.as_bytes(), &mut first)?;
+    run(alloc, &held, Stop::NEVER, batch.as_bytes(), &mut again)?;
+    Ok(Twice {
+        first,
+        was_stopped,
+        again,
+    })
+}
+
+// Compares both with the lines of the whole batch, those after the rows that stood, and the last tables.
+fn expect_twice(
+    stop: Stop,
+    twice: &Twice,
+    whole: &str,
+    rest: &str,
+    last: &str,
+) -> Result<(), Fail> {
+    let is_part = whole.as_bytes().starts_with(&twice.first.lines);
+    holds(is_part, stop, "other lines before it")?;
+    let is_whole = is_done(&twice.first, whole, last);
+    holds(
+        twice.was_stopped || is_whole,
+        stop,
+        "an early end without it",
+    )?;
+    holds(
+        is_done(&twice.again, rest, last),
+        stop,
+        "it is not completed",
+    )
+}
+
+// Sends the batch until a stop, and then again to the desk that is found. Tells whether there was a stop.
+fn stops_booking(
+    alloc: Global,
+    stop: Stop,
+    start: &Held,
+    batch: &str,
+    tables: &[String],
+) -> Result<bool, Fail> {
+    let last = tables.last().map(String::as_str).unwrap_or("");
+    let twice = sent_twice(alloc, stop, start, batch)?;
+    let rows = rows_after(&twice.first.lines, twice.again.before.as_str(), tables);
+    holds(rows.is_some(), stop, "tables of no row")?;
+    let whole = all_lines(alloc, 0)?;
+    let rest = all_lines(alloc, rows.unwrap_or(0))?;
+    expect_twice(stop, &twice, whole.as_str(), rest.as_str(), last)?;
+    Ok(twice.was_stopped)
+}
+
+#[test]
+fn a_store_may_be_stopped_while_it_books(rt: HostRuntime) -> Result<(), Fail> {
+    let batch = batch_of(rt.alloc(), &ROWS)?;
+    let mut tables = Vec::new(rt.alloc());
+    for rows in 0..=6 {
+        let after = tables_after(rt.alloc(), rows)?;
+        tables.push(after)?;
+    }
+    let nothing = Held::nothing(rt.alloc());
+    let (start, _) = run(
+        rt.alloc(),
+        &nothing,
+        Stop::NEVER,
+        SET,
+        &mut Seen::nothing(rt.alloc()),
+    )?;
+    for stop in STOPS {
+        let mut was_stopped = true;
+        for calls in 0..MOST_CALLS {
+            let stop = Stop { calls, ..stop };
+            was_stopped = stops_booking(rt.alloc(), stop, &start, batch.as_str(), &tables)?;
+            if !was_stopped {
+                break;
+            }
+        }
+        assert!(rt; !was_stopped, "always stopped");
+    }
+    Ok(())
+}

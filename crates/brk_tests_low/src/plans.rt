@@ -1,0 +1,130 @@
+//! Plans at limits that no desk of the tests comes to: the last volume and the last number of a trade. And which price triggers what.
+
+use crate::told::told_plan;
+use brk_lots::Position;
+use brk_money::{Id, Price, Rate, Stamp, TaxRate, TaxStatus, TradeType, Wide};
+use brk_orders::{check_feed, check_order};
+use brk_ref::{ChargeAmount, LastTrade, Symbol, Volume};
+use brk_trade::{OrderAccount, OrderFound, Quote, plan_feed, plan_order, triggers};
+use std::alloc::Global;
+use std::process::Abort;
+use std::test::Fail;
+
+// What the tables hold of ABC, of which all shares but 100 were traded that may be.
+fn quotes(alloc: Global) -> Result<Vec<Quote>, Fail> {
+    let price = Price::new(1_000).ok_or("price")?;
+    let volume = Volume::new(99_999_999_999_999_900).ok_or("volume")?;
+    let last = LastTrade {
+        symbol: Symbol::parse(alloc, b"ABC")?.ok_or("symbol")?,
+        stamp: Stamp::nearest(1_709_251_200_018),
+        price,
+        volume,
+    };
+    let requests = Vec::new(alloc);
+    Ok(vec![in alloc; Quote { last, requests }]?)
+}
+
+// What is told of a feed of these ticks.
+fn feed_told(alloc: Global, ticks: &[&[u8]]) -> Result<String, Fail> {
+    let now = Stamp::nearest(1_709_251_200_019);
+    let quotes = quotes(alloc)?;
+    let planned = match check_feed(alloc, ticks)? {
+        Ok(feed) => plan_feed(alloc, &feed, quotes, None, now),
+        Err(_) => return Err("a feed")?,
+    };
+    Ok(told_plan(alloc, planned?)?)
+}
+
+// The fields of a feed, and what is told of it.
+const FEEDS: [(&[&[u8]], &str); 4] = [
+    (&[b"ABC", b"9.50", b"100"], "1709251200019"),
+    (&[b"ABC", b"9.50", b"101"], "no,14,volume"),
+    (
+        &[b"ABC", b"9.50", b"60", b"ABC", b"9.60", b"41"],
+        "no,14,volume",
+    ),
+    (&[b"ABC", b"9.50", b"101", b"QQQ", b"1.00", b"1"], "no,4"),
+];
+
+#[test]
+fn a_volume_ends_at_its_limit(rt: HostRuntime) -> Result<(), Fail> {
+    for (ticks, wanted) in FEEDS {
+        let told = feed_told(rt.alloc(), ticks)?;
+        assert!(rt; told.as_str() == wanted, "{wanted}: {told}");
+    }
+    Ok(())
+}
+
+// What is found for a purchase while ABC is at 10.00, after so many trades: a commission of a hundredth and a charge of 5.00.
+fn found(trades: u64) -> Result<OrderFound, Fail> {
+    let broker = Id::new(1).ok_or("broker")?;
+    let rates = TaxRate::new(20_000).ok_or("rates")?;
+    let account = OrderAccount {
+        broker,
+        tax_status: TaxStatus::Withheld,
+    };
+    Ok(OrderFound {
+        account: Some(account),
+        last_price: Price::new(1_000),
+        is_permitted: true,
+        charge: ChargeAmount::new(500),
+        rate: Rate::new(100),
+        rates,
+        assets: Wide::new(1_000_000),
+        summary: None,
+        last_trade: Id::new(trades),
+    })
+}
+
+const PURCHASE: [&[u8]; 10] = [
+    b"100", b"TMB", b"ABC", b"100", b"", b"cash", b"fifo", b"Ann", b"Lee", b"T10",
+];
+
+// What is told of a purchase by what was found for it.
+fn purchase_told(alloc: Global, found: &OrderFound) -> Result<String, Fail> {
+    let order = match check_order(alloc, &PURCHASE)? {
+        Ok(order) => order,
+        Err(_) => return Err("an order")?,
+    };
+    let position = Position::new(alloc);
+    let mut end = position.from_end(false);
+    let now = Stamp::nearest(1_709_251_200_020);
+    let planned = plan_order(alloc, &order, found, &mut end, None, now)?;
+    Ok(told_plan(alloc, planned)?)
+}
+
+// Compares what is told of a purchase after so many trades.
+fn expect_purchase(rt: &impl Abort, alloc: Global, trades: u64, wanted: &str) -> Result<(), Fail> {
+    let found = found(trades)?;
+    let told = purchase_told(alloc, &found)?;
+    assert!(rt; told.as_str() == wanted, "{trades}: {told}");
+    Ok(())
+}
+
+#[test]
+fn trades_end_at_their_limit(rt: HostRuntime) -> Result<(), Fail> {
+    let alloc = rt.alloc();
+    let last = "1709251200020,1000000000000,SBMT,10.00,0.00,0.00,0.00,10.00,5.00,10000.00";
+    expect_purchase(&rt, alloc, 999_999_999_999, last)?;
+    expect_purchase(&rt, alloc, 1_000_000_000_000, "no,14,trades")
+}
+
+#[test]
+fn a_price_triggers_what_waits_for_it(rt: HostRuntime) -> Result<(), Fail> {
+    let below = Price::new(999).ok_or("price")?;
+    let bid = Price::new(1_000).ok_or("bid")?;
+    let above = Price::new(1_001).ok_or("price")?;
+    for (kind, is_below, is_at, is_above) in [
+        (TradeType::StopLoss, true, true, false),
+        (TradeType::LimitSell, false, true, true),
+        (TradeType::LimitBuy, true, true, false),
+        (TradeType::MarketBuy, false, false, false),
+        (TradeType::MarketSell, false, false, false),
+    ] {
+        let code = kind.code();
+        assert!(rt; triggers(kind, bid, below) == is_below, "{code} below");
+        assert!(rt; triggers(kind, bid, bid) == is_at, "{code} at its bid");
+        assert!(rt; triggers(kind, bid, above) == is_above, "{code} above");
+    }
+    Ok(())
+}

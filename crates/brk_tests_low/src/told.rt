@@ -1,0 +1,12 @@
+use brk_commands::line_text;
+use brk_money::{Fault, Refusal};
+use brk_trade::Plan;
+use std::alloc::Global;
+
+/// The line that a plan is answered with, or its refusal after `no`.
+pub fn told_plan(alloc: Global, planned: Result<Plan, Refusal>) -> Result<String, Fault> {
+    match planned {
+        Ok(plan) => line_text(alloc, &plan.reply),
+        Err(refusal) => Ok(format!(in alloc; "no,{refusal}")?),
+    }
+}
