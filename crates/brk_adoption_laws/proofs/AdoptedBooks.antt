@@ -23,9 +23,9 @@ use Rattle.brk_model.specs.Adopted.{account_of_row, base_of, no_last_trade, secu
 use Rattle.brk_model.specs.Form.{account_form, band_form, has_account, has_broker, has_customer, has_form, has_security, has_trade, history_form, is_amount, is_id, is_price, is_qty, is_stamp, is_tier, last_trade_form, no_overlap, price_form, same_numbers, trade_form}
 use Rattle.brk_model.specs.Ways.{completion_stamps, has_status_rows, trade_status}
 use Rattle.brk_model.specs.Names.{KnowsAccount, KnowsBroker, KnowsCustomer, KnowsSecurity, NumberedFrom}
-use Rattle.brk_trade_laws.specs.Books.{BandsApart, CompletesFirst, DistinctAccounts, DistinctSymbols, HasBounds, HasVolume, IsBooks, IsEarly, MomentsApart, PermissionsApart, WaitsFirst}
-use Rattle.brk_trade_laws.proofs.Same.{All-map, All-mapped, All-of, any-none, find-All}
-use Rattle.brk_trade_laws.proofs.Reading.{find-map, is_some-map, some-is-any}
+use Rattle.brk_book_laws.specs.Books.{BandsApart, CompletesFirst, DistinctAccounts, DistinctSymbols, HasBounds, HasVolume, IsBooks, IsEarly, MomentsApart, PermissionsApart, WaitsFirst}
+use Rattle.brk_book_laws.proofs.Same.{All-map, All-mapped, All-of, any-none, find-All}
+use Rattle.brk_book_laws.proofs.Reading.{find-map, is_some-map, some-is-any}
 use Rattle.brk_adoption_laws.proofs.Climbs.{Climbs, In, climbs_filter, list_all_true, not_itself, of_all}
 use Rattle.brk_adoption_laws.proofs.Parts.{FormParts, KeyParts, form_parts, key_parts, parts3, parts6, parts10}
 use Rattle.brk_adoption_laws.proofs.Marks.{IsOf, Lasts, completes_first, filtered, last_is_row, lasts, waits_first}

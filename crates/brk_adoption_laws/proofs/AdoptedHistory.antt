@@ -15,10 +15,10 @@ use Rattle.brk_model.specs.Joins.{history_in}
 use Rattle.brk_model.specs.Keys.{number, key_before, by_key, insert_row, history_key, trade_key}
 use Rattle.brk_model.specs.Adopted.{trade_of_row}
 use Rattle.brk_model.specs.Form.{has_trade, history_form, is_stamp}
-use Rattle.brk_trade_laws.proofs.Order.{rows_commute}
-use Rattle.brk_trade_laws.proofs.Same.{All-map, All-of}
-use Rattle.brk_trade_laws.proofs.LotReading.{all_pass}
-use Rattle.brk_trade_laws.proofs.Each.{AllCommute, Commute, each, each_map, each_sort}
+use Rattle.brk_book_laws.proofs.Order.{rows_commute}
+use Rattle.brk_book_laws.proofs.Same.{All-map, All-of}
+use Rattle.brk_book_laws.proofs.LotReading.{all_pass}
+use Rattle.brk_book_laws.proofs.Each.{AllCommute, Commute, each, each_map, each_sort}
 use Rattle.brk_adoption_laws.proofs.Climbs.{AllBefore, Climbs, In, climbs_append, climbs_filter, each_in, not_itself, same_rows, stays}
 use Rattle.brk_adoption_laws.proofs.Members.{All-flat_map, FoundIn, each-append, each-same, found_in, in_filter, in_flat_map, sorted_each}
 use Rattle.brk_adoption_laws.proofs.Marks.{filtered}

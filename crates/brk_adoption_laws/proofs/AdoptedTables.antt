@@ -19,8 +19,8 @@ use Rattle.brk_model.specs.Adopted.{account_of_row, base_of, no_last_trade, secu
 use Rattle.brk_model.specs.Form.{has_form, has_security, history_form, is_price, is_stamp, last_trade_form, security_form}
 use Rattle.brk_model.specs.Ways.{completion_stamps, has_status_rows, trade_status}
 use Rattle.brk_model.specs.Audit.{Holds, expected}
-use Rattle.brk_trade_laws.proofs.Same.{All-map, All-of}
-use Rattle.brk_trade_laws.proofs.Reading.{some-is-any}
+use Rattle.brk_book_laws.proofs.Same.{All-map, All-of}
+use Rattle.brk_book_laws.proofs.Reading.{some-is-any}
 use Rattle.brk_adoption_laws.proofs.Climbs.{Climbs, In, climbs_map, each_in, list_all_true, same_rows, stays}
 use Rattle.brk_adoption_laws.proofs.Members.{FoundIn, found_in, in_map, map-map, map_back, one_of_key}
 use Rattle.brk_adoption_laws.proofs.Marks.{Lasts, lasts, same_statuses}

@@ -17,16 +17,16 @@ use Rattle.brk_model.specs.Keys.{number, word, by_key, row_before, account_key, 
 use Rattle.brk_model.specs.Adopted.{account_of_row, base_of, marks_in, no_last_trade, security_of_row, security_of_rows, trade_of_row}
 use Rattle.brk_model.specs.Ways.{is_rising}
 use Rattle.brk_model.specs.Names.{NumberedFrom}
-use Rattle.brk_trade_laws.specs.Books.{DistinctSymbols, IsBooks}
-use Rattle.brk_trade_laws.proofs.Order.{Sorted, Splits, by_key-filter, by_key-map, insert_commute, sort_sorted}
-use Rattle.brk_trade_laws.proofs.Same.{All-map, All-of, NonePass, filter-none, flat_map-append}
-use Rattle.brk_trade_laws.proofs.Places.{append_assoc, filter-all, filter-append}
-use Rattle.brk_trade_laws.proofs.Numbering.{numbered_after, numbered_before}
-use Rattle.brk_trade_laws.proofs.LotReading.{All-sort}
-use Rattle.brk_trade_laws.proofs.Reading.{find-id, find-map}
-use Rattle.brk_trade_laws.proofs.TermReading.{reads_last_trade}
-use Rattle.brk_trade_laws.proofs.TradeReading.{trades_in_order}
-use Rattle.brk_trade_laws.proofs.Each.{AllCommute, Commute, each, each_map, each_sort}
+use Rattle.brk_book_laws.specs.Books.{DistinctSymbols, IsBooks}
+use Rattle.brk_book_laws.proofs.Order.{Sorted, Splits, by_key-filter, by_key-map, insert_commute, sort_sorted}
+use Rattle.brk_book_laws.proofs.Same.{All-map, All-of, NonePass, filter-none, flat_map-append}
+use Rattle.brk_book_laws.proofs.Places.{append_assoc, filter-all, filter-append}
+use Rattle.brk_book_laws.proofs.Numbering.{numbered_after, numbered_before}
+use Rattle.brk_book_laws.proofs.LotReading.{All-sort}
+use Rattle.brk_book_laws.proofs.Reading.{find-id, find-map}
+use Rattle.brk_book_laws.proofs.TermReading.{reads_last_trade}
+use Rattle.brk_book_laws.proofs.TradeReading.{trades_in_order}
+use Rattle.brk_book_laws.proofs.Each.{AllCommute, Commute, each, each_map, each_sort}
 use Rattle.brk_adoption_laws.specs.Told.{HasItsWords, IsTold, StampsRise, sorted}
 use Rattle.brk_adoption_laws.proofs.Members.{map-map, map_back}
 

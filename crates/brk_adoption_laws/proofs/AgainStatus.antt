@@ -14,11 +14,11 @@ use Rattle.brk_model.specs.Tables.{HistoryRow, TradeRow, history_rows, tables_of
 use Rattle.brk_model.specs.Sheets.{sheets, sheets_of}
 use Rattle.brk_model.specs.Keys.{by_key, row_before, history_key}
 use Rattle.brk_model.specs.Ways.{completion_stamps, has_status_rows, is_last_of, is_rising, is_way, trade_status}
-use Rattle.brk_trade_laws.specs.Books.{IsBooks, MomentsApart}
-use Rattle.brk_trade_laws.proofs.Bools.{numbers_back}
-use Rattle.brk_trade_laws.proofs.Order.{by_key-filter}
-use Rattle.brk_trade_laws.proofs.Places.{filter-append, map-append}
-use Rattle.brk_trade_laws.proofs.TradeReading.{trades_in_order}
+use Rattle.brk_book_laws.specs.Books.{IsBooks, MomentsApart}
+use Rattle.brk_book_laws.proofs.Bools.{numbers_back}
+use Rattle.brk_book_laws.proofs.Order.{by_key-filter}
+use Rattle.brk_book_laws.proofs.Places.{filter-append, map-append}
+use Rattle.brk_book_laws.proofs.TradeReading.{trades_in_order}
 use Rattle.brk_adoption_laws.specs.Told.{GoesAWay, IsTold, StampsRise}
 use Rattle.brk_adoption_laws.proofs.Marks.{no_more_ways, three_ways}
 use Rattle.brk_adoption_laws.proofs.Again.{IsRead, both_all, marks_again, reads}

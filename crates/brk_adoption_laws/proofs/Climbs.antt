@@ -5,8 +5,8 @@ use Rattle.std.specs.List.{AllByRecursion, list_all}
 use Rattle.std.proofs.lemmas.Bool.{and_parts}
 use Rattle.brk_model.specs.Keys.{KeyPart, key_before, row_before, by_key}
 use Rattle.brk_model.specs.Form.{rises}
-use Rattle.brk_trade_laws.proofs.Order.{Sorted, key_one_way, key_splits, sort_sorted}
-use Rattle.brk_trade_laws.proofs.Same.{All-filter, All-map, All-append}
+use Rattle.brk_book_laws.proofs.Order.{Sorted, key_one_way, key_splits, sort_sorted}
+use Rattle.brk_book_laws.proofs.Same.{All-filter, All-map, All-append}
 
 -- ---- members
 

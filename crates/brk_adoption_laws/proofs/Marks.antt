@@ -13,9 +13,9 @@ use Rattle.brk_model.specs.Tables.{Tables, TradeRow, HistoryRow}
 use Rattle.brk_model.specs.Joins.{history_in}
 use Rattle.brk_model.specs.Adopted.{marks_in, trade_of_row}
 use Rattle.brk_model.specs.Ways.{is_way, is_last_of, is_rising, trade_status}
-use Rattle.brk_trade_laws.specs.Books.{WaitsFirst, CompletesFirst, IsNoCompletion, IsOne}
-use Rattle.brk_trade_laws.proofs.Same.{All-map, All-mapped}
-use Rattle.brk_trade_laws.proofs.LotReading.{All-sort}
+use Rattle.brk_book_laws.specs.Books.{WaitsFirst, CompletesFirst, IsNoCompletion, IsOne}
+use Rattle.brk_book_laws.proofs.Same.{All-map, All-mapped}
+use Rattle.brk_book_laws.proofs.LotReading.{All-sort}
 use Rattle.brk_adoption_laws.proofs.Climbs.{In, each_in}
 use Rattle.brk_adoption_laws.proofs.Parts.{parts3}
 

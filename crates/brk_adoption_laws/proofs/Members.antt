@@ -4,8 +4,8 @@ use Rattle.std.specs.Prelude.{find, is_some, flat_map}
 use Rattle.std.specs.List.{AllByRecursion}
 use Rattle.brk_model.specs.Lists.{sort_by}
 use Rattle.brk_model.specs.Keys.{KeyPart, key_before, by_key, insert_row}
-use Rattle.brk_trade_laws.proofs.Same.{All-append}
-use Rattle.brk_trade_laws.proofs.Each.{each}
+use Rattle.brk_book_laws.proofs.Same.{All-append}
+use Rattle.brk_book_laws.proofs.Each.{each}
 use Rattle.brk_adoption_laws.proofs.Climbs.{Climbs, In, not_itself, of_all}
 
 false_true : {A : Type 0} → false ≡ true → A

@@ -7,7 +7,7 @@ use Rattle.brk_model.specs.Form.{has_form}
 use Rattle.brk_model.specs.Ways.{has_status_rows}
 use Rattle.brk_model.specs.Sheets.{sheets}
 use Rattle.brk_model.specs.Audit.{Holds}
-use Rattle.brk_trade_laws.specs.Books.{IsBooks}
+use Rattle.brk_book_laws.specs.Books.{IsBooks}
 use Rattle.brk_adoption_laws.specs.Passing.{Passes}
 use Rattle.brk_adoption_laws.specs.Told.{IsTold}
 use Rattle.brk_adoption_laws.proofs.Sorted.{sorted_tables}

@@ -7,7 +7,7 @@ use Rattle.brk_model.specs.Tables.{Tables}
 use Rattle.brk_model.specs.Adopted.{base_of}
 use Rattle.brk_model.specs.Sheets.{sheets}
 use Rattle.brk_model.specs.Audit.{Holds}
-use Rattle.brk_trade_laws.specs.Books.{IsBooks}
+use Rattle.brk_book_laws.specs.Books.{IsBooks}
 use Rattle.brk_adoption_laws.specs.Passing.{Passes}
 use Rattle.brk_adoption_laws.proofs.AdoptedBooks.{adopted_books}
 use Rattle.brk_adoption_laws.proofs.AdoptedTables.{Derives, adopted_tables}

@@ -15,11 +15,11 @@ use Rattle.brk_model.specs.Derived.{amount_of, balance_of, cash_trades, commissi
 use Rattle.brk_model.specs.Tables.{SummaryRow, account_row, broker_row, by_position, cash_row, last_trade_row, security_row, settlement_row, summary_rows, tables_of}
 use Rattle.brk_model.specs.Sheets.{sheets, sheets_of}
 use Rattle.brk_model.specs.Keys.{KeyPart, number, word, row_before, by_key, insert_row, account_key, band_key, broker_key, cash_key, charge_key, customer_key, customer_tax_key, kept_key, last_trade_key, permission_key, request_key, security_key, settlement_key, summary_key, tax_rate_key}
-use Rattle.brk_trade_laws.specs.Books.{DistinctAccounts, DistinctSymbols, IsBooks}
-use Rattle.brk_trade_laws.proofs.Order.{by_key-map, key_one_way, key_splits, rows_commute, sort_sorted, sorted_sort}
-use Rattle.brk_trade_laws.proofs.Same.{All-map, All-of, map-same}
-use Rattle.brk_trade_laws.proofs.Reading.{find-id}
-use Rattle.brk_trade_laws.proofs.Each.{AllCommute, Commute, each, each_sort}
+use Rattle.brk_book_laws.specs.Books.{DistinctAccounts, DistinctSymbols, IsBooks}
+use Rattle.brk_book_laws.proofs.Order.{by_key-map, key_one_way, key_splits, rows_commute, sort_sorted, sorted_sort}
+use Rattle.brk_book_laws.proofs.Same.{All-map, All-of, map-same}
+use Rattle.brk_book_laws.proofs.Reading.{find-id}
+use Rattle.brk_book_laws.proofs.Each.{AllCommute, Commute, each, each_sort}
 use Rattle.brk_adoption_laws.specs.Told.{account_id, broker_id, sorted, symbol_key}
 use Rattle.brk_adoption_laws.proofs.Members.{each-append, sorted_each}
 

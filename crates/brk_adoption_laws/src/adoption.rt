@@ -7,7 +7,7 @@ ghost use Rattle.brk_model.specs.Adopted.{base_of};
 ghost use Rattle.brk_model.specs.Form.{has_form};
 ghost use Rattle.brk_model.specs.Ways.{has_status_rows};
 ghost use Rattle.brk_model.specs.Sheets.{sheets};
-ghost use Rattle.brk_trade_laws.specs.Books.{IsBooks};
+ghost use Rattle.brk_book_laws.specs.Books.{IsBooks};
 ghost use Rattle.brk_adoption_laws.specs.Passing.{Passes};
 ghost use Rattle.brk_adoption_laws.specs.Told.{IsTold, sorted};
 

@@ -8,7 +8,7 @@ use Rattle.brk_model.specs.Lists.{total_by}
 use Rattle.brk_model.specs.Tables.{TradeRow}
 use Rattle.brk_changes.specs.Rows.{trade_row_of}
 use Rattle.brk_changes.specs.declared.trade_row.TradeRow as trade
-use Rattle.brk_trade_laws.proofs.Same.{All-map, All-mapped, All-of, filter-same, total_by-same}
+use Rattle.brk_book_laws.proofs.Same.{All-map, All-mapped, All-of, filter-same, total_by-same}
 use Rattle.brk_audit.specs.declared.tally.Posting.{Posting}
 use Rattle.brk_audit.specs.Tally.{total_at}
 use Rattle.brk_audit.proofs.Postings.{total_mapped, total_posted}

@@ -12,7 +12,7 @@ use Rattle.brk_model.specs.Derived.{pending}
 use Rattle.brk_model.specs.Tables.{Tables, TradeRow}
 use Rattle.brk_model.specs.Adopted.{base_of, trade_of_row}
 use Rattle.brk_model.specs.Ways.{completion_stamps, has_status_rows, trade_status}
-use Rattle.brk_trade_laws.proofs.Same.{All-map, All-filter, filter-same}
+use Rattle.brk_book_laws.proofs.Same.{All-map, All-filter, filter-same}
 use Rattle.brk_adoption_laws.proofs.Climbs.{list_all_true}
 use Rattle.brk_adoption_laws.proofs.Marks.{Lasts, lasts, same_statuses}
 use Rattle.brk_adoption_laws.proofs.AdoptedBooks.{filter-map}

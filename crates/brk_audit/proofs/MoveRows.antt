@@ -21,10 +21,10 @@ use Rattle.brk_model.specs.Ways.{has_status_rows}
 use Rattle.brk_model.specs.Form.{has_form}
 use Rattle.brk_lots.specs.Chains.{replay_rows}
 use Rattle.brk_lots.specs.Deals.{AreDeals, IsLater}
-use Rattle.brk_trade_laws.specs.Books.{IsBooks}
-use Rattle.brk_trade_laws.proofs.LotOrder.{Follows, InOrder, held_in_order, trades_held}
-use Rattle.brk_trade_laws.proofs.Order.{Sorted, key_one_way, key_splits, sorted_sort}
-use Rattle.brk_trade_laws.proofs.Same.{All-map, All-of}
+use Rattle.brk_book_laws.specs.Books.{IsBooks}
+use Rattle.brk_book_laws.proofs.LotOrder.{Follows, InOrder, held_in_order, trades_held}
+use Rattle.brk_book_laws.proofs.Order.{Sorted, key_one_way, key_splits, sorted_sort}
+use Rattle.brk_book_laws.proofs.Same.{All-map, All-of}
 use Rattle.brk_adoption_laws.proofs.AdoptedBooks.{adopted_books}
 use Rattle.brk_adoption_laws.proofs.Climbs.{Climbs}
 use Rattle.brk_adoption_laws.proofs.Parts.{form_parts, key_parts}
@@ -34,7 +34,7 @@ use Rattle.brk_audit.proofs.Completed.{completed_rows}
 use Rattle.brk_audit.proofs.Leaving.{AreDealt, deals_among, own_run}
 use Rattle.brk_audit.proofs.LotRows.{dealt}
 use Rattle.brk_audit.proofs.Moves.{run_sums}
-use Rattle.brk_trade_laws.proofs.Orders.{SameSums, permuted, sum_append, sum_map, sum_none, sum_same, sum_sort}
+use Rattle.brk_book_laws.proofs.Orders.{SameSums, permuted, sum_append, sum_map, sum_none, sum_same, sum_sort}
 use Rattle.brk_audit.proofs.Places.{all_back, at_one, same_self}
 
 -- ---- in one order

@@ -18,8 +18,8 @@ use Rattle.brk_model.specs.Keys.{number, by_key, cash_key, request_key, settleme
 use Rattle.brk_model.specs.Adopted.{account_of_row, base_of, trade_of_row}
 use Rattle.brk_model.specs.Ways.{has_status_rows, trade_status}
 use Rattle.brk_model.specs.Audit.{Holds, expected}
-use Rattle.brk_trade_laws.proofs.Same.{All-filter, All-map, find-each, map-same}
-use Rattle.brk_trade_laws.proofs.Reading.{find-map}
+use Rattle.brk_book_laws.proofs.Same.{All-filter, All-map, find-each, map-same}
+use Rattle.brk_book_laws.proofs.Reading.{find-map}
 use Rattle.brk_adoption_laws.proofs.Climbs.{Climbs, In, climbs_filter, climbs_map, each_in, stays}
 use Rattle.brk_adoption_laws.proofs.Members.{FoundIn, found_in, map-map, one_of_key}
 use Rattle.brk_adoption_laws.proofs.AdoptedBooks.{filter-map}

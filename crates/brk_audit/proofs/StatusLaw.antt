@@ -13,8 +13,8 @@ use Rattle.brk_model.specs.Keys.{number, key_before, history_key, trade_key}
 use Rattle.brk_model.specs.Form.{has_form, history_form}
 use Rattle.brk_model.specs.Ways.{completion_stamps, has_status_rows, trade_status}
 use Rattle.brk_model.specs.Audit.{Holds}
-use Rattle.brk_trade_laws.proofs.Same.{All-map}
-use Rattle.brk_trade_laws.proofs.LotReading.{all_pass}
+use Rattle.brk_book_laws.proofs.Same.{All-map}
+use Rattle.brk_book_laws.proofs.LotReading.{all_pass}
 use Rattle.brk_adoption_laws.proofs.Climbs.{Climbs, list_all_true}
 use Rattle.brk_adoption_laws.proofs.Members.{All-flat_map}
 use Rattle.brk_adoption_laws.proofs.Parts.{FormParts, KeyParts, form_parts, key_parts}

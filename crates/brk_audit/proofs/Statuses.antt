@@ -13,8 +13,8 @@ use Rattle.brk_model.specs.Joins.{history_in}
 use Rattle.brk_model.specs.Keys.{word, key_before, by_key, history_key}
 use Rattle.brk_model.specs.Adopted.{marks_in, trade_of_row}
 use Rattle.brk_model.specs.Ways.{is_last_of, is_rising, is_way, trade_status}
-use Rattle.brk_trade_laws.proofs.Same.{All-map}
-use Rattle.brk_trade_laws.proofs.LotReading.{all_pass}
+use Rattle.brk_book_laws.proofs.Same.{All-map}
+use Rattle.brk_book_laws.proofs.LotReading.{all_pass}
 use Rattle.brk_adoption_laws.proofs.Climbs.{Climbs, climbs_filter, stays}
 use Rattle.brk_adoption_laws.proofs.Members.{sorted_each}
 use Rattle.brk_adoption_laws.proofs.Marks.{no_more_ways}

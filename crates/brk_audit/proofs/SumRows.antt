@@ -17,7 +17,7 @@ use Rattle.brk_model.specs.Keys.{account_key, broker_key, by_key, number}
 use Rattle.brk_model.specs.Adopted.{account_of_row, base_of, trade_of_row}
 use Rattle.brk_model.specs.Ways.{has_status_rows}
 use Rattle.brk_model.specs.Audit.{Holds, expected}
-use Rattle.brk_trade_laws.proofs.Same.{All-map, All-of, filter-same, find-each, map-same, total_by-same}
+use Rattle.brk_book_laws.proofs.Same.{All-map, All-of, filter-same, find-each, map-same, total_by-same}
 use Rattle.brk_adoption_laws.proofs.Climbs.{Climbs, In, climbs_map, each_in, stays}
 use Rattle.brk_adoption_laws.proofs.Members.{FoundIn, found_in, map-map, one_of_key}
 use Rattle.brk_adoption_laws.proofs.AdoptedTables.{brokers_there}

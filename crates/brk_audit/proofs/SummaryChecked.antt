@@ -22,7 +22,7 @@ use Rattle.brk_model.specs.Tables.{Tables, SummaryRow, TradeRow}
 use Rattle.brk_changes.specs.Rows.{summary_row_of, trade_row_of}
 use Rattle.brk_changes.specs.Sheets.{tables_in_sheets}
 use Rattle.brk_changes.specs.declared.sheets.Sheets.{Sheets}
-use Rattle.brk_trade_laws.proofs.Same.{All-map, All-mapped, All-of, filter-none, filter-same, find-none}
+use Rattle.brk_book_laws.proofs.Same.{All-map, All-mapped, All-of, filter-none, filter-same, find-none}
 use Rattle.brk_adoption_laws.proofs.Climbs.{list_all_true, of_all}
 use Rattle.brk_adoption_laws.proofs.Members.{FoundIn, found_in}
 use Rattle.brk_adoption_laws.proofs.Parts.{form_parts, parts10, parts3}

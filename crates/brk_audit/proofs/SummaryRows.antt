@@ -22,11 +22,11 @@ use Rattle.brk_model.specs.Tables.{Tables, AccountRow, SecurityRow, SummaryRow, 
 use Rattle.brk_model.specs.Adopted.{account_of_row, base_of, security_of_row, trade_of_row}
 use Rattle.brk_model.specs.Ways.{has_status_rows}
 use Rattle.brk_model.specs.Audit.{Holds, expected}
-use Rattle.brk_trade_laws.specs.Books.{IsBooks}
-use Rattle.brk_trade_laws.proofs.Reading.{find-map}
-use Rattle.brk_trade_laws.proofs.Same.{All-map, All-mapped, All-of, filter-none, find-each, find-none}
-use Rattle.brk_trade_laws.proofs.Summaries.{all_summaries, own_summary}
-use Rattle.brk_trade_laws.proofs.Worth.{summaries_in}
+use Rattle.brk_book_laws.specs.Books.{IsBooks}
+use Rattle.brk_book_laws.proofs.Reading.{find-map}
+use Rattle.brk_book_laws.proofs.Same.{All-map, All-mapped, All-of, filter-none, find-each, find-none}
+use Rattle.brk_book_laws.proofs.Summaries.{all_summaries, own_summary}
+use Rattle.brk_book_laws.proofs.Worth.{summaries_in}
 use Rattle.brk_adoption_laws.proofs.AdoptedBooks.{adopted_books, symbol_of}
 use Rattle.brk_adoption_laws.proofs.Climbs.{Climbs, In, climbs_append, climbs_filter, climbs_map, each_in, list_all_true, not_itself, of_all, same_rows, stays}
 use Rattle.brk_adoption_laws.specs.Told.{account_id, symbol_key}

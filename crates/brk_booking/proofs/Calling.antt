@@ -26,9 +26,10 @@ use Rattle.brk_changes.specs.Changes.{after_changes}
 use Rattle.brk_plans.specs.declared.plan.Plan.{Plan}
 use Rattle.brk_rows.proofs.Inside.{clean_before}
 use Rattle.brk_plans.specs.Replies.{reply_of}
-use Rattle.brk_trade_laws.specs.Books.{IsBooks}
-use Rattle.brk_trade_laws.specs.Plans.{DoesCommand, base_then}
-use Rattle.brk_trade_laws.proofs.Keepers.{books_kept}
+use Rattle.brk_book_laws.specs.Books.{IsBooks}
+use Rattle.brk_trade_laws.specs.Plans.{DoesCommand}
+use Rattle.brk_book_laws.specs.Steps.{base_then}
+use Rattle.brk_book_laws.proofs.Keepers.{books_kept}
 use Rattle.brk_sound_laws.specs.InForm.{IsInForm, IsKeyInForm}
 use Rattle.brk_sound_laws.specs.Sound.{IsSound}
 use Rattle.brk_sound_laws.proofs.SoundSteps.{keyed_sound}

@@ -6,7 +6,7 @@ use Rattle.brk_model.specs.Commands.{Answer, Command, Reply}
 use Rattle.brk_model.specs.Keyed.{acted, kept_under, keyed, keyed_step, keeping, repeated}
 use Rattle.brk_model.specs.Records.{Key, Kept}
 use Rattle.brk_model.specs.Step.{base_after, step}
-use Rattle.brk_trade_laws.proofs.Keeping.{kept_rows, reads_kept}
+use Rattle.brk_book_laws.proofs.Keeping.{kept_rows, reads_kept}
 use Rattle.brk_booking.specs.Keys.{kept_in, with_key}
 use Rattle.brk_booking.proofs.Leaving.{leaves_kept}
 

@@ -14,8 +14,8 @@ use Rattle.brk_changes.specs.declared.change.Change.{Change}
 use Rattle.brk_changes.specs.declared.change.Change.TheVariants.{AddBroker, AddCustomer, AddAccount, AddPermission, AddSecurity, AddLastTrade, AddCharge, AddBand, AddTaxRate, AddCustomerTax, AddTrade, SetStatus, AddHistory, AddRequest, RemoveRequest, SetLastTrade, CompleteTrade, AddLot, SetLot, RemoveLot, AddLotChange, AddSummary, SetSummary, RemoveSummary, AddSettlement, AddCash, SetBalance, SetBrokerNumbers, SetExecutor, SetCashType, SetCashName, Keep, SetLast}
 use Rattle.brk_money.specs.declared.status.Status.TheVariants.{Completed}
 use Rattle.brk_ref.specs.Records.{kept_of}
-use Rattle.brk_trade_laws.proofs.Order.{All-insert}
-use Rattle.brk_trade_laws.proofs.Places.{All-updated}
+use Rattle.brk_book_laws.proofs.Order.{All-insert}
+use Rattle.brk_book_laws.proofs.Places.{All-updated}
 use Rattle.brk_adoption_laws.proofs.AgainStatus.{all_list}
 use Rattle.brk_adoption_laws.proofs.Climbs.{list_all_true}
 use Rattle.brk_store.proofs.Texts.{text_is_utf8}

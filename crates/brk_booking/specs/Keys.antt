@@ -6,7 +6,7 @@ use Rattle.brk_money.specs.declared.fault.Fault.{Fault}
 use Rattle.brk_model.specs.Commands.{Command, Reply}
 use Rattle.brk_model.specs.Records.{Key, Kept}
 use Rattle.brk_model.specs.Tables.{Tables}
-use Rattle.brk_trade_laws.specs.Plans.{kept_row}
+use Rattle.brk_book_laws.specs.Steps.{kept_row}
 use Rattle.brk_ref.specs.Records.{kept_of, key_of}
 use Rattle.brk_ref.specs.declared.key.Kept as row
 use Rattle.brk_ref.specs.declared.key.Key as given

@@ -14,7 +14,7 @@ use Rattle.brk_plans.specs.Reference.{clock_test}
 use Rattle.brk_plans.specs.Update.{IsUpdate, update_tests}
 use Rattle.brk_plans.specs.declared.corrected.Corrected.{Corrected}
 use Rattle.brk_plans.specs.declared.plan.Plan.{Plan}
-use Rattle.brk_trade_laws.specs.Books.{IsBooks}
+use Rattle.brk_book_laws.specs.Books.{IsBooks}
 use Rattle.brk_trade_laws.specs.Plans.{DoesCommand}
 use Rattle.brk_decisions.specs.Decisions.{Decides}
 use Rattle.brk_update_laws.specs.Corrections.{IsFoundForUpdate, IsReadForUpdate}

@@ -16,7 +16,7 @@ use Rattle.brk_model.specs.Tests.{first_refusal}
 use Rattle.brk_plans.specs.Cancel.{IsCancel, cancel_tests}
 use Rattle.brk_plans.specs.Reference.{clock_test}
 use Rattle.brk_plans.specs.declared.plan.Plan.{Plan}
-use Rattle.brk_trade_laws.specs.Books.{IsBooks}
+use Rattle.brk_book_laws.specs.Books.{IsBooks}
 use Rattle.brk_trade_laws.specs.TradePlans.{IsReadForCancel}
 use Rattle.brk_trade_laws.proofs.CancelPlanning.{cancel_plan_does, cancel_refused}
 use Rattle.brk_store.specs.Holds.{IsRead}

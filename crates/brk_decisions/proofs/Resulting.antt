@@ -17,7 +17,7 @@ use Rattle.brk_money.specs.declared.refusal.Refusal.TheVariants.{NoTrade}
 use Rattle.brk_trade.specs.Results.{IsCompleted, IsRefused}
 use Rattle.brk_trade.specs.declared.result_found.ResultFound.{ResultFound}
 use Rattle.brk_plans.specs.declared.plan.Plan.{Plan}
-use Rattle.brk_trade_laws.specs.Books.{IsBooks}
+use Rattle.brk_book_laws.specs.Books.{IsBooks}
 use Rattle.brk_trade_laws.specs.ResultPlans.{IsFoundForResult, IsReadForResult}
 use Rattle.brk_trade_laws.proofs.ResultDoing.{result_plan_does}
 use Rattle.brk_trade_laws.proofs.ResultRefusing.{result_refused}

@@ -14,8 +14,8 @@ use Rattle.brk_model.specs.Records.{Customer}
 use Rattle.brk_model.specs.Sheets.{sheets, sheets_of}
 use Rattle.brk_model.specs.Tables.{Tables, tables_of}
 use Rattle.brk_model.specs.Views.{view_of}
-use Rattle.brk_trade_laws.proofs.Places.{find-at}
-use Rattle.brk_trade_laws.proofs.Reading.{reads_customer}
+use Rattle.brk_book_laws.proofs.Places.{find-at}
+use Rattle.brk_book_laws.proofs.Reading.{reads_customer}
 use Rattle.brk_view.specs.Views.{fields_of}
 use Rattle.brk_view.specs.Worths.{worth_in}
 use Rattle.brk_view.specs.declared.view.View.{View}

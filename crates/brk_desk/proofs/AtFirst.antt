@@ -7,7 +7,7 @@ use Rattle.sqlite.specs.Held.{Held}
 use Rattle.brk_model.specs.Base.{Base, empty_base}
 use Rattle.brk_model.specs.Run.{Call, Do, Outcome}
 use Rattle.brk_model.specs.Tables.{no_rows}
-use Rattle.brk_trade_laws.proofs.Steps.{empty_books, empty_rows}
+use Rattle.brk_book_laws.proofs.Steps.{empty_books, empty_rows}
 use Rattle.brk_sound_laws.specs.Runs.{IsCallInForm}
 use Rattle.brk_sound_laws.proofs.SoundRuns.{Both, keyed_both, run_both}
 use Rattle.brk_sound_laws.proofs.SoundSteps.{empty_sound}

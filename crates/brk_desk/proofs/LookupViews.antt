@@ -20,10 +20,10 @@ use Rattle.brk_model.specs.Sheets.{sheets}
 use Rattle.brk_model.specs.Tables.{AccountRow, CashRow, HistoryRow, SecurityRow, SettlementRow, Tables, TradeRow, security_row, tables_of, trade_row}
 use Rattle.brk_model.specs.Views.{view_of}
 use Rattle.brk_sound_laws.specs.Sound.{IsSound}
-use Rattle.brk_trade_laws.specs.Books.{IsBooks}
-use Rattle.brk_trade_laws.proofs.Reading.{is_none-map}
-use Rattle.brk_trade_laws.proofs.TermReading.{reads_security}
-use Rattle.brk_trade_laws.proofs.TradeReading.{reads_trade}
+use Rattle.brk_book_laws.specs.Books.{IsBooks}
+use Rattle.brk_book_laws.proofs.Reading.{is_none-map}
+use Rattle.brk_book_laws.proofs.TermReading.{reads_security}
+use Rattle.brk_book_laws.proofs.TradeReading.{reads_trade}
 use Rattle.brk_update_laws.specs.Corrections.{AreTradesOf}
 use Rattle.brk_view.specs.Lookup.{IsOfTrade, looked_up_records}
 use Rattle.brk_view.specs.Views.{fields_of}

@@ -16,7 +16,7 @@ use Rattle.brk_model.specs.Sheets.{sheets}
 use Rattle.brk_model.specs.Tables.{AccountRow, HoldingHistoryRow, Tables, TradeRow, tables_of}
 use Rattle.brk_model.specs.Views.{view_of}
 use Rattle.brk_sound_laws.specs.Sound.{IsSound}
-use Rattle.brk_trade_laws.specs.Books.{IsBooks}
+use Rattle.brk_book_laws.specs.Books.{IsBooks}
 use Rattle.brk_view.specs.Lots.{IsTouched, touch_before, touch_in, touches_of}
 use Rattle.brk_view.specs.Views.{fields_of}
 use Rattle.brk_view.specs.declared.lots.LotTouch.{LotTouch}

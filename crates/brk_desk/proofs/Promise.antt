@@ -5,7 +5,7 @@ use Rattle.sqlite.specs.Held.{Held, state}
 use Rattle.sqlite.specs.State.{HasCleanDisk}
 use Rattle.brk_model.specs.Adopted.{base_of}
 use Rattle.brk_model.specs.Base.{Base, empty_base}
-use Rattle.brk_trade_laws.proofs.RunSums.{run_adds_up}
+use Rattle.brk_book_laws.proofs.RunSums.{run_adds_up}
 use Rattle.brk_sound_laws.proofs.Adopted.{sound_passes}
 use Rattle.brk_desk.specs.Answers.{outcome_of}
 use Rattle.brk_desk.specs.Commands.{call_of}

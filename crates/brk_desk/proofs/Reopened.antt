@@ -14,7 +14,7 @@ use Rattle.brk_model.specs.Records.{Key}
 use Rattle.brk_model.specs.Sheets.{sheets}
 use Rattle.brk_model.specs.Tables.{Tables}
 use Rattle.brk_rows.proofs.Inside.{clean_before}
-use Rattle.brk_trade_laws.proofs.Steps.{empty_books, empty_rows}
+use Rattle.brk_book_laws.proofs.Steps.{empty_books, empty_rows}
 use Rattle.brk_adoption_laws.specs.Passing.{Passes}
 use Rattle.brk_adoption_laws.proofs.Passing.{passing_tables}
 use Rattle.brk_sound_laws.proofs.SoundRuns.{keyed_both}

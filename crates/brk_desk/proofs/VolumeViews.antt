@@ -13,8 +13,8 @@ use Rattle.brk_model.specs.Sheets.{sheets}
 use Rattle.brk_model.specs.Tables.{BrokerRow, RequestRow, Tables}
 use Rattle.brk_model.specs.Views.{view_of}
 use Rattle.brk_model.specs.VolumeView.{by_volume, requests_in, volume_view}
-use Rattle.brk_trade_laws.proofs.LotReading.{filter-both}
-use Rattle.brk_trade_laws.proofs.Places.{filter-append}
+use Rattle.brk_book_laws.proofs.LotReading.{filter-both}
+use Rattle.brk_book_laws.proofs.Places.{filter-append}
 use Rattle.brk_view.specs.Views.{fields_of}
 use Rattle.brk_view.specs.Volume.{is_shown, request_worth}
 use Rattle.brk_view.specs.Volume as volume

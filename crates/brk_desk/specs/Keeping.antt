@@ -14,7 +14,7 @@ use Rattle.brk_model.specs.Sheets.{sheets}
 use Rattle.brk_model.specs.Queries.{Query}
 use Rattle.brk_model.specs.Run.{MayFail, Run}
 use Rattle.brk_model.specs.Tables.{Tables, no_rows}
-use Rattle.brk_trade_laws.specs.Runs.{RunAddsUp}
+use Rattle.brk_book_laws.specs.Runs.{RunAddsUp}
 use Rattle.brk_adoption_laws.specs.Passing.{Passes}
 use Rattle.brk_sound_laws.specs.Runs.{IsCallInForm}
 use Rattle.brk_store.specs.Audited.{IsAudited, OnAnswer}

@@ -8,7 +8,7 @@ use Rattle.brk_money.specs.declared.fault.Fault.{Fault}
 use Rattle.brk_model.specs.Base.{Base}
 use Rattle.brk_model.specs.Form.{has_texts}
 use Rattle.brk_model.specs.Sheets.{sheets}
-use Rattle.brk_trade_laws.specs.Books.{IsBooks}
+use Rattle.brk_book_laws.specs.Books.{IsBooks}
 use Rattle.brk_sound_laws.specs.Sound.{IsSound}
 use Rattle.brk_store.specs.Audited.{OnAnswer}
 use Rattle.brk_store.specs.Holds.{AreTreesOf, IsOpenedOver, LeavesOnly}

@@ -16,7 +16,7 @@ ghost use Rattle.brk_model.specs.Tables.{Tables, no_rows};
 ghost use Rattle.brk_sound_laws.specs.Runs.{IsCallInForm};
 ghost use Rattle.brk_sound_laws.specs.Sound.{IsSound};
 ghost use Rattle.brk_store.specs.Holds.{AreTreesOf, Holds, IsOpenedOver};
-ghost use Rattle.brk_trade_laws.specs.Books.{IsBooks};
+ghost use Rattle.brk_book_laws.specs.Books.{IsBooks};
 
 use sqlite::Alter;
 

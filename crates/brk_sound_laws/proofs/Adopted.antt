@@ -14,9 +14,9 @@ use Rattle.brk_model.specs.Adopted.{base_of, marks_in, trade_of_row}
 use Rattle.brk_model.specs.Audit.{Holds}
 use Rattle.brk_model.specs.Form.{has_form}
 use Rattle.brk_model.specs.Ways.{completion_stamps, has_status_rows, is_last_of, is_rising, is_way, trade_status}
-use Rattle.brk_trade_laws.specs.Books.{IsBooks}
-use Rattle.brk_trade_laws.proofs.Same.{All-map, All-mapped}
-use Rattle.brk_trade_laws.proofs.Reading.{find-id, find-map}
+use Rattle.brk_book_laws.specs.Books.{IsBooks}
+use Rattle.brk_book_laws.proofs.Same.{All-map, All-mapped}
+use Rattle.brk_book_laws.proofs.Reading.{find-id, find-map}
 use Rattle.brk_adoption_laws.specs.Passing.{Passes}
 use Rattle.brk_adoption_laws.specs.Told.{GoesAWay, HasItsWords, IsTold, StampsRise}
 use Rattle.brk_adoption_laws.proofs.Again.{IsRead, reads}
@@ -25,7 +25,7 @@ use Rattle.brk_adoption_laws.proofs.Parts.{parts3}
 use Rattle.brk_adoption_laws.proofs.Passed.{tables_pass}
 use Rattle.brk_adoption_laws.proofs.Passing.{all_hold, passing_books, passing_tables}
 use Rattle.brk_model.specs.Run.{Call, Outcome, Run}
-use Rattle.brk_trade_laws.proofs.Steps.{empty_books}
+use Rattle.brk_book_laws.proofs.Steps.{empty_books}
 use Rattle.brk_sound_laws.specs.Runs.{IsCallInForm}
 use Rattle.brk_sound_laws.proofs.SoundRuns.{run_both}
 use Rattle.brk_sound_laws.proofs.SoundSteps.{empty_sound}

@@ -5,14 +5,14 @@ use Rattle.std.specs.List.{AllByRecursion}
 use Rattle.std.proofs.lemmas.Int.{ints}
 use Rattle.std.proofs.lemmas.List.{length-take, length-drop}
 use Rattle.std.proofs.lemmas.List.Sums.{sum_by-cons}
-use Rattle.brk_money.specs.Amounts.{half_up, tax}
+use Rattle.brk_money.specs.Amounts.{commission, half_up, tax}
 use Rattle.brk_money.specs.declared.side.Side.{Side}
 use Rattle.brk_money.specs.declared.side.Side.TheVariants.{Buy, Sell}
 use Rattle.brk_model.specs.Shares.{Share, Deal, closed_count, closed_shares, closing_value, gain, kept_shares, meets, opened_share, opened_shares, opening_value, sell_value, sell_value_by, shares_after, buy_value}
 use Rattle.brk_model.specs.Derived.{proceeds}
 use Rattle.brk_model.specs.Orders.{tax_of}
 use Rattle.brk_model.specs.Base.{Base, customer_of, is_taxed, rates_of}
-use Rattle.brk_trade_laws.proofs.Same.{All-append}
+use Rattle.brk_book_laws.proofs.Same.{All-append}
 
 -- ---- shares
 
@@ -122,6 +122,16 @@ tax_within base account d shares q p h r = by_status (is_taxed base account)
     by_status : (b : Bool) → cond b (tax (gain d shares) (rates_of base (customer_of base account))) 0 ≤ 10 ^ 13
     by_status true = tax_high (gain d shares) (rates_of base (customer_of base account)) (gained (sell_value d shares) (buy_value d shares) (sell_high d shares q p h)) r
     by_status false = omega arith
+
+halved : (n : ℕ) → n ≤ 10000 * 9999989000001 → half_up n 10000 ≤ 10 ^ 13
+halved n h = omega arith
+
+-- a commission
+pub commission_low : (rate qty price : ℕ) → rate ≤ 10000 → qty ≤ 999999 → price ≤ 9999999 → commission rate qty price ≤ 10 ^ 13
+commission_low rate qty price r q p =
+    let shares : rate * qty ≤ 10000 * 999999 = mul-le-mul r q in
+    let all : rate * qty * price ≤ 10000 * 999999 * 9999999 = mul-le-mul shares p in
+    halved (rate * qty * price) (omega (arith, all))
 
 -- what a trade settles for
 settled : (s : Side) (v w : ℕ) → v ≤ 10 ^ 13 → w ≤ 10 ^ 15 → nat_abs (proceeds s v -ℤ pos w) ≤ 10 ^ 17

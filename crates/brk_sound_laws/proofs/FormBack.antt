@@ -22,16 +22,16 @@ use Rattle.brk_model.specs.Joins.{history_in, trade_in}
 use Rattle.brk_model.specs.Form.{account_form, broker_form, cash_form, charge_form, customer_form, customer_limits, customer_tax_form, has_account, has_broker, has_customer, has_form, has_security, has_trade, history_form, is_amount, is_cash_name, is_cash_type, is_id, is_price, is_qty, last_trade_form, one_tax_id_each, permission_form, price_form, security_form, settlement_form, summary_form, trade_form}
 use Rattle.brk_model.specs.Forms.{is_acl, is_exchange, is_name, is_symbol, is_tax_id}
 use Rattle.brk_model.specs.Keys.{KeyPart, word, by_key, row_before, account_key, band_key, broker_key, cash_key, charge_key, customer_key, customer_tax_key, history_key, kept_key, last_trade_key, permission_key, security_key, settlement_key, summary_key, tax_rate_key, trade_key}
-use Rattle.brk_trade_laws.specs.Books.{IsBooks}
-use Rattle.brk_trade_laws.proofs.NewKeys.{same_bytes, unused}
-use Rattle.brk_trade_laws.proofs.Order.{NewKey, by_key-filter}
-use Rattle.brk_trade_laws.proofs.Same.{All-filter, All-map, any-none, filter-none}
-use Rattle.brk_trade_laws.proofs.Completing.{All-unfilter, All-unsort}
-use Rattle.brk_trade_laws.proofs.Reading.{any-sorted, reads_count}
-use Rattle.brk_trade_laws.proofs.References.{no_broker_trades, no_trades_of}
-use Rattle.brk_trade_laws.proofs.LotReading.{numbered_rise, rise_apart}
-use Rattle.brk_trade_laws.proofs.TradeReading.{reads_trade}
-use Rattle.brk_trade_laws.proofs.Tested.{All-back, All-front}
+use Rattle.brk_book_laws.specs.Books.{IsBooks}
+use Rattle.brk_book_laws.proofs.NewKeys.{same_bytes, unused}
+use Rattle.brk_book_laws.proofs.Order.{NewKey, by_key-filter}
+use Rattle.brk_book_laws.proofs.Same.{All-filter, All-map, any-none, filter-none}
+use Rattle.brk_book_laws.proofs.Completing.{All-unfilter, All-unsort}
+use Rattle.brk_book_laws.proofs.Reading.{any-sorted, reads_count}
+use Rattle.brk_book_laws.proofs.References.{no_broker_trades, no_trades_of}
+use Rattle.brk_book_laws.proofs.LotReading.{numbered_rise, rise_apart}
+use Rattle.brk_book_laws.proofs.TradeReading.{reads_trade}
+use Rattle.brk_book_laws.proofs.Tested.{All-back, All-front}
 use Rattle.brk_adoption_laws.specs.Told.{GoesAWay, HasItsWords, IsTold, StampsRise, broker_id}
 use Rattle.brk_adoption_laws.proofs.Again.{IsRead, both_all, reads}
 use Rattle.brk_adoption_laws.proofs.Climbs.{Climbs, list_all_true, not_itself, of_all}

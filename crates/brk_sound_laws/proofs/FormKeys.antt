@@ -17,11 +17,11 @@ use Rattle.brk_model.specs.Sheets.{sheets, sheets_of}
 use Rattle.brk_model.specs.Form.{has_keys, rises}
 use Rattle.brk_model.specs.Keys.{KeyPart, number, word, kept_key, broker_key, customer_key, account_key, permission_key, security_key, last_trade_key, charge_key, band_key, tax_rate_key, customer_tax_key, trade_key, history_key, request_key, holding_key, summary_key, holding_history_key, settlement_key, cash_key}
 use Rattle.brk_model.specs.Ways.{is_way}
-use Rattle.brk_trade_laws.specs.Books.{DistinctAccounts, DistinctSymbols, IsBooks}
-use Rattle.brk_trade_laws.proofs.NewKeys.{not_both, same_bytes}
-use Rattle.brk_trade_laws.proofs.Same.{All-filter, All-map, All-mapped, All-of}
-use Rattle.brk_trade_laws.proofs.LotReading.{IdsApart, numbered_rise, rise_apart}
-use Rattle.brk_trade_laws.proofs.LotReading.{rise_filter}
+use Rattle.brk_book_laws.specs.Books.{DistinctAccounts, DistinctSymbols, IsBooks}
+use Rattle.brk_book_laws.proofs.NewKeys.{not_both, same_bytes}
+use Rattle.brk_book_laws.proofs.Same.{All-filter, All-map, All-mapped, All-of}
+use Rattle.brk_book_laws.proofs.LotReading.{IdsApart, numbered_rise, rise_apart}
+use Rattle.brk_book_laws.proofs.LotReading.{rise_filter}
 use Rattle.brk_adoption_laws.proofs.Marks.{no_more_ways, three_ways}
 use Rattle.brk_adoption_laws.proofs.Sorted.{All-block, All-rows}
 use Rattle.brk_adoption_laws.specs.Told.{account_id, broker_id}

@@ -23,15 +23,15 @@ use Rattle.brk_model.specs.Forms.{is_acl, is_exchange, is_name, is_symbol, is_ta
 use Rattle.brk_model.specs.Keys.{KeyPart, word, by_key, row_before, account_key, band_key, broker_key, cash_key, charge_key, customer_key, customer_tax_key, history_key, holding_history_key, holding_key, kept_key, last_trade_key, permission_key, request_key, security_key, settlement_key, summary_key, tax_rate_key, trade_key}
 use Rattle.brk_model.specs.Ways.{is_way}
 use Rattle.brk_model.specs.Names.{KnowsAccount, KnowsBroker, KnowsCustomer, KnowsSecurity, NumberedFrom}
-use Rattle.brk_trade_laws.specs.Books.{IsBooks, HasVolume}
-use Rattle.brk_trade_laws.proofs.Bools.{numbers_back}
-use Rattle.brk_trade_laws.proofs.Order.{by_key-filter}
-use Rattle.brk_trade_laws.proofs.Same.{All-filter, All-map, All-mapped, All-of, find-each}
-use Rattle.brk_trade_laws.proofs.Reading.{any-sorted, find-key, is_some-map, reads_account, reads_broker, reads_count, reads_customer, some-is-any}
-use Rattle.brk_trade_laws.proofs.TermReading.{map-or, reads_last_trade, reads_rates, reads_security, reads_tax_rate}
-use Rattle.brk_trade_laws.proofs.TradeReading.{reads_trade, trades_in_order}
-use Rattle.brk_trade_laws.proofs.LotReading.{All-sort, IdsApart, numbered_rise, rise_apart}
-use Rattle.brk_trade_laws.proofs.References.{broker_found}
+use Rattle.brk_book_laws.specs.Books.{IsBooks, HasVolume}
+use Rattle.brk_book_laws.proofs.Bools.{numbers_back}
+use Rattle.brk_book_laws.proofs.Order.{by_key-filter}
+use Rattle.brk_book_laws.proofs.Same.{All-filter, All-map, All-mapped, All-of, find-each}
+use Rattle.brk_book_laws.proofs.Reading.{any-sorted, find-key, is_some-map, reads_account, reads_broker, reads_count, reads_customer, some-is-any}
+use Rattle.brk_book_laws.proofs.TermReading.{map-or, reads_last_trade, reads_rates, reads_security, reads_tax_rate}
+use Rattle.brk_book_laws.proofs.TradeReading.{reads_trade, trades_in_order}
+use Rattle.brk_book_laws.proofs.LotReading.{All-sort, IdsApart, numbered_rise, rise_apart}
+use Rattle.brk_book_laws.proofs.References.{broker_found}
 use Rattle.brk_adoption_laws.specs.Told.{IsTold}
 use Rattle.brk_adoption_laws.proofs.Again.{IsRead, base_again, both_all, reads}
 use Rattle.brk_adoption_laws.proofs.AgainStatus.{all_list, first_of_two, some_last}

@@ -16,9 +16,9 @@ use Rattle.brk_model.specs.Derived.{deal_of, deals_in, of_account, of_position, 
 use Rattle.brk_model.specs.Form.{is_price, is_qty}
 use Rattle.brk_model.specs.Tests.{next_stamp}
 use Rattle.brk_model.specs.Ways.{is_rising, is_way}
-use Rattle.brk_trade_laws.proofs.Same.{All-filter, All-map, All-mapped, map-last}
-use Rattle.brk_trade_laws.proofs.Completing.{All-passing}
-use Rattle.brk_trade_laws.proofs.LotReading.{All-sort}
+use Rattle.brk_book_laws.proofs.Same.{All-filter, All-map, All-mapped, map-last}
+use Rattle.brk_book_laws.proofs.Completing.{All-passing}
+use Rattle.brk_book_laws.proofs.LotReading.{All-sort}
 use Rattle.brk_adoption_laws.specs.Told.{GoesAWay, StampsRise}
 use Rattle.brk_adoption_laws.proofs.Marks.{no_more_ways, same_statuses, three_ways, two_ways}
 use Rattle.brk_sound_laws.specs.Sound.{IsPastMark, IsSound, IsSoundTrade, is_past, is_priced}

@@ -17,7 +17,7 @@ use Rattle.brk_model.specs.Commands.{Command, Listing, Order, Tick, AddBroker, A
 use Rattle.brk_model.specs.Form.{charge_form, customer_form, is_amount, is_id, is_price, is_qty, is_tier, tax_rate_form}
 use Rattle.brk_model.specs.Forms.{Read, ◌⊛◌, is_acl, is_exchange, is_name, is_symbol, is_tax_id, order_type_for, without_price, without_type, with_price, read_acl, read_cash, read_charge_amount, read_commission_rate, read_end, read_exchange, read_id, read_if, read_ids, read_name, read_number, read_opening, read_order_type, read_price, read_qty, read_rate_of_tax, read_stamp, read_symbol, read_tax_id, read_tax_status, read_text, read_tier, read_type, some_of, then_read, type_of, unsigned}
 use Rattle.brk_model.specs.Parse.{Reader, in_order, parse_row, read_account, read_band, read_bounds, read_broker, read_by, read_cancel, read_charge, read_customer, read_customer_tax, read_executor, read_feed, read_order, read_permission, read_result, read_security, read_tax_rate, read_ticks, read_upcash, read_uptext, readers}
-use Rattle.brk_trade_laws.proofs.Same.{find-All}
+use Rattle.brk_book_laws.proofs.Same.{find-All}
 use Rattle.brk_sound_laws.specs.Sound.{account_fields, broker_fields, permission_fields}
 use Rattle.brk_sound_laws.specs.InForm.{IsInForm, IsOrderInForm, IsTickInForm, band_fields, listing_fields}
 use Rattle.brk_sound_laws.proofs.FormRows.{and3, and4}

@@ -10,13 +10,13 @@ use Rattle.brk_model.specs.Keys.{KeyPart, number, word, by_key, key_before, row_
 use Rattle.brk_model.specs.Lists.{insert_by, sort_by}
 use Rattle.brk_model.specs.Records.{Account, Band, Customer, Permission, Security, Trade}
 use Rattle.brk_model.specs.Tests.{bands_meet}
-use Rattle.brk_trade_laws.specs.Books.{BandsApart, DistinctAccounts, DistinctSymbols, HasBounds, PermissionsApart}
-use Rattle.brk_trade_laws.proofs.Order.{All-insert, NewKey, key_total}
-use Rattle.brk_trade_laws.proofs.Same.{NonePass, All-append, All-filter, All-map}
-use Rattle.brk_trade_laws.proofs.Keepers.{meet_back}
-use Rattle.brk_trade_laws.proofs.NewKeys.{band_new, permission_new}
-use Rattle.brk_trade_laws.proofs.References.{new_number}
-use Rattle.brk_trade_laws.proofs.LotReading.{All-sort, IdsApart}
+use Rattle.brk_book_laws.specs.Books.{BandsApart, DistinctAccounts, DistinctSymbols, HasBounds, PermissionsApart}
+use Rattle.brk_book_laws.proofs.Order.{All-insert, NewKey, key_total}
+use Rattle.brk_book_laws.proofs.Same.{NonePass, All-append, All-filter, All-map}
+use Rattle.brk_book_laws.proofs.Keepers.{meet_back}
+use Rattle.brk_book_laws.proofs.NewKeys.{band_new, permission_new}
+use Rattle.brk_book_laws.proofs.References.{new_number}
+use Rattle.brk_book_laws.proofs.LotReading.{All-sort, IdsApart}
 use Rattle.brk_model.specs.Keys.{band_key, permission_key}
 use Rattle.brk_adoption_laws.proofs.Climbs.{Climbs, key_through}
 use Rattle.brk_adoption_laws.proofs.Members.{All-flat_map}

@@ -20,16 +20,16 @@ use Rattle.brk_model.specs.Rows.{row_text, line_text}
 use Rattle.brk_model.specs.Step.{listed, records_after}
 use Rattle.brk_model.specs.Tests.{next_stamp, refusal_of, tests}
 use Rattle.brk_model.specs.Names.{KnowsAccount, KnowsSecurity}
-use Rattle.brk_trade_laws.specs.Books.{IsBooks}
-use Rattle.brk_trade_laws.specs.Plans.{base_then}
-use Rattle.brk_trade_laws.proofs.Order.{NewKey}
-use Rattle.brk_trade_laws.proofs.NewKeys.{charge_new, customer_tax_new, same_bytes, not_both}
-use Rattle.brk_trade_laws.proofs.Same.{NonePass, All-append, All-filter, All-map, any-none, filter-same, find-more, find-none, total_by-same}
-use Rattle.brk_trade_laws.proofs.Places.{filter-append}
-use Rattle.brk_trade_laws.proofs.Tested.{passed, not_not}
-use Rattle.brk_trade_laws.proofs.Keepers.{found_more}
-use Rattle.brk_trade_laws.proofs.References.{amount_as_before, as_before, known_completed, more, new_balance, new_number}
-use Rattle.brk_trade_laws.proofs.Steps.{in_order}
+use Rattle.brk_book_laws.specs.Books.{IsBooks}
+use Rattle.brk_book_laws.specs.Steps.{base_then}
+use Rattle.brk_book_laws.proofs.Order.{NewKey}
+use Rattle.brk_book_laws.proofs.NewKeys.{charge_new, customer_tax_new, same_bytes, not_both}
+use Rattle.brk_book_laws.proofs.Same.{NonePass, All-append, All-filter, All-map, any-none, filter-same, find-more, find-none, total_by-same}
+use Rattle.brk_book_laws.proofs.Places.{filter-append}
+use Rattle.brk_book_laws.proofs.Tested.{passed, not_not}
+use Rattle.brk_book_laws.proofs.Keepers.{found_more}
+use Rattle.brk_book_laws.proofs.References.{amount_as_before, as_before, known_completed, more, new_balance, new_number}
+use Rattle.brk_book_laws.proofs.Steps.{in_order}
 use Rattle.brk_adoption_laws.proofs.Again.{both_all}
 use Rattle.brk_adoption_laws.proofs.Parts.{parts3, parts5}
 use Rattle.brk_adoption_laws.specs.Told.{broker_id}

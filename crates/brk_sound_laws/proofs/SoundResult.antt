@@ -19,19 +19,18 @@ use Rattle.brk_model.specs.Results.{cash_text, completed_trade, result_deal, wit
 use Rattle.brk_model.specs.Form.{band_form, is_cash_type, is_price, is_qty, is_tier, is_id}
 use Rattle.brk_model.specs.Forms.{is_exchange}
 use Rattle.brk_model.specs.Tests.{next_stamp, refusal_of}
-use Rattle.brk_trade_laws.specs.Books.{IsBooks}
-use Rattle.brk_trade_laws.proofs.NewKeys.{same_bytes}
-use Rattle.brk_trade_laws.proofs.Bools.{same_text}
-use Rattle.brk_trade_laws.proofs.Same.{All-append, All-map, find-All}
-use Rattle.brk_trade_laws.proofs.Tested.{All-back, All-front}
-use Rattle.brk_trade_laws.proofs.Positions.{summary_other}
-use Rattle.brk_trade_laws.proofs.Sums.{margin_balance, other_account, other_broker}
-use Rattle.brk_trade_laws.proofs.ResultRows.{done_now, done_then, status_then, trades_then}
-use Rattle.brk_trade_laws.proofs.ResultKeeping.{Found, found_at, result_passed, submitted}
-use Rattle.brk_trade.proofs.Bounds.{commission_high}
+use Rattle.brk_book_laws.specs.Books.{IsBooks}
+use Rattle.brk_book_laws.proofs.NewKeys.{same_bytes}
+use Rattle.brk_book_laws.proofs.Bools.{same_text}
+use Rattle.brk_book_laws.proofs.Same.{All-append, All-map, find-All}
+use Rattle.brk_book_laws.proofs.Tested.{All-back, All-front}
+use Rattle.brk_book_laws.proofs.Positions.{summary_other}
+use Rattle.brk_book_laws.proofs.Sums.{margin_balance, other_account, other_broker}
+use Rattle.brk_book_laws.proofs.ResultRows.{done_now, done_then, status_then, trades_then}
+use Rattle.brk_book_laws.proofs.ResultKeeping.{Found, found_at, result_passed, submitted}
 use Rattle.brk_adoption_laws.proofs.Parts.{parts6}
 use Rattle.brk_sound_laws.specs.Sound.{IsDueInTime, IsPastMark, IsSound, IsSoundTrade}
-use Rattle.brk_sound_laws.proofs.Bounds.{amount_within, tax_within}
+use Rattle.brk_sound_laws.proofs.Bounds.{amount_within, commission_low, tax_within}
 use Rattle.brk_sound_laws.proofs.OneTrade.{cheap_shares, completes_way, false_true, past_itself, past_then, price_low, qty_low, sound_last, stamps_more, trade_among, trade_last}
 
 -- ---- sums with one trade more
@@ -89,9 +88,7 @@ commission_within base account kind symbol qty price h q p = by_band (band_with 
     by_band : (o : Option Band) → band_with base (tier_of base account) kind (exchange_of base symbol) qty ≡ o
         → unwrap_or (option_map (λ b. commission b.rate qty price) o) 0 ≤ 10 ^ 13
     by_band None e = omega arith
-    by_band (Some b) e =
-        let c : commission b.rate qty price ≤ 9999989000001 = commission_high b.rate qty price (rate_low b (find-All (λ b. band_form b ≡ true) _ base.bands b h e)) q p in
-        let low : commission b.rate qty price ≤ 10 ^ 13 = omega (arith, c) in low
+    by_band (Some b) e = commission_low b.rate qty price (rate_low b (find-All (λ b. band_form b ≡ true) _ base.bands b h e)) q p
 
 -- ---- the completed trade
 

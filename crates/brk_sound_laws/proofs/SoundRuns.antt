@@ -9,9 +9,9 @@ use Rattle.brk_model.specs.Queries.{View, Query}
 use Rattle.brk_model.specs.Records.{Key}
 use Rattle.brk_model.specs.Keyed.{keyed_step}
 use Rattle.brk_model.specs.Run.{Answers, Call, Do, Ask, Outcome, Did, Saw, NoView, Failed, IsSeen, Run}
-use Rattle.brk_trade_laws.specs.Books.{IsBooks}
-use Rattle.brk_trade_laws.proofs.RunKeeping.{books_command, call_keeps}
-use Rattle.brk_trade_laws.proofs.Keepers.{books_kept}
+use Rattle.brk_book_laws.specs.Books.{IsBooks}
+use Rattle.brk_book_laws.proofs.RunKeeping.{books_command, call_keeps}
+use Rattle.brk_book_laws.proofs.Keepers.{books_kept}
 use Rattle.brk_sound_laws.specs.Sound.{IsSound}
 use Rattle.brk_sound_laws.specs.InForm.{IsInForm, IsKeyInForm}
 use Rattle.brk_sound_laws.specs.Runs.{IsCallInForm}

@@ -13,9 +13,9 @@ use Rattle.brk_model.specs.Keyed.{acted, kept_of, keyed, keyed_step}
 use Rattle.brk_model.specs.Step.{records_after, reply_to, step, unless}
 use Rattle.brk_model.specs.Tests.{next_stamp, refusal_of}
 use Rattle.std.specs.Option.{option_map_or}
-use Rattle.brk_trade_laws.specs.Books.{IsBooks}
-use Rattle.brk_trade_laws.specs.Plans.{base_then}
-use Rattle.brk_trade_laws.proofs.ResultKeeping.{result_named}
+use Rattle.brk_book_laws.specs.Books.{IsBooks}
+use Rattle.brk_book_laws.specs.Steps.{base_then}
+use Rattle.brk_book_laws.proofs.ResultKeeping.{result_named}
 use Rattle.brk_sound_laws.specs.Sound.{IsSound}
 use Rattle.brk_sound_laws.specs.InForm.{IsInForm, IsKeyInForm}
 use Rattle.brk_sound_laws.proofs.SoundRecords.{LeavesSound, sound_account, sound_band, sound_broker, sound_charge, sound_customer, sound_customer_tax, sound_kept, sound_permission, sound_security, sound_tax_rate}

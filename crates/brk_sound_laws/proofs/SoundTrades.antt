@@ -30,15 +30,15 @@ use Rattle.brk_model.specs.Step.{records_after}
 use Rattle.brk_model.specs.Tests.{next_stamp, tests, wrong_status}
 use Rattle.brk_model.specs.Ways.{is_rising, is_way}
 use Rattle.brk_model.specs.Names.{NumberedFrom}
-use Rattle.brk_trade_laws.proofs.Same.{All-append, All-map, All-mapped, find-All, map-last}
-use Rattle.brk_trade_laws.proofs.Places.{FoundAt, find-at, some_of}
-use Rattle.brk_trade_laws.proofs.Tested.{not_not, passed}
-use Rattle.brk_trade_laws.proofs.NewKeys.{same_bytes}
-use Rattle.brk_trade_laws.proofs.Numbering.{numbered_after, pending_not_completed, status_of_marked}
-use Rattle.brk_trade_laws.proofs.Completions.{completed_tick, completed_unseen, triggered_waits}
-use Rattle.brk_trade_laws.proofs.Completing.{one_of_id}
-use Rattle.brk_trade_laws.proofs.LotReading.{All-sort, numbered_rise, rise_apart}
-use Rattle.brk_trade_laws.proofs.Ordering.{first_not_completed, ordered_done}
+use Rattle.brk_book_laws.proofs.Same.{All-append, All-map, All-mapped, find-All, map-last}
+use Rattle.brk_book_laws.proofs.Places.{FoundAt, find-at, some_of}
+use Rattle.brk_book_laws.proofs.Tested.{not_not, passed}
+use Rattle.brk_book_laws.proofs.NewKeys.{same_bytes}
+use Rattle.brk_book_laws.proofs.Numbering.{numbered_after, pending_not_completed, status_of_marked}
+use Rattle.brk_book_laws.proofs.Completions.{completed_tick, completed_unseen, triggered_waits}
+use Rattle.brk_book_laws.proofs.Completing.{one_of_id}
+use Rattle.brk_book_laws.proofs.LotReading.{All-sort, numbered_rise, rise_apart}
+use Rattle.brk_book_laws.proofs.Ordering.{first_not_completed, ordered_done}
 use Rattle.brk_adoption_laws.specs.Told.{StampsRise}
 use Rattle.brk_adoption_laws.proofs.Again.{both_all}
 use Rattle.brk_adoption_laws.proofs.Climbs.{In, each_in, of_all}

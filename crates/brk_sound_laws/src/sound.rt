@@ -19,7 +19,7 @@ ghost use Rattle.brk_model.specs.Run.{Call, Outcome, Run};
 ghost use Rattle.brk_model.specs.Sheets.{sheets};
 ghost use Rattle.brk_model.specs.Step.{step};
 ghost use Rattle.brk_model.specs.Tables.{Tables};
-ghost use Rattle.brk_trade_laws.specs.Books.{IsBooks};
+ghost use Rattle.brk_book_laws.specs.Books.{IsBooks};
 ghost use Rattle.brk_adoption_laws.specs.Passing.{Passes};
 ghost use Rattle.brk_adoption_laws.specs.Told.{IsTold};
 ghost use Rattle.brk_sound_laws.specs.InForm.{IsInForm, IsKeyInForm};

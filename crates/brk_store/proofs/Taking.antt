@@ -16,7 +16,7 @@ use Rattle.brk_model.specs.Base.{Base, empty_base}
 use Rattle.brk_model.specs.Form.{has_texts}
 use Rattle.brk_model.specs.Sheets.{sheets}
 use Rattle.brk_model.specs.Tables.{Tables, no_rows}
-use Rattle.brk_trade_laws.proofs.Steps.{empty_books, empty_rows}
+use Rattle.brk_book_laws.proofs.Steps.{empty_books, empty_rows}
 use Rattle.brk_adoption_laws.specs.Passing.{Passes}
 use Rattle.brk_adoption_laws.proofs.Passing.{passing_books, passing_tables}
 use Rattle.brk_sound_laws.proofs.Adopted.{passing_sound, sound_passes}

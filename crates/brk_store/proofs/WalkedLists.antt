@@ -26,9 +26,9 @@ use Rattle.brk_model.specs.Tables.{CashRow, HoldingRow, Tables, TradeRow}
 use Rattle.brk_rows.specs.Rows.{Rises}
 use Rattle.brk_tables_form.specs.Desk.{CashRows, Holdings, Trades, order}
 use Rattle.brk_tables_form.specs.Made.{HasRows}
-use Rattle.brk_trade_laws.proofs.Bools.{same_text, texts_back}
-use Rattle.brk_trade_laws.proofs.LotReading.{All-sort}
-use Rattle.brk_trade_laws.proofs.Order.{by_key-filter, key_total}
+use Rattle.brk_book_laws.proofs.Bools.{same_text, texts_back}
+use Rattle.brk_book_laws.proofs.LotReading.{All-sort}
+use Rattle.brk_book_laws.proofs.Order.{by_key-filter, key_total}
 use Rattle.brk_tables_walks.specs.Lists.{cash_between, is_between, lots_by_symbol, stamp_key, symbol_key}
 use Rattle.brk_tables_walks.specs.Walks.{Walks}
 use Rattle.brk_tables_walks.specs.declared.walking.Stop.{Stop}

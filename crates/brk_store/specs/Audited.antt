@@ -15,7 +15,7 @@ use Rattle.brk_model.specs.Sheets.{sheets}
 use Rattle.brk_model.specs.Tables.{Tables}
 use Rattle.brk_tables_form.specs.Made.{HasRows}
 use Rattle.brk_tables_whole.specs.Schemas.{DeskSchema, HasDesk, IsDefined, first_schema}
-use Rattle.brk_trade_laws.specs.Books.{IsBooks}
+use Rattle.brk_book_laws.specs.Books.{IsBooks}
 use Rattle.brk_adoption_laws.specs.Passing.{Passes}
 use Rattle.brk_sound_laws.specs.Sound.{IsSound}
 use Rattle.brk_store.specs.Holds.{Holds, IsSame}

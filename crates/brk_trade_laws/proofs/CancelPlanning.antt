@@ -17,7 +17,8 @@ use Rattle.brk_changes.specs.Changes.{after_changes}
 use Rattle.brk_plans.specs.Reference.{clock_test}
 use Rattle.brk_plans.specs.Replies.{reply_of}
 use Rattle.brk_plans.specs.declared.plan.Plan.{Plan}
-use Rattle.brk_trade_laws.specs.Plans.{base_then, DoesCommand}
+use Rattle.brk_book_laws.specs.Steps.{base_then}
+use Rattle.brk_trade_laws.specs.Plans.{DoesCommand}
 use Rattle.brk_trade_laws.specs.TradePlans.{IsReadForCancel}
 use Rattle.brk_trade_laws.specs.TradeTests.{cancel_tests}
 use Rattle.brk_trade_laws.proofs.TradePlanning.{cancel_refusal, cancel_done, refused_step}

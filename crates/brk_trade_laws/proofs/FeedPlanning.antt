@@ -23,15 +23,17 @@ use Rattle.brk_changes.specs.declared.change.Change.TheVariants.{SetLast}
 use Rattle.brk_plans.specs.declared.plan.Plan.{Plan}
 use Rattle.brk_plans.specs.declared.reply.Reply.{Reply}
 use Rattle.brk_plans.specs.declared.reply.Reply.TheVariants as reply
-use Rattle.brk_trade_laws.specs.Plans.{base_then, DoesCommand}
+use Rattle.brk_book_laws.specs.Steps.{base_then}
+use Rattle.brk_trade_laws.specs.Plans.{DoesCommand}
 use Rattle.brk_trade_laws.specs.TradePlans.{IsQuoted, IsReadForFeed, QuotesApart}
-use Rattle.brk_trade_laws.specs.TradeReads.{last_trade_in}
-use Rattle.brk_trade_laws.specs.TradeTests.{exceeds_volume, feed_tests, is_unknown}
-use Rattle.brk_trade_laws.specs.Trading.{fed_trades}
-use Rattle.brk_trade_laws.proofs.Same.{All-map, any-none}
-use Rattle.brk_trade_laws.proofs.Tested.{not_not}
-use Rattle.brk_trade_laws.proofs.Ticks.{base_apart}
-use Rattle.brk_trade_laws.proofs.Bools.{both_ways}
+use Rattle.brk_book_laws.specs.TradeReads.{last_trade_in}
+use Rattle.brk_book_laws.specs.Ticks.{exceeds_volume, is_unknown}
+use Rattle.brk_trade_laws.specs.TradeTests.{feed_tests}
+use Rattle.brk_book_laws.specs.Trading.{fed_trades}
+use Rattle.brk_book_laws.proofs.Same.{All-map, any-none}
+use Rattle.brk_book_laws.proofs.Tested.{not_not}
+use Rattle.brk_book_laws.proofs.Ticks.{base_apart}
+use Rattle.brk_book_laws.proofs.Bools.{both_ways}
 use Rattle.brk_trade_laws.proofs.TradePlanning.{feed_refusal, feed_done, refused_first, refused_step}
 use Rattle.brk_trade_laws.proofs.Quotes.{IsHeld, is_held, quote_of}
 use Rattle.brk_trade_laws.proofs.QuotedTicks.{HaveQuotes, Quoted, after_more, ticks_changes, ticks_ids}

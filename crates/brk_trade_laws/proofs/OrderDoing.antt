@@ -38,20 +38,21 @@ use Rattle.brk_trade.specs.declared.order.OrderFound.{OrderFound}
 use Rattle.brk_plans.specs.declared.plan.Plan.{Plan}
 use Rattle.brk_changes.specs.declared.request_row.RequestRow.{RequestRow}
 use Rattle.brk_changes.specs.declared.trade_row.TradeRow.{TradeRow}
-use Rattle.brk_trade_laws.specs.Books.{IsBooks}
+use Rattle.brk_book_laws.specs.Books.{IsBooks}
 use Rattle.brk_trade_laws.specs.OrderPlans.{AreLots, IsFoundForEstimate, IsFoundForOrder, IsReadForPlan}
-use Rattle.brk_trade_laws.specs.Plans.{DoesCommand, IsDone, base_then}
-use Rattle.brk_trade_laws.specs.TradeReads.{position_in}
-use Rattle.brk_trade_laws.specs.Trading.{order_rows, request_of, requested_if, status_row}
-use Rattle.brk_trade_laws.proofs.Holding.{lots_given}
-use Rattle.brk_trade_laws.proofs.LotOrder.{shares_read}
+use Rattle.brk_trade_laws.specs.Plans.{DoesCommand}
+use Rattle.brk_book_laws.specs.Steps.{IsDone, base_then}
+use Rattle.brk_book_laws.specs.TradeReads.{position_in}
+use Rattle.brk_book_laws.specs.Trading.{order_rows, request_of, requested_if, status_row}
+use Rattle.brk_book_laws.proofs.Holding.{lots_given}
+use Rattle.brk_book_laws.proofs.LotOrder.{shares_read}
 use Rattle.brk_trade_laws.proofs.OrderFinding.{AllFound, all_found, all_passed, terms_read, tests_read}
 use Rattle.brk_trade_laws.proofs.Planning.{clock_read}
-use Rattle.brk_trade_laws.proofs.Tested.{none_refuse}
-use Rattle.brk_trade_laws.proofs.TradeKeepers.{books_order}
+use Rattle.brk_book_laws.proofs.Tested.{none_refuse}
+use Rattle.brk_book_laws.proofs.TradeKeepers.{books_order}
 use Rattle.brk_trade_laws.proofs.TradePlanning.{is_done, refused_step, stamp_read}
-use Rattle.brk_trade_laws.proofs.TradeReading.{reads_number}
-use Rattle.brk_trade_laws.proofs.Trades.{step_order}
+use Rattle.brk_book_laws.proofs.TradeReading.{reads_number}
+use Rattle.brk_book_laws.proofs.Trades.{step_order}
 
 -- ---- the refusal
 

@@ -24,19 +24,20 @@ use Rattle.brk_trade.specs.Orders.{order_tests, terms_of}
 use Rattle.brk_trade.specs.declared.order.OrderFound.{OrderFound}
 use Rattle.brk_model.specs.Names.{KnowsCustomer}
 use Rattle.brk_lots.specs.Books.{lots_total}
-use Rattle.brk_trade_laws.specs.Books.{IsBooks}
-use Rattle.brk_trade_laws.specs.OrderPlans.{IfCustomer, IsFoundForEstimate, Passes, charge_in, order_account}
-use Rattle.brk_trade_laws.specs.Reads.{rates_of}
-use Rattle.brk_trade_laws.specs.TradeReads.{band_in, permission_in, position_in}
-use Rattle.brk_trade_laws.proofs.Holding.{held_read, total_is}
-use Rattle.brk_trade_laws.proofs.Same.{find-All}
-use Rattle.brk_trade_laws.proofs.Places.{some_of}
-use Rattle.brk_trade_laws.proofs.Reading.{is_none-map, reads_account, reads_customer}
-use Rattle.brk_trade_laws.proofs.TermReading.{reads_charge, reads_last_trade, reads_rates, reads_security}
-use Rattle.brk_trade_laws.proofs.Permitting.{reads_named}
-use Rattle.brk_trade_laws.proofs.BandReading.{reads_band}
-use Rattle.brk_trade_laws.proofs.Tested.{none_refuse, not_not}
-use Rattle.brk_trade_laws.proofs.Worth.{reads_assets}
+use Rattle.brk_book_laws.specs.Books.{IsBooks}
+use Rattle.brk_book_laws.specs.OrderReads.{IfCustomer, charge_in}
+use Rattle.brk_trade_laws.specs.OrderPlans.{IsFoundForEstimate, Passes, order_account}
+use Rattle.brk_book_laws.specs.Reads.{rates_of}
+use Rattle.brk_book_laws.specs.TradeReads.{band_in, permission_in, position_in}
+use Rattle.brk_book_laws.proofs.Holding.{held_read, total_is}
+use Rattle.brk_book_laws.proofs.Same.{find-All}
+use Rattle.brk_book_laws.proofs.Places.{some_of}
+use Rattle.brk_book_laws.proofs.Reading.{is_none-map, reads_account, reads_customer}
+use Rattle.brk_book_laws.proofs.TermReading.{reads_charge, reads_last_trade, reads_rates, reads_security}
+use Rattle.brk_book_laws.proofs.Permitting.{reads_named}
+use Rattle.brk_book_laws.proofs.BandReading.{reads_band}
+use Rattle.brk_book_laws.proofs.Tested.{none_refuse, not_not}
+use Rattle.brk_book_laws.proofs.Worth.{reads_assets}
 
 -- ---- an account that is there, with its customer
 

@@ -21,16 +21,17 @@ use Rattle.brk_plans.specs.declared.reference.Found.{Found}
 use Rattle.brk_plans.specs.declared.reference.Reference.{Reference}
 use Rattle.brk_plans.specs.declared.reference.Reference.TheVariants as reference
 use Rattle.brk_ref.specs.Records.{broker_of, customer_of, account_of, permission_of, listing_of, charge_of, band_of, tax_of, customer_tax_of}
-use Rattle.brk_trade_laws.specs.Books.{IsBooks}
-use Rattle.brk_trade_laws.specs.Reads.{rates_of}
+use Rattle.brk_book_laws.specs.Books.{IsBooks}
+use Rattle.brk_book_laws.specs.Reads.{rates_of}
 use Rattle.brk_plans.specs.Replies.{reply_of}
 use Rattle.brk_trade_laws.specs.Commands.{command_of}
-use Rattle.brk_trade_laws.specs.Plans.{base_then, LeavesBooks, IsRead, DoesCommand}
-use Rattle.brk_trade_laws.proofs.Reading.{is_none-map, reads_has_broker, reads_has_customer, reads_same_customer, reads_tax_id, reads_has_account, reads_count, reads_last}
-use Rattle.brk_trade_laws.proofs.TermReading.{reads_has_permission, reads_has_security, reads_has_charge, reads_overlap, reads_has_tax_rate, reads_pays_tax, reads_rate, reads_rates, map-or}
-use Rattle.brk_trade_laws.proofs.Stamps.{stamp_left, stamp_is, moved_past}
-use Rattle.brk_trade_laws.proofs.Steps.{step_broker, step_customer, step_account, step_permission, step_security, step_charge, step_band, step_tax_rate, step_customer_tax}
-use Rattle.brk_trade_laws.proofs.Keepers.{books_broker, books_customer, books_account, books_permission, books_security, books_charge, books_band, books_tax_rate, books_customer_tax}
+use Rattle.brk_book_laws.specs.Steps.{base_then, LeavesBooks}
+use Rattle.brk_trade_laws.specs.Plans.{IsRead, DoesCommand}
+use Rattle.brk_book_laws.proofs.Reading.{is_none-map, reads_has_broker, reads_has_customer, reads_same_customer, reads_tax_id, reads_has_account, reads_count, reads_last}
+use Rattle.brk_book_laws.proofs.TermReading.{reads_has_permission, reads_has_security, reads_has_charge, reads_overlap, reads_has_tax_rate, reads_pays_tax, reads_rate, reads_rates, map-or}
+use Rattle.brk_book_laws.proofs.Stamps.{stamp_left, stamp_is, moved_past}
+use Rattle.brk_book_laws.proofs.Steps.{step_broker, step_customer, step_account, step_permission, step_security, step_charge, step_band, step_tax_rate, step_customer_tax}
+use Rattle.brk_book_laws.proofs.Keepers.{books_broker, books_customer, books_account, books_permission, books_security, books_charge, books_band, books_tax_rate, books_customer_tax}
 
 pub clock_read : (base : Base) (last : Option ℕ) (now : ℕ) → IsBooks base → last ≡ (sheets base).last → now ≤ last_stamp
     → is_none (stamp_after last now) ≡ nat_lt last_stamp (next_stamp base now)

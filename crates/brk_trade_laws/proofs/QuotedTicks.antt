@@ -16,15 +16,15 @@ use Rattle.brk_plans.specs.declared.span.Span.{Span}
 use Rattle.brk_changes.specs.Rows.{request_row_of}
 use Rattle.brk_changes.specs.declared.change.Change.{Change}
 use Rattle.brk_changes.specs.declared.request_row.RequestRow as request
-use Rattle.brk_trade_laws.specs.TradeReads.{last_trade_in, requests_of}
-use Rattle.brk_trade_laws.specs.Trading.{fed_trades, feed_rows, hit_trades, is_hit, moved_rows, row_after, submitted_rows, tick_rows, with_price_of}
+use Rattle.brk_book_laws.specs.TradeReads.{last_trade_in, requests_of}
+use Rattle.brk_book_laws.specs.Trading.{fed_trades, feed_rows, hit_trades, is_hit, moved_rows, row_after, submitted_rows, tick_rows, with_price_of}
 use Rattle.brk_trade_laws.specs.TradePlans.{QuotesApart}
-use Rattle.brk_trade_laws.proofs.Bools.{same_text}
-use Rattle.brk_trade_laws.proofs.Same.{NonePass, All-map, All-of, filter-same}
-use Rattle.brk_trade_laws.proofs.Places.{All-updated, filter-all}
-use Rattle.brk_trade_laws.proofs.LotReading.{filter-swap}
-use Rattle.brk_trade_laws.proofs.References.{append_nil}
-use Rattle.brk_trade_laws.proofs.Ticks.{AreApart, filter-filter, tick_last, tick_symbol, tick_apart}
+use Rattle.brk_book_laws.proofs.Bools.{same_text}
+use Rattle.brk_book_laws.proofs.Same.{NonePass, All-map, All-of, filter-same}
+use Rattle.brk_book_laws.proofs.Places.{All-updated, filter-all}
+use Rattle.brk_book_laws.proofs.LotReading.{filter-swap}
+use Rattle.brk_book_laws.proofs.References.{append_nil}
+use Rattle.brk_book_laws.proofs.Ticks.{AreApart, filter-filter, tick_last, tick_symbol, tick_apart}
 use Rattle.brk_trade_laws.proofs.Quotes.{IsHeld, QuoteOf, quote_of}
 use Rattle.brk_trade_laws.proofs.Waiting.{is_within, may, triggered_may}
 

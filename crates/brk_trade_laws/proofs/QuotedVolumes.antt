@@ -15,16 +15,16 @@ use Rattle.brk_orders.specs.Records.{tick_of, ticks_of}
 use Rattle.brk_orders.specs.declared.tick.Tick.{Tick}
 use Rattle.brk_ref.specs.Records.{last_trade_of}
 use Rattle.brk_plans.specs.Feed.{Held, exceeds, is_of, quote_after, quotes_after, quotes_after_tick}
-use Rattle.brk_trade_laws.specs.Books.{IsBooks, DistinctSymbols, HasVolume}
-use Rattle.brk_trade_laws.specs.TradeReads.{volume_in}
+use Rattle.brk_book_laws.specs.Books.{IsBooks, DistinctSymbols, HasVolume}
+use Rattle.brk_book_laws.specs.TradeReads.{volume_in}
 use Rattle.brk_trade_laws.specs.TradePlans.{QuotesApart}
-use Rattle.brk_trade_laws.specs.TradeTests.{exceeds_volume, qty_fed}
-use Rattle.brk_trade_laws.proofs.Same.{All-map, All-mapped, find-All}
-use Rattle.brk_trade_laws.proofs.Reading.{find-map, is_some-map, some-is-any}
-use Rattle.brk_trade_laws.proofs.TermReading.{reads_last_trade}
-use Rattle.brk_trade_laws.proofs.TradeReading.{reads_volume}
-use Rattle.brk_trade_laws.proofs.Feeding.{KnowsTicks}
-use Rattle.brk_trade_laws.proofs.Volumes.{reads_exceeds}
+use Rattle.brk_book_laws.specs.Ticks.{exceeds_volume, qty_fed}
+use Rattle.brk_book_laws.proofs.Same.{All-map, All-mapped, find-All}
+use Rattle.brk_book_laws.proofs.Reading.{find-map, is_some-map, some-is-any}
+use Rattle.brk_book_laws.proofs.TermReading.{reads_last_trade}
+use Rattle.brk_book_laws.proofs.TradeReading.{reads_volume}
+use Rattle.brk_book_laws.proofs.Feeding.{KnowsTicks}
+use Rattle.brk_book_laws.proofs.Volumes.{reads_exceeds}
 use Rattle.brk_trade_laws.proofs.Quotes.{IsHeld, quote_of, quote_volume}
 use Rattle.brk_trade_laws.proofs.QuotedTicks.{HaveQuotes}
 

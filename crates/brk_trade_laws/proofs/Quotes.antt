@@ -15,14 +15,14 @@ use Rattle.brk_changes.specs.Rows.{request_row_of}
 use Rattle.brk_changes.specs.declared.request_row.RequestRow as request
 use Rattle.brk_plans.specs.declared.quote.Quote.{Quote}
 use Rattle.brk_plans.specs.declared.span.Span.{Span}
-use Rattle.brk_trade_laws.specs.Books.{IsBooks}
-use Rattle.brk_trade_laws.specs.TradeReads.{last_trade_in, requests_of, volume_in}
+use Rattle.brk_book_laws.specs.Books.{IsBooks}
+use Rattle.brk_book_laws.specs.TradeReads.{last_trade_in, requests_of, volume_in}
 use Rattle.brk_trade_laws.specs.TradePlans.{AreQuotes, IsQuote, IsQuoteOfOne, IsQuoted, QuotesApart}
-use Rattle.brk_trade_laws.proofs.Bools.{same_text, texts_back}
-use Rattle.brk_trade_laws.proofs.Same.{NonePass, All-append, All-map, any-none, filter-none, find-All, map-last}
-use Rattle.brk_trade_laws.proofs.Places.{FoundAt, filter-one, find-at, some_of}
-use Rattle.brk_trade_laws.proofs.Reading.{some-is-any}
-use Rattle.brk_trade_laws.proofs.Orders.{ascends, ascends_map}
+use Rattle.brk_book_laws.proofs.Bools.{same_text, texts_back}
+use Rattle.brk_book_laws.proofs.Same.{NonePass, All-append, All-map, any-none, filter-none, find-All, map-last}
+use Rattle.brk_book_laws.proofs.Places.{FoundAt, filter-one, find-at, some_of}
+use Rattle.brk_book_laws.proofs.Reading.{some-is-any}
+use Rattle.brk_book_laws.proofs.Orders.{ascends, ascends_map}
 use Rattle.brk_trade_laws.proofs.Waiting.{Spans, in_order, may, span_spans}
 
 -- ---- tests

@@ -45,19 +45,20 @@ use Rattle.brk_plans.specs.declared.plan.Plan.{Plan}
 use Rattle.brk_plans.specs.declared.reply.Reply.TheVariants as reply
 use Rattle.brk_changes.specs.declared.summary_row.SummaryRow as summary
 use Rattle.brk_changes.specs.declared.trade_row.TradeRow as planned
-use Rattle.brk_trade_laws.specs.Books.{IsBooks}
-use Rattle.brk_trade_laws.specs.Plans.{DoesCommand, IsDone, base_then}
+use Rattle.brk_book_laws.specs.Books.{IsBooks}
+use Rattle.brk_trade_laws.specs.Plans.{DoesCommand}
+use Rattle.brk_book_laws.specs.Steps.{IsDone, base_then}
 use Rattle.brk_trade_laws.specs.ResultPlans.{IsReadForResult, PassesFirst}
-use Rattle.brk_trade_laws.specs.Results.{cash_rows, completed_rows, opened_rows, result_rows, rows_of_result, summary_rows_moved, touched_rows}
-use Rattle.brk_trade_laws.specs.TradeReads.{position_in, row_of_summary, summary_in}
-use Rattle.brk_trade_laws.specs.Trading.{status_row}
+use Rattle.brk_book_laws.specs.Results.{cash_rows, completed_rows, opened_rows, result_rows, rows_of_result, summary_rows_moved, touched_rows}
+use Rattle.brk_book_laws.specs.TradeReads.{position_in, row_of_summary, summary_in}
+use Rattle.brk_book_laws.specs.Trading.{status_row}
 use Rattle.brk_trade_laws.proofs.QuotedTicks.{after_more}
 use Rattle.brk_trade_laws.proofs.ResultFinding.{TradeFound, amount_read, balance_read, broker_found, commission_read, commissions_read, held_found, account_found, passes_rate, passes_status, passes_summary, result_refusal, result_values, security_found, summary_found, summary_read, tax_read, trade_found}
-use Rattle.brk_trade_laws.proofs.ResultKeeping.{Found, books_result, found_at, step_result, submitted}
-use Rattle.brk_trade_laws.proofs.ResultRows.{IsResult, moment_then}
-use Rattle.brk_trade_laws.proofs.ResultSums.{count_grows}
-use Rattle.brk_trade_laws.proofs.Summaries.{reads_summary_row}
-use Rattle.brk_trade_laws.proofs.Tested.{none_refuse}
+use Rattle.brk_book_laws.proofs.ResultKeeping.{Found, books_result, found_at, step_result, submitted}
+use Rattle.brk_book_laws.proofs.ResultRows.{IsResult, moment_then}
+use Rattle.brk_book_laws.proofs.ResultSums.{count_grows}
+use Rattle.brk_book_laws.proofs.Summaries.{reads_summary_row}
+use Rattle.brk_book_laws.proofs.Tested.{none_refuse}
 use Rattle.brk_trade_laws.proofs.TradePlanning.{is_done, stamp_read}
 use Rattle.brk_trade_laws.proofs.ResultRefusing.{at_market, deal_read, held_by_row, lots_met, lots_shares, trade_of}
 

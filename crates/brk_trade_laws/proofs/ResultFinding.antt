@@ -31,23 +31,23 @@ use Rattle.brk_changes.specs.Rows.{trade_row_of}
 use Rattle.brk_trade.specs.declared.result_found.ResultAccount.{ResultAccount}
 use Rattle.brk_trade.specs.declared.result_found.ResultFound.{ResultFound}
 use Rattle.brk_model.specs.Names.{KnowsAccount, KnowsBroker, KnowsSecurity}
-use Rattle.brk_trade_laws.specs.Books.{IsBooks}
-use Rattle.brk_trade_laws.specs.OrderPlans.{IfCustomer}
-use Rattle.brk_trade_laws.specs.Reads.{rates_of}
+use Rattle.brk_book_laws.specs.Books.{IsBooks}
+use Rattle.brk_book_laws.specs.OrderReads.{IfCustomer}
+use Rattle.brk_book_laws.specs.Reads.{rates_of}
 use Rattle.brk_trade_laws.specs.ResultPlans.{IsFoundForResult, PassesFirst, result_account}
-use Rattle.brk_trade_laws.specs.TradeReads.{band_in, summary_in}
-use Rattle.brk_trade_laws.proofs.Holding.{held_read}
-use Rattle.brk_trade_laws.proofs.Same.{find-All}
-use Rattle.brk_trade_laws.proofs.Places.{FoundAt, find-at, some_of}
-use Rattle.brk_trade_laws.proofs.Reading.{is_none-map, reads_broker}
-use Rattle.brk_trade_laws.proofs.TermReading.{reads_rates, reads_security}
-use Rattle.brk_trade_laws.proofs.BandReading.{reads_band}
+use Rattle.brk_book_laws.specs.TradeReads.{band_in, summary_in}
+use Rattle.brk_book_laws.proofs.Holding.{held_read}
+use Rattle.brk_book_laws.proofs.Same.{find-All}
+use Rattle.brk_book_laws.proofs.Places.{FoundAt, find-at, some_of}
+use Rattle.brk_book_laws.proofs.Reading.{is_none-map, reads_broker}
+use Rattle.brk_book_laws.proofs.TermReading.{reads_rates, reads_security}
+use Rattle.brk_book_laws.proofs.BandReading.{reads_band}
 use Rattle.brk_trade_laws.proofs.OrderFinding.{Alike, OwnerFound, of_account, of_customer, owner_found, same_first, tier_found}
 use Rattle.brk_trade_laws.proofs.Planning.{clock_read}
-use Rattle.brk_trade_laws.proofs.ResultKeeping.{Found, found_at}
-use Rattle.brk_trade_laws.proofs.ResultRows.{IsResult}
-use Rattle.brk_trade_laws.proofs.ResultSums.{balance_grows, balance_stays, commissions_grow, summary_grows}
-use Rattle.brk_trade_laws.proofs.Tested.{not_not}
+use Rattle.brk_book_laws.proofs.ResultKeeping.{Found, found_at}
+use Rattle.brk_book_laws.proofs.ResultRows.{IsResult}
+use Rattle.brk_book_laws.proofs.ResultSums.{balance_grows, balance_stays, commissions_grow, summary_grows}
+use Rattle.brk_book_laws.proofs.Tested.{not_not}
 use Rattle.brk_trade_laws.proofs.TradePlanning.{stamp_read}
 
 -- ---- a trade that was found

@@ -25,18 +25,18 @@ use Rattle.brk_trade.specs.Results.{AreMet, IsRefused, held_by}
 use Rattle.brk_trade.proofs.Results.{first_refuses}
 use Rattle.brk_changes.specs.Rows.{trade_row_of}
 use Rattle.brk_trade.specs.declared.result_found.ResultFound.{ResultFound}
-use Rattle.brk_trade_laws.specs.Books.{IsBooks}
+use Rattle.brk_book_laws.specs.Books.{IsBooks}
 use Rattle.brk_trade_laws.specs.ResultPlans.{AreLotsOfTrade, IsReadForResult, PassesFirst}
-use Rattle.brk_trade_laws.specs.TradeReads.{position_in}
-use Rattle.brk_trade_laws.proofs.Holding.{lots_given, total_is}
-use Rattle.brk_trade_laws.proofs.LotOrder.{shares_read}
-use Rattle.brk_trade_laws.proofs.Places.{FoundAt, find-at}
+use Rattle.brk_book_laws.specs.TradeReads.{position_in}
+use Rattle.brk_book_laws.proofs.Holding.{lots_given, total_is}
+use Rattle.brk_book_laws.proofs.LotOrder.{shares_read}
+use Rattle.brk_book_laws.proofs.Places.{FoundAt, find-at}
 use Rattle.brk_trade_laws.proofs.ResultFinding.{TradeFound, held_found, mark_status, nothing_refused, passes_rate, passes_status, result_refusal, result_values, trade_found}
-use Rattle.brk_trade_laws.proofs.ResultKeeping.{new_of_waiting}
-use Rattle.brk_trade_laws.proofs.ResultRows.{submitted_not_completed}
-use Rattle.brk_trade_laws.proofs.Tested.{none_refuse}
+use Rattle.brk_book_laws.proofs.ResultKeeping.{new_of_waiting}
+use Rattle.brk_book_laws.proofs.ResultRows.{submitted_not_completed}
+use Rattle.brk_book_laws.proofs.Tested.{none_refuse}
 use Rattle.brk_trade_laws.proofs.TradePlanning.{refused_step}
-use Rattle.brk_trade_laws.proofs.TradeReading.{reads_trade}
+use Rattle.brk_book_laws.proofs.TradeReading.{reads_trade}
 
 -- ---- the trade and its lots
 

@@ -21,20 +21,21 @@ use Rattle.brk_model.specs.Tests.{Test, tests, refusal_of, first_refusal, next_s
 use Rattle.brk_model.specs.Step.{reply_to, step, unless}
 use Rattle.brk_changes.specs.Changes.{with_last}
 use Rattle.brk_plans.specs.Reference.{clock_test}
-use Rattle.brk_trade_laws.specs.Books.{IsBooks}
-use Rattle.brk_trade_laws.specs.Plans.{base_then, ChangesRows, IsDone, LeavesBooks}
-use Rattle.brk_trade_laws.specs.Trading.{cancel_rows, feed_rows, fed_trades}
-use Rattle.brk_trade_laws.specs.TradeTests.{cancel_tests, exceeds_volume, feed_tests, is_unknown}
-use Rattle.brk_trade_laws.proofs.Same.{All-map, any-none}
-use Rattle.brk_trade_laws.proofs.Reading.{is_none-map, reads_last}
-use Rattle.brk_trade_laws.proofs.TermReading.{reads_last_trade}
-use Rattle.brk_trade_laws.proofs.Stamps.{moved_past, stamp_is}
-use Rattle.brk_trade_laws.proofs.Tested.{not_not}
+use Rattle.brk_book_laws.specs.Books.{IsBooks}
+use Rattle.brk_book_laws.specs.Steps.{base_then, ChangesRows, IsDone, LeavesBooks}
+use Rattle.brk_book_laws.specs.Trading.{cancel_rows, feed_rows, fed_trades}
+use Rattle.brk_trade_laws.specs.TradeTests.{cancel_tests, feed_tests}
+use Rattle.brk_book_laws.specs.Ticks.{exceeds_volume, is_unknown}
+use Rattle.brk_book_laws.proofs.Same.{All-map, any-none}
+use Rattle.brk_book_laws.proofs.Reading.{is_none-map, reads_last}
+use Rattle.brk_book_laws.proofs.TermReading.{reads_last_trade}
+use Rattle.brk_book_laws.proofs.Stamps.{moved_past, stamp_is}
+use Rattle.brk_book_laws.proofs.Tested.{not_not}
 use Rattle.brk_trade_laws.proofs.Planning.{clock_read}
-use Rattle.brk_trade_laws.proofs.TradeReading.{reads_trade}
-use Rattle.brk_trade_laws.proofs.Volumes.{any-same, reads_exceeds}
-use Rattle.brk_trade_laws.proofs.Trades.{step_cancel, step_feed, step_triggered}
-use Rattle.brk_trade_laws.proofs.TradeKeepers.{books_cancel, books_feed}
+use Rattle.brk_book_laws.proofs.TradeReading.{reads_trade}
+use Rattle.brk_book_laws.proofs.Volumes.{any-same, reads_exceeds}
+use Rattle.brk_book_laws.proofs.Trades.{step_cancel, step_feed, step_triggered}
+use Rattle.brk_book_laws.proofs.TradeKeepers.{books_cancel, books_feed}
 
 -- ---- of any command
 

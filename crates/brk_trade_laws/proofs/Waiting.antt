@@ -1,5 +1,5 @@
 -- The requests that the ticks of a feed may trigger: a selection for each type that waits, merged by rising trade, is all of them.
-use Rattle.std.proofs.Common.{◌≡◌, ◌≤◌, ◌<◌, ℕ, ◌+◌, ◌==◌, Bool, true, false, not, cond, List, [], ◌∷◌, ◌++◌, refl, sym, ◌∙◌, ap, subst, map, filter, arith}
+use Rattle.std.proofs.Common.{◌≡◌, ◌≤◌, ◌<◌, ℕ, ◌==◌, Bool, true, false, not, cond, List, [], ◌∷◌, ◌++◌, refl, sym, ◌∙◌, ap, subst, map, filter, arith}
 use Rattle.std.specs.Prelude.{◌&&◌, fold, nat_le, nat_lt, bytes_eq}
 use Rattle.std.specs.Bool.{Decides}
 use Rattle.std.specs.List.{AllByRecursion}
@@ -22,14 +22,14 @@ use Rattle.brk_model.specs.Tables.{RequestRow, Tables, request_row}
 use Rattle.brk_orders.specs.declared.tick.Tick.{Tick}
 use Rattle.brk_plans.specs.Feed.{span_of, widened, widened_by}
 use Rattle.brk_plans.specs.declared.span.Span.{Span}
-use Rattle.brk_trade_laws.specs.Books.{IsBooks}
+use Rattle.brk_book_laws.specs.Books.{IsBooks}
 use Rattle.brk_trade_laws.specs.TradePlans.{may_trigger}
-use Rattle.brk_trade_laws.specs.TradeReads.{requests_of}
-use Rattle.brk_trade_laws.proofs.LotReading.{IdsRise, numbered_rise, rise_filter}
-use Rattle.brk_trade_laws.proofs.Orders.{Ascends, Rises, one_order, permuted}
-use Rattle.brk_trade_laws.proofs.Same.{All-filter, All-of, filter-same}
-use Rattle.brk_trade_laws.proofs.Ticks.{filter-filter}
-use Rattle.brk_trade_laws.proofs.TradeReading.{requests_in_order}
+use Rattle.brk_book_laws.specs.TradeReads.{requests_of}
+use Rattle.brk_book_laws.proofs.LotReading.{IdsRise, numbered_rise, rise_filter}
+use Rattle.brk_book_laws.proofs.Orders.{Ascends, Rises, one_order, permuted}
+use Rattle.brk_book_laws.proofs.Same.{All-filter, All-of, filter-same}
+use Rattle.brk_book_laws.proofs.Ticks.{filter-filter}
+use Rattle.brk_book_laws.proofs.TradeReading.{requests_in_order}
 
 -- ---- the prices of a symbol's ticks lie within their span
 

@@ -1,14 +1,7 @@
-pub mod Books
 pub mod Commands
-pub mod Reads
-pub mod Trading
-pub mod TradeReads
+pub mod Found
 pub mod TradeTests
 pub mod Plans
 pub mod TradePlans
 pub mod OrderPlans
-pub mod Results
 pub mod ResultPlans
-pub mod Runs
-pub mod Lives
-pub mod Sums

@@ -1,51 +1,30 @@
 -- What is read from the tables before an order is planned or estimated.
-use Rattle.std.specs.Prelude.{◌≡◌, ◌≤◌, ℕ, Bool, ◌==◌, ◌&&◌, ◌+ℤ◌, List, find, reverse, slice_get, take, IfSome, Option, None, option_map, bytes_eq}
-use Rattle.brk_lots.specs.Lots.{from_end}
+use Rattle.std.specs.Prelude.{◌≡◌, ◌≤◌, ℕ, ◌+ℤ◌, List, take, IfSome, Option, None, option_map}
 use Rattle.brk_lots.specs.declared.lot.Lot.{Lot}
 use Rattle.brk_model.specs.Base.{Base}
 use Rattle.brk_model.specs.Joins.{account_in, security_in}
 use Rattle.brk_model.specs.Orders.{permitted}
 use Rattle.brk_model.specs.PositionView.{asset_total}
-use Rattle.brk_model.specs.Records.{Customer}
 use Rattle.brk_model.specs.Sheets.{sheets}
 use Rattle.brk_model.specs.Tables.{AccountRow, Tables}
 use Rattle.brk_model.specs.Tests.{first_refusal}
 use Rattle.brk_money.specs.OrderTypes.{kind_of}
-use Rattle.brk_money.specs.Kinds.{same_type}
 use Rattle.brk_money.specs.Moments.{last_stamp}
-use Rattle.brk_money.specs.Spelling.{Text}
-use Rattle.brk_money.specs.declared.trade_type.TradeType.{TradeType}
 use Rattle.brk_orders.specs.declared.order.Order.{Order}
 use Rattle.brk_ref.specs.Records.{executor_of}
 use Rattle.brk_trade.specs.Orders.{order_tests}
-use Rattle.brk_changes.specs.declared.holding_row.HoldingRow.{HoldingRow}
 use Rattle.brk_trade.specs.declared.order.OrderAccount.{OrderAccount}
 use Rattle.brk_trade.specs.declared.order.OrderFound.{OrderFound}
-use Rattle.brk_trade_laws.specs.Books.{IsBooks}
-use Rattle.brk_trade_laws.specs.Reads.{rates_of}
-use Rattle.brk_trade_laws.specs.TradeReads.{band_in, permission_in, position_in, summary_in}
+use Rattle.brk_book_laws.specs.Books.{IsBooks}
+use Rattle.brk_book_laws.specs.Reads.{rates_of}
+use Rattle.brk_book_laws.specs.TradeReads.{band_in, permission_in, summary_in}
+use Rattle.brk_book_laws.specs.OrderReads.{GivesLots, IfCustomer, charge_in, last_price_in, last_trade_in}
 
 -- ---- look-ups
 
 -- what an account's row says of the orders for it
 abbrev pub order_account : AccountRow → OrderAccount
 order_account r = record { broker = r.broker; tax_status = r.tax_status }
-
--- the last price of a symbol, where it is listed
-abbrev pub last_price_in : Tables → Text → Option ℕ
-last_price_in t symbol = option_map (λ r. r.price) (find (λ r. bytes_eq r.symbol symbol) t.last_trades)
-
--- the charge of a type and a tier, where there is one
-abbrev pub charge_in : Tables → TradeType → ℕ → Option ℕ
-charge_in t kind tier = option_map (λ r. r.amount) (find (λ r. same_type r.kind kind && (r.tier == tier)) t.charges)
-
--- the number of the last trade, where there is one
-abbrev pub last_trade_in : Tables → Option ℕ
-last_trade_in t = option_map (λ r. r.id) (slice_get (reverse t.trades) 0)
-
--- what holds of the customer of an account, where both are there
-abbrev pub IfCustomer : Tables → ℕ → (Customer → Type 0) → Type 0
-IfCustomer t account holds = IfSome (account_in t account) (λ a. IfSome (find (λ r. r.id == a.customer) t.customers) holds)
 
 -- ---- what was found
 
@@ -77,14 +56,6 @@ pub record IsFoundForOrder (t : Tables) (order : Order) (found : OrderFound) : T
   pub last_trade : Passes 5 found → found.last_trade ≡ last_trade_in t
 
 -- ---- lots
-
--- the lot of a row
-abbrev pub lot_in : HoldingRow → Lot
-lot_in r = record { trade = r.trade; price = r.price; qty = r.qty; stamp = r.stamp }
-
--- the lots of an account in a symbol are given from an end
-abbrev pub GivesLots : Tables → ℕ → Text → Bool → (List Lot → Type 0) → Type 0
-GivesLots t account symbol lifo given = given (from_end lifo (position_in t account symbol))
 
 -- the lots that are given for an order are those of its account and symbol from the order's end
 abbrev pub AreLots : Tables → Order → (List Lot → Type 0) → Type 0

@@ -12,10 +12,10 @@ use Rattle.brk_changes.specs.Rows.{trade_row_of}
 use Rattle.brk_trade.specs.declared.result_found.ResultAccount.{ResultAccount}
 use Rattle.brk_trade.specs.declared.result_found.ResultFound.{ResultFound}
 use Rattle.brk_changes.specs.declared.trade_row.TradeRow.{TradeRow}
-use Rattle.brk_trade_laws.specs.Books.{IsBooks}
-use Rattle.brk_trade_laws.specs.OrderPlans.{GivesLots, IfCustomer}
-use Rattle.brk_trade_laws.specs.Reads.{rates_of}
-use Rattle.brk_trade_laws.specs.TradeReads.{band_in, summary_in}
+use Rattle.brk_book_laws.specs.Books.{IsBooks}
+use Rattle.brk_book_laws.specs.OrderReads.{GivesLots, IfCustomer}
+use Rattle.brk_book_laws.specs.Reads.{rates_of}
+use Rattle.brk_book_laws.specs.TradeReads.{band_in, summary_in}
 
 -- ---- what was found
 

@@ -16,8 +16,8 @@ use Rattle.brk_plans.specs.Feed.{Held, is_of, span_of}
 use Rattle.brk_plans.specs.declared.span.Span.{Span}
 use Rattle.brk_changes.specs.declared.request_row.RequestRow as request
 use Rattle.brk_changes.specs.Rows.{request_row_of}
-use Rattle.brk_trade_laws.specs.Books.{IsBooks}
-use Rattle.brk_trade_laws.specs.TradeReads.{last_trade_in, requests_of}
+use Rattle.brk_book_laws.specs.Books.{IsBooks}
+use Rattle.brk_book_laws.specs.TradeReads.{last_trade_in, requests_of}
 
 -- ---- a cancel
 

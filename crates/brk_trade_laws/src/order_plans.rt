@@ -23,7 +23,7 @@ ghost use Rattle.brk_plans.specs.Reference.{clock_test};
 ghost use Rattle.brk_plans.specs.Replies.{estimate_of};
 ghost use Rattle.brk_trade.specs.declared.order.OrderFound.{OrderFound};
 ghost use Rattle.brk_plans.specs.declared.plan.Plan.{Plan};
-ghost use Rattle.brk_trade_laws.specs.Books.{IsBooks};
+ghost use Rattle.brk_book_laws.specs.Books.{IsBooks};
 ghost use Rattle.brk_trade_laws.specs.OrderPlans.{AreLots, IsFoundForEstimate, IsReadForPlan};
 ghost use Rattle.brk_trade_laws.specs.Plans.{DoesCommand};
 

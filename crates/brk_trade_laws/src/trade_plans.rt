@@ -23,7 +23,7 @@ ghost use Rattle.brk_plans.specs.declared.quote.Quote.{Quote};
 ghost use Rattle.brk_trade_laws.specs.Plans.{DoesCommand};
 ghost use Rattle.brk_trade_laws.specs.ResultPlans.{IsReadForResult};
 ghost use Rattle.brk_trade_laws.specs.TradePlans.{AreQuotes, IsQuote, IsReadForCancel, IsReadForFeed};
-ghost use Rattle.brk_trade_laws.specs.TradeReads.{last_trade_in};
+ghost use Rattle.brk_book_laws.specs.TradeReads.{last_trade_in};
 
 /// A cancel is refused by the status of its trade as by the base; the plan of one that is not does the cancel.
 pub fn cancel_plans_do_commands()

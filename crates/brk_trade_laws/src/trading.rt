@@ -11,11 +11,12 @@ ghost use Rattle.brk_model.specs.Joins.{trade_in};
 ghost use Rattle.brk_model.specs.Sheets.{sheets};
 ghost use Rattle.brk_model.specs.Step.{step};
 ghost use Rattle.brk_model.specs.Tests.{first_refusal, refusal_of};
-ghost use Rattle.brk_trade_laws.specs.Books.{IsBooks};
-ghost use Rattle.brk_trade_laws.specs.Plans.{IsDone};
-ghost use Rattle.brk_trade_laws.specs.TradeReads.{volume_in};
-ghost use Rattle.brk_trade_laws.specs.TradeTests.{cancel_tests, feed_tests, qty_fed};
-ghost use Rattle.brk_trade_laws.specs.Trading.{cancel_rows, fed_trades, feed_rows};
+ghost use Rattle.brk_book_laws.specs.Books.{IsBooks};
+ghost use Rattle.brk_book_laws.specs.Steps.{IsDone};
+ghost use Rattle.brk_book_laws.specs.TradeReads.{volume_in};
+ghost use Rattle.brk_trade_laws.specs.TradeTests.{cancel_tests, feed_tests};
+ghost use Rattle.brk_book_laws.specs.Ticks.{qty_fed};
+ghost use Rattle.brk_book_laws.specs.Trading.{cancel_rows, fed_trades, feed_rows};
 
 /// A command that is refused steps to its refusal.
 pub fn refused_commands_step_to_refusals()

@@ -1,5 +1,5 @@
 -- The rows that are chosen for a correction are those of the trades that the definitions choose.
-use Rattle.std.proofs.Common.{◌≡◌, ℕ, ◌==◌, ◌&&◌, Bool, true, false, List, refl, sym, ap, ◌∙◌, map, filter, take, Option, Some, None}
+use Rattle.std.proofs.Common.{◌≡◌, ℕ, ◌==◌, ◌&&◌, Bool, true, false, List, refl, ap, ◌∙◌, map, filter, take, Option, Some, None}
 use Rattle.std.specs.Prelude.{bytes_eq}
 use Rattle.std.specs.Option.{option_map_or}
 use Rattle.std.specs.List.{AllByRecursion}
@@ -16,9 +16,9 @@ use Rattle.brk_model.specs.Sheets.{sheets}
 use Rattle.brk_model.specs.Tables.{TradeRow, trade_row}
 use Rattle.brk_model.specs.Updates.{is_within, oldest_first}
 use Rattle.brk_changes.specs.Chosen.{completed_cash_of_symbol, completed_of_account, first_completed}
-use Rattle.brk_trade_laws.proofs.LotReading.{All-sort}
-use Rattle.brk_trade_laws.proofs.Same.{All-filter}
-use Rattle.brk_trade_laws.proofs.TradeReading.{trades_in_order}
+use Rattle.brk_book_laws.proofs.LotReading.{All-sort}
+use Rattle.brk_book_laws.proofs.Same.{All-filter}
+use Rattle.brk_book_laws.proofs.TradeReading.{trades_in_order}
 use Rattle.brk_update_laws.proofs.Through.{All-both, All-passed, All-take, filter-both, filter-map, sort-map, take-map}
 
 -- the trades that are chosen

@@ -38,18 +38,19 @@ use Rattle.brk_plans.specs.declared.corrected.Corrected.TheVariants as corrected
 use Rattle.brk_plans.specs.declared.corrected.Paid.{Paid}
 use Rattle.brk_plans.specs.declared.corrected.Settled.{Settled}
 use Rattle.brk_plans.specs.declared.plan.Plan.{Plan}
-use Rattle.brk_trade_laws.specs.Books.{IsBooks}
-use Rattle.brk_trade_laws.specs.Plans.{DoesCommand, base_then}
-use Rattle.brk_trade_laws.proofs.Bools.{same_text}
+use Rattle.brk_book_laws.specs.Books.{IsBooks}
+use Rattle.brk_trade_laws.specs.Plans.{DoesCommand}
+use Rattle.brk_book_laws.specs.Steps.{base_then}
+use Rattle.brk_book_laws.proofs.Bools.{same_text}
 use Rattle.brk_trade_laws.proofs.Planning.{clock_read}
-use Rattle.brk_trade_laws.proofs.Reading.{is_none-map, reads_account}
-use Rattle.brk_trade_laws.proofs.RunKeeping.{books_command}
-use Rattle.brk_trade_laws.proofs.Same.{All-filter, All-map, All-of, map-same}
-use Rattle.brk_trade_laws.proofs.TermReading.{reads_security}
+use Rattle.brk_book_laws.proofs.Reading.{is_none-map, reads_account}
+use Rattle.brk_book_laws.proofs.RunKeeping.{books_command}
+use Rattle.brk_book_laws.proofs.Same.{All-filter, All-map, All-of, map-same}
+use Rattle.brk_book_laws.proofs.TermReading.{reads_security}
 use Rattle.brk_trade_laws.proofs.TradePlanning.{refused_step, stamp_read}
-use Rattle.brk_trade_laws.proofs.TradeReading.{reads_trade}
-use Rattle.brk_trade_laws.proofs.Trades.{whole}
-use Rattle.brk_trade_laws.proofs.Volumes.{any-same}
+use Rattle.brk_book_laws.proofs.TradeReading.{reads_trade}
+use Rattle.brk_book_laws.proofs.Trades.{whole}
+use Rattle.brk_book_laws.proofs.Volumes.{any-same}
 use Rattle.brk_update_laws.specs.Corrections.{ArePaid, AreSettled, AreTradesOf, IsCorrected, IsFoundForUpdate, IsNamed, IsReadForUpdate, PaidRow, SettledRow, cash_in, paid_in, paid_row, settled_in, settled_row, settlement_in}
 use Rattle.brk_update_laws.proofs.Choosing.{account_rows, chosen_trades, of_chosen, symbol_rows}
 use Rattle.brk_update_laws.proofs.Owning.{own_cash, own_rows, own_settlements}

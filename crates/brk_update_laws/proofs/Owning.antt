@@ -1,5 +1,5 @@
 -- The row of each trade is found by its id.
-use Rattle.std.proofs.Common.{◌≡◌, ℕ, ◌+◌, ◌==◌, Bool, true, false, cond, List, [], ◌∷◌, refl, ap, ◌∙◌, map, filter, Some, None}
+use Rattle.std.proofs.Common.{◌≡◌, ℕ, ◌+◌, ◌==◌, Bool, true, false, cond, List, [], ◌∷◌, refl, ap, ◌∙◌, map, filter, Some}
 use Rattle.std.specs.Prelude.{⊤, find, option_map}
 use Rattle.std.specs.List.{AllByRecursion}
 use Rattle.std.proofs.lemmas.Bool.{eq-eqb}
@@ -10,11 +10,11 @@ use Rattle.brk_model.specs.Names.{NumberedFrom}
 use Rattle.brk_model.specs.Records.{Trade}
 use Rattle.brk_model.specs.Sheets.{sheets, sheets_of}
 use Rattle.brk_model.specs.Tables.{cash_row, settlement_row, tables_of, trade_row}
-use Rattle.brk_trade_laws.proofs.Bools.{numbers_back}
-use Rattle.brk_trade_laws.proofs.Numbering.{numbered_after}
-use Rattle.brk_trade_laws.proofs.Reading.{find-id, find-map}
-use Rattle.brk_trade_laws.proofs.Same.{All-filter, All-map, NonePass}
-use Rattle.brk_trade_laws.proofs.TradeReading.{reads_trade}
+use Rattle.brk_book_laws.proofs.Bools.{numbers_back}
+use Rattle.brk_book_laws.proofs.Numbering.{numbered_after}
+use Rattle.brk_book_laws.proofs.Reading.{find-id, find-map}
+use Rattle.brk_book_laws.proofs.Same.{All-filter, All-map, NonePass}
+use Rattle.brk_book_laws.proofs.TradeReading.{reads_trade}
 use Rattle.brk_update_laws.specs.Corrections.{cash_in, settlement_in}
 use Rattle.brk_update_laws.proofs.Through.{All-both}
 

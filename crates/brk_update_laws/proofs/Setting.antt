@@ -5,9 +5,9 @@ use Rattle.brk_money.specs.Spelling.{Text}
 use Rattle.brk_model.specs.Keys.{KeyPart, by_key}
 use Rattle.brk_model.specs.Lists.{contains_number, update_where}
 use Rattle.brk_model.specs.Records.{Trade}
-use Rattle.brk_trade_laws.proofs.Bools.{numbers_back}
-use Rattle.brk_trade_laws.proofs.Order.{by_key-map}
-use Rattle.brk_trade_laws.proofs.Same.{All-map, map-same}
+use Rattle.brk_book_laws.proofs.Bools.{numbers_back}
+use Rattle.brk_book_laws.proofs.Order.{by_key-map}
+use Rattle.brk_book_laws.proofs.Same.{All-map, map-same}
 use Rattle.brk_update_laws.proofs.Through.{map-map}
 
 -- changes one after another, and the last

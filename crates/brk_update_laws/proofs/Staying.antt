@@ -13,8 +13,8 @@ use Rattle.brk_model.specs.Tables.{CashRow, SettlementRow, TradeRow, cash_row, s
 use Rattle.brk_model.specs.Tests.{next_stamp}
 use Rattle.brk_model.specs.Updates.{chosen_of_account, chosen_of_symbol, with_cash_names, with_cash_types, with_executors}
 use Rattle.brk_changes.specs.Changes.{with_last}
-use Rattle.brk_trade_laws.proofs.Order.{by_key-map}
-use Rattle.brk_trade_laws.proofs.Trades.{whole}
+use Rattle.brk_book_laws.proofs.Order.{by_key-map}
+use Rattle.brk_book_laws.proofs.Trades.{whole}
 use Rattle.brk_update_laws.specs.Corrections.{ChangesNamesAlone, ChangesTextsAlone, ChangesWordsAlone, no_name, no_text, no_word, sheets_then}
 use Rattle.brk_update_laws.proofs.Correcting.{cash_names_rows, cash_types_rows, executors_rows, name_then, text_then, word_then}
 use Rattle.brk_update_laws.proofs.Through.{map-map}

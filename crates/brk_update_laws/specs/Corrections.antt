@@ -20,8 +20,8 @@ use Rattle.brk_plans.specs.declared.corrected.Corrected.{Corrected}
 use Rattle.brk_plans.specs.declared.corrected.Corrected.TheVariants as corrected
 use Rattle.brk_plans.specs.declared.corrected.Paid.{Paid}
 use Rattle.brk_plans.specs.declared.corrected.Settled.{Settled}
-use Rattle.brk_trade_laws.specs.Books.{IsBooks}
-use Rattle.brk_trade_laws.specs.Plans.{base_then}
+use Rattle.brk_book_laws.specs.Books.{IsBooks}
+use Rattle.brk_book_laws.specs.Steps.{base_then}
 
 -- ---- what is found
 

@@ -13,7 +13,7 @@ use Rattle.brk_model.specs.StatusView.{submitted_view}
 use Rattle.brk_model.specs.Tables.{TradeRow, tables_of}
 use Rattle.brk_model.specs.Views.{view_of}
 use Rattle.brk_sound_laws.specs.Sound.{IsSound}
-use Rattle.brk_trade_laws.specs.Books.{IsBooks}
+use Rattle.brk_book_laws.specs.Books.{IsBooks}
 use Rattle.brk_view_laws.proofs.LookupRows.{same_lookup}
 use Rattle.brk_view_laws.proofs.RecentRows.{same_recent}
 use Rattle.brk_view_laws.proofs.StatusRows.{same_status_view}

@@ -14,9 +14,9 @@ use Rattle.brk_adoption_laws.proofs.Climbs.{Climbs}
 use Rattle.brk_adoption_laws.proofs.Parts.{KeyParts, key_parts}
 use Rattle.brk_sound_laws.specs.Sound.{IsSound}
 use Rattle.brk_sound_laws.proofs.FormKeys.{keys_of}
-use Rattle.brk_trade_laws.specs.Books.{IsBooks}
-use Rattle.brk_trade_laws.proofs.Bools.{numbers_back}
-use Rattle.brk_trade_laws.proofs.Order.{Splits}
+use Rattle.brk_book_laws.specs.Books.{IsBooks}
+use Rattle.brk_book_laws.proofs.Bools.{numbers_back}
+use Rattle.brk_book_laws.proofs.Order.{Splits}
 use Rattle.brk_view_laws.proofs.Gathering.{Excludes, same_pieces, sort_gathered}
 use Rattle.brk_view_laws.proofs.OneRow.{found_is_all}
 use Rattle.brk_view_laws.proofs.Sorting.{AllApart, same_rows}

@@ -13,9 +13,9 @@ use Rattle.brk_model.specs.LookupView.{cash_record, lookup_records, lookup_view,
 use Rattle.brk_model.specs.Sheets.{sheets, sheets_of}
 use Rattle.brk_model.specs.Tables.{HistoryRow, TradeRow, tables_of}
 use Rattle.brk_sound_laws.specs.Sound.{IsSound}
-use Rattle.brk_trade_laws.specs.Books.{IsBooks}
-use Rattle.brk_trade_laws.proofs.Order.{Splits}
-use Rattle.brk_trade_laws.proofs.Same.{flat_map-same}
+use Rattle.brk_book_laws.specs.Books.{IsBooks}
+use Rattle.brk_book_laws.proofs.Order.{Splits}
+use Rattle.brk_book_laws.proofs.Same.{flat_map-same}
 use Rattle.brk_view_laws.proofs.OneRow.{rows_of_key}
 use Rattle.brk_view_laws.proofs.Sorting.{AllApart, All-sort, sort_twice}
 use Rattle.brk_view_laws.proofs.Trades.{AllRise, All-each, All-filter, All-take, Earlier, history_by_code, same_trades, statuses_rise}

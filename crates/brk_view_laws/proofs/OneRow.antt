@@ -4,8 +4,8 @@ use Rattle.std.specs.Prelude.{⊤, option_to_list}
 use Rattle.std.specs.List.{AllByRecursion}
 use Rattle.brk_model.specs.Keys.{KeyPart, by_key, key_before, row_before}
 use Rattle.brk_adoption_laws.proofs.Climbs.{Climbs, not_itself}
-use Rattle.brk_trade_laws.proofs.LotReading.{all_pass}
-use Rattle.brk_trade_laws.proofs.Order.{NoneBefore, Sorted, by_key-filter, key_one_way, sort_sorted}
+use Rattle.brk_book_laws.proofs.LotReading.{all_pass}
+use Rattle.brk_book_laws.proofs.Order.{NoneBefore, Sorted, by_key-filter, key_one_way, sort_sorted}
 
 -- a key does not go before itself
 not_before_itself : (j k : List KeyPart) (b : Bool) → key_before j k ≡ b → j ≡ k → key_before j k ≡ false

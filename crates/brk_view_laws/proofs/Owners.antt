@@ -8,9 +8,9 @@ use Rattle.brk_model.specs.Keys.{KeyPart, by_key, customer_key, word}
 use Rattle.brk_model.specs.Lists.{insert_by, sort_by}
 use Rattle.brk_model.specs.Records.{Customer}
 use Rattle.brk_sound_laws.specs.Sound.{KeysApart, tax_id_key}
-use Rattle.brk_trade_laws.proofs.Bools.{numbers_back, same_text}
-use Rattle.brk_trade_laws.proofs.Order.{All-insert}
-use Rattle.brk_trade_laws.proofs.Reading.{some-any, some-is-any}
+use Rattle.brk_book_laws.proofs.Bools.{numbers_back, same_text}
+use Rattle.brk_book_laws.proofs.Order.{All-insert}
+use Rattle.brk_book_laws.proofs.Reading.{some-any, some-is-any}
 
 -- ---- by id
 

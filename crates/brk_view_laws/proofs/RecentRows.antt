@@ -12,8 +12,8 @@ use Rattle.brk_model.specs.PositionView.{last_ten, recent_view}
 use Rattle.brk_model.specs.Sheets.{sheets}
 use Rattle.brk_model.specs.Tables.{HistoryRow, TradeRow, tables_of}
 use Rattle.brk_sound_laws.specs.Sound.{IsSound}
-use Rattle.brk_trade_laws.specs.Books.{IsBooks}
-use Rattle.brk_trade_laws.proofs.Order.{Splits}
+use Rattle.brk_book_laws.specs.Books.{IsBooks}
+use Rattle.brk_book_laws.proofs.Order.{Splits}
 use Rattle.brk_view_laws.proofs.Sorting.{AllApart, All-sort, sort_pieces}
 use Rattle.brk_view_laws.proofs.Trades.{AllRise, All-each, All-filter, All-take, Earlier, history_by_code, same_trades, statuses_rise}
 

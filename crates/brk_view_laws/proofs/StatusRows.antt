@@ -12,9 +12,9 @@ use Rattle.brk_model.specs.Rows.{price_text}
 use Rattle.brk_model.specs.Sheets.{sheets, sheets_of}
 use Rattle.brk_model.specs.StatusView.{name_of_broker, status_head, status_record, status_view}
 use Rattle.brk_model.specs.Tables.{AccountRow, BrokerRow, TradeRow, tables_of}
-use Rattle.brk_trade_laws.specs.Books.{IsBooks}
-use Rattle.brk_trade_laws.proofs.Bools.{same_text}
-use Rattle.brk_trade_laws.proofs.Reading.{find-id, find-key}
+use Rattle.brk_book_laws.specs.Books.{IsBooks}
+use Rattle.brk_book_laws.proofs.Bools.{same_text}
+use Rattle.brk_book_laws.proofs.Reading.{find-id, find-key}
 use Rattle.brk_view_laws.proofs.OneRow.{rows_of_key}
 use Rattle.brk_view_laws.proofs.Trades.{same_trades}
 

@@ -16,10 +16,10 @@ use Rattle.brk_adoption_laws.proofs.Climbs.{Climbs}
 use Rattle.brk_adoption_laws.proofs.Parts.{key_parts}
 use Rattle.brk_sound_laws.specs.Sound.{IsSound}
 use Rattle.brk_sound_laws.proofs.FormKeys.{keys_of}
-use Rattle.brk_trade_laws.specs.Books.{IsBooks}
-use Rattle.brk_trade_laws.proofs.Bools.{numbers_back}
-use Rattle.brk_trade_laws.proofs.Reading.{any-sorted}
-use Rattle.brk_trade_laws.proofs.Same.{All-map}
+use Rattle.brk_book_laws.specs.Books.{IsBooks}
+use Rattle.brk_book_laws.proofs.Bools.{numbers_back}
+use Rattle.brk_book_laws.proofs.Reading.{any-sorted}
+use Rattle.brk_book_laws.proofs.Same.{All-map}
 use Rattle.brk_view_laws.proofs.Gathering.{none_pass}
 use Rattle.brk_view_laws.proofs.Sorting.{apart_filter, same_order, same_rows, sort_back}
 use Rattle.brk_view_laws.proofs.Touches.{earlier_touch, touches_apart, touches_split}

@@ -18,11 +18,11 @@ use Rattle.brk_adoption_laws.proofs.Members.{All-flat_map}
 use Rattle.brk_adoption_laws.proofs.Parts.{key_parts}
 use Rattle.brk_sound_laws.specs.Sound.{IsSound}
 use Rattle.brk_sound_laws.proofs.FormKeys.{All-history, keys_of}
-use Rattle.brk_trade_laws.specs.Books.{IsBooks, MomentsApart}
-use Rattle.brk_trade_laws.proofs.LotReading.{IdsApart, numbered_rise, rise_apart}
-use Rattle.brk_trade_laws.proofs.Order.{Splits}
-use Rattle.brk_trade_laws.proofs.Reading.{find-map}
-use Rattle.brk_trade_laws.proofs.Same.{NonePass, All-map, All-mapped, find-All, find-each}
+use Rattle.brk_book_laws.specs.Books.{IsBooks, MomentsApart}
+use Rattle.brk_book_laws.proofs.LotReading.{IdsApart, numbered_rise, rise_apart}
+use Rattle.brk_book_laws.proofs.Order.{Splits}
+use Rattle.brk_book_laws.proofs.Reading.{find-map}
+use Rattle.brk_book_laws.proofs.Same.{NonePass, All-map, All-mapped, find-All, find-each}
 use Rattle.brk_view_laws.proofs.Sorting.{AllApart, All-sort}
 use Rattle.brk_view_laws.proofs.Trades.{All-filter}
 

@@ -12,9 +12,9 @@ use Rattle.brk_model.specs.Tables.{HistoryRow, TradeRow, tables_of, trade_row}
 use Rattle.brk_model.specs.Ways.{is_rising}
 use Rattle.brk_adoption_laws.proofs.Again.{IsRead, reads}
 use Rattle.brk_sound_laws.specs.Sound.{IsSound, IsSoundTrade}
-use Rattle.brk_trade_laws.specs.Books.{IsBooks}
-use Rattle.brk_trade_laws.proofs.Order.{by_key-filter}
-use Rattle.brk_trade_laws.proofs.TradeReading.{trades_in_order}
+use Rattle.brk_book_laws.specs.Books.{IsBooks}
+use Rattle.brk_book_laws.proofs.Order.{by_key-filter}
+use Rattle.brk_book_laws.proofs.TradeReading.{trades_in_order}
 
 pub same_trades : (base : Base) → IsBooks base → (sheets base).trades ≡ (tables_of base).trades
 unfolding tables_of

@@ -17,10 +17,10 @@ use Rattle.brk_adoption_laws.proofs.Climbs.{Climbs, not_itself}
 use Rattle.brk_adoption_laws.proofs.Parts.{key_parts}
 use Rattle.brk_sound_laws.specs.Sound.{IsSound}
 use Rattle.brk_sound_laws.proofs.FormKeys.{keys_of}
-use Rattle.brk_trade_laws.specs.Books.{IsBooks}
-use Rattle.brk_trade_laws.proofs.Bools.{same_text}
-use Rattle.brk_trade_laws.proofs.Order.{Splits, key_one_way, key_splits, key_total}
-use Rattle.brk_trade_laws.proofs.TradeReading.{requests_in_order}
+use Rattle.brk_book_laws.specs.Books.{IsBooks}
+use Rattle.brk_book_laws.proofs.Bools.{same_text}
+use Rattle.brk_book_laws.proofs.Order.{Splits, key_one_way, key_splits, key_total}
+use Rattle.brk_book_laws.proofs.TradeReading.{requests_in_order}
 use Rattle.brk_view_laws.proofs.Gathering.{Excludes, sort_gathered_of}
 use Rattle.brk_view_laws.proofs.Sorting.{AllApart, apart_filter, same_map, same_order, same_rows, sort_back}
 use Rattle.brk_view_laws.proofs.StatusRows.{same_security}

@@ -14,11 +14,11 @@ use Rattle.brk_model.specs.PositionView.{asset_total, by_worth, position_view}
 use Rattle.brk_model.specs.Records.{Account, Customer}
 use Rattle.brk_model.specs.Sheets.{sheets, sheets_of}
 use Rattle.brk_model.specs.Tables.{AccountRow, SummaryRow, Tables, account_row, last_trade_row, tables_of}
-use Rattle.brk_trade_laws.specs.Books.{DistinctAccounts, IsBooks}
-use Rattle.brk_trade_laws.proofs.Order.{Splits, by_key-filter}
-use Rattle.brk_trade_laws.proofs.Reading.{any-sorted, find-map}
-use Rattle.brk_trade_laws.proofs.TermReading.{reads_last_trade}
-use Rattle.brk_trade_laws.proofs.Worth.{total-sorted}
+use Rattle.brk_book_laws.specs.Books.{DistinctAccounts, IsBooks}
+use Rattle.brk_book_laws.proofs.Order.{Splits, by_key-filter}
+use Rattle.brk_book_laws.proofs.Reading.{any-sorted, find-map}
+use Rattle.brk_book_laws.proofs.TermReading.{reads_last_trade}
+use Rattle.brk_book_laws.proofs.Worth.{total-sorted}
 use Rattle.brk_view_laws.proofs.Sorting.{AllApart, apart_filter, same_map, same_order, same_rows, sort_chosen}
 
 -- ---- one account

@@ -8,7 +8,7 @@ ghost use Rattle.brk_model.specs.LookupView.{is_touched_by, lookup_view, lots_vi
 ghost use Rattle.brk_model.specs.Sheets.{sheets};
 ghost use Rattle.brk_model.specs.Tables.{TradeRow, tables_of};
 ghost use Rattle.brk_sound_laws.specs.Sound.{IsSound};
-ghost use Rattle.brk_trade_laws.specs.Books.{IsBooks};
+ghost use Rattle.brk_book_laws.specs.Books.{IsBooks};
 
 /// Trades that pass a test, with what became of them, are the same in the tables of a base in order and as a store reads them.
 #[tactic(auto, using(crate::proofs::LookupRows::same_lookup))]

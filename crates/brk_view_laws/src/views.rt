@@ -8,7 +8,7 @@ ghost use Rattle.brk_model.specs.StatusView.{status_view};
 ghost use Rattle.brk_model.specs.Tables.{tables_of};
 ghost use Rattle.brk_model.specs.Views.{view_of};
 ghost use Rattle.brk_sound_laws.specs.Sound.{IsSound};
-ghost use Rattle.brk_trade_laws.specs.Books.{IsBooks};
+ghost use Rattle.brk_book_laws.specs.Books.{IsBooks};
 
 /// What the accounts of customers are worth is the same in the tables of a base in order and as a store reads them.
 #[tactic(auto, using(crate::proofs::Worths::same_position))]

@@ -9,7 +9,7 @@ ghost use Rattle.brk_model.specs.Sheets.{sheets};
 ghost use Rattle.brk_model.specs.Tables.{tables_of};
 ghost use Rattle.brk_model.specs.VolumeView.{by_volume, requests_in, volume_view};
 ghost use Rattle.brk_sound_laws.specs.Sound.{IsSound};
-ghost use Rattle.brk_trade_laws.specs.Books.{IsBooks};
+ghost use Rattle.brk_book_laws.specs.Books.{IsBooks};
 
 /// What brokers have to trade is the same in the tables of a base in order and as a store reads them.
 #[tactic(auto, using(crate::proofs::VolumeRows::same_volumes))]

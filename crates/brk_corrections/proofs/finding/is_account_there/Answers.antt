@@ -3,7 +3,7 @@ use Rattle.std.specs.Prelude.{is_some}
 use Rattle.brk_model.specs.Joins.{account_in}
 use Rattle.brk_model.specs.Tables.{Tables}
 use Rattle.brk_ref.specs.Records.{account_row_of}
-use Rattle.brk_trade_laws.proofs.Reading.{is_there}
+use Rattle.brk_book_laws.proofs.Reading.{is_there}
 use Rattle.brk_store.proofs.Retelling.{retold}
 use Rattle.brk_corrections.proofs.finding.is_account_there.Goals as goal
 

@@ -1,0 +1,11 @@
+pub mod Books
+pub mod Steps
+pub mod Reads
+pub mod Trading
+pub mod TradeReads
+pub mod OrderReads
+pub mod Ticks
+pub mod Results
+pub mod Runs
+pub mod Lives
+pub mod Sums
