@@ -266,24 +266,32 @@ adopted_books t f s =
     let trades : AllByRecursion (λ r. trade_form t r ≡ true) t.trades = list_all_true (trade_form t) t.trades p.trades in
     let done : AllByRecursion (IsDone t) (done_rows t) = done_all t ways in
     record {
-      brokers = All-mapped (KnowsBroker (base_of t)) account_of_row t.accounts (All-map t.accounts (knows_broker t) accounts);
-      customers = All-mapped (KnowsCustomer (base_of t)) account_of_row t.accounts (All-map t.accounts (knows_customer t) accounts);
-      accounts = All-mapped (KnowsAccount (base_of t)) (trade_of_row t) t.trades (All-map t.trades (knows_account t) trades);
-      securities = All-mapped (KnowsSecurity (base_of t)) (trade_of_row t) t.trades (All-map t.trades (knows_security t) trades);
-      owners = distinct_accounts t.accounts k.accounts;
-      permissions = permissions_apart t.permissions k.permissions;
-      symbols = distinct_symbols t t.securities k.securities;
-      volumes = All-mapped HasVolume (security_of_row t) t.securities
-          (All-of t.securities (λ s. within_volume t t.last_trades s (All-map t.last_trades (volume_of t) (list_all_true (last_trade_form t) t.last_trades p.last_trades))));
-      numbered = numbered t 1 t.trades p.numbers;
-      ways = All-mapped WaitsFirst (trade_of_row t) t.trades (All-map t.trades (waits_first t) ways);
-      completions = All-mapped CompletesFirst (trade_of_row t) t.trades (All-map t.trades (completes_first t) ways);
-      early = subst (AllByRecursion (IsEarly t.last)) (sym (filter-map is_completed (trade_of_row t) t.trades))
-          (All-mapped (IsEarly t.last) (trade_of_row t) (done_rows t)
-          (All-map (done_rows t) (λ r d. early_of t r (list_all_true (history_form t) t.history p.history) d) done));
-      moments = subst MomentsApart (sym (filter-map is_completed (trade_of_row t) t.trades))
-          (moments_apart t (done_rows t) sp.1 (climbs_filter trade_key (λ r. is_completed (trade_of_row t r)) t.trades k.trades) done);
-      bands = All-map t.bands bounds_of (list_all_true band_form t.bands p.bands);
-      apart = bands_apart t.bands p.apart;
-      clock = clock_of t.last p.clock;
+      parties = record {
+        brokers = All-mapped (KnowsBroker (base_of t)) account_of_row t.accounts (All-map t.accounts (knows_broker t) accounts);
+        customers = All-mapped (KnowsCustomer (base_of t)) account_of_row t.accounts (All-map t.accounts (knows_customer t) accounts);
+        owners = distinct_accounts t.accounts k.accounts;
+        permissions = permissions_apart t.permissions k.permissions;
+      };
+      market = record {
+        symbols = distinct_symbols t t.securities k.securities;
+        volumes = All-mapped HasVolume (security_of_row t) t.securities
+            (All-of t.securities (λ s. within_volume t t.last_trades s (All-map t.last_trades (volume_of t) (list_all_true (last_trade_form t) t.last_trades p.last_trades))));
+        bands = All-map t.bands bounds_of (list_all_true band_form t.bands p.bands);
+        apart = bands_apart t.bands p.apart;
+      };
+      trades = record {
+        accounts = All-mapped (KnowsAccount (base_of t)) (trade_of_row t) t.trades (All-map t.trades (knows_account t) trades);
+        securities = All-mapped (KnowsSecurity (base_of t)) (trade_of_row t) t.trades (All-map t.trades (knows_security t) trades);
+        numbered = numbered t 1 t.trades p.numbers;
+        ways = All-mapped WaitsFirst (trade_of_row t) t.trades (All-map t.trades (waits_first t) ways);
+        completions = All-mapped CompletesFirst (trade_of_row t) t.trades (All-map t.trades (completes_first t) ways);
+      };
+      times = record {
+        early = subst (AllByRecursion (IsEarly t.last)) (sym (filter-map is_completed (trade_of_row t) t.trades))
+            (All-mapped (IsEarly t.last) (trade_of_row t) (done_rows t)
+            (All-map (done_rows t) (λ r d. early_of t r (list_all_true (history_form t) t.history p.history) d) done));
+        moments = subst MomentsApart (sym (filter-map is_completed (trade_of_row t) t.trades))
+            (moments_apart t (done_rows t) sp.1 (climbs_filter trade_key (λ r. is_completed (trade_of_row t r)) t.trades k.trades) done);
+        clock = clock_of t.last p.clock;
+      };
     }

@@ -1,10 +1,11 @@
 -- When trades were completed: what orders, cancels and ticks leave as it was.
-use Rattle.std.proofs.Common.{◌≡◌, ℕ, ◌+◌, ◌==◌, Bool, true, false, cond, max, List, [], ◌∷◌, refl, sym, ◌∙◌, ap, subst, filter, arith, Option, Some, None}
+use Rattle.std.proofs.Common.{◌≡◌, ◌≤◌, ℕ, ◌+◌, ◌==◌, Bool, true, false, cond, max, List, [], ◌∷◌, refl, sym, ◌∙◌, ap, subst, filter, arith, Option, Some, None}
 use Rattle.std.specs.Prelude.{◌&&◌, bytes_eq}
 use Rattle.std.specs.List.{AllByRecursion}
 use Rattle.std.specs.Option.{option_map_or}
 use Rattle.std.proofs.lemmas.Bool.{eqb-true}
 use Rattle.brk_money.specs.Kinds.{same_status}
+use Rattle.brk_money.specs.Moments.{last_stamp}
 use Rattle.brk_money.specs.declared.status.Status.{Status}
 use Rattle.brk_money.specs.declared.status.Status.TheVariants.{Completed, Active, Submitted, Pending, Canceled}
 use Rattle.brk_model.specs.Lists.{update_where}
@@ -15,7 +16,7 @@ use Rattle.brk_model.specs.Feed.{is_triggered, triggers, with_tick, with_ticks}
 use Rattle.brk_model.specs.Tests.{next_stamp, wrong_status}
 use Rattle.brk_money.specs.declared.refusal.Refusal.TheVariants.{NoTrade}
 use Rattle.brk_model.specs.Names.{NumberedFrom}
-use Rattle.brk_book_laws.specs.Books.{CompletesFirst, IsEarly, IsNoCompletion, IsOne, WaitsFirst}
+use Rattle.brk_book_laws.specs.Books.{AreMomentsInOrder, CompletesFirst, IsEarly, IsNoCompletion, IsOne, WaitsFirst}
 use Rattle.brk_book_laws.proofs.Same.{All-append, All-map, All-of}
 use Rattle.brk_book_laws.proofs.Places.{FoundAt, find-at}
 use Rattle.brk_book_laws.proofs.Numbering.{numbered_after, pending_not_completed, status_of_marked}
@@ -29,6 +30,10 @@ early_then (Some l) now t e = omega arith
 
 pub later : (base : Base) (now : ℕ) → AllByRecursion (IsEarly base.last) (completed base) → AllByRecursion (IsEarly (Some (next_stamp base now))) (completed base)
 later base now h = All-map (completed base) (λ t e. early_then base.last now t e) h
+
+-- moments stay in order where a stamp comes and no completion
+pub later_times : (base : Base) (now : ℕ) → next_stamp base now ≤ last_stamp → AreMomentsInOrder base.last (completed base) → AreMomentsInOrder (Some (next_stamp base now)) (completed base)
+later_times base now h k = record { early = later base now k.early; moments = k.moments; clock = h }
 
 -- ---- trades that came to another status, and were not completed before or after
 

@@ -19,7 +19,7 @@ use Rattle.brk_book_laws.proofs.Bools.{numbers_back, texts_back}
 use Rattle.brk_book_laws.proofs.Same.{NonePass, All-map, All-append, any-none, find-more, find-none}
 use Rattle.brk_book_laws.proofs.NewKeys.{both, and_both, not_both, same_bytes, same_codes, code_same}
 use Rattle.brk_book_laws.proofs.Tested.{passed, in_time, not_not}
-use Rattle.brk_book_laws.proofs.Completions.{later}
+use Rattle.brk_book_laws.proofs.Completions.{later_times}
 use Rattle.brk_book_laws.proofs.Steps.{in_order}
 
 pub found_more : {X : Type 0} (p : X → Bool) (xs ys : List X) → is_some (find p xs) ≡ true → is_some (find p (xs ++ ys)) ≡ true
@@ -29,43 +29,19 @@ found_more p xs ys h = ap is_some (find-more p xs ys h) ∙ h
 
 pub books_last : (base : Base) (now : ℕ) → next_stamp base now ≤ last_stamp → IsBooks base → IsBooks (record base { last = Some (next_stamp base now) })
 books_last base now h k = record {
-  brokers = k.brokers;
-  customers = k.customers;
-  accounts = k.accounts;
-  securities = k.securities;
-  owners = k.owners;
-  permissions = k.permissions;
-  symbols = k.symbols;
-  volumes = k.volumes;
-  numbered = k.numbered;
-  ways = k.ways;
-  completions = k.completions;
-  early = later base now k.early;
-  moments = k.moments;
-  bands = k.bands;
-  apart = k.apart;
-  clock = h;
+  parties = k.parties;
+  market = k.market;
+  trades = k.trades;
+  times = later_times base now h k.times;
 }
 
 pub books_terms : (base : Base) (charges : List Charge) (tax_rates : List TaxRate) (customer_taxes : List CustomerTax) (kept : List Kept) → IsBooks base
     → IsBooks (record base { charges = charges; tax_rates = tax_rates; customer_taxes = customer_taxes; kept = kept })
 books_terms base charges tax_rates customer_taxes kept k = record {
-  brokers = k.brokers;
-  customers = k.customers;
-  accounts = k.accounts;
-  securities = k.securities;
-  owners = k.owners;
-  permissions = k.permissions;
-  symbols = k.symbols;
-  volumes = k.volumes;
-  numbered = k.numbered;
-  ways = k.ways;
-  completions = k.completions;
-  early = k.early;
-  moments = k.moments;
-  bands = k.bands;
-  apart = k.apart;
-  clock = k.clock;
+  parties = k.parties;
+  market = k.market;
+  trades = k.trades;
+  times = k.times;
 }
 
 pub books_kept : (base : Base) (key : Option Key) (command : Command) (reply : Reply) → IsBooks base → IsBooks (keeping key command reply base)
@@ -106,22 +82,15 @@ unfolding records_after tests
 books_permission base now p k e =
     let f = passed base now (AddPermission p) e in
     record {
-      brokers = k.brokers;
-      customers = k.customers;
-      accounts = k.accounts;
-      securities = k.securities;
-      owners = k.owners;
-      permissions = permissions_more base.permissions p (any-none (λ q. (q.account == p.account) && bytes_eq q.tax_id p.tax_id) base.permissions f.1.0) k.permissions;
-      symbols = k.symbols;
-      volumes = k.volumes;
-      numbered = k.numbered;
-      ways = k.ways;
-      completions = k.completions;
-      early = later base now k.early;
-      moments = k.moments;
-      bands = k.bands;
-      apart = k.apart;
-      clock = in_time base now (AddPermission p) e;
+      parties = record {
+        brokers = k.brokers;
+        customers = k.customers;
+        owners = k.owners;
+        permissions = permissions_more base.permissions p (any-none (λ q. (q.account == p.account) && bytes_eq q.tax_id p.tax_id) base.permissions f.1.0) k.permissions;
+      };
+      market = k.market;
+      trades = k.trades;
+      times = later_times base now (in_time base now (AddPermission p) e) k.times;
     }
 
 -- ---- brokers, customers and accounts
@@ -130,43 +99,29 @@ books_permission base now p k e =
 pub books_broker : (base : Base) (now : ℕ) (b : Broker) → LeavesBooks base now (AddBroker b)
 unfolding records_after
 books_broker base now b k e = record {
-  brokers = All-map base.accounts (λ a h. found_more (λ x. x.id == a.broker) base.brokers (b ∷ []) h) k.brokers;
-  customers = k.customers;
-  accounts = k.accounts;
-  securities = k.securities;
-  owners = k.owners;
-  permissions = k.permissions;
-  symbols = k.symbols;
-  volumes = k.volumes;
-  numbered = k.numbered;
-  ways = k.ways;
-  completions = k.completions;
-  early = later base now k.early;
-  moments = k.moments;
-  bands = k.bands;
-  apart = k.apart;
-  clock = in_time base now (AddBroker b) e;
+  parties = record {
+    brokers = All-map base.accounts (λ a h. found_more (λ x. x.id == a.broker) base.brokers (b ∷ []) h) k.brokers;
+    customers = k.customers;
+    owners = k.owners;
+    permissions = k.permissions;
+  };
+  market = k.market;
+  trades = k.trades;
+  times = later_times base now (in_time base now (AddBroker b) e) k.times;
 }
 
 pub books_customer : (base : Base) (now : ℕ) (c : Customer) → LeavesBooks base now (AddCustomer c)
 unfolding records_after
 books_customer base now c k e = record {
-  brokers = k.brokers;
-  customers = All-map base.accounts (λ a h. found_more (λ x. x.id == a.customer) base.customers (c ∷ []) h) k.customers;
-  accounts = k.accounts;
-  securities = k.securities;
-  owners = k.owners;
-  permissions = k.permissions;
-  symbols = k.symbols;
-  volumes = k.volumes;
-  numbered = k.numbered;
-  ways = k.ways;
-  completions = k.completions;
-  early = later base now k.early;
-  moments = k.moments;
-  bands = k.bands;
-  apart = k.apart;
-  clock = in_time base now (AddCustomer c) e;
+  parties = record {
+    brokers = k.brokers;
+    customers = All-map base.accounts (λ a h. found_more (λ x. x.id == a.customer) base.customers (c ∷ []) h) k.customers;
+    owners = k.owners;
+    permissions = k.permissions;
+  };
+  market = k.market;
+  trades = k.trades;
+  times = later_times base now (in_time base now (AddCustomer c) e) k.times;
 }
 
 owners_more : (bs : List Account) (a : Account) → NonePass (λ b. b.id == a.id) bs → DistinctAccounts bs → DistinctAccounts (bs ++ a ∷ [])
@@ -181,22 +136,21 @@ unfolding records_after tests
 books_account base now a k e =
     let p = passed base now (AddAccount a) e in
     record {
-      brokers = All-append (KnowsBroker base) base.accounts (a ∷ []) k.brokers (not_not (is_some (broker_with base a.broker)) p.1.0, tt);
-      customers = All-append (KnowsCustomer base) base.accounts (a ∷ []) k.customers (not_not (is_some (customer_with base a.customer)) p.0, tt);
-      accounts = All-map base.trades (λ t h. found_more (λ x. x.id == t.account) base.accounts (a ∷ []) h) k.accounts;
-      securities = k.securities;
-      owners = owners_more base.accounts a (find-none (λ x. x.id == a.id) base.accounts p.1.1.0) k.owners;
-      permissions = k.permissions;
-      symbols = k.symbols;
-      volumes = k.volumes;
-      numbered = k.numbered;
-      ways = k.ways;
-      completions = k.completions;
-      early = later base now k.early;
-      moments = k.moments;
-      bands = k.bands;
-      apart = k.apart;
-      clock = in_time base now (AddAccount a) e;
+      parties = record {
+        brokers = All-append (KnowsBroker base) base.accounts (a ∷ []) k.brokers (not_not (is_some (broker_with base a.broker)) p.1.0, tt);
+        customers = All-append (KnowsCustomer base) base.accounts (a ∷ []) k.customers (not_not (is_some (customer_with base a.customer)) p.0, tt);
+        owners = owners_more base.accounts a (find-none (λ x. x.id == a.id) base.accounts p.1.1.0) k.owners;
+        permissions = k.permissions;
+      };
+      market = k.market;
+      trades = record {
+        accounts = All-map base.trades (λ t h. found_more (λ x. x.id == t.account) base.accounts (a ∷ []) h) k.accounts;
+        securities = k.securities;
+        numbered = k.numbered;
+        ways = k.ways;
+        completions = k.completions;
+      };
+      times = later_times base now (in_time base now (AddAccount a) e) k.times;
     }
 
 -- ---- securities
@@ -217,22 +171,21 @@ books_security base now l k e =
     let p = passed base now (AddSecurity l) e in
     let s : Security = listed (next_stamp base now) l in
     record {
-      brokers = k.brokers;
-      customers = k.customers;
-      accounts = k.accounts;
-      securities = All-map base.trades (λ t h. found_more (λ s. bytes_eq s.symbol t.symbol) base.securities (s ∷ []) h) k.securities;
-      owners = k.owners;
-      permissions = k.permissions;
-      symbols = symbols_more base.securities s (find-none (λ s. bytes_eq s.symbol l.symbol) base.securities p.0) k.symbols;
-      volumes = All-append HasVolume base.securities (s ∷ []) k.volumes (no_volume, tt);
-      numbered = k.numbered;
-      ways = k.ways;
-      completions = k.completions;
-      early = later base now k.early;
-      moments = k.moments;
-      bands = k.bands;
-      apart = k.apart;
-      clock = in_time base now (AddSecurity l) e;
+      parties = k.parties;
+      market = record {
+        symbols = symbols_more base.securities s (find-none (λ s. bytes_eq s.symbol l.symbol) base.securities p.0) k.symbols;
+        volumes = All-append HasVolume base.securities (s ∷ []) k.volumes (no_volume, tt);
+        bands = k.bands;
+        apart = k.apart;
+      };
+      trades = record {
+        accounts = k.accounts;
+        securities = All-map base.trades (λ t h. found_more (λ s. bytes_eq s.symbol t.symbol) base.securities (s ∷ []) h) k.securities;
+        numbered = k.numbered;
+        ways = k.ways;
+        completions = k.completions;
+      };
+      times = later_times base now (in_time base now (AddSecurity l) e) k.times;
     }
 
 -- ---- bands
@@ -262,20 +215,13 @@ unfolding records_after tests
 books_band base now b k e =
     let p = passed base now (AddBand b) e in
     record {
-      brokers = k.brokers;
-      customers = k.customers;
-      accounts = k.accounts;
-      securities = k.securities;
-      owners = k.owners;
-      permissions = k.permissions;
-      symbols = k.symbols;
-      volumes = k.volumes;
-      numbered = k.numbered;
-      ways = k.ways;
-      completions = k.completions;
-      early = later base now k.early;
-      moments = k.moments;
-      bands = All-append HasBounds base.bands (b ∷ []) k.bands (in_order b.from_qty b.to_qty p.0, tt);
-      apart = apart_more base.bands b (any-none (bands_meet b) base.bands p.1.0) k.apart;
-      clock = in_time base now (AddBand b) e;
+      parties = k.parties;
+      market = record {
+        symbols = k.symbols;
+        volumes = k.volumes;
+        bands = All-append HasBounds base.bands (b ∷ []) k.bands (in_order b.from_qty b.to_qty p.0, tt);
+        apart = apart_more base.bands b (any-none (bands_meet b) base.bands p.1.0) k.apart;
+      };
+      trades = k.trades;
+      times = later_times base now (in_time base now (AddBand b) e) k.times;
     }

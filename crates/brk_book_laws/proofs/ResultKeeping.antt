@@ -154,23 +154,21 @@ books_then base now id price t k e accepted =
     let last : AllByRecursion (λ v. moment_of v < moment_of u) (A ++ Z) =
     subst (λ (m : ℕ). AllByRecursion (λ v. moment_of v < m) (A ++ Z)) (sym moment) (subst (AllByRecursion (λ v. moment_of v < stamp)) done (all_before base now k)) in
     record {
-      brokers = k.brokers;
-      customers = k.customers;
-      accounts = All-updated (KnowsAccount base) (λ v. v.id == t.id) (completed_trade base stamp price) base.trades (λ v h. same_account base stamp price v h) k.accounts;
-      securities = All-updated (KnowsSecurity base) (λ v. v.id == t.id) (completed_trade base stamp price) base.trades (λ v h. same_security base stamp price v h) k.securities;
-      owners = k.owners;
-      permissions = k.permissions;
-      symbols = k.symbols;
-      volumes = k.volumes;
-      numbered = numbered_updated 1 (λ v. v.id == t.id) (completed_trade base stamp price) base.trades (λ v. same_id base stamp price v) k.numbered;
-      ways = All-updated WaitsFirst (λ v. v.id == t.id) (completed_trade base stamp price) base.trades (λ v h. not_waiting base stamp price v) k.ways;
-      completions = All-updated CompletesFirst (λ v. v.id == t.id) (completed_trade base stamp price) base.trades (λ v h. not_at_market base stamp price v) k.completions;
-      early = subst (AllByRecursion (IsEarly (Some stamp))) (sym after)
-          (All-append (IsEarly (Some stamp)) A (u ∷ Z) (All-front (IsEarly (Some stamp)) A Z early) (no_later (moment_of u) stamp moment, All-back (IsEarly (Some stamp)) A Z early));
-      moments = subst MomentsApart (sym after) (moments_more A u Z last (subst MomentsApart done k.moments));
-      bands = k.bands;
-      apart = k.apart;
-      clock = in_time base now (CompleteTrade id price) accepted;
+      parties = k.parties;
+      market = k.market;
+      trades = record {
+        accounts = All-updated (KnowsAccount base) (λ v. v.id == t.id) (completed_trade base stamp price) base.trades (λ v h. same_account base stamp price v h) k.accounts;
+        securities = All-updated (KnowsSecurity base) (λ v. v.id == t.id) (completed_trade base stamp price) base.trades (λ v h. same_security base stamp price v h) k.securities;
+        numbered = numbered_updated 1 (λ v. v.id == t.id) (completed_trade base stamp price) base.trades (λ v. same_id base stamp price v) k.numbered;
+        ways = All-updated WaitsFirst (λ v. v.id == t.id) (completed_trade base stamp price) base.trades (λ v h. not_waiting base stamp price v) k.ways;
+        completions = All-updated CompletesFirst (λ v. v.id == t.id) (completed_trade base stamp price) base.trades (λ v h. not_at_market base stamp price v) k.completions;
+      };
+      times = record {
+        early = subst (AllByRecursion (IsEarly (Some stamp))) (sym after)
+            (All-append (IsEarly (Some stamp)) A (u ∷ Z) (All-front (IsEarly (Some stamp)) A Z early) (no_later (moment_of u) stamp moment, All-back (IsEarly (Some stamp)) A Z early));
+        moments = subst MomentsApart (sym after) (moments_more A u Z last (subst MomentsApart done k.moments));
+        clock = in_time base now (CompleteTrade id price) accepted;
+      };
     }
 
 pub books_result : (base : Base) (now id price : ℕ) → LeavesBooks base now (CompleteTrade id price)

@@ -96,22 +96,20 @@ moments_changed p f (t ∷ ts) s m =
 books_changed : (base : Base) (now : ℕ) (command : Command) (p : Trade → Bool) (f : Trade → Trade) → ((t : Trade) → IsSame t (f t)) → IsBooks base → refusal_of base now command ≡ None
     → IsBooks (record (with_trades p f base) { last = Some (next_stamp base now) })
 books_changed base now command p f s k e = record {
-  brokers = k.brokers;
-  customers = k.customers;
-  accounts = All-updated (KnowsAccount base) p f base.trades (λ t h. subst (λ (a : ℕ). KnowsAccount base (record t { account = a })) (sym (s t).account) h) k.accounts;
-  securities = All-updated (KnowsSecurity base) p f base.trades (λ t h. subst (λ (a : Text). KnowsSecurity base (record t { symbol = a })) (sym (s t).symbol) h) k.securities;
-  owners = k.owners;
-  permissions = k.permissions;
-  symbols = k.symbols;
-  volumes = k.volumes;
-  numbered = numbered_updated 1 p f base.trades (λ t. (s t).id) k.numbered;
-  ways = All-updated WaitsFirst p f base.trades (λ t h. subst (λ ms. WaitsFirst (record t { marks = ms })) (sym (s t).marks) h) k.ways;
-  completions = All-updated CompletesFirst p f base.trades (λ t h. subst (λ ms. CompletesFirst (record t { marks = ms })) (sym (s t).marks) h) k.completions;
-  early = done_changed (IsEarly (Some (next_stamp base now))) p f base.trades s (early_same (Some (next_stamp base now))) (later base now k.early);
-  moments = moments_changed p f base.trades s k.moments;
-  bands = k.bands;
-  apart = k.apart;
-  clock = in_time base now command e;
+  parties = k.parties;
+  market = k.market;
+  trades = record {
+    accounts = All-updated (KnowsAccount base) p f base.trades (λ t h. subst (λ (a : ℕ). KnowsAccount base (record t { account = a })) (sym (s t).account) h) k.accounts;
+    securities = All-updated (KnowsSecurity base) p f base.trades (λ t h. subst (λ (a : Text). KnowsSecurity base (record t { symbol = a })) (sym (s t).symbol) h) k.securities;
+    numbered = numbered_updated 1 p f base.trades (λ t. (s t).id) k.numbered;
+    ways = All-updated WaitsFirst p f base.trades (λ t h. subst (λ ms. WaitsFirst (record t { marks = ms })) (sym (s t).marks) h) k.ways;
+    completions = All-updated CompletesFirst p f base.trades (λ t h. subst (λ ms. CompletesFirst (record t { marks = ms })) (sym (s t).marks) h) k.completions;
+  };
+  times = record {
+    early = done_changed (IsEarly (Some (next_stamp base now))) p f base.trades s (early_same (Some (next_stamp base now))) (later base now k.early);
+    moments = moments_changed p f base.trades s k.moments;
+    clock = in_time base now command e;
+  };
 }
 
 pub executor_same : (t : Trade) → IsSame t (record t { executor = changed_executor t.executor })

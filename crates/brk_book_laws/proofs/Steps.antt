@@ -27,7 +27,12 @@ empty_rows = refl
 
 pub empty_books : IsBooks empty_base
 unfolding empty_base
-empty_books = record { brokers = tt; customers = tt; accounts = tt; securities = tt; owners = tt; permissions = tt; symbols = tt; volumes = tt; numbered = tt; ways = tt; completions = tt; early = tt; moments = tt; bands = tt; apart = tt; clock = tt }
+empty_books = record {
+  parties = record { brokers = tt; customers = tt; owners = tt; permissions = tt };
+  market = record { symbols = tt; volumes = tt; bands = tt; apart = tt };
+  trades = record { accounts = tt; securities = tt; numbered = tt; ways = tt; completions = tt };
+  times = record { early = tt; moments = tt; clock = tt };
+}
 
 pub step_broker : (base : Base) (now : ℕ) (b : Broker) → ChangesRows base now (AddBroker b) (with_broker b)
 unfolding tests

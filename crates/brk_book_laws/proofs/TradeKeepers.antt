@@ -14,16 +14,15 @@ use Rattle.brk_model.specs.Feed.{is_triggered, with_tick, with_ticks}
 use Rattle.brk_model.specs.Tests.{tests, next_stamp}
 use Rattle.brk_model.specs.Step.{records_after}
 use Rattle.brk_model.specs.Names.{KnowsAccount, KnowsBroker, KnowsCustomer, KnowsSecurity}
-use Rattle.brk_book_laws.specs.Books.{BandsApart, CompletesFirst, DistinctAccounts, HasBounds, HasVolume, IsEarly, MomentsApart, PermissionsApart, WaitsFirst}
+use Rattle.brk_book_laws.specs.Books.{AreMomentsInOrder, ArePartiesInOrder, AreTradesInOrder, BandsApart, CompletesFirst, DistinctSymbols, HasBounds, HasVolume, WaitsFirst}
 use Rattle.brk_book_laws.specs.Steps.{LeavesBooks}
 use Rattle.brk_book_laws.proofs.Same.{All-append, All-map, any-none}
 use Rattle.brk_book_laws.proofs.Places.{All-updated}
 use Rattle.brk_book_laws.proofs.Numbering.{moved_way, numbered_more, numbered_updated, status_of_marked}
-use Rattle.brk_book_laws.proofs.Completions.{completed_ticks, completed_unseen, completions_tick, first_mark, later, moved_elsewhere, named_waits}
+use Rattle.brk_book_laws.proofs.Completions.{completed_ticks, completed_unseen, completions_tick, first_mark, later_times, moved_elsewhere, named_waits}
 use Rattle.brk_book_laws.proofs.Ordering.{first_not_completed, ordered_done}
 use Rattle.brk_book_laws.proofs.Feeding.{Ready, ready_tick, known_after}
 use Rattle.brk_book_laws.proofs.Tested.{passed, in_time, not_not}
-use Rattle.brk_book_laws.proofs.Trades.{ready}
 
 -- ---- an order
 
@@ -36,22 +35,16 @@ books_order base now o k e =
     let p = passed base now (PlaceOrder o) e in
     let t : Trade = ordered_trade base (next_stamp base now) o in
     record {
-      brokers = k.brokers;
-      customers = k.customers;
-      accounts = All-append (KnowsAccount base) base.trades (t ∷ []) k.accounts (not_not (is_some (account_with base o.account)) p.0, tt);
-      securities = All-append (KnowsSecurity base) base.trades (t ∷ []) k.securities (not_not (is_some (security_with base o.symbol)) p.1.0, tt);
-      owners = k.owners;
-      permissions = k.permissions;
-      symbols = k.symbols;
-      volumes = k.volumes;
-      numbered = numbered_more 1 base.trades t (next_number (length base.trades)) k.numbered;
-      ways = All-append WaitsFirst base.trades (t ∷ []) k.ways ((λ waits. tt), tt);
-      completions = All-append CompletesFirst base.trades (t ∷ []) k.completions (first_mark t (record { stamp = next_stamp base now; status = first_status (kind_of o.order_type) }) refl (first_not_completed (kind_of o.order_type)), tt);
-      early = subst (AllByRecursion (IsEarly (Some (next_stamp base now)))) (sym (ordered_done base (next_stamp base now) o)) (later base now k.early);
-      moments = subst MomentsApart (sym (ordered_done base (next_stamp base now) o)) k.moments;
-      bands = k.bands;
-      apart = k.apart;
-      clock = in_time base now (PlaceOrder o) e;
+      parties = k.parties;
+      market = k.market;
+      trades = record {
+        accounts = All-append (KnowsAccount base) base.trades (t ∷ []) k.accounts (not_not (is_some (account_with base o.account)) p.0, tt);
+        securities = All-append (KnowsSecurity base) base.trades (t ∷ []) k.securities (not_not (is_some (security_with base o.symbol)) p.1.0, tt);
+        numbered = numbered_more 1 base.trades t (next_number (length base.trades)) k.numbered;
+        ways = All-append WaitsFirst base.trades (t ∷ []) k.ways ((λ waits. tt), tt);
+        completions = All-append CompletesFirst base.trades (t ∷ []) k.completions (first_mark t (record { stamp = next_stamp base now; status = first_status (kind_of o.order_type) }) refl (first_not_completed (kind_of o.order_type)), tt);
+      };
+      times = subst (AreMomentsInOrder (Some (next_stamp base now))) (sym (ordered_done base (next_stamp base now) o)) (later_times base now (in_time base now (PlaceOrder o) e) k.times);
     }
 
 -- ---- a cancel
@@ -64,53 +57,45 @@ books_cancel base now id k e =
     completed_unseen (λ t. t.id == id) (marked stamp Canceled) base.trades (λ t. status_of_marked stamp Canceled Completed t)
     (named_waits base id (trade_with base id) k.numbered refl (passed base now (CancelTrade id) e)) in
     record {
-      brokers = k.brokers;
-      customers = k.customers;
-      accounts = All-updated (KnowsAccount base) (λ t. t.id == id) (marked stamp Canceled) base.trades (λ t h. h) k.accounts;
-      securities = All-updated (KnowsSecurity base) (λ t. t.id == id) (marked stamp Canceled) base.trades (λ t h. h) k.securities;
-      owners = k.owners;
-      permissions = k.permissions;
-      symbols = k.symbols;
-      volumes = k.volumes;
-      numbered = numbered_updated 1 (λ t. t.id == id) (marked stamp Canceled) base.trades (λ t. refl) k.numbered;
-      ways = All-updated WaitsFirst (λ t. t.id == id) (marked stamp Canceled) base.trades (λ t h. moved_way stamp Canceled t refl) k.ways;
-      completions = All-updated CompletesFirst (λ t. t.id == id) (marked stamp Canceled) base.trades (λ t h. moved_elsewhere stamp Canceled t refl) k.completions;
-      early = subst (AllByRecursion (IsEarly (Some stamp))) (sym done) (later base now k.early);
-      moments = subst MomentsApart (sym done) k.moments;
-      bands = k.bands;
-      apart = k.apart;
-      clock = in_time base now (CancelTrade id) e;
+      parties = k.parties;
+      market = k.market;
+      trades = record {
+        accounts = All-updated (KnowsAccount base) (λ t. t.id == id) (marked stamp Canceled) base.trades (λ t h. h) k.accounts;
+        securities = All-updated (KnowsSecurity base) (λ t. t.id == id) (marked stamp Canceled) base.trades (λ t h. h) k.securities;
+        numbered = numbered_updated 1 (λ t. t.id == id) (marked stamp Canceled) base.trades (λ t. refl) k.numbered;
+        ways = All-updated WaitsFirst (λ t. t.id == id) (marked stamp Canceled) base.trades (λ t h. moved_way stamp Canceled t refl) k.ways;
+        completions = All-updated CompletesFirst (λ t. t.id == id) (marked stamp Canceled) base.trades (λ t h. moved_elsewhere stamp Canceled t refl) k.completions;
+      };
+      times = subst (AreMomentsInOrder (Some stamp)) (sym done) (later_times base now (in_time base now (CancelTrade id) e) k.times);
     }
 
 -- ---- a feed: its volumes are tested at its end alone
 
 -- in order but for the volumes
 record Between (base : Base) : Type 0 where
-  pub brokers : AllByRecursion (KnowsBroker base) base.accounts
-  pub customers : AllByRecursion (KnowsCustomer base) base.accounts
-  pub accounts : AllByRecursion (KnowsAccount base) base.trades
-  pub securities : AllByRecursion (KnowsSecurity base) base.trades
-  pub owners : DistinctAccounts base.accounts
-  pub permissions : PermissionsApart base.permissions
-  pub rest : Ready base
-  pub completions : AllByRecursion CompletesFirst base.trades
+  pub parties : ArePartiesInOrder base.brokers base.customers base.accounts base.permissions
+  pub symbols : DistinctSymbols base.securities
   pub bands : AllByRecursion HasBounds base.bands
   pub apart : BandsApart base.bands
+  pub trades : AreTradesInOrder base.accounts base.securities base.trades
 
 between_tick : (base : Base) (stamp : ℕ) (tick : Tick) → Between base → Between (with_tick stamp base tick)
-between_tick base stamp tick k = record {
-  brokers = k.brokers;
-  customers = k.customers;
-  accounts = All-updated (KnowsAccount base) (is_triggered tick) (marked stamp Submitted) base.trades (λ t h. h) k.accounts;
-  securities = All-updated (KnowsSecurity (with_tick stamp base tick)) (is_triggered tick) (marked stamp Submitted) base.trades (λ t h. h)
-      (All-map base.trades (λ t h. known_after base stamp tick t.symbol h) k.securities);
-  owners = k.owners;
-  permissions = k.permissions;
-  rest = ready_tick base stamp tick k.rest;
-  completions = completions_tick stamp tick base.trades k.rest.ways k.completions;
-  bands = k.bands;
-  apart = k.apart;
-}
+between_tick base stamp tick k =
+    let r : Ready (with_tick stamp base tick) = ready_tick base stamp tick (record { symbols = k.symbols; numbered = k.trades.numbered; ways = k.trades.ways }) in
+    record {
+      parties = k.parties;
+      symbols = r.symbols;
+      bands = k.bands;
+      apart = k.apart;
+      trades = record {
+        accounts = All-updated (KnowsAccount base) (is_triggered tick) (marked stamp Submitted) base.trades (λ t h. h) k.trades.accounts;
+        securities = All-updated (KnowsSecurity (with_tick stamp base tick)) (is_triggered tick) (marked stamp Submitted) base.trades (λ t h. h)
+            (All-map base.trades (λ t h. known_after base stamp tick t.symbol h) k.trades.securities);
+        numbered = r.numbered;
+        ways = r.ways;
+        completions = completions_tick stamp tick base.trades k.trades.ways k.trades.completions;
+      };
+    }
 
 between_ticks : (base : Base) (stamp : ℕ) (ticks : List Tick) → Between base → Between (with_ticks stamp base ticks)
 unfolding with_ticks
@@ -127,22 +112,10 @@ books_feed base now ticks k e =
     let after : Base = with_ticks (next_stamp base now) base ticks in
     let done : completed after ≡ completed base = completed_ticks base (next_stamp base now) ticks in
     let b : Between after = between_ticks base (next_stamp base now) ticks
-    (record { brokers = k.brokers; customers = k.customers; accounts = k.accounts; securities = k.securities; owners = k.owners; permissions = k.permissions; rest = ready base k; completions = k.completions; bands = k.bands; apart = k.apart }) in
+    (record { parties = k.parties; symbols = k.symbols; bands = k.bands; apart = k.apart; trades = k.trades }) in
     record {
-      brokers = b.brokers;
-      customers = b.customers;
-      accounts = b.accounts;
-      securities = b.securities;
-      owners = b.owners;
-      permissions = b.permissions;
-      symbols = b.rest.symbols;
-      volumes = within_limit after.securities p.1.0;
-      numbered = b.rest.numbered;
-      ways = b.rest.ways;
-      completions = b.completions;
-      early = subst (AllByRecursion (IsEarly (Some (next_stamp base now)))) (sym done) (later base now k.early);
-      moments = subst MomentsApart (sym done) k.moments;
-      bands = b.bands;
-      apart = b.apart;
-      clock = in_time base now (FeedTicks ticks) e;
+      parties = b.parties;
+      market = record { symbols = b.symbols; volumes = within_limit after.securities p.1.0; bands = b.bands; apart = b.apart };
+      trades = b.trades;
+      times = subst (AreMomentsInOrder (Some (next_stamp base now))) (sym done) (later_times base now (in_time base now (FeedTicks ticks) e) k.times);
     }

@@ -1,13 +1,13 @@
 -- What holds of the base of a brokerage that began empty and was moved by accepted commands: what the rows of the next command rest on.
-use Rattle.std.specs.Prelude.{◌≡◌, ◌≤◌, ⊤, ℕ, ◌==◌, ◌&&◌, true, false, List, [], ◌∷◌, Option, Some, None, nat_le, IfSome, bytes_eq}
+use Rattle.std.specs.Prelude.{◌≡◌, ◌≤◌, ⊤, ℕ, ◌==◌, ◌&&◌, true, false, List, [], ◌∷◌, Option, Some, None, nat_le, IfSome, bytes_eq, find, is_some}
 use Rattle.std.specs.List.{AllByRecursion}
 use Rattle.brk_money.specs.Moments.{last_stamp}
 use Rattle.brk_money.specs.Kinds.{same_status}
 use Rattle.brk_money.specs.declared.status.Status.TheVariants.{Completed, Pending, Submitted}
 use Rattle.brk_model.specs.Limits.{greatest_amount}
-use Rattle.brk_model.specs.Records.{Account, Band, Mark, Permission, Security, Trade}
+use Rattle.brk_model.specs.Records.{Account, Band, Broker, Customer, Mark, Permission, Security, Trade}
 use Rattle.brk_model.specs.Base.{Base, completed, has_status, moment_of}
-use Rattle.brk_model.specs.Names.{KnowsAccount, KnowsBroker, KnowsCustomer, KnowsSecurity, NumberedFrom}
+use Rattle.brk_model.specs.Names.{NumberedFrom}
 use Rattle.brk_model.specs.Tests.{bands_meet}
 
 -- no two accounts have one id
@@ -66,33 +66,68 @@ abbrev pub BandsApart : List Band → Type 0
 BandsApart [] = ⊤
 BandsApart (b ∷ bs) = AllByRecursion (λ c. bands_meet b c ≡ false) bs × BandsApart bs
 
--- a base that is in order
-pub record IsBooks (base : Base) : Type 0 where
-  -- what accounts and trades name is there
-  pub brokers : AllByRecursion (KnowsBroker base) base.accounts
-  pub customers : AllByRecursion (KnowsCustomer base) base.accounts
-  pub accounts : AllByRecursion (KnowsAccount base) base.trades
-  pub securities : AllByRecursion (KnowsSecurity base) base.trades
+-- what an account names is there
+abbrev pub HasBroker : List Broker → Account → Type 0
+HasBroker brokers a = is_some (find (λ b. b.id == a.broker) brokers) ≡ true
+
+abbrev pub HasCustomer : List Customer → Account → Type 0
+HasCustomer customers a = is_some (find (λ c. c.id == a.customer) customers) ≡ true
+
+-- what a trade names is there
+abbrev pub HasAccount : List Account → Trade → Type 0
+HasAccount accounts t = is_some (find (λ a. a.id == t.account) accounts) ≡ true
+
+abbrev pub HasSecurity : List Security → Trade → Type 0
+HasSecurity securities t = is_some (find (λ s. bytes_eq s.symbol t.symbol) securities) ≡ true
+
+-- accounts and permissions are in order
+pub record ArePartiesInOrder (all_brokers : List Broker) (all_customers : List Customer) (all_accounts : List Account) (all_permissions : List Permission) : Type 0 where
+  -- what accounts name is there
+  pub brokers : AllByRecursion (HasBroker all_brokers) all_accounts
+  pub customers : AllByRecursion (HasCustomer all_customers) all_accounts
   -- an id is of one account, so that its summaries are its own
-  pub owners : DistinctAccounts base.accounts
+  pub owners : DistinctAccounts all_accounts
   -- a tax id is of one permission of an account, so that this one alone permits whoever has it
-  pub permissions : PermissionsApart base.permissions
+  pub permissions : PermissionsApart all_permissions
+
+-- securities and bands are in order
+pub record IsMarketInOrder (all_securities : List Security) (all_bands : List Band) : Type 0 where
   -- a symbol is of one security, so that a tick changes one last trade
-  pub symbols : DistinctSymbols base.securities
+  pub symbols : DistinctSymbols all_securities
   -- what was traded of it is within the limit, so that a feed is tested by the symbols of its ticks
-  pub volumes : AllByRecursion HasVolume base.securities
-  -- trades are numbered in the order of their acceptance, from 1, so that the next number is new
-  pub numbered : NumberedFrom 1 base.trades
-  -- a trade that waits has one status in its history, so that the next one is new
-  pub ways : AllByRecursion WaitsFirst base.trades
-  -- a trade at the market was never completed, so that its completion is new in its history
-  pub completions : AllByRecursion CompletesFirst base.trades
-  -- no trade was completed after the last stamp, so that the next completion is the last one of its position
-  pub early : AllByRecursion (IsEarly base.last) (completed base)
-  -- no two were at one moment, so that the lots of a position stand in one order
-  pub moments : MomentsApart (completed base)
+  pub volumes : AllByRecursion HasVolume all_securities
   -- the bounds of bands are in order, and a quantity is of one band
-  pub bands : AllByRecursion HasBounds base.bands
-  pub apart : BandsApart base.bands
+  pub bands : AllByRecursion HasBounds all_bands
+  pub apart : BandsApart all_bands
+
+-- trades are in order
+pub record AreTradesInOrder (all_accounts : List Account) (all_securities : List Security) (all_trades : List Trade) : Type 0 where
+  -- what trades name is there
+  pub accounts : AllByRecursion (HasAccount all_accounts) all_trades
+  pub securities : AllByRecursion (HasSecurity all_securities) all_trades
+  -- trades are numbered in the order of their acceptance, from 1, so that the next number is new
+  pub numbered : NumberedFrom 1 all_trades
+  -- a trade that waits has one status in its history, so that the next one is new
+  pub ways : AllByRecursion WaitsFirst all_trades
+  -- a trade at the market was never completed, so that its completion is new in its history
+  pub completions : AllByRecursion CompletesFirst all_trades
+
+-- moments are in order: those of completed trades, and the last stamp
+pub record AreMomentsInOrder (last : Option ℕ) (done : List Trade) : Type 0 where
+  -- no trade was completed after the last stamp, so that the next completion is the last one of its position
+  pub early : AllByRecursion (IsEarly last) done
+  -- no two were at one moment, so that the lots of a position stand in one order
+  pub moments : MomentsApart done
   -- the last stamp is one that there is
-  pub clock : IfSome base.last (λ last. last ≤ last_stamp)
+  pub clock : IfSome last (λ last. last ≤ last_stamp)
+
+-- a base that is in order: each part speaks of its own lists alone, so that it stays where these do
+pub record IsBooks (base : Base) : Type 0 where
+  pub parties : ArePartiesInOrder base.brokers base.customers base.accounts base.permissions
+  pub open parties use *
+  pub market : IsMarketInOrder base.securities base.bands
+  pub open market use *
+  pub trades : AreTradesInOrder base.accounts base.securities base.trades
+  pub open trades use *
+  pub times : AreMomentsInOrder base.last (completed base)
+  pub open times use *
