@@ -13,7 +13,7 @@ use Rattle.brk_model.specs.Orders.{first_status, ordered_trade}
 use Rattle.brk_model.specs.Feed.{is_triggered, with_tick, with_ticks}
 use Rattle.brk_model.specs.Tests.{tests, next_stamp}
 use Rattle.brk_model.specs.Step.{records_after}
-use Rattle.brk_model.specs.Names.{KnowsAccount, KnowsBroker, KnowsCustomer, KnowsSecurity}
+use Rattle.brk_model.specs.Names.{KnowsAccount, KnowsSecurity}
 use Rattle.brk_book_laws.specs.Books.{AreMomentsInOrder, ArePartiesInOrder, AreTradesInOrder, BandsApart, CompletesFirst, DistinctSymbols, HasBounds, HasVolume, WaitsFirst}
 use Rattle.brk_book_laws.specs.Steps.{LeavesBooks}
 use Rattle.brk_book_laws.proofs.Same.{All-append, All-map, any-none}

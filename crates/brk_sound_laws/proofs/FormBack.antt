@@ -37,10 +37,9 @@ use Rattle.brk_adoption_laws.proofs.Again.{IsRead, both_all, reads}
 use Rattle.brk_adoption_laws.proofs.Climbs.{Climbs, list_all_true, not_itself, of_all}
 use Rattle.brk_adoption_laws.proofs.Members.{found_in}
 use Rattle.brk_adoption_laws.proofs.Parts.{FormParts, KeyParts, form_parts, key_parts, parts3, parts4, parts5, parts6, parts10}
-use Rattle.brk_sound_laws.specs.Sound.{IsSound, IsSoundTrade, KeysApart, NamesCustomer, is_past, tax_id_key}
+use Rattle.brk_sound_laws.specs.Sound.{IsSound, IsSoundTrade, KeysApart, NamesCustomer, is_past, tax_id_key, is_named_by}
 use Rattle.brk_sound_laws.proofs.OneTrade.{false_true}
 use Rattle.brk_sound_laws.proofs.SoundResult.{and5, and6}
-use Rattle.brk_sound_laws.proofs.SoundRecords.{named_by}
 use Rattle.brk_sound_laws.proofs.FormRows.{and3, and4, any_mark, found_trades, has_account_is, has_customer_is, has_rate_is, rates_same, row_of, same_name}
 
 -- ---- back from sorted lists and lists made of others
@@ -166,7 +165,7 @@ owned_back base customer books h =
     (λ e. length_none (filter (λ a. a.customer == customer) base.accounts) most_accounts (filter-none (λ a. a.customer == customer) base.accounts
     (All-map base.accounts (λ a k. other_id (customer_with base) customer a.customer e k) books.customers)))
 
-rates_back : (base : Base) (customer : ℕ) → AllByRecursion (NamesCustomer base) base.customer_taxes → AllByRecursion (λ c. rates_of base c.id ≤ greatest_tax_rate) base.customers
+rates_back : (base : Base) (customer : ℕ) → AllByRecursion (NamesCustomer base.customers) base.customer_taxes → AllByRecursion (λ c. rates_of base c.id ≤ greatest_tax_rate) base.customers
     → rates_of base customer ≤ greatest_tax_rate
 rates_back base customer payers h =
     by_some (is_some (customer_with base customer)) _
@@ -243,20 +242,22 @@ trade_back base t books told h =
     ∙ any-sorted history_key (λ h. same_status h.status Completed) (history_rows t) ∙ any_mark t.id t.marks h.way in
     let row = row_of_trade base t h.found in
     record {
-      fields = and6 (is_id t.id) (is_qty t.qty) (is_price t.bid) (nat_le t.charge greatest_charge) (nat_le t.commission greatest_amount) (nat_le t.tax greatest_amount) f.0 f.3 f.4 f.7 f.8 f.9;
-      stamps = h.stamps;
-      way = h.way;
+      alone = record {
+        fields = and6 (is_id t.id) (is_qty t.qty) (is_price t.bid) (nat_le t.charge greatest_charge) (nat_le t.commission greatest_amount) (nat_le t.tax greatest_amount) f.0 f.3 f.4 f.7 f.8 f.9;
+        stamps = h.stamps;
+        way = h.way;
+        due = All-map t.marks (λ m k. k.2) marks;
+        priced = sym (ap (λ b. cond b (option_map_or is_price t.price false) (is_none t.price)) done) ∙ f.6;
+        words = h.words;
+        cash_type = λ d.
+            let p = parts3 (option_map_or (λ row. is_cash_type row.is_cash t.cash_type) (trade_in T t.id) false) (nat_le (due_day t) last_day) (is_amount (amount_of base.accounts t)) (h.settled d) in
+            sym (ap (λ o. option_map_or (λ row. is_cash_type row.is_cash t.cash_type) o false) row) ∙ p.0;
+      };
       past = All-map t.marks (λ m k. k.1) marks;
-      due = All-map t.marks (λ m k. k.2) marks;
-      priced = sym (ap (λ b. cond b (option_map_or is_price t.price false) (is_none t.price)) done) ∙ f.6;
-      words = h.words;
-      cash_type = λ d.
-          let p = parts3 (option_map_or (λ row. is_cash_type row.is_cash t.cash_type) (trade_in T t.id) false) (nat_le (due_day t) last_day) (is_amount (amount_of base.accounts t)) (h.settled d) in
-          sym (ap (λ o. option_map_or (λ row. is_cash_type row.is_cash t.cash_type) o false) row) ∙ p.0;
       cash_name = λ d.
           let c = and_parts (is_completed t) t.is_cash d in
           let p = parts3 (option_map_or (is_cash_name T t.cash_name) (trade_in T t.id) false) (is_past base.last (moment_of t)) (is_amount (amount_of base.accounts t)) (h.moved c.0 c.1) in
-          sym (ap (named_by t) (same_name base t.symbol books told)) ∙ sym (ap (λ o. option_map_or (is_cash_name T t.cash_name) o false) row) ∙ p.0;
+          sym (ap (is_named_by t) (same_name base t.symbol books told)) ∙ sym (ap (λ o. option_map_or (is_cash_name T t.cash_name) o false) row) ∙ p.0;
       amount = λ d. (parts3 (option_map_or (λ row. is_cash_type row.is_cash t.cash_type) (trade_in T t.id) false) (nat_le (due_day t) last_day) (is_amount (amount_of base.accounts t)) (h.settled d)).2;
     }
 
@@ -309,39 +310,46 @@ sound_back base books told form =
     (back_mapped (last_trade_form T) last_trade_key last_trade_row base.securities f.last_trades) in
     let paid = All-map base.customer_taxes (λ x h. and_parts (has_customer T x.customer) (list_any (λ r. r.id == x.tax) T.tax_rates) h)
     (back_rows (customer_tax_form T) customer_tax_key base.customer_taxes f.customer_taxes) in
-    let payers : AllByRecursion (NamesCustomer base) base.customer_taxes = All-map base.customer_taxes (λ x h. sym (has_customer_is base x.customer) ∙ h.0) paid in
+    let payers : AllByRecursion (NamesCustomer base.customers) base.customer_taxes = All-map base.customer_taxes (λ x h. sym (has_customer_is base x.customer) ∙ h.0) paid in
     let limits = All-map base.customers
     (λ c h. and_parts (nat_le (length (filter (λ a. a.customer == c.id) T.accounts)) most_accounts) (nat_le (rates_of (base_of T) c.id) greatest_tax_rate) h)
     (back_rows (customer_limits T) customer_key base.customers f.limits) in
     record {
-      kept = back_rows _ kept_key base.kept f.kept;
-      brokers = All-map base.brokers (λ b h. h.0) brokers;
-      customers = back_rows customer_form customer_key base.customers f.customers;
-      accounts = All-map base.accounts (λ a h. and3 (is_id a.id) (is_name a.name) (is_amount a.opening) h.0 h.3 h.4) accounts;
-      permissions = All-map base.permissions (λ p h. and4 (is_acl p.acl) (is_tax_id p.tax_id) (is_name p.last_name) (is_name p.first_name) h.1 h.2 h.3 h.4) permissions;
-      securities = All-map base.securities (λ s h. and5 (is_symbol s.symbol) (is_name s.name) (is_exchange s.exchange) (is_name s.sector) (is_price s.last_price) h.0.0 h.0.1 h.0.2 h.0.3 h.1.2)
-          (both_all _ _ base.securities securities lasts);
-      charges = back_rows charge_form charge_key base.charges f.charges;
-      bands = back_rows _ band_key base.bands f.bands;
-      tax_rates = back_rows _ tax_rate_key base.tax_rates f.tax_rates;
-      moments = All-map base.securities (λ s h. h.1) lasts;
+      keyed = record { kept = back_rows _ kept_key base.kept f.kept; kept_keys = back_keys kept_key base.kept r.kept };
+      parties = record {
+        brokers = All-map base.brokers (λ b h. h.0) brokers;
+        customers = back_rows customer_form customer_key base.customers f.customers;
+        accounts = All-map base.accounts (λ a h. and3 (is_id a.id) (is_name a.name) (is_amount a.opening) h.0 h.3 h.4) accounts;
+        permissions = All-map base.permissions (λ p h. and4 (is_acl p.acl) (is_tax_id p.tax_id) (is_name p.last_name) (is_name p.first_name) h.1 h.2 h.3 h.4) permissions;
+        broker_keys = apart_unmap broker_id broker_key (broker_row base.accounts done) base.brokers (λ b. refl) (back_keys broker_key (map (broker_row base.accounts done) base.brokers) r.brokers);
+        customer_keys = back_keys customer_key base.customers r.customers;
+        tax_ids = apart_unsort tax_id_key (row_before customer_key) base.customers (tax_ids_each (by_key customer_key base.customers) f.tax_ids);
+        permitted = All-map base.permissions (λ p h. sym (has_account_is base p.account) ∙ h.0) permissions;
+        owned = λ customer. owned_back base customer books (All-map base.customers (λ c h. leb-true _ most_accounts (sym (ap (λ n. nat_le n most_accounts) (reads_count base c.id)) ∙ h.0)) limits);
+      };
+      terms = record {
+        charges = back_rows charge_form charge_key base.charges f.charges;
+        bands = back_rows _ band_key base.bands f.bands;
+        tax_rates = back_rows _ tax_rate_key base.tax_rates f.tax_rates;
+        charge_keys = back_keys charge_key base.charges r.charges;
+        tax_rate_keys = back_keys tax_rate_key base.tax_rates r.tax_rates;
+        customer_tax_keys = back_keys customer_tax_key base.customer_taxes r.customer_taxes;
+        payers = payers;
+        taxes = All-map base.customer_taxes (λ x h. sym (has_rate_is base x.tax) ∙ h.1) paid;
+        rates = λ customer. rates_back base customer payers (All-map base.customers (λ c h. leb-true _ greatest_tax_rate (sym (ap (λ n. nat_le n greatest_tax_rate) (rates_same base c.id)) ∙ h.1)) limits);
+      };
+      listed = record {
+        securities = All-map base.securities (λ s h. and5 (is_symbol s.symbol) (is_name s.name) (is_exchange s.exchange) (is_name s.sector) (is_price s.last_price) h.0.0 h.0.1 h.0.2 h.0.3 h.1.2)
+            (both_all _ _ base.securities securities lasts);
+        moments = All-map base.securities (λ s h. h.1) lasts;
+      };
       trades = All-map base.trades (λ t h. trade_back base t books told h) (reads_back base books told f);
-      kept_keys = back_keys kept_key base.kept r.kept;
-      broker_keys = apart_unmap broker_id broker_key (broker_row base.accounts done) base.brokers (λ b. refl) (back_keys broker_key (map (broker_row base.accounts done) base.brokers) r.brokers);
-      customer_keys = back_keys customer_key base.customers r.customers;
-      tax_ids = apart_unsort tax_id_key (row_before customer_key) base.customers (tax_ids_each (by_key customer_key base.customers) f.tax_ids);
-      charge_keys = back_keys charge_key base.charges r.charges;
-      tax_rate_keys = back_keys tax_rate_key base.tax_rates r.tax_rates;
-      customer_tax_keys = back_keys customer_tax_key base.customer_taxes r.customer_taxes;
-      permitted = All-map base.permissions (λ p h. sym (has_account_is base p.account) ∙ h.0) permissions;
-      payers = payers;
-      taxes = All-map base.customer_taxes (λ x h. sym (has_rate_is base x.tax) ∙ h.1) paid;
-      owned = λ customer. owned_back base customer books (All-map base.customers (λ c h. leb-true _ most_accounts (sym (ap (λ n. nat_le n most_accounts) (reads_count base c.id)) ∙ h.0)) limits);
-      rates = λ customer. rates_back base customer payers (All-map base.customers (λ c h. leb-true _ greatest_tax_rate (sym (ap (λ n. nat_le n greatest_tax_rate) (rates_same base c.id)) ∙ h.1)) limits);
-      summaries = λ account symbol. summaries_back base account symbol books
-          (All-map base.accounts (λ a h. All-map base.securities (λ s g. row_low T done a.id s.symbol g) (All-unflat (λ r. summary_form T r ≡ true) (λ s. summary_rows done a.id s.symbol) base.securities h))
-          (All-unflat (λ r. summary_form T r ≡ true) (λ a. flat_map (λ s. summary_rows done a.id s.symbol) base.securities) base.accounts
-          (back_rows (summary_form T) summary_key (flat_map (λ a. flat_map (λ s. summary_rows done a.id s.symbol) base.securities) base.accounts) f.summaries)));
-      balances = λ account. balances_back base account books (All-map base.accounts (λ a h. leb-true _ greatest_amount h.5) accounts);
-      commissions = λ broker. commissions_back base broker books (All-map base.brokers (λ b h. leb-true _ greatest_amount h.1) brokers);
+      sums = record {
+        summaries = λ account symbol. summaries_back base account symbol books
+            (All-map base.accounts (λ a h. All-map base.securities (λ s g. row_low T done a.id s.symbol g) (All-unflat (λ r. summary_form T r ≡ true) (λ s. summary_rows done a.id s.symbol) base.securities h))
+            (All-unflat (λ r. summary_form T r ≡ true) (λ a. flat_map (λ s. summary_rows done a.id s.symbol) base.securities) base.accounts
+            (back_rows (summary_form T) summary_key (flat_map (λ a. flat_map (λ s. summary_rows done a.id s.symbol) base.securities) base.accounts) f.summaries)));
+        balances = λ account. balances_back base account books (All-map base.accounts (λ a h. leb-true _ greatest_amount h.5) accounts);
+        commissions = λ broker. commissions_back base broker books (All-map base.brokers (λ b h. leb-true _ greatest_amount h.1) brokers);
+      };
     }

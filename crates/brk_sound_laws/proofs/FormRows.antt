@@ -39,10 +39,10 @@ use Rattle.brk_adoption_laws.proofs.Marks.{filtered, last_has, no_more_ways, thr
 use Rattle.brk_adoption_laws.proofs.Members.{All-flat_map}
 use Rattle.brk_adoption_laws.proofs.Parts.{FormParts, parts3, parts4, parts5, parts6}
 use Rattle.brk_adoption_laws.proofs.Sorted.{All-rows}
-use Rattle.brk_sound_laws.specs.Sound.{IsDueInTime, IsPastMark, IsSound, IsSoundTrade, NamesAccount, NamesCustomer, NamesTax, account_fields, is_past, permission_fields, security_fields}
+use Rattle.brk_sound_laws.specs.Sound.{IsDueInTime, IsPastMark, IsSound, IsSoundTrade, NamesAccount, NamesCustomer, NamesTax, account_fields, is_past, permission_fields, security_fields, is_named_by}
 use Rattle.brk_sound_laws.proofs.OneTrade.{false_true, price_of_done}
 use Rattle.brk_sound_laws.proofs.SoundResult.{and5, and6}
-use Rattle.brk_sound_laws.proofs.SoundRecords.{named_by, sum-same}
+use Rattle.brk_sound_laws.proofs.SoundRecords.{sum-same}
 use Rattle.brk_sound_laws.proofs.SortedRows.{bands_sort, overlap_none, tax_ids_apart}
 use Rattle.brk_sound_laws.proofs.SortedRows as rows
 use Rattle.brk_sound_laws.proofs.FormKeys.{All-history, keys_of}
@@ -275,7 +275,7 @@ cash_whole : (base : Base) (t : Trade) → IsBooks base → IsTold base → Done
 unfolding sheets_of tables_of
 cash_whole base t books told h c =
     and3 (option_map_or (is_cash_name (sheets base) t.cash_name) (trade_in (sheets base) t.id) false) (is_past base.last (moment_of t)) (is_amount (amount_of base.accounts t))
-    (ap (λ o. option_map_or (is_cash_name (sheets base) t.cash_name) o false) (row_in base t h.0) ∙ ap (named_by t) (same_name base t.symbol books told)
+    (ap (λ o. option_map_or (is_cash_name (sheets base) t.cash_name) o false) (row_in base t h.0) ∙ ap (is_named_by t) (same_name base t.symbol books told)
     ∙ h.0.sound.cash_name (and_from (is_completed t) t.is_cash h.1 c)) (moment_past base t h.0.sound) (h.0.sound.amount h.1)
 
 -- ---- all rows of a table
@@ -295,7 +295,7 @@ account_whole base a k h c b =
     and6 (is_id a.id) (has_customer (sheets base) a.customer) (has_broker (sheets base) a.broker) (is_name a.name) (is_amount a.opening) (is_amount (balance_of base.accounts (completed base) a.id))
     f.0 (has_customer_is base a.customer ∙ c) (has_broker_is base a.broker ∙ b) f.1 f.2 (le-leb _ greatest_amount (k.balances a.id))
 
-permission_whole : (base : Base) (p : Permission) → permission_fields p ≡ true → NamesAccount base p → permission_form (sheets base) p ≡ true
+permission_whole : (base : Base) (p : Permission) → permission_fields p ≡ true → NamesAccount base.accounts p → permission_form (sheets base) p ≡ true
 permission_whole base p h n =
     let f = parts4 (is_acl p.acl) (is_tax_id p.tax_id) (is_name p.last_name) (is_name p.first_name) h in
     and5 (has_account (sheets base) p.account) (is_acl p.acl) (is_tax_id p.tax_id) (is_name p.last_name) (is_name p.first_name) (has_account_is base p.account ∙ n) f.0 f.1 f.2 f.3
@@ -363,7 +363,7 @@ form_of base books k =
           (All-map base.accounts (λ a h. account_whole base a k h.0 h.1.0 h.1.1)
           (both_all (λ a. account_fields a ≡ true) (λ a. KnowsCustomer base a × KnowsBroker base a) base.accounts k.accounts (both_all (KnowsCustomer base) (KnowsBroker base) base.accounts books.customers books.brokers)));
       permissions = rows_form (permission_form T) permission_key base.permissions
-          (All-map base.permissions (λ p h. permission_whole base p h.0 h.1) (both_all (λ p. permission_fields p ≡ true) (NamesAccount base) base.permissions k.permissions k.permitted));
+          (All-map base.permissions (λ p h. permission_whole base p h.0 h.1) (both_all (λ p. permission_fields p ≡ true) (NamesAccount base.accounts) base.permissions k.permissions k.permitted));
       securities = mapped_form (security_form T) security_key security_row base.securities
           (All-map base.securities (λ s h. security_whole base s h.0 h.1) (both_all (λ s. security_fields s ≡ true) (λ s. is_some (security_with base s.symbol) ≡ true) base.securities k.securities listed));
       last_trades = mapped_form (last_trade_form T) last_trade_key last_trade_row base.securities
@@ -377,7 +377,7 @@ form_of base books k =
       tax_rates = rows_form tax_rate_form tax_rate_key base.tax_rates k.tax_rates;
       customer_taxes = rows_form (customer_tax_form T) customer_tax_key base.customer_taxes
           (All-map base.customer_taxes (λ x h. and_from (has_customer T x.customer) (list_any (λ r. r.id == x.tax) T.tax_rates) (has_customer_is base x.customer ∙ h.0) (has_rate_is base x.tax ∙ h.1))
-          (both_all (NamesCustomer base) (NamesTax base) base.customer_taxes k.payers k.taxes));
+          (both_all (NamesCustomer base.customers) (NamesTax base.tax_rates) base.customer_taxes k.payers k.taxes));
       trades = mapped_form (trade_form T) trade_key trade_row base.trades (All-map base.trades (λ t h. trade_whole base t h) known);
       numbers = subst (λ rows. same_numbers (map (λ row. row.id) rows) (range_with_len 1 (length rows)) ≡ true) (sym (trades_in_order base books.numbered)) (numbers_whole 1 base.trades books.numbered);
       history = rows_form (history_form T) history_key (flat_map history_rows base.trades)

@@ -21,7 +21,7 @@ use Rattle.brk_book_laws.proofs.Completing.{All-passing}
 use Rattle.brk_book_laws.proofs.LotReading.{All-sort}
 use Rattle.brk_adoption_laws.specs.Told.{GoesAWay, StampsRise}
 use Rattle.brk_adoption_laws.proofs.Marks.{no_more_ways, same_statuses, three_ways, two_ways}
-use Rattle.brk_sound_laws.specs.Sound.{IsPastMark, IsSound, IsSoundTrade, is_past, is_priced}
+use Rattle.brk_sound_laws.specs.Sound.{IsPastMark, IsSound, IsSoundBy, IsSoundTrade, is_past, is_priced}
 use Rattle.brk_sound_laws.proofs.Bounds.{IsCheap, replay_all}
 
 pub false_true : {A : Type 0} → false ≡ true → A
@@ -116,64 +116,19 @@ cheap_shares base account symbol h =
     (All-filter L (λ t. t.account == account) (completed base)
     (All-passing L is_completed base.trades (All-map base.trades (λ t k e. price_low (price_of t) (price_of_done t k.priced e)) h))))))
 
--- ---- a later stamp, and other trades
+-- ---- a later stamp
 
-pub trade_last : (base : Base) (now : ℕ) (t : Trade) → IsSoundTrade base t → IsSoundTrade (record base { last = Some (next_stamp base now) }) t
-trade_last base now t k = record {
-  fields = k.fields;
-  stamps = k.stamps;
-  way = k.way;
-  past = All-map t.marks (λ m e. past_then base.last now m.stamp e) k.past;
-  due = k.due;
-  priced = k.priced;
-  words = k.words;
-  cash_type = k.cash_type;
-  cash_name = k.cash_name;
-  amount = k.amount;
-}
-
-pub trade_among : (base : Base) (ts : List Trade) (t : Trade) → IsSoundTrade base t → IsSoundTrade (record base { trades = ts }) t
-trade_among base ts t k = record {
-  fields = k.fields;
-  stamps = k.stamps;
-  way = k.way;
-  past = k.past;
-  due = k.due;
-  priced = k.priced;
-  words = k.words;
-  cash_type = k.cash_type;
-  cash_name = k.cash_name;
-  amount = k.amount;
-}
+pub trade_last : (base : Base) (now : ℕ) (t : Trade) → IsSoundTrade base t → IsSoundBy (Some (next_stamp base now)) base.accounts base.securities t
+trade_last base now t k = record { alone = k.alone; past = All-map t.marks (λ m e. past_then base.last now m.stamp e) k.past; cash_name = k.cash_name; amount = k.amount }
 
 pub sound_last : (base : Base) (now : ℕ) → IsSound base → IsSound (record base { last = Some (next_stamp base now) })
 sound_last base now k = record {
-  kept = k.kept;
-  brokers = k.brokers;
-  customers = k.customers;
-  accounts = k.accounts;
-  permissions = k.permissions;
-  securities = k.securities;
-  charges = k.charges;
-  bands = k.bands;
-  tax_rates = k.tax_rates;
-  moments = All-map base.securities (λ s e. past_then base.last now s.moment e) k.moments;
+  keyed = k.keyed;
+  parties = k.parties;
+  terms = k.terms;
+  listed = record { securities = k.securities; moments = All-map base.securities (λ s e. past_then base.last now s.moment e) k.moments };
   trades = All-map base.trades (λ t h. trade_last base now t h) k.trades;
-  kept_keys = k.kept_keys;
-  broker_keys = k.broker_keys;
-  customer_keys = k.customer_keys;
-  tax_ids = k.tax_ids;
-  charge_keys = k.charge_keys;
-  tax_rate_keys = k.tax_rate_keys;
-  customer_tax_keys = k.customer_tax_keys;
-  permitted = k.permitted;
-  payers = k.payers;
-  taxes = k.taxes;
-  owned = k.owned;
-  rates = k.rates;
-  summaries = k.summaries;
-  balances = k.balances;
-  commissions = k.commissions;
+  sums = k.sums;
 }
 
 -- ---- changed trades

@@ -1,12 +1,11 @@
 -- An accepted record in form leaves a sound base sound.
 use Rattle.std.proofs.Common.{◌≡◌, ◌<◌, ◌≤◌, ℕ, ◌==◌, ◌+◌, Bool, true, false, cond, List, [], ◌∷◌, ◌++◌, refl, sym, ◌∙◌, ap, subst, filter, length, arith, Option, Some, None, pos, ◌+ℤ◌}
-use Rattle.std.specs.Prelude.{◌&&◌, ◌||◌, bytes_eq, codes, decimal, find, is_some, nat_abs, nat_le, sum_by}
+use Rattle.std.specs.Prelude.{◌&&◌, bytes_eq, find, is_some, nat_abs, nat_le, sum_by}
 use Rattle.std.specs.List.{AllByRecursion}
 use Rattle.std.specs.Option.{option_map_or}
 use Rattle.std.proofs.lemmas.Bool.{and_from, eqb-true, eq-eqb, leb-true, leb-false, ltb-false}
 use Rattle.std.proofs.lemmas.List.Sums.{sum_by-cons, sum_by-append}
 use Rattle.brk_money.specs.Spelling.{Text}
-use Rattle.brk_money.specs.Kinds.{type_name}
 use Rattle.brk_model.specs.Limits.{greatest_amount, greatest_rate, greatest_tax_rate, most_accounts}
 use Rattle.brk_model.specs.Records.{Account, Band, Broker, Charge, Customer, CustomerTax, Kept, Key, Permission, Security, TaxRate, Trade}
 use Rattle.brk_model.specs.Base.{Base, account_with, broker_in, completed, customer_with, rates_of, tax_rate_with}
@@ -33,7 +32,7 @@ use Rattle.brk_book_laws.proofs.Steps.{in_order}
 use Rattle.brk_adoption_laws.proofs.Again.{both_all}
 use Rattle.brk_adoption_laws.proofs.Parts.{parts3, parts5}
 use Rattle.brk_adoption_laws.specs.Told.{broker_id}
-use Rattle.brk_sound_laws.specs.Sound.{IsSound, IsSoundTrade, KeysApart, NamesAccount, NamesCustomer, NamesTax, account_fields, broker_fields, is_past, permission_fields, security_fields, tax_id_key}
+use Rattle.brk_sound_laws.specs.Sound.{IsSound, IsSoundBy, IsSoundTrade, KeysApart, NamesAccount, NamesCustomer, NamesTax, account_fields, broker_fields, is_named_by, is_past, permission_fields, security_fields, tax_id_key}
 use Rattle.brk_sound_laws.specs.InForm.{IsInForm, IsKeyInForm}
 use Rattle.brk_sound_laws.proofs.OneTrade.{past_itself, sound_last}
 
@@ -53,24 +52,6 @@ text_of_key s t e = cc
 pub new_text : {X : Type 0} (text : X → Text) (y : X) (xs : List X) → NonePass (λ x. bytes_eq (text x) (text y)) xs → NewKey (λ r. word (text r) ∷ []) y xs
 new_text text y xs h = All-map xs (λ x k e. not_both (bytes_eq (text x) (text y)) (same_bytes (text x) (text y) (text_of_key (text x) (text y) e)) k) h
 
--- ---- trades of a base with other lists
-
-pub trade_across : (base : Base) (bs : List Broker) (cs : List Customer) (ps : List Permission) (hs : List Charge) (bd : List Band) (tr : List TaxRate) (ct : List CustomerTax) (ts : List Trade) (kp : List Kept)
-    → (t : Trade) → IsSoundTrade base t
-    → IsSoundTrade (record base { brokers = bs; customers = cs; permissions = ps; charges = hs; bands = bd; tax_rates = tr; customer_taxes = ct; trades = ts; kept = kp }) t
-trade_across base bs cs ps hs bd tr ct ts kp t k = record {
-  fields = k.fields;
-  stamps = k.stamps;
-  way = k.way;
-  past = k.past;
-  due = k.due;
-  priced = k.priced;
-  words = k.words;
-  cash_type = k.cash_type;
-  cash_name = k.cash_name;
-  amount = k.amount;
-}
-
 -- ---- brokers, customers, permissions, charges, bands
 
 pub sound_broker : (base : Base) (now : ℕ) (b : Broker) → LeavesSound base now (AddBroker b)
@@ -78,34 +59,23 @@ unfolding records_after tests
 sound_broker base now b k books form e =
     let l = sound_last base now k in
     let p = passed base now (AddBroker b) e in
-    let c : Base = record base { last = Some (next_stamp base now) } in
     record {
-      kept = l.kept;
-      brokers = All-append (λ b. broker_fields b ≡ true) base.brokers (b ∷ []) k.brokers (form, tt);
-      customers = l.customers;
-      accounts = l.accounts;
-      permissions = l.permissions;
-      securities = l.securities;
-      charges = l.charges;
-      bands = l.bands;
-      tax_rates = l.tax_rates;
-      moments = l.moments;
-      trades = All-map base.trades (trade_across c (base.brokers ++ b ∷ []) c.customers c.permissions c.charges c.bands c.tax_rates c.customer_taxes c.trades c.kept) l.trades;
-      kept_keys = l.kept_keys;
-      broker_keys = apart_more broker_id base.brokers b (new_number (λ x. x.id) b base.brokers (find-none (λ x. x.id == b.id) base.brokers p.0)) k.broker_keys;
-      customer_keys = l.customer_keys;
-      tax_ids = l.tax_ids;
-      charge_keys = l.charge_keys;
-      tax_rate_keys = l.tax_rate_keys;
-      customer_tax_keys = l.customer_tax_keys;
-      permitted = l.permitted;
-      payers = l.payers;
-      taxes = l.taxes;
-      owned = l.owned;
-      rates = l.rates;
-      summaries = l.summaries;
-      balances = l.balances;
-      commissions = l.commissions;
+      keyed = l.keyed;
+      parties = record {
+        brokers = All-append (λ b. broker_fields b ≡ true) base.brokers (b ∷ []) k.brokers (form, tt);
+        customers = l.customers;
+        accounts = l.accounts;
+        permissions = l.permissions;
+        broker_keys = apart_more broker_id base.brokers b (new_number (λ x. x.id) b base.brokers (find-none (λ x. x.id == b.id) base.brokers p.0)) k.broker_keys;
+        customer_keys = l.customer_keys;
+        tax_ids = l.tax_ids;
+        permitted = l.permitted;
+        owned = l.owned;
+      };
+      terms = l.terms;
+      listed = l.listed;
+      trades = l.trades;
+      sums = l.sums;
     }
 
 pub sound_customer : (base : Base) (now : ℕ) (c : Customer) → LeavesSound base now (AddCustomer c)
@@ -113,34 +83,33 @@ unfolding records_after tests
 sound_customer base now x k books form e =
     let l = sound_last base now k in
     let p = passed base now (AddCustomer x) e in
-    let c : Base = record base { last = Some (next_stamp base now) } in
     record {
-      kept = l.kept;
-      brokers = l.brokers;
-      customers = All-append (λ c. customer_form c ≡ true) base.customers (x ∷ []) k.customers (form, tt);
-      accounts = l.accounts;
-      permissions = l.permissions;
-      securities = l.securities;
-      charges = l.charges;
-      bands = l.bands;
-      tax_rates = l.tax_rates;
-      moments = l.moments;
-      trades = All-map base.trades (trade_across c c.brokers (base.customers ++ x ∷ []) c.permissions c.charges c.bands c.tax_rates c.customer_taxes c.trades c.kept) l.trades;
-      kept_keys = l.kept_keys;
-      broker_keys = l.broker_keys;
-      customer_keys = apart_more customer_key base.customers x (new_number (λ d. d.id) x base.customers (any-none (λ d. d.id == x.id) base.customers p.0)) k.customer_keys;
-      tax_ids = apart_more tax_id_key base.customers x (new_text (λ d. d.tax_id) x base.customers (any-none (λ d. bytes_eq d.tax_id x.tax_id) base.customers p.1.0)) k.tax_ids;
-      charge_keys = l.charge_keys;
-      tax_rate_keys = l.tax_rate_keys;
-      customer_tax_keys = l.customer_tax_keys;
-      permitted = l.permitted;
-      payers = All-map base.customer_taxes (λ y h. found_more (λ d. d.id == y.customer) base.customers (x ∷ []) h) k.payers;
-      taxes = l.taxes;
-      owned = l.owned;
-      rates = l.rates;
-      summaries = l.summaries;
-      balances = l.balances;
-      commissions = l.commissions;
+      keyed = l.keyed;
+      parties = record {
+        brokers = l.brokers;
+        customers = All-append (λ c. customer_form c ≡ true) base.customers (x ∷ []) k.customers (form, tt);
+        accounts = l.accounts;
+        permissions = l.permissions;
+        broker_keys = l.broker_keys;
+        customer_keys = apart_more customer_key base.customers x (new_number (λ d. d.id) x base.customers (any-none (λ d. d.id == x.id) base.customers p.0)) k.customer_keys;
+        tax_ids = apart_more tax_id_key base.customers x (new_text (λ d. d.tax_id) x base.customers (any-none (λ d. bytes_eq d.tax_id x.tax_id) base.customers p.1.0)) k.tax_ids;
+        permitted = l.permitted;
+        owned = l.owned;
+      };
+      terms = record {
+        charges = l.charges;
+        bands = l.bands;
+        tax_rates = l.tax_rates;
+        charge_keys = l.charge_keys;
+        tax_rate_keys = l.tax_rate_keys;
+        customer_tax_keys = l.customer_tax_keys;
+        payers = All-map base.customer_taxes (λ y h. found_more (λ d. d.id == y.customer) base.customers (x ∷ []) h) k.payers;
+        taxes = l.taxes;
+        rates = l.rates;
+      };
+      listed = l.listed;
+      trades = l.trades;
+      sums = l.sums;
     }
 
 pub sound_permission : (base : Base) (now : ℕ) (p : Permission) → LeavesSound base now (AddPermission p)
@@ -148,34 +117,23 @@ unfolding records_after tests
 sound_permission base now x k books form e =
     let l = sound_last base now k in
     let p = passed base now (AddPermission x) e in
-    let c : Base = record base { last = Some (next_stamp base now) } in
     record {
-      kept = l.kept;
-      brokers = l.brokers;
-      customers = l.customers;
-      accounts = l.accounts;
-      permissions = All-append (λ p. permission_fields p ≡ true) base.permissions (x ∷ []) k.permissions (form, tt);
-      securities = l.securities;
-      charges = l.charges;
-      bands = l.bands;
-      tax_rates = l.tax_rates;
-      moments = l.moments;
-      trades = All-map base.trades (trade_across c c.brokers c.customers (base.permissions ++ x ∷ []) c.charges c.bands c.tax_rates c.customer_taxes c.trades c.kept) l.trades;
-      kept_keys = l.kept_keys;
-      broker_keys = l.broker_keys;
-      customer_keys = l.customer_keys;
-      tax_ids = l.tax_ids;
-      charge_keys = l.charge_keys;
-      tax_rate_keys = l.tax_rate_keys;
-      customer_tax_keys = l.customer_tax_keys;
-      permitted = All-append (NamesAccount base) base.permissions (x ∷ []) k.permitted (not_not (is_some (account_with base x.account)) p.0, tt);
-      payers = l.payers;
-      taxes = l.taxes;
-      owned = l.owned;
-      rates = l.rates;
-      summaries = l.summaries;
-      balances = l.balances;
-      commissions = l.commissions;
+      keyed = l.keyed;
+      parties = record {
+        brokers = l.brokers;
+        customers = l.customers;
+        accounts = l.accounts;
+        permissions = All-append (λ p. permission_fields p ≡ true) base.permissions (x ∷ []) k.permissions (form, tt);
+        broker_keys = l.broker_keys;
+        customer_keys = l.customer_keys;
+        tax_ids = l.tax_ids;
+        permitted = All-append (NamesAccount base.accounts) base.permissions (x ∷ []) k.permitted (not_not (is_some (account_with base x.account)) p.0, tt);
+        owned = l.owned;
+      };
+      terms = l.terms;
+      listed = l.listed;
+      trades = l.trades;
+      sums = l.sums;
     }
 
 pub sound_charge : (base : Base) (now : ℕ) (c : Charge) → LeavesSound base now (AddCharge c)
@@ -183,34 +141,23 @@ unfolding records_after tests
 sound_charge base now x k books form e =
     let l = sound_last base now k in
     let p = passed base now (AddCharge x) e in
-    let c : Base = record base { last = Some (next_stamp base now) } in
     record {
-      kept = l.kept;
-      brokers = l.brokers;
-      customers = l.customers;
-      accounts = l.accounts;
-      permissions = l.permissions;
-      securities = l.securities;
-      charges = All-append (λ c. charge_form c ≡ true) base.charges (x ∷ []) k.charges (form, tt);
-      bands = l.bands;
-      tax_rates = l.tax_rates;
-      moments = l.moments;
-      trades = All-map base.trades (trade_across c c.brokers c.customers c.permissions (base.charges ++ x ∷ []) c.bands c.tax_rates c.customer_taxes c.trades c.kept) l.trades;
-      kept_keys = l.kept_keys;
-      broker_keys = l.broker_keys;
-      customer_keys = l.customer_keys;
-      tax_ids = l.tax_ids;
-      charge_keys = apart_more charge_key base.charges x (charge_new x base.charges (find-none _ base.charges p.0)) k.charge_keys;
-      tax_rate_keys = l.tax_rate_keys;
-      customer_tax_keys = l.customer_tax_keys;
-      permitted = l.permitted;
-      payers = l.payers;
-      taxes = l.taxes;
-      owned = l.owned;
-      rates = l.rates;
-      summaries = l.summaries;
-      balances = l.balances;
-      commissions = l.commissions;
+      keyed = l.keyed;
+      parties = l.parties;
+      terms = record {
+        charges = All-append (λ c. charge_form c ≡ true) base.charges (x ∷ []) k.charges (form, tt);
+        bands = l.bands;
+        tax_rates = l.tax_rates;
+        charge_keys = apart_more charge_key base.charges x (charge_new x base.charges (find-none _ base.charges p.0)) k.charge_keys;
+        tax_rate_keys = l.tax_rate_keys;
+        customer_tax_keys = l.customer_tax_keys;
+        payers = l.payers;
+        taxes = l.taxes;
+        rates = l.rates;
+      };
+      listed = l.listed;
+      trades = l.trades;
+      sums = l.sums;
     }
 
 band_whole : (b : Band) → IsInForm (AddBand b) → nat_le b.from_qty b.to_qty ≡ true → band_form b ≡ true
@@ -228,34 +175,23 @@ unfolding records_after tests
 sound_band base now x k books form e =
     let l = sound_last base now k in
     let p = passed base now (AddBand x) e in
-    let c : Base = record base { last = Some (next_stamp base now) } in
     record {
-      kept = l.kept;
-      brokers = l.brokers;
-      customers = l.customers;
-      accounts = l.accounts;
-      permissions = l.permissions;
-      securities = l.securities;
-      charges = l.charges;
-      bands = All-append (λ b. band_form b ≡ true) base.bands (x ∷ []) k.bands (band_whole x form (in_order x.from_qty x.to_qty p.0), tt);
-      tax_rates = l.tax_rates;
-      moments = l.moments;
-      trades = All-map base.trades (trade_across c c.brokers c.customers c.permissions c.charges (base.bands ++ x ∷ []) c.tax_rates c.customer_taxes c.trades c.kept) l.trades;
-      kept_keys = l.kept_keys;
-      broker_keys = l.broker_keys;
-      customer_keys = l.customer_keys;
-      tax_ids = l.tax_ids;
-      charge_keys = l.charge_keys;
-      tax_rate_keys = l.tax_rate_keys;
-      customer_tax_keys = l.customer_tax_keys;
-      permitted = l.permitted;
-      payers = l.payers;
-      taxes = l.taxes;
-      owned = l.owned;
-      rates = l.rates;
-      summaries = l.summaries;
-      balances = l.balances;
-      commissions = l.commissions;
+      keyed = l.keyed;
+      parties = l.parties;
+      terms = record {
+        charges = l.charges;
+        bands = All-append (λ b. band_form b ≡ true) base.bands (x ∷ []) k.bands (band_whole x form (in_order x.from_qty x.to_qty p.0), tt);
+        tax_rates = l.tax_rates;
+        charge_keys = l.charge_keys;
+        tax_rate_keys = l.tax_rate_keys;
+        customer_tax_keys = l.customer_tax_keys;
+        payers = l.payers;
+        taxes = l.taxes;
+        rates = l.rates;
+      };
+      listed = l.listed;
+      trades = l.trades;
+      sums = l.sums;
     }
 
 -- ---- taxes
@@ -264,47 +200,36 @@ pub sum-same : {X : Type 0} (f g : X → ℕ) (xs : List X) → AllByRecursion (
 sum-same f g [] h = refl
 sum-same f g (x ∷ xs) h = sum_by-cons f x xs ∙ (λ i. h.0 i + sum-same f g xs h.1 i) ∙ sym (sum_by-cons g x xs)
 
-more_rates : (base : Base) (r : TaxRate) (customer : ℕ) → AllByRecursion (NamesTax base) base.customer_taxes
+more_rates : (base : Base) (r : TaxRate) (customer : ℕ) → AllByRecursion (NamesTax base.tax_rates) base.customer_taxes
     → rates_of (record base { tax_rates = base.tax_rates ++ r ∷ [] }) customer ≡ rates_of base customer
 more_rates base r customer h =
     let paid : List CustomerTax = filter (λ x. x.customer == customer) base.customer_taxes in
     sum-same (λ x. option_map_or (λ r. r.rate) (find (λ s. s.id == x.tax) (base.tax_rates ++ r ∷ [])) 0) (λ x. option_map_or (λ r. r.rate) (tax_rate_with base x.tax) 0) paid
     (All-map paid (λ x n. ap (λ o. option_map_or (λ r. r.rate) o 0) (find-more (λ s. s.id == x.tax) base.tax_rates (r ∷ []) n))
-    (All-filter (NamesTax base) (λ x. x.customer == customer) base.customer_taxes h))
+    (All-filter (NamesTax base.tax_rates) (λ x. x.customer == customer) base.customer_taxes h))
 
 pub sound_tax_rate : (base : Base) (now : ℕ) (r : TaxRate) → LeavesSound base now (AddTaxRate r)
 unfolding records_after tests
 sound_tax_rate base now x k books form e =
     let l = sound_last base now k in
     let p = passed base now (AddTaxRate x) e in
-    let c : Base = record base { last = Some (next_stamp base now) } in
     record {
-      kept = l.kept;
-      brokers = l.brokers;
-      customers = l.customers;
-      accounts = l.accounts;
-      permissions = l.permissions;
-      securities = l.securities;
-      charges = l.charges;
-      bands = l.bands;
-      tax_rates = All-append (λ r. tax_rate_form r ≡ true) base.tax_rates (x ∷ []) k.tax_rates (form, tt);
-      moments = l.moments;
-      trades = All-map base.trades (trade_across c c.brokers c.customers c.permissions c.charges c.bands (base.tax_rates ++ x ∷ []) c.customer_taxes c.trades c.kept) l.trades;
-      kept_keys = l.kept_keys;
-      broker_keys = l.broker_keys;
-      customer_keys = l.customer_keys;
-      tax_ids = l.tax_ids;
-      charge_keys = l.charge_keys;
-      tax_rate_keys = apart_more tax_rate_key base.tax_rates x (new_number (λ r. r.id) x base.tax_rates (find-none (λ r. r.id == x.id) base.tax_rates p.0)) k.tax_rate_keys;
-      customer_tax_keys = l.customer_tax_keys;
-      permitted = l.permitted;
-      payers = l.payers;
-      taxes = All-map base.customer_taxes (λ y h. found_more (λ r. r.id == y.tax) base.tax_rates (x ∷ []) h) k.taxes;
-      owned = l.owned;
-      rates = λ customer. subst (λ n. n ≤ greatest_tax_rate) (sym (more_rates base x customer k.taxes)) (k.rates customer);
-      summaries = l.summaries;
-      balances = l.balances;
-      commissions = l.commissions;
+      keyed = l.keyed;
+      parties = l.parties;
+      terms = record {
+        charges = l.charges;
+        bands = l.bands;
+        tax_rates = All-append (λ r. tax_rate_form r ≡ true) base.tax_rates (x ∷ []) k.tax_rates (form, tt);
+        charge_keys = l.charge_keys;
+        tax_rate_keys = apart_more tax_rate_key base.tax_rates x (new_number (λ r. r.id) x base.tax_rates (find-none (λ r. r.id == x.id) base.tax_rates p.0)) k.tax_rate_keys;
+        customer_tax_keys = l.customer_tax_keys;
+        payers = l.payers;
+        taxes = All-map base.customer_taxes (λ y h. found_more (λ r. r.id == y.tax) base.tax_rates (x ∷ []) h) k.taxes;
+        rates = λ customer. subst (λ n. n ≤ greatest_tax_rate) (sym (more_rates base x customer k.taxes)) (k.rates customer);
+      };
+      listed = l.listed;
+      trades = l.trades;
+      sums = l.sums;
     }
 
 abbrev rate_in : Base → CustomerTax → ℕ
@@ -341,59 +266,31 @@ unfolding records_after tests
 sound_customer_tax base now x k books form e =
     let l = sound_last base now k in
     let p = passed base now (AddCustomerTax x) e in
-    let c : Base = record base { last = Some (next_stamp base now) } in
     record {
-      kept = l.kept;
-      brokers = l.brokers;
-      customers = l.customers;
-      accounts = l.accounts;
-      permissions = l.permissions;
-      securities = l.securities;
-      charges = l.charges;
-      bands = l.bands;
-      tax_rates = l.tax_rates;
-      moments = l.moments;
-      trades = All-map base.trades (trade_across c c.brokers c.customers c.permissions c.charges c.bands c.tax_rates (base.customer_taxes ++ x ∷ []) c.trades c.kept) l.trades;
-      kept_keys = l.kept_keys;
-      broker_keys = l.broker_keys;
-      customer_keys = l.customer_keys;
-      tax_ids = l.tax_ids;
-      charge_keys = l.charge_keys;
-      tax_rate_keys = l.tax_rate_keys;
-      customer_tax_keys = apart_more customer_tax_key base.customer_taxes x (customer_tax_new x base.customer_taxes (any-none (λ y. (y.customer == x.customer) && (y.tax == x.tax)) base.customer_taxes p.1.1.0)) k.customer_tax_keys;
-      permitted = l.permitted;
-      payers = All-append (NamesCustomer base) base.customer_taxes (x ∷ []) k.payers (not_not (is_some (customer_with base x.customer)) p.0, tt);
-      taxes = All-append (NamesTax base) base.customer_taxes (x ∷ []) k.taxes (not_not (is_some (tax_rate_with base x.tax)) p.1.0, tt);
-      owned = l.owned;
-      rates = paid_more base x (ltb-false greatest_tax_rate _ p.1.1.1.0) k.rates;
-      summaries = l.summaries;
-      balances = l.balances;
-      commissions = l.commissions;
+      keyed = l.keyed;
+      parties = l.parties;
+      terms = record {
+        charges = l.charges;
+        bands = l.bands;
+        tax_rates = l.tax_rates;
+        charge_keys = l.charge_keys;
+        tax_rate_keys = l.tax_rate_keys;
+        customer_tax_keys = apart_more customer_tax_key base.customer_taxes x (customer_tax_new x base.customer_taxes (any-none (λ y. (y.customer == x.customer) && (y.tax == x.tax)) base.customer_taxes p.1.1.0)) k.customer_tax_keys;
+        payers = All-append (NamesCustomer base.customers) base.customer_taxes (x ∷ []) k.payers (not_not (is_some (customer_with base x.customer)) p.0, tt);
+        taxes = All-append (NamesTax base.tax_rates) base.customer_taxes (x ∷ []) k.taxes (not_not (is_some (tax_rate_with base x.tax)) p.1.0, tt);
+        rates = paid_more base x (ltb-false greatest_tax_rate _ p.1.1.1.0) k.rates;
+      };
+      listed = l.listed;
+      trades = l.trades;
+      sums = l.sums;
     }
 
 -- ---- securities
 
--- whether a name of a cash row is one of the two, by the name of its security
-abbrev pub named_by : Trade → Text → Bool
-named_by t name =
-    bytes_eq t.cash_name (type_name t.kind ++ 32 ∷ decimal t.qty ++ codes " shares of " ++ name)
-    || bytes_eq t.cash_name (type_name t.kind ++ 32 ∷ decimal t.qty ++ codes " Shares of " ++ name)
-
-pub trade_listed : (base : Base) (ss : List Security) (ts : List Trade) (t : Trade)
+pub trade_listed : (base : Base) (ss : List Security) (t : Trade)
     → option_map_or (λ s. s.name) (find (λ s. bytes_eq s.symbol t.symbol) ss) [] ≡ option_map_or (λ s. s.name) (find (λ s. bytes_eq s.symbol t.symbol) base.securities) []
-    → IsSoundTrade base t → IsSoundTrade (record base { securities = ss; trades = ts }) t
-trade_listed base ss ts t e k = record {
-  fields = k.fields;
-  stamps = k.stamps;
-  way = k.way;
-  past = k.past;
-  due = k.due;
-  priced = k.priced;
-  words = k.words;
-  cash_type = k.cash_type;
-  cash_name = λ d. ap (named_by t) e ∙ k.cash_name d;
-  amount = k.amount;
-}
+    → IsSoundTrade base t → IsSoundBy base.last base.accounts ss t
+trade_listed base ss t e k = record { alone = k.alone; past = k.past; cash_name = λ d. ap (is_named_by t) e ∙ k.cash_name d; amount = k.amount }
 
 pub sound_security : (base : Base) (now : ℕ) (l : Listing) → LeavesSound base now (AddSecurity l)
 unfolding records_after tests
@@ -403,34 +300,17 @@ sound_security base now x k books form e =
     let c : Base = record base { last = Some stamp } in
     let s : Security = listed stamp x in
     record {
-      kept = l.kept;
-      brokers = l.brokers;
-      customers = l.customers;
-      accounts = l.accounts;
-      permissions = l.permissions;
-      securities = All-append (λ s. security_fields s ≡ true) base.securities (s ∷ []) k.securities (form, tt);
-      charges = l.charges;
-      bands = l.bands;
-      tax_rates = l.tax_rates;
-      moments = All-append (λ s. is_past (Some stamp) s.moment ≡ true) base.securities (s ∷ []) l.moments (past_itself stamp, tt);
-      trades = All-map base.trades (λ t h. trade_listed c (base.securities ++ s ∷ []) base.trades t
+      keyed = l.keyed;
+      parties = l.parties;
+      terms = l.terms;
+      listed = record {
+        securities = All-append (λ s. security_fields s ≡ true) base.securities (s ∷ []) k.securities (form, tt);
+        moments = All-append (λ s. is_past (Some stamp) s.moment ≡ true) base.securities (s ∷ []) l.moments (past_itself stamp, tt);
+      };
+      trades = All-map base.trades (λ t h. trade_listed c (base.securities ++ s ∷ []) t
           (ap (λ o. option_map_or (λ s. s.name) o []) (find-more (λ u. bytes_eq u.symbol t.symbol) base.securities (s ∷ []) h.1)) h.0)
           (both_all (IsSoundTrade c) (KnowsSecurity base) base.trades l.trades books.securities);
-      kept_keys = l.kept_keys;
-      broker_keys = l.broker_keys;
-      customer_keys = l.customer_keys;
-      tax_ids = l.tax_ids;
-      charge_keys = l.charge_keys;
-      tax_rate_keys = l.tax_rate_keys;
-      customer_tax_keys = l.customer_tax_keys;
-      permitted = l.permitted;
-      payers = l.payers;
-      taxes = l.taxes;
-      owned = l.owned;
-      rates = l.rates;
-      summaries = l.summaries;
-      balances = l.balances;
-      commissions = l.commissions;
+      sums = l.sums;
     }
 
 -- ---- accounts
@@ -493,19 +373,8 @@ owned_more accounts a h k customer = by_test (a.customer == customer) refl
         let p = apart in
         omega (arith, p, one, m)
 
-trade_owned : (base : Base) (a : Account) (t : Trade) → KnowsAccount base t → IsSoundTrade base t → IsSoundTrade (record base { accounts = more base a }) t
-trade_owned base a t known k = record {
-  fields = k.fields;
-  stamps = k.stamps;
-  way = k.way;
-  past = k.past;
-  due = k.due;
-  priced = k.priced;
-  words = k.words;
-  cash_type = k.cash_type;
-  cash_name = k.cash_name;
-  amount = λ d. ap is_amount (amount_as_before base a t known) ∙ k.amount d;
-}
+trade_owned : (base : Base) (a : Account) (t : Trade) → KnowsAccount base t → IsSoundTrade base t → IsSoundBy base.last (more base a) base.securities t
+trade_owned base a t known k = record { alone = k.alone; past = k.past; cash_name = k.cash_name; amount = λ d. ap is_amount (amount_as_before base a t known) ∙ k.amount d }
 
 pub sound_account : (base : Base) (now : ℕ) (a : Account) → LeavesSound base now (AddAccount a)
 unfolding records_after tests
@@ -514,32 +383,26 @@ sound_account base now a k books form e =
     let p = passed base now (AddAccount a) e in
     let c : Base = record base { last = Some (next_stamp base now) } in
     record {
-      kept = l.kept;
-      brokers = l.brokers;
-      customers = l.customers;
-      accounts = All-append (λ a. account_fields a ≡ true) base.accounts (a ∷ []) k.accounts (form, tt);
-      permissions = l.permissions;
-      securities = l.securities;
-      charges = l.charges;
-      bands = l.bands;
-      tax_rates = l.tax_rates;
-      moments = l.moments;
+      keyed = l.keyed;
+      parties = record {
+        brokers = l.brokers;
+        customers = l.customers;
+        accounts = All-append (λ a. account_fields a ≡ true) base.accounts (a ∷ []) k.accounts (form, tt);
+        permissions = l.permissions;
+        broker_keys = l.broker_keys;
+        customer_keys = l.customer_keys;
+        tax_ids = l.tax_ids;
+        permitted = All-map base.permissions (λ q h. found_more (λ b. b.id == q.account) base.accounts (a ∷ []) h) k.permitted;
+        owned = owned_more base.accounts a (leb-false most_accounts _ p.1.1.1.0) k.owned;
+      };
+      terms = l.terms;
+      listed = l.listed;
       trades = All-map base.trades (λ t h. trade_owned c a t h.1 h.0) (both_all (IsSoundTrade c) (KnowsAccount base) base.trades l.trades books.accounts);
-      kept_keys = l.kept_keys;
-      broker_keys = l.broker_keys;
-      customer_keys = l.customer_keys;
-      tax_ids = l.tax_ids;
-      charge_keys = l.charge_keys;
-      tax_rate_keys = l.tax_rate_keys;
-      customer_tax_keys = l.customer_tax_keys;
-      permitted = All-map base.permissions (λ q h. found_more (λ b. b.id == q.account) base.accounts (a ∷ []) h) k.permitted;
-      payers = l.payers;
-      taxes = l.taxes;
-      owned = owned_more base.accounts a (leb-false most_accounts _ p.1.1.1.0) k.owned;
-      rates = l.rates;
-      summaries = l.summaries;
-      balances = balances_more base a books p.1.1.0 (parts3 (is_id a.id) (is_name a.name) (is_amount a.opening) form).2 k.balances;
-      commissions = λ id. subst (λ n. n ≤ greatest_amount) (sym (same_commissions base a id books)) (k.commissions id);
+      sums = record {
+        summaries = l.summaries;
+        balances = balances_more base a books p.1.1.0 (parts3 (is_id a.id) (is_name a.name) (is_amount a.opening) form).2 k.balances;
+        commissions = λ id. subst (λ n. n ≤ greatest_amount) (sym (same_commissions base a id books)) (k.commissions id);
+      };
     }
 
 -- ---- a row that is kept
@@ -559,33 +422,15 @@ none_is o e = ap is_some e
 
 pub sound_kept : (base : Base) (key : Key) (command : Command) (reply : Reply) → IsSound base → IsKeyInForm key → kept_under base key ≡ None → IsSound (keeping (Some key) command reply base)
 sound_kept base key command reply k form e =
-    let after : Base = keeping (Some key) command reply base in
     let row : Kept = record { key = key; row_text = row_text command; line = line_text reply } in
     record {
-      kept = All-append (λ k. kept_form k ≡ true) base.kept (row ∷ []) k.kept (form, tt);
-      brokers = k.brokers;
-      customers = k.customers;
-      accounts = k.accounts;
-      permissions = k.permissions;
-      securities = k.securities;
-      charges = k.charges;
-      bands = k.bands;
-      tax_rates = k.tax_rates;
-      moments = k.moments;
-      trades = All-map base.trades (trade_across base base.brokers base.customers base.permissions base.charges base.bands base.tax_rates base.customer_taxes base.trades after.kept) k.trades;
-      kept_keys = apart_more kept_key base.kept row (kept_new key row base.kept refl (find-none _ base.kept (none_is (kept_under base key) e))) k.kept_keys;
-      broker_keys = k.broker_keys;
-      customer_keys = k.customer_keys;
-      tax_ids = k.tax_ids;
-      charge_keys = k.charge_keys;
-      tax_rate_keys = k.tax_rate_keys;
-      customer_tax_keys = k.customer_tax_keys;
-      permitted = k.permitted;
-      payers = k.payers;
-      taxes = k.taxes;
-      owned = k.owned;
-      rates = k.rates;
-      summaries = k.summaries;
-      balances = k.balances;
-      commissions = k.commissions;
+      keyed = record {
+        kept = All-append (λ k. kept_form k ≡ true) base.kept (row ∷ []) k.kept (form, tt);
+        kept_keys = apart_more kept_key base.kept row (kept_new key row base.kept refl (find-none _ base.kept (none_is (kept_under base key) e))) k.kept_keys;
+      };
+      parties = k.parties;
+      terms = k.terms;
+      listed = k.listed;
+      trades = k.trades;
+      sums = k.sums;
     }

@@ -31,7 +31,7 @@ use Rattle.brk_book_laws.proofs.ResultKeeping.{Found, found_at, result_passed, s
 use Rattle.brk_adoption_laws.proofs.Parts.{parts6}
 use Rattle.brk_sound_laws.specs.Sound.{IsDueInTime, IsPastMark, IsSound, IsSoundTrade}
 use Rattle.brk_sound_laws.proofs.Bounds.{amount_within, commission_low, tax_within}
-use Rattle.brk_sound_laws.proofs.OneTrade.{cheap_shares, completes_way, false_true, past_itself, past_then, price_low, qty_low, sound_last, stamps_more, trade_among, trade_last}
+use Rattle.brk_sound_laws.proofs.OneTrade.{cheap_shares, completes_way, false_true, past_itself, past_then, price_low, qty_low, sound_last, stamps_more, trade_last}
 
 -- ---- sums with one trade more
 
@@ -126,18 +126,20 @@ completed_sound base now id price t k books form e accepted h =
     tax_within base t.account (result_deal stamp price t) (shares_in (completed base) t.account t.symbol) q r (cheap_shares base t.account t.symbol k.trades) (k.rates (customer_of base t.account)) in
     let due = ltb-false last_day (day_of stamp + settlement_days) p.1.1.1.1.1.0 in
     record {
-      fields = and6 (is_id t.id) (is_qty t.qty) (is_price t.bid) (nat_le t.charge greatest_charge) (nat_le u.commission greatest_amount) (nat_le u.tax greatest_amount) f.0 f.1 f.2 f.3
-          (high u.commission c) (high u.tax x);
-      stamps = stamps_more base now Completed t h.stamps h.past;
-      way = completes_way stamp t h.way s;
-      past = All-append (IsPastMark (Some stamp)) t.marks (record { stamp = stamp; status = Completed } ∷ []) (All-map t.marks (λ m e. past_then base.last now m.stamp e) h.past) (past_itself stamp, tt);
-      due = All-append IsDueInTime t.marks (record { stamp = stamp; status = Completed } ∷ []) h.due (le-leb (day_of stamp + settlement_days) last_day due, tt);
-      priced = ap (λ b. cond b (is_price price) false) done ∙ form;
-      words = record {
-        settled = λ waits. false_true (sym waits ∙ done);
-        moved = λ margin. no_words t.is_cash (cash_text (codes " shares of ") base t) (sym (ap (λ b. b && t.is_cash) done) ∙ margin);
+      alone = record {
+        fields = and6 (is_id t.id) (is_qty t.qty) (is_price t.bid) (nat_le t.charge greatest_charge) (nat_le u.commission greatest_amount) (nat_le u.tax greatest_amount) f.0 f.1 f.2 f.3
+            (high u.commission c) (high u.tax x);
+        stamps = stamps_more base now Completed t h.stamps h.past;
+        way = completes_way stamp t h.way s;
+        due = All-append IsDueInTime t.marks (record { stamp = stamp; status = Completed } ∷ []) h.due (le-leb (day_of stamp + settlement_days) last_day due, tt);
+        priced = ap (λ b. cond b (is_price price) false) done ∙ form;
+        words = record {
+          settled = λ waits. false_true (sym waits ∙ done);
+          moved = λ margin. no_words t.is_cash (cash_text (codes " shares of ") base t) (sym (ap (λ b. b && t.is_cash) done) ∙ margin);
+        };
+        cash_type = λ d. first_type t.is_cash;
       };
-      cash_type = λ d. first_type t.is_cash;
+      past = All-append (IsPastMark (Some stamp)) t.marks (record { stamp = stamp; status = Completed } ∷ []) (All-map t.marks (λ m e. past_then base.last now m.stamp e) h.past) (past_itself stamp, tt);
       cash_name = λ d.
           let cash : t.is_cash ≡ true = (and_parts (is_completed u) t.is_cash d).1 in
           let text : Text = cash_text (codes " shares of ") base t in
@@ -163,40 +165,24 @@ sound_then base now id price t k books form e accepted =
     let p = result_passed base now id price t e accepted in
     let old : AllByRecursion (IsSoundTrade base) (f.front ++ t ∷ f.back) = subst (AllByRecursion (IsSoundTrade base)) f.result.stands k.trades in
     let back = All-back (IsSoundTrade base) f.front (t ∷ f.back) old in
-    let stays : (v : Trade) → IsSoundTrade base v → IsSoundTrade after v = λ v h. trade_among (record base { last = Some stamp }) after.trades v (trade_last base now v h) in
+    let stays : (v : Trade) → IsSoundTrade base v → IsSoundTrade after v = λ v h. trade_last base now v h in
     record {
-      kept = l.kept;
-      brokers = l.brokers;
-      customers = l.customers;
-      accounts = l.accounts;
-      permissions = l.permissions;
-      securities = l.securities;
-      charges = l.charges;
-      bands = l.bands;
-      tax_rates = l.tax_rates;
-      moments = l.moments;
+      keyed = l.keyed;
+      parties = l.parties;
+      terms = l.terms;
+      listed = l.listed;
       trades = subst (AllByRecursion (IsSoundTrade after)) (sym (trades_then base stamp price t f.front f.back f.result))
           (All-append (IsSoundTrade after) f.front (u ∷ f.back) (All-map f.front stays (All-front (IsSoundTrade base) f.front (t ∷ f.back) old))
           (completed_sound base now id price t k books form e accepted back.0, All-map f.back stays back.1));
-      kept_keys = l.kept_keys;
-      broker_keys = l.broker_keys;
-      customer_keys = l.customer_keys;
-      tax_ids = l.tax_ids;
-      charge_keys = l.charge_keys;
-      tax_rate_keys = l.tax_rate_keys;
-      customer_tax_keys = l.customer_tax_keys;
-      permitted = l.permitted;
-      payers = l.payers;
-      taxes = l.taxes;
-      owned = l.owned;
-      rates = l.rates;
-      summaries = subst (λ ts. (account : ℕ) → (symbol : Text) → nat_abs (summary_of ts account symbol) ≤ greatest_summary) (sym is)
-          (summary_then A u Z (subst (λ ts. (account : ℕ) → (symbol : Text) → nat_abs (summary_of ts account symbol) ≤ greatest_summary) was k.summaries)
-          (subst (λ ts. nat_abs (summary_of ts t.account t.symbol) ≤ greatest_summary) is (ltb-false greatest_summary _ p.1.1.0)));
-      balances = subst (λ ts. (account : ℕ) → nat_abs (balance_of base.accounts ts account) ≤ greatest_amount) (sym is)
-          (balance_then base.accounts A u Z (subst (λ ts. (account : ℕ) → nat_abs (balance_of base.accounts ts account) ≤ greatest_amount) was k.balances)
-          (subst (λ ts. (t.is_cash && nat_lt greatest_amount (nat_abs (balance_of base.accounts ts t.account))) ≡ false) is p.1.1.1.0));
-      commissions = subst (λ ts. (broker : ℕ) → commissions_of base.accounts ts broker ≤ greatest_amount) (sym is)
-          (commissions_then base.accounts A u Z (subst (λ ts. (broker : ℕ) → commissions_of base.accounts ts broker ≤ greatest_amount) was k.commissions)
-          (subst (λ ts. commissions_of base.accounts ts (broker_in base.accounts t.account) ≤ greatest_amount) is (ltb-false greatest_amount _ p.1.1.1.1.0)));
+      sums = record {
+        summaries = subst (λ ts. (account : ℕ) → (symbol : Text) → nat_abs (summary_of ts account symbol) ≤ greatest_summary) (sym is)
+            (summary_then A u Z (subst (λ ts. (account : ℕ) → (symbol : Text) → nat_abs (summary_of ts account symbol) ≤ greatest_summary) was k.summaries)
+            (subst (λ ts. nat_abs (summary_of ts t.account t.symbol) ≤ greatest_summary) is (ltb-false greatest_summary _ p.1.1.0)));
+        balances = subst (λ ts. (account : ℕ) → nat_abs (balance_of base.accounts ts account) ≤ greatest_amount) (sym is)
+            (balance_then base.accounts A u Z (subst (λ ts. (account : ℕ) → nat_abs (balance_of base.accounts ts account) ≤ greatest_amount) was k.balances)
+            (subst (λ ts. (t.is_cash && nat_lt greatest_amount (nat_abs (balance_of base.accounts ts t.account))) ≡ false) is p.1.1.1.0));
+        commissions = subst (λ ts. (broker : ℕ) → commissions_of base.accounts ts broker ≤ greatest_amount) (sym is)
+            (commissions_then base.accounts A u Z (subst (λ ts. (broker : ℕ) → commissions_of base.accounts ts broker ≤ greatest_amount) was k.commissions)
+            (subst (λ ts. commissions_of base.accounts ts (broker_in base.accounts t.account) ≤ greatest_amount) is (ltb-false greatest_amount _ p.1.1.1.1.0)));
+      };
     }

@@ -131,30 +131,30 @@ keyed_sound base now command key k books form named = by_kept (kept_of base key)
 pub empty_sound : IsSound empty_base
 unfolding empty_base summary_of balance_of commissions_of total_by
 empty_sound = record {
-  kept = tt;
-  brokers = tt;
-  customers = tt;
-  accounts = tt;
-  permissions = tt;
-  securities = tt;
-  charges = tt;
-  bands = tt;
-  tax_rates = tt;
-  moments = tt;
+  keyed = record { kept = tt; kept_keys = tt };
+  parties = record {
+    brokers = tt;
+    customers = tt;
+    accounts = tt;
+    permissions = tt;
+    broker_keys = tt;
+    customer_keys = tt;
+    tax_ids = tt;
+    permitted = tt;
+    owned = λ customer. omega arith;
+  };
+  terms = record {
+    charges = tt;
+    bands = tt;
+    tax_rates = tt;
+    charge_keys = tt;
+    tax_rate_keys = tt;
+    customer_tax_keys = tt;
+    payers = tt;
+    taxes = tt;
+    rates = λ customer. omega arith;
+  };
+  listed = record { securities = tt; moments = tt };
   trades = tt;
-  kept_keys = tt;
-  broker_keys = tt;
-  customer_keys = tt;
-  tax_ids = tt;
-  charge_keys = tt;
-  tax_rate_keys = tt;
-  customer_tax_keys = tt;
-  permitted = tt;
-  payers = tt;
-  taxes = tt;
-  owned = λ customer. omega arith;
-  rates = λ customer. omega arith;
-  summaries = λ account symbol. omega arith;
-  balances = λ account. omega arith;
-  commissions = λ broker. omega arith;
+  sums = record { summaries = λ account symbol. omega arith; balances = λ account. omega arith; commissions = λ broker. omega arith };
 }

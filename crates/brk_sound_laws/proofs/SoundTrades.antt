@@ -47,7 +47,7 @@ use Rattle.brk_adoption_laws.proofs.Parts.{parts5}
 use Rattle.brk_sound_laws.specs.Sound.{IsDueInTime, IsPastMark, IsSound, IsSoundTrade, is_past, security_fields}
 use Rattle.brk_sound_laws.specs.InForm.{IsInForm, IsTickInForm}
 use Rattle.brk_sound_laws.proofs.Bounds.{All-take}
-use Rattle.brk_sound_laws.proofs.OneTrade.{false_true, leaves_way, past_before, past_itself, price_low, qty_low, rising_more, sound_last, trade_among, updated_all}
+use Rattle.brk_sound_laws.proofs.OneTrade.{false_true, leaves_way, past_before, past_itself, price_low, qty_low, rising_more, sound_last, updated_all}
 use Rattle.brk_sound_laws.proofs.SoundResult.{and5, commission_within, high, and6}
 use Rattle.brk_sound_laws.proofs.SoundRecords.{LeavesSound, trade_listed}
 
@@ -57,32 +57,16 @@ sound_moved : (c : Base) (ss : List Security) (ts : List Trade) → IsSound c �
     → AllByRecursion (IsSoundTrade (record c { securities = ss; trades = ts })) ts → filter is_completed ts ≡ completed c → IsSound (record c { securities = ss; trades = ts })
 sound_moved c ss ts k f m h e =
     record {
-      kept = k.kept;
-      brokers = k.brokers;
-      customers = k.customers;
-      accounts = k.accounts;
-      permissions = k.permissions;
-      securities = f;
-      charges = k.charges;
-      bands = k.bands;
-      tax_rates = k.tax_rates;
-      moments = m;
+      keyed = k.keyed;
+      parties = k.parties;
+      terms = k.terms;
+      listed = record { securities = f; moments = m };
       trades = h;
-      kept_keys = k.kept_keys;
-      broker_keys = k.broker_keys;
-      customer_keys = k.customer_keys;
-      tax_ids = k.tax_ids;
-      charge_keys = k.charge_keys;
-      tax_rate_keys = k.tax_rate_keys;
-      customer_tax_keys = k.customer_tax_keys;
-      permitted = k.permitted;
-      payers = k.payers;
-      taxes = k.taxes;
-      owned = k.owned;
-      rates = k.rates;
-      summaries = subst (λ ts. (account : ℕ) → (symbol : Text) → nat_abs (summary_of ts account symbol) ≤ greatest_summary) (sym e) k.summaries;
-      balances = subst (λ ts. (account : ℕ) → nat_abs (balance_of c.accounts ts account) ≤ greatest_amount) (sym e) k.balances;
-      commissions = subst (λ ts. (broker : ℕ) → commissions_of c.accounts ts broker ≤ greatest_amount) (sym e) k.commissions;
+      sums = record {
+        summaries = subst (λ ts. (account : ℕ) → (symbol : Text) → nat_abs (summary_of ts account symbol) ≤ greatest_summary) (sym e) k.summaries;
+        balances = subst (λ ts. (account : ℕ) → nat_abs (balance_of c.accounts ts account) ≤ greatest_amount) (sym e) k.balances;
+        commissions = subst (λ ts. (broker : ℕ) → commissions_of c.accounts ts broker ≤ greatest_amount) (sym e) k.commissions;
+      };
     }
 
 -- ---- an order
@@ -129,15 +113,17 @@ ordered_sound base stamp o ts number k form known =
     let bid : is_price u.bid ≡ true = requested_is_price base o form.price (last_is_price base o.symbol k.securities known) in
     let c : u.commission ≤ 10 ^ 13 = commission_within base o.account (kind_of o.order_type) o.symbol o.qty u.bid k.bands (qty_low o.qty form.qty) (price_low u.bid bid) in
     record {
-      fields = and6 (is_id u.id) (is_qty u.qty) (is_price u.bid) (nat_le u.charge greatest_charge) (nat_le u.commission greatest_amount) (nat_le 0 greatest_amount) number form.qty bid
-          (charge_within base o k.charges) (high u.commission c) (le-leb 0 greatest_amount (omega arith));
-      stamps = refl;
-      way = first_way o;
+      alone = record {
+        fields = and6 (is_id u.id) (is_qty u.qty) (is_price u.bid) (nat_le u.charge greatest_charge) (nat_le u.commission greatest_amount) (nat_le 0 greatest_amount) number form.qty bid
+            (charge_within base o k.charges) (high u.commission c) (le-leb 0 greatest_amount (omega arith));
+        stamps = refl;
+        way = first_way o;
+        due = (ap (λ b. not b || nat_le (day_of stamp + settlement_days) last_day) now, tt);
+        priced = ap (λ b. cond b false true) now;
+        words = record { settled = λ e. refl; moved = λ e. refl };
+        cash_type = λ d. false_true (sym now ∙ d);
+      };
       past = (past_itself stamp, tt);
-      due = (ap (λ b. not b || nat_le (day_of stamp + settlement_days) last_day) now, tt);
-      priced = ap (λ b. cond b false true) now;
-      words = record { settled = λ e. refl; moved = λ e. refl };
-      cash_type = λ d. false_true (sym now ∙ d);
       cash_name = λ d. false_true (sym now ∙ (and_parts (is_completed u) u.is_cash d).0);
       amount = λ d. false_true (sym now ∙ d);
     }
@@ -153,7 +139,7 @@ sound_order base now o k books form e =
     let ts : List Trade = base.trades ++ t ∷ [] in
     let known : is_some (security_with base o.symbol) ≡ true = not_not (is_some (security_with base o.symbol)) p.1.0 in
     sound_moved c base.securities ts l k.securities l.moments
-    (All-append (IsSoundTrade (record c { trades = ts })) base.trades (t ∷ []) (All-map base.trades (trade_among c ts) l.trades) (ordered_sound base stamp o ts (next_is_id (length base.trades) p.1.1.1.1.1.0) k form known, tt))
+    (All-append (IsSoundTrade (record c { trades = ts })) base.trades (t ∷ []) l.trades (ordered_sound base stamp o ts (next_is_id (length base.trades) p.1.1.1.1.1.0) k form known, tt))
     (ordered_done base stamp o)
 
 -- ---- a trade that waited comes to another status
@@ -173,14 +159,16 @@ marked_sound b stamp status t w other k below h =
     let m : Mark = record { stamp = stamp; status = status } in
     let price : Bool → Bool = λ b. cond b (option_map_or is_price t.price false) (is_none t.price) in
     record {
-      fields = k.fields;
-      stamps = stamps_below stamp status t k.stamps below;
-      way = leaves_way stamp status t w k.way h;
+      alone = record {
+        fields = k.fields;
+        stamps = stamps_below stamp status t k.stamps below;
+        way = leaves_way stamp status t w k.way h;
+        due = All-append IsDueInTime t.marks (m ∷ []) k.due (ap (λ b. not b || nat_le (day_of stamp + settlement_days) last_day) other, tt);
+        priced = ap price now ∙ sym (ap price was) ∙ k.priced;
+        words = record { settled = λ e. k.words.settled was; moved = λ e. k.words.moved (ap (λ b. b && t.is_cash) was) };
+        cash_type = λ d. false_true (sym now ∙ d);
+      };
       past = All-append (IsPastMark (Some stamp)) t.marks (m ∷ []) k.past (past_itself stamp, tt);
-      due = All-append IsDueInTime t.marks (m ∷ []) k.due (ap (λ b. not b || nat_le (day_of stamp + settlement_days) last_day) other, tt);
-      priced = ap price now ∙ sym (ap price was) ∙ k.priced;
-      words = record { settled = λ e. k.words.settled was; moved = λ e. k.words.moved (ap (λ b. b && t.is_cash) was) };
-      cash_type = λ d. false_true (sym now ∙ d);
       cash_name = λ d. false_true (sym now ∙ (and_parts (is_completed u) t.is_cash d).0);
       amount = λ d. false_true (sym now ∙ d);
     }
@@ -217,8 +205,8 @@ sound_cancel base now id k books form e =
     let past = All-map base.trades (λ t h. h.past) k.trades in
     sound_moved c base.securities ts l k.securities l.moments
     (updated_all P (IsSoundTrade (record c { trades = ts })) (λ t. t.id == id) (marked stamp Canceled) base.trades
-    (λ t i h. trade_among c ts (marked stamp Canceled t) (marked_sound base stamp Canceled t refl refl h.0 (All-map t.marks (λ m b. past_before base.last now m.stamp b) h.1.0) (h.1.1 i)))
-    (λ t h. trade_among c ts t h.0)
+    (λ t i h. marked_sound base stamp Canceled t refl refl h.0 (All-map t.marks (λ m b. past_before base.last now m.stamp b) h.1.0) (h.1.1 i))
+    (λ t h. h.0)
     (both_all (IsSoundTrade c) (λ t. AllByRecursion (IsPastMark base.last) t.marks × ((t.id == id) ≡ true → has_status Pending t ≡ true)) base.trades l.trades
     (both_all (λ t. AllByRecursion (IsPastMark base.last) t.marks) (λ t. (t.id == id) ≡ true → has_status Pending t ≡ true) base.trades past waits)))
     (completed_unseen (λ t. t.id == id) (marked stamp Canceled) base.trades (λ t. status_of_marked stamp Canceled Completed t)
@@ -274,9 +262,9 @@ tick_sound b stamp tick form k waits =
           (updated_all (λ s. is_past (Some stamp) s.moment ≡ true) (λ s. is_past (Some stamp) s.moment ≡ true) (λ s. bytes_eq s.symbol tick.symbol) (ticked stamp tick) b.securities
           (λ s i h. past_itself stamp) (λ s h. h) k.moments)
           (updated_all P (IsSoundTrade (record c { securities = ss; trades = ts })) (is_triggered tick) (marked stamp Submitted) b.trades
-          (λ t i h. trade_listed c ss ts (marked stamp Submitted t) (names_stay stamp tick t.symbol q b.securities)
+          (λ t i h. trade_listed c ss (marked stamp Submitted t) (names_stay stamp tick t.symbol q b.securities)
           (marked_sound b stamp Submitted t refl refl h.0 (h.1 (triggered_waits tick t i)) (triggered_waits tick t i)))
-          (λ t h. trade_listed c ss ts t (names_stay stamp tick t.symbol q b.securities) h.0)
+          (λ t h. trade_listed c ss t (names_stay stamp tick t.symbol q b.securities) h.0)
           (both_all (IsSoundTrade c) (Waits stamp) b.trades k.trades waits))
           (completed_tick b stamp tick),
       updated_all (Waits stamp) (Waits stamp) (is_triggered tick) (marked stamp Submitted) b.trades
@@ -382,32 +370,16 @@ sound_reworded : (c : Base) (p : Trade → Bool) (x y z : Trade → Text) → Is
 sound_reworded c p x y z k h =
     let ts : List Trade = update_where p (reworded x y z) c.trades in
     record {
-      kept = k.kept;
-      brokers = k.brokers;
-      customers = k.customers;
-      accounts = k.accounts;
-      permissions = k.permissions;
-      securities = k.securities;
-      charges = k.charges;
-      bands = k.bands;
-      tax_rates = k.tax_rates;
-      moments = k.moments;
-      trades = All-map ts (trade_among c ts) h;
-      kept_keys = k.kept_keys;
-      broker_keys = k.broker_keys;
-      customer_keys = k.customer_keys;
-      tax_ids = k.tax_ids;
-      charge_keys = k.charge_keys;
-      tax_rate_keys = k.tax_rate_keys;
-      customer_tax_keys = k.customer_tax_keys;
-      permitted = k.permitted;
-      payers = k.payers;
-      taxes = k.taxes;
-      owned = k.owned;
-      rates = k.rates;
-      summaries = λ account symbol. subst (λ n. nat_abs n ≤ greatest_summary) (sym (same_summary p x y z c.trades account symbol)) (k.summaries account symbol);
-      balances = λ account. subst (λ n. nat_abs n ≤ greatest_amount) (sym (same_balance c.accounts p x y z c.trades account)) (k.balances account);
-      commissions = λ broker. subst (λ n. n ≤ greatest_amount) (sym (same_commissions c.accounts p x y z c.trades broker)) (k.commissions broker);
+      keyed = k.keyed;
+      parties = k.parties;
+      terms = k.terms;
+      listed = k.listed;
+      trades = h;
+      sums = record {
+        summaries = λ account symbol. subst (λ n. nat_abs n ≤ greatest_summary) (sym (same_summary p x y z c.trades account symbol)) (k.summaries account symbol);
+        balances = λ account. subst (λ n. nat_abs n ≤ greatest_amount) (sym (same_balance c.accounts p x y z c.trades account)) (k.balances account);
+        commissions = λ broker. subst (λ n. n ≤ greatest_amount) (sym (same_commissions c.accounts p x y z c.trades broker)) (k.commissions broker);
+      };
     }
 
 pub sound_executors : (base : Base) (now : ℕ) (ids : List ℕ) → LeavesSound base now (ChangeExecutors ids)
@@ -421,14 +393,16 @@ sound_executors base now ids k books form e =
     let z : Trade → Text = λ t. t.cash_name in
     sound_reworded c p x y z l (updated_all (IsSoundTrade c) (IsSoundTrade c) p (reworded x y z) base.trades
     (λ t i k. record {
-      fields = k.fields;
-      stamps = k.stamps;
-      way = k.way;
+      alone = record {
+        fields = k.fields;
+        stamps = k.stamps;
+        way = k.way;
+        due = k.due;
+        priced = k.priced;
+        words = record { settled = k.words.settled; moved = k.words.moved };
+        cash_type = k.cash_type;
+      };
       past = k.past;
-      due = k.due;
-      priced = k.priced;
-      words = record { settled = k.words.settled; moved = k.words.moved };
-      cash_type = k.cash_type;
       cash_name = k.cash_name;
       amount = k.amount;
     }) (λ t h. h) l.trades)
@@ -492,14 +466,16 @@ sound_cash_types base now account first last k books form e =
     let C : Trade → Type 0 = λ t. p t ≡ true → Chosen (λ t. t.account == account) t in
     sound_reworded c p x y z l (updated_all (λ t. IsSoundTrade c t × C t) (IsSoundTrade c) p (reworded x y z) base.trades
     (λ t i h. let k = h.0 in record {
-      fields = k.fields;
-      stamps = k.stamps;
-      way = k.way;
+      alone = record {
+        fields = k.fields;
+        stamps = k.stamps;
+        way = k.way;
+        due = k.due;
+        priced = k.priced;
+        words = record { settled = λ waits. false_true (sym waits ∙ (h.1 i).0); moved = k.words.moved };
+        cash_type = λ d. other_type t.is_cash t.cash_type;
+      };
       past = k.past;
-      due = k.due;
-      priced = k.priced;
-      words = record { settled = λ waits. false_true (sym waits ∙ (h.1 i).0); moved = k.words.moved };
-      cash_type = λ d. other_type t.is_cash t.cash_type;
       cash_name = k.cash_name;
       amount = k.amount;
     }) (λ t h. h.0) (both_all (IsSoundTrade c) C base.trades l.trades (chosen_all base (λ t. t.account == account) first last books.numbered)))
@@ -527,14 +503,16 @@ sound_cash_names base now symbol first last k books form e =
     let C : Trade → Type 0 = λ t. p t ≡ true → Chosen test t in
     sound_reworded c p x y z l (updated_all (λ t. IsSoundTrade c t × C t) (IsSoundTrade c) p (reworded x y z) base.trades
     (λ t i h. let k = h.0 in record {
-      fields = k.fields;
-      stamps = k.stamps;
-      way = k.way;
+      alone = record {
+        fields = k.fields;
+        stamps = k.stamps;
+        way = k.way;
+        due = k.due;
+        priced = k.priced;
+        words = record { settled = k.words.settled; moved = λ waits. false_true (sym waits ∙ and_from (is_completed t) t.is_cash (h.1 i).0 (and_parts t.is_cash (bytes_eq t.symbol symbol) (h.1 i).1).0) };
+        cash_type = k.cash_type;
+      };
       past = k.past;
-      due = k.due;
-      priced = k.priced;
-      words = record { settled = k.words.settled; moved = λ waits. false_true (sym waits ∙ and_from (is_completed t) t.is_cash (h.1 i).0 (and_parts t.is_cash (bytes_eq t.symbol symbol) (h.1 i).1).0) };
-      cash_type = k.cash_type;
       cash_name = λ d. other_name base t (holds_text (codes " shares of ") t.cash_name);
       amount = k.amount;
     }) (λ t h. h.0) (both_all (IsSoundTrade c) C base.trades l.trades (chosen_all base test first last books.numbered)))

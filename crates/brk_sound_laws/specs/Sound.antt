@@ -1,16 +1,15 @@
 -- What holds of a base beside its order, so that its tables pass an audit: the forms of fields, keys, names of others, and limits.
-use Rattle.std.specs.Prelude.{◌≡◌, ◌≤◌, ⊤, ℕ, ◌+◌, ◌==◌, ◌&&◌, ◌||◌, not, Bool, true, false, if◌then◌else◌, List, [], ◌∷◌, Option, is_some, is_none, nat_le, nat_abs, length, filter, codes, bytes_eq}
+use Rattle.std.specs.Prelude.{◌≡◌, ◌≤◌, ⊤, ℕ, ◌+◌, ◌==◌, ◌&&◌, ◌||◌, not, Bool, true, false, if◌then◌else◌, List, [], ◌∷◌, Option, is_some, is_none, nat_le, nat_abs, length, filter, find, sum_by, codes, decimal, bytes_eq, ◌++◌}
 use Rattle.std.specs.List.{AllByRecursion}
 use Rattle.std.specs.Option.{option_map_or}
 use Rattle.brk_money.specs.Spelling.{Text}
 use Rattle.brk_money.specs.Moments.{day_of, last_day}
-use Rattle.brk_money.specs.Kinds.{same_status}
+use Rattle.brk_money.specs.Kinds.{same_status, type_name}
 use Rattle.brk_money.specs.declared.status.Status.TheVariants.{Completed}
 use Rattle.brk_model.specs.Limits.{greatest_amount, greatest_charge, greatest_summary, greatest_tax_rate, most_accounts}
-use Rattle.brk_model.specs.Records.{Account, Broker, Customer, CustomerTax, Mark, Permission, Security, Trade}
-use Rattle.brk_model.specs.Base.{Base, account_with, completed, customer_with, is_completed, rates_of, tax_rate_with}
+use Rattle.brk_model.specs.Records.{Account, Band, Broker, Charge, Customer, CustomerTax, Kept, Mark, Permission, Security, TaxRate, Trade}
+use Rattle.brk_model.specs.Base.{Base, completed, find_account, is_completed}
 use Rattle.brk_model.specs.Derived.{amount_of, balance_of, commissions_of, settlement_days, summary_of}
-use Rattle.brk_model.specs.Results.{cash_text}
 use Rattle.brk_model.specs.Forms.{is_acl, is_exchange, is_name, is_symbol, is_tax_id}
 use Rattle.brk_model.specs.Form.{band_form, charge_form, customer_form, is_amount, is_cash_type, is_id, is_price, is_qty, kept_form, tax_rate_form}
 use Rattle.brk_model.specs.Keys.{KeyPart, word, charge_key, customer_key, customer_tax_key, kept_key, tax_rate_key}
@@ -65,72 +64,117 @@ IsDueInTime m = (not (same_status m.status Completed) || nat_le (day_of m.stamp 
 abbrev pub is_priced : Trade → Bool
 is_priced t = if is_completed t then option_map_or is_price t.price false else is_none t.price
 
--- a name of its cash row that it may have
-abbrev pub has_its_name : Base → Trade → Bool
-has_its_name base t = bytes_eq t.cash_name (cash_text (codes " shares of ") base t) || bytes_eq t.cash_name (cash_text (codes " Shares of ") base t)
+-- a name of its cash row that it may have, by the name of its security
+abbrev pub is_named_by : Trade → Text → Bool
+is_named_by t name =
+    bytes_eq t.cash_name (type_name t.kind ++ 32 ∷ decimal t.qty ++ codes " shares of " ++ name)
+    || bytes_eq t.cash_name (type_name t.kind ++ 32 ∷ decimal t.qty ++ codes " Shares of " ++ name)
 
--- a trade whose rows pass
-pub record IsSoundTrade (base : Base) (t : Trade) : Type 0 where
+abbrev pub has_its_name : List Security → Trade → Bool
+has_its_name securities t = is_named_by t (option_map_or (λ s. s.name) (find (λ s. bytes_eq s.symbol t.symbol) securities) [])
+
+-- a trade whose rows pass, as far as it alone tells
+pub record HasSoundRows (t : Trade) : Type 0 where
   pub fields : trade_fields t ≡ true
-  -- its statuses are a way, and their stamps rise up to the last command's
+  -- its statuses are a way, and their stamps rise
   pub stamps : StampsRise t
   pub way : GoesAWay t
-  pub past : AllByRecursion (IsPastMark base.last) t.marks
   pub due : AllByRecursion IsDueInTime t.marks
   -- price and words stand just where their rows do, and each word is one of the two of its kind
   pub priced : is_priced t ≡ true
   pub words : HasItsWords t
   pub cash_type : is_completed t ≡ true → is_cash_type t.is_cash t.cash_type ≡ true
-  pub cash_name : is_completed t && t.is_cash ≡ true → has_its_name base t ≡ true
+
+-- a trade whose rows pass, by the last stamp, the accounts and the securities
+pub record IsSoundBy (last : Option ℕ) (accounts : List Account) (securities : List Security) (t : Trade) : Type 0 where
+  pub alone : HasSoundRows t
+  pub open alone use *
+  -- its stamps rise up to the last command's
+  pub past : AllByRecursion (IsPastMark last) t.marks
+  pub cash_name : is_completed t && t.is_cash ≡ true → has_its_name securities t ≡ true
   -- what it settles for is within the limit
-  pub amount : is_completed t ≡ true → is_amount (amount_of base.accounts t) ≡ true
+  pub amount : is_completed t ≡ true → is_amount (amount_of accounts t) ≡ true
+
+-- a trade of a base whose rows pass
+abbrev pub IsSoundTrade : Base → Trade → Type 0
+IsSoundTrade base t = IsSoundBy base.last base.accounts base.securities t
 
 -- ---- what records name is there
 
 -- the account of a permission
-abbrev pub NamesAccount : Base → Permission → Type 0
-NamesAccount base p = is_some (account_with base p.account) ≡ true
+abbrev pub NamesAccount : List Account → Permission → Type 0
+NamesAccount accounts p = is_some (find_account accounts p.account) ≡ true
 
 -- the customer of a tax that is paid
-abbrev pub NamesCustomer : Base → CustomerTax → Type 0
-NamesCustomer base x = is_some (customer_with base x.customer) ≡ true
+abbrev pub NamesCustomer : List Customer → CustomerTax → Type 0
+NamesCustomer customers x = is_some (find (λ c. c.id == x.customer) customers) ≡ true
 
 -- its rate
-abbrev pub NamesTax : Base → CustomerTax → Type 0
-NamesTax base x = is_some (tax_rate_with base x.tax) ≡ true
+abbrev pub NamesTax : List TaxRate → CustomerTax → Type 0
+NamesTax tax_rates x = is_some (find (λ r. r.id == x.tax) tax_rates) ≡ true
 
--- a base whose tables have form
+-- the sum of the rates that a customer pays
+abbrev pub rates_paid : List TaxRate → List CustomerTax → ℕ → ℕ
+rates_paid tax_rates customer_taxes customer =
+    sum_by (λ x. option_map_or (λ r. r.rate) (find (λ r. r.id == x.tax) tax_rates) 0) (filter (λ x. x.customer == customer) customer_taxes)
+
+-- ---- the parts of a base whose tables have form: fields have their forms, and a key is of one record
+
+-- the rows that are kept
+pub record IsKeptSound (all_kept : List Kept) : Type 0 where
+  pub kept : AllByRecursion (λ k. kept_form k ≡ true) all_kept
+  pub kept_keys : KeysApart kept_key all_kept
+
+-- brokers, customers, accounts and permissions
+pub record ArePartiesSound (all_brokers : List Broker) (all_customers : List Customer) (all_accounts : List Account) (all_permissions : List Permission) : Type 0 where
+  pub brokers : AllByRecursion (λ b. broker_fields b ≡ true) all_brokers
+  pub customers : AllByRecursion (λ c. customer_form c ≡ true) all_customers
+  pub accounts : AllByRecursion (λ a. account_fields a ≡ true) all_accounts
+  pub permissions : AllByRecursion (λ p. permission_fields p ≡ true) all_permissions
+  pub broker_keys : KeysApart broker_id all_brokers
+  pub customer_keys : KeysApart customer_key all_customers
+  pub tax_ids : KeysApart tax_id_key all_customers
+  -- what a permission names is there
+  pub permitted : AllByRecursion (NamesAccount all_accounts) all_permissions
+  -- a customer has at most ten accounts
+  pub owned : (customer : ℕ) → length (filter (λ a. a.customer == customer) all_accounts) ≤ most_accounts
+
+-- charges, bands and taxes
+pub record AreTermsSound (all_customers : List Customer) (all_charges : List Charge) (all_bands : List Band) (all_tax_rates : List TaxRate) (all_taxes : List CustomerTax) : Type 0 where
+  pub charges : AllByRecursion (λ c. charge_form c ≡ true) all_charges
+  pub bands : AllByRecursion (λ b. band_form b ≡ true) all_bands
+  pub tax_rates : AllByRecursion (λ r. tax_rate_form r ≡ true) all_tax_rates
+  pub charge_keys : KeysApart charge_key all_charges
+  pub tax_rate_keys : KeysApart tax_rate_key all_tax_rates
+  pub customer_tax_keys : KeysApart customer_tax_key all_taxes
+  -- what a tax that is paid names is there
+  pub payers : AllByRecursion (NamesCustomer all_customers) all_taxes
+  pub taxes : AllByRecursion (NamesTax all_tax_rates) all_taxes
+  -- a customer pays at most the greatest rate
+  pub rates : (customer : ℕ) → rates_paid all_tax_rates all_taxes customer ≤ greatest_tax_rate
+
+-- securities, none of them traded after the last command
+pub record AreListedSound (last : Option ℕ) (all_securities : List Security) : Type 0 where
+  pub securities : AllByRecursion (λ s. security_fields s ≡ true) all_securities
+  pub moments : AllByRecursion (λ s. is_past last s.moment ≡ true) all_securities
+
+-- sums of completed trades are within their limits
+pub record AreSumsSound (accounts : List Account) (done : List Trade) : Type 0 where
+  pub summaries : (account : ℕ) → (symbol : Text) → nat_abs (summary_of done account symbol) ≤ greatest_summary
+  pub balances : (account : ℕ) → nat_abs (balance_of accounts done account) ≤ greatest_amount
+  pub commissions : (broker : ℕ) → commissions_of accounts done broker ≤ greatest_amount
+
+-- a base whose tables have form: each part speaks of its own lists alone, so that it stays where these do
 pub record IsSound (base : Base) : Type 0 where
-  -- the fields of records and kept keys have their forms
-  pub kept : AllByRecursion (λ k. kept_form k ≡ true) base.kept
-  pub brokers : AllByRecursion (λ b. broker_fields b ≡ true) base.brokers
-  pub customers : AllByRecursion (λ c. customer_form c ≡ true) base.customers
-  pub accounts : AllByRecursion (λ a. account_fields a ≡ true) base.accounts
-  pub permissions : AllByRecursion (λ p. permission_fields p ≡ true) base.permissions
-  pub securities : AllByRecursion (λ s. security_fields s ≡ true) base.securities
-  pub charges : AllByRecursion (λ c. charge_form c ≡ true) base.charges
-  pub bands : AllByRecursion (λ b. band_form b ≡ true) base.bands
-  pub tax_rates : AllByRecursion (λ r. tax_rate_form r ≡ true) base.tax_rates
-  -- no security was traded after the last command
-  pub moments : AllByRecursion (λ s. is_past base.last s.moment ≡ true) base.securities
+  pub keyed : IsKeptSound base.kept
+  pub open keyed use *
+  pub parties : ArePartiesSound base.brokers base.customers base.accounts base.permissions
+  pub open parties use *
+  pub terms : AreTermsSound base.customers base.charges base.bands base.tax_rates base.customer_taxes
+  pub open terms use *
+  pub listed : AreListedSound base.last base.securities
+  pub open listed use *
   -- each trade's rows pass
   pub trades : AllByRecursion (IsSoundTrade base) base.trades
-  -- a key is of one record
-  pub kept_keys : KeysApart kept_key base.kept
-  pub broker_keys : KeysApart broker_id base.brokers
-  pub customer_keys : KeysApart customer_key base.customers
-  pub tax_ids : KeysApart tax_id_key base.customers
-  pub charge_keys : KeysApart charge_key base.charges
-  pub tax_rate_keys : KeysApart tax_rate_key base.tax_rates
-  pub customer_tax_keys : KeysApart customer_tax_key base.customer_taxes
-  -- what records name is there
-  pub permitted : AllByRecursion (NamesAccount base) base.permissions
-  pub payers : AllByRecursion (NamesCustomer base) base.customer_taxes
-  pub taxes : AllByRecursion (NamesTax base) base.customer_taxes
-  -- a customer has at most ten accounts, and pays at most the greatest rate
-  pub owned : (customer : ℕ) → length (filter (λ a. a.customer == customer) base.accounts) ≤ most_accounts
-  pub rates : (customer : ℕ) → rates_of base customer ≤ greatest_tax_rate
-  -- sums are within their limits
-  pub summaries : (account : ℕ) → (symbol : Text) → nat_abs (summary_of (completed base) account symbol) ≤ greatest_summary
-  pub balances : (account : ℕ) → nat_abs (balance_of base.accounts (completed base) account) ≤ greatest_amount
-  pub commissions : (broker : ℕ) → commissions_of base.accounts (completed base) broker ≤ greatest_amount
+  pub sums : AreSumsSound base.accounts (completed base)
+  pub open sums use *

@@ -55,22 +55,10 @@ distinct (quote ∷ quotes) d = (All-mapped (λ u. bytes_eq u.symbol quote.last.
 
 market_books : (quotes : List Held) → QuotesApart quotes → AllByRecursion (λ quote. quote.last.volume ≤ greatest_amount) quotes → IsBooks (market quotes)
 market_books quotes d v = record {
-  brokers = tt;
-  customers = tt;
-  accounts = tt;
-  securities = tt;
-  owners = tt;
-  symbols = distinct quotes d;
-  volumes = All-mapped HasVolume security_of quotes v;
-  numbered = tt;
-  ways = tt;
-  completions = tt;
-  early = tt;
-  moments = tt;
-  bands = tt;
-  apart = tt;
-  clock = tt;
-  permissions = tt;
+  parties = record { brokers = tt; customers = tt; owners = tt; permissions = tt };
+  market = record { symbols = distinct quotes d; volumes = All-mapped HasVolume security_of quotes v; bands = tt; apart = tt };
+  trades = record { accounts = tt; securities = tt; numbered = tt; ways = tt; completions = tt };
+  times = record { early = tt; moments = tt; clock = tt };
 }
 
 -- its securities move with the quotes
