@@ -27,7 +27,10 @@ use Rattle.brk_book_laws.specs.Books.{BandsApart, CompletesFirst, DistinctAccoun
 use Rattle.brk_book_laws.proofs.Same.{All-map, All-mapped, All-of, any-none, find-All}
 use Rattle.brk_book_laws.proofs.Reading.{find-map, is_some-map, some-is-any}
 use Rattle.brk_adoption_laws.proofs.Climbs.{Climbs, In, climbs_filter, list_all_true, not_itself, of_all}
-use Rattle.brk_adoption_laws.proofs.Parts.{FormParts, KeyParts, form_parts, key_parts, parts3, parts6, parts10}
+use Rattle.brk_adoption_laws.proofs.Parts.{KeyParts, key_parts}
+use Rattle.brk_model_laws.specs.FormParts.{FormParts}
+use Rattle.brk_model_laws.proofs.FormParts.{form_parts}
+use Rattle.brk_model_laws.proofs.Conjunctions.{parts3, parts6, parts10}
 use Rattle.brk_adoption_laws.proofs.Marks.{IsOf, Lasts, completes_first, filtered, last_is_row, lasts, waits_first}
 
 false_true : {A : Type 0} → false ≡ true → A

@@ -22,7 +22,7 @@ use Rattle.brk_book_laws.proofs.Each.{AllCommute, Commute, each, each_map, each_
 use Rattle.brk_adoption_laws.proofs.Climbs.{AllBefore, Climbs, In, climbs_append, climbs_filter, each_in, not_itself, same_rows, stays}
 use Rattle.brk_adoption_laws.proofs.Members.{All-flat_map, FoundIn, each-append, each-same, found_in, in_filter, in_flat_map, sorted_each}
 use Rattle.brk_adoption_laws.proofs.Marks.{filtered}
-use Rattle.brk_adoption_laws.proofs.Parts.{parts3}
+use Rattle.brk_model_laws.proofs.Conjunctions.{parts3}
 
 -- a status as a row of a trade's history, and back
 abbrev row_of : ℕ → Mark → HistoryRow

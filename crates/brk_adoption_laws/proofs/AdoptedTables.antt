@@ -24,7 +24,10 @@ use Rattle.brk_book_laws.proofs.Reading.{some-is-any}
 use Rattle.brk_adoption_laws.proofs.Climbs.{Climbs, In, climbs_map, each_in, list_all_true, same_rows, stays}
 use Rattle.brk_adoption_laws.proofs.Members.{FoundIn, found_in, in_map, map-map, map_back, one_of_key}
 use Rattle.brk_adoption_laws.proofs.Marks.{Lasts, lasts, same_statuses}
-use Rattle.brk_adoption_laws.proofs.Parts.{FormParts, KeyParts, form_parts, key_parts, parts5}
+use Rattle.brk_adoption_laws.proofs.Parts.{KeyParts, key_parts}
+use Rattle.brk_model_laws.specs.FormParts.{FormParts}
+use Rattle.brk_model_laws.proofs.FormParts.{form_parts}
+use Rattle.brk_model_laws.proofs.Conjunctions.{parts5}
 use Rattle.brk_adoption_laws.proofs.AdoptedBooks.{symbol_of}
 use Rattle.brk_adoption_laws.proofs.AdoptedHistory.{adopted_history}
 

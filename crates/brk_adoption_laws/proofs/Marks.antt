@@ -17,7 +17,7 @@ use Rattle.brk_book_laws.specs.Books.{WaitsFirst, CompletesFirst, IsNoCompletion
 use Rattle.brk_book_laws.proofs.Same.{All-map, All-mapped}
 use Rattle.brk_book_laws.proofs.LotReading.{All-sort}
 use Rattle.brk_adoption_laws.proofs.Climbs.{In, each_in}
-use Rattle.brk_adoption_laws.proofs.Parts.{parts3}
+use Rattle.brk_model_laws.proofs.Conjunctions.{parts3}
 
 false_true : {A : Type 0} → false ≡ true → A
 false_true e = absurd (cc)

@@ -43,7 +43,9 @@ use Rattle.brk_adoption_laws.proofs.Again.{both_all}
 use Rattle.brk_adoption_laws.proofs.Climbs.{In, list_all_true}
 use Rattle.brk_adoption_laws.proofs.Marks.{IsOf, Lasts, filtered, last_is_row, lasts, same_statuses}
 use Rattle.brk_adoption_laws.proofs.Members.{in_filter}
-use Rattle.brk_adoption_laws.proofs.Parts.{FormParts, form_parts, parts10}
+use Rattle.brk_model_laws.specs.FormParts.{FormParts}
+use Rattle.brk_model_laws.proofs.FormParts.{form_parts}
+use Rattle.brk_model_laws.proofs.Conjunctions.{parts10}
 use Rattle.brk_audit.specs.Completed.{done_rows, is_done}
 use Rattle.brk_audit.specs.Positions.{Leave, clash, place_before, row_deal, same_place}
 use Rattle.brk_audit.proofs.Completed.{completed_rows, done_moments, right_rows}

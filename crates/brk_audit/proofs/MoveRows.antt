@@ -27,7 +27,8 @@ use Rattle.brk_book_laws.proofs.Order.{Sorted, key_one_way, key_splits, sorted_s
 use Rattle.brk_book_laws.proofs.Same.{All-map, All-of}
 use Rattle.brk_adoption_laws.proofs.AdoptedBooks.{adopted_books}
 use Rattle.brk_adoption_laws.proofs.Climbs.{Climbs}
-use Rattle.brk_adoption_laws.proofs.Parts.{form_parts, key_parts}
+use Rattle.brk_adoption_laws.proofs.Parts.{key_parts}
+use Rattle.brk_model_laws.proofs.FormParts.{form_parts}
 use Rattle.brk_audit.specs.Completed.{done_rows}
 use Rattle.brk_audit.specs.Positions.{Trace, moves, place_before, row_deal, same_place, untouched}
 use Rattle.brk_audit.proofs.Completed.{completed_rows}

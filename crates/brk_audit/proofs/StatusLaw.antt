@@ -17,7 +17,9 @@ use Rattle.brk_book_laws.proofs.Same.{All-map}
 use Rattle.brk_book_laws.proofs.LotReading.{all_pass}
 use Rattle.brk_adoption_laws.proofs.Climbs.{Climbs, list_all_true}
 use Rattle.brk_adoption_laws.proofs.Members.{All-flat_map}
-use Rattle.brk_adoption_laws.proofs.Parts.{FormParts, KeyParts, form_parts, key_parts}
+use Rattle.brk_adoption_laws.proofs.Parts.{KeyParts, key_parts}
+use Rattle.brk_model_laws.specs.FormParts.{FormParts}
+use Rattle.brk_model_laws.proofs.FormParts.{form_parts}
 use Rattle.brk_adoption_laws.proofs.AdoptedHistory.{joined}
 use Rattle.brk_audit.specs.Statuses.{all_go, goes_way, stamps_of}
 use Rattle.brk_audit.proofs.Statuses.{status_by_rows}

@@ -19,7 +19,7 @@ use Rattle.brk_adoption_laws.proofs.Climbs.{Climbs, climbs_filter, stays}
 use Rattle.brk_adoption_laws.proofs.Members.{sorted_each}
 use Rattle.brk_adoption_laws.proofs.Marks.{no_more_ways}
 use Rattle.brk_adoption_laws.proofs.AdoptedHistory.{own_rows}
-use Rattle.brk_adoption_laws.proofs.Parts.{parts3}
+use Rattle.brk_model_laws.proofs.Conjunctions.{parts3}
 use Rattle.brk_audit.specs.Statuses.{goes_way, is_at}
 
 false_true : {A : Type 0} → false ≡ true → A

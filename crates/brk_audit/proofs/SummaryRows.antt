@@ -31,7 +31,10 @@ use Rattle.brk_adoption_laws.proofs.AdoptedBooks.{adopted_books, symbol_of}
 use Rattle.brk_adoption_laws.proofs.Climbs.{Climbs, In, climbs_append, climbs_filter, climbs_map, each_in, list_all_true, not_itself, of_all, same_rows, stays}
 use Rattle.brk_adoption_laws.specs.Told.{account_id, symbol_key}
 use Rattle.brk_adoption_laws.proofs.Members.{All-flat_map, FoundIn, found_in}
-use Rattle.brk_adoption_laws.proofs.Parts.{FormParts, KeyParts, form_parts, key_parts, parts3}
+use Rattle.brk_adoption_laws.proofs.Parts.{KeyParts, key_parts}
+use Rattle.brk_model_laws.specs.FormParts.{FormParts}
+use Rattle.brk_model_laws.proofs.FormParts.{form_parts}
+use Rattle.brk_model_laws.proofs.Conjunctions.{parts3}
 use Rattle.brk_adoption_laws.proofs.Sorted.{All-block, All-rows}
 use Rattle.brk_audit.specs.Completed.{done_rows, is_done}
 use Rattle.brk_audit.specs.PositionSums.{SummariesHold, TellsShares, sum_of_position, told_of_position}

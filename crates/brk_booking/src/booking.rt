@@ -9,8 +9,9 @@ ghost use Rattle.brk_sound_laws.specs.InForm.{IsInForm, IsKeyInForm};
 
 use crate::answer::Answer;
 use crate::deciding::decide;
+use crate::in_form::{command_is_in_form, key_is_in_form};
 use crate::keeping::{find_kept, keep, repeat};
-use brk_commands::{Command, command_is_in_form, key_is_in_form};
+use brk_commands::Command;
 use brk_money::{Fault, Stamp};
 use brk_ref::Key;
 use brk_store::Store;

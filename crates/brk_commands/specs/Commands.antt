@@ -1,6 +1,6 @@
 -- What commands are in the abstract brokerage.
 use Rattle.brk_model.specs.Commands.{Command, PlaceOrder, FeedTicks, CancelTrade}
-use Rattle.brk_trade_laws.specs.Commands as books
+use Rattle.brk_plans.specs.Commands as books
 use Rattle.brk_orders.specs.Records.{order_of, result_of, ticks_of, update_of}
 use Rattle.brk_commands.specs.declared.command.Command as told
 use Rattle.brk_commands.specs.declared.command.Command.TheVariants as command

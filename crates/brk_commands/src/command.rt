@@ -1,6 +1,6 @@
 use brk_money::Id;
 use brk_orders::{Completion, Feed, Order, Update};
-use brk_trade::Reference;
+use brk_plans::Reference;
 
 /// What the desk is told. A command is in form.
 #[derive(Drop)]

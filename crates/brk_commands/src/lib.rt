@@ -2,7 +2,6 @@
 #![tactic(auto)]
 
 pub mod command;
-pub mod in_form;
 pub mod line;
 pub mod order_row;
 pub mod parse;
@@ -12,7 +11,6 @@ pub mod row;
 pub mod update_row;
 
 pub use command::Command;
-pub use in_form::{command_is_in_form, key_is_in_form};
 pub use line::{day_text, line_text};
 pub use order_row::{cancel_text, cash_word, end_word, feed_text, order_text, result_text};
 pub use parse::parse_row;

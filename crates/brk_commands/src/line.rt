@@ -11,7 +11,7 @@ ghost use Rattle.brk_money.specs.declared.fault.Fault.TheVariants.{Memory};
 ghost use Rattle.brk_plans.specs.Replies.{completion_of, estimate_of, reply_of};
 
 use brk_money::{Day, Fault, Id, Stamp, Wide, write_day};
-use brk_trade::{Completed, Estimate, Ordered, Reply};
+use brk_plans::{Completed, Estimate, Ordered, Reply};
 use itoa::Buffer;
 use std::alloc::{AllocError, Global};
 

@@ -8,11 +8,11 @@ ghost use Rattle.brk_commands.specs.Commands.{command_of};
 use crate::command::Command;
 use crate::parse_order::parse_trading;
 use brk_money::{Planned, Refusal};
+use brk_plans::Reference;
 use brk_ref::{
     check_account, check_band, check_broker, check_charge, check_customer, check_customer_tax,
     check_permission, check_security, check_tax_rate,
 };
-use brk_trade::Reference;
 use std::alloc::Global;
 
 fn parse_broker(alloc: Global, fields: &[&[u8]]) -> Planned<Command>

@@ -2,7 +2,7 @@
 #![tactic(auto, unfolding(brk_model::specs::Rows::row_fields))]
 
 ghost use Rattle.std.specs.Prelude.{◌≡◌, IfOk, OnErr, Err, string_bytes};
-ghost use Rattle.brk_trade_laws.specs.Commands as books;
+ghost use Rattle.brk_plans.specs.Commands as books;
 ghost use Rattle.brk_commands.specs.Commands.{command_of};
 ghost use Rattle.brk_model.specs.Commands.{AddAccount, AddBand, AddBroker, AddCharge, AddCustomer, AddCustomerTax, AddPermission, AddSecurity, AddTaxRate};
 ghost use Rattle.brk_model.specs.Rows as model;
@@ -13,8 +13,8 @@ use crate::command::Command;
 use crate::order_row::{cancel_text, feed_text, order_text, result_text};
 use crate::update_row::update_text;
 use brk_money::{Fault, Wide};
+use brk_plans::Reference;
 use brk_ref::{Account, Band, Broker, Charge, Customer, CustomerTax, Listing, Permission, Tax};
-use brk_trade::Reference;
 use std::alloc::{AllocError, Global};
 
 fn broker_text(alloc: Global, broker: &Broker) -> Result<String, AllocError>

@@ -15,7 +15,7 @@ use Rattle.brk_plans.specs.declared.plan.Plan.{Plan}
 use Rattle.brk_plans.specs.declared.reference.Found.{Found}
 use Rattle.brk_plans.specs.declared.reference.Reference.{Reference}
 use Rattle.brk_book_laws.specs.Books.{IsBooks}
-use Rattle.brk_trade_laws.specs.Commands.{command_of}
+use Rattle.brk_plans.specs.Commands.{command_of}
 use Rattle.brk_trade_laws.specs.Plans.{IsRead as IsLookedUp}
 use Rattle.brk_trade_laws.specs.Found.{IsFound}
 use Rattle.brk_trade_laws.proofs.Planning.{plan_does, refusal_does}

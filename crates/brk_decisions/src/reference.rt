@@ -1,7 +1,7 @@
 //! Records of reference data, decided on.
 
 ghost use Rattle.std.specs.Prelude.{IfErr};
-ghost use Rattle.brk_trade_laws.specs.Commands.{command_of};
+ghost use Rattle.brk_plans.specs.Commands.{command_of};
 ghost use Rattle.brk_decisions.specs.Decisions.{Decides};
 ghost use Rattle.brk_model.specs.Run.{MayFail};
 ghost use Rattle.brk_store.specs.Holds.{IsRead};

@@ -13,3 +13,5 @@ pub mod LotLaws
 pub mod PartLaws
 pub mod LeftLaws
 pub mod StoppedLaws
+pub mod Conjunctions
+pub mod FormParts

@@ -1,3 +1,4 @@
 pub mod Laws
 pub mod Names
 pub mod Positions
+pub mod FormParts

@@ -2,6 +2,7 @@
 #![tactic(auto)]
 
 pub mod batches;
+pub mod forms;
 pub mod keys;
 pub mod names;
 pub mod positions;

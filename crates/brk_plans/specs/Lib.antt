@@ -4,3 +4,4 @@ pub mod Waiting
 pub mod Cancel
 pub mod Feed
 pub mod Update
+pub mod Commands

@@ -9,8 +9,8 @@ ghost use Rattle.brk_view.specs.Views.{record_of, records_of};
 ghost use Rattle.brk_view.specs.Worths.{worth_record};
 
 use crate::texts::{amount_text, number_text, stamp_text, word_text};
+use brk_changes::{HistoryRow, TradeRow};
 use brk_money::{Fault, Wide};
-use brk_trade::{HistoryRow, TradeRow};
 use brk_view::recents::Activity;
 use brk_view::statuses::{AccountStatus, TradeStatus};
 use brk_view::worths::AccountWorth;

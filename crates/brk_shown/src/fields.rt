@@ -15,7 +15,7 @@ use crate::lot_fields::lot_records;
 use crate::texts::{amount_text, number_text};
 use crate::volume_fields::volume_records;
 use brk_money::{Fault, Wide};
-use brk_trade::Estimate;
+use brk_plans::Estimate;
 use brk_view::view::{SubmittedTrade, View};
 use std::alloc::Global;
 

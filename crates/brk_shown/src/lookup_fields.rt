@@ -8,9 +8,9 @@ ghost use Rattle.brk_view.specs.Lookup.{condition_fields, cost_fields, looked_up
 ghost use Rattle.brk_view.specs.Views.{record_of, records_of};
 
 use crate::texts::{amount_text, maybe_price_text, number_text, stamp_text, word_text};
+use brk_changes::{CashRow, SettlementRow, TradeRow};
 use brk_commands::{cash_word, day_text, end_word};
 use brk_money::{Fault, Wide};
-use brk_trade::{CashRow, SettlementRow, TradeRow};
 use brk_view::lookups::{LookedUp, StatusMoment};
 use std::alloc::Global;
 

@@ -21,7 +21,7 @@ use Rattle.brk_adoption_laws.specs.Passing.{Passes}
 use Rattle.brk_adoption_laws.specs.Told.{GoesAWay, HasItsWords, IsTold, StampsRise}
 use Rattle.brk_adoption_laws.proofs.Again.{IsRead, reads}
 use Rattle.brk_adoption_laws.proofs.Climbs.{list_all_true}
-use Rattle.brk_adoption_laws.proofs.Parts.{parts3}
+use Rattle.brk_model_laws.proofs.Conjunctions.{parts3}
 use Rattle.brk_adoption_laws.proofs.Passed.{tables_pass}
 use Rattle.brk_adoption_laws.proofs.Passing.{all_hold, passing_books, passing_tables}
 use Rattle.brk_model.specs.Run.{Call, Outcome, Run}

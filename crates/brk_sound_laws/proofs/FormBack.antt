@@ -36,11 +36,15 @@ use Rattle.brk_adoption_laws.specs.Told.{GoesAWay, HasItsWords, IsTold, StampsRi
 use Rattle.brk_adoption_laws.proofs.Again.{IsRead, both_all, reads}
 use Rattle.brk_adoption_laws.proofs.Climbs.{Climbs, list_all_true, not_itself, of_all}
 use Rattle.brk_adoption_laws.proofs.Members.{found_in}
-use Rattle.brk_adoption_laws.proofs.Parts.{FormParts, KeyParts, form_parts, key_parts, parts3, parts4, parts5, parts6, parts10}
+use Rattle.brk_adoption_laws.proofs.Parts.{KeyParts, key_parts}
+use Rattle.brk_model_laws.specs.FormParts.{FormParts}
+use Rattle.brk_model_laws.proofs.FormParts.{form_parts}
+use Rattle.brk_model_laws.proofs.Conjunctions.{parts3, parts4, parts5, parts6, parts10}
 use Rattle.brk_sound_laws.specs.Sound.{IsSound, IsSoundTrade, KeysApart, NamesCustomer, is_past, tax_id_key, is_named_by}
 use Rattle.brk_sound_laws.proofs.OneTrade.{false_true}
-use Rattle.brk_sound_laws.proofs.SoundResult.{and5, and6}
-use Rattle.brk_sound_laws.proofs.FormRows.{and3, and4, any_mark, found_trades, has_account_is, has_customer_is, has_rate_is, rates_same, row_of, same_name}
+use Rattle.brk_model_laws.proofs.Conjunctions.{and5, and6}
+use Rattle.brk_sound_laws.proofs.FormRows.{any_mark, found_trades, has_account_is, has_customer_is, has_rate_is, rates_same, row_of, same_name}
+use Rattle.brk_model_laws.proofs.Conjunctions.{and3, and4}
 
 -- ---- back from sorted lists and lists made of others
 

@@ -1,8 +1,8 @@
 -- The tables of a sound base rise by their keys.
 use Rattle.std.proofs.Common.{◌≡◌, ℕ, ◌==◌, Bool, true, false, not, List, [], ◌∷◌, refl, ap, map, filter}
-use Rattle.std.specs.Prelude.{◌&&◌, bytes_eq, flat_map, nat_lt, ◌-ℤ◌}
+use Rattle.std.specs.Prelude.{bytes_eq, flat_map, nat_lt, ◌-ℤ◌}
 use Rattle.std.specs.List.{AllByRecursion}
-use Rattle.std.proofs.lemmas.Bool.{and_from, eqb-false}
+use Rattle.std.proofs.lemmas.Bool.{eqb-false}
 use Rattle.brk_money.specs.Spelling.{Text}
 use Rattle.brk_money.specs.Kinds.{status_code}
 use Rattle.brk_money.specs.declared.status.Status.{Status}
@@ -12,11 +12,12 @@ use Rattle.brk_model.specs.Records.{Account, Mark, Security, Trade}
 use Rattle.brk_model.specs.Base.{Base, completed, has_status, is_completed, moment_of}
 use Rattle.brk_model.specs.Derived.{cash_trades, deal_of, deals_in, of_account, of_position, pending, summary_of}
 use Rattle.brk_model.specs.Shares.{Deal, Share, shares_after}
-use Rattle.brk_model.specs.Tables.{HistoryRow, SummaryRow, Tables, account_row, broker_row, cash_row, history_rows, holding_row, last_trade_row, lot_history, lot_rows, request_row, security_row, settlement_row, summary_rows, tables_of, trade_row}
+use Rattle.brk_model.specs.Tables.{HistoryRow, SummaryRow, account_row, broker_row, cash_row, history_rows, holding_row, last_trade_row, lot_history, lot_rows, request_row, security_row, settlement_row, summary_rows, tables_of, trade_row}
 use Rattle.brk_model.specs.Sheets.{sheets, sheets_of}
-use Rattle.brk_model.specs.Form.{has_keys, rises}
+use Rattle.brk_model.specs.Form.{has_keys}
 use Rattle.brk_model.specs.Keys.{KeyPart, number, word, kept_key, broker_key, customer_key, account_key, permission_key, security_key, last_trade_key, charge_key, band_key, tax_rate_key, customer_tax_key, trade_key, history_key, request_key, holding_key, summary_key, holding_history_key, settlement_key, cash_key}
 use Rattle.brk_model.specs.Ways.{is_way}
+use Rattle.brk_model_laws.proofs.FormParts.{keys_whole}
 use Rattle.brk_book_laws.specs.Books.{DistinctAccounts, DistinctSymbols, IsBooks}
 use Rattle.brk_book_laws.proofs.NewKeys.{not_both, same_bytes}
 use Rattle.brk_book_laws.proofs.Same.{All-filter, All-map, All-mapped, All-of}
@@ -28,70 +29,6 @@ use Rattle.brk_adoption_laws.specs.Told.{account_id, broker_id}
 use Rattle.brk_sound_laws.specs.Sound.{IsSound, KeysApart}
 use Rattle.brk_sound_laws.proofs.OneTrade.{false_true}
 use Rattle.brk_sound_laws.proofs.SortedRows.{OtherKeys, OthersApart, accounts_apart, apart_filter, apart_flat_map, apart_map, apart_rises, apart_sort, bands_apart, ids_apart, permissions_apart, symbols_apart}
-
--- each table rises by its key
-pub record Rise (t : Tables) : Type 0 where
-  pub kept : rises kept_key t.kept ≡ true
-  pub brokers : rises broker_key t.brokers ≡ true
-  pub customers : rises customer_key t.customers ≡ true
-  pub accounts : rises account_key t.accounts ≡ true
-  pub permissions : rises permission_key t.permissions ≡ true
-  pub securities : rises security_key t.securities ≡ true
-  pub last_trades : rises last_trade_key t.last_trades ≡ true
-  pub charges : rises charge_key t.charges ≡ true
-  pub bands : rises band_key t.bands ≡ true
-  pub tax_rates : rises tax_rate_key t.tax_rates ≡ true
-  pub customer_taxes : rises customer_tax_key t.customer_taxes ≡ true
-  pub trades : rises trade_key t.trades ≡ true
-  pub history : rises history_key t.history ≡ true
-  pub requests : rises request_key t.requests ≡ true
-  pub holdings : rises holding_key t.holdings ≡ true
-  pub summaries : rises summary_key t.summaries ≡ true
-  pub holding_history : rises holding_history_key t.holding_history ≡ true
-  pub settlements : rises settlement_key t.settlements ≡ true
-  pub cash : rises cash_key t.cash ≡ true
-
-pub keys_whole : (t : Tables) → Rise t → has_keys t ≡ true
-unfolding has_keys
-keys_whole t h =
-    let b0 : Bool = rises kept_key t.kept in
-    let b1 : Bool = b0 && rises broker_key t.brokers in
-    let b2 : Bool = b1 && rises customer_key t.customers in
-    let b3 : Bool = b2 && rises account_key t.accounts in
-    let b4 : Bool = b3 && rises permission_key t.permissions in
-    let b5 : Bool = b4 && rises security_key t.securities in
-    let b6 : Bool = b5 && rises last_trade_key t.last_trades in
-    let b7 : Bool = b6 && rises charge_key t.charges in
-    let b8 : Bool = b7 && rises band_key t.bands in
-    let b9 : Bool = b8 && rises tax_rate_key t.tax_rates in
-    let b10 : Bool = b9 && rises customer_tax_key t.customer_taxes in
-    let b11 : Bool = b10 && rises trade_key t.trades in
-    let b12 : Bool = b11 && rises history_key t.history in
-    let b13 : Bool = b12 && rises request_key t.requests in
-    let b14 : Bool = b13 && rises holding_key t.holdings in
-    let b15 : Bool = b14 && rises summary_key t.summaries in
-    let b16 : Bool = b15 && rises holding_history_key t.holding_history in
-    let b17 : Bool = b16 && rises settlement_key t.settlements in
-    let b18 : Bool = b17 && rises cash_key t.cash in
-    let p0 : b0 ≡ true = h.kept in
-    let p1 : b1 ≡ true = and_from b0 (rises broker_key t.brokers) p0 h.brokers in
-    let p2 : b2 ≡ true = and_from b1 (rises customer_key t.customers) p1 h.customers in
-    let p3 : b3 ≡ true = and_from b2 (rises account_key t.accounts) p2 h.accounts in
-    let p4 : b4 ≡ true = and_from b3 (rises permission_key t.permissions) p3 h.permissions in
-    let p5 : b5 ≡ true = and_from b4 (rises security_key t.securities) p4 h.securities in
-    let p6 : b6 ≡ true = and_from b5 (rises last_trade_key t.last_trades) p5 h.last_trades in
-    let p7 : b7 ≡ true = and_from b6 (rises charge_key t.charges) p6 h.charges in
-    let p8 : b8 ≡ true = and_from b7 (rises band_key t.bands) p7 h.bands in
-    let p9 : b9 ≡ true = and_from b8 (rises tax_rate_key t.tax_rates) p8 h.tax_rates in
-    let p10 : b10 ≡ true = and_from b9 (rises customer_tax_key t.customer_taxes) p9 h.customer_taxes in
-    let p11 : b11 ≡ true = and_from b10 (rises trade_key t.trades) p10 h.trades in
-    let p12 : b12 ≡ true = and_from b11 (rises history_key t.history) p11 h.history in
-    let p13 : b13 ≡ true = and_from b12 (rises request_key t.requests) p12 h.requests in
-    let p14 : b14 ≡ true = and_from b13 (rises holding_key t.holdings) p13 h.holdings in
-    let p15 : b15 ≡ true = and_from b14 (rises summary_key t.summaries) p14 h.summaries in
-    let p16 : b16 ≡ true = and_from b15 (rises holding_history_key t.holding_history) p15 h.holding_history in
-    let p17 : b17 ≡ true = and_from b16 (rises settlement_key t.settlements) p16 h.settlements in
-    and_from b17 (rises cash_key t.cash) p17 h.cash
 
 abbrev id_key : Trade → List KeyPart
 id_key t = number t.id ∷ []

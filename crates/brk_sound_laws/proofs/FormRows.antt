@@ -18,11 +18,13 @@ use Rattle.brk_model.specs.Tables.{HistoryRow, Tables, account_row, broker_row, 
 use Rattle.brk_model.specs.Sheets.{sheets, sheets_of}
 use Rattle.brk_model.specs.Adopted.{base_of}
 use Rattle.brk_model.specs.Joins.{history_in, trade_in}
-use Rattle.brk_model.specs.Form.{account_form, band_form, broker_form, cash_form, charge_form, customer_form, customer_limits, customer_tax_form, has_account, has_broker, has_customer, has_form, has_keys, has_security, has_trade, history_form, holding_form, holding_history_form, is_amount, is_cash_name, is_cash_type, is_id, is_price, is_qty, kept_form, last_trade_form, no_overlap, one_tax_id_each, permission_form, price_form, request_form, same_numbers, security_form, settlement_form, summary_form, tax_rate_form, trade_form}
+use Rattle.brk_model.specs.Form.{account_form, band_form, broker_form, cash_form, charge_form, customer_form, customer_limits, customer_tax_form, has_account, has_broker, has_customer, has_form, has_security, has_trade, history_form, holding_form, holding_history_form, is_amount, is_cash_name, is_cash_type, is_id, is_price, is_qty, kept_form, last_trade_form, permission_form, price_form, request_form, same_numbers, security_form, settlement_form, summary_form, tax_rate_form, trade_form}
 use Rattle.brk_model.specs.Forms.{is_acl, is_exchange, is_name, is_symbol, is_tax_id}
 use Rattle.brk_model.specs.Keys.{KeyPart, word, by_key, row_before, account_key, band_key, broker_key, cash_key, charge_key, customer_key, customer_tax_key, history_key, holding_history_key, holding_key, kept_key, last_trade_key, permission_key, request_key, security_key, settlement_key, summary_key, tax_rate_key, trade_key}
 use Rattle.brk_model.specs.Ways.{is_way}
 use Rattle.brk_model.specs.Names.{KnowsAccount, KnowsBroker, KnowsCustomer, KnowsSecurity, NumberedFrom}
+use Rattle.brk_model_laws.proofs.FormParts.{form_whole}
+use Rattle.brk_model_laws.proofs.Conjunctions.{and10, and3, and4, and5, and6, parts3, parts4, parts5, parts6}
 use Rattle.brk_book_laws.specs.Books.{IsBooks, HasVolume}
 use Rattle.brk_book_laws.proofs.Bools.{numbers_back}
 use Rattle.brk_book_laws.proofs.Order.{by_key-filter}
@@ -37,81 +39,13 @@ use Rattle.brk_adoption_laws.proofs.Again.{IsRead, base_again, both_all, reads}
 use Rattle.brk_adoption_laws.proofs.AgainStatus.{all_list, first_of_two, some_last}
 use Rattle.brk_adoption_laws.proofs.Marks.{filtered, last_has, no_more_ways, three_ways}
 use Rattle.brk_adoption_laws.proofs.Members.{All-flat_map}
-use Rattle.brk_adoption_laws.proofs.Parts.{FormParts, parts3, parts4, parts5, parts6}
 use Rattle.brk_adoption_laws.proofs.Sorted.{All-rows}
 use Rattle.brk_sound_laws.specs.Sound.{IsDueInTime, IsPastMark, IsSound, IsSoundTrade, NamesAccount, NamesCustomer, NamesTax, account_fields, is_past, permission_fields, security_fields, is_named_by}
 use Rattle.brk_sound_laws.proofs.OneTrade.{false_true, price_of_done}
-use Rattle.brk_sound_laws.proofs.SoundResult.{and5, and6}
 use Rattle.brk_sound_laws.proofs.SoundRecords.{sum-same}
 use Rattle.brk_sound_laws.proofs.SortedRows.{bands_sort, overlap_none, tax_ids_apart}
 use Rattle.brk_sound_laws.proofs.SortedRows as rows
 use Rattle.brk_sound_laws.proofs.FormKeys.{All-history, keys_of}
-
-pub form_whole : (t : Tables) → FormParts t → has_form t ≡ true
-unfolding has_form
-form_whole t h =
-    let b0 : Bool = (option_map_or (λ last. nat_le last last_stamp) t.last true) in
-    let b1 : Bool = b0 && (has_keys t) in
-    let b2 : Bool = b1 && (one_tax_id_each t.customers) in
-    let b3 : Bool = b2 && (list_all kept_form t.kept) in
-    let b4 : Bool = b3 && (list_all broker_form t.brokers) in
-    let b5 : Bool = b4 && (list_all customer_form t.customers) in
-    let b6 : Bool = b5 && (list_all (customer_limits t) t.customers) in
-    let b7 : Bool = b6 && (list_all (account_form t) t.accounts) in
-    let b8 : Bool = b7 && (list_all (permission_form t) t.permissions) in
-    let b9 : Bool = b8 && (list_all (security_form t) t.securities) in
-    let b10 : Bool = b9 && (list_all (last_trade_form t) t.last_trades) in
-    let b11 : Bool = b10 && (list_all charge_form t.charges) in
-    let b12 : Bool = b11 && (list_all band_form t.bands) in
-    let b13 : Bool = b12 && (no_overlap t.bands) in
-    let b14 : Bool = b13 && (list_all tax_rate_form t.tax_rates) in
-    let b15 : Bool = b14 && (list_all (customer_tax_form t) t.customer_taxes) in
-    let b16 : Bool = b15 && (list_all (trade_form t) t.trades) in
-    let b17 : Bool = b16 && (same_numbers (map (λ row. row.id) t.trades) (range_with_len 1 (length t.trades))) in
-    let b18 : Bool = b17 && (list_all (history_form t) t.history) in
-    let b19 : Bool = b18 && (list_all (request_form t) t.requests) in
-    let b20 : Bool = b19 && (list_all (holding_form t) t.holdings) in
-    let b21 : Bool = b20 && (list_all (summary_form t) t.summaries) in
-    let b22 : Bool = b21 && (list_all (holding_history_form t) t.holding_history) in
-    let b23 : Bool = b22 && (list_all (settlement_form t) t.settlements) in
-    let b24 : Bool = b23 && (list_all (cash_form t) t.cash) in
-    let p0 : b0 ≡ true = h.clock in
-    let p1 : b1 ≡ true = and_from b0 (has_keys t) p0 h.keys in
-    let p2 : b2 ≡ true = and_from b1 (one_tax_id_each t.customers) p1 h.tax_ids in
-    let p3 : b3 ≡ true = and_from b2 (list_all kept_form t.kept) p2 h.kept in
-    let p4 : b4 ≡ true = and_from b3 (list_all broker_form t.brokers) p3 h.brokers in
-    let p5 : b5 ≡ true = and_from b4 (list_all customer_form t.customers) p4 h.customers in
-    let p6 : b6 ≡ true = and_from b5 (list_all (customer_limits t) t.customers) p5 h.limits in
-    let p7 : b7 ≡ true = and_from b6 (list_all (account_form t) t.accounts) p6 h.accounts in
-    let p8 : b8 ≡ true = and_from b7 (list_all (permission_form t) t.permissions) p7 h.permissions in
-    let p9 : b9 ≡ true = and_from b8 (list_all (security_form t) t.securities) p8 h.securities in
-    let p10 : b10 ≡ true = and_from b9 (list_all (last_trade_form t) t.last_trades) p9 h.last_trades in
-    let p11 : b11 ≡ true = and_from b10 (list_all charge_form t.charges) p10 h.charges in
-    let p12 : b12 ≡ true = and_from b11 (list_all band_form t.bands) p11 h.bands in
-    let p13 : b13 ≡ true = and_from b12 (no_overlap t.bands) p12 h.apart in
-    let p14 : b14 ≡ true = and_from b13 (list_all tax_rate_form t.tax_rates) p13 h.tax_rates in
-    let p15 : b15 ≡ true = and_from b14 (list_all (customer_tax_form t) t.customer_taxes) p14 h.customer_taxes in
-    let p16 : b16 ≡ true = and_from b15 (list_all (trade_form t) t.trades) p15 h.trades in
-    let p17 : b17 ≡ true = and_from b16 (same_numbers (map (λ row. row.id) t.trades) (range_with_len 1 (length t.trades))) p16 h.numbers in
-    let p18 : b18 ≡ true = and_from b17 (list_all (history_form t) t.history) p17 h.history in
-    let p19 : b19 ≡ true = and_from b18 (list_all (request_form t) t.requests) p18 h.requests in
-    let p20 : b20 ≡ true = and_from b19 (list_all (holding_form t) t.holdings) p19 h.holdings in
-    let p21 : b21 ≡ true = and_from b20 (list_all (summary_form t) t.summaries) p20 h.summaries in
-    let p22 : b22 ≡ true = and_from b21 (list_all (holding_history_form t) t.holding_history) p21 h.holding_history in
-    let p23 : b23 ≡ true = and_from b22 (list_all (settlement_form t) t.settlements) p22 h.settlements in
-    and_from b23 (list_all (cash_form t) t.cash) p23 h.cash
-
-pub and3 : (a b c : Bool) → a ≡ true → b ≡ true → c ≡ true → a && b && c ≡ true
-and3 a b c p q r = and_from (a && b) c (and_from a b p q) r
-
-pub and4 : (a b c d : Bool) → a ≡ true → b ≡ true → c ≡ true → d ≡ true → a && b && c && d ≡ true
-and4 a b c d p q r s = and_from (a && b && c) d (and_from (a && b) c (and_from a b p q) r) s
-
-pub and9 : (a b c d e f g h i : Bool) → a ≡ true → b ≡ true → c ≡ true → d ≡ true → e ≡ true → f ≡ true → g ≡ true → h ≡ true → i ≡ true → a && b && c && d && e && f && g && h && i ≡ true
-and9 a b c d e f g h i p q r s t u v w x = and_from (a && b && c && d && e && f && g && h) i (and_from (a && b && c && d && e && f && g) h (and_from (a && b && c && d && e && f) g (and_from (a && b && c && d && e) f (and_from (a && b && c && d) e (and_from (a && b && c) d (and_from (a && b) c (and_from a b p q) r) s) t) u) v) w) x
-
-pub and10 : (a b c d e f g h i j : Bool) → a ≡ true → b ≡ true → c ≡ true → d ≡ true → e ≡ true → f ≡ true → g ≡ true → h ≡ true → i ≡ true → j ≡ true → a && b && c && d && e && f && g && h && i && j ≡ true
-and10 a b c d e f g h i j p q r s t u v w x y = and_from (a && b && c && d && e && f && g && h && i) j (and9 a b c d e f g h i p q r s t u v w x) y
 
 -- ---- what is there
 

@@ -20,8 +20,8 @@ use Rattle.brk_model.specs.Parse.{Reader, in_order, parse_row, read_account, rea
 use Rattle.brk_book_laws.proofs.Same.{find-All}
 use Rattle.brk_sound_laws.specs.Sound.{account_fields, broker_fields, permission_fields}
 use Rattle.brk_sound_laws.specs.InForm.{IsInForm, IsOrderInForm, IsTickInForm, band_fields, listing_fields}
-use Rattle.brk_sound_laws.proofs.FormRows.{and3, and4}
-use Rattle.brk_sound_laws.proofs.SoundResult.{and5}
+use Rattle.brk_model_laws.proofs.Conjunctions.{and3, and4}
+use Rattle.brk_model_laws.proofs.Conjunctions.{and5}
 use Rattle.std.proofs.lemmas.Bool.{and_from, and_parts}
 
 -- ---- what holds of values that were read

@@ -30,7 +30,7 @@ use Rattle.brk_book_laws.proofs.Keepers.{found_more}
 use Rattle.brk_book_laws.proofs.References.{amount_as_before, as_before, known_completed, more, new_balance, new_number}
 use Rattle.brk_book_laws.proofs.Steps.{in_order}
 use Rattle.brk_adoption_laws.proofs.Again.{both_all}
-use Rattle.brk_adoption_laws.proofs.Parts.{parts3, parts5}
+use Rattle.brk_model_laws.proofs.Conjunctions.{parts3, parts5}
 use Rattle.brk_adoption_laws.specs.Told.{broker_id}
 use Rattle.brk_sound_laws.specs.Sound.{IsSound, IsSoundBy, IsSoundTrade, KeysApart, NamesAccount, NamesCustomer, NamesTax, account_fields, broker_fields, is_named_by, is_past, permission_fields, security_fields, tax_id_key}
 use Rattle.brk_sound_laws.specs.InForm.{IsInForm, IsKeyInForm}

@@ -2,7 +2,7 @@
 use Rattle.std.proofs.Common.{◌≡◌, ◌≤◌, ℕ, ◌==◌, ◌+◌, ◌^◌, Bool, true, false, cond, List, [], ◌∷◌, ◌++◌, refl, sym, ◌∙◌, ap, subst, filter, arith, Option, Some, None}
 use Rattle.std.specs.Prelude.{◌&&◌, bytes_eq, codes, nat_abs, nat_le, nat_lt, option_map, sum_by, unwrap_or}
 use Rattle.std.specs.List.{AllByRecursion}
-use Rattle.std.proofs.lemmas.Bool.{and_from, and_parts, eqb-true, leb-true, le-leb, ltb-false, or_left}
+use Rattle.std.proofs.lemmas.Bool.{and_parts, eqb-true, leb-true, le-leb, ltb-false, or_left}
 use Rattle.brk_money.specs.Amounts.{commission}
 use Rattle.brk_money.specs.Spelling.{Text}
 use Rattle.brk_money.specs.Moments.{day_of, last_day}
@@ -19,6 +19,7 @@ use Rattle.brk_model.specs.Results.{cash_text, completed_trade, result_deal, wit
 use Rattle.brk_model.specs.Form.{band_form, is_cash_type, is_price, is_qty, is_tier, is_id}
 use Rattle.brk_model.specs.Forms.{is_exchange}
 use Rattle.brk_model.specs.Tests.{next_stamp, refusal_of}
+use Rattle.brk_model_laws.proofs.Conjunctions.{and6, parts6}
 use Rattle.brk_book_laws.specs.Books.{IsBooks}
 use Rattle.brk_book_laws.proofs.NewKeys.{same_bytes}
 use Rattle.brk_book_laws.proofs.Bools.{same_text}
@@ -28,7 +29,6 @@ use Rattle.brk_book_laws.proofs.Positions.{summary_other}
 use Rattle.brk_book_laws.proofs.Sums.{margin_balance, other_account, other_broker}
 use Rattle.brk_book_laws.proofs.ResultRows.{done_now, done_then, status_then, trades_then}
 use Rattle.brk_book_laws.proofs.ResultKeeping.{Found, found_at, result_passed, submitted}
-use Rattle.brk_adoption_laws.proofs.Parts.{parts6}
 use Rattle.brk_sound_laws.specs.Sound.{IsDueInTime, IsPastMark, IsSound, IsSoundTrade}
 use Rattle.brk_sound_laws.proofs.Bounds.{amount_within, commission_low, tax_within}
 use Rattle.brk_sound_laws.proofs.OneTrade.{cheap_shares, completes_way, false_true, past_itself, past_then, price_low, qty_low, sound_last, stamps_more, trade_last}
@@ -91,12 +91,6 @@ commission_within base account kind symbol qty price h q p = by_band (band_with 
     by_band (Some b) e = commission_low b.rate qty price (rate_low b (find-All (λ b. band_form b ≡ true) _ base.bands b h e)) q p
 
 -- ---- the completed trade
-
-pub and6 : (a b c d e f : Bool) → a ≡ true → b ≡ true → c ≡ true → d ≡ true → e ≡ true → f ≡ true → a && b && c && d && e && f ≡ true
-and6 a b c d e f p q r s t u = and_from (a && b && c && d && e) f (and_from (a && b && c && d) e (and_from (a && b && c) d (and_from (a && b) c (and_from a b p q) r) s) t) u
-
-pub and5 : (a b c d e : Bool) → a ≡ true → b ≡ true → c ≡ true → d ≡ true → e ≡ true → a && b && c && d && e ≡ true
-and5 a b c d e f g h i j = and_from (a && b && c && d) e (and_from (a && b && c) d (and_from (a && b) c (and_from a b f g) h) i) j
 
 pub high : (n : ℕ) → n ≤ 10 ^ 13 → nat_le n greatest_amount ≡ true
 high n h = le-leb n greatest_amount (omega (arith, h))

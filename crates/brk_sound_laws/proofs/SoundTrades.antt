@@ -43,12 +43,13 @@ use Rattle.brk_adoption_laws.specs.Told.{StampsRise}
 use Rattle.brk_adoption_laws.proofs.Again.{both_all}
 use Rattle.brk_adoption_laws.proofs.Climbs.{In, each_in, of_all}
 use Rattle.brk_adoption_laws.proofs.Marks.{filtered}
-use Rattle.brk_adoption_laws.proofs.Parts.{parts5}
+use Rattle.brk_model_laws.proofs.Conjunctions.{parts5}
 use Rattle.brk_sound_laws.specs.Sound.{IsDueInTime, IsPastMark, IsSound, IsSoundTrade, is_past, security_fields}
 use Rattle.brk_sound_laws.specs.InForm.{IsInForm, IsTickInForm}
 use Rattle.brk_sound_laws.proofs.Bounds.{All-take}
 use Rattle.brk_sound_laws.proofs.OneTrade.{false_true, leaves_way, past_before, past_itself, price_low, qty_low, rising_more, sound_last, updated_all}
-use Rattle.brk_sound_laws.proofs.SoundResult.{and5, commission_within, high, and6}
+use Rattle.brk_sound_laws.proofs.SoundResult.{commission_within, high}
+use Rattle.brk_model_laws.proofs.Conjunctions.{and5, and6}
 use Rattle.brk_sound_laws.proofs.SoundRecords.{LeavesSound, trade_listed}
 
 -- ---- other trades and securities, and the same completed trades

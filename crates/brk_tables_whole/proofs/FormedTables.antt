@@ -11,7 +11,9 @@ use Rattle.brk_model.specs.Forms.{is_name, is_tax_id, is_symbol, is_exchange, is
 use Rattle.brk_model.specs.Joins.{trade_in}
 use Rattle.brk_model.specs.Form.{is_id, is_tier, is_price, is_cash_type, is_cash_name, has_form, kept_form, broker_form, customer_form, account_form, permission_form, security_form, last_trade_form, charge_form, band_form, tax_rate_form, customer_tax_form, trade_form, history_form, request_form, holding_form, summary_form, holding_history_form, settlement_form, cash_form, has_texts}
 use Rattle.brk_model.specs.Tables.{Tables}
-use Rattle.brk_adoption_laws.proofs.Parts.{FormParts, form_parts, parts3, parts4, parts5, parts6, parts10}
+use Rattle.brk_model_laws.specs.FormParts.{FormParts}
+use Rattle.brk_model_laws.proofs.FormParts.{form_parts}
+use Rattle.brk_model_laws.proofs.Conjunctions.{parts3, parts4, parts5, parts6, parts10}
 use Rattle.brk_tables_form.specs.Cells.{flag, maybe, desk_row_cells, kept_cells, broker_cells, customer_cells, account_cells, permission_cells, security_cells, last_trade_cells, charge_cells, band_cells, tax_rate_cells, customer_tax_cells, trade_cells, history_cells, request_cells, holding_cells, summary_cells, holding_history_cells, settlement_cells, cash_cells}
 use Rattle.brk_tables_form.specs.Desk.{Which, TheDesk, KeptRows, Brokers, Customers, Accounts, Permissions, Securities, LastTrades, Charges, Bands, TaxRates, CustomerTaxes, Trades, TradeHistory, Requests, Holdings, Summaries, HoldingHistory, Settlements, CashRows, desk_rows, encode, list}
 use Rattle.brk_tables_form.specs.Formed.{all_formed, is_desk_row, flag_cell, maybe_cell, kept_forms, broker_forms, customer_forms, account_forms, permission_forms, security_forms, last_trade_forms, charge_forms, band_forms, tax_rate_forms, customer_tax_forms, trade_forms, history_forms, request_forms, holding_forms, summary_forms, holding_history_forms, settlement_forms, cash_forms}

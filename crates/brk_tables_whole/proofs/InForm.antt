@@ -18,7 +18,8 @@ use Rattle.brk_money.specs.declared.tax_status.TaxStatus.TheVariants.{Untaxed, W
 use Rattle.brk_model.specs.Forms.{is_symbol}
 use Rattle.brk_model.specs.Form.{is_id, is_stamp, has_trade, has_account, has_security, has_customer, has_broker, customer_form, broker_form, account_form, security_form, trade_form, tax_rate_form, is_cash_type}
 use Rattle.brk_model.specs.Tables.{Tables}
-use Rattle.brk_adoption_laws.proofs.Parts.{FormParts, parts3, parts5, parts6, parts10}
+use Rattle.brk_model_laws.specs.FormParts.{FormParts}
+use Rattle.brk_model_laws.proofs.Conjunctions.{parts3, parts5, parts6, parts10}
 use Rattle.brk_tables_form.specs.Formed.{all_formed, is_type, is_status, is_tax_status, is_cash_word}
 
 pub both : {a b : Bool} → a ≡ true → b ≡ true → a && b ≡ true

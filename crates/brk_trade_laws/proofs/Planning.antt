@@ -24,7 +24,7 @@ use Rattle.brk_ref.specs.Records.{broker_of, customer_of, account_of, permission
 use Rattle.brk_book_laws.specs.Books.{IsBooks}
 use Rattle.brk_book_laws.specs.Reads.{rates_of}
 use Rattle.brk_plans.specs.Replies.{reply_of}
-use Rattle.brk_trade_laws.specs.Commands.{command_of}
+use Rattle.brk_plans.specs.Commands.{command_of}
 use Rattle.brk_book_laws.specs.Steps.{base_then, LeavesBooks}
 use Rattle.brk_trade_laws.specs.Plans.{IsRead, DoesCommand}
 use Rattle.brk_book_laws.proofs.Reading.{is_none-map, reads_has_broker, reads_has_customer, reads_same_customer, reads_tax_id, reads_has_account, reads_count, reads_last}

@@ -1,4 +1,3 @@
-pub mod Commands
 pub mod Found
 pub mod TradeTests
 pub mod Plans

@@ -9,7 +9,7 @@ ghost use Rattle.brk_plans.specs.Reference.{IsPlanned, clock_test, tests_of};
 ghost use Rattle.brk_plans.specs.declared.plan.Plan.{Plan};
 ghost use Rattle.brk_plans.specs.declared.reference.Found.{Found};
 ghost use Rattle.brk_plans.specs.declared.reference.Reference.{Reference};
-ghost use Rattle.brk_trade_laws.specs.Commands.{command_of};
+ghost use Rattle.brk_plans.specs.Commands.{command_of};
 ghost use Rattle.brk_trade_laws.specs.Plans.{DoesCommand, IsRead};
 
 /// The first refusal by what was found in the tables is the first by the base, so that a record is refused as its command is.

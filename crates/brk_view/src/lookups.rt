@@ -12,8 +12,8 @@ ghost use Rattle.brk_view.specs.Views.{fields_of};
 
 use crate::ordering::{Ranked, in_order};
 use crate::view::View;
+use brk_changes::{CashRow, HistoryRow, SettlementRow, TradeRow};
 use brk_money::{Fault, Stamp, Status};
-use brk_trade::{CashRow, HistoryRow, SettlementRow, TradeRow};
 use std::alloc::Global;
 
 /// When a trade came to a status.

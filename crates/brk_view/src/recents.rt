@@ -12,8 +12,8 @@ ghost use Rattle.brk_view.specs.Views.{fields_of};
 
 use crate::ordering::{Ranked, in_order};
 use crate::view::View;
+use brk_changes::{HistoryRow, TradeRow};
 use brk_money::Fault;
-use brk_trade::{HistoryRow, TradeRow};
 use std::alloc::Global;
 
 /// The last trades of an account, and when they came to their statuses.

@@ -10,8 +10,8 @@ ghost use Rattle.brk_view.specs.Status.{shown_trade, status_names};
 ghost use Rattle.brk_view.specs.Views.{fields_of};
 
 use crate::view::View;
+use brk_changes::TradeRow;
 use brk_ref::{Name, Security};
-use brk_trade::TradeRow;
 
 /// A trade with the security that it is in.
 #[derive(Drop)]

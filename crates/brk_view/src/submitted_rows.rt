@@ -9,8 +9,8 @@ ghost use Rattle.brk_changes.specs.Rows.{trade_row_of};
 ghost use Rattle.brk_view.specs.Views.{fields_of, is_submitted, submitted_record, trade_record};
 
 use crate::view::{SubmittedTrade, View};
+use brk_changes::TradeRow;
 use brk_money::Fault;
-use brk_trade::TradeRow;
 use std::alloc::Global;
 
 // What is shown of a trade.

@@ -5,8 +5,8 @@ use crate::statuses::AccountStatus;
 use crate::volumes::BrokerVolume;
 use crate::worths::AccountWorth;
 use brk_money::{Id, Price, Qty, TradeType};
+use brk_plans::Estimate;
 use brk_ref::Symbol;
-use brk_trade::Estimate;
 
 /// A trade that is at the market: it was sent there, and neither completed nor canceled.
 #[derive(Drop)]

@@ -13,9 +13,9 @@ ghost use Rattle.brk_view.specs.Volume.{is_shown, name_before, request_worth, vo
 
 use crate::ordering::{Ranked, in_order};
 use crate::view::View;
+use brk_changes::RequestRow;
 use brk_money::{Fault, Id, Wide};
 use brk_ref::Name;
-use brk_trade::RequestRow;
 use std::alloc::Global;
 use std::cmp::Ordering;
 

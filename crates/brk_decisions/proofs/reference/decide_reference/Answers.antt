@@ -1,4 +1,4 @@
-use Rattle.brk_trade_laws.specs.Commands.{command_of}
+use Rattle.brk_plans.specs.Commands.{command_of}
 use Rattle.brk_decisions.specs.Decisions.{Decides}
 use Rattle.brk_decisions.proofs.Deciding.{decided}
 use Rattle.brk_decisions.proofs.References.{Known, last_and_found, reference_decided}

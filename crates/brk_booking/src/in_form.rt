@@ -2,17 +2,17 @@
 
 ghost use Rattle.std.specs.Prelude.{◌≡◌};
 ghost use Rattle.std.specs.List.{AllByRecursion};
-ghost use Rattle.brk_trade_laws.specs.Commands as books;
+ghost use Rattle.brk_plans.specs.Commands as books;
 ghost use Rattle.brk_commands.specs.Commands.{command_of};
 ghost use Rattle.brk_model.specs.Commands.{AddAccount, AddBand, AddBroker, AddCharge, AddCustomer, AddCustomerTax, AddPermission, AddSecurity, AddTaxRate};
 ghost use Rattle.brk_orders.specs.Records.{order_of, ticks_of, update_of};
 ghost use Rattle.brk_ref.specs.Records.{account_of, band_of, broker_of, charge_of, customer_of, customer_tax_of, key_of, listing_of, permission_of, tax_of};
 ghost use Rattle.brk_sound_laws.specs.InForm.{IsInForm, IsKeyInForm, IsOrderInForm, IsTickInForm};
 
-use crate::command::Command;
+use brk_commands::Command;
 use brk_orders::{Order, Tick, Update};
+use brk_plans::Reference;
 use brk_ref::{Account, Band, Broker, Charge, Customer, Key, Listing, Permission, Tax};
-use brk_trade::Reference;
 
 fn broker_is_in_form(broker: &Broker)
     ensures { IsInForm (AddBroker (broker_of broker.now)) }
