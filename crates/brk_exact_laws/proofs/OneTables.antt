@@ -1,6 +1,5 @@
 -- The rows of a database are those of one set of tables at most.
 use Rattle.std.proofs.Common.{◌≡◌, ℕ, List, [], ◌∷◌, Option, Some, None, Ordering, Less, Equal, Greater, map, slice_get, refl, sym, ap, subst, ◌∙◌, inl, inr}
-use Rattle.std.specs.Prelude.{◌⊎◌}
 use Rattle.std.specs.Ordering.{ordering_reverse}
 use Rattle.std.specs.Cmp.{IsTotalOrder}
 use Rattle.std.specs.List.{AllByRecursion}
@@ -13,11 +12,11 @@ use Rattle.sqlite_keyed.proofs.ListLemmas.{map_back}
 use Rattle.sqlite_rules.specs.Lists.{Has}
 use Rattle.sqlite.specs.Effect.{Database}
 use Rattle.brk_model.specs.Tables.{Tables}
-use Rattle.brk_rows.specs.Desk.{HasTables, Stands}
+use Rattle.brk_rows.specs.Desk.{Stands}
 use Rattle.brk_rows.specs.Rows.{Holds, Rises, cells}
 use Rattle.brk_rows.proofs.Order.{has_permuted}
 use Rattle.brk_tables_form.specs.Cells.{DeskRow}
-use Rattle.brk_tables_form.specs.Desk.{Item, Which, desk, encode, key, list, order, placed, shape, TheDesk, KeptRows, Brokers, Customers, Accounts, Permissions, Securities, LastTrades, Charges, Bands, TaxRates, CustomerTaxes, Trades, TradeHistory, Requests, Holdings, Summaries, HoldingHistory, Settlements, CashRows}
+use Rattle.brk_tables_form.specs.Desk.{Item, Which, encode, key, list, order, placed, shape, TheDesk, KeptRows, Brokers, Customers, Accounts, Permissions, Securities, LastTrades, Charges, Bands, TaxRates, CustomerTaxes, Trades, TradeHistory, Requests, Holdings, Summaries, HoldingHistory, Settlements, CashRows}
 use Rattle.brk_tables_form.specs.Made.{HasRows}
 use Rattle.brk_tables_form.proofs.Order.{key_total}
 use Rattle.brk_exact_laws.proofs.Decode.{decode, decodes, named_alike}

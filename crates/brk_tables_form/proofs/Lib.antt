@@ -6,6 +6,7 @@ pub mod Tests
 pub mod Unique
 pub mod Places
 pub mod Back
+pub mod TradingBack
 pub mod AddKept
 pub mod SetLast
 pub mod DeskRows

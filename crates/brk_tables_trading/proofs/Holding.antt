@@ -38,22 +38,6 @@ use Rattle.brk_tables_trading.proofs.Turned.{flipped, turned_sort}
 use Rattle.brk_tables_trading.proofs.SummariesOf
 use Rattle.brk_tables_trading.proofs.SummaryOf
 
--- ---- the records that rows show
-
-pub holding_back : Row → HoldingRow
-holding_back r = record { trade = number_in (column r 0); account = number_in (column r 1); symbol = text_in (column r 2); stamp = number_in (column r 3); price = number_in (column r 4); qty = id_in (column r 5) }
-
-pub holding_is_back : (h : HoldingRow) → holding_back (holding_cells h) ≡ h
-unfolding holding_back text_in
-holding_is_back h = refl
-
-pub summary_back : Row → SummaryRow
-summary_back r = record { account = number_in (column r 0); symbol = text_in (column r 1); qty = id_in (column r 2) }
-
-pub summary_is_back : (s : SummaryRow) → summary_back (summary_cells s) ≡ s
-unfolding summary_back text_in
-summary_is_back s = refl
-
 -- ---- the oldest lots first
 
 -- the order of the model and that of the database are one

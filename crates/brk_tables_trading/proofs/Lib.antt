@@ -1,5 +1,4 @@
 pub mod Places
-pub mod Back
 pub mod AddTrade
 pub mod AddTradeHistory
 pub mod AddRequest

@@ -26,19 +26,10 @@ use Rattle.brk_tables_form.specs.Order.{by_key_values, key_values}
 use Rattle.brk_tables_form.proofs.Back.{number_in}
 use Rattle.brk_tables_form.proofs.Order.{inserted, key_total}
 use Rattle.brk_tables_form.proofs.Tests.{same_number}
-use Rattle.brk_tables_trading.proofs.Back.{status_at, status_back}
+use Rattle.brk_tables_form.proofs.TradingBack.{status_at, status_back}
 use Rattle.brk_tables_trading.proofs.HistoryOf
 use Rattle.brk_tables_trading.proofs.LastFiftyOfAccount
 use Rattle.brk_tables_trading.proofs.LastTenOfAccount
-
--- ---- the record that a row of the history shows
-
-pub history_back : Row → HistoryRow
-history_back r = record { trade = number_in (column r 0); status = status_at (text_in (column r 1)); stamp = number_in (column r 2) }
-
-pub history_is_back : (h : HistoryRow) → history_back (history_cells h) ≡ h
-unfolding history_back text_in
-history_is_back h = ap (λ s. let q : HistoryRow = record h { status = s } in q) (status_back h.status)
 
 pub tells_history : (old new : State) (trade : ℕ) (rows : List Row) → Shown HistoryOf.statement (nat trade ∷ []) old new rows
     → Tells desk (λ t. rows ≡ map history_cells (filter (λ r. r.trade == trade) t.history)) old.now

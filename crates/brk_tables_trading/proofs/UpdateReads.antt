@@ -35,22 +35,6 @@ use Rattle.brk_tables_trading.proofs.CompletedCashOfSymbol
 use Rattle.brk_tables_trading.proofs.CompletedOfAccount
 use Rattle.brk_tables_trading.proofs.SettlementByTrade
 
--- ---- the records that rows show
-
-pub settlement_back : Row → SettlementRow
-settlement_back r = record { trade = number_in (column r 0); cash_type = text_in (column r 1); due_day = number_in (column r 2); amount = id_in (column r 3) }
-
-pub settlement_is_back : (s : SettlementRow) → settlement_back (settlement_cells s) ≡ s
-unfolding settlement_back text_in
-settlement_is_back s = refl
-
-pub cash_back : Row → CashRow
-cash_back r = record { trade = number_in (column r 0); stamp = number_in (column r 1); amount = id_in (column r 2); name = text_in (column r 3) }
-
-pub cash_is_back : (c : CashRow) → cash_back (cash_cells c) ≡ c
-unfolding cash_back text_in
-cash_is_back c = refl
-
 -- ---- the oldest trades first
 
 -- the moment of a trade, and then its id

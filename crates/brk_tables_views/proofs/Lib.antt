@@ -1,4 +1,3 @@
-pub mod Records
 pub mod TwentyOfAccount
 pub mod TwentyOfSymbol
 pub mod FirstSince

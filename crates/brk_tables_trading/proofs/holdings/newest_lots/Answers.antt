@@ -6,7 +6,8 @@ use Rattle.brk_tables_form.specs.Cells.{holding_cells}
 use Rattle.brk_tables_form.specs.Desk.{desk}
 use Rattle.brk_changes.specs.Rows.{holding_row_of}
 use Rattle.brk_tables_trading.specs.Pages.{lots_held, on_page}
-use Rattle.brk_tables_trading.proofs.Holding.{holding_back, holding_is_back, tells_newest}
+use Rattle.brk_tables_form.proofs.TradingBack.{holding_back, holding_is_back}
+use Rattle.brk_tables_trading.proofs.Holding.{tells_newest}
 use Rattle.brk_tables_trading.proofs.NewestLots
 use Rattle.brk_tables_trading.proofs.NewestLots.{plain}
 use Rattle.brk_tables_trading.proofs.holdings.newest_lots.Goals as goal

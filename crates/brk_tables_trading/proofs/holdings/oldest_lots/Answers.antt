@@ -6,7 +6,8 @@ use Rattle.brk_tables_form.specs.Cells.{holding_cells}
 use Rattle.brk_tables_form.specs.Desk.{desk}
 use Rattle.brk_changes.specs.Rows.{holding_row_of}
 use Rattle.brk_tables_trading.specs.Pages.{lots_held, on_page}
-use Rattle.brk_tables_trading.proofs.Holding.{holding_back, holding_is_back, tells_oldest}
+use Rattle.brk_tables_form.proofs.TradingBack.{holding_back, holding_is_back}
+use Rattle.brk_tables_trading.proofs.Holding.{tells_oldest}
 use Rattle.brk_tables_trading.proofs.OldestLots
 use Rattle.brk_tables_trading.proofs.OldestLots.{plain}
 use Rattle.brk_tables_trading.proofs.holdings.oldest_lots.Goals as goal

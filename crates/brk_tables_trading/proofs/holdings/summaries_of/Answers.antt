@@ -6,7 +6,8 @@ use Rattle.brk_rows.proofs.Answer.{look_all}
 use Rattle.brk_tables_form.specs.Cells.{summary_cells}
 use Rattle.brk_tables_form.specs.Desk.{desk}
 use Rattle.brk_changes.specs.Rows.{summary_row_of}
-use Rattle.brk_tables_trading.proofs.Holding.{summary_back, summary_is_back, tells_summaries}
+use Rattle.brk_tables_form.proofs.TradingBack.{summary_back, summary_is_back}
+use Rattle.brk_tables_trading.proofs.Holding.{tells_summaries}
 use Rattle.brk_tables_trading.proofs.SummariesOf
 use Rattle.brk_tables_trading.proofs.SummariesOf.{plain}
 use Rattle.brk_tables_trading.proofs.holdings.summaries_of.Goals as goal

@@ -8,7 +8,8 @@ use Rattle.brk_rows.proofs.Answer.{look_first}
 use Rattle.brk_tables_form.specs.Cells.{summary_cells}
 use Rattle.brk_tables_form.specs.Desk.{desk}
 use Rattle.brk_changes.specs.Rows.{summary_row_of}
-use Rattle.brk_tables_trading.proofs.Holding.{summary_back, summary_is_back, tells_summary}
+use Rattle.brk_tables_form.proofs.TradingBack.{summary_back, summary_is_back}
+use Rattle.brk_tables_trading.proofs.Holding.{tells_summary}
 use Rattle.brk_tables_trading.proofs.SummaryOf
 use Rattle.brk_tables_trading.proofs.SummaryOf.{plain}
 use Rattle.brk_tables_trading.proofs.holdings.summary_of.Goals as goal

@@ -5,7 +5,7 @@ use Rattle.brk_rows.proofs.Answer.{look_all}
 use Rattle.brk_tables_form.specs.Cells.{nat, history_cells}
 use Rattle.brk_tables_form.specs.Desk.{desk}
 use Rattle.brk_changes.specs.Rows.{history_row_of}
-use Rattle.brk_tables_trading.proofs.LookingReads.{history_back, history_is_back}
+use Rattle.brk_tables_form.proofs.TradingBack.{history_back, history_is_back}
 use Rattle.brk_tables_trading.proofs.HistoryOf
 use Rattle.brk_tables_trading.proofs.HistoryOf.{plain}
 use Rattle.brk_tables_trading.proofs.LookingReads.{tells_history}

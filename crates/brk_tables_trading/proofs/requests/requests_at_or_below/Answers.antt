@@ -8,7 +8,7 @@ use Rattle.brk_rows.proofs.Answer.{look_all}
 use Rattle.brk_tables_form.specs.Cells.{nat, request_cells}
 use Rattle.brk_tables_form.specs.Desk.{desk}
 use Rattle.brk_changes.specs.Rows.{request_row_of}
-use Rattle.brk_tables_trading.proofs.Back.{request_back, request_is_back}
+use Rattle.brk_tables_form.proofs.TradingBack.{request_back, request_is_back}
 use Rattle.brk_tables_trading.proofs.RequestsBelow
 use Rattle.brk_tables_trading.proofs.RequestsBelow.{plain}
 use Rattle.brk_tables_trading.proofs.Tells.{tells_requests_below}

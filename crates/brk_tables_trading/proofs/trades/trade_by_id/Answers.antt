@@ -7,7 +7,7 @@ use Rattle.brk_rows.proofs.Answer.{look_first}
 use Rattle.brk_tables_form.specs.Cells.{trade_cells}
 use Rattle.brk_tables_form.specs.Desk.{desk}
 use Rattle.brk_changes.specs.Rows.{trade_row_of}
-use Rattle.brk_tables_trading.proofs.Back.{trade_back, trade_is_back}
+use Rattle.brk_tables_form.proofs.TradingBack.{trade_back, trade_is_back}
 use Rattle.brk_tables_trading.proofs.TradeById
 use Rattle.brk_tables_trading.proofs.TradeById.{plain}
 use Rattle.brk_tables_trading.proofs.Tells.{tells_trade}

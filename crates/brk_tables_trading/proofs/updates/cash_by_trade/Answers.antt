@@ -9,7 +9,8 @@ use Rattle.brk_tables_form.specs.Desk.{desk}
 use Rattle.brk_changes.specs.Rows.{cash_row_of}
 use Rattle.brk_tables_trading.proofs.CashByTrade
 use Rattle.brk_tables_trading.proofs.CashByTrade.{plain}
-use Rattle.brk_tables_trading.proofs.UpdateReads.{cash_back, cash_is_back, tells_cash}
+use Rattle.brk_tables_form.proofs.TradingBack.{cash_back, cash_is_back}
+use Rattle.brk_tables_trading.proofs.UpdateReads.{tells_cash}
 use Rattle.brk_tables_trading.proofs.updates.cash_by_trade.Goals as goal
 
 pub select-requires : goal.select-requires

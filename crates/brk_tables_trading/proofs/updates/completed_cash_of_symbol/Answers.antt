@@ -8,7 +8,7 @@ use Rattle.brk_tables_form.specs.Cells.{flag, nat, trade_cells}
 use Rattle.brk_tables_form.specs.Desk.{desk}
 use Rattle.brk_changes.specs.Chosen.{completed_cash_of_symbol}
 use Rattle.brk_changes.specs.Rows.{trade_row_of}
-use Rattle.brk_tables_trading.proofs.Back.{trade_back, trade_is_back}
+use Rattle.brk_tables_form.proofs.TradingBack.{trade_back, trade_is_back}
 use Rattle.brk_tables_trading.proofs.CompletedCashOfSymbol
 use Rattle.brk_tables_trading.proofs.CompletedCashOfSymbol.{plain}
 use Rattle.brk_tables_trading.proofs.UpdateReads.{tells_completed_cash_of_symbol}

@@ -8,7 +8,7 @@ use Rattle.brk_tables_form.specs.Cells.{nat, trade_cells}
 use Rattle.brk_tables_form.specs.Desk.{desk}
 use Rattle.brk_changes.specs.Chosen.{completed_of_account}
 use Rattle.brk_changes.specs.Rows.{trade_row_of}
-use Rattle.brk_tables_trading.proofs.Back.{trade_back, trade_is_back}
+use Rattle.brk_tables_form.proofs.TradingBack.{trade_back, trade_is_back}
 use Rattle.brk_tables_trading.proofs.CompletedOfAccount
 use Rattle.brk_tables_trading.proofs.CompletedOfAccount.{plain}
 use Rattle.brk_tables_trading.proofs.UpdateReads.{tells_completed_of_account}

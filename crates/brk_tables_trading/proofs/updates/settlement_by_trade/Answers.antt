@@ -9,7 +9,8 @@ use Rattle.brk_tables_form.specs.Desk.{desk}
 use Rattle.brk_changes.specs.Rows.{settlement_row_of}
 use Rattle.brk_tables_trading.proofs.SettlementByTrade
 use Rattle.brk_tables_trading.proofs.SettlementByTrade.{plain}
-use Rattle.brk_tables_trading.proofs.UpdateReads.{settlement_back, settlement_is_back, tells_settlement}
+use Rattle.brk_tables_form.proofs.TradingBack.{settlement_back, settlement_is_back}
+use Rattle.brk_tables_trading.proofs.UpdateReads.{tells_settlement}
 use Rattle.brk_tables_trading.proofs.updates.settlement_by_trade.Goals as goal
 
 pub select-requires : goal.select-requires

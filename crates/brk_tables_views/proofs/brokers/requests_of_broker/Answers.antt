@@ -5,7 +5,7 @@ use Rattle.brk_rows.proofs.Answer.{look_all}
 use Rattle.brk_tables_form.specs.Cells.{nat, request_cells}
 use Rattle.brk_tables_form.specs.Desk.{desk}
 use Rattle.brk_changes.specs.Rows.{request_row_of}
-use Rattle.brk_tables_views.proofs.Records.{request_back, request_is_back}
+use Rattle.brk_tables_form.proofs.TradingBack.{request_back, request_is_back}
 use Rattle.brk_tables_views.proofs.ListReads.{tells_requests_of_broker}
 use Rattle.brk_tables_views.proofs.RequestsOfBroker
 use Rattle.brk_tables_views.proofs.RequestsOfBroker.{plain}

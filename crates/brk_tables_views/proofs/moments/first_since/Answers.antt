@@ -9,7 +9,7 @@ use Rattle.brk_tables_form.specs.Cells.{nat, trade_cells}
 use Rattle.brk_tables_form.specs.Desk.{desk}
 use Rattle.brk_changes.specs.Rows.{trade_row_of}
 use Rattle.brk_tables_views.proofs.MomentReads.{tells_first_since}
-use Rattle.brk_tables_views.proofs.Records.{trade_back, trade_is_back}
+use Rattle.brk_tables_form.proofs.TradingBack.{trade_back, trade_is_back}
 use Rattle.brk_tables_views.proofs.FirstSince
 use Rattle.brk_tables_views.proofs.FirstSince.{plain}
 use Rattle.brk_tables_views.proofs.moments.first_since.Goals as goal

@@ -8,7 +8,7 @@ use Rattle.brk_tables_form.specs.Cells.{nat, trade_cells}
 use Rattle.brk_tables_form.specs.Desk.{desk}
 use Rattle.brk_changes.specs.Rows.{trade_row_of}
 use Rattle.brk_tables_views.proofs.MomentReads.{tells_twenty_of_account}
-use Rattle.brk_tables_views.proofs.Records.{trade_back, trade_is_back}
+use Rattle.brk_tables_form.proofs.TradingBack.{trade_back, trade_is_back}
 use Rattle.brk_tables_views.proofs.TwentyOfAccount
 use Rattle.brk_tables_views.proofs.TwentyOfAccount.{plain}
 use Rattle.brk_tables_views.proofs.moments.twenty_of_account.Goals as goal

@@ -4,7 +4,7 @@ use Rattle.brk_tables_form.specs.Cells.{nat, cash_cells}
 use Rattle.brk_changes.specs.Rows.{cash_row_of}
 use Rattle.brk_tables_walks.specs.Lists.{cash_between}
 use Rattle.brk_tables_walks.proofs.CashBetween
-use Rattle.brk_tables_walks.proofs.Records.{cash_back, cash_is_back}
+use Rattle.brk_tables_form.proofs.TradingBack.{cash_back, cash_is_back}
 use Rattle.brk_tables_walks.proofs.TellingCash.{tells_cash_between, cash_start}
 use Rattle.brk_tables_walks.proofs.Walks.{walks}
 use Rattle.brk_tables_walks.proofs.cash.walk_cash_between.Goals as goal
