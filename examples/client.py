@@ -37,6 +37,7 @@ REFUSALS = {
     19: "another row is kept under the key",
     20: "too many ticks",
     21: "no later stamp is left",
+    22: "the day is not after that of the stamp",
 }
 
 

@@ -18,7 +18,7 @@ MAKING = 'crates/brk_tables_making/proofs'
 # For each table: the SQL name, its name among the tables, the type of its rows, the key of a row, the list of its rows,
 # whether its key is the rowid, and its columns: name, kind, how a row r shows it, the table and column it names.
 DATA = [
-    ('desk_row', 'DESK', 'TheDesk', 'DeskRow', 'desk_key', 'desk_rows t.last', True, [('D_ID', 'whole', 'nat r.id', None), ('D_SCHEMA', 'whole', 'nat r.schema', None), ('D_LAST', 'perhaps', 'maybe r.last', None)]),
+    ('desk_row', 'DESK', 'TheDesk', 'DeskRow', 'desk_key', 'desk_rows schema t.last', True, [('D_ID', 'whole', 'nat r.id', None), ('D_SCHEMA', 'whole', 'nat r.schema', None), ('D_LAST', 'perhaps', 'maybe r.last', None)]),
     ('kept', 'KEPT', 'KeptRows', 'Kept', 'kept_key', 't.kept', False, [('K_BATCH', 'text', 'Words r.key.batch', None), ('K_N', 'whole', 'nat r.key.row', None), ('K_ROW', 'text', 'Words r.row_text', None), ('K_LINE', 'text', 'Words r.line', None)]),
     ('broker', 'BROKER', 'Brokers', 'BrokerRow', 'broker_key', 't.brokers', True, [('B_ID', 'whole', 'nat r.id', None), ('B_NAME', 'text', 'Words r.name', None), ('B_NUM_TRADES', 'whole', 'Int r.trades', None), ('B_COMM_TOTAL', 'whole', 'nat r.commissions', None)]),
     ('customer', 'CUSTOMER', 'Customers', 'Customer', 'customer_key', 't.customers', True, [('C_ID', 'whole', 'nat r.id', None), ('C_TIER', 'whole', 'nat r.tier', None), ('C_TAX_ID', 'text', 'Words r.tax_id', None), ('C_L_NAME', 'text', 'Words r.last_name', None), ('C_F_NAME', 'text', 'Words r.first_name', None)]),
@@ -38,11 +38,20 @@ DATA = [
     ('holding_history', 'HOLDING_HISTORY', 'HoldingHistory', 'HoldingHistoryRow', 'holding_history_key', 't.holding_history', False, [('HH_H_T_ID', 'whole', 'nat r.lot', 'TRADE.T_ID'), ('HH_T_ID', 'whole', 'nat r.trade', 'TRADE.T_ID'), ('HH_BEFORE_QTY', 'whole', 'Int r.before', None), ('HH_AFTER_QTY', 'whole', 'Int r.after', None)]),
     ('settlement', 'SETTLEMENT', 'Settlements', 'SettlementRow', 'settlement_key', 't.settlements', True, [('SE_T_ID', 'whole', 'nat r.trade', 'TRADE.T_ID'), ('SE_CASH_TYPE', 'text', 'Words r.cash_type', None), ('SE_CASH_DUE_DATE', 'whole', 'nat r.due_day', None), ('SE_AMT', 'whole', 'Int r.amount', None)]),
     ('cash', 'CASH_TRANSACTION', 'CashRows', 'CashRow', 'cash_key', 't.cash', True, [('CT_T_ID', 'whole', 'nat r.trade', 'TRADE.T_ID'), ('CT_DTS', 'whole', 'nat r.stamp', None), ('CT_AMT', 'whole', 'Int r.amount', None), ('CT_NAME', 'text', 'Words r.name', None)]),
+    ('move', 'CASH_MOVE', 'CashMoves', 'MoveRow', 'move_key', 't.moves', True, [('CM_ID', 'whole', 'nat r.id', None), ('CM_CA_ID', 'whole', 'nat r.account', 'CUSTOMER_ACCOUNT.CA_ID'), ('CM_T_ID', 'perhaps', 'maybe r.trade', 'TRADE.T_ID'), ('CM_DTS', 'whole', 'nat r.stamp', None), ('CM_AMT', 'whole', 'Int r.amount', None), ('CM_NAME', 'text', 'Words r.name', None)]),
+    ('rule', 'SETTLE_RULE', 'SettleRules', 'RuleRow', 'rule_key', 'rule_rows t.rule', True, [('SR_ID', 'whole', 'nat r.id', None), ('SR_DAY', 'whole', 'nat r.day', None)]),
 ]
+
+# the tables that not every schema has, each with what says so of a schema
+LATER = {'move': 'has_moves', 'rule': 'has_rule'}
+
+# the keys of the tables of which a table of the model has no list of rows
+OWN_KEYS = {'desk_key', 'rule_key'}
+
 
 # how many columns of a table are its key, where that is no rowid, and its other UNIQUE columns
 KEYS = {'kept': 2, 'permission': 2, 'security': 1, 'last_trade': 1, 'charge': 2, 'band': 4, 'customer_tax': 2, 'history': 2, 'summary': 2, 'holding_history': 2}
-UNIQUE = {'customer': [3]}
+UNIQUE = {'customer': [3], 'move': [3]}
 # written inside the column, as its key is one text
 INLINE = {'security', 'last_trade'}
 
@@ -81,17 +90,22 @@ def conj(parts):
     return out
 
 def compare(test):
-    """How a test (column, parameter) or (column, parameter, comparison) compares"""
-    return test[2] if len(test) > 2 else 'Eq'
+    """How a test (column, parameter) or (column, parameter, comparison) compares; (column, 'null') asks whether there is none"""
+    return 'Is' if test[1] == 'null' else test[2] if len(test) > 2 else 'Eq'
 
-def sign(test):
-    return {'Eq': '=', 'Le': '<=', 'Ge': '>='}[compare(test)]
+def test_text(test):
+    if compare(test) == 'Is':
+        return f'{test[0]} IS NULL'
+    return f"{test[0]} {({'Eq': '=', 'Le': '<=', 'Ge': '>='}[compare(test)])} ?{test[1]}"
 
 def test_expr(tests):
-    return conj([f'e.Binary operator.{compare(x)} (e.Column None ({q(x[0])})) (e.Parameter {x[1]})' for x in tests])
+    other = lambda x: 'e.Null' if compare(x) == 'Is' else f'(e.Parameter {x[1]})'
+    return conj([f'e.Binary operator.{compare(x)} (e.Column None ({q(x[0])})) {other(x)}' for x in tests])
 
 def test_terms(t, tests):
-    return lst(f'op2 (Compare {compare(x)} Binary) (col 1 {place(t, x[0])}) (col 0 {x[1] - 1})' for x in tests)
+    by = lambda x: 'Is Binary' if compare(x) == 'Is' else f'Compare {compare(x)} Binary'
+    other = lambda x: 'lit Null' if compare(x) == 'Is' else f'col 0 {x[1] - 1}'
+    return lst(f'op2 ({by(x)}) (col 1 {place(t, x[0])}) ({other(x)})' for x in tests)
 
 def test_lemmas(t, tests, shown, found_first):
     out = ['found'] if found_first else []
@@ -102,10 +116,10 @@ def test_lemmas(t, tests, shown, found_first):
     return out
 
 HEAD = '''-- Written by tools/tables.py: what {what} means.
-use Rattle.std.proofs.Common.{{◌≡◌, ◌⊎◌, ℕ, ◌-◌, pos, negsuc, List, [], ◌∷◌, codes, true, false, None, Some, Ok, Err, refl, slice_get}}
+use Rattle.std.proofs.Common.{{◌≡◌, ◌⊎◌, ℕ, ◌-◌, pos, negsuc, List, [], ◌∷◌, codes, true, false, Option, None, Some, Ok, Err, refl, slice_get}}
 use Rattle.sqlite_value.specs.declared.keys.Collation.TheVariants.{{Binary}}
 use Rattle.sqlite.specs.declared.types.Value.TheVariants.{{Null, Int, Text}}
-use Rattle.sqlite_sql.specs.declared.ops.BinaryOp.TheVariants.{{Compare}}
+use Rattle.sqlite_sql.specs.declared.ops.BinaryOp.TheVariants.{{Compare, Is}}
 use Rattle.sqlite_sql.specs.declared.ops.CompareOp.TheVariants.{{Eq, Le, Ge}}
 use Rattle.sqlite_value.specs.declared.keys.Key.{{Key}}
 use Rattle.sqlite.specs.Term.{{Term, lit, col, op2}}
@@ -136,7 +150,8 @@ def is_named(name, body):
     """Whether the body has the name, other than in a path or before the value of a field, or each sign of an operator"""
     if '◌' in name:
         return all(sign in body for sign in name.split('◌') if sign)
-    return re.search(rf'(?<![\w.-]){re.escape(name)}(?![\w-])(?! =)', body) is not None
+    field = '' if name[0].isupper() else '(?! =)'
+    return re.search(rf'(?<![\w.-]){re.escape(name)}(?![\w-]){field}', body) is not None
 
 def of_use(line, body):
     """The line of a head without the names that the body does without, and nothing where none is left"""
@@ -227,13 +242,14 @@ understood_as schema at tree h = updates_or schema statement (read statement) re
 
 def delete(crate, name, t, tests):
     sql, cols, rowkey = TABLES[t]
-    text = f'DELETE FROM {sql} WHERE {" AND ".join(f"{c} = ?{n}" for c, n in tests)}'
+    text = f'DELETE FROM {sql}' + (f' WHERE {" AND ".join(f"{c} = ?{n}" for c, n in tests)}' if tests else '')
+    proof = f'rw ({", ".join(test_lemmas(t, tests, "[]", False))})' if tests else 'refl'
     write(crate, name, 'a DELETE', t, f'''
 abbrev pub statement : List ℕ
 statement = codes "{text}"
 
-abbrev pub test : Expr
-test = {test_expr(tests)}
+abbrev pub test : Option Expr
+test = {f'Some ({test_expr(tests)})' if tests else 'None'}
 
 abbrev pub terms : List Term
 terms = {test_terms(t, tests)}
@@ -244,14 +260,14 @@ project = col 1 0 ∷ []
 abbrev pub draft : ℕ → Draft
 draft tree = simple (Inner tree ∷ []) terms project
 
-draft_is : (schema : Schema) (at tree : ℕ) → slice_get schema.tables at ≡ Some ({t} tree) → deleted schema at ({t} tree) (Some test) ≡ Ok (draft tree)
+draft_is : (schema : Schema) (at tree : ℕ) → slice_get schema.tables at ≡ Some ({t} tree) → deleted schema at ({t} tree) test ≡ Ok (draft tree)
 unfolding lowering
-draft_is schema at tree found = rw ({", ".join(test_lemmas(t, tests, '[]', False))})
+draft_is schema at tree found = {proof}
 
 pub understood_as : (schema : Schema) (at tree : ℕ) → Stands schema ({t} tree) at
     → (compiled schema statement ≡ Ok (meant (read statement) [] (Delete at (record {{ lets = []; body = selection tree terms project [] whole_page }})))) ⊎ (compiled schema statement ≡ Err Mismatch)
 unfolding everything
-understood_as schema at tree h = deletes_or schema statement (read statement) refl refl ({q(sql)}) at ({t} tree) h.named h.found (Some test) (draft tree) refl (draft_is schema at tree h.found)
+understood_as schema at tree h = deletes_or schema statement (read statement) refl refl ({q(sql)}) at ({t} tree) h.named h.found test (draft tree) refl (draft_is schema at tree h.found)
 ''')
     return text
 
@@ -284,7 +300,7 @@ def select(crate, name, t, tests, order, limit=None, shown=None, offset=None):
     names = shown or [c for c, _ in cols]
     text = f'SELECT {", ".join(names)} FROM {sql}'
     if tests:
-        text += f' WHERE {" AND ".join(f"{x[0]} {sign(x)} ?{x[1]}" for x in tests)}'
+        text += f' WHERE {" AND ".join(test_text(x) for x in tests)}'
     text += f' ORDER BY {", ".join(c + (" DESC" if f else "") for c, f in order)}'
     if limit is not None:
         text += f' LIMIT ' + (f'?{limit}' if isinstance(limit, int) else str(limit[1]))
@@ -419,7 +435,7 @@ abbrev pub {t} : ℕ → Table
 """
     save(f'{SPECS}/Shapes.antt', out)
 
-ROWS = 'BrokerRow, AccountRow, SecurityRow, LastTradeRow, TradeRow, HistoryRow, RequestRow, HoldingRow, SummaryRow, HoldingHistoryRow, SettlementRow, CashRow'
+ROWS = 'BrokerRow, AccountRow, SecurityRow, LastTradeRow, TradeRow, HistoryRow, RequestRow, HoldingRow, SummaryRow, HoldingHistoryRow, SettlementRow, CashRow, MoveRow'
 RECORDS = 'Customer, Permission, Charge, Band, TaxRate, CustomerTax, Kept'
 
 def cells():
@@ -438,6 +454,11 @@ pub record DeskRow : Type 0 where
   pub id : ℕ
   pub schema : ℕ
   pub last : Option ℕ
+
+-- a row of SETTLE_RULE: SR_ID, SR_DAY
+pub record RuleRow : Type 0 where
+  pub id : ℕ
+  pub day : ℕ
 
 -- a number that is not below 0
 abbrev pub nat : ℕ → Value
@@ -462,28 +483,42 @@ abbrev pub {t}_cells : {row} → Row
 def desk():
     both = lambda f: '\n'.join(f(d) for d in DATA)
     out = f"""-- Written by tools/tables.py: the tables of a desk, and the list of rows that each of them holds.
-use Rattle.std.specs.Prelude.{{◌≡◌, ℕ, List, [], ◌∷◌, Option, map, refl}}
+use Rattle.std.specs.Prelude.{{◌≡◌, ℕ, Bool, true, List, [], ◌∷◌, Option, Some, None, map, filter, refl}}
 use Rattle.std.specs.declared.cmp.Ordering.{{Ordering}}
 use Rattle.sqlite_value.specs.Order.{{Row}}
 use Rattle.sqlite_schema.specs.declared.schema.Table.{{Table}}
 use Rattle.brk_model.specs.Records.{{{RECORDS}}}
+use Rattle.brk_model.specs.Schemas.{{Schema, third_schema}}
 use Rattle.brk_model.specs.Tables.{{Tables, {ROWS}}}
-use Rattle.brk_model.specs.Keys.{{KeyPart, number, {', '.join(d[4] for d in DATA[1:])}}}
+use Rattle.brk_model.specs.Keys.{{KeyPart, number, {', '.join(d[4] for d in DATA if d[4] not in OWN_KEYS)}}}
 use Rattle.brk_rows.specs.Desk.{{Desk}}
 use Rattle.brk_tables_form.specs.Shapes.{{{', '.join(d[0] for d in DATA)}}}
-use Rattle.brk_tables_form.specs.Cells.{{DeskRow, {', '.join(d[0] + '_cells' for d in DATA)}}}
+use Rattle.brk_tables_form.specs.Cells.{{DeskRow, RuleRow, {', '.join(d[0] + '_cells' for d in DATA)}}}
 use Rattle.brk_tables_form.specs.Order.{{by_key_values}}
 
 -- the tables by name
 pub data Which : Type 0 where
 {both(lambda d: f'  {d[2]} : Which')}
 
--- the one row of DESK, of the first schema
-abbrev pub desk_rows : Option ℕ → List DeskRow
-desk_rows last = record {{ id = 1; schema = 1; last = last }} ∷ []
+-- the one row of DESK, in a schema
+abbrev pub desk_rows : Schema → Option ℕ → List DeskRow
+desk_rows schema last = record {{ id = 1; schema = schema.number; last = last }} ∷ []
 
 abbrev pub desk_key : DeskRow → List KeyPart
 desk_key r = number r.id ∷ []
+
+-- the one row of SETTLE_RULE, or none
+abbrev pub rule_rows : Option ℕ → List RuleRow
+rule_rows None = []
+rule_rows (Some day) = record {{ id = 1; day = day }} ∷ []
+
+abbrev pub rule_key : RuleRow → List KeyPart
+rule_key r = number r.id ∷ []
+
+-- whether a schema has a table
+abbrev pub has_table : Schema → Which → Bool
+{chr(10).join(f'has_table schema {d[2]} = schema.{LATER[d[0]]}' for d in DATA if d[0] in LATER)}
+has_table schema w = true
 
 -- what each is made of
 abbrev pub shape : Which → ℕ → Table
@@ -506,30 +541,59 @@ abbrev pub key : (w : Which) → Item w → List KeyPart
 abbrev pub order : (w : Which) → Item w → Item w → Ordering
 order w = by_key_values (key w)
 
--- the rows that it holds
+-- the rows that it holds in a schema
+abbrev pub list_in : Schema → (w : Which) → Tables → List (Item w)
+{both(lambda d: f'list_in schema {d[2]} t = {d[5]}')}
+
+-- the rows that it holds, in the schema that a desk keeps
 abbrev pub list : (w : Which) → Tables → List (Item w)
-{both(lambda d: f'list {d[2]} t = {d[5]}')}
+list = list_in third_schema
+
+-- the tables of a desk in a schema, which may lack some
+abbrev pub desk_in : Schema → Desk Which Tables
+desk_in schema = record {{ shape = shape; placed = placed; Item = Item; encode = encode; order = order; list = list_in schema }}
 
 -- all of them
 abbrev pub desk : Desk Which Tables
-desk = record {{ shape = shape; placed = placed; Item = Item; encode = encode; order = order; list = list }}
+desk = desk_in third_schema
+
+abbrev pub all_tables : List Which
+all_tables = {lst(d[2] for d in DATA)}
+
+-- the tables of a schema, and those that it lacks
+abbrev pub tables_in : Schema → List Which
+tables_in schema = filter (has_table schema) all_tables
+
+-- the name of a table
+abbrev pub name_of : Which → List ℕ
+name_of w = (shape w 0).name
 
 -- their names
 abbrev pub names : List (List ℕ)
-names = map (λ w. (shape w 0).name) ({lst(d[2] for d in DATA)})
+names = map name_of all_tables
 """
     save(f'{SPECS}/Desk.antt', out)
 
 def splits():
     out = f"""-- Written by tools/tables.py: whether a table is a certain one.
 use Rattle.std.proofs.Common.{{◌≡◌, ◌≢◌, ◌⊎◌, refl, inl, inr}}
-use Rattle.brk_tables_form.specs.Desk.{{Which, {', '.join(d[2] for d in DATA)}}}
+use Rattle.sqlite_rules.specs.Lists.{{Has}}
+use Rattle.brk_tables_form.specs.Desk.{{Which, {', '.join(d[2] for d in DATA)}, all_tables}}
 """
     for d in DATA:
         out += f"""
 pub is_{d[0]} : (v : Which) → (v ≡ {d[2]}) ⊎ (v ≢ {d[2]})
 is_{d[0]} {d[2]} = inl refl
 is_{d[0]} v = inr (λ e. absurd (let f = e in cc))
+"""
+    out += f"""
+-- whether a table is another
+pub split : (w v : Which) → (v ≡ w) ⊎ (v ≢ w)
+{chr(10).join(f'split {d[2]} v = is_{d[0]} v' for d in DATA)}
+
+-- each is listed
+pub all_listed : (w : Which) → Has all_tables w
+{chr(10).join(f'all_listed {d[2]} = {"inr (" * i}inl refl{")" * i}' for i, d in enumerate(DATA))}
 """
     save(f'{OUT}/Which.antt', out)
 
@@ -555,55 +619,141 @@ def create_text(d):
 
 def making():
     out = f"""-- Written by tools/tables.py: which table each text makes.
-use Rattle.std.proofs.Common.{{◌≡◌, ℕ, List, [], ◌∷◌, codes, Ok, refl}}
+use Rattle.std.proofs.Common.{{◌≡◌, ℕ, List, [], ◌∷◌, codes, Ok, refl, inl, inr}}
 use Rattle.sqlite.specs.State.{{State, Executes}}
 use Rattle.sqlite_tied.specs.Compute.{{everything}}
 use Rattle.brk_rows.specs.Desk.{{Makes}}
 use Rattle.brk_rows.proofs.Texts.{{read}}
 use Rattle.brk_rows.proofs.Created.{{makes}}
+use Rattle.brk_rows.proofs.Founded.{{Among}}
+use Rattle.brk_model.specs.Tables.{{no_rows}}
 use Rattle.brk_tables_form.specs.Shapes.{{{', '.join(d[0] for d in DATA)}}}
+use Rattle.brk_tables_form.specs.Desk.{{Which, {', '.join(d[2] for d in DATA)}, shape, all_tables}}
+use Rattle.brk_tables_form.proofs.Wide.{{Wide, wide, wide_list}}
+use Rattle.brk_tables_making.specs.Texts.{{create_text}}
+
+-- the tables without rows, that of DESK too
+abbrev pub bare : Wide
+bare = record {{ rows = []; rules = []; tables = no_rows }}
 """
     for d in DATA:
         out += f"""
-abbrev pub {d[0]}_text : List ℕ
-{d[0]}_text = codes "{create_text(d)}"
+abbrev {d[0]}_text : List ℕ
+{d[0]}_text = create_text {d[2]}
 
-pub makes_{d[0]} : (old new : State) (count : ℕ) → Executes {d[0]}_text [] old new (Ok count) → Makes old.now new.now {d[0]}
+makes_{d[0]} : (old new : State) (count : ℕ) → Executes {d[0]}_text [] old new (Ok count) → Makes old.now new.now {d[0]}
 unfolding everything
 makes_{d[0]} = makes {d[0]}_text {d[0]} refl (λ tree. refl) (λ tree. refl) refl (read {d[0]}_text) _ refl refl refl refl refl refl refl refl
 """
+    out += f"""
+pub makes_of : (w : Which) (old new : State) (count : ℕ) → Executes (create_text w) [] old new (Ok count) → Makes old.now new.now (shape w)
+{chr(10).join(f'makes_of {d[2]} = makes_{d[0]}' for d in DATA)}
+"""
+    out += f"""
+-- each table is one of those that are made
+pub all_made : (w : Which) → Among wide all_tables (λ _. ⊥) w
+{chr(10).join(f'all_made {d[2]} = {"inr (" * (len(DATA) - 1 - i)}inl refl{")" * (len(DATA) - 1 - i)}' for i, d in enumerate(DATA))}
+
+-- none of them has rows yet
+pub none_held : (w : Which) → wide_list w bare ≡ []
+{chr(10).join(f'none_held {d[2]} = refl' for d in DATA)}
+"""
     save(f'{MAKING}/Makes.antt', out)
+
+def since():
+    """For each schema but the first: its word, and the tables that it and later schemas add"""
+    order = {'has_moves': 2, 'has_rule': 3}
+    return [(word, [d for d in DATA if order.get(LATER.get(d[0]), 1) >= number]) for number, word in [(2, 'second'), (3, 'third')]]
+
+def texts():
+    out = f"""-- Written by tools/tables.py: the tables as the code names them, and their texts.
+use Rattle.std.specs.Prelude.{{ℕ, List, ◌++◌, codes}}
+use Rattle.brk_tables_form.specs.Desk.{{Which, {', '.join(d[2] for d in DATA)}, name_of}}
+use Rattle.brk_tables_making.specs.declared.table.Table.{{Table}}
+use Rattle.brk_tables_making.specs.declared.table.Table.TheVariants as table
+
+abbrev pub which_of : Table → Which
+{chr(10).join(f'which_of table.{d[2]} = {d[2]}' for d in DATA)}
+
+-- what makes a table
+abbrev pub create_text : Which → List ℕ
+{chr(10).join(f'create_text {d[2]} = codes "{create_text(d)}"' for d in DATA)}
+
+-- a statement on it, which is only looked at
+abbrev pub probe_text : Which → List ℕ
+probe_text w = codes "DELETE FROM " ++ name_of w
+"""
+    save('crates/brk_tables_making/specs/Texts.antt', out)
+    def function(name, what, contract, text):
+        return f"""
+    /// {what}
+    pub fn {name}(self) -> &'static str
+        ensures {{ result.now ≡ {contract} (which_of self) }}
+    {{
+        match self {{
+{chr(10).join(f'            Table::{d[2]} => "{text(d)}",' for d in DATA)}
+        }}
+    }}
+"""
+    out = f"""//! Written by tools/tables.py: the tables of a desk, and their texts.
+
+ghost use Rattle.std.specs.Prelude.{{◌≡◌}};
+ghost use Rattle.brk_tables_making.specs.Texts.{{create_text, probe_text, which_of}};
+
+/// A table of a desk.
+#[derive(Clone, Copy)]
+pub enum Table {{
+{chr(10).join(f'    /// {d[1]}{chr(10)}    {d[2]},' for d in DATA)}
+}}
+
+impl Table {{{function('create_text', 'The text that makes it.', 'create_text', create_text)}{function('probe_text', 'A statement on it, which is only looked at, and never run.', 'probe_text', lambda d: f'DELETE FROM {d[1]}')}}}
+"""
+    for name, what, tables in by_schema():
+        out += f"""
+/// {what[0].upper()}{what[1:]}.
+pub const {name.upper()}: [Table; {len(tables)}] = [{', '.join(f'Table::{d[2]}' for d in tables)}];
+"""
+    save('crates/brk_tables_making/src/table.rt', out)
 
 def probing():
     out = f"""-- Written by tools/tables.py: what a statement that is looked at, and not run, tells of a table.
-use Rattle.std.proofs.Common.{{◌≡◌, ℕ, List, [], ◌∷◌, codes, is_some, Bool, refl}}
-use Rattle.std.specs.List.{{AllByRecursion}}
+use Rattle.std.proofs.Common.{{◌≡◌, ℕ, List, codes, Bool, refl}}
 use Rattle.sqlite_schema.specs.declared.schema.Schema.{{Schema}}
-use Rattle.sqlite_schema.specs.Names.{{table_named}}
 use Rattle.sqlite.specs.Listing.{{listing_schema}}
 use Rattle.sqlite_tied.specs.Compute.{{everything}}
 use Rattle.brk_rows.specs.Desk.{{Probes}}
 use Rattle.brk_rows.proofs.Probe.{{probed}}
 use Rattle.brk_rows.proofs.Texts.{{read}}
+use Rattle.brk_tables_form.specs.Desk.{{Which, {', '.join(d[2] for d in DATA)}}}
+use Rattle.brk_tables_making.specs.Present.{{is_named}}
+use Rattle.brk_tables_making.specs.Texts.{{probe_text}}
 """
     for d in DATA:
         out += f"""
-abbrev pub {d[0]}_probe : List ℕ
-{d[0]}_probe = codes "DELETE FROM {d[1]}"
+abbrev {d[0]}_probe : List ℕ
+{d[0]}_probe = probe_text {d[2]}
 
-pub {d[0]}_probed : (schema : Schema) (has : Bool) → Probes {d[0]}_probe has schema → has ≡ is_some (table_named schema ({q(d[1])}))
+{d[0]}_probed : (schema : Schema) (has : Bool) → Probes {d[0]}_probe has schema → has ≡ is_named schema {d[2]}
 unfolding everything listing_schema
 {d[0]}_probed = probed {d[0]}_probe (read {d[0]}_probe) ({q(d[1])}) refl refl refl refl
 """
     out += f"""
--- each statement beside the table that it names
-abbrev pub pairs : List (List ℕ × List ℕ)
-pairs = {lst(f'({d[0]}_probe, {q(d[1])})' for d in DATA)}
-
-pub all_probed : AllByRecursion (λ (p : List ℕ × List ℕ). (schema : Schema) (has : Bool) → Probes p.0 has schema → has ≡ is_some (table_named schema p.1)) pairs
-all_probed = {'('.join(f'({d[0]}_probed, ' for d in DATA).replace('((','(')}tt{')' * len(DATA)}
+pub probed_of : (w : Which) (schema : Schema) (has : Bool) → Probes (probe_text w) has schema → has ≡ is_named schema w
+{chr(10).join(f'probed_of {d[2]} = {d[0]}_probed' for d in DATA)}
 """
     save(f'{MAKING}/Probing.antt', out)
+
+def by_schema():
+    """The tables of each schema, and those that the later ones add: a name, what they are, and they"""
+    added = {word: tables for word, tables in since()}
+    lacking = lambda tables: [d for d in DATA if d not in tables]
+    return [
+        ('in_first', 'the tables of the first schema', lacking(added['second'])),
+        ('in_second', 'those of the second', lacking(added['third'])),
+        ('in_third', 'those of the third', DATA),
+        ('since_second', 'those that the second and the third add', added['second']),
+        ('since_third', 'those that the third adds', added['third']),
+    ]
 
 def star_text(d):
     return f'SELECT * FROM {d[1]}'
@@ -621,11 +771,8 @@ use Rattle.sqlite_tied.specs.Compute.{{everything}}
 use Rattle.brk_rows.proofs.Stars.{{shown_columns}}
 use Rattle.brk_rows.proofs.Texts.{{read}}
 use Rattle.brk_tables_form.specs.Desk.{{Which, {', '.join(d[2] for d in DATA)}, shape}}
+use Rattle.brk_tables_whole.specs.Headings.{{star}}
 
-abbrev pub star : Which → List ℕ
-"""
-    out += ''.join(f'star {d[2]} = {q(star_text(d))}\n' for d in DATA)
-    out += """
 pub columns_told : (w : Which) (schema : Schema) (at : ℕ) (table : Table) → table_named schema (shape w 0).name ≡ Some at → slice_get schema.tables at ≡ Some table
     → (c : Compiled) → understood schema (star w) ≡ Ok c → column_names c ≡ map (λ c. c.name) table.columns
 unfolding everything listing_schema
@@ -635,12 +782,29 @@ unfolding everything listing_schema
 
 def column_names():
     names = lambda d: ', '.join(f'"{c}"' for c, _, _, _ in d[7])
-    out = f"""//! Written by tools/tables.py: for each table a statement that shows all of its columns, and their names in their order.
-
-pub(crate) const COLUMN_NAMES: [(&str, &[&str]); {len(DATA)}] = [
+    out = f"""//! Written by tools/tables.py: for each table of a schema a statement that shows all of its columns, and their names in their order.
 """
-    out += ''.join(f'("{star_text(d)}", &[{names(d)}]),\n' for d in DATA) + '];\n'
+    for name, what, tables in by_schema()[:3]:
+        out += f"""
+/// {what[0].upper()}{what[1:]}.
+pub(crate) const {name.upper()}: [(&str, &[&str]); {len(tables)}] = [
+"""
+        out += ''.join(f'("{star_text(d)}", &[{names(d)}]),\n' for d in tables) + '];\n'
     save('crates/brk_tables_whole/src/column_names.rt', out)
+
+def listed():
+    out = f"""-- Written by tools/tables.py: the name of a table and the names of its columns are no matter of its tree.
+use Rattle.std.proofs.Common.{{◌≡◌, ℕ, refl}}
+use Rattle.brk_tables_form.specs.Desk.{{Which, {', '.join(d[2] for d in DATA)}, shape}}
+use Rattle.brk_tables_whole.specs.Schemas.{{names_of}}
+
+pub same_name_at : (w : Which) (i j : ℕ) → (shape w i).name ≡ (shape w j).name
+{chr(10).join(f'same_name_at {d[2]} i j = refl' for d in DATA)}
+
+pub names_alike : (w : Which) (m n : ℕ) → names_of (shape w m) ≡ names_of (shape w n)
+{chr(10).join(f'names_alike {d[2]} m n = refl' for d in DATA)}
+"""
+    save('crates/brk_tables_whole/proofs/Listed.antt', out)
 
 # for each crate: its statements, each with its name, its table, and what it takes
 STATEMENTS = {
@@ -651,7 +815,7 @@ STATEMENTS = {
         (select, 'KeptByKey', 'kept', [('K_BATCH', 1), ('K_N', 2)], [('K_BATCH', False), ('K_N', False)]),
     ],
     'brk_tables_making': [
-        (insert, 'AddDesk', 'desk_row', [('lit', 1), ('lit', 1), 'null']),
+        (insert, 'AddDesk', 'desk_row', [('lit', 1), ('lit', 3), 'null']),
     ],
     'brk_tables_reference': [
         (insert, 'AddBroker', 'broker', [1, 2, ('lit', 0), ('lit', 0)]),
@@ -706,20 +870,31 @@ STATEMENTS = {
         (update, 'SetSummary', 'summary', [('HS_QTY', 1)], [('HS_CA_ID', 2), ('HS_S_SYMB', 3)]),
         (delete, 'RemoveSummary', 'summary', [('HS_CA_ID', 1), ('HS_S_SYMB', 2)]),
         (insert, 'AddSettlement', 'settlement', [1, 2, 3, 4]),
-        (insert, 'AddCash', 'cash', [1, 2, 3, 4]),
         (update, 'SetBalance', 'account', [('CA_BAL', 1)], [('CA_ID', 2)]),
         (update, 'SetBrokerNumbers', 'broker', [('B_NUM_TRADES', 1), ('B_COMM_TOTAL', 2)], [('B_ID', 3)]),
         (select, 'CompletedOfAccount', 'trade', [('T_ST_ID', 1), ('T_CA_ID', 2), ('T_DTS', 3, 'Ge'), ('T_DTS', 4, 'Le')], [('T_DTS', False), ('T_ID', False)], ('lit', 20)),
         (select, 'CompletedCashOfSymbol', 'trade', [('T_ST_ID', 1), ('T_IS_CASH', 2), ('T_S_SYMB', 3), ('T_DTS', 4, 'Ge'), ('T_DTS', 5, 'Le')], [('T_DTS', False), ('T_ID', False)], ('lit', 20)),
         (select, 'SettlementByTrade', 'settlement', [('SE_T_ID', 1)], [('SE_T_ID', False)]),
-        (select, 'CashByTrade', 'cash', [('CT_T_ID', 1)], [('CT_T_ID', False)]),
         (update, 'SetExecutor', 'trade', [('T_EXEC_NAME', 1)], [('T_ID', 2)]),
         (update, 'SetCashType', 'settlement', [('SE_CASH_TYPE', 1)], [('SE_T_ID', 2)]),
-        (update, 'SetCashName', 'cash', [('CT_NAME', 1)], [('CT_T_ID', 2)]),
+    ],
+    'brk_tables_cash': [
+        (insert, 'AddMove', 'move', [1, 2, 3, 4, 5, 6]),
+        (select, 'LastMove', 'move', [], [('CM_ID', True)], ('lit', 1)),
+        (select, 'MoveByTrade', 'move', [('CM_T_ID', 1)], [('CM_ID', False)]),
+        (select, 'MovementBehind', 'move', [('CM_T_ID', 'null')], [('CM_ID', False)], ('lit', 1), None, 1),
+        (update, 'SetCashName', 'move', [('CM_NAME', 1)], [('CM_T_ID', 2)]),
+        (delete, 'RemoveCashRows', 'cash', []),
+        (insert, 'AddRule', 'rule', [1, 2]),
+        (select, 'RuleRows', 'rule', [], [('SR_ID', False)]),
+        (update, 'SetSchema', 'desk_row', [('D_SCHEMA', 1)], [('D_ID', 2)]),
+    ],
+    'brk_tables_moving': [
+        (select, 'CashByStamp', 'cash', [], [('CT_DTS', False), ('CT_T_ID', False)]),
+        (select, 'AccountOfTrade', 'trade', [('T_ID', 1)], [('T_ID', False)], None, ['T_CA_ID']),
     ],
     'brk_tables_walks': [
-        (select, 'TradesOf', 'trade', [('T_CA_ID', 1)], [('T_ID', False)], None, ['T_ID']),
-        (select, 'CashBetween', 'cash', [('CT_DTS', 1, 'Ge'), ('CT_DTS', 2, 'Le')], [('CT_DTS', False), ('CT_T_ID', False)]),
+        (select, 'CashBetween', 'move', [('CM_CA_ID', 1), ('CM_DTS', 2, 'Ge'), ('CM_DTS', 3, 'Le')], [('CM_DTS', False), ('CM_ID', False)]),
         (select, 'LotsBySymbol', 'holding', [('H_CA_ID', 1)], [('H_S_SYMB', False), ('H_DTS', False), ('H_T_ID', False)]),
     ],
     'brk_tables_views': [
@@ -755,10 +930,10 @@ use Rattle.sqlite_value.specs.declared.value.Value.TheVariants.{{Int, Text as Wo
 use Rattle.sqlite_value.specs.Order.{{Row, column}}
 use Rattle.sqlite.specs.State.{{State, Shown}}
 use Rattle.brk_money.specs.Kinds.{{type_code, status_code}}
-use Rattle.brk_model.specs.Keys.{{{', '.join(d[4] for d in DATA[1:])}}}
+use Rattle.brk_model.specs.Keys.{{{', '.join(d[4] for d in DATA if d[4] not in OWN_KEYS)}}}
 use Rattle.brk_rows.proofs.Texts.{{read}}
 use Rattle.brk_tables_form.specs.Cells.{{nat}}
-use Rattle.brk_tables_form.specs.Desk.{{{', '.join(d[2] for d in DATA)}, desk_key}}
+use Rattle.brk_tables_form.specs.Desk.{{{', '.join(d[2] for d in DATA)}, desk_key, rule_key}}
 use Rattle.brk_tables_form.proofs.Order.{{key_total}}
 use Rattle.brk_tables_whole.specs.Whole.{{ShowsAll}}
 use Rattle.brk_tables_whole.proofs.Whole.{{shows_all}}
@@ -796,13 +971,15 @@ if __name__ == '__main__':
     desk()
     splits()
     making()
+    texts()
     probing()
     stars()
     column_names()
+    listed()
     whole()
-    texts = [create_text(table) for table in DATA]
+    all_texts = [create_text(table) for table in DATA]
     for crate, statements in STATEMENTS.items():
-        texts += [write_one(crate, *parts) for write_one, *parts in statements]
+        all_texts += [write_one(crate, *parts) for write_one, *parts in statements]
     lay_out()
     if '--texts' in sys.argv[1:]:
-        print('\n'.join(texts))
+        print('\n'.join(all_texts))

@@ -1,36 +1,38 @@
 -- The base of rows in form whose statuses are right is in order.
-use Rattle.std.proofs.Common.{◌≡◌, ℕ, ◌+◌, ◌==◌, Bool, true, false, not, cond, List, [], ◌∷◌, refl, sym, ◌∙◌, ap, subst, map, filter, length, arith, Option, Some, None, inl, inr}
-use Rattle.std.specs.Prelude.{◌&&◌, ◌||◌, ◌≤◌, nat_le, find, is_some, bytes_eq, IfSome}
+use Rattle.std.proofs.Common.{◌≡◌, ℕ, ◌+◌, ◌==◌, Bool, true, false, not, cond, List, [], ◌∷◌, ◌++◌, refl, sym, ◌∙◌, ap, subst, map, filter, length, arith, Option, Some, None, inl, inr}
+use Rattle.std.specs.Prelude.{◌&&◌, ◌||◌, ◌≤◌, nat_le, find, is_none, is_some, bytes_eq, IfSome}
 use Rattle.std.specs.List.{AllByRecursion, list_any, list_all, range_with_len}
 use Rattle.std.specs.Option.{option_map_or}
-use Rattle.std.proofs.lemmas.Bool.{and_parts, eqb-true, eq-eqb, leb-true, not-true, or_left, or_right, ne_eqb}
+use Rattle.std.proofs.lemmas.Bool.{and_from, and_parts, eqb-true, eq-eqb, leb-true, not-true, or_left, or_right, ne_eqb}
 use Rattle.std.proofs.lemmas.Bool.Decides.{nat_tests}
 use Rattle.std.proofs.lemmas.Slice.Eq.{bytes_eq-Decides}
 use Rattle.brk_money.specs.Spelling.{Text}
-use Rattle.brk_money.specs.Moments.{day_of, last_day, last_stamp}
+use Rattle.brk_money.specs.Moments.{last_day, last_stamp}
 use Rattle.brk_money.specs.Kinds.{same_status}
 use Rattle.brk_money.specs.declared.status.Status.TheVariants.{Completed}
 use Rattle.brk_model.specs.Limits.{greatest_amount, greatest_charge, greatest_rate}
 use Rattle.brk_model.specs.Lists.{all_distinct, contains_number}
-use Rattle.brk_model.specs.Records.{Band, Permission, Trade}
+use Rattle.brk_model.specs.Records.{Band, Movement, Permission, Trade}
 use Rattle.brk_model.specs.Base.{is_completed, moment_of}
-use Rattle.brk_model.specs.Tables.{Tables, AccountRow, SecurityRow, LastTradeRow, TradeRow, HistoryRow}
-use Rattle.brk_model.specs.Derived.{settlement_days}
+use Rattle.brk_model.specs.Schemas.{Schema}
+use Rattle.brk_model.specs.Tables.{Tables, AccountRow, MoveRow, SecurityRow, LastTradeRow, TradeRow, HistoryRow}
+use Rattle.brk_model.specs.Derived.{due_after}
 use Rattle.brk_model.specs.Keys.{number, word, key_before, account_key, permission_key, security_key, trade_key}
 use Rattle.brk_model.specs.Tests.{bands_meet}
 use Rattle.brk_model.specs.Forms.{is_name, is_exchange}
-use Rattle.brk_model.specs.Adopted.{account_of_row, base_of, no_last_trade, security_of_row, security_of_rows, trade_of_row}
-use Rattle.brk_model.specs.Form.{account_form, band_form, has_account, has_broker, has_customer, has_form, has_security, has_trade, history_form, is_amount, is_id, is_price, is_qty, is_stamp, is_tier, last_trade_form, no_overlap, price_form, same_numbers, trade_form}
-use Rattle.brk_model.specs.Ways.{completion_stamps, has_status_rows, trade_status}
+use Rattle.brk_model.specs.Adopted.{account_of_row, base_of, movement_of_row, no_last_trade, security_of_row, security_of_rows, trade_of_row}
+use Rattle.brk_model.specs.Form.{account_form, band_form, has_account, has_broker, has_customer, has_form, has_security, has_trade, history_form, is_amount, is_cash_of_trade, is_id, is_move_id, is_movement, is_price, is_qty, is_stamp, is_tier, last_trade_form, move_form, no_overlap, price_form, same_numbers, trade_form}
+use Rattle.brk_model.specs.Ways.{completion_stamps, has_status_rows, movement_stamps, trade_status}
 use Rattle.brk_model.specs.Names.{KnowsAccount, KnowsBroker, KnowsCustomer, KnowsSecurity, NumberedFrom}
-use Rattle.brk_book_laws.specs.Books.{BandsApart, CompletesFirst, DistinctAccounts, DistinctSymbols, HasBounds, HasVolume, IsBooks, IsEarly, MomentsApart, PermissionsApart, WaitsFirst}
+use Rattle.brk_book_laws.specs.Books.{AreMovementsInOrder, BandsApart, CompletesFirst, DistinctAccounts, DistinctSymbols, HasBounds, HasHolder, HasVolume, IsBooks, IsEarly, IsMadeBy, IsOtherwhen, MomentsApart, MovementsApart, PermissionsApart, WaitsFirst}
+use Rattle.brk_book_laws.proofs.Bools.{numbers_back}
 use Rattle.brk_book_laws.proofs.Same.{All-map, All-mapped, All-of, any-none, find-All}
 use Rattle.brk_book_laws.proofs.Reading.{find-map, is_some-map, some-is-any}
 use Rattle.brk_adoption_laws.proofs.Climbs.{Climbs, In, climbs_filter, list_all_true, not_itself, of_all}
 use Rattle.brk_adoption_laws.proofs.Parts.{KeyParts, key_parts}
 use Rattle.brk_model_laws.specs.FormParts.{FormParts}
 use Rattle.brk_model_laws.proofs.FormParts.{form_parts}
-use Rattle.brk_model_laws.proofs.Conjunctions.{parts3, parts6, parts10}
+use Rattle.brk_model_laws.proofs.Conjunctions.{parts3, parts5, parts6, parts10}
 use Rattle.brk_adoption_laws.proofs.Marks.{IsOf, Lasts, completes_first, filtered, last_is_row, lasts, waits_first}
 
 false_true : {A : Type 0} → false ≡ true → A
@@ -54,14 +56,14 @@ knows_customer : (t : Tables) (a : AccountRow) → account_form t a ≡ true →
 unfolding base_of
 knows_customer t a e = some-is-any (λ c. c.id == a.customer) t.customers ∙ (account_names t a e).0
 
-trade_names : (t : Tables) (row : TradeRow) → trade_form t row ≡ true → (has_security t row.symbol ≡ true) × (has_account t row.account ≡ true)
-trade_names t row e =
-    let k = parts10 (is_id row.id) (is_stamp t row.stamp) (has_security t row.symbol) (is_qty row.qty) (is_price row.bid) (has_account t row.account) (price_form t row)
+trade_names : (schema : Schema) (t : Tables) (row : TradeRow) → trade_form schema t row ≡ true → (has_security t row.symbol ≡ true) × (has_account t row.account ≡ true)
+trade_names schema t row e =
+    let k = parts10 (is_id row.id) (is_stamp t row.stamp) (has_security t row.symbol) (is_qty schema row.qty) (is_price row.bid) (has_account t row.account) (price_form t row)
     (nat_le row.charge greatest_charge) (nat_le row.commission greatest_amount) (nat_le row.tax greatest_amount) e in (k.2, k.5)
 
-knows_account : (t : Tables) (row : TradeRow) → trade_form t row ≡ true → KnowsAccount (base_of t) (trade_of_row t row)
+knows_account : (schema : Schema) (t : Tables) (row : TradeRow) → trade_form schema t row ≡ true → KnowsAccount (base_of t) (trade_of_row t row)
 unfolding base_of
-knows_account t row e = found_mapped (λ a. a.id == row.account) account_of_row t.accounts ∙ (trade_names t row e).1
+knows_account schema t row e = found_mapped (λ a. a.id == row.account) account_of_row t.accounts ∙ (trade_names schema t row e).1
 
 -- a security of its row has the row's symbol
 pub symbol_of : (t : Tables) (s : SecurityRow) → (security_of_row t s).symbol ≡ s.symbol
@@ -76,11 +78,11 @@ same_found : (t : Tables) (symbol : Text) (ss : List SecurityRow)
 same_found t symbol [] = refl
 same_found t symbol (s ∷ ss) = λ i. bytes_eq (symbol_of t s i) symbol || same_found t symbol ss i
 
-knows_security : (t : Tables) (row : TradeRow) → trade_form t row ≡ true → KnowsSecurity (base_of t) (trade_of_row t row)
+knows_security : (schema : Schema) (t : Tables) (row : TradeRow) → trade_form schema t row ≡ true → KnowsSecurity (base_of t) (trade_of_row t row)
 unfolding base_of
-knows_security t row e =
+knows_security schema t row e =
     some-is-any (λ s. bytes_eq s.symbol row.symbol) (map (security_of_row t) t.securities) ∙ same_found t row.symbol t.securities
-    ∙ sym (some-is-any (λ s. bytes_eq s.symbol row.symbol) t.securities) ∙ (trade_names t row e).0
+    ∙ sym (some-is-any (λ s. bytes_eq s.symbol row.symbol) t.securities) ∙ (trade_names schema t row e).0
 
 -- ---- keys are of one row
 
@@ -141,9 +143,9 @@ numbered t n (r ∷ rows) e =
     let k = and_parts (r.id == n) (same_numbers (map (λ row. row.id) rows) (range_with_len (n + 1) (length rows))) e in
     (eqb-true r.id n k.0, numbered t (n + 1) rows k.1)
 
-bounds_of : (b : Band) → band_form b ≡ true → HasBounds b
-bounds_of b e =
-    (parts6 (is_tier b.tier) (is_exchange b.exchange) (is_qty b.from_qty) (is_qty b.to_qty) (nat_le b.from_qty b.to_qty) (nat_le b.rate greatest_rate) e).4
+bounds_of : (schema : Schema) (b : Band) → band_form schema b ≡ true → HasBounds b
+bounds_of schema b e =
+    (parts6 (is_tier b.tier) (is_exchange b.exchange) (is_qty schema b.from_qty) (is_qty schema b.to_qty) (nat_le b.from_qty b.to_qty) (nat_le b.rate greatest_rate) e).4
 
 bands_apart : (bs : List Band) → no_overlap bs ≡ true → BandsApart bs
 bands_apart [] e = tt
@@ -248,7 +250,7 @@ early_at None u n e h = false_true h
 early_at (Some last) u n e h = let k : n ≤ last = leb-true n last h in omega arith
 
 stamp_of : (t : Tables) (h : HistoryRow) → history_form t h ≡ true → is_stamp t h.stamp ≡ true
-stamp_of t h e = (parts3 (has_trade t h.trade) (is_stamp t h.stamp) (not (same_status h.status Completed) || nat_le (day_of h.stamp + settlement_days) last_day) e).1
+stamp_of t h e = (parts3 (has_trade t h.trade) (is_stamp t h.stamp) (not (same_status h.status Completed) || nat_le (due_after t.rule h.stamp) last_day) e).1
 
 early_of : (t : Tables) (r : TradeRow) → AllByRecursion (λ h. history_form t h ≡ true) t.history → IsDone t r → IsEarly t.last (trade_of_row t r)
 early_of t r f k = early_at t.last (trade_of_row t r) k.row.stamp k.stamp (stamp_of t k.row (of_all (λ h. history_form t h ≡ true) t.history k.row f k.there))
@@ -256,17 +258,98 @@ early_of t r f k = early_at t.last (trade_of_row t r) k.row.stamp k.stamp (stamp
 done_all : (t : Tables) → AllByRecursion (λ r. trade_status t r ≡ true) t.trades → AllByRecursion (IsDone t) (done_rows t)
 done_all t h = All-map (done_rows t) (λ r k. done_of t r k.0 k.1) (filtered (λ r. trade_status t r ≡ true) (λ r. is_completed (trade_of_row t r)) t.trades h)
 
+-- ---- movements
+
+both_false : (a b : Bool) → a || b ≡ false → (a ≡ false) × (b ≡ false)
+both_false true b e = absurd (cc)
+both_false false b e = (refl, e)
+
+no_number : (n : ℕ) (rows : List MoveRow) → contains_number n (map (λ r. r.stamp) rows) ≡ false → AllByRecursion (λ r. (r.stamp == n) ≡ false) rows
+no_number n [] e = tt
+no_number n (r ∷ rows) e = let k = both_false (r.stamp == n) (contains_number n (map (λ r. r.stamp) rows)) e in (k.0, no_number n rows k.1)
+
+movements_apart : (t : Tables) (ds : List TradeRow) (rows : List MoveRow) → AllByRecursion (λ d. contains_number (moment_of (trade_of_row t d)) (map (λ r. r.stamp) rows) ≡ false) ds
+    → all_distinct (map (λ r. r.stamp) rows) ≡ true → MovementsApart (map (trade_of_row t) ds) (map movement_of_row rows)
+movements_apart t ds [] h d = tt
+movements_apart t ds (r ∷ rows) h d =
+    let k = and_parts (not (contains_number r.stamp (map (λ r. r.stamp) rows))) (all_distinct (map (λ r. r.stamp) rows)) d in
+    let other : List ℕ = map (λ r. r.stamp) rows in (
+      All-mapped (IsOtherwhen r.stamp) (trade_of_row t) ds
+          (All-map ds (λ d e. numbers_back (moment_of (trade_of_row t d)) r.stamp ∙ (both_false (r.stamp == moment_of (trade_of_row t d)) (contains_number (moment_of (trade_of_row t d)) other) e).0) h),
+      All-mapped (λ m. (m.stamp == r.stamp) ≡ false) movement_of_row rows (no_number r.stamp rows (not-true (contains_number r.stamp other) k.0)),
+      movements_apart t ds rows (All-map ds (λ d e. (both_false (r.stamp == moment_of (trade_of_row t d)) (contains_number (moment_of (trade_of_row t d)) other) e).1) h) k.1,
+    )
+
+-- numbers that are distinct, in two parts
+record Apart (xs ys : List ℕ) : Type 0 where
+  pub first : all_distinct xs ≡ true
+  pub second : all_distinct ys ≡ true
+  pub across : AllByRecursion (λ x. contains_number x ys ≡ false) xs
+
+pub contains_both : (n : ℕ) (xs ys : List ℕ) → contains_number n (xs ++ ys) ≡ contains_number n xs || contains_number n ys
+contains_both n [] ys = refl
+contains_both n (x ∷ xs) ys = ap (λ b. (x == n) || b) (contains_both n xs ys) ∙ sym (or_assoc (x == n) (contains_number n xs) (contains_number n ys))
+  where
+    or_assoc : (a b c : Bool) → (a || b) || c ≡ a || (b || c)
+    or_assoc true b c = refl
+    or_assoc false b c = refl
+
+apart : (xs ys : List ℕ) → all_distinct (xs ++ ys) ≡ true → Apart xs ys
+apart [] ys e = record { first = refl; second = e; across = tt }
+apart (x ∷ xs) ys e =
+    let k = and_parts (not (contains_number x (xs ++ ys))) (all_distinct (xs ++ ys)) e in
+    let none = both_false (contains_number x xs) (contains_number x ys) (sym (contains_both x xs ys) ∙ not-true (contains_number x (xs ++ ys)) k.0) in
+    let rest : Apart xs ys = apart xs ys k.1 in
+    record { first = and_from (not (contains_number x xs)) (all_distinct xs) (ap not none.0) rest.first; second = rest.second; across = (none.1, rest.across) }
+
+pub of_mapped : {X Y : Type 0} (P : Y → Type 0) (f : X → Y) (xs : List X) → AllByRecursion P (map f xs) → AllByRecursion (λ x. P (f x)) xs
+of_mapped P f [] h = tt
+of_mapped P f (x ∷ xs) h = (h.0, of_mapped P f xs h.1)
+
+-- a movement has the stamp of no completion
+none_at_completion : (t : Tables) (ds : List TradeRow) → AllByRecursion (λ n. contains_number n (movement_stamps t) ≡ false) (completion_stamps t) → AllByRecursion (IsDone t) ds
+    → AllByRecursion (λ d. contains_number (moment_of (trade_of_row t d)) (movement_stamps t) ≡ false) ds
+none_at_completion t ds h done =
+    All-map ds (λ d k. subst (λ (n : ℕ). contains_number n (movement_stamps t) ≡ false) k.stamp
+    (of_all (λ row. contains_number row.stamp (movement_stamps t) ≡ false) (completions t) k.row
+    (of_mapped (λ n. contains_number n (movement_stamps t) ≡ false) (λ row. row.stamp) (completions t) h) k.counted)) done
+
+made_at : (o : Option ℕ) (n : ℕ) (m : Movement) → n ≡ m.stamp → option_map_or (λ last. nat_le n last) o false ≡ true → IsMadeBy o m
+made_at None n m e h = false_true h
+made_at (Some last) n m e h = let k : n ≤ last = leb-true n last h in omega arith
+
+pub move_parts : (t : Tables) (r : MoveRow) → move_form t r ≡ true → (has_account t r.account ≡ true) × (is_stamp t r.stamp ≡ true)
+move_parts t r e =
+    let k = parts5 (is_move_id r.id) (has_account t r.account) (option_map_or (is_cash_of_trade t r) r.trade (is_movement r.name r.amount)) (is_stamp t r.stamp) (is_amount r.amount) e in (k.1, k.3)
+
+adopted_movements : (t : Tables) (ds : List TradeRow) → AllByRecursion (λ r. move_form t r ≡ true) t.moves
+    → AllByRecursion (λ d. contains_number (moment_of (trade_of_row t d)) (movement_stamps t) ≡ false) ds → all_distinct (movement_stamps t) ≡ true
+    → AreMovementsInOrder (map account_of_row t.accounts) t.last (map (trade_of_row t) ds) (map movement_of_row (filter (λ r. is_none r.trade) t.moves))
+adopted_movements t ds f h d =
+    let rows : List MoveRow = filter (λ r. is_none r.trade) t.moves in
+    let formed : AllByRecursion (λ r. move_form t r ≡ true) rows = filtered_form f in
+    record {
+      holders = All-mapped (HasHolder (map account_of_row t.accounts)) movement_of_row rows
+          (All-map rows (λ r e. found_mapped (λ a. a.id == r.account) account_of_row t.accounts ∙ (move_parts t r e).0) formed);
+      early = All-mapped (IsMadeBy t.last) movement_of_row rows (All-map rows (λ r e. made_at t.last r.stamp (movement_of_row r) refl (move_parts t r e).1) formed);
+      apart = movements_apart t ds rows h d;
+    }
+  where
+    filtered_form : AllByRecursion (λ r. move_form t r ≡ true) t.moves → AllByRecursion (λ r. move_form t r ≡ true) (filter (λ r. is_none r.trade) t.moves)
+    filtered_form g = All-map (filter (λ r. is_none r.trade) t.moves) (λ r k. k.0) (filtered (λ r. move_form t r ≡ true) (λ r. is_none r.trade) t.moves g)
+
 -- ---- together
 
-pub adopted_books : (t : Tables) → has_form t ≡ true → has_status_rows t ≡ true → IsBooks (base_of t)
+pub adopted_books : (schema : Schema) (t : Tables) → has_form schema t ≡ true → has_status_rows t ≡ true → IsBooks (base_of t)
 unfolding base_of has_status_rows
-adopted_books t f s =
-    let p : FormParts t = form_parts t f in
+adopted_books schema t f s =
+    let p : FormParts schema t = form_parts schema t f in
     let k : KeyParts t = key_parts t p.keys in
-    let sp = and_parts (list_all (trade_status t) t.trades) (all_distinct (completion_stamps t)) s in
+    let sp = and_parts (list_all (trade_status t) t.trades) (all_distinct (completion_stamps t ++ movement_stamps t)) s in
+    let apart_stamps : Apart (completion_stamps t) (movement_stamps t) = apart (completion_stamps t) (movement_stamps t) sp.1 in
     let ways : AllByRecursion (λ r. trade_status t r ≡ true) t.trades = list_all_true (trade_status t) t.trades sp.0 in
     let accounts : AllByRecursion (λ a. account_form t a ≡ true) t.accounts = list_all_true (account_form t) t.accounts p.accounts in
-    let trades : AllByRecursion (λ r. trade_form t r ≡ true) t.trades = list_all_true (trade_form t) t.trades p.trades in
+    let trades : AllByRecursion (λ r. trade_form schema t r ≡ true) t.trades = list_all_true (trade_form schema t) t.trades p.trades in
     let done : AllByRecursion (IsDone t) (done_rows t) = done_all t ways in
     record {
       parties = record {
@@ -279,12 +362,12 @@ adopted_books t f s =
         symbols = distinct_symbols t t.securities k.securities;
         volumes = All-mapped HasVolume (security_of_row t) t.securities
             (All-of t.securities (λ s. within_volume t t.last_trades s (All-map t.last_trades (volume_of t) (list_all_true (last_trade_form t) t.last_trades p.last_trades))));
-        bands = All-map t.bands bounds_of (list_all_true band_form t.bands p.bands);
+        bands = All-map t.bands (bounds_of schema) (list_all_true (band_form schema) t.bands p.bands);
         apart = bands_apart t.bands p.apart;
       };
       trades = record {
-        accounts = All-mapped (KnowsAccount (base_of t)) (trade_of_row t) t.trades (All-map t.trades (knows_account t) trades);
-        securities = All-mapped (KnowsSecurity (base_of t)) (trade_of_row t) t.trades (All-map t.trades (knows_security t) trades);
+        accounts = All-mapped (KnowsAccount (base_of t)) (trade_of_row t) t.trades (All-map t.trades (knows_account schema t) trades);
+        securities = All-mapped (KnowsSecurity (base_of t)) (trade_of_row t) t.trades (All-map t.trades (knows_security schema t) trades);
         numbered = numbered t 1 t.trades p.numbers;
         ways = All-mapped WaitsFirst (trade_of_row t) t.trades (All-map t.trades (waits_first t) ways);
         completions = All-mapped CompletesFirst (trade_of_row t) t.trades (All-map t.trades (completes_first t) ways);
@@ -294,7 +377,10 @@ adopted_books t f s =
             (All-mapped (IsEarly t.last) (trade_of_row t) (done_rows t)
             (All-map (done_rows t) (λ r d. early_of t r (list_all_true (history_form t) t.history p.history) d) done));
         moments = subst MomentsApart (sym (filter-map is_completed (trade_of_row t) t.trades))
-            (moments_apart t (done_rows t) sp.1 (climbs_filter trade_key (λ r. is_completed (trade_of_row t r)) t.trades k.trades) done);
+            (moments_apart t (done_rows t) apart_stamps.first (climbs_filter trade_key (λ r. is_completed (trade_of_row t r)) t.trades k.trades) done);
         clock = clock_of t.last p.clock;
       };
+      movements = subst (λ ts. AreMovementsInOrder (map account_of_row t.accounts) t.last ts (map movement_of_row (filter (λ r. is_none r.trade) t.moves)))
+          (sym (filter-map is_completed (trade_of_row t) t.trades))
+          (adopted_movements t (done_rows t) (list_all_true (move_form t) t.moves p.moves) (none_at_completion t (done_rows t) apart_stamps.across done) apart_stamps.second);
     }

@@ -5,11 +5,11 @@ use Rattle.std.specs.List.{AllByRecursion}
 use Rattle.std.proofs.lemmas.Bool.{eqb-true, eq-eqb, or_left}
 use Rattle.std.proofs.lemmas.Bool.Decides.{nat_tests}
 use Rattle.brk_money.specs.Kinds.{same_status}
-use Rattle.brk_money.specs.Moments.{day_of, last_day}
+use Rattle.brk_money.specs.Moments.{last_day}
 use Rattle.brk_money.specs.declared.status.Status.TheVariants.{Completed}
 use Rattle.brk_model.specs.Lists.{sort_by_key}
 use Rattle.brk_model.specs.Records.{Mark}
-use Rattle.brk_model.specs.Derived.{settlement_days}
+use Rattle.brk_model.specs.Derived.{due_after}
 use Rattle.brk_model.specs.Tables.{Tables, TradeRow, HistoryRow, history_rows}
 use Rattle.brk_model.specs.Joins.{history_in}
 use Rattle.brk_model.specs.Keys.{number, key_before, by_key, insert_row, history_key, trade_key}
@@ -103,7 +103,7 @@ in_own t h m e =
     (in_filter (λ k. k.trade == f.item.id) t.history h m (eq-eqb h.trade f.item.id (sym (eqb-true f.item.id h.trade f.passes))))
 
 trade_there : (t : Tables) (h : HistoryRow) → history_form t h ≡ true → has_trade t h.trade ≡ true
-trade_there t h e = (parts3 (has_trade t h.trade) (is_stamp t h.stamp) (not (same_status h.status Completed) || nat_le (day_of h.stamp + settlement_days) last_day) e).0
+trade_there t h e = (parts3 (has_trade t h.trade) (is_stamp t h.stamp) (not (same_status h.status Completed) || nat_le (due_after t.rule h.stamp) last_day) e).0
 
 both_all : {X : Type 0} (P Q : X → Type 0) (xs : List X) → AllByRecursion P xs → AllByRecursion Q xs → AllByRecursion (λ x. P x × Q x) xs
 both_all P Q [] g h = tt

@@ -1,5 +1,5 @@
 -- Rows that pass are the tables of the base that they give.
-use Rattle.std.proofs.Common.{◌≡◌, ℕ, true, List, [], ◌∷◌, refl, sym, ◌∙◌, ap, subst, map, ℤ, Option, Some, None, inl, inr}
+use Rattle.std.proofs.Common.{◌≡◌, ℕ, true, List, [], ◌∷◌, ◌++◌, refl, sym, ◌∙◌, ap, subst, map, ℤ, Option, Some, None, inl, inr}
 use Rattle.std.specs.Prelude.{◌&&◌, nat_le, find, bytes_eq}
 use Rattle.std.specs.List.{AllByRecursion, list_any, list_all}
 use Rattle.std.specs.Option.{option_map_or}
@@ -11,13 +11,15 @@ use Rattle.brk_model.specs.Limits.{greatest_amount}
 use Rattle.brk_model.specs.Lists.{all_distinct}
 use Rattle.brk_model.specs.Records.{Account, Broker, Trade}
 use Rattle.brk_model.specs.Base.{completed}
-use Rattle.brk_model.specs.Tables.{Tables, AccountRow, BrokerRow, SecurityRow, LastTradeRow, TradeRow, account_row, broker_row, last_trade_row, security_row, tables_of, trade_row}
+use Rattle.brk_model.specs.Schemas.{Schema}
+use Rattle.brk_model.specs.Derived.{Posting, postings_of}
+use Rattle.brk_model.specs.Tables.{Tables, AccountRow, BrokerRow, SecurityRow, LastTradeRow, TradeRow, account_row, broker_row, last_trade_row, security_row, tables_at, trade_row}
 use Rattle.brk_model.specs.Sheets.{sheets_of}
 use Rattle.brk_model.specs.Keys.{word, by_key, account_key, broker_key, last_trade_key, security_key, trade_key, kept_key, customer_key, permission_key, charge_key, band_key, tax_rate_key, customer_tax_key}
 use Rattle.brk_model.specs.Forms.{is_exchange, is_name, is_symbol}
 use Rattle.brk_model.specs.Adopted.{account_of_row, base_of, no_last_trade, security_of_row, security_of_rows, trade_of_row}
 use Rattle.brk_model.specs.Form.{has_form, has_security, history_form, is_price, is_stamp, last_trade_form, security_form}
-use Rattle.brk_model.specs.Ways.{completion_stamps, has_status_rows, trade_status}
+use Rattle.brk_model.specs.Ways.{completion_stamps, has_status_rows, movement_stamps, trade_status}
 use Rattle.brk_model.specs.Audit.{Holds, expected}
 use Rattle.brk_book_laws.proofs.Same.{All-map, All-of}
 use Rattle.brk_book_laws.proofs.Reading.{some-is-any}
@@ -54,9 +56,9 @@ brokers_there accounts done bs c =
     ∙ stays broker_key (map (λ b. broker_row accounts done (record { id = b.id; name = b.name })) bs)
     (climbs_map broker_key broker_key (λ b. broker_row accounts done (record { id = b.id; name = b.name })) bs (λ b. refl) c)
 
-adopted_brokers : (t : Tables) → Climbs broker_key t.brokers → Holds condition.Count t → Holds condition.Commission t → (expected t).brokers ≡ t.brokers
-unfolding Holds base_of sheets_of tables_of
-adopted_brokers t c e f =
+adopted_brokers : (schema : Schema) (t : Tables) → Climbs broker_key t.brokers → Holds schema condition.Count t → Holds schema condition.Commission t → (expected schema t).brokers ≡ t.brokers
+unfolding Holds base_of sheets_of tables_at
+adopted_brokers schema t c e f =
     let accounts : List Account = (base_of t).accounts in
     let done : List Trade = completed (base_of t) in
     let there = brokers_there accounts done t.brokers c in
@@ -76,21 +78,21 @@ accounts_same n (a ∷ rows) e =
     let ih = accounts_same n rows ns in
     λ i. record a { balance = sym g i } ∷ ih i
 
-accounts_there : (accounts : List Account) (done : List Trade) (rows : List AccountRow) → Climbs account_key rows
-    → by_key account_key (map (account_row accounts done) (map account_of_row rows)) ≡ map (λ a. account_row accounts done (account_of_row a)) rows
-accounts_there accounts done rows c =
-    ap (by_key account_key) (map-map (account_row accounts done) account_of_row rows)
-    ∙ stays account_key (map (λ a. account_row accounts done (account_of_row a)) rows)
-    (climbs_map account_key account_key (λ a. account_row accounts done (account_of_row a)) rows (λ a. refl) c)
+accounts_there : (accounts : List Account) (posted : List Posting) (rows : List AccountRow) → Climbs account_key rows
+    → by_key account_key (map (account_row accounts posted) (map account_of_row rows)) ≡ map (λ a. account_row accounts posted (account_of_row a)) rows
+accounts_there accounts posted rows c =
+    ap (by_key account_key) (map-map (account_row accounts posted) account_of_row rows)
+    ∙ stays account_key (map (λ a. account_row accounts posted (account_of_row a)) rows)
+    (climbs_map account_key account_key (λ a. account_row accounts posted (account_of_row a)) rows (λ a. refl) c)
 
-adopted_accounts : (t : Tables) → Climbs account_key t.accounts → Holds condition.Balance t → (expected t).accounts ≡ t.accounts
-unfolding Holds base_of sheets_of tables_of with_balance
-adopted_accounts t c e =
+adopted_accounts : (schema : Schema) (t : Tables) → Climbs account_key t.accounts → Holds schema condition.Balance t → (expected schema t).accounts ≡ t.accounts
+unfolding Holds base_of sheets_of tables_at with_balance
+adopted_accounts schema t c e =
     let accounts : List Account = (base_of t).accounts in
-    let done : List Trade = completed (base_of t) in
-    let there = accounts_there accounts done t.accounts c in
-    there ∙ accounts_same (λ a. (account_row accounts done (account_of_row a)).balance) t.accounts
-    (e ∙ ap (map (λ a. a.balance)) there ∙ map-map (λ a. a.balance) (λ a. account_row accounts done (account_of_row a)) t.accounts)
+    let posted : List Posting = postings_of (base_of t) in
+    let there = accounts_there accounts posted t.accounts c in
+    there ∙ accounts_same (λ a. (account_row accounts posted (account_of_row a)).balance) t.accounts
+    (e ∙ ap (map (λ a. a.balance)) there ∙ map-map (λ a. a.balance) (λ a. account_row accounts posted (account_of_row a)) t.accounts)
 
 -- ---- securities and last trades
 
@@ -101,9 +103,9 @@ security_back t s = by_found (find (λ l. bytes_eq l.symbol s.symbol) t.last_tra
     by_found None = refl
     by_found (Some l) = refl
 
-adopted_securities : (t : Tables) → Climbs security_key t.securities → (expected t).securities ≡ t.securities
-unfolding base_of sheets_of tables_of
-adopted_securities t c =
+adopted_securities : (schema : Schema) (t : Tables) → Climbs security_key t.securities → (expected schema t).securities ≡ t.securities
+unfolding base_of sheets_of tables_at
+adopted_securities schema t c =
     ap (by_key security_key) (map-map security_row (security_of_row t) t.securities ∙ map_back (λ s. security_row (security_of_row t s)) t.securities (All-of t.securities (security_back t)))
     ∙ stays security_key t.securities c
 
@@ -159,10 +161,10 @@ all_mapped : {X Y : Type 0} (P : Y → Type 0) (f : X → Y) (xs : List X) → A
 all_mapped P f [] h = tt
 all_mapped P f (x ∷ xs) h = (h.0, all_mapped P f xs h.1)
 
-adopted_last_trades : (t : Tables) → Climbs security_key t.securities → Climbs last_trade_key t.last_trades
-    → AllByRecursion (λ s. security_form t s ≡ true) t.securities → AllByRecursion (λ l. last_trade_form t l ≡ true) t.last_trades → (expected t).last_trades ≡ t.last_trades
-unfolding base_of sheets_of tables_of
-adopted_last_trades t c d g h =
+adopted_last_trades : (schema : Schema) (t : Tables) → Climbs security_key t.securities → Climbs last_trade_key t.last_trades
+    → AllByRecursion (λ s. security_form t s ≡ true) t.securities → AllByRecursion (λ l. last_trade_form t l ≡ true) t.last_trades → (expected schema t).last_trades ≡ t.last_trades
+unfolding base_of sheets_of tables_at
+adopted_last_trades schema t c d g h =
     let climb : Climbs last_trade_key (map (last_of t) t.securities) = climbs_map security_key last_trade_key (last_of t) t.securities (λ s i. word (symbol_of t s i) ∷ []) c in
     ap (by_key last_trade_key) (map-map last_trade_row (security_of_row t) t.securities) ∙ stays last_trade_key (map (last_of t) t.securities) climb
     ∙ same_rows last_trade_key (map (last_of t) t.securities) t.last_trades climb d
@@ -177,34 +179,34 @@ trade_back t r e =
     (λ i. record r { stamp = option_map_or (λ m. m.stamp) (l.is i) 0; status = option_map_or (λ m. m.status) (l.is i) Canceled })
     ∙ (λ i. record r { stamp = sym l.stamp i; status = sym (same_statuses r.status l.mark.status l.status) i })
 
-adopted_trades : (t : Tables) → Climbs trade_key t.trades → AllByRecursion (λ r. trade_status t r ≡ true) t.trades → (expected t).trades ≡ t.trades
-unfolding base_of sheets_of tables_of
-adopted_trades t c h =
+adopted_trades : (schema : Schema) (t : Tables) → Climbs trade_key t.trades → AllByRecursion (λ r. trade_status t r ≡ true) t.trades → (expected schema t).trades ≡ t.trades
+unfolding base_of sheets_of tables_at
+adopted_trades schema t c h =
     ap (by_key trade_key) (map-map trade_row (trade_of_row t) t.trades ∙ map_back (λ r. trade_row (trade_of_row t r)) t.trades (All-map t.trades (trade_back t) h))
     ∙ stays trade_key t.trades c
 
 -- ---- all tables
 
 -- what the conditions after those of form and status say
-pub record Derives (t : Tables) : Type 0 where
-  pub requests : Holds condition.Requests t
-  pub lots : Holds condition.Lots t
-  pub history : Holds condition.History t
-  pub summary : Holds condition.Summary t
-  pub count : Holds condition.Count t
-  pub commission : Holds condition.Commission t
-  pub settlement : Holds condition.Settlement t
-  pub cash : Holds condition.Cash t
-  pub balance : Holds condition.Balance t
+pub record Derives (schema : Schema) (t : Tables) : Type 0 where
+  pub requests : Holds schema condition.Requests t
+  pub lots : Holds schema condition.Lots t
+  pub history : Holds schema condition.History t
+  pub summary : Holds schema condition.Summary t
+  pub count : Holds schema condition.Count t
+  pub commission : Holds schema condition.Commission t
+  pub settlement : Holds schema condition.Settlement t
+  pub cash : Holds schema condition.Cash t
+  pub balance : Holds schema condition.Balance t
 
-histories : (t : Tables) → KeyParts t → AllByRecursion (λ h. history_form t h ≡ true) t.history → (expected t).history ≡ t.history
-unfolding base_of sheets_of tables_of
-histories t k h = adopted_history t k.history k.trades h
+histories : (schema : Schema) (t : Tables) → KeyParts t → AllByRecursion (λ h. history_form t h ≡ true) t.history → (expected schema t).history ≡ t.history
+unfolding base_of sheets_of tables_at
+histories schema t k h = adopted_history t k.history k.trades h
 
-references : (t : Tables) → KeyParts t → ((expected t).kept ≡ t.kept) × ((expected t).customers ≡ t.customers) × ((expected t).permissions ≡ t.permissions)
-    × ((expected t).charges ≡ t.charges) × ((expected t).bands ≡ t.bands) × ((expected t).tax_rates ≡ t.tax_rates) × ((expected t).customer_taxes ≡ t.customer_taxes)
-unfolding base_of sheets_of tables_of
-references t k = (
+references : (schema : Schema) (t : Tables) → KeyParts t → ((expected schema t).kept ≡ t.kept) × ((expected schema t).customers ≡ t.customers) × ((expected schema t).permissions ≡ t.permissions)
+    × ((expected schema t).charges ≡ t.charges) × ((expected schema t).bands ≡ t.bands) × ((expected schema t).tax_rates ≡ t.tax_rates) × ((expected schema t).customer_taxes ≡ t.customer_taxes)
+unfolding base_of sheets_of tables_at
+references schema t k = (
   stays kept_key t.kept k.kept,
   stays customer_key t.customers k.customers,
   stays permission_key t.permissions k.permissions,
@@ -214,31 +216,36 @@ references t k = (
   stays customer_tax_key t.customer_taxes k.customer_taxes,
 )
 
-same_last : (t : Tables) → (expected t).last ≡ t.last
-unfolding base_of sheets_of tables_of
-same_last t = refl
+same_last : (schema : Schema) (t : Tables) → (expected schema t).last ≡ t.last
+unfolding base_of sheets_of tables_at
+same_last schema t = refl
 
-derived : (t : Tables) → Derives t → ((expected t).requests ≡ t.requests) × ((expected t).holdings ≡ t.holdings) × ((expected t).summaries ≡ t.summaries)
-    × ((expected t).holding_history ≡ t.holding_history) × ((expected t).settlements ≡ t.settlements) × ((expected t).cash ≡ t.cash)
+same_rule : (schema : Schema) (t : Tables) → (expected schema t).rule ≡ t.rule
+unfolding base_of sheets_of tables_at
+same_rule schema t = refl
+
+derived : (schema : Schema) (t : Tables) → Derives schema t → ((expected schema t).requests ≡ t.requests) × ((expected schema t).holdings ≡ t.holdings) × ((expected schema t).summaries ≡ t.summaries)
+    × ((expected schema t).holding_history ≡ t.holding_history) × ((expected schema t).settlements ≡ t.settlements) × ((expected schema t).cash ≡ t.cash) × ((expected schema t).moves ≡ t.moves)
 unfolding Holds
-derived t d = (sym d.requests, sym d.lots, sym d.summary, sym d.history, sym d.settlement, sym d.cash)
+derived schema t d = (sym d.requests, sym d.lots, sym d.summary, sym d.history, sym d.settlement, sym d.cash.0, sym d.cash.1)
 
-pub adopted_tables : (t : Tables) → has_form t ≡ true → has_status_rows t ≡ true → Derives t → expected t ≡ t
+pub adopted_tables : (schema : Schema) (t : Tables) → has_form schema t ≡ true → has_status_rows t ≡ true → Derives schema t → expected schema t ≡ t
 unfolding has_status_rows
-adopted_tables t f s d =
-    let p : FormParts t = form_parts t f in
+adopted_tables schema t f s d =
+    let p : FormParts schema t = form_parts schema t f in
     let k : KeyParts t = key_parts t p.keys in
     let ways : AllByRecursion (λ r. trade_status t r ≡ true) t.trades =
-    list_all_true (trade_status t) t.trades (and_parts (list_all (trade_status t) t.trades) (all_distinct (completion_stamps t)) s).0 in
-    let r = references t k in
-    let v = derived t d in
-    let last = same_last t in
-    let brokers = adopted_brokers t k.brokers d.count d.commission in
-    let accounts = adopted_accounts t k.accounts d.balance in
-    let securities = adopted_securities t k.securities in
-    let last_trades = adopted_last_trades t k.securities k.last_trades (list_all_true (security_form t) t.securities p.securities) (list_all_true (last_trade_form t) t.last_trades p.last_trades) in
-    let trades = adopted_trades t k.trades ways in
-    let history = histories t k (list_all_true (history_form t) t.history p.history) in
+    list_all_true (trade_status t) t.trades (and_parts (list_all (trade_status t) t.trades) (all_distinct (completion_stamps t ++ movement_stamps t)) s).0 in
+    let r = references schema t k in
+    let v = derived schema t d in
+    let last = same_last schema t in
+    let rule = same_rule schema t in
+    let brokers = adopted_brokers schema t k.brokers d.count d.commission in
+    let accounts = adopted_accounts schema t k.accounts d.balance in
+    let securities = adopted_securities schema t k.securities in
+    let last_trades = adopted_last_trades schema t k.securities k.last_trades (list_all_true (security_form t) t.securities p.securities) (list_all_true (last_trade_form t) t.last_trades p.last_trades) in
+    let trades = adopted_trades schema t k.trades ways in
+    let history = histories schema t k (list_all_true (history_form t) t.history p.history) in
     λ i. record {
       last = last i;
       kept = r.0 i;
@@ -260,4 +267,6 @@ adopted_tables t f s d =
       holding_history = v.3 i;
       settlements = v.4 i;
       cash = v.5 i;
+      moves = v.6 i;
+      rule = rule i;
     }

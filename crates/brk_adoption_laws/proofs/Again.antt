@@ -1,6 +1,6 @@
 -- The base that the tables of a base give is that base, with its reference records by rising key.
 use Rattle.std.proofs.Common.{◌≡◌, ℕ, ◌==◌, Bool, true, false, not, cond, List, [], ◌∷◌, ◌++◌, refl, sym, ◌∙◌, ap, subst, map, filter, arith, Some, None}
-use Rattle.std.specs.Prelude.{⊤, ◌&&◌, nat_lt, find, flat_map, option_map, bytes_eq}
+use Rattle.std.specs.Prelude.{⊤, ◌&&◌, nat_lt, find, flat_map, is_none, option_map, bytes_eq}
 use Rattle.std.specs.List.{AllByRecursion}
 use Rattle.std.specs.Option.{option_map_or}
 use Rattle.std.proofs.lemmas.Bool.{and_parts, eq-eqb}
@@ -8,13 +8,13 @@ use Rattle.std.proofs.lemmas.Bool.Decides.{nat_tests}
 use Rattle.std.proofs.lemmas.Slice.Eq.{bytes_eq-Decides}
 use Rattle.brk_money.specs.Spelling.{Text}
 use Rattle.brk_model.specs.Lists.{insert_by, sort_by, sort_by_key}
-use Rattle.brk_model.specs.Records.{Mark, Security, Trade}
+use Rattle.brk_model.specs.Records.{Mark, Movement, Security, Trade}
 use Rattle.brk_model.specs.Base.{Base, completed, is_completed, security_with}
-use Rattle.brk_model.specs.Derived.{cash_trades}
-use Rattle.brk_model.specs.Tables.{HistoryRow, account_row, broker_row, cash_row, history_rows, last_trade_row, security_row, settlement_row, tables_of, trade_row}
+use Rattle.brk_model.specs.Derived.{Posting, cash_trades, in_turn, posting_of_movement, posting_of_trade, postings_of}
+use Rattle.brk_model.specs.Tables.{HistoryRow, account_row, broker_row, history_rows, last_trade_row, security_row, settlement_row, tables_at, trade_row}
 use Rattle.brk_model.specs.Sheets.{sheets, sheets_of}
 use Rattle.brk_model.specs.Keys.{number, word, by_key, row_before, account_key, broker_key, history_key, security_key}
-use Rattle.brk_model.specs.Adopted.{account_of_row, base_of, marks_in, no_last_trade, security_of_row, security_of_rows, trade_of_row}
+use Rattle.brk_model.specs.Adopted.{account_of_row, base_of, is_posted_by, marks_in, movement_of_row, no_last_trade, posting_of_cash, posting_of_move, postings_in, security_of_row, security_of_rows, trade_of_row}
 use Rattle.brk_model.specs.Ways.{is_rising}
 use Rattle.brk_model.specs.Names.{NumberedFrom}
 use Rattle.brk_book_laws.specs.Books.{DistinctSymbols, IsBooks}
@@ -26,6 +26,7 @@ use Rattle.brk_book_laws.proofs.LotReading.{All-sort}
 use Rattle.brk_book_laws.proofs.Reading.{find-id, find-map}
 use Rattle.brk_book_laws.proofs.TermReading.{reads_last_trade}
 use Rattle.brk_book_laws.proofs.TradeReading.{trades_in_order}
+use Rattle.brk_book_laws.proofs.MoveReading.{movements_back, rows_posted, turn_filter}
 use Rattle.brk_book_laws.proofs.Each.{AllCommute, Commute, each, each_map, each_sort}
 use Rattle.brk_adoption_laws.specs.Told.{HasItsWords, IsTold, StampsRise, sorted}
 use Rattle.brk_adoption_laws.proofs.Members.{map-map, map_back}
@@ -100,6 +101,11 @@ statuses_again id ms r =
     ∙ each_map (λ h. put (mark_of h)) (row_of id) ms []
     ∙ sym (sort_each ms) ∙ sort_sorted (λ x y. nat_lt x.stamp y.stamp) ms (rise_sorted ms r)
 
+-- no row is left in the table of the first schema
+no_cash : (base : Base) → (sheets base).cash ≡ []
+unfolding sheets_of tables_at sort_by
+no_cash base = refl
+
 -- ---- one trade among others
 
 pub find-append : {X : Type 0} (p : X → Bool) (xs ys : List X) → NonePass p xs → find p (xs ++ ys) ≡ find p ys
@@ -126,6 +132,21 @@ found_among q xs t ys g h =
     by_test : (b : Bool) → find (λ u. u.id == t.id) (cond b (t ∷ filter q ys) (filter q ys)) ≡ cond b (Some t) None
     by_test true = ap (λ b. cond b (Some t) (find (λ u. u.id == t.id) (filter q ys))) (eq-eqb t.id t.id refl)
     by_test false = find-none (λ u. u.id == t.id) (filter q ys) (none_filtered (λ u. u.id == t.id) q ys h)
+
+-- of the trades that pass a test, that one alone has the id
+alone_among : (q : Trade → Bool) (xs : List Trade) (t : Trade) (ys : List Trade) → NonePass (λ u. u.id == t.id) xs → NonePass (λ u. u.id == t.id) ys
+    → filter (λ u. u.id == t.id) (filter q (xs ++ t ∷ ys)) ≡ cond (q t) (t ∷ []) []
+alone_among q xs t ys g h =
+    ap (filter (λ u. u.id == t.id)) (filter-append q xs (t ∷ ys)) ∙ filter-append (λ u. u.id == t.id) (filter q xs) (filter q (t ∷ ys))
+    ∙ ap (λ us. us ++ filter (λ u. u.id == t.id) (filter q (t ∷ ys))) (filter-none (λ u. u.id == t.id) (filter q xs) (none_filtered (λ u. u.id == t.id) q xs g))
+    ∙ by_test (q t)
+  where
+    none : filter (λ u. u.id == t.id) (filter q ys) ≡ []
+    none = filter-none (λ u. u.id == t.id) (filter q ys) (none_filtered (λ u. u.id == t.id) q ys h)
+
+    by_test : (b : Bool) → filter (λ u. u.id == t.id) (cond b (t ∷ filter q ys) (filter q ys)) ≡ cond b (t ∷ []) []
+    by_test true = ap (λ b. cond b (t ∷ filter (λ u. u.id == t.id) (filter q ys)) (filter (λ u. u.id == t.id) (filter q ys))) (eq-eqb t.id t.id refl) ∙ ap (λ us. t ∷ us) none
+    by_test false = none
 
 others_rows : (id : ℕ) (ts : List Trade) → NonePass (λ u. u.id == id) ts → NonePass (λ h. h.trade == id) (flat_map history_rows ts)
 others_rows id [] h = tt
@@ -177,7 +198,7 @@ both_all P Q (x ∷ xs) g h = ((g.0, h.0), both_all P Q xs g.1 h.1)
 pub record IsRead (base : Base) (t : Trade) : Type 0 where
   pub history : filter (λ h. h.trade == t.id) (flat_map history_rows base.trades) ≡ history_rows t
   pub done : find (λ u. u.id == t.id) (completed base) ≡ cond (is_completed t) (Some t) None
-  pub cash : find (λ u. u.id == t.id) (cash_trades (completed base)) ≡ cond (is_completed t && t.is_cash) (Some t) None
+  pub cash_alone : filter (λ u. u.id == t.id) (cash_trades (completed base)) ≡ cond (is_completed t && t.is_cash) (t ∷ []) []
 
 filter-filter : {X : Type 0} (p q : X → Bool) (xs : List X) → filter p (filter q xs) ≡ filter (λ x. q x && p x) xs
 filter-filter p q [] = refl
@@ -192,12 +213,12 @@ pub reads : (base : Base) → NumberedFrom 1 base.trades → AllByRecursion (IsR
 reads base k = each_place (IsRead base) 1 base.trades [] base.trades refl k (λ xs t ys e g h. record {
   history = ap (λ ts. filter (λ h. h.trade == t.id) (flat_map history_rows ts)) e ∙ own_history xs t ys g h;
   done = ap (λ ts. find (λ u. u.id == t.id) (filter is_completed ts)) e ∙ found_among is_completed xs t ys g h;
-  cash = ap (find (λ u. u.id == t.id)) (filter-filter (λ u. u.is_cash) is_completed base.trades ∙ ap (filter (λ u. is_completed u && u.is_cash)) e)
-      ∙ found_among (λ u. is_completed u && u.is_cash) xs t ys g h;
+  cash_alone = ap (filter (λ u. u.id == t.id)) (filter-filter (λ u. u.is_cash) is_completed base.trades ∙ ap (filter (λ u. is_completed u && u.is_cash)) e)
+      ∙ alone_among (λ u. is_completed u && u.is_cash) xs t ys g h;
 })
 
 pub marks_again : (base : Base) (t : Trade) → IsRead base t → StampsRise t → marks_in (sheets base) t.id ≡ t.marks
-unfolding sheets_of tables_of
+unfolding sheets_of tables_at
 marks_again base t r e =
     ap (λ rows. sort_by_key (λ m. m.stamp) (map mark_of rows))
     (sym (by_key-filter history_key (λ h. h.trade == t.id) (flat_map history_rows base.trades)) ∙ ap (by_key history_key) r.history)
@@ -208,21 +229,71 @@ word_if : {R : Type 0} (w : R → Text) (row : Trade → R) (t : Trade) (text : 
 word_if w row t text true e f = e
 word_if w row t text false e f = sym (f refl)
 
+-- the postings of the tables of a base are its postings in turn
+pub posted_in : (base : Base) → postings_in (sheets base) ≡ in_turn (postings_of base)
+posted_in base = ap (λ rows. rows ++ map posting_of_move (sheets base).moves) (none_left base) ∙ rows_posted base
+  where
+    none_left : (base : Base) → map (posting_of_cash (sheets base)) (sheets base).cash ≡ []
+    none_left base = ap (map (posting_of_cash (sheets base))) (no_cash base)
+
 cash_type_again : (base : Base) (t : Trade) → IsRead base t → HasItsWords t → option_map_or (λ s. s.cash_type) (find (λ s. s.trade == t.id) (sheets base).settlements) [] ≡ t.cash_type
-unfolding sheets_of tables_of
+unfolding sheets_of tables_at
 cash_type_again base t r w =
     ap (λ o. option_map_or (λ s. s.cash_type) o [])
-    (find-id (λ s. s.trade) t.id (map (settlement_row base.accounts) (completed base)) ∙ find-map (λ s. s.trade == t.id) (settlement_row base.accounts) (completed base)
-    ∙ ap (option_map (settlement_row base.accounts)) r.done)
-    ∙ word_if (λ s. s.cash_type) (settlement_row base.accounts) t t.cash_type (is_completed t) refl w.settled
+    (find-id (λ s. s.trade) t.id (map (settlement_row base.accounts base.rule) (completed base)) ∙ find-map (λ s. s.trade == t.id) (settlement_row base.accounts base.rule) (completed base)
+    ∙ ap (option_map (settlement_row base.accounts base.rule)) r.done)
+    ∙ word_if (λ s. s.cash_type) (settlement_row base.accounts base.rule) t t.cash_type (is_completed t) refl w.settled
 
-cash_name_again : (base : Base) (t : Trade) → IsRead base t → HasItsWords t → option_map_or (λ c. c.name) (find (λ c. c.trade == t.id) (sheets base).cash) [] ≡ t.cash_name
-unfolding sheets_of tables_of
+-- the posting of a trade among all of them
+pub posting_again : (base : Base) (t : Trade) → IsRead base t → filter (is_posted_by t.id) (postings_of base) ≡ cond (is_completed t && t.is_cash) (posting_of_trade base.accounts t ∷ []) []
+posting_again base t r =
+    filter-append (is_posted_by t.id) (map (posting_of_trade base.accounts) (cash_trades (completed base))) (map posting_of_movement base.movements)
+    ∙ (λ i. of_trades (cash_trades (completed base)) i ++ of_movements base.movements i) ∙ append_none (map (posting_of_trade base.accounts) (filter (λ u. u.id == t.id) (cash_trades (completed base))))
+    ∙ ap (map (posting_of_trade base.accounts)) r.cash_alone ∙ one_posting (is_completed t && t.is_cash)
+  where
+    of_trades : (ts : List Trade) → filter (is_posted_by t.id) (map (posting_of_trade base.accounts) ts) ≡ map (posting_of_trade base.accounts) (filter (λ u. u.id == t.id) ts)
+    of_trades [] = refl
+    of_trades (u ∷ us) = by_test (u.id == t.id) (of_trades us)
+      where
+        by_test : (b : Bool) → filter (is_posted_by t.id) (map (posting_of_trade base.accounts) us) ≡ map (posting_of_trade base.accounts) (filter (λ u. u.id == t.id) us)
+            → cond b (posting_of_trade base.accounts u ∷ filter (is_posted_by t.id) (map (posting_of_trade base.accounts) us)) (filter (is_posted_by t.id) (map (posting_of_trade base.accounts) us))
+            ≡ map (posting_of_trade base.accounts) (cond b (u ∷ filter (λ u. u.id == t.id) us) (filter (λ u. u.id == t.id) us))
+        by_test true ih = ap (λ ps. posting_of_trade base.accounts u ∷ ps) ih
+        by_test false ih = ih
+
+    of_movements : (ms : List Movement) → filter (is_posted_by t.id) (map posting_of_movement ms) ≡ []
+    of_movements [] = refl
+    of_movements (m ∷ ms) = of_movements ms
+
+    one_posting : (b : Bool) → map (posting_of_trade base.accounts) (cond b (t ∷ []) []) ≡ cond b (posting_of_trade base.accounts t ∷ []) []
+    one_posting true = refl
+    one_posting false = refl
+
+-- what is found is the first of those that pass
+pub found_first : {X : Type 0} (p : X → Bool) (xs : List X) → find p xs ≡ find (λ x. true) (filter p xs)
+found_first p [] = refl
+found_first {X = X} p (x ∷ xs) = by_test (p x) (found_first p xs)
+  where
+    by_test : (b : Bool) → find p xs ≡ find (λ x. true) (filter p xs) → cond b (Some x) (find p xs) ≡ find (λ x. true) (cond b (x ∷ filter p xs) (filter p xs))
+    by_test true ih = refl
+    by_test false ih = ih
+
+pub turn_one : (b : Bool) (p : Posting) → in_turn (cond b (p ∷ []) []) ≡ cond b (p ∷ []) []
+unfolding sort_by
+turn_one true p = refl
+turn_one false p = refl
+
+cash_name_again : (base : Base) (t : Trade) → IsRead base t → HasItsWords t → option_map_or (λ p. p.name) (find (is_posted_by t.id) (postings_in (sheets base))) [] ≡ t.cash_name
 cash_name_again base t r w =
-    ap (λ o. option_map_or (λ c. c.name) o [])
-    (find-id (λ c. c.trade) t.id (map (cash_row base.accounts) (cash_trades (completed base))) ∙ find-map (λ c. c.trade == t.id) (cash_row base.accounts) (cash_trades (completed base))
-    ∙ ap (option_map (cash_row base.accounts)) r.cash)
-    ∙ word_if (λ c. c.name) (cash_row base.accounts) t t.cash_name (is_completed t && t.is_cash) refl w.moved
+    let done : Bool = is_completed t && t.is_cash in
+    ap (λ ps. option_map_or (λ p. p.name) (find (is_posted_by t.id) ps) []) (posted_in base)
+    ∙ ap (λ o. option_map_or (λ p. p.name) o []) (found_first (is_posted_by t.id) (in_turn (postings_of base))
+    ∙ ap (find (λ p. true)) (turn_filter (is_posted_by t.id) (postings_of base) ∙ ap in_turn (posting_again base t r) ∙ turn_one done (posting_of_trade base.accounts t)))
+    ∙ by_test done refl
+  where
+    by_test : (b : Bool) → is_completed t && t.is_cash ≡ b → option_map_or (λ p. p.name) (find (λ p. true) (cond b (posting_of_trade base.accounts t ∷ []) [])) [] ≡ t.cash_name
+    by_test true e = refl
+    by_test false e = sym (w.moved e)
 
 trade_again : (base : Base) (t : Trade) → IsRead base t → StampsRise t → HasItsWords t → trade_of_row (sheets base) (trade_row t) ≡ t
 trade_again base t r s w = λ i. record t {
@@ -268,7 +339,7 @@ security_again base s e =
     (reads_last_trade base s.symbol ∙ ap (option_map last_trade_row) e)
 
 securities_again : (base : Base) → IsBooks base → map (security_of_row (sheets base)) (sheets base).securities ≡ by_key (λ s. word s.symbol ∷ []) base.securities
-unfolding sheets_of tables_of
+unfolding sheets_of tables_at
 securities_again base books =
     ap (map (security_of_row (sheets base))) (by_key-map (λ s. word s.symbol ∷ []) security_key security_row base.securities (λ s. refl))
     ∙ map-map (security_of_row (sheets base)) security_row (by_key (λ s. word s.symbol ∷ []) base.securities)
@@ -279,7 +350,7 @@ securities_again base books =
 -- ---- brokers and accounts
 
 brokers_again : (base : Base) → map (λ b. record { id = b.id; name = b.name }) (sheets base).brokers ≡ by_key (λ b. number b.id ∷ []) base.brokers
-unfolding sheets_of tables_of
+unfolding sheets_of tables_at
 brokers_again base =
     let row = broker_row base.accounts (completed base) in
     ap (map (λ b. record { id = b.id; name = b.name })) (by_key-map (λ b. number b.id ∷ []) broker_key row base.brokers (λ b. refl))
@@ -287,18 +358,35 @@ brokers_again base =
     ∙ map_back (λ b. record { id = b.id; name = b.name }) (by_key (λ b. number b.id ∷ []) base.brokers) (All-of (by_key (λ b. number b.id ∷ []) base.brokers) (λ b. refl))
 
 accounts_again : (base : Base) → map account_of_row (sheets base).accounts ≡ by_key (λ a. number a.id ∷ []) base.accounts
-unfolding sheets_of tables_of
+unfolding sheets_of tables_at
 accounts_again base =
-    let row = account_row base.accounts (completed base) in
+    let row = account_row base.accounts (postings_of base) in
     ap (map account_of_row) (by_key-map (λ a. number a.id ∷ []) account_key row base.accounts (λ a. refl))
     ∙ map-map account_of_row row (by_key (λ a. number a.id ∷ []) base.accounts)
     ∙ map_back (λ a. account_of_row (row a)) (by_key (λ a. number a.id ∷ []) base.accounts) (All-of (by_key (λ a. number a.id ∷ []) base.accounts) (λ a. refl))
 
+-- ---- movements
+
+risen : (ms : List Movement) → is_rising (map (λ m. m.stamp) ms) ≡ true → Sorted (λ x y. nat_lt x.stamp y.stamp) ms
+risen [] e = tt
+risen (m ∷ []) e = (tt, tt)
+risen (m ∷ n ∷ ms) e =
+    let p = and_parts (nat_lt m.stamp n.stamp) (is_rising (map (λ m. m.stamp) (n ∷ ms))) e in
+    let s : Sorted (λ x y. nat_lt x.stamp y.stamp) (n ∷ ms) = risen (n ∷ ms) p.1 in
+    ((back m.stamp n.stamp p.0, All-map ms (λ o h. not_before m.stamp n.stamp o.stamp p.0 h) s.0), s)
+  where
+    not_before : (a b c : ℕ) → nat_lt a b ≡ true → nat_lt c b ≡ false → nat_lt c a ≡ false
+    not_before a b c g h = grind (arith, nat_tests)
+
+pub movements_again : (base : Base) → IsTold base → map movement_of_row (filter (λ r. is_none r.trade) (sheets base).moves) ≡ base.movements
+movements_again base told = movements_back base ∙ sort_sorted (λ x y. nat_lt x.stamp y.stamp) base.movements (risen base.movements told.movements)
+
 pub base_again : (base : Base) → IsBooks base → IsTold base → base_of (sheets base) ≡ sorted base
-unfolding base_of sheets_of tables_of
+unfolding base_of sheets_of tables_at
 base_again base books told = λ i. record (sorted base) {
   brokers = brokers_again base i;
   accounts = accounts_again base i;
   securities = securities_again base books i;
   trades = trades_again base books told i;
+  movements = movements_again base told i;
 }

@@ -1,27 +1,32 @@
 -- The statuses of the tables of a base are right where its trades go a way.
 use Rattle.std.proofs.Common.{◌≡◌, ℕ, ◌==◌, Bool, true, false, not, cond, List, [], ◌∷◌, ◌++◌, refl, sym, ◌∙◌, ap, subst, map, filter, Some, None}
-use Rattle.std.specs.Prelude.{◌&&◌, ◌||◌, flat_map}
+use Rattle.std.specs.Prelude.{◌&&◌, ◌||◌, flat_map, is_none}
 use Rattle.std.specs.List.{AllByRecursion, last_or, list_all}
 use Rattle.std.specs.Option.{option_map_or}
-use Rattle.std.proofs.lemmas.Bool.{and_from, eq-eqb}
+use Rattle.std.proofs.lemmas.Bool.{and_from, and_parts, eq-eqb, not-true}
 use Rattle.brk_money.specs.Kinds.{same_status}
 use Rattle.brk_money.specs.declared.status.Status.{Status}
 use Rattle.brk_money.specs.declared.status.Status.TheVariants.{Completed, Active, Submitted, Pending, Canceled}
 use Rattle.brk_model.specs.Lists.{all_distinct, contains_number, insert_by, sort_by}
-use Rattle.brk_model.specs.Records.{Mark, Trade}
+use Rattle.brk_model.specs.Records.{Mark, Movement, Trade}
 use Rattle.brk_model.specs.Base.{Base, completed, is_completed, moment_of}
-use Rattle.brk_model.specs.Tables.{HistoryRow, TradeRow, history_rows, tables_of, trade_row}
+use Rattle.brk_model.specs.Tables.{HistoryRow, TradeRow, history_rows, tables_at, trade_row}
 use Rattle.brk_model.specs.Sheets.{sheets, sheets_of}
 use Rattle.brk_model.specs.Keys.{by_key, row_before, history_key}
-use Rattle.brk_model.specs.Ways.{completion_stamps, has_status_rows, is_last_of, is_rising, is_way, trade_status}
-use Rattle.brk_book_laws.specs.Books.{IsBooks, MomentsApart}
+use Rattle.brk_model.specs.Adopted.{movement_of_row}
+use Rattle.brk_model.specs.Ways.{completion_stamps, has_status_rows, movement_stamps, is_last_of, is_rising, is_way, trade_status}
+use Rattle.brk_book_laws.specs.Books.{IsBooks, MomentsApart, MovementsApart}
 use Rattle.brk_book_laws.proofs.Bools.{numbers_back}
 use Rattle.brk_book_laws.proofs.Order.{by_key-filter}
+use Rattle.brk_book_laws.proofs.LotReading.{All-sort}
+use Rattle.brk_book_laws.proofs.Same.{All-of}
 use Rattle.brk_book_laws.proofs.Places.{filter-append, map-append}
 use Rattle.brk_book_laws.proofs.TradeReading.{trades_in_order}
 use Rattle.brk_adoption_laws.specs.Told.{GoesAWay, IsTold, StampsRise}
 use Rattle.brk_adoption_laws.proofs.Marks.{no_more_ways, three_ways}
-use Rattle.brk_adoption_laws.proofs.Again.{IsRead, both_all, marks_again, reads}
+use Rattle.brk_adoption_laws.proofs.Again.{IsRead, both_all, marks_again, movements_again, reads}
+use Rattle.brk_adoption_laws.proofs.AdoptedBooks.{contains_both, of_mapped}
+use Rattle.brk_adoption_laws.proofs.Members.{map-map}
 
 false_true : {A : Type 0} → false ≡ true → A
 false_true e = absurd (cc)
@@ -190,19 +195,73 @@ apart_distinct (t ∷ ts) a =
     ap (λ b. not b && all_distinct (map moment_of ts)) (none_contained (moment_of t) ts a.0) ∙ apart_distinct ts a.1
 
 completions_apart : (base : Base) → IsBooks base → IsTold base → all_distinct (completion_stamps (sheets base)) ≡ true
-unfolding sheets_of tables_of
+unfolding sheets_of tables_at
 completions_apart base books told =
     let C : HistoryRow → Bool = λ h. same_status h.status Completed in
     ap (λ rows. all_distinct (map (λ h. h.stamp) rows)) (sym (by_key-filter history_key C (flat_map history_rows base.trades)))
     ∙ distinct_sort (filter C (flat_map history_rows base.trades)) ∙ ap all_distinct (stamps_are base.trades told.ways) ∙ apart_distinct (completed base) books.moments
 
+-- ---- and movements beside them
+
+all_mapped : {X Y : Type 0} (P : Y → Type 0) (f : X → Y) (xs : List X) → AllByRecursion (λ x. P (f x)) xs → AllByRecursion P (map f xs)
+all_mapped P f [] h = tt
+all_mapped P f (x ∷ xs) h = (h.0, all_mapped P f xs h.1)
+
+not_contained : (n : ℕ) (ms : List Movement) → AllByRecursion (λ m. (m.stamp == n) ≡ false) ms → contains_number n (map (λ m. m.stamp) ms) ≡ false
+not_contained n [] h = refl
+not_contained n (m ∷ ms) h = ap (λ b. b || contains_number n (map (λ m. m.stamp) ms)) h.0 ∙ not_contained n ms h.1
+
+movements_distinct : (done : List Trade) (ms : List Movement) → MovementsApart done ms → all_distinct (map (λ m. m.stamp) ms) ≡ true
+movements_distinct done [] a = refl
+movements_distinct done (m ∷ ms) a =
+    ap (λ b. not b && all_distinct (map (λ m. m.stamp) ms)) (not_contained m.stamp ms a.1) ∙ movements_distinct done ms a.2
+
+none_across : (done : List Trade) (ms : List Movement) → MovementsApart done ms → AllByRecursion (λ t. contains_number (moment_of t) (map (λ m. m.stamp) ms) ≡ false) done
+none_across done [] a = All-of done (λ t. refl)
+none_across done (m ∷ ms) a =
+    each_of (λ t. ((moment_of t == m.stamp) ≡ false) × (contains_number (moment_of t) (map (λ m. m.stamp) ms) ≡ false))
+    (λ t. contains_number (moment_of t) (map (λ m. m.stamp) (m ∷ ms)) ≡ false) done
+    (λ t h. ap (λ b. b || contains_number (moment_of t) (map (λ m. m.stamp) ms)) (numbers_back m.stamp (moment_of t) ∙ h.0) ∙ h.1)
+    (both_all (λ t. (moment_of t == m.stamp) ≡ false) (λ t. contains_number (moment_of t) (map (λ m. m.stamp) ms) ≡ false) done a.0 (none_across done ms a.2))
+
+distinct_both : (xs ys : List ℕ) → all_distinct xs ≡ true → all_distinct ys ≡ true → AllByRecursion (λ x. contains_number x ys ≡ false) xs → all_distinct (xs ++ ys) ≡ true
+distinct_both [] ys d e h = e
+distinct_both (x ∷ xs) ys d e h =
+    let k = and_parts (not (contains_number x xs)) (all_distinct xs) d in
+    and_from (not (contains_number x (xs ++ ys))) (all_distinct (xs ++ ys))
+    (ap not (contains_both x xs ys ∙ (λ i. not-true (contains_number x xs) k.0 i || h.0 i))) (distinct_both xs ys k.1 e h.1)
+
+movement_stamps_again : (base : Base) → IsTold base → movement_stamps (sheets base) ≡ map (λ m. m.stamp) base.movements
+movement_stamps_again base told =
+    sym (map-map (λ m. m.stamp) movement_of_row (filter (λ r. is_none r.trade) (sheets base).moves)) ∙ ap (map (λ m. m.stamp)) (movements_again base told)
+
+-- no completion has the stamp of a movement
+none_at_movement : (base : Base) → IsBooks base → IsTold base → AllByRecursion (λ n. contains_number n (map (λ m. m.stamp) base.movements) ≡ false) (completion_stamps (sheets base))
+unfolding sheets_of tables_at
+none_at_movement base books told =
+    let C : HistoryRow → Bool = λ h. same_status h.status Completed in
+    let ys : List ℕ = map (λ m. m.stamp) base.movements in
+    let P : HistoryRow → Type 0 = λ h. contains_number h.stamp ys ≡ false in
+    all_mapped (λ n. contains_number n ys ≡ false) (λ h. h.stamp) (filter C (by_key history_key (flat_map history_rows base.trades)))
+    (subst (AllByRecursion P) (by_key-filter history_key C (flat_map history_rows base.trades))
+    (All-sort P (row_before history_key) (filter C (flat_map history_rows base.trades))
+    (of_mapped (λ n. contains_number n ys ≡ false) (λ h. h.stamp) (filter C (flat_map history_rows base.trades))
+    (subst (AllByRecursion (λ n. contains_number n ys ≡ false)) (sym (stamps_are base.trades told.ways))
+    (all_mapped (λ n. contains_number n ys ≡ false) moment_of (completed base) (none_across (completed base) base.movements books.movements.apart))))))
+
+stamps_apart : (base : Base) → IsBooks base → IsTold base → all_distinct (completion_stamps (sheets base) ++ movement_stamps (sheets base)) ≡ true
+stamps_apart base books told =
+    ap (λ ys. all_distinct (completion_stamps (sheets base) ++ ys)) (movement_stamps_again base told)
+    ∙ distinct_both (completion_stamps (sheets base)) (map (λ m. m.stamp) base.movements) (completions_apart base books told)
+    (movements_distinct (completed base) base.movements books.movements.apart) (none_at_movement base books told)
+
 pub status_again : (base : Base) → IsBooks base → IsTold base → has_status_rows (sheets base) ≡ true
 unfolding has_status_rows
 status_again base books told =
-    and_from (list_all (trade_status (sheets base)) (sheets base).trades) (all_distinct (completion_stamps (sheets base)))
+    and_from (list_all (trade_status (sheets base)) (sheets base).trades) (all_distinct (completion_stamps (sheets base) ++ movement_stamps (sheets base)))
     (all_list (trade_status (sheets base)) (sheets base).trades
     (subst (AllByRecursion (λ r. trade_status (sheets base) r ≡ true)) (sym (trades_in_order base books.numbered))
     (mapped (λ r. trade_status (sheets base) r ≡ true) trade_row base.trades
     (each_of (λ t. IsRead base t × (StampsRise t × GoesAWay t)) (λ t. trade_status (sheets base) (trade_row t) ≡ true) base.trades (λ t h. each_right base t h.0 h.1.0 h.1.1)
     (both_all (IsRead base) (λ t. StampsRise t × GoesAWay t) base.trades (reads base books.numbered) (both_all StampsRise GoesAWay base.trades told.stamps told.ways))))))
-    (completions_apart base books told)
+    (stamps_apart base books told)

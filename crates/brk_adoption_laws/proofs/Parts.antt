@@ -2,7 +2,7 @@
 use Rattle.std.proofs.Common.{◌≡◌, true}
 use Rattle.brk_model.specs.Tables.{Tables}
 use Rattle.brk_model.specs.Form.{has_keys}
-use Rattle.brk_model.specs.Keys.{kept_key, broker_key, customer_key, account_key, permission_key, security_key, last_trade_key, charge_key, band_key, tax_rate_key, customer_tax_key, trade_key, history_key, request_key, holding_key, summary_key, holding_history_key, settlement_key, cash_key}
+use Rattle.brk_model.specs.Keys.{kept_key, broker_key, customer_key, account_key, permission_key, security_key, last_trade_key, charge_key, band_key, tax_rate_key, customer_tax_key, trade_key, history_key, request_key, holding_key, summary_key, holding_history_key, settlement_key, cash_key, move_key}
 use Rattle.brk_model_laws.specs.FormParts.{KeysRise}
 use Rattle.brk_model_laws.proofs.FormParts.{keys_rise}
 use Rattle.brk_adoption_laws.proofs.Climbs.{Climbs, climbs}
@@ -28,6 +28,7 @@ pub record KeyParts (t : Tables) : Type 0 where
   pub holding_history : Climbs holding_history_key t.holding_history
   pub settlements : Climbs settlement_key t.settlements
   pub cash : Climbs cash_key t.cash
+  pub moves : Climbs move_key t.moves
 
 pub key_parts : (t : Tables) → has_keys t ≡ true → KeyParts t
 key_parts t h =
@@ -52,4 +53,5 @@ key_parts t h =
       holding_history = climbs holding_history_key t.holding_history r.holding_history;
       settlements = climbs settlement_key t.settlements r.settlements;
       cash = climbs cash_key t.cash r.cash;
+      moves = climbs move_key t.moves r.moves;
     }

@@ -1,11 +1,12 @@
 -- The tables of a base pass where they have form and their statuses are right.
 use Rattle.std.proofs.Common.{◌≡◌, true, refl, sym, ◌∙◌, ap, map, inl}
 use Rattle.brk_model.specs.Base.{Base}
+use Rattle.brk_model.specs.Schemas.{Schema, third_schema}
 use Rattle.brk_model.specs.Tables.{Tables}
 use Rattle.brk_model.specs.Adopted.{base_of}
 use Rattle.brk_model.specs.Form.{has_form}
 use Rattle.brk_model.specs.Ways.{has_status_rows}
-use Rattle.brk_model.specs.Sheets.{sheets}
+use Rattle.brk_model.specs.Sheets.{sheets, sheets_at}
 use Rattle.brk_model.specs.Audit.{Holds}
 use Rattle.brk_book_laws.specs.Books.{IsBooks}
 use Rattle.brk_adoption_laws.specs.Passing.{Passes}
@@ -17,9 +18,9 @@ use Rattle.brk_adoption_laws.proofs.AgainStatus.{status_again}
 pub tables_again : (base : Base) → IsBooks base → IsTold base → sheets (base_of (sheets base)) ≡ sheets base
 tables_again base books told = ap sheets (base_again base books told) ∙ sorted_tables base books
 
-pub same_tables_pass : (t : Tables) → has_form t ≡ true → has_status_rows t ≡ true → sheets (base_of t) ≡ t → Passes t
+pub same_tables_pass : (schema : Schema) (t : Tables) → has_form schema t ≡ true → has_status_rows t ≡ true → sheets_at schema (base_of t) ≡ t → Passes schema t
 unfolding Holds
-same_tables_pass t f s e =
+same_tables_pass schema t f s e =
     inl (
       f,
       inl (
@@ -38,7 +39,7 @@ same_tables_pass t f s e =
                     ap (λ u. map (λ b. b.commissions) u.brokers) (sym e),
                     inl (
                       ap (λ u. u.settlements) (sym e),
-                      inl (ap (λ u. u.cash) (sym e), inl (ap (λ u. map (λ a. a.balance) u.accounts) (sym e), refl)),
+                      inl ((ap (λ u. u.cash) (sym e), ap (λ u. u.moves) (sym e)), inl (ap (λ u. map (λ a. a.balance) u.accounts) (sym e), refl)),
                     ),
                   ),
                 ),
@@ -49,5 +50,5 @@ same_tables_pass t f s e =
       ),
     )
 
-pub tables_pass : (base : Base) → IsBooks base → IsTold base → has_form (sheets base) ≡ true → Passes (sheets base)
-tables_pass base books told f = same_tables_pass (sheets base) f (status_again base books told) (tables_again base books told)
+pub tables_pass : (base : Base) → IsBooks base → IsTold base → has_form third_schema (sheets base) ≡ true → Passes third_schema (sheets base)
+tables_pass base books told f = same_tables_pass third_schema (sheets base) f (status_again base books told) (tables_again base books told)

@@ -3,9 +3,10 @@ use Rattle.std.proofs.Common.{◌≡◌, inl, inr, Some, None}
 use Rattle.std.specs.Prelude.{◌⊎◌}
 use Rattle.brk_money.specs.declared.fault.Condition.{Condition}
 use Rattle.brk_money.specs.declared.fault.Condition.TheVariants as condition
+use Rattle.brk_model.specs.Schemas.{Schema}
 use Rattle.brk_model.specs.Tables.{Tables}
 use Rattle.brk_model.specs.Adopted.{base_of}
-use Rattle.brk_model.specs.Sheets.{sheets}
+use Rattle.brk_model.specs.Sheets.{sheets_at}
 use Rattle.brk_model.specs.Audit.{Holds}
 use Rattle.brk_book_laws.specs.Books.{IsBooks}
 use Rattle.brk_adoption_laws.specs.Passing.{Passes}
@@ -18,13 +19,13 @@ first_rest A B c (inl h) = h
 first_rest A B c (inr h) = let e : None ≡ Some c = h.1 in absurd (cc)
 
 -- all conditions of rows that pass
-pub record AllHold (t : Tables) : Type 0 where
-  pub form : Holds condition.Form t
-  pub status : Holds condition.Status t
-  pub derives : Derives t
+pub record AllHold (schema : Schema) (t : Tables) : Type 0 where
+  pub form : Holds schema condition.Form t
+  pub status : Holds schema condition.Status t
+  pub derives : Derives schema t
 
-pub all_hold : (t : Tables) → Passes t → AllHold t
-all_hold t p0 =
+pub all_hold : (schema : Schema) (t : Tables) → Passes schema t → AllHold schema t
+all_hold schema t p0 =
     let c = λ (cs : Condition). cs in
     let p1 = first_rest _ _ condition.Form p0 in
     let p2 = first_rest _ _ condition.Status p1.1 in
@@ -43,10 +44,10 @@ all_hold t p0 =
       derives = record { requests = p3.0; lots = p4.0; history = p5.0; summary = p6.0; count = p7.0; commission = p8.0; settlement = p9.0; cash = p10.0; balance = p11.0 };
     }
 
-pub passing_books : (t : Tables) → Passes t → IsBooks (base_of t)
+pub passing_books : (schema : Schema) (t : Tables) → Passes schema t → IsBooks (base_of t)
 unfolding Holds
-passing_books t p = let h = all_hold t p in adopted_books t h.form h.status
+passing_books schema t p = let h = all_hold schema t p in adopted_books schema t h.form h.status
 
-pub passing_tables : (t : Tables) → Passes t → sheets (base_of t) ≡ t
+pub passing_tables : (schema : Schema) (t : Tables) → Passes schema t → sheets_at schema (base_of t) ≡ t
 unfolding Holds
-passing_tables t p = let h = all_hold t p in adopted_tables t h.form h.status h.derives
+passing_tables schema t p = let h = all_hold schema t p in adopted_tables schema t h.form h.status h.derives

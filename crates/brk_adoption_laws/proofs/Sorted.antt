@@ -9,12 +9,12 @@ use Rattle.brk_money.specs.Spelling.{Text}
 use Rattle.brk_money.specs.Kinds.{side_of}
 use Rattle.brk_money.specs.declared.tax_status.TaxStatus.TheVariants.{Untaxed}
 use Rattle.brk_model.specs.Lists.{total_by, is_zero}
-use Rattle.brk_model.specs.Records.{Account, Broker, Security, Trade}
+use Rattle.brk_model.specs.Records.{Account, Broker, Movement, Security, Trade}
 use Rattle.brk_model.specs.Base.{Base, completed, find_account, price_of, takes_tax_off}
-use Rattle.brk_model.specs.Derived.{amount_of, balance_of, cash_trades, commissions_of, of_account, pending, proceeds, summary_of, trade_count_of}
-use Rattle.brk_model.specs.Tables.{SummaryRow, account_row, broker_row, by_position, cash_row, last_trade_row, security_row, settlement_row, summary_rows, tables_of}
+use Rattle.brk_model.specs.Derived.{amount_of, balance_of, cash_trades, commissions_of, in_turn, pending, posted_to, posting_of_movement, posting_of_trade, postings, proceeds, summary_of, trade_count_of}
+use Rattle.brk_model.specs.Tables.{SummaryRow, account_row, broker_row, by_position, last_trade_row, numbered, security_row, settlement_row, summary_rows, tables_at}
 use Rattle.brk_model.specs.Sheets.{sheets, sheets_of}
-use Rattle.brk_model.specs.Keys.{KeyPart, number, word, row_before, by_key, insert_row, account_key, band_key, broker_key, cash_key, charge_key, customer_key, customer_tax_key, kept_key, last_trade_key, permission_key, request_key, security_key, settlement_key, summary_key, tax_rate_key}
+use Rattle.brk_model.specs.Keys.{KeyPart, number, word, row_before, by_key, insert_row, account_key, band_key, broker_key, charge_key, customer_key, customer_tax_key, kept_key, last_trade_key, move_key, permission_key, request_key, security_key, settlement_key, summary_key, tax_rate_key}
 use Rattle.brk_book_laws.specs.Books.{DistinctAccounts, DistinctSymbols, IsBooks}
 use Rattle.brk_book_laws.proofs.Order.{by_key-map, key_one_way, key_splits, rows_commute, sort_sorted, sorted_sort}
 use Rattle.brk_book_laws.proofs.Same.{All-map, All-of, map-same}
@@ -54,16 +54,23 @@ same_broker_row accounts done b = λ i. record {
   commissions = sum_by (λ t. t.commission) (filter (λ t. option_map_or (λ a. a.broker) (found accounts t.account i) 0 == b.id) done);
 }
 
-same_account_row : (accounts : List Account) (done : List Trade) (a : Account) → account_row (by_key account_id accounts) done a ≡ account_row accounts done a
+same_postings : (accounts : List Account) (done : List Trade) (ms : List Movement) → postings (by_key account_id accounts) done ms ≡ postings accounts done ms
+same_postings accounts done ms =
+    ap (λ ps. ps ++ map posting_of_movement ms)
+    (map-same (posting_of_trade (by_key account_id accounts)) (posting_of_trade accounts) (cash_trades done) (All-of (cash_trades done)
+    (λ t. λ i. record (posting_of_trade accounts t) { amount = same_amount accounts t i })))
+
+same_account_row : (accounts : List Account) (done : List Trade) (ms : List Movement) (a : Account)
+    → account_row (by_key account_id accounts) (postings (by_key account_id accounts) done ms) a ≡ account_row accounts (postings accounts done ms) a
 unfolding balance_of
-same_account_row accounts done a = λ i. record {
+same_account_row accounts done ms a = λ i. record {
   id = a.id;
   customer = a.customer;
   broker = a.broker;
   name = a.name;
   tax_status = a.tax_status;
   opening = a.opening;
-  balance = option_map_or (λ a. a.opening) (found accounts a.id i) (pos 0) +ℤ total_by (λ t. same_amount accounts t i) (cash_trades (of_account done a.id));
+  balance = option_map_or (λ a. a.opening) (found accounts a.id i) (pos 0) +ℤ total_by (λ p. p.amount) (posted_to (same_postings accounts done ms i) a.id);
 }
 
 -- ---- summaries
@@ -168,12 +175,12 @@ same_summaries base done d e =
 -- ---- all tables
 
 pub sorted_tables : (base : Base) → IsBooks base → sheets (sorted base) ≡ sheets base
-unfolding sheets_of tables_of
+unfolding sheets_of tables_at
 sorted_tables base books =
     let done : List Trade = completed base in
     let accounts : List Account = base.accounts in
     let brokers = sorted_map broker_id broker_key (broker_row (by_key account_id accounts) done) (broker_row accounts done) base.brokers (λ b. refl) (λ b. refl) (same_broker_row accounts done) in
-    let rows = sorted_map account_id account_key (account_row (by_key account_id accounts) done) (account_row accounts done) accounts (λ a. refl) (λ a. refl) (same_account_row accounts done) in
+    let rows = sorted_map account_id account_key (account_row (by_key account_id accounts) (postings (by_key account_id accounts) done base.movements)) (account_row accounts (postings accounts done base.movements)) accounts (λ a. refl) (λ a. refl) (same_account_row accounts done base.movements) in
     let securities = sorted_map symbol_key security_key security_row security_row base.securities (λ s. refl) (λ s. refl) (λ s. refl) in
     let last_trades = sorted_map symbol_key last_trade_key last_trade_row last_trade_row base.securities (λ s. refl) (λ s. refl) (λ s. refl) in
     let summaries = same_summaries base done books.owners books.symbols in
@@ -191,6 +198,6 @@ sorted_tables base books =
       customer_taxes = twice customer_tax_key base.customer_taxes i;
       requests = by_key request_key (map (λ t. record { trade = t.id; kind = t.kind; symbol = t.symbol; qty = t.qty; bid = t.bid; broker = option_map_or (λ a. a.broker) (found accounts t.account i) 0 }) (pending base.trades));
       summaries = summaries i;
-      settlements = by_key settlement_key (map (λ t. record (settlement_row accounts t) { amount = same_amount accounts t i }) done);
-      cash = by_key cash_key (map (λ t. record (cash_row accounts t) { amount = same_amount accounts t i }) (cash_trades done));
+      settlements = by_key settlement_key (map (λ t. record (settlement_row accounts base.rule t) { amount = same_amount accounts t i }) done);
+      moves = by_key move_key (numbered 1 (in_turn (same_postings accounts done base.movements i)));
     }

@@ -1,8 +1,9 @@
 -- Rows that pass an audit.
 use Rattle.std.specs.Prelude.{None}
+use Rattle.brk_model.specs.Schemas.{Schema}
 use Rattle.brk_model.specs.Tables.{Tables}
 use Rattle.brk_model.specs.Audit.{IsAudit}
 
--- no condition fails of the rows
-abbrev pub Passes : Tables → Type 0
-Passes rows = IsAudit rows None
+-- no condition of a schema fails of the rows
+abbrev pub Passes : Schema → Tables → Type 0
+Passes schema rows = IsAudit schema rows None

@@ -1,4 +1,4 @@
--- What holds of the trades of a base beside its order: their statuses came one after another, and words stand where their rows do.
+-- What holds of the trades and the movements of a base beside its order: statuses and movements came one after another, and words stand where their rows do.
 use Rattle.std.specs.Prelude.{◌≡◌, ◌&&◌, true, false, List, [], ◌∷◌, map}
 use Rattle.std.specs.List.{AllByRecursion}
 use Rattle.brk_model.specs.Records.{Account, Broker, Security, Trade}
@@ -23,6 +23,7 @@ pub record IsTold (base : Base) : Type 0 where
   pub stamps : AllByRecursion StampsRise base.trades
   pub ways : AllByRecursion GoesAWay base.trades
   pub words : AllByRecursion HasItsWords base.trades
+  pub movements : is_rising (map (λ m. m.stamp) base.movements) ≡ true
 
 -- the keys of records that have rows of their own
 abbrev pub broker_id : Broker → List KeyPart

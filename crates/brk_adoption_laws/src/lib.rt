@@ -3,3 +3,4 @@
 #![tactic(auto)]
 
 pub mod adoption;
+pub mod moving;

@@ -1,13 +1,17 @@
 -- What the checkers' sums over rows in types are of the tables that these rows are.
-use Rattle.std.proofs.Common.{◌≡◌, ℕ, ◌==◌, Bool, cond, List, [], ◌∷◌, sym, ◌∙◌, ap, subst, map, filter, ℤ, Some, None}
-use Rattle.std.specs.Prelude.{◌&&◌}
+use Rattle.std.proofs.Common.{◌≡◌, ℕ, ◌==◌, Bool, cond, List, [], ◌∷◌, ◌++◌, sym, ◌∙◌, ap, subst, map, filter, ℤ, Some, None}
+use Rattle.std.specs.Prelude.{◌&&◌, ◌+ℤ◌, is_none}
 use Rattle.std.specs.Cmp.{unsigned_ties}
 use Rattle.std.specs.List.{AllByRecursion, filter_map}
 use Rattle.std.specs.Ordering.{is_eq, nat_cmp}
 use Rattle.brk_model.specs.Lists.{total_by}
 use Rattle.brk_model.specs.Tables.{TradeRow}
-use Rattle.brk_changes.specs.Rows.{trade_row_of}
+use Rattle.brk_changes.specs.Rows.{move_row_of, trade_row_of}
 use Rattle.brk_changes.specs.declared.trade_row.TradeRow as trade
+use Rattle.brk_changes.specs.declared.move_row.MoveRow as move
+use Rattle.brk_audit.specs.Sums.{movement_posting}
+use Rattle.brk_book_laws.proofs.Places.{filter-append}
+use Rattle.brk_book_laws.proofs.Worth.{total-append}
 use Rattle.brk_book_laws.proofs.Same.{All-map, All-mapped, All-of, filter-same, total_by-same}
 use Rattle.brk_audit.specs.declared.tally.Posting.{Posting}
 use Rattle.brk_audit.specs.Tally.{total_at}
@@ -27,6 +31,21 @@ posted_sum p k j a b rows q e f =
   where
     same_key : (r : TradeRow) → is_eq (nat_cmp (k r) q) ≡ (j r == q)
     same_key r = sym (unsigned_ties (k r) q) ∙ ap (λ n. n == q) (e r)
+
+-- the sum of movements in types, as one over the rows that they are
+pub moved_sum : (rows : List move.MoveRow) (q : ℕ) → total_at nat_cmp (filter_map (λ r. movement_posting (move_row_of r)) rows) q
+    ≡ total_by (λ r. r.amount) (filter (λ r. is_none r.trade && (r.account == q)) (map move_row_of rows))
+moved_sum rows q =
+    total_posted nat_cmp (λ r. is_none (move_row_of r).trade) (λ r. (move_row_of r).account) (λ r. (move_row_of r).amount) rows q
+    ∙ ap (total_by (λ r. (move_row_of r).amount)) (filter-same (λ r. is_none (move_row_of r).trade && is_eq (nat_cmp (move_row_of r).account q)) (λ r. is_none (move_row_of r).trade && ((move_row_of r).account == q)) rows
+    (All-of rows (λ r i. is_none (move_row_of r).trade && sym (unsigned_ties (move_row_of r).account q) i)))
+    ∙ sym (total_mapped (λ r. r.amount) (λ r. is_none r.trade && (r.account == q)) move_row_of rows)
+
+-- the sums of two lists of postings
+pub total_both : (ps qs : List (Posting ℕ)) (q : ℕ) → total_at nat_cmp (ps ++ qs) q ≡ total_at nat_cmp ps q +ℤ total_at nat_cmp qs q
+total_both ps qs q =
+    ap (total_by (λ p. p.amount)) (filter-append (λ p. is_eq (nat_cmp p.key q)) ps qs)
+    ∙ total-append (λ p. p.amount) (filter (λ p. is_eq (nat_cmp p.key q)) ps) (filter (λ p. is_eq (nat_cmp p.key q)) qs)
 
 -- what holds of each row in types, and of each of those that they are
 pub rows_hold : {X Row : Type 0} (P : X → Type 0) (Q : Row → Type 0) (f : X → Row) (xs : List X) → ((x : X) → P x → Q (f x)) → AllByRecursion P xs → AllByRecursion Q (map f xs)

@@ -1,5 +1,5 @@
 -- Where statuses are right, a trade's row says itself whether it is completed, whether it waits, and when it came to that.
-use Rattle.std.proofs.Common.{◌≡◌, true, false, sym, ◌∙◌, ap, map}
+use Rattle.std.proofs.Common.{◌≡◌, ◌++◌, true, false, sym, ◌∙◌, ap, map}
 use Rattle.std.specs.List.{AllByRecursion, list_all}
 use Rattle.std.specs.Option.{option_map_or}
 use Rattle.std.proofs.lemmas.Bool.{and_parts}
@@ -11,7 +11,7 @@ use Rattle.brk_model.specs.Base.{completed, has_status, is_completed, moment_of}
 use Rattle.brk_model.specs.Derived.{pending}
 use Rattle.brk_model.specs.Tables.{Tables, TradeRow}
 use Rattle.brk_model.specs.Adopted.{base_of, trade_of_row}
-use Rattle.brk_model.specs.Ways.{completion_stamps, has_status_rows, trade_status}
+use Rattle.brk_model.specs.Ways.{completion_stamps, movement_stamps, has_status_rows, trade_status}
 use Rattle.brk_book_laws.proofs.Same.{All-map, All-filter, filter-same}
 use Rattle.brk_adoption_laws.proofs.Climbs.{list_all_true}
 use Rattle.brk_adoption_laws.proofs.Marks.{Lasts, lasts, same_statuses}
@@ -21,12 +21,12 @@ use Rattle.brk_audit.specs.Completed.{done_rows, is_done, is_waiting, waiting_ro
 -- each trade's statuses are right
 pub right_rows : (t : Tables) → has_status_rows t ≡ true → AllByRecursion (λ r. trade_status t r ≡ true) t.trades
 unfolding has_status_rows
-right_rows t s = list_all_true (trade_status t) t.trades (and_parts (list_all (trade_status t) t.trades) (all_distinct (completion_stamps t)) s).0
+right_rows t s = list_all_true (trade_status t) t.trades (and_parts (list_all (trade_status t) t.trades) (all_distinct (completion_stamps t ++ movement_stamps t)) s).0
 
--- no two trades complete at one stamp
-pub stamps_apart : (t : Tables) → has_status_rows t ≡ true → all_distinct (completion_stamps t) ≡ true
+-- no two completions or movements are at one stamp
+pub stamps_apart : (t : Tables) → has_status_rows t ≡ true → all_distinct (completion_stamps t ++ movement_stamps t) ≡ true
 unfolding has_status_rows
-stamps_apart t s = (and_parts (list_all (trade_status t) t.trades) (all_distinct (completion_stamps t)) s).1
+stamps_apart t s = (and_parts (list_all (trade_status t) t.trades) (all_distinct (completion_stamps t ++ movement_stamps t)) s).1
 
 -- a trade's last status is that of its row
 pub row_status : (t : Tables) (r : TradeRow) (status : Status) → trade_status t r ≡ true → has_status status (trade_of_row t r) ≡ same_status r.status status

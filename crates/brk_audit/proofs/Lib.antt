@@ -1,8 +1,11 @@
 pub mod AccountTerms
 pub mod Beside
+pub mod CashHolds
+pub mod CashMoves
 pub mod Chain
 pub mod Checked
 pub mod Completed
+pub mod Expected
 pub mod Finding
 pub mod Leaving
 pub mod LotRows

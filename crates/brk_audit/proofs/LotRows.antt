@@ -27,7 +27,7 @@ use Rattle.brk_model.specs.Joins.{history_in}
 use Rattle.brk_model.specs.Adopted.{base_of, trade_of_row}
 use Rattle.brk_model.specs.Audit.{expected}
 use Rattle.brk_model.specs.Ways.{has_status_rows, trade_status}
-use Rattle.brk_model.specs.Form.{has_account, has_form, has_security, is_id, is_price, is_qty, is_stamp, price_form, trade_form}
+use Rattle.brk_model.specs.Form.{has_account, has_security, is_id, is_price, is_qty, is_stamp, price_form, trade_form}
 use Rattle.brk_changes.specs.Rows.{trade_row_of}
 use Rattle.brk_changes.specs.declared.trade_row.TradeRow as trade
 use Rattle.brk_lots.proofs.Left.{same_is}
@@ -53,6 +53,9 @@ use Rattle.brk_audit.proofs.Leaving.{any_in, at_any, at_place, leave_sums}
 use Rattle.brk_book_laws.proofs.Orders.{Ascends, Rises, one_order, permuted, sum_filter, sum_map, sum_same, sum_sort}
 use Rattle.brk_audit.proofs.Places.{at_one, moment_order}
 use Rattle.brk_audit.proofs.Stretches.{seen}
+use Rattle.brk_audit.specs.Conditions.{IsFormed}
+use Rattle.brk_audit.proofs.Expected.{same_holdings}
+use Rattle.brk_model.specs.Schemas.{Schema}
 
 -- ---- completed trades have prices, and clash nowhere
 
@@ -63,24 +66,24 @@ has_price : (o : Option ℕ) → option_map_or is_price o false ≡ true → IsS
 has_price None e = false_true e
 has_price (Some n) e = search
 
-priced_row : (t : Tables) (r : TradeRow) → trade_form t r ≡ true → trade_status t r ≡ true → is_done r ≡ true → IsSome r.price
-priced_row t r f e d =
+priced_row : (schema : Schema) (t : Tables) (r : TradeRow) → trade_form schema t r ≡ true → trade_status t r ≡ true → is_done r ≡ true → IsSome r.price
+priced_row schema t r f e d =
     let l : Lasts t r = lasts t r e in
     let k : IsOf t r.id l.mark = last_is_row t r l.mark l.is in
     let status : same_status k.row.status Completed ≡ true = ap (λ s. same_status s Completed) (k.status ∙ sym (same_statuses r.status l.mark.status l.status)) ∙ d in
     let done : list_any (λ h. same_status h.status Completed) (history_in t r.id) ≡ true =
     any_in (λ h. same_status h.status Completed) (history_in t r.id) k.row (in_filter (λ h. h.trade == r.id) t.history k.row k.there (eq-eqb k.row.trade r.id k.trade)) status in
-    let p = parts10 (is_id r.id) (is_stamp t r.stamp) (has_security t r.symbol) (is_qty r.qty) (is_price r.bid) (has_account t r.account) (price_form t r)
+    let p = parts10 (is_id r.id) (is_stamp t r.stamp) (has_security t r.symbol) (is_qty schema r.qty) (is_price r.bid) (has_account t r.account) (price_form t r)
     (nat_le r.charge greatest_charge) (nat_le r.commission greatest_amount) (nat_le r.tax greatest_amount) f in
     let q : option_map_or is_price r.price false ≡ true = rw done at p.6 in
     has_price r.price q
 
-pub priced_rows : (t : Tables) → has_form t ≡ true → has_status_rows t ≡ true → AllByRecursion (λ r. IsSome r.price) (done_rows t)
+pub priced_rows : (t : Tables) → IsFormed t → has_status_rows t ≡ true → AllByRecursion (λ r. IsSome r.price) (done_rows t)
 priced_rows t f s =
-    let p : FormParts t = form_parts t f in
-    All-map (done_rows t) (λ r k. priced_row t r k.0.0 k.0.1 k.1)
-    (filtered (λ r. (trade_form t r ≡ true) × (trade_status t r ≡ true)) is_done t.trades
-    (both_all (λ r. trade_form t r ≡ true) (λ r. trade_status t r ≡ true) t.trades (list_all_true (trade_form t) t.trades p.trades) (right_rows t s)))
+    let p : FormParts f.schema t = form_parts f.schema t f.form in
+    All-map (done_rows t) (λ r k. priced_row f.schema t r k.0.0 k.0.1 k.1)
+    (filtered (λ r. (trade_form f.schema t r ≡ true) × (trade_status t r ≡ true)) is_done t.trades
+    (both_all (λ r. trade_form f.schema t r ≡ true) (λ r. trade_status t r ≡ true) t.trades (list_all_true (trade_form f.schema t) t.trades p.trades) (right_rows t s)))
 
 no_clash : (t : Tables) (rs : List TradeRow) → IdsApart (map (trade_of_row t) rs) → MomentsApart (map (trade_of_row t) rs) → AllByRecursion (λ r. moment_of (trade_of_row t r) ≡ r.stamp) rs
     → IsDistinct clash rs
@@ -96,10 +99,10 @@ no_clash t (r ∷ rs) i m h = (ahead rs i.0 m.0 h.1, no_clash t rs i.1 m.1 h.1)
         let stamp : (r.stamp == u.stamp) ≡ false = numbers_back r.stamp u.stamp ∙ (λ x. sym k.0 x == sym h.0 x) ∙ n.0 in
         ((λ x. id x || stamp x), ahead ss j.1 n.1 k.1)
 
-pub clash_apart : (t : Tables) → has_form t ≡ true → has_status_rows t ≡ true → IsDistinct clash (done_rows t)
+pub clash_apart : (t : Tables) → IsFormed t → has_status_rows t ≡ true → IsDistinct clash (done_rows t)
 clash_apart t f s =
     let base : Base = base_of t in
-    let books : IsBooks base = adopted_books t f s in
+    let books : IsBooks base = adopted_books f.schema t f.form s in
     let rows : completed base ≡ map (trade_of_row t) (done_rows t) = completed_rows t s in
     no_clash t (done_rows t)
     (subst IdsApart rows (rise_apart (completed base) (rise_filter is_completed base.trades (numbered_rise 1 base.trades books.numbered))))
@@ -202,11 +205,11 @@ sums_alike t r f rs h =
         ∙ parted (u.account == r.account) (bytes_eq u.symbol r.symbol) (f (deal_of (trade_of_row t u)))
 
 -- in sorted rows a position's deals are those of the base
-pub dealt : (t : Tables) → has_form t ≡ true → has_status_rows t ≡ true → (rs : List TradeRow) → IsPermutation (done_rows t) rs → Sorted place_before rs → (r : TradeRow)
+pub dealt : (t : Tables) → IsFormed t → has_status_rows t ≡ true → (rs : List TradeRow) → IsPermutation (done_rows t) rs → Sorted place_before rs → (r : TradeRow)
     → map row_deal (filter (same_place r) rs) ≡ deals_in (completed (base_of t)) r.account r.symbol
 dealt t f s rs p o r =
     let base : Base = base_of t in
-    let books : IsBooks base = adopted_books t f s in
+    let books : IsBooks base = adopted_books f.schema t f.form s in
     let P : List Trade = of_position (completed base) r.account r.symbol in
     one_order (λ d. d.stamp) same_deal deals_decide (deals_in (completed base) r.account r.symbol) (map row_deal (filter (same_place r) rs))
     (deals_rise (trades_held base r.account r.symbol) (held_in_order base r.account r.symbol books))
@@ -266,11 +269,11 @@ lots_placed t done rs (r ∷ all) m =
     let here : at_place r (holding_row done (trade_of_row t r)) ≡ true = and_from (r.account == r.account) (bytes_eq r.symbol r.symbol) (eq-eqb r.account r.account refl) ((bytes_eq-Decides r.symbol r.symbol).1 refl) in
     (any_in (λ u. at_place u (holding_row done (trade_of_row t r))) rs r (m r (inl refl)) here, lots_placed t done rs all (λ u k. m u (inr k)))
 
-pub lots_told : (t : Tables) → has_form t ≡ true → has_status_rows t ≡ true → (rs : List TradeRow) (rows held : List HoldingRow) → IsPermutation (done_rows t) rs → Sorted place_before rs
-    → Leave rs rows → IsPermutation rows held → Ascends (λ h. h.trade) held → held ≡ (expected t).holdings
-lots_told t f s rs rows held p o l q a =
+pub lots_told : (schema : Schema) (t : Tables) → IsFormed t → has_status_rows t ≡ true → (rs : List TradeRow) (rows held : List HoldingRow) → IsPermutation (done_rows t) rs → Sorted place_before rs
+    → Leave rs rows → IsPermutation rows held → Ascends (λ h. h.trade) held → held ≡ (expected schema t).holdings
+lots_told schema t f s rs rows held p o l q a =
     let base : Base = base_of t in
-    let books : IsBooks base = adopted_books t f s in
+    let books : IsBooks base = adopted_books f.schema t f.form s in
     let E : List HoldingRow = (sheets base).holdings in
     let done : List Trade = completed base in
     let listed : E ≡ filter is_left (map (holding_row done) done) = holdings_in_order base books.numbered in
@@ -283,6 +286,7 @@ lots_told t f s rs rows held p o l q a =
     filter-all (at_any rs) E (All-map E (λ h k. sym (list_any-IsPermutation (λ r. at_place r h) (done_rows t) rs p) ∙ k) placed) in
     one_order (λ h. h.trade) same_holding holdings_decide E held rise a
     (λ g. permuted rows held q g ∙ leave_sums base books l (All-of rs (dealt t f s rs p o)) g ∙ ap (sum_by g) all)
+    ∙ sym (same_holdings schema base)
 
 -- ---- what a list's order leaves
 

@@ -13,12 +13,11 @@ use Rattle.brk_model.specs.Base.{Base, completed}
 use Rattle.brk_model.specs.Derived.{deal_of, deals_in}
 use Rattle.brk_model.specs.Keys.{KeyPart, by_key, row_before, holding_history_key}
 use Rattle.brk_model.specs.Shares.{Deal}
-use Rattle.brk_model.specs.Tables.{HoldingHistoryRow, Tables, TradeRow, is_moved, lot_history, lot_rows, tables_of}
+use Rattle.brk_model.specs.Tables.{HoldingHistoryRow, Tables, TradeRow, is_moved, lot_history, lot_rows, tables_at}
 use Rattle.brk_model.specs.Sheets.{sheets, sheets_of}
 use Rattle.brk_model.specs.Adopted.{base_of, trade_of_row}
 use Rattle.brk_model.specs.Audit.{expected}
 use Rattle.brk_model.specs.Ways.{has_status_rows}
-use Rattle.brk_model.specs.Form.{has_form}
 use Rattle.brk_lots.specs.Chains.{replay_rows}
 use Rattle.brk_lots.specs.Deals.{AreDeals, IsLater}
 use Rattle.brk_book_laws.specs.Books.{IsBooks}
@@ -37,6 +36,9 @@ use Rattle.brk_audit.proofs.LotRows.{dealt}
 use Rattle.brk_audit.proofs.Moves.{run_sums}
 use Rattle.brk_book_laws.proofs.Orders.{SameSums, permuted, sum_append, sum_map, sum_none, sum_same, sum_sort}
 use Rattle.brk_audit.proofs.Places.{all_back, at_one, same_self}
+use Rattle.brk_audit.specs.Conditions.{IsFormed}
+use Rattle.brk_audit.proofs.Expected.{same_history}
+use Rattle.brk_model.specs.Schemas.{Schema}
 
 -- ---- in one order
 
@@ -158,23 +160,24 @@ changes_decide a b =
     )
 
 listed : (base : Base) → (sheets base).holding_history ≡ by_key holding_history_key (flat_map (lot_history (completed base)) (completed base))
-unfolding tables_of sheets_of
+unfolding tables_at sheets_of
 listed base = refl
 
-pub moves_told : (t : Tables) → has_form t ≡ true → has_status_rows t ≡ true → (rs : List TradeRow) (rows moved : List HoldingHistoryRow) → IsPermutation (done_rows t) rs → Sorted place_before rs
-    → Trace rs rows → IsPermutation rows moved → Sorted (row_before holding_history_key) moved → (moved ≡ t.holding_history) ↔ (t.holding_history ≡ (expected t).holding_history)
-moves_told t f s rs rows moved p o l q a =
+pub moves_told : (schema : Schema) (t : Tables) → IsFormed t → has_status_rows t ≡ true → (rs : List TradeRow) (rows moved : List HoldingHistoryRow) → IsPermutation (done_rows t) rs → Sorted place_before rs
+    → Trace rs rows → IsPermutation rows moved → Sorted (row_before holding_history_key) moved → (moved ≡ t.holding_history) ↔ (t.holding_history ≡ (expected schema t).holding_history)
+moves_told schema t f s rs rows moved p o l q a =
     let base : Base = base_of t in
-    let books : IsBooks base = adopted_books t f s in
+    let books : IsBooks base = adopted_books f.schema t f.form s in
     let done : List Trade = completed base in
     let E : List HoldingHistoryRow = (sheets base).holding_history in
-    let climb : Climbs holding_history_key t.holding_history = (key_parts t (form_parts t f).keys).holding_history in
+    let climb : Climbs holding_history_key t.holding_history = (key_parts t (form_parts f.schema t f.form).keys).holding_history in
     let ordered : Sorted (row_before holding_history_key) E =
     subst (Sorted (row_before holding_history_key)) (sym (listed base)) (sorted_sort (row_before holding_history_key) (flat_map (lot_history done) done) (λ x y z. key_splits (holding_history_key x) (holding_history_key y) (holding_history_key z)) (λ x y. key_one_way (holding_history_key x) (holding_history_key y))) in
     let sums : SameSums moved E = λ g.
     permuted rows moved q g ∙ trace_sums base books l (All-of rs (dealt t f s rs p o)) g ∙ permuted (done_rows t) rs p (own base g)
     ∙ sym (ap (sum_by g) (listed base) ∙ sum_sort g (row_before holding_history_key) (flat_map (lot_history done) done) ∙ sum_flat g (lot_history done) done
     ∙ ap (sum_by (λ u. sum_by g (lot_history done u))) (completed_rows t s) ∙ sum_map (λ u. sum_by g (lot_history done u)) (trade_of_row t) (done_rows t)) in (
-      (λ e. sym (key_order_one holding_history_key same_change changes_decide t.holding_history E climb ordered (λ g. sym (sums g) ∙ ap (sum_by g) e))),
-      (λ e. key_order_one holding_history_key same_change changes_decide E moved (subst (Climbs holding_history_key) e climb) a sums ∙ sym e),
+      (λ e. sym (key_order_one holding_history_key same_change changes_decide t.holding_history E climb ordered (λ g. sym (sums g) ∙ ap (sum_by g) e)) ∙ sym (same_history schema base)),
+      (λ e. let k : t.holding_history ≡ E = e ∙ same_history schema base in
+          key_order_one holding_history_key same_change changes_decide E moved (subst (Climbs holding_history_key) k climb) a sums ∙ sym k),
     )

@@ -53,6 +53,22 @@ pub none_more : {X Y Z : Type 0} (f : Z → Y) (h : X → Option Y) (xs : List X
 none_more f h xs i x old l r e s =
     e ∙ sym (append-nil (filter_map h (take i xs))) ∙ ap (λ o. filter_map h (take i xs) ++ cons_option o []) s ∙ sym (filter_map_more h xs i x l r)
 
+append_thrice : {X : Type 0} (xs ys zs : List X) → (xs ++ ys) ++ zs ≡ xs ++ (ys ++ zs)
+append_thrice [] ys zs = refl
+append_thrice (x ∷ xs) ys zs = ap (λ ws. x ∷ ws) (append_thrice xs ys zs)
+
+-- postings put one by one behind others
+pub some_added : {X Y : Type 0} (h : X → Option Y) (xs : List X) (i : ℕ) (x : X) (before old all : List Y) (y : Y) → i < length xs → x ≡ get_or xs i x
+    → old ≡ before ++ filter_map h (take i xs) → Some y ≡ h x → all ≡ old ++ y ∷ [] → all ≡ before ++ filter_map h (take (i + 1) xs)
+some_added h xs i x before old all y l r e s g =
+    g ∙ ap (λ ys. ys ++ y ∷ []) e ∙ append_thrice before (filter_map h (take i xs)) (y ∷ [])
+    ∙ ap (λ o. before ++ (filter_map h (take i xs) ++ cons_option o [])) s ∙ ap (λ ys. before ++ ys) (sym (filter_map_more h xs i x l r))
+
+pub none_added : {X Y : Type 0} (h : X → Option Y) (xs : List X) (i : ℕ) (x : X) (before old : List Y) → i < length xs → x ≡ get_or xs i x
+    → old ≡ before ++ filter_map h (take i xs) → None ≡ h x → old ≡ before ++ filter_map h (take (i + 1) xs)
+none_added h xs i x before old l r e s =
+    e ∙ ap (λ ys. before ++ ys) (sym (append-nil (filter_map h (take i xs))) ∙ ap (λ o. filter_map h (take i xs) ++ cons_option o []) s ∙ sym (filter_map_more h xs i x l r))
+
 -- what holds of each posting
 pub All-filter_map : {X Y : Type 0} (P : Y → Type 0) (p : X → Bool) (f : X → Y) (xs : List X) → AllByRecursion (λ x. P (f x)) xs
     → AllByRecursion P (filter_map (λ x. cond (p x) (Some (f x)) None) xs)

@@ -1,24 +1,25 @@
 -- The conditions on requests, settlements and cash rows, each as one equation between two lists of rows.
-use Rattle.std.proofs.Common.{◌≡◌, ℕ, ◌+◌, ◌*◌, ◌==◌, Bool, true, false, cond, List, [], ◌∷◌, refl, sym, ◌∙◌, ap, map, filter, pos, unwrap_or, Option, Some, None}
+use Rattle.std.proofs.Common.{◌≡◌, ℕ, ◌+◌, ◌*◌, ◌==◌, Bool, true, false, cond, List, [], ◌∷◌, ◌++◌, refl, sym, ◌∙◌, ap, map, filter, pos, unwrap_or, Option, Some, None}
 use Rattle.std.specs.Prelude.{◌&&◌, ◌-ℤ◌, if◌then◌else◌, find, is_some, option_map}
 use Rattle.std.specs.List.{AllByRecursion}
 use Rattle.std.specs.Option.{option_map_or}
 use Rattle.std.proofs.lemmas.Bool.{eqb-true, eq-eqb}
 use Rattle.brk_money.specs.Kinds.{side_of}
-use Rattle.brk_money.specs.Moments.{day_of}
 use Rattle.brk_money.specs.declared.fault.Condition.TheVariants as condition
 use Rattle.brk_money.specs.declared.tax_status.TaxStatus.TheVariants.{Untaxed}
 use Rattle.brk_model.specs.Records.{Account}
 use Rattle.brk_model.specs.Base.{broker_in, completed, find_account, takes_tax_off, tax_status_in}
-use Rattle.brk_model.specs.Derived.{amount_of, cash_trades, proceeds, settlement_days}
+use Rattle.brk_model.specs.Derived.{amount_of, cash_trades, due_after, in_turn, postings_of, proceeds}
 use Rattle.brk_model.specs.Joins.{account_in}
-use Rattle.brk_model.specs.Tables.{Tables, AccountRow, CashRow, RequestRow, SettlementRow, TradeRow, cash_row, request_row, settlement_row, tables_of}
+use Rattle.brk_model.specs.Tables.{Tables, numbered, AccountRow, CashRow, RequestRow, SettlementRow, TradeRow, cash_row, request_row, settlement_row, tables_at}
 use Rattle.brk_model.specs.Sheets.{sheets_of}
-use Rattle.brk_model.specs.Keys.{number, by_key, cash_key, request_key, settlement_key, trade_key}
-use Rattle.brk_model.specs.Adopted.{account_of_row, base_of, trade_of_row}
+use Rattle.brk_model.specs.Keys.{number, by_key, row_before, cash_key, move_key, request_key, settlement_key, trade_key}
+use Rattle.brk_model.specs.Adopted.{account_of_row, base_of, is_posted_by, posting_of_cash, posting_of_move, postings_in, trade_of_row}
 use Rattle.brk_model.specs.Ways.{has_status_rows, trade_status}
 use Rattle.brk_model.specs.Audit.{Holds, expected}
 use Rattle.brk_book_laws.proofs.Same.{All-filter, All-map, find-each, map-same}
+use Rattle.brk_model.specs.Lists.{sort_by}
+use Rattle.brk_book_laws.proofs.Order.{append_nil}
 use Rattle.brk_book_laws.proofs.Reading.{find-map}
 use Rattle.brk_adoption_laws.proofs.Climbs.{Climbs, In, climbs_filter, climbs_map, each_in, stays}
 use Rattle.brk_adoption_laws.proofs.Members.{FoundIn, found_in, map-map, one_of_key}
@@ -26,6 +27,7 @@ use Rattle.brk_adoption_laws.proofs.AdoptedBooks.{filter-map}
 use Rattle.brk_audit.specs.Completed.{done_rows, is_done, is_waiting, waiting_rows}
 use Rattle.brk_audit.specs.Settling.{amount_at, broker_at, due_in, due_of, is_done_in_cash, moved_by, moved_in, request_of, tax_status_at}
 use Rattle.brk_audit.proofs.Completed.{completed_rows, pending_rows, right_rows, row_moment}
+use Rattle.brk_model.specs.Schemas.{Schema}
 
 -- ---- what is found of an account
 
@@ -55,22 +57,22 @@ same_amount t r = λ i.
 
 -- ---- the rows that are expected
 
-wanted_requests : (t : Tables) → Climbs trade_key t.trades → has_status_rows t ≡ true
-    → (expected t).requests ≡ map (λ r. request_row (accounts_in t) (trade_of_row t r)) (waiting_rows t)
-unfolding base_of sheets_of tables_of
-wanted_requests t c s =
+wanted_requests : (schema : Schema) (t : Tables) → Climbs trade_key t.trades → has_status_rows t ≡ true
+    → (expected schema t).requests ≡ map (λ r. request_row (accounts_in t) (trade_of_row t r)) (waiting_rows t)
+unfolding base_of sheets_of tables_at
+wanted_requests schema t c s =
     let f : TradeRow → RequestRow = λ r. request_row (accounts_in t) (trade_of_row t r) in
     ap (λ ts. by_key request_key (map (request_row (accounts_in t)) ts)) (pending_rows t s)
     ∙ ap (by_key request_key) (map-map (request_row (accounts_in t)) (trade_of_row t) (waiting_rows t))
     ∙ stays request_key (map f (waiting_rows t)) (climbs_map trade_key request_key f (waiting_rows t) (λ r. refl) (climbs_filter trade_key is_waiting t.trades c))
 
-wanted_settlements : (t : Tables) → Climbs trade_key t.trades → has_status_rows t ≡ true
-    → (expected t).settlements ≡ map (λ r. settlement_row (accounts_in t) (trade_of_row t r)) (done_rows t)
-unfolding base_of sheets_of tables_of
-wanted_settlements t c s =
-    let f : TradeRow → SettlementRow = λ r. settlement_row (accounts_in t) (trade_of_row t r) in
-    ap (λ ts. by_key settlement_key (map (settlement_row (accounts_in t)) ts)) (completed_rows t s)
-    ∙ ap (by_key settlement_key) (map-map (settlement_row (accounts_in t)) (trade_of_row t) (done_rows t))
+wanted_settlements : (schema : Schema) (t : Tables) → Climbs trade_key t.trades → has_status_rows t ≡ true
+    → (expected schema t).settlements ≡ map (λ r. settlement_row (accounts_in t) t.rule (trade_of_row t r)) (done_rows t)
+unfolding base_of sheets_of tables_at
+wanted_settlements schema t c s =
+    let f : TradeRow → SettlementRow = λ r. settlement_row (accounts_in t) t.rule (trade_of_row t r) in
+    ap (λ ts. by_key settlement_key (map (settlement_row (accounts_in t) t.rule) ts)) (completed_rows t s)
+    ∙ ap (by_key settlement_key) (map-map (settlement_row (accounts_in t) t.rule) (trade_of_row t) (done_rows t))
     ∙ stays settlement_key (map f (done_rows t)) (climbs_map trade_key settlement_key f (done_rows t) (λ r. refl) (climbs_filter trade_key is_done t.trades c))
 
 pub filter-filter : {X : Type 0} (p q : X → Bool) (xs : List X) → filter p (filter q xs) ≡ filter (λ x. q x && p x) xs
@@ -82,20 +84,29 @@ filter-filter {X = X} p q (x ∷ xs) = by_test (q x) (filter-filter p q xs)
     by_test true h = ap (λ ys. cond (p x) (x ∷ ys) ys) h
     by_test false h = h
 
-cash_rows : (t : Tables) → has_status_rows t ≡ true → cash_trades (completed (base_of t)) ≡ map (trade_of_row t) (filter is_done_in_cash t.trades)
+pub cash_rows : (t : Tables) → has_status_rows t ≡ true → cash_trades (completed (base_of t)) ≡ map (trade_of_row t) (filter is_done_in_cash t.trades)
 cash_rows t s =
     ap cash_trades (completed_rows t s) ∙ filter-map (λ u. u.is_cash) (trade_of_row t) (done_rows t)
     ∙ ap (map (trade_of_row t)) (filter-filter (λ r. r.is_cash) is_done t.trades)
 
-wanted_cash : (t : Tables) → Climbs trade_key t.trades → has_status_rows t ≡ true
-    → (expected t).cash ≡ map (λ r. cash_row (accounts_in t) (trade_of_row t r)) (filter is_done_in_cash t.trades)
-unfolding base_of sheets_of tables_of
-wanted_cash t c s =
+wanted_cash : (schema : Schema) (t : Tables) → schema.has_moves ≡ false → Climbs trade_key t.trades → has_status_rows t ≡ true
+    → (expected schema t).cash ≡ map (λ r. cash_row (accounts_in t) (trade_of_row t r)) (filter is_done_in_cash t.trades)
+unfolding base_of sheets_of tables_at
+wanted_cash schema t n c s =
     let f : TradeRow → CashRow = λ r. cash_row (accounts_in t) (trade_of_row t r) in
     let rows : List TradeRow = filter is_done_in_cash t.trades in
-    ap (λ ts. by_key cash_key (map (cash_row (accounts_in t)) ts)) (cash_rows t s)
+    ap (λ b. by_key cash_key (cond b [] (map (cash_row (accounts_in t)) (cash_trades (completed (base_of t)))))) n
+    ∙ ap (λ ts. by_key cash_key (map (cash_row (accounts_in t)) ts)) (cash_rows t s)
     ∙ ap (by_key cash_key) (map-map (cash_row (accounts_in t)) (trade_of_row t) rows)
     ∙ stays cash_key (map f rows) (climbs_map trade_key cash_key f rows (λ r. refl) (climbs_filter trade_key is_done_in_cash t.trades c))
+
+pub no_rows : {Row : Type 0} (before : Row → Row → Bool) → sort_by before [] ≡ []
+unfolding sort_by
+no_rows before = refl
+
+wanted_no_moves : (schema : Schema) (t : Tables) → schema.has_moves ≡ false → (expected schema t).moves ≡ []
+unfolding sheets_of tables_at
+wanted_no_moves schema t n = ap (λ b. by_key move_key (cond b (numbered 1 (in_turn (postings_of (base_of t)))) [])) n ∙ no_rows (row_before move_key)
 
 -- ---- requests
 
@@ -107,22 +118,22 @@ same_requests t [] = refl
 same_requests t (r ∷ rs) =
     λ i. record { trade = r.id; kind = r.kind; symbol = r.symbol; qty = r.qty; bid = r.bid; broker = same_broker t r.account i } ∷ same_requests t rs i
 
-pub requests_by_rows : (t : Tables) → Climbs trade_key t.trades → has_status_rows t ≡ true → (Holds condition.Requests t → HasRequests t) × (HasRequests t → Holds condition.Requests t)
+pub requests_by_rows : (schema : Schema) (t : Tables) → Climbs trade_key t.trades → has_status_rows t ≡ true → (Holds schema condition.Requests t → HasRequests t) × (HasRequests t → Holds schema condition.Requests t)
 unfolding Holds
-requests_by_rows t c s =
-    let e : (expected t).requests ≡ map (request_of (broker_at t)) (waiting_rows t) = wanted_requests t c s ∙ same_requests t (waiting_rows t) in
+requests_by_rows schema t c s =
+    let e : (expected schema t).requests ≡ map (request_of (broker_at t)) (waiting_rows t) = wanted_requests schema t c s ∙ same_requests t (waiting_rows t) in
     ((λ h. h ∙ e), (λ h. h ∙ sym e))
 
 -- ---- settlements
 
 abbrev HasSettlements : Tables → Type 0
-HasSettlements t = map due_in t.settlements ≡ map (due_of (tax_status_at t)) (done_rows t)
+HasSettlements t = map due_in t.settlements ≡ map (due_of t.rule (tax_status_at t)) (done_rows t)
 
 abbrev IsRight : Tables → TradeRow → Type 0
 IsRight t r = trade_status t r ≡ true
 
-due_right : (t : Tables) (r : TradeRow) → IsRight t r → due_in (settlement_row (accounts_in t) (trade_of_row t r)) ≡ due_of (tax_status_at t) r
-due_right t r e = λ i. record { trade = r.id; due_day = day_of (row_moment t r e i) + settlement_days; amount = same_amount t r i }
+due_right : (t : Tables) (r : TradeRow) → IsRight t r → due_in (settlement_row (accounts_in t) t.rule (trade_of_row t r)) ≡ due_of t.rule (tax_status_at t) r
+due_right t r e = λ i. record { trade = r.id; due_day = due_after t.rule (row_moment t r e i); amount = same_amount t r i }
 
 right_done : (t : Tables) (p : TradeRow → Bool) → has_status_rows t ≡ true → AllByRecursion (IsRight t) (filter p t.trades)
 right_done t p s = All-filter (IsRight t) p t.trades (right_rows t s)
@@ -143,34 +154,34 @@ settlement_found ss c = both ss (each_in ss) (find-each (λ s x. x.trade == s.tr
     both (s ∷ xs) m e = (one s m.0 e.0, both xs m.1 e.1)
 
 same_settlement : (t : Tables) (s : SettlementRow) (r : TradeRow) → find (λ x. x.trade == s.trade) t.settlements ≡ Some s → IsRight t r
-    → due_in s ≡ due_of (tax_status_at t) r → s ≡ settlement_row (accounts_in t) (trade_of_row t r)
+    → due_in s ≡ due_of t.rule (tax_status_at t) r → s ≡ settlement_row (accounts_in t) t.rule (trade_of_row t r)
 same_settlement t s r f e d =
-    let g : due_in s ≡ due_in (settlement_row (accounts_in t) (trade_of_row t r)) = d ∙ sym (due_right t r e) in
+    let g : due_in s ≡ due_in (settlement_row (accounts_in t) t.rule (trade_of_row t r)) = d ∙ sym (due_right t r e) in
     let id : s.trade ≡ r.id = ap (λ x. x.trade) g in
     let w : s.cash_type ≡ option_map_or (λ x. x.cash_type) (find (λ x. x.trade == r.id) t.settlements) [] =
     sym (ap (λ o. option_map_or (λ x. x.cash_type) o []) f) ∙ ap (λ n. option_map_or (λ x. x.cash_type) (find (λ x. x.trade == n) t.settlements) []) id in
     λ i. record { trade = (g i).trade; cash_type = w i; due_day = (g i).due_day; amount = (g i).amount }
 
 same_settlements : (t : Tables) (ss : List SettlementRow) (rs : List TradeRow) → AllByRecursion (λ s. find (λ x. x.trade == s.trade) t.settlements ≡ Some s) ss
-    → AllByRecursion (IsRight t) rs → map due_in ss ≡ map (due_of (tax_status_at t)) rs → ss ≡ map (λ r. settlement_row (accounts_in t) (trade_of_row t r)) rs
+    → AllByRecursion (IsRight t) rs → map due_in ss ≡ map (due_of t.rule (tax_status_at t)) rs → ss ≡ map (λ r. settlement_row (accounts_in t) t.rule (trade_of_row t r)) rs
 same_settlements t [] [] f e d = refl
 same_settlements t [] (r ∷ rs) f e d = absurd (cc)
 same_settlements t (s ∷ ss) [] f e d = absurd (cc)
 same_settlements t (s ∷ ss) (r ∷ rs) f e d =
-    let h : due_in s ≡ due_of (tax_status_at t) r = cc in
-    let k : map due_in ss ≡ map (due_of (tax_status_at t)) rs = cc in
+    let h : due_in s ≡ due_of t.rule (tax_status_at t) r = cc in
+    let k : map due_in ss ≡ map (due_of t.rule (tax_status_at t)) rs = cc in
     let g = same_settlement t s r f.0 e.0 h in
     let more = same_settlements t ss rs f.1 e.1 k in
     λ i. g i ∷ more i
 
-pub settlements_by_rows : (t : Tables) → Climbs trade_key t.trades → Climbs settlement_key t.settlements → has_status_rows t ≡ true
-    → (Holds condition.Settlement t → HasSettlements t) × (HasSettlements t → Holds condition.Settlement t)
+pub settlements_by_rows : (schema : Schema) (t : Tables) → Climbs trade_key t.trades → Climbs settlement_key t.settlements → has_status_rows t ≡ true
+    → (Holds schema condition.Settlement t → HasSettlements t) × (HasSettlements t → Holds schema condition.Settlement t)
 unfolding Holds
-settlements_by_rows t c d s =
-    let f : TradeRow → SettlementRow = λ r. settlement_row (accounts_in t) (trade_of_row t r) in
+settlements_by_rows schema t c d s =
+    let f : TradeRow → SettlementRow = λ r. settlement_row (accounts_in t) t.rule (trade_of_row t r) in
     let right : AllByRecursion (IsRight t) (done_rows t) = right_done t is_done s in
-    let e = wanted_settlements t c s in (
-      (λ h. ap (map due_in) (h ∙ e) ∙ map-map due_in f (done_rows t) ∙ map-same (λ r. due_in (f r)) (due_of (tax_status_at t)) (done_rows t) (All-map (done_rows t) (due_right t) right)),
+    let e = wanted_settlements schema t c s in (
+      (λ h. ap (map due_in) (h ∙ e) ∙ map-map due_in f (done_rows t) ∙ map-same (λ r. due_in (f r)) (due_of t.rule (tax_status_at t)) (done_rows t) (All-map (done_rows t) (due_right t) right)),
       (λ h. same_settlements t t.settlements (done_rows t) (settlement_found t.settlements d) right h ∙ sym e),
     )
 
@@ -196,35 +207,42 @@ cash_found cs c = both cs (each_in cs) (find-each (λ c x. x.trade == c.trade) c
     both [] m e = tt
     both (r ∷ xs) m e = (one r m.0 e.0, both xs m.1 e.1)
 
-same_cash_row : (t : Tables) (c : CashRow) (r : TradeRow) → find (λ x. x.trade == c.trade) t.cash ≡ Some c → IsRight t r
+-- what is posted by a trade, where no rows are numbered
+posted_cash : (t : Tables) → t.moves ≡ [] → (id : ℕ) → find (is_posted_by id) (postings_in t) ≡ option_map (posting_of_cash t) (find (λ x. x.trade == id) t.cash)
+posted_cash t e id =
+    ap (λ ms. find (is_posted_by id) (map (posting_of_cash t) t.cash ++ map posting_of_move ms)) e ∙ ap (find (is_posted_by id)) (append_nil (map (posting_of_cash t) t.cash))
+    ∙ find-map (is_posted_by id) (posting_of_cash t) t.cash
+
+same_cash_row : (t : Tables) (c : CashRow) (r : TradeRow) → t.moves ≡ [] → find (λ x. x.trade == c.trade) t.cash ≡ Some c → IsRight t r
     → moved_in c ≡ moved_by (tax_status_at t) r → c ≡ cash_row (accounts_in t) (trade_of_row t r)
-same_cash_row t c r f e d =
+same_cash_row t c r n f e d =
     let g : moved_in c ≡ moved_in (cash_row (accounts_in t) (trade_of_row t r)) = d ∙ sym (moved_right t r e) in
     let id : c.trade ≡ r.id = ap (λ x. x.trade) g in
-    let w : c.name ≡ option_map_or (λ x. x.name) (find (λ x. x.trade == r.id) t.cash) [] =
-    sym (ap (λ o. option_map_or (λ x. x.name) o []) f) ∙ ap (λ n. option_map_or (λ x. x.name) (find (λ x. x.trade == n) t.cash) []) id in
+    let w : c.name ≡ option_map_or (λ p. p.name) (find (is_posted_by r.id) (postings_in t)) [] =
+    sym (ap (λ o. option_map_or (λ p. p.name) (option_map (posting_of_cash t) o) []) f) ∙ ap (λ k. option_map_or (λ p. p.name) (option_map (posting_of_cash t) (find (λ x. x.trade == k) t.cash)) []) id
+    ∙ ap (λ o. option_map_or (λ p. p.name) o []) (sym (posted_cash t n r.id)) in
     λ i. record { trade = (g i).trade; stamp = (g i).stamp; amount = (g i).amount; name = w i }
 
-same_cash : (t : Tables) (cs : List CashRow) (rs : List TradeRow) → AllByRecursion (λ c. find (λ x. x.trade == c.trade) t.cash ≡ Some c) cs
+same_cash : (t : Tables) (cs : List CashRow) (rs : List TradeRow) → t.moves ≡ [] → AllByRecursion (λ c. find (λ x. x.trade == c.trade) t.cash ≡ Some c) cs
     → AllByRecursion (IsRight t) rs → map moved_in cs ≡ map (moved_by (tax_status_at t)) rs → cs ≡ map (λ r. cash_row (accounts_in t) (trade_of_row t r)) rs
-same_cash t [] [] f e d = refl
-same_cash t [] (r ∷ rs) f e d = absurd (cc)
-same_cash t (c ∷ cs) [] f e d = absurd (cc)
-same_cash t (c ∷ cs) (r ∷ rs) f e d =
+same_cash t [] [] n f e d = refl
+same_cash t [] (r ∷ rs) n f e d = absurd (cc)
+same_cash t (c ∷ cs) [] n f e d = absurd (cc)
+same_cash t (c ∷ cs) (r ∷ rs) n f e d =
     let h : moved_in c ≡ moved_by (tax_status_at t) r = cc in
     let k : map moved_in cs ≡ map (moved_by (tax_status_at t)) rs = cc in
-    let g = same_cash_row t c r f.0 e.0 h in
-    let more = same_cash t cs rs f.1 e.1 k in
+    let g = same_cash_row t c r n f.0 e.0 h in
+    let more = same_cash t cs rs n f.1 e.1 k in
     λ i. g i ∷ more i
 
-pub cash_by_rows : (t : Tables) → Climbs trade_key t.trades → Climbs cash_key t.cash → has_status_rows t ≡ true
-    → (Holds condition.Cash t → HasCash t) × (HasCash t → Holds condition.Cash t)
+pub cash_by_rows : (schema : Schema) (t : Tables) → schema.has_moves ≡ false → t.moves ≡ [] → Climbs trade_key t.trades → Climbs cash_key t.cash → has_status_rows t ≡ true
+    → (Holds schema condition.Cash t → HasCash t) × (HasCash t → Holds schema condition.Cash t)
 unfolding Holds
-cash_by_rows t c d s =
+cash_by_rows schema t n m c d s =
     let f : TradeRow → CashRow = λ r. cash_row (accounts_in t) (trade_of_row t r) in
     let rows : List TradeRow = filter is_done_in_cash t.trades in
     let right : AllByRecursion (IsRight t) rows = right_done t is_done_in_cash s in
-    let e = wanted_cash t c s in (
-      (λ h. ap (map moved_in) (h ∙ e) ∙ map-map moved_in f rows ∙ map-same (λ r. moved_in (f r)) (moved_by (tax_status_at t)) rows (All-map rows (moved_right t) right)),
-      (λ h. same_cash t t.cash rows (cash_found t.cash d) right h ∙ sym e),
+    let e = wanted_cash schema t n c s in (
+      (λ h. ap (map moved_in) (h.0 ∙ e) ∙ map-map moved_in f rows ∙ map-same (λ r. moved_in (f r)) (moved_by (tax_status_at t)) rows (All-map rows (moved_right t) right)),
+      (λ h. (same_cash t t.cash rows m (cash_found t.cash d) right h ∙ sym e, m ∙ sym (wanted_no_moves schema t n))),
     )

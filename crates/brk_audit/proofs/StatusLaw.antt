@@ -10,8 +10,8 @@ use Rattle.brk_model.specs.Lists.{all_distinct}
 use Rattle.brk_model.specs.Tables.{Tables, TradeRow, HistoryRow}
 use Rattle.brk_model.specs.Joins.{history_in}
 use Rattle.brk_model.specs.Keys.{number, key_before, history_key, trade_key}
-use Rattle.brk_model.specs.Form.{has_form, history_form}
-use Rattle.brk_model.specs.Ways.{completion_stamps, has_status_rows, trade_status}
+use Rattle.brk_model.specs.Form.{history_form}
+use Rattle.brk_model.specs.Ways.{completion_stamps, movement_stamps, has_status_rows, trade_status}
 use Rattle.brk_model.specs.Audit.{Holds}
 use Rattle.brk_book_laws.proofs.Same.{All-map}
 use Rattle.brk_book_laws.proofs.LotReading.{all_pass}
@@ -23,6 +23,8 @@ use Rattle.brk_model_laws.proofs.FormParts.{form_parts}
 use Rattle.brk_adoption_laws.proofs.AdoptedHistory.{joined}
 use Rattle.brk_audit.specs.Statuses.{all_go, goes_way, stamps_of}
 use Rattle.brk_audit.proofs.Statuses.{status_by_rows}
+use Rattle.brk_audit.specs.Conditions.{IsFormed}
+use Rattle.brk_model.specs.Schemas.{Schema}
 
 -- ---- a trade's rows are the first of those that are left
 
@@ -70,16 +72,16 @@ same_all t (r ∷ rs) c =
     same_tests (trade_status t r) (goes_way r (history_in t r.id)) (status_by_rows t r c).0 (status_by_rows t r c).1 in
     λ i. e i && same_all t rs c i
 
-pub statuses_by_rows : (t : Tables) → has_form t ≡ true → has_status_rows t ≡ all_go t.trades t.history && all_distinct (stamps_of t.history)
+pub statuses_by_rows : (t : Tables) → IsFormed t → has_status_rows t ≡ all_go t.trades t.history && all_distinct (stamps_of t.history ++ movement_stamps t)
 unfolding has_status_rows runs
 statuses_by_rows t f =
-    let p : FormParts t = form_parts t f in
+    let p : FormParts f.schema t = form_parts f.schema t f.form in
     let k : KeyParts t = key_parts t p.keys in
     let j : runs t t.trades ≡ t.history = joined t k.history k.trades (list_all_true (history_form t) t.history p.history) in
-    ap (λ b. b && all_distinct (completion_stamps t)) (same_all t t.trades k.history ∙ sym (go_each t t.trades k.trades) ∙ ap (all_go t.trades) j)
+    ap (λ b. b && all_distinct (completion_stamps t ++ movement_stamps t)) (same_all t t.trades k.history ∙ sym (go_each t t.trades k.trades) ∙ ap (all_go t.trades) j)
 
-pub status_holds : (t : Tables) (go apart : Bool) → has_form t ≡ true → go ≡ all_go t.trades t.history → apart ≡ all_distinct (stamps_of t.history)
-    → (go && apart ≡ true → Holds condition.Status t) × (Holds condition.Status t → go && apart ≡ true)
+pub status_holds : (schema : Schema) (t : Tables) (go apart : Bool) → IsFormed t → go ≡ all_go t.trades t.history → apart ≡ all_distinct (stamps_of t.history ++ movement_stamps t)
+    → (go && apart ≡ true → Holds schema condition.Status t) × (Holds schema condition.Status t → go && apart ≡ true)
 unfolding Holds
-status_holds t go apart f g a =
+status_holds schema t go apart f g a =
     let e : has_status_rows t ≡ go && apart = statuses_by_rows t f ∙ (λ i. sym g i && sym a i) in ((λ h. e ∙ h), (λ h. sym e ∙ h))

@@ -1,6 +1,6 @@
 -- The conditions on counts, commissions and balances, row by row, as sums over rows.
 use Rattle.std.proofs.Common.{◌≡◌, ℕ, ◌+◌, ◌==◌, Bool, true, false, List, [], ◌∷◌, refl, sym, ◌∙◌, ap, map, filter, length, ℤ, pos, arith, Some}
-use Rattle.std.specs.Prelude.{◌&&◌, ◌+ℤ◌, find, is_some, option_map, sum_by}
+use Rattle.std.specs.Prelude.{◌&&◌, ◌+ℤ◌, find, is_none, is_some, option_map, sum_by}
 use Rattle.std.specs.List.{AllByRecursion}
 use Rattle.std.specs.Option.{option_map_or}
 use Rattle.std.proofs.lemmas.Bool.{eqb-true, eq-eqb}
@@ -9,24 +9,26 @@ use Rattle.brk_money.specs.declared.fault.Condition.TheVariants as condition
 use Rattle.brk_model.specs.Lists.{total_by}
 use Rattle.brk_model.specs.Records.{Trade}
 use Rattle.brk_model.specs.Base.{broker_in, completed, is_completed, opening_in}
-use Rattle.brk_model.specs.Derived.{amount_of, balance_of, cash_trades, commissions_of, of_account, of_broker, trade_count_of}
+use Rattle.brk_model.specs.Derived.{Posting, amount_of, balance_of, cash_trades, commissions_of, of_broker, posted_to, posting_of_movement, postings_of, trade_count_of}
 use Rattle.brk_model.specs.Joins.{account_in}
-use Rattle.brk_model.specs.Tables.{Tables, AccountRow, BrokerRow, TradeRow, account_row, broker_row, tables_of}
+use Rattle.brk_model.specs.Tables.{Tables, AccountRow, BrokerRow, TradeRow, account_row, broker_row, tables_at}
 use Rattle.brk_model.specs.Sheets.{sheets_of}
 use Rattle.brk_model.specs.Keys.{account_key, broker_key, by_key, number}
-use Rattle.brk_model.specs.Adopted.{account_of_row, base_of, trade_of_row}
+use Rattle.brk_model.specs.Adopted.{account_of_row, base_of, movement_of_row, trade_of_row}
 use Rattle.brk_model.specs.Ways.{has_status_rows}
 use Rattle.brk_model.specs.Audit.{Holds, expected}
+use Rattle.brk_book_laws.proofs.Postings.{balance_parts}
 use Rattle.brk_book_laws.proofs.Same.{All-map, All-of, filter-same, find-each, map-same, total_by-same}
 use Rattle.brk_adoption_laws.proofs.Climbs.{Climbs, In, climbs_map, each_in, stays}
 use Rattle.brk_adoption_laws.proofs.Members.{FoundIn, found_in, map-map, one_of_key}
 use Rattle.brk_adoption_laws.proofs.AdoptedTables.{brokers_there}
 use Rattle.brk_audit.specs.Completed.{done_rows, is_done}
 use Rattle.brk_audit.specs.Settling.{amount_at, broker_at, is_done_in_cash, tax_status_at}
-use Rattle.brk_audit.specs.Sums.{sum_of_account, sum_of_broker}
+use Rattle.brk_audit.specs.Sums.{sum_of_account, sum_of_broker, sum_of_movements}
 use Rattle.brk_audit.proofs.Completed.{completed_rows}
 use Rattle.brk_audit.proofs.Postings.{total_mapped}
 use Rattle.brk_audit.proofs.Settling.{accounts_in, filter-filter, same_account, same_amount, same_broker}
+use Rattle.brk_model.specs.Schemas.{Schema}
 
 -- ---- sums
 
@@ -52,25 +54,29 @@ of_broker_sum t f g broker s e =
     (All-of t.trades (λ r i. is_done r && (same_broker t r.account i == broker))))
 
 of_account_sum : (t : Tables) (account : ℕ) → has_status_rows t ≡ true
-    → total_by (amount_of (base_of t).accounts) (cash_trades (of_account (completed (base_of t)) account)) ≡ sum_of_account t (λ r. amount_at (tax_status_at t r.account) r) account
+    → total_by (amount_of (base_of t).accounts) (filter (λ u. u.account == account) (cash_trades (completed (base_of t)))) ≡ sum_of_account t (λ r. amount_at (tax_status_at t r.account) r) account
 unfolding base_of
 of_account_sum t account s =
     let f : Trade → ℤ = amount_of (accounts_in t) in
     let g : TradeRow → ℤ = λ r. amount_at (tax_status_at t r.account) r in
-    ap (λ ts. total_by f (cash_trades (of_account ts account))) (completed_rows t s)
-    ∙ ap (total_by f) (filter-filter (λ u. u.is_cash) (λ u. u.account == account) (map (trade_of_row t) (done_rows t)))
-    ∙ total_mapped f (λ u. (u.account == account) && u.is_cash) (trade_of_row t) (done_rows t)
-    ∙ total_by-same (λ r. f (trade_of_row t r)) g (filter (λ r. (r.account == account) && r.is_cash) (done_rows t)) (All-of (filter (λ r. (r.account == account) && r.is_cash) (done_rows t)) (same_amount t))
-    ∙ ap (total_by g) (filter-filter (λ r. (r.account == account) && r.is_cash) is_done t.trades
-    ∙ filter-same (λ r. is_done r && ((r.account == account) && r.is_cash)) (λ r. is_done_in_cash r && (r.account == account)) t.trades
-    (All-of t.trades (λ r. regrouped (is_done r) (r.account == account) r.is_cash)))
+    ap (λ ts. total_by f (filter (λ u. u.account == account) (cash_trades ts))) (completed_rows t s)
+    ∙ ap (total_by f) (filter-filter (λ u. u.account == account) (λ u. u.is_cash) (map (trade_of_row t) (done_rows t)))
+    ∙ total_mapped f (λ u. u.is_cash && (u.account == account)) (trade_of_row t) (done_rows t)
+    ∙ total_by-same (λ r. f (trade_of_row t r)) g (filter (λ r. r.is_cash && (r.account == account)) (done_rows t)) (All-of (filter (λ r. r.is_cash && (r.account == account)) (done_rows t)) (same_amount t))
+    ∙ ap (total_by g) (filter-filter (λ r. r.is_cash && (r.account == account)) is_done t.trades
+    ∙ filter-same (λ r. is_done r && (r.is_cash && (r.account == account))) (λ r. is_done_in_cash r && (r.account == account)) t.trades
+    (All-of t.trades (λ r. regrouped (is_done r) r.is_cash (r.account == account))))
   where
-    regrouped : (a b c : Bool) → a && (b && c) ≡ (a && c) && b
-    regrouped true true true = refl
-    regrouped true true false = refl
-    regrouped true false true = refl
-    regrouped true false false = refl
+    regrouped : (a b c : Bool) → a && (b && c) ≡ (a && b) && c
+    regrouped true b c = refl
     regrouped false b c = refl
+
+of_movements_sum : (t : Tables) (account : ℕ) → total_by (λ p. p.amount) (posted_to (map posting_of_movement (base_of t).movements) account) ≡ sum_of_movements t account
+unfolding base_of
+of_movements_sum t account =
+    ap (λ ps. total_by (λ p. p.amount) (posted_to ps account)) (map-map posting_of_movement movement_of_row (filter (λ r. is_none r.trade) t.moves))
+    ∙ total_mapped (λ p. p.amount) (λ p. p.account == account) (λ r. posting_of_movement (movement_of_row r)) (filter (λ r. is_none r.trade) t.moves)
+    ∙ ap (total_by (λ r. r.amount)) (filter-filter (λ r. r.account == account) (λ r. is_none r.trade) t.moves)
 
 -- ---- row by row
 
@@ -79,27 +85,28 @@ each_same f g [] e = tt
 each_same f g (b ∷ bs) e = let h : f b ≡ g b = cc in let t : map f bs ≡ map g bs = cc in (h, each_same f g bs t)
 
 -- what is expected of a column is what follows of each row
-wanted_counts : (t : Tables) → Climbs broker_key t.brokers
-    → map (λ b. b.trades) (expected t).brokers ≡ map (λ b. pos (trade_count_of (base_of t).accounts (completed (base_of t)) b.id)) t.brokers
-unfolding base_of sheets_of tables_of
-wanted_counts t c =
+wanted_counts : (schema : Schema) (t : Tables) → Climbs broker_key t.brokers
+    → map (λ b. b.trades) (expected schema t).brokers ≡ map (λ b. pos (trade_count_of (base_of t).accounts (completed (base_of t)) b.id)) t.brokers
+unfolding base_of sheets_of tables_at
+wanted_counts schema t c =
     let done : List Trade = filter is_completed (map (trade_of_row t) t.trades) in
     ap (map (λ b. b.trades)) (brokers_there (accounts_in t) done t.brokers c) ∙ map-map (λ b. b.trades) (λ b. broker_row (accounts_in t) done (record { id = b.id; name = b.name })) t.brokers
 
-wanted_commissions : (t : Tables) → Climbs broker_key t.brokers
-    → map (λ b. b.commissions) (expected t).brokers ≡ map (λ b. commissions_of (base_of t).accounts (completed (base_of t)) b.id) t.brokers
-unfolding base_of sheets_of tables_of
-wanted_commissions t c =
+wanted_commissions : (schema : Schema) (t : Tables) → Climbs broker_key t.brokers
+    → map (λ b. b.commissions) (expected schema t).brokers ≡ map (λ b. commissions_of (base_of t).accounts (completed (base_of t)) b.id) t.brokers
+unfolding base_of sheets_of tables_at
+wanted_commissions schema t c =
     let done : List Trade = filter is_completed (map (trade_of_row t) t.trades) in
     ap (map (λ b. b.commissions)) (brokers_there (accounts_in t) done t.brokers c) ∙ map-map (λ b. b.commissions) (λ b. broker_row (accounts_in t) done (record { id = b.id; name = b.name })) t.brokers
 
-wanted_balances : (t : Tables) → Climbs account_key t.accounts
-    → map (λ a. a.balance) (expected t).accounts ≡ map (λ a. balance_of (base_of t).accounts (completed (base_of t)) a.id) t.accounts
-unfolding base_of sheets_of tables_of
-wanted_balances t c =
+wanted_balances : (schema : Schema) (t : Tables) → Climbs account_key t.accounts
+    → map (λ a. a.balance) (expected schema t).accounts ≡ map (λ a. balance_of (base_of t).accounts (postings_of (base_of t)) a.id) t.accounts
+unfolding base_of sheets_of tables_at
+wanted_balances schema t c =
     let done : List Trade = filter is_completed (map (trade_of_row t) t.trades) in
-    let row : AccountRow → AccountRow = λ a. account_row (accounts_in t) done (account_of_row a) in
-    ap (λ rows. map (λ a. a.balance) (by_key account_key rows)) (map-map (account_row (accounts_in t) done) account_of_row t.accounts)
+    let posted : List Posting = postings_of (base_of t) in
+    let row : AccountRow → AccountRow = λ a. account_row (accounts_in t) posted (account_of_row a) in
+    ap (λ rows. map (λ a. a.balance) (by_key account_key rows)) (map-map (account_row (accounts_in t) posted) account_of_row t.accounts)
     ∙ ap (map (λ a. a.balance)) (stays account_key (map row t.accounts) (climbs_map account_key account_key row t.accounts (λ a. refl) c))
     ∙ map-map (λ a. a.balance) row t.accounts
 
@@ -109,8 +116,12 @@ CountsHold t = AllByRecursion (λ b. b.trades ≡ sum_of_broker t (λ r. pos 1) 
 abbrev pub CommissionsHold : Tables → Type 0
 CommissionsHold t = AllByRecursion (λ b. pos b.commissions ≡ sum_of_broker t (λ r. pos r.commission) b.id) t.brokers
 
+-- what its cash trades and its movements moved on an account
+abbrev pub moved_on : Tables → ℕ → ℤ
+moved_on t account = sum_of_account t (λ r. amount_at (tax_status_at t r.account) r) account +ℤ sum_of_movements t account
+
 abbrev pub BalancesHold : Tables → Type 0
-BalancesHold t = AllByRecursion (λ a. a.balance ≡ a.opening +ℤ sum_of_account t (λ r. amount_at (tax_status_at t r.account) r) a.id) t.accounts
+BalancesHold t = AllByRecursion (λ a. a.balance ≡ a.opening +ℤ moved_on t a.id) t.accounts
 
 count_is : (t : Tables) (broker : ℕ) → has_status_rows t ≡ true → pos (trade_count_of (base_of t).accounts (completed (base_of t)) broker) ≡ sum_of_broker t (λ r. pos 1) broker
 unfolding trade_count_of
@@ -122,24 +133,24 @@ unfolding commissions_of
 commission_is t broker s =
     pos_sum (λ u. u.commission) (of_broker (base_of t).accounts (completed (base_of t)) broker) ∙ of_broker_sum t (λ u. pos u.commission) (λ r. pos r.commission) broker s (λ r. refl)
 
-pub counts_by_rows : (t : Tables) → Climbs broker_key t.brokers → has_status_rows t ≡ true → (Holds condition.Count t → CountsHold t) × (CountsHold t → Holds condition.Count t)
+pub counts_by_rows : (schema : Schema) (t : Tables) → Climbs broker_key t.brokers → has_status_rows t ≡ true → (Holds schema condition.Count t → CountsHold t) × (CountsHold t → Holds schema condition.Count t)
 unfolding Holds
-counts_by_rows t c s =
+counts_by_rows schema t c s =
     let n : BrokerRow → ℤ = λ b. pos (trade_count_of (base_of t).accounts (completed (base_of t)) b.id) in (
-      (λ e. All-map t.brokers (λ b k. k ∙ count_is t b.id s) (each_same (λ b. b.trades) n t.brokers (e ∙ wanted_counts t c))),
-      (λ a. map-same (λ b. b.trades) n t.brokers (All-map t.brokers (λ b k. k ∙ sym (count_is t b.id s)) a) ∙ sym (wanted_counts t c)),
+      (λ e. All-map t.brokers (λ b k. k ∙ count_is t b.id s) (each_same (λ b. b.trades) n t.brokers (e ∙ wanted_counts schema t c))),
+      (λ a. map-same (λ b. b.trades) n t.brokers (All-map t.brokers (λ b k. k ∙ sym (count_is t b.id s)) a) ∙ sym (wanted_counts schema t c)),
     )
 
 same_number : (m n : ℕ) → pos m ≡ pos n → m ≡ n
 same_number m n e = cc
 
-pub commissions_by_rows : (t : Tables) → Climbs broker_key t.brokers → has_status_rows t ≡ true
-    → (Holds condition.Commission t → CommissionsHold t) × (CommissionsHold t → Holds condition.Commission t)
+pub commissions_by_rows : (schema : Schema) (t : Tables) → Climbs broker_key t.brokers → has_status_rows t ≡ true
+    → (Holds schema condition.Commission t → CommissionsHold t) × (CommissionsHold t → Holds schema condition.Commission t)
 unfolding Holds
-commissions_by_rows t c s =
+commissions_by_rows schema t c s =
     let n : BrokerRow → ℕ = λ b. commissions_of (base_of t).accounts (completed (base_of t)) b.id in (
-      (λ e. All-map t.brokers (λ b k. ap pos k ∙ commission_is t b.id s) (each_same (λ b. b.commissions) n t.brokers (e ∙ wanted_commissions t c))),
-      (λ a. map-same (λ b. b.commissions) n t.brokers (All-map t.brokers (λ b k. same_number b.commissions (n b) (k ∙ sym (commission_is t b.id s))) a) ∙ sym (wanted_commissions t c)),
+      (λ e. All-map t.brokers (λ b k. ap pos k ∙ commission_is t b.id s) (each_same (λ b. b.commissions) n t.brokers (e ∙ wanted_commissions schema t c))),
+      (λ a. map-same (λ b. b.commissions) n t.brokers (All-map t.brokers (λ b k. same_number b.commissions (n b) (k ∙ sym (commission_is t b.id s))) a) ∙ sym (wanted_commissions schema t c)),
     )
 
 -- a row is found by its own id
@@ -158,25 +169,26 @@ account_found rows c = both rows (each_in rows) (find-each (λ a x. x.id == a.id
     both (a ∷ xs) m e = (one a m.0 e.0, both xs m.1 e.1)
 
 balance_is : (t : Tables) (a : AccountRow) → has_status_rows t ≡ true → account_in t a.id ≡ Some a
-    → balance_of (base_of t).accounts (completed (base_of t)) a.id ≡ a.opening +ℤ sum_of_account t (λ r. amount_at (tax_status_at t r.account) r) a.id
-unfolding balance_of base_of
+    → balance_of (base_of t).accounts (postings_of (base_of t)) a.id ≡ a.opening +ℤ moved_on t a.id
+unfolding base_of
 balance_is t a s f =
     let o : opening_in (accounts_in t) a.id ≡ a.opening = ap (λ o. option_map_or (λ x. x.opening) o (pos 0)) (same_account t a.id ∙ ap (option_map account_of_row) f) in
     let n = of_account_sum t a.id s in
-    λ i. o i +ℤ n i
+    let m = of_movements_sum t a.id in
+    balance_parts (base_of t).accounts (completed (base_of t)) (base_of t).movements a.id ∙ (λ i. o i +ℤ (n i +ℤ m i))
 
 both_all : {X : Type 0} (P Q : X → Type 0) (xs : List X) → AllByRecursion P xs → AllByRecursion Q xs → AllByRecursion (λ x. P x × Q x) xs
 both_all P Q [] g h = tt
 both_all P Q (x ∷ xs) g h = ((g.0, h.0), both_all P Q xs g.1 h.1)
 
-pub balances_by_rows : (t : Tables) → Climbs account_key t.accounts → has_status_rows t ≡ true → (Holds condition.Balance t → BalancesHold t) × (BalancesHold t → Holds condition.Balance t)
+pub balances_by_rows : (schema : Schema) (t : Tables) → Climbs account_key t.accounts → has_status_rows t ≡ true → (Holds schema condition.Balance t → BalancesHold t) × (BalancesHold t → Holds schema condition.Balance t)
 unfolding Holds
-balances_by_rows t c s =
-    let n : AccountRow → ℤ = λ a. balance_of (base_of t).accounts (completed (base_of t)) a.id in
+balances_by_rows schema t c s =
+    let n : AccountRow → ℤ = λ a. balance_of (base_of t).accounts (postings_of (base_of t)) a.id in
     let found : AllByRecursion (λ a. account_in t a.id ≡ Some a) t.accounts = account_found t.accounts c in
-    let Right : AccountRow → Type 0 = λ a. a.balance ≡ a.opening +ℤ sum_of_account t (λ r. amount_at (tax_status_at t r.account) r) a.id in (
+    let Right : AccountRow → Type 0 = λ a. a.balance ≡ a.opening +ℤ moved_on t a.id in (
       (λ e. All-map t.accounts (λ a k. k.0 ∙ balance_is t a s k.1)
-          (both_all (λ a. a.balance ≡ n a) (λ a. account_in t a.id ≡ Some a) t.accounts (each_same (λ a. a.balance) n t.accounts (e ∙ wanted_balances t c)) found)),
+          (both_all (λ a. a.balance ≡ n a) (λ a. account_in t a.id ≡ Some a) t.accounts (each_same (λ a. a.balance) n t.accounts (e ∙ wanted_balances schema t c)) found)),
       (λ h. map-same (λ a. a.balance) n t.accounts
-          (All-map t.accounts (λ a k. k.0 ∙ sym (balance_is t a s k.1)) (both_all Right (λ a. account_in t a.id ≡ Some a) t.accounts h found)) ∙ sym (wanted_balances t c)),
+          (All-map t.accounts (λ a k. k.0 ∙ sym (balance_is t a s k.1)) (both_all Right (λ a. account_in t a.id ≡ Some a) t.accounts h found)) ∙ sym (wanted_balances schema t c)),
     )

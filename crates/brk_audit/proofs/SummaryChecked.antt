@@ -14,10 +14,11 @@ use Rattle.std.proofs.lemmas.Map.Text.{is_eq-slice_cmp}
 use Rattle.std.proofs.lemmas.Slice.Eq.{bytes_eq-Decides}
 use Rattle.brk_money.specs.Kinds.{side_of}
 use Rattle.brk_money.specs.Spelling.{Text}
-use Rattle.brk_model.specs.Form.{has_account, has_form, has_security, is_id, is_price, is_qty, is_stamp, price_form, summary_form, trade_form}
-use Rattle.brk_model.specs.Limits.{greatest_amount, greatest_charge, greatest_summary}
+use Rattle.brk_model.specs.Form.{has_account, has_security, is_id, is_price, is_qty, is_stamp, price_form, summary_form, trade_form}
+use Rattle.brk_model.specs.Limits.{greatest_amount, greatest_charge}
 use Rattle.brk_model.specs.Lists.{is_zero, total_by}
 use Rattle.brk_model.specs.Shares.{signed}
+use Rattle.brk_model.specs.Schemas.{Schema}
 use Rattle.brk_model.specs.Tables.{Tables, SummaryRow, TradeRow}
 use Rattle.brk_changes.specs.Rows.{summary_row_of, trade_row_of}
 use Rattle.brk_changes.specs.Sheets.{tables_in_sheets}
@@ -33,6 +34,7 @@ use Rattle.brk_audit.specs.Tally.{at_key, total_at}
 use Rattle.brk_audit.specs.declared.tally.Posting.{Posting}
 use Rattle.brk_audit.proofs.Checked.{rows_back, rows_hold}
 use Rattle.brk_audit.proofs.Postings.{All-filter_map, total_mapped, total_posted}
+use Rattle.brk_audit.specs.Conditions.{IsFormed}
 
 abbrev pub Place : Type 0
 Place = ℕ × Bor (List ℕ)
@@ -84,16 +86,16 @@ told_there s cs q e =
 abbrev IsKnown : Tables → ℕ → Text → Type 0
 IsKnown t account symbol = (has_account t account ≡ true) × (has_security t symbol ≡ true)
 
-trade_known : (t : Tables) (r : TradeRow) → trade_form t r ≡ true → IsKnown t r.account r.symbol
-trade_known t r e =
-    let k = parts10 (is_id r.id) (is_stamp t r.stamp) (has_security t r.symbol) (is_qty r.qty) (is_price r.bid) (has_account t r.account) (price_form t r)
+trade_known : (schema : Schema) (t : Tables) (r : TradeRow) → trade_form schema t r ≡ true → IsKnown t r.account r.symbol
+trade_known schema t r e =
+    let k = parts10 (is_id r.id) (is_stamp t r.stamp) (has_security t r.symbol) (is_qty schema r.qty) (is_price r.bid) (has_account t r.account) (price_form t r)
     (nat_le r.charge greatest_charge) (nat_le r.commission greatest_amount) (nat_le r.tax greatest_amount) e in
     (k.5, k.2)
 
-summary_known : (t : Tables) (h : SummaryRow) → summary_form t h ≡ true → IsKnown t h.account h.symbol
-summary_known t h e = let p = parts3 (has_account t h.account) (has_security t h.symbol) (nat_le (nat_abs h.qty) greatest_summary) e in (p.0, p.1)
+summary_known : (schema : Schema) (t : Tables) (h : SummaryRow) → summary_form schema t h ≡ true → IsKnown t h.account h.symbol
+summary_known schema t h e = let p = parts3 (has_account t h.account) (has_security t h.symbol) (nat_le (nat_abs h.qty) schema.greatest_summary) e in (p.0, p.1)
 
-postings_known : (s : Sheets) (ps : List (Posting Place)) → has_form (tables_in_sheets s) ≡ true → map plain ps ≡ filter_map (λ r. shares_posting (trade_row_of r)) s.trades.items
+postings_known : (s : Sheets) (ps : List (Posting Place)) → IsFormed (tables_in_sheets s) → map plain ps ≡ filter_map (λ r. shares_posting (trade_row_of r)) s.trades.items
     → AllByRecursion (λ p. IsKnown (tables_in_sheets s) p.key.0 p.key.1.now) ps
 postings_known s ps f e =
     let t : Tables = tables_in_sheets s in
@@ -101,18 +103,18 @@ postings_known s ps f e =
     (subst (AllByRecursion (λ p. IsKnown t p.key.0 p.key.1)) (sym e)
     (All-filter_map (λ p. IsKnown t p.key.0 p.key.1) (λ r. is_done (trade_row_of r))
     (λ r. record { key = ((trade_row_of r).account, (trade_row_of r).symbol); amount = signed (side_of (trade_row_of r).kind) (trade_row_of r).qty }) s.trades.items
-    (rows_back (λ r. IsKnown t (trade_row_of r).account (trade_row_of r).symbol) (λ r. trade_form t r ≡ true) trade_row_of s.trades.items (λ r. trade_known t (trade_row_of r))
-    (list_all_true (trade_form t) t.trades (form_parts t f).trades))))
+    (rows_back (λ r. IsKnown t (trade_row_of r).account (trade_row_of r).symbol) (λ r. trade_form f.schema t r ≡ true) trade_row_of s.trades.items (λ r. trade_known f.schema t (trade_row_of r))
+    (list_all_true (trade_form f.schema t) t.trades (form_parts f.schema t f.form).trades))))
 
-claims_known : (s : Sheets) (cs : List (Posting Place)) → has_form (tables_in_sheets s) ≡ true → map plain cs ≡ map (λ r. told_posting (summary_row_of r)) s.summaries.items
+claims_known : (s : Sheets) (cs : List (Posting Place)) → IsFormed (tables_in_sheets s) → map plain cs ≡ map (λ r. told_posting (summary_row_of r)) s.summaries.items
     → AllByRecursion (λ p. IsKnown (tables_in_sheets s) p.key.0 p.key.1.now) cs
 claims_known s cs f e =
     let t : Tables = tables_in_sheets s in
     rows_back (λ p. IsKnown t p.key.0 p.key.1.now) (λ p. IsKnown t p.key.0 p.key.1) plain cs (λ p h. h)
     (subst (AllByRecursion (λ p. IsKnown t p.key.0 p.key.1)) (sym e)
     (All-mapped (λ p. IsKnown t p.key.0 p.key.1) (λ r. told_posting (summary_row_of r)) s.summaries.items
-    (rows_back (λ r. IsKnown t (summary_row_of r).account (summary_row_of r).symbol) (λ r. summary_form t r ≡ true) summary_row_of s.summaries.items (λ r. summary_known t (summary_row_of r))
-    (list_all_true (summary_form t) t.summaries (form_parts t f).summaries))))
+    (rows_back (λ r. IsKnown t (summary_row_of r).account (summary_row_of r).symbol) (λ r. summary_form f.schema t r ≡ true) summary_row_of s.summaries.items (λ r. summary_known f.schema t (summary_row_of r))
+    (list_all_true (summary_form f.schema t) t.summaries (form_parts f.schema t f.form).summaries))))
 
 -- ---- where tallies agree
 
@@ -171,7 +173,7 @@ module _ (s : Sheets) (sums told : BTreeMap Place ℤ) (ps cs : List (Posting Pl
   known_agree : (xs : List (Posting Place)) → SummariesHold t → AllByRecursion (λ p. IsKnown t p.key.0 p.key.1.now) xs → AllByRecursion (Agree sums told) xs
   known_agree xs h k = All-map xs (λ p e. sum_is p.key ∙ h.sums p.key.0 p.key.1.now e.0 e.1 ∙ sym (told_is p.key)) k
 
-  pub they_agree : has_form t ≡ true → SummariesHold t
+  pub they_agree : IsFormed t → SummariesHold t
       → AllByRecursion (Agree sums told) ps × AllByRecursion (Agree sums told) cs × AllByRecursion (λ r. is_zero r.qty ≡ false) s.summaries.items
   they_agree f h = (
     known_agree ps h (postings_known s ps f w.posted),

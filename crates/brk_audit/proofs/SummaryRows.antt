@@ -13,12 +13,11 @@ use Rattle.brk_model.specs.Lists.{is_zero, total_by}
 use Rattle.brk_model.specs.Records.{Account, Security, Trade}
 use Rattle.brk_model.specs.Base.{account_with, completed, security_with}
 use Rattle.brk_model.specs.Derived.{of_position, summary_of}
-use Rattle.brk_model.specs.Form.{has_account, has_form, has_security, summary_form}
-use Rattle.brk_model.specs.Limits.{greatest_summary}
+use Rattle.brk_model.specs.Form.{has_account, has_security, summary_form}
 use Rattle.brk_model.specs.Keys.{number, word, key_before, account_key, security_key, summary_key}
 use Rattle.brk_model.specs.Shares.{signed}
 use Rattle.brk_model.specs.Sheets.{sheets_of}
-use Rattle.brk_model.specs.Tables.{Tables, AccountRow, SecurityRow, SummaryRow, summary_rows, tables_of}
+use Rattle.brk_model.specs.Tables.{Tables, AccountRow, SecurityRow, SummaryRow, summary_rows, tables_at}
 use Rattle.brk_model.specs.Adopted.{account_of_row, base_of, security_of_row, trade_of_row}
 use Rattle.brk_model.specs.Ways.{has_status_rows}
 use Rattle.brk_model.specs.Audit.{Holds, expected}
@@ -41,6 +40,8 @@ use Rattle.brk_audit.specs.PositionSums.{SummariesHold, TellsShares, sum_of_posi
 use Rattle.brk_audit.proofs.Completed.{completed_rows}
 use Rattle.brk_audit.proofs.Postings.{total_mapped}
 use Rattle.brk_audit.proofs.Settling.{filter-filter}
+use Rattle.brk_audit.specs.Conditions.{IsFormed}
+use Rattle.brk_model.specs.Schemas.{Schema}
 
 -- ---- what a position's trades leave
 
@@ -175,9 +176,9 @@ wanted_climbs t k =
     (climbs_map security_key symbol_key (security_of_row t) t.securities (λ s i. word (symbol_of t s i) ∷ []) k.securities)
     (climbs_map account_key account_id account_of_row t.accounts (λ a. refl) k.accounts)
 
-wanted_is : (t : Tables) → KeyParts t → (expected t).summaries ≡ wanted t
-unfolding sheets_of tables_of
-wanted_is t k = stays summary_key (wanted t) (wanted_climbs t k)
+wanted_is : (schema : Schema) (t : Tables) → KeyParts t → (expected schema t).summaries ≡ wanted t
+unfolding sheets_of tables_at
+wanted_is schema t k = stays summary_key (wanted t) (wanted_climbs t k)
 
 one_tells : (done : List Trade) (account : ℕ) (symbol : Text) → AllByRecursion TellsShares (summary_rows done account symbol)
 one_tells done account symbol = by_test (is_zero (summary_of done account symbol)) refl
@@ -232,8 +233,8 @@ wanted_known t =
     (All-map (base_of t).accounts (λ a h. All-flat_map (IsKnown t) (λ s. summary_rows (done_of t) a.id s.symbol) (base_of t).securities
     (All-map (base_of t).securities (λ s k. All-rows (IsKnown t) (done_of t) a.id s.symbol (h, k)) (securities_known t))) (accounts_known t))
 
-summary_known : (t : Tables) (h : SummaryRow) → summary_form t h ≡ true → IsKnown t h
-summary_known t h e = let p = parts3 (has_account t h.account) (has_security t h.symbol) (nat_le (nat_abs h.qty) greatest_summary) e in (p.0, p.1)
+summary_known : (schema : Schema) (t : Tables) (h : SummaryRow) → summary_form schema t h ≡ true → IsKnown t h
+summary_known schema t h e = let p = parts3 (has_account t h.account) (has_security t h.symbol) (nat_le (nat_abs h.qty) schema.greatest_summary) e in (p.0, p.1)
 
 account_there : (t : Tables) (id : ℕ) → has_account t id ≡ true → (a : Account) × (account_with (base_of t) id ≡ Some a)
 unfolding base_of
@@ -272,14 +273,14 @@ each_alike t xs ys c d n k e =
     All-map xs (λ h m. told_alike xs ys h c d m.1.0 m.0 (e h.account h.symbol m.1.1.0 m.1.1.1))
     (both_all (λ h. In h xs) (λ h. TellsShares h × IsKnown t h) xs (each_in xs) (both_all TellsShares (IsKnown t) xs n k))
 
-pub summaries_by_rows : (t : Tables) → has_form t ≡ true → has_status_rows t ≡ true → (Holds condition.Summary t → SummariesHold t) × (SummariesHold t → Holds condition.Summary t)
+pub summaries_by_rows : (schema : Schema) (t : Tables) → IsFormed t → has_status_rows t ≡ true → (Holds schema condition.Summary t → SummariesHold t) × (SummariesHold t → Holds schema condition.Summary t)
 unfolding Holds
-summaries_by_rows t f s =
-    let p : FormParts t = form_parts t f in
+summaries_by_rows schema t f s =
+    let p : FormParts f.schema t = form_parts f.schema t f.form in
     let k : KeyParts t = key_parts t p.keys in
-    let told = wanted_told t (adopted_books t f s) s in
-    let known : AllByRecursion (IsKnown t) t.summaries = All-map t.summaries (summary_known t) (list_all_true (summary_form t) t.summaries p.summaries) in
-    let e : (expected t).summaries ≡ wanted t = wanted_is t k in (
+    let told = wanted_told t (adopted_books f.schema t f.form s) s in
+    let known : AllByRecursion (IsKnown t) t.summaries = All-map t.summaries (summary_known f.schema t) (list_all_true (summary_form f.schema t) t.summaries p.summaries) in
+    let e : (expected schema t).summaries ≡ wanted t = wanted_is schema t k in (
       (λ h. let g : wanted t ≡ t.summaries = sym (h ∙ e) in record {
         sums = λ account symbol i j. sym (told account symbol i j) ∙ ap (λ rows. told_of_position rows account symbol) g;
         told = subst (AllByRecursion TellsShares) g (wanted_tells t);

@@ -1,16 +1,17 @@
 -- Steps of walks over rows.
 use Rattle.std.proofs.Common.{◌≡◌, ℕ, ◌+◌, ◌<◌, ◌==◌, Bool, true, false, cond, List, [], ◌∷◌, ◌++◌, refl, sym, ◌∙◌, ap, map, filter, take, drop, length, get_or, ⊎_elim}
-use Rattle.std.specs.Prelude.{◌&&◌, ◌||◌, not}
+use Rattle.std.specs.Prelude.{◌&&◌, ◌||◌, is_none, not}
 use Rattle.std.specs.List.{prefix_len}
 use Rattle.std.proofs.lemmas.Bool.{and_cases, and_from, and_left, and_right, cases_eq, eq-eqb, ne_eqb, not-false, or_cases, or_left, or_right}
 use Rattle.std.proofs.lemmas.List.{append-nil, drop_more, drop-map, take-append-drop, take-map, take_more}
 use Rattle.brk_money.specs.Kinds.{same_status}
 use Rattle.brk_money.specs.declared.status.Status.TheVariants.{Completed}
 use Rattle.brk_model.specs.Lists.{all_distinct, contains_number}
-use Rattle.brk_changes.specs.Rows.{history_row_of, trade_row_of}
+use Rattle.brk_changes.specs.Rows.{history_row_of, move_row_of, trade_row_of}
 use Rattle.brk_changes.specs.declared.trade_row.TradeRow.{TradeRow}
 use Rattle.brk_changes.specs.declared.history_row.HistoryRow.{HistoryRow}
-use Rattle.brk_audit.specs.Statuses.{all_go, goes_way, stamps_of}
+use Rattle.brk_changes.specs.declared.move_row.MoveRow.{MoveRow}
+use Rattle.brk_audit.specs.Statuses.{all_go, goes_way, moved_stamps_of, stamps_of}
 
 false_true : {A : Type 0} → false ≡ true → A
 false_true e = absurd (cc)
@@ -70,7 +71,8 @@ distinct_more (m ∷ ns) n =
     moved false true false b = refl
     moved false false d b = refl
 
-not_distinct_front : (ms ns : List ℕ) → all_distinct ms ≡ false → all_distinct (ms ++ ns) ≡ false
+-- what is not apart is not so with more behind it
+pub not_distinct_front : (ms ns : List ℕ) → all_distinct ms ≡ false → all_distinct (ms ++ ns) ≡ false
 not_distinct_front [] ns e = false_true (sym e)
 not_distinct_front (m ∷ ms) ns e =
     ⊎_elim
@@ -129,4 +131,67 @@ not_apart hs i h was l e f g =
   where
     by_test : (b : Bool) (ns : List ℕ) → not (b && contains_number h.stamp ns) ≡ false → all_distinct (ns ++ map (λ h. h.stamp) (cond b (history_row_of h ∷ []) [])) ≡ false
     by_test true ns n = distinct_more ns h.stamp ∙ and_right (all_distinct ns) (not (contains_number h.stamp ns)) n
+    by_test false ns n = false_true (sym n)
+
+-- ---- movements, after stamps that were seen
+
+-- the stamps of movements that rows tell
+abbrev pub moved_told : List MoveRow → List ℕ
+moved_told rs = moved_stamps_of (map move_row_of rs)
+
+moved-append : (rs ks : List MoveRow) → moved_told (rs ++ ks) ≡ moved_told rs ++ moved_told ks
+moved-append [] ks = refl
+moved-append (r ∷ rs) ks = by_test (is_none r.trade) (moved-append rs ks)
+  where
+    by_test : (b : Bool) → moved_told (rs ++ ks) ≡ moved_told rs ++ moved_told ks
+        → map (λ r. r.stamp) (cond b (move_row_of r ∷ filter (λ r. is_none r.trade) (map move_row_of (rs ++ ks))) (filter (λ r. is_none r.trade) (map move_row_of (rs ++ ks))))
+        ≡ map (λ r. r.stamp) (cond b (move_row_of r ∷ filter (λ r. is_none r.trade) (map move_row_of rs)) (filter (λ r. is_none r.trade) (map move_row_of rs))) ++ moved_told ks
+    by_test true e = ap (λ ns. r.stamp ∷ ns) e
+    by_test false e = e
+
+append_twice : (ms ns ks : List ℕ) → ms ++ (ns ++ ks) ≡ (ms ++ ns) ++ ks
+append_twice [] ns ks = refl
+append_twice (m ∷ ms) ns ks = ap (λ xs. m ∷ xs) (append_twice ms ns ks)
+
+moved_more : (before : List ℕ) (rs : List MoveRow) (i : ℕ) (r : MoveRow) → i < length rs → r ≡ get_or rs i r
+    → before ++ moved_told (take (i + 1) rs) ≡ (before ++ moved_told (take i rs)) ++ moved_told (r ∷ [])
+moved_more before rs i r l e =
+    ap (λ ns. before ++ ns) (ap moved_told (take_more rs i r l ∙ ap (λ k. take i rs ++ k ∷ []) (sym e)) ∙ moved-append (take i rs) (r ∷ []))
+    ∙ append_twice before (moved_told (take i rs)) (moved_told (r ∷ []))
+
+-- what is seen after one more movement
+pub seen_moved : (before : List ℕ) (rs : List MoveRow) (i : ℕ) (r : MoveRow) (q : ℕ) (was is : Bool) → i < length rs → r ≡ get_or rs i r
+    → was ≡ contains_number q (before ++ moved_told (take i rs)) → is ≡ was || (is_none r.trade && (r.stamp == q))
+    → is ≡ contains_number q (before ++ moved_told (take (i + 1) rs))
+seen_moved before rs i r q was is l e f g =
+    g ∙ ap (λ b. b || (is_none r.trade && (r.stamp == q))) f ∙ by_test (is_none r.trade) (before ++ moved_told (take i rs))
+    ∙ sym (ap (contains_number q) (moved_more before rs i r l e))
+  where
+    by_test : (b : Bool) (ns : List ℕ) → contains_number q ns || (b && (r.stamp == q)) ≡ contains_number q (ns ++ map (λ r. r.stamp) (cond b (move_row_of r ∷ []) []))
+    by_test true ns = sym (contains_more q ns r.stamp)
+    by_test false ns = or_false (contains_number q ns) ∙ ap (contains_number q) (sym (append-nil ns))
+
+-- stamps stay apart after a new one
+pub apart_moved : (before : List ℕ) (rs : List MoveRow) (i : ℕ) (r : MoveRow) (was : Bool) → i < length rs → r ≡ get_or rs i r
+    → was ≡ contains_number r.stamp (before ++ moved_told (take i rs)) → not (is_none r.trade && was) ≡ true
+    → all_distinct (before ++ moved_told (take i rs)) ≡ true → all_distinct (before ++ moved_told (take (i + 1) rs)) ≡ true
+apart_moved before rs i r was l e f g d =
+    ap all_distinct (moved_more before rs i r l e)
+    ∙ by_test (is_none r.trade) (before ++ moved_told (take i rs)) (sym (ap (λ b. not (is_none r.trade && b)) f) ∙ g) d
+  where
+    by_test : (b : Bool) (ns : List ℕ) → not (b && contains_number r.stamp ns) ≡ true → all_distinct ns ≡ true → all_distinct (ns ++ map (λ r. r.stamp) (cond b (move_row_of r ∷ []) [])) ≡ true
+    by_test true ns n d = distinct_more ns r.stamp ∙ and_from (all_distinct ns) (not (contains_number r.stamp ns)) d n
+    by_test false ns n d = ap all_distinct (append-nil ns) ∙ d
+
+-- and are not apart where a movement's was seen
+pub not_apart_moved : (before : List ℕ) (rs : List MoveRow) (i : ℕ) (r : MoveRow) (was : Bool) → i < length rs → r ≡ get_or rs i r
+    → was ≡ contains_number r.stamp (before ++ moved_told (take i rs)) → not (is_none r.trade && was) ≡ false → all_distinct (before ++ moved_told rs) ≡ false
+not_apart_moved before rs i r was l e f g =
+    ap all_distinct (ap (λ ks. before ++ moved_told ks) (sym (take-append-drop (i + 1) rs)) ∙ ap (λ ns. before ++ ns) (moved-append (take (i + 1) rs) (drop (i + 1) rs))
+    ∙ append_twice before (moved_told (take (i + 1) rs)) (moved_told (drop (i + 1) rs)))
+    ∙ not_distinct_front (before ++ moved_told (take (i + 1) rs)) (moved_told (drop (i + 1) rs))
+    (ap all_distinct (moved_more before rs i r l e) ∙ by_test (is_none r.trade) (before ++ moved_told (take i rs)) (sym (ap (λ b. not (is_none r.trade && b)) f) ∙ g))
+  where
+    by_test : (b : Bool) (ns : List ℕ) → not (b && contains_number r.stamp ns) ≡ false → all_distinct (ns ++ map (λ r. r.stamp) (cond b (move_row_of r ∷ []) [])) ≡ false
+    by_test true ns n = distinct_more ns r.stamp ∙ and_right (all_distinct ns) (not (contains_number r.stamp ns)) n
     by_test false ns n = false_true (sym n)

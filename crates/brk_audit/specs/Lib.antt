@@ -3,6 +3,7 @@ pub mod Completed
 pub mod Conditions
 pub mod PositionSums
 pub mod Positions
+pub mod Posted
 pub mod Settling
 pub mod Statuses
 pub mod Sums

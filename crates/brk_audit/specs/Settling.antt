@@ -1,14 +1,14 @@
 -- What the rows of trades and accounts say of requests, settlements and cash rows.
-use Rattle.std.specs.Prelude.{◌≡◌, ◌↔◌, ℕ, ◌+◌, ◌*◌, Bool, ◌&&◌, if◌then◌else◌, List, ◌∷◌, map, filter, unwrap_or, ℤ, pos, ◌-ℤ◌}
+use Rattle.std.specs.Prelude.{◌≡◌, ◌↔◌, ℕ, ◌+◌, ◌*◌, ◌==◌, nat_le, Bool, true, ◌&&◌, if◌then◌else◌, List, [], ◌∷◌, map, filter, Option, option_map, unwrap_or, ℤ, pos, ◌-ℤ◌}
 use Rattle.std.specs.Option.{option_map_or}
 use Rattle.brk_money.specs.Kinds.{side_of}
-use Rattle.brk_money.specs.Moments.{day_of}
 use Rattle.brk_money.specs.declared.tax_status.TaxStatus.{TaxStatus}
 use Rattle.brk_money.specs.declared.tax_status.TaxStatus.TheVariants.{Untaxed}
 use Rattle.brk_model.specs.Base.{takes_tax_off}
-use Rattle.brk_model.specs.Derived.{proceeds, settlement_days}
+use Rattle.brk_model.specs.Derived.{due_after, proceeds}
+use Rattle.brk_model.specs.Records.{SettleRule}
 use Rattle.brk_model.specs.Joins.{account_in}
-use Rattle.brk_model.specs.Tables.{Tables, CashRow, RequestRow, SettlementRow, TradeRow}
+use Rattle.brk_model.specs.Tables.{Tables, CashRow, MoveRow, RequestRow, SettlementRow, TradeRow}
 use Rattle.brk_audit.specs.Completed.{is_done}
 
 -- an account's broker; 0 stands where there is no such account
@@ -38,9 +38,9 @@ pub record Due : Type 0 where
 abbrev pub due_in : SettlementRow → Due
 due_in s = record { trade = s.trade; due_day = s.due_day; amount = s.amount }
 
--- and those of a completed trade, where the tax statuses of accounts are these
-abbrev pub due_of : (ℕ → TaxStatus) → TradeRow → Due
-due_of statuses r = record { trade = r.id; due_day = day_of r.stamp + settlement_days; amount = amount_at (statuses r.account) r }
+-- and those of a completed trade, where the settlement day and the tax statuses of accounts are these
+abbrev pub due_of : SettleRule → (ℕ → TaxStatus) → TradeRow → Due
+due_of rule statuses r = record { trade = r.id; due_day = due_after rule r.stamp; amount = amount_at (statuses r.account) r }
 
 -- the numbers of a cash row
 pub record Moved : Type 0 where
@@ -55,6 +55,26 @@ moved_in c = record { trade = c.trade; stamp = c.stamp; amount = c.amount }
 -- and those of a completed cash trade
 abbrev pub moved_by : (ℕ → TaxStatus) → TradeRow → Moved
 moved_by statuses r = record { trade = r.id; stamp = r.stamp; amount = amount_at (statuses r.account) r }
+
+-- the numbers of a cash row that is numbered, of those of a trade
+pub record Posted : Type 0 where
+  pub account : ℕ
+  pub trade : ℕ
+  pub stamp : ℕ
+  pub amount : ℤ
+
+-- those of a row, where it is of a trade
+abbrev pub posted_in : MoveRow → Option Posted
+posted_in r = option_map (λ id. record { account = r.account; trade = id; stamp = r.stamp; amount = r.amount }) r.trade
+
+-- and those of a completed cash trade
+abbrev pub posted_by : (ℕ → TaxStatus) → TradeRow → Posted
+posted_by statuses r = record { account = r.account; trade = r.id; stamp = r.stamp; amount = amount_at (statuses r.account) r }
+
+-- whether rows are numbered in turn from a number on, by rising stamps that are no less than a first one
+abbrev pub is_in_turn : ℕ → ℕ → List MoveRow → Bool
+is_in_turn n stamp [] = true
+is_in_turn n stamp (r ∷ rs) = (r.id == n) && (nat_le stamp r.stamp && is_in_turn (n + 1) r.stamp rs)
 
 -- whether a trade is completed and in cash
 abbrev pub is_done_in_cash : TradeRow → Bool

@@ -1,10 +1,10 @@
 -- The statuses of a trade as its rows of the history stand, by the codes of their statuses, and whether they are a way.
-use Rattle.std.specs.Prelude.{ℕ, ◌==◌, Bool, true, false, ◌&&◌, nat_lt, List, [], ◌∷◌, take, drop, map, filter}
+use Rattle.std.specs.Prelude.{ℕ, ◌==◌, Bool, true, false, ◌&&◌, nat_lt, List, [], ◌∷◌, take, drop, map, filter, is_none}
 use Rattle.std.specs.List.{prefix_len}
 use Rattle.brk_money.specs.Kinds.{same_status}
 use Rattle.brk_money.specs.declared.status.Status.{Status}
 use Rattle.brk_money.specs.declared.status.Status.TheVariants.{Completed, Active, Submitted, Pending, Canceled}
-use Rattle.brk_model.specs.Tables.{TradeRow, HistoryRow}
+use Rattle.brk_model.specs.Tables.{HistoryRow, MoveRow, TradeRow}
 
 -- whether a trade can start with a status
 abbrev pub is_first : Status → Bool
@@ -55,3 +55,7 @@ all_go (r ∷ rs) hs =
 -- the stamps of completions
 abbrev pub stamps_of : List HistoryRow → List ℕ
 stamps_of hs = map (λ h. h.stamp) (filter (λ h. same_status h.status Completed) hs)
+
+-- the stamps of movements
+abbrev pub moved_stamps_of : List MoveRow → List ℕ
+moved_stamps_of rows = map (λ r. r.stamp) (filter (λ r. is_none r.trade) rows)

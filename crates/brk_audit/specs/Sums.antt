@@ -1,8 +1,8 @@
 -- Sums over the completed trades of rows.
-use Rattle.std.specs.Prelude.{ℕ, ◌==◌, ◌&&◌, Option, Some, None, if◌then◌else◌, filter, ℤ, pos}
+use Rattle.std.specs.Prelude.{ℕ, ◌==◌, ◌&&◌, Option, Some, None, if◌then◌else◌, is_none, filter, ℤ, pos}
 use Rattle.brk_money.specs.declared.tax_status.TaxStatus.{TaxStatus}
 use Rattle.brk_model.specs.Lists.{total_by}
-use Rattle.brk_model.specs.Tables.{Tables, TradeRow}
+use Rattle.brk_model.specs.Tables.{MoveRow, Tables, TradeRow}
 use Rattle.brk_audit.specs.Completed.{is_done}
 use Rattle.brk_audit.specs.Settling.{amount_at, broker_at, is_done_in_cash}
 use Rattle.brk_audit.specs.declared.tally.Posting.{Posting}
@@ -26,3 +26,11 @@ commission_posting brokers r = if is_done r then Some (record { key = brokers r.
 -- the amount of each completed cash trade, at its account
 abbrev pub cash_posting : (ℕ → TaxStatus) → TradeRow → Option (Posting ℕ)
 cash_posting statuses r = if is_done_in_cash r then Some (record { key = r.account; amount = amount_at (statuses r.account) r }) else None
+
+-- what the movements of an account moved
+abbrev pub sum_of_movements : Tables → ℕ → ℤ
+sum_of_movements t account = total_by (λ r. r.amount) (filter (λ r. is_none r.trade && (r.account == account)) t.moves)
+
+-- the amount of each movement, at its account
+abbrev pub movement_posting : MoveRow → Option (Posting ℕ)
+movement_posting r = if is_none r.trade then Some (record { key = r.account; amount = r.amount }) else None

@@ -1,6 +1,7 @@
 ghost use Rattle.std.specs.Prelude.{◌≡◌, IfErr, IfOk};
 ghost use Rattle.brk_money.specs.declared.fault.Fault.TheVariants.{Memory};
 ghost use Rattle.brk_model.specs.Audit.{IsAudit};
+ghost use Rattle.brk_changes.specs.Schemas.{schema_of};
 ghost use Rattle.brk_changes.specs.Sheets.{tables_in_sheets};
 
 use crate::balances::has_balances;
@@ -14,17 +15,21 @@ use crate::settlements::has_settlements;
 use crate::status::has_statuses;
 use crate::summaries::has_summaries;
 use brk_audit_form::has_form;
-use brk_changes::Sheets;
+use brk_changes::{Schema, Sheets};
 use brk_money::{Condition, Fault};
 use std::alloc::Global;
 
-/// The first condition, of form to balance, that the rows fail, and none where they pass (the consistency conditions, and this project's own).
+/// The first condition of a schema, of form to balance, that the rows fail, and none where they pass (the consistency conditions, and this project's own).
 #[tactic(auto, using(crate::proofs::Chain::form_held, crate::proofs::Chain::statuses_held))]
-pub fn audit_rows(alloc: Global, sheets: &Sheets) -> Result<Option<Condition>, Fault>
-    ensures told { IfOk result (λ answer. IsAudit (tables_in_sheets sheets.now) answer) }
+pub fn audit_rows(
+    alloc: Global,
+    schema: Schema,
+    sheets: &Sheets,
+) -> Result<Option<Condition>, Fault>
+    ensures told { IfOk result (λ answer. IsAudit (schema_of schema) (tables_in_sheets sheets.now) answer) }
     ensures fault { IfErr result (λ fault. fault ≡ Memory) }
 {
-    if !has_form(alloc, sheets)? {
+    if !has_form(alloc, schema, sheets)? {
         return Ok(Some(Condition::Form));
     }
     if !has_statuses(alloc, sheets)? {
@@ -51,7 +56,7 @@ pub fn audit_rows(alloc: Global, sheets: &Sheets) -> Result<Option<Condition>, F
     if !has_settlements(alloc, sheets)? {
         return Ok(Some(Condition::Settlement));
     }
-    if !has_cash_rows(alloc, sheets)? {
+    if !has_cash_rows(alloc, schema, sheets)? {
         return Ok(Some(Condition::Cash));
     }
     if !has_balances(alloc, sheets)? {

@@ -1,22 +1,23 @@
-ghost use Rattle.std.specs.Prelude.{◌≡◌, ◌↔◌, IfErr, IfOk, IsTrue, ◌+ℤ◌};
+ghost use Rattle.std.specs.Prelude.{◌≡◌, ◌↔◌, ◌++◌, Err, IfErr, IfOk, IsTrue, OnErr, OnOk, ◌+ℤ◌};
 ghost use Rattle.std.specs.BTreeMap.{BTreeMap};
 ghost use Rattle.std.specs.List.{AllByRecursion, filter_map};
 ghost use Rattle.std.specs.Ordering.{nat_cmp};
 ghost use Rattle.brk_money.specs.declared.fault.Condition.TheVariants.{Balance};
 ghost use Rattle.brk_money.specs.declared.fault.Fault.TheVariants.{Memory};
 ghost use Rattle.brk_model.specs.Audit.{Holds};
-ghost use Rattle.brk_changes.specs.Rows.{trade_row_of};
+ghost use Rattle.brk_model.specs.Schemas.{Schema};
+ghost use Rattle.brk_changes.specs.Rows.{move_row_of, trade_row_of};
 ghost use Rattle.brk_changes.specs.Sheets.{tables_in_sheets};
 ghost use Rattle.brk_audit.specs.AccountTerms.{tax_status_by};
 ghost use Rattle.brk_audit.specs.Conditions.{HasForm, HasStatuses};
-ghost use Rattle.brk_audit.specs.Sums.{cash_posting};
+ghost use Rattle.brk_audit.specs.Sums.{cash_posting, movement_posting};
 ghost use Rattle.brk_audit.specs.Tally.{at_key};
 
 use crate::account_terms::{AccountTerms, tax_status_of, terms_of_accounts};
 use crate::amounts::amount_of_row;
 use crate::status::is_completed;
 use crate::tally::{Posting, sum_at, tally};
-use brk_changes::{Sheets, TradeRow};
+use brk_changes::{MoveRow, Sheets, TradeRow};
 use brk_money::Fault;
 use brk_ref::AccountRow;
 use std::alloc::Global;
@@ -48,6 +49,31 @@ fn postings_of(
         .filter_map(|trade| posting_of(terms, trade))
         .collect(alloc)?;
     Ok(all)
+}
+
+// What a movement moves on its account.
+fn movement_of(row: &MoveRow) -> Option<Posting<u64>>
+    ensures { result ≡ movement_posting (move_row_of row.now) }
+{
+    if row.trade.is_some() {
+        return None;
+    }
+    let key = row.account.get();
+    let amount = row.amount.get();
+    Some(Posting { key, amount })
+}
+
+// Adds what the movements moved.
+fn add_movements(all: &mut Vec<Posting<u64>>, moves: &[MoveRow]) -> Result<(), Fault>
+    ensures all { OnOk result (all.new.items ≡ all.old.items ++ filter_map (λ r. movement_posting (move_row_of r)) moves.now) }
+    ensures fault { OnErr result (result ≡ Err Memory) }
+{
+    for row in moves {
+        if let Some(posting) = movement_of(row) {
+            all.push(posting)?;
+        }
+    }
+    Ok(())
 }
 
 // What an amount is above another one.
@@ -91,15 +117,16 @@ fn are_balanced(sums: &BTreeMap<u64, i128>, rows: &[AccountRow]) -> bool
     true
 }
 
-/// Whether each balance is its opening and what the cash trades of its account moved.
+/// Whether each balance is its opening and what the cash trades and the movements of its account moved.
 pub(crate) fn has_balances(alloc: Global, sheets: &Sheets) -> Result<bool, Fault>
     requires form { HasForm sheets.now }
     requires status { HasStatuses sheets.now }
-    ensures told { IfOk result (λ holds. IsTrue holds ↔ Holds Balance (tables_in_sheets sheets.now)) }
+    ensures told { IfOk result (λ holds. (schema : Schema) → IsTrue holds ↔ Holds schema Balance (tables_in_sheets sheets.now)) }
     ensures fault { IfErr result (λ fault. fault ≡ Memory) }
 {
     let terms = terms_of_accounts(alloc, &sheets.accounts)?;
-    let postings = postings_of(alloc, &terms, &sheets.trades)?;
+    let mut postings = postings_of(alloc, &terms, &sheets.trades)?;
+    add_movements(&mut postings, &sheets.moves)?;
     let sums = tally(alloc, &postings)?;
     Ok(are_balanced(&sums, &sheets.accounts))
 }

@@ -1,18 +1,22 @@
-ghost use Rattle.std.specs.Prelude.{◌≡◌, ◌↔◌, map, filter, IfErr, IfOk, IsTrue, MatchOption};
-ghost use Rattle.brk_money.specs.declared.fault.Condition.TheVariants.{Cash};
+ghost use Rattle.std.specs.List.{filter_map};
+ghost use Rattle.brk_audit.specs.Posted.{posted_of};
+ghost use Rattle.std.specs.Prelude.{◌≡◌, ◌↔◌, ◌==◌, ◌&&◌, map, filter, nat_le, option_map, IfErr, IfOk, IsTrue, MatchOption};
+ghost use Rattle.brk_money.specs.declared.fault.Condition.TheVariants.{Cash, Form};
 ghost use Rattle.brk_money.specs.declared.fault.Fault.TheVariants.{Memory};
 ghost use Rattle.brk_model.specs.Audit.{Holds};
 ghost use Rattle.brk_audit.specs.AccountTerms.{tax_status_by};
-ghost use Rattle.brk_audit.specs.Conditions.{HasForm, HasStatuses};
-ghost use Rattle.brk_audit.specs.Settling.{Differs, Leaves, amount_at, is_done_in_cash, moved_by, moved_in};
-ghost use Rattle.brk_changes.specs.Rows.{cash_row_of, trade_row_of};
+ghost use Rattle.brk_audit.specs.Conditions.{HasStatuses};
+ghost use Rattle.brk_audit.specs.Settling.{Differs, Leaves, amount_at, is_done_in_cash, is_in_turn, moved_by, moved_in, posted_by, posted_in};
+ghost use Rattle.brk_changes.specs.Rows.{cash_row_of, move_row_of, trade_row_of};
+ghost use Rattle.brk_changes.specs.Schemas.{schema_of};
 ghost use Rattle.brk_changes.specs.Sheets.{tables_in_sheets};
 
 use crate::account_terms::{AccountTerms, tax_status_of, terms_of_accounts};
 use crate::amounts::amount_of_row;
-use crate::status::is_completed;
-use brk_changes::{CashRow, Sheets, TradeRow};
-use brk_money::{Fault, TaxStatus};
+use crate::status::{is_completed, millis};
+use crate::summaries::all_three;
+use brk_changes::{CashRow, MoveRow, Schema, Sheets, TradeRow};
+use brk_money::{Cents, Fault, Id, Stamp, TaxStatus};
 use std::alloc::Global;
 use std::collections::BTreeMap;
 
@@ -69,13 +73,125 @@ fn are_moved(cash: &[CashRow], trades: &[TradeRow], terms: &BTreeMap<u64, Accoun
     rest.is_empty()
 }
 
-/// Whether the cash rows are those of the completed cash trades.
-pub(crate) fn has_cash_rows(alloc: Global, sheets: &Sheets) -> Result<bool, Fault>
-    requires form { HasForm sheets.now }
+// The numbers of a cash row of a trade.
+#[derive(Clone, Copy, Drop)]
+struct Posted {
+    account: Id,
+    trade: Id,
+    stamp: Stamp,
+    amount: Cents,
+}
+
+// Those of a row, where it is of a trade.
+fn posted_by_row(row: &MoveRow) -> Option<Posted>
+    ensures { option_map posted_of result ≡ posted_in (move_row_of row.now) }
+{
+    let trade = row.trade?;
+    Some(Posted {
+        account: row.account,
+        trade,
+        stamp: row.stamp,
+        amount: row.amount,
+    })
+}
+
+// Those of all rows of trades.
+fn posted_rows(alloc: Global, moves: &[MoveRow]) -> Result<Vec<Posted>, Fault>
+    ensures all { IfOk result (λ all. map posted_of all.items ≡ filter_map (λ r. posted_in (move_row_of r)) moves.now) }
+    ensures fault { IfErr result (λ fault. fault ≡ Memory) }
+{
+    let mut all = Vec::new(alloc);
+    for row in moves {
+        if let Some(posted) = posted_by_row(row) {
+            all.push(posted)?;
+        }
+    }
+    Ok(all)
+}
+
+// Whether a row has the numbers of a completed trade at its account's tax status.
+fn is_posted_by(row: Posted, trade: &TradeRow, tax_status: TaxStatus) -> bool
+    ensures { IsTrue result ↔ ((row.account ≡ trade.now.account) × (row.trade ≡ trade.now.id) × (row.stamp ≡ trade.now.stamp) × (row.amount ≡ amount_at tax_status (trade_row_of trade.now))) }
+{
+    row.account == trade.account
+        && row.trade == trade.id
+        && row.stamp == trade.stamp
+        && row.amount.get() == amount_of_row(trade, tax_status)
+}
+
+// The rows that are left after a trade, whose own is the first of these if it moves cash; none where it isn't.
+fn posted_after<'a>(
+    rows: &'a [Posted],
+    trade: &TradeRow,
+    terms: &BTreeMap<u64, AccountTerms>,
+) -> Option<&'a [Posted]>
+    ensures { MatchOption result
+        (Differs (λ p. p) (posted_by (tax_status_by terms.now)) is_done_in_cash (map posted_of rows.now) (trade_row_of trade.now))
+        (λ others. Leaves (λ p. p) (posted_by (tax_status_by terms.now)) is_done_in_cash (map posted_of rows.now) (trade_row_of trade.now) (map posted_of others.now)) }
+{
+    if !moves_cash(trade) {
+        return Some(rows);
+    }
+    let [first, others @ ..] = rows else {
+        return None;
+    };
+    if is_posted_by(*first, trade, tax_status_of(terms, trade.account)) {
+        Some(others)
+    } else {
+        None
+    }
+}
+
+// Whether rows are those of the completed cash trades, both in the order of the trades.
+fn are_posted(rows: &[Posted], trades: &[TradeRow], terms: &BTreeMap<u64, AccountTerms>) -> bool
+    ensures { IsTrue result ↔ (map (λ p. p) (map posted_of rows.now) ≡ map (posted_by (tax_status_by terms.now)) (filter is_done_in_cash (map trade_row_of trades.now))) }
+{
+    let mut rest = rows;
+    for trade in trades {
+        let Some(others) = posted_after(rest, trade, terms) else {
+            return false;
+        };
+        rest = others;
+    }
+    rest.is_empty()
+}
+
+// Whether a row has a number, and a stamp that is no less than another one.
+fn is_next(row: &MoveRow, number: u64, stamp: u64) -> bool
+    ensures { result ≡ (row.now.id == number) && nat_le stamp row.now.stamp }
+{
+    row.id.get() == number && stamp <= millis(row.stamp)
+}
+
+// Whether the rows are numbered in turn, by rising stamps.
+fn are_in_turn(moves: &[MoveRow]) -> bool
+    ensures { result ≡ is_in_turn 1 0 (map move_row_of moves.now) }
+{
+    let mut stamp = 0;
+    for (i, row) in moves.iter().enumerate() {
+        if !is_next(row, i as u64 + 1, stamp) {
+            return false;
+        }
+        stamp = millis(row.stamp);
+    }
+    true
+}
+
+/// Whether the cash rows, in the table of the schema, are those of the completed cash trades and of movements.
+pub(crate) fn has_cash_rows(alloc: Global, schema: Schema, sheets: &Sheets) -> Result<bool, Fault>
+    requires form { Holds (schema_of schema) Form (tables_in_sheets sheets.now) }
     requires status { HasStatuses sheets.now }
-    ensures told { IfOk result (λ holds. IsTrue holds ↔ Holds Cash (tables_in_sheets sheets.now)) }
+    ensures told { IfOk result (λ holds. IsTrue holds ↔ Holds (schema_of schema) Cash (tables_in_sheets sheets.now)) }
     ensures fault { IfErr result (λ fault. fault ≡ Memory) }
 {
     let terms = terms_of_accounts(alloc, &sheets.accounts)?;
-    Ok(are_moved(&sheets.cash, &sheets.trades, &terms))
+    if !schema.has_moves() {
+        return Ok(are_moved(&sheets.cash, &sheets.trades, &terms));
+    }
+    let mut rows = posted_rows(alloc, &sheets.moves)?;
+    rows.sort_unstable_by_key(|row| row.trade.get());
+    let no_others = sheets.cash.is_empty();
+    let in_turn = are_in_turn(&sheets.moves);
+    let posted = are_posted(&rows, &sheets.trades, &terms);
+    Ok(all_three(no_others, in_turn, posted))
 }

@@ -1,9 +1,9 @@
 ghost use Rattle.std.specs.Prelude.{◌≡◌, ◌↔◌, ◌+◌, map, filter, IfErr, IfOk, IsTrue, MatchOption};
-ghost use Rattle.brk_money.specs.Moments as moments;
 ghost use Rattle.brk_money.specs.declared.fault.Condition.TheVariants.{Settlement};
 ghost use Rattle.brk_money.specs.declared.fault.Fault.TheVariants.{Memory};
 ghost use Rattle.brk_model.specs.Audit.{Holds};
-ghost use Rattle.brk_model.specs.Derived.{settlement_days};
+ghost use Rattle.brk_model.specs.Schemas.{Schema};
+ghost use Rattle.brk_model.specs.Derived.{due_after};
 ghost use Rattle.brk_audit.specs.AccountTerms.{tax_status_by};
 ghost use Rattle.brk_audit.specs.Completed.{is_done};
 ghost use Rattle.brk_audit.specs.Conditions.{HasForm, HasStatuses};
@@ -14,28 +14,31 @@ ghost use Rattle.brk_changes.specs.Sheets.{tables_in_sheets};
 use crate::account_terms::{AccountTerms, tax_status_of, terms_of_accounts};
 use crate::amounts::amount_of_row;
 use crate::status::is_completed;
-use brk_changes::{SettlementRow, Sheets, TradeRow};
+use brk_changes::{SettlementRow, Sheets, TradeRow, settlement_days};
 use brk_money::{Day, Fault, Stamp, TaxStatus, day_of};
 use std::alloc::Global;
 use std::collections::BTreeMap;
 
-// How many days after its completion a trade settles.
-const SETTLEMENT_DAYS: i32 = 2;
-
-// Whether what is completed at a stamp settles on a day.
-fn is_due(day: Day, stamp: Stamp) -> bool
-    ensures { IsTrue result ↔ (day ≡ moments.day_of stamp + settlement_days) }
+// Whether what is completed at a stamp settles on a day, where a first day is set whose completions settle after one.
+fn is_due(day: Day, rule: Option<Day>, stamp: Stamp) -> bool
+    ensures { IsTrue result ↔ (day ≡ due_after rule stamp) }
 {
-    day.get() == day_of(stamp).get() + SETTLEMENT_DAYS
+    let completed = day_of(stamp);
+    day.get() == completed.get() + i32::from(settlement_days(rule, completed))
 }
 
 // Whether a settlement has the numbers of a completed trade at its account's tax status.
-fn is_settlement_of(settlement: &SettlementRow, trade: &TradeRow, tax_status: TaxStatus) -> bool
-    ensures { IsTrue result ↔ ((settlement.now.trade ≡ trade.now.id) × (settlement.now.due_day ≡ moments.day_of trade.now.stamp + settlement_days)
+fn is_settlement_of(
+    settlement: &SettlementRow,
+    trade: &TradeRow,
+    rule: Option<Day>,
+    tax_status: TaxStatus,
+) -> bool
+    ensures { IsTrue result ↔ ((settlement.now.trade ≡ trade.now.id) × (settlement.now.due_day ≡ due_after rule trade.now.stamp)
         × (settlement.now.amount ≡ amount_at tax_status (trade_row_of trade.now))) }
 {
     settlement.trade == trade.id
-        && is_due(settlement.due_day, trade.stamp)
+        && is_due(settlement.due_day, rule, trade.stamp)
         && settlement.amount.get() == amount_of_row(trade, tax_status)
 }
 
@@ -43,11 +46,12 @@ fn is_settlement_of(settlement: &SettlementRow, trade: &TradeRow, tax_status: Ta
 fn left_after<'a>(
     settlements: &'a [SettlementRow],
     trade: &TradeRow,
+    rule: &Option<Day>,
     terms: &BTreeMap<u64, AccountTerms>,
 ) -> Option<&'a [SettlementRow]>
     ensures { MatchOption result
-        (Differs due_in (due_of (tax_status_by terms.now)) is_done (map settlement_row_of settlements.now) (trade_row_of trade.now))
-        (λ others. Leaves due_in (due_of (tax_status_by terms.now)) is_done (map settlement_row_of settlements.now) (trade_row_of trade.now) (map settlement_row_of others.now)) }
+        (Differs due_in (due_of rule.now (tax_status_by terms.now)) is_done (map settlement_row_of settlements.now) (trade_row_of trade.now))
+        (λ others. Leaves due_in (due_of rule.now (tax_status_by terms.now)) is_done (map settlement_row_of settlements.now) (trade_row_of trade.now) (map settlement_row_of others.now)) }
 {
     if !is_completed(trade.status) {
         return Some(settlements);
@@ -55,7 +59,7 @@ fn left_after<'a>(
     let [first, others @ ..] = settlements else {
         return None;
     };
-    if is_settlement_of(first, trade, tax_status_of(terms, trade.account)) {
+    if is_settlement_of(first, trade, *rule, tax_status_of(terms, trade.account)) {
         Some(others)
     } else {
         None
@@ -66,13 +70,14 @@ fn left_after<'a>(
 fn are_settled(
     settlements: &[SettlementRow],
     trades: &[TradeRow],
+    rule: &Option<Day>,
     terms: &BTreeMap<u64, AccountTerms>,
 ) -> bool
-    ensures { IsTrue result ↔ (map due_in (map settlement_row_of settlements.now) ≡ map (due_of (tax_status_by terms.now)) (filter is_done (map trade_row_of trades.now))) }
+    ensures { IsTrue result ↔ (map due_in (map settlement_row_of settlements.now) ≡ map (due_of rule.now (tax_status_by terms.now)) (filter is_done (map trade_row_of trades.now))) }
 {
     let mut rest = settlements;
     for trade in trades {
-        let Some(others) = left_after(rest, trade, terms) else {
+        let Some(others) = left_after(rest, trade, rule, terms) else {
             return false;
         };
         rest = others;
@@ -84,9 +89,9 @@ fn are_settled(
 pub(crate) fn has_settlements(alloc: Global, sheets: &Sheets) -> Result<bool, Fault>
     requires form { HasForm sheets.now }
     requires status { HasStatuses sheets.now }
-    ensures told { IfOk result (λ holds. IsTrue holds ↔ Holds Settlement (tables_in_sheets sheets.now)) }
+    ensures told { IfOk result (λ holds. (schema : Schema) → IsTrue holds ↔ Holds schema Settlement (tables_in_sheets sheets.now)) }
     ensures fault { IfErr result (λ fault. fault ≡ Memory) }
 {
     let terms = terms_of_accounts(alloc, &sheets.accounts)?;
-    Ok(are_settled(&sheets.settlements, &sheets.trades, &terms))
+    Ok(are_settled(&sheets.settlements, &sheets.trades, &sheets.rule, &terms))
 }

@@ -1,4 +1,4 @@
-ghost use Rattle.std.specs.Prelude.{◌≡◌, ◌↔◌, ◌==◌, ℕ, ◌&&◌, ◌||◌, not, map, nat_lt, IfErr, IfOk, IsTrue, OnOk};
+ghost use Rattle.std.specs.Prelude.{◌≡◌, ◌↔◌, ◌==◌, ℕ, ◌&&◌, ◌||◌, not, is_none, map, ◌++◌, nat_lt, IfErr, IfOk, IsTrue, OnOk};
 ghost use Rattle.std.specs.List.{prefix_len};
 ghost use Rattle.std.specs.Ordering.{nat_cmp};
 ghost use Rattle.std.specs.BTreeSet.{contains};
@@ -7,13 +7,14 @@ ghost use Rattle.brk_money.specs.declared.fault.Condition.TheVariants as conditi
 ghost use Rattle.brk_money.specs.declared.fault.Fault.TheVariants.{Memory};
 ghost use Rattle.brk_money.specs.declared.status.Status.TheVariants.{Completed};
 ghost use Rattle.brk_model.specs.Audit.{Holds};
+ghost use Rattle.brk_model.specs.Schemas.{Schema};
 ghost use Rattle.brk_model.specs.Lists.{all_distinct};
 ghost use Rattle.brk_audit.specs.Conditions.{HasForm};
 ghost use Rattle.brk_audit.specs.Statuses as spec;
-ghost use Rattle.brk_changes.specs.Rows.{history_row_of, trade_row_of};
+ghost use Rattle.brk_changes.specs.Rows.{history_row_of, move_row_of, trade_row_of};
 ghost use Rattle.brk_changes.specs.Sheets.{tables_in_sheets};
 
-use brk_changes::{HistoryRow, Sheets, TradeRow};
+use brk_changes::{HistoryRow, MoveRow, Sheets, TradeRow};
 use brk_money::{Fault, Id, Stamp, Status};
 use std::alloc::Global;
 use std::collections::BTreeSet;
@@ -25,8 +26,8 @@ pub(crate) fn is_completed(status: Status) -> bool
     status == Status::Completed
 }
 
-// The milliseconds of a stamp.
-fn millis(stamp: Stamp) -> u64
+/// The milliseconds of a stamp.
+pub(crate) fn millis(stamp: Stamp) -> u64
     ensures { result ≡ stamp }
 {
     stamp.get().unsigned_abs()
@@ -130,9 +131,22 @@ fn is_new(seen: &mut BTreeSet<u64>, row: &HistoryRow) -> Result<bool, Fault>
     Ok(new)
 }
 
-// Whether no two rows tell a completion at one stamp.
-fn are_apart(alloc: Global, history: &[HistoryRow]) -> Result<bool, Fault>
-    ensures told { IfOk result (λ apart. apart ≡ all_distinct (spec.stamps_of (map history_row_of history.now))) }
+// Whether nothing was seen at the stamp of this movement, if the row is of one; it is seen from then on.
+fn is_new_movement(seen: &mut BTreeSet<u64>, row: &MoveRow) -> Result<bool, Fault>
+    ensures new { IfOk result (λ new. new ≡ not (is_none row.now.trade && contains nat_cmp seen.old row.now.stamp)) }
+    ensures seen { OnOk result ((q : ℕ) → contains nat_cmp seen.new q ≡ contains nat_cmp seen.old q || (is_none row.now.trade && (row.now.stamp == q))) }
+    ensures fault { IfErr result (λ fault. fault ≡ Memory) }
+{
+    if row.trade.is_some() {
+        return Ok(true);
+    }
+    let new = seen.insert(millis(row.stamp))?;
+    Ok(new)
+}
+
+// Whether no two rows tell completions or movements at one stamp.
+fn are_apart(alloc: Global, history: &[HistoryRow], moves: &[MoveRow]) -> Result<bool, Fault>
+    ensures told { IfOk result (λ apart. apart ≡ all_distinct (spec.stamps_of (map history_row_of history.now) ++ spec.moved_stamps_of (map move_row_of moves.now))) }
     ensures fault { IfErr result (λ fault. fault ≡ Memory) }
 {
     let mut seen = BTreeSet::new(alloc);
@@ -141,18 +155,23 @@ fn are_apart(alloc: Global, history: &[HistoryRow]) -> Result<bool, Fault>
             return Ok(false);
         }
     }
+    for movement in moves {
+        if !is_new_movement(&mut seen, movement)? {
+            return Ok(false);
+        }
+    }
     Ok(true)
 }
 
-/// Whether each trade's statuses are a way that a trade can go, and no two trades complete at one stamp.
+/// Whether each trade's statuses are a way that a trade can go, and no two trades complete at one stamp, nor is a movement made at one of these or of another.
 pub(crate) fn has_statuses(alloc: Global, sheets: &Sheets) -> Result<bool, Fault>
     requires form { HasForm sheets.now }
-    ensures told { IfOk result (λ holds. IsTrue holds ↔ Holds condition.Status (tables_in_sheets sheets.now)) }
+    ensures told { IfOk result (λ holds. (schema : Schema) → IsTrue holds ↔ Holds schema condition.Status (tables_in_sheets sheets.now)) }
     ensures fault { IfErr result (λ fault. fault ≡ Memory) }
 {
     if !all_go(&sheets.trades, &sheets.history) {
         return Ok(false);
     }
-    let apart = are_apart(alloc, &sheets.history)?;
+    let apart = are_apart(alloc, &sheets.history, &sheets.moves)?;
     Ok(apart)
 }

@@ -13,6 +13,7 @@ use Rattle.brk_money.specs.Kinds.{same_type, type_code}
 use Rattle.brk_money.specs.declared.trade_type.TradeType.{TradeType}
 use Rattle.brk_money.specs.declared.trade_type.TradeType.TheVariants.{MarketBuy, MarketSell, StopLoss, LimitSell, LimitBuy}
 use Rattle.brk_model.specs.Records.{Band}
+use Rattle.brk_model.specs.Schemas.{Schema}
 use Rattle.brk_model.specs.Keys.{key_before, band_key}
 use Rattle.brk_model.specs.Tests.{bands_meet}
 use Rattle.brk_model.specs.Form.{band_form, no_overlap, is_tier, is_qty}
@@ -134,14 +135,14 @@ some_meet of (x ∷ y ∷ ys) zero h f = ap (λ b. not (b || list_any (bands_mee
 some_meet of (x ∷ y ∷ ys) (suc k) h f =
     ap (λ b. not (list_any (bands_meet (of x)) (map of (y ∷ ys))) && b) (some_meet of (y ∷ ys) k (omega arith) f) ∙ and_false (not (list_any (bands_meet (of x)) (map of (y ∷ ys))))
 
-pub bounded : (b : Band) → band_form b ≡ true → Bounded b
-bounded b e =
+pub bounded : (schema : Schema) (b : Band) → band_form schema b ≡ true → Bounded b
+bounded schema b e =
     leb-true b.from_qty b.to_qty
-    (parts6 (is_tier b.tier) (is_exchange b.exchange) (is_qty b.from_qty) (is_qty b.to_qty) (nat_le b.from_qty b.to_qty) (nat_le b.rate greatest_rate) e).4
+    (parts6 (is_tier b.tier) (is_exchange b.exchange) (is_qty schema b.from_qty) (is_qty schema b.to_qty) (nat_le b.from_qty b.to_qty) (nat_le b.rate greatest_rate) e).4
 
-all_bounded : (bs : List Band) → AllByRecursion (λ b. band_form b ≡ true) bs → AllByRecursion Bounded bs
-all_bounded [] a = tt
-all_bounded (b ∷ bs) a = (bounded b a.0, all_bounded bs a.1)
+all_bounded : (schema : Schema) (bs : List Band) → AllByRecursion (λ b. band_form schema b ≡ true) bs → AllByRecursion Bounded bs
+all_bounded schema [] a = tt
+all_bounded schema (b ∷ bs) a = (bounded schema b a.0, all_bounded schema bs a.1)
 
 false_of : (b : Bool) → true ≡ not b → b ≡ false
 false_of false e = refl
@@ -152,10 +153,10 @@ true_of true e = refl
 true_of false e = absurd (cc)
 
 -- what the neighbours say
-pub apart_told : {X : Type 0} (of : X → Band) (xs : List X) (r : Bool) → Climbs band_key (map of xs) → list_all band_form (map of xs) ≡ true
+pub apart_told : {X : Type 0} (schema : Schema) (of : X → Band) (xs : List X) (r : Bool) → Climbs band_key (map of xs) → list_all (band_form schema) (map of xs) ≡ true
     → IsAllAdjacentAnswer (λ x y b. b ≡ not (bands_meet (of x) (of y))) xs r → r ≡ no_overlap (map of xs)
-apart_told of xs true c h a =
-    sym (all_apart of xs c (all_bounded (map of xs) (list_all_true band_form (map of xs) h))
+apart_told schema of xs true c h a =
+    sym (all_apart of xs c (all_bounded schema (map of xs) (list_all_true (band_form schema) (map of xs) h))
     (λ k d g. subst (λ j. bands_meet (of (get_or xs k d)) (of (get_or xs j d)) ≡ false) (add-one k) (false_of _ (a k d (omega arith)))))
-apart_told of xs false c h a =
+apart_told schema of xs false c h a =
     sym (some_meet of xs a.0 (omega (arith, a.1)) (λ d. subst (λ j. bands_meet (of (get_or xs a.0 d)) (of (get_or xs j d)) ≡ true) (add-one a.0) (true_of _ (a.2 d))))

@@ -8,3 +8,4 @@ pub mod WholeForm
 pub mod CustomerSums
 pub mod Numbered
 pub mod OwnTaxIds
+pub mod OwnRows

@@ -1,22 +1,25 @@
 -- The condition of form, from its groups of tests.
-use Rattle.std.proofs.Common.{◌≡◌, suc, Bool, true, List, [], ◌∷◌, refl, sym, ◌∙◌, ap, map, length}
-use Rattle.std.specs.Prelude.{◌&&◌, ◌↔◌, nat_le, IsTrue, IfOk, Result, Ok, Err}
+use Rattle.std.proofs.Common.{◌≡◌, suc, Bool, true, List, [], ◌∷◌, refl, sym, ◌∙◌, ap, map, filter, length}
+use Rattle.std.specs.Prelude.{◌&&◌, ◌↔◌, is_none, nat_le, IsTrue, IfOk, Result, Ok, Err}
 use Rattle.brk_money.specs.declared.fault.Fault.{Fault}
 use Rattle.std.specs.Cmp.{both_ways}
 use Rattle.std.specs.List.{list_all, range_with_len}
 use Rattle.std.specs.Option.{option_map_or}
-use Rattle.std.proofs.lemmas.Bool.{and_parts}
-use Rattle.brk_money.specs.Moments.{last_stamp}
-use Rattle.brk_model.specs.Form.{has_form, has_keys, no_overlap, same_numbers, one_tax_id_each, customer_limits, cash_form}
+use Rattle.brk_money.specs.Moments.{last_day, last_stamp}
+use Rattle.brk_model.specs.Limits.{greatest_id}
+use Rattle.brk_model.specs.Lists.{all_distinct}
+use Rattle.brk_model.specs.Schemas.{Schema}
+use Rattle.brk_model.specs.Form.{has_form, has_keys, no_overlap, same_numbers, one_tax_id_each, customer_limits, cash_form, move_form, trades_moved, fits_schema}
 use Rattle.brk_ref.specs.Records.{customer_of, band_of}
-use Rattle.brk_changes.specs.Rows.{trade_row_of, cash_row_of}
+use Rattle.brk_changes.specs.Rows.{trade_row_of, cash_row_of, move_row_of}
 use Rattle.brk_changes.specs.Sheets.{tables_in_sheets}
 use Rattle.brk_changes.specs.declared.sheets.Sheets.{Sheets}
 use Rattle.brk_model_laws.specs.FormParts.{FormParts}
 use Rattle.brk_model_laws.proofs.FormParts.{form_parts}
-use Rattle.brk_model_laws.proofs.Conjunctions.{parts6}
+use Rattle.brk_model_laws.proofs.Conjunctions.{Hold, joined, parts, whole}
 use Rattle.brk_model_laws.proofs.FormParts.{form_whole}
 use Rattle.brk_audit_form.specs.Groups.{plain_form, reference_forms, trading_forms}
+use Rattle.brk_audit_form.proofs.CustomerSums.{count-mapped}
 use Rattle.brk_audit_form.proofs.FormGroups.{ReferenceForms, TradingForms, reference_forms_parts, reference_forms_whole, trading_forms_parts, trading_forms_whole}
 
 map-map : {X Y Z : Type 0} (f : Y → Z) (of : X → Y) (xs : List X) → map (λ x. f (of x)) xs ≡ map f (map of xs)
@@ -31,46 +34,73 @@ numbers-mapped : (s : Sheets) → same_numbers (map (λ row. row.id) s.trades.it
     ≡ same_numbers (map (λ row. row.id) (map trade_row_of s.trades.items)) (range_with_len 1 (length (map trade_row_of s.trades.items)))
 numbers-mapped s = λ i. same_numbers (map-map (λ row. row.id) trade_row_of s.trades.items i) (range_with_len 1 (length-mapped trade_row_of s.trades.items i))
 
-forth : (s : Sheets) → plain_form s ≡ true → one_tax_id_each (map customer_of s.customers.items) ≡ true
-    → list_all (customer_limits (tables_in_sheets s)) (map customer_of s.customers.items) ≡ true → list_all (cash_form (tables_in_sheets s)) (map cash_row_of s.cash.items) ≡ true
-    → has_form (tables_in_sheets s) ≡ true
-forth s plain own limits cash =
+moves-counted : (s : Sheets) → nat_le (length (filter (λ r. is_none r.trade) s.moves.items)) greatest_id
+    ≡ nat_le (length (filter (λ r. is_none r.trade) (map move_row_of s.moves.items))) greatest_id
+moves-counted s = ap (λ n. nat_le n greatest_id) (count-mapped (λ r. is_none r.trade) move_row_of s.moves.items)
+
+-- the tests with memory, after the plain ones
+abbrev pub rests : Sheets → List Bool
+rests s =
+    one_tax_id_each (map customer_of s.customers.items) ∷
+    list_all (customer_limits (tables_in_sheets s)) (map customer_of s.customers.items) ∷
+    list_all (cash_form (tables_in_sheets s)) (map cash_row_of s.cash.items) ∷
+    list_all (move_form (tables_in_sheets s)) (map move_row_of s.moves.items) ∷
+    all_distinct (trades_moved (map move_row_of s.moves.items)) ∷ []
+
+-- the plain tests, after the keys
+abbrev plain_rests : Schema → Sheets → List Bool
+plain_rests schema s =
+    reference_forms schema s ∷
+    option_map_or (λ last. nat_le last last_stamp) s.last true ∷
+    trading_forms schema s ∷
+    no_overlap (map band_of s.bands.items) ∷
+    same_numbers (map (λ row. row.id) s.trades.items) (range_with_len 1 (length s.trades.items)) ∷
+    nat_le (length (filter (λ r. is_none r.trade) s.moves.items)) greatest_id ∷
+    option_map_or (λ day. nat_le day last_day) s.rule true ∷
+    fits_schema schema (tables_in_sheets s) ∷ []
+
+forth : (schema : Schema) (s : Sheets) → plain_form schema s ≡ true → Hold (rests s) → has_form schema (tables_in_sheets s) ≡ true
+forth schema s plain h =
     let t = tables_in_sheets s in
-    let p = parts6 (has_keys t) (reference_forms s) (option_map_or (λ last. nat_le last last_stamp) s.last true) (trading_forms s) (no_overlap (map band_of s.bands.items))
-    (same_numbers (map (λ row. row.id) s.trades.items) (range_with_len 1 (length s.trades.items))) plain in
-    let r : ReferenceForms s = reference_forms_parts s p.1 in
-    let q : TradingForms s = trading_forms_parts s p.3 in
-    form_whole t (record {
-      clock = p.2;
+    let p = parts (has_keys t) (plain_rests schema s) plain in
+    let r : ReferenceForms schema s = reference_forms_parts schema s p.1.0 in
+    let q : TradingForms schema s = trading_forms_parts schema s p.1.1.1.0 in
+    form_whole schema t (record {
+      clock = p.1.1.0;
       keys = p.0;
-      tax_ids = own;
+      tax_ids = h.0;
       kept = r.kept;
       brokers = r.brokers;
       customers = r.customers;
-      limits = limits;
+      limits = h.1.0;
       accounts = r.accounts;
       permissions = r.permissions;
       securities = r.securities;
       last_trades = r.last_trades;
       charges = r.charges;
       bands = r.bands;
-      apart = p.4;
+      apart = p.1.1.1.1.0;
       tax_rates = r.tax_rates;
       customer_taxes = r.customer_taxes;
       trades = q.trades;
-      numbers = sym (numbers-mapped s) ∙ p.5;
+      numbers = sym (numbers-mapped s) ∙ p.1.1.1.1.1.0;
       history = q.history;
       requests = q.requests;
       holdings = q.holdings;
       summaries = q.summaries;
       holding_history = q.holding_history;
       settlements = q.settlements;
-      cash = cash;
+      cash = h.1.1.0;
+      moves = h.1.1.1.0;
+      own_moves = h.1.1.1.1.0;
+      counted = sym (moves-counted s) ∙ p.1.1.1.1.1.1.0;
+      rule = p.1.1.1.1.1.1.1.0;
+      fits = p.1.1.1.1.1.1.1.1.0;
     })
 
-back : (s : Sheets) → FormParts (tables_in_sheets s) → plain_form s ≡ true
-back s p =
-    let r : ReferenceForms s = record {
+back : (schema : Schema) (s : Sheets) → FormParts schema (tables_in_sheets s) → plain_form schema s ≡ true
+back schema s p =
+    let r : ReferenceForms schema s = record {
       kept = p.kept;
       brokers = p.brokers;
       customers = p.customers;
@@ -83,7 +113,7 @@ back s p =
       tax_rates = p.tax_rates;
       customer_taxes = p.customer_taxes;
     } in
-    let q : TradingForms s = record {
+    let q : TradingForms schema s = record {
       trades = p.trades;
       history = p.history;
       requests = p.requests;
@@ -92,22 +122,15 @@ back s p =
       holding_history = p.holding_history;
       settlements = p.settlements;
     } in
-    λ i. p.keys i && reference_forms_whole s r i && p.clock i && trading_forms_whole s q i && p.apart i && (numbers-mapped s ∙ p.numbers) i
+    whole (has_keys (tables_in_sheets s)) (plain_rests schema s) p.keys
+    (reference_forms_whole schema s r, (p.clock, (trading_forms_whole schema s q, (p.apart, (numbers-mapped s ∙ p.numbers, (moves-counted s ∙ p.counted, (p.rule, (p.fits, tt))))))))
 
--- each of the four tests is of the whole, and together they are it
-pub form_told : (s : Sheets) → (plain_form s && one_tax_id_each (map customer_of s.customers.items) && list_all (customer_limits (tables_in_sheets s)) (map customer_of s.customers.items)
-    && list_all (cash_form (tables_in_sheets s)) (map cash_row_of s.cash.items)) ≡ has_form (tables_in_sheets s)
-form_told s =
-    let t = tables_in_sheets s in
-    let own : Bool = one_tax_id_each (map customer_of s.customers.items) in
-    let limits : Bool = list_all (customer_limits t) (map customer_of s.customers.items) in
-    let cash : Bool = list_all (cash_form t) (map cash_row_of s.cash.items) in
+-- each of the six tests is of the whole, and together they are it
+pub form_told : (schema : Schema) (s : Sheets) → joined (plain_form schema s) (rests s) ≡ has_form schema (tables_in_sheets s)
+form_told schema s =
     both_ways _ _
-    (λ e. let a = and_parts (plain_form s && own && limits) cash e in
-    let b = and_parts (plain_form s && own) limits a.0 in
-    let d = and_parts (plain_form s) own b.0 in
-    forth s d.0 d.1 b.1 a.1)
-    (λ e. let p = form_parts t e in λ i. back s p i && p.tax_ids i && p.limits i && p.cash i)
+    (λ e. let p = parts (plain_form schema s) (rests s) e in forth schema s p.0 p.1)
+    (λ e. let p = form_parts schema (tables_in_sheets s) e in whole (plain_form schema s) (rests s) (back schema s p) (p.tax_ids, (p.limits, (p.cash, (p.moves, (p.own_moves, tt))))))
 
 -- ---- what an answer of the checker says
 

@@ -1,17 +1,19 @@
-ghost use Rattle.std.specs.Prelude.{◌≡◌, ◌∷◌, ◌++◌, IfErr, IfOk, OnOk, decimal, map, string_bytes};
+ghost use Rattle.std.specs.Prelude.{◌≡◌, ◌∷◌, ◌++◌, IfErr, IfOk, OnOk, decimal, false, map, string_bytes};
 ghost use Rattle.std.specs.List.{list_all};
+ghost use Rattle.std.specs.Option.{option_map_or};
 ghost use Rattle.brk_money.specs.Kinds.{type_name};
 ghost use Rattle.brk_money.specs.declared.fault.Fault.TheVariants.{Memory};
 ghost use Rattle.brk_model.specs.Form as form;
-ghost use Rattle.brk_changes.specs.Rows.{cash_row_of, trade_row_of};
+ghost use Rattle.brk_model.specs.Joins.{trade_in};
+ghost use Rattle.brk_changes.specs.Rows.{cash_row_of, move_row_of, trade_row_of};
 ghost use Rattle.brk_changes.specs.Sheets.{tables_in_sheets};
 ghost use Rattle.brk_audit_form.specs.Conditions.{HasKeys};
 ghost use Rattle.brk_audit_form.specs.Names.{name_in};
 
-use crate::limits::{is_balance, is_stamp};
-use crate::references::{find_security, find_trade};
-use brk_changes::{CashRow, Sheets, TradeRow};
-use brk_money::{Fault, Qty};
+use crate::limits::{is_balance, is_move_id, is_stamp};
+use crate::references::{find_security, find_trade, has_account};
+use brk_changes::{CashRow, MoveRow, Sheets, TradeRow};
+use brk_money::{Cents, Fault, Id, Qty};
 use brk_ref::Symbol;
 use std::alloc::{AllocError, Global};
 
@@ -59,17 +61,62 @@ fn is_name_of(alloc: Global, sheets: &Sheets, trade: &TradeRow, name: &str) -> R
     Ok(name == second.as_str())
 }
 
-// Whether the row has its form.
+// Whether a name is one of the two of a trade that is there.
+fn is_name_of_trade(alloc: Global, sheets: &Sheets, id: Id, name: &str) -> Result<bool, Fault>
+    requires { HasKeys sheets.now }
+    ensures told { IfOk result (λ holds. holds ≡ option_map_or (form.is_cash_name (tables_in_sheets sheets.now) name.now) (trade_in (tables_in_sheets sheets.now) id) false) }
+    ensures fault { IfErr result (λ fault. fault ≡ Memory) }
+{
+    let Some(trade) = find_trade(sheets, id) else {
+        return Ok(false);
+    };
+    is_name_of(alloc, sheets, trade, name)
+}
+
+// Whether the row of CASH_TRANSACTION has its form.
 fn is_cash_row(alloc: Global, sheets: &Sheets, row: &CashRow) -> Result<bool, Fault>
     requires { HasKeys sheets.now }
     ensures told { IfOk result (λ holds. holds ≡ form.cash_form (tables_in_sheets sheets.now) (cash_row_of row.now)) }
     ensures fault { IfErr result (λ fault. fault ≡ Memory) }
 {
-    let Some(trade) = find_trade(sheets, row.trade) else {
-        return Ok(false);
-    };
-    let is_named = is_name_of(alloc, sheets, trade, row.name.as_str())?;
+    let is_named = is_name_of_trade(alloc, sheets, row.trade, row.name.as_str())?;
     Ok(is_named && is_stamp(sheets, row.stamp) && is_balance(row.amount))
+}
+
+// Whether the name of a movement goes with its sign.
+fn is_movement(name: &str, amount: Cents) -> bool
+    ensures { result ≡ form.is_movement name.now amount }
+{
+    (name == "Deposit" && 0 < amount.get()) || (name == "Withdrawal" && amount.get() < 0)
+}
+
+// Whether the name of a row of CASH_MOVE is one of its trade, or that of a movement.
+fn is_named(alloc: Global, sheets: &Sheets, row: &MoveRow) -> Result<bool, Fault>
+    requires { HasKeys sheets.now }
+    ensures told { IfOk result (λ holds. holds
+        ≡ option_map_or (form.is_cash_of_trade (tables_in_sheets sheets.now) (move_row_of row.now)) row.now.trade (form.is_movement (string_bytes row.now.name) row.now.amount)) }
+    ensures fault { IfErr result (λ fault. fault ≡ Memory) }
+{
+    match row.trade {
+        Some(trade) => is_name_of_trade(alloc, sheets, trade, row.name.as_str()),
+        None => Ok(is_movement(row.name.as_str(), row.amount)),
+    }
+}
+
+// Whether the row of CASH_MOVE has its form.
+fn is_move_row(alloc: Global, sheets: &Sheets, row: &MoveRow) -> Result<bool, Fault>
+    requires { HasKeys sheets.now }
+    ensures told { IfOk result (λ holds. holds ≡ form.move_form (tables_in_sheets sheets.now) (move_row_of row.now)) }
+    ensures fault { IfErr result (λ fault. fault ≡ Memory) }
+{
+    let is_called = is_named(alloc, sheets, row)?;
+    Ok(
+        is_move_id(row.id)
+            && has_account(sheets, row.account)
+            && is_called
+            && is_stamp(sheets, row.stamp)
+            && is_balance(row.amount),
+    )
 }
 
 /// Whether each row of CASH_TRANSACTION has its form: its name is one of the two of its trade.
@@ -80,6 +127,21 @@ pub(crate) fn are_cash_rows(alloc: Global, sheets: &Sheets) -> Result<bool, Faul
 {
     for row in &sheets.cash {
         let is_formed = is_cash_row(alloc, sheets, row)?;
+        if !is_formed {
+            return Ok(false);
+        }
+    }
+    Ok(true)
+}
+
+/// Whether each row of CASH_MOVE has its form.
+pub(crate) fn are_move_rows(alloc: Global, sheets: &Sheets) -> Result<bool, Fault>
+    requires { HasKeys sheets.now }
+    ensures told { IfOk result (λ holds. holds ≡ list_all (form.move_form (tables_in_sheets sheets.now)) (map move_row_of sheets.now.moves.items)) }
+    ensures fault { IfErr result (λ fault. fault ≡ Memory) }
+{
+    for row in &sheets.moves {
+        let is_formed = is_move_row(alloc, sheets, row)?;
         if !is_formed {
             return Ok(false);
         }

@@ -1,20 +1,23 @@
 ghost use Rattle.std.specs.Prelude.{◌≡◌, ◌↔◌, nat_le, true, IfErr, IfOk, IsTrue};
 ghost use Rattle.std.specs.Option.{option_map_or};
-ghost use Rattle.brk_money.specs.Moments.{last_stamp};
+ghost use Rattle.brk_money.specs.Moments.{last_day, last_stamp};
 ghost use Rattle.brk_money.specs.declared.fault.Condition.TheVariants.{Form};
 ghost use Rattle.brk_money.specs.declared.fault.Fault.TheVariants.{Memory};
 ghost use Rattle.brk_model.specs.Audit.{Holds};
+ghost use Rattle.brk_model.specs.Form.{fits_schema};
+ghost use Rattle.brk_changes.specs.Schemas.{schema_of};
 ghost use Rattle.brk_changes.specs.Sheets.{tables_in_sheets};
 ghost use Rattle.brk_audit_form.specs.Groups.{plain_form};
 
 use crate::bands::are_apart;
-use crate::cash_names::are_cash_rows;
+use crate::cash_names::{are_cash_rows, are_move_rows};
 use crate::customer_limits::are_within;
-use crate::numbers::are_numbered;
+use crate::numbers::{are_few, are_numbered};
+use crate::own_rows::has_own_rows;
 use crate::tables::{has_keys, has_reference_forms, has_trading_forms};
 use crate::tax_ids::has_own_tax_ids;
-use brk_changes::Sheets;
-use brk_money::{Fault, Stamp};
+use brk_changes::{Schema, Sheets};
+use brk_money::{Day, Fault, Stamp};
 use std::alloc::Global;
 
 // Whether the last stamp is within the calendar.
@@ -27,29 +30,49 @@ fn is_last(last: Option<Stamp>) -> bool
     }
 }
 
-// What is tested without memory: the keys, the forms of the rows but for the cash rows, the bands and the numbers of
-// the trades.
-fn has_plain_form(sheets: &Sheets) -> bool
-    ensures { result ≡ plain_form sheets.now }
+// Whether the settlement day is within the calendar.
+fn is_rule(rule: Option<Day>) -> bool
+    ensures { result ≡ option_map_or (λ day. nat_le day last_day) rule true }
+{
+    match rule {
+        Some(day) => day.get() <= Day::GREATEST,
+        None => true,
+    }
+}
+
+// Whether the tables that a schema lacks have no rows.
+fn fits(schema: Schema, sheets: &Sheets) -> bool
+    ensures { result ≡ fits_schema (schema_of schema) (tables_in_sheets sheets.now) }
+{
+    (schema.has_moves() || sheets.moves.is_empty()) && (schema.has_rule() || sheets.rule.is_none())
+}
+
+// What is tested without memory: the keys, the forms of the rows but for the cash rows, the bands, the numbers of the
+// trades, how many movements there are, the settlement day, and the tables that a schema lacks.
+fn has_plain_form(schema: Schema, sheets: &Sheets) -> bool
+    ensures { result ≡ plain_form (schema_of schema) sheets.now }
 {
     if !has_keys(sheets) {
         return false;
     }
-    if !has_reference_forms(sheets) {
+    if !has_reference_forms(schema, sheets) {
         return false;
     }
     is_last(sheets.last)
-        && has_trading_forms(sheets)
-        && are_apart(&sheets.bands)
+        && has_trading_forms(schema, sheets)
+        && are_apart(schema, &sheets.bands)
         && are_numbered(&sheets.trades)
+        && are_few(&sheets.moves)
+        && is_rule(sheets.rule)
+        && fits(schema, sheets)
 }
 
-/// Whether each row has its form, what it names is there, and no key stands twice.
-pub fn has_form(alloc: Global, sheets: &Sheets) -> Result<bool, Fault>
-    ensures told { IfOk result (λ holds. IsTrue holds ↔ Holds Form (tables_in_sheets sheets.now)) }
+/// Whether each row has its form, within the limits of a schema, what it names is there, and no key stands twice.
+pub fn has_form(alloc: Global, schema: Schema, sheets: &Sheets) -> Result<bool, Fault>
+    ensures told { IfOk result (λ holds. IsTrue holds ↔ Holds (schema_of schema) Form (tables_in_sheets sheets.now)) }
     ensures fault { IfErr result (λ fault. fault ≡ Memory) }
 {
-    if !has_plain_form(sheets) {
+    if !has_plain_form(schema, sheets) {
         return Ok(false);
     }
     let has_own = has_own_tax_ids(alloc, &sheets.customers)?;
@@ -60,5 +83,13 @@ pub fn has_form(alloc: Global, sheets: &Sheets) -> Result<bool, Fault>
     if !has_limits {
         return Ok(false);
     }
-    are_cash_rows(alloc, sheets)
+    let has_cash = are_cash_rows(alloc, sheets)?;
+    if !has_cash {
+        return Ok(false);
+    }
+    let has_moves = are_move_rows(alloc, sheets)?;
+    if !has_moves {
+        return Ok(false);
+    }
+    has_own_rows(alloc, &sheets.moves)
 }

@@ -8,6 +8,7 @@ pub mod form;
 mod keys;
 mod limits;
 mod numbers;
+mod own_rows;
 mod reference_forms;
 mod reference_keys;
 mod references;

@@ -1,10 +1,11 @@
 ghost use Rattle.std.specs.Prelude.{◌≡◌, nat_le};
 ghost use Rattle.brk_model.specs.Form as form;
 ghost use Rattle.brk_model.specs.Limits as limits;
+ghost use Rattle.brk_changes.specs.Schemas.{schema_of};
 ghost use Rattle.brk_changes.specs.Sheets.{tables_in_sheets};
 
-use brk_changes::Sheets;
-use brk_money::{Amount, Cents, Id, Price, Qty, Stamp};
+use brk_changes::{Schema, Sheets};
+use brk_money::{Amount, Cents, Id, MoveId, Price, Qty, Stamp};
 use brk_ref::{ChargeAmount, Form, Text, Tier};
 
 /// Whether an id is within its limits.
@@ -14,11 +15,18 @@ pub(crate) fn is_id(id: Id) -> bool
     1 <= id.get() && id.get() <= Id::GREATEST
 }
 
-/// Whether a quantity is within its limits.
-pub(crate) fn is_qty(qty: Qty) -> bool
-    ensures { result ≡ form.is_qty qty }
+/// Whether the number of a cash row is within its limits.
+pub(crate) fn is_move_id(id: MoveId) -> bool
+    ensures { result ≡ form.is_move_id id }
 {
-    1 <= qty.get() && qty.get() <= Qty::GREATEST
+    1 <= id.get() && id.get() <= MoveId::GREATEST
+}
+
+/// Whether a quantity is within the limit of a schema.
+pub(crate) fn is_qty(schema: Schema, qty: Qty) -> bool
+    ensures { result ≡ form.is_qty (schema_of schema) qty }
+{
+    1 <= qty.get() && qty.get() <= schema.greatest_qty()
 }
 
 /// Whether a price is within its limits.

@@ -1,8 +1,10 @@
-ghost use Rattle.std.specs.Prelude.{◌≡◌, length, map};
+ghost use Rattle.std.specs.Prelude.{◌≡◌, filter, is_none, length, map, nat_le};
 ghost use Rattle.std.specs.List.{range_with_len};
 ghost use Rattle.brk_model.specs.Form as form;
+ghost use Rattle.brk_model.specs.Limits.{greatest_id};
 
-use brk_changes::TradeRow;
+use brk_changes::{MoveRow, TradeRow};
+use brk_money::Id;
 
 /// Whether the trades are numbered from 1 without a gap.
 pub(crate) fn are_numbered(trades: &[TradeRow]) -> bool
@@ -14,4 +16,17 @@ pub(crate) fn are_numbered(trades: &[TradeRow]) -> bool
         }
     }
     true
+}
+
+/// Whether there are no more movements than ids.
+pub(crate) fn are_few(moves: &[MoveRow]) -> bool
+    ensures { result ≡ nat_le (length (filter (λ r. is_none r.trade) moves.now)) greatest_id }
+{
+    let mut count = 0u64;
+    for row in moves {
+        if row.trade.is_none() {
+            count += 1;
+        }
+    }
+    count <= Id::GREATEST
 }

@@ -6,7 +6,7 @@ use crate::references::{
     has_account, has_broker, has_customer, has_last_trade, has_security, has_tax,
 };
 use crate::rows::Formed;
-use brk_changes::Sheets;
+use brk_changes::{Schema, Sheets};
 use brk_money::{Amount, Rate, TaxRate};
 use brk_ref::{
     AccountRow, Band, BrokerRow, Charge, Customer, CustomerTax, Kept, LastTrade, Permission,
@@ -14,9 +14,9 @@ use brk_ref::{
 };
 
 impl Formed for Kept {
-    ghost form = { λ tables row. form.kept_form (of.kept_of row) };
+    ghost form = { λ schema tables row. form.kept_form (of.kept_of row) };
 
-    fn is_formed(&self, _sheets: &Sheets) -> bool {
+    fn is_formed(&self, _schema: Schema, _sheets: &Sheets) -> bool {
         is_text(&self.key.batch)
             && 1 <= self.key.row.get()
             && self.key.row.get() <= RowNumber::GREATEST
@@ -24,17 +24,17 @@ impl Formed for Kept {
 }
 
 impl Formed for BrokerRow {
-    ghost form = { λ tables row. form.broker_form (of.broker_row_of row) };
+    ghost form = { λ schema tables row. form.broker_form (of.broker_row_of row) };
 
-    fn is_formed(&self, _sheets: &Sheets) -> bool {
+    fn is_formed(&self, _schema: Schema, _sheets: &Sheets) -> bool {
         is_id(self.broker.id) && is_text(&self.broker.name) && self.commissions <= Amount::GREATEST
     }
 }
 
 impl Formed for Customer {
-    ghost form = { λ tables row. form.customer_form (of.customer_of row) };
+    ghost form = { λ schema tables row. form.customer_form (of.customer_of row) };
 
-    fn is_formed(&self, _sheets: &Sheets) -> bool {
+    fn is_formed(&self, _schema: Schema, _sheets: &Sheets) -> bool {
         is_id(self.id)
             && is_tier(self.tier)
             && is_text(&self.tax_id)
@@ -44,9 +44,9 @@ impl Formed for Customer {
 }
 
 impl Formed for AccountRow {
-    ghost form = { λ tables row. form.account_form tables (of.account_row_of row) };
+    ghost form = { λ schema tables row. form.account_form tables (of.account_row_of row) };
 
-    fn is_formed(&self, sheets: &Sheets) -> bool {
+    fn is_formed(&self, _schema: Schema, sheets: &Sheets) -> bool {
         is_id(self.account.id)
             && has_customer(sheets, self.account.customer)
             && has_broker(sheets, self.account.broker)
@@ -57,9 +57,9 @@ impl Formed for AccountRow {
 }
 
 impl Formed for Permission {
-    ghost form = { λ tables row. form.permission_form tables (of.permission_of row) };
+    ghost form = { λ schema tables row. form.permission_form tables (of.permission_of row) };
 
-    fn is_formed(&self, sheets: &Sheets) -> bool {
+    fn is_formed(&self, _schema: Schema, sheets: &Sheets) -> bool {
         has_account(sheets, self.account)
             && is_text(&self.acl)
             && is_text(&self.tax_id)
@@ -69,9 +69,9 @@ impl Formed for Permission {
 }
 
 impl Formed for Security {
-    ghost form = { λ tables row. form.security_form tables (of.security_of row) };
+    ghost form = { λ schema tables row. form.security_form tables (of.security_of row) };
 
-    fn is_formed(&self, sheets: &Sheets) -> bool {
+    fn is_formed(&self, _schema: Schema, sheets: &Sheets) -> bool {
         is_text(&self.symbol)
             && is_text(&self.name)
             && is_text(&self.exchange)
@@ -81,9 +81,9 @@ impl Formed for Security {
 }
 
 impl Formed for LastTrade {
-    ghost form = { λ tables row. form.last_trade_form tables (of.last_trade_of row) };
+    ghost form = { λ schema tables row. form.last_trade_form tables (of.last_trade_of row) };
 
-    fn is_formed(&self, sheets: &Sheets) -> bool {
+    fn is_formed(&self, _schema: Schema, sheets: &Sheets) -> bool {
         has_security(sheets, &self.symbol)
             && is_stamp(sheets, self.stamp)
             && is_price(self.price)
@@ -92,38 +92,38 @@ impl Formed for LastTrade {
 }
 
 impl Formed for Charge {
-    ghost form = { λ tables row. form.charge_form (of.charge_of row) };
+    ghost form = { λ schema tables row. form.charge_form (of.charge_of row) };
 
-    fn is_formed(&self, _sheets: &Sheets) -> bool {
+    fn is_formed(&self, _schema: Schema, _sheets: &Sheets) -> bool {
         is_tier(self.tier) && is_charge(self.amount)
     }
 }
 
 impl Formed for Band {
-    ghost form = { λ tables row. form.band_form (of.band_of row) };
+    ghost form = { λ schema tables row. form.band_form schema (of.band_of row) };
 
-    fn is_formed(&self, _sheets: &Sheets) -> bool {
+    fn is_formed(&self, schema: Schema, _sheets: &Sheets) -> bool {
         is_tier(self.tier)
             && is_text(&self.exchange)
-            && is_qty(self.from_qty)
-            && is_qty(self.to_qty)
+            && is_qty(schema, self.from_qty)
+            && is_qty(schema, self.to_qty)
             && self.from_qty.get() <= self.to_qty.get()
             && self.rate.get() <= Rate::GREATEST
     }
 }
 
 impl Formed for Tax {
-    ghost form = { λ tables row. form.tax_rate_form (of.tax_of row) };
+    ghost form = { λ schema tables row. form.tax_rate_form (of.tax_of row) };
 
-    fn is_formed(&self, _sheets: &Sheets) -> bool {
+    fn is_formed(&self, _schema: Schema, _sheets: &Sheets) -> bool {
         is_id(self.id) && is_text(&self.name) && self.rate.get() <= TaxRate::GREATEST
     }
 }
 
 impl Formed for CustomerTax {
-    ghost form = { λ tables row. form.customer_tax_form tables (of.customer_tax_of row) };
+    ghost form = { λ schema tables row. form.customer_tax_form tables (of.customer_tax_of row) };
 
-    fn is_formed(&self, sheets: &Sheets) -> bool {
+    fn is_formed(&self, _schema: Schema, sheets: &Sheets) -> bool {
         has_customer(sheets, self.customer) && has_tax(sheets, self.tax)
     }
 }

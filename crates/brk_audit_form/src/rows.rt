@@ -1,25 +1,27 @@
 ghost use Rattle.std.specs.Prelude.{◌≡◌, Bool};
 ghost use Rattle.std.specs.List.{list_all};
+ghost use Rattle.brk_model.specs.Schemas as schemas;
 ghost use Rattle.brk_model.specs.Tables.{Tables};
+ghost use Rattle.brk_changes.specs.Schemas.{schema_of};
 ghost use Rattle.brk_changes.specs.Sheets.{tables_in_sheets};
 ghost use Rattle.brk_audit_form.specs.Conditions.{HasKeys};
 
-use brk_changes::Sheets;
+use brk_changes::{Schema, Sheets};
 
 /// A row of a table.
 pub(crate) trait Formed {
-    ghost form: { Tables → Self → Bool };
+    ghost form: { schemas.Schema → Tables → Self → Bool };
 
-    /// Whether its columns have their forms, and what it names is there.
-    fn is_formed(&self, sheets: &Sheets) -> bool
+    /// Whether its columns have their forms, within the limits of a schema, and what it names is there.
+    fn is_formed(&self, schema: Schema, sheets: &Sheets) -> bool
         requires { HasKeys sheets.now }
-        ensures { result ≡ form (tables_in_sheets sheets.now) self.now };
+        ensures { result ≡ form (schema_of schema) (tables_in_sheets sheets.now) self.now };
 }
 
 /// Whether each row has its form.
-pub(crate) fn are_formed<R: Formed>(sheets: &Sheets, rows: &[R]) -> bool
+pub(crate) fn are_formed<R: Formed>(schema: Schema, sheets: &Sheets, rows: &[R]) -> bool
     requires { HasKeys sheets.now }
-    ensures { result ≡ list_all (R.form (tables_in_sheets sheets.now)) rows.now }
+    ensures { result ≡ list_all (R.form (schema_of schema) (tables_in_sheets sheets.now)) rows.now }
 {
-    rows.iter().all(|row| row.is_formed(sheets))
+    rows.iter().all(|row| row.is_formed(schema, sheets))
 }

@@ -1,12 +1,13 @@
 ghost use Rattle.std.specs.Prelude.{◌≡◌};
 ghost use Rattle.brk_model.specs.Form as form;
+ghost use Rattle.brk_changes.specs.Schemas.{schema_of};
 ghost use Rattle.brk_changes.specs.Sheets.{tables_in_sheets};
 ghost use Rattle.brk_audit_form.specs.Conditions.{HasKeys};
 ghost use Rattle.brk_audit_form.specs.Groups.{reference_forms, reference_keys, trading_forms, trading_keys};
 
 use crate::keys::rises;
 use crate::rows::are_formed;
-use brk_changes::Sheets;
+use brk_changes::{Schema, Sheets};
 
 // Whether the tables of records are by strictly rising key.
 fn has_reference_keys(sheets: &Sheets) -> bool
@@ -37,6 +38,7 @@ fn has_trading_keys(sheets: &Sheets) -> bool
         && rises(&sheets.holding_history)
         && rises(&sheets.settlements)
         && rises(&sheets.cash)
+        && rises(&sheets.moves)
 }
 
 /// Whether each table is by strictly rising key.
@@ -47,33 +49,33 @@ pub(crate) fn has_keys(sheets: &Sheets) -> bool
 }
 
 /// Whether the rows of records have their forms.
-pub(crate) fn has_reference_forms(sheets: &Sheets) -> bool
+pub(crate) fn has_reference_forms(schema: Schema, sheets: &Sheets) -> bool
     requires { HasKeys sheets.now }
-    ensures { result ≡ reference_forms sheets.now }
+    ensures { result ≡ reference_forms (schema_of schema) sheets.now }
 {
-    are_formed(sheets, &sheets.kept)
-        && are_formed(sheets, &sheets.brokers)
-        && are_formed(sheets, &sheets.customers)
-        && are_formed(sheets, &sheets.accounts)
-        && are_formed(sheets, &sheets.permissions)
-        && are_formed(sheets, &sheets.securities)
-        && are_formed(sheets, &sheets.last_trades)
-        && are_formed(sheets, &sheets.charges)
-        && are_formed(sheets, &sheets.bands)
-        && are_formed(sheets, &sheets.tax_rates)
-        && are_formed(sheets, &sheets.customer_taxes)
+    are_formed(schema, sheets, &sheets.kept)
+        && are_formed(schema, sheets, &sheets.brokers)
+        && are_formed(schema, sheets, &sheets.customers)
+        && are_formed(schema, sheets, &sheets.accounts)
+        && are_formed(schema, sheets, &sheets.permissions)
+        && are_formed(schema, sheets, &sheets.securities)
+        && are_formed(schema, sheets, &sheets.last_trades)
+        && are_formed(schema, sheets, &sheets.charges)
+        && are_formed(schema, sheets, &sheets.bands)
+        && are_formed(schema, sheets, &sheets.tax_rates)
+        && are_formed(schema, sheets, &sheets.customer_taxes)
 }
 
 /// Whether the rows of trades have their forms, but for the cash rows.
-pub(crate) fn has_trading_forms(sheets: &Sheets) -> bool
+pub(crate) fn has_trading_forms(schema: Schema, sheets: &Sheets) -> bool
     requires { HasKeys sheets.now }
-    ensures { result ≡ trading_forms sheets.now }
+    ensures { result ≡ trading_forms (schema_of schema) sheets.now }
 {
-    are_formed(sheets, &sheets.trades)
-        && are_formed(sheets, &sheets.history)
-        && are_formed(sheets, &sheets.requests)
-        && are_formed(sheets, &sheets.holdings)
-        && are_formed(sheets, &sheets.summaries)
-        && are_formed(sheets, &sheets.holding_history)
-        && are_formed(sheets, &sheets.settlements)
+    are_formed(schema, sheets, &sheets.trades)
+        && are_formed(schema, sheets, &sheets.history)
+        && are_formed(schema, sheets, &sheets.requests)
+        && are_formed(schema, sheets, &sheets.holdings)
+        && are_formed(schema, sheets, &sheets.summaries)
+        && are_formed(schema, sheets, &sheets.holding_history)
+        && are_formed(schema, sheets, &sheets.settlements)
 }

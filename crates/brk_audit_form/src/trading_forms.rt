@@ -1,8 +1,8 @@
-ghost use Rattle.std.specs.Prelude.{◌≡◌, ◌+◌, ◌||◌, not, nat_le};
+ghost use Rattle.std.specs.Prelude.{◌≡◌, ◌||◌, not, nat_le};
 ghost use Rattle.brk_money.specs.Kinds.{same_status};
-ghost use Rattle.brk_money.specs.Moments as moments;
+ghost use Rattle.brk_money.specs.Moments.{last_day};
 ghost use Rattle.brk_money.specs.declared.status.Status.TheVariants.{Completed};
-ghost use Rattle.brk_model.specs.Derived.{settlement_days};
+ghost use Rattle.brk_model.specs.Derived as derived;
 ghost use Rattle.brk_model.specs.Form as form;
 ghost use Rattle.brk_changes.specs.Rows as of;
 ghost use Rattle.brk_changes.specs.Sheets.{tables_in_sheets};
@@ -14,16 +14,10 @@ use crate::references::{
 };
 use crate::rows::Formed;
 use brk_changes::{
-    CashType, HistoryRow, HoldingRow, LotChange, RequestRow, SettlementRow, Sheets, SummaryRow,
-    TradeRow,
+    CashType, HistoryRow, HoldingRow, LotChange, RequestRow, Schema, SettlementRow, Sheets,
+    SummaryRow, TradeRow, due_after,
 };
-use brk_money::{Day, Stamp, Status, day_of};
-
-// The greatest number of shares of a security that an account holds, either way.
-const GREATEST_SUMMARY: u64 = 999_999_999;
-
-// How many days after its completion a trade settles.
-const SETTLEMENT_DAYS: i32 = 2;
+use brk_money::{Day, Stamp, Status};
 
 // Whether a trade has a price just where it is completed.
 fn has_its_price(sheets: &Sheets, row: &TradeRow) -> bool
@@ -37,10 +31,10 @@ fn has_its_price(sheets: &Sheets, row: &TradeRow) -> bool
 }
 
 // Whether a completion settles within the calendar.
-fn settles(status: Status, stamp: Stamp) -> bool
-    ensures { result ≡ (not (same_status status Completed) || nat_le (moments.day_of stamp + settlement_days) moments.last_day) }
+fn settles(rule: Option<Day>, status: Status, stamp: Stamp) -> bool
+    ensures { result ≡ (not (same_status status Completed) || nat_le (derived.due_after rule stamp) last_day) }
 {
-    status != Status::Completed || day_of(stamp).get() + SETTLEMENT_DAYS <= Day::GREATEST
+    status != Status::Completed || due_after(rule, stamp).is_some()
 }
 
 // Whether the word is one of its kind of trade.
@@ -54,13 +48,13 @@ fn is_word_of(is_cash: bool, word: CashType) -> bool
 }
 
 impl Formed for TradeRow {
-    ghost form = { λ tables row. form.trade_form tables (of.trade_row_of row) };
+    ghost form = { λ schema tables row. form.trade_form schema tables (of.trade_row_of row) };
 
-    fn is_formed(&self, sheets: &Sheets) -> bool {
+    fn is_formed(&self, schema: Schema, sheets: &Sheets) -> bool {
         is_id(self.id)
             && is_stamp(sheets, self.stamp)
             && has_security(sheets, &self.symbol)
-            && is_qty(self.qty)
+            && is_qty(schema, self.qty)
             && is_price(self.bid)
             && has_account(sheets, self.account)
             && has_its_price(sheets, self)
@@ -71,31 +65,31 @@ impl Formed for TradeRow {
 }
 
 impl Formed for HistoryRow {
-    ghost form = { λ tables row. form.history_form tables (of.history_row_of row) };
+    ghost form = { λ schema tables row. form.history_form tables (of.history_row_of row) };
 
-    fn is_formed(&self, sheets: &Sheets) -> bool {
+    fn is_formed(&self, _schema: Schema, sheets: &Sheets) -> bool {
         has_trade(sheets, self.trade)
             && is_stamp(sheets, self.stamp)
-            && settles(self.status, self.stamp)
+            && settles(sheets.rule, self.status, self.stamp)
     }
 }
 
 impl Formed for RequestRow {
-    ghost form = { λ tables row. form.request_form tables (of.request_row_of row) };
+    ghost form = { λ schema tables row. form.request_form schema tables (of.request_row_of row) };
 
-    fn is_formed(&self, sheets: &Sheets) -> bool {
+    fn is_formed(&self, schema: Schema, sheets: &Sheets) -> bool {
         has_trade(sheets, self.trade)
             && has_security(sheets, &self.symbol)
-            && is_qty(self.qty)
+            && is_qty(schema, self.qty)
             && is_price(self.bid)
             && has_broker(sheets, self.broker)
     }
 }
 
 impl Formed for HoldingRow {
-    ghost form = { λ tables row. form.holding_form tables (of.holding_row_of row) };
+    ghost form = { λ schema tables row. form.holding_form tables (of.holding_row_of row) };
 
-    fn is_formed(&self, sheets: &Sheets) -> bool {
+    fn is_formed(&self, _schema: Schema, sheets: &Sheets) -> bool {
         has_trade(sheets, self.trade)
             && has_account(sheets, self.account)
             && has_security(sheets, &self.symbol)
@@ -105,27 +99,27 @@ impl Formed for HoldingRow {
 }
 
 impl Formed for SummaryRow {
-    ghost form = { λ tables row. form.summary_form tables (of.summary_row_of row) };
+    ghost form = { λ schema tables row. form.summary_form schema tables (of.summary_row_of row) };
 
-    fn is_formed(&self, sheets: &Sheets) -> bool {
+    fn is_formed(&self, schema: Schema, sheets: &Sheets) -> bool {
         has_account(sheets, self.account)
             && has_security(sheets, &self.symbol)
-            && self.qty.unsigned_abs() <= GREATEST_SUMMARY
+            && self.qty.unsigned_abs() <= schema.greatest_summary()
     }
 }
 
 impl Formed for LotChange {
-    ghost form = { λ tables row. form.holding_history_form tables (of.lot_change_of row) };
+    ghost form = { λ schema tables row. form.holding_history_form tables (of.lot_change_of row) };
 
-    fn is_formed(&self, sheets: &Sheets) -> bool {
+    fn is_formed(&self, _schema: Schema, sheets: &Sheets) -> bool {
         has_trade(sheets, self.lot) && has_trade(sheets, self.trade)
     }
 }
 
 impl Formed for SettlementRow {
-    ghost form = { λ tables row. form.settlement_form tables (of.settlement_row_of row) };
+    ghost form = { λ schema tables row. form.settlement_form tables (of.settlement_row_of row) };
 
-    fn is_formed(&self, sheets: &Sheets) -> bool {
+    fn is_formed(&self, _schema: Schema, sheets: &Sheets) -> bool {
         let Some(trade) = find_trade(sheets, self.trade) else {
             return false;
         };

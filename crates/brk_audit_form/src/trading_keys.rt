@@ -3,7 +3,8 @@ ghost use Rattle.brk_changes.specs.Rows as of;
 
 use crate::keys::{Keyed, compare_ids, compare_texts};
 use brk_changes::{
-    CashRow, HistoryRow, HoldingRow, LotChange, RequestRow, SettlementRow, SummaryRow, TradeRow,
+    CashRow, HistoryRow, HoldingRow, LotChange, MoveRow, RequestRow, SettlementRow, SummaryRow,
+    TradeRow,
 };
 use std::cmp::Ordering;
 
@@ -68,5 +69,13 @@ impl Keyed for CashRow {
 
     fn compare(&self, other: &CashRow) -> Ordering {
         compare_ids(self.trade, other.trade)
+    }
+}
+
+impl Keyed for MoveRow {
+    ghost key = { λ row. keys.move_key (of.move_row_of row) };
+
+    fn compare(&self, other: &MoveRow) -> Ordering {
+        self.id.get().cmp(&other.id.get())
     }
 }

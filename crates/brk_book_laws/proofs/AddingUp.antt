@@ -12,13 +12,13 @@ use Rattle.brk_lots.specs.declared.lot.Lot.{Lot}
 use Rattle.brk_money.specs.Spelling.{Text}
 use Rattle.brk_money.specs.declared.side.Side.TheVariants.{Buy, Sell}
 use Rattle.brk_model.specs.Base.{Base, account_with, completed, is_completed, security_with}
-use Rattle.brk_model.specs.Derived.{balance_of, commissions_of, of_broker, summary_of, trade_count_of}
+use Rattle.brk_model.specs.Derived.{balance_of, commissions_of, of_broker, postings_of, summary_of, trade_count_of}
 use Rattle.brk_model.specs.Keys.{account_key, broker_key, number, row_before, summary_key}
 use Rattle.brk_model.specs.Lists.{insert_by, is_zero, sort_by, total_by}
 use Rattle.brk_model.specs.Names.{KnowsAccount, KnowsSecurity}
 use Rattle.brk_model.specs.Records.{Account, Broker}
 use Rattle.brk_model.specs.Sheets.{sheets, sheets_of}
-use Rattle.brk_model.specs.Tables.{AccountRow, BrokerRow, HoldingRow, SummaryRow, account_row, broker_row, holding_row, summary_rows, tables_of, trade_row}
+use Rattle.brk_model.specs.Tables.{AccountRow, BrokerRow, HoldingRow, SummaryRow, account_row, broker_row, holding_row, summary_rows, tables_at, trade_row}
 use Rattle.brk_book_laws.specs.Books.{DistinctAccounts, IsBooks}
 use Rattle.brk_book_laws.specs.Sums.{AddUp, IsBalance, IsBrokerSum, IsSummary, IsSummed, held_in, is_lot_of}
 use Rattle.brk_book_laws.specs.TradeReads.{lots_in, position_in, row_lot}
@@ -44,7 +44,7 @@ broker_adds base books b = record {
 }
 
 brokers_are : (base : Base) → (sheets base).brokers ≡ sort_by (row_before broker_key) (map (broker_row base.accounts (completed base)) base.brokers)
-unfolding tables_of sheets_of
+unfolding tables_at sheets_of
 brokers_are base = refl
 
 brokers_add : (base : Base) → IsBooks base → AllByRecursion (IsBrokerSum (sheets base)) (sheets base).brokers
@@ -69,20 +69,20 @@ accounts_found (a ∷ accounts) d = (
     behind [] h k = tt
     behind (b ∷ bs) h k = (ap (λ x. cond x (Some a) (find (λ c. c.id == b.id) accounts)) (numbers_back a.id b.id ∙ h.0) ∙ k.0, behind bs h.1 k.1)
 
-balance_adds : (base : Base) → IsBooks base → (a : Account) → account_with base a.id ≡ Some a → IsBalance (sheets base) (account_row base.accounts (completed base) a)
+balance_adds : (base : Base) → IsBooks base → (a : Account) → account_with base a.id ≡ Some a → IsBalance (sheets base) (account_row base.accounts (postings_of base) a)
 unfolding balance_of
-balance_adds base books a e = λ i. option_map_or (λ a. a.opening) (e i) (pos 0) +ℤ sym (cash_moves base a.id books) i
+balance_adds base books a e = λ i. option_map_or (λ a. a.opening) (e i) (pos 0) +ℤ sym (cash_moves base a.id) i
 
-accounts_are : (base : Base) → (sheets base).accounts ≡ sort_by (row_before account_key) (map (account_row base.accounts (completed base)) base.accounts)
-unfolding tables_of sheets_of
+accounts_are : (base : Base) → (sheets base).accounts ≡ sort_by (row_before account_key) (map (account_row base.accounts (postings_of base)) base.accounts)
+unfolding tables_at sheets_of
 accounts_are base = refl
 
 balances_add : (base : Base) → IsBooks base → AllByRecursion (IsBalance (sheets base)) (sheets base).accounts
 balances_add base books =
-    let rows : List AccountRow = map (account_row base.accounts (completed base)) base.accounts in
+    let rows : List AccountRow = map (account_row base.accounts (postings_of base)) base.accounts in
     subst (AllByRecursion (IsBalance (sheets base))) (sym (accounts_are base))
     (All-sort (IsBalance (sheets base)) (row_before account_key) rows
-    (All-mapped (IsBalance (sheets base)) (account_row base.accounts (completed base)) base.accounts
+    (All-mapped (IsBalance (sheets base)) (account_row base.accounts (postings_of base)) base.accounts
     (All-map base.accounts (balance_adds base books) (accounts_found base.accounts books.owners))))
 
 -- ---- what is held
@@ -117,7 +117,7 @@ All-flat P f [] h = tt
 All-flat P f (x ∷ xs) h = All-append P (f x) (flat_map f xs) (h x) (All-flat P f xs h)
 
 summaries_are : (base : Base) → (sheets base).summaries ≡ sort_by (row_before summary_key) (all_summaries base (completed base))
-unfolding tables_of sheets_of
+unfolding tables_at sheets_of
 summaries_are base = refl
 
 summaries_add : (base : Base) → IsBooks base → AllByRecursion (IsSummary (sheets base)) (sheets base).summaries

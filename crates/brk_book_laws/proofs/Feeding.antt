@@ -11,7 +11,7 @@ use Rattle.brk_model.specs.Lists.{update_where}
 use Rattle.brk_model.specs.Records.{Security, Trade}
 use Rattle.brk_model.specs.Base.{Base, trade_with, security_with, completed, has_status, marked, with_trades}
 use Rattle.brk_model.specs.Derived.{shares_in, summary_of, balance_of, trade_count_of, commissions_of}
-use Rattle.brk_model.specs.Tables.{LastTradeRow, tables_of, security_row, last_trade_row, summary_rows}
+use Rattle.brk_model.specs.Tables.{LastTradeRow, tables_at, security_row, last_trade_row, summary_rows}
 use Rattle.brk_model.specs.Keys.{by_key, security_key, last_trade_key, summary_key}
 use Rattle.brk_model.specs.Sheets.{sheets, sheets_of}
 use Rattle.brk_model.specs.Commands.{Tick}
@@ -75,7 +75,7 @@ priced_last stamp tick xs s ys g h =
 
 set_rows : (base : Base) (stamp : ℕ) (tick : Tick) (s : Security) → DistinctSymbols base.securities → security_with base tick.symbol ≡ Some s
     → sheets (with_price stamp tick base) ≡ with_last_trade_set (row_after stamp tick (last_trade_row s)) (sheets base)
-unfolding tables_of sheets_of shares_in summary_of balance_of trade_count_of commissions_of
+unfolding tables_at sheets_of shares_in summary_of balance_of trade_count_of commissions_of
 set_rows base stamp tick s d e =
     let p : Security → Bool = λ u. bytes_eq u.symbol tick.symbol in
     let f : FoundAt Security p s base.securities = find-at p base.securities s e in

@@ -20,6 +20,7 @@ use Rattle.brk_book_laws.proofs.Same.{NonePass, All-map, All-append, any-none, f
 use Rattle.brk_book_laws.proofs.NewKeys.{both, and_both, not_both, same_bytes, same_codes, code_same}
 use Rattle.brk_book_laws.proofs.Tested.{passed, in_time, not_not}
 use Rattle.brk_book_laws.proofs.Completions.{later_times}
+use Rattle.brk_book_laws.proofs.MovementOrder.{holders_more, movements_later}
 use Rattle.brk_book_laws.proofs.Steps.{in_order}
 
 pub found_more : {X : Type 0} (p : X → Bool) (xs ys : List X) → is_some (find p xs) ≡ true → is_some (find p (xs ++ ys)) ≡ true
@@ -33,6 +34,7 @@ books_last base now h k = record {
   market = k.market;
   trades = k.trades;
   times = later_times base now h k.times;
+  movements = movements_later base now k.movements;
 }
 
 pub books_terms : (base : Base) (charges : List Charge) (tax_rates : List TaxRate) (customer_taxes : List CustomerTax) (kept : List Kept) → IsBooks base
@@ -42,6 +44,7 @@ books_terms base charges tax_rates customer_taxes kept k = record {
   market = k.market;
   trades = k.trades;
   times = k.times;
+  movements = k.movements;
 }
 
 pub books_kept : (base : Base) (key : Option Key) (command : Command) (reply : Reply) → IsBooks base → IsBooks (keeping key command reply base)
@@ -91,6 +94,7 @@ books_permission base now p k e =
       market = k.market;
       trades = k.trades;
       times = later_times base now (in_time base now (AddPermission p) e) k.times;
+      movements = movements_later base now k.movements;
     }
 
 -- ---- brokers, customers and accounts
@@ -108,6 +112,7 @@ books_broker base now b k e = record {
   market = k.market;
   trades = k.trades;
   times = later_times base now (in_time base now (AddBroker b) e) k.times;
+  movements = movements_later base now k.movements;
 }
 
 pub books_customer : (base : Base) (now : ℕ) (c : Customer) → LeavesBooks base now (AddCustomer c)
@@ -122,6 +127,7 @@ books_customer base now c k e = record {
   market = k.market;
   trades = k.trades;
   times = later_times base now (in_time base now (AddCustomer c) e) k.times;
+  movements = movements_later base now k.movements;
 }
 
 owners_more : (bs : List Account) (a : Account) → NonePass (λ b. b.id == a.id) bs → DistinctAccounts bs → DistinctAccounts (bs ++ a ∷ [])
@@ -151,6 +157,7 @@ books_account base now a k e =
         completions = k.completions;
       };
       times = later_times base now (in_time base now (AddAccount a) e) k.times;
+      movements = holders_more base.accounts a (movements_later base now k.movements);
     }
 
 -- ---- securities
@@ -186,6 +193,7 @@ books_security base now l k e =
         completions = k.completions;
       };
       times = later_times base now (in_time base now (AddSecurity l) e) k.times;
+      movements = movements_later base now k.movements;
     }
 
 -- ---- bands
@@ -224,4 +232,5 @@ books_band base now b k e =
       };
       trades = k.trades;
       times = later_times base now (in_time base now (AddBand b) e) k.times;
+      movements = movements_later base now k.movements;
     }

@@ -7,7 +7,7 @@ use Rattle.brk_money.specs.Spelling.{Text}
 use Rattle.brk_model.specs.Records.{Key, Kept}
 use Rattle.brk_model.specs.Base.{Base}
 use Rattle.brk_model.specs.Derived.{shares_in, summary_of, balance_of, trade_count_of, commissions_of}
-use Rattle.brk_model.specs.Tables.{tables_of}
+use Rattle.brk_model.specs.Tables.{tables_at}
 use Rattle.brk_model.specs.Keys.{KeyPart, number, word, key_before, kept_key}
 use Rattle.brk_model.specs.Sheets.{sheets, sheets_of}
 use Rattle.brk_model.specs.Commands.{Command, Reply}
@@ -57,7 +57,7 @@ not_itself : (j k : List KeyPart) → j ≡ k → key_before j k ≡ true → �
 not_itself j k p e = true_false (sym e ∙ (λ i. key_before (p i) (sym p i)) ∙ key_one_way j k e)
 
 pub reads_kept : (base : Base) (key : Key) → find (has_key key) (sheets base).kept ≡ kept_under base key
-unfolding tables_of sheets_of
+unfolding tables_at sheets_of
 reads_kept base key = find-sorted kept_key (has_key key) base.kept (λ x y e f. other x y (has_key key y) refl e f)
   where
     other : (x y : Kept) (b : Bool) → has_key key y ≡ b → has_key key x ≡ true → key_before (kept_key y) (kept_key x) ≡ true → has_key key y ≡ false
@@ -73,7 +73,7 @@ new_kept key k ks s h = All-map ks (λ j n e. true_false (sym (is_key key j (e �
 
 pub kept_rows : (base : Base) (key : Key) (command : Command) (reply : Reply) → kept_under base key ≡ None
     → sheets (keeping (Some key) command reply base) ≡ with_kept (kept_row key command reply) (sheets base)
-unfolding tables_of sheets_of shares_in summary_of balance_of trade_count_of commissions_of parts_of
+unfolding tables_at sheets_of shares_in summary_of balance_of trade_count_of commissions_of parts_of
 kept_rows base key command reply n =
     ap (λ rows. record (sheets base) { kept = rows })
     (by_key-append kept_key base.kept (kept_row key command reply)

@@ -10,6 +10,7 @@ pub mod Terms
 pub mod Stamps
 pub mod Tested
 pub mod Steps
+pub mod MovementOrder
 pub mod Keepers
 pub mod Numbering
 pub mod Completions
@@ -24,6 +25,7 @@ pub mod Worth
 pub mod Runs
 pub mod LotReading
 pub mod Positions
+pub mod Postings
 pub mod LotOrder
 pub mod Orders
 pub mod Touching
@@ -36,6 +38,8 @@ pub mod Summaries
 pub mod Sums
 pub mod ResultRows
 pub mod ResultKeeping
+pub mod Movements
+pub mod MoveReading
 pub mod ResultSums
 pub mod Trades
 pub mod TradeKeepers

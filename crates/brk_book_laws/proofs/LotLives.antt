@@ -22,7 +22,7 @@ use Rattle.brk_model.specs.LookupView.{touch_stamp}
 use Rattle.brk_model.specs.Records.{Trade}
 use Rattle.brk_model.specs.Shares.{Deal, Share, lot_qty, shares_after}
 use Rattle.brk_model.specs.Sheets.{sheets, sheets_of}
-use Rattle.brk_model.specs.Tables.{HoldingHistoryRow, HoldingRow, holding_row, is_moved, lot_history, lot_rows, tables_of, touch_of_row, trade_row}
+use Rattle.brk_model.specs.Tables.{HoldingHistoryRow, HoldingRow, holding_row, is_moved, lot_history, lot_rows, tables_at, touch_of_row, trade_row}
 use Rattle.brk_book_laws.specs.Books.{IsBooks}
 use Rattle.brk_book_laws.specs.Lives.{IsLotLife, IsOpened, LotsLive, changes_in, left_in}
 use Rattle.brk_book_laws.proofs.Histories.{Others, filter-flat_map, no_rows}
@@ -201,7 +201,7 @@ own_changes done lot t d f =
     ∙ filter-all (of_lot lot) (lot_history done t) (All-map (lot_history done t) (λ r e. ap (λ (n : ℕ). n == lot) e ∙ f.passes) (own_lots done t))
 
 history_is : (base : Base) → (sheets base).holding_history ≡ by_key holding_history_key (flat_map (lot_history (completed base)) (completed base))
-unfolding tables_of sheets_of
+unfolding tables_at sheets_of
 history_is base = refl
 
 changes_of : (base : Base) (lot : ℕ) (rows : List HoldingHistoryRow) → filter (of_lot lot) (flat_map (lot_history (completed base)) (completed base)) ≡ rows

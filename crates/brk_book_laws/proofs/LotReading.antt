@@ -15,7 +15,7 @@ use Rattle.brk_model.specs.Derived.{deal_of, of_account, of_position, shares_in}
 use Rattle.brk_model.specs.Keys.{KeyPart, number, by_key, key_before, row_before, holding_key}
 use Rattle.brk_model.specs.Shares.{Share, lot_qty, opened_share, signed}
 use Rattle.brk_model.specs.Sheets.{sheets, sheets_of}
-use Rattle.brk_model.specs.Tables.{HoldingRow, tables_of, holding_row}
+use Rattle.brk_model.specs.Tables.{HoldingRow, tables_at, holding_row}
 use Rattle.brk_model.specs.Names.{NumberedFrom}
 use Rattle.brk_book_laws.specs.Books.{IsBooks}
 use Rattle.brk_lots.specs.Lots.{side_of_qty}
@@ -166,7 +166,7 @@ abbrev pub is_left : HoldingRow → Bool
 is_left r = not (is_zero r.qty)
 
 pub holdings_in_order : (base : Base) → NumberedFrom 1 base.trades → (sheets base).holdings ≡ filter is_left (map (holding_row (completed base)) (completed base))
-unfolding tables_of sheets_of
+unfolding tables_at sheets_of
 holdings_in_order base n =
     by_key-filter holding_key is_left (map (holding_row (completed base)) (completed base))
     ∙ ap (filter is_left) (by_key-map (λ t. number t.id ∷ []) holding_key (holding_row (completed base)) (completed base) (λ t. refl)

@@ -11,7 +11,8 @@ use Rattle.brk_model.specs.Lists.{update_where}
 use Rattle.brk_model.specs.Records.{Account, Mark, Trade}
 use Rattle.brk_model.specs.Base.{Base, has_status, is_completed, marked}
 use Rattle.brk_model.specs.Derived.{pending, shares_in, summary_of, balance_of, trade_count_of, commissions_of}
-use Rattle.brk_model.specs.Tables.{Tables, TradeRow, HistoryRow, RequestRow, tables_of, tables_upon, trade_row, history_rows, request_row}
+use Rattle.brk_model.specs.Schemas.{third_schema}
+use Rattle.brk_model.specs.Tables.{Tables, TradeRow, HistoryRow, RequestRow, tables_at, tables_upon, trade_row, history_rows, request_row}
 use Rattle.brk_model.specs.Keys.{KeyPart, number, word, by_key, insert_row, trade_key, history_key, request_key}
 use Rattle.brk_model.specs.Sheets.{sheets, sheets_of}
 use Rattle.brk_model.specs.Names.{NumberedFrom}
@@ -136,13 +137,13 @@ with_list base trades = record base { trades = trades }
 pub moved_one : (base : Base) (stamp : ℕ) (status : Status) (xs : List Trade) (t : Trade) (ys : List Trade) → ids_other t.id xs → ids_other t.id ys
     → IsOne t.marks → has_status Pending t ≡ true → same_status status Pending ≡ false → same_status status Completed ≡ false
     → sheets (with_list base (xs ++ marked stamp status t ∷ ys)) ≡ moved_rows t.id status stamp (sheets (with_list base (xs ++ t ∷ ys)))
-unfolding tables_of sheets_of shares_in summary_of balance_of trade_count_of commissions_of
+unfolding tables_at sheets_of shares_in summary_of balance_of trade_count_of commissions_of
 moved_one base stamp status xs t ys g h one p s c =
     let done : filter is_completed (xs ++ marked stamp status t ∷ ys) ≡ filter is_completed (xs ++ t ∷ ys) =
     filter-not_one is_completed xs (marked stamp status t) ys (status_of_marked stamp status Completed t ∙ c)
     ∙ sym (filter-not_one is_completed xs t ys (pending_not_completed t p)) in
     let before : Base = with_list base (xs ++ t ∷ ys) in
-    λ i. record (sheets_of (tables_upon before (done i))) {
+    λ i. record (sheets_of (tables_upon third_schema before (done i))) {
       trades = moved_trades stamp status xs t ys g h i;
       history = moved_history stamp status xs t ys g one p s i;
       requests = moved_requests base.accounts stamp status xs t ys g h p s i;

@@ -18,10 +18,10 @@ Total {X = X} before = (x y : X) → before x y ≡ false → before y x ≡ fal
 
 -- ---- numbers first, then the rest
 
-nat_splits : Splits nat_lt
+pub nat_splits : Splits nat_lt
 nat_splits x y z g h = grind (arith, nat_tests)
 
-nat_one_way : OneWay nat_lt
+pub nat_one_way : OneWay nat_lt
 nat_one_way x y g = grind (arith, nat_tests)
 
 nat_total : Total nat_lt
@@ -209,7 +209,7 @@ rows_commute key x y rows h =
     insert_commute (row_before key) y x rows (λ a b c. key_splits (key a) (key b) (key c))
     (first_of_two (key x) (key y) h (key_before (key x) (key y)) (key_before (key y) (key x)) refl refl)
 
-append_nil : {X : Type 0} (xs : List X) → xs ++ [] ≡ xs
+pub append_nil : {X : Type 0} (xs : List X) → xs ++ [] ≡ xs
 append_nil [] = refl
 append_nil (x ∷ xs) = ap (λ ys. x ∷ ys) (append_nil xs)
 
@@ -304,20 +304,18 @@ filter_insert before p x (y ∷ ys) s h = by_test (filter_insert before p x ys s
     by_test ih true e = ap (filter p) (insert_past before x y ys e) ∙ past ih (p x) (p y) refl refl e
     by_test ih false e = ap (filter p) (insert_here before x y ys e) ∙ here (p x) refl e
 
--- the rows that pass a test stand in order as they do among all
-pub by_key-filter : {Row : Type 0} (key : Row → List KeyPart) (p : Row → Bool) (xs : List Row) → by_key key (filter p xs) ≡ filter p (by_key key xs)
+-- those that pass a test stand in order as they do among all
+pub sort_filter : {X : Type 0} (before : X → X → Bool) (p : X → Bool) (xs : List X) → Splits before → OneWay before → sort_by before (filter p xs) ≡ filter p (sort_by before xs)
 unfolding sort_by
-by_key-filter key p [] = refl
-by_key-filter key p (x ∷ xs) =
-    put (by_key-filter key p xs) (p x) refl
-    ∙ sym (filter_insert (row_before key) p x (by_key key xs) splits (sorted_sort (row_before key) xs splits (λ a b. key_one_way (key a) (key b))))
+sort_filter before p [] s o = refl
+sort_filter before p (x ∷ xs) s o = put (sort_filter before p xs s o) (p x) refl ∙ sym (filter_insert before p x (sort_by before xs) s (sorted_sort before xs s o))
   where
-    splits : Splits (row_before key)
-    splits a b c = key_splits (key a) (key b) (key c)
-
-    put : by_key key (filter p xs) ≡ filter p (by_key key xs) → (b : Bool) → p x ≡ b → by_key key (filter p (x ∷ xs)) ≡ cond (p x) (insert_by (row_before key) x (filter p (by_key key xs))) (filter p (by_key key xs))
-    put ih true e = rw e (ap (insert_by (row_before key) x) ih)
+    put : sort_by before (filter p xs) ≡ filter p (sort_by before xs) → (b : Bool) → p x ≡ b → sort_by before (filter p (x ∷ xs)) ≡ cond (p x) (insert_by before x (filter p (sort_by before xs))) (filter p (sort_by before xs))
+    put ih true e = rw e (ap (insert_by before x) ih)
     put ih false e = rw e ih
+
+pub by_key-filter : {Row : Type 0} (key : Row → List KeyPart) (p : Row → Bool) (xs : List Row) → by_key key (filter p xs) ≡ filter p (by_key key xs)
+by_key-filter key p xs = sort_filter (row_before key) p xs (λ a b c. key_splits (key a) (key b) (key c)) (λ a b. key_one_way (key a) (key b))
 
 -- what stands in order stays as it is
 pub sort_sorted : {X : Type 0} (before : X → X → Bool) (xs : List X) → Sorted before xs → sort_by before xs ≡ xs

@@ -9,7 +9,8 @@ use Rattle.brk_money.specs.declared.trade_type.TradeType.TheVariants.{MarketBuy,
 use Rattle.brk_model.specs.Records.{Trade}
 use Rattle.brk_model.specs.Base.{Base, broker_of, completed, has_status, is_completed}
 use Rattle.brk_model.specs.Derived.{pending, shares_in, summary_of, balance_of, trade_count_of, commissions_of}
-use Rattle.brk_model.specs.Tables.{HistoryRow, Tables, tables_of, tables_upon, trade_row, history_rows, request_row}
+use Rattle.brk_model.specs.Schemas.{third_schema}
+use Rattle.brk_model.specs.Tables.{HistoryRow, Tables, tables_at, tables_upon, trade_row, history_rows, request_row}
 use Rattle.brk_model.specs.Keys.{by_key, insert_row, trade_key, history_key, request_key}
 use Rattle.brk_model.specs.Sheets.{sheets, sheets_of}
 use Rattle.brk_model.specs.Commands.{Order}
@@ -39,7 +40,7 @@ pub ordered_done : (base : Base) (stamp : ℕ) (o : Order) → completed (with_o
 ordered_done base stamp o = filter-not_one is_completed base.trades (ordered_trade base stamp o) [] (first_not_completed (kind_of o.order_type)) ∙ append_nil (filter is_completed base.trades)
 
 pub ordered_rows : (base : Base) (stamp : ℕ) (o : Order) → NumberedFrom 1 base.trades → sheets (with_order base stamp o) ≡ rows_ordered base stamp o (not (is_market (kind_of o.order_type)))
-unfolding tables_of sheets_of shares_in summary_of balance_of trade_count_of commissions_of
+unfolding tables_at sheets_of shares_in summary_of balance_of trade_count_of commissions_of
 ordered_rows base stamp o n = by_market (is_market (kind_of o.order_type)) refl
   where
     t : Trade
@@ -68,7 +69,7 @@ ordered_rows base stamp o n = by_market (is_market (kind_of o.order_type)) refl
     by_market true e =
         let waits : has_status Pending t ≡ false = ap (λ b. same_status (cond b Submitted Pending) Pending) e in
         let left = filter-not_one (has_status Pending) base.trades t [] waits ∙ append_nil (pending base.trades) in
-        let rows : Rows true = λ i. record (sheets_of (tables_upon base (done i))) {
+        let rows : Rows true = λ i. record (sheets_of (tables_upon third_schema base (done i))) {
           trades = trades i;
           history = history i;
           requests = by_key request_key (map (request_row base.accounts) (left i));
@@ -80,7 +81,7 @@ ordered_rows base stamp o n = by_market (is_market (kind_of o.order_type)) refl
         ∙ row_last request_key (request_row base.accounts) (pending base.trades) t
         (All-mapped _ (request_row base.accounts) (pending base.trades)
         (new_number (λ u. u.id) t (pending base.trades) (All-filter _ (has_status Pending) base.trades others))) in
-        let rows : Rows false = λ i. record (sheets_of (tables_upon base (done i))) {
+        let rows : Rows false = λ i. record (sheets_of (tables_upon third_schema base (done i))) {
           trades = trades i;
           history = history i;
           requests = requests i;

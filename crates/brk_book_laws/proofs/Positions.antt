@@ -34,7 +34,7 @@ insert_last : {X : Type 0} (before : X → X → Bool) (t : X) (ys : List X) →
 insert_last before t [] h = refl
 insert_last before t (y ∷ ys) h = rw h.0 (ap (λ zs. y ∷ zs) (insert_last before t ys h.1))
 
-sort_last : {X : Type 0} (before : X → X → Bool) (xs : List X) (t : X) (ys : List X) → AllByRecursion (λ x. before t x ≡ false) xs → AllByRecursion (λ y. before y t ≡ true) ys
+pub sort_last : {X : Type 0} (before : X → X → Bool) (xs : List X) (t : X) (ys : List X) → AllByRecursion (λ x. before t x ≡ false) xs → AllByRecursion (λ y. before y t ≡ true) ys
     → sort_by before (xs ++ t ∷ ys) ≡ sort_by before (xs ++ ys) ++ t ∷ []
 unfolding sort_by
 sort_last before [] t ys g h = insert_last before t (sort_by before ys) (All-sort (λ y. before y t ≡ true) before ys h)

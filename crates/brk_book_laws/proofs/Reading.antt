@@ -6,8 +6,9 @@ use Rattle.std.proofs.lemmas.Bool.Decides.{nat_tests}
 use Rattle.brk_money.specs.Spelling.{Text}
 use Rattle.brk_model.specs.Lists.{insert_by, sort_by}
 use Rattle.brk_model.specs.Base.{Base, broker_with, customer_with, account_with, completed}
+use Rattle.brk_model.specs.Derived.{postings_of}
 use Rattle.brk_model.specs.Keys.{KeyPart, number, key_before, row_before, by_key, customer_key, account_key}
-use Rattle.brk_model.specs.Tables.{tables_of, broker_row, account_row}
+use Rattle.brk_model.specs.Tables.{tables_at, broker_row, account_row}
 use Rattle.brk_model.specs.Sheets.{sheets, sheets_of}
 use Rattle.brk_book_laws.specs.Reads.{has_broker, has_customer, has_tax_id, has_account, accounts_of}
 use Rattle.brk_book_laws.proofs.Order.{key_one_way, by_key-filter}
@@ -139,18 +140,18 @@ count-map p f (x ∷ xs) = by_test (p (f x)) (count-map p f xs)
 -- ---- in the tables of a base
 
 pub reads_broker : (base : Base) (id : ℕ) → find (λ r. r.id == id) (sheets base).brokers ≡ option_map (broker_row base.accounts (completed base)) (broker_with base id)
-unfolding tables_of sheets_of
+unfolding tables_at sheets_of
 reads_broker base id =
     find-id (λ r. r.id) id (map (broker_row base.accounts (completed base)) base.brokers) ∙ find-map (λ r. r.id == id) (broker_row base.accounts (completed base)) base.brokers
 
 pub reads_customer : (base : Base) (id : ℕ) → find (λ r. r.id == id) (sheets base).customers ≡ customer_with base id
-unfolding tables_of sheets_of
+unfolding tables_at sheets_of
 reads_customer base id = find-id (λ r. r.id) id base.customers
 
-pub reads_account : (base : Base) (id : ℕ) → find (λ r. r.id == id) (sheets base).accounts ≡ option_map (account_row base.accounts (completed base)) (account_with base id)
-unfolding tables_of sheets_of
+pub reads_account : (base : Base) (id : ℕ) → find (λ r. r.id == id) (sheets base).accounts ≡ option_map (account_row base.accounts (postings_of base)) (account_with base id)
+unfolding tables_at sheets_of
 reads_account base id =
-    find-id (λ r. r.id) id (map (account_row base.accounts (completed base)) base.accounts) ∙ find-map (λ r. r.id == id) (account_row base.accounts (completed base)) base.accounts
+    find-id (λ r. r.id) id (map (account_row base.accounts (postings_of base)) base.accounts) ∙ find-map (λ r. r.id == id) (account_row base.accounts (postings_of base)) base.accounts
 
 pub reads_has_broker : (base : Base) (id : ℕ) → has_broker (sheets base) id ≡ is_some (broker_with base id)
 reads_has_broker base id = ap is_some (reads_broker base id) ∙ is_some-map _ (broker_with base id)
@@ -159,23 +160,23 @@ pub reads_has_customer : (base : Base) (id : ℕ) → has_customer (sheets base)
 reads_has_customer base id = ap is_some (reads_customer base id)
 
 pub reads_same_customer : (base : Base) (id : ℕ) → has_customer (sheets base) id ≡ list_any (λ c. c.id == id) base.customers
-unfolding tables_of sheets_of
+unfolding tables_at sheets_of
 reads_same_customer base id = some-any customer_key (λ c. c.id == id) base.customers
 
 pub reads_tax_id : (base : Base) (tax_id : Text) → has_tax_id (sheets base) tax_id ≡ list_any (λ c. bytes_eq c.tax_id tax_id) base.customers
-unfolding tables_of sheets_of
+unfolding tables_at sheets_of
 reads_tax_id base tax_id = some-any customer_key (λ c. bytes_eq c.tax_id tax_id) base.customers
 
 pub reads_has_account : (base : Base) (id : ℕ) → has_account (sheets base) id ≡ is_some (account_with base id)
 reads_has_account base id = ap is_some (reads_account base id) ∙ is_some-map _ (account_with base id)
 
 pub reads_count : (base : Base) (customer : ℕ) → accounts_of (sheets base) customer ≡ length (filter (λ a. a.customer == customer) base.accounts)
-unfolding tables_of sheets_of
+unfolding tables_at sheets_of
 reads_count base customer =
-    ap length (sym (by_key-filter account_key (λ r. r.customer == customer) (map (account_row base.accounts (completed base)) base.accounts)))
-    ∙ length-by_key account_key (filter (λ r. r.customer == customer) (map (account_row base.accounts (completed base)) base.accounts))
-    ∙ count-map (λ r. r.customer == customer) (account_row base.accounts (completed base)) base.accounts
+    ap length (sym (by_key-filter account_key (λ r. r.customer == customer) (map (account_row base.accounts (postings_of base)) base.accounts)))
+    ∙ length-by_key account_key (filter (λ r. r.customer == customer) (map (account_row base.accounts (postings_of base)) base.accounts))
+    ∙ count-map (λ r. r.customer == customer) (account_row base.accounts (postings_of base)) base.accounts
 
 pub reads_last : (base : Base) → (sheets base).last ≡ base.last
-unfolding tables_of sheets_of
+unfolding tables_at sheets_of
 reads_last base = refl

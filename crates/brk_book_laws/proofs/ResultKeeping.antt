@@ -20,6 +20,7 @@ use Rattle.brk_book_laws.specs.Books.{CompletesFirst, IsBooks, IsEarly, IsNoComp
 use Rattle.brk_book_laws.specs.Steps.{ChangesRows, LeavesBooks}
 use Rattle.brk_book_laws.specs.Results.{result_rows, rows_of_result}
 use Rattle.brk_book_laws.specs.TradeReads.{position_in}
+use Rattle.brk_book_laws.proofs.MovementOrder.{movements_before, movements_beside, movements_completion, movements_later}
 use Rattle.brk_book_laws.proofs.Same.{NonePass, All-append, All-filter, All-map, find-All}
 use Rattle.brk_book_laws.proofs.Places.{All-updated, FoundAt, filter-not_one, find-at, some_of}
 use Rattle.brk_book_laws.proofs.Numbering.{numbered_after, numbered_updated}
@@ -81,7 +82,7 @@ pub record Found (base : Base) (now price : ℕ) (t : Trade) : Type 0 where
 pub found_at : (base : Base) (now id price : ℕ) (t : Trade) → IsBooks base → trade_with base id ≡ Some t → has_status Submitted t ≡ true → Found base now price t
 found_at base now id price t books e s =
     let f : FoundAt Trade (λ u. u.id == id) t base.trades = find-at (λ u. u.id == id) base.trades t e in
-    record { front = f.before; back = f.after; result = record { books = books; stands = f.stands; submitted = s; later = all_before base now books } }
+    record { front = f.before; back = f.after; result = record { books = books; stands = f.stands; submitted = s; later = all_before base now books; moved = movements_before base now books.movements } }
 
 pub submitted : (base : Base) (now id price : ℕ) (t : Trade) → trade_with base id ≡ Some t → refusal_of base now (CompleteTrade id price) ≡ None → has_status Submitted t ≡ true
 submitted base now id price t e accepted = not_not (has_status Submitted t) (result_passed base now id price t e accepted).0
@@ -169,6 +170,9 @@ books_then base now id price t k e accepted =
         moments = subst MomentsApart (sym after) (moments_more A u Z last (subst MomentsApart done k.moments));
         clock = in_time base now (CompleteTrade id price) accepted;
       };
+      movements = movements_beside (sym after) (movements_completion A u Z base.movements
+          (subst (λ (m : ℕ). AllByRecursion (λ n. n.stamp < m) base.movements) (sym moment) (movements_before base now k.movements))
+          (movements_beside done (movements_later base now k.movements)));
     }
 
 pub books_result : (base : Base) (now id price : ℕ) → LeavesBooks base now (CompleteTrade id price)

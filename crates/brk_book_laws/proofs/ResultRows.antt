@@ -1,5 +1,5 @@
 -- The tables after a result are those before with its rows.
-use Rattle.std.proofs.Common.{◌≡◌, ◌<◌, ℕ, ◌==◌, Bool, true, false, not, cond, List, [], ◌∷◌, ◌++◌, refl, sym, subst, ◌∙◌, ap, map, filter, ℤ, pos, Option, Some, None}
+use Rattle.std.proofs.Common.{◌≡◌, ◌<◌, ℕ, ◌==◌, Bool, true, false, not, cond, List, [], ◌∷◌, ◌++◌, refl, sym, subst, ◌∙◌, ap, map, filter, ℤ, pos, Option, Some, None, length, ◌+◌}
 use Rattle.std.specs.Prelude.{flat_map, unwrap_or}
 use Rattle.std.specs.Option.{option_map_or}
 use Rattle.std.specs.List.{AllByRecursion}
@@ -10,12 +10,12 @@ use Rattle.brk_money.specs.declared.status.Status.TheVariants.{Completed, Active
 use Rattle.brk_model.specs.Lists.{is_zero, update_where}
 use Rattle.brk_model.specs.Records.{Account, Mark, Security, Trade}
 use Rattle.brk_model.specs.Base.{Base, account_with, broker_in, completed, has_status, is_completed, last_mark, moment_of, security_with}
-use Rattle.brk_model.specs.Derived.{balance_of, cash_trades, commissions_of, deal_of, pending, trade_count_of}
+use Rattle.brk_model.specs.Derived.{Posting, balance_of, commissions_of, deal_of, in_turn, pending, posting_of_trade, postings, postings_of, trade_count_of}
 use Rattle.brk_model.specs.Results.{completed_trade, result_deal, with_result}
 use Rattle.brk_model.specs.Shares as model
 use Rattle.brk_model.specs.Shares.{Touch}
-use Rattle.brk_model.specs.Tables.{BrokerRow, HistoryRow, SummaryRow, Tables, TradeRow, account_row, broker_row, cash_row, history_rows, holding_row, lot_history, request_row, settlement_row, tables_of, trade_row}
-use Rattle.brk_model.specs.Keys.{number, word, account_key, broker_key, by_key, cash_key, history_key, holding_history_key, holding_key, insert_row, request_key, settlement_key, summary_key, trade_key}
+use Rattle.brk_model.specs.Tables.{BrokerRow, HistoryRow, MoveRow, SummaryRow, Tables, TradeRow, account_row, broker_row, history_rows, holding_row, lot_history, move_row as numbered_row, numbered, request_row, settlement_row, tables_at, trade_row}
+use Rattle.brk_model.specs.Keys.{number, word, account_key, broker_key, by_key, history_key, holding_history_key, holding_key, insert_row, move_key, request_key, settlement_key, summary_key, trade_key}
 use Rattle.brk_model.specs.Sheets.{sheets, sheets_of}
 use Rattle.brk_model.specs.Names.{NumberedFrom}
 use Rattle.brk_book_laws.specs.Books.{IsBooks, IsNoCompletion}
@@ -32,7 +32,7 @@ use Rattle.brk_book_laws.proofs.LotSetting.{set_lot, set_lots}
 use Rattle.brk_book_laws.proofs.Holdings.{holdings_after, open_lots}
 use Rattle.brk_book_laws.proofs.Histories.{histories_after, put_changes, put_openings}
 use Rattle.brk_book_laws.proofs.Summaries.{all_summaries, is_of, move_row, summaries_after}
-use Rattle.brk_book_laws.proofs.Sums.{accounts_after, brokers_after, cash_after, margin_accounts, margin_cash, settlements_after, with_numbers, with_other_balance}
+use Rattle.brk_book_laws.proofs.Sums.{accounts_after, brokers_after, cash_after, margin_accounts, margin_cash, posted_before, settlements_after, with_numbers, with_other_balance}
 
 -- ---- a trade at the market, and once it is completed
 
@@ -177,11 +177,11 @@ summary_is before after row t = by_test (is_zero after) (is_zero before)
     by_test false false = refl
 
 cash_is : (u : Trade) (c : ResultRows) (t : Tables) → cash_rows u.is_cash c.cash u.account c.balance t
-    ≡ record t { accounts = cond u.is_cash (map (with_other_balance u.account c.balance) t.accounts) t.accounts; cash = cond u.is_cash (insert_row cash_key c.cash t.cash) t.cash }
+    ≡ record t { accounts = cond u.is_cash (map (with_other_balance u.account c.balance) t.accounts) t.accounts; moves = cond u.is_cash (insert_row move_key c.cash t.moves) t.moves }
 cash_is u c t = by_test u.is_cash
   where
     by_test : (b : Bool) → cash_rows b c.cash u.account c.balance t
-        ≡ record t { accounts = cond b (map (with_other_balance u.account c.balance) t.accounts) t.accounts; cash = cond b (insert_row cash_key c.cash t.cash) t.cash }
+        ≡ record t { accounts = cond b (map (with_other_balance u.account c.balance) t.accounts) t.accounts; moves = cond b (insert_row move_key c.cash t.moves) t.moves }
     by_test true = refl
     by_test false = refl
 
@@ -193,6 +193,7 @@ pub record IsResult (base : Base) (stamp price : ℕ) (t : Trade) (xs ys : List 
   pub stands : base.trades ≡ xs ++ t ∷ ys
   pub submitted : has_status Submitted t ≡ true
   pub later : AllByRecursion (λ u. moment_of u < stamp) (completed base)
+  pub moved : AllByRecursion (λ m. m.stamp < stamp) base.movements
 
 -- its trades, with the trade completed
 pub trades_then : (base : Base) (stamp price : ℕ) (t : Trade) (xs ys : List Trade) → IsResult base stamp price t xs ys
@@ -235,7 +236,7 @@ rows_set u c t = record t {
   summaries = move_row c.before c.after (record { account = u.account; symbol = u.symbol; qty = c.after }) t.summaries;
   holding_history = put_openings c.opened (put_changes u.id c.touched t.holding_history);
   settlements = insert_row settlement_key c.settlement t.settlements;
-  cash = cond u.is_cash (insert_row cash_key c.cash t.cash) t.cash;
+  moves = cond u.is_cash (insert_row move_key c.cash t.moves) t.moves;
 }
 
 rows_are : (u : Trade) (c : ResultRows) (t : Tables) → result_rows (record c { trade = trade_row u }) t ≡ rows_set u c t
@@ -272,7 +273,7 @@ rows_are u c t =
 pub sheets_then : (base : Base) (stamp price : ℕ) (t : Trade) (xs ys : List Trade) → IsResult base stamp price t xs ys → (a : Account) (s : Security)
     → account_with base t.account ≡ Some a → security_with base t.symbol ≡ Some s → AllByRecursion IsNoCompletion t.marks
     → sheets (with_result base stamp price t) ≡ result_rows (rows_of_result base stamp price t) (sheets base)
-unfolding tables_of sheets_of completed_trade
+unfolding tables_at sheets_of completed_trade
 sheets_then base stamp price t xs ys k a s ea es marks =
     moved ∙ sym (rows_are u c (sheets base)) ∙ (λ i. result_rows (rows_upon base (sym then i) (deal_then base stamp price t i) u) (sheets base))
   where
@@ -326,16 +327,19 @@ sheets_then base stamp price t xs ys k a s ea es marks =
         ap (λ ts. by_key broker_key (map (broker_row base.accounts ts) base.brokers)) then ∙ brokers_after base.accounts base.brokers A u Z
         ∙ ap (λ ts. map numbers (by_key broker_key (map (broker_row base.accounts ts) base.brokers))) (sym now)
 
-    accounts : (b : Bool) → t.is_cash ≡ b → by_key account_key (map (account_row base.accounts (completed after)) base.accounts)
-        ≡ cond t.is_cash (map (with_other_balance u.account (balance_of base.accounts done u.account)) (sheets base).accounts) (sheets base).accounts
+    posted : List Posting
+    posted = postings base.accounts done base.movements
+
+    accounts : (b : Bool) → t.is_cash ≡ b → by_key account_key (map (account_row base.accounts (postings_of after)) base.accounts)
+        ≡ cond t.is_cash (map (with_other_balance u.account (balance_of base.accounts posted u.account)) (sheets base).accounts) (sheets base).accounts
     accounts true e =
-        ap (λ ts. by_key account_key (map (account_row base.accounts ts) base.accounts)) then ∙ accounts_after base.accounts base.accounts A u Z
-        ∙ ap (λ ts. map (with_other_balance u.account (balance_of base.accounts done u.account)) (by_key account_key (map (account_row base.accounts ts) base.accounts))) (sym now)
-        ∙ sym (ap (λ b. cond b (map (with_other_balance u.account (balance_of base.accounts done u.account)) (sheets base).accounts) (sheets base).accounts) e)
+        ap (λ ts. by_key account_key (map (account_row base.accounts (postings base.accounts ts base.movements)) base.accounts)) then ∙ accounts_after base.accounts base.accounts A u Z base.movements
+        ∙ ap (λ ts. map (with_other_balance u.account (balance_of base.accounts posted u.account)) (by_key account_key (map (account_row base.accounts (postings base.accounts ts base.movements)) base.accounts))) (sym now)
+        ∙ sym (ap (λ b. cond b (map (with_other_balance u.account (balance_of base.accounts posted u.account)) (sheets base).accounts) (sheets base).accounts) e)
     accounts false e =
-        ap (λ ts. by_key account_key (map (account_row base.accounts ts) base.accounts)) then ∙ margin_accounts base.accounts base.accounts A u Z e
-        ∙ ap (λ ts. by_key account_key (map (account_row base.accounts ts) base.accounts)) (sym now)
-        ∙ sym (ap (λ b. cond b (map (with_other_balance u.account (balance_of base.accounts done u.account)) (sheets base).accounts) (sheets base).accounts) e)
+        ap (λ ts. by_key account_key (map (account_row base.accounts (postings base.accounts ts base.movements)) base.accounts)) then ∙ margin_accounts base.accounts base.accounts A u Z base.movements e
+        ∙ ap (λ ts. by_key account_key (map (account_row base.accounts (postings base.accounts ts base.movements)) base.accounts)) (sym now)
+        ∙ sym (ap (λ b. cond b (map (with_other_balance u.account (balance_of base.accounts posted u.account)) (sheets base).accounts) (sheets base).accounts) e)
 
     trades : by_key trade_key (map trade_row after.trades) ≡ update_where (λ r. r.id == u.id) (completed_row (trade_row u)) (sheets base).trades
     trades =
@@ -354,20 +358,32 @@ sheets_then base stamp price t xs ys k a s ea es marks =
         (filter-not_one (has_status Pending) xs u ys (status_then base stamp price t Pending) ∙ sym (filter-not_one (has_status Pending) xs t ys (submitted_not_pending t k.submitted))
         ∙ ap pending (sym k.stands))
 
-    settlements : by_key settlement_key (map (settlement_row base.accounts) (completed after)) ≡ insert_row settlement_key (settlement_row base.accounts u) (sheets base).settlements
+    settlements : by_key settlement_key (map (settlement_row base.accounts base.rule) (completed after)) ≡ insert_row settlement_key (settlement_row base.accounts base.rule u) (sheets base).settlements
     settlements =
-        ap (λ ts. by_key settlement_key (map (settlement_row base.accounts) ts)) then ∙ settlements_after base.accounts A u Z others
-        ∙ ap (λ ts. insert_row settlement_key (settlement_row base.accounts u) (by_key settlement_key (map (settlement_row base.accounts) ts))) (sym now)
+        ap (λ ts. by_key settlement_key (map (settlement_row base.accounts base.rule) ts)) then ∙ settlements_after base.accounts base.rule A u Z others
+        ∙ ap (λ ts. insert_row settlement_key (settlement_row base.accounts base.rule u) (by_key settlement_key (map (settlement_row base.accounts base.rule) ts))) (sym now)
 
-    cash : (b : Bool) → t.is_cash ≡ b → by_key cash_key (map (cash_row base.accounts) (cash_trades (completed after))) ≡ cond t.is_cash (insert_row cash_key (cash_row base.accounts u) (sheets base).cash) (sheets base).cash
+    -- what was posted before
+    M : Tables → List MoveRow
+    M x = cond u.is_cash (insert_row move_key c.cash x.moves) x.moves
+
+    before : AllByRecursion (λ p. p.stamp < moment_of u) (postings base.accounts (A ++ Z) base.movements)
+    before =
+        subst (λ (m : ℕ). AllByRecursion (λ p. p.stamp < m) (postings base.accounts (A ++ Z) base.movements)) (sym (moment_then base stamp price t))
+        (posted_before base.accounts (A ++ Z) base.movements stamp (subst (AllByRecursion (λ v. moment_of v < stamp)) now k.later) k.moved)
+
+    row_of : List Trade → MoveRow
+    row_of ts = numbered_row (length (postings base.accounts ts base.movements) + 1) (posting_of_trade base.accounts u)
+
+    cash : (b : Bool) → t.is_cash ≡ b → by_key move_key (numbered 1 (in_turn (postings_of after))) ≡ M (sheets base)
     cash true e =
-        ap (λ ts. by_key cash_key (map (cash_row base.accounts) (cash_trades ts))) then ∙ cash_after base.accounts A u Z others e
-        ∙ ap (λ ts. insert_row cash_key (cash_row base.accounts u) (by_key cash_key (map (cash_row base.accounts) (cash_trades ts)))) (sym now)
-        ∙ sym (ap (λ b. cond b (insert_row cash_key (cash_row base.accounts u) (sheets base).cash) (sheets base).cash) e)
+        ap (λ ts. by_key move_key (numbered 1 (in_turn (postings base.accounts ts base.movements)))) then ∙ cash_after base.accounts A u Z base.movements e before
+        ∙ ap (λ ts. insert_row move_key (row_of ts) (by_key move_key (numbered 1 (in_turn (postings base.accounts ts base.movements))))) (sym now)
+        ∙ sym (ap (λ b. cond b (insert_row move_key (row_of (completed base)) (sheets base).moves) (sheets base).moves) e)
     cash false e =
-        ap (λ ts. by_key cash_key (map (cash_row base.accounts) (cash_trades ts))) then ∙ margin_cash base.accounts A u Z e
-        ∙ ap (λ ts. by_key cash_key (map (cash_row base.accounts) (cash_trades ts))) (sym now)
-        ∙ sym (ap (λ b. cond b (insert_row cash_key (cash_row base.accounts u) (sheets base).cash) (sheets base).cash) e)
+        ap (λ ts. by_key move_key (numbered 1 (in_turn (postings base.accounts ts base.movements)))) then ∙ margin_cash base.accounts A u Z base.movements e
+        ∙ ap (λ ts. by_key move_key (numbered 1 (in_turn (postings base.accounts ts base.movements)))) (sym now)
+        ∙ sym (ap (λ b. cond b (insert_row move_key (row_of (completed base)) (sheets base).moves) (sheets base).moves) e)
 
     holdings : (sheets after).holdings ≡ open_lots u c.opened (set_lots c.touched (sheets base).holdings)
     holdings = ap (λ ts. by_key holding_key (filter (λ row. not (is_zero row.qty)) (map (holding_row ts) ts))) then ∙ holdings_after base A u Z m
@@ -389,5 +405,5 @@ sheets_then base stamp price t xs ys k a s ea es marks =
       summaries = summaries i;
       holding_history = histories i;
       settlements = settlements i;
-      cash = cash t.is_cash refl i;
+      moves = cash t.is_cash refl i;
     }

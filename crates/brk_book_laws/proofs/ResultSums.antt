@@ -1,29 +1,23 @@
 -- What the completion of a trade adds to the sums that it counts in.
-use Rattle.std.proofs.Common.{◌≡◌, ℕ, ◌==◌, ◌+◌, true, false, List, [], ◌∷◌, ◌++◌, refl, sym, ◌∙◌, ap, filter, length, arith, ℤ, ◌+ℤ◌}
+use Rattle.std.proofs.Common.{◌≡◌, ℕ, ◌==◌, ◌+◌, true, false, List, [], ◌∷◌, ◌++◌, refl, sym, ◌∙◌, ap, filter, length, map, arith, ℤ, ◌+ℤ◌}
 use Rattle.std.specs.Prelude.{sum_by}
 use Rattle.std.proofs.lemmas.Bool.{eq-eqb}
 use Rattle.std.proofs.lemmas.List.Sums.{sum_by-append, sum_by-cons}
 use lib.IntN.{+ℤ_assoc, +ℤ_comm}
 use Rattle.brk_money.specs.Kinds.{side_of}
 use Rattle.brk_model.specs.Lists.{total_by}
-use Rattle.brk_model.specs.Records.{Account, Trade}
+use Rattle.brk_model.specs.Records.{Account, Movement, Trade}
 use Rattle.brk_model.specs.Base.{Base, broker_in, broker_of, completed, is_completed, opening_in}
-use Rattle.brk_model.specs.Derived.{amount_of, balance_of, commissions_of, of_broker, summary_of, trade_count_of}
+use Rattle.brk_model.specs.Derived.{Posting, amount_of, balance_of, cash_trades, commissions_of, of_broker, posting_of_movement, posting_of_trade, postings, postings_of, summary_of, trade_count_of}
 use Rattle.brk_model.specs.Results.{completed_trade, with_result}
 use Rattle.brk_model.specs.Shares.{signed}
 use Rattle.brk_book_laws.proofs.Places.{filter-append, filter-one}
 use Rattle.brk_book_laws.proofs.Positions.{summary_own}
+use Rattle.brk_book_laws.proofs.Postings.{length_one, postings_both, postings_one, total_one}
 use Rattle.brk_book_laws.proofs.ResultRows.{IsResult, done_now, done_then}
 use Rattle.brk_book_laws.proofs.Sums.{margin_balance}
-use Rattle.brk_book_laws.proofs.Worth.{total-append}
 
 -- ---- one more among others
-
-total_one : {X : Type 0} (f : X → ℤ) (xs : List X) (x : X) (ys : List X) → total_by f (xs ++ x ∷ ys) ≡ total_by f (xs ++ ys) +ℤ f x
-unfolding total_by
-total_one f xs x ys =
-    total-append f xs (x ∷ ys) ∙ ap (λ n. total_by f xs +ℤ n) (+ℤ_comm (f x) (total_by f ys))
-    ∙ sym (+ℤ_assoc (total_by f xs) (total_by f ys) (f x)) ∙ ap (λ n. n +ℤ f x) (sym (total-append f xs ys))
 
 sum_one : {X : Type 0} (f : X → ℕ) (xs : List X) (x : X) (ys : List X) → sum_by f (xs ++ x ∷ ys) ≡ sum_by f (xs ++ ys) + f x
 sum_one f xs x ys =
@@ -31,10 +25,6 @@ sum_one f xs x ys =
     let b = sum_by-cons f x ys in
     let c = sum_by-append f xs ys in
     omega (arith, a, b, c)
-
-length_one : {X : Type 0} (xs : List X) (x : X) (ys : List X) → length (xs ++ x ∷ ys) ≡ length (xs ++ ys) + 1
-length_one [] x ys = omega arith
-length_one (y ∷ xs) x ys = let h = length_one xs x ys in omega (arith, h)
 
 -- ---- brokers
 
@@ -63,22 +53,25 @@ commissions_one accounts xs t ys =
 
 -- ---- balances
 
-cash_one : (accounts : List Account) (xs : List Trade) (t : Trade) (ys : List Trade) → t.is_cash ≡ true
-    → balance_of accounts (xs ++ t ∷ ys) t.account ≡ balance_of accounts (xs ++ ys) t.account +ℤ amount_of accounts t
+cash_one : (accounts : List Account) (xs : List Trade) (t : Trade) (ys : List Trade) (ms : List Movement) → t.is_cash ≡ true
+    → balance_of accounts (postings accounts (xs ++ t ∷ ys) ms) t.account ≡ balance_of accounts (postings accounts (xs ++ ys) ms) t.account +ℤ amount_of accounts t
 unfolding balance_of
-cash_one accounts xs t ys e =
+cash_one accounts xs t ys ms e =
     ap (λ n. opening_in accounts t.account +ℤ n)
-    (ap (λ ts. total_by (amount_of accounts) (C ts)) (filter-one (λ u. u.account == t.account) xs t ys (eq-eqb t.account t.account refl))
-    ∙ ap (total_by (amount_of accounts)) (filter-one (λ u. u.is_cash) (A xs) t (A ys) e)
-    ∙ total_one (amount_of accounts) (C (A xs)) t (C (A ys))
-    ∙ ap (λ ts. total_by (amount_of accounts) ts +ℤ amount_of accounts t) (sym (filter-append (λ u. u.is_cash) (A xs) (A ys)) ∙ ap C (sym (filter-append (λ u. u.account == t.account) xs ys))))
-    ∙ sym (+ℤ_assoc (opening_in accounts t.account) (total_by (amount_of accounts) (C (A (xs ++ ys)))) (amount_of accounts t))
+    (ap (λ ps. total_by (λ p. p.amount) (A ps)) (postings_one accounts xs t ys ms e)
+    ∙ ap (total_by (λ p. p.amount)) (filter-one (λ p. p.account == t.account) X (posting_of_trade accounts t) Y (eq-eqb t.account t.account refl))
+    ∙ total_one (λ p. p.amount) (A X) (posting_of_trade accounts t) (A Y)
+    ∙ ap (λ ps. total_by (λ p. p.amount) ps +ℤ amount_of accounts t) (sym (filter-append (λ p. p.account == t.account) X Y) ∙ ap A (sym (postings_both accounts xs ys ms))))
+    ∙ sym (+ℤ_assoc (opening_in accounts t.account) (total_by (λ p. p.amount) (A (postings accounts (xs ++ ys) ms))) (amount_of accounts t))
   where
-    A : List Trade → List Trade
-    A = filter (λ u. u.account == t.account)
+    A : List Posting → List Posting
+    A = filter (λ p. p.account == t.account)
 
-    C : List Trade → List Trade
-    C = filter (λ u. u.is_cash)
+    X : List Posting
+    X = map (posting_of_trade accounts) (cash_trades xs)
+
+    Y : List Posting
+    Y = map (posting_of_trade accounts) (cash_trades ys) ++ map posting_of_movement ms
 
 -- ---- of a result
 
@@ -108,19 +101,19 @@ commissions_grow base stamp price t xs ys k =
     ∙ ap (λ ts. commissions_of base.accounts ts (broker_of base t.account) + (completed_trade base stamp price t).commission) (sym (done_now base stamp price t xs ys k))
 
 pub balance_grows : (base : Base) (stamp price : ℕ) (t : Trade) (xs ys : List Trade) → IsResult base stamp price t xs ys → t.is_cash ≡ true
-    → balance_of base.accounts (completed (with_result base stamp price t)) t.account
-    ≡ balance_of base.accounts (completed base) t.account +ℤ amount_of base.accounts (completed_trade base stamp price t)
+    → balance_of base.accounts (postings_of (with_result base stamp price t)) t.account
+    ≡ balance_of base.accounts (postings_of base) t.account +ℤ amount_of base.accounts (completed_trade base stamp price t)
 unfolding completed_trade
 balance_grows base stamp price t xs ys k e =
-    ap (λ ts. balance_of base.accounts ts t.account) (done_then base stamp price t xs ys k)
-    ∙ cash_one base.accounts (filter is_completed xs) (completed_trade base stamp price t) (filter is_completed ys) e
-    ∙ ap (λ ts. balance_of base.accounts ts t.account +ℤ amount_of base.accounts (completed_trade base stamp price t)) (sym (done_now base stamp price t xs ys k))
+    ap (λ ts. balance_of base.accounts (postings base.accounts ts base.movements) t.account) (done_then base stamp price t xs ys k)
+    ∙ cash_one base.accounts (filter is_completed xs) (completed_trade base stamp price t) (filter is_completed ys) base.movements e
+    ∙ ap (λ ts. balance_of base.accounts (postings base.accounts ts base.movements) t.account +ℤ amount_of base.accounts (completed_trade base stamp price t)) (sym (done_now base stamp price t xs ys k))
 
 -- a trade on margin leaves the balance
 pub balance_stays : (base : Base) (stamp price : ℕ) (t : Trade) (xs ys : List Trade) → IsResult base stamp price t xs ys → t.is_cash ≡ false
-    → balance_of base.accounts (completed (with_result base stamp price t)) t.account ≡ balance_of base.accounts (completed base) t.account
+    → balance_of base.accounts (postings_of (with_result base stamp price t)) t.account ≡ balance_of base.accounts (postings_of base) t.account
 unfolding completed_trade
 balance_stays base stamp price t xs ys k e =
-    ap (λ ts. balance_of base.accounts ts t.account) (done_then base stamp price t xs ys k)
-    ∙ margin_balance base.accounts (filter is_completed xs) (completed_trade base stamp price t) (filter is_completed ys) t.account e
-    ∙ ap (λ ts. balance_of base.accounts ts t.account) (sym (done_now base stamp price t xs ys k))
+    ap (λ ts. balance_of base.accounts (postings base.accounts ts base.movements) t.account) (done_then base stamp price t xs ys k)
+    ∙ margin_balance base.accounts (filter is_completed xs) (completed_trade base stamp price t) (filter is_completed ys) base.movements t.account e
+    ∙ ap (λ ts. balance_of base.accounts (postings base.accounts ts base.movements) t.account) (sym (done_now base stamp price t xs ys k))

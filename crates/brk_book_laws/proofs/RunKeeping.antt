@@ -9,20 +9,22 @@ use Rattle.brk_money.specs.declared.refusal.Refusal.{Refusal}
 use Rattle.brk_money.specs.declared.status.Status.{Status}
 use Rattle.brk_money.specs.declared.status.Status.TheVariants.{Completed}
 use Rattle.brk_model.specs.Base.{Base, has_status, is_completed, moment_of, with_trades}
-use Rattle.brk_model.specs.Commands.{AddAccount, AddBand, AddBroker, AddCharge, AddCustomer, AddCustomerTax, AddPermission, AddSecurity, AddTaxRate, Answer, CancelTrade, ChangeCashNames, ChangeCashTypes, ChangeExecutors, Command, CompleteTrade, FeedTicks, PlaceOrder, Reply}
+use Rattle.brk_model.specs.Commands.{AddAccount, AddBand, AddBroker, AddCharge, AddCustomer, AddCustomerTax, AddPermission, AddSecurity, AddTaxRate, Answer, CancelTrade, ChangeCashNames, ChangeCashTypes, ChangeExecutors, Command, CompleteTrade, FeedTicks, PlaceOrder, Reply, DepositCash, WithdrawCash, SetOneDay}
 use Rattle.brk_model.specs.Keyed.{acted, keeping, kept_of, keyed, keyed_step}
 use Rattle.brk_model.specs.Lists.{contains_number, update_where}
 use Rattle.brk_model.specs.Queries.{Query, View}
-use Rattle.brk_model.specs.Records.{Key, Kept, Trade}
+use Rattle.brk_model.specs.Records.{Key, Kept, Movement, Trade}
 use Rattle.brk_model.specs.Run.{Answers, Ask, Call, Did, Do, Failed, IsSeen, NoView, Outcome, Run, Saw}
 use Rattle.brk_model.specs.Step.{base_after, records_after, reply_to, step, unless}
 use Rattle.brk_model.specs.Tests.{next_stamp, refusal_of}
 use Rattle.brk_model.specs.Updates.{changed_cash_name, changed_cash_type, changed_executor, chosen_of_account, chosen_of_symbol}
 use Rattle.brk_model.specs.Names.{KnowsAccount, KnowsSecurity}
-use Rattle.brk_book_laws.specs.Books.{CompletesFirst, IsBooks, IsEarly, MomentsApart, WaitsFirst}
+use Rattle.brk_book_laws.specs.Books.{CompletesFirst, IsBooks, IsEarly, IsOtherwhen, MomentsApart, MovementsApart, WaitsFirst}
 use Rattle.brk_book_laws.specs.Steps.{LeavesBooks, base_then}
+use Rattle.brk_book_laws.proofs.MovementOrder.{movements_later}
 use Rattle.brk_book_laws.proofs.Completions.{later}
 use Rattle.brk_book_laws.proofs.Keepers.{books_account, books_band, books_broker, books_charge, books_customer, books_customer_tax, books_kept, books_permission, books_security, books_tax_rate}
+use Rattle.brk_book_laws.proofs.Movements.{books_deposit, books_one_day, books_withdrawal}
 use Rattle.brk_book_laws.proofs.Numbering.{numbered_updated}
 use Rattle.brk_book_laws.proofs.Places.{All-updated}
 use Rattle.brk_book_laws.proofs.ResultKeeping.{books_result}
@@ -93,6 +95,12 @@ moments_changed p f (t ∷ ts) s m =
     )
     by_test false k m ih = ih m
 
+apart_changed : (p : Trade → Bool) (f : Trade → Trade) (ts : List Trade) → ((t : Trade) → IsSame t (f t)) → (ms : List Movement) → MovementsApart (filter is_completed ts) ms
+    → MovementsApart (filter is_completed (update_where p f ts)) ms
+apart_changed p f ts s [] h = tt
+apart_changed p f ts s (m ∷ ms) h =
+    (done_changed (IsOtherwhen m.stamp) p f ts s (λ v w same e. ap (λ (n : ℕ). n == m.stamp) (same_moment v w same) ∙ e) h.0, h.1, apart_changed p f ts s ms h.2)
+
 books_changed : (base : Base) (now : ℕ) (command : Command) (p : Trade → Bool) (f : Trade → Trade) → ((t : Trade) → IsSame t (f t)) → IsBooks base → refusal_of base now command ≡ None
     → IsBooks (record (with_trades p f base) { last = Some (next_stamp base now) })
 books_changed base now command p f s k e = record {
@@ -109,6 +117,11 @@ books_changed base now command p f s k e = record {
     early = done_changed (IsEarly (Some (next_stamp base now))) p f base.trades s (early_same (Some (next_stamp base now))) (later base now k.early);
     moments = moments_changed p f base.trades s k.moments;
     clock = in_time base now command e;
+  };
+  movements = record {
+    holders = k.movements.holders;
+    early = (movements_later base now k.movements).early;
+    apart = apart_changed p f base.trades s base.movements k.movements.apart;
   };
 }
 
@@ -155,6 +168,9 @@ books_command base now (CompleteTrade id price) = books_result base now id price
 books_command base now (ChangeExecutors ids) = books_executors base now ids
 books_command base now (ChangeCashTypes account first last) = books_cash_types base now account first last
 books_command base now (ChangeCashNames symbol first last) = books_cash_names base now symbol first last
+books_command base now (DepositCash account amount) = books_deposit base now account amount
+books_command base now (WithdrawCash account amount) = books_withdrawal base now account amount
+books_command base now (SetOneDay day) = books_one_day base now day
 
 -- ---- a call
 

@@ -15,7 +15,7 @@ use Rattle.brk_lots.proofs.Plain.{lots_walk}
 use Rattle.brk_money.specs.Spelling.{Text}
 use Rattle.brk_money.specs.declared.status.Status.TheVariants.{Canceled, Completed, Submitted}
 use Rattle.brk_model.specs.Base.{Base, completed, is_completed, marked, trade_with}
-use Rattle.brk_model.specs.Commands.{AddAccount, AddBand, AddBroker, AddCharge, AddCustomer, AddCustomerTax, AddPermission, AddSecurity, AddTaxRate, CancelTrade, ChangeCashNames, ChangeCashTypes, ChangeExecutors, Command, CompleteTrade, FeedTicks, PlaceOrder, Reply, Tick}
+use Rattle.brk_model.specs.Commands.{AddAccount, AddBand, AddBroker, AddCharge, AddCustomer, AddCustomerTax, AddPermission, AddSecurity, AddTaxRate, CancelTrade, ChangeCashNames, ChangeCashTypes, ChangeExecutors, Command, CompleteTrade, FeedTicks, PlaceOrder, Reply, Tick, DepositCash, WithdrawCash, SetOneDay}
 use Rattle.brk_model.specs.Derived.{deal_of, deals_in, shares_in}
 use Rattle.brk_model.specs.Feed.{is_triggered, with_tick, with_ticks}
 use Rattle.brk_model.specs.Keyed.{keeping}
@@ -207,6 +207,9 @@ taxed_command base now id tax (ChangeCashTypes account first last) books e k =
     words_changed base (base_then base now (ChangeCashTypes account first last)) id tax (λ t. contains_number t.id (chosen_of_account base account first last)) (λ t. record t { cash_type = changed_cash_type t }) cash_type_same refl k
 taxed_command base now id tax (ChangeCashNames symbol first last) books e k =
     words_changed base (base_then base now (ChangeCashNames symbol first last)) id tax (λ t. contains_number t.id (chosen_of_symbol base symbol first last)) (λ t. record t { cash_name = changed_cash_name base t }) (cash_name_same base) refl k
+taxed_command base now id tax (DepositCash account amount) books e k = same_trades base (base_then base now (DepositCash account amount)) id tax refl k
+taxed_command base now id tax (WithdrawCash account amount) books e k = same_trades base (base_then base now (WithdrawCash account amount)) id tax refl k
+taxed_command base now id tax (SetOneDay day) books e k = same_trades base (base_then base now (SetOneDay day)) id tax refl k
 
 pub taxed_kept : (base : Base) (key : Option Key) (command : Command) (reply : Reply) (id tax : ℕ) → IsTaxed id tax base → IsTaxed id tax (keeping key command reply base)
 taxed_kept base None command reply id tax k = k

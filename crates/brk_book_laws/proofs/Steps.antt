@@ -10,7 +10,7 @@ use Rattle.brk_model.specs.Tests.{tests, next_stamp, bands_meet}
 use Rattle.brk_model.specs.Step.{listed}
 use Rattle.brk_model.specs.Lists.{sort_by}
 use Rattle.brk_model.specs.Derived.{shares_in, summary_of, balance_of, trade_count_of, commissions_of}
-use Rattle.brk_model.specs.Tables.{tables_of, no_rows}
+use Rattle.brk_model.specs.Tables.{tables_at, no_rows}
 use Rattle.brk_model.specs.Sheets.{sheets, sheets_of}
 use Rattle.brk_changes.specs.Changes.{with_broker, with_customer, with_account, with_permission, with_charge, with_band, with_tax_rate, with_customer_tax}
 use Rattle.brk_book_laws.specs.Books.{IsBooks}
@@ -22,7 +22,7 @@ use Rattle.brk_book_laws.proofs.Terms.{permission_rows, security_rows, charge_ro
 use Rattle.brk_book_laws.proofs.Tested.{passed}
 
 pub empty_rows : sheets empty_base ≡ no_rows
-unfolding empty_base tables_of sheets_of sort_by shares_in summary_of balance_of trade_count_of commissions_of
+unfolding empty_base tables_at sheets_of sort_by shares_in summary_of balance_of trade_count_of commissions_of
 empty_rows = refl
 
 pub empty_books : IsBooks empty_base
@@ -32,6 +32,7 @@ empty_books = record {
   market = record { symbols = tt; volumes = tt; bands = tt; apart = tt };
   trades = record { accounts = tt; securities = tt; numbered = tt; ways = tt; completions = tt };
   times = record { early = tt; moments = tt; clock = tt };
+  movements = record { holders = tt; early = tt; apart = tt };
 }
 
 pub step_broker : (base : Base) (now : ℕ) (b : Broker) → ChangesRows base now (AddBroker b) (with_broker b)

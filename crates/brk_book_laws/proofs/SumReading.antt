@@ -10,13 +10,12 @@ use Rattle.brk_money.specs.declared.status.Status.TheVariants.{Canceled, Complet
 use Rattle.brk_model.specs.Lists.{total_by}
 use Rattle.brk_model.specs.Records.{Account, Broker, Mark, Trade}
 use Rattle.brk_model.specs.Base.{Base, account_with, broker_in, broker_with, completed, is_completed, last_mark, trade_with}
-use Rattle.brk_model.specs.Derived.{amount_of, balance_of, cash_trades, commissions_of, of_account, of_broker, trade_count_of}
+use Rattle.brk_model.specs.Derived.{Posting, balance_of, commissions_of, of_broker, posted_to, postings_of, trade_count_of}
 use Rattle.brk_model.specs.Joins.{account_in}
-use Rattle.brk_model.specs.Keys.{cash_key}
 use Rattle.brk_model.specs.Sheets.{sheets, sheets_of}
-use Rattle.brk_model.specs.Tables.{AccountRow, BrokerRow, CashRow, account_row, broker_row, cash_row, tables_of, trade_row}
+use Rattle.brk_model.specs.Tables.{AccountRow, BrokerRow, account_row, broker_row, tables_at, trade_row}
 use Rattle.brk_book_laws.specs.Books.{IsBooks}
-use Rattle.brk_book_laws.specs.Sums.{cash_of_account, done_of_broker, is_of_broker, moves_account}
+use Rattle.brk_book_laws.specs.Sums.{cash_of_account, done_of_broker, is_of_broker}
 use Rattle.brk_book_laws.proofs.Bools.{numbers_back}
 use Rattle.brk_book_laws.proofs.Order.{by_key-filter}
 use Rattle.brk_book_laws.proofs.Same.{All-filter, All-map, filter-same}
@@ -24,7 +23,7 @@ use Rattle.brk_book_laws.proofs.Places.{FoundAt, find-at}
 use Rattle.brk_book_laws.proofs.Reading.{reads_account, reads_broker}
 use Rattle.brk_book_laws.proofs.LotReading.{IdsApart, filter-both, filter-map, filter-swap, numbered_rise, rise_apart}
 use Rattle.brk_book_laws.proofs.TradeReading.{reads_trade, trades_in_order}
-use Rattle.brk_book_laws.proofs.Worth.{total-sorted}
+use Rattle.brk_book_laws.proofs.Postings.{rows_total}
 
 -- ---- sums over rows
 
@@ -47,12 +46,12 @@ done_told : (o : Option Mark) → same_status (option_map_or (λ m. m.status) o 
 done_told None = refl
 done_told (Some m) = refl
 
-broker_or : (accounts : List Account) (done : List Trade) (a : Option Account) → option_map_or (λ r. r.broker) (option_map (account_row accounts done) a) 0 ≡ option_map_or (λ a. a.broker) a 0
-broker_or accounts done None = refl
-broker_or accounts done (Some a) = refl
+broker_or : (accounts : List Account) (posted : List Posting) (a : Option Account) → option_map_or (λ r. r.broker) (option_map (account_row accounts posted) a) 0 ≡ option_map_or (λ a. a.broker) a 0
+broker_or accounts posted None = refl
+broker_or accounts posted (Some a) = refl
 
 broker_told : (base : Base) (account : ℕ) → option_map_or (λ r. r.broker) (account_in (sheets base) account) 0 ≡ broker_in base.accounts account
-broker_told base account = ap (λ o. option_map_or (λ r. r.broker) o 0) (reads_account base account) ∙ broker_or base.accounts (completed base) (account_with base account)
+broker_told base account = ap (λ o. option_map_or (λ r. r.broker) o 0) (reads_account base account) ∙ broker_or base.accounts (postings_of base) (account_with base account)
 
 pub broker_trades : (base : Base) (broker : ℕ) → IsBooks base → done_of_broker (sheets base) broker ≡ map trade_row (of_broker base.accounts (completed base) broker)
 broker_trades base broker books =
@@ -107,36 +106,25 @@ found_each (t ∷ ts) d = (
     behind [] h k = tt
     behind (u ∷ us) h k = (ap (λ b. cond b (Some t) (find (λ v. v.id == u.id) ts)) (numbers_back t.id u.id ∙ h.0) ∙ k.0, behind us h.1 k.1)
 
-pub cash_moves : (base : Base) (account : ℕ) → IsBooks base → total_by (λ c. c.amount) (cash_of_account (sheets base) account) ≡ total_by (amount_of base.accounts) (cash_trades (of_account (completed base) account))
-unfolding tables_of sheets_of
-cash_moves base account books =
-    let M : CashRow → Bool = moves_account (sheets base) account in
-    let C : List Trade = cash_trades (completed base) in
-    let row : Trade → CashRow = cash_row base.accounts in
-    ap (total_by (λ c. c.amount)) (sym (by_key-filter cash_key M (map row C)))
-    ∙ total-sorted cash_key (λ c. c.amount) (filter M (map row C))
-    ∙ ap (total_by (λ c. c.amount)) (filter-map M row C) ∙ total-map (λ c. c.amount) row (filter (λ t. M (row t)) C)
-    ∙ ap (total_by (amount_of base.accounts)) (filter-same (λ t. M (row t)) (λ t. t.account == account) C
-    (All-map C (λ t e. ap (λ o. option_map_or (λ r. r.account == account) o false) (reads_trade base t.id ∙ ap (option_map trade_row) e))
-    (All-filter (λ t. trade_with base t.id ≡ Some t) (λ t. t.is_cash) (completed base)
-    (All-filter (λ t. trade_with base t.id ≡ Some t) is_completed base.trades (found_each base.trades (rise_apart base.trades (numbered_rise 1 base.trades books.numbered))))))
-    ∙ filter-swap (λ t. t.account == account) (λ t. t.is_cash) (completed base))
+pub cash_moves : (base : Base) (account : ℕ) → total_by (λ r. r.amount) (cash_of_account (sheets base) account) ≡ total_by (λ p. p.amount) (posted_to (postings_of base) account)
+unfolding tables_at sheets_of
+cash_moves base account = rows_total account (postings_of base)
 
-account_of_row : (base : Base) (id : ℕ) (r : AccountRow) → account_in (sheets base) id ≡ Some r → (a : Account) × (account_with base id ≡ Some a) × (r ≡ account_row base.accounts (completed base) a)
+account_of_row : (base : Base) (id : ℕ) (r : AccountRow) → account_in (sheets base) id ≡ Some r → (a : Account) × (account_with base id ≡ Some a) × (r ≡ account_row base.accounts (postings_of base) a)
 account_of_row base id r e = by_account (account_with base id) refl
   where
-    by_account : (o : Option Account) → account_with base id ≡ o → (a : Account) × (account_with base id ≡ Some a) × (r ≡ account_row base.accounts (completed base) a)
-    by_account None f = let k : Some r ≡ None = sym e ∙ reads_account base id ∙ ap (option_map (account_row base.accounts (completed base))) f in absurd (cc)
+    by_account : (o : Option Account) → account_with base id ≡ o → (a : Account) × (account_with base id ≡ Some a) × (r ≡ account_row base.accounts (postings_of base) a)
+    by_account None f = let k : Some r ≡ None = sym e ∙ reads_account base id ∙ ap (option_map (account_row base.accounts (postings_of base))) f in absurd (cc)
     by_account (Some a) f =
-        let k : Some r ≡ Some (account_row base.accounts (completed base) a) = sym e ∙ reads_account base id ∙ ap (option_map (account_row base.accounts (completed base))) f in
-        let j : r ≡ account_row base.accounts (completed base) a = cc in (a, f, j)
+        let k : Some r ≡ Some (account_row base.accounts (postings_of base) a) = sym e ∙ reads_account base id ∙ ap (option_map (account_row base.accounts (postings_of base))) f in
+        let j : r ≡ account_row base.accounts (postings_of base) a = cc in (a, f, j)
 
 pub balance_sums : (base : Base) (id : ℕ) (r : AccountRow) → IsBooks base → account_in (sheets base) id ≡ Some r
-    → r.balance ≡ r.opening +ℤ total_by (λ c. c.amount) (cash_of_account (sheets base) id)
+    → r.balance ≡ r.opening +ℤ total_by (λ r. r.amount) (cash_of_account (sheets base) id)
 unfolding balance_of
 balance_sums base id r books e =
     let k = account_of_row base id r e in
     let g : FoundAt Account (λ a. a.id == id) k.0 base.accounts = find-at (λ a. a.id == id) base.accounts k.0 k.1 in
-    ap (λ r. r.balance) k.2 ∙ ap (λ (m : ℕ). balance_of base.accounts (completed base) m) (eqb-true k.0.id id g.passes)
-    ∙ (λ i. option_map_or (λ a. a.opening) (k.1 i) (pos 0) +ℤ sym (cash_moves base id books) i)
-    ∙ sym (ap (λ r. r.opening +ℤ total_by (λ c. c.amount) (cash_of_account (sheets base) id)) k.2)
+    ap (λ r. r.balance) k.2 ∙ ap (λ (m : ℕ). balance_of base.accounts (postings_of base) m) (eqb-true k.0.id id g.passes)
+    ∙ (λ i. option_map_or (λ a. a.opening) (k.1 i) (pos 0) +ℤ sym (cash_moves base id) i)
+    ∙ sym (ap (λ r. r.opening +ℤ total_by (λ r. r.amount) (cash_of_account (sheets base) id)) k.2)

@@ -11,7 +11,7 @@ use Rattle.brk_model.specs.Base.{Base, account_with, completed, security_with}
 use Rattle.brk_model.specs.Derived.{summary_of}
 use Rattle.brk_model.specs.Keys.{number, word, by_key, insert_row, key_before, row_before, summary_key}
 use Rattle.brk_model.specs.Sheets.{sheets, sheets_of}
-use Rattle.brk_model.specs.Tables.{SummaryRow, summary_rows, tables_of}
+use Rattle.brk_model.specs.Tables.{SummaryRow, summary_rows, tables_at}
 use Rattle.brk_book_laws.specs.Books.{DistinctSymbols, IsBooks}
 use Rattle.brk_book_laws.specs.TradeReads.{row_of_summary, summary_held, summary_in}
 use Rattle.brk_book_laws.proofs.Bools.{numbers_back, same_text, texts_back}
@@ -117,7 +117,7 @@ find_one q account symbol = by_test (is_zero q)
 pub reads_summary : (base : Base) (account : ℕ) (symbol : Text) (a : Account) (s : Security) → IsBooks base → account_with base account ≡ Some a → security_with base symbol ≡ Some s
     → find (is_of account symbol) (sheets base).summaries
     ≡ cond (is_zero (summary_of (completed base) account symbol)) None (Some (record { account = account; symbol = symbol; qty = summary_of (completed base) account symbol }))
-unfolding tables_of sheets_of
+unfolding tables_at sheets_of
 reads_summary base account symbol a s books e f =
     let rows : List SummaryRow = all_summaries base (completed base) in
     let q : ℤ = summary_of (completed base) account symbol in

@@ -1,17 +1,18 @@
 -- Brokers, accounts, settlements and cash after a result.
-use Rattle.std.proofs.Common.{◌≡◌, ℕ, ◌==◌, Bool, true, false, cond, List, [], ◌∷◌, ◌++◌, refl, sym, ◌∙◌, ap, map, filter, length, ℤ, pos, ◌+ℤ◌}
+use Rattle.std.proofs.Common.{◌≡◌, ◌<◌, ℕ, ◌+◌, ◌==◌, Bool, true, false, cond, List, [], ◌∷◌, ◌++◌, refl, sym, ◌∙◌, ap, subst, map, filter, length, ℤ, pos, ◌+ℤ◌}
 use Rattle.std.specs.Prelude.{sum_by}
 use Rattle.std.specs.List.{AllByRecursion}
 use Rattle.std.proofs.lemmas.Bool.{eqb-false, eqb-true}
 use Rattle.brk_model.specs.Lists.{total_by}
-use Rattle.brk_model.specs.Records.{Account, Broker, Trade}
-use Rattle.brk_model.specs.Base.{broker_in, opening_in}
-use Rattle.brk_model.specs.Derived.{amount_of, balance_of, cash_trades, commissions_of, of_broker, trade_count_of}
-use Rattle.brk_model.specs.Keys.{KeyPart, number, account_key, broker_key, by_key, cash_key, insert_row, settlement_key}
-use Rattle.brk_model.specs.Tables.{AccountRow, BrokerRow, account_row, broker_row, cash_row, settlement_row}
+use Rattle.brk_model.specs.Records.{Account, Broker, Movement, SettleRule, Trade}
+use Rattle.brk_model.specs.Base.{broker_in, moment_of, opening_in}
+use Rattle.brk_model.specs.Derived.{Posting, balance_of, cash_trades, commissions_of, in_turn, of_broker, posted_to, posting_of_movement, posting_of_trade, postings, trade_count_of}
+use Rattle.brk_model.specs.Keys.{KeyPart, number, account_key, broker_key, by_key, insert_row, move_key, settlement_key}
+use Rattle.brk_model.specs.Tables.{AccountRow, BrokerRow, account_row, broker_row, move_row, numbered, settlement_row}
 use Rattle.brk_book_laws.proofs.Bools.{numbers_back}
 use Rattle.brk_book_laws.proofs.Order.{by_key-map, by_key-middle}
-use Rattle.brk_book_laws.proofs.Same.{NonePass, All-filter, All-map, All-mapped, map-same}
+use Rattle.brk_book_laws.proofs.Same.{NonePass, All-append, All-filter, All-map, All-mapped, map-same}
+use Rattle.brk_book_laws.proofs.Postings.{postings_both, postings_none, postings_one, rows_last}
 use Rattle.brk_book_laws.proofs.Places.{filter-append, filter-not_one, filter-one, map-append}
 
 map-twice : {X Y Z : Type 0} (f : Y → Z) (g : X → Y) (xs : List X) → map f (map g xs) ≡ map (λ x. f (g x)) xs
@@ -81,66 +82,69 @@ brokers_after accounts brokers xs t ys =
 abbrev pub with_other_balance : ℕ → ℤ → AccountRow → AccountRow
 with_other_balance account balance r = cond (r.id == account) (record r { balance = balance }) r
 
-pub other_account : (accounts : List Account) (xs : List Trade) (t : Trade) (ys : List Trade) (id : ℕ) → (id == t.account) ≡ false
-    → balance_of accounts (xs ++ t ∷ ys) id ≡ balance_of accounts (xs ++ ys) id
+pub other_account : (accounts : List Account) (xs : List Trade) (t : Trade) (ys : List Trade) (ms : List Movement) (id : ℕ) → (id == t.account) ≡ false
+    → balance_of accounts (postings accounts (xs ++ t ∷ ys) ms) id ≡ balance_of accounts (postings accounts (xs ++ ys) ms) id
 unfolding balance_of
-other_account accounts xs t ys id e =
-    ap (λ ts. opening_in accounts id +ℤ total_by (amount_of accounts) (cash_trades ts))
-    (filter-not_one (λ u. u.account == id) xs t ys (numbers_back t.account id ∙ e) ∙ sym (filter-append (λ u. u.account == id) xs ys))
-
-pub accounts_after : (all accounts : List Account) (xs : List Trade) (t : Trade) (ys : List Trade)
-    → by_key account_key (map (account_row all (xs ++ t ∷ ys)) accounts)
-    ≡ map (with_other_balance t.account (balance_of all (xs ++ t ∷ ys) t.account)) (by_key account_key (map (account_row all (xs ++ ys)) accounts))
-accounts_after all accounts xs t ys =
-    let f : AccountRow → AccountRow = with_other_balance t.account (balance_of all (xs ++ t ∷ ys) t.account) in
-    ap (by_key account_key) (map-same (account_row all (xs ++ t ∷ ys)) (λ a. f (account_row all (xs ++ ys) a)) accounts (every accounts)
-    ∙ sym (map-twice f (account_row all (xs ++ ys)) accounts))
-    ∙ by_key-map account_key account_key f (map (account_row all (xs ++ ys)) accounts) (λ r. same_key r (r.id == t.account))
+other_account accounts xs t ys ms id e = by_test t.is_cash refl
   where
-    same_key : (r : AccountRow) (c : Bool) → account_key (cond c (record r { balance = balance_of all (xs ++ t ∷ ys) t.account }) r) ≡ account_key r
+    X : List Posting
+    X = map (posting_of_trade accounts) (cash_trades xs)
+
+    Y : List Posting
+    Y = map (posting_of_trade accounts) (cash_trades ys) ++ map posting_of_movement ms
+
+    of_it : (b : Bool) → t.is_cash ≡ b → posted_to (postings accounts (xs ++ t ∷ ys) ms) id ≡ posted_to (postings accounts (xs ++ ys) ms) id
+    of_it true c =
+        ap (λ ps. posted_to ps id) (postings_one accounts xs t ys ms c)
+        ∙ filter-not_one (λ p. p.account == id) X (posting_of_trade accounts t) Y (numbers_back t.account id ∙ e)
+        ∙ sym (filter-append (λ p. p.account == id) X Y) ∙ ap (λ ps. posted_to ps id) (sym (postings_both accounts xs ys ms))
+    of_it false c = ap (λ ps. posted_to ps id) (postings_none accounts xs t ys ms c)
+
+    by_test : (b : Bool) → t.is_cash ≡ b → balance_of accounts (postings accounts (xs ++ t ∷ ys) ms) id ≡ balance_of accounts (postings accounts (xs ++ ys) ms) id
+    by_test b c = ap (λ ps. opening_in accounts id +ℤ total_by (λ p. p.amount) ps) (of_it b c)
+
+-- where the balances of all other accounts stay
+pub accounts_posted : (all accounts : List Account) (before then : List Posting) (account : ℕ) → ((id : ℕ) → (id == account) ≡ false → balance_of all then id ≡ balance_of all before id)
+    → by_key account_key (map (account_row all then) accounts) ≡ map (with_other_balance account (balance_of all then account)) (by_key account_key (map (account_row all before) accounts))
+accounts_posted all accounts before then account others =
+    let f : AccountRow → AccountRow = with_other_balance account (balance_of all then account) in
+    ap (by_key account_key) (map-same (account_row all then) (λ a. f (account_row all before a)) accounts (every accounts) ∙ sym (map-twice f (account_row all before) accounts))
+    ∙ by_key-map account_key account_key f (map (account_row all before) accounts) (λ r. same_key r (r.id == account))
+  where
+    same_key : (r : AccountRow) (c : Bool) → account_key (cond c (record r { balance = balance_of all then account }) r) ≡ account_key r
     same_key r true = refl
     same_key r false = refl
 
-    after : (a : Account) (c : Bool) → (a.id == t.account) ≡ c
-        → account_row all (xs ++ t ∷ ys) a ≡ with_other_balance t.account (balance_of all (xs ++ t ∷ ys) t.account) (account_row all (xs ++ ys) a)
+    after : (a : Account) (c : Bool) → (a.id == account) ≡ c → account_row all then a ≡ with_other_balance account (balance_of all then account) (account_row all before a)
     after a true e =
-        (λ i. record (account_row all (xs ++ ys) a) { balance = balance_of all (xs ++ t ∷ ys) (eqb-true a.id t.account e i) })
-        ∙ sym (ap (λ c. cond c (record (account_row all (xs ++ ys) a) { balance = balance_of all (xs ++ t ∷ ys) t.account }) (account_row all (xs ++ ys) a)) e)
+        (λ i. record (account_row all before a) { balance = balance_of all then (eqb-true a.id account e i) })
+        ∙ sym (ap (λ c. cond c (record (account_row all before a) { balance = balance_of all then account }) (account_row all before a)) e)
     after a false e =
-        (λ i. record (account_row all (xs ++ ys) a) { balance = other_account all xs t ys a.id e i })
-        ∙ sym (ap (λ c. cond c (record (account_row all (xs ++ ys) a) { balance = balance_of all (xs ++ t ∷ ys) t.account }) (account_row all (xs ++ ys) a)) e)
+        (λ i. record (account_row all before a) { balance = others a.id e i })
+        ∙ sym (ap (λ c. cond c (record (account_row all before a) { balance = balance_of all then account }) (account_row all before a)) e)
 
-    every : (bs : List Account) → AllByRecursion (λ a. account_row all (xs ++ t ∷ ys) a
-        ≡ with_other_balance t.account (balance_of all (xs ++ t ∷ ys) t.account) (account_row all (xs ++ ys) a)) bs
+    every : (bs : List Account) → AllByRecursion (λ a. account_row all then a ≡ with_other_balance account (balance_of all then account) (account_row all before a)) bs
     every [] = tt
-    every (a ∷ bs) = (after a (a.id == t.account) refl, every bs)
+    every (a ∷ bs) = (after a (a.id == account) refl, every bs)
+
+pub accounts_after : (all accounts : List Account) (xs : List Trade) (t : Trade) (ys : List Trade) (ms : List Movement)
+    → by_key account_key (map (account_row all (postings all (xs ++ t ∷ ys) ms)) accounts)
+    ≡ map (with_other_balance t.account (balance_of all (postings all (xs ++ t ∷ ys) ms) t.account)) (by_key account_key (map (account_row all (postings all (xs ++ ys) ms)) accounts))
+accounts_after all accounts xs t ys ms =
+    accounts_posted all accounts (postings all (xs ++ ys) ms) (postings all (xs ++ t ∷ ys) ms) t.account (λ id e. other_account all xs t ys ms id e)
 
 -- a trade on margin moves no balance
-pub margin_balance : (accounts : List Account) (xs : List Trade) (t : Trade) (ys : List Trade) (id : ℕ) → t.is_cash ≡ false
-    → balance_of accounts (xs ++ t ∷ ys) id ≡ balance_of accounts (xs ++ ys) id
-unfolding balance_of
-margin_balance accounts xs t ys id e =
-    ap (λ ts. opening_in accounts id +ℤ total_by (amount_of accounts) ts) (by_test (t.account == id) refl)
+pub margin_balance : (accounts : List Account) (xs : List Trade) (t : Trade) (ys : List Trade) (ms : List Movement) (id : ℕ) → t.is_cash ≡ false
+    → balance_of accounts (postings accounts (xs ++ t ∷ ys) ms) id ≡ balance_of accounts (postings accounts (xs ++ ys) ms) id
+margin_balance accounts xs t ys ms id e = ap (λ ps. balance_of accounts ps id) (postings_none accounts xs t ys ms e)
+
+pub margin_accounts : (all accounts : List Account) (xs : List Trade) (t : Trade) (ys : List Trade) (ms : List Movement) → t.is_cash ≡ false
+    → by_key account_key (map (account_row all (postings all (xs ++ t ∷ ys) ms)) accounts) ≡ by_key account_key (map (account_row all (postings all (xs ++ ys) ms)) accounts)
+margin_accounts all accounts xs t ys ms e = ap (by_key account_key) (map-same (account_row all (postings all (xs ++ t ∷ ys) ms)) (account_row all (postings all (xs ++ ys) ms)) accounts (every accounts))
   where
-    A : List Trade → List Trade
-    A = filter (λ u. u.account == id)
-
-    C : List Trade → List Trade
-    C = filter (λ u. u.is_cash)
-
-    by_test : (b : Bool) → (t.account == id) ≡ b → C (A (xs ++ t ∷ ys)) ≡ C (A (xs ++ ys))
-    by_test true k =
-        ap C (filter-one (λ u. u.account == id) xs t ys k) ∙ filter-not_one (λ u. u.is_cash) (A xs) t (A ys) e
-        ∙ sym (filter-append (λ u. u.is_cash) (A xs) (A ys)) ∙ ap C (sym (filter-append (λ u. u.account == id) xs ys))
-    by_test false k = ap C (filter-not_one (λ u. u.account == id) xs t ys k ∙ sym (filter-append (λ u. u.account == id) xs ys))
-
-pub margin_accounts : (all accounts : List Account) (xs : List Trade) (t : Trade) (ys : List Trade) → t.is_cash ≡ false
-    → by_key account_key (map (account_row all (xs ++ t ∷ ys)) accounts) ≡ by_key account_key (map (account_row all (xs ++ ys)) accounts)
-margin_accounts all accounts xs t ys e = ap (by_key account_key) (map-same (account_row all (xs ++ t ∷ ys)) (account_row all (xs ++ ys)) accounts (every accounts))
-  where
-    every : (bs : List Account) → AllByRecursion (λ a. account_row all (xs ++ t ∷ ys) a ≡ account_row all (xs ++ ys) a) bs
+    every : (bs : List Account) → AllByRecursion (λ a. account_row all (postings all (xs ++ t ∷ ys) ms) a ≡ account_row all (postings all (xs ++ ys) ms) a) bs
     every [] = tt
-    every (a ∷ bs) = ((λ i. record (account_row all (xs ++ ys) a) { balance = margin_balance all xs t ys a.id e i }), every bs)
+    every (a ∷ bs) = ((λ i. record (account_row all (postings all (xs ++ ys) ms) a) { balance = margin_balance all xs t ys ms a.id e i }), every bs)
 
 -- ---- settlements and cash
 
@@ -157,19 +161,31 @@ row_among key row xs t ys k h =
     number_of : (m n : ℕ) → number m ∷ [] ≡ number n ∷ [] → m ≡ n
     number_of m n e = cc
 
-pub settlements_after : (accounts : List Account) (xs : List Trade) (t : Trade) (ys : List Trade) → NonePass (λ u. u.id == t.id) xs
-    → by_key settlement_key (map (settlement_row accounts) (xs ++ t ∷ ys)) ≡ insert_row settlement_key (settlement_row accounts t) (by_key settlement_key (map (settlement_row accounts) (xs ++ ys)))
-settlements_after accounts xs t ys h = row_among settlement_key (settlement_row accounts) xs t ys (λ u. refl) h
+pub settlements_after : (accounts : List Account) (rule : SettleRule) (xs : List Trade) (t : Trade) (ys : List Trade) → NonePass (λ u. u.id == t.id) xs
+    → by_key settlement_key (map (settlement_row accounts rule) (xs ++ t ∷ ys)) ≡ insert_row settlement_key (settlement_row accounts rule t) (by_key settlement_key (map (settlement_row accounts rule) (xs ++ ys)))
+settlements_after accounts rule xs t ys h = row_among settlement_key (settlement_row accounts rule) xs t ys (λ u. refl) h
 
-pub cash_after : (accounts : List Account) (xs : List Trade) (t : Trade) (ys : List Trade) → NonePass (λ u. u.id == t.id) xs → t.is_cash ≡ true
-    → by_key cash_key (map (cash_row accounts) (cash_trades (xs ++ t ∷ ys))) ≡ insert_row cash_key (cash_row accounts t) (by_key cash_key (map (cash_row accounts) (cash_trades (xs ++ ys))))
-cash_after accounts xs t ys h e =
-    let C : List Trade → List Trade = filter (λ u. u.is_cash) in
-    ap (λ ts. by_key cash_key (map (cash_row accounts) ts)) (filter-one (λ u. u.is_cash) xs t ys e)
-    ∙ row_among cash_key (cash_row accounts) (C xs) t (C ys) (λ u. refl) (All-filter (λ u. (u.id == t.id) ≡ false) (λ u. u.is_cash) xs h)
-    ∙ ap (λ ts. insert_row cash_key (cash_row accounts t) (by_key cash_key (map (cash_row accounts) ts))) (sym (filter-append (λ u. u.is_cash) xs ys))
+-- what was posted before a trade is completed: all at earlier stamps
+pub posted_before : (accounts : List Account) (ts : List Trade) (ms : List Movement) (stamp : ℕ) → AllByRecursion (λ t. moment_of t < stamp) ts → AllByRecursion (λ m. m.stamp < stamp) ms
+    → AllByRecursion (λ p. p.stamp < stamp) (postings accounts ts ms)
+posted_before accounts ts ms stamp h k =
+    All-append (λ p. p.stamp < stamp) (map (posting_of_trade accounts) (cash_trades ts)) (map posting_of_movement ms)
+    (All-mapped (λ p. p.stamp < stamp) (posting_of_trade accounts) (cash_trades ts) (All-filter (λ t. moment_of t < stamp) (λ t. t.is_cash) ts h))
+    (All-mapped (λ p. p.stamp < stamp) posting_of_movement ms k)
 
-pub margin_cash : (accounts : List Account) (xs : List Trade) (t : Trade) (ys : List Trade) → t.is_cash ≡ false
-    → by_key cash_key (map (cash_row accounts) (cash_trades (xs ++ t ∷ ys))) ≡ by_key cash_key (map (cash_row accounts) (cash_trades (xs ++ ys)))
-margin_cash accounts xs t ys e =
-    ap (λ ts. by_key cash_key (map (cash_row accounts) ts)) (filter-not_one (λ u. u.is_cash) xs t ys e ∙ sym (filter-append (λ u. u.is_cash) xs ys))
+-- the row of a cash trade that is completed after all that was posted
+pub cash_after : (accounts : List Account) (xs : List Trade) (t : Trade) (ys : List Trade) (ms : List Movement) → t.is_cash ≡ true
+    → AllByRecursion (λ p. p.stamp < moment_of t) (postings accounts (xs ++ ys) ms)
+    → by_key move_key (numbered 1 (in_turn (postings accounts (xs ++ t ∷ ys) ms)))
+    ≡ insert_row move_key (move_row (length (postings accounts (xs ++ ys) ms) + 1) (posting_of_trade accounts t)) (by_key move_key (numbered 1 (in_turn (postings accounts (xs ++ ys) ms))))
+cash_after accounts xs t ys ms e h =
+    let X : List Posting = map (posting_of_trade accounts) (cash_trades xs) in
+    let Y : List Posting = map (posting_of_trade accounts) (cash_trades ys) ++ map posting_of_movement ms in
+    let both : postings accounts (xs ++ ys) ms ≡ X ++ Y = postings_both accounts xs ys ms in
+    ap (λ ps. by_key move_key (numbered 1 (in_turn ps))) (postings_one accounts xs t ys ms e)
+    ∙ rows_last X (posting_of_trade accounts t) Y (subst (AllByRecursion (λ p. p.stamp < moment_of t)) both h)
+    ∙ ap (λ ps. insert_row move_key (move_row (length ps + 1) (posting_of_trade accounts t)) (by_key move_key (numbered 1 (in_turn ps)))) (sym both)
+
+pub margin_cash : (accounts : List Account) (xs : List Trade) (t : Trade) (ys : List Trade) (ms : List Movement) → t.is_cash ≡ false
+    → by_key move_key (numbered 1 (in_turn (postings accounts (xs ++ t ∷ ys) ms))) ≡ by_key move_key (numbered 1 (in_turn (postings accounts (xs ++ ys) ms)))
+margin_cash accounts xs t ys ms e = ap (λ ps. by_key move_key (numbered 1 (in_turn ps))) (postings_none accounts xs t ys ms e)

@@ -14,7 +14,7 @@ use Rattle.brk_model.specs.Records.{Band, CustomerTax, TaxRate}
 use Rattle.brk_model.specs.Base as base_spec
 use Rattle.brk_model.specs.Base.{Base, security_with, charge_with, tax_rate_with}
 use Rattle.brk_model.specs.Keys.{KeyPart, number, word, row_before, by_key, permission_key, charge_key, customer_tax_key, band_key}
-use Rattle.brk_model.specs.Tables.{Tables, tables_of, security_row, last_trade_row}
+use Rattle.brk_model.specs.Tables.{Tables, tables_of, security_row, last_trade_row, tables_at}
 use Rattle.brk_model.specs.Sheets.{sheets, sheets_of}
 use Rattle.brk_model.specs.Tests.{bands_meet}
 use Rattle.brk_ref.specs.Records.{tax_of}
@@ -28,7 +28,7 @@ use Rattle.brk_book_laws.proofs.NewKeys.{same_bytes, code_same, same_codes, both
 
 pub reads_permission : (base : Base) (account : ℕ) (tax_id : Text)
     → find (λ r. (r.account == account) && bytes_eq r.tax_id tax_id) (sheets base).permissions ≡ find (λ p. (p.account == account) && bytes_eq p.tax_id tax_id) base.permissions
-unfolding tables_of sheets_of
+unfolding tables_at sheets_of
 reads_permission base account tax_id =
     find-key permission_key (λ r. (r.account == account) && bytes_eq r.tax_id tax_id) (number account ∷ word tax_id ∷ []) base.permissions (λ p e.
     let h = both (p.account == account) (bytes_eq p.tax_id tax_id) e in
@@ -37,21 +37,21 @@ reads_permission base account tax_id =
     λ i. number (n i) ∷ word (s i) ∷ [])
 
 pub reads_security : (base : Base) (symbol : Text) → find (λ r. bytes_eq r.symbol symbol) (sheets base).securities ≡ option_map security_row (security_with base symbol)
-unfolding tables_of sheets_of
+unfolding tables_at sheets_of
 reads_security base symbol =
     find-key (λ r. word r.symbol ∷ []) (λ r. bytes_eq r.symbol symbol) (word symbol ∷ []) (tables_of base).securities
     (λ r e. let s : r.symbol ≡ symbol = (bytes_eq-Decides r.symbol symbol).0 e in λ i. word (s i) ∷ [])
     ∙ find-map (λ r. bytes_eq r.symbol symbol) security_row base.securities
 
 pub reads_last_trade : (base : Base) (symbol : Text) → find (λ r. bytes_eq r.symbol symbol) (sheets base).last_trades ≡ option_map last_trade_row (security_with base symbol)
-unfolding tables_of sheets_of
+unfolding tables_at sheets_of
 reads_last_trade base symbol =
     find-key (λ r. word r.symbol ∷ []) (λ r. bytes_eq r.symbol symbol) (word symbol ∷ []) (tables_of base).last_trades
     (λ r e. let s : r.symbol ≡ symbol = (bytes_eq-Decides r.symbol symbol).0 e in λ i. word (s i) ∷ [])
     ∙ find-map (λ r. bytes_eq r.symbol symbol) last_trade_row base.securities
 
 pub reads_charge : (base : Base) (kind : TradeType) (tier : ℕ) → find (λ r. same_type r.kind kind && (r.tier == tier)) (sheets base).charges ≡ charge_with base kind tier
-unfolding tables_of sheets_of
+unfolding tables_at sheets_of
 reads_charge base kind tier =
     find-key charge_key (λ r. same_type r.kind kind && (r.tier == tier)) (word (type_code kind) ∷ number tier ∷ []) base.charges (λ c e.
     let h = both (same_type c.kind kind) (c.tier == tier) e in
@@ -60,12 +60,12 @@ reads_charge base kind tier =
     λ i. word (s i) ∷ number (n i) ∷ [])
 
 pub reads_tax_rate : (base : Base) (id : ℕ) → find (λ r. r.id == id) (sheets base).tax_rates ≡ tax_rate_with base id
-unfolding tables_of sheets_of
+unfolding tables_at sheets_of
 reads_tax_rate base id = find-id (λ r. r.id) id base.tax_rates
 
 pub reads_customer_tax : (base : Base) (customer tax : ℕ)
     → find (λ r. (r.customer == customer) && (r.tax == tax)) (sheets base).customer_taxes ≡ find (λ x. (x.customer == customer) && (x.tax == tax)) base.customer_taxes
-unfolding tables_of sheets_of
+unfolding tables_at sheets_of
 reads_customer_tax base customer tax =
     find-key customer_tax_key (λ r. (r.customer == customer) && (r.tax == tax)) (number customer ∷ number tax ∷ []) base.customer_taxes (λ x e.
     let h = both (x.customer == customer) (x.tax == tax) e in
@@ -119,7 +119,7 @@ meets_its_kind b c h =
     (same_bytes c.exchange b.exchange (sym ((bytes_eq-Decides b.exchange c.exchange).0 three.1)))
 
 pub reads_overlap : (base : Base) (b : Band) → has_overlap (sheets base) b ≡ list_any (bands_meet b) base.bands
-unfolding tables_of sheets_of
+unfolding tables_at sheets_of
 reads_overlap base b =
     any-among (λ r. (r.tier == b.tier) && same_type r.kind b.kind && bytes_eq r.exchange b.exchange) (bands_meet b) (by_key band_key base.bands) (meets_its_kind b)
     ∙ any-sorted band_key (bands_meet b) base.bands
@@ -150,7 +150,7 @@ map-or None = refl
 map-or (Some r) = refl
 
 pub reads_rates : (base : Base) (customer : ℕ) → rates_of (sheets base) customer ≡ base_spec.rates_of base customer
-unfolding tables_of sheets_of
+unfolding tables_at sheets_of
 reads_rates base customer =
     ap (sum_by (λ r. unwrap_or (rate_of (sheets base) r.tax) 0)) (sym (by_key-filter customer_tax_key (λ r. r.customer == customer) base.customer_taxes))
     ∙ sum-sorted customer_tax_key (λ r. unwrap_or (rate_of (sheets base) r.tax) 0) (filter (λ r. r.customer == customer) base.customer_taxes)

@@ -7,7 +7,7 @@ use Rattle.brk_money.specs.Moments.{last_stamp}
 use Rattle.brk_money.specs.declared.refusal.Refusal.TheVariants.{ClockEnd}
 use Rattle.brk_model.specs.Base.{Base}
 use Rattle.brk_model.specs.Commands.{Command}
-use Rattle.brk_model.specs.Tests.{Test, tests, refusal_of, first_refusal, next_stamp}
+use Rattle.brk_model.specs.Tests.{Test, tests, refusal_of, first_refusal, next_stamp, is_too_early, stamp_tests}
 
 pub none_refuse : (ts : List Test) → first_refusal ts ≡ None → AllByRecursion (λ t. t.0 ≡ false) ts
 none_refuse [] e = tt
@@ -35,7 +35,13 @@ pub in_time : (base : Base) (now : ℕ) (command : Command) → refusal_of base 
 unfolding refusal_of
 in_time base now command e =
     ltb-false last_stamp (next_stamp base now)
-    (All-back (λ t. t.0 ≡ false) (tests base (next_stamp base now) command) ((nat_lt last_stamp (next_stamp base now), ClockEnd) ∷ []) (none_refuse _ e)).0
+    (All-back (λ t. t.0 ≡ false) (tests base (next_stamp base now) command) (stamp_tests (next_stamp base now) command) (none_refuse _ e)).0
+
+-- nor is it too early for the day that it sets
+pub not_too_early : (base : Base) (now : ℕ) (command : Command) → refusal_of base now command ≡ None → is_too_early (next_stamp base now) command ≡ false
+unfolding refusal_of
+not_too_early base now command e =
+    (All-back (λ t. t.0 ≡ false) (tests base (next_stamp base now) command) (stamp_tests (next_stamp base now) command) (none_refuse _ e)).1.0
 
 pub not_not : (b : Bool) → not b ≡ false → b ≡ true
 not_not true e = refl

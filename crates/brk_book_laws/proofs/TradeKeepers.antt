@@ -14,12 +14,13 @@ use Rattle.brk_model.specs.Feed.{is_triggered, with_tick, with_ticks}
 use Rattle.brk_model.specs.Tests.{tests, next_stamp}
 use Rattle.brk_model.specs.Step.{records_after}
 use Rattle.brk_model.specs.Names.{KnowsAccount, KnowsSecurity}
-use Rattle.brk_book_laws.specs.Books.{AreMomentsInOrder, ArePartiesInOrder, AreTradesInOrder, BandsApart, CompletesFirst, DistinctSymbols, HasBounds, HasVolume, WaitsFirst}
+use Rattle.brk_book_laws.specs.Books.{AreMomentsInOrder, AreMovementsInOrder, ArePartiesInOrder, AreTradesInOrder, BandsApart, CompletesFirst, DistinctSymbols, HasBounds, HasVolume, WaitsFirst}
 use Rattle.brk_book_laws.specs.Steps.{LeavesBooks}
 use Rattle.brk_book_laws.proofs.Same.{All-append, All-map, any-none}
 use Rattle.brk_book_laws.proofs.Places.{All-updated}
 use Rattle.brk_book_laws.proofs.Numbering.{moved_way, numbered_more, numbered_updated, status_of_marked}
-use Rattle.brk_book_laws.proofs.Completions.{completed_ticks, completed_unseen, completions_tick, first_mark, later_times, moved_elsewhere, named_waits}
+use Rattle.brk_book_laws.proofs.Completions.{completed_tick, completed_ticks, completed_unseen, completions_tick, first_mark, later_times, moved_elsewhere, named_waits}
+use Rattle.brk_book_laws.proofs.MovementOrder.{movements_beside, movements_later}
 use Rattle.brk_book_laws.proofs.Ordering.{first_not_completed, ordered_done}
 use Rattle.brk_book_laws.proofs.Feeding.{Ready, ready_tick, known_after}
 use Rattle.brk_book_laws.proofs.Tested.{passed, in_time, not_not}
@@ -45,6 +46,7 @@ books_order base now o k e =
         completions = All-append CompletesFirst base.trades (t ∷ []) k.completions (first_mark t (record { stamp = next_stamp base now; status = first_status (kind_of o.order_type) }) refl (first_not_completed (kind_of o.order_type)), tt);
       };
       times = subst (AreMomentsInOrder (Some (next_stamp base now))) (sym (ordered_done base (next_stamp base now) o)) (later_times base now (in_time base now (PlaceOrder o) e) k.times);
+      movements = movements_beside (sym (ordered_done base (next_stamp base now) o)) (movements_later base now k.movements);
     }
 
 -- ---- a cancel
@@ -67,19 +69,21 @@ books_cancel base now id k e =
         completions = All-updated CompletesFirst (λ t. t.id == id) (marked stamp Canceled) base.trades (λ t h. moved_elsewhere stamp Canceled t refl) k.completions;
       };
       times = subst (AreMomentsInOrder (Some stamp)) (sym done) (later_times base now (in_time base now (CancelTrade id) e) k.times);
+      movements = movements_beside (sym done) (movements_later base now k.movements);
     }
 
 -- ---- a feed: its volumes are tested at its end alone
 
 -- in order but for the volumes
-record Between (base : Base) : Type 0 where
+record Between (stamp : ℕ) (base : Base) : Type 0 where
   pub parties : ArePartiesInOrder base.brokers base.customers base.accounts base.permissions
   pub symbols : DistinctSymbols base.securities
   pub bands : AllByRecursion HasBounds base.bands
   pub apart : BandsApart base.bands
   pub trades : AreTradesInOrder base.accounts base.securities base.trades
+  pub movements : AreMovementsInOrder base.accounts (Some stamp) (completed base) base.movements
 
-between_tick : (base : Base) (stamp : ℕ) (tick : Tick) → Between base → Between (with_tick stamp base tick)
+between_tick : (base : Base) (stamp : ℕ) (tick : Tick) → Between stamp base → Between stamp (with_tick stamp base tick)
 between_tick base stamp tick k =
     let r : Ready (with_tick stamp base tick) = ready_tick base stamp tick (record { symbols = k.symbols; numbered = k.trades.numbered; ways = k.trades.ways }) in
     record {
@@ -95,9 +99,10 @@ between_tick base stamp tick k =
         ways = r.ways;
         completions = completions_tick stamp tick base.trades k.trades.ways k.trades.completions;
       };
+      movements = movements_beside (sym (completed_tick base stamp tick)) k.movements;
     }
 
-between_ticks : (base : Base) (stamp : ℕ) (ticks : List Tick) → Between base → Between (with_ticks stamp base ticks)
+between_ticks : (base : Base) (stamp : ℕ) (ticks : List Tick) → Between stamp base → Between stamp (with_ticks stamp base ticks)
 unfolding with_ticks
 between_ticks base stamp [] k = k
 between_ticks base stamp (tick ∷ ticks) k = between_ticks (with_tick stamp base tick) stamp ticks (between_tick base stamp tick k)
@@ -111,11 +116,12 @@ books_feed base now ticks k e =
     let p = passed base now (FeedTicks ticks) e in
     let after : Base = with_ticks (next_stamp base now) base ticks in
     let done : completed after ≡ completed base = completed_ticks base (next_stamp base now) ticks in
-    let b : Between after = between_ticks base (next_stamp base now) ticks
-    (record { parties = k.parties; symbols = k.symbols; bands = k.bands; apart = k.apart; trades = k.trades }) in
+    let b : Between (next_stamp base now) after = between_ticks base (next_stamp base now) ticks
+    (record { parties = k.parties; symbols = k.symbols; bands = k.bands; apart = k.apart; trades = k.trades; movements = movements_later base now k.movements }) in
     record {
       parties = b.parties;
       market = record { symbols = b.symbols; volumes = within_limit after.securities p.1.0; bands = b.bands; apart = b.apart };
       trades = b.trades;
       times = subst (AreMomentsInOrder (Some (next_stamp base now))) (sym done) (later_times base now (in_time base now (FeedTicks ticks) e) k.times);
+      movements = b.movements;
     }

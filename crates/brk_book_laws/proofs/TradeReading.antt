@@ -14,7 +14,7 @@ use Rattle.brk_model.specs.Derived.{pending}
 use Rattle.brk_model.specs.Commands.{Tick}
 use Rattle.brk_model.specs.Orders.{is_person, permitted}
 use Rattle.brk_model.specs.Feed.{is_triggered, triggers}
-use Rattle.brk_model.specs.Tables.{RequestRow, TradeRow, tables_of, trade_row, request_row, last_trade_row}
+use Rattle.brk_model.specs.Tables.{RequestRow, TradeRow, tables_at, trade_row, request_row, last_trade_row}
 use Rattle.brk_model.specs.Keys.{number, key_before, row_before, permission_key, trade_key, request_key}
 use Rattle.brk_model.specs.Sheets.{sheets, sheets_of}
 use Rattle.brk_model.specs.Ways.{is_rising}
@@ -29,7 +29,7 @@ use Rattle.brk_book_laws.proofs.Reading.{any-sorted, find-id, find-map}
 use Rattle.brk_book_laws.proofs.TermReading.{reads_last_trade}
 
 pub reads_trade : (base : Base) (id : ℕ) → find (λ r. r.id == id) (sheets base).trades ≡ option_map trade_row (trade_with base id)
-unfolding tables_of sheets_of
+unfolding tables_at sheets_of
 reads_trade base id = find-id (λ r. r.id) id (map trade_row base.trades) ∙ find-map (λ r. r.id == id) trade_row base.trades
 
 -- ---- trades and requests stand in the order of acceptance
@@ -46,13 +46,13 @@ trades_stand n [] k = tt
 trades_stand n (t ∷ ts) k = (ids_above (n + 1) ts k.1 t.id (omega (arith, k.0)), trades_stand (n + 1) ts k.1)
 
 pub trades_in_order : (base : Base) → NumberedFrom 1 base.trades → (sheets base).trades ≡ map trade_row base.trades
-unfolding tables_of sheets_of
+unfolding tables_at sheets_of
 trades_in_order base n =
     by_key-map (λ t. number t.id ∷ []) trade_key trade_row base.trades (λ t. refl)
     ∙ ap (map trade_row) (sort_sorted (row_before (λ t. number t.id ∷ [])) base.trades (trades_stand 1 base.trades n))
 
 pub requests_in_order : (base : Base) → NumberedFrom 1 base.trades → (sheets base).requests ≡ map (request_row base.accounts) (pending base.trades)
-unfolding tables_of sheets_of
+unfolding tables_at sheets_of
 requests_in_order base n =
     by_key-map (λ t. number t.id ∷ []) request_key (request_row base.accounts) (pending base.trades) (λ t. refl)
     ∙ ap (map (request_row base.accounts)) (sort_sorted (row_before (λ t. number t.id ∷ [])) (pending base.trades)
@@ -100,7 +100,7 @@ reads_volume base symbol = ap (λ o. option_map_or (λ r. r.volume) o 0) (reads_
 
 -- ---- the number of trades
 
-first_of_more : {X : Type 0} (ys : List X) (x : X) → slice_get (ys ++ x ∷ []) 0 ≡ Some (unwrap_or (slice_get ys 0) x)
+pub first_of_more : {X : Type 0} (ys : List X) (x : X) → slice_get (ys ++ x ∷ []) 0 ≡ Some (unwrap_or (slice_get ys 0) x)
 first_of_more [] x = refl
 first_of_more (y ∷ ys) x = refl
 
@@ -129,7 +129,7 @@ reads_number base books =
 
 pub reads_permitted : (base : Base) (account : ℕ) (c : Customer) (e : Executor)
     → permitted c (permissions_of (sheets base) account) e ≡ permitted c (filter (λ p. p.account == account) base.permissions) e
-unfolding tables_of sheets_of
+unfolding tables_at sheets_of
 reads_permitted base account c e =
     let person : Permission → Bool = λ p. is_person e p.first_name p.last_name p.tax_id in
     ap (λ b. is_person e c.first_name c.last_name c.tax_id || b)

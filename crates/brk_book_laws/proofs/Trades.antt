@@ -10,7 +10,7 @@ use Rattle.brk_money.specs.declared.status.Status.TheVariants.{Pending, Canceled
 use Rattle.brk_model.specs.Records.{Trade}
 use Rattle.brk_model.specs.Base.{Base, broker_of, has_status, marked, security_with, trade_with, with_trades}
 use Rattle.brk_model.specs.Derived.{shares_in, summary_of, balance_of, trade_count_of, commissions_of}
-use Rattle.brk_model.specs.Tables.{Tables, tables_of, trade_row}
+use Rattle.brk_model.specs.Tables.{Tables, tables_at, trade_row}
 use Rattle.brk_model.specs.Sheets.{sheets, sheets_of}
 use Rattle.brk_model.specs.Commands.{Order, Tick, PlaceOrder, FeedTicks, CancelTrade}
 use Rattle.brk_model.specs.Orders.{ordered_trade, with_order}
@@ -28,7 +28,7 @@ use Rattle.brk_book_laws.proofs.Feeding.{Ready, KnowsTicks, canceled_rows, fed_r
 
 -- the last stamp is in no other table
 last_set : (base : Base) (stamp : ℕ) → sheets (record base { last = Some stamp }) ≡ with_last stamp (sheets base)
-unfolding tables_of sheets_of shares_in summary_of balance_of trade_count_of commissions_of
+unfolding tables_at sheets_of shares_in summary_of balance_of trade_count_of commissions_of
 last_set base stamp = refl
 
 -- from the records to the whole

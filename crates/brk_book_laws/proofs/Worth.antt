@@ -9,13 +9,13 @@ use Rattle.brk_money.specs.Spelling.{Text}
 use Rattle.brk_model.specs.Lists.{insert_by, sort_by, is_zero, total_by}
 use Rattle.brk_model.specs.Records.{Account, Security, Trade}
 use Rattle.brk_model.specs.Base.{Base, account_with, completed, security_with}
-use Rattle.brk_model.specs.Derived.{balance_of, holdings_of, summary_of}
+use Rattle.brk_model.specs.Derived.{balance_of, holdings_of, postings_of, summary_of}
 use Rattle.brk_model.specs.Joins.{account_in, price_in}
 use Rattle.brk_model.specs.Keys.{KeyPart, by_key, row_before, summary_key}
 use Rattle.brk_model.specs.Orders.{assets_of}
 use Rattle.brk_model.specs.PositionView.{asset_total}
 use Rattle.brk_model.specs.Sheets.{sheets, sheets_of}
-use Rattle.brk_model.specs.Tables.{AccountRow, SummaryRow, Tables, tables_of, account_row, last_trade_row, summary_rows}
+use Rattle.brk_model.specs.Tables.{AccountRow, SummaryRow, Tables, tables_at, account_row, last_trade_row, summary_rows}
 use Rattle.brk_book_laws.specs.Books.{IsBooks, DistinctAccounts}
 use Rattle.brk_book_laws.proofs.Order.{by_key-filter}
 use Rattle.brk_book_laws.proofs.Same.{NonePass, All-map, flat_map-append, flat_map-empty}
@@ -138,7 +138,7 @@ worth_of base id (s ∷ ss) h =
 
 summaries_read : (base : Base) (id : ℕ) (a : Account) → IsBooks base → account_with base id ≡ Some a
     → total_by (worth (sheets base)) (filter (λ r. r.account == id) (sheets base).summaries) ≡ holdings_of base.securities (completed base) id
-unfolding tables_of sheets_of holdings_of
+unfolding tables_at sheets_of holdings_of
 summaries_read base id a books e =
     let done : List Trade = completed base in
     let rows : List SummaryRow = flat_map (λ a. summaries_in done base.securities a.id) base.accounts in
@@ -155,13 +155,13 @@ reads_assets base id r books e = by_account (account_with base id) refl
 
     by_account : (o : Option Account) → account_with base id ≡ o → r.balance +ℤ asset_total (sheets base) r ≡ assets_of base id
     by_account None f =
-        let k : Some r ≡ None = sym e ∙ reads_account base id ∙ ap (option_map (account_row base.accounts (completed base))) f in
+        let k : Some r ≡ None = sym e ∙ reads_account base id ∙ ap (option_map (account_row base.accounts (postings_of base))) f in
         absurd (cc)
     by_account (Some a) f =
         let g : FoundAt Account (λ a. a.id == id) a base.accounts = find-at (λ a. a.id == id) base.accounts a f in
         let same : a.id ≡ id = eqb-true a.id id g.passes in
-        let row : r ≡ account_row base.accounts (completed base) a =
-        same_row r (account_row base.accounts (completed base) a) (sym e ∙ reads_account base id ∙ ap (option_map (account_row base.accounts (completed base))) f) in
+        let row : r ≡ account_row base.accounts (postings_of base) a =
+        same_row r (account_row base.accounts (postings_of base) a) (sym e ∙ reads_account base id ∙ ap (option_map (account_row base.accounts (postings_of base))) f) in
         ap (λ r. r.balance +ℤ asset_total (sheets base) r) row
-        ∙ (λ i. balance_of base.accounts (completed base) (same i) +ℤ total_by (worth (sheets base)) (filter (λ row. row.account == same i) (sheets base).summaries))
-        ∙ ap (λ n. balance_of base.accounts (completed base) id +ℤ n) (summaries_read base id a books f)
+        ∙ (λ i. balance_of base.accounts (postings_of base) (same i) +ℤ total_by (worth (sheets base)) (filter (λ row. row.account == same i) (sheets base).summaries))
+        ∙ ap (λ n. balance_of base.accounts (postings_of base) id +ℤ n) (summaries_read base id a books f)

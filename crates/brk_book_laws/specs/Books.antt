@@ -5,8 +5,8 @@ use Rattle.brk_money.specs.Moments.{last_stamp}
 use Rattle.brk_money.specs.Kinds.{same_status}
 use Rattle.brk_money.specs.declared.status.Status.TheVariants.{Completed, Pending, Submitted}
 use Rattle.brk_model.specs.Limits.{greatest_amount}
-use Rattle.brk_model.specs.Records.{Account, Band, Broker, Customer, Mark, Permission, Security, Trade}
-use Rattle.brk_model.specs.Base.{Base, completed, has_status, moment_of}
+use Rattle.brk_model.specs.Records.{Account, Band, Broker, Customer, Mark, Movement, Permission, Security, Trade}
+use Rattle.brk_model.specs.Base.{Base, completed, find_account, has_status, moment_of}
 use Rattle.brk_model.specs.Names.{NumberedFrom}
 use Rattle.brk_model.specs.Tests.{bands_meet}
 
@@ -56,6 +56,33 @@ IsEarly (Some last) t = moment_of t ≤ last
 abbrev pub MomentsApart : List Trade → Type 0
 MomentsApart [] = ⊤
 MomentsApart (t ∷ ts) = AllByRecursion (λ u. (moment_of u == moment_of t) ≡ false) ts × MomentsApart ts
+
+-- the account of a movement is there
+abbrev pub HasHolder : List Account → Movement → Type 0
+HasHolder accounts m = is_some (find_account accounts m.account) ≡ true
+
+-- a movement was made no later than at the last stamp
+abbrev pub IsMadeBy : Option ℕ → Movement → Type 0
+IsMadeBy None m = ⊥
+IsMadeBy (Some last) m = m.stamp ≤ last
+
+-- a trade was not completed at a stamp
+abbrev pub IsOtherwhen : ℕ → Trade → Type 0
+IsOtherwhen stamp t = (moment_of t == stamp) ≡ false
+
+-- no movement was made at the stamp of another or of a completion
+abbrev pub MovementsApart : List Trade → List Movement → Type 0
+MovementsApart done [] = ⊤
+MovementsApart done (m ∷ ms) = AllByRecursion (IsOtherwhen m.stamp) done × AllByRecursion (λ n. (n.stamp == m.stamp) ≡ false) ms × MovementsApart done ms
+
+-- movements are in order, beside some completed trades
+pub record AreMovementsInOrder (all_accounts : List Account) (last : Option ℕ) (done : List Trade) (all_movements : List Movement) : Type 0 where
+  -- their accounts are there
+  pub holders : AllByRecursion (HasHolder all_accounts) all_movements
+  -- none was made after the last stamp, so that the next cash row is the last one
+  pub early : AllByRecursion (IsMadeBy last) all_movements
+  -- each has a stamp of its own, so that cash rows stand in one order
+  pub apart : MovementsApart done all_movements
 
 -- the bounds of a band are in order
 abbrev pub HasBounds : Band → Type 0
@@ -131,3 +158,4 @@ pub record IsBooks (base : Base) : Type 0 where
   pub open trades use *
   pub times : AreMomentsInOrder base.last (completed base)
   pub open times use *
+  pub movements : AreMovementsInOrder base.accounts base.last (completed base) base.movements

@@ -9,3 +9,4 @@ pub mod Results
 pub mod Runs
 pub mod Lives
 pub mod Sums
+pub mod Movements

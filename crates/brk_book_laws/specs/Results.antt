@@ -1,15 +1,15 @@
 -- What a result makes of the tables, planned from their rows.
-use Rattle.std.specs.Prelude.{ℕ, Bool, if◌then◌else◌, List, fold, unwrap_or, ℤ, pos}
+use Rattle.std.specs.Prelude.{ℕ, ◌+◌, Bool, if◌then◌else◌, List, fold, length, unwrap_or, ℤ, pos}
 use Rattle.brk_money.specs.declared.status.Status.TheVariants.{Completed}
 use Rattle.brk_model.specs.Lists.{is_zero}
 use Rattle.brk_model.specs.Shares.{Deal, Lot, Touch, lots, opened_shares, touches}
 use Rattle.brk_model.specs.Records.{Trade}
 use Rattle.brk_model.specs.Base.{Base, broker_of, completed}
-use Rattle.brk_model.specs.Derived.{balance_of, commissions_of, shares_in, summary_of, trade_count_of}
+use Rattle.brk_model.specs.Derived.{balance_of, commissions_of, posting_of_trade, postings, postings_of, shares_in, summary_of, trade_count_of}
 use Rattle.brk_model.specs.Results.{completed_trade, result_deal, with_result}
-use Rattle.brk_model.specs.Tables.{CashRow, HoldingHistoryRow, HoldingRow, SettlementRow, SummaryRow, Tables, TradeRow, cash_row, settlement_row, trade_row}
+use Rattle.brk_model.specs.Tables.{HoldingHistoryRow, HoldingRow, MoveRow, SettlementRow, SummaryRow, Tables, TradeRow, move_row, settlement_row, trade_row}
 use Rattle.brk_lots.specs.Lots.{from_end}
-use Rattle.brk_changes.specs.Changes.{with_balance, with_broker_numbers, with_cash, with_completion, with_history, with_lot, with_lot_change, with_lot_set, with_settlement, with_summary, with_summary_set, without_lot, without_summary}
+use Rattle.brk_changes.specs.Changes.{with_balance, with_broker_numbers, with_move, with_completion, with_history, with_lot, with_lot_change, with_lot_set, with_settlement, with_summary, with_summary_set, without_lot, without_summary}
 use Rattle.brk_book_laws.specs.Trading.{status_row}
 
 -- what a result comes to, as its rows tell it
@@ -22,9 +22,9 @@ pub record ResultRows : Type 0 where
   -- the summary of its position before and after it
   pub before : ℤ
   pub after : ℤ
-  -- what it settles for, and what a cash trade moves
+  -- what it settles for, and what a cash trade posts
   pub settlement : SettlementRow
-  pub cash : CashRow
+  pub cash : MoveRow
   -- the balance of the account after it
   pub balance : ℤ
   -- the broker of the account, with the numbers after it
@@ -72,9 +72,9 @@ summary_rows_moved before after row t =
 
 -- ---- its cash
 
--- a cash trade moves its amount, and with it the balance of its account
-abbrev pub cash_rows : (is_cash : Bool) → CashRow → (account : ℕ) → (balance : ℤ) → Tables → Tables
-cash_rows is_cash cash account balance t = if is_cash then with_balance account balance (with_cash cash t) else t
+-- a cash trade posts its amount, and with it moves the balance of its account
+abbrev pub cash_rows : (is_cash : Bool) → MoveRow → (account : ℕ) → (balance : ℤ) → Tables → Tables
+cash_rows is_cash cash account balance t = if is_cash then with_balance account balance (with_move cash t) else t
 
 -- ---- all of it
 
@@ -94,9 +94,9 @@ rows_upon base after d t = record {
   opened = lots (opened_shares d (shares_in (completed base) t.account t.symbol));
   before = summary_of (completed base) t.account t.symbol;
   after = summary_of after t.account t.symbol;
-  settlement = settlement_row base.accounts t;
-  cash = cash_row base.accounts t;
-  balance = balance_of base.accounts after t.account;
+  settlement = settlement_row base.accounts base.rule t;
+  cash = move_row (length (postings_of base) + 1) (posting_of_trade base.accounts t);
+  balance = balance_of base.accounts (postings base.accounts after base.movements) t.account;
   broker = broker_of base t.account;
   trades = pos (trade_count_of base.accounts after (broker_of base t.account));
   commissions = commissions_of base.accounts after (broker_of base t.account);

@@ -8,17 +8,13 @@ use Rattle.brk_money.specs.declared.status.Status.TheVariants.{Completed}
 use Rattle.brk_money.specs.Spelling.{Text}
 use Rattle.brk_model.specs.Joins.{account_in, trade_in}
 use Rattle.brk_model.specs.Lists.{total_by}
-use Rattle.brk_model.specs.Tables.{AccountRow, BrokerRow, CashRow, HoldingRow, SummaryRow, Tables, TradeRow}
+use Rattle.brk_model.specs.Tables.{AccountRow, BrokerRow, MoveRow, HoldingRow, SummaryRow, Tables, TradeRow}
 use Rattle.brk_book_laws.specs.Lives.{LotsLive}
 use Rattle.brk_book_laws.specs.TradeReads.{position_in, summary_in}
 
--- whether a row of cash is of a trade of an account
-abbrev pub moves_account : Tables → ℕ → CashRow → Bool
-moves_account t account c = option_map_or (λ r. r.account == account) (trade_in t c.trade) false
-
--- what the cash trades of an account moved
-abbrev pub cash_of_account : Tables → ℕ → List CashRow
-cash_of_account t account = filter (moves_account t account) t.cash
+-- what was posted to an account
+abbrev pub cash_of_account : Tables → ℕ → List MoveRow
+cash_of_account t account = filter (λ r. r.account == account) t.moves
 
 -- whether a trade is completed, and of an account of a broker
 abbrev pub is_of_broker : Tables → ℕ → TradeRow → Bool
@@ -43,7 +39,7 @@ pub record IsBrokerSum (t : Tables) (b : BrokerRow) : Type 0 where
   pub trades : b.trades ≡ pos (length (done_of_broker t b.id))
   pub commissions : b.commissions ≡ sum_by (λ r. r.commission) (done_of_broker t b.id)
 
--- a balance is the opening and what the cash trades of its account moved
+-- a balance is the opening and what was posted to its account
 abbrev pub IsBalance : Tables → AccountRow → Type 0
 IsBalance t a = a.balance ≡ a.opening +ℤ total_by (λ c. c.amount) (cash_of_account t a.id)
 

@@ -17,6 +17,10 @@ use Rattle.brk_book_laws.specs.Reads.{bands_of}
 abbrev pub last_number : Tables → ℕ
 last_number t = unwrap_or (option_map (λ r. r.id) (slice_get (reverse t.trades) 0)) 0
 
+-- the number of the last cash row, and 0 where there is none
+abbrev pub last_move : Tables → ℕ
+last_move t = unwrap_or (option_map (λ r. r.id) (slice_get (reverse t.moves) 0)) 0
+
 -- the permissions of an account
 abbrev pub permissions_of : Tables → ℕ → List Permission
 permissions_of t account = filter (λ r. r.account == account) t.permissions

@@ -2,7 +2,7 @@
 
 ghost use Rattle.std.specs.Prelude.{ℕ, List, Option};
 ghost use Rattle.brk_model.specs.Base.{Base, empty_base};
-ghost use Rattle.brk_model.specs.Commands.{AddAccount, AddBand, AddBroker, AddCharge, AddCustomer, AddCustomerTax, AddPermission, AddSecurity, AddTaxRate, CancelTrade, Command, CompleteTrade, FeedTicks, Listing, Order, PlaceOrder, Reply, Tick};
+ghost use Rattle.brk_model.specs.Commands.{AddAccount, AddBand, AddBroker, AddCharge, AddCustomer, AddCustomerTax, AddPermission, AddSecurity, AddTaxRate, CancelTrade, Command, CompleteTrade, FeedTicks, Listing, Order, PlaceOrder, Reply, Tick, DepositCash, SetOneDay, WithdrawCash};
 ghost use Rattle.brk_model.specs.Keyed.{keeping};
 ghost use Rattle.brk_model.specs.Records.{Account, Band, Broker, Charge, Customer, CustomerTax, Key, Permission, TaxRate};
 ghost use Rattle.brk_book_laws.specs.Books.{IsBooks};
@@ -44,6 +44,13 @@ pub fn feeds_keep_the_order()
 /// So does an accepted result.
 pub fn results_keep_the_order()
     ensures { (base : Base) (now id price : ℕ) → LeavesBooks base now (CompleteTrade id price) }
+{}
+
+/// So does an accepted movement of cash: no movement has the stamp of another or of a completion. So does a settlement day that is set.
+pub fn movements_keep_the_order()
+    ensures deposit { (base : Base) (now account amount : ℕ) → LeavesBooks base now (DepositCash account amount) }
+    ensures withdrawal { (base : Base) (now account amount : ℕ) → LeavesBooks base now (WithdrawCash account amount) }
+    ensures one_day { (base : Base) (now day : ℕ) → LeavesBooks base now (SetOneDay day) }
 {}
 
 /// So does a row that is kept under its key.

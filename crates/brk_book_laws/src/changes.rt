@@ -1,20 +1,24 @@
 //! The tables after an accepted command are those before it with its rows changed.
 
 ghost use Rattle.std.specs.Prelude.{◌≡◌, ℕ, List, None, Some, not};
+ghost use Rattle.std.specs.List.{AllByRecursion};
 ghost use Rattle.brk_money.specs.Kinds.{is_market};
 ghost use Rattle.brk_money.specs.OrderTypes.{kind_of};
-ghost use Rattle.brk_model.specs.Base.{Base, broker_of, empty_base, trade_with};
-ghost use Rattle.brk_model.specs.Commands.{AddAccount, AddBand, AddBroker, AddCharge, AddCustomer, AddCustomerTax, AddPermission, AddSecurity, AddTaxRate, CancelTrade, Command, CompleteTrade, FeedTicks, Listing, Order, PlaceOrder, Reply, Tick};
+ghost use Rattle.brk_model.specs.Base.{Base, broker_of, completed, empty_base, trade_with};
+ghost use Rattle.brk_model.specs.Commands.{AddAccount, AddBand, AddBroker, AddCharge, AddCustomer, AddCustomerTax, AddPermission, AddSecurity, AddTaxRate, CancelTrade, Command, CompleteTrade, DepositCash, FeedTicks, Listing, Order, PlaceOrder, Reply, SetOneDay, Tick, WithdrawCash};
+ghost use Rattle.brk_model.specs.Derived.{due_day};
 ghost use Rattle.brk_model.specs.Feed.{triggered_by};
 ghost use Rattle.brk_model.specs.Keyed.{keeping, kept_under};
+ghost use Rattle.brk_model.specs.Movements.{deposit, withdrawal};
 ghost use Rattle.brk_model.specs.Orders.{ordered_trade};
 ghost use Rattle.brk_model.specs.Records.{Account, Band, Broker, Charge, Customer, CustomerTax, Key, Permission, TaxRate, Trade};
 ghost use Rattle.brk_model.specs.Sheets.{sheets};
 ghost use Rattle.brk_model.specs.Tables.{no_rows, trade_row};
 ghost use Rattle.brk_model.specs.Tests.{next_stamp, refusal_of};
-ghost use Rattle.brk_changes.specs.Changes.{with_account, with_band, with_broker, with_charge, with_customer, with_customer_tax, with_kept, with_permission, with_tax_rate};
+ghost use Rattle.brk_changes.specs.Changes.{with_account, with_band, with_broker, with_charge, with_customer, with_customer_tax, with_kept, with_permission, with_rule, with_tax_rate};
 ghost use Rattle.brk_book_laws.specs.Books.{IsBooks};
 ghost use Rattle.brk_book_laws.specs.Steps.{ChangesRows, kept_row, with_listing};
+ghost use Rattle.brk_book_laws.specs.Movements.{rows_of_movement};
 ghost use Rattle.brk_book_laws.specs.Results.{result_rows, rows_of_result};
 ghost use Rattle.brk_book_laws.specs.Trading.{cancel_rows, fed_trades, feed_rows, order_rows};
 
@@ -62,6 +66,22 @@ pub fn feeds_are_rows()
 pub fn results_are_rows()
     ensures { (base : Base) (now id price : ℕ) (t : Trade) → trade_with base id ≡ Some t
         → ChangesRows base now (CompleteTrade id price) (result_rows (rows_of_result base (next_stamp base now) price t)) }
+{}
+
+/// A deposit or a withdrawal that is accepted is a cash row more, with the next number, and moves the balance of its account; no other row
+/// changes.
+pub fn movements_are_rows()
+    ensures deposit { (base : Base) (now account amount : ℕ)
+        → ChangesRows base now (DepositCash account amount) (rows_of_movement base (deposit (next_stamp base now) account amount)) }
+    ensures withdrawal { (base : Base) (now account amount : ℕ)
+        → ChangesRows base now (WithdrawCash account amount) (rows_of_movement base (withdrawal (next_stamp base now) account amount)) }
+{}
+
+/// A settlement day that is set is its row alone: what was completed before keeps its due day.
+pub fn a_settlement_day_is_a_row()
+    ensures row { (base : Base) (now day : ℕ) → ChangesRows base now (SetOneDay day) (with_rule day) }
+    ensures due_days { (base : Base) (now day : ℕ) → IsBooks base → refusal_of base now (SetOneDay day) ≡ None
+        → AllByRecursion (λ t. due_day (Some day) t ≡ due_day base.rule t) (completed base) }
 {}
 
 /// A row that is kept under a new key is one row more; no other row changes.

@@ -1,6 +1,6 @@
 //! What is found in the tables is what the definitions find in the base.
 
-ghost use Rattle.std.specs.Prelude.{◌&&◌, ◌+ℤ◌, ◌≡◌, ◌==◌, ℕ, List, Some, bytes_eq, false, filter, find, flat_map, is_some, length, map, option_map, pos, sum_by, true};
+ghost use Rattle.std.specs.Prelude.{◌&&◌, ◌+ℤ◌, ◌≡◌, ◌==◌, ℕ, List, Some, bytes_eq, false, filter, find, flat_map, is_none, is_some, length, map, option_map, pos, sum_by, true};
 ghost use Rattle.std.specs.List.{list_any};
 ghost use Rattle.brk_money.specs.Kinds.{same_type};
 ghost use Rattle.brk_money.specs.Spelling.{Text};
@@ -10,7 +10,7 @@ ghost use Rattle.brk_lots.specs.Position.{AreOlder, IsNew, IsPosition};
 ghost use Rattle.brk_model.specs.Base as base_spec;
 ghost use Rattle.brk_model.specs.Base.{Base, account_with, band_with, broker_with, charge_with, completed, customer_with, is_completed, security_with, tax_rate_with, trade_with};
 ghost use Rattle.brk_model.specs.Commands.{Tick};
-ghost use Rattle.brk_model.specs.Derived.{shares_in, summary_of};
+ghost use Rattle.brk_model.specs.Derived.{postings_of, shares_in, summary_of};
 ghost use Rattle.brk_model.specs.Feed.{is_triggered};
 ghost use Rattle.brk_model.specs.Joins.{account_in, trade_in};
 ghost use Rattle.brk_model.specs.Keyed.{kept_under};
@@ -27,14 +27,14 @@ ghost use Rattle.brk_ref.specs.declared.tax.Tax.{Tax};
 ghost use Rattle.brk_book_laws.specs.Books.{IsBooks};
 ghost use Rattle.brk_book_laws.specs.Reads.{accounts_of, has_overlap, has_tax_id, rates_of, tax_rate_of};
 ghost use Rattle.brk_book_laws.specs.Sums.{cash_of_account, done_of_broker};
-ghost use Rattle.brk_book_laws.specs.TradeReads.{band_in, last_number, lot_shares, lots_in, permission_in, permissions_of, position_in, row_of_summary, summary_held, summary_in};
+ghost use Rattle.brk_book_laws.specs.TradeReads.{band_in, last_move, last_number, lot_shares, lots_in, permission_in, permissions_of, position_in, row_of_summary, summary_held, summary_in};
 ghost use Rattle.brk_book_laws.specs.Trading.{hit_trades};
 
 /// The row that has an id is that of the record that has it.
 pub fn rows_are_found_by_id()
     ensures broker { (base : Base) (id : ℕ) → find (λ r. r.id == id) (sheets base).brokers ≡ option_map (broker_row base.accounts (completed base)) (broker_with base id) }
     ensures customer { (base : Base) (id : ℕ) → find (λ r. r.id == id) (sheets base).customers ≡ customer_with base id }
-    ensures account { (base : Base) (id : ℕ) → find (λ r. r.id == id) (sheets base).accounts ≡ option_map (account_row base.accounts (completed base)) (account_with base id) }
+    ensures account { (base : Base) (id : ℕ) → find (λ r. r.id == id) (sheets base).accounts ≡ option_map (account_row base.accounts (postings_of base)) (account_with base id) }
     ensures tax_rate { (base : Base) (id : ℕ) → find (λ r. r.id == id) (sheets base).tax_rates ≡ tax_rate_with base id }
 {}
 
@@ -95,6 +95,12 @@ pub fn trades_are_counted()
     ensures { (base : Base) → IsBooks base → last_number (sheets base) ≡ length base.trades }
 {}
 
+/// The number of the last cash row is how many there are, and so many of them as there are movements are without a trade.
+pub fn cash_rows_are_counted()
+    ensures rows { (base : Base) → last_move (sheets base) ≡ length (postings_of base) }
+    ensures movements { (base : Base) → length (filter (λ r. is_none r.trade) (sheets base).moves) ≡ length base.movements }
+{}
+
 /// The requests of a symbol that a tick triggers are of the trades that it triggers, by rising number.
 pub fn triggered_requests_are_found()
     ensures trades { (base : Base) (tick : Tick) → IsBooks base → hit_trades tick (sheets base) ≡ map (λ t. t.id) (filter (is_triggered tick) base.trades) }
@@ -151,10 +157,10 @@ pub fn summaries_are_found()
         → summary_held (summary_in (sheets base) account symbol) ≡ summary_of (completed base) account symbol }
 {}
 
-/// The balance of an account is its opening and what its cash trades moved.
+/// The balance of an account is its opening and what was posted to it.
 pub fn balances_are_sums()
     ensures { (base : Base) (id : ℕ) (r : AccountRow) → IsBooks base → account_in (sheets base) id ≡ Some r
-        → r.balance ≡ r.opening +ℤ total_by (λ c. c.amount) (cash_of_account (sheets base) id) }
+        → r.balance ≡ r.opening +ℤ total_by (λ r. r.amount) (cash_of_account (sheets base) id) }
 {}
 
 /// The numbers of a broker are those of the completed trades of the broker's accounts: how many, and their commissions added up.

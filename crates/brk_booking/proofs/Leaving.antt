@@ -2,7 +2,7 @@
 use Rattle.std.proofs.Common.{◌≡◌, ℕ, List, [], ◌∷◌, Option, Some, None, refl}
 use Rattle.std.specs.Option.{option_map_or}
 use Rattle.brk_model.specs.Base.{Base, trade_with}
-use Rattle.brk_model.specs.Commands.{Command, Tick, AddBroker, AddCustomer, AddAccount, AddPermission, AddSecurity, AddCharge, AddBand, AddTaxRate, AddCustomerTax, PlaceOrder, FeedTicks, CancelTrade, CompleteTrade, ChangeExecutors, ChangeCashTypes, ChangeCashNames}
+use Rattle.brk_model.specs.Commands.{Command, Tick, AddBroker, AddCustomer, AddAccount, AddPermission, AddSecurity, AddCharge, AddBand, AddTaxRate, AddCustomerTax, PlaceOrder, FeedTicks, CancelTrade, CompleteTrade, ChangeExecutors, ChangeCashTypes, ChangeCashNames, DepositCash, WithdrawCash, SetOneDay}
 use Rattle.brk_model.specs.Feed.{with_tick, with_ticks}
 use Rattle.brk_model.specs.Records.{Trade}
 use Rattle.brk_model.specs.Results.{with_result}
@@ -38,3 +38,6 @@ leaves_kept base stamp (CompleteTrade id price) = result_leaves base stamp price
 leaves_kept base stamp (ChangeExecutors ids) = refl
 leaves_kept base stamp (ChangeCashTypes account first last) = refl
 leaves_kept base stamp (ChangeCashNames symbol first last) = refl
+leaves_kept base stamp (DepositCash account amount) = refl
+leaves_kept base stamp (WithdrawCash account amount) = refl
+leaves_kept base stamp (SetOneDay day) = refl

@@ -8,7 +8,10 @@ ghost use Rattle.brk_store.specs.Holds.{IsRead};
 
 use brk_commands::Command;
 use brk_corrections::decide_update;
-use brk_decisions::{decide_cancel, decide_feed, decide_order, decide_reference, decide_result};
+use brk_decisions::{
+    decide_cancel, decide_feed, decide_move, decide_oneday, decide_order, decide_reference,
+    decide_result,
+};
 use brk_money::{Planned, Stamp};
 use brk_store::Store;
 use brk_trade::Plan;
@@ -32,5 +35,7 @@ pub(crate) fn decide<S: Alter>(
         Command::Cancel(trade) => decide_cancel(alloc, store, now, *trade),
         Command::Complete(completion) => decide_result(alloc, store, now, completion),
         Command::Update(update) => decide_update(alloc, store, now, update),
+        Command::Move(movement) => decide_move(alloc, store, now, movement),
+        Command::OneDay(day) => decide_oneday(alloc, store, now, *day),
     }
 }

@@ -5,12 +5,12 @@ ghost use Rattle.std.specs.List.{AllByRecursion};
 ghost use Rattle.brk_plans.specs.Commands as books;
 ghost use Rattle.brk_commands.specs.Commands.{command_of};
 ghost use Rattle.brk_model.specs.Commands.{AddAccount, AddBand, AddBroker, AddCharge, AddCustomer, AddCustomerTax, AddPermission, AddSecurity, AddTaxRate};
-ghost use Rattle.brk_orders.specs.Records.{order_of, ticks_of, update_of};
+ghost use Rattle.brk_orders.specs.Records.{movement_of, order_of, ticks_of, update_of};
 ghost use Rattle.brk_ref.specs.Records.{account_of, band_of, broker_of, charge_of, customer_of, customer_tax_of, key_of, listing_of, permission_of, tax_of};
 ghost use Rattle.brk_sound_laws.specs.InForm.{IsInForm, IsKeyInForm, IsOrderInForm, IsTickInForm};
 
 use brk_commands::Command;
-use brk_orders::{Order, Tick, Update};
+use brk_orders::{Direction, Movement, Order, Tick, Update};
 use brk_plans::Reference;
 use brk_ref::{Account, Band, Broker, Charge, Customer, Key, Listing, Permission, Tax};
 
@@ -124,6 +124,15 @@ fn update_is_in_form(update: &Update)
     }
 }
 
+fn movement_is_in_form(movement: &Movement)
+    ensures { IsInForm (movement_of movement.now) }
+{
+    let _ = movement.amount.get();
+    match movement.direction {
+        Direction::Deposit | Direction::Withdrawal => (),
+    }
+}
+
 /// The fields of a command are in form. There is nothing to call it for but this fact.
 pub fn command_is_in_form(command: &Command)
     ensures { IsInForm (command_of command.now) }
@@ -137,6 +146,10 @@ pub fn command_is_in_form(command: &Command)
             let _ = completion.price.get();
         }
         Command::Update(update) => update_is_in_form(update),
+        Command::Move(movement) => movement_is_in_form(movement),
+        Command::OneDay(day) => {
+            let _ = day.get();
+        }
     }
 }
 

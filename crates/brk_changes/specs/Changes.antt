@@ -5,12 +5,13 @@ use Rattle.brk_money.specs.declared.status.Status.{Status}
 use Rattle.brk_money.specs.declared.status.Status.TheVariants.{Completed}
 use Rattle.brk_model.specs.Lists.{update_where}
 use Rattle.brk_model.specs.Records.{Broker, Customer, Account, Permission, Charge, Band, TaxRate, CustomerTax, Kept}
-use Rattle.brk_model.specs.Tables.{Tables, SecurityRow, LastTradeRow, TradeRow, HistoryRow, RequestRow, HoldingRow, SummaryRow, HoldingHistoryRow, SettlementRow, CashRow}
-use Rattle.brk_model.specs.Keys.{insert_row, broker_key, customer_key, account_key, permission_key, security_key, last_trade_key, charge_key, band_key, tax_rate_key, customer_tax_key, kept_key, trade_key, history_key, request_key, holding_key, summary_key, holding_history_key, settlement_key, cash_key}
+use Rattle.brk_model.specs.Tables.{Tables, SecurityRow, LastTradeRow, TradeRow, HistoryRow, RequestRow, HoldingRow, SummaryRow, HoldingHistoryRow, SettlementRow, MoveRow}
+use Rattle.brk_model.specs.Keys.{insert_row, broker_key, customer_key, account_key, permission_key, security_key, last_trade_key, charge_key, band_key, tax_rate_key, customer_tax_key, kept_key, trade_key, history_key, request_key, holding_key, summary_key, holding_history_key, settlement_key, move_key}
+use Rattle.brk_model.specs.LookupView.{is_cash_of}
 use Rattle.brk_ref.specs.Records.{broker_of, customer_of, account_of, permission_of, security_of, last_trade_of, charge_of, band_of, tax_of, customer_tax_of, kept_of}
-use Rattle.brk_changes.specs.Rows.{trade_row_of, history_row_of, request_row_of, holding_row_of, summary_row_of, lot_change_of, cash_type_word, settlement_row_of, cash_row_of}
+use Rattle.brk_changes.specs.Rows.{trade_row_of, history_row_of, request_row_of, holding_row_of, summary_row_of, lot_change_of, cash_type_word, settlement_row_of, move_row_of}
 use Rattle.brk_changes.specs.declared.change.Change.{Change}
-use Rattle.brk_changes.specs.declared.change.Change.TheVariants.{AddBroker, AddCustomer, AddAccount, AddPermission, AddSecurity, AddLastTrade, AddCharge, AddBand, AddTaxRate, AddCustomerTax, AddTrade, SetStatus, AddHistory, AddRequest, RemoveRequest, SetLastTrade, CompleteTrade, AddLot, SetLot, RemoveLot, AddLotChange, AddSummary, SetSummary, RemoveSummary, AddSettlement, AddCash, SetBalance, SetBrokerNumbers, SetExecutor, SetCashType, SetCashName, Keep, SetLast}
+use Rattle.brk_changes.specs.declared.change.Change.TheVariants.{AddBroker, AddCustomer, AddAccount, AddPermission, AddSecurity, AddLastTrade, AddCharge, AddBand, AddTaxRate, AddCustomerTax, AddTrade, SetStatus, AddHistory, AddRequest, RemoveRequest, SetLastTrade, CompleteTrade, AddLot, SetLot, RemoveLot, AddLotChange, AddSummary, SetSummary, RemoveSummary, AddSettlement, AddMove, SetBalance, SetBrokerNumbers, SetExecutor, SetCashType, SetCashName, SetRule, Keep, SetLast}
 
 -- a broker more, without trades and commissions
 abbrev pub with_broker : Broker → Tables → Tables
@@ -121,9 +122,9 @@ without_summary account symbol t = record t { summaries = filter (λ r. not ((r.
 abbrev pub with_settlement : SettlementRow → Tables → Tables
 with_settlement r t = record t { settlements = insert_row settlement_key r t.settlements }
 
--- a movement of cash more
-abbrev pub with_cash : CashRow → Tables → Tables
-with_cash r t = record t { cash = insert_row cash_key r t.cash }
+-- a cash row more
+abbrev pub with_move : MoveRow → Tables → Tables
+with_move r t = record t { moves = insert_row move_key r t.moves }
 
 -- another balance of an account
 abbrev pub with_balance : ℕ → ℤ → Tables → Tables
@@ -144,7 +145,11 @@ with_cash_type trade word t = record t { settlements = update_where (λ r. r.tra
 
 -- another text of what a trade moved
 abbrev pub with_cash_name : ℕ → Text → Tables → Tables
-with_cash_name trade name t = record t { cash = update_where (λ r. r.trade == trade) (λ r. record r { name = name }) t.cash }
+with_cash_name trade name t = record t { moves = update_where (is_cash_of trade) (λ r. record r { name = name }) t.moves }
+
+-- a first day whose completions settle after one day
+abbrev pub with_rule : ℕ → Tables → Tables
+with_rule day t = record t { rule = Some day }
 
 -- a kept row more
 abbrev pub with_kept : Kept → Tables → Tables
@@ -181,12 +186,13 @@ after_change (AddSummary row) = with_summary (summary_row_of row)
 after_change (SetSummary row) = with_summary_set (summary_row_of row)
 after_change (RemoveSummary account symbol) = without_summary account symbol
 after_change (AddSettlement row) = with_settlement (settlement_row_of row)
-after_change (AddCash row) = with_cash (cash_row_of row)
+after_change (AddMove row) = with_move (move_row_of row)
 after_change (SetBalance account balance) = with_balance account balance
 after_change (SetBrokerNumbers broker trades commissions) = with_broker_numbers broker trades commissions
 after_change (SetExecutor trade executor) = with_executor trade (string_bytes executor)
 after_change (SetCashType trade cash_type) = with_cash_type trade (cash_type_word cash_type)
 after_change (SetCashName trade name) = with_cash_name trade (string_bytes name)
+after_change (SetRule day) = with_rule day
 after_change (Keep kept) = with_kept (kept_of kept)
 after_change (SetLast stamp) = with_last stamp
 

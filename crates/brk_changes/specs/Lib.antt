@@ -2,3 +2,4 @@ pub mod Rows
 pub mod Changes
 pub mod Sheets
 pub mod Chosen
+pub mod Schemas

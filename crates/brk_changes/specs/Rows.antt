@@ -2,7 +2,7 @@
 use Rattle.std.specs.Prelude.{List, [], ◌∷◌, codes, string_bytes}
 use Rattle.brk_money.specs.Spelling.{Text}
 use Rattle.brk_model.specs.Keys.{KeyPart, number, by_key}
-use Rattle.brk_model.specs.Tables.{TradeRow, HistoryRow, RequestRow, HoldingRow, SummaryRow, HoldingHistoryRow, SettlementRow, CashRow}
+use Rattle.brk_model.specs.Tables.{TradeRow, HistoryRow, RequestRow, HoldingRow, SummaryRow, HoldingHistoryRow, SettlementRow, CashRow, MoveRow}
 use Rattle.brk_changes.specs.declared.trade_row.TradeRow as trade
 use Rattle.brk_changes.specs.declared.history_row.HistoryRow as history
 use Rattle.brk_changes.specs.declared.request_row.RequestRow as request
@@ -11,6 +11,7 @@ use Rattle.brk_changes.specs.declared.summary_row.SummaryRow as summary
 use Rattle.brk_changes.specs.declared.lot_change.LotChange as lot_change
 use Rattle.brk_changes.specs.declared.settlement_row.SettlementRow as settlement
 use Rattle.brk_changes.specs.declared.cash_row.CashRow as cash
+use Rattle.brk_changes.specs.declared.move_row.MoveRow as move
 use Rattle.brk_changes.specs.declared.cash_type.CashType.{CashType}
 use Rattle.brk_changes.specs.declared.cash_type.CashType.TheVariants.{CashAccount, Cash, Margin, MarginAccount}
 
@@ -60,6 +61,9 @@ settlement_row_of r = record { trade = r.trade; cash_type = cash_type_word r.cas
 
 abbrev pub cash_row_of : cash.CashRow → CashRow
 cash_row_of r = record { trade = r.trade; stamp = r.stamp; amount = r.amount; name = string_bytes r.name }
+
+abbrev pub move_row_of : move.MoveRow → MoveRow
+move_row_of r = record { id = r.id; account = r.account; trade = r.trade; stamp = r.stamp; amount = r.amount; name = string_bytes r.name }
 
 -- the moment of opening, and then the trade
 abbrev pub age_key : HoldingRow → List KeyPart

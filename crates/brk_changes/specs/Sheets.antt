@@ -2,7 +2,7 @@
 use Rattle.std.specs.Prelude.{map}
 use Rattle.brk_model.specs.Tables.{Tables}
 use Rattle.brk_ref.specs.Records.{kept_of, broker_row_of, customer_of, account_row_of, permission_of, security_of, last_trade_of, charge_of, band_of, tax_of, customer_tax_of}
-use Rattle.brk_changes.specs.Rows.{trade_row_of, history_row_of, request_row_of, holding_row_of, summary_row_of, lot_change_of, settlement_row_of, cash_row_of}
+use Rattle.brk_changes.specs.Rows.{trade_row_of, history_row_of, request_row_of, holding_row_of, summary_row_of, lot_change_of, settlement_row_of, cash_row_of, move_row_of}
 use Rattle.brk_changes.specs.declared.sheets.Sheets.{Sheets}
 
 -- the tables that the rows in types are
@@ -28,4 +28,6 @@ tables_in_sheets s = record {
   holding_history = map lot_change_of s.holding_history.items;
   settlements = map settlement_row_of s.settlements.items;
   cash = map cash_row_of s.cash.items;
+  moves = map move_row_of s.moves.items;
+  rule = s.rule;
 }

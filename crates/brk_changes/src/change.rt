@@ -1,13 +1,13 @@
-use crate::cash_row::CashRow;
 use crate::cash_type::CashType;
 use crate::history_row::HistoryRow;
 use crate::holding_row::HoldingRow;
 use crate::lot_change::LotChange;
+use crate::move_row::MoveRow;
 use crate::request_row::RequestRow;
 use crate::settlement_row::SettlementRow;
 use crate::summary_row::SummaryRow;
 use crate::trade_row::TradeRow;
-use brk_money::{Amount, Cents, Id, Price, Stamp, Status};
+use brk_money::{Amount, Cents, Day, Id, Price, Stamp, Status};
 use brk_ref::{
     Account, Band, Broker, Charge, Customer, CustomerTax, Kept, LastTrade, Permission, Security,
     Symbol, Tax,
@@ -82,8 +82,8 @@ pub enum Change {
     },
     /// What a completed trade settles for.
     AddSettlement(SettlementRow),
-    /// What a completed cash trade moved.
-    AddCash(CashRow),
+    /// What was posted to an account's cash.
+    AddMove(MoveRow),
     /// Another balance of an account.
     SetBalance {
         account: Id,
@@ -105,11 +105,13 @@ pub enum Change {
         trade: Id,
         cash_type: CashType,
     },
-    /// Another text of what a trade moved (CT_NAME).
+    /// Another text of what a trade moved (CM_NAME).
     SetCashName {
         trade: Id,
         name: String,
     },
+    /// The first day whose completions settle after one day, where none was set (SR_DAY).
+    SetRule(Day),
     /// An accepted row under its key.
     Keep(Kept),
     /// The stamp of the last accepted command (D_LAST).

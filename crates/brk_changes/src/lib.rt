@@ -1,15 +1,18 @@
-//! The rows of trades and of what trades make of holdings, settlements and cash, and the changes of rows that a store makes in
-//! one transaction.
+//! The rows of trades and of what trades make of holdings, settlements and cash, the schemas that they stand in, and the changes
+//! of rows that a store makes in one transaction.
 #![tactic(auto)]
 
 pub mod broker_numbers;
 pub mod cash_row;
 pub mod cash_type;
 pub mod change;
+pub mod due;
 pub mod history_row;
 pub mod holding_row;
 pub mod lot_change;
+pub mod move_row;
 pub mod request_row;
+pub mod schema;
 pub mod settlement_row;
 pub mod sheets;
 pub mod summary_row;
@@ -21,10 +24,13 @@ pub use broker_numbers::BrokerNumbers;
 pub use cash_row::CashRow;
 pub use cash_type::CashType;
 pub use change::Change;
+pub use due::{due_after, settlement_days};
 pub use history_row::HistoryRow;
 pub use holding_row::HoldingRow;
 pub use lot_change::LotChange;
+pub use move_row::MoveRow;
 pub use request_row::RequestRow;
+pub use schema::Schema;
 pub use settlement_row::SettlementRow;
 pub use sheets::Sheets;
 pub use summary_row::SummaryRow;

@@ -2,11 +2,12 @@ use crate::cash_row::CashRow;
 use crate::history_row::HistoryRow;
 use crate::holding_row::HoldingRow;
 use crate::lot_change::LotChange;
+use crate::move_row::MoveRow;
 use crate::request_row::RequestRow;
 use crate::settlement_row::SettlementRow;
 use crate::summary_row::SummaryRow;
 use crate::trade_row::TradeRow;
-use brk_money::Stamp;
+use brk_money::{Day, Stamp};
 use brk_ref::{
     AccountRow, Band, BrokerRow, Charge, Customer, CustomerTax, Kept, LastTrade, Permission,
     Security, Tax,
@@ -36,4 +37,7 @@ pub struct Sheets {
     pub holding_history: Vec<LotChange>,
     pub settlements: Vec<SettlementRow>,
     pub cash: Vec<CashRow>,
+    pub moves: Vec<MoveRow>,
+    /// The first day whose completions settle after one day, where one is set.
+    pub rule: Option<Day>,
 }

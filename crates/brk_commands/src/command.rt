@@ -1,5 +1,5 @@
-use brk_money::Id;
-use brk_orders::{Completion, Feed, Order, Update};
+use brk_money::{Day, Id};
+use brk_orders::{Completion, Feed, Movement, Order, Update};
 use brk_plans::Reference;
 
 /// What the desk is told. A command is in form.
@@ -17,4 +17,8 @@ pub enum Command {
     Complete(Completion),
     /// Words of trades are corrected (Trade-Update).
     Update(Update),
+    /// Cash is moved without a trade.
+    Move(Movement),
+    /// The first day whose completions settle after one day is set.
+    OneDay(Day),
 }

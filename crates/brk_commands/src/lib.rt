@@ -3,8 +3,10 @@
 
 pub mod command;
 pub mod line;
+pub mod movement_row;
 pub mod order_row;
 pub mod parse;
+mod parse_movement;
 mod parse_order;
 mod parse_update;
 pub mod row;
@@ -12,6 +14,7 @@ pub mod update_row;
 
 pub use command::Command;
 pub use line::{day_text, line_text};
+pub use movement_row::{movement_text, oneday_text};
 pub use order_row::{cancel_text, cash_word, end_word, feed_text, order_text, result_text};
 pub use parse::parse_row;
 pub use row::{reference_text, row_text};

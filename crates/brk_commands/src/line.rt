@@ -10,7 +10,7 @@ ghost use Rattle.brk_money.specs.Spelling as spelling;
 ghost use Rattle.brk_money.specs.declared.fault.Fault.TheVariants.{Memory};
 ghost use Rattle.brk_plans.specs.Replies.{completion_of, estimate_of, reply_of};
 
-use brk_money::{Day, Fault, Id, Stamp, Wide, write_day};
+use brk_money::{Cents, Day, Fault, Id, MoveId, Stamp, Wide, write_day};
 use brk_plans::{Completed, Estimate, Ordered, Reply};
 use itoa::Buffer;
 use std::alloc::{AllocError, Global};
@@ -145,6 +145,22 @@ fn changed_text(alloc: Global, stamp: Stamp, count: usize) -> Result<String, All
     format!(in alloc; "{},{count}", stamp.get().unsigned_abs())
 }
 
+fn moved_text(
+    alloc: Global,
+    stamp: Stamp,
+    number: MoveId,
+    balance: Cents,
+) -> Result<String, AllocError>
+    ensures { IfOk result (λ line. string_bytes line ≡ model.line_text (replies.MovedCash stamp number balance)) }
+{
+    format!(in alloc;
+        "{},{},{}",
+        stamp.get().unsigned_abs(),
+        number.get(),
+        Wide::from(balance)
+    )
+}
+
 /// The fields that are told of a reply, joined by commas: the stamp first. No field holds a comma.
 pub fn line_text(alloc: Global, reply: &Reply) -> Result<String, Fault>
     ensures line { IfOk result (λ line. string_bytes line ≡ model.line_text (reply_of reply.now)) }
@@ -157,6 +173,11 @@ pub fn line_text(alloc: Global, reply: &Reply) -> Result<String, Fault>
         Reply::Canceled(stamp) => canceled_text(alloc, *stamp)?,
         Reply::Completed(completed) => completed_text(alloc, completed)?,
         Reply::Changed(stamp, count) => changed_text(alloc, *stamp, *count)?,
+        Reply::Moved {
+            stamp,
+            number,
+            balance,
+        } => moved_text(alloc, *stamp, *number, *balance)?,
     };
     Ok(line)
 }

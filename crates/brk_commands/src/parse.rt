@@ -1,5 +1,5 @@
 ghost use Rattle.std.specs.Prelude.{◌≡◌, ◌∷◌, ◌++◌, IfOk, OnErr, Err};
-ghost use Rattle.brk_model.specs.Parse.{parse_by, read_account, read_as, read_band, read_broker, read_charge, read_customer, read_customer_tax, read_permission, read_security, read_tax_rate, order_readers, readers, result_readers, term_readers, update_readers};
+ghost use Rattle.brk_model.specs.Parse.{parse_by, read_account, read_as, read_band, read_broker, read_charge, read_customer, read_customer_tax, read_permission, read_security, read_tax_rate, order_readers, readers, result_readers, term_readers, update_readers, movement_readers};
 ghost use Rattle.brk_money.specs.declared.fault.Fault.TheVariants.{Memory};
 ghost use Rattle.brk_model.specs.Commands.{AddAccount, AddBand, AddBroker, AddCharge, AddCustomer, AddCustomerTax, AddPermission, AddSecurity, AddTaxRate};
 ghost use Rattle.brk_ref.specs.Fields.{Reads, texts};
@@ -105,7 +105,7 @@ fn parse_customer_tax(fields: &[&[u8]]) -> Result<Command, Refusal>
 
 // The command of one of the kinds of what is agreed, or of a kind after them.
 fn parse_term(alloc: Global, kind: &[u8], fields: &[&[u8]]) -> Planned<Command>
-    ensures read { IfOk result (λ read. Reads command_of read (parse_by (term_readers ++ order_readers ++ result_readers ++ update_readers) (kind.now ∷ texts fields.now))) }
+    ensures read { IfOk result (λ read. Reads command_of read (parse_by (term_readers ++ order_readers ++ result_readers ++ update_readers ++ movement_readers) (kind.now ∷ texts fields.now))) }
     ensures fault { OnErr result (result ≡ Err Memory) }
 {
     if kind == b"permission".as_slice() {

@@ -1,6 +1,6 @@
 ghost use Rattle.std.specs.Prelude.{◌≡◌, ◌∷◌, ◌++◌, IfOk, OnErr, Err};
 ghost use Rattle.brk_model.specs.Commands.{CancelTrade, FeedTicks, PlaceOrder};
-ghost use Rattle.brk_model.specs.Parse.{order_readers, parse_by, read_as, read_cancel, read_feed, read_order, read_result, result_readers, update_readers};
+ghost use Rattle.brk_model.specs.Parse.{order_readers, parse_by, read_as, read_cancel, read_feed, read_order, read_result, result_readers, update_readers, movement_readers};
 ghost use Rattle.brk_money.specs.declared.fault.Fault.TheVariants.{Memory};
 ghost use Rattle.brk_ref.specs.Fields.{Reads, texts};
 ghost use Rattle.brk_commands.specs.Commands.{command_of};
@@ -51,7 +51,7 @@ fn parse_result(fields: &[&[u8]]) -> Result<Command, Refusal>
 
 // The command of one of the kinds of orders, of what comes of them, or of a kind after them.
 pub(crate) fn parse_trading(alloc: Global, kind: &[u8], fields: &[&[u8]]) -> Planned<Command>
-    ensures read { IfOk result (λ read. Reads command_of read (parse_by (order_readers ++ result_readers ++ update_readers) (kind.now ∷ texts fields.now))) }
+    ensures read { IfOk result (λ read. Reads command_of read (parse_by (order_readers ++ result_readers ++ update_readers ++ movement_readers) (kind.now ∷ texts fields.now))) }
     ensures fault { OnErr result (result ≡ Err Memory) }
 {
     if kind == b"order".as_slice() {

@@ -1,12 +1,13 @@
-ghost use Rattle.std.specs.Prelude.{◌≡◌, ◌∷◌, IfOk, OnErr, Err};
+ghost use Rattle.std.specs.Prelude.{◌≡◌, ◌∷◌, ◌++◌, IfOk, OnErr, Err};
 ghost use Rattle.brk_model.specs.Commands.{ChangeExecutors};
 ghost use Rattle.brk_model.specs.Forms.{read_ids};
-ghost use Rattle.brk_model.specs.Parse.{parse_by, read_as, read_upcash, read_uptext, update_readers};
+ghost use Rattle.brk_model.specs.Parse.{movement_readers, parse_by, read_as, read_upcash, read_uptext, update_readers};
 ghost use Rattle.brk_money.specs.declared.fault.Fault.TheVariants.{Memory};
 ghost use Rattle.brk_ref.specs.Fields.{Reads, texts};
 ghost use Rattle.brk_commands.specs.Commands.{command_of};
 
 use crate::command::Command;
+use crate::parse_movement::parse_movement;
 use brk_money::{Planned, Refusal};
 use brk_orders::{check_upcash, check_upname, check_uptext};
 use std::alloc::Global;
@@ -40,9 +41,9 @@ fn parse_uptext(alloc: Global, fields: &[&[u8]]) -> Planned<Command>
     }
 }
 
-// The command of one of the kinds of corrections.
+// The command of one of the kinds of corrections, or of a kind after them.
 pub(crate) fn parse_update(alloc: Global, kind: &[u8], fields: &[&[u8]]) -> Planned<Command>
-    ensures read { IfOk result (λ read. Reads command_of read (parse_by update_readers (kind.now ∷ texts fields.now))) }
+    ensures read { IfOk result (λ read. Reads command_of read (parse_by (update_readers ++ movement_readers) (kind.now ∷ texts fields.now))) }
     ensures fault { OnErr result (result ≡ Err Memory) }
 {
     if kind == b"upname".as_slice() {
@@ -54,5 +55,5 @@ pub(crate) fn parse_update(alloc: Global, kind: &[u8], fields: &[&[u8]]) -> Plan
     if kind == b"uptext".as_slice() {
         return parse_uptext(alloc, fields);
     }
-    Ok(Err(Refusal::BadText))
+    Ok(parse_movement(kind, fields))
 }

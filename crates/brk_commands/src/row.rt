@@ -10,6 +10,7 @@ ghost use Rattle.brk_money.specs.declared.fault.Fault.TheVariants.{Memory};
 ghost use Rattle.brk_ref.specs.Records.{account_of, band_of, broker_of, charge_of, customer_of, customer_tax_of, listing_of, permission_of, tax_of};
 
 use crate::command::Command;
+use crate::movement_row::{movement_text, oneday_text};
 use crate::order_row::{cancel_text, feed_text, order_text, result_text};
 use crate::update_row::update_text;
 use brk_money::{Fault, Wide};
@@ -149,6 +150,8 @@ pub fn row_text(alloc: Global, command: &Command) -> Result<String, Fault>
         Command::Cancel(trade) => cancel_text(alloc, *trade),
         Command::Complete(completion) => result_text(alloc, completion),
         Command::Update(update) => update_text(alloc, update),
+        Command::Move(movement) => movement_text(alloc, movement),
+        Command::OneDay(day) => return oneday_text(alloc, *day),
     };
     Ok(row?)
 }

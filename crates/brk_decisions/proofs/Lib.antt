@@ -3,6 +3,8 @@ pub mod Deciding
 pub mod References
 pub mod Cancels
 pub mod Feeds
+pub mod Moves
+pub mod OneDays
 pub mod OrderFinds
 pub mod Ordering
 pub mod ResultReading

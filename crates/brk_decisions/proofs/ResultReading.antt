@@ -16,9 +16,10 @@ use Rattle.brk_book_laws.specs.Reads.{rates_of}
 use Rattle.brk_trade_laws.specs.ResultPlans.{result_account}
 use Rattle.brk_book_laws.specs.TradeReads.{band_in, summary_in}
 use Rattle.brk_decisions.specs.Finds.{IsCustomer}
-use Rattle.brk_decisions.specs.ResultFinds.{AreNumbers, AreParties, IsFoundAt, IsFoundOf, IsListedAs}
+use Rattle.brk_decisions.specs.ResultFinds.{AreNumbers, AreParties, IsFoundAt, IsFoundOf, IsListedAs, IsPosting}
 use Rattle.brk_decisions.specs.declared.parties.Parties.{Parties}
 use Rattle.brk_decisions.specs.declared.result_finding.Listed.{Listed}
+use Rattle.brk_decisions.specs.declared.result_finding.Posting.{Posting}
 
 -- what holds of what is there leads to what holds of it
 if_there : {X : Type 0} (o : Option X) (P Q : X → Type 0) → ((x : X) → P x → Q x) → IfSome o P → IfSome o Q
@@ -43,9 +44,9 @@ parties_known t row customer rates broker k e n = record {
   broker = n;
 }
 
--- what was found of a trade, of its account, of its security and of how many shares the account holds of it
-abbrev pub found_with : TradeRow → Parties → Listed → Option ℤ → ResultFound
-found_with trade parties listed summary = record {
+-- what was found of a trade, of its account, of its security, of how many shares the account holds of it, and of the day and the cash row of its result
+abbrev pub found_with : TradeRow → Parties → Listed → Option ℤ → Posting → ResultFound
+found_with trade parties listed summary posting = record {
   trade = trade;
   account = parties.account;
   broker = parties.broker;
@@ -53,6 +54,8 @@ found_with trade parties listed summary = record {
   security = listed.name;
   rate = listed.rate;
   rates = parties.rates;
+  rule = posting.rule;
+  next = posting.next;
 }
 
 module _ (t : Tables) (trade : TradeRow) (parties : Parties) (listed : Listed) (held : Option ℤ) where
@@ -83,8 +86,8 @@ module _ (t : Tables) (trade : TradeRow) (parties : Parties) (listed : Listed) (
   abbrev pub SummaryKnown : Type 0
   SummaryKnown = held ≡ option_map (λ r. r.qty) (summary_in t trade.account trade.symbol)
 
-  pub found_known : OwnerKnown → SecurityKnown → SummaryKnown → IsFoundOf t trade (found_with trade parties listed held)
-  found_known owner security summary = record {
+  pub found_known : (posting : Posting) → OwnerKnown → SecurityKnown → SummaryKnown → IsPosting t posting → IsFoundOf t trade (found_with trade parties listed held posting)
+  found_known posting owner security summary posted = record {
     own = refl;
     read = record {
       rate = λ p. of_owner owner (λ a. IfSome (find (λ r. r.id == a.customer) t.customers) RateOf)
@@ -94,6 +97,8 @@ module _ (t : Tables) (trade : TradeRow) (parties : Parties) (listed : Listed) (
       rates = λ p. of_owner owner (λ a. parties.rates ≡ rates_of t a.customer) (λ a k. k.rates);
       broker = λ p. of_owner owner (λ a. AreNumbers t a.broker parties.broker) (λ a k. k.broker);
       security = λ p. of_security security (λ s. listed.name ≡ s.name) (λ s l. l.name);
+      rule = λ p. posted.rule;
+      next = λ p. posted.next;
     };
   }
 

@@ -1,5 +1,5 @@
 -- What is found in the tables for a result.
-use Rattle.std.specs.Prelude.{◌≡◌, ℕ, ◌==◌, List, [], find, IfSome, Option, Some, None, option_map, pos}
+use Rattle.std.specs.Prelude.{◌≡◌, ℕ, ◌+◌, ◌==◌, List, [], find, IfSome, Option, Some, None, option_map, pos}
 use Rattle.brk_lots.specs.Lots.{from_end}
 use Rattle.brk_lots.specs.Sources.{Exactly}
 use Rattle.brk_lots.specs.declared.lot.Lot.{Lot}
@@ -15,9 +15,10 @@ use Rattle.brk_trade.specs.declared.result_found.ResultFound.{ResultFound}
 use Rattle.brk_changes.specs.declared.trade_row.TradeRow.{TradeRow}
 use Rattle.brk_book_laws.specs.Reads.{rates_of}
 use Rattle.brk_trade_laws.specs.ResultPlans.{IsFoundForResult, result_account}
-use Rattle.brk_book_laws.specs.TradeReads.{band_in, position_in}
+use Rattle.brk_book_laws.specs.TradeReads.{band_in, last_move, position_in}
 use Rattle.brk_decisions.specs.declared.parties.Parties.{Parties}
 use Rattle.brk_decisions.specs.declared.result_finding.Listed.{Listed}
+use Rattle.brk_decisions.specs.declared.result_finding.Posting.{Posting}
 
 -- the account with an id
 abbrev pub IsAccount : Tables → ℕ → ref.AccountRow → Type 0
@@ -42,6 +43,11 @@ pub record AreParties (t : Tables) (row : AccountRow) (parties : Parties) : Type
 pub record IsListedAs (t : Tables) (trade : TradeRow) (tier : ℕ) (row : SecurityRow) (listed : Listed) : Type 0 where
   pub name : listed.name ≡ row.name
   pub rate : listed.rate ≡ option_map (λ b. b.rate) (band_in t tier trade.kind row.exchange trade.qty)
+
+-- the settlement day, and the number after that of the last cash row
+pub record IsPosting (t : Tables) (posting : Posting) : Type 0 where
+  pub rule : posting.rule ≡ t.rule
+  pub next : posting.next ≡ last_move t + 1
 
 -- what is found for a result of a trade that is there
 pub record IsFoundOf (t : Tables) (trade : TradeRow) (found : ResultFound) : Type 0 where

@@ -1,7 +1,7 @@
 //! What the tables hold that decides on a result.
 
 ghost use Rattle.std.specs.Prelude.{◌<◌, IfErr, IfOk, IfSome};
-ghost use Rattle.brk_decisions.specs.ResultFinds.{IsFoundAt, IsFoundOf, IsListedAs};
+ghost use Rattle.brk_decisions.specs.ResultFinds.{IsFoundAt, IsFoundOf, IsListedAs, IsPosting};
 ghost use Rattle.brk_model.specs.Joins.{security_in};
 ghost use Rattle.brk_model.specs.Run.{MayFail};
 ghost use Rattle.brk_store.specs.Holds.{IsRead};
@@ -10,7 +10,7 @@ use crate::known::known_security;
 use crate::parties::find_parties;
 use crate::summary_finding::find_summary;
 use crate::tested::find_band_rate;
-use brk_money::{Fault, Id, Rate};
+use brk_money::{Day, Fault, Id, MoveId, Rate};
 use brk_ref::{Name, Tier};
 use brk_store::Store;
 use brk_trade::{ResultFound, TradeRow};
@@ -51,6 +51,25 @@ fn find_listed<S: Alter>(
     })
 }
 
+/// The settlement day, and the number of the next cash row.
+#[derive(Clone, Copy)]
+pub struct Posting {
+    /// The first day whose completions settle after one day, where it is set.
+    pub rule: Option<Day>,
+    /// The number that the next cash row has.
+    pub next: MoveId,
+}
+
+// The settlement day, and the number of the next cash row.
+fn find_posting<S: Alter>(store: &mut Store<S>) -> Result<Posting, Fault>
+    ensures read { IsRead S.Store store.old store.new result (λ posting t. IsPosting t posting) }
+    ensures fault { IfErr result MayFail }
+{
+    let rule = store.one_day()?;
+    let next = store.next_move()?;
+    Ok(Posting { rule, next })
+}
+
 // What is found for a result of a trade that is there.
 fn find_of_trade<S: Alter>(
     alloc: Global,
@@ -65,6 +84,7 @@ fn find_of_trade<S: Alter>(
     let parties = find_parties(alloc, store, trade.account)?;
     let listed = find_listed(alloc, store, &trade, parties.tier)?;
     let summary = find_summary(store, trade.account, &trade.symbol)?;
+    let posting = find_posting(store)?;
     Ok(ResultFound {
         trade,
         account: parties.account,
@@ -73,6 +93,8 @@ fn find_of_trade<S: Alter>(
         security: listed.name,
         rate: listed.rate,
         rates: parties.rates,
+        rule: posting.rule,
+        next: posting.next,
     })
 }
 

@@ -12,7 +12,7 @@ use Rattle.brk_model.specs.PositionView.{position_view}
 use Rattle.brk_model.specs.Queries.{PositionOf, PositionOfTaxId}
 use Rattle.brk_model.specs.Records.{Customer}
 use Rattle.brk_model.specs.Sheets.{sheets, sheets_of}
-use Rattle.brk_model.specs.Tables.{Tables, tables_of}
+use Rattle.brk_model.specs.Tables.{Tables, tables_at, tables_of}
 use Rattle.brk_model.specs.Views.{view_of}
 use Rattle.brk_book_laws.proofs.Places.{find-at}
 use Rattle.brk_book_laws.proofs.Reading.{reads_customer}
@@ -52,7 +52,7 @@ position_seen id x worths view is t e w base books sound s =
     (λ a. ap (λ n. a.customer == n) (eqb-true x.id id (find-at test t.customers x (sym e)).passes) ∙ owned_by_id t.customers id a.customer x e))) ∙ ap (λ y. position_view y test) s ∙ same_position base test books))
 
 pub no_tax_id : (tax_id : Text) (t : Tables) → None ≡ find (λ c. bytes_eq c.tax_id tax_id) t.customers → Shows (PositionOfTaxId tax_id) (Err NoCustomer) t
-unfolding ask query_tests sheets_of tables_of
+unfolding ask query_tests sheets_of tables_at
 no_tax_id tax_id t e base books sound s =
     let test : Customer → Bool = λ c. bytes_eq c.tax_id tax_id in
     refused (is_none (find test base.customers)) NoCustomer (answer_of base (PositionOfTaxId tax_id))
@@ -60,7 +60,7 @@ no_tax_id tax_id t e base books sound s =
 
 pub position_seen_by_tax_id : (tax_id : Text) (x : Customer) (worths : List AccountWorth) (view : View) → IsViewOf worths view
     → (t : Tables) → Some x ≡ find (λ c. bytes_eq c.tax_id tax_id) t.customers → WorthsOf x.id worths t → Shows (PositionOfTaxId tax_id) (Ok view) t
-unfolding ask query_tests answer_of view_of sheets_of tables_of
+unfolding ask query_tests answer_of view_of sheets_of tables_at
 position_seen_by_tax_id tax_id x worths view is t e w base books sound s =
     let test : Customer → Bool = λ c. bytes_eq c.tax_id tax_id in
     let there : Some x ≡ find test (sheets base).customers = e ∙ ap (λ y. find test y.customers) s in

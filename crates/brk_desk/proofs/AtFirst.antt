@@ -1,12 +1,17 @@
 -- What a store keeps at first: its rows are none, or they are what a stop left of a run.
 use Rattle.brk_model.specs.Form.{has_texts}
-use Rattle.std.proofs.Common.{ℕ, List, [], ◌∷◌, ◌++◌, ap, inl, inr, subst, sym}
+use Rattle.std.proofs.Common.{ℕ, List, [], ◌∷◌, ◌++◌, IsTrue, ap, inl, inr, subst, sym}
 use Rattle.std.specs.List.{AllByRecursion}
 use Rattle.sqlite_trees.specs.declared.store.Store.{Ghosts}
 use Rattle.sqlite.specs.Held.{Held}
+use Rattle.brk_model.specs.Adopted.{base_of}
 use Rattle.brk_model.specs.Base.{Base, empty_base}
+use Rattle.brk_model.specs.Moved.{moved_from}
 use Rattle.brk_model.specs.Run.{Call, Do, Outcome}
-use Rattle.brk_model.specs.Tables.{no_rows}
+use Rattle.brk_model.specs.Tables.{Tables, no_rows}
+use Rattle.brk_changes.specs.Schemas.{schema_of}
+use Rattle.brk_changes.specs.declared.schema.Schema as known
+use Rattle.brk_adoption_laws.specs.Passing.{Passes}
 use Rattle.brk_book_laws.proofs.Steps.{empty_books, empty_rows}
 use Rattle.brk_sound_laws.specs.Runs.{IsCallInForm}
 use Rattle.brk_sound_laws.proofs.SoundRuns.{Both, keyed_both, run_both}
@@ -14,9 +19,17 @@ use Rattle.brk_sound_laws.proofs.SoundSteps.{empty_sound}
 use Rattle.brk_store.specs.Holds.{Holds}
 use Rattle.brk_booking.specs.Booked.{KeepsBase}
 use Rattle.brk_desk.specs.Stops.{MayStand}
+use Rattle.brk_desk.proofs.MovedRows.{are_moved}
 
 pub made_keeps : {S : Type 0} (g : Ghosts S) (store : Held S) → Holds g store no_rows → KeepsBase g store empty_base
 made_keeps g store holds = record { books = empty_books; sound = empty_sound; texts = ap has_texts empty_rows; rows = subst (Holds g store) (sym empty_rows) holds }
+
+-- the rows of whichever schema that passed, moved to the third
+pub moved_keeps : {S : Type 0} (g : Ghosts S) (store : Held S) (schema : known.Schema) (rows : Tables) → Holds g store (moved_from (schema_of schema) rows) → IsTrue (has_texts rows)
+    → Passes (schema_of schema) rows → KeepsBase g store (base_of rows)
+moved_keeps g store schema rows holds texts passes =
+    let k = are_moved schema rows passes texts in
+    record { rows = subst (Holds g store) k.tables holds; books = k.books; sound = k.sound; texts = k.texts }
 
 -- the calls before one of them, and it
 up_to : (earlier : List (ℕ × Call)) (call : ℕ × Call) (later : List (ℕ × Call)) → AllByRecursion IsCallInForm (earlier ++ call ∷ later) → AllByRecursion IsCallInForm earlier × IsCallInForm call

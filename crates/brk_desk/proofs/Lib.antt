@@ -15,3 +15,6 @@ pub mod LotViews
 pub mod VolumeViews
 pub mod Reopened
 pub mod Made
+pub mod MovedRows
+pub mod Defined
+pub mod Moving

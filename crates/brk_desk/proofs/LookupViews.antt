@@ -5,19 +5,19 @@ use Rattle.std.specs.List.{list_any}
 use Rattle.std.specs.Prelude.{◌&&◌, ◌||◌, bytes_eq, flat_map, is_none, option_map, option_to_list}
 use Rattle.brk_money.specs.Spelling.{Text}
 use Rattle.brk_money.specs.declared.refusal.Refusal.TheVariants.{NoAccount, NoSecurity, NoTrade}
-use Rattle.brk_changes.specs.Rows.{cash_row_of, history_row_of, settlement_row_of, trade_row_of}
-use Rattle.brk_changes.specs.declared.cash_row.CashRow as cash
+use Rattle.brk_changes.specs.Rows.{history_row_of, move_row_of, settlement_row_of, trade_row_of}
 use Rattle.brk_changes.specs.declared.history_row.HistoryRow as history
+use Rattle.brk_changes.specs.declared.move_row.MoveRow as cash
 use Rattle.brk_changes.specs.declared.settlement_row.SettlementRow as settlement
 use Rattle.brk_changes.specs.declared.trade_row.TradeRow as trade
 use Rattle.brk_model.specs.Ask.{answer_of, ask, query_tests}
 use Rattle.brk_model.specs.Base.{Base, account_with, security_with, trade_with}
 use Rattle.brk_model.specs.Joins.{oldest_first_rows, trade_in}
 use Rattle.brk_model.specs.Lists.{all_distinct, contains_number, insert_by, rising, sort_by}
-use Rattle.brk_model.specs.LookupView.{is_between, lookup_records, lookup_view}
+use Rattle.brk_model.specs.LookupView.{is_between, is_cash_of, lookup_records, lookup_view}
 use Rattle.brk_model.specs.Queries.{TradesOfAccount, TradesOfSymbol, TradesWith}
 use Rattle.brk_model.specs.Sheets.{sheets}
-use Rattle.brk_model.specs.Tables.{AccountRow, CashRow, HistoryRow, SecurityRow, SettlementRow, Tables, TradeRow, security_row, tables_of, trade_row}
+use Rattle.brk_model.specs.Tables.{AccountRow, HistoryRow, SecurityRow, SettlementRow, Tables, TradeRow, security_row, tables_of, trade_row}
 use Rattle.brk_model.specs.Views.{view_of}
 use Rattle.brk_sound_laws.specs.Sound.{IsSound}
 use Rattle.brk_book_laws.specs.Books.{IsBooks}
@@ -40,19 +40,19 @@ use Rattle.brk_desk.proofs.RecentViews.{account_missing, account_there}
 -- ---- one trade
 
 -- what was read of a trade
-abbrev pub AreFollowing : ℕ → Option settlement.SettlementRow → Option cash.CashRow → List history.HistoryRow → Tables → Type 0
+abbrev pub AreFollowing : ℕ → Option settlement.SettlementRow → Option cash.MoveRow → List history.HistoryRow → Tables → Type 0
 AreFollowing trade settled moved came t =
-    (option_map settlement_row_of settled ≡ find (λ (s : SettlementRow). s.trade == trade) t.settlements) × (option_map cash_row_of moved ≡ find (λ (c : CashRow). c.trade == trade) t.cash)
+    (option_map settlement_row_of settled ≡ find (λ (s : SettlementRow). s.trade == trade) t.settlements) × (option_map move_row_of moved ≡ find (is_cash_of trade) t.moves)
     × (map history_row_of came ≡ filter (λ (h : HistoryRow). h.trade == trade) t.history)
 
 -- is what became of it
-pub follows : (trade : trade.TradeRow) (settled : Option settlement.SettlementRow) (moved : Option cash.CashRow) (came : List history.HistoryRow) (t : Tables)
+pub follows : (trade : trade.TradeRow) (settled : Option settlement.SettlementRow) (moved : Option cash.MoveRow) (came : List history.HistoryRow) (t : Tables)
     → AreFollowing trade.id settled moved came t → (base : Base) → IsBooks base → IsSound base → t ≡ sheets base → IsOfTrade t trade settled moved came
 follows trade settled moved came t f base books sound s = record {
   settles = ap option_to_list (f.0 ∙ ap (λ (x : Tables). find (λ r. r.trade == trade.id) x.settlements) s) ∙ settlement_alone base trade.id books sound
       ∙ ap (λ (x : Tables). filter (λ r. r.trade == trade.id) x.settlements) (sym s);
-  moves = ap option_to_list (f.1 ∙ ap (λ (x : Tables). find (λ r. r.trade == trade.id) x.cash) s) ∙ cash_alone base trade.id books sound
-      ∙ ap (λ (x : Tables). filter (λ r. r.trade == trade.id) x.cash) (sym s);
+  moves = ap option_to_list (f.1 ∙ ap (λ (x : Tables). find (is_cash_of trade.id) x.moves) s) ∙ cash_alone base trade.id books sound
+      ∙ ap (λ (x : Tables). filter (is_cash_of trade.id) x.moves) (sym s);
   comes = f.2;
 }
 

@@ -6,7 +6,8 @@ use Rattle.brk_changes.specs.Rows.{history_row_of, trade_row_of}
 use Rattle.brk_changes.specs.declared.history_row.HistoryRow as read
 use Rattle.brk_changes.specs.declared.trade_row.TradeRow as read_trade
 use Rattle.brk_model.specs.Ask.{answer_of, ask, query_tests}
-use Rattle.brk_model.specs.Base.{Base, account_with, completed}
+use Rattle.brk_model.specs.Base.{Base, account_with}
+use Rattle.brk_model.specs.Derived.{postings_of}
 use Rattle.brk_model.specs.Joins.{history_in}
 use Rattle.brk_model.specs.PositionView.{last_ten, recent_view}
 use Rattle.brk_model.specs.Queries.{RecentOf}
@@ -30,13 +31,13 @@ AreRecent account trades history t = (map trade_row_of trades ≡ last_ten t acc
 
 pub account_missing : (base : Base) (id : ℕ) (t : Tables) → t ≡ sheets base → None ≡ find (λ r. r.id == id) t.accounts → is_none (account_with base id) ≡ true
 account_missing base id t s e =
-    sym (is_none-map (account_row base.accounts (completed base)) (account_with base id))
-    ∙ is_missing (option_map (account_row base.accounts (completed base)) (account_with base id)) (e ∙ ap (λ x. find (λ r. r.id == id) x.accounts) s ∙ reads_account base id)
+    sym (is_none-map (account_row base.accounts (postings_of base)) (account_with base id))
+    ∙ is_missing (option_map (account_row base.accounts (postings_of base)) (account_with base id)) (e ∙ ap (λ x. find (λ r. r.id == id) x.accounts) s ∙ reads_account base id)
 
 pub account_there : (base : Base) (id : ℕ) (a : AccountRow) (t : Tables) → t ≡ sheets base → Some a ≡ find (λ r. r.id == id) t.accounts → is_none (account_with base id) ≡ false
 account_there base id a t s e =
-    sym (is_none-map (account_row base.accounts (completed base)) (account_with base id))
-    ∙ is_there a (option_map (account_row base.accounts (completed base)) (account_with base id)) (e ∙ ap (λ x. find (λ r. r.id == id) x.accounts) s ∙ reads_account base id)
+    sym (is_none-map (account_row base.accounts (postings_of base)) (account_with base id))
+    ∙ is_there a (option_map (account_row base.accounts (postings_of base)) (account_with base id)) (e ∙ ap (λ x. find (λ r. r.id == id) x.accounts) s ∙ reads_account base id)
 
 pub no_account : (id : ℕ) (t : Tables) → None ≡ find (λ r. r.id == id) t.accounts → Shows (RecentOf id) (Err NoAccount) t
 unfolding ask query_tests

@@ -6,7 +6,6 @@ use Rattle.sqlite.specs.Effect.{Database}
 use Rattle.sqlite.specs.Held.{Held, state}
 use Rattle.sqlite.specs.State.{HasCleanDisk}
 use Rattle.brk_money.specs.declared.fault.Fault.{Fault}
-use Rattle.brk_model.specs.Adopted.{base_of}
 use Rattle.brk_model.specs.Base.{Base, empty_base}
 use Rattle.brk_model.specs.Commands.{Command}
 use Rattle.brk_model.specs.Form.{has_texts}
@@ -15,14 +14,12 @@ use Rattle.brk_model.specs.Sheets.{sheets}
 use Rattle.brk_model.specs.Tables.{Tables}
 use Rattle.brk_rows.proofs.Inside.{clean_before}
 use Rattle.brk_book_laws.proofs.Steps.{empty_books, empty_rows}
-use Rattle.brk_adoption_laws.specs.Passing.{Passes}
-use Rattle.brk_adoption_laws.proofs.Passing.{passing_tables}
 use Rattle.brk_sound_laws.proofs.SoundRuns.{keyed_both}
 use Rattle.brk_sound_laws.proofs.SoundSteps.{empty_sound}
-use Rattle.brk_store.specs.Audited.{IsAdopted, IsDefinedIn}
+use Rattle.brk_store.specs.Audited.{IsAdopted, IsAudited}
 use Rattle.brk_store.specs.Holds.{AreTreesOf, IsCreated, LeavesOnly}
 use Rattle.brk_store.proofs.Found.{found_again}
-use Rattle.brk_store.proofs.Taking.{passing_books_held, sound_books_pass}
+use Rattle.brk_store.proofs.Taking.{sound_books_pass, third_audited}
 use Rattle.brk_desk.specs.Answers.{outcome_of}
 use Rattle.brk_desk.specs.Commands.{call_of}
 use Rattle.brk_booking.specs.Booked.{IsCalled, KeepsBase, MayCome, base_after_call}
@@ -60,49 +57,47 @@ abbrev pub Settles : {S : Type 0} → Ghosts S → Type 0
 Settles {S} g = (s : S) (db : Trees) → IsTrue (g.view s).is_open → g.recovers s db → db ≡ (g.view s).committed
 
 module _ {S : Type 0} (g : Ghosts S) (settled : Settles g) where
+  -- a connection opened over the tables of sound books in order keeps them
+  opened_keeps : (trees : Trees) (conn : Held S) (base : Base) → CanBeKept base → AreTreesOf (sheets base) trees → IsJustOpened g trees conn → KeepsBase g conn base
+  opened_keeps trees conn base can are opened = record { books = can.books; sound = can.sound; texts = can.texts; rows = found_again g (sheets base) trees conn are opened.over }
+
   -- a connection that was just opened leaves its trees alone
-  leaves_alone : (trees : Trees) (conn : Held S) → IsJustOpened g trees conn → HasCleanDisk (state g conn) → LeavesOnly g conn (λ left. left ≡ trees)
+  pub leaves_alone : (trees : Trees) (conn : Held S) → IsJustOpened g trees conn → HasCleanDisk (state g conn) → LeavesOnly g conn (λ left. left ≡ trees)
   leaves_alone trees conn opened clean left may =
       let o = opened.opens clean in
       settled conn.store left o.is_open may ∙ sym (ap (λ (db : Database). db.trees) o.clean) ∙ opened.over.same clean
 
-  module _ (trees : Trees) (conn store : Held S) (result : Result (Unit {0}) Fault) (opened : IsJustOpened g trees conn) (adopted : IsAdopted g conn store result) (clean : HasCleanDisk (state g store)) where
+  -- trees with the tables of the third schema: what is adopted over them is audited, and nothing is written
+  module _ (trees : Trees) (conn store : Held S) (result : Result (Unit {0}) Fault) (opened : IsJustOpened g trees conn) (audited : IsAudited g conn store result) (clean : HasCleanDisk (state g store)) where
     clean_conn : HasCleanDisk (state g conn)
-    clean_conn = clean_before (state g conn) (state g store) (λ _. ⊥) adopted.audited.survives clean
+    clean_conn = clean_before (state g conn) (state g store) (λ _. ⊥) audited.survives clean
 
     -- and an audit leaves them too
     stays_alone : LeavesOnly g store (λ left. left ≡ trees)
-    stays_alone left may = elim (adopted.audited.survives.crash clean left may) [ inl was ↦ leaves_alone trees conn opened clean_conn left was | inr none ↦ absurd none ]
+    stays_alone left may = elim (audited.survives.crash clean left may) [ inl was ↦ leaves_alone trees conn opened clean_conn left was | inr none ↦ absurd none ]
 
-    -- over the tables of sound books in order
-    pub taken_over : (base : Base) → CanBeKept base → AreTreesOf (sheets base) trees → (May : Base → Type 0) → May base → IsTakenOver g store result May
-    taken_over base can are May may = record {
-      base = base;
-      may = may;
-      undamaged = sound_books_pass g conn store result adopted.audited base held clean;
-      stands = record {
-        keeps = still_kept g conn store base (adopted.audited.kept (sheets base)) held;
-        alone = λ left m. subst (AreTreesOf (sheets base)) (sym (stays_alone left m)) are;
-      };
+    -- the books of a base whose tables they are stand
+    pub audited_stands : (base : Base) → CanBeKept base → AreTreesOf (sheets base) trees → StandsAlone g store base
+    audited_stands base can are = record {
+      keeps = still_kept g conn store base (audited.kept (sheets base)) (opened_keeps trees conn base can are opened);
+      alone = λ left m. subst (AreTreesOf (sheets base)) (sym (stays_alone left m)) are;
     }
-      where
-        held : KeepsBase g conn base
-        held = record { books = can.books; sound = can.sound; texts = can.texts; rows = found_again g (sheets base) trees conn are opened.over }
 
-  pub adopted_stands : (trees : Trees) (conn store : Held S) → IsJustOpened g trees conn → IsDefinedIn g conn → IsAdopted g conn store (Ok tt) → HasCleanDisk (state g store)
-      → (rows : Tables) × Passes rows × StandsAlone g store (base_of rows)
-  adopted_stands trees conn store opened defined adopted clean =
-      let told = adopted.audited.told clean defined in
-      let before = clean_conn trees conn store (Ok tt) opened adopted clean in (
-        told.0,
-        told.3,
-        record {
-          keeps = passing_books_held g store told.0 (adopted.audited.kept told.0 (λ _ _. told.1)) told.3 told.2;
-          alone = λ left may.
-              let trees_are : AreTreesOf told.0 left = ((state g conn).now, told.1, stays_alone trees conn store (Ok tt) opened adopted clean left may ∙ sym (opened.over.same before)) in
-              subst (λ (t : Tables). AreTreesOf t left) (sym (passing_tables told.0 told.3)) trees_are;
-        },
-      )
+  -- over the tables of sound books in order
+  pub taken_over : (trees : Trees) (conn store : Held S) (result : Result (Unit {0}) Fault) → IsJustOpened g trees conn → IsAdopted g conn store result → HasCleanDisk (state g store)
+      → (base : Base) → CanBeKept base → AreTreesOf (sheets base) trees → (May : Base → Type 0) → May base → IsTakenOver g store result May
+  taken_over trees conn store result opened adopted clean base can are May may = record {
+    base = base;
+    may = may;
+    undamaged = sound_books_pass g conn store result audited base held clean;
+    stands = audited_stands trees conn store result opened audited clean base can are;
+  }
+    where
+      held : KeepsBase g conn base
+      held = opened_keeps trees conn base can are opened
+
+      audited : IsAudited g conn store result
+      audited = third_audited g conn store result adopted (sheets base) held.rows
 
   -- a stop within the making of the tables
   pub making_taken_over : (first left conn store : Held S) (made result : Result (Unit {0}) Fault) (trees : Trees) → IsCreated g first left made → HasCleanDisk (state g left)

@@ -10,10 +10,14 @@ use Rattle.brk_money.specs.declared.refusal.Refusal.{Refusal}
 use Rattle.brk_model.specs.Adopted.{base_of}
 use Rattle.brk_model.specs.Ask.{ask}
 use Rattle.brk_model.specs.Base.{Base, empty_base}
+use Rattle.brk_model.specs.Moved.{moved_from}
+use Rattle.brk_model.specs.Schemas.{third_schema}
 use Rattle.brk_model.specs.Sheets.{sheets}
 use Rattle.brk_model.specs.Queries.{Query}
 use Rattle.brk_model.specs.Run.{MayFail, Run}
 use Rattle.brk_model.specs.Tables.{Tables, no_rows}
+use Rattle.brk_changes.specs.Schemas.{schema_of}
+use Rattle.brk_changes.specs.declared.schema.Schema as known
 use Rattle.brk_book_laws.specs.Runs.{RunAddsUp}
 use Rattle.brk_adoption_laws.specs.Passing.{Passes}
 use Rattle.brk_sound_laws.specs.Runs.{IsCallInForm}
@@ -70,13 +74,14 @@ pub record IsRun {S : Type 0} (g : Ghosts S) (old new : Held S) (calls : List (�
 -- calls at their moments lead from a base whose books were kept to one whose books are kept, with these outcomes: its tables pass an audit
 -- and add up, and each accepted result was taxed by the very shares that it closed
 abbrev pub Leads : {S : Type 0} → Ghosts S → Held S → Base → List (ℕ × Call) → List Outcome → Type 0
-Leads g new base calls outcomes = (after : Base) × KeepsBase g new after × Passes (sheets after) × RunAddsUp base (map call_of calls) (map outcome_of outcomes) after
+Leads g new base calls outcomes = (after : Base) × KeepsBase g new after × Passes third_schema (sheets after) × RunAddsUp base (map call_of calls) (map outcome_of outcomes) after
 
--- the whole promise of a list of calls: over each base whose books were kept, from a store whose tables were just made, and from one whose rows pass an audit
+-- the whole promise of a list of calls: over each base whose books were kept, from a store whose tables were just made, and from one with the rows of whichever schema that passed its audit, moved to the third
 pub record KeepsPromise {S : Type 0} (g : Ghosts S) (old new : Held S) (calls : List (ℕ × Call)) (outcomes : List Outcome) : Type 0 where
   pub kept : HasCleanDisk (state g new) → (base : Base) → KeepsBase g old base → Leads g new base calls outcomes
   pub made : HasCleanDisk (state g new) → Holds g old no_rows → Leads g new empty_base calls outcomes
-  pub adopted : HasCleanDisk (state g new) → (rows : Tables) → Holds g old rows → IsTrue (has_texts rows) → Passes rows → Leads g new (base_of rows) calls outcomes
+  pub adopted : HasCleanDisk (state g new) → (schema : known.Schema) (rows : Tables) → Holds g old (moved_from (schema_of schema) rows) → IsTrue (has_texts rows) → Passes (schema_of schema) rows
+      → Leads g new (base_of rows) calls outcomes
 
 -- an audit of the desk's store, which writes nothing: where books are kept it never finds a condition that fails
 pub record IsDeskAudited {S : Type 0} (g : Ghosts S) (old new : Held S) (result : Result (Unit {0}) Fault) : Type 0 where

@@ -10,13 +10,17 @@ ghost use Rattle.brk_booking.specs.Booked.{KeepsBase};
 ghost use Rattle.brk_desk.specs.Stops.{MayStand};
 ghost use Rattle.brk_model.specs.Adopted.{base_of};
 ghost use Rattle.brk_model.specs.Base.{Base, empty_base};
+ghost use Rattle.brk_model.specs.Moved.{moved_from};
 ghost use Rattle.brk_model.specs.Run.{Call, Outcome};
+ghost use Rattle.brk_model.specs.Schemas.{third_schema};
 ghost use Rattle.brk_model.specs.Sheets.{sheets};
 ghost use Rattle.brk_model.specs.Tables.{Tables, no_rows};
 ghost use Rattle.brk_sound_laws.specs.Runs.{IsCallInForm};
 ghost use Rattle.brk_sound_laws.specs.Sound.{IsSound};
 ghost use Rattle.brk_store.specs.Holds.{AreTreesOf, Holds, IsOpenedOver};
 ghost use Rattle.brk_book_laws.specs.Books.{IsBooks};
+ghost use Rattle.brk_changes.specs.Schemas.{schema_of};
+ghost use Rattle.brk_changes.specs.declared.schema.Schema.{Schema};
 
 use sqlite::Alter;
 
@@ -25,10 +29,13 @@ pub fn a_made_store_keeps_the_empty_base<S: Alter>()
     ensures { (store : Held S) → Holds S.Store store no_rows → KeepsBase S.Store store empty_base }
 {}
 
-/// A store whose rows pass an audit, with texts that can be read, keeps the books of their base.
+/// A store with rows that pass an audit, whose texts can be read, keeps the books of their base. So does one with the rows of an older
+/// schema that pass by its own conditions, moved to the third: the books are those of the rows that were moved.
 pub fn an_adopted_store_keeps_its_books<S: Alter>()
-    ensures { (store : Held S) (rows : Tables) → Holds S.Store store rows → IsTrue (has_texts rows) → Passes rows
+    ensures rows { (store : Held S) (rows : Tables) → Holds S.Store store rows → IsTrue (has_texts rows) → Passes third_schema rows
         → KeepsBase S.Store store (base_of rows) }
+    ensures moved { (store : Held S) (schema : Schema) (rows : Tables) → Holds S.Store store (moved_from (schema_of schema) rows) → IsTrue (has_texts rows)
+        → Passes (schema_of schema) rows → KeepsBase S.Store store (base_of rows) }
 {}
 
 /// A store that is opened over what a stop left of a run of calls in form keeps the books of a base that the run leads to, or

@@ -2,7 +2,7 @@ use crate::asking::look;
 use crate::call::{Call, Outcome};
 use crate::head::{Head, find_head};
 use brk_booking::{Answer, book};
-use brk_changes::{CashRow, HoldingRow};
+use brk_changes::{HoldingRow, MoveRow};
 use brk_commands::Command;
 use brk_lots::Lot;
 use brk_money::{Fault, Id, Planned, Stamp};
@@ -47,7 +47,7 @@ impl<S: Alter> Desk<S> {
     ghost use Rattle.brk_money.specs.declared.fault.Fault.TheVariants.{Damaged, Memory};
     ghost use Rattle.brk_view.specs.Queries.{query_of};
     ghost use Rattle.std.specs.Fn.{CalledAt};
-    ghost use Rattle.brk_changes.specs.Rows.{cash_row_of, holding_row_of};
+    ghost use Rattle.brk_changes.specs.Rows.{holding_row_of, move_row_of};
     ghost use Rattle.brk_desk.specs.Heads.{IsHead};
     ghost use Rattle.brk_model.specs.Run.{MayFail};
     ghost use Rattle.brk_model.specs.Statement.{lots_in};
@@ -142,9 +142,8 @@ impl<S: Alter> Desk<S> {
 
     /// Hands the cash rows of an account from one stamp to another, both included, to a visitor, by stamp, until it stops at
     /// one. Nothing is changed.
-    pub fn visit_cash<E, V: Visitor<CashRow, E>>(
+    pub fn visit_cash<E, V: Visitor<MoveRow, E>>(
         &mut self,
-        alloc: Global,
         account: Id,
         from: Stamp,
         to: Stamp,
@@ -153,10 +152,9 @@ impl<S: Alter> Desk<S> {
         requires ready { V.ready visitor.old }
         ensures ready { V.ready visitor.new }
         ensures leads { V.leads visitor.old visitor.new }
-        ensures walked { IsWalked S.Store self.old self.new cash_row_of (cash_of account from to) V.takes V.stops visitor.old visitor.new result }
+        ensures walked { IsWalked S.Store self.old self.new move_row_of (cash_of account from to) V.takes V.stops visitor.old visitor.new result }
     {
-        self.store
-            .visit_cash::<E, V>(alloc, account, from, to, visitor)
+        self.store.visit_cash::<E, V>(account, from, to, visitor)
     }
 
     /// Hands the lots of an account to a visitor, by symbol and then by the moment of opening, until it stops at one. Nothing
@@ -176,18 +174,17 @@ impl<S: Alter> Desk<S> {
 
     /// Calls a closure at each cash row of an account from one stamp to another, both included, by stamp. Its first error ends
     /// the walk and is the answer. Nothing is changed.
-    pub fn walk_cash<E: From<Fault>, F: FnMut(&CashRow) -> Result<(), E> + Drop>(
+    pub fn walk_cash<E: From<Fault>, F: FnMut(&MoveRow) -> Result<(), E> + Drop>(
         &mut self,
-        alloc: Global,
         account: Id,
         from: Stamp,
         to: Stamp,
         call: F,
     ) -> Result<(), E>
         requires callable { F.IsAlwaysCallable call }
-        ensures called { CallsEach S.Store self.old self.new cash_row_of (cash_of account from to) (CalledAt F.FnMut) E.from_gives call result }
+        ensures called { CallsEach S.Store self.old self.new move_row_of (cash_of account from to) (CalledAt F.FnMut) E.from_gives call result }
     {
-        self.store.walk_cash::<E, F>(alloc, account, from, to, call)
+        self.store.walk_cash::<E, F>(account, from, to, call)
     }
 
     /// Calls a closure at each lot of an account, with its symbol, by symbol and then by the moment of opening. Its first error

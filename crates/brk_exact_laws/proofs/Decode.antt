@@ -1,8 +1,8 @@
 -- The record that a row of any table shows.
 use Rattle.std.proofs.Common.{◌≡◌, ℕ, refl}
 use Rattle.sqlite_value.specs.Order.{Row}
-use Rattle.brk_tables_form.specs.Desk.{Item, Which, encode, shape, TheDesk, KeptRows, Brokers, Customers, Accounts, Permissions, Securities, LastTrades, Charges, Bands, TaxRates, CustomerTaxes, Trades, TradeHistory, Requests, Holdings, Summaries, HoldingHistory, Settlements, CashRows}
-use Rattle.brk_tables_form.proofs.Back.{desk_back, desk_is_back, kept_back, kept_is_back, broker_back, broker_is_back, customer_back, customer_is_back, account_back, account_is_back, permission_back, permission_is_back, security_back, security_is_back, charge_back, charge_is_back, band_back, band_is_back, tax_rate_back, tax_rate_is_back, customer_tax_back, customer_tax_is_back}
+use Rattle.brk_tables_form.specs.Desk.{Item, Which, encode, shape, TheDesk, KeptRows, Brokers, Customers, Accounts, Permissions, Securities, LastTrades, Charges, Bands, TaxRates, CustomerTaxes, Trades, TradeHistory, Requests, Holdings, Summaries, HoldingHistory, Settlements, CashRows, CashMoves, SettleRules}
+use Rattle.brk_tables_form.proofs.Back.{desk_back, desk_is_back, kept_back, kept_is_back, broker_back, broker_is_back, customer_back, customer_is_back, account_back, account_is_back, permission_back, permission_is_back, security_back, security_is_back, charge_back, charge_is_back, band_back, band_is_back, tax_rate_back, tax_rate_is_back, customer_tax_back, customer_tax_is_back, move_back, move_is_back, rule_back, rule_is_back}
 use Rattle.brk_tables_form.proofs.TradingBack.{cash_back, cash_is_back, history_back, history_is_back, holding_back, holding_history_back, holding_history_is_back, holding_is_back, last_trade_back, last_trade_is_back, request_back, request_is_back, settlement_back, settlement_is_back, summary_back, summary_is_back, trade_back, trade_is_back}
 
 -- ---- any table's
@@ -28,6 +28,8 @@ decode Summaries = summary_back
 decode HoldingHistory = holding_history_back
 decode Settlements = settlement_back
 decode CashRows = cash_back
+decode CashMoves = move_back
+decode SettleRules = rule_back
 
 pub decodes : (w : Which) (x : Item w) → decode w (encode w x) ≡ x
 unfolding decode
@@ -51,6 +53,8 @@ decodes Summaries x = summary_is_back x
 decodes HoldingHistory x = holding_history_is_back x
 decodes Settlements x = settlement_is_back x
 decodes CashRows x = cash_is_back x
+decodes CashMoves x = move_is_back x
+decodes SettleRules x = rule_is_back x
 
 -- a table's name is no matter of its tree
 pub named_alike : (w : Which) (m n : ℕ) → (shape w m).name ≡ (shape w n).name
@@ -74,3 +78,5 @@ named_alike Summaries m n = refl
 named_alike HoldingHistory m n = refl
 named_alike Settlements m n = refl
 named_alike CashRows m n = refl
+named_alike CashMoves m n = refl
+named_alike SettleRules m n = refl

@@ -1,5 +1,6 @@
 -- The rows of a database are those of one set of tables at most.
-use Rattle.std.proofs.Common.{◌≡◌, ℕ, List, [], ◌∷◌, Option, Some, None, Ordering, Less, Equal, Greater, map, slice_get, refl, sym, ap, subst, ◌∙◌, inl, inr}
+use Rattle.std.proofs.Common.{Bool, true, false, ◌≡◌, ℕ, List, [], ◌∷◌, Option, Some, None, Ordering, Less, Equal, Greater, map, slice_get, refl, sym, ap, subst, ◌∙◌, inl, inr}
+use Rattle.std.specs.Prelude.{◌⊎◌}
 use Rattle.std.specs.Ordering.{ordering_reverse}
 use Rattle.std.specs.Cmp.{IsTotalOrder}
 use Rattle.std.specs.List.{AllByRecursion}
@@ -11,13 +12,17 @@ use Rattle.sqlite_schema.specs.Names.{table_named}
 use Rattle.sqlite_keyed.proofs.ListLemmas.{map_back}
 use Rattle.sqlite_rules.specs.Lists.{Has}
 use Rattle.sqlite.specs.Effect.{Database}
+use Rattle.brk_model.specs.Schemas.{Schema, third_schema}
 use Rattle.brk_model.specs.Tables.{Tables}
-use Rattle.brk_rows.specs.Desk.{Stands}
+use Rattle.brk_changes.specs.declared.schema.Schema as known
+use Rattle.brk_changes.specs.declared.schema.Schema.TheVariants.{First, Second, Third}
+use Rattle.brk_changes.specs.Schemas.{schema_of}
+use Rattle.brk_rows.specs.Desk.{HasTables, Stands}
 use Rattle.brk_rows.specs.Rows.{Holds, Rises, cells}
 use Rattle.brk_rows.proofs.Order.{has_permuted}
-use Rattle.brk_tables_form.specs.Cells.{DeskRow}
-use Rattle.brk_tables_form.specs.Desk.{Item, Which, encode, key, list, order, placed, shape, TheDesk, KeptRows, Brokers, Customers, Accounts, Permissions, Securities, LastTrades, Charges, Bands, TaxRates, CustomerTaxes, Trades, TradeHistory, Requests, Holdings, Summaries, HoldingHistory, Settlements, CashRows}
-use Rattle.brk_tables_form.specs.Made.{HasRows}
+use Rattle.brk_tables_form.specs.Cells.{DeskRow, RuleRow}
+use Rattle.brk_tables_form.specs.Desk.{Item, Which, encode, key, order, placed, shape, TheDesk, KeptRows, Brokers, Customers, Accounts, Permissions, Securities, LastTrades, Charges, Bands, TaxRates, CustomerTaxes, Trades, TradeHistory, Requests, Holdings, Summaries, HoldingHistory, Settlements, CashRows, CashMoves, SettleRules, list_in, has_table, rule_rows}
+use Rattle.brk_tables_form.specs.Made.{HasRows, HasRowsIn, IsOf}
 use Rattle.brk_tables_form.proofs.Order.{key_total}
 use Rattle.brk_exact_laws.proofs.Decode.{decode, decodes, named_alike}
 
@@ -102,40 +107,101 @@ tree_alike w db m n at by h k =
     let f : shape w m ≡ shape w n = some_same (shape w m) (shape w n) (sym h.found ∙ ap (slice_get db.schema.tables) e ∙ k.found) in
     sym (placed w m) ∙ ap (λ (t : Table). t.tree) f ∙ placed w n
 
-list_alike : (t u : Tables) (db : Database) → (h : HasRows t db) → (k : HasRows u db) → (w : Which) → list w t ≡ list w u
-list_alike t u db h k w =
-    let e : h.0 w ≡ k.0 w = tree_alike w db (h.0 w) (k.0 w) (h.1.place w) (k.1.place w) (h.1.stands w) (k.1.stands w) in
-    held_alike w (shape w (h.0 w)) (list w t) (list w u) (db.trees (h.0 w)) (h.1.rows w)
-    (subst (λ (n : ℕ). Holds (shape w n) (encode w) (order w) (list w u) (db.trees n)) (sym e) (k.1.rows w))
+-- a table of a desk, in whichever schemas, shows one list
+alike : (w : Which) (s r : Schema) (t u : Tables) (db : Database) (m n at by : ℕ) → Stands db.schema (shape w m) at → Stands db.schema (shape w n) by → Holds (shape w m) (encode w) (order w) (list_in s w t) (db.trees m)
+    → Holds (shape w n) (encode w) (order w) (list_in r w u) (db.trees n) → list_in s w t ≡ list_in r w u
+alike w s r t u db m n at by h k some more =
+    let e : m ≡ n = tree_alike w db m n at by h k in
+    held_alike w (shape w m) (list_in s w t) (list_in r w u) (db.trees m) some (subst (λ (q : ℕ). Holds (shape w q) (encode w) (order w) (list_in r w u) (db.trees q)) (sym e) more)
 
 last_of : List DeskRow → Option ℕ
 last_of [] = None
 last_of (r ∷ rs) = r.last
 
-last_alike : (t u : Tables) → list TheDesk t ≡ list TheDesk u → t.last ≡ u.last
+number_of : List DeskRow → ℕ
+number_of [] = 0
+number_of (r ∷ rs) = r.schema
+
+rule_of : List RuleRow → Option ℕ
+rule_of [] = None
+rule_of (r ∷ rs) = Some r.day
+
+rule_back : (o : Option ℕ) → rule_of (rule_rows o) ≡ o
+unfolding rule_of
+rule_back None = refl
+rule_back (Some day) = refl
+
+last_alike : (s r : Schema) (t u : Tables) → list_in s TheDesk t ≡ list_in r TheDesk u → t.last ≡ u.last
 unfolding last_of
-last_alike t u e = ap last_of e
+last_alike s r t u e = ap last_of e
+
+number_alike : (s r : Schema) (t u : Tables) → list_in s TheDesk t ≡ list_in r TheDesk u → s.number ≡ r.number
+unfolding number_of
+number_alike s r t u e = ap number_of e
+
+rule_alike : (s r : Schema) (t u : Tables) → list_in s SettleRules t ≡ list_in r SettleRules u → t.rule ≡ u.rule
+rule_alike s r t u e = sym (rule_back t.rule) ∙ ap rule_of e ∙ rule_back u.rule
+
+-- tables with the same lists are the same
+same_tables : (s : Schema) (t u : Tables) → ((w : Which) → list_in s w t ≡ list_in s w u) → t ≡ u
+same_tables s t u each = λ i. record {
+  last = last_alike s s t u (each TheDesk) i;
+  kept = each KeptRows i;
+  brokers = each Brokers i;
+  customers = each Customers i;
+  accounts = each Accounts i;
+  permissions = each Permissions i;
+  securities = each Securities i;
+  last_trades = each LastTrades i;
+  charges = each Charges i;
+  bands = each Bands i;
+  tax_rates = each TaxRates i;
+  customer_taxes = each CustomerTaxes i;
+  trades = each Trades i;
+  history = each TradeHistory i;
+  requests = each Requests i;
+  holdings = each Holdings i;
+  summaries = each Summaries i;
+  holding_history = each HoldingHistory i;
+  settlements = each Settlements i;
+  cash = each CashRows i;
+  moves = each CashMoves i;
+  rule = rule_alike s s t u (each SettleRules) i;
+}
 
 pub one_tables : (t u : Tables) → (db : Database) → HasRows t db → HasRows u db → t ≡ u
-one_tables t u db h k = λ i. record {
-  last = last_alike t u (list_alike t u db h k TheDesk) i;
-  kept = list_alike t u db h k KeptRows i;
-  brokers = list_alike t u db h k Brokers i;
-  customers = list_alike t u db h k Customers i;
-  accounts = list_alike t u db h k Accounts i;
-  permissions = list_alike t u db h k Permissions i;
-  securities = list_alike t u db h k Securities i;
-  last_trades = list_alike t u db h k LastTrades i;
-  charges = list_alike t u db h k Charges i;
-  bands = list_alike t u db h k Bands i;
-  tax_rates = list_alike t u db h k TaxRates i;
-  customer_taxes = list_alike t u db h k CustomerTaxes i;
-  trades = list_alike t u db h k Trades i;
-  history = list_alike t u db h k TradeHistory i;
-  requests = list_alike t u db h k Requests i;
-  holdings = list_alike t u db h k Holdings i;
-  summaries = list_alike t u db h k Summaries i;
-  holding_history = list_alike t u db h k HoldingHistory i;
-  settlements = list_alike t u db h k Settlements i;
-  cash = list_alike t u db h k CashRows i;
-}
+one_tables t u db h k =
+    same_tables third_schema t u (λ w. alike w third_schema third_schema t u db (h.0 w) (k.0 w) (h.1.place w) (k.1.place w) (h.1.stands w) (k.1.stands w) (h.1.rows w) (k.1.rows w))
+
+-- ---- of any schema
+
+by_case : {A : Type 0} (b : Bool) → (b ≡ true → A) → (b ≡ false → A) → A
+by_case true f g = f refl
+by_case false f g = g refl
+
+-- where both schemas have a table
+both_alike : (w : Which) (s r : Schema) (t u : Tables) (db : Database) → HasRowsIn s t db → HasRowsIn r u db → IsOf s w → IsOf r w → list_in s w t ≡ list_in r w u
+both_alike w s r t u db h k a b = alike w s r t u db (h.0 w) (k.0 w) (h.1.place w) (k.1.place w) (h.1.stands w a) (k.1.stands w b) (h.1.rows w a) (k.1.rows w b)
+
+one_of_schema : (s : Schema) (t u : Tables) (db : Database) → HasRowsIn s t db → HasRowsIn s u db → t ≡ u
+one_of_schema s t u db h k = same_tables s t u each
+  where
+    each : (w : Which) → list_in s w t ≡ list_in s w u
+    each w = by_case (has_table s w) (λ there. both_alike w s s t u db h k there there) (λ none. (h.2 w none).1 ∙ sym (k.2 w none).1)
+
+-- the number tells the schema
+same_schema : (a b : known.Schema) → (schema_of a).number ≡ (schema_of b).number → a ≡ b
+same_schema First First e = refl
+same_schema First Second e = absurd (let f : 1 ≡ 2 = e in cc)
+same_schema First Third e = absurd (let f : 1 ≡ 3 = e in cc)
+same_schema Second First e = absurd (let f : 2 ≡ 1 = e in cc)
+same_schema Second Second e = refl
+same_schema Second Third e = absurd (let f : 2 ≡ 3 = e in cc)
+same_schema Third First e = absurd (let f : 3 ≡ 1 = e in cc)
+same_schema Third Second e = absurd (let f : 3 ≡ 2 = e in cc)
+same_schema Third Third e = refl
+
+pub one_schema : (a b : known.Schema) → (t u : Tables) → (db : Database) → HasRowsIn (schema_of a) t db → HasRowsIn (schema_of b) u db → (a ≡ b) × (t ≡ u)
+one_schema a b t u db h k =
+    let e : a ≡ b = same_schema a b (number_alike (schema_of a) (schema_of b) t u (both_alike TheDesk (schema_of a) (schema_of b) t u db h k refl refl)) in
+    (e, one_of_schema (schema_of a) t u db h (subst (λ (c : known.Schema). HasRowsIn (schema_of c) u db) (sym e) k))

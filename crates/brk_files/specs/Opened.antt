@@ -1,19 +1,21 @@
 -- A desk that was opened.
-use Rattle.std.specs.Prelude.{IsTrue}
+use Rattle.std.specs.Prelude.{None, Ok, IsTrue}
 use Rattle.sqlite_trees.specs.declared.store.Store.{Ghosts}
 use Rattle.sqlite.specs.Held.{Held, state}
 use Rattle.sqlite.specs.State.{HasCleanDisk}
 use Rattle.brk_model.specs.Adopted.{base_of}
 use Rattle.brk_model.specs.Sheets.{sheets}
 use Rattle.brk_model.specs.Tables.{Tables}
-use Rattle.brk_adoption_laws.specs.Passing.{Passes}
-use Rattle.brk_tables_whole.specs.Schemas.{IsDefined}
-use Rattle.brk_store.specs.Audited.{HoldsBooks}
+use Rattle.brk_changes.specs.declared.schema.Schema as known
+use Rattle.brk_changes.specs.Schemas.{schema_of}
+use Rattle.brk_store.specs.Audited.{Answered, HoldsBooks, IsAdopted, IsDefinedIn}
 use Rattle.brk_store.specs.Holds.{AreTreesOf, LeavesOnly}
 
--- As far as its tables by a desk's names and columns are a desk's: it holds the books of rows that pass an audit, and a stop leaves the tables of these
--- and nothing else.
-abbrev pub StandsOnRows : {S : Type 0} → Ghosts S → Held S → Type 0
-StandsOnRows g store =
-    HasCleanDisk (state g store) → IsTrue (state g store).is_open → IsDefined (state g store).now
-    → (rows : Tables) × Passes rows × HoldsBooks g store (base_of rows) × LeavesOnly g store (AreTreesOf (sheets (base_of rows)))
+-- The desk of what a file held. As far as its tables by the names and columns of a desk's are a desk's: its rows pass the audit of their schema, the books of
+-- these rows are held, moved to the third schema where they were of an older one, and a stop leaves the tables of the books and nothing else.
+pub record StandsOnRows {S : Type 0} (g : Ghosts S) (store : Held S) : Type 0 where
+  -- what was held when the file was opened
+  pub found : Held S
+  pub adopted : IsAdopted g found store (Ok tt)
+  pub stands : HasCleanDisk (state g store) → IsTrue (state g store).is_open → IsDefinedIn g found
+      → (schema : known.Schema) × (rows : Tables) × Answered (schema_of schema) rows (state g found).now None × HoldsBooks g store (base_of rows) × LeavesOnly g store (AreTreesOf (sheets (base_of rows)))

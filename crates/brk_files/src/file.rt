@@ -35,12 +35,10 @@ fn connect(rt: &HostRuntime, path: &str) -> Result<Connection<FileStore<File>>, 
     }
 }
 
-// The desk of a connection on which no transaction is open.
+// The desk of a connection.
 fn take<S: Alter>(alloc: Global, conn: Connection<S>) -> Result<Store<S>, (Connection<S>, Fault)>
-    requires { conn.in_transaction ≡ false }
     ensures { IfOk result (λ store. StandsOnRows S.Store store) }
 {
-    let _settled = conn.is_autocommit();
     Store::adopt(alloc, conn)
 }
 
@@ -58,9 +56,9 @@ fn adopt(rt: &HostRuntime, conn: Connection<FileStore<File>>) -> Result<FileDesk
     }
 }
 
-/// Opens the desk in a file, or makes one where the file is missing or empty or has no table of a desk. A desk that was
-/// made is closed and opened once more: so its tables stand in the file itself, and a file that then loses its log is
-/// never taken for a new one.
+/// Opens the desk in a file, or makes one where the file is missing or empty or has no table of a desk. A file of an older
+/// schema is moved. A desk that was made is closed and opened once more: so its tables stand in the file itself, and a file
+/// that then loses its log is never taken for a new one.
 pub fn open_or_make(rt: &HostRuntime, path: &str) -> Result<FileDesk, Fault>
     ensures stands { IfOk result (λ store. StandsOnRows over_files store) }
 {
@@ -85,7 +83,8 @@ fn is_missing(rt: &HostRuntime, path: &str) -> bool {
     }
 }
 
-/// Opens the desk in a file, and makes none: a file that is missing or empty has no desk's tables.
+/// Opens the desk in a file, and makes none: a file that is missing or empty has no desk's tables. A file of an older schema
+/// is moved.
 pub fn open(rt: &HostRuntime, path: &str) -> Result<FileDesk, Fault>
     ensures stands { IfOk result (λ store. StandsOnRows over_files store) }
 {

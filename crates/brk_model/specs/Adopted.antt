@@ -1,12 +1,13 @@
 -- The base that the rows of a database give.
-use Rattle.std.specs.Prelude.{ℕ, ◌==◌, List, [], map, find, bytes_eq}
+use Rattle.std.specs.Prelude.{ℕ, Bool, false, ◌==◌, List, [], ◌++◌, map, filter, find, Some, is_none, bytes_eq}
 use Rattle.std.specs.Option.{option_map_or}
 use Rattle.brk_money.specs.Spelling.{Text}
 use Rattle.brk_model.specs.Lists.{sort_by_key}
-use Rattle.brk_model.specs.Records.{Account, Security, Mark, Trade}
+use Rattle.brk_model.specs.Records.{Account, Security, Mark, Trade, Movement}
 use Rattle.brk_model.specs.Base.{Base}
-use Rattle.brk_model.specs.Tables.{Tables, AccountRow, SecurityRow, LastTradeRow, TradeRow}
-use Rattle.brk_model.specs.Joins.{history_in}
+use Rattle.brk_model.specs.Derived.{Posting}
+use Rattle.brk_model.specs.Tables.{Tables, AccountRow, SecurityRow, LastTradeRow, TradeRow, CashRow, MoveRow}
+use Rattle.brk_model.specs.Joins.{history_in, trade_in}
 
 -- an account without its balance
 abbrev pub account_of_row : AccountRow → Account
@@ -15,6 +16,26 @@ account_of_row a = record { id = a.id; customer = a.customer; broker = a.broker;
 -- the statuses of a trade, by rising stamp
 abbrev pub marks_in : Tables → ℕ → List Mark
 marks_in tables trade = sort_by_key (λ m. m.stamp) (map (λ h. record { stamp = h.stamp; status = h.status }) (history_in tables trade))
+
+-- a cash row of a trade as a posting to the trade's account
+abbrev pub posting_of_cash : Tables → CashRow → Posting
+posting_of_cash tables c = record { account = option_map_or (λ t. t.account) (trade_in tables c.trade) 0; trade = Some c.trade; stamp = c.stamp; amount = c.amount; name = c.name }
+
+-- a numbered cash row as a posting
+abbrev pub posting_of_move : MoveRow → Posting
+posting_of_move r = record { account = r.account; trade = r.trade; stamp = r.stamp; amount = r.amount; name = r.name }
+
+-- the postings of some tables, in whichever table of cash they stand
+abbrev pub postings_in : Tables → List Posting
+postings_in tables = map (posting_of_cash tables) tables.cash ++ map posting_of_move tables.moves
+
+-- whether a posting is of this trade
+abbrev pub is_posted_by : ℕ → Posting → Bool
+is_posted_by trade p = option_map_or (λ id. id == trade) p.trade false
+
+-- a cash row without a trade
+abbrev pub movement_of_row : MoveRow → Movement
+movement_of_row r = record { account = r.account; stamp = r.stamp; amount = r.amount; name = r.name }
 
 -- a trade with its statuses, and with the words of its settlement and its cash row
 abbrev pub trade_of_row : Tables → TradeRow → Trade
@@ -34,7 +55,7 @@ trade_of_row tables t = record {
   price = t.price;
   marks = marks_in tables t.id;
   cash_type = option_map_or (λ s. s.cash_type) (find (λ s. s.trade == t.id) tables.settlements) [];
-  cash_name = option_map_or (λ c. c.name) (find (λ c. c.trade == t.id) tables.cash) [];
+  cash_name = option_map_or (λ p. p.name) (find (is_posted_by t.id) (postings_in tables)) [];
 }
 
 -- a security of two rows
@@ -51,7 +72,7 @@ abbrev pub security_of_row : Tables → SecurityRow → Security
 security_of_row tables s =
     option_map_or (security_of_rows s) (find (λ l. bytes_eq l.symbol s.symbol) tables.last_trades) (security_of_rows s (no_last_trade s.symbol))
 
--- the base that the columns of a base give
+-- the base that the columns of a base give, in whichever schema
 unfoldable pub base_of : Tables → Base
 base_of t = record {
   brokers = map (λ b. record { id = b.id; name = b.name }) t.brokers;
@@ -64,6 +85,8 @@ base_of t = record {
   tax_rates = t.tax_rates;
   customer_taxes = t.customer_taxes;
   trades = map (trade_of_row t) t.trades;
+  movements = map movement_of_row (filter (λ r. is_none r.trade) t.moves);
+  rule = t.rule;
   kept = t.kept;
   last = t.last;
 }

@@ -2,31 +2,32 @@
 use Rattle.std.specs.Prelude.{◌≡◌, ◌⊎◌, ⊤, List, [], ◌∷◌, map, Option, Some, None, IsTrue}
 use Rattle.brk_money.specs.declared.fault.Condition.{Condition}
 use Rattle.brk_money.specs.declared.fault.Condition.TheVariants as condition
+use Rattle.brk_model.specs.Schemas.{Schema}
 use Rattle.brk_model.specs.Tables.{Tables}
-use Rattle.brk_model.specs.Sheets.{sheets}
+use Rattle.brk_model.specs.Sheets.{sheets_at}
 use Rattle.brk_model.specs.Adopted.{base_of}
 use Rattle.brk_model.specs.Form.{has_form}
 use Rattle.brk_model.specs.Ways.{has_status_rows}
 
--- the tables of the base that the tables give, by rising key
-abbrev pub expected : Tables → Tables
-expected t = sheets (base_of t)
+-- the tables of the base that tables of a schema give, by rising key
+abbrev pub expected : Schema → Tables → Tables
+expected schema t = sheets_at schema (base_of t)
 
--- what each condition says of tables whose rows are by rising key. The first two are said of a database and not of rows
-unfoldable pub Holds : Condition → Tables → Type 0
-Holds condition.NotEmpty t = ⊤
-Holds condition.Schema t = ⊤
-Holds condition.Form t = IsTrue (has_form t)
-Holds condition.Status t = IsTrue (has_status_rows t)
-Holds condition.Requests t = t.requests ≡ (expected t).requests
-Holds condition.Lots t = t.holdings ≡ (expected t).holdings
-Holds condition.History t = t.holding_history ≡ (expected t).holding_history
-Holds condition.Summary t = t.summaries ≡ (expected t).summaries
-Holds condition.Count t = map (λ b. b.trades) t.brokers ≡ map (λ b. b.trades) (expected t).brokers
-Holds condition.Commission t = map (λ b. b.commissions) t.brokers ≡ map (λ b. b.commissions) (expected t).brokers
-Holds condition.Settlement t = t.settlements ≡ (expected t).settlements
-Holds condition.Cash t = t.cash ≡ (expected t).cash
-Holds condition.Balance t = map (λ a. a.balance) t.accounts ≡ map (λ a. a.balance) (expected t).accounts
+-- what each condition says of tables of a schema whose rows are by rising key. The first two are said of a database and not of rows
+unfoldable pub Holds : Schema → Condition → Tables → Type 0
+Holds schema condition.NotEmpty t = ⊤
+Holds schema condition.Schema t = ⊤
+Holds schema condition.Form t = IsTrue (has_form schema t)
+Holds schema condition.Status t = IsTrue (has_status_rows t)
+Holds schema condition.Requests t = t.requests ≡ (expected schema t).requests
+Holds schema condition.Lots t = t.holdings ≡ (expected schema t).holdings
+Holds schema condition.History t = t.holding_history ≡ (expected schema t).holding_history
+Holds schema condition.Summary t = t.summaries ≡ (expected schema t).summaries
+Holds schema condition.Count t = map (λ b. b.trades) t.brokers ≡ map (λ b. b.trades) (expected schema t).brokers
+Holds schema condition.Commission t = map (λ b. b.commissions) t.brokers ≡ map (λ b. b.commissions) (expected schema t).brokers
+Holds schema condition.Settlement t = t.settlements ≡ (expected schema t).settlements
+Holds schema condition.Cash t = (t.cash ≡ (expected schema t).cash) × (t.moves ≡ (expected schema t).moves)
+Holds schema condition.Balance t = map (λ a. a.balance) t.accounts ≡ map (λ a. a.balance) (expected schema t).accounts
 
 -- in the order of the tests
 abbrev pub row_conditions : List Condition
@@ -35,10 +36,10 @@ row_conditions =
     ∷ condition.Commission ∷ condition.Settlement ∷ condition.Cash ∷ condition.Balance ∷ []
 
 -- the answer is the first condition that fails, and none where all hold
-abbrev pub IsFirstFailing : List Condition → Tables → Option Condition → Type 0
-IsFirstFailing [] t answer = answer ≡ None
-IsFirstFailing (c ∷ cs) t answer = (Holds c t × IsFirstFailing cs t answer) ⊎ ((¬ Holds c t) × (answer ≡ Some c))
+abbrev pub IsFirstFailing : Schema → List Condition → Tables → Option Condition → Type 0
+IsFirstFailing schema [] t answer = answer ≡ None
+IsFirstFailing schema (c ∷ cs) t answer = (Holds schema c t × IsFirstFailing schema cs t answer) ⊎ ((¬ Holds schema c t) × (answer ≡ Some c))
 
--- the answer of an audit, over tables whose rows are by rising key
-abbrev pub IsAudit : Tables → Option Condition → Type 0
-IsAudit t answer = IsFirstFailing row_conditions t answer
+-- the answer of an audit of tables of a schema, whose rows are by rising key
+abbrev pub IsAudit : Schema → Tables → Option Condition → Type 0
+IsAudit schema t answer = IsFirstFailing schema row_conditions t answer

@@ -10,7 +10,7 @@ use Rattle.brk_money.specs.declared.status.Status.{Status}
 use Rattle.brk_money.specs.declared.status.Status.TheVariants.{Completed}
 use Rattle.brk_money.specs.declared.tax_status.TaxStatus.{TaxStatus}
 use Rattle.brk_money.specs.declared.tax_status.TaxStatus.TheVariants.{Untaxed, Withheld, Reported}
-use Rattle.brk_model.specs.Records.{Broker, Customer, Account, Permission, Security, Charge, Band, TaxRate, CustomerTax, Mark, Trade, Kept}
+use Rattle.brk_model.specs.Records.{Broker, Customer, Account, Permission, Security, Charge, Band, TaxRate, CustomerTax, Mark, Trade, Movement, SettleRule, Kept}
 use Rattle.brk_model.specs.Lists.{update_where}
 
 -- what is kept, list by list; last is the stamp of the last accepted command
@@ -25,12 +25,14 @@ pub record Base : Type 0 where
   pub tax_rates : List TaxRate
   pub customer_taxes : List CustomerTax
   pub trades : List Trade
+  pub movements : List Movement
+  pub rule : SettleRule
   pub kept : List Kept
   pub last : Option ℕ
 
--- no record and no last stamp
+-- no record, no settlement day and no last stamp
 unfoldable pub empty_base : Base
-empty_base = record { brokers = []; customers = []; accounts = []; permissions = []; securities = []; charges = []; bands = []; tax_rates = []; customer_taxes = []; trades = []; kept = []; last = None }
+empty_base = record { brokers = []; customers = []; accounts = []; permissions = []; securities = []; charges = []; bands = []; tax_rates = []; customer_taxes = []; trades = []; movements = []; rule = None; kept = []; last = None }
 
 -- a broker by its id
 abbrev pub broker_with : Base → ℕ → Option Broker

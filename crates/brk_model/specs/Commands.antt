@@ -1,5 +1,5 @@
 -- What a brokerage can be told, and what it replies.
-use Rattle.std.specs.Prelude.{ℕ, Bool, List, Option, ℤ}
+use Rattle.std.specs.Prelude.{ℕ, Bool, List, ℤ}
 use Rattle.brk_money.specs.Spelling.{Text}
 use Rattle.brk_money.specs.declared.order_type.OrderType.{OrderType}
 use Rattle.brk_money.specs.declared.status.Status.{Status}
@@ -30,7 +30,7 @@ pub record Tick : Type 0 where
   pub price : ℕ
   pub qty : ℕ
 
--- what can be told: nine kinds of reference records, orders, feeds, cancels, results, and three changes of words
+-- what can be told: nine kinds of reference records, orders, feeds, cancels, results, three changes of words, movements of cash, and the settlement day
 pub data Command : Type 0 where
   AddBroker : Broker → Command
   AddCustomer : Customer → Command
@@ -48,6 +48,9 @@ pub data Command : Type 0 where
   ChangeExecutors : (trades : List ℕ) → Command
   ChangeCashTypes : (account first last : ℕ) → Command
   ChangeCashNames : (symbol : Text) → (first last : ℕ) → Command
+  DepositCash : (account amount : ℕ) → Command
+  WithdrawCash : (account amount : ℕ) → Command
+  SetOneDay : (day : ℕ) → Command
 
 -- the numbers of an order
 pub record Estimate : Type 0 where
@@ -77,6 +80,7 @@ pub data Reply : Type 0 where
   CanceledTrade : (stamp : ℕ) → Reply
   CompletedTrade : (stamp : ℕ) → Completion → Reply
   Changed : (stamp count : ℕ) → Reply
+  MovedCash : (stamp move : ℕ) → (balance : ℤ) → Reply
 
 -- the answer to a command
 pub data Answer : Type 0 where

@@ -1,6 +1,7 @@
--- What follows from the completed trades of a base: positions, summaries, settlements, balances, broker numbers; and the requests.
+-- What follows from the completed trades and the movements of a base: positions, summaries, settlements, postings, balances, broker numbers; and the requests.
 -- Each word names the lists that it reads: the accounts, the securities, and the completed trades as `done`.
-use Rattle.std.specs.Prelude.{ℕ, ◌+◌, ◌*◌, ◌==◌, if◌then◌else◌, List, length, map, filter, sum_by, ℤ, pos, ◌+ℤ◌, ◌-ℤ◌, ◌*ℤ◌, neg_ℤ, bytes_eq}
+use Rattle.std.specs.Prelude.{ℕ, ◌+◌, ◌*◌, false, nat_le, ◌==◌, if◌then◌else◌, List, ◌++◌, length, map, filter, sum_by, Option, Some, None, ℤ, pos, ◌+ℤ◌, ◌-ℤ◌, ◌*ℤ◌, neg_ℤ, bytes_eq}
+use Rattle.std.specs.Option.{option_map_or}
 use Rattle.brk_money.specs.Spelling.{Text}
 use Rattle.brk_money.specs.Moments.{day_of}
 use Rattle.brk_money.specs.Kinds.{side_of}
@@ -8,8 +9,8 @@ use Rattle.brk_money.specs.declared.side.Side.{Side}
 use Rattle.brk_money.specs.declared.side.Side.TheVariants.{Buy, Sell}
 use Rattle.brk_money.specs.declared.status.Status.TheVariants.{Pending}
 use Rattle.brk_model.specs.Lists.{sort_by_key, total_by}
-use Rattle.brk_model.specs.Records.{Account, Security, Trade}
-use Rattle.brk_model.specs.Base.{tax_status_in, opening_in, broker_in, takes_tax_off, has_status, moment_of, price_of}
+use Rattle.brk_model.specs.Records.{Account, Security, Trade, Movement, SettleRule}
+use Rattle.brk_model.specs.Base.{Base, completed, tax_status_in, opening_in, broker_in, takes_tax_off, has_status, moment_of, price_of}
 use Rattle.brk_model.specs.Shares.{Share, Deal, replay, signed}
 
 -- a completed trade as it met its position
@@ -49,21 +50,57 @@ withheld accounts t = if takes_tax_off (tax_status_in accounts t.account) then t
 abbrev pub amount_of : List Account → Trade → ℤ
 amount_of accounts t = proceeds (side_of t.kind) (t.qty * price_of t) -ℤ pos (t.charge + t.commission + withheld accounts t)
 
--- how many days after its completion a trade settles
-abbrev pub settlement_days : ℕ
-settlement_days = 2
+-- how many days after a day its completions settle: one where a first such day is set and has come, else two
+abbrev pub settlement_days : SettleRule → ℕ → ℕ
+settlement_days rule day = if option_map_or (λ first. nat_le first day) rule false then 1 else 2
+
+-- the day on which a completion at a stamp settles
+abbrev pub due_after : SettleRule → ℕ → ℕ
+due_after rule stamp = day_of stamp + settlement_days rule (day_of stamp)
 
 -- the day on which a completed trade settles (SE_CASH_DUE_DATE, Trade-Result)
-abbrev pub due_day : Trade → ℕ
-due_day t = day_of (moment_of t) + settlement_days
+abbrev pub due_day : SettleRule → Trade → ℕ
+due_day rule t = due_after rule (moment_of t)
 
 -- the cash trades among some trades
 abbrev pub cash_trades : List Trade → List Trade
 cash_trades done = filter (λ t. t.is_cash) done
 
--- the opening balance and the amounts of the account's cash trades (CA_BAL)
-unfoldable pub balance_of : List Account → List Trade → ℕ → ℤ
-balance_of accounts done account = opening_in accounts account +ℤ total_by (amount_of accounts) (cash_trades (of_account done account))
+-- what is posted to an account's cash: by a trade, or without one
+pub record Posting : Type 0 where
+  pub account : ℕ
+  pub trade : Option ℕ
+  pub stamp : ℕ
+  pub amount : ℤ
+  pub name : Text
+
+-- what a completed cash trade posts: the amount that it settles for, when it is completed
+abbrev pub posting_of_trade : List Account → Trade → Posting
+posting_of_trade accounts t = record { account = t.account; trade = Some t.id; stamp = moment_of t; amount = amount_of accounts t; name = t.cash_name }
+
+-- what a movement posts
+abbrev pub posting_of_movement : Movement → Posting
+posting_of_movement m = record { account = m.account; trade = None; stamp = m.stamp; amount = m.amount; name = m.name }
+
+-- the postings of completed cash trades, and those of movements
+abbrev pub postings : List Account → List Trade → List Movement → List Posting
+postings accounts done movements = map (posting_of_trade accounts) (cash_trades done) ++ map posting_of_movement movements
+
+-- postings by rising stamp
+abbrev pub in_turn : List Posting → List Posting
+in_turn posted = sort_by_key (λ p. p.stamp) posted
+
+-- the postings of a base
+abbrev pub postings_of : Base → List Posting
+postings_of base = postings base.accounts (completed base) base.movements
+
+-- of some postings, those to an account
+abbrev pub posted_to : List Posting → ℕ → List Posting
+posted_to posted account = filter (λ p. p.account == account) posted
+
+-- the opening balance and the amounts of the account's postings (CA_BAL)
+unfoldable pub balance_of : List Account → List Posting → ℕ → ℤ
+balance_of accounts posted account = opening_in accounts account +ℤ total_by (λ p. p.amount) (posted_to posted account)
 
 -- the worth of what an account holds, at the last prices
 unfoldable pub holdings_of : List Security → List Trade → ℕ → ℤ

@@ -1,31 +1,37 @@
 -- The form of a database's rows: limits, references, keys.
-use Rattle.std.specs.Prelude.{ℕ, ◌+◌, Bool, true, false, not, ◌&&◌, ◌||◌, ◌==◌, nat_le, if◌then◌else◌, List, [], ◌∷◌, map, filter, length, is_some, is_none, ℤ, nat_abs, codes, bytes_eq}
+use Rattle.std.specs.Prelude.{ℕ, Bool, true, false, not, ◌&&◌, ◌||◌, ◌==◌, nat_le, if◌then◌else◌, List, [], ◌∷◌, map, filter, length, is_some, is_none, ℤ, pos, nat_abs, int_lt, codes, bytes_eq, flat_map, option_to_list}
 use Rattle.std.specs.List.{list_any, list_all, range_with_len}
 use Rattle.std.specs.Option.{option_map_or}
 use Rattle.std.specs.Str.{is_utf8}
 use Rattle.brk_money.specs.Spelling.{Text}
-use Rattle.brk_money.specs.Moments.{day_of, last_day, last_stamp}
+use Rattle.brk_money.specs.Moments.{last_day, last_stamp}
 use Rattle.brk_money.specs.Kinds.{same_status}
 use Rattle.brk_money.specs.declared.status.Status.TheVariants.{Completed}
-use Rattle.brk_model.specs.Limits.{greatest_qty, greatest_price, greatest_charge, greatest_rate, greatest_tax_rate, greatest_amount, greatest_summary, greatest_id, most_accounts}
+use Rattle.brk_model.specs.Limits.{greatest_price, greatest_charge, greatest_rate, greatest_tax_rate, greatest_amount, greatest_id, greatest_move_id, most_accounts}
+use Rattle.brk_model.specs.Lists.{all_distinct}
+use Rattle.brk_model.specs.Schemas.{Schema}
 use Rattle.brk_model.specs.Records.{Customer, Permission, Charge, Band, TaxRate, CustomerTax, Kept}
 use Rattle.brk_model.specs.Base.{rates_of}
-use Rattle.brk_model.specs.Tables.{Tables, BrokerRow, AccountRow, SecurityRow, LastTradeRow, TradeRow, HistoryRow, RequestRow, HoldingRow, SummaryRow, HoldingHistoryRow, SettlementRow, CashRow}
-use Rattle.brk_model.specs.Derived.{settlement_days}
+use Rattle.brk_model.specs.Tables.{Tables, BrokerRow, AccountRow, SecurityRow, LastTradeRow, TradeRow, HistoryRow, RequestRow, HoldingRow, SummaryRow, HoldingHistoryRow, SettlementRow, CashRow, MoveRow}
+use Rattle.brk_model.specs.Derived.{due_after}
 use Rattle.brk_model.specs.Results.{cash_text}
 use Rattle.brk_model.specs.Tests.{bands_meet}
 use Rattle.brk_model.specs.Forms.{is_name, is_tax_id, is_symbol, is_exchange, is_acl, is_batch_name}
 use Rattle.brk_model.specs.Joins.{history_in, trade_in, security_in, account_in}
 use Rattle.brk_model.specs.Adopted.{base_of, trade_of_row}
-use Rattle.brk_model.specs.Keys.{KeyPart, key_before, kept_key, broker_key, customer_key, account_key, permission_key, security_key, last_trade_key, charge_key, band_key, tax_rate_key, customer_tax_key, trade_key, history_key, request_key, holding_key, summary_key, holding_history_key, settlement_key, cash_key}
+use Rattle.brk_model.specs.Keys.{KeyPart, key_before, kept_key, broker_key, customer_key, account_key, permission_key, security_key, last_trade_key, charge_key, band_key, tax_rate_key, customer_tax_key, trade_key, history_key, request_key, holding_key, summary_key, holding_history_key, settlement_key, cash_key, move_key}
 
 -- an id
 abbrev pub is_id : ℕ → Bool
 is_id n = nat_le 1 n && nat_le n greatest_id
 
--- a quantity
-abbrev pub is_qty : ℕ → Bool
-is_qty n = nat_le 1 n && nat_le n greatest_qty
+-- the number of a cash row
+abbrev pub is_move_id : ℕ → Bool
+is_move_id n = nat_le 1 n && nat_le n greatest_move_id
+
+-- a quantity within the limit of a schema
+abbrev pub is_qty : Schema → ℕ → Bool
+is_qty schema n = nat_le 1 n && nat_le n schema.greatest_qty
 
 -- a price
 abbrev pub is_price : ℕ → Bool
@@ -98,8 +104,8 @@ abbrev pub charge_form : Charge → Bool
 charge_form c = is_tier c.tier && nat_le c.amount greatest_charge
 
 -- the columns of COMMISSION_RATE have their forms, and its bounds are in order
-abbrev pub band_form : Band → Bool
-band_form b = is_tier b.tier && is_exchange b.exchange && is_qty b.from_qty && is_qty b.to_qty && nat_le b.from_qty b.to_qty && nat_le b.rate greatest_rate
+abbrev pub band_form : Schema → Band → Bool
+band_form schema b = is_tier b.tier && is_exchange b.exchange && is_qty schema b.from_qty && is_qty schema b.to_qty && nat_le b.from_qty b.to_qty && nat_le b.rate greatest_rate
 
 -- the columns of TAXRATE have their forms
 abbrev pub tax_rate_form : TaxRate → Bool
@@ -115,26 +121,26 @@ price_form t row =
     if list_any (λ h. same_status h.status Completed) (history_in t row.id) then option_map_or is_price row.price false else is_none row.price
 
 -- the columns of TRADE have their forms, and what a row names is there
-abbrev pub trade_form : Tables → TradeRow → Bool
-trade_form t row =
-    is_id row.id && is_stamp t row.stamp && has_security t row.symbol && is_qty row.qty && is_price row.bid && has_account t row.account && price_form t row
+abbrev pub trade_form : Schema → Tables → TradeRow → Bool
+trade_form schema t row =
+    is_id row.id && is_stamp t row.stamp && has_security t row.symbol && is_qty schema row.qty && is_price row.bid && has_account t row.account && price_form t row
     && nat_le row.charge greatest_charge && nat_le row.commission greatest_amount && nat_le row.tax greatest_amount
 
 -- the columns of TRADE_HISTORY have their forms: a completion leaves its due day within the calendar
 abbrev pub history_form : Tables → HistoryRow → Bool
-history_form t h = has_trade t h.trade && is_stamp t h.stamp && (not (same_status h.status Completed) || nat_le (day_of h.stamp + settlement_days) last_day)
+history_form t h = has_trade t h.trade && is_stamp t h.stamp && (not (same_status h.status Completed) || nat_le (due_after t.rule h.stamp) last_day)
 
 -- the columns of TRADE_REQUEST have their forms, and what a row names is there
-abbrev pub request_form : Tables → RequestRow → Bool
-request_form t r = has_trade t r.trade && has_security t r.symbol && is_qty r.qty && is_price r.bid && has_broker t r.broker
+abbrev pub request_form : Schema → Tables → RequestRow → Bool
+request_form schema t r = has_trade t r.trade && has_security t r.symbol && is_qty schema r.qty && is_price r.bid && has_broker t r.broker
 
 -- the columns of HOLDING have their forms, and what a row names is there
 abbrev pub holding_form : Tables → HoldingRow → Bool
 holding_form t h = has_trade t h.trade && has_account t h.account && has_security t h.symbol && is_stamp t h.stamp && is_price h.price
 
 -- the columns of HOLDING_SUMMARY have their forms, and what a row names is there
-abbrev pub summary_form : Tables → SummaryRow → Bool
-summary_form t s = has_account t s.account && has_security t s.symbol && nat_le (nat_abs s.qty) greatest_summary
+abbrev pub summary_form : Schema → Tables → SummaryRow → Bool
+summary_form schema t s = has_account t s.account && has_security t s.symbol && nat_le (nat_abs s.qty) schema.greatest_summary
 
 -- the columns of HOLDING_HISTORY have their forms, and what a row names is there
 abbrev pub holding_history_form : Tables → HoldingHistoryRow → Bool
@@ -158,6 +164,27 @@ is_cash_name t name row =
 -- the columns of CASH_TRANSACTION have their forms: its name is one of the two of its trade
 abbrev pub cash_form : Tables → CashRow → Bool
 cash_form t c = option_map_or (is_cash_name t c.name) (trade_in t c.trade) false && is_stamp t c.stamp && is_amount c.amount
+
+-- a movement is a deposit of an amount above 0, or a withdrawal of one below 0
+abbrev pub is_movement : Text → ℤ → Bool
+is_movement name amount = (bytes_eq name (codes "Deposit") && int_lt (pos 0) amount) || (bytes_eq name (codes "Withdrawal") && int_lt amount (pos 0))
+
+-- the row of a trade has one of its two names
+abbrev pub is_cash_of_trade : Tables → MoveRow → ℕ → Bool
+is_cash_of_trade t r trade = option_map_or (is_cash_name t r.name) (trade_in t trade) false
+
+-- the columns of CASH_MOVE have their forms, and what a row names is there
+abbrev pub move_form : Tables → MoveRow → Bool
+move_form t r =
+    is_move_id r.id && has_account t r.account && option_map_or (is_cash_of_trade t r) r.trade (is_movement r.name r.amount) && is_stamp t r.stamp && is_amount r.amount
+
+-- the trades of cash rows
+abbrev pub trades_moved : List MoveRow → List ℕ
+trades_moved rows = flat_map (λ r. option_to_list r.trade) rows
+
+-- the tables that a schema lacks have no rows
+abbrev pub fits_schema : Schema → Tables → Bool
+fits_schema schema t = (schema.has_moves || (length t.moves == 0)) && (schema.has_rule || is_none t.rule)
 
 -- no two bands of a list share a quantity
 abbrev pub no_overlap : List Band → Bool
@@ -189,15 +216,16 @@ has_keys t =
     && rises band_key t.bands && rises tax_rate_key t.tax_rates && rises customer_tax_key t.customer_taxes && rises trade_key t.trades
     && rises history_key t.history && rises request_key t.requests && rises holding_key t.holdings && rises summary_key t.summaries
     && rises holding_history_key t.holding_history && rises settlement_key t.settlements && rises cash_key t.cash
+    && rises move_key t.moves
 
 -- no tax id is of two customers
 abbrev pub one_tax_id_each : List Customer → Bool
 one_tax_id_each [] = true
 one_tax_id_each (c ∷ customers) = not (list_any (λ d. bytes_eq d.tax_id c.tax_id) customers) && one_tax_id_each customers
 
--- each column holds a value of its form, what a row names is there, and no key stands twice
-unfoldable pub has_form : Tables → Bool
-has_form t =
+-- each column holds a value of its form, within the limits of a schema, what a row names is there, and no key stands twice
+unfoldable pub has_form : Schema → Tables → Bool
+has_form schema t =
     option_map_or (λ last. nat_le last last_stamp) t.last true
     && has_keys t
     && one_tax_id_each t.customers
@@ -209,19 +237,23 @@ has_form t =
     && list_all (security_form t) t.securities
     && list_all (last_trade_form t) t.last_trades
     && list_all charge_form t.charges
-    && list_all band_form t.bands && no_overlap t.bands
+    && list_all (band_form schema) t.bands && no_overlap t.bands
     && list_all tax_rate_form t.tax_rates
     && list_all (customer_tax_form t) t.customer_taxes
-    && list_all (trade_form t) t.trades && same_numbers (map (λ row. row.id) t.trades) (range_with_len 1 (length t.trades))
+    && list_all (trade_form schema t) t.trades && same_numbers (map (λ row. row.id) t.trades) (range_with_len 1 (length t.trades))
     && list_all (history_form t) t.history
-    && list_all (request_form t) t.requests
+    && list_all (request_form schema t) t.requests
     && list_all (holding_form t) t.holdings
-    && list_all (summary_form t) t.summaries
+    && list_all (summary_form schema t) t.summaries
     && list_all (holding_history_form t) t.holding_history
     && list_all (settlement_form t) t.settlements
     && list_all (cash_form t) t.cash
+    && list_all (move_form t) t.moves && all_distinct (trades_moved t.moves) && nat_le (length (filter (λ r. is_none r.trade) t.moves)) greatest_id
+    && option_map_or (λ day. nat_le day last_day) t.rule true
+    && fits_schema schema t
 
--- the texts that may be any are UTF-8: K_ROW, K_LINE, T_EXEC_NAME and CT_NAME. Rows in types cannot say otherwise, bytes of a database can
+-- the texts that may be any are UTF-8: K_ROW, K_LINE, T_EXEC_NAME, CT_NAME and CM_NAME. Rows in types cannot say otherwise, bytes of a database can
 abbrev pub has_texts : Tables → Bool
 has_texts t =
     list_all (λ k. is_utf8 k.row_text && is_utf8 k.line) t.kept && list_all (λ r. is_utf8 r.executor) t.trades && list_all (λ r. is_utf8 r.name) t.cash
+    && list_all (λ r. is_utf8 r.name) t.moves

@@ -4,8 +4,8 @@ use Rattle.std.specs.List.{list_all}
 use Rattle.std.specs.Option.{option_and_then}
 use Rattle.std.specs.Str.{is_utf8}
 use Rattle.std.specs.Char.{is_control, is_ascii_digit, is_ascii_uppercase, is_ascii_alphanumeric}
-use Rattle.brk_money.specs.Spelling.{Text, number_of, cents_of}
-use Rattle.brk_money.specs.Moments.{last_stamp}
+use Rattle.brk_money.specs.Spelling.{Text, number_of, cents_of, day_of_text}
+use Rattle.brk_money.specs.Moments.{last_day, last_stamp}
 use Rattle.brk_money.specs.Kinds.{type_code, tax_status_of}
 use Rattle.brk_money.specs.declared.order_type.OrderType.{OrderType}
 use Rattle.brk_money.specs.declared.order_type.OrderType.TheVariants as asked
@@ -87,6 +87,14 @@ read_price text = read_if (λ n. nat_le 1 n && nat_le n greatest_price) BadPrice
 -- what an order costs
 abbrev pub read_charge_amount : Text → Read ℕ
 read_charge_amount text = read_if (λ n. nat_le n greatest_charge) BadText (unsigned (cents_of text))
+
+-- an amount that is moved, from one cent
+abbrev pub read_amount : Text → Read ℕ
+read_amount text = read_if (λ n. nat_le 1 n && nat_le n greatest_amount) BadText (unsigned (cents_of text))
+
+-- a day of the calendar
+abbrev pub read_day : Text → Read ℕ
+read_day text = read_if (λ day. nat_le day last_day) BadText (day_of_text text)
 
 -- an opening balance, either way
 abbrev pub read_opening : Text → Read ℤ

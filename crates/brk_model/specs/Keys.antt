@@ -4,7 +4,7 @@ use Rattle.brk_money.specs.Spelling.{Text}
 use Rattle.brk_money.specs.Kinds.{type_code, status_code}
 use Rattle.brk_model.specs.Lists.{insert_by, sort_by, text_before}
 use Rattle.brk_model.specs.Records.{Customer, Permission, Charge, Band, TaxRate, CustomerTax, Kept}
-use Rattle.brk_model.specs.Tables.{BrokerRow, AccountRow, SecurityRow, LastTradeRow, TradeRow, HistoryRow, RequestRow, HoldingRow, SummaryRow, HoldingHistoryRow, SettlementRow, CashRow}
+use Rattle.brk_model.specs.Tables.{BrokerRow, AccountRow, SecurityRow, LastTradeRow, TradeRow, HistoryRow, RequestRow, HoldingRow, SummaryRow, HoldingHistoryRow, SettlementRow, CashRow, MoveRow}
 
 -- a part of a key: a number or a text
 pub data KeyPart : Type 0 where
@@ -113,3 +113,7 @@ settlement_key r = number r.trade ∷ []
 -- the key of CASH_TRANSACTION
 abbrev pub cash_key : CashRow → List KeyPart
 cash_key r = number r.trade ∷ []
+
+-- the key of CASH_MOVE
+abbrev pub move_key : MoveRow → List KeyPart
+move_key r = number r.id ∷ []

@@ -1,5 +1,6 @@
 pub mod Lists
 pub mod Limits
+pub mod Schemas
 pub mod Records
 pub mod Base
 pub mod Shares
@@ -13,6 +14,7 @@ pub mod Orders
 pub mod Feed
 pub mod Results
 pub mod Updates
+pub mod Movements
 pub mod Tests
 pub mod Step
 pub mod Rows
@@ -39,3 +41,4 @@ pub mod Adopted
 pub mod Form
 pub mod Ways
 pub mod Audit
+pub mod Moved

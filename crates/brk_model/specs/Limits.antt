@@ -6,6 +6,7 @@ use Rattle.brk_money.specs.declared.rate.TheConstants.Rate
 use Rattle.brk_money.specs.declared.tax_rate.TheConstants.TaxRate
 use Rattle.brk_money.specs.declared.cents.TheConstants.Cents
 use Rattle.brk_money.specs.declared.id.TheConstants.Id
+use Rattle.brk_money.specs.declared.move_id.TheConstants.MoveId
 
 -- the greatest quantity
 abbrev pub greatest_qty : ℕ
@@ -33,11 +34,15 @@ greatest_amount = Cents.GREATEST
 
 -- the greatest holding summary, either way
 abbrev pub greatest_summary : ℕ
-greatest_summary = 999999999
+greatest_summary = 9999999999
 
--- the greatest id, and the greatest number of trades
+-- the greatest id, the greatest number of trades, and that of movements
 abbrev pub greatest_id : ℕ
 greatest_id = Id.GREATEST
+
+-- the greatest number of a cash row
+abbrev pub greatest_move_id : ℕ
+greatest_move_id = MoveId.GREATEST
 
 -- how many accounts a customer may have
 abbrev pub most_accounts : ℕ

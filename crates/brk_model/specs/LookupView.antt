@@ -1,12 +1,12 @@
 -- The four views of Trade-Lookup, which lends its name alone.
-use Rattle.std.specs.Prelude.{ℕ, Bool, ◌&&◌, ◌==◌, nat_le, nat_lt, List, [], ◌∷◌, ◌++◌, map, filter, flat_map, take, codes, decimal}
+use Rattle.std.specs.Prelude.{ℕ, Bool, false, ◌&&◌, ◌==◌, nat_le, nat_lt, List, [], ◌∷◌, ◌++◌, map, filter, flat_map, take, codes, decimal}
 use Rattle.std.specs.List.{list_any}
 use Rattle.std.specs.Option.{option_map_or}
 use Rattle.std.specs.Fmt.{signed_decimal}
 use Rattle.brk_money.specs.Spelling.{Text, cents_text, day_text}
 use Rattle.brk_money.specs.Kinds.{type_code, status_code}
 use Rattle.brk_model.specs.Lists.{sort_by, rising}
-use Rattle.brk_model.specs.Tables.{Tables, TradeRow, HoldingHistoryRow, SettlementRow, CashRow}
+use Rattle.brk_model.specs.Tables.{Tables, TradeRow, HoldingHistoryRow, SettlementRow, MoveRow}
 use Rattle.brk_model.specs.Rows.{price_text, cash_word, end_word}
 use Rattle.brk_model.specs.Queries.{View}
 use Rattle.brk_model.specs.Joins.{trade_in, trades_in, history_in, oldest_first_rows}
@@ -16,7 +16,7 @@ abbrev pub settlement_record : SettlementRow → List Text
 settlement_record s = codes "settlement" ∷ s.cash_type ∷ day_text s.due_day ∷ cents_text s.amount ∷ []
 
 -- a cash row
-abbrev pub cash_record : CashRow → List Text
+abbrev pub cash_record : MoveRow → List Text
 cash_record c = codes "cash" ∷ decimal c.stamp ∷ cents_text c.amount ∷ c.name ∷ []
 
 -- a trade in fifteen fields
@@ -25,12 +25,16 @@ trade_record t =
     codes "trade" ∷ decimal t.id ∷ decimal t.stamp ∷ status_code t.status ∷ type_code t.kind ∷ t.symbol ∷ decimal t.qty ∷ price_text t.bid ∷ t.executor
     ∷ option_map_or price_text t.price [] ∷ price_text t.charge ∷ price_text t.commission ∷ price_text t.tax ∷ cash_word t.is_cash ∷ end_word t.is_lifo ∷ []
 
+-- whether a cash row is of this trade
+abbrev pub is_cash_of : ℕ → MoveRow → Bool
+is_cash_of trade row = option_map_or (λ id. id == trade) row.trade false
+
 -- a trade, its settlement and its cash row where they are there, and its statuses, oldest first
 abbrev pub lookup_records : Tables → TradeRow → View
 lookup_records tables t =
     trade_record t
     ∷ map settlement_record (filter (λ s. s.trade == t.id) tables.settlements)
-    ++ map cash_record (filter (λ c. c.trade == t.id) tables.cash)
+    ++ map cash_record (filter (is_cash_of t.id) tables.moves)
     ++ map (λ h. codes "history" ∷ decimal h.stamp ∷ status_code h.status ∷ []) (sort_by (λ a b. nat_lt a.stamp b.stamp) (history_in tables t.id))
 
 -- the first twenty of the trades that pass a test, oldest first

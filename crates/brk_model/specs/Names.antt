@@ -1,6 +1,6 @@
 -- What a record names is there, and trades are numbered in turn.
 use Rattle.std.specs.Prelude.{◌≡◌, ⊤, ℕ, ◌+◌, true, List, [], ◌∷◌, is_some}
-use Rattle.brk_model.specs.Records.{Account, Trade}
+use Rattle.brk_model.specs.Records.{Account, Trade, Movement}
 use Rattle.brk_model.specs.Base.{Base, broker_with, customer_with, account_with, security_with}
 
 -- the broker of an account is there
@@ -18,6 +18,10 @@ KnowsAccount base t = is_some (account_with base t.account) ≡ true
 -- the security of a trade is there
 abbrev pub KnowsSecurity : Base → Trade → Type 0
 KnowsSecurity base t = is_some (security_with base t.symbol) ≡ true
+
+-- the account of a movement is there
+abbrev pub KnowsHolder : Base → Movement → Type 0
+KnowsHolder base m = is_some (account_with base m.account) ≡ true
 
 -- the ids of trades rise by 1 from a number on
 abbrev pub NumberedFrom : ℕ → List Trade → Type 0

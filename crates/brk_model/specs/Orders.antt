@@ -12,7 +12,7 @@ use Rattle.brk_money.specs.declared.trade_type.TradeType.{TradeType}
 use Rattle.brk_model.specs.Records.{Customer, Permission, Executor, Trade}
 use Rattle.brk_model.specs.Base.{Base, completed, customer_with, charge_with, band_with, customer_of, tier_of, exchange_of, last_price, rates_of, is_taxed}
 use Rattle.brk_model.specs.Shares.{Share, Deal, buy_value, sell_value, gain}
-use Rattle.brk_model.specs.Derived.{shares_in, balance_of, holdings_of}
+use Rattle.brk_model.specs.Derived.{shares_in, postings_of, balance_of, holdings_of}
 use Rattle.brk_model.specs.Commands.{Order, Estimate, Reply, Ordered}
 
 -- the executor has the three names of a person
@@ -49,7 +49,7 @@ deal_at base o =
 
 -- an account's balance and the worth of what it holds
 abbrev pub assets_of : Base → ℕ → ℤ
-assets_of base account = balance_of base.accounts (completed base) account +ℤ holdings_of base.securities (completed base) account
+assets_of base account = balance_of base.accounts (postings_of base) account +ℤ holdings_of base.securities (completed base) account
 
 -- the numbers of an order, upon the shares of its account
 abbrev pub estimate_upon : List Share → Base → Order → Estimate

@@ -3,8 +3,8 @@ use Rattle.std.specs.Prelude.{ℕ, nat_le, if◌then◌else◌, List, [], ◌∷
 use Rattle.brk_money.specs.Spelling.{Text}
 use Rattle.brk_money.specs.declared.refusal.Refusal.TheVariants.{BadText, BadQty}
 use Rattle.brk_model.specs.Records.{Broker, Customer, Account, Permission, Charge, Band, TaxRate, CustomerTax, Executor}
-use Rattle.brk_model.specs.Forms.{Read, ◌⊛◌, read_id, read_stamp, read_qty, read_price, read_charge_amount, read_opening, read_tax_status, read_type, read_cash, read_end, read_order_type, read_ids, some_of, then_read, read_name, read_tax_id, read_symbol, read_exchange, read_acl, read_tier, read_commission_rate, read_rate_of_tax}
-use Rattle.brk_model.specs.Commands.{Command, Listing, Order, Tick, AddBroker, AddCustomer, AddAccount, AddPermission, AddSecurity, AddCharge, AddBand, AddTaxRate, AddCustomerTax, PlaceOrder, FeedTicks, CancelTrade, CompleteTrade, ChangeExecutors, ChangeCashTypes, ChangeCashNames}
+use Rattle.brk_model.specs.Forms.{Read, ◌⊛◌, read_id, read_stamp, read_qty, read_price, read_charge_amount, read_amount, read_day, read_opening, read_tax_status, read_type, read_cash, read_end, read_order_type, read_ids, some_of, then_read, read_name, read_tax_id, read_symbol, read_exchange, read_acl, read_tier, read_commission_rate, read_rate_of_tax}
+use Rattle.brk_model.specs.Commands.{Command, Listing, Order, Tick, AddBroker, AddCustomer, AddAccount, AddPermission, AddSecurity, AddCharge, AddBand, AddTaxRate, AddCustomerTax, PlaceOrder, FeedTicks, CancelTrade, CompleteTrade, ChangeExecutors, ChangeCashTypes, ChangeCashNames, DepositCash, WithdrawCash, SetOneDay}
 
 -- ---- the fields after each kind
 
@@ -116,6 +116,16 @@ abbrev pub read_uptext : List Text → Read Command
 read_uptext (symbol ∷ first ∷ last ∷ []) = Ok (λ s f l. ChangeCashNames s f l) ⊛ read_symbol symbol ⊛ read_stamp first ⊛ read_stamp last
 read_uptext _ = Err BadText
 
+-- an account and an amount
+abbrev pub read_movement : (ℕ → ℕ → Command) → List Text → Read Command
+read_movement moved (account ∷ amount ∷ []) = Ok (λ a n. moved a n) ⊛ read_id account ⊛ read_amount amount
+read_movement moved _ = Err BadText
+
+-- the first day whose completions settle after one day
+abbrev pub read_oneday : List Text → Read ℕ
+read_oneday (day ∷ []) = read_day day
+read_oneday _ = Err BadText
+
 -- ---- the kinds
 
 -- a kind's word, and how the fields after it are read
@@ -153,9 +163,14 @@ result_readers = (codes "result", read_result) ∷ []
 abbrev pub update_readers : List (Reader Command)
 update_readers = (codes "upname", read_as ChangeExecutors read_ids) ∷ (codes "upcash", read_upcash) ∷ (codes "uptext", read_uptext) ∷ []
 
+-- the kinds of movements of cash, and of the settlement day
+abbrev pub movement_readers : List (Reader Command)
+movement_readers =
+    (codes "deposit", read_movement (λ a n. DepositCash a n)) ∷ (codes "withdraw", read_movement (λ a n. WithdrawCash a n)) ∷ (codes "oneday", read_as SetOneDay read_oneday) ∷ []
+
 -- all kinds of rows
 abbrev pub readers : List (Reader Command)
-readers = reference_readers ++ order_readers ++ result_readers ++ update_readers
+readers = reference_readers ++ order_readers ++ result_readers ++ update_readers ++ movement_readers
 
 -- the fields read by the reader that was found
 abbrev pub read_by : {A : Type 0} → Option (Reader A) → List Text → Read A

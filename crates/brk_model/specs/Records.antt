@@ -96,6 +96,17 @@ pub record Trade : Type 0 where
   pub cash_type : Text
   pub cash_name : Text
 
+-- cash that came into an account or left it without a trade; its amount is below 0 where it left
+pub record Movement : Type 0 where
+  pub account : ℕ
+  pub stamp : ℕ
+  pub amount : ℤ
+  pub name : Text
+
+-- the first day on which completions settle after one day, where one is set
+abbrev pub SettleRule : Type 0
+SettleRule = Option ℕ
+
 -- the name of a row of a batch
 pub record Key : Type 0 where
   pub batch : Text

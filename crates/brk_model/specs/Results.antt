@@ -6,7 +6,7 @@ use Rattle.brk_money.specs.declared.status.Status.TheVariants.{Completed}
 use Rattle.brk_model.specs.Records.{Trade}
 use Rattle.brk_model.specs.Base.{Base, completed, marked, with_trades, security_name}
 use Rattle.brk_model.specs.Shares.{Deal, buy_value, sell_value}
-use Rattle.brk_model.specs.Derived.{shares_in, amount_of, due_day, balance_of}
+use Rattle.brk_model.specs.Derived.{shares_in, amount_of, due_day, postings_of, balance_of}
 use Rattle.brk_model.specs.Orders.{commission_of, tax_of}
 use Rattle.brk_model.specs.Commands.{Completion}
 
@@ -46,10 +46,10 @@ completion_after base after d t = record {
   commission = t.commission;
   tax = t.tax;
   amount = amount_of after.accounts t;
-  due_day = due_day t;
+  due_day = due_day after.rule t;
   buy_value = buy_value d (shares_in (completed base) t.account t.symbol);
   sell_value = sell_value d (shares_in (completed base) t.account t.symbol);
-  balance = balance_of after.accounts (completed after) t.account;
+  balance = balance_of after.accounts (postings_of after) t.account;
 }
 
 -- the numbers that are told of a result

@@ -5,7 +5,7 @@ use Rattle.std.specs.Option.{option_map_or}
 use Rattle.brk_money.specs.Spelling.{Text, cents_text, day_text}
 use Rattle.brk_money.specs.Kinds.{type_code, status_code, tax_status_number}
 use Rattle.brk_money.specs.OrderTypes.{kind_of, price_asked}
-use Rattle.brk_model.specs.Commands.{Command, Order, Tick, Estimate, Completion, Reply, Booked, Ordered, Ticked, CanceledTrade, CompletedTrade, Changed, AddBroker, AddCustomer, AddAccount, AddPermission, AddSecurity, AddCharge, AddBand, AddTaxRate, AddCustomerTax, PlaceOrder, FeedTicks, CancelTrade, CompleteTrade, ChangeExecutors, ChangeCashTypes, ChangeCashNames}
+use Rattle.brk_model.specs.Commands.{Command, Order, Tick, Estimate, Completion, Reply, Booked, Ordered, Ticked, CanceledTrade, CompletedTrade, Changed, MovedCash, AddBroker, AddCustomer, AddAccount, AddPermission, AddSecurity, AddCharge, AddBand, AddTaxRate, AddCustomerTax, PlaceOrder, FeedTicks, CancelTrade, CompleteTrade, ChangeExecutors, ChangeCashTypes, ChangeCashNames, DepositCash, WithdrawCash, SetOneDay}
 
 -- an amount that is not below 0
 abbrev pub price_text : ℕ → Text
@@ -47,6 +47,9 @@ row_fields (CompleteTrade id price) = codes "result" ∷ decimal id ∷ price_te
 row_fields (ChangeExecutors ids) = codes "upname" ∷ map decimal ids
 row_fields (ChangeCashTypes account first last) = codes "upcash" ∷ decimal account ∷ decimal first ∷ decimal last ∷ []
 row_fields (ChangeCashNames symbol first last) = codes "uptext" ∷ symbol ∷ decimal first ∷ decimal last ∷ []
+row_fields (DepositCash account amount) = codes "deposit" ∷ decimal account ∷ price_text amount ∷ []
+row_fields (WithdrawCash account amount) = codes "withdraw" ∷ decimal account ∷ price_text amount ∷ []
+row_fields (SetOneDay day) = codes "oneday" ∷ day_text day ∷ []
 
 -- the text that is kept with a key, its fields joined by byte 31
 abbrev pub row_text : Command → Text
@@ -70,6 +73,7 @@ reply_fields (Ticked stamp triggered) = decimal stamp ∷ map decimal triggered
 reply_fields (CanceledTrade stamp) = decimal stamp ∷ codes "CNCL" ∷ []
 reply_fields (CompletedTrade stamp c) = decimal stamp ∷ completion_fields c
 reply_fields (Changed stamp count) = decimal stamp ∷ decimal count ∷ []
+reply_fields (MovedCash stamp move balance) = decimal stamp ∷ decimal move ∷ cents_text balance ∷ []
 
 -- a line of fields, joined by commas
 abbrev pub line_of : List Text → Text

@@ -1,7 +1,8 @@
 -- The tables with their rows by rising key, as a store reads them. Two that hold the same rows are then the same lists.
 use Rattle.brk_model.specs.Base.{Base}
-use Rattle.brk_model.specs.Tables.{Tables, tables_of}
-use Rattle.brk_model.specs.Keys.{by_key, kept_key, broker_key, customer_key, account_key, permission_key, security_key, last_trade_key, charge_key, band_key, tax_rate_key, customer_tax_key, trade_key, history_key, request_key, holding_key, summary_key, holding_history_key, settlement_key, cash_key}
+use Rattle.brk_model.specs.Schemas.{Schema}
+use Rattle.brk_model.specs.Tables.{Tables, tables_at, tables_of}
+use Rattle.brk_model.specs.Keys.{by_key, kept_key, broker_key, customer_key, account_key, permission_key, security_key, last_trade_key, charge_key, band_key, tax_rate_key, customer_tax_key, trade_key, history_key, request_key, holding_key, summary_key, holding_history_key, settlement_key, cash_key, move_key}
 
 -- each table by rising key
 unfoldable pub sheets_of : Tables → Tables
@@ -26,8 +27,14 @@ sheets_of t = record {
   holding_history = by_key holding_history_key t.holding_history;
   settlements = by_key settlement_key t.settlements;
   cash = by_key cash_key t.cash;
+  moves = by_key move_key t.moves;
+  rule = t.rule;
 }
 
--- the tables of a base, as a store reads them
+-- the tables of a base in a schema, as a store reads them
+abbrev pub sheets_at : Schema → Base → Tables
+sheets_at schema base = sheets_of (tables_at schema base)
+
+-- the same in the schema that a desk keeps
 abbrev pub sheets : Base → Tables
 sheets base = sheets_of (tables_of base)

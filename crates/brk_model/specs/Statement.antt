@@ -1,15 +1,14 @@
 -- The text of an account's statement over the tables.
-use Rattle.std.specs.Prelude.{ℕ, ◌-◌, false, ◌&&◌, ◌||◌, ◌==◌, nat_le, nat_lt, if◌then◌else◌, List, [], ◌∷◌, ◌++◌, map, flat_map, filter, length, replicate, Option, Some, None, Result, Ok, Err, ℤ, ◌+ℤ◌, codes, decimal, bytes_eq}
-use Rattle.std.specs.Option.{option_map_or}
+use Rattle.std.specs.Prelude.{ℕ, ◌-◌, ◌&&◌, ◌||◌, ◌==◌, nat_le, nat_lt, if◌then◌else◌, List, [], ◌∷◌, ◌++◌, map, flat_map, filter, length, replicate, Option, Some, None, Result, Ok, Err, ℤ, ◌+ℤ◌, codes, decimal, bytes_eq}
 use Rattle.std.specs.Fmt.{signed_decimal}
 use Rattle.brk_money.specs.Spelling.{Text, cents_text, day_text}
 use Rattle.brk_money.specs.Moments.{day_of}
 use Rattle.brk_money.specs.declared.refusal.Refusal.{Refusal}
 use Rattle.brk_money.specs.declared.refusal.Refusal.TheVariants.{BadText, NoAccount}
-use Rattle.brk_model.specs.Lists.{sort_by, total_by, text_before}
-use Rattle.brk_model.specs.Tables.{Tables, AccountRow, HoldingRow, CashRow}
+use Rattle.brk_model.specs.Lists.{sort_by, sort_by_key, total_by, text_before}
+use Rattle.brk_model.specs.Tables.{Tables, AccountRow, HoldingRow, MoveRow}
 use Rattle.brk_model.specs.Rows.{price_text}
-use Rattle.brk_model.specs.Joins.{account_in, trade_in}
+use Rattle.brk_model.specs.Joins.{account_in}
 use Rattle.brk_model.specs.PositionView.{asset_total}
 
 -- a text in so many places, to the left
@@ -25,20 +24,19 @@ abbrev pub amount_line : Text → ℤ → Text
 amount_line word amount = at_left 10 word ++ 32 ∷ at_right 22 (cents_text amount)
 
 -- the account's cash rows, by rising stamp
-abbrev pub cash_in : Tables → ℕ → List CashRow
-cash_in tables account =
-    sort_by (λ a b. nat_lt a.stamp b.stamp) (filter (λ row. option_map_or (λ t. t.account == account) (trade_in tables row.trade) false) tables.cash)
+abbrev pub cash_in : Tables → ℕ → List MoveRow
+cash_in tables account = sort_by_key (λ row. row.stamp) (filter (λ row. row.account == account) tables.moves)
 
 -- the cash rows of earlier days
-abbrev pub cash_before : ℕ → List CashRow → List CashRow
+abbrev pub cash_before : ℕ → List MoveRow → List MoveRow
 cash_before from rows = filter (λ row. nat_lt (day_of row.stamp) from) rows
 
 -- the cash rows of the days
-abbrev pub cash_within : ℕ → ℕ → List CashRow → List CashRow
+abbrev pub cash_within : ℕ → ℕ → List MoveRow → List MoveRow
 cash_within from to rows = filter (λ row. nat_le from (day_of row.stamp) && nat_le (day_of row.stamp) to) rows
 
 -- the sum of cash rows
-abbrev pub cash_total : List CashRow → ℤ
+abbrev pub cash_total : List MoveRow → ℤ
 cash_total rows = total_by (λ row. row.amount) rows
 
 -- the account's lots, by symbol, then by the moment of opening
@@ -48,7 +46,7 @@ lots_in tables account =
     (filter (λ row. row.account == account) tables.holdings)
 
 -- the line of a cash row
-abbrev pub cash_line : CashRow → Text
+abbrev pub cash_line : MoveRow → Text
 cash_line row = day_text (day_of row.stamp) ++ 32 ∷ at_right 22 (cents_text row.amount) ++ 32 ∷ row.name
 
 -- the line of a lot
@@ -57,7 +55,7 @@ lot_line row =
     at_left 15 row.symbol ++ 32 ∷ at_right 13 (decimal row.trade) ++ 32 ∷ at_right 11 (signed_decimal row.qty) ++ 32 ∷ at_right 10 (price_text row.price)
 
 -- the lines of a statement
-abbrev pub statement_lines : Tables → AccountRow → ℕ → ℕ → List CashRow → List Text
+abbrev pub statement_lines : Tables → AccountRow → ℕ → ℕ → List MoveRow → List Text
 statement_lines tables a from to rows =
     (codes "Statement of account " ++ decimal a.id)
     ∷ a.name

@@ -9,8 +9,9 @@ use Rattle.brk_model.specs.Orders.{with_order, order_reply}
 use Rattle.brk_model.specs.Feed.{with_ticks, triggered_by}
 use Rattle.brk_model.specs.Results.{with_result, completion}
 use Rattle.brk_model.specs.Updates.{chosen_of_account, chosen_of_symbol, with_executors, with_cash_types, with_cash_names}
+use Rattle.brk_model.specs.Movements.{deposit, withdrawal, with_movement, with_one_day, movement_reply}
 use Rattle.brk_model.specs.Tests.{next_stamp, refusal_of}
-use Rattle.brk_model.specs.Commands.{Command, Listing, Reply, Booked, Ticked, CanceledTrade, CompletedTrade, Changed, AddBroker, AddCustomer, AddAccount, AddPermission, AddSecurity, AddCharge, AddBand, AddTaxRate, AddCustomerTax, PlaceOrder, FeedTicks, CancelTrade, CompleteTrade, ChangeExecutors, ChangeCashTypes, ChangeCashNames}
+use Rattle.brk_model.specs.Commands.{Command, Listing, Reply, Booked, Ticked, CanceledTrade, CompletedTrade, Changed, AddBroker, AddCustomer, AddAccount, AddPermission, AddSecurity, AddCharge, AddBand, AddTaxRate, AddCustomerTax, PlaceOrder, FeedTicks, CancelTrade, CompleteTrade, ChangeExecutors, ChangeCashTypes, ChangeCashNames, DepositCash, WithdrawCash, SetOneDay}
 
 -- a security with its first price, no volume and the stamp
 abbrev pub listed : ℕ → Listing → Security
@@ -38,6 +39,9 @@ records_after base stamp (CompleteTrade id price) = with_result_of base stamp id
 records_after base stamp (ChangeExecutors ids) = with_executors ids base
 records_after base stamp (ChangeCashTypes account first last) = with_cash_types (chosen_of_account base account first last) base
 records_after base stamp (ChangeCashNames symbol first last) = with_cash_names (chosen_of_symbol base symbol first last) base
+records_after base stamp (DepositCash account amount) = with_movement base (deposit stamp account amount)
+records_after base stamp (WithdrawCash account amount) = with_movement base (withdrawal stamp account amount)
+records_after base stamp (SetOneDay day) = with_one_day base day
 
 -- what is told of it
 unfoldable pub reply_to : Base → ℕ → Command → Reply
@@ -57,6 +61,9 @@ reply_to base stamp (CompleteTrade id price) = option_map_or (λ t. CompletedTra
 reply_to base stamp (ChangeExecutors ids) = Changed stamp (length ids)
 reply_to base stamp (ChangeCashTypes account first last) = Changed stamp (length (chosen_of_account base account first last))
 reply_to base stamp (ChangeCashNames symbol first last) = Changed stamp (length (chosen_of_symbol base symbol first last))
+reply_to base stamp (DepositCash account amount) = movement_reply base (deposit stamp account amount)
+reply_to base stamp (WithdrawCash account amount) = movement_reply base (withdrawal stamp account amount)
+reply_to base stamp (SetOneDay day) = Booked stamp
 
 -- the base after an accepted command: its records, and its stamp as the last one
 abbrev pub base_after : Base → ℕ → Command → Base

@@ -1,5 +1,5 @@
 -- The tables: one list of rows for each, in a stated order.
-use Rattle.std.specs.Prelude.{ℕ, Bool, not, List, [], ◌∷◌, map, filter, flat_map, Option, None, ℤ, pos}
+use Rattle.std.specs.Prelude.{ℕ, ◌+◌, Bool, not, if◌then◌else◌, List, [], ◌∷◌, map, filter, flat_map, Option, None, ℤ, pos}
 use Rattle.std.specs.Option.{option_map_or}
 use Rattle.brk_money.specs.Spelling.{Text}
 use Rattle.brk_money.specs.declared.trade_type.TradeType.{TradeType}
@@ -7,10 +7,11 @@ use Rattle.brk_money.specs.declared.status.Status.{Status}
 use Rattle.brk_money.specs.declared.tax_status.TaxStatus.{TaxStatus}
 use Rattle.brk_money.specs.declared.status.Status.TheVariants.{Canceled}
 use Rattle.brk_model.specs.Lists.{is_zero}
-use Rattle.brk_model.specs.Records.{Broker, Customer, Account, Permission, Security, Charge, Band, TaxRate, CustomerTax, Trade, Kept}
+use Rattle.brk_model.specs.Records.{Broker, Customer, Account, Permission, Security, Charge, Band, TaxRate, CustomerTax, Trade, SettleRule, Kept}
 use Rattle.brk_model.specs.Base.{Base, last_mark, moment_of, broker_in, completed, price_of}
 use Rattle.brk_model.specs.Shares.{Share, Deal, Touch, is_change, lot_qty, shares_after, touch_by}
-use Rattle.brk_model.specs.Derived.{deals_in, shares_in, summary_of, amount_of, due_day, cash_trades, balance_of, trade_count_of, commissions_of, pending}
+use Rattle.brk_model.specs.Schemas.{Schema, third_schema}
+use Rattle.brk_model.specs.Derived.{Posting, deals_in, shares_in, summary_of, amount_of, due_day, cash_trades, postings, in_turn, balance_of, trade_count_of, commissions_of, pending}
 
 -- BROKER: B_ID, B_NAME, B_NUM_TRADES, B_COMM_TOTAL
 pub record BrokerRow : Type 0 where
@@ -112,7 +113,17 @@ pub record CashRow : Type 0 where
   pub amount : ℤ
   pub name : Text
 
--- all tables; last is D_LAST
+-- CASH_MOVE: CM_ID, CM_CA_ID, CM_T_ID, CM_DTS, CM_AMT, CM_NAME
+pub record MoveRow : Type 0 where
+  pub id : ℕ
+  pub account : ℕ
+  pub trade : Option ℕ
+  pub stamp : ℕ
+  pub amount : ℤ
+  pub name : Text
+
+-- all tables; last is D_LAST, and rule is SR_DAY of SETTLE_RULE, which has one row or none.
+-- Cash rows stand in one of two tables, by the schema: moves is empty in the first schema, and cash in each later one
 pub record Tables : Type 0 where
   pub last : Option ℕ
   pub kept : List Kept
@@ -134,6 +145,8 @@ pub record Tables : Type 0 where
   pub holding_history : List HoldingHistoryRow
   pub settlements : List SettlementRow
   pub cash : List CashRow
+  pub moves : List MoveRow
+  pub rule : SettleRule
 
 -- a broker with the number of completed trades and the sum of their commissions
 abbrev pub broker_row : List Account → List Trade → Broker → BrokerRow
@@ -141,9 +154,9 @@ broker_row accounts done b =
     record { id = b.id; name = b.name; trades = pos (trade_count_of accounts done b.id); commissions = commissions_of accounts done b.id }
 
 -- an account with its balance
-abbrev pub account_row : List Account → List Trade → Account → AccountRow
-account_row accounts done a =
-    record { id = a.id; customer = a.customer; broker = a.broker; name = a.name; tax_status = a.tax_status; opening = a.opening; balance = balance_of accounts done a.id }
+abbrev pub account_row : List Account → List Posting → Account → AccountRow
+account_row accounts posted a =
+    record { id = a.id; customer = a.customer; broker = a.broker; name = a.name; tax_status = a.tax_status; opening = a.opening; balance = balance_of accounts posted a.id }
 
 -- a security as it is listed
 abbrev pub security_row : Security → SecurityRow
@@ -222,25 +235,42 @@ summary_rows done account symbol =
     filter (λ row. not (is_zero row.qty)) (record { account = account; symbol = symbol; qty = summary_of done account symbol } ∷ [])
 
 -- what a completed trade settles for, and when
-abbrev pub settlement_row : List Account → Trade → SettlementRow
-settlement_row accounts t = record { trade = t.id; cash_type = t.cash_type; due_day = due_day t; amount = amount_of accounts t }
+abbrev pub settlement_row : List Account → SettleRule → Trade → SettlementRow
+settlement_row accounts rule t = record { trade = t.id; cash_type = t.cash_type; due_day = due_day rule t; amount = amount_of accounts t }
 
--- what a completed cash trade moved
+-- what a completed cash trade moved, in the first schema
 abbrev pub cash_row : List Account → Trade → CashRow
 cash_row accounts t = record { trade = t.id; stamp = moment_of t; amount = amount_of accounts t; name = t.cash_name }
 
+-- a posting with its number
+abbrev pub move_row : ℕ → Posting → MoveRow
+move_row id p = record { id = id; account = p.account; trade = p.trade; stamp = p.stamp; amount = p.amount; name = p.name }
+
+-- postings numbered in turn from a number on
+abbrev pub numbered : ℕ → List Posting → List MoveRow
+numbered n [] = []
+numbered n (p ∷ posted) = move_row n p ∷ numbered (n + 1) posted
+
+-- the postings by rising stamp, numbered from 1, in a schema that numbers them
+abbrev pub move_rows : Schema → List Posting → List MoveRow
+move_rows schema posted = if schema.has_moves then numbered 1 (in_turn posted) else []
+
+-- the cash rows of completed trades, in a schema that has no others
+abbrev pub cash_rows : Schema → List Account → List Trade → List CashRow
+cash_rows schema accounts done = if schema.has_moves then [] else map (cash_row accounts) (cash_trades done)
+
 -- the tables without rows, where nothing was accepted yet
 abbrev pub no_rows : Tables
-no_rows = record { last = None; kept = []; brokers = []; customers = []; accounts = []; permissions = []; securities = []; last_trades = []; charges = []; bands = []; tax_rates = []; customer_taxes = []; trades = []; history = []; requests = []; holdings = []; summaries = []; holding_history = []; settlements = []; cash = [] }
+no_rows = record { last = None; kept = []; brokers = []; customers = []; accounts = []; permissions = []; securities = []; last_trades = []; charges = []; bands = []; tax_rates = []; customer_taxes = []; trades = []; history = []; requests = []; holdings = []; summaries = []; holding_history = []; settlements = []; cash = []; moves = []; rule = None }
 
--- the rows of a base and those that follow from some completed trades
-abbrev pub tables_upon : Base → List Trade → Tables
-tables_upon base done = record {
+-- the rows of a base and those that follow from some completed trades, in a schema
+abbrev pub tables_upon : Schema → Base → List Trade → Tables
+tables_upon schema base done = record {
   last = base.last;
   kept = base.kept;
   brokers = map (broker_row base.accounts done) base.brokers;
   customers = base.customers;
-  accounts = map (account_row base.accounts done) base.accounts;
+  accounts = map (account_row base.accounts (postings base.accounts done base.movements)) base.accounts;
   permissions = base.permissions;
   securities = map security_row base.securities;
   last_trades = map last_trade_row base.securities;
@@ -254,10 +284,16 @@ tables_upon base done = record {
   holdings = filter (λ row. not (is_zero row.qty)) (map (holding_row done) done);
   summaries = by_position base (summary_rows done);
   holding_history = flat_map (lot_history done) done;
-  settlements = map (settlement_row base.accounts) done;
-  cash = map (cash_row base.accounts) (cash_trades done);
+  settlements = map (settlement_row base.accounts base.rule) done;
+  cash = cash_rows schema base.accounts done;
+  moves = move_rows schema (postings base.accounts done base.movements);
+  rule = base.rule;
 }
 
--- the rows of a base and those that follow from it
-unfoldable pub tables_of : Base → Tables
-tables_of base = tables_upon base (completed base)
+-- the rows of a base and those that follow from it, in a schema
+unfoldable pub tables_at : Schema → Base → Tables
+tables_at schema base = tables_upon schema base (completed base)
+
+-- the same in the schema that a desk keeps
+abbrev pub tables_of : Base → Tables
+tables_of base = tables_at third_schema base

@@ -1,5 +1,5 @@
 -- The tests of a command past those of form. The refusal is that of the first test that finds something wrong.
-use Rattle.std.specs.Prelude.{ℕ, ◌+◌, Bool, true, not, ◌&&◌, ◌==◌, nat_le, nat_lt, List, [], ◌∷◌, ◌++◌, length, filter, find, Option, option_map, is_some, is_none, nat_abs, bytes_eq}
+use Rattle.std.specs.Prelude.{ℕ, ◌+◌, Bool, true, false, not, ◌&&◌, ◌==◌, nat_le, nat_lt, List, [], ◌∷◌, ◌++◌, length, filter, find, Option, option_map, is_some, is_none, nat_abs, bytes_eq}
 use Rattle.std.specs.List.{list_any}
 use Rattle.std.specs.Option.{option_map_or}
 use Rattle.brk_money.specs.Spelling.{Text}
@@ -7,18 +7,19 @@ use Rattle.brk_money.specs.Moments.{day_of, last_day, last_stamp, moved_past}
 use Rattle.brk_money.specs.Kinds.{same_type}
 use Rattle.brk_money.specs.OrderTypes.{kind_of}
 use Rattle.brk_money.specs.declared.refusal.Refusal.{Refusal}
-use Rattle.brk_money.specs.declared.refusal.Refusal.TheVariants.{BadQty, NoAccount, NoCustomer, NoBroker, NoSecurity, NoTrade, NoTax, WrongStatus, NotPermitted, Exists, Overlap, TaxSum, NoCharge, NoRate, Range, ClockEnd}
+use Rattle.brk_money.specs.declared.refusal.Refusal.TheVariants.{BadQty, NoAccount, NoCustomer, NoBroker, NoSecurity, NoTrade, NoTax, WrongStatus, NotPermitted, Exists, Overlap, TaxSum, NoCharge, NoRate, Range, ClockEnd, TooEarly}
 use Rattle.brk_money.specs.declared.refusal.Limit.TheVariants as limit
 use Rattle.brk_money.specs.declared.status.Status.TheVariants.{Pending, Submitted}
 use Rattle.brk_model.specs.Limits.{greatest_amount, greatest_summary, greatest_tax_rate, greatest_id, most_accounts}
-use Rattle.brk_model.specs.Records.{Band, Trade}
+use Rattle.brk_model.specs.Records.{Band, Trade, Movement}
 use Rattle.brk_model.specs.Base.{Base, broker_with, customer_with, account_with, security_with, tax_rate_with, trade_with, charge_with, band_with, broker_of, tier_of, exchange_of, rates_of, completed, has_status}
 use Rattle.brk_model.specs.Tables.{status_of}
-use Rattle.brk_model.specs.Derived.{settlement_days, summary_of, balance_of, commissions_of}
+use Rattle.brk_model.specs.Derived.{due_after, summary_of, postings_of, balance_of, commissions_of}
 use Rattle.brk_model.specs.Orders.{is_permitted}
 use Rattle.brk_model.specs.Feed.{with_ticks}
 use Rattle.brk_model.specs.Results.{with_result}
-use Rattle.brk_model.specs.Commands.{Command, Order, AddBroker, AddCustomer, AddAccount, AddPermission, AddSecurity, AddCharge, AddBand, AddTaxRate, AddCustomerTax, PlaceOrder, FeedTicks, CancelTrade, CompleteTrade, ChangeExecutors, ChangeCashTypes, ChangeCashNames}
+use Rattle.brk_model.specs.Movements.{deposit, withdrawal, with_movement}
+use Rattle.brk_model.specs.Commands.{Command, Order, AddBroker, AddCustomer, AddAccount, AddPermission, AddSecurity, AddCharge, AddBand, AddTaxRate, AddCustomerTax, PlaceOrder, FeedTicks, CancelTrade, CompleteTrade, ChangeExecutors, ChangeCashTypes, ChangeCashNames, DepositCash, WithdrawCash, SetOneDay}
 
 -- a refusal, and whether there is cause for it
 abbrev pub Test : Type 0
@@ -81,9 +82,17 @@ result_tests base after stamp t =
     wrong_status (has_status Submitted t) t
     ∷ (is_none (band_with base (tier_of base t.account) t.kind (exchange_of base t.symbol) t.qty), NoRate)
     ∷ (nat_lt greatest_summary (nat_abs (summary_of (completed after) t.account t.symbol)), Range limit.Summary)
-    ∷ (t.is_cash && nat_lt greatest_amount (nat_abs (balance_of after.accounts (completed after) t.account)), Range limit.Balance)
+    ∷ (t.is_cash && nat_lt greatest_amount (nat_abs (balance_of after.accounts (postings_of after) t.account)), Range limit.Balance)
     ∷ (nat_lt greatest_amount (commissions_of after.accounts (completed after) (broker_of base t.account)), Range limit.Broker)
-    ∷ (nat_lt last_day (day_of stamp + settlement_days), ClockEnd)
+    ∷ (nat_lt last_day (due_after base.rule stamp), ClockEnd)
+    ∷ []
+
+-- what a movement is tested for: its account is there, the balance with it is within its limit, and a number is left
+abbrev pub movement_tests : Base → Movement → List Test
+movement_tests base m =
+    lacks_account base m.account
+    ∷ (nat_lt greatest_amount (nat_abs (balance_of base.accounts (postings_of (with_movement base m)) m.account)), Range limit.Balance)
+    ∷ (nat_le greatest_id (length base.movements), Range limit.Moves)
     ∷ []
 
 -- the tests of the trade that is named, or that there is none
@@ -116,8 +125,19 @@ tests base stamp (CompleteTrade id price) = tests_of_trade base id (λ t. result
 tests base stamp (ChangeExecutors ids) = (list_any (λ id. is_none (trade_with base id)) ids, NoTrade) ∷ []
 tests base stamp (ChangeCashTypes account first last) = lacks_account base account ∷ []
 tests base stamp (ChangeCashNames symbol first last) = lacks_security base symbol ∷ []
+tests base stamp (DepositCash account amount) = movement_tests base (deposit stamp account amount)
+tests base stamp (WithdrawCash account amount) = movement_tests base (withdrawal stamp account amount)
+tests base stamp (SetOneDay day) = exists_if (is_some base.rule) ∷ []
 
--- why a command is refused, if it is; the last test of each is that there is a stamp left
+-- whether the day that a command sets is not after the day of its stamp
+abbrev pub is_too_early : ℕ → Command → Bool
+is_too_early stamp (SetOneDay day) = nat_le day (day_of stamp)
+is_too_early stamp _ = false
+
+-- the tests that need the command's stamp, after all others: there is one left, and it is not too early for the day that is set
+abbrev pub stamp_tests : ℕ → Command → List Test
+stamp_tests stamp command = (nat_lt last_stamp stamp, ClockEnd) ∷ (is_too_early stamp command, TooEarly) ∷ []
+
+-- why a command is refused, if it is
 unfoldable pub refusal_of : Base → ℕ → Command → Option Refusal
-refusal_of base now command =
-    first_refusal (tests base (next_stamp base now) command ++ (nat_lt last_stamp (next_stamp base now), ClockEnd) ∷ [])
+refusal_of base now command = first_refusal (tests base (next_stamp base now) command ++ stamp_tests (next_stamp base now) command)

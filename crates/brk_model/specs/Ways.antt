@@ -1,5 +1,5 @@
 -- The statuses of a database's trades.
-use Rattle.std.specs.Prelude.{ℕ, Bool, true, false, ◌&&◌, ◌==◌, nat_lt, List, [], ◌∷◌, map, filter}
+use Rattle.std.specs.Prelude.{ℕ, Bool, true, false, ◌&&◌, ◌==◌, nat_lt, List, [], ◌∷◌, ◌++◌, map, filter, is_none}
 use Rattle.std.specs.List.{list_all}
 use Rattle.brk_money.specs.Kinds.{same_status}
 use Rattle.brk_money.specs.declared.status.Status.{Status}
@@ -40,6 +40,10 @@ trade_status t row =
 abbrev pub completion_stamps : Tables → List ℕ
 completion_stamps t = map (λ h. h.stamp) (filter (λ h. same_status h.status Completed) t.history)
 
--- each trade's statuses are a way, and no two trades complete at one stamp
+-- the stamps of movements
+abbrev pub movement_stamps : Tables → List ℕ
+movement_stamps t = map (λ r. r.stamp) (filter (λ r. is_none r.trade) t.moves)
+
+-- each trade's statuses are a way, and no two trades complete at one stamp, nor is a movement made at the stamp of another or of a completion
 unfoldable pub has_status_rows : Tables → Bool
-has_status_rows t = list_all (trade_status t) t.trades && all_distinct (completion_stamps t)
+has_status_rows t = list_all (trade_status t) t.trades && all_distinct (completion_stamps t ++ movement_stamps t)

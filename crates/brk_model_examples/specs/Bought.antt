@@ -1,9 +1,10 @@
 -- The tables after the first purchase, row by row, and the same with something that another program changed.
-use Rattle.std.specs.Prelude.{map, pos, negsuc, true, false, Some, [], ◌∷◌, codes}
+use Rattle.std.specs.Prelude.{ℕ, ℤ, ◌+ℤ◌, ◌++◌, map, pos, negsuc, true, false, Some, None, [], ◌∷◌, codes}
+use Rattle.brk_money.specs.Spelling.{Text}
 use Rattle.brk_money.specs.declared.trade_type.TradeType.TheVariants.{MarketBuy, MarketSell, StopLoss, LimitSell, LimitBuy}
 use Rattle.brk_money.specs.declared.status.Status.TheVariants.{Completed, Submitted}
 use Rattle.brk_money.specs.declared.tax_status.TaxStatus.TheVariants.{Withheld}
-use Rattle.brk_model.specs.Tables.{Tables, TradeRow, HoldingRow, SettlementRow, CashRow}
+use Rattle.brk_model.specs.Tables.{Tables, AccountRow, TradeRow, HoldingRow, SettlementRow, CashRow, MoveRow}
 use Rattle.brk_model_examples.specs.Setting.{setting}
 
 -- by rising key
@@ -54,7 +55,16 @@ bought_tables = record {
   summaries = record { account = 100; symbol = codes "ABC"; qty = pos 100 } ∷ [];
   holding_history = record { lot = 1; trade = 1; before = pos 0; after = pos 100 } ∷ [];
   settlements = record { trade = 1; cash_type = codes "Cash Account"; due_day = 19785; amount = negsuc 102509 } ∷ [];
+  cash = [];
+  moves = record { id = 1; account = 100; trade = Some 1; stamp = 1709251200017; amount = negsuc 102509; name = codes "Market-Buy 100 shares of Acme" } ∷ [];
+  rule = None;
+}
+
+-- the same in the first schema
+unfoldable pub first_tables : Tables
+first_tables = record bought_tables {
   cash = record { trade = 1; stamp = 1709251200017; amount = negsuc 102509; name = codes "Market-Buy 100 shares of Acme" } ∷ [];
+  moves = [];
 }
 
 -- ---- changed by another program
@@ -117,7 +127,43 @@ other_settlement = record bought_tables { settlements = map {B = SettlementRow} 
 
 -- a cent less moved
 unfoldable pub other_cash : Tables
-other_cash = record bought_tables { cash = map {B = CashRow} (λ c. record c { amount = negsuc 102508 }) bought_tables.cash }
+other_cash = record bought_tables { moves = map {B = MoveRow} (λ r. record r { amount = negsuc 102508 }) bought_tables.moves }
+
+-- another number of a cash row
+unfoldable pub other_number : Tables
+other_number = record bought_tables { moves = map {B = MoveRow} (λ r. record r { id = 2 }) bought_tables.moves }
+
+-- a second cash row of the trade
+unfoldable pub second_row : Tables
+second_row = record bought_tables { moves = bought_tables.moves ++ map {B = MoveRow} (λ r. record r { id = 2 }) bought_tables.moves }
+
+-- a cash row that is left in the table of the first schema
+unfoldable pub left_behind : Tables
+left_behind = record bought_tables { cash = first_tables.cash }
+
+-- a quantity that is too large before the third schema
+unfoldable pub large_quantity : Tables
+large_quantity = record bought_tables { trades = map {B = TradeRow} (λ t. record t { qty = 1000000 }) bought_tables.trades }
+
+-- a band of such quantities
+unfoldable pub large_band : Tables
+large_band = record bought_tables { bands = record { tier = 1; kind = MarketBuy; exchange = codes "NYSE"; from_qty = 1; to_qty = 9999999; rate = 100 } ∷ [] }
+
+-- a settlement day set
+unfoldable pub day_set : Tables
+day_set = record bought_tables { rule = Some 19784 }
+
+-- a settlement day set no later than a completion
+unfoldable pub early_day : Tables
+early_day = record bought_tables { rule = Some 19783 }
+
+-- a cash row without a trade, and with it its amount in the balance: at a stamp, of an amount, under a name
+abbrev pub movement_of : ℕ → ℤ → Text → Tables
+movement_of stamp amount name = record bought_tables {
+  last = Some 1709251200018;
+  moves = bought_tables.moves ++ record { id = 2; account = 100; trade = None; stamp = stamp; amount = amount; name = name } ∷ [];
+  accounts = map {B = AccountRow} (λ a. record a { balance = a.balance +ℤ amount }) bought_tables.accounts;
+}
 
 -- a cent more of balance
 unfoldable pub other_balance : Tables

@@ -1,6 +1,7 @@
 pub mod Batches
 pub mod Setting
 pub mod Trading
+pub mod Moving
 pub mod Standing
 pub mod Waiting
 pub mod Extremes

@@ -1,5 +1,5 @@
 -- The setting of most examples: a broker, a customer with an account, a security, and what trades in it cost.
-use Rattle.std.specs.Prelude.{pos, Some, List, [], ◌∷◌, codes}
+use Rattle.std.specs.Prelude.{pos, Some, None, List, [], ◌∷◌, codes}
 use Rattle.brk_money.specs.Spelling.{Text}
 use Rattle.brk_money.specs.declared.trade_type.TradeType.TheVariants.{MarketBuy, MarketSell, StopLoss, LimitSell, LimitBuy}
 use Rattle.brk_money.specs.declared.tax_status.TaxStatus.TheVariants.{Withheld}
@@ -48,6 +48,8 @@ setting = record {
   tax_rates = record { id = 1; name = codes "State"; rate = 20000 } ∷ [];
   customer_taxes = record { customer = 10; tax = 1 } ∷ [];
   trades = [];
+  movements = [];
+  rule = None;
   kept = [];
   last = Some 1709251200015;
 }

@@ -1,11 +1,11 @@
 //! Single rules, each at its edge.
 #![tactic(auto, unfolding(crate::proofs::OnLiterals::model_on_literals))]
 
-ghost use Rattle.std.specs.Prelude.{◌≡◌, ◌∷◌, [], ℕ, ℤ, pos, negsuc, map, true, false, codes};
+ghost use Rattle.std.specs.Prelude.{◌≡◌, ◌∷◌, [], ℕ, ℤ, pos, negsuc, map, true, false, Some, None, codes};
 ghost use Rattle.brk_money.specs.Amounts.{commission, tax};
 ghost use Rattle.brk_money.specs.declared.trade_type.TradeType.TheVariants.{LimitBuy, LimitSell, MarketBuy, MarketSell, StopLoss};
 ghost use Rattle.brk_money.specs.declared.tax_status.TaxStatus.TheVariants.{Reported, Untaxed, Withheld};
-ghost use Rattle.brk_model.specs.Derived.{amount_of, balance_of};
+ghost use Rattle.brk_model.specs.Derived.{amount_of, balance_of, due_after, postings};
 ghost use Rattle.brk_model.specs.Feed.{triggers};
 ghost use Rattle.brk_model.specs.Orders.{permitted};
 ghost use Rattle.brk_model.specs.Tests.{next_stamp};
@@ -38,8 +38,16 @@ pub fn settled_amounts()
 
 /// A cash trade moves the balance, and a margin trade does not.
 pub fn balances()
-    ensures cash { balance_of (account_at Withheld ∷ []) (first_purchase ∷ []) 100 ≡ pos 897490 }
-    ensures margin { balance_of (account_at Withheld ∷ []) (on_margin ∷ []) 100 ≡ pos 1000000 }
+    ensures cash { balance_of (account_at Withheld ∷ []) (postings (account_at Withheld ∷ []) (first_purchase ∷ []) []) 100 ≡ pos 897490 }
+    ensures margin { balance_of (account_at Withheld ∷ []) (postings (account_at Withheld ∷ []) (on_margin ∷ []) []) 100 ≡ pos 1000000 }
+{}
+
+/// A completion settles after two days, and from a set day on after one.
+pub fn settlement_days()
+    ensures no_day { due_after None 1709251200000 ≡ 19785 }
+    ensures before { due_after (Some 19784) 1709337599999 ≡ 19785 }
+    ensures from_it { due_after (Some 19784) 1709337600000 ≡ 19785 }
+    ensures after_it { due_after (Some 19784) 1709424000000 ≡ 19786 }
 {}
 
 /// First name, last name and tax id are the customer's, or one permission names all three.

@@ -2,19 +2,31 @@
 #![tactic(auto, unfolding(crate::proofs::OnLiterals::model_on_literals))]
 
 ghost use Rattle.std.specs.Prelude.{◌≡◌, true};
-ghost use Rattle.brk_model.specs.Sheets.{sheets};
+ghost use Rattle.brk_model.specs.Sheets.{sheets, sheets_at};
 ghost use Rattle.brk_model.specs.Adopted.{base_of};
 ghost use Rattle.brk_model.specs.Form.{has_form};
+ghost use Rattle.brk_model.specs.Schemas.{first_schema, second_schema, third_schema};
+ghost use Rattle.brk_model.specs.Moved.{moved};
 ghost use Rattle.brk_model.specs.Ways.{has_status_rows};
 ghost use Rattle.brk_model.specs.Audit.{expected};
 ghost use Rattle.brk_model_examples.specs.Trading.{bought};
-ghost use Rattle.brk_model_examples.specs.Bought.{bought_tables};
+ghost use Rattle.brk_model_examples.specs.Bought.{bought_tables, first_tables};
 
 /// The tables after the first purchase are well formed, and the base that they give has the same tables.
 pub fn tables_of_a_base()
     ensures tables { sheets bought ≡ bought_tables }
-    ensures form { has_form bought_tables ≡ true }
+    ensures form { has_form third_schema bought_tables ≡ true }
     ensures status { has_status_rows bought_tables ≡ true }
     ensures trades { (base_of bought_tables).trades ≡ bought.trades }
-    ensures expected { expected bought_tables ≡ bought_tables }
+    ensures expected { expected third_schema bought_tables ≡ bought_tables }
+{}
+
+/// The tables of the same base in the two older schemas, and what the move makes of them. None loses what the base has.
+pub fn tables_of_older_schemas()
+    ensures first { sheets_at first_schema bought ≡ first_tables }
+    ensures first_form { has_form first_schema first_tables ≡ true }
+    ensures first_base { base_of first_tables ≡ base_of bought_tables }
+    ensures second { sheets_at second_schema bought ≡ bought_tables }
+    ensures from_the_first { moved first_tables ≡ bought_tables }
+    ensures from_the_second { moved bought_tables ≡ bought_tables }
 {}

@@ -161,5 +161,5 @@ pub fn margin_trade()
         ∷ codes "result,1,10.10" ∷ []))).settlements ≡ codes "Margin" ∷ [] }
     ensures no_cash { (tables_of (after setting
         (codes "order,100,TMB,ABC,100,,margin,fifo,Ann,Lee,T10"
-        ∷ codes "result,1,10.10" ∷ []))).cash ≡ [] }
+        ∷ codes "result,1,10.10" ∷ []))).moves ≡ [] }
 {}

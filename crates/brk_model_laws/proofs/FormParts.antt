@@ -1,20 +1,23 @@
 -- The condition of form, and that of keys, by their parts.
-use Rattle.std.proofs.Common.{◌≡◌, Bool, true, List, [], ◌∷◌, map, length}
-use Rattle.std.specs.Prelude.{nat_le}
+use Rattle.std.proofs.Common.{◌≡◌, Bool, true, List, [], ◌∷◌, map, filter, length}
+use Rattle.std.specs.Prelude.{is_none, nat_le}
 use Rattle.std.specs.List.{list_all, range_with_len}
 use Rattle.std.specs.Option.{option_map_or}
-use Rattle.brk_money.specs.Moments.{last_stamp}
+use Rattle.brk_money.specs.Moments.{last_day, last_stamp}
+use Rattle.brk_model.specs.Limits.{greatest_id}
+use Rattle.brk_model.specs.Lists.{all_distinct}
+use Rattle.brk_model.specs.Schemas.{Schema}
 use Rattle.brk_model.specs.Tables.{Tables}
-use Rattle.brk_model.specs.Form.{kept_form, broker_form, customer_form, customer_limits, account_form, permission_form, security_form, last_trade_form, charge_form, band_form, no_overlap, tax_rate_form, customer_tax_form, trade_form, same_numbers, history_form, request_form, holding_form, summary_form, holding_history_form, settlement_form, cash_form, has_keys, has_form, one_tax_id_each, rises}
-use Rattle.brk_model.specs.Keys.{kept_key, broker_key, customer_key, account_key, permission_key, security_key, last_trade_key, charge_key, band_key, tax_rate_key, customer_tax_key, trade_key, history_key, request_key, holding_key, summary_key, holding_history_key, settlement_key, cash_key}
+use Rattle.brk_model.specs.Form.{kept_form, broker_form, customer_form, customer_limits, account_form, permission_form, security_form, last_trade_form, charge_form, band_form, no_overlap, tax_rate_form, customer_tax_form, trade_form, same_numbers, history_form, request_form, holding_form, summary_form, holding_history_form, settlement_form, cash_form, move_form, trades_moved, fits_schema, has_keys, has_form, one_tax_id_each, rises}
+use Rattle.brk_model.specs.Keys.{kept_key, broker_key, customer_key, account_key, permission_key, security_key, last_trade_key, charge_key, band_key, tax_rate_key, customer_tax_key, trade_key, history_key, request_key, holding_key, summary_key, holding_history_key, settlement_key, cash_key, move_key}
 use Rattle.brk_model_laws.specs.FormParts.{FormParts, KeysRise}
 use Rattle.brk_model_laws.proofs.Conjunctions.{parts, whole}
 
 -- ---- form
 
 -- its parts after the first one
-abbrev forms : Tables → List Bool
-forms t =
+abbrev forms : Schema → Tables → List Bool
+forms schema t =
     has_keys t ∷
     one_tax_id_each t.customers ∷
     list_all kept_form t.kept ∷
@@ -26,24 +29,29 @@ forms t =
     list_all (security_form t) t.securities ∷
     list_all (last_trade_form t) t.last_trades ∷
     list_all charge_form t.charges ∷
-    list_all band_form t.bands ∷
+    list_all (band_form schema) t.bands ∷
     no_overlap t.bands ∷
     list_all tax_rate_form t.tax_rates ∷
     list_all (customer_tax_form t) t.customer_taxes ∷
-    list_all (trade_form t) t.trades ∷
+    list_all (trade_form schema t) t.trades ∷
     same_numbers (map (λ row. row.id) t.trades) (range_with_len 1 (length t.trades)) ∷
     list_all (history_form t) t.history ∷
-    list_all (request_form t) t.requests ∷
+    list_all (request_form schema t) t.requests ∷
     list_all (holding_form t) t.holdings ∷
-    list_all (summary_form t) t.summaries ∷
+    list_all (summary_form schema t) t.summaries ∷
     list_all (holding_history_form t) t.holding_history ∷
     list_all (settlement_form t) t.settlements ∷
-    list_all (cash_form t) t.cash ∷ []
+    list_all (cash_form t) t.cash ∷
+    list_all (move_form t) t.moves ∷
+    all_distinct (trades_moved t.moves) ∷
+    nat_le (length (filter (λ r. is_none r.trade) t.moves)) greatest_id ∷
+    option_map_or (λ day. nat_le day last_day) t.rule true ∷
+    fits_schema schema t ∷ []
 
-pub form_parts : (t : Tables) → has_form t ≡ true → FormParts t
+pub form_parts : (schema : Schema) (t : Tables) → has_form schema t ≡ true → FormParts schema t
 unfolding has_form
-form_parts t h =
-    let p = parts (option_map_or (λ last. nat_le last last_stamp) t.last true) (forms t) h in
+form_parts schema t h =
+    let p = parts (option_map_or (λ last. nat_le last last_stamp) t.last true) (forms schema t) h in
     record {
       clock = p.0;
       keys = p.1.0;
@@ -70,13 +78,18 @@ form_parts t h =
       holding_history = p.1.1.1.1.1.1.1.1.1.1.1.1.1.1.1.1.1.1.1.1.1.1.0;
       settlements = p.1.1.1.1.1.1.1.1.1.1.1.1.1.1.1.1.1.1.1.1.1.1.1.0;
       cash = p.1.1.1.1.1.1.1.1.1.1.1.1.1.1.1.1.1.1.1.1.1.1.1.1.0;
+      moves = p.1.1.1.1.1.1.1.1.1.1.1.1.1.1.1.1.1.1.1.1.1.1.1.1.1.0;
+      own_moves = p.1.1.1.1.1.1.1.1.1.1.1.1.1.1.1.1.1.1.1.1.1.1.1.1.1.1.0;
+      counted = p.1.1.1.1.1.1.1.1.1.1.1.1.1.1.1.1.1.1.1.1.1.1.1.1.1.1.1.0;
+      rule = p.1.1.1.1.1.1.1.1.1.1.1.1.1.1.1.1.1.1.1.1.1.1.1.1.1.1.1.1.0;
+      fits = p.1.1.1.1.1.1.1.1.1.1.1.1.1.1.1.1.1.1.1.1.1.1.1.1.1.1.1.1.1.0;
     }
 
-pub form_whole : (t : Tables) → FormParts t → has_form t ≡ true
+pub form_whole : (schema : Schema) (t : Tables) → FormParts schema t → has_form schema t ≡ true
 unfolding has_form
-form_whole t h =
-    whole (option_map_or (λ last. nat_le last last_stamp) t.last true) (forms t) h.clock
-    (h.keys, (h.tax_ids, (h.kept, (h.brokers, (h.customers, (h.limits, (h.accounts, (h.permissions, (h.securities, (h.last_trades, (h.charges, (h.bands, (h.apart, (h.tax_rates, (h.customer_taxes, (h.trades, (h.numbers, (h.history, (h.requests, (h.holdings, (h.summaries, (h.holding_history, (h.settlements, (h.cash, tt))))))))))))))))))))))))
+form_whole schema t h =
+    whole (option_map_or (λ last. nat_le last last_stamp) t.last true) (forms schema t) h.clock
+    (h.keys, (h.tax_ids, (h.kept, (h.brokers, (h.customers, (h.limits, (h.accounts, (h.permissions, (h.securities, (h.last_trades, (h.charges, (h.bands, (h.apart, (h.tax_rates, (h.customer_taxes, (h.trades, (h.numbers, (h.history, (h.requests, (h.holdings, (h.summaries, (h.holding_history, (h.settlements, (h.cash, (h.moves, (h.own_moves, (h.counted, (h.rule, (h.fits, tt)))))))))))))))))))))))))))))
 
 -- ---- keys
 
@@ -99,7 +112,8 @@ rests t =
     rises summary_key t.summaries ∷
     rises holding_history_key t.holding_history ∷
     rises settlement_key t.settlements ∷
-    rises cash_key t.cash ∷ []
+    rises cash_key t.cash ∷
+    rises move_key t.moves ∷ []
 
 pub keys_rise : (t : Tables) → has_keys t ≡ true → KeysRise t
 unfolding has_keys
@@ -125,8 +139,9 @@ keys_rise t h =
       holding_history = p.1.1.1.1.1.1.1.1.1.1.1.1.1.1.1.1.0;
       settlements = p.1.1.1.1.1.1.1.1.1.1.1.1.1.1.1.1.1.0;
       cash = p.1.1.1.1.1.1.1.1.1.1.1.1.1.1.1.1.1.1.0;
+      moves = p.1.1.1.1.1.1.1.1.1.1.1.1.1.1.1.1.1.1.1.0;
     }
 
 pub keys_whole : (t : Tables) → KeysRise t → has_keys t ≡ true
 unfolding has_keys
-keys_whole t h = whole (rises kept_key t.kept) (rests t) h.kept (h.brokers, (h.customers, (h.accounts, (h.permissions, (h.securities, (h.last_trades, (h.charges, (h.bands, (h.tax_rates, (h.customer_taxes, (h.trades, (h.history, (h.requests, (h.holdings, (h.summaries, (h.holding_history, (h.settlements, (h.cash, tt))))))))))))))))))
+keys_whole t h = whole (rises kept_key t.kept) (rests t) h.kept (h.brokers, (h.customers, (h.accounts, (h.permissions, (h.securities, (h.last_trades, (h.charges, (h.bands, (h.tax_rates, (h.customer_taxes, (h.trades, (h.history, (h.requests, (h.holdings, (h.summaries, (h.holding_history, (h.settlements, (h.cash, (h.moves, tt)))))))))))))))))))

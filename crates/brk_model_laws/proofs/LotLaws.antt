@@ -12,7 +12,7 @@ use Rattle.brk_model.specs.Records.{Trade}
 use Rattle.brk_model.specs.Base.{Base, is_completed, completed, moment_of}
 use Rattle.brk_model.specs.Shares.{Share, Deal, shares_after, replay, signed, net, opened_by, lot_qty}
 use Rattle.brk_model.specs.Derived.{deal_of, of_account, of_position, shares_in, summary_of}
-use Rattle.brk_model.specs.Tables.{HoldingRow, holding_row, tables_of}
+use Rattle.brk_model.specs.Tables.{HoldingRow, holding_row, tables_at, tables_of}
 use Rattle.brk_model_laws.specs.Names.{IsNamed}
 use Rattle.brk_model_laws.specs.Positions.{in_position}
 use Rattle.brk_model.specs.Names.{NumberedFrom}
@@ -203,7 +203,7 @@ holdings-total done account symbol h =
 
 pub lots-total : (base : Base) (account : ℕ) (symbol : Text) → NumberedFrom 1 base.trades
     → total_by (λ row. row.qty) (filter (in_position account symbol) (tables_of base).holdings) ≡ summary_of (completed base) account symbol
-unfolding tables_of
+unfolding tables_at
 lots-total base account symbol n =
     holdings-total (completed base) account symbol (filter-Apart is_completed base.trades (numbered-Apart 1 base.trades n))
 

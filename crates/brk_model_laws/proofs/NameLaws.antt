@@ -5,17 +5,18 @@ use Rattle.std.specs.Option.{option_map_or}
 use Rattle.std.specs.List.{AllByRecursion}
 use Rattle.brk_money.specs.Spelling.{Text}
 use Rattle.brk_model.specs.Lists.{update_where}
-use Rattle.brk_model.specs.Records.{Account, Permission, CustomerTax, Trade, Key}
+use Rattle.brk_model.specs.Records.{Account, Permission, CustomerTax, Trade, Movement, Key}
 use Rattle.brk_model.specs.Base.{Base, empty_base, broker_with, customer_with, account_with, security_with, tax_rate_with, trade_with}
 use Rattle.brk_model.specs.Keyed.{keeping}
-use Rattle.brk_model.specs.Commands.{Command, Reply, Tick, AddBroker, AddCustomer, AddAccount, AddPermission, AddSecurity, AddCharge, AddBand, AddTaxRate, AddCustomerTax, PlaceOrder, FeedTicks, CancelTrade, CompleteTrade, ChangeExecutors, ChangeCashTypes, ChangeCashNames}
+use Rattle.brk_model.specs.Commands.{Command, Reply, Tick, AddBroker, AddCustomer, AddAccount, AddPermission, AddSecurity, AddCharge, AddBand, AddTaxRate, AddCustomerTax, PlaceOrder, FeedTicks, CancelTrade, CompleteTrade, ChangeExecutors, ChangeCashTypes, ChangeCashNames, DepositCash, WithdrawCash, SetOneDay}
 use Rattle.brk_model.specs.Feed.{ticked, with_tick, with_ticks}
 use Rattle.brk_model.specs.Results.{with_result, completed_trade}
+use Rattle.brk_model.specs.Movements.{with_movement}
 use Rattle.brk_model.specs.Tests.{next_stamp, tests, refusal_of}
 use Rattle.brk_model.specs.Step.{records_after, base_after}
 use Rattle.brk_model.specs.Run.{Call, Outcome, Run}
 use Rattle.brk_model_laws.specs.Laws.{IsReached}
-use Rattle.brk_model.specs.Names.{NumberedFrom}
+use Rattle.brk_model.specs.Names.{KnowsHolder, NumberedFrom}
 use Rattle.brk_model_laws.specs.Names.{KnowsParties, KnowsPermitted, KnowsTax, KnowsTrade, Names, IsNamed}
 use Rattle.brk_model_laws.proofs.Reached.{IsKept, passed, reached, run-kept}
 
@@ -73,14 +74,15 @@ pub record Grows (base after : Base) : Type 0 where
   pub rates : (id : ℕ) → is_some (tax_rate_with base id) ≡ true → is_some (tax_rate_with after id) ≡ true
   pub securities : (symbol : Text) → is_some (security_with base symbol) ≡ true → is_some (security_with after symbol) ≡ true
 
-pub grown : (base after : Base) (accounts : List Account) (permissions : List Permission) (taxes : List CustomerTax) (trades : List Trade) → Grows base after
-    → Names base accounts permissions taxes trades → Names after accounts permissions taxes trades
-grown base after accounts permissions taxes trades g n = record {
+pub grown : (base after : Base) (accounts : List Account) (permissions : List Permission) (taxes : List CustomerTax) (trades : List Trade) (movements : List Movement) → Grows base after
+    → Names base accounts permissions taxes trades movements → Names after accounts permissions taxes trades movements
+grown base after accounts permissions taxes trades movements g n = record {
   parties = All-map (λ a h. (g.customers a.customer h.0, g.brokers a.broker h.1)) accounts n.parties;
   permitted = All-map (λ p h. g.accounts p.account h) permissions n.permitted;
   taxed = All-map (λ x h. (g.customers x.customer h.0, g.rates x.tax h.1)) taxes n.taxed;
   traded = All-map (λ t h. (g.accounts t.account h.0, g.securities t.symbol h.1)) trades n.traded;
   numbered = n.numbered;
+  held = All-map (λ m h. g.accounts m.account h) movements n.held;
 }
 
 -- ---- trades
@@ -111,21 +113,22 @@ traded-update base test change l (t ∷ ts) h = (at (test t), traded-update base
     at true = (ap (λ a. is_some (account_with base a)) (l.account t) ∙ h.0.0, ap (λ s. is_some (security_with base s)) (l.symbol t) ∙ h.0.1)
     at false = h.0
 
-pub updated : (base : Base) (accounts : List Account) (permissions : List Permission) (taxes : List CustomerTax) (trades : List Trade) (test : Trade → Bool) (change : Trade → Trade) → Leaves change
-    → Names base accounts permissions taxes trades → Names base accounts permissions taxes (update_where test change trades)
-updated base accounts permissions taxes trades test change l n = record {
+pub updated : (base : Base) (accounts : List Account) (permissions : List Permission) (taxes : List CustomerTax) (trades : List Trade) (movements : List Movement) (test : Trade → Bool) (change : Trade → Trade) → Leaves change
+    → Names base accounts permissions taxes trades movements → Names base accounts permissions taxes (update_where test change trades) movements
+updated base accounts permissions taxes trades movements test change l n = record {
   parties = n.parties;
   permitted = n.permitted;
   taxed = n.taxed;
   traded = traded-update base test change l trades n.traded;
   numbered = numbered-update test change l 1 trades n.numbered;
+  held = n.held;
 }
 
 -- ---- a tick and a result
 
 tick-named : (stamp : ℕ) (base : Base) (tick : Tick) → IsNamed base → IsNamed (with_tick stamp base tick)
 tick-named stamp base tick n =
-    grown base (with_tick stamp base tick) base.accounts base.permissions base.customer_taxes (with_tick stamp base tick).trades
+    grown base (with_tick stamp base tick) base.accounts base.permissions base.customer_taxes (with_tick stamp base tick).trades base.movements
     (record {
       brokers = λ id h. h;
       customers = λ id h. h;
@@ -133,7 +136,7 @@ tick-named stamp base tick n =
       rates = λ id h. h;
       securities = λ symbol h. some-update (λ s. bytes_eq s.symbol symbol) (λ s. bytes_eq s.symbol tick.symbol) (ticked stamp tick) (λ s. refl) base.securities h;
     })
-    (updated base base.accounts base.permissions base.customer_taxes base.trades _ _ (record { id = λ t. refl; account = λ t. refl; symbol = λ t. refl }) n)
+    (updated base base.accounts base.permissions base.customer_taxes base.trades base.movements _ _ (record { id = λ t. refl; account = λ t. refl; symbol = λ t. refl }) n)
 
 pub ticks-named : (stamp : ℕ) (base : Base) (ticks : List Tick) → IsNamed base → IsNamed (fold (with_tick stamp) base ticks)
 ticks-named stamp base [] n = n
@@ -145,7 +148,7 @@ completed-leaves base stamp price = record { id = λ t. refl; account = λ t. re
 
 -- a base with the same lists but for the trades
 with-last : (base : Base) (stamp : ℕ) → IsNamed base → IsNamed (record base { last = Some stamp })
-with-last base stamp n = grown base (record base { last = Some stamp }) base.accounts base.permissions base.customer_taxes base.trades (record {
+with-last base stamp n = grown base (record base { last = Some stamp }) base.accounts base.permissions base.customer_taxes base.trades base.movements (record {
   brokers = λ id h. h;
   customers = λ id h. h;
   accounts = λ id h. h;
@@ -155,27 +158,40 @@ with-last base stamp n = grown base (record base { last = Some stamp }) base.acc
 
 trades-named : (base : Base) (test : Trade → Bool) (change : Trade → Trade) → Leaves change → IsNamed base → IsNamed (record base { trades = update_where test change base.trades })
 trades-named base test change l n =
-    grown base (record base { trades = update_where test change base.trades }) base.accounts base.permissions base.customer_taxes (update_where test change base.trades)
+    grown base (record base { trades = update_where test change base.trades }) base.accounts base.permissions base.customer_taxes (update_where test change base.trades) base.movements
     (record { brokers = λ id h. h; customers = λ id h. h; accounts = λ id h. h; rates = λ id h. h; securities = λ symbol h. h })
-    (updated base base.accounts base.permissions base.customer_taxes base.trades test change l n)
+    (updated base base.accounts base.permissions base.customer_taxes base.trades base.movements test change l n)
 
 result-named : (base : Base) (stamp price : ℕ) (found : Option Trade) → IsNamed base → IsNamed (option_map_or (with_result base stamp price) found base)
 result-named base stamp price None n = n
 result-named base stamp price (Some t) n = trades-named base (λ u. u.id == t.id) (completed_trade base stamp price) (completed-leaves base stamp price) n
+
+-- a movement of an account that is there
+movement-named : (base : Base) (m : Movement) → is_none (account_with base m.account) ≡ false → IsNamed base → IsNamed (with_movement base m)
+movement-named base m k n =
+    let g = grown base (with_movement base m) base.accounts base.permissions base.customer_taxes base.trades base.movements (record { brokers = λ id h. h; customers = λ id h. h; accounts = λ id h. h; rates = λ id h. h; securities = λ symbol h. h }) n in
+    record {
+      held = All-last (KnowsHolder (with_movement base m)) base.movements m g.held (there (account_with base m.account) k);
+      parties = g.parties;
+      permitted = g.permitted;
+      taxed = g.taxed;
+      traded = g.traded;
+      numbered = g.numbered;
+    }
 
 -- ---- the commands
 
 names-kept : (base : Base) (stamp : ℕ) (command : Command) → AllByRecursion (λ t. t.0 ≡ false) (tests base stamp command) → IsNamed base → IsNamed (records_after base stamp command)
 unfolding records_after tests with_ticks
 names-kept base stamp (AddBroker b) k n =
-    grown base (records_after base stamp (AddBroker b)) base.accounts base.permissions base.customer_taxes base.trades
+    grown base (records_after base stamp (AddBroker b)) base.accounts base.permissions base.customer_taxes base.trades base.movements
     (record { brokers = λ id h. some-last (λ c. c.id == id) base.brokers b h; customers = λ id h. h; accounts = λ id h. h; rates = λ id h. h; securities = λ symbol h. h }) n
 names-kept base stamp (AddCustomer c) k n =
-    grown base (records_after base stamp (AddCustomer c)) base.accounts base.permissions base.customer_taxes base.trades
+    grown base (records_after base stamp (AddCustomer c)) base.accounts base.permissions base.customer_taxes base.trades base.movements
     (record { brokers = λ id h. h; customers = λ id h. some-last (λ d. d.id == id) base.customers c h; accounts = λ id h. h; rates = λ id h. h; securities = λ symbol h. h }) n
 names-kept base stamp (AddAccount a) k n =
     let g : Grows base (records_after base stamp (AddAccount a)) = record { brokers = λ id h. h; customers = λ id h. h; accounts = λ id h. some-last (λ b. b.id == id) base.accounts a h; rates = λ id h. h; securities = λ symbol h. h } in
-    let m = grown base (records_after base stamp (AddAccount a)) base.accounts base.permissions base.customer_taxes base.trades g n in
+    let m = grown base (records_after base stamp (AddAccount a)) base.accounts base.permissions base.customer_taxes base.trades base.movements g n in
     record {
       parties = All-last (KnowsParties (records_after base stamp (AddAccount a))) base.accounts a m.parties
           (there (customer_with base a.customer) k.0, there (broker_with base a.broker) k.1.0);
@@ -183,20 +199,21 @@ names-kept base stamp (AddAccount a) k n =
       taxed = m.taxed;
       traded = m.traded;
       numbered = m.numbered;
+      held = m.held;
     }
 names-kept base stamp (AddPermission p) k n =
-    let m = grown base (records_after base stamp (AddPermission p)) base.accounts base.permissions base.customer_taxes base.trades (record { brokers = λ id h. h; customers = λ id h. h; accounts = λ id h. h; rates = λ id h. h; securities = λ symbol h. h }) n in
-    record { permitted = All-last (KnowsPermitted (records_after base stamp (AddPermission p))) base.permissions p m.permitted (there (account_with base p.account) k.0); parties = m.parties; taxed = m.taxed; traded = m.traded; numbered = m.numbered }
+    let m = grown base (records_after base stamp (AddPermission p)) base.accounts base.permissions base.customer_taxes base.trades base.movements (record { brokers = λ id h. h; customers = λ id h. h; accounts = λ id h. h; rates = λ id h. h; securities = λ symbol h. h }) n in
+    record { permitted = All-last (KnowsPermitted (records_after base stamp (AddPermission p))) base.permissions p m.permitted (there (account_with base p.account) k.0); parties = m.parties; taxed = m.taxed; traded = m.traded; numbered = m.numbered; held = m.held }
 names-kept base stamp (AddSecurity l) k n =
-    grown base (records_after base stamp (AddSecurity l)) base.accounts base.permissions base.customer_taxes base.trades
+    grown base (records_after base stamp (AddSecurity l)) base.accounts base.permissions base.customer_taxes base.trades base.movements
     (record { brokers = λ id h. h; customers = λ id h. h; accounts = λ id h. h; rates = λ id h. h; securities = λ symbol h. some-last (λ s. bytes_eq s.symbol symbol) base.securities _ h }) n
-names-kept base stamp (AddCharge c) k n = grown base (records_after base stamp (AddCharge c)) base.accounts base.permissions base.customer_taxes base.trades (record { brokers = λ id h. h; customers = λ id h. h; accounts = λ id h. h; rates = λ id h. h; securities = λ symbol h. h }) n
-names-kept base stamp (AddBand b) k n = grown base (records_after base stamp (AddBand b)) base.accounts base.permissions base.customer_taxes base.trades (record { brokers = λ id h. h; customers = λ id h. h; accounts = λ id h. h; rates = λ id h. h; securities = λ symbol h. h }) n
+names-kept base stamp (AddCharge c) k n = grown base (records_after base stamp (AddCharge c)) base.accounts base.permissions base.customer_taxes base.trades base.movements (record { brokers = λ id h. h; customers = λ id h. h; accounts = λ id h. h; rates = λ id h. h; securities = λ symbol h. h }) n
+names-kept base stamp (AddBand b) k n = grown base (records_after base stamp (AddBand b)) base.accounts base.permissions base.customer_taxes base.trades base.movements (record { brokers = λ id h. h; customers = λ id h. h; accounts = λ id h. h; rates = λ id h. h; securities = λ symbol h. h }) n
 names-kept base stamp (AddTaxRate r) k n =
-    grown base (records_after base stamp (AddTaxRate r)) base.accounts base.permissions base.customer_taxes base.trades
+    grown base (records_after base stamp (AddTaxRate r)) base.accounts base.permissions base.customer_taxes base.trades base.movements
     (record { brokers = λ id h. h; customers = λ id h. h; accounts = λ id h. h; rates = λ id h. some-last (λ s. s.id == id) base.tax_rates r h; securities = λ symbol h. h }) n
 names-kept base stamp (AddCustomerTax x) k n =
-    let m = grown base (records_after base stamp (AddCustomerTax x)) base.accounts base.permissions base.customer_taxes base.trades (record { brokers = λ id h. h; customers = λ id h. h; accounts = λ id h. h; rates = λ id h. h; securities = λ symbol h. h }) n in
+    let m = grown base (records_after base stamp (AddCustomerTax x)) base.accounts base.permissions base.customer_taxes base.trades base.movements (record { brokers = λ id h. h; customers = λ id h. h; accounts = λ id h. h; rates = λ id h. h; securities = λ symbol h. h }) n in
     record {
       taxed = All-last (KnowsTax (records_after base stamp (AddCustomerTax x))) base.customer_taxes x m.taxed
           (there (customer_with base x.customer) k.0, there (tax_rate_with base x.tax) k.1.0);
@@ -204,15 +221,17 @@ names-kept base stamp (AddCustomerTax x) k n =
       permitted = m.permitted;
       traded = m.traded;
       numbered = m.numbered;
+      held = m.held;
     }
 names-kept base stamp (PlaceOrder o) k n =
-    let m = grown base (records_after base stamp (PlaceOrder o)) base.accounts base.permissions base.customer_taxes base.trades (record { brokers = λ id h. h; customers = λ id h. h; accounts = λ id h. h; rates = λ id h. h; securities = λ symbol h. h }) n in
+    let m = grown base (records_after base stamp (PlaceOrder o)) base.accounts base.permissions base.customer_taxes base.trades base.movements (record { brokers = λ id h. h; customers = λ id h. h; accounts = λ id h. h; rates = λ id h. h; securities = λ symbol h. h }) n in
     record {
       traded = All-last (KnowsTrade (records_after base stamp (PlaceOrder o))) base.trades _ m.traded (there (account_with base o.account) k.0, there (security_with base o.symbol) k.1.0);
       numbered = numbered-last 1 base.trades _ m.numbered (omega arith);
       parties = m.parties;
       permitted = m.permitted;
       taxed = m.taxed;
+      held = m.held;
     }
 names-kept base stamp (FeedTicks ticks) k n = ticks-named stamp base ticks n
 names-kept base stamp (CancelTrade id) k n = trades-named base _ _ (record { id = λ t. refl; account = λ t. refl; symbol = λ t. refl }) n
@@ -220,6 +239,9 @@ names-kept base stamp (CompleteTrade id price) k n = result-named base stamp pri
 names-kept base stamp (ChangeExecutors ids) k n = trades-named base _ _ (record { id = λ t. refl; account = λ t. refl; symbol = λ t. refl }) n
 names-kept base stamp (ChangeCashTypes account first last) k n = trades-named base _ _ (record { id = λ t. refl; account = λ t. refl; symbol = λ t. refl }) n
 names-kept base stamp (ChangeCashNames symbol first last) k n = trades-named base _ _ (record { id = λ t. refl; account = λ t. refl; symbol = λ t. refl }) n
+names-kept base stamp (DepositCash account amount) k n = movement-named base _ k.0 n
+names-kept base stamp (WithdrawCash account amount) k n = movement-named base _ k.0 n
+names-kept base stamp (SetOneDay day) k n = grown base (records_after base stamp (SetOneDay day)) base.accounts base.permissions base.customer_taxes base.trades base.movements (record { brokers = λ id h. h; customers = λ id h. h; accounts = λ id h. h; rates = λ id h. h; securities = λ symbol h. h }) n
 
 names-step : (base : Base) (now : ℕ) (command : Command) → refusal_of base now command ≡ None → IsNamed base → IsNamed (base_after base (next_stamp base now) command)
 names-step base now command h n =
@@ -228,7 +250,7 @@ names-step base now command h n =
 names-rows : (key : Option Key) (command : Command) (reply : Reply) (base : Base) → IsNamed base → IsNamed (keeping key command reply base)
 names-rows None command reply base n = n
 names-rows (Some key) command reply base n =
-    grown base (keeping (Some key) command reply base) base.accounts base.permissions base.customer_taxes base.trades
+    grown base (keeping (Some key) command reply base) base.accounts base.permissions base.customer_taxes base.trades base.movements
     (record { brokers = λ id h. h; customers = λ id h. h; accounts = λ id h. h; rates = λ id h. h; securities = λ symbol h. h }) n
 
 names-stay : IsKept IsNamed
@@ -241,4 +263,4 @@ still-named base after calls outcomes n r = run-kept IsNamed names-stay calls ou
 -- of each base that is reached
 pub is_named : (base : Base) → IsReached base → IsNamed base
 unfolding empty_base
-is_named base r = reached IsNamed names-stay (record { parties = tt; permitted = tt; taxed = tt; traded = tt; numbered = tt }) base r
+is_named base r = reached IsNamed names-stay (record { parties = tt; permitted = tt; taxed = tt; traded = tt; numbered = tt; held = tt }) base r

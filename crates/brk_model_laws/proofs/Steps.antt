@@ -4,7 +4,7 @@ use Rattle.std.specs.Option.{option_map_or}
 use Rattle.brk_money.specs.declared.refusal.Refusal.{Refusal}
 use Rattle.brk_model.specs.Records.{Trade}
 use Rattle.brk_model.specs.Base.{Base, trade_with}
-use Rattle.brk_model.specs.Commands.{Command, Tick, Reply, Booked, CompletedTrade, AddBroker, AddCustomer, AddAccount, AddPermission, AddSecurity, AddCharge, AddBand, AddTaxRate, AddCustomerTax, PlaceOrder, FeedTicks, CancelTrade, CompleteTrade, ChangeExecutors, ChangeCashTypes, ChangeCashNames}
+use Rattle.brk_model.specs.Commands.{Command, Tick, Reply, Booked, CompletedTrade, AddBroker, AddCustomer, AddAccount, AddPermission, AddSecurity, AddCharge, AddBand, AddTaxRate, AddCustomerTax, PlaceOrder, FeedTicks, CancelTrade, CompleteTrade, ChangeExecutors, ChangeCashTypes, ChangeCashNames, DepositCash, WithdrawCash, SetOneDay}
 use Rattle.brk_model.specs.Feed.{with_tick, with_ticks}
 use Rattle.brk_model.specs.Results.{with_result, completion}
 use Rattle.brk_model.specs.Tests.{next_stamp, refusal_of}
@@ -40,6 +40,9 @@ records-kept base stamp (CompleteTrade id price) = result-kept base stamp price 
 records-kept base stamp (ChangeExecutors ids) = refl
 records-kept base stamp (ChangeCashTypes account first last) = refl
 records-kept base stamp (ChangeCashNames symbol first last) = refl
+records-kept base stamp (DepositCash account amount) = refl
+records-kept base stamp (WithdrawCash account amount) = refl
+records-kept base stamp (SetOneDay day) = refl
 
 -- ---- the stamp
 
@@ -66,6 +69,9 @@ reply-stamp base stamp (CompleteTrade id price) = result-stamp base stamp price 
 reply-stamp base stamp (ChangeExecutors ids) = refl
 reply-stamp base stamp (ChangeCashTypes account first last) = refl
 reply-stamp base stamp (ChangeCashNames symbol first last) = refl
+reply-stamp base stamp (DepositCash account amount) = refl
+reply-stamp base stamp (WithdrawCash account amount) = refl
+reply-stamp base stamp (SetOneDay day) = refl
 
 above : (last : Option ℕ) (now : ℕ) → IfSome last (λ l. l < option_map_or (λ k. max now (k + 1)) last now)
 above None now = tt

@@ -1,14 +1,17 @@
 -- What the condition of form asks of tables, part by part.
-use Rattle.std.specs.Prelude.{◌≡◌, true, map, length, nat_le}
+use Rattle.std.specs.Prelude.{◌≡◌, true, map, filter, length, nat_le, is_none}
 use Rattle.std.specs.List.{list_all, range_with_len}
 use Rattle.std.specs.Option.{option_map_or}
-use Rattle.brk_money.specs.Moments.{last_stamp}
+use Rattle.brk_money.specs.Moments.{last_day, last_stamp}
+use Rattle.brk_model.specs.Limits.{greatest_id}
+use Rattle.brk_model.specs.Lists.{all_distinct}
+use Rattle.brk_model.specs.Schemas.{Schema}
 use Rattle.brk_model.specs.Tables.{Tables}
-use Rattle.brk_model.specs.Form.{kept_form, broker_form, customer_form, customer_limits, account_form, permission_form, security_form, last_trade_form, charge_form, band_form, no_overlap, tax_rate_form, customer_tax_form, trade_form, same_numbers, history_form, request_form, holding_form, summary_form, holding_history_form, settlement_form, cash_form, has_keys, one_tax_id_each, rises}
-use Rattle.brk_model.specs.Keys.{kept_key, broker_key, customer_key, account_key, permission_key, security_key, last_trade_key, charge_key, band_key, tax_rate_key, customer_tax_key, trade_key, history_key, request_key, holding_key, summary_key, holding_history_key, settlement_key, cash_key}
+use Rattle.brk_model.specs.Form.{kept_form, broker_form, customer_form, customer_limits, account_form, permission_form, security_form, last_trade_form, charge_form, band_form, no_overlap, tax_rate_form, customer_tax_form, trade_form, same_numbers, history_form, request_form, holding_form, summary_form, holding_history_form, settlement_form, cash_form, move_form, trades_moved, fits_schema, has_keys, one_tax_id_each, rises}
+use Rattle.brk_model.specs.Keys.{kept_key, broker_key, customer_key, account_key, permission_key, security_key, last_trade_key, charge_key, band_key, tax_rate_key, customer_tax_key, trade_key, history_key, request_key, holding_key, summary_key, holding_history_key, settlement_key, cash_key, move_key}
 
--- what has form
-pub record FormParts (t : Tables) : Type 0 where
+-- what has form, by the limits of a schema
+pub record FormParts (schema : Schema) (t : Tables) : Type 0 where
   pub clock : option_map_or (λ last. nat_le last last_stamp) t.last true ≡ true
   pub keys : has_keys t ≡ true
   pub tax_ids : one_tax_id_each t.customers ≡ true
@@ -21,19 +24,24 @@ pub record FormParts (t : Tables) : Type 0 where
   pub securities : list_all (security_form t) t.securities ≡ true
   pub last_trades : list_all (last_trade_form t) t.last_trades ≡ true
   pub charges : list_all charge_form t.charges ≡ true
-  pub bands : list_all band_form t.bands ≡ true
+  pub bands : list_all (band_form schema) t.bands ≡ true
   pub apart : no_overlap t.bands ≡ true
   pub tax_rates : list_all tax_rate_form t.tax_rates ≡ true
   pub customer_taxes : list_all (customer_tax_form t) t.customer_taxes ≡ true
-  pub trades : list_all (trade_form t) t.trades ≡ true
+  pub trades : list_all (trade_form schema t) t.trades ≡ true
   pub numbers : same_numbers (map (λ row. row.id) t.trades) (range_with_len 1 (length t.trades)) ≡ true
   pub history : list_all (history_form t) t.history ≡ true
-  pub requests : list_all (request_form t) t.requests ≡ true
+  pub requests : list_all (request_form schema t) t.requests ≡ true
   pub holdings : list_all (holding_form t) t.holdings ≡ true
-  pub summaries : list_all (summary_form t) t.summaries ≡ true
+  pub summaries : list_all (summary_form schema t) t.summaries ≡ true
   pub holding_history : list_all (holding_history_form t) t.holding_history ≡ true
   pub settlements : list_all (settlement_form t) t.settlements ≡ true
   pub cash : list_all (cash_form t) t.cash ≡ true
+  pub moves : list_all (move_form t) t.moves ≡ true
+  pub own_moves : all_distinct (trades_moved t.moves) ≡ true
+  pub counted : nat_le (length (filter (λ r. is_none r.trade) t.moves)) greatest_id ≡ true
+  pub rule : option_map_or (λ day. nat_le day last_day) t.rule true ≡ true
+  pub fits : fits_schema schema t ≡ true
 
 -- what has keys: each table rises by its own
 pub record KeysRise (t : Tables) : Type 0 where
@@ -56,3 +64,4 @@ pub record KeysRise (t : Tables) : Type 0 where
   pub holding_history : rises holding_history_key t.holding_history ≡ true
   pub settlements : rises settlement_key t.settlements ≡ true
   pub cash : rises cash_key t.cash ≡ true
+  pub moves : rises move_key t.moves ≡ true

@@ -3,7 +3,7 @@ use Rattle.std.specs.Prelude.{◌≡◌, ◌⊎◌, ⊤, ℕ, ◌+◌, ◌<◌, 
 use Rattle.brk_money.specs.Spelling.{Text}
 use Rattle.brk_model.specs.Records.{Key, Kept}
 use Rattle.brk_model.specs.Base.{Base, empty_base}
-use Rattle.brk_model.specs.Commands.{Command, Reply, Booked, Ordered, Ticked, CanceledTrade, CompletedTrade, Changed, Answer, Done, Again, Refused}
+use Rattle.brk_model.specs.Commands.{Command, Reply, Booked, Ordered, Ticked, CanceledTrade, CompletedTrade, Changed, MovedCash, Answer, Done, Again, Refused}
 use Rattle.brk_model.specs.Rows.{line_text, row_text}
 use Rattle.brk_model.specs.Keyed.{kept_under, keyed_step, repeated}
 use Rattle.brk_model.specs.Answers.{Fields, RowCall}
@@ -21,6 +21,7 @@ stamp_of (Ticked stamp triggered) = stamp
 stamp_of (CanceledTrade stamp) = stamp
 stamp_of (CompletedTrade stamp completion) = stamp
 stamp_of (Changed stamp count) = stamp
+stamp_of (MovedCash stamp move balance) = stamp
 
 -- the stamp of an outcome, where it was accepted
 abbrev pub stamp_in : Outcome → List ℕ

@@ -1,9 +1,9 @@
 -- What a base's records name is there, and its trades are numbered in turn.
 use Rattle.std.specs.Prelude.{◌≡◌, true, List, is_some}
 use Rattle.std.specs.List.{AllByRecursion}
-use Rattle.brk_model.specs.Records.{Account, Permission, CustomerTax, Trade}
+use Rattle.brk_model.specs.Records.{Account, Permission, CustomerTax, Trade, Movement}
 use Rattle.brk_model.specs.Base.{Base, customer_with, account_with, tax_rate_with}
-use Rattle.brk_model.specs.Names.{KnowsBroker, KnowsCustomer, KnowsAccount, KnowsSecurity, NumberedFrom}
+use Rattle.brk_model.specs.Names.{KnowsBroker, KnowsCustomer, KnowsAccount, KnowsSecurity, KnowsHolder, NumberedFrom}
 
 -- an account's customer and broker are there
 abbrev pub KnowsParties : Base → Account → Type 0
@@ -22,13 +22,14 @@ abbrev pub KnowsTrade : Base → Trade → Type 0
 KnowsTrade base t = KnowsAccount base t × KnowsSecurity base t
 
 -- what records of these lists name is there in a base
-pub record Names (base : Base) (accounts : List Account) (permissions : List Permission) (taxes : List CustomerTax) (trades : List Trade) : Type 0 where
+pub record Names (base : Base) (accounts : List Account) (permissions : List Permission) (taxes : List CustomerTax) (trades : List Trade) (movements : List Movement) : Type 0 where
   pub parties : AllByRecursion (KnowsParties base) accounts
   pub permitted : AllByRecursion (KnowsPermitted base) permissions
   pub taxed : AllByRecursion (KnowsTax base) taxes
   pub traded : AllByRecursion (KnowsTrade base) trades
   pub numbered : NumberedFrom 1 trades
+  pub held : AllByRecursion (KnowsHolder base) movements
 
 -- what a base's records name is there
 abbrev pub IsNamed : Base → Type 0
-IsNamed base = Names base base.accounts base.permissions base.customer_taxes base.trades
+IsNamed base = Names base base.accounts base.permissions base.customer_taxes base.trades base.movements

@@ -1,4 +1,5 @@
 pub mod Calendar
+pub mod DayNumbers
 pub mod DayTexts
 pub mod Digits
 pub mod Padded

@@ -77,7 +77,7 @@ pub at_most_none : (text : Text) (limit : ℕ) → ((n : ℕ) → n ≤ limit �
 at_most_none text limit h = at_most_by limit (number_of text) (λ n low e. h n low (spelled decimal (digits_value text) n text e))
 
 -- one digit more
-digit_kept : (k : ℕ) (ds : List ℕ) → k ≤ 9 → filter is_ascii_digit ((48 + k) ∷ ds) ≡ (48 + k) ∷ filter is_ascii_digit ds
+pub digit_kept : (k : ℕ) (ds : List ℕ) → k ≤ 9 → filter is_ascii_digit ((48 + k) ∷ ds) ≡ (48 + k) ∷ filter is_ascii_digit ds
 digit_kept k ds h = first is_ascii_digit (48 + k) ds (search rules)
   where
     first : (test : ℕ → Bool) (c : ℕ) (ds : List ℕ) → test c ≡ true → filter test (c ∷ ds) ≡ c ∷ filter test ds

@@ -16,7 +16,7 @@ use Rattle.brk_money.specs.declared.side.Side.TheVariants.{Buy, Sell}
 use Rattle.brk_money.specs.declared.refusal.Limit.{Limit}
 use Rattle.brk_money.specs.declared.refusal.Limit.TheVariants as limit
 use Rattle.brk_money.specs.declared.refusal.Refusal.{Refusal}
-use Rattle.brk_money.specs.declared.refusal.Refusal.TheVariants.{BadText, BadQty, BadPrice, BadType, TooMany, KeyReused, NoAccount, NoCustomer, NoBroker, NoSecurity, NoTrade, NoTax, WrongStatus, NotPermitted, Exists, Overlap, TaxSum, NoCharge, NoRate, Range, ClockEnd}
+use Rattle.brk_money.specs.declared.refusal.Refusal.TheVariants.{BadText, BadQty, BadPrice, BadType, TooMany, KeyReused, NoAccount, NoCustomer, NoBroker, NoSecurity, NoTrade, NoTax, WrongStatus, NotPermitted, Exists, Overlap, TaxSum, NoCharge, NoRate, Range, ClockEnd, TooEarly}
 
 -- which way a type goes (TT_IS_SELL)
 abbrev pub side_of : TradeType → Side
@@ -97,6 +97,7 @@ limit_word limit.Broker = codes "broker"
 limit_word limit.Volume = codes "volume"
 limit_word limit.Trades = codes "trades"
 limit_word limit.Accounts = codes "accounts"
+limit_word limit.Moves = codes "moves"
 
 -- the number that is printed of a refusal
 abbrev pub refusal_number : Refusal → ℕ
@@ -121,6 +122,7 @@ refusal_number BadText = 18
 refusal_number KeyReused = 19
 refusal_number TooMany = 20
 refusal_number ClockEnd = 21
+refusal_number TooEarly = 22
 
 -- what a refusal says beside its number
 abbrev pub refusal_words : Refusal → List (List ℕ)

@@ -3,7 +3,7 @@ ghost use Rattle.brk_money.specs.declared.qty.TheConstants.Qty;
 
 use std::marker::Model;
 
-/// A number of shares that a trade is for, 1 to 999,999.
+/// A number of shares that a trade is for, 1 to 9,999,999.
 #[derive(Clone, Copy, Debug, PartialEq, Eq)]
 pub struct Qty(u32);
 
@@ -19,7 +19,7 @@ impl Model for Qty {
 
 impl Qty {
     /// The greatest quantity.
-    pub const GREATEST: u32 = 999_999;
+    pub const GREATEST: u32 = 9_999_999;
 
     /// The quantity of so many shares, where it is within the limits.
     pub fn new(shares: u32) -> Option<Qty>

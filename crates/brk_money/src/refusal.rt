@@ -23,6 +23,8 @@ pub enum Limit {
     Trades,
     /// The accounts of a customer.
     Accounts,
+    /// The number of movements.
+    Moves,
 }
 
 impl Limit {
@@ -37,6 +39,7 @@ impl Limit {
             Limit::Volume => "volume",
             Limit::Trades => "trades",
             Limit::Accounts => "accounts",
+            Limit::Moves => "moves",
         }
     }
 }
@@ -81,10 +84,12 @@ pub enum Refusal {
     Range(Limit),
     /// No later stamp is left, or a due day would fall after 9999-12-31.
     ClockEnd,
+    /// The day is not after that of the command's stamp.
+    TooEarly,
 }
 
 impl Refusal {
-    /// The number that is printed of the refusal, 1 to 21.
+    /// The number that is printed of the refusal, 1 to 22.
     pub fn number(self) -> u8
         ensures { result ≡ refusal_number self }
     {
@@ -110,6 +115,7 @@ impl Refusal {
             Refusal::KeyReused => 19,
             Refusal::TooMany => 20,
             Refusal::ClockEnd => 21,
+            Refusal::TooEarly => 22,
         }
     }
 }

@@ -3,9 +3,9 @@ use Rattle.std.proofs.Common.{◌≡◌, ℕ, refl, length, List, [], ◌∷◌,
 use Rattle.std.specs.Borrow.{Bor}
 use Rattle.std.specs.Prelude.{Ok, Err}
 use Rattle.brk_money.specs.declared.refusal.Refusal.TheVariants.{BadText}
-use Rattle.brk_model.specs.Commands.{CompleteTrade}
-use Rattle.brk_model.specs.Forms.{◌⊛◌, read_id, read_price}
-use Rattle.brk_model.specs.Parse.{read_cancel, read_order, read_result}
+use Rattle.brk_model.specs.Commands.{Command, CompleteTrade}
+use Rattle.brk_model.specs.Forms.{◌⊛◌, read_amount, read_id, read_price}
+use Rattle.brk_model.specs.Parse.{read_cancel, read_movement, read_oneday, read_order, read_result}
 use Rattle.brk_ref.specs.Fields.{texts}
 use Rattle.brk_ref.proofs.Applied.{text_left, text_right}
 
@@ -29,6 +29,28 @@ no_trade (a ∷ []) d h e = absurd (omega (arith, h))
 no_trade (a ∷ b ∷ []) d h e =
     text_left (Ok (λ t p. CompleteTrade t p) ⊛ read_id a.now) (read_price b.now) (text_right (Ok (λ t p. CompleteTrade t p)) (read_id a.now) e)
 no_trade (a ∷ b ∷ c ∷ rest) d h e = absurd (omega (arith, h))
+
+-- so has a movement
+pub not_movement : (moved : ℕ → ℕ → Command) (fields : List (Bor (List ℕ))) → (length fields ≡ 2 → ⊥) → read_movement moved (texts fields) ≡ Err BadText
+not_movement moved [] h = refl
+not_movement moved (a ∷ []) h = refl
+not_movement moved (a ∷ b ∷ []) h = absurd (h refl)
+not_movement moved (a ∷ b ∷ c ∷ rest) h = refl
+
+-- and where its account is refused, it is
+pub no_account : (moved : ℕ → ℕ → Command) (fields : List (Bor (List ℕ))) (d : Bor (List ℕ)) → length fields ≡ 2 → read_id (get_or fields 0 d).now ≡ Err BadText
+    → read_movement moved (texts fields) ≡ Err BadText
+no_account moved [] d h e = absurd (omega (arith, h))
+no_account moved (a ∷ []) d h e = absurd (omega (arith, h))
+no_account moved (a ∷ b ∷ []) d h e =
+    text_left (Ok (λ a n. moved a n) ⊛ read_id a.now) (read_amount b.now) (text_right (Ok (λ a n. moved a n)) (read_id a.now) e)
+no_account moved (a ∷ b ∷ c ∷ rest) d h e = absurd (omega (arith, h))
+
+-- a settlement day has one
+pub not_one_day : (fields : List (Bor (List ℕ))) → (length fields ≡ 1 → ⊥) → read_oneday (texts fields) ≡ Err BadText
+not_one_day [] h = refl
+not_one_day (a ∷ []) h = absurd (h refl)
+not_one_day (a ∷ b ∷ rest) h = refl
 
 -- an order has ten
 pub not_order : (fields : List (Bor (List ℕ))) → (length fields ≡ 10 → ⊥) → read_order (texts fields) ≡ Err BadText

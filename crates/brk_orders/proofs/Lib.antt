@@ -3,3 +3,4 @@ mod Refused
 mod Joined
 mod OrderFields
 mod Moments
+mod Days

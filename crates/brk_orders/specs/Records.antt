@@ -2,9 +2,12 @@
 use Rattle.std.specs.Prelude.{ℕ, List, [], ◌∷◌, map}
 use Rattle.std.specs.Global.{Vec}
 use Rattle.brk_money.specs.Spelling.{Text}
-use Rattle.brk_model.specs.Commands.{Command, Order, Tick, CompleteTrade, ChangeExecutors, ChangeCashTypes, ChangeCashNames}
+use Rattle.brk_model.specs.Commands.{Command, Order, Tick, CompleteTrade, ChangeExecutors, ChangeCashTypes, ChangeCashNames, DepositCash, WithdrawCash}
 use Rattle.brk_ref.specs.Records.{executor_of}
 use Rattle.brk_orders.specs.declared.completion.Completion as completion
+use Rattle.brk_orders.specs.declared.movement.Direction.{Direction}
+use Rattle.brk_orders.specs.declared.movement.Direction.TheVariants.{Deposit, Withdrawal}
+use Rattle.brk_orders.specs.declared.movement.Movement.{Movement}
 use Rattle.brk_orders.specs.declared.order.Order as order
 use Rattle.brk_orders.specs.declared.order.Told as told
 use Rattle.brk_orders.specs.declared.tick.Tick as tick
@@ -46,3 +49,12 @@ abbrev pub update_of : told_update.Update → Command
 update_of (update.Executors trades) = ChangeExecutors trades
 update_of (update.CashTypes account span) = ChangeCashTypes account span.first span.last
 update_of (update.CashNames symbol span) = ChangeCashNames symbol span.first span.last
+
+-- what is told to move cash in a direction, of an account and an amount
+abbrev pub moved_by : Direction → (account amount : ℕ) → Command
+moved_by Deposit account amount = DepositCash account amount
+moved_by Withdrawal account amount = WithdrawCash account amount
+
+-- cash that is moved
+abbrev pub movement_of : Movement → Command
+movement_of m = moved_by m.direction m.account m.amount

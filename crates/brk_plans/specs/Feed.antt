@@ -128,6 +128,7 @@ tells stamp ids (reply.Ordered ordered) = ⊥
 tells stamp ids (reply.Canceled at) = ⊥
 tells stamp ids (reply.Completed completed) = ⊥
 tells stamp ids (reply.Changed at count) = ⊥
+tells stamp ids (reply.Moved at number balance) = ⊥
 
 -- the plan of a feed that is accepted: the changes of its ticks are made, the last stamp is moved, and the trades that
 -- were triggered are told with the stamp

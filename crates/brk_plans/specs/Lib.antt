@@ -5,3 +5,5 @@ pub mod Cancel
 pub mod Feed
 pub mod Update
 pub mod Commands
+pub mod Movement
+pub mod OneDay

@@ -1,6 +1,6 @@
 -- What replies are in the abstract brokerage.
 use Rattle.brk_model.specs.Commands as model
-use Rattle.brk_model.specs.Commands.{Reply, Booked, Ordered, Ticked, CanceledTrade, CompletedTrade, Changed}
+use Rattle.brk_model.specs.Commands.{Reply, Booked, Ordered, Ticked, CanceledTrade, CompletedTrade, Changed, MovedCash}
 use Rattle.brk_plans.specs.declared.estimate.Estimate.{Estimate}
 use Rattle.brk_plans.specs.declared.reply.Completed.{Completed}
 use Rattle.brk_plans.specs.declared.reply.Reply as trade
@@ -38,6 +38,7 @@ reply_of (reply.Ticked stamp triggered) = Ticked stamp triggered.items
 reply_of (reply.Canceled stamp) = CanceledTrade stamp
 reply_of (reply.Completed completed) = CompletedTrade completed.stamp (completion_of completed)
 reply_of (reply.Changed stamp count) = Changed stamp count
+reply_of (reply.Moved stamp number balance) = MovedCash stamp number balance
 
 -- an estimate of the definitions, as the program has it
 abbrev pub told : model.Estimate → Estimate

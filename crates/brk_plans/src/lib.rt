@@ -1,11 +1,13 @@
 //! What a plan is, a reply and the changes of rows that go with it, and the plans of commands that look at no lots: reference
-//! rows, ticks of the market, cancels, corrections of words.
+//! rows, ticks of the market, cancels, corrections of words, movements of cash, the settlement day.
 #![tactic(auto)]
 
 pub mod cancel;
 pub mod corrected;
 pub mod estimate;
 pub mod feed;
+pub mod movement;
+pub mod one_day;
 pub mod plan;
 pub mod quote;
 pub mod reference;
@@ -19,6 +21,8 @@ pub use cancel::plan_cancel;
 pub use corrected::{Corrected, Paid, Settled};
 pub use estimate::Estimate;
 pub use feed::{has_no_quote, plan_feed, triggers};
+pub use movement::{MoveFound, added, plan_move};
+pub use one_day::plan_oneday;
 pub use plan::Plan;
 pub use quote::{Quote, quote_with};
 pub use reference::{Found, Reference, plan_reference};

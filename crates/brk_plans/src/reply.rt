@@ -1,5 +1,5 @@
 use crate::estimate::Estimate;
-use brk_money::{Amount, Cents, Day, Id, Stamp, Status};
+use brk_money::{Amount, Cents, Day, Id, MoveId, Stamp, Status};
 
 /// What is told of an accepted order (Trade-Order).
 #[derive(Clone, Copy, PartialEq, Eq)]
@@ -47,4 +47,12 @@ pub enum Reply {
     Completed(Completed),
     /// Words of so many trades were corrected.
     Changed(Stamp, usize),
+    /// Cash was moved without a trade.
+    Moved {
+        stamp: Stamp,
+        /// The number of its cash row.
+        number: MoveId,
+        /// The account's balance after it.
+        balance: Cents,
+    },
 }

@@ -2,7 +2,7 @@
 use Rattle.std.proofs.Common.{◌≡◌, Bool, true, false, refl, arith, cond, ◌&&◌}
 use Rattle.std.specs.Prelude.{Option, Some, None, Ok, Err, IfErr, nat_le, nat_abs}
 use Rattle.brk_money.specs.declared.refusal.Refusal.{Refusal}
-use Rattle.brk_money.specs.declared.refusal.Refusal.TheVariants.{BadText, BadQty, BadPrice, BadType, TooMany, KeyReused, NoAccount, NoCustomer, NoBroker, NoSecurity, NoTrade, NoTax, WrongStatus, NotPermitted, Exists, Overlap, TaxSum, NoCharge, NoRate, Range, ClockEnd}
+use Rattle.brk_money.specs.declared.refusal.Refusal.TheVariants.{BadText, BadQty, BadPrice, BadType, TooMany, KeyReused, NoAccount, NoCustomer, NoBroker, NoSecurity, NoTrade, NoTax, WrongStatus, NotPermitted, Exists, Overlap, TaxSum, NoCharge, NoRate, Range, ClockEnd, TooEarly}
 use Rattle.std.proofs.lemmas.Bool.{le-leb}
 use Rattle.std.specs.Option.{option_and_then}
 use Rattle.brk_money.specs.Spelling.{Text, number_of, cents_of}
@@ -80,6 +80,7 @@ least NoCharge = refl
 least NoRate = refl
 least (Range x) = refl
 least ClockEnd = refl
+least TooEarly = refl
 
 pub text_left : {A B : Type 0} (f : Read (A → B)) (x : Read A) → f ≡ Err BadText → f ⊛ x ≡ Err BadText
 text_left f (Ok x) e = rw e refl

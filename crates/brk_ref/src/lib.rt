@@ -15,6 +15,7 @@ pub mod executor;
 pub mod key;
 pub mod last_trade;
 pub mod listing;
+pub mod moved_amount;
 pub mod name;
 pub mod numbers;
 pub mod permission;
@@ -43,10 +44,11 @@ pub use executor::Executor;
 pub use key::{Kept, Key};
 pub use last_trade::LastTrade;
 pub use listing::{Listing, check_security};
+pub use moved_amount::MovedAmount;
 pub use name::Name;
 pub use numbers::{
-    parse_charge_amount, parse_id, parse_opening, parse_price, parse_qty, parse_rate,
-    parse_tax_rate, parse_tax_status,
+    parse_charge_amount, parse_id, parse_moved_amount, parse_opening, parse_price, parse_qty,
+    parse_rate, parse_tax_rate, parse_tax_status,
 };
 pub use permission::{Permission, check_permission, permitted};
 pub use row_number::RowNumber;

@@ -1,10 +1,11 @@
 ghost use Rattle.std.specs.Prelude.{◌≡◌};
 ghost use Rattle.std.specs.Option.{ok_or};
 ghost use Rattle.brk_money.specs.Spelling.{at_most, cents_of, most_cents};
-ghost use Rattle.brk_model.specs.Forms.{read_charge_amount, read_commission_rate, read_id, read_opening, read_price, read_qty, read_rate_of_tax, read_tax_status, unsigned};
+ghost use Rattle.brk_model.specs.Forms.{read_amount, read_charge_amount, read_commission_rate, read_id, read_opening, read_price, read_qty, read_rate_of_tax, read_tax_status, unsigned};
 ghost use Rattle.brk_money.specs.declared.refusal.Refusal.TheVariants.{BadPrice, BadQty, BadText};
 
 use crate::charge_amount::ChargeAmount;
+use crate::moved_amount::MovedAmount;
 use brk_money::{Cents, Id, Price, Qty, Rate, TaxRate, TaxStatus, parse_cents, parse_whole};
 
 /// The id that the bytes spell.
@@ -102,4 +103,14 @@ pub fn parse_charge_amount(bytes: &[u8]) -> Option<ChargeAmount>
         return None;
     }
     ChargeAmount::new(cents as u32)
+}
+
+/// The amount that the bytes spell, which is moved.
+pub fn parse_moved_amount(bytes: &[u8]) -> Option<MovedAmount>
+    ensures { ok_or result BadText ≡ read_amount bytes.now }
+{
+    let Some(cents) = parse_unsigned(bytes) else {
+        return None;
+    };
+    MovedAmount::new(cents)
 }

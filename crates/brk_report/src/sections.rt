@@ -25,7 +25,6 @@ fn broken(stop: Stop<LinesFault>) -> LinesFault
 
 /// The opening balance with the cash rows of earlier days.
 pub(crate) fn sum_before<S: Alter>(
-    alloc: Global,
     desk: &mut Desk<S>,
     account: Id,
     from: Day,
@@ -40,7 +39,7 @@ pub(crate) fn sum_before<S: Alter>(
     let mut sum = Sum {
         total: Wide::from(opening),
     };
-    match desk.visit_cash(alloc, account, Stamp::nearest(0), last, &mut sum) {
+    match desk.visit_cash(account, Stamp::nearest(0), last, &mut sum) {
         Ok(()) => Ok(sum.total),
         Err(stop) => Err(broken(stop)),
     }
@@ -67,13 +66,7 @@ pub(crate) fn write_cash<W: Write, S: Alter>(
             total: opening,
         },
     };
-    match desk.visit_cash(
-        alloc,
-        account,
-        first_stamp(from),
-        last_stamp(to),
-        &mut visitor,
-    ) {
+    match desk.visit_cash(account, first_stamp(from), last_stamp(to), &mut visitor) {
         Ok(()) => Ok(visitor.moved()),
         Err(stop) => Err(broken(stop)),
     }

@@ -24,7 +24,7 @@ fn write_all<W: Write, S: Alter>(
     ensures keeps { Keeps S.Store desk.old desk.new }
     ensures written { OverRows S.Store desk.old desk.new (λ t. Writes (all_lines t account head.now from to) (W.contents writer.old) (W.contents writer.new) result) }
 {
-    let opening = sum_before(alloc, desk, account, from, head.opening)?;
+    let opening = sum_before(desk, account, from, head.opening)?;
     write_top(alloc, account, head, from, to, opening, writer)?;
     let cash = write_days(alloc, desk, account, from, to, opening, writer)?;
     write_held(alloc, desk, account, head.holdings, cash, writer)

@@ -7,7 +7,7 @@ ghost use Rattle.brk_money.specs.declared.fault.Fault.TheVariants as fault;
 ghost use Rattle.brk_report_lines.specs.Written.{ended};
 ghost use Rattle.brk_report_lines.specs.declared.fault.LinesFault.TheVariants.{Desk};
 
-use brk_changes::{CashRow, HoldingRow};
+use brk_changes::{HoldingRow, MoveRow};
 use brk_desk::Visitor;
 use brk_money::{Cents, Fault, Wide};
 use brk_report_lines::{LinesFault, cash_line, lot_line, write_line};
@@ -35,11 +35,11 @@ impl Line for HoldingRow {
     }
 }
 
-impl Line for CashRow {
+impl Line for MoveRow {
     ghost use Rattle.brk_model.specs.Statement.{cash_line};
-    ghost use Rattle.brk_changes.specs.Rows.{cash_row_of};
+    ghost use Rattle.brk_changes.specs.Rows.{move_row_of};
 
-    ghost line = { λ r. cash_line (cash_row_of r) };
+    ghost line = { λ r. cash_line (move_row_of r) };
 
     fn line(&self, alloc: Global) -> Result<Vec<u8>, Fault> {
         cash_line(alloc, self)
@@ -63,7 +63,7 @@ pub struct Sum {
     pub total: Wide,
 }
 
-impl Visitor<CashRow, LinesFault> for Sum {
+impl Visitor<MoveRow, LinesFault> for Sum {
     ghost use Rattle.std.specs.Prelude.{◌≡◌, ◌+ℤ◌};
     ghost use Rattle.brk_money.specs.declared.fault.Fault.TheVariants.{Store};
     ghost use Rattle.brk_report_lines.specs.declared.fault.LinesFault.TheVariants.{Desk};
@@ -76,7 +76,7 @@ impl Visitor<CashRow, LinesFault> for Sum {
 
     ghost stops = { λ p row e q. e ≡ Desk Store };
 
-    fn visit(&mut self, item: &CashRow) -> Result<(), LinesFault> {
+    fn visit(&mut self, item: &MoveRow) -> Result<(), LinesFault> {
         self.total = added(self.total, item.amount)?;
         Ok(())
     }
@@ -146,11 +146,11 @@ impl<W> CashLines<'_, W> {
     }
 }
 
-impl<W: Write> Visitor<CashRow, LinesFault> for CashLines<'_, W> {
+impl<W: Write> Visitor<MoveRow, LinesFault> for CashLines<'_, W> {
     ghost use Rattle.std.specs.Prelude.{◌≡◌, ◌+◌, ◌+ℤ◌, [], ◌∷◌, refl};
     ghost use Rattle.std.proofs.Common.{◌∙◌};
     ghost use Rattle.std.specs.Io.KnownBytes.{Appends};
-    ghost use Rattle.brk_changes.specs.Rows.{cash_row_of};
+    ghost use Rattle.brk_changes.specs.Rows.{move_row_of};
     ghost use Rattle.brk_model.specs.Statement.{cash_line};
     ghost use Rattle.brk_report_lines.specs.Written.{BreaksIn, ended};
 
@@ -158,11 +158,11 @@ impl<W: Write> Visitor<CashRow, LinesFault> for CashLines<'_, W> {
 
     ghost leads = { λ p q. q.writer.ghost_name ≡ p.writer.ghost_name };
 
-    ghost takes = { λ p r q. (q.moved.total ≡ p.moved.total +ℤ r.amount) × (q.moved.count ≡ p.moved.count + 1) × Appends (W.contents p.writer.now) (W.contents q.writer.now) (ended (cash_line (cash_row_of r))) };
+    ghost takes = { λ p r q. (q.moved.total ≡ p.moved.total +ℤ r.amount) × (q.moved.count ≡ p.moved.count + 1) × Appends (W.contents p.writer.now) (W.contents q.writer.now) (ended (cash_line (move_row_of r))) };
 
-    ghost stops = { λ p r e q. BreaksIn (cash_line (cash_row_of r) ∷ []) (W.contents p.writer.now) (W.contents q.writer.now) e };
+    ghost stops = { λ p r e q. BreaksIn (cash_line (move_row_of r) ∷ []) (W.contents p.writer.now) (W.contents q.writer.now) e };
 
-    fn visit(&mut self, item: &CashRow) -> Result<(), LinesFault> {
+    fn visit(&mut self, item: &MoveRow) -> Result<(), LinesFault> {
         let total = added(self.moved.total, item.amount)?;
         let Some(count) = self.moved.count.checked_add(1) else {
             return Err(LinesFault::Desk(Fault::Store));

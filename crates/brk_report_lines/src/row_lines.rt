@@ -2,19 +2,19 @@
 
 ghost use Rattle.std.specs.Prelude.{◌≡◌, Err, IfOk, OnErr};
 ghost use Rattle.brk_money.specs.declared.fault.Fault.TheVariants.{Memory};
-ghost use Rattle.brk_changes.specs.Rows.{cash_row_of, holding_row_of};
+ghost use Rattle.brk_changes.specs.Rows.{holding_row_of, move_row_of};
 ghost use Rattle.brk_model.specs.Statement as statement;
 ghost use Rattle.brk_report_lines.specs.Written.{ended};
 
 use crate::columns::{put_left, put_right};
-use brk_changes::{CashRow, HoldingRow};
+use brk_changes::{HoldingRow, MoveRow};
 use brk_money::{Fault, Wide, day_of, write_cents, write_day};
 use itoa::Buffer;
 use std::alloc::Global;
 
-/// A cash row: its day, what it moved, and its text.
-pub fn cash_line(alloc: Global, row: &CashRow) -> Result<Vec<u8>, Fault>
-    ensures line { IfOk result (λ line. line.items ≡ ended (statement.cash_line (cash_row_of row.now))) }
+/// A cash row: its day, its amount, and its text.
+pub fn cash_line(alloc: Global, row: &MoveRow) -> Result<Vec<u8>, Fault>
+    ensures line { IfOk result (λ line. line.items ≡ ended (statement.cash_line (move_row_of row.now))) }
     ensures fault { OnErr result (result ≡ Err Memory) }
 {
     let mut cents = Vec::new(alloc);

@@ -1,11 +1,11 @@
 -- The tables of a desk, made one after the other in a database that has others.
-use Rattle.std.proofs.Common.{◌≡◌, ◌≢◌, ◌⊎◌, inl, inr, ℕ, ◌==◌, List, [], ◌∷◌, ◌++◌, Bool, true, false, not, ◌||◌, ne_eqb, refl, sym, ap, subst, ◌∙◌}
+use Rattle.std.proofs.Common.{◌≡◌, ◌≢◌, ◌⊎◌, inl, inr, ℕ, ◌==◌, List, [], ◌∷◌, ◌++◌, map, Bool, true, false, not, ◌||◌, ne_eqb, refl, sym, ap, subst, ◌∙◌}
 use Rattle.std.specs.List.{AllByRecursion, list_all}
 use Rattle.sqlite_trees.specs.Tree.{Trees}
 use Rattle.sqlite_catalog.specs.Change.{KeepsRows}
 use Rattle.sqlite_schema.specs.declared.schema.Table.{Table}
 use Rattle.sqlite.specs.Effect.{Database, IsDatabase}
-use Rattle.brk_rows.specs.Desk.{Desk, Stands, Makes, is_inert, is_calm_at, IsCalm, Founds}
+use Rattle.brk_rows.specs.Desk.{Desk, Stands, Makes, MakesEach, is_inert, is_calm_at, IsCalm, Founds}
 use Rattle.brk_rows.proofs.Created.{all_at}
 use Rattle.brk_rows.proofs.Effects.{split}
 use Rattle.brk_rows.proofs.Kept.{none_held}
@@ -127,6 +127,19 @@ module _ {W T : Type 0} (desk : Desk W T) where
         emptied v (inr ne) (inl e) = absurd (ne e)
         emptied v (inr ne) (inr h) = same_tree v h ∙ p.empty v h
 
+  -- w, or one of In
+  abbrev pub OrIn : W → (W → Type 0) → W → Type 0
+  OrIn w In v = (v ≡ w) ⊎ In v
+
+  -- one of some tables, or one of In
+  abbrev pub Among : List W → (W → Type 0) → W → Type 0
+  Among [] In = In
+  Among (w ∷ ws) In = Among ws (OrIn w In)
+
+  pub part_each : ((w v : W) → (v ≡ w) ⊎ (v ≢ w)) → (ws : List W) (In : W → Type 0) (old mid new : Database) → Part desk In old mid → MakesEach (map desk.shape ws) mid new → Part desk (Among ws In) old new
+  part_each split [] In old mid new p made = subst (Part desk In old) (sym made) p
+  part_each split (w ∷ ws) In old mid new p made = part_each split ws (OrIn w In) old made.0 new (part_more In old mid made.0 p w (split w) made.1) made.2
+
   -- all of them are made
   pub founded : (In : W → Type 0) (old new : Database) → Part desk In old new → IsDatabase new → ((w : W) → In w) → (t : T) → ((w : W) → desk.list w t ≡ []) → Founds desk t old new
   founded In old new p sound all t none = record {
@@ -142,3 +155,11 @@ module _ {W T : Type 0} (desk : Desk W T) where
     fresh = λ w. p.fresh w (all w);
     others = record { more = p.more; tables = p.tables; rows = p.rows };
   }
+
+-- the trees obey the schema after the last
+pub each_sound : (shapes : List (ℕ → Table)) (old new : Database) → IsDatabase old → MakesEach shapes old new → IsDatabase new
+each_sound [] old new sound made = subst IsDatabase (sym made) sound
+each_sound (shape ∷ shapes) old new sound made = each_sound shapes made.0 new made.1.sound made.2
+
+pub first_sound : (shape : ℕ → Table) (shapes : List (ℕ → Table)) (old new : Database) → MakesEach (shape ∷ shapes) old new → IsDatabase new
+first_sound shape shapes old new made = each_sound shapes made.0 new made.1.sound made.2

@@ -102,6 +102,11 @@ pub record Makes (old new : Database) (shape : ℕ → Table) : Type 0 where
   pub inert : list_all is_inert more ≡ true
   pub sound : IsDatabase new
 
+-- several are made, one after another
+abbrev pub MakesEach : List (ℕ → Table) → Database → Database → Type 0
+MakesEach [] old new = new ≡ old
+MakesEach (shape ∷ shapes) old new = (mid : Database) × Makes old mid shape × MakesEach shapes mid new
+
 -- ---- all of them
 
 -- W names the tables, and T has a list for each
@@ -122,6 +127,15 @@ pub record HasTables {W T : Type 0} (desk : Desk W T) (t : T) (tree : W → ℕ)
   -- the trees list the schema and obey it, so that whoever opens them again finds it
   pub sound : IsDatabase db
   pub rows : (w : W) → Holds (desk.shape w (tree w)) (desk.encode w) (desk.order w) (desk.list w t) (db.trees (tree w))
+
+-- The database has those of the tables that are In, as HasTables says of all of them.
+pub record HasSome {W T : Type 0} (desk : Desk W T) (In : W → Type 0) (t : T) (tree : W → ℕ) (db : Database) : Type 0 where
+  pub place : W → ℕ
+  pub stands : (w : W) → In w → Stands db.schema (desk.shape w (tree w)) (place w)
+  pub apart : (v w : W) → In v → In w → tree v ≡ tree w → v ≡ w
+  pub calm : (w : W) → In w → IsCalm db.schema (tree w)
+  pub sound : IsDatabase db
+  pub rows : (w : W) → In w → Holds (desk.shape w (tree w)) (desk.encode w) (desk.order w) (desk.list w t) (db.trees (tree w))
 
 -- The schema stays, and so do the rows of each table in none of these trees, unless a foreign key of its own acts on them.
 pub record SparesStrangers {W : Type 0} (tree : W → ℕ) (old new : Database) : Type 0 where

@@ -3,7 +3,7 @@ use Rattle.std.proofs.Common.{◌≡◌, refl}
 use Rattle.std.specs.Fmt.{digits}
 use Rattle.brk_money.specs.Kinds.{refusal_fields, refusal_text}
 use Rattle.brk_money.specs.declared.refusal.Refusal.{Refusal}
-use Rattle.brk_money.specs.declared.refusal.Refusal.TheVariants.{BadText, BadQty, BadPrice, BadType, TooMany, KeyReused, NoAccount, NoCustomer, NoBroker, NoSecurity, NoTrade, NoTax, WrongStatus, NotPermitted, Exists, Overlap, TaxSum, NoCharge, NoRate, Range, ClockEnd}
+use Rattle.brk_money.specs.declared.refusal.Refusal.TheVariants.{BadText, BadQty, BadPrice, BadType, TooMany, KeyReused, NoAccount, NoCustomer, NoBroker, NoSecurity, NoTrade, NoTax, WrongStatus, NotPermitted, Exists, Overlap, TaxSum, NoCharge, NoRate, Range, ClockEnd, TooEarly}
 use Rattle.brk_money.specs.declared.refusal.Limit.TheVariants as limit
 use Rattle.brk_money.specs.declared.status.Status.TheVariants as status
 use Rattle.brk_web.specs.Routes.{parts_at}
@@ -30,6 +30,7 @@ refusal_parts TaxSum = refl
 refusal_parts NoCharge = refl
 refusal_parts NoRate = refl
 refusal_parts ClockEnd = refl
+refusal_parts TooEarly = refl
 refusal_parts (WrongStatus status.Completed) = refl
 refusal_parts (WrongStatus status.Submitted) = refl
 refusal_parts (WrongStatus status.Pending) = refl
@@ -41,3 +42,4 @@ refusal_parts (Range limit.Broker) = refl
 refusal_parts (Range limit.Volume) = refl
 refusal_parts (Range limit.Trades) = refl
 refusal_parts (Range limit.Accounts) = refl
+refusal_parts (Range limit.Moves) = refl

@@ -1,14 +1,14 @@
 //! The records of trades that are looked up.
 
 ghost use Rattle.std.specs.Prelude.{◌≡◌, ◌++◌, ◌∷◌, [], Err, IfOk, OnErr, OnOk, flat_map, map, option_map, option_to_list};
-ghost use Rattle.brk_changes.specs.Rows.{cash_row_of, settlement_row_of, trade_row_of};
+ghost use Rattle.brk_changes.specs.Rows.{move_row_of, settlement_row_of, trade_row_of};
 ghost use Rattle.brk_model.specs.LookupView as model;
 ghost use Rattle.brk_money.specs.declared.fault.Fault.TheVariants.{Memory};
 ghost use Rattle.brk_view.specs.Lookup.{condition_fields, cost_fields, looked_up_records, moment_record, state_fields, term_fields};
 ghost use Rattle.brk_view.specs.Views.{record_of, records_of};
 
 use crate::texts::{amount_text, maybe_price_text, number_text, stamp_text, word_text};
-use brk_changes::{CashRow, SettlementRow, TradeRow};
+use brk_changes::{MoveRow, SettlementRow, TradeRow};
 use brk_commands::{cash_word, day_text, end_word};
 use brk_money::{Fault, Wide};
 use brk_view::lookups::{LookedUp, StatusMoment};
@@ -89,8 +89,8 @@ fn settlement_texts(alloc: Global, row: SettlementRow) -> Result<Vec<String>, Fa
 }
 
 // The record of a cash row.
-fn cash_texts(alloc: Global, row: &CashRow) -> Result<Vec<String>, Fault>
-    ensures texts { IfOk result (λ texts. record_of texts ≡ model.cash_record (cash_row_of row.now)) }
+fn cash_texts(alloc: Global, row: &MoveRow) -> Result<Vec<String>, Fault>
+    ensures texts { IfOk result (λ texts. record_of texts ≡ model.cash_record (move_row_of row.now)) }
     ensures fault { OnErr result (result ≡ Err Memory) }
 {
     let mut texts = Vec::new(alloc);
@@ -133,9 +133,9 @@ fn add_settlement(
 fn add_cash(
     alloc: Global,
     records: &mut Vec<Vec<String>>,
-    row: &Option<CashRow>,
+    row: &Option<MoveRow>,
 ) -> Result<(), Fault>
-    ensures records { OnOk result (records_of records.new ≡ records_of records.old ++ map model.cash_record (option_to_list (option_map cash_row_of row.now))) }
+    ensures records { OnOk result (records_of records.new ≡ records_of records.old ++ map model.cash_record (option_to_list (option_map move_row_of row.now))) }
     ensures fault { OnErr result (result ≡ Err Memory) }
 {
     if let Some(row) = row {

@@ -76,7 +76,7 @@ closed_long d shares = by_end d.is_lifo
     by_end true = let e = length-drop (length shares - k) shares in omega (arith, e)
     by_end false = let e = length-take k shares in omega (arith, e)
 
-opening_high : (d : Deal) (shares : List Share) → d.qty ≤ 999999 → AllByRecursion IsCheap shares → opening_value d shares ≤ 10 ^ 13
+opening_high : (d : Deal) (shares : List Share) → d.qty ≤ 9999999 → AllByRecursion IsCheap shares → opening_value d shares ≤ 10 ^ 14
 opening_high d shares q h =
     let cheap : AllByRecursion IsCheap (closed_shares d shares) =
     All-cond IsCheap d.is_lifo (drop (length shares - closed_count d shares) shares) (take (closed_count d shares) shares)
@@ -86,55 +86,55 @@ opening_high d shares q h =
     let c = count_low (meets d shares) d.qty (length shares) in
     omega (arith, s, l, c, q)
 
-closing_high : (d : Deal) (shares : List Share) → d.qty ≤ 999999 → d.price ≤ 9999999 → closing_value d shares ≤ 10 ^ 13
+closing_high : (d : Deal) (shares : List Share) → d.qty ≤ 9999999 → d.price ≤ 9999999 → closing_value d shares ≤ 10 ^ 14
 closing_high d shares q p =
     let c = count_low (meets d shares) d.qty (length shares) in
-    let k : closed_count d shares ≤ 999999 = omega (arith, c, q) in
-    let all : closed_count d shares * d.price ≤ 999999 * 9999999 = mul-le-mul k p in
+    let k : closed_count d shares ≤ 9999999 = omega (arith, c, q) in
+    let all : closed_count d shares * d.price ≤ 9999999 * 9999999 = mul-le-mul k p in
     omega (arith, all)
 
-sell_high : (d : Deal) (shares : List Share) → d.qty ≤ 999999 → d.price ≤ 9999999 → AllByRecursion IsCheap shares → sell_value d shares ≤ 10 ^ 13
+sell_high : (d : Deal) (shares : List Share) → d.qty ≤ 9999999 → d.price ≤ 9999999 → AllByRecursion IsCheap shares → sell_value d shares ≤ 10 ^ 14
 unfolding sell_value
 sell_high d shares q p h = by_side d.side
   where
-    by_side : (s : Side) → sell_value_by s d shares ≤ 10 ^ 13
+    by_side : (s : Side) → sell_value_by s d shares ≤ 10 ^ 14
     by_side Sell = closing_high d shares q p
     by_side Buy = opening_high d shares q h
 
-taxed : (n : ℕ) → n ≤ 10 ^ 18 → half_up n 100000 ≤ 10 ^ 13
+taxed : (n : ℕ) → n ≤ 10 ^ 19 → half_up n 100000 ≤ 10 ^ 14
 taxed n h = omega arith
 
-tax_high : (gain : ℤ) (rates : ℕ) → gain ≤ℤ pos (10 ^ 13) → rates ≤ 100000 → tax gain rates ≤ 10 ^ 13
+tax_high : (gain : ℤ) (rates : ℕ) → gain ≤ℤ pos (10 ^ 14) → rates ≤ 100000 → tax gain rates ≤ 10 ^ 14
 tax_high (pos gain) rates g r =
-    let most : gain ≤ 10 ^ 13 = omega (arith, ints, g) in
-    let all : gain * rates ≤ 10 ^ 13 * 100000 = mul-le-mul most r in
+    let most : gain ≤ 10 ^ 14 = omega (arith, ints, g) in
+    let all : gain * rates ≤ 10 ^ 14 * 100000 = mul-le-mul most r in
     taxed (gain * rates) (omega (arith, all))
 tax_high (negsuc n) rates g r = omega arith
 
-gained : (s b : ℕ) → s ≤ 10 ^ 13 → (pos s -ℤ pos b) ≤ℤ pos (10 ^ 13)
+gained : (s b : ℕ) → s ≤ 10 ^ 14 → (pos s -ℤ pos b) ≤ℤ pos (10 ^ 14)
 gained s b h = omega (arith, ints, h)
 
 -- the tax on a completion
-pub tax_within : (base : Base) (account : ℕ) (d : Deal) (shares : List Share) → d.qty ≤ 999999 → d.price ≤ 9999999 → AllByRecursion IsCheap shares
-    → rates_of base (customer_of base account) ≤ 100000 → tax_of base account d shares ≤ 10 ^ 13
+pub tax_within : (base : Base) (account : ℕ) (d : Deal) (shares : List Share) → d.qty ≤ 9999999 → d.price ≤ 9999999 → AllByRecursion IsCheap shares
+    → rates_of base (customer_of base account) ≤ 100000 → tax_of base account d shares ≤ 10 ^ 14
 tax_within base account d shares q p h r = by_status (is_taxed base account)
   where
-    by_status : (b : Bool) → cond b (tax (gain d shares) (rates_of base (customer_of base account))) 0 ≤ 10 ^ 13
+    by_status : (b : Bool) → cond b (tax (gain d shares) (rates_of base (customer_of base account))) 0 ≤ 10 ^ 14
     by_status true = tax_high (gain d shares) (rates_of base (customer_of base account)) (gained (sell_value d shares) (buy_value d shares) (sell_high d shares q p h)) r
     by_status false = omega arith
 
-halved : (n : ℕ) → n ≤ 10000 * 9999989000001 → half_up n 10000 ≤ 10 ^ 13
+halved : (n : ℕ) → n ≤ 10000 * 99999980000001 → half_up n 10000 ≤ 10 ^ 14
 halved n h = omega arith
 
 -- a commission
-pub commission_low : (rate qty price : ℕ) → rate ≤ 10000 → qty ≤ 999999 → price ≤ 9999999 → commission rate qty price ≤ 10 ^ 13
+pub commission_low : (rate qty price : ℕ) → rate ≤ 10000 → qty ≤ 9999999 → price ≤ 9999999 → commission rate qty price ≤ 10 ^ 14
 commission_low rate qty price r q p =
-    let shares : rate * qty ≤ 10000 * 999999 = mul-le-mul r q in
-    let all : rate * qty * price ≤ 10000 * 999999 * 9999999 = mul-le-mul shares p in
+    let shares : rate * qty ≤ 10000 * 9999999 = mul-le-mul r q in
+    let all : rate * qty * price ≤ 10000 * 9999999 * 9999999 = mul-le-mul shares p in
     halved (rate * qty * price) (omega (arith, all))
 
 -- what a trade settles for
-settled : (s : Side) (v w : ℕ) → v ≤ 10 ^ 13 → w ≤ 10 ^ 15 → nat_abs (proceeds s v -ℤ pos w) ≤ 10 ^ 17
+settled : (s : Side) (v w : ℕ) → v ≤ 10 ^ 14 → w ≤ 10 ^ 15 → nat_abs (proceeds s v -ℤ pos w) ≤ 10 ^ 17
 settled Sell v w g h = omega (arith, ints, g, h)
 settled Buy v w g h = omega (arith, ints, g, h)
 
@@ -142,9 +142,9 @@ withheld_low : (b : Bool) (n : ℕ) → cond b n 0 ≤ n
 withheld_low true n = omega arith
 withheld_low false n = omega arith
 
-pub amount_within : (side : Side) (qty price charge commission tax : ℕ) (off : Bool) → qty ≤ 999999 → price ≤ 9999999 → charge ≤ 1000000 → commission ≤ 10 ^ 13 → tax ≤ 10 ^ 13
+pub amount_within : (side : Side) (qty price charge commission tax : ℕ) (off : Bool) → qty ≤ 9999999 → price ≤ 9999999 → charge ≤ 1000000 → commission ≤ 10 ^ 14 → tax ≤ 10 ^ 14
     → nat_abs (proceeds side (qty * price) -ℤ pos (charge + commission + cond off tax 0)) ≤ 10 ^ 17
 amount_within side qty price charge commission tax off q p c m t =
-    let all : qty * price ≤ 999999 * 9999999 = mul-le-mul q p in
+    let all : qty * price ≤ 9999999 * 9999999 = mul-le-mul q p in
     let w = withheld_low off tax in
     settled side (qty * price) (charge + commission + cond off tax 0) (omega (arith, all)) (omega (arith, c, m, t, w))

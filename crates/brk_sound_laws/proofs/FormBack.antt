@@ -1,34 +1,37 @@
 -- A base in order whose tables have form is sound.
 use Rattle.std.proofs.Common.{◌≡◌, ◌≤◌, ℕ, ◌==◌, ◌+◌, Bool, true, false, not, cond, List, [], ◌∷◌, refl, sym, ◌∙◌, ap, subst, map, filter, length, arith, Option, Some, None, pos, negsuc, zero, suc, ℤ, ◌+ℤ◌}
-use Rattle.std.specs.Prelude.{◌&&◌, ◌||◌, bytes_eq, find, flat_map, is_none, is_some, nat_abs, nat_le, option_map, sum_by}
+use Rattle.std.specs.Prelude.{◌&&◌, ◌||◌, bytes_eq, find, flat_map, is_none, is_some, nat_abs, nat_le, option_map, sum_by, nat_lt}
 use Rattle.std.specs.List.{AllByRecursion, list_all, list_any}
 use Rattle.std.specs.Option.{option_map_or}
-use Rattle.std.proofs.lemmas.Bool.{and_parts, eqb-true, leb-true, not-true}
+use Rattle.std.proofs.lemmas.Bool.{and_parts, eqb-true, leb-true, not-true, and_from}
 use Rattle.std.proofs.lemmas.Slice.Eq.{bytes_eq-Decides}
 use Rattle.brk_money.specs.Spelling.{Text}
 use Rattle.brk_money.specs.Moments.{day_of, last_day}
 use Rattle.brk_money.specs.Kinds.{same_status, side_of}
 use Rattle.brk_money.specs.declared.status.Status.TheVariants.{Completed}
-use Rattle.brk_model.specs.Limits.{greatest_amount, greatest_charge, greatest_summary, greatest_tax_rate, most_accounts}
+use Rattle.brk_book_laws.proofs.MoveReading.{moves_counted, rows_posted}
+use Rattle.brk_adoption_laws.proofs.MovedForm.{HasForm, move_posted}
+use Rattle.brk_model.specs.Schemas.{third_schema}
+use Rattle.brk_model.specs.Limits.{greatest_amount, greatest_charge, greatest_summary, greatest_tax_rate, most_accounts, greatest_id}
 use Rattle.brk_model.specs.Lists.{insert_by, is_zero, sort_by, total_by}
 use Rattle.brk_model.specs.Records.{Account, Customer, Trade}
 use Rattle.brk_model.specs.Base.{Base, account_with, broker_with, completed, customer_with, is_completed, moment_of, rates_of, security_with, tax_rate_with, trade_with}
-use Rattle.brk_model.specs.Derived.{amount_of, balance_of, cash_trades, commissions_of, due_day, of_account, of_broker, of_position, settlement_days, summary_of}
+use Rattle.brk_model.specs.Derived.{amount_of, balance_of, cash_trades, commissions_of, due_day, of_account, of_broker, of_position, summary_of, posted_to, posting_of_movement, posting_of_trade, postings_of, due_after}
 use Rattle.brk_model.specs.Shares.{signed}
-use Rattle.brk_model.specs.Tables.{Tables, account_row, broker_row, cash_row, history_rows, last_trade_row, security_row, settlement_row, summary_rows, tables_of, trade_row}
+use Rattle.brk_model.specs.Tables.{Tables, account_row, broker_row, history_rows, last_trade_row, security_row, settlement_row, summary_rows, tables_at, trade_row}
 use Rattle.brk_model.specs.Sheets.{sheets, sheets_of}
-use Rattle.brk_model.specs.Adopted.{base_of}
+use Rattle.brk_model.specs.Adopted.{base_of, posting_of_move}
 use Rattle.brk_model.specs.Joins.{history_in, trade_in}
-use Rattle.brk_model.specs.Form.{account_form, broker_form, cash_form, charge_form, customer_form, customer_limits, customer_tax_form, has_account, has_broker, has_customer, has_form, has_security, has_trade, history_form, is_amount, is_cash_name, is_cash_type, is_id, is_price, is_qty, last_trade_form, one_tax_id_each, permission_form, price_form, security_form, settlement_form, summary_form, trade_form}
+use Rattle.brk_model.specs.Form.{account_form, broker_form, cash_form, charge_form, customer_form, customer_limits, customer_tax_form, has_account, has_broker, has_customer, has_form, has_security, has_trade, history_form, is_amount, is_cash_name, is_cash_type, is_id, is_price, is_qty, last_trade_form, one_tax_id_each, permission_form, price_form, security_form, settlement_form, summary_form, trade_form, is_movement, move_form}
 use Rattle.brk_model.specs.Forms.{is_acl, is_exchange, is_name, is_symbol, is_tax_id}
 use Rattle.brk_model.specs.Keys.{KeyPart, word, by_key, row_before, account_key, band_key, broker_key, cash_key, charge_key, customer_key, customer_tax_key, history_key, kept_key, last_trade_key, permission_key, security_key, settlement_key, summary_key, tax_rate_key, trade_key}
 use Rattle.brk_book_laws.specs.Books.{IsBooks}
 use Rattle.brk_book_laws.proofs.NewKeys.{same_bytes, unused}
 use Rattle.brk_book_laws.proofs.Order.{NewKey, by_key-filter}
-use Rattle.brk_book_laws.proofs.Same.{All-filter, All-map, any-none, filter-none}
+use Rattle.brk_book_laws.proofs.Same.{All-filter, All-map, any-none, filter-none, All-mapped}
 use Rattle.brk_book_laws.proofs.Completing.{All-unfilter, All-unsort}
 use Rattle.brk_book_laws.proofs.Reading.{any-sorted, reads_count}
-use Rattle.brk_book_laws.proofs.References.{no_broker_trades, no_trades_of}
+use Rattle.brk_book_laws.proofs.References.{no_broker_trades, no_trades_of, nothing_posted}
 use Rattle.brk_book_laws.proofs.LotReading.{numbered_rise, rise_apart}
 use Rattle.brk_book_laws.proofs.TradeReading.{reads_trade}
 use Rattle.brk_book_laws.proofs.Tested.{All-back, All-front}
@@ -40,7 +43,7 @@ use Rattle.brk_adoption_laws.proofs.Parts.{KeyParts, key_parts}
 use Rattle.brk_model_laws.specs.FormParts.{FormParts}
 use Rattle.brk_model_laws.proofs.FormParts.{form_parts}
 use Rattle.brk_model_laws.proofs.Conjunctions.{parts3, parts4, parts5, parts6, parts10}
-use Rattle.brk_sound_laws.specs.Sound.{IsSound, IsSoundTrade, KeysApart, NamesCustomer, is_past, tax_id_key, is_named_by}
+use Rattle.brk_sound_laws.specs.Sound.{IsSound, IsSoundTrade, KeysApart, NamesCustomer, is_past, tax_id_key, is_named_by, movement_fields}
 use Rattle.brk_sound_laws.proofs.OneTrade.{false_true}
 use Rattle.brk_model_laws.proofs.Conjunctions.{and5, and6}
 use Rattle.brk_sound_laws.proofs.FormRows.{any_mark, found_trades, has_account_is, has_customer_is, has_rate_is, rates_same, row_of, same_name}
@@ -143,18 +146,18 @@ no_account : (base : Base) (o : Option Account) → is_some o ≡ false → opti
 no_account base None e = refl
 no_account base (Some a) e = false_true (sym e)
 
-no_balance : (base : Base) (account : ℕ) → IsBooks base → is_some (account_with base account) ≡ false → nat_abs (balance_of base.accounts (completed base) account) ≤ greatest_amount
+no_balance : (base : Base) (account : ℕ) → IsBooks base → is_some (account_with base account) ≡ false → nat_abs (balance_of base.accounts (postings_of base) account) ≤ greatest_amount
 unfolding balance_of total_by
 no_balance base account books e =
-    subst (λ z. nat_abs (z +ℤ total_by (amount_of base.accounts) (cash_trades (of_account (completed base) account))) ≤ greatest_amount) (sym (no_account base (account_with base account) e))
-    (subst (λ ts. nat_abs (pos 0 +ℤ total_by (amount_of base.accounts) (cash_trades ts)) ≤ greatest_amount) (sym (no_trades_of base account books e)) (omega arith))
+    subst (λ z. nat_abs (z +ℤ total_by (λ p. p.amount) (posted_to (postings_of base) account)) ≤ greatest_amount) (sym (no_account base (account_with base account) e))
+    (subst (λ ps. nat_abs (pos 0 +ℤ total_by (λ p. p.amount) ps) ≤ greatest_amount) (sym (nothing_posted base account books e)) (omega arith))
 
-balances_back : (base : Base) (account : ℕ) → IsBooks base → AllByRecursion (λ a. nat_abs (balance_of base.accounts (completed base) a.id) ≤ greatest_amount) base.accounts
-    → nat_abs (balance_of base.accounts (completed base) account) ≤ greatest_amount
+balances_back : (base : Base) (account : ℕ) → IsBooks base → AllByRecursion (λ a. nat_abs (balance_of base.accounts (postings_of base) a.id) ≤ greatest_amount) base.accounts
+    → nat_abs (balance_of base.accounts (postings_of base) account) ≤ greatest_amount
 balances_back base account books h =
     by_some (is_some (account_with base account)) _
-    (λ e. let f = found_item (λ a. a.id == account) base.accounts (λ a. nat_abs (balance_of base.accounts (completed base) a.id) ≤ greatest_amount) h e in
-    subst (λ n. nat_abs (balance_of base.accounts (completed base) n) ≤ greatest_amount) (eqb-true f.0.id account f.1.1) f.1.0)
+    (λ e. let f = found_item (λ a. a.id == account) base.accounts (λ a. nat_abs (balance_of base.accounts (postings_of base) a.id) ≤ greatest_amount) h e in
+    subst (λ n. nat_abs (balance_of base.accounts (postings_of base) n) ≤ greatest_amount) (eqb-true f.0.id account f.1.1) f.1.0)
     (no_balance base account books)
 
 length_none : {X : Type 0} (xs : List X) (m : ℕ) → xs ≡ [] → length xs ≤ m
@@ -179,7 +182,7 @@ rates_back base customer payers h =
     (filter-none (λ x. x.customer == customer) base.customer_taxes (All-map base.customer_taxes (λ x k. other_id (customer_with base) customer x.customer e k) payers)))
 
 -- the summary of a position whose row is in form, if there is one
-row_low : (T : Tables) (done : List Trade) (account : ℕ) (symbol : Text) → AllByRecursion (λ r. summary_form T r ≡ true) (summary_rows done account symbol)
+row_low : (T : Tables) (done : List Trade) (account : ℕ) (symbol : Text) → AllByRecursion (λ r. summary_form third_schema T r ≡ true) (summary_rows done account symbol)
     → nat_abs (summary_of done account symbol) ≤ greatest_summary
 row_low T done account symbol h = by_zero (not (is_zero (summary_of done account symbol))) refl h
   where
@@ -189,7 +192,7 @@ row_low T done account symbol h = by_zero (not (is_zero (summary_of done account
     zero_low (negsuc n) e = false_true (sym e)
 
     by_zero : (b : Bool) → not (is_zero (summary_of done account symbol)) ≡ b
-        → AllByRecursion (λ r. summary_form T r ≡ true) (cond b (record { account = account; symbol = symbol; qty = summary_of done account symbol } ∷ []) []) → nat_abs (summary_of done account symbol) ≤ greatest_summary
+        → AllByRecursion (λ r. summary_form third_schema T r ≡ true) (cond b (record { account = account; symbol = symbol; qty = summary_of done account symbol } ∷ []) []) → nat_abs (summary_of done account symbol) ≤ greatest_summary
     by_zero true e k =
         leb-true (nat_abs (summary_of done account symbol)) greatest_summary
         (parts3 (has_account T account) (has_security T symbol) (nat_le (nat_abs (summary_of done account symbol)) greatest_summary) k.0).2
@@ -219,26 +222,26 @@ summaries_back base account symbol books h =
 
 -- what is known of each trade
 record Read (base : Base) (t : Trade) : Type 0 where
-  pub row : trade_form (sheets base) (trade_row t) ≡ true
+  pub row : trade_form third_schema (sheets base) (trade_row t) ≡ true
   pub history : AllByRecursion (λ r. history_form (sheets base) r ≡ true) (history_rows t)
   pub stamps : StampsRise t
   pub way : GoesAWay t
   pub words : HasItsWords t
   pub found : trade_with base t.id ≡ Some t
   pub read : IsRead base t
-  pub settled : is_completed t ≡ true → settlement_form (sheets base) (settlement_row base.accounts t) ≡ true
-  pub moved : is_completed t ≡ true → t.is_cash ≡ true → cash_form (sheets base) (cash_row base.accounts t) ≡ true
+  pub settled : is_completed t ≡ true → settlement_form (sheets base) (settlement_row base.accounts base.rule t) ≡ true
+  pub moved : is_completed t ≡ true → t.is_cash ≡ true → HasForm (sheets base) (posting_of_trade base.accounts t)
 
 row_of_trade : (base : Base) (t : Trade) → trade_with base t.id ≡ Some t → trade_in (sheets base) t.id ≡ Some (trade_row t)
 row_of_trade base t e = reads_trade base t.id ∙ ap (option_map trade_row) e
 
 trade_back : (base : Base) (t : Trade) → IsBooks base → IsTold base → Read base t → IsSoundTrade base t
-unfolding sheets_of tables_of
+unfolding sheets_of tables_at
 trade_back base t books told h =
     let T : Tables = sheets base in
-    let f = parts10 (is_id t.id) (is_past base.last (moment_of t)) (has_security T t.symbol) (is_qty t.qty) (is_price t.bid) (has_account T t.account) (price_form T (trade_row t))
+    let f = parts10 (is_id t.id) (is_past base.last (moment_of t)) (has_security T t.symbol) (is_qty third_schema t.qty) (is_price t.bid) (has_account T t.account) (price_form T (trade_row t))
     (nat_le t.charge greatest_charge) (nat_le t.commission greatest_amount) (nat_le t.tax greatest_amount) h.row in
-    let marks = All-map t.marks (λ m k. parts3 (has_trade T t.id) (is_past base.last m.stamp) (not (same_status m.status Completed) || nat_le (day_of m.stamp + settlement_days) last_day) k)
+    let marks = All-map t.marks (λ m k. parts3 (has_trade T t.id) (is_past base.last m.stamp) (not (same_status m.status Completed) || nat_le (due_after base.rule m.stamp) last_day) k)
     (All-unmapped (λ r. history_form T r ≡ true) (row_of t.id) t.marks h.history) in
     let done : list_any (λ h. same_status h.status Completed) (history_in T t.id) ≡ is_completed t =
     ap (list_any (λ h. same_status h.status Completed))
@@ -247,32 +250,49 @@ trade_back base t books told h =
     let row = row_of_trade base t h.found in
     record {
       alone = record {
-        fields = and6 (is_id t.id) (is_qty t.qty) (is_price t.bid) (nat_le t.charge greatest_charge) (nat_le t.commission greatest_amount) (nat_le t.tax greatest_amount) f.0 f.3 f.4 f.7 f.8 f.9;
+        fields = and6 (is_id t.id) (is_qty third_schema t.qty) (is_price t.bid) (nat_le t.charge greatest_charge) (nat_le t.commission greatest_amount) (nat_le t.tax greatest_amount) f.0 f.3 f.4 f.7 f.8 f.9;
         stamps = h.stamps;
         way = h.way;
-        due = All-map t.marks (λ m k. k.2) marks;
         priced = sym (ap (λ b. cond b (option_map_or is_price t.price false) (is_none t.price)) done) ∙ f.6;
         words = h.words;
         cash_type = λ d.
-            let p = parts3 (option_map_or (λ row. is_cash_type row.is_cash t.cash_type) (trade_in T t.id) false) (nat_le (due_day t) last_day) (is_amount (amount_of base.accounts t)) (h.settled d) in
+            let p = parts3 (option_map_or (λ row. is_cash_type row.is_cash t.cash_type) (trade_in T t.id) false) (nat_le (due_day base.rule t) last_day) (is_amount (amount_of base.accounts t)) (h.settled d) in
             sym (ap (λ o. option_map_or (λ row. is_cash_type row.is_cash t.cash_type) o false) row) ∙ p.0;
       };
       past = All-map t.marks (λ m k. k.1) marks;
+      due = All-map t.marks (λ m k. k.2) marks;
       cash_name = λ d.
           let c = and_parts (is_completed t) t.is_cash d in
-          let p = parts3 (option_map_or (is_cash_name T t.cash_name) (trade_in T t.id) false) (is_past base.last (moment_of t)) (is_amount (amount_of base.accounts t)) (h.moved c.0 c.1) in
-          sym (ap (is_named_by t) (same_name base t.symbol books told)) ∙ sym (ap (λ o. option_map_or (is_cash_name T t.cash_name) o false) row) ∙ p.0;
-      amount = λ d. (parts3 (option_map_or (λ row. is_cash_type row.is_cash t.cash_type) (trade_in T t.id) false) (nat_le (due_day t) last_day) (is_amount (amount_of base.accounts t)) (h.settled d)).2;
+          sym (ap (is_named_by t) (same_name base t.symbol books told)) ∙ sym (ap (λ o. option_map_or (is_cash_name T t.cash_name) o false) row) ∙ (h.moved c.0 c.1).name;
+      amount = λ d. (parts3 (option_map_or (λ row. is_cash_type row.is_cash t.cash_type) (trade_in T t.id) false) (nat_le (due_day base.rule t) last_day) (is_amount (amount_of base.accounts t)) (h.settled d)).2;
     }
 
-reads_back : (base : Base) → IsBooks base → IsTold base → FormParts (sheets base) → AllByRecursion (Read base) base.trades
-unfolding sheets_of tables_of
+-- the postings of a base whose cash rows have form
+posted_back : (base : Base) → list_all (move_form (sheets base)) (sheets base).moves ≡ true → AllByRecursion (HasForm (sheets base)) (postings_of base)
+posted_back base f =
+    All-unsort (HasForm (sheets base)) (λ a b. nat_lt a.stamp b.stamp) (postings_of base)
+    (subst (AllByRecursion (HasForm (sheets base))) (rows_posted base)
+    (All-mapped (HasForm (sheets base)) posting_of_move (sheets base).moves (All-map (sheets base).moves (move_posted (sheets base)) (list_all_true (move_form (sheets base)) (sheets base).moves f))))
+
+cash_back : (base : Base) → AllByRecursion (HasForm (sheets base)) (postings_of base) → AllByRecursion (λ t. HasForm (sheets base) (posting_of_trade base.accounts t)) (cash_trades (completed base))
+cash_back base h =
+    All-unmapped (HasForm (sheets base)) (posting_of_trade base.accounts) (cash_trades (completed base))
+    (All-front (HasForm (sheets base)) (map (posting_of_trade base.accounts) (cash_trades (completed base))) (map posting_of_movement base.movements) h)
+
+movements_formed : (base : Base) → AllByRecursion (HasForm (sheets base)) (postings_of base) → AllByRecursion (λ m. movement_fields m ≡ true) base.movements
+movements_formed base h =
+    All-map base.movements (λ m k. and_from (is_movement m.name m.amount) (is_amount m.amount) k.name k.amount)
+    (All-unmapped (HasForm (sheets base)) posting_of_movement base.movements
+    (All-back (HasForm (sheets base)) (map (posting_of_trade base.accounts) (cash_trades (completed base))) (map posting_of_movement base.movements) h))
+
+reads_back : (base : Base) → IsBooks base → IsTold base → FormParts third_schema (sheets base) → AllByRecursion (Read base) base.trades
+unfolding sheets_of tables_at
 reads_back base books told f =
     let T : Tables = sheets base in
     let done : List Trade = completed base in
-    let S = All-unfilter (λ t. settlement_form T (settlement_row base.accounts t) ≡ true) is_completed base.trades (back_mapped (settlement_form T) settlement_key (settlement_row base.accounts) done f.settlements) in
-    let C = All-unfilter (λ t. t.is_cash ≡ true → cash_form T (cash_row base.accounts t) ≡ true) is_completed base.trades
-    (All-unfilter (λ t. cash_form T (cash_row base.accounts t) ≡ true) (λ t. t.is_cash) done (back_mapped (cash_form T) cash_key (cash_row base.accounts) (cash_trades done) f.cash)) in
+    let S = All-unfilter (λ t. settlement_form T (settlement_row base.accounts base.rule t) ≡ true) is_completed base.trades (back_mapped (settlement_form T) settlement_key (settlement_row base.accounts base.rule) done f.settlements) in
+    let C = All-unfilter (λ t. t.is_cash ≡ true → HasForm T (posting_of_trade base.accounts t)) is_completed base.trades
+    (All-unfilter (λ t. HasForm T (posting_of_trade base.accounts t)) (λ t. t.is_cash) done (cash_back base (posted_back base f.moves))) in
     All-map base.trades (λ t h. record {
       row = h.0;
       history = h.1.0;
@@ -284,7 +304,7 @@ reads_back base books told f =
       settled = h.1.1.1.1.1.1.1.0;
       moved = h.1.1.1.1.1.1.1.1;
     })
-    (both_all _ _ base.trades (back_mapped (trade_form T) trade_key trade_row base.trades f.trades)
+    (both_all _ _ base.trades (back_mapped (trade_form third_schema T) trade_key trade_row base.trades f.trades)
     (both_all _ _ base.trades (All-unflat (λ r. history_form T r ≡ true) history_rows base.trades (back_rows (history_form T) history_key (flat_map history_rows base.trades) f.history))
     (both_all _ _ base.trades told.stamps
     (both_all _ _ base.trades told.ways
@@ -295,17 +315,17 @@ reads_back base books told f =
 
 -- ---- all of it
 
-pub sound_back : (base : Base) → IsBooks base → IsTold base → has_form (sheets base) ≡ true → IsSound base
-unfolding sheets_of tables_of
+pub sound_back : (base : Base) → IsBooks base → IsTold base → has_form third_schema (sheets base) ≡ true → IsSound base
+unfolding sheets_of tables_at
 sound_back base books told form =
     let T : Tables = sheets base in
     let done : List Trade = completed base in
-    let f : FormParts T = form_parts T form in
+    let f : FormParts third_schema T = form_parts third_schema T form in
     let r : KeyParts T = key_parts T f.keys in
     let brokers = All-map base.brokers (λ b h. and_parts (is_id b.id && is_name b.name) (nat_le (commissions_of base.accounts done b.id) greatest_amount) h)
     (back_mapped broker_form broker_key (broker_row base.accounts done) base.brokers f.brokers) in
-    let accounts = All-map base.accounts (λ a h. parts6 (is_id a.id) (has_customer T a.customer) (has_broker T a.broker) (is_name a.name) (is_amount a.opening) (is_amount (balance_of base.accounts done a.id)) h)
-    (back_mapped (account_form T) account_key (account_row base.accounts done) base.accounts f.accounts) in
+    let accounts = All-map base.accounts (λ a h. parts6 (is_id a.id) (has_customer T a.customer) (has_broker T a.broker) (is_name a.name) (is_amount a.opening) (is_amount (balance_of base.accounts (postings_of base) a.id)) h)
+    (back_mapped (account_form T) account_key (account_row base.accounts (postings_of base)) base.accounts f.accounts) in
     let permissions = All-map base.permissions (λ p h. parts5 (has_account T p.account) (is_acl p.acl) (is_tax_id p.tax_id) (is_name p.last_name) (is_name p.first_name) h)
     (back_rows (permission_form T) permission_key base.permissions f.permissions) in
     let securities = All-map base.securities (λ s h. parts5 (is_symbol s.symbol) (is_name s.name) (is_exchange s.exchange) (is_name s.sector) (list_any (λ l. bytes_eq l.symbol s.symbol) T.last_trades) h)
@@ -348,11 +368,17 @@ sound_back base books told form =
         moments = All-map base.securities (λ s h. h.1) lasts;
       };
       trades = All-map base.trades (λ t h. trade_back base t books told h) (reads_back base books told f);
+      cash = record {
+        fields = movements_formed base (posted_back base f.moves);
+        risen = told.movements;
+        few = leb-true (length base.movements) greatest_id (sym (ap (λ n. nat_le n greatest_id) (moves_counted base)) ∙ f.counted);
+        day = f.rule;
+      };
       sums = record {
         summaries = λ account symbol. summaries_back base account symbol books
-            (All-map base.accounts (λ a h. All-map base.securities (λ s g. row_low T done a.id s.symbol g) (All-unflat (λ r. summary_form T r ≡ true) (λ s. summary_rows done a.id s.symbol) base.securities h))
-            (All-unflat (λ r. summary_form T r ≡ true) (λ a. flat_map (λ s. summary_rows done a.id s.symbol) base.securities) base.accounts
-            (back_rows (summary_form T) summary_key (flat_map (λ a. flat_map (λ s. summary_rows done a.id s.symbol) base.securities) base.accounts) f.summaries)));
+            (All-map base.accounts (λ a h. All-map base.securities (λ s g. row_low T done a.id s.symbol g) (All-unflat (λ r. summary_form third_schema T r ≡ true) (λ s. summary_rows done a.id s.symbol) base.securities h))
+            (All-unflat (λ r. summary_form third_schema T r ≡ true) (λ a. flat_map (λ s. summary_rows done a.id s.symbol) base.securities) base.accounts
+            (back_rows (summary_form third_schema T) summary_key (flat_map (λ a. flat_map (λ s. summary_rows done a.id s.symbol) base.securities) base.accounts) f.summaries)));
         balances = λ account. balances_back base account books (All-map base.accounts (λ a h. leb-true _ greatest_amount h.5) accounts);
         commissions = λ broker. commissions_back base broker books (All-map base.brokers (λ b h. leb-true _ greatest_amount h.1) brokers);
       };

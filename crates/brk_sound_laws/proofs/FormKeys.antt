@@ -1,5 +1,5 @@
 -- The tables of a sound base rise by their keys.
-use Rattle.std.proofs.Common.{◌≡◌, ℕ, ◌==◌, Bool, true, false, not, List, [], ◌∷◌, refl, ap, map, filter}
+use Rattle.std.proofs.Common.{◌≡◌, ℕ, ◌==◌, Bool, true, false, not, List, [], ◌∷◌, refl, ap, map, filter, ◌∙◌}
 use Rattle.std.specs.Prelude.{bytes_eq, flat_map, nat_lt, ◌-ℤ◌}
 use Rattle.std.specs.List.{AllByRecursion}
 use Rattle.std.proofs.lemmas.Bool.{eqb-false}
@@ -7,15 +7,17 @@ use Rattle.brk_money.specs.Spelling.{Text}
 use Rattle.brk_money.specs.Kinds.{status_code}
 use Rattle.brk_money.specs.declared.status.Status.{Status}
 use Rattle.brk_money.specs.declared.status.Status.TheVariants.{Completed, Submitted, Pending, Canceled}
+use Rattle.brk_book_laws.proofs.Postings.{numbered_stay}
+use Rattle.brk_adoption_laws.proofs.MovedForm.{numbered_rises}
 use Rattle.brk_model.specs.Lists.{is_zero, sort_by}
 use Rattle.brk_model.specs.Records.{Account, Mark, Security, Trade}
 use Rattle.brk_model.specs.Base.{Base, completed, has_status, is_completed, moment_of}
-use Rattle.brk_model.specs.Derived.{cash_trades, deal_of, deals_in, of_account, of_position, pending, summary_of}
+use Rattle.brk_model.specs.Derived.{cash_trades, deal_of, deals_in, of_account, of_position, pending, summary_of, in_turn, postings_of}
 use Rattle.brk_model.specs.Shares.{Deal, Share, shares_after}
-use Rattle.brk_model.specs.Tables.{HistoryRow, SummaryRow, account_row, broker_row, cash_row, history_rows, holding_row, last_trade_row, lot_history, lot_rows, request_row, security_row, settlement_row, summary_rows, tables_of, trade_row}
+use Rattle.brk_model.specs.Tables.{HistoryRow, SummaryRow, account_row, broker_row, cash_row, history_rows, holding_row, last_trade_row, lot_history, lot_rows, request_row, security_row, settlement_row, summary_rows, tables_at, trade_row}
 use Rattle.brk_model.specs.Sheets.{sheets, sheets_of}
-use Rattle.brk_model.specs.Form.{has_keys}
-use Rattle.brk_model.specs.Keys.{KeyPart, number, word, kept_key, broker_key, customer_key, account_key, permission_key, security_key, last_trade_key, charge_key, band_key, tax_rate_key, customer_tax_key, trade_key, history_key, request_key, holding_key, summary_key, holding_history_key, settlement_key, cash_key}
+use Rattle.brk_model.specs.Form.{has_keys, rises}
+use Rattle.brk_model.specs.Keys.{KeyPart, number, word, kept_key, broker_key, customer_key, account_key, permission_key, security_key, last_trade_key, charge_key, band_key, tax_rate_key, customer_tax_key, trade_key, history_key, request_key, holding_key, summary_key, holding_history_key, settlement_key, cash_key, move_key}
 use Rattle.brk_model.specs.Ways.{is_way}
 use Rattle.brk_model_laws.proofs.FormParts.{keys_whole}
 use Rattle.brk_book_laws.specs.Books.{DistinctAccounts, DistinctSymbols, IsBooks}
@@ -156,7 +158,7 @@ lots_other done (t ∷ ts) d = (
 -- ---- all tables
 
 pub keys_of : (base : Base) → IsBooks base → IsSound base → has_keys (sheets base) ≡ true
-unfolding sheets_of tables_of
+unfolding sheets_of tables_at
 keys_of base books k =
     let done : List Trade = completed base in
     let rise = numbered_rise 1 base.trades books.numbered in
@@ -167,8 +169,8 @@ keys_of base books k =
       kept = apart_rises kept_key base.kept k.kept_keys;
       brokers = apart_rises broker_key (map (broker_row base.accounts done) base.brokers) (apart_map broker_id broker_key (broker_row base.accounts done) base.brokers (λ b. refl) k.broker_keys);
       customers = apart_rises customer_key base.customers k.customer_keys;
-      accounts = apart_rises account_key (map (account_row base.accounts done) base.accounts)
-          (apart_map account_id account_key (account_row base.accounts done) base.accounts (λ a. refl) (accounts_apart base.accounts books.owners));
+      accounts = apart_rises account_key (map (account_row base.accounts (postings_of base)) base.accounts)
+          (apart_map account_id account_key (account_row base.accounts (postings_of base)) base.accounts (λ a. refl) (accounts_apart base.accounts books.owners));
       permissions = apart_rises permission_key base.permissions (permissions_apart base.permissions books.permissions);
       securities = apart_rises security_key (map security_row base.securities)
           (apart_map (λ s. word s.symbol ∷ []) security_key security_row base.securities (λ s. refl) (symbols_apart base.securities books.symbols));
@@ -191,7 +193,7 @@ keys_of base books k =
           (accounts_other done base.securities base.accounts books.owners));
       holding_history = apart_rises holding_history_key (flat_map (lot_history done) done)
           (apart_flat_map holding_history_key (lot_history done) done (All-of done (λ t. history_apart done t dones)) (lots_other done done doneIds));
-      settlements = apart_rises settlement_key (map (settlement_row base.accounts) done) (apart_map id_key settlement_key (settlement_row base.accounts) done (λ t. refl) dones);
-      cash = apart_rises cash_key (map (cash_row base.accounts) (cash_trades done))
-          (apart_map id_key cash_key (cash_row base.accounts) (cash_trades done) (λ t. refl) (apart_filter id_key (λ t. t.is_cash) done dones));
+      settlements = apart_rises settlement_key (map (settlement_row base.accounts base.rule) done) (apart_map id_key settlement_key (settlement_row base.accounts base.rule) done (λ t. refl) dones);
+      cash = apart_rises cash_key [] tt;
+      moves = ap (rises move_key) (numbered_stay 1 (in_turn (postings_of base))) ∙ numbered_rises 1 (in_turn (postings_of base));
     })

@@ -1,34 +1,39 @@
 -- The tables of a sound base have form.
-use Rattle.std.proofs.Common.{◌≡◌, ◌≤◌, ℕ, ◌==◌, ◌+◌, Bool, true, false, not, cond, List, [], ◌∷◌, refl, sym, ◌∙◌, ap, subst, map, filter, length, Option, Some, None}
+use Rattle.std.proofs.Common.{◌≡◌, ◌≤◌, ℕ, ◌==◌, ◌+◌, Bool, true, false, not, cond, List, [], ◌∷◌, refl, sym, ◌∙◌, ap, subst, map, filter, length, Option, Some, None, arith}
 use Rattle.std.specs.Prelude.{◌&&◌, ◌||◌, IfSome, bytes_eq, find, flat_map, is_none, is_some, nat_abs, nat_le, nat_lt, option_map, unwrap_or}
 use Rattle.std.specs.List.{AllByRecursion, last_or, list_all, list_any, range_with_len}
 use Rattle.std.specs.Option.{option_map_or}
-use Rattle.std.proofs.lemmas.Bool.{and_from, eq-eqb, le-leb}
+use Rattle.std.proofs.lemmas.Bool.{and_from, eq-eqb, le-leb, and_parts, leb-true}
 use Rattle.std.proofs.lemmas.Slice.Eq.{bytes_eq-Decides}
 use Rattle.brk_money.specs.Spelling.{Text}
 use Rattle.brk_money.specs.Moments.{day_of, last_day, last_stamp}
 use Rattle.brk_money.specs.Kinds.{same_status}
 use Rattle.brk_money.specs.declared.status.Status.TheVariants.{Completed, Pending}
-use Rattle.brk_model.specs.Limits.{greatest_amount, greatest_charge, greatest_summary, greatest_tax_rate, most_accounts}
-use Rattle.brk_model.specs.Lists.{is_zero, sort_by}
-use Rattle.brk_model.specs.Records.{Account, Customer, Mark, Permission, Security, Trade}
+use Rattle.brk_book_laws.proofs.MoveReading.{moves_counted}
+use Rattle.brk_adoption_laws.proofs.MovedBase.{moves_own}
+use Rattle.brk_adoption_laws.proofs.MovedForm.{HasForm, few_postings, numbered_form}
+use Rattle.brk_model.specs.Schemas.{third_schema}
+use Rattle.brk_model.specs.Limits.{greatest_amount, greatest_charge, greatest_summary, greatest_tax_rate, most_accounts, greatest_id}
+use Rattle.brk_model.specs.Lists.{all_distinct, is_zero, sort_by}
+use Rattle.brk_model.specs.Records.{Account, Customer, Mark, Permission, Security, Trade, Movement}
 use Rattle.brk_model.specs.Base.{Base, account_with, broker_in, broker_with, completed, customer_with, has_status, is_completed, last_mark, moment_of, price_of, rates_of, security_name, security_with, tax_rate_with, trade_with}
-use Rattle.brk_model.specs.Derived.{amount_of, balance_of, cash_trades, commissions_of, deal_of, due_day, of_account, of_position, pending, settlement_days, summary_of}
-use Rattle.brk_model.specs.Tables.{HistoryRow, Tables, account_row, broker_row, cash_row, history_rows, holding_row, last_trade_row, lot_history, request_row, security_row, settlement_row, summary_rows, tables_of, trade_row}
+use Rattle.brk_model.specs.Derived.{amount_of, balance_of, cash_trades, commissions_of, deal_of, due_day, of_account, of_position, pending, summary_of, in_turn, posting_of_movement, posting_of_trade, postings_of, due_after}
+use Rattle.brk_model.specs.Tables.{HistoryRow, Tables, account_row, broker_row, history_rows, holding_row, last_trade_row, lot_history, request_row, security_row, settlement_row, summary_rows, tables_at, trade_row, numbered}
 use Rattle.brk_model.specs.Sheets.{sheets, sheets_of}
 use Rattle.brk_model.specs.Adopted.{base_of}
 use Rattle.brk_model.specs.Joins.{history_in, trade_in}
-use Rattle.brk_model.specs.Form.{account_form, band_form, broker_form, cash_form, charge_form, customer_form, customer_limits, customer_tax_form, has_account, has_broker, has_customer, has_form, has_security, has_trade, history_form, holding_form, holding_history_form, is_amount, is_cash_name, is_cash_type, is_id, is_price, is_qty, kept_form, last_trade_form, permission_form, price_form, request_form, same_numbers, security_form, settlement_form, summary_form, tax_rate_form, trade_form}
+use Rattle.brk_model.specs.Form.{account_form, band_form, broker_form, cash_form, charge_form, customer_form, customer_limits, customer_tax_form, has_account, has_broker, has_customer, has_form, has_security, has_trade, history_form, holding_form, holding_history_form, is_amount, is_cash_name, is_cash_type, is_id, is_price, is_qty, kept_form, last_trade_form, permission_form, price_form, request_form, same_numbers, security_form, settlement_form, summary_form, tax_rate_form, trade_form, is_movement, move_form, trades_moved}
 use Rattle.brk_model.specs.Forms.{is_acl, is_exchange, is_name, is_symbol, is_tax_id}
-use Rattle.brk_model.specs.Keys.{KeyPart, word, by_key, row_before, account_key, band_key, broker_key, cash_key, charge_key, customer_key, customer_tax_key, history_key, holding_history_key, holding_key, kept_key, last_trade_key, permission_key, request_key, security_key, settlement_key, summary_key, tax_rate_key, trade_key}
+use Rattle.brk_model.specs.Keys.{KeyPart, word, by_key, row_before, account_key, band_key, broker_key, cash_key, charge_key, customer_key, customer_tax_key, history_key, holding_history_key, holding_key, kept_key, last_trade_key, permission_key, request_key, security_key, settlement_key, summary_key, tax_rate_key, trade_key, move_key}
 use Rattle.brk_model.specs.Ways.{is_way}
 use Rattle.brk_model.specs.Names.{KnowsAccount, KnowsBroker, KnowsCustomer, KnowsSecurity, NumberedFrom}
 use Rattle.brk_model_laws.proofs.FormParts.{form_whole}
 use Rattle.brk_model_laws.proofs.Conjunctions.{and10, and3, and4, and5, and6, parts3, parts4, parts5, parts6}
-use Rattle.brk_book_laws.specs.Books.{IsBooks, HasVolume}
+use Rattle.brk_book_laws.specs.Books.{IsBooks, HasVolume, HasHolder, IsMadeBy}
 use Rattle.brk_book_laws.proofs.Bools.{numbers_back}
+use Rattle.brk_book_laws.proofs.Postings.{numbered_stay}
 use Rattle.brk_book_laws.proofs.Order.{by_key-filter}
-use Rattle.brk_book_laws.proofs.Same.{All-filter, All-map, All-mapped, All-of, find-each}
+use Rattle.brk_book_laws.proofs.Same.{All-filter, All-map, All-mapped, All-of, find-each, All-append}
 use Rattle.brk_book_laws.proofs.Reading.{any-sorted, find-key, is_some-map, reads_account, reads_broker, reads_count, reads_customer, some-is-any}
 use Rattle.brk_book_laws.proofs.TermReading.{map-or, reads_last_trade, reads_rates, reads_security, reads_tax_rate}
 use Rattle.brk_book_laws.proofs.TradeReading.{reads_trade, trades_in_order}
@@ -40,7 +45,7 @@ use Rattle.brk_adoption_laws.proofs.AgainStatus.{all_list, first_of_two, some_la
 use Rattle.brk_adoption_laws.proofs.Marks.{filtered, last_has, no_more_ways, three_ways}
 use Rattle.brk_adoption_laws.proofs.Members.{All-flat_map}
 use Rattle.brk_adoption_laws.proofs.Sorted.{All-rows}
-use Rattle.brk_sound_laws.specs.Sound.{IsDueInTime, IsPastMark, IsSound, IsSoundTrade, NamesAccount, NamesCustomer, NamesTax, account_fields, is_past, permission_fields, security_fields, is_named_by}
+use Rattle.brk_sound_laws.specs.Sound.{IsDueInTime, IsPastMark, IsSound, IsSoundTrade, NamesAccount, NamesCustomer, NamesTax, account_fields, is_past, permission_fields, security_fields, is_named_by, movement_fields}
 use Rattle.brk_sound_laws.proofs.OneTrade.{false_true, price_of_done}
 use Rattle.brk_sound_laws.proofs.SoundRecords.{sum-same}
 use Rattle.brk_sound_laws.proofs.SortedRows.{bands_sort, overlap_none, tax_ids_apart}
@@ -53,7 +58,7 @@ pub has_trade_is : (base : Base) (id : ℕ) → has_trade (sheets base) id ≡ i
 has_trade_is base id = ap is_some (reads_trade base id) ∙ is_some-map trade_row (trade_with base id)
 
 pub has_account_is : (base : Base) (id : ℕ) → has_account (sheets base) id ≡ is_some (account_with base id)
-has_account_is base id = ap is_some (reads_account base id) ∙ is_some-map (account_row base.accounts (completed base)) (account_with base id)
+has_account_is base id = ap is_some (reads_account base id) ∙ is_some-map (account_row base.accounts (postings_of base)) (account_with base id)
 
 pub has_security_is : (base : Base) (symbol : Text) → has_security (sheets base) symbol ≡ is_some (security_with base symbol)
 has_security_is base symbol = ap is_some (reads_security base symbol) ∙ is_some-map security_row (security_with base symbol)
@@ -124,14 +129,14 @@ moment_past base t h =
     let l = last_of t t.marks refl h.way in
     ap (λ o. is_past base.last (option_map_or (λ m. m.stamp) o 0)) l.1 ∙ last_has (IsPastMark base.last) None t.marks l.0 tt h.past l.1
 
-moment_due : (base : Base) (t : Trade) → IsSoundTrade base t → is_completed t ≡ true → nat_le (due_day t) last_day ≡ true
+moment_due : (base : Base) (t : Trade) → IsSoundTrade base t → is_completed t ≡ true → nat_le (due_day base.rule t) last_day ≡ true
 moment_due base t h d =
     let l = last_of t t.marks refl h.way in
     let m : Mark = l.0 in
     let c : same_status m.status Completed ≡ true = sym (ap (λ o. option_map_or (λ m. same_status m.status Completed) o false) l.1) ∙ d in
-    let due = last_has IsDueInTime None t.marks m tt h.due l.1 in
-    ap (λ o. nat_le (day_of (option_map_or (λ m. m.stamp) o 0) + settlement_days) last_day) l.1
-    ∙ sym (ap (λ b. not b || nat_le (day_of m.stamp + settlement_days) last_day) c) ∙ due
+    let due = last_has (IsDueInTime base.rule) None t.marks m tt h.due l.1 in
+    ap (λ o. nat_le (due_after base.rule (option_map_or (λ m. m.stamp) o 0)) last_day) l.1
+    ∙ sym (ap (λ b. not b || nat_le (due_after base.rule m.stamp) last_day) c) ∙ due
 
 or_false : (b : Bool) → (b || false) ≡ b
 or_false true = refl
@@ -152,7 +157,7 @@ any_mark id (m ∷ n ∷ o ∷ []) w =
 any_mark id (m ∷ n ∷ o ∷ p ∷ ms) w = absurd (no_more_ways m.status n.status o.status p.status (map (λ m. m.status) ms) w)
 
 priced_row : (base : Base) (t : Trade) → Known base t → price_form (sheets base) (trade_row t) ≡ true
-unfolding sheets_of tables_of
+unfolding sheets_of tables_at
 priced_row base t h =
     let done : list_any (λ h. same_status h.status Completed) (history_in (sheets base) t.id) ≡ is_completed t =
     ap (list_any (λ h. same_status h.status Completed))
@@ -160,11 +165,11 @@ priced_row base t h =
     ∙ any-sorted history_key (λ h. same_status h.status Completed) (history_rows t) ∙ any_mark t.id t.marks h.sound.way in
     ap (λ b. cond b (option_map_or is_price t.price false) (is_none t.price)) done ∙ h.sound.priced
 
-trade_whole : (base : Base) (t : Trade) → Known base t → trade_form (sheets base) (trade_row t) ≡ true
-unfolding sheets_of tables_of
+trade_whole : (base : Base) (t : Trade) → Known base t → trade_form third_schema (sheets base) (trade_row t) ≡ true
+unfolding sheets_of tables_at
 trade_whole base t h =
-    let f = parts6 (is_id t.id) (is_qty t.qty) (is_price t.bid) (nat_le t.charge greatest_charge) (nat_le t.commission greatest_amount) (nat_le t.tax greatest_amount) h.sound.fields in
-    and10 (is_id t.id) (is_past base.last (moment_of t)) (has_security (sheets base) t.symbol) (is_qty t.qty) (is_price t.bid) (has_account (sheets base) t.account) (price_form (sheets base) (trade_row t))
+    let f = parts6 (is_id t.id) (is_qty third_schema t.qty) (is_price t.bid) (nat_le t.charge greatest_charge) (nat_le t.commission greatest_amount) (nat_le t.tax greatest_amount) h.sound.fields in
+    and10 (is_id t.id) (is_past base.last (moment_of t)) (has_security (sheets base) t.symbol) (is_qty third_schema t.qty) (is_price t.bid) (has_account (sheets base) t.account) (price_form (sheets base) (trade_row t))
     (nat_le t.charge greatest_charge) (nat_le t.commission greatest_amount) (nat_le t.tax greatest_amount)
     f.0 (moment_past base t h.sound) (has_security_is base t.symbol ∙ h.security) f.1 f.2 (has_account_is base t.account ∙ h.account) (priced_row base t h) f.3 f.4 f.5
 
@@ -173,20 +178,20 @@ numbers_whole n [] k = refl
 numbers_whole n (t ∷ ts) k =
     and_from (t.id == n) (same_numbers (map (λ row. row.id) (map trade_row ts)) (range_with_len (n + 1) (length (map trade_row ts)))) (eq-eqb t.id n k.0) (numbers_whole (n + 1) ts k.1)
 
-mark_whole : (base : Base) (t : Trade) (m : Mark) → Known base t → IsPastMark base.last m → IsDueInTime m → history_form (sheets base) (row_of t.id m) ≡ true
-unfolding sheets_of tables_of
+mark_whole : (base : Base) (t : Trade) (m : Mark) → Known base t → IsPastMark base.last m → IsDueInTime base.rule m → history_form (sheets base) (row_of t.id m) ≡ true
+unfolding sheets_of tables_at
 mark_whole base t m h p d =
-    and3 (has_trade (sheets base) t.id) (is_past base.last m.stamp) (not (same_status m.status Completed) || nat_le (day_of m.stamp + settlement_days) last_day) (there base t h) p d
+    and3 (has_trade (sheets base) t.id) (is_past base.last m.stamp) (not (same_status m.status Completed) || nat_le (due_after base.rule m.stamp) last_day) (there base t h) p d
 
-request_whole : (base : Base) (t : Trade) → IsBooks base → Known base t → request_form (sheets base) (request_row base.accounts t) ≡ true
+request_whole : (base : Base) (t : Trade) → IsBooks base → Known base t → request_form third_schema (sheets base) (request_row base.accounts t) ≡ true
 request_whole base t books h =
-    let f = parts6 (is_id t.id) (is_qty t.qty) (is_price t.bid) (nat_le t.charge greatest_charge) (nat_le t.commission greatest_amount) (nat_le t.tax greatest_amount) h.sound.fields in
-    and5 (has_trade (sheets base) t.id) (has_security (sheets base) t.symbol) (is_qty t.qty) (is_price t.bid) (has_broker (sheets base) (broker_in base.accounts t.account))
+    let f = parts6 (is_id t.id) (is_qty third_schema t.qty) (is_price t.bid) (nat_le t.charge greatest_charge) (nat_le t.commission greatest_amount) (nat_le t.tax greatest_amount) h.sound.fields in
+    and5 (has_trade (sheets base) t.id) (has_security (sheets base) t.symbol) (is_qty third_schema t.qty) (is_price t.bid) (has_broker (sheets base) (broker_in base.accounts t.account))
     (there base t h) (has_security_is base t.symbol ∙ h.security) f.1 f.2
     (has_broker_is base (broker_in base.accounts t.account) ∙ broker_found base t.account (account_with base t.account) refl h.account books.brokers)
 
 holding_whole : (base : Base) (done : List Trade) (t : Trade) → Done base t → holding_form (sheets base) (holding_row done t) ≡ true
-unfolding sheets_of tables_of
+unfolding sheets_of tables_at
 holding_whole base done t h =
     and5 (has_trade (sheets base) t.id) (has_account (sheets base) t.account) (has_security (sheets base) t.symbol) (is_past base.last (moment_of t)) (is_price (price_of t))
     (there base t h.0) (has_account_is base t.account ∙ h.0.account) (has_security_is base t.symbol ∙ h.0.security) (moment_past base t h.0.sound) (price_of_done t h.0.sound.priced h.1)
@@ -194,9 +199,9 @@ holding_whole base done t h =
 row_in : (base : Base) (t : Trade) → Known base t → trade_in (sheets base) t.id ≡ Some (trade_row t)
 row_in base t h = reads_trade base t.id ∙ ap (option_map trade_row) h.found
 
-settlement_whole : (base : Base) (t : Trade) → Done base t → settlement_form (sheets base) (settlement_row base.accounts t) ≡ true
+settlement_whole : (base : Base) (t : Trade) → Done base t → settlement_form (sheets base) (settlement_row base.accounts base.rule t) ≡ true
 settlement_whole base t h =
-    and3 (option_map_or (λ row. is_cash_type row.is_cash t.cash_type) (trade_in (sheets base) t.id) false) (nat_le (due_day t) last_day) (is_amount (amount_of base.accounts t))
+    and3 (option_map_or (λ row. is_cash_type row.is_cash t.cash_type) (trade_in (sheets base) t.id) false) (nat_le (due_day base.rule t) last_day) (is_amount (amount_of base.accounts t))
     (ap (λ o. option_map_or (λ row. is_cash_type row.is_cash t.cash_type) o false) (row_in base t h.0) ∙ h.0.sound.cash_type h.1) (moment_due base t h.0.sound h.1) (h.0.sound.amount h.1)
 
 pub same_name : (base : Base) (symbol : Text) → IsBooks base → IsTold base → security_name (base_of (sheets base)) symbol ≡ security_name base symbol
@@ -205,12 +210,49 @@ same_name base symbol books told =
     ∙ ap (λ o. option_map_or (λ s. s.name) o []) (find-key (λ s. word s.symbol ∷ []) (λ s. bytes_eq s.symbol symbol) (word symbol ∷ []) base.securities
     (λ s e. let i : s.symbol ≡ symbol = (bytes_eq-Decides s.symbol symbol).0 e in λ j. word (i j) ∷ []))
 
-cash_whole : (base : Base) (t : Trade) → IsBooks base → IsTold base → Done base t → t.is_cash ≡ true → cash_form (sheets base) (cash_row base.accounts t) ≡ true
-unfolding sheets_of tables_of
-cash_whole base t books told h c =
-    and3 (option_map_or (is_cash_name (sheets base) t.cash_name) (trade_in (sheets base) t.id) false) (is_past base.last (moment_of t)) (is_amount (amount_of base.accounts t))
-    (ap (λ o. option_map_or (is_cash_name (sheets base) t.cash_name) o false) (row_in base t h.0) ∙ ap (is_named_by t) (same_name base t.symbol books told)
-    ∙ h.0.sound.cash_name (and_from (is_completed t) t.is_cash h.1 c)) (moment_past base t h.0.sound) (h.0.sound.amount h.1)
+-- what a completed cash trade posts has form
+posted_whole : (base : Base) (t : Trade) → IsBooks base → IsTold base → Done base t → t.is_cash ≡ true → HasForm (sheets base) (posting_of_trade base.accounts t)
+unfolding sheets_of tables_at
+posted_whole base t books told h c = record {
+  account = has_account_is base t.account ∙ h.0.account;
+  name = ap (λ o. option_map_or (is_cash_name (sheets base) t.cash_name) o false) (row_in base t h.0) ∙ ap (is_named_by t) (same_name base t.symbol books told)
+      ∙ h.0.sound.cash_name (and_from (is_completed t) t.is_cash h.1 c);
+  stamp = moment_past base t h.0.sound;
+  amount = h.0.sound.amount h.1;
+}
+
+made_past : (o : Option ℕ) (m : Movement) → IsMadeBy o m → is_past o m.stamp ≡ true
+made_past None m e = absurd e
+made_past (Some l) m e = le-leb m.stamp l e
+
+-- and so has what a movement posts
+moved_whole : (base : Base) (m : Movement) → movement_fields m ≡ true → HasHolder base.accounts m → IsMadeBy base.last m → HasForm (sheets base) (posting_of_movement m)
+unfolding sheets_of tables_at
+moved_whole base m f h e =
+    let k = and_parts (is_movement m.name m.amount) (is_amount m.amount) f in
+    record { account = has_account_is base m.account ∙ h; name = k.0; stamp = made_past base.last m e; amount = k.1 }
+
+all_posted : (base : Base) → IsBooks base → IsSound base → IsTold base → AllByRecursion (Done base) (completed base) → AllByRecursion (HasForm (sheets base)) (postings_of base)
+all_posted base books k told dones =
+    let P = posting_of_trade base.accounts in
+    All-append (HasForm (sheets base)) (map P (cash_trades (completed base))) (map posting_of_movement base.movements)
+    (All-mapped (HasForm (sheets base)) P (cash_trades (completed base))
+    (All-map (cash_trades (completed base)) (λ t h. posted_whole base t books told h.0 h.1) (filtered (Done base) (λ t. t.is_cash) (completed base) dones)))
+    (All-mapped (HasForm (sheets base)) posting_of_movement base.movements
+    (All-map base.movements (λ m h. moved_whole base m h.0 h.1.0 h.1.1)
+    (both_all (λ m. movement_fields m ≡ true) (λ m. HasHolder base.accounts m × IsMadeBy base.last m) base.movements k.cash.fields
+    (both_all (HasHolder base.accounts) (IsMadeBy base.last) base.movements books.movements.holders books.movements.early))))
+
+ids_low : (base : Base) → IsSound base → AllByRecursion (λ u. u.id ≤ greatest_id) base.trades
+ids_low base k = All-map base.trades (λ t h.
+    let f = parts6 (is_id t.id) (is_qty third_schema t.qty) (is_price t.bid) (nat_le t.charge greatest_charge) (nat_le t.commission greatest_amount) (nat_le t.tax greatest_amount) h.fields in
+    leb-true t.id greatest_id (and_parts (nat_le 1 t.id) (nat_le t.id greatest_id) f.0).1) k.trades
+
+moves_whole : (base : Base) → IsBooks base → IsSound base → IsTold base → AllByRecursion (Done base) (completed base)
+    → AllByRecursion (λ r. move_form (sheets base) r ≡ true) (numbered 1 (in_turn (postings_of base)))
+moves_whole base books k told dones =
+    numbered_form (sheets base) 1 (in_turn (postings_of base)) (omega arith) (few_postings base books.numbered (ids_low base k) k.cash.few)
+    (All-sort (HasForm (sheets base)) (λ a b. nat_lt a.stamp b.stamp) (postings_of base) (all_posted base books k told dones))
 
 -- ---- all rows of a table
 
@@ -223,10 +265,10 @@ mapped_form form key row xs h = rows_form form key (map row xs) (All-mapped (λ 
 -- ---- the records
 
 account_whole : (base : Base) (a : Account) → IsSound base → account_fields a ≡ true → KnowsCustomer base a → KnowsBroker base a
-    → account_form (sheets base) (account_row base.accounts (completed base) a) ≡ true
+    → account_form (sheets base) (account_row base.accounts (postings_of base) a) ≡ true
 account_whole base a k h c b =
     let f = parts3 (is_id a.id) (is_name a.name) (is_amount a.opening) h in
-    and6 (is_id a.id) (has_customer (sheets base) a.customer) (has_broker (sheets base) a.broker) (is_name a.name) (is_amount a.opening) (is_amount (balance_of base.accounts (completed base) a.id))
+    and6 (is_id a.id) (has_customer (sheets base) a.customer) (has_broker (sheets base) a.broker) (is_name a.name) (is_amount a.opening) (is_amount (balance_of base.accounts (postings_of base) a.id))
     f.0 (has_customer_is base a.customer ∙ c) (has_broker_is base a.broker ∙ b) f.1 f.2 (le-leb _ greatest_amount (k.balances a.id))
 
 permission_whole : (base : Base) (p : Permission) → permission_fields p ≡ true → NamesAccount base.accounts p → permission_form (sheets base) p ≡ true
@@ -242,7 +284,7 @@ security_whole base s h n =
 
 last_trade_whole : (base : Base) (s : Security) → security_fields s ≡ true → is_some (security_with base s.symbol) ≡ true → is_past base.last s.moment ≡ true → HasVolume s
     → last_trade_form (sheets base) (last_trade_row s) ≡ true
-unfolding sheets_of tables_of
+unfolding sheets_of tables_at
 last_trade_whole base s h n m v =
     let f = parts5 (is_symbol s.symbol) (is_name s.name) (is_exchange s.exchange) (is_name s.sector) (is_price s.last_price) h in
     and4 (has_security (sheets base) s.symbol) (is_past base.last s.moment) (is_price s.last_price) (nat_le s.volume greatest_amount) (has_security_is base s.symbol ∙ n) m f.4 (le-leb s.volume greatest_amount v)
@@ -273,10 +315,11 @@ sound_told base k = record {
   stamps = All-map base.trades (λ t h. h.stamps) k.trades;
   ways = All-map base.trades (λ t h. h.way) k.trades;
   words = All-map base.trades (λ t h. h.words) k.trades;
+  movements = k.cash.risen;
 }
 
-pub form_of : (base : Base) → IsBooks base → IsSound base → has_form (sheets base) ≡ true
-unfolding sheets_of tables_of
+pub form_of : (base : Base) → IsBooks base → IsSound base → has_form third_schema (sheets base) ≡ true
+unfolding sheets_of tables_at
 form_of base books k =
     let T : Tables = sheets base in
     let done : List Trade = completed base in
@@ -284,7 +327,7 @@ form_of base books k =
     let dones : AllByRecursion (Done base) done = done_all base books k in
     let told : IsTold base = sound_told base k in
     let listed = listed_each base in
-    form_whole T (record {
+    form_whole third_schema T (record {
       clock = clock_whole base.last books.clock;
       keys = keys_of base books k;
       tax_ids = tax_ids_apart (by_key customer_key base.customers) (rows.apart_sort _ (row_before customer_key) base.customers k.tax_ids);
@@ -293,7 +336,7 @@ form_of base books k =
           (All-map base.brokers (λ b h. and_from (is_id b.id && is_name b.name) (nat_le (commissions_of base.accounts done b.id) greatest_amount) h (le-leb _ greatest_amount (k.commissions b.id))) k.brokers);
       customers = rows_form customer_form customer_key base.customers k.customers;
       limits = rows_form (customer_limits T) customer_key base.customers (All-of base.customers (λ c. limits_whole base c k));
-      accounts = mapped_form (account_form T) account_key (account_row base.accounts done) base.accounts
+      accounts = mapped_form (account_form T) account_key (account_row base.accounts (postings_of base)) base.accounts
           (All-map base.accounts (λ a h. account_whole base a k h.0 h.1.0 h.1.1)
           (both_all (λ a. account_fields a ≡ true) (λ a. KnowsCustomer base a × KnowsBroker base a) base.accounts k.accounts (both_all (KnowsCustomer base) (KnowsBroker base) base.accounts books.customers books.brokers)));
       permissions = rows_form (permission_form T) permission_key base.permissions
@@ -306,26 +349,26 @@ form_of base books k =
           (both_all (λ s. security_fields s ≡ true) (λ s. is_some (security_with base s.symbol) ≡ true) base.securities k.securities listed)
           (both_all (λ s. is_past base.last s.moment ≡ true) HasVolume base.securities k.moments books.volumes)));
       charges = rows_form charge_form charge_key base.charges k.charges;
-      bands = rows_form band_form band_key base.bands k.bands;
+      bands = rows_form (band_form third_schema) band_key base.bands k.bands;
       apart = overlap_none (by_key band_key base.bands) (bands_sort (row_before band_key) base.bands books.apart);
       tax_rates = rows_form tax_rate_form tax_rate_key base.tax_rates k.tax_rates;
       customer_taxes = rows_form (customer_tax_form T) customer_tax_key base.customer_taxes
           (All-map base.customer_taxes (λ x h. and_from (has_customer T x.customer) (list_any (λ r. r.id == x.tax) T.tax_rates) (has_customer_is base x.customer ∙ h.0) (has_rate_is base x.tax ∙ h.1))
           (both_all (NamesCustomer base.customers) (NamesTax base.tax_rates) base.customer_taxes k.payers k.taxes));
-      trades = mapped_form (trade_form T) trade_key trade_row base.trades (All-map base.trades (λ t h. trade_whole base t h) known);
+      trades = mapped_form (trade_form third_schema T) trade_key trade_row base.trades (All-map base.trades (λ t h. trade_whole base t h) known);
       numbers = subst (λ rows. same_numbers (map (λ row. row.id) rows) (range_with_len 1 (length rows)) ≡ true) (sym (trades_in_order base books.numbered)) (numbers_whole 1 base.trades books.numbered);
       history = rows_form (history_form T) history_key (flat_map history_rows base.trades)
           (All-flat_map (λ r. history_form T r ≡ true) history_rows base.trades (All-map base.trades (λ t h. All-mapped (λ r. history_form T r ≡ true) (row_of t.id) t.marks
-          (All-map t.marks (λ m p. mark_whole base t m h p.0 p.1) (both_all (IsPastMark base.last) IsDueInTime t.marks h.sound.past h.sound.due))) known));
-      requests = mapped_form (request_form T) request_key (request_row base.accounts) (pending base.trades)
+          (All-map t.marks (λ m p. mark_whole base t m h p.0 p.1) (both_all (IsPastMark base.last) (IsDueInTime base.rule) t.marks h.sound.past h.sound.due))) known));
+      requests = mapped_form (request_form third_schema T) request_key (request_row base.accounts) (pending base.trades)
           (All-map (pending base.trades) (λ t h. request_whole base t books h) (All-filter (Known base) (has_status Pending) base.trades known));
       holdings = rows_form (holding_form T) holding_key (filter (λ row. not (is_zero row.qty)) (map (holding_row done) done))
           (All-filter (λ r. holding_form T r ≡ true) (λ row. not (is_zero row.qty)) (map (holding_row done) done)
           (All-mapped (λ r. holding_form T r ≡ true) (holding_row done) done (All-map done (λ t h. holding_whole base done t h) dones)));
-      summaries = rows_form (summary_form T) summary_key (flat_map (λ a. flat_map (λ s. summary_rows done a.id s.symbol) base.securities) base.accounts)
-          (All-flat_map (λ r. summary_form T r ≡ true) (λ a. flat_map (λ s. summary_rows done a.id s.symbol) base.securities) base.accounts (All-map base.accounts (λ a f.
-          All-flat_map (λ r. summary_form T r ≡ true) (λ s. summary_rows done a.id s.symbol) base.securities (All-map base.securities (λ s g.
-          All-rows (λ r. summary_form T r ≡ true) done a.id s.symbol
+      summaries = rows_form (summary_form third_schema T) summary_key (flat_map (λ a. flat_map (λ s. summary_rows done a.id s.symbol) base.securities) base.accounts)
+          (All-flat_map (λ r. summary_form third_schema T r ≡ true) (λ a. flat_map (λ s. summary_rows done a.id s.symbol) base.securities) base.accounts (All-map base.accounts (λ a f.
+          All-flat_map (λ r. summary_form third_schema T r ≡ true) (λ s. summary_rows done a.id s.symbol) base.securities (All-map base.securities (λ s g.
+          All-rows (λ r. summary_form third_schema T r ≡ true) done a.id s.symbol
           (and3 (has_account T a.id) (has_security T s.symbol) (nat_le (nat_abs (summary_of done a.id s.symbol)) greatest_summary) (has_account_is base a.id ∙ f) (has_security_is base s.symbol ∙ g)
           (le-leb _ greatest_summary (k.summaries a.id s.symbol)))) listed)) (held_each base)));
       holding_history = rows_form (holding_history_form T) holding_history_key (flat_map (lot_history done) done)
@@ -336,7 +379,11 @@ form_of base books k =
           (All-filter (λ u. has_trade T t.id && has_trade T u.id ≡ true) (λ u. bytes_eq u.symbol t.symbol) (of_account done t.account)
           (All-filter (λ u. has_trade T t.id && has_trade T u.id ≡ true) (λ u. u.account == t.account) done
           (All-map done (λ u g. and_from (has_trade T t.id) (has_trade T u.id) (there base t h.0) (there base u g.0)) dones)))))) dones));
-      settlements = mapped_form (settlement_form T) settlement_key (settlement_row base.accounts) done (All-map done (λ t h. settlement_whole base t h) dones);
-      cash = mapped_form (cash_form T) cash_key (cash_row base.accounts) (cash_trades done)
-          (All-map (cash_trades done) (λ t h. cash_whole base t books told h.0 h.1) (filtered (Done base) (λ t. t.is_cash) done dones));
+      settlements = mapped_form (settlement_form T) settlement_key (settlement_row base.accounts base.rule) done (All-map done (λ t h. settlement_whole base t h) dones);
+      cash = rows_form (cash_form T) cash_key [] tt;
+      moves = rows_form (move_form T) move_key (numbered 1 (in_turn (postings_of base))) (moves_whole base books k told dones);
+      own_moves = ap (λ rows. all_distinct (trades_moved rows)) (numbered_stay 1 (in_turn (postings_of base))) ∙ moves_own base books;
+      counted = ap (λ n. nat_le n greatest_id) (moves_counted base) ∙ le-leb (length base.movements) greatest_id k.cash.few;
+      rule = k.cash.day;
+      fits = refl;
     })

@@ -3,6 +3,7 @@ pub mod OneTrade
 pub mod SoundResult
 pub mod SoundRecords
 pub mod SoundTrades
+pub mod SoundMovements
 pub mod SoundSteps
 pub mod SortedRows
 pub mod FormKeys

@@ -8,6 +8,7 @@ use Rattle.std.proofs.lemmas.Bool.{and_from, and_parts, leb-true, le-leb, lt-ltb
 use Rattle.brk_money.specs.Kinds.{same_status}
 use Rattle.brk_money.specs.declared.status.Status.{Status}
 use Rattle.brk_money.specs.declared.status.Status.TheVariants.{Completed, Active, Submitted, Pending, Canceled}
+use Rattle.brk_model.specs.Schemas.{third_schema}
 use Rattle.brk_model.specs.Limits.{greatest_price, greatest_qty}
 use Rattle.brk_model.specs.Lists.{sort_by, update_where}
 use Rattle.brk_model.specs.Records.{Mark, Trade}
@@ -90,8 +91,8 @@ leaves_way stamp status t k w h = ap is_way (map-last (λ m. m.status) t.marks (
 
 -- ---- prices and quantities
 
-pub qty_low : (n : ℕ) → is_qty n ≡ true → n ≤ 999999
-qty_low n e = leb-true n greatest_qty (and_parts (nat_le 1 n) (nat_le n greatest_qty) e).1
+pub qty_low : (n : ℕ) → is_qty third_schema n ≡ true → n ≤ 9999999
+qty_low n e = leb-true n third_schema.greatest_qty (and_parts (nat_le 1 n) (nat_le n third_schema.greatest_qty) e).1
 
 pub price_low : (n : ℕ) → is_price n ≡ true → n ≤ 9999999
 price_low n e = leb-true n greatest_price (and_parts (nat_le 1 n) (nat_le n greatest_price) e).1
@@ -118,8 +119,8 @@ cheap_shares base account symbol h =
 
 -- ---- a later stamp
 
-pub trade_last : (base : Base) (now : ℕ) (t : Trade) → IsSoundTrade base t → IsSoundBy (Some (next_stamp base now)) base.accounts base.securities t
-trade_last base now t k = record { alone = k.alone; past = All-map t.marks (λ m e. past_then base.last now m.stamp e) k.past; cash_name = k.cash_name; amount = k.amount }
+pub trade_last : (base : Base) (now : ℕ) (t : Trade) → IsSoundTrade base t → IsSoundBy (Some (next_stamp base now)) base.rule base.accounts base.securities t
+trade_last base now t k = record { alone = k.alone; past = All-map t.marks (λ m e. past_then base.last now m.stamp e) k.past; due = k.due; cash_name = k.cash_name; amount = k.amount }
 
 pub sound_last : (base : Base) (now : ℕ) → IsSound base → IsSound (record base { last = Some (next_stamp base now) })
 sound_last base now k = record {
@@ -128,6 +129,7 @@ sound_last base now k = record {
   terms = k.terms;
   listed = record { securities = k.securities; moments = All-map base.securities (λ s e. past_then base.last now s.moment e) k.moments };
   trades = All-map base.trades (λ t h. trade_last base now t h) k.trades;
+  cash = k.cash;
   sums = k.sums;
 }
 

@@ -2,7 +2,7 @@
 use Rattle.std.proofs.Common.{◌≡◌, ℕ, Bool, true, false, cond, List, [], ◌∷◌, refl, Option, Some, None, ℤ}
 use Rattle.std.specs.Prelude.{◌&&◌, ⊤, IfSome, Ok, Err, IfOk, bytes_eq, find, length, nat_le}
 use Rattle.std.specs.List.{AllByRecursion}
-use Rattle.brk_money.specs.Spelling.{Text, cents_of, number_of}
+use Rattle.brk_money.specs.Spelling.{Text, cents_of, number_of, day_of_text}
 use Rattle.brk_money.specs.OrderTypes.{price_asked}
 use Rattle.brk_money.specs.declared.order_type.OrderType.{OrderType}
 use Rattle.brk_money.specs.declared.order_type.OrderType.TheVariants as asked
@@ -11,15 +11,17 @@ use Rattle.brk_money.specs.declared.refusal.Refusal.TheVariants.{BadText, BadQty
 use Rattle.brk_money.specs.declared.tax_status.TaxStatus.{TaxStatus}
 use Rattle.brk_money.specs.declared.trade_type.TradeType.{TradeType}
 use Rattle.brk_money.specs.declared.trade_type.TradeType.TheVariants.{MarketBuy, MarketSell, StopLoss, LimitSell, LimitBuy}
+use Rattle.brk_money.specs.Moments.{last_day}
+use Rattle.brk_model.specs.Schemas.{third_schema}
 use Rattle.brk_model.specs.Limits.{greatest_charge, greatest_rate, greatest_tax_rate}
 use Rattle.brk_model.specs.Records.{Account, Band, Broker, Charge, Customer, Executor, Permission, TaxRate}
-use Rattle.brk_model.specs.Commands.{Command, Listing, Order, Tick, AddBroker, AddCustomer, AddAccount, AddPermission, AddSecurity, AddCharge, AddBand, AddTaxRate, AddCustomerTax, PlaceOrder, FeedTicks, CancelTrade, CompleteTrade, ChangeExecutors, ChangeCashTypes, ChangeCashNames}
+use Rattle.brk_model.specs.Commands.{Command, Listing, Order, Tick, AddBroker, AddCustomer, AddAccount, AddPermission, AddSecurity, AddCharge, AddBand, AddTaxRate, AddCustomerTax, PlaceOrder, FeedTicks, CancelTrade, CompleteTrade, ChangeExecutors, ChangeCashTypes, ChangeCashNames, DepositCash, WithdrawCash, SetOneDay}
 use Rattle.brk_model.specs.Form.{charge_form, customer_form, is_amount, is_id, is_price, is_qty, is_tier, tax_rate_form}
-use Rattle.brk_model.specs.Forms.{Read, ◌⊛◌, is_acl, is_exchange, is_name, is_symbol, is_tax_id, order_type_for, without_price, without_type, with_price, read_acl, read_cash, read_charge_amount, read_commission_rate, read_end, read_exchange, read_id, read_if, read_ids, read_name, read_number, read_opening, read_order_type, read_price, read_qty, read_rate_of_tax, read_stamp, read_symbol, read_tax_id, read_tax_status, read_text, read_tier, read_type, some_of, then_read, type_of, unsigned}
-use Rattle.brk_model.specs.Parse.{Reader, in_order, parse_row, read_account, read_band, read_bounds, read_broker, read_by, read_cancel, read_charge, read_customer, read_customer_tax, read_executor, read_feed, read_order, read_permission, read_result, read_security, read_tax_rate, read_ticks, read_upcash, read_uptext, readers}
+use Rattle.brk_model.specs.Forms.{Read, ◌⊛◌, is_acl, is_exchange, is_name, is_symbol, is_tax_id, order_type_for, without_price, without_type, with_price, read_acl, read_cash, read_charge_amount, read_commission_rate, read_end, read_exchange, read_id, read_if, read_ids, read_name, read_number, read_opening, read_order_type, read_price, read_qty, read_rate_of_tax, read_stamp, read_symbol, read_tax_id, read_tax_status, read_text, read_tier, read_type, some_of, then_read, type_of, unsigned, read_amount, read_day}
+use Rattle.brk_model.specs.Parse.{Reader, in_order, parse_row, read_account, read_band, read_bounds, read_broker, read_by, read_cancel, read_charge, read_customer, read_customer_tax, read_executor, read_feed, read_order, read_permission, read_result, read_security, read_tax_rate, read_ticks, read_upcash, read_uptext, readers, read_movement, read_oneday}
 use Rattle.brk_book_laws.proofs.Same.{find-All}
 use Rattle.brk_sound_laws.specs.Sound.{account_fields, broker_fields, permission_fields}
-use Rattle.brk_sound_laws.specs.InForm.{IsInForm, IsOrderInForm, IsTickInForm, band_fields, listing_fields}
+use Rattle.brk_sound_laws.specs.InForm.{IsInForm, IsOrderInForm, IsTickInForm, band_fields, listing_fields, is_moved_amount}
 use Rattle.brk_model_laws.proofs.Conjunctions.{and3, and4}
 use Rattle.brk_model_laws.proofs.Conjunctions.{and5}
 use Rattle.std.proofs.lemmas.Bool.{and_from, and_parts}
@@ -64,11 +66,17 @@ on_id text = on_if (λ n. is_id n) BadText (number_of text)
 on_tier : (text : Text) → IfOk (read_tier text) (λ n. is_tier n ≡ true)
 on_tier text = on_if (λ n. is_tier n) BadText (number_of text)
 
-on_qty : (text : Text) → IfOk (read_qty text) (λ n. is_qty n ≡ true)
-on_qty text = on_if (λ n. is_qty n) BadQty (number_of text)
+on_qty : (text : Text) → IfOk (read_qty text) (λ n. is_qty third_schema n ≡ true)
+on_qty text = on_if (λ n. is_qty third_schema n) BadQty (number_of text)
 
 on_price : (text : Text) → IfOk (read_price text) (λ n. is_price n ≡ true)
 on_price text = on_if (λ n. is_price n) BadPrice (unsigned (cents_of text))
+
+on_amount : (text : Text) → IfOk (read_amount text) (λ n. is_moved_amount n ≡ true)
+on_amount text = on_if (λ n. is_moved_amount n) BadText (unsigned (cents_of text))
+
+on_day : (text : Text) → IfOk (read_day text) (λ n. nat_le n last_day ≡ true)
+on_day text = on_if (λ n. nat_le n last_day) BadText (day_of_text text)
 
 on_charge : (text : Text) → IfOk (read_charge_amount text) (λ n. nat_le n greatest_charge ≡ true)
 on_charge text = on_if (λ n. nat_le n greatest_charge) BadText (unsigned (cents_of text))
@@ -85,15 +93,15 @@ on_tax text = on_up_to greatest_tax_rate text
 on_text : (test : Text → Bool) (text : Text) → IfOk (read_text test text) (λ t. test t ≡ true)
 on_text test text = on_if test BadText (Some text)
 
-on_bounds : (low high : Text) → IfOk (read_bounds low high) (λ b. (is_qty b.0 ≡ true) × (is_qty b.1 ≡ true))
+on_bounds : (low high : Text) → IfOk (read_bounds low high) (λ b. (is_qty third_schema b.0 ≡ true) × (is_qty third_schema b.1 ≡ true))
 on_bounds low high =
-    let P : ℕ × ℕ → Type 0 = λ b. (is_qty b.0 ≡ true) × (is_qty b.1 ≡ true) in
+    let P : ℕ × ℕ → Type 0 = λ b. (is_qty third_schema b.0 ≡ true) × (is_qty third_schema b.1 ≡ true) in
     on_then P P in_order (Ok (λ a b. (a, b)) ⊛ read_qty low ⊛ read_qty high)
-    (on_apply (λ n. is_qty n ≡ true) P (Ok (λ a b. (a, b)) ⊛ read_qty low) (read_qty high)
-    (on_apply (λ n. is_qty n ≡ true) (λ g. (b : ℕ) → is_qty b ≡ true → P (g b)) (Ok (λ a b. (a, b))) (read_qty low) (λ a e b f. (e, f)) (on_qty low)) (on_qty high))
+    (on_apply (λ n. is_qty third_schema n ≡ true) P (Ok (λ a b. (a, b)) ⊛ read_qty low) (read_qty high)
+    (on_apply (λ n. is_qty third_schema n ≡ true) (λ g. (b : ℕ) → is_qty third_schema b ≡ true → P (g b)) (Ok (λ a b. (a, b))) (read_qty low) (λ a e b f. (e, f)) (on_qty low)) (on_qty high))
     (λ b h. by_order b (nat_le b.0 b.1) h)
   where
-    by_order : (b : ℕ × ℕ) (c : Bool) → (is_qty b.0 ≡ true) × (is_qty b.1 ≡ true) → IfOk {T = ℕ × ℕ} {E = Refusal} (cond c (Ok b) (Err BadQty)) (λ b. (is_qty b.0 ≡ true) × (is_qty b.1 ≡ true))
+    by_order : (b : ℕ × ℕ) (c : Bool) → (is_qty third_schema b.0 ≡ true) × (is_qty third_schema b.1 ≡ true) → IfOk {T = ℕ × ℕ} {E = Refusal} (cond c (Ok b) (Err BadQty)) (λ b. (is_qty third_schema b.0 ≡ true) × (is_qty third_schema b.1 ≡ true))
     by_order b true h = h
     by_order b false h = tt
 
@@ -165,11 +173,11 @@ band_on : (fields : List Text) → IfOk (read_band fields) (λ x. band_fields x 
 band_on (tier ∷ kind ∷ exchange ∷ low ∷ high ∷ rate ∷ []) =
     let P : Band → Type 0 = λ x. band_fields x ≡ true in
     on_apply (λ r. nat_le r greatest_rate ≡ true) P (Ok (λ t k e b r. record { tier = t; kind = k; exchange = e; from_qty = b.0; to_qty = b.1; rate = r }) ⊛ read_tier tier ⊛ read_type kind ⊛ read_exchange exchange ⊛ read_bounds low high) (read_commission_rate rate)
-    (on_apply (λ b. ((is_qty b.0 ≡ true) × (is_qty b.1 ≡ true))) (λ z. (r : ℕ) → nat_le r greatest_rate ≡ true → P (z r)) (Ok (λ t k e b r. record { tier = t; kind = k; exchange = e; from_qty = b.0; to_qty = b.1; rate = r }) ⊛ read_tier tier ⊛ read_type kind ⊛ read_exchange exchange) (read_bounds low high)
-    (on_apply (λ e. is_exchange e ≡ true) (λ z. (b : (ℕ × ℕ)) → ((is_qty b.0 ≡ true) × (is_qty b.1 ≡ true)) → (r : ℕ) → nat_le r greatest_rate ≡ true → P (z b r)) (Ok (λ t k e b r. record { tier = t; kind = k; exchange = e; from_qty = b.0; to_qty = b.1; rate = r }) ⊛ read_tier tier ⊛ read_type kind) (read_exchange exchange)
-    (on_apply (λ k. ⊤) (λ z. (e : Text) → is_exchange e ≡ true → (b : (ℕ × ℕ)) → ((is_qty b.0 ≡ true) × (is_qty b.1 ≡ true)) → (r : ℕ) → nat_le r greatest_rate ≡ true → P (z e b r)) (Ok (λ t k e b r. record { tier = t; kind = k; exchange = e; from_qty = b.0; to_qty = b.1; rate = r }) ⊛ read_tier tier) (read_type kind)
-    (on_apply (λ t. is_tier t ≡ true) (λ z. (k : TradeType) → ⊤ → (e : Text) → is_exchange e ≡ true → (b : (ℕ × ℕ)) → ((is_qty b.0 ≡ true) × (is_qty b.1 ≡ true)) → (r : ℕ) → nat_le r greatest_rate ≡ true → P (z k e b r)) (Ok (λ t k e b r. record { tier = t; kind = k; exchange = e; from_qty = b.0; to_qty = b.1; rate = r })) (read_tier tier)
-    (λ t t' k k' e e' b b' r r'. and5 (is_tier t) (is_exchange e) (is_qty b.0) (is_qty b.1) (nat_le r greatest_rate) t' e' b'.0 b'.1 r') (on_tier tier)) (on_any (read_type kind))) (on_text is_exchange exchange)) (on_bounds low high)) (on_rate rate)
+    (on_apply (λ b. ((is_qty third_schema b.0 ≡ true) × (is_qty third_schema b.1 ≡ true))) (λ z. (r : ℕ) → nat_le r greatest_rate ≡ true → P (z r)) (Ok (λ t k e b r. record { tier = t; kind = k; exchange = e; from_qty = b.0; to_qty = b.1; rate = r }) ⊛ read_tier tier ⊛ read_type kind ⊛ read_exchange exchange) (read_bounds low high)
+    (on_apply (λ e. is_exchange e ≡ true) (λ z. (b : (ℕ × ℕ)) → ((is_qty third_schema b.0 ≡ true) × (is_qty third_schema b.1 ≡ true)) → (r : ℕ) → nat_le r greatest_rate ≡ true → P (z b r)) (Ok (λ t k e b r. record { tier = t; kind = k; exchange = e; from_qty = b.0; to_qty = b.1; rate = r }) ⊛ read_tier tier ⊛ read_type kind) (read_exchange exchange)
+    (on_apply (λ k. ⊤) (λ z. (e : Text) → is_exchange e ≡ true → (b : (ℕ × ℕ)) → ((is_qty third_schema b.0 ≡ true) × (is_qty third_schema b.1 ≡ true)) → (r : ℕ) → nat_le r greatest_rate ≡ true → P (z e b r)) (Ok (λ t k e b r. record { tier = t; kind = k; exchange = e; from_qty = b.0; to_qty = b.1; rate = r }) ⊛ read_tier tier) (read_type kind)
+    (on_apply (λ t. is_tier t ≡ true) (λ z. (k : TradeType) → ⊤ → (e : Text) → is_exchange e ≡ true → (b : (ℕ × ℕ)) → ((is_qty third_schema b.0 ≡ true) × (is_qty third_schema b.1 ≡ true)) → (r : ℕ) → nat_le r greatest_rate ≡ true → P (z k e b r)) (Ok (λ t k e b r. record { tier = t; kind = k; exchange = e; from_qty = b.0; to_qty = b.1; rate = r })) (read_tier tier)
+    (λ t t' k k' e e' b b' r r'. and5 (is_tier t) (is_exchange e) (is_qty third_schema b.0) (is_qty third_schema b.1) (nat_le r greatest_rate) t' e' b'.0 b'.1 r') (on_tier tier)) (on_any (read_type kind))) (on_text is_exchange exchange)) (on_bounds low high)) (on_rate rate)
 band_on _ = tt
 
 tax_rate_on : (fields : List Text) → IfOk (read_tax_rate fields) (λ x. tax_rate_form x ≡ true)
@@ -212,9 +220,9 @@ order_on (account ∷ kind ∷ symbol ∷ qty ∷ price ∷ cash ∷ end ∷ fir
     (on_apply (λ l. ⊤) (λ z. (e : Executor) → ⊤ → P (z e)) (Ok (λ a s q t c l e. record { account = a; order_type = t; symbol = s; qty = q; is_cash = c; is_lifo = l; executor = e }) ⊛ read_id account ⊛ read_symbol symbol ⊛ read_qty qty ⊛ read_order_type kind price ⊛ read_cash cash) (read_end end)
     (on_apply (λ c. ⊤) (λ z. (l : Bool) → ⊤ → (e : Executor) → ⊤ → P (z l e)) (Ok (λ a s q t c l e. record { account = a; order_type = t; symbol = s; qty = q; is_cash = c; is_lifo = l; executor = e }) ⊛ read_id account ⊛ read_symbol symbol ⊛ read_qty qty ⊛ read_order_type kind price) (read_cash cash)
     (on_apply (λ t. IfSome (price_asked t) (λ n. is_price n ≡ true)) (λ z. (c : Bool) → ⊤ → (l : Bool) → ⊤ → (e : Executor) → ⊤ → P (z c l e)) (Ok (λ a s q t c l e. record { account = a; order_type = t; symbol = s; qty = q; is_cash = c; is_lifo = l; executor = e }) ⊛ read_id account ⊛ read_symbol symbol ⊛ read_qty qty) (read_order_type kind price)
-    (on_apply (λ q. is_qty q ≡ true) (λ z. (t : OrderType) → IfSome (price_asked t) (λ n. is_price n ≡ true) → (c : Bool) → ⊤ → (l : Bool) → ⊤ → (e : Executor) → ⊤ → P (z t c l e)) (Ok (λ a s q t c l e. record { account = a; order_type = t; symbol = s; qty = q; is_cash = c; is_lifo = l; executor = e }) ⊛ read_id account ⊛ read_symbol symbol) (read_qty qty)
-    (on_apply (λ s. ⊤) (λ z. (q : ℕ) → is_qty q ≡ true → (t : OrderType) → IfSome (price_asked t) (λ n. is_price n ≡ true) → (c : Bool) → ⊤ → (l : Bool) → ⊤ → (e : Executor) → ⊤ → P (z q t c l e)) (Ok (λ a s q t c l e. record { account = a; order_type = t; symbol = s; qty = q; is_cash = c; is_lifo = l; executor = e }) ⊛ read_id account) (read_symbol symbol)
-    (on_apply (λ a. ⊤) (λ z. (s : Text) → ⊤ → (q : ℕ) → is_qty q ≡ true → (t : OrderType) → IfSome (price_asked t) (λ n. is_price n ≡ true) → (c : Bool) → ⊤ → (l : Bool) → ⊤ → (e : Executor) → ⊤ → P (z s q t c l e)) (Ok (λ a s q t c l e. record { account = a; order_type = t; symbol = s; qty = q; is_cash = c; is_lifo = l; executor = e })) (read_id account)
+    (on_apply (λ q. is_qty third_schema q ≡ true) (λ z. (t : OrderType) → IfSome (price_asked t) (λ n. is_price n ≡ true) → (c : Bool) → ⊤ → (l : Bool) → ⊤ → (e : Executor) → ⊤ → P (z t c l e)) (Ok (λ a s q t c l e. record { account = a; order_type = t; symbol = s; qty = q; is_cash = c; is_lifo = l; executor = e }) ⊛ read_id account ⊛ read_symbol symbol) (read_qty qty)
+    (on_apply (λ s. ⊤) (λ z. (q : ℕ) → is_qty third_schema q ≡ true → (t : OrderType) → IfSome (price_asked t) (λ n. is_price n ≡ true) → (c : Bool) → ⊤ → (l : Bool) → ⊤ → (e : Executor) → ⊤ → P (z q t c l e)) (Ok (λ a s q t c l e. record { account = a; order_type = t; symbol = s; qty = q; is_cash = c; is_lifo = l; executor = e }) ⊛ read_id account) (read_symbol symbol)
+    (on_apply (λ a. ⊤) (λ z. (s : Text) → ⊤ → (q : ℕ) → is_qty third_schema q ≡ true → (t : OrderType) → IfSome (price_asked t) (λ n. is_price n ≡ true) → (c : Bool) → ⊤ → (l : Bool) → ⊤ → (e : Executor) → ⊤ → P (z s q t c l e)) (Ok (λ a s q t c l e. record { account = a; order_type = t; symbol = s; qty = q; is_cash = c; is_lifo = l; executor = e })) (read_id account)
     (λ a a' s s' q q' t t' c c' l l' e e'. record { qty = q'; price = t' }) (on_any (read_id account))) (on_any (read_symbol symbol))) (on_qty qty)) (order_type_on kind price)) (on_any (read_cash cash))) (on_any (read_end end))) (on_any (read_executor first last tax_id))
 order_on _ = tt
 
@@ -268,6 +276,21 @@ feed_on fields = on_then (AllByRecursion IsTickInForm) (AllByRecursion IsTickInF
     some [] h = tt
     some (t ∷ ticks) h = by_length (t ∷ ticks) (nat_le (length (t ∷ ticks)) 20) h
 
+movement_on : (moved : ℕ → ℕ → Command) → ((account n : ℕ) → is_moved_amount n ≡ true → IsInForm (moved account n)) → (fields : List Text) → IfOk (read_movement moved fields) (λ x. IsInForm x)
+movement_on moved form [] = tt
+movement_on moved form (account ∷ []) = tt
+movement_on moved form (account ∷ amount ∷ []) =
+    let P : Command → Type 0 = λ x. IsInForm x in
+    on_apply (λ n. is_moved_amount n ≡ true) P (Ok (λ a n. moved a n) ⊛ read_id account) (read_amount amount)
+    (on_apply (λ a. ⊤) (λ z. (n : ℕ) → is_moved_amount n ≡ true → P (z n)) (Ok (λ a n. moved a n)) (read_id account)
+    (λ a a' n n'. form a n n') (on_any (read_id account))) (on_amount amount)
+movement_on moved form (account ∷ amount ∷ more ∷ fields) = tt
+
+oneday_on : (fields : List Text) → IfOk (read_oneday fields) (λ n. nat_le n last_day ≡ true)
+oneday_on [] = tt
+oneday_on (day ∷ []) = on_day day
+oneday_on (day ∷ more ∷ fields) = tt
+
 -- ---- any row
 
 as_on : {A : Type 0} (wrap : A → Command) (R : A → Type 0) (x : Read A) → ((a : A) → R a → IsInForm (wrap a)) → IfOk x R → IfOk (Ok wrap ⊛ x) IsInForm
@@ -309,7 +332,13 @@ all_readers = (
                               upcash_on,
                               (
                                 uptext_on,
-                                tt,
+                                (
+                                  movement_on (λ a n. DepositCash a n) (λ a n e. e),
+                                  (
+                                    movement_on (λ a n. WithdrawCash a n) (λ a n e. e),
+                                    ((λ fs. as_on SetOneDay (λ n. nat_le n last_day ≡ true) (read_oneday fs) (λ n e. e) (oneday_on fs)), tt),
+                                  ),
+                                ),
                               ),
                             ),
                           ),

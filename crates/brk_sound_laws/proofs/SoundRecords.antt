@@ -6,10 +6,12 @@ use Rattle.std.specs.Option.{option_map_or}
 use Rattle.std.proofs.lemmas.Bool.{and_from, eqb-true, eq-eqb, leb-true, leb-false, ltb-false}
 use Rattle.std.proofs.lemmas.List.Sums.{sum_by-cons, sum_by-append}
 use Rattle.brk_money.specs.Spelling.{Text}
+use Rattle.brk_model.specs.Schemas.{third_schema}
+use Rattle.brk_model.specs.Lists.{total_by}
 use Rattle.brk_model.specs.Limits.{greatest_amount, greatest_rate, greatest_tax_rate, most_accounts}
 use Rattle.brk_model.specs.Records.{Account, Band, Broker, Charge, Customer, CustomerTax, Kept, Key, Permission, Security, TaxRate, Trade}
 use Rattle.brk_model.specs.Base.{Base, account_with, broker_in, completed, customer_with, rates_of, tax_rate_with}
-use Rattle.brk_model.specs.Derived.{amount_of, balance_of, cash_trades, commissions_of, of_account, of_broker}
+use Rattle.brk_model.specs.Derived.{amount_of, balance_of, cash_trades, commissions_of, of_account, of_broker, posted_to, postings, postings_of}
 use Rattle.brk_model.specs.Commands.{Command, Listing, Reply, AddBroker, AddCustomer, AddAccount, AddPermission, AddSecurity, AddCharge, AddBand, AddTaxRate, AddCustomerTax}
 use Rattle.brk_model.specs.Form.{band_form, charge_form, customer_form, is_amount, is_id, is_qty, is_tier, kept_form, tax_rate_form}
 use Rattle.brk_model.specs.Forms.{is_exchange, is_name}
@@ -27,7 +29,7 @@ use Rattle.brk_book_laws.proofs.Same.{NonePass, All-append, All-filter, All-map,
 use Rattle.brk_book_laws.proofs.Places.{filter-append}
 use Rattle.brk_book_laws.proofs.Tested.{passed, not_not}
 use Rattle.brk_book_laws.proofs.Keepers.{found_more}
-use Rattle.brk_book_laws.proofs.References.{amount_as_before, as_before, known_completed, more, new_balance, new_number}
+use Rattle.brk_book_laws.proofs.References.{amount_as_before, as_before, known_completed, more, new_balance, new_number, postings_as_before}
 use Rattle.brk_book_laws.proofs.Steps.{in_order}
 use Rattle.brk_adoption_laws.proofs.Again.{both_all}
 use Rattle.brk_model_laws.proofs.Conjunctions.{parts3, parts5}
@@ -75,6 +77,7 @@ sound_broker base now b k books form e =
       terms = l.terms;
       listed = l.listed;
       trades = l.trades;
+      cash = l.cash;
       sums = l.sums;
     }
 
@@ -109,6 +112,7 @@ sound_customer base now x k books form e =
       };
       listed = l.listed;
       trades = l.trades;
+      cash = l.cash;
       sums = l.sums;
     }
 
@@ -133,6 +137,7 @@ sound_permission base now x k books form e =
       terms = l.terms;
       listed = l.listed;
       trades = l.trades;
+      cash = l.cash;
       sums = l.sums;
     }
 
@@ -157,16 +162,17 @@ sound_charge base now x k books form e =
       };
       listed = l.listed;
       trades = l.trades;
+      cash = l.cash;
       sums = l.sums;
     }
 
-band_whole : (b : Band) → IsInForm (AddBand b) → nat_le b.from_qty b.to_qty ≡ true → band_form b ≡ true
+band_whole : (b : Band) → IsInForm (AddBand b) → nat_le b.from_qty b.to_qty ≡ true → band_form third_schema b ≡ true
 band_whole b form o =
-    let f = parts5 (is_tier b.tier) (is_exchange b.exchange) (is_qty b.from_qty) (is_qty b.to_qty) (nat_le b.rate greatest_rate) form in
+    let f = parts5 (is_tier b.tier) (is_exchange b.exchange) (is_qty third_schema b.from_qty) (is_qty third_schema b.to_qty) (nat_le b.rate greatest_rate) form in
     let t = is_tier b.tier in
     let x = is_exchange b.exchange in
-    let m = is_qty b.from_qty in
-    let n = is_qty b.to_qty in
+    let m = is_qty third_schema b.from_qty in
+    let n = is_qty third_schema b.to_qty in
     and_from (t && x && m && n && nat_le b.from_qty b.to_qty) (nat_le b.rate greatest_rate)
     (and_from (t && x && m && n) (nat_le b.from_qty b.to_qty) (and_from (t && x && m) n (and_from (t && x) m (and_from t x f.0 f.1) f.2) f.3) o) f.4
 
@@ -180,7 +186,7 @@ sound_band base now x k books form e =
       parties = l.parties;
       terms = record {
         charges = l.charges;
-        bands = All-append (λ b. band_form b ≡ true) base.bands (x ∷ []) k.bands (band_whole x form (in_order x.from_qty x.to_qty p.0), tt);
+        bands = All-append (λ b. band_form third_schema b ≡ true) base.bands (x ∷ []) k.bands (band_whole x form (in_order x.from_qty x.to_qty p.0), tt);
         tax_rates = l.tax_rates;
         charge_keys = l.charge_keys;
         tax_rate_keys = l.tax_rate_keys;
@@ -191,6 +197,7 @@ sound_band base now x k books form e =
       };
       listed = l.listed;
       trades = l.trades;
+      cash = l.cash;
       sums = l.sums;
     }
 
@@ -229,6 +236,7 @@ sound_tax_rate base now x k books form e =
       };
       listed = l.listed;
       trades = l.trades;
+      cash = l.cash;
       sums = l.sums;
     }
 
@@ -282,6 +290,7 @@ sound_customer_tax base now x k books form e =
       };
       listed = l.listed;
       trades = l.trades;
+      cash = l.cash;
       sums = l.sums;
     }
 
@@ -289,8 +298,8 @@ sound_customer_tax base now x k books form e =
 
 pub trade_listed : (base : Base) (ss : List Security) (t : Trade)
     → option_map_or (λ s. s.name) (find (λ s. bytes_eq s.symbol t.symbol) ss) [] ≡ option_map_or (λ s. s.name) (find (λ s. bytes_eq s.symbol t.symbol) base.securities) []
-    → IsSoundTrade base t → IsSoundBy base.last base.accounts ss t
-trade_listed base ss t e k = record { alone = k.alone; past = k.past; cash_name = λ d. ap (is_named_by t) e ∙ k.cash_name d; amount = k.amount }
+    → IsSoundTrade base t → IsSoundBy base.last base.rule base.accounts ss t
+trade_listed base ss t e k = record { alone = k.alone; past = k.past; due = k.due; cash_name = λ d. ap (is_named_by t) e ∙ k.cash_name d; amount = k.amount }
 
 pub sound_security : (base : Base) (now : ℕ) (l : Listing) → LeavesSound base now (AddSecurity l)
 unfolding records_after tests
@@ -310,6 +319,7 @@ sound_security base now x k books form e =
       trades = All-map base.trades (λ t h. trade_listed c (base.securities ++ s ∷ []) t
           (ap (λ o. option_map_or (λ s. s.name) o []) (find-more (λ u. bytes_eq u.symbol t.symbol) base.securities (s ∷ []) h.1)) h.0)
           (both_all (IsSoundTrade c) (KnowsSecurity base) base.trades l.trades books.securities);
+      cash = l.cash;
       sums = l.sums;
     }
 
@@ -319,24 +329,21 @@ find_other : {X : Type 0} (p : X → Bool) (xs : List X) (x : X) → p x ≡ fal
 find_other p [] x e = ap (λ b. cond b (Some x) None) e
 find_other p (y ∷ xs) x e = ap (λ o. cond (p y) (Some y) o) (find_other p xs x e)
 
-other_balance : (base : Base) (a : Account) (id : ℕ) → IsBooks base → (a.id == id) ≡ false → balance_of (more base a) (completed base) id ≡ balance_of base.accounts (completed base) id
+other_balance : (base : Base) (a : Account) (id : ℕ) → IsBooks base → (a.id == id) ≡ false
+    → balance_of (more base a) (postings (more base a) (completed base) base.movements) id ≡ balance_of base.accounts (postings_of base) id
 unfolding balance_of
 other_balance base a id books e =
-    let some : List Trade = cash_trades (of_account (completed base) id) in
-    let known : AllByRecursion (KnowsAccount base) some =
-    All-filter (KnowsAccount base) (λ t. t.is_cash) (of_account (completed base) id)
-    (All-filter (KnowsAccount base) (λ t. t.account == id) (completed base) (known_completed base books)) in
-    let sums = total_by-same (amount_of (more base a)) (amount_of base.accounts) some (All-map some (λ t k. amount_as_before base a t k) known) in
-    λ i. option_map_or (λ a. a.opening) (find_other (λ b. b.id == id) base.accounts a e i) (pos 0) +ℤ sums i
+    λ i. option_map_or (λ a. a.opening) (find_other (λ b. b.id == id) base.accounts a e i) (pos 0) +ℤ total_by (λ p. p.amount) (posted_to (postings_as_before base a books i) id)
 
 balances_more : (base : Base) (a : Account) → IsBooks base → is_some (account_with base a.id) ≡ false → is_amount a.opening ≡ true
-    → ((id : ℕ) → nat_abs (balance_of base.accounts (completed base) id) ≤ greatest_amount) → (id : ℕ) → nat_abs (balance_of (more base a) (completed base) id) ≤ greatest_amount
+    → ((id : ℕ) → nat_abs (balance_of base.accounts (postings_of base) id) ≤ greatest_amount)
+    → (id : ℕ) → nat_abs (balance_of (more base a) (postings (more base a) (completed base) base.movements) id) ≤ greatest_amount
 balances_more base a books new form k id = by_test (a.id == id) refl
   where
     Low : ℕ → Type 0
-    Low n = nat_abs (balance_of (more base a) (completed base) n) ≤ greatest_amount
+    Low n = nat_abs (balance_of (more base a) (postings (more base a) (completed base) base.movements) n) ≤ greatest_amount
 
-    by_test : (b : Bool) → (a.id == id) ≡ b → nat_abs (balance_of (more base a) (completed base) id) ≤ greatest_amount
+    by_test : (b : Bool) → (a.id == id) ≡ b → Low id
     by_test true e =
         subst Low (eqb-true a.id id e) (subst (λ z. nat_abs z ≤ greatest_amount) (sym (new_balance base a books new)) (leb-true (nat_abs a.opening) greatest_amount form))
     by_test false e = subst (λ z. nat_abs z ≤ greatest_amount) (sym (other_balance base a id books e)) (k id)
@@ -373,8 +380,8 @@ owned_more accounts a h k customer = by_test (a.customer == customer) refl
         let p = apart in
         omega (arith, p, one, m)
 
-trade_owned : (base : Base) (a : Account) (t : Trade) → KnowsAccount base t → IsSoundTrade base t → IsSoundBy base.last (more base a) base.securities t
-trade_owned base a t known k = record { alone = k.alone; past = k.past; cash_name = k.cash_name; amount = λ d. ap is_amount (amount_as_before base a t known) ∙ k.amount d }
+trade_owned : (base : Base) (a : Account) (t : Trade) → KnowsAccount base t → IsSoundTrade base t → IsSoundBy base.last base.rule (more base a) base.securities t
+trade_owned base a t known k = record { alone = k.alone; past = k.past; due = k.due; cash_name = k.cash_name; amount = λ d. ap is_amount (amount_as_before base a t known) ∙ k.amount d }
 
 pub sound_account : (base : Base) (now : ℕ) (a : Account) → LeavesSound base now (AddAccount a)
 unfolding records_after tests
@@ -398,6 +405,7 @@ sound_account base now a k books form e =
       terms = l.terms;
       listed = l.listed;
       trades = All-map base.trades (λ t h. trade_owned c a t h.1 h.0) (both_all (IsSoundTrade c) (KnowsAccount base) base.trades l.trades books.accounts);
+      cash = l.cash;
       sums = record {
         summaries = l.summaries;
         balances = balances_more base a books p.1.1.0 (parts3 (is_id a.id) (is_name a.name) (is_amount a.opening) form).2 k.balances;
@@ -432,5 +440,6 @@ sound_kept base key command reply k form e =
       terms = k.terms;
       listed = k.listed;
       trades = k.trades;
+      cash = k.cash;
       sums = k.sums;
     }

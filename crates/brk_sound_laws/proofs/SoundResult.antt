@@ -9,10 +9,11 @@ use Rattle.brk_money.specs.Moments.{day_of, last_day}
 use Rattle.brk_money.specs.Kinds.{side_of}
 use Rattle.brk_money.specs.declared.trade_type.TradeType.{TradeType}
 use Rattle.brk_money.specs.declared.status.Status.TheVariants.{Completed, Submitted}
+use Rattle.brk_model.specs.Schemas.{third_schema}
 use Rattle.brk_model.specs.Limits.{greatest_amount, greatest_charge, greatest_rate, greatest_summary}
-use Rattle.brk_model.specs.Records.{Account, Band, Trade}
+use Rattle.brk_model.specs.Records.{Account, Band, Trade, Movement}
 use Rattle.brk_model.specs.Base.{Base, band_with, broker_in, completed, customer_of, exchange_of, has_status, is_completed, takes_tax_off, tax_status_in, tier_of, trade_with}
-use Rattle.brk_model.specs.Derived.{balance_of, commissions_of, settlement_days, shares_in, summary_of}
+use Rattle.brk_model.specs.Derived.{balance_of, commissions_of, shares_in, summary_of, postings, due_after}
 use Rattle.brk_model.specs.Commands.{CompleteTrade}
 use Rattle.brk_model.specs.Orders.{commission_of}
 use Rattle.brk_model.specs.Results.{cash_text, completed_trade, result_deal, with_result}
@@ -46,22 +47,22 @@ summary_then xs u ys h new account symbol = by_test ((u.account == account) && b
         (subst (λ s. nat_abs (summary_of (xs ++ u ∷ ys) u.account s) ≤ greatest_summary) (same_text u.symbol symbol p.1) new)
     by_test false e = subst (λ z. nat_abs z ≤ greatest_summary) (sym (summary_other xs u ys account symbol e)) (h account symbol)
 
-balance_then : (accounts : List Account) (xs : List Trade) (u : Trade) (ys : List Trade) → ((account : ℕ) → nat_abs (balance_of accounts (xs ++ ys) account) ≤ greatest_amount)
-    → (u.is_cash && nat_lt greatest_amount (nat_abs (balance_of accounts (xs ++ u ∷ ys) u.account))) ≡ false
-    → (account : ℕ) → nat_abs (balance_of accounts (xs ++ u ∷ ys) account) ≤ greatest_amount
-balance_then accounts xs u ys h tested account = by_test (account == u.account) refl
+balance_then : (accounts : List Account) (xs : List Trade) (u : Trade) (ys : List Trade) (ms : List Movement) → ((account : ℕ) → nat_abs (balance_of accounts (postings accounts (xs ++ ys) ms) account) ≤ greatest_amount)
+    → (u.is_cash && nat_lt greatest_amount (nat_abs (balance_of accounts (postings accounts (xs ++ u ∷ ys) ms) u.account))) ≡ false
+    → (account : ℕ) → nat_abs (balance_of accounts (postings accounts (xs ++ u ∷ ys) ms) account) ≤ greatest_amount
+balance_then accounts xs u ys ms h tested account = by_test (account == u.account) refl
   where
     Low : ℕ → Type 0
-    Low id = nat_abs (balance_of accounts (xs ++ u ∷ ys) id) ≤ greatest_amount
+    Low id = nat_abs (balance_of accounts (postings accounts (xs ++ u ∷ ys) ms) id) ≤ greatest_amount
 
     own : (b : Bool) → u.is_cash ≡ b → Low u.account
-    own true e = ltb-false greatest_amount (nat_abs (balance_of accounts (xs ++ u ∷ ys) u.account))
-        (sym (ap (λ b. b && nat_lt greatest_amount (nat_abs (balance_of accounts (xs ++ u ∷ ys) u.account))) e) ∙ tested)
-    own false e = subst (λ z. nat_abs z ≤ greatest_amount) (sym (margin_balance accounts xs u ys u.account e)) (h u.account)
+    own true e = ltb-false greatest_amount (nat_abs (balance_of accounts (postings accounts (xs ++ u ∷ ys) ms) u.account))
+        (sym (ap (λ b. b && nat_lt greatest_amount (nat_abs (balance_of accounts (postings accounts (xs ++ u ∷ ys) ms) u.account))) e) ∙ tested)
+    own false e = subst (λ z. nat_abs z ≤ greatest_amount) (sym (margin_balance accounts xs u ys ms u.account e)) (h u.account)
 
     by_test : (b : Bool) → (account == u.account) ≡ b → Low account
     by_test true e = subst Low (sym (eqb-true account u.account e)) (own u.is_cash refl)
-    by_test false e = subst (λ z. nat_abs z ≤ greatest_amount) (sym (other_account accounts xs u ys account e)) (h account)
+    by_test false e = subst (λ z. nat_abs z ≤ greatest_amount) (sym (other_account accounts xs u ys ms account e)) (h account)
 
 commissions_then : (accounts : List Account) (xs : List Trade) (u : Trade) (ys : List Trade) → ((broker : ℕ) → commissions_of accounts (xs ++ ys) broker ≤ greatest_amount)
     → commissions_of accounts (xs ++ u ∷ ys) (broker_in accounts u.account) ≤ greatest_amount → (broker : ℕ) → commissions_of accounts (xs ++ u ∷ ys) broker ≤ greatest_amount
@@ -77,22 +78,22 @@ commissions_then accounts xs u ys h new broker = by_test (broker == broker_in ac
 
 -- ---- the commission
 
-pub rate_low : (b : Band) → band_form b ≡ true → b.rate ≤ 10000
+pub rate_low : (b : Band) → band_form third_schema b ≡ true → b.rate ≤ 10000
 rate_low b e =
-    leb-true b.rate greatest_rate (parts6 (is_tier b.tier) (is_exchange b.exchange) (is_qty b.from_qty) (is_qty b.to_qty) (nat_le b.from_qty b.to_qty) (nat_le b.rate greatest_rate) e).5
+    leb-true b.rate greatest_rate (parts6 (is_tier b.tier) (is_exchange b.exchange) (is_qty third_schema b.from_qty) (is_qty third_schema b.to_qty) (nat_le b.from_qty b.to_qty) (nat_le b.rate greatest_rate) e).5
 
-pub commission_within : (base : Base) (account : ℕ) (kind : TradeType) (symbol : Text) (qty price : ℕ) → AllByRecursion (λ b. band_form b ≡ true) base.bands → qty ≤ 999999 → price ≤ 9999999
-    → unwrap_or (commission_of base account kind symbol qty price) 0 ≤ 10 ^ 13
+pub commission_within : (base : Base) (account : ℕ) (kind : TradeType) (symbol : Text) (qty price : ℕ) → AllByRecursion (λ b. band_form third_schema b ≡ true) base.bands → qty ≤ 9999999 → price ≤ 9999999
+    → unwrap_or (commission_of base account kind symbol qty price) 0 ≤ 10 ^ 14
 commission_within base account kind symbol qty price h q p = by_band (band_with base (tier_of base account) kind (exchange_of base symbol) qty) refl
   where
     by_band : (o : Option Band) → band_with base (tier_of base account) kind (exchange_of base symbol) qty ≡ o
-        → unwrap_or (option_map (λ b. commission b.rate qty price) o) 0 ≤ 10 ^ 13
+        → unwrap_or (option_map (λ b. commission b.rate qty price) o) 0 ≤ 10 ^ 14
     by_band None e = omega arith
-    by_band (Some b) e = commission_low b.rate qty price (rate_low b (find-All (λ b. band_form b ≡ true) _ base.bands b h e)) q p
+    by_band (Some b) e = commission_low b.rate qty price (rate_low b (find-All (λ b. band_form third_schema b ≡ true) _ base.bands b h e)) q p
 
 -- ---- the completed trade
 
-pub high : (n : ℕ) → n ≤ 10 ^ 13 → nat_le n greatest_amount ≡ true
+pub high : (n : ℕ) → n ≤ 10 ^ 14 → nat_le n greatest_amount ≡ true
 high n h = le-leb n greatest_amount (omega (arith, h))
 
 first_type : (b : Bool) → is_cash_type b (cond b (codes "Cash Account") (codes "Margin")) ≡ true
@@ -112,20 +113,19 @@ completed_sound base now id price t k books form e accepted h =
     let s : has_status Submitted t ≡ true = submitted base now id price t e accepted in
     let p = result_passed base now id price t e accepted in
     let done : is_completed u ≡ true = status_then base stamp price t Completed in
-    let f = parts6 (is_id t.id) (is_qty t.qty) (is_price t.bid) (nat_le t.charge greatest_charge) (nat_le t.commission greatest_amount) (nat_le t.tax greatest_amount) h.fields in
-    let q : t.qty ≤ 999999 = qty_low t.qty f.1 in
+    let f = parts6 (is_id t.id) (is_qty third_schema t.qty) (is_price t.bid) (nat_le t.charge greatest_charge) (nat_le t.commission greatest_amount) (nat_le t.tax greatest_amount) h.fields in
+    let q : t.qty ≤ 9999999 = qty_low t.qty f.1 in
     let r : price ≤ 9999999 = price_low price form in
-    let c : u.commission ≤ 10 ^ 13 = commission_within base t.account t.kind t.symbol t.qty price k.bands q r in
-    let x : u.tax ≤ 10 ^ 13 =
+    let c : u.commission ≤ 10 ^ 14 = commission_within base t.account t.kind t.symbol t.qty price k.bands q r in
+    let x : u.tax ≤ 10 ^ 14 =
     tax_within base t.account (result_deal stamp price t) (shares_in (completed base) t.account t.symbol) q r (cheap_shares base t.account t.symbol k.trades) (k.rates (customer_of base t.account)) in
-    let due = ltb-false last_day (day_of stamp + settlement_days) p.1.1.1.1.1.0 in
+    let due = ltb-false last_day (due_after base.rule stamp) p.1.1.1.1.1.0 in
     record {
       alone = record {
-        fields = and6 (is_id t.id) (is_qty t.qty) (is_price t.bid) (nat_le t.charge greatest_charge) (nat_le u.commission greatest_amount) (nat_le u.tax greatest_amount) f.0 f.1 f.2 f.3
+        fields = and6 (is_id t.id) (is_qty third_schema t.qty) (is_price t.bid) (nat_le t.charge greatest_charge) (nat_le u.commission greatest_amount) (nat_le u.tax greatest_amount) f.0 f.1 f.2 f.3
             (high u.commission c) (high u.tax x);
         stamps = stamps_more base now Completed t h.stamps h.past;
         way = completes_way stamp t h.way s;
-        due = All-append IsDueInTime t.marks (record { stamp = stamp; status = Completed } ∷ []) h.due (le-leb (day_of stamp + settlement_days) last_day due, tt);
         priced = ap (λ b. cond b (is_price price) false) done ∙ form;
         words = record {
           settled = λ waits. false_true (sym waits ∙ done);
@@ -134,6 +134,7 @@ completed_sound base now id price t k books form e accepted h =
         cash_type = λ d. first_type t.is_cash;
       };
       past = All-append (IsPastMark (Some stamp)) t.marks (record { stamp = stamp; status = Completed } ∷ []) (All-map t.marks (λ m e. past_then base.last now m.stamp e) h.past) (past_itself stamp, tt);
+      due = All-append (IsDueInTime base.rule) t.marks (record { stamp = stamp; status = Completed } ∷ []) h.due (le-leb (due_after base.rule stamp) last_day due, tt);
       cash_name = λ d.
           let cash : t.is_cash ≡ true = (and_parts (is_completed u) t.is_cash d).1 in
           let text : Text = cash_text (codes " shares of ") base t in
@@ -168,13 +169,14 @@ sound_then base now id price t k books form e accepted =
       trades = subst (AllByRecursion (IsSoundTrade after)) (sym (trades_then base stamp price t f.front f.back f.result))
           (All-append (IsSoundTrade after) f.front (u ∷ f.back) (All-map f.front stays (All-front (IsSoundTrade base) f.front (t ∷ f.back) old))
           (completed_sound base now id price t k books form e accepted back.0, All-map f.back stays back.1));
+      cash = l.cash;
       sums = record {
         summaries = subst (λ ts. (account : ℕ) → (symbol : Text) → nat_abs (summary_of ts account symbol) ≤ greatest_summary) (sym is)
             (summary_then A u Z (subst (λ ts. (account : ℕ) → (symbol : Text) → nat_abs (summary_of ts account symbol) ≤ greatest_summary) was k.summaries)
             (subst (λ ts. nat_abs (summary_of ts t.account t.symbol) ≤ greatest_summary) is (ltb-false greatest_summary _ p.1.1.0)));
-        balances = subst (λ ts. (account : ℕ) → nat_abs (balance_of base.accounts ts account) ≤ greatest_amount) (sym is)
-            (balance_then base.accounts A u Z (subst (λ ts. (account : ℕ) → nat_abs (balance_of base.accounts ts account) ≤ greatest_amount) was k.balances)
-            (subst (λ ts. (t.is_cash && nat_lt greatest_amount (nat_abs (balance_of base.accounts ts t.account))) ≡ false) is p.1.1.1.0));
+        balances = subst (λ ts. (account : ℕ) → nat_abs (balance_of base.accounts (postings base.accounts ts base.movements) account) ≤ greatest_amount) (sym is)
+            (balance_then base.accounts A u Z base.movements (subst (λ ts. (account : ℕ) → nat_abs (balance_of base.accounts (postings base.accounts ts base.movements) account) ≤ greatest_amount) was k.balances)
+            (subst (λ ts. (t.is_cash && nat_lt greatest_amount (nat_abs (balance_of base.accounts (postings base.accounts ts base.movements) t.account))) ≡ false) is p.1.1.1.0));
         commissions = subst (λ ts. (broker : ℕ) → commissions_of base.accounts ts broker ≤ greatest_amount) (sym is)
             (commissions_then base.accounts A u Z (subst (λ ts. (broker : ℕ) → commissions_of base.accounts ts broker ≤ greatest_amount) was k.commissions)
             (subst (λ ts. commissions_of base.accounts ts (broker_in base.accounts t.account) ≤ greatest_amount) is (ltb-false greatest_amount _ p.1.1.1.1.0)));

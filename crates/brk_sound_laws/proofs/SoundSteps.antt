@@ -8,7 +8,7 @@ use Rattle.brk_model.specs.Base.{Base, empty_base, trade_with}
 use Rattle.brk_model.specs.Derived.{balance_of, commissions_of, summary_of}
 use Rattle.brk_model.specs.Feed.{with_tick, with_ticks}
 use Rattle.brk_model.specs.Results.{with_result}
-use Rattle.brk_model.specs.Commands.{Command, Reply, Tick, AddBroker, AddCustomer, AddAccount, AddPermission, AddSecurity, AddCharge, AddBand, AddTaxRate, AddCustomerTax, PlaceOrder, FeedTicks, CancelTrade, CompleteTrade, ChangeExecutors, ChangeCashTypes, ChangeCashNames}
+use Rattle.brk_model.specs.Commands.{Command, Reply, Tick, AddBroker, AddCustomer, AddAccount, AddPermission, AddSecurity, AddCharge, AddBand, AddTaxRate, AddCustomerTax, PlaceOrder, FeedTicks, CancelTrade, CompleteTrade, ChangeExecutors, ChangeCashTypes, ChangeCashNames, DepositCash, WithdrawCash, SetOneDay}
 use Rattle.brk_model.specs.Keyed.{acted, kept_of, keyed, keyed_step}
 use Rattle.brk_model.specs.Step.{records_after, reply_to, step, unless}
 use Rattle.brk_model.specs.Tests.{next_stamp, refusal_of}
@@ -20,6 +20,7 @@ use Rattle.brk_sound_laws.specs.Sound.{IsSound}
 use Rattle.brk_sound_laws.specs.InForm.{IsInForm, IsKeyInForm}
 use Rattle.brk_sound_laws.proofs.SoundRecords.{LeavesSound, sound_account, sound_band, sound_broker, sound_charge, sound_customer, sound_customer_tax, sound_kept, sound_permission, sound_security, sound_tax_rate}
 use Rattle.brk_sound_laws.proofs.SoundResult.{sound_then}
+use Rattle.brk_sound_laws.proofs.SoundMovements.{sound_deposit, sound_one_day, sound_withdrawal}
 use Rattle.brk_sound_laws.proofs.SoundTrades.{sound_cancel, sound_cash_names, sound_cash_types, sound_executors, sound_feed, sound_order}
 
 pub sound_result : (base : Base) (now id price : ℕ) → LeavesSound base now (CompleteTrade id price)
@@ -46,6 +47,9 @@ leaves_sound base now (CompleteTrade id price) = sound_result base now id price
 leaves_sound base now (ChangeExecutors ids) = sound_executors base now ids
 leaves_sound base now (ChangeCashTypes account first last) = sound_cash_types base now account first last
 leaves_sound base now (ChangeCashNames symbol first last) = sound_cash_names base now symbol first last
+leaves_sound base now (DepositCash account amount) = sound_deposit base now account amount
+leaves_sound base now (WithdrawCash account amount) = sound_withdrawal base now account amount
+leaves_sound base now (SetOneDay day) = sound_one_day base now day
 
 -- ---- a step
 
@@ -97,6 +101,9 @@ records_kept base stamp (CompleteTrade id price) = result_kept base stamp price 
 records_kept base stamp (ChangeExecutors ids) = refl
 records_kept base stamp (ChangeCashTypes account first last) = refl
 records_kept base stamp (ChangeCashNames symbol first last) = refl
+records_kept base stamp (DepositCash account amount) = refl
+records_kept base stamp (WithdrawCash account amount) = refl
+records_kept base stamp (SetOneDay day) = refl
 
 -- where its key is free
 free_sound : (base : Base) (now : ℕ) (command : Command) (key : Option Key) → IsSound base → IsBooks base → IsInForm command → IfSome key IsKeyInForm → kept_of base key ≡ None
@@ -156,5 +163,6 @@ empty_sound = record {
   };
   listed = record { securities = tt; moments = tt };
   trades = tt;
+  cash = record { fields = tt; risen = refl; few = omega arith; day = refl };
   sums = record { summaries = λ account symbol. omega arith; balances = λ account. omega arith; commissions = λ broker. omega arith };
 }

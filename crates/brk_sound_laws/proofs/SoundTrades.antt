@@ -13,11 +13,13 @@ use Rattle.brk_money.specs.Kinds.{is_market, same_status, side_of}
 use Rattle.brk_money.specs.declared.refusal.Refusal.TheVariants.{NoTrade}
 use Rattle.brk_money.specs.declared.status.Status.{Status}
 use Rattle.brk_money.specs.declared.status.Status.TheVariants.{Completed, Submitted, Pending, Canceled}
+use Rattle.brk_book_laws.proofs.Postings.{balance_parts}
+use Rattle.brk_model.specs.Schemas.{third_schema}
 use Rattle.brk_model.specs.Limits.{greatest_amount, greatest_charge, greatest_summary, greatest_id}
 use Rattle.brk_model.specs.Lists.{contains_number, holds_text, rising, total_by, update_where}
-use Rattle.brk_model.specs.Records.{Account, Charge, Mark, Security, Trade}
+use Rattle.brk_model.specs.Records.{Account, Charge, Mark, Security, Trade, Movement}
 use Rattle.brk_model.specs.Base.{Base, broker_in, charge_with, completed, has_status, is_completed, last_price, marked, moment_of, opening_in, security_with, tier_of, trade_with}
-use Rattle.brk_model.specs.Derived.{amount_of, balance_of, commissions_of, settlement_days, summary_of}
+use Rattle.brk_model.specs.Derived.{amount_of, balance_of, commissions_of, summary_of, posted_to, posting_of_movement, postings, due_after}
 use Rattle.brk_model.specs.Commands.{Order, Tick, PlaceOrder, FeedTicks, CancelTrade, ChangeExecutors, ChangeCashTypes, ChangeCashNames}
 use Rattle.brk_model.specs.Orders.{estimate, first_status, ordered_trade, requested_price}
 use Rattle.brk_model.specs.Feed.{is_triggered, ticked, with_tick, with_ticks}
@@ -63,9 +65,10 @@ sound_moved c ss ts k f m h e =
       terms = k.terms;
       listed = record { securities = f; moments = m };
       trades = h;
+      cash = k.cash;
       sums = record {
         summaries = subst (λ ts. (account : ℕ) → (symbol : Text) → nat_abs (summary_of ts account symbol) ≤ greatest_summary) (sym e) k.summaries;
-        balances = subst (λ ts. (account : ℕ) → nat_abs (balance_of c.accounts ts account) ≤ greatest_amount) (sym e) k.balances;
+        balances = subst (λ ts. (account : ℕ) → nat_abs (balance_of c.accounts (postings c.accounts ts c.movements) account) ≤ greatest_amount) (sym e) k.balances;
         commissions = subst (λ ts. (broker : ℕ) → commissions_of c.accounts ts broker ≤ greatest_amount) (sym e) k.commissions;
       };
     }
@@ -112,19 +115,19 @@ ordered_sound base stamp o ts number k form known =
     let u : Trade = ordered_trade base stamp o in
     let now : is_completed u ≡ false = first_not_completed (kind_of o.order_type) in
     let bid : is_price u.bid ≡ true = requested_is_price base o form.price (last_is_price base o.symbol k.securities known) in
-    let c : u.commission ≤ 10 ^ 13 = commission_within base o.account (kind_of o.order_type) o.symbol o.qty u.bid k.bands (qty_low o.qty form.qty) (price_low u.bid bid) in
+    let c : u.commission ≤ 10 ^ 14 = commission_within base o.account (kind_of o.order_type) o.symbol o.qty u.bid k.bands (qty_low o.qty form.qty) (price_low u.bid bid) in
     record {
       alone = record {
-        fields = and6 (is_id u.id) (is_qty u.qty) (is_price u.bid) (nat_le u.charge greatest_charge) (nat_le u.commission greatest_amount) (nat_le 0 greatest_amount) number form.qty bid
+        fields = and6 (is_id u.id) (is_qty third_schema u.qty) (is_price u.bid) (nat_le u.charge greatest_charge) (nat_le u.commission greatest_amount) (nat_le 0 greatest_amount) number form.qty bid
             (charge_within base o k.charges) (high u.commission c) (le-leb 0 greatest_amount (omega arith));
         stamps = refl;
         way = first_way o;
-        due = (ap (λ b. not b || nat_le (day_of stamp + settlement_days) last_day) now, tt);
         priced = ap (λ b. cond b false true) now;
         words = record { settled = λ e. refl; moved = λ e. refl };
         cash_type = λ d. false_true (sym now ∙ d);
       };
       past = (past_itself stamp, tt);
+      due = (ap (λ b. not b || nat_le (due_after base.rule stamp) last_day) now, tt);
       cash_name = λ d. false_true (sym now ∙ (and_parts (is_completed u) u.is_cash d).0);
       amount = λ d. false_true (sym now ∙ d);
     }
@@ -164,12 +167,12 @@ marked_sound b stamp status t w other k below h =
         fields = k.fields;
         stamps = stamps_below stamp status t k.stamps below;
         way = leaves_way stamp status t w k.way h;
-        due = All-append IsDueInTime t.marks (m ∷ []) k.due (ap (λ b. not b || nat_le (day_of stamp + settlement_days) last_day) other, tt);
         priced = ap price now ∙ sym (ap price was) ∙ k.priced;
         words = record { settled = λ e. k.words.settled was; moved = λ e. k.words.moved (ap (λ b. b && t.is_cash) was) };
         cash_type = λ d. false_true (sym now ∙ d);
       };
       past = All-append (IsPastMark (Some stamp)) t.marks (m ∷ []) k.past (past_itself stamp, tt);
+      due = All-append (IsDueInTime b.rule) t.marks (m ∷ []) k.due (ap (λ c. not c || nat_le (due_after b.rule stamp) last_day) other, tt);
       cash_name = λ d. false_true (sym now ∙ (and_parts (is_completed u) t.is_cash d).0);
       amount = λ d. false_true (sym now ∙ d);
     }
@@ -341,19 +344,21 @@ same_summary p x y z ts account symbol =
     ∙ ap (total_by g) (filter-unseen (λ t. bytes_eq t.symbol symbol) p f (A (filter is_completed ts)) (λ t. refl))
     ∙ total-unseen g p f (S (A (filter is_completed ts))) (λ t. refl)
 
-same_balance : (accounts : List Account) (p : Trade → Bool) (x y z : Trade → Text) (ts : List Trade) (account : ℕ)
-    → balance_of accounts (filter is_completed (update_where p (reworded x y z) ts)) account ≡ balance_of accounts (filter is_completed ts) account
-unfolding balance_of
-same_balance accounts p x y z ts account =
+same_balance : (accounts : List Account) (p : Trade → Bool) (x y z : Trade → Text) (ts : List Trade) (ms : List Movement) (account : ℕ)
+    → balance_of accounts (postings accounts (filter is_completed (update_where p (reworded x y z) ts)) ms) account ≡ balance_of accounts (postings accounts (filter is_completed ts) ms) account
+same_balance accounts p x y z ts ms account =
     let f : Trade → Trade = reworded x y z in
     let g : Trade → ℤ = amount_of accounts in
     let A : List Trade → List Trade = filter (λ t. t.account == account) in
     let C : List Trade → List Trade = filter (λ t. t.is_cash) in
-    ap (λ n. opening_in accounts account +ℤ n)
-    (ap (λ us. total_by g (C (A us))) (done_same p x y z ts)
-    ∙ ap (λ us. total_by g (C us)) (filter-unseen (λ t. t.account == account) p f (filter is_completed ts) (λ t. refl))
-    ∙ ap (total_by g) (filter-unseen (λ t. t.is_cash) p f (A (filter is_completed ts)) (λ t. refl))
-    ∙ total-unseen g p f (C (A (filter is_completed ts))) (λ t. refl))
+    let moved : ℤ = total_by (λ p. p.amount) (posted_to (map posting_of_movement ms) account) in
+    balance_parts accounts (filter is_completed (update_where p f ts)) ms account
+    ∙ ap (λ n. opening_in accounts account +ℤ (n +ℤ moved))
+    (ap (λ us. total_by g (A (C us))) (done_same p x y z ts)
+    ∙ ap (λ us. total_by g (A us)) (filter-unseen (λ t. t.is_cash) p f (filter is_completed ts) (λ t. refl))
+    ∙ ap (total_by g) (filter-unseen (λ t. t.account == account) p f (C (filter is_completed ts)) (λ t. refl))
+    ∙ total-unseen g p f (A (C (filter is_completed ts))) (λ t. refl))
+    ∙ sym (balance_parts accounts (filter is_completed ts) ms account)
 
 same_commissions : (accounts : List Account) (p : Trade → Bool) (x y z : Trade → Text) (ts : List Trade) (broker : ℕ)
     → commissions_of accounts (filter is_completed (update_where p (reworded x y z) ts)) broker ≡ commissions_of accounts (filter is_completed ts) broker
@@ -376,9 +381,10 @@ sound_reworded c p x y z k h =
       terms = k.terms;
       listed = k.listed;
       trades = h;
+      cash = k.cash;
       sums = record {
         summaries = λ account symbol. subst (λ n. nat_abs n ≤ greatest_summary) (sym (same_summary p x y z c.trades account symbol)) (k.summaries account symbol);
-        balances = λ account. subst (λ n. nat_abs n ≤ greatest_amount) (sym (same_balance c.accounts p x y z c.trades account)) (k.balances account);
+        balances = λ account. subst (λ n. nat_abs n ≤ greatest_amount) (sym (same_balance c.accounts p x y z c.trades c.movements account)) (k.balances account);
         commissions = λ broker. subst (λ n. n ≤ greatest_amount) (sym (same_commissions c.accounts p x y z c.trades broker)) (k.commissions broker);
       };
     }
@@ -398,12 +404,12 @@ sound_executors base now ids k books form e =
         fields = k.fields;
         stamps = k.stamps;
         way = k.way;
-        due = k.due;
         priced = k.priced;
         words = record { settled = k.words.settled; moved = k.words.moved };
         cash_type = k.cash_type;
       };
       past = k.past;
+      due = k.due;
       cash_name = k.cash_name;
       amount = k.amount;
     }) (λ t h. h) l.trades)
@@ -471,12 +477,12 @@ sound_cash_types base now account first last k books form e =
         fields = k.fields;
         stamps = k.stamps;
         way = k.way;
-        due = k.due;
         priced = k.priced;
         words = record { settled = λ waits. false_true (sym waits ∙ (h.1 i).0); moved = k.words.moved };
         cash_type = λ d. other_type t.is_cash t.cash_type;
       };
       past = k.past;
+      due = k.due;
       cash_name = k.cash_name;
       amount = k.amount;
     }) (λ t h. h.0) (both_all (IsSoundTrade c) C base.trades l.trades (chosen_all base (λ t. t.account == account) first last books.numbered)))
@@ -508,12 +514,12 @@ sound_cash_names base now symbol first last k books form e =
         fields = k.fields;
         stamps = k.stamps;
         way = k.way;
-        due = k.due;
         priced = k.priced;
         words = record { settled = k.words.settled; moved = λ waits. false_true (sym waits ∙ and_from (is_completed t) t.is_cash (h.1 i).0 (and_parts t.is_cash (bytes_eq t.symbol symbol) (h.1 i).1).0) };
         cash_type = k.cash_type;
       };
       past = k.past;
+      due = k.due;
       cash_name = λ d. other_name base t (holds_text (codes " shares of ") t.cash_name);
       amount = k.amount;
     }) (λ t h. h.0) (both_all (IsSoundTrade c) C base.trades l.trades (chosen_all base test first last books.numbered)))

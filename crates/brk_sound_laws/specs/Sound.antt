@@ -1,17 +1,19 @@
 -- What holds of a base beside its order, so that its tables pass an audit: the forms of fields, keys, names of others, and limits.
-use Rattle.std.specs.Prelude.{◌≡◌, ◌≤◌, ⊤, ℕ, ◌+◌, ◌==◌, ◌&&◌, ◌||◌, not, Bool, true, false, if◌then◌else◌, List, [], ◌∷◌, Option, is_some, is_none, nat_le, nat_abs, length, filter, find, sum_by, codes, decimal, bytes_eq, ◌++◌}
+use Rattle.std.specs.Prelude.{◌≡◌, ◌≤◌, ⊤, ℕ, ◌+◌, ◌==◌, ◌&&◌, ◌||◌, not, Bool, true, false, if◌then◌else◌, List, [], ◌∷◌, Option, is_some, is_none, nat_le, nat_abs, length, filter, map, find, sum_by, codes, decimal, bytes_eq, ◌++◌}
 use Rattle.std.specs.List.{AllByRecursion}
 use Rattle.std.specs.Option.{option_map_or}
 use Rattle.brk_money.specs.Spelling.{Text}
-use Rattle.brk_money.specs.Moments.{day_of, last_day}
+use Rattle.brk_money.specs.Moments.{last_day}
 use Rattle.brk_money.specs.Kinds.{same_status, type_name}
 use Rattle.brk_money.specs.declared.status.Status.TheVariants.{Completed}
-use Rattle.brk_model.specs.Limits.{greatest_amount, greatest_charge, greatest_summary, greatest_tax_rate, most_accounts}
-use Rattle.brk_model.specs.Records.{Account, Band, Broker, Charge, Customer, CustomerTax, Kept, Mark, Permission, Security, TaxRate, Trade}
+use Rattle.brk_model.specs.Limits.{greatest_amount, greatest_charge, greatest_id, greatest_summary, greatest_tax_rate, most_accounts}
+use Rattle.brk_model.specs.Records.{Account, Band, Broker, Charge, Customer, CustomerTax, Kept, Mark, Movement, Permission, Security, SettleRule, TaxRate, Trade}
 use Rattle.brk_model.specs.Base.{Base, completed, find_account, is_completed}
-use Rattle.brk_model.specs.Derived.{amount_of, balance_of, commissions_of, settlement_days, summary_of}
+use Rattle.brk_model.specs.Derived.{amount_of, balance_of, commissions_of, due_after, postings, summary_of}
+use Rattle.brk_model.specs.Schemas.{third_schema}
 use Rattle.brk_model.specs.Forms.{is_acl, is_exchange, is_name, is_symbol, is_tax_id}
-use Rattle.brk_model.specs.Form.{band_form, charge_form, customer_form, is_amount, is_cash_type, is_id, is_price, is_qty, kept_form, tax_rate_form}
+use Rattle.brk_model.specs.Form.{band_form, charge_form, customer_form, is_amount, is_cash_type, is_id, is_movement, is_price, is_qty, kept_form, tax_rate_form}
+use Rattle.brk_model.specs.Ways.{is_rising}
 use Rattle.brk_model.specs.Keys.{KeyPart, word, charge_key, customer_key, customer_tax_key, kept_key, tax_rate_key}
 use Rattle.brk_adoption_laws.specs.Told.{GoesAWay, HasItsWords, StampsRise, broker_id}
 
@@ -48,7 +50,7 @@ security_fields s = is_symbol s.symbol && is_name s.name && is_exchange s.exchan
 
 -- those of a trade
 abbrev pub trade_fields : Trade → Bool
-trade_fields t = is_id t.id && is_qty t.qty && is_price t.bid && nat_le t.charge greatest_charge && nat_le t.commission greatest_amount && nat_le t.tax greatest_amount
+trade_fields t = is_id t.id && is_qty third_schema t.qty && is_price t.bid && nat_le t.charge greatest_charge && nat_le t.commission greatest_amount && nat_le t.tax greatest_amount
 
 -- ---- trades
 
@@ -57,8 +59,8 @@ abbrev pub IsPastMark : Option ℕ → Mark → Type 0
 IsPastMark last m = is_past last m.stamp ≡ true
 
 -- a completion leaves its due day within the calendar
-abbrev pub IsDueInTime : Mark → Type 0
-IsDueInTime m = (not (same_status m.status Completed) || nat_le (day_of m.stamp + settlement_days) last_day) ≡ true
+abbrev pub IsDueInTime : SettleRule → Mark → Type 0
+IsDueInTime rule m = (not (same_status m.status Completed) || nat_le (due_after rule m.stamp) last_day) ≡ true
 
 -- a price just where it is completed
 abbrev pub is_priced : Trade → Bool
@@ -79,25 +81,41 @@ pub record HasSoundRows (t : Trade) : Type 0 where
   -- its statuses are a way, and their stamps rise
   pub stamps : StampsRise t
   pub way : GoesAWay t
-  pub due : AllByRecursion IsDueInTime t.marks
   -- price and words stand just where their rows do, and each word is one of the two of its kind
   pub priced : is_priced t ≡ true
   pub words : HasItsWords t
   pub cash_type : is_completed t ≡ true → is_cash_type t.is_cash t.cash_type ≡ true
 
--- a trade whose rows pass, by the last stamp, the accounts and the securities
-pub record IsSoundBy (last : Option ℕ) (accounts : List Account) (securities : List Security) (t : Trade) : Type 0 where
+-- a trade whose rows pass, by the last stamp, the settlement day, the accounts and the securities
+pub record IsSoundBy (last : Option ℕ) (rule : SettleRule) (accounts : List Account) (securities : List Security) (t : Trade) : Type 0 where
   pub alone : HasSoundRows t
   pub open alone use *
   -- its stamps rise up to the last command's
   pub past : AllByRecursion (IsPastMark last) t.marks
+  -- a completion leaves its due day within the calendar
+  pub due : AllByRecursion (IsDueInTime rule) t.marks
   pub cash_name : is_completed t && t.is_cash ≡ true → has_its_name securities t ≡ true
   -- what it settles for is within the limit
   pub amount : is_completed t ≡ true → is_amount (amount_of accounts t) ≡ true
 
 -- a trade of a base whose rows pass
 abbrev pub IsSoundTrade : Base → Trade → Type 0
-IsSoundTrade base t = IsSoundBy base.last base.accounts base.securities t
+IsSoundTrade base t = IsSoundBy base.last base.rule base.accounts base.securities t
+
+-- ---- movements, and the settlement day
+
+-- the name of a movement goes with its sign, and its amount is within the limit
+abbrev pub movement_fields : Movement → Bool
+movement_fields m = is_movement m.name m.amount && is_amount m.amount
+
+-- movements and a settlement day whose rows pass
+pub record IsCashSound (movements : List Movement) (rule : SettleRule) : Type 0 where
+  pub fields : AllByRecursion (λ m. movement_fields m ≡ true) movements
+  -- they came one after another, and a number is left for each
+  pub risen : is_rising (map (λ m. m.stamp) movements) ≡ true
+  pub few : length movements ≤ greatest_id
+  -- the day is one of the calendar
+  pub day : option_map_or (λ day. nat_le day last_day) rule true ≡ true
 
 -- ---- what records name is there
 
@@ -142,7 +160,7 @@ pub record ArePartiesSound (all_brokers : List Broker) (all_customers : List Cus
 -- charges, bands and taxes
 pub record AreTermsSound (all_customers : List Customer) (all_charges : List Charge) (all_bands : List Band) (all_tax_rates : List TaxRate) (all_taxes : List CustomerTax) : Type 0 where
   pub charges : AllByRecursion (λ c. charge_form c ≡ true) all_charges
-  pub bands : AllByRecursion (λ b. band_form b ≡ true) all_bands
+  pub bands : AllByRecursion (λ b. band_form third_schema b ≡ true) all_bands
   pub tax_rates : AllByRecursion (λ r. tax_rate_form r ≡ true) all_tax_rates
   pub charge_keys : KeysApart charge_key all_charges
   pub tax_rate_keys : KeysApart tax_rate_key all_tax_rates
@@ -158,10 +176,10 @@ pub record AreListedSound (last : Option ℕ) (all_securities : List Security) :
   pub securities : AllByRecursion (λ s. security_fields s ≡ true) all_securities
   pub moments : AllByRecursion (λ s. is_past last s.moment ≡ true) all_securities
 
--- sums of completed trades are within their limits
-pub record AreSumsSound (accounts : List Account) (done : List Trade) : Type 0 where
+-- sums of completed trades and movements are within their limits
+pub record AreSumsSound (accounts : List Account) (done : List Trade) (movements : List Movement) : Type 0 where
   pub summaries : (account : ℕ) → (symbol : Text) → nat_abs (summary_of done account symbol) ≤ greatest_summary
-  pub balances : (account : ℕ) → nat_abs (balance_of accounts done account) ≤ greatest_amount
+  pub balances : (account : ℕ) → nat_abs (balance_of accounts (postings accounts done movements) account) ≤ greatest_amount
   pub commissions : (broker : ℕ) → commissions_of accounts done broker ≤ greatest_amount
 
 -- a base whose tables have form: each part speaks of its own lists alone, so that it stays where these do
@@ -176,5 +194,7 @@ pub record IsSound (base : Base) : Type 0 where
   pub open listed use *
   -- each trade's rows pass
   pub trades : AllByRecursion (IsSoundTrade base) base.trades
-  pub sums : AreSumsSound base.accounts (completed base)
+  -- each movement's row passes, and so does the settlement day
+  pub cash : IsCashSound base.movements base.rule
+  pub sums : AreSumsSound base.accounts (completed base) base.movements
   pub open sums use *

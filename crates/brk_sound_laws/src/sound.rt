@@ -16,6 +16,7 @@ ghost use Rattle.brk_model.specs.Form.{has_form};
 ghost use Rattle.brk_model.specs.Keyed.{keyed_step};
 ghost use Rattle.brk_model.specs.Records.{Key};
 ghost use Rattle.brk_model.specs.Run.{Call, Outcome, Run};
+ghost use Rattle.brk_model.specs.Schemas.{third_schema};
 ghost use Rattle.brk_model.specs.Sheets.{sheets};
 ghost use Rattle.brk_model.specs.Step.{step};
 ghost use Rattle.brk_model.specs.Tables.{Tables};
@@ -28,15 +29,15 @@ ghost use Rattle.brk_sound_laws.specs.Sound.{IsSound};
 
 /// The tables of sound books have form and tell their trades as they went, so that they pass an audit; and nothing less does.
 pub fn sound_tables_pass()
-    ensures form { (base : Base) → IsBooks base → IsSound base → IsTrue (has_form (sheets base)) }
+    ensures form { (base : Base) → IsBooks base → IsSound base → IsTrue (has_form third_schema (sheets base)) }
     ensures told { (base : Base) → IsSound base → IsTold base }
-    ensures passes { (base : Base) → IsBooks base → IsSound base → Passes (sheets base) }
-    ensures exact { (base : Base) → IsBooks base → IsSound base ↔ (IsTold base × IsTrue (has_form (sheets base))) }
+    ensures passes { (base : Base) → IsBooks base → IsSound base → Passes third_schema (sheets base) }
+    ensures exact { (base : Base) → IsBooks base → IsSound base ↔ (IsTold base × IsTrue (has_form third_schema (sheets base))) }
 {}
 
 /// The base of rows that pass an audit is sound.
 pub fn passing_rows_are_sound()
-    ensures { (rows : Tables) → Passes rows → IsSound (base_of rows) }
+    ensures { (rows : Tables) → Passes third_schema rows → IsSound (base_of rows) }
 {}
 
 /// The base that everything begins with is sound.
@@ -58,11 +59,11 @@ pub fn runs_end_in_tables_that_pass()
     ensures sound { (base : Base) (calls : List (ℕ × Call)) (outcomes : List Outcome) (after : Base)
         → IsBooks base → IsSound base → AllByRecursion IsCallInForm calls → Run base calls outcomes after → IsSound after }
     ensures first { (calls : List (ℕ × Call)) (outcomes : List Outcome) (after : Base)
-        → AllByRecursion IsCallInForm calls → Run empty_base calls outcomes after → Passes (sheets after) }
+        → AllByRecursion IsCallInForm calls → Run empty_base calls outcomes after → Passes third_schema (sheets after) }
     ensures adopted { (rows : Tables) (calls : List (ℕ × Call)) (outcomes : List Outcome) (after : Base)
-        → Passes rows → AllByRecursion IsCallInForm calls → Run (base_of rows) calls outcomes after → Passes (sheets after) }
+        → Passes third_schema rows → AllByRecursion IsCallInForm calls → Run (base_of rows) calls outcomes after → Passes third_schema (sheets after) }
     ensures formed { (calls : List (ℕ × Call)) (outcomes : List Outcome) (after : Base)
-        → AllByRecursion IsFormedCall calls → Run empty_base calls outcomes after → Passes (sheets after) }
+        → AllByRecursion IsFormedCall calls → Run empty_base calls outcomes after → Passes third_schema (sheets after) }
 {}
 
 /// A row that is read gives a command in form, and so does each command whose row is read as itself.

@@ -5,19 +5,27 @@ use Rattle.sqlite.specs.Held.{Held, state}
 use Rattle.sqlite.specs.State.{HasCleanDisk, Survives, IsRolledBack}
 use Rattle.brk_money.specs.declared.fault.Condition.{Condition}
 use Rattle.brk_money.specs.declared.fault.Fault.{Fault}
-use Rattle.brk_money.specs.declared.fault.Fault.TheVariants.{Damaged}
+use Rattle.brk_money.specs.declared.fault.Fault.TheVariants.{Memory, Store, Damaged}
 use Rattle.brk_model.specs.Run.{MayFail}
+use Rattle.brk_model.specs.Schemas.{third_schema}
 use Rattle.brk_rows.specs.Model.{IsStep}
 use Rattle.brk_rows.proofs.Inside.{clean_before}
-use Rattle.brk_store.specs.Audited.{Audited, IsAudited, IsDefinedIn, OnAnswer}
+use Rattle.brk_store.specs.Audited.{AuditedBy, IsAudited, IsThirdDefinedIn, OnAnswer}
 use Rattle.brk_store.specs.Holds.{IsSame}
 use Rattle.brk_store.proofs.Answering.{Told}
 use Rattle.brk_store.proofs.Ending.{begun, rolled_back, still_holds, through}
 
 -- what is so of any fault that tells nothing
-on_fault : (fault : Fault) (P : Option Condition → Type 0) → MayFail fault → OnAnswer (Err fault) P
+pub on_fault : (fault : Fault) (P : Option Condition → Type 0) → MayFail fault → OnAnswer (Err fault) P
 on_fault fault P (inl e) = subst (λ f. OnAnswer (Err f) P) (sym e) tt
 on_fault fault P (inr e) = subst (λ f. OnAnswer (Err f) P) (sym e) tt
+
+-- what is so of an answer is so of it with what else is known
+pub answer_with : (result : Result (Unit {0}) Fault) (P Q R : Option Condition → Type 0) → ((answer : Option Condition) → P answer → Q answer → R answer) → OnAnswer result P → OnAnswer result Q → OnAnswer result R
+answer_with (Ok x) P Q R f p q = f None p q
+answer_with (Err (Damaged c)) P Q R f p q = f (Some c) p q
+answer_with (Err Memory) P Q R f p q = tt
+answer_with (Err Store) P Q R f p q = tt
 
 module _ {S : Type 0} (g : Ghosts S) (old conn first mid end : Held S) (conn_is : conn ≡ old) (first_is : first ≡ begun conn)
     (settled : IsTrue (state g conn).is_open → (state g conn).now ≡ (state g conn).committed) (out : Result (Option Condition) Fault) (step : IsStep (state g first) (state g mid) out Told)
@@ -38,15 +46,15 @@ module _ {S : Type 0} (g : Ghosts S) (old conn first mid end : Held S) (conn_is 
   audited result answers =
       subst (λ h. IsAudited g h end result) conn_is
       (record {
-        told = λ clean defined. answers (Audited (state g conn).now) (of_told (clean_before (state g conn) (state g end) (λ _. ⊥) whole clean) defined out (told_then clean));
+        told = λ clean defined. answers (AuditedBy third_schema (state g conn).now) (of_told (clean_before (state g conn) (state g end) (λ _. ⊥) whole clean) defined out (told_then clean));
         opened = λ clean. answers (λ _. IsTrue (state g conn).is_open) (of_open out (told_then clean));
         kept = still_holds g conn mid end settled (λ _. ⊥) whole kept_of_step;
         same = kept_of_step;
         survives = whole;
       })
     where
-      of_told : HasCleanDisk (state g conn) → IsDefinedIn g conn → (o : Result (Option Condition) Fault)
-          → IfOk o (λ answer. IsTrue (state g mid).in_transaction × Told answer (state g (begun conn)) (state g mid)) → IfOk o (Audited (state g conn).now)
+      of_told : HasCleanDisk (state g conn) → IsThirdDefinedIn g conn → (o : Result (Option Condition) Fault)
+          → IfOk o (λ answer. IsTrue (state g mid).in_transaction × Told answer (state g (begun conn)) (state g mid)) → IfOk o (AuditedBy third_schema (state g conn).now)
       of_told clean defined (Ok answer) h = h.1.2 (defined clean h.1.0)
       of_told clean defined (Err fault) h = tt
 

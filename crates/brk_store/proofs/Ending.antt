@@ -90,21 +90,21 @@ module _ {S L E F : Type 0} (g : Ghosts S) (old first mid : Held S) (last : L) (
 
 module _ {S : Type 0} (g : Ghosts S) (old mid end : Held S) (settled : IsTrue (state g old).is_open → (state g old).now ≡ (state g old).committed) (made : Database → Database → Type 0)
     (step : IsStep {V = Unit {0}} {E = Fault} (state g (begun old)) (state g mid) (Ok tt) (λ _ a b. made a.now b.now)) (late : Survives (state g mid) (state g end) (λ db. db ≡ (state g mid).now.trees)) where
-  whole : Survives (state g old) (state g end) (λ trees. (db : Database) × made (state g old).now db × (trees ≡ db.trees))
+  pub whole : Survives (state g old) (state g end) (λ trees. (db : Database) × made (state g old).now db × (trees ≡ db.trees))
   whole = commits_crash g old mid end made step late
 
   -- a commit that failed has rolled back
-  back : (e : Error) → (HasCleanDisk (state g end) → FailsToCommit (state g mid) (state g end) e) → HasCleanDisk (state g end) → IsRolledBack (state g mid) (state g end)
+  pub back : (e : Error) → (HasCleanDisk (state g end) → FailsToCommit (state g mid) (state g end) e) → HasCleanDisk (state g end) → IsRolledBack (state g mid) (state g end)
   back e fails clean = elim (fails clean) [
     | inl f ↦ f.3
     | inr off ↦ absurd (let on = (step.made (clean_before (state g mid) (state g end) _ late clean) refl).0 in let f = off.1 in cc)
   ]
 
-  kept_at : (e : Error) → (HasCleanDisk (state g end) → FailsToCommit (state g mid) (state g end) e) → HasCleanDisk (state g end) → IsTrue (state g end).is_open → IsSame (state g old) (state g end)
+  pub kept_at : (e : Error) → (HasCleanDisk (state g end) → FailsToCommit (state g mid) (state g end) e) → HasCleanDisk (state g end) → IsTrue (state g end).is_open → IsSame (state g old) (state g end)
   kept_at e fails = rolled_back g old mid end settled {V = Unit {0}} {E = Fault} (Ok tt) (λ _ a b. made a.now b.now) _ step (back e fails) late
 
   module _ (done : HasCleanDisk (state g end) → IsTrue (state g mid).in_transaction × Shows (state g mid) (state g end) (state g mid).now (state g mid).now false × KeepsCounts (state g mid) (state g end) × ((state g end).marks ≡ [])) where
-    all : HasCleanDisk (state g end) → IsTrue (state g old).is_open × IsTrue (state g end).is_open × made (state g old).now (state g end).now × ((state g end).committed ≡ (state g end).now)
+    pub all : HasCleanDisk (state g end) → IsTrue (state g old).is_open × IsTrue (state g end).is_open × made (state g old).now (state g end).now × ((state g end).committed ≡ (state g end).now)
     all clean = commits_all g old mid end made step late {F = Fault} (Ok tt) clean done
 
     -- while a store is open a crash leaves the last commit and nothing else

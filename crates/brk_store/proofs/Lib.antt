@@ -1,11 +1,15 @@
+pub mod Adoption
 pub mod Answering
 pub mod Closing
+pub mod Counting
 pub mod Ending
 pub mod Found
 pub mod Making
 pub mod Retelling
+pub mod Schemas
 pub mod Taking
+pub mod Telling
 pub mod Texts
+pub mod Turning
 pub mod WalkedLists
 pub mod Walking
-pub mod Turning

@@ -1,18 +1,51 @@
--- What a read tells, told otherwise.
-use Rattle.std.proofs.Common.{Ok}
+-- What reads tell, told otherwise, and one read after another.
+use Rattle.std.proofs.Common.{Result, Ok, Err, IfOk, OnOk, IsTrue}
 use Rattle.sqlite_trees.specs.declared.store.Store.{Ghosts}
-use Rattle.sqlite.specs.Held.{Held}
+use Rattle.sqlite.specs.Held.{Held, state}
+use Rattle.sqlite.specs.State.{HasCleanDisk}
 use Rattle.brk_model.specs.Tables.{Tables}
-use Rattle.brk_store.specs.Holds.{IsRead}
+use Rattle.brk_rows.proofs.Inside.{clean_before}
+use Rattle.brk_tables_form.specs.Made.{HasRows}
+use Rattle.brk_store.specs.Holds.{Holds, IsRead}
+use Rattle.brk_store.specs.Kept.{IsKept, clean_at, kept_read, kept_then}
 
 module _ {S : Type 0} (g : Ghosts S) where
-  -- what was read tells this too
-  pub retold : (old end : Held S) {V X E H : Type 0} (v : V) (x : X) (P : V → Tables → Type 0) (R : X → Tables → Type 0)
-      → ((t : Tables) → P v t → R x t) → IsRead {E = E} g old end (Ok v) P → IsRead {E = H} g old end (Ok x) R
-  retold old end v x P R tell read = record {
-    told = λ clean t holds. tell t (read.told clean t holds);
+  -- what was read tells this too, of rows that a database has
+  pub retold_of : (old end : Held S) {V X E H : Type 0} (v : V) (x : X) (P : V → Tables → Type 0) (R : X → Tables → Type 0)
+      → ((t : Tables) → HasRows t (state g old).now → P v t → R x t) → IsRead {E = E} g old end (Ok v) P → IsRead {E = H} g old end (Ok x) R
+  retold_of old end v x P R tell read = record {
+    told = λ clean t holds. tell t (holds (clean_before (state g old) (state g end) (λ _. ⊥) read.survives clean) (read.opened clean)) (read.told clean t holds);
     opened = read.opened;
     kept = read.kept;
     same = read.same;
     survives = read.survives;
   }
+
+  -- what was read tells this too
+  pub retold : (old end : Held S) {V X E H : Type 0} (v : V) (x : X) (P : V → Tables → Type 0) (R : X → Tables → Type 0)
+      → ((t : Tables) → P v t → R x t) → IsRead {E = E} g old end (Ok v) P → IsRead {E = H} g old end (Ok x) R
+  retold old end v x P R tell = retold_of old end v x P R (λ t has. tell t)
+
+  -- a read after another tells of the rows that stood before both
+  pub read_after : (old mid end : Held S) {V W E F : Type 0} (v : V) (r : Result W F) (P : V → Tables → Type 0) (Q : W → Tables → Type 0) → IsRead {E = E} g old mid (Ok v) P → IsRead g mid end r Q → IsRead g old end r Q
+  read_after old mid end {V} {W} {E} {F} v r P Q first next = record {
+    told = λ clean. tells r (next.told clean);
+    opened = λ clean. opens r (first.opened (before clean)) (next.opened clean);
+    kept = both.kept;
+    same = both.same;
+    survives = both.survives;
+  }
+    where
+      both : IsKept g old end
+      both = kept_then old mid end (kept_read old mid (Ok v) P first) (kept_read mid end r Q next)
+
+      before : HasCleanDisk (state g end) → HasCleanDisk (state g mid)
+      before = clean_at mid end (kept_read mid end r Q next)
+
+      tells : (o : Result W F) → IfOk o (λ answer. (t : Tables) → Holds g mid t → Q answer t) → IfOk o (λ answer. (t : Tables) → Holds g old t → Q answer t)
+      tells (Ok answer) h = λ t holds. h t (first.kept t holds)
+      tells (Err e) h = tt
+
+      opens : (o : Result W F) → IsTrue (state g old).is_open → OnOk o (IsTrue (state g mid).is_open) → OnOk o (IsTrue (state g old).is_open)
+      opens (Ok answer) was h = was
+      opens (Err e) was h = tt

@@ -1,7 +1,6 @@
 -- What an audit tells of a store's rows, and what a store holds that was adopted.
-use Rattle.std.proofs.Common.{◌≡◌, ◌∙◌, true, false, Bool, Option, Some, None, Result, Ok, Err, IsTrue, refl, sym, subst, inl, inr}
+use Rattle.std.proofs.Common.{◌≡◌, ◌∙◌, true, Option, Some, None, Result, Ok, Err, IsTrue, refl, sym, ap, subst, inl, inr}
 use Rattle.std.specs.Prelude.{◌⊎◌}
-use Rattle.sqlite_trees.specs.View.{doubt}
 use Rattle.sqlite_trees.specs.declared.store.Store.{Ghosts}
 use Rattle.sqlite.specs.Effect.{Database}
 use Rattle.sqlite.specs.Held.{Held, state}
@@ -12,119 +11,154 @@ use Rattle.brk_money.specs.declared.fault.Fault.{Fault}
 use Rattle.brk_money.specs.declared.fault.Fault.TheVariants.{Memory, Store, Damaged}
 use Rattle.brk_model.specs.Adopted.{base_of}
 use Rattle.brk_model.specs.Audit.{IsAudit, row_conditions}
-use Rattle.brk_model.specs.Base.{Base, empty_base}
+use Rattle.brk_model.specs.Base.{Base}
 use Rattle.brk_model.specs.Form.{has_texts}
+use Rattle.brk_model.specs.Schemas.{third_schema}
 use Rattle.brk_model.specs.Sheets.{sheets}
-use Rattle.brk_model.specs.Tables.{Tables, no_rows}
-use Rattle.brk_book_laws.proofs.Steps.{empty_books, empty_rows}
+use Rattle.brk_model.specs.Tables.{Tables}
+use Rattle.brk_changes.specs.declared.schema.Schema as known
+use Rattle.brk_changes.specs.declared.schema.Schema.TheVariants.{First, Second, Third}
+use Rattle.brk_changes.specs.Schemas.{schema_of}
 use Rattle.brk_adoption_laws.specs.Passing.{Passes}
+use Rattle.brk_adoption_laws.proofs.MovedRows.{first_narrower, moved_rows, second_narrower}
 use Rattle.brk_adoption_laws.proofs.Passing.{passing_books, passing_tables}
 use Rattle.brk_sound_laws.proofs.Adopted.{passing_sound, sound_passes}
-use Rattle.brk_sound_laws.proofs.SoundSteps.{empty_sound}
-use Rattle.brk_exact_laws.proofs.OneTables.{one_tables}
+use Rattle.brk_exact_laws.proofs.OneTables.{one_schema}
 use Rattle.brk_rows.proofs.Inside.{clean_before}
-use Rattle.brk_tables_form.specs.Made.{HasRows}
-use Rattle.brk_tables_whole.specs.Schemas.{HasDesk, first_schema}
-use Rattle.brk_tables_whole.proofs.Defined.{desk_is_defined, desk_is_there}
-use Rattle.brk_store.specs.Audited.{Audited, HoldsBooks, IsAdopted, IsAudited, IsDefinedIn, OnAnswer}
+use Rattle.brk_tables_form.specs.Made.{HasRowsIn}
+use Rattle.brk_tables_whole.specs.Schemas.{HasDesk}
+use Rattle.brk_tables_whole.proofs.Defined.{desk_is_there}
+use Rattle.brk_store.specs.Audited.{Answered, Audited, AuditedBy, HasDeskOf, HasMoved, HasThirdIn, HoldsBooks, IsAdopted, IsAudited, IsDefinedIn, IsThirdDefinedIn, OnAnswer}
 use Rattle.brk_store.specs.Holds.{Holds}
+use Rattle.brk_store.proofs.Adoption.{moved_pass, moved_read}
 use Rattle.brk_store.proofs.Answering.{one_failing}
+use Rattle.brk_store.proofs.Closing.{answer_with}
+use Rattle.brk_store.proofs.Schemas.{desk_of_rows, one_desk, rows_defined, rows_third}
 
 -- ---- the answer of a database is that of its rows, and one alone
 
-pub rows_answer : (db : Database) (t : Tables) (answer : Option Condition) → HasRows t db → IsTrue (has_texts t) → Audited db answer → IsAudit t answer
-rows_answer db t None rows texts h = subst (λ u. IsAudit u None) (one_tables h.0 t db h.1 rows) h.3
-rows_answer db t (Some NotEmpty) rows texts h = absurd h
-rows_answer db t (Some Schema) rows texts h = absurd (h (desk_is_there t db rows))
-rows_answer db t (Some Form) rows texts h = h.1 t rows texts
-rows_answer db t (Some c) rows texts h = subst (λ u. IsAudit u (Some c)) (one_tables h.0 t db h.1 rows) h.3
+-- by one schema
+pub rows_answer : (schema : known.Schema) (db : Database) (t : Tables) (answer : Option Condition) → HasRowsIn (schema_of schema) t db → IsTrue (has_texts t) → AuditedBy (schema_of schema) db answer → IsAudit (schema_of schema) t answer
+rows_answer schema db t None rows texts h = subst (λ u. IsAudit (schema_of schema) u None) (one_schema schema schema h.0 t db h.1.0 rows).1 h.1.2
+rows_answer schema db t (Some NotEmpty) rows texts h = absurd h
+rows_answer schema db t (Some Schema) rows texts h = absurd (h (desk_is_there (schema_of schema) t db rows))
+rows_answer schema db t (Some Form) rows texts h = h.1 t rows texts
+rows_answer schema db t (Some c) rows texts h = subst (λ u. IsAudit (schema_of schema) u (Some c)) (one_schema schema schema h.0 t db h.1.0 rows).1 h.1.2
 
 -- it has rows that can be read, or what it lacks is told
-abbrev Kind : Database → Option Condition → Type 0
-Kind db answer = ((t : Tables) × HasRows t db × IsTrue (has_texts t)) ⊎ (((answer ≡ Some Form) × HasDesk first_schema db) ⊎ ((answer ≡ Some Schema) × (¬ HasDesk first_schema db)))
+abbrev Kind : known.Schema → Database → Option Condition → Type 0
+Kind schema db answer =
+    ((t : Tables) × HasRowsIn (schema_of schema) t db × IsTrue (has_texts t)) ⊎ (((answer ≡ Some Form) × HasDesk (schema_of schema) db) ⊎ ((answer ≡ Some Schema) × (¬ HasDesk (schema_of schema) db)))
 
-kind_of : (db : Database) (answer : Option Condition) → Audited db answer → Kind db answer
-kind_of db None h = inl (h.0, h.1, h.2)
-kind_of db (Some NotEmpty) h = absurd h
-kind_of db (Some Schema) h = inr (inr (refl, h))
-kind_of db (Some Form) h = inr (inl (refl, h.0))
-kind_of db (Some c) h = inl (h.0, h.1, h.2)
+kind_of : (schema : known.Schema) (db : Database) (answer : Option Condition) → AuditedBy (schema_of schema) db answer → Kind schema db answer
+kind_of schema db None h = inl (h.0, h.1.0, h.1.1)
+kind_of schema db (Some NotEmpty) h = absurd h
+kind_of schema db (Some Schema) h = inr (inr (refl, h))
+kind_of schema db (Some Form) h = inr (inl (refl, h.0))
+kind_of schema db (Some c) h = inl (h.0, h.1.0, h.1.1)
 
-one_by_rows : (db : Database) (a b : Option Condition) → (t : Tables) × HasRows t db × IsTrue (has_texts t) → Audited db a → Audited db b → a ≡ b
-one_by_rows db a b r h k = one_failing row_conditions r.0 a b (rows_answer db r.0 a r.1 r.2 h) (rows_answer db r.0 b r.1 r.2 k)
+one_by_rows : (schema : known.Schema) (db : Database) (a b : Option Condition) → (t : Tables) × HasRowsIn (schema_of schema) t db × IsTrue (has_texts t) → AuditedBy (schema_of schema) db a → AuditedBy (schema_of schema) db b → a ≡ b
+one_by_rows schema db a b r h k = one_failing (schema_of schema) row_conditions r.0 a b (rows_answer schema db r.0 a r.1 r.2 h) (rows_answer schema db r.0 b r.1 r.2 k)
 
-one_of_kinds : (db : Database) (a b : Option Condition) → Audited db a → Audited db b → Kind db a → Kind db b → a ≡ b
-one_of_kinds db a b h k (inl r) l = one_by_rows db a b r h k
-one_of_kinds db a b h k (inr p) (inl r) = one_by_rows db a b r h k
-one_of_kinds db a b h k (inr (inl p)) (inr (inl q)) = p.0 ∙ sym q.0
-one_of_kinds db a b h k (inr (inl p)) (inr (inr q)) = absurd (q.1 p.1)
-one_of_kinds db a b h k (inr (inr p)) (inr (inl q)) = absurd (p.1 q.1)
-one_of_kinds db a b h k (inr (inr p)) (inr (inr q)) = p.0 ∙ sym q.0
+one_of_kinds : (schema : known.Schema) (db : Database) (a b : Option Condition) → AuditedBy (schema_of schema) db a → AuditedBy (schema_of schema) db b → Kind schema db a → Kind schema db b → a ≡ b
+one_of_kinds schema db a b h k (inl r) l = one_by_rows schema db a b r h k
+one_of_kinds schema db a b h k (inr p) (inl r) = one_by_rows schema db a b r h k
+one_of_kinds schema db a b h k (inr (inl p)) (inr (inl q)) = p.0 ∙ sym q.0
+one_of_kinds schema db a b h k (inr (inl p)) (inr (inr q)) = absurd (q.1 p.1)
+one_of_kinds schema db a b h k (inr (inr p)) (inr (inl q)) = absurd (p.1 q.1)
+one_of_kinds schema db a b h k (inr (inr p)) (inr (inr q)) = p.0 ∙ sym q.0
+
+pub one_answer_by : (schema : known.Schema) (db : Database) (a b : Option Condition) → AuditedBy (schema_of schema) db a → AuditedBy (schema_of schema) db b → a ≡ b
+one_answer_by schema db a b h k = one_of_kinds schema db a b h k (kind_of schema db a h) (kind_of schema db b k)
+
+-- over all schemas: no desk is there, or what a schema answers of its desk
+abbrev Answer : Database → Option Condition → Type 0
+Answer db answer = ((answer ≡ Some Schema) × HasDeskOf None db) ⊎ ((schema : known.Schema) × HasDesk (schema_of schema) db × AuditedBy (schema_of schema) db answer)
+
+answer_of : (db : Database) (answer : Option Condition) → Audited db answer → Answer db answer
+answer_of db None h = inr (h.0, desk_is_there (schema_of h.0) h.1.0 db h.1.1.0, h.1)
+answer_of db (Some NotEmpty) h = absurd h
+answer_of db (Some Schema) h = inl (refl, h)
+answer_of db (Some Form) h = inr (h.0, h.1.0, h.1)
+answer_of db (Some c) h = inr (h.0, desk_is_there (schema_of h.0) h.1.0 db h.1.1.0, h.1)
+
+-- rows of one schema, and what was answered by one of which a desk is there
+one_by_desk : (db : Database) (a b : Option Condition) (s r : known.Schema) (t : Tables) → HasRowsIn (schema_of s) t db → AuditedBy (schema_of s) db a → HasDesk (schema_of r) db → AuditedBy (schema_of r) db b → a ≡ b
+one_by_desk db a b s r t rows h there k = one_answer_by s db a b h (subst (λ (q : known.Schema). AuditedBy (schema_of q) db b) (one_desk r s t db there rows) k)
+
+one_of_answers : (db : Database) (a b : Option Condition) → Answer db a → Answer db b → a ≡ b
+one_of_answers db a b (inl p) (inl q) = p.0 ∙ sym q.0
+one_of_answers db a b (inl p) (inr q) = absurd (p.1 q.0 q.1)
+one_of_answers db a b (inr p) (inl q) = absurd (q.1 p.0 p.1)
+one_of_answers db a b (inr p) (inr q) = go (kind_of p.0 db a p.2) (kind_of q.0 db b q.2)
+  where
+    go : Kind p.0 db a → Kind q.0 db b → a ≡ b
+    go (inl r) l = one_by_desk db a b p.0 q.0 r.0 r.1 p.2 q.1 q.2
+    go (inr l) (inl r) = sym (one_by_desk db b a q.0 p.0 r.0 r.1 q.2 p.1 p.2)
+    go (inr (inr n)) l = absurd (n.1 p.1)
+    go (inr l) (inr (inr n)) = absurd (n.1 q.1)
+    go (inr (inl l)) (inr (inl r)) = l.0 ∙ sym r.0
 
 pub one_answer : (db : Database) (a b : Option Condition) → Audited db a → Audited db b → a ≡ b
-one_answer db a b h k = one_of_kinds db a b h k (kind_of db a h) (kind_of db b k)
+one_answer db a b h k = one_of_answers db a b (answer_of db a h) (answer_of db b k)
 
 -- ---- a store
 
 pub defined_in : {S : Type 0} (g : Ghosts S) (held : Held S) (t : Tables) → Holds g held t → IsDefinedIn g held
-defined_in g held t holds clean on = desk_is_defined t (state g held).now (holds clean on)
+defined_in g held t holds clean on = rows_defined t (state g held).now (holds clean on)
 
--- what is so of an answer is so of it with what else is known
-answer_with : (result : Result (Unit {0}) Fault) (P Q R : Option Condition → Type 0) → ((answer : Option Condition) → P answer → Q answer → R answer) → OnAnswer result P → OnAnswer result Q → OnAnswer result R
-answer_with (Ok x) P Q R f p q = f None p q
-answer_with (Err (Damaged c)) P Q R f p q = f (Some c) p q
-answer_with (Err Memory) P Q R f p q = tt
-answer_with (Err Store) P Q R f p q = tt
+third_defined_in : {S : Type 0} (g : Ghosts S) (held : Held S) (t : Tables) → Holds g held t → IsThirdDefinedIn g held
+third_defined_in g held t holds clean on = rows_defined t (state g held).now (holds clean on) Third
 
-module _ {S : Type 0} (g : Ghosts S) (old new : Held S) (result : Result (Unit {0}) Fault) (audited : IsAudited g old new result) where
-  pub tells_of_rows : (t : Tables) → Holds g old t → IsTrue (has_texts t) → HasCleanDisk (state g new) → OnAnswer result (IsAudit t)
-  tells_of_rows t holds texts clean =
-      answer_with result (Audited (state g old).now) (λ _. IsTrue (state g old).is_open) (IsAudit t)
-      (λ answer h on. rows_answer (state g old).now t answer (holds (clean_before (state g old) (state g new) (λ _. ⊥) audited.survives clean) on) texts h)
-      (audited.told clean (defined_in g old t holds)) (audited.opened clean)
+pub third_in : {S : Type 0} (g : Ghosts S) (held : Held S) (t : Tables) → Holds g held t → HasThirdIn g held
+third_in g held t holds clean on = desk_of_rows t (state g held).now (holds clean on)
 
-  pub sound_books_pass : (base : Base) → HoldsBooks g old base → HasCleanDisk (state g new) → OnAnswer result (λ answer. answer ≡ None)
-  sound_books_pass base holds clean =
-      answer_with result (IsAudit (sheets base)) (λ _. IsTrue true) (λ answer. answer ≡ None) (λ answer h _. one_failing row_conditions (sheets base) answer None h (sound_passes base holds.books holds.sound))
-      (tells_of_rows (sheets base) holds.rows holds.texts clean)
-      (everything result)
-    where
-      everything : (r : Result (Unit {0}) Fault) → OnAnswer r (λ _. IsTrue true)
-      everything (Ok x) = refl
-      everything (Err (Damaged c)) = refl
-      everything (Err Memory) = tt
-      everything (Err Store) = tt
+module _ {S : Type 0} (g : Ghosts S) (old new : Held S) (result : Result (Unit {0}) Fault) where
+  module _ (audited : IsAudited g old new result) where
+    pub tells_of_rows : (t : Tables) → Holds g old t → IsTrue (has_texts t) → HasCleanDisk (state g new) → OnAnswer result (IsAudit third_schema t)
+    tells_of_rows t holds texts clean =
+        answer_with result (AuditedBy third_schema (state g old).now) (λ _. IsTrue (state g old).is_open) (IsAudit third_schema t)
+        (λ answer h on. rows_answer Third (state g old).now t answer (rows_third t (state g old).now (holds (clean_before (state g old) (state g new) (λ _. ⊥) audited.survives clean) on)) texts h)
+        (audited.told clean (third_defined_in g old t holds)) (audited.opened clean)
+
+    pub sound_books_pass : (base : Base) → HoldsBooks g old base → HasCleanDisk (state g new) → OnAnswer result (λ answer. answer ≡ None)
+    sound_books_pass base holds clean =
+        answer_with result (IsAudit third_schema (sheets base)) (λ _. IsTrue true) (λ answer. answer ≡ None)
+        (λ answer h _. one_failing third_schema row_conditions (sheets base) answer None h (sound_passes base holds.books holds.sound))
+        (tells_of_rows (sheets base) holds.rows holds.texts clean)
+        (everything result)
+      where
+        everything : (r : Result (Unit {0}) Fault) → OnAnswer r (λ _. IsTrue true)
+        everything (Ok x) = refl
+        everything (Err (Damaged c)) = refl
+        everything (Err Memory) = tt
+        everything (Err Store) = tt
+
+  -- the adoption of what holds rows of the third schema is an audit
+  pub third_audited : IsAdopted g old new result → (t : Tables) → Holds g old t → IsAudited g old new result
+  third_audited adopted t holds = adopted.audited (defined_in g old t holds) (third_in g old t holds)
 
 -- ---- adopted
 
-clean_or_not : (b : Bool) → (doubt b ≡ 0) ⊎ (¬ (doubt b ≡ 0))
-unfolding doubt
-clean_or_not true = inl refl
-clean_or_not false = inr (λ e. cc)
-
-no_rows_pass : Passes no_rows
-no_rows_pass = subst Passes empty_rows (sound_passes empty_base empty_books empty_sound)
-
-pub passing_books_held : {S : Type 0} (g : Ghosts S) (store : Held S) (t : Tables) → Holds g store t → Passes t → IsTrue (has_texts t) → HoldsBooks g store (base_of t)
+pub passing_books_held : {S : Type 0} (g : Ghosts S) (store : Held S) (t : Tables) → Holds g store t → Passes third_schema t → IsTrue (has_texts t) → HoldsBooks g store (base_of t)
 passing_books_held g store t holds passes texts =
-    let e = passing_tables t passes in
-    record { rows = subst (Holds g store) (sym e) holds; books = passing_books t passes; sound = passing_sound t passes; texts = subst (λ u. IsTrue (has_texts u)) (sym e) texts }
+    let e = passing_tables third_schema t passes in
+    record { rows = subst (Holds g store) (sym e) holds; books = passing_books third_schema t passes; sound = passing_sound t passes; texts = subst (λ u. IsTrue (has_texts u)) (sym e) texts }
 
-no_rows_are_read : IsTrue (has_texts no_rows)
-no_rows_are_read = refl
+pub adopted_books : {S : Type 0} (g : Ghosts S) (old new : Held S) → IsAdopted g old new (Ok tt) → IsDefinedIn g old → (base : Base) × HoldsBooks g new base
+adopted_books g old new is defined = let a = is.adopted defined in (base_of a.0, passing_books_held g new a.0 a.1 a.2 a.3)
 
-module _ {S : Type 0} (g : Ghosts S) (old new : Held S) where
-  rows_of : IsAudited g old new (Ok tt) → IsDefinedIn g old → (HasCleanDisk (state g new)) ⊎ (¬ HasCleanDisk (state g new)) → (t : Tables) × Holds g new t × Passes t × IsTrue (has_texts t)
-  rows_of audited defined (inl clean) =
-      let h = audited.told clean defined in
-      (h.0, (λ again on. subst (HasRows h.0) (sym (audited.same again on).now) h.1), h.3, h.2)
-  rows_of audited defined (inr never) = (no_rows, (λ clean on. absurd (never clean)), no_rows_pass, no_rows_are_read)
+-- the books that a move leaves are those of the rows that passed
+moved_base : (schema : known.Schema) (t : Tables) → Passes (schema_of schema) t → base_of (sheets (base_of t)) ≡ base_of t
+moved_base First t p = let m = moved_rows (schema_of First) t first_narrower p in sym (ap base_of m.tables) ∙ m.base
+moved_base Second t p = let m = moved_rows (schema_of Second) t second_narrower p in sym (ap base_of m.tables) ∙ m.base
+moved_base Third t p = ap base_of (passing_tables third_schema t p)
 
-  pub adopts : IsAudited g old new (Ok tt) → IsAdopted g old new (Ok tt)
-  adopts audited = record { audited = audited; adopted = λ defined. rows_of audited defined (clean_or_not (state g new).is_clean) }
+pub moved_books : {S : Type 0} (g : Ghosts S) (new : Held S) (db : Database) → (m : HasMoved db (state g new).now) → HoldsBooks g new (base_of m.1)
+moved_books g new db m =
+    subst (HoldsBooks g new) (moved_base m.0 m.1 m.2.2)
+    (passing_books_held g new (sheets (base_of m.1)) (λ _ _. m.3) (moved_pass m.0 m.1 m.2.2) (moved_read m.0 m.1 m.2.2 m.2.1))
 
-  pub adopts_none : (fault : Fault) → IsAudited g old new (Err fault) → IsAdopted g old new (Err fault)
-  adopts_none fault audited = record { audited = audited; adopted = λ defined. tt }
-
-  pub adopted_books : IsAdopted g old new (Ok tt) → IsDefinedIn g old → (base : Base) × HoldsBooks g new base
-  adopted_books is defined = let a = is.adopted defined in (base_of a.0, passing_books_held g new a.0 a.1 a.2 a.3)
+pub held_after : {S : Type 0} (g : Ghosts S) (old new : Held S) → IsAdopted g old new (Ok tt) → IsDefinedIn g old → HasCleanDisk (state g new) → IsTrue (state g new).is_open
+    → (schema : known.Schema) × (rows : Tables) × Answered (schema_of schema) rows (state g old).now None × HoldsBooks g new (base_of rows)
+held_after g old new is defined clean on = let m = (is.moved clean on defined).0 in (m.0, m.1, m.2, moved_books g new (state g old).now m)

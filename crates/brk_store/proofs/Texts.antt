@@ -1,20 +1,30 @@
 -- Texts that may be any can be read in rows in types.
-use Rattle.std.proofs.Common.{◌≡◌, ◌&&◌, true, Bool, List, [], ◌∷◌, map, IsTrue, refl}
-use Rattle.std.specs.List.{list_all}
+use Rattle.std.proofs.Common.{◌≡◌, ◌&&◌, ◌+◌, ◌++◌, ℕ, true, false, Bool, List, [], ◌∷◌, map, IsTrue, refl}
+use Rattle.std.specs.List.{list_all, AllByRecursion}
 use Rattle.std.specs.Str.{is_utf8}
-use Rattle.std.specs.Prelude.{String, string_bytes}
+use Rattle.std.specs.Prelude.{String, nat_lt, string_bytes}
 use Rattle.std.proofs.lemmas.Str.{IsUtf8-string_bytes, is_utf8-from_IsUtf8}
+use Rattle.brk_book_laws.proofs.LotReading.{All-sort}
+use Rattle.brk_model.specs.Adopted.{posting_of_cash, posting_of_move, postings_in}
+use Rattle.brk_model.specs.Derived.{Posting, in_turn}
 use Rattle.brk_model.specs.Form.{has_texts}
+use Rattle.brk_model.specs.Moved.{moved}
+use Rattle.brk_model.specs.Tables.{CashRow, MoveRow, Tables, numbered}
 use Rattle.brk_ref.specs.declared.key.Kept as kept
 use Rattle.brk_ref.specs.Records.{kept_of}
-use Rattle.brk_changes.specs.Rows.{cash_row_of, trade_row_of}
+use Rattle.brk_changes.specs.Rows.{cash_row_of, move_row_of, trade_row_of}
 use Rattle.brk_changes.specs.Sheets.{tables_in_sheets}
 use Rattle.brk_changes.specs.declared.cash_row.CashRow as cash
+use Rattle.brk_changes.specs.declared.move_row.MoveRow as posted
 use Rattle.brk_changes.specs.declared.sheets.Sheets.{Sheets}
 use Rattle.brk_changes.specs.declared.trade_row.TradeRow as trade
 
 and_both : (a b : Bool) → a ≡ true → b ≡ true → a && b ≡ true
 and_both a b p q = rw (p, q) refl
+
+and_parts : (a b : Bool) → a && b ≡ true → (a ≡ true) × (b ≡ true)
+and_parts true b h = (refl, h)
+and_parts false b h = absurd (let e = h in cc)
 
 pub text_is_utf8 : {Z : Type 0} (s : String Z) → is_utf8 (string_bytes s) ≡ true
 text_is_utf8 s = is_utf8-from_IsUtf8 (string_bytes s) (IsUtf8-string_bytes s)
@@ -31,5 +41,46 @@ cash_texts : (rs : List cash.CashRow) → list_all (λ r. is_utf8 r.name) (map c
 cash_texts [] = refl
 cash_texts (r ∷ rs) = and_both _ _ (text_is_utf8 r.name) (cash_texts rs)
 
+move_texts : (rs : List posted.MoveRow) → list_all (λ r. is_utf8 r.name) (map move_row_of rs) ≡ true
+move_texts [] = refl
+move_texts (r ∷ rs) = and_both _ _ (text_is_utf8 r.name) (move_texts rs)
+
 pub typed_texts : (s : Sheets) → IsTrue (has_texts (tables_in_sheets s))
-typed_texts s = and_both _ _ (and_both _ _ (kept_texts s.kept.items) (trade_texts s.trades.items)) (cash_texts s.cash.items)
+typed_texts s = and_both _ _ (and_both _ _ (and_both _ _ (kept_texts s.kept.items) (trade_texts s.trades.items)) (cash_texts s.cash.items)) (move_texts s.moves.items)
+
+-- ---- the move keeps them
+
+all_from : {X : Type 0} (p : X → Bool) (xs : List X) → AllByRecursion (λ x. p x ≡ true) xs → list_all p xs ≡ true
+all_from p [] h = refl
+all_from p (x ∷ xs) h = and_both _ _ h.0 (all_from p xs h.1)
+
+all_of : {X : Type 0} (p : X → Bool) (xs : List X) → list_all p xs ≡ true → AllByRecursion (λ x. p x ≡ true) xs
+all_of p [] h = tt
+all_of p (x ∷ xs) h = let both = and_parts (p x) (list_all p xs) h in (both.0, all_of p xs both.1)
+
+joined : {X : Type 0} (P : X → Type 0) (xs ys : List X) → AllByRecursion P xs → AllByRecursion P ys → AllByRecursion P (xs ++ ys)
+joined P [] ys h k = k
+joined P (x ∷ xs) ys h k = (h.0, joined P xs ys h.1 k)
+
+mapped : {X Y : Type 0} (f : X → Y) (P : X → Type 0) (Q : Y → Type 0) → ((x : X) → P x → Q (f x)) → (xs : List X) → AllByRecursion P xs → AllByRecursion Q (map f xs)
+mapped f P Q each [] h = tt
+mapped f P Q each (x ∷ xs) h = (each x h.0, mapped f P Q each xs h.1)
+
+abbrev Readable : Posting → Type 0
+Readable p = is_utf8 p.name ≡ true
+
+numbered_texts : (n : ℕ) (ps : List Posting) → AllByRecursion Readable ps → list_all (λ r. is_utf8 r.name) (numbered n ps) ≡ true
+numbered_texts n [] h = refl
+numbered_texts n (p ∷ ps) h = and_both _ _ h.0 (numbered_texts (n + 1) ps h.1)
+
+pub moved_texts : (t : Tables) → IsTrue (has_texts t) → IsTrue (has_texts (moved t))
+unfolding moved
+moved_texts t h =
+    let upper = and_parts _ (list_all (λ (r : MoveRow). is_utf8 r.name) t.moves) h in
+    let lower = and_parts _ (list_all (λ (r : CashRow). is_utf8 r.name) t.cash) upper.0 in
+    and_both _ _ (and_both _ _ lower.0 refl)
+    (numbered_texts 1 (in_turn (postings_in t))
+    (All-sort Readable (λ (a b : Posting). nat_lt a.stamp b.stamp) (postings_in t)
+    (joined Readable (map (posting_of_cash t) t.cash) (map posting_of_move t.moves)
+    (mapped (posting_of_cash t) (λ (r : CashRow). is_utf8 r.name ≡ true) Readable (λ x k. k) t.cash (all_of (λ (r : CashRow). is_utf8 r.name) t.cash lower.1))
+    (mapped posting_of_move (λ (r : MoveRow). is_utf8 r.name ≡ true) Readable (λ x k. k) t.moves (all_of (λ (r : MoveRow). is_utf8 r.name) t.moves upper.1)))))

@@ -1,11 +1,10 @@
 -- The rows that a walk of the tables goes over are those of the definitions, in their order.
-use Rattle.std.proofs.Common.{◌≡◌, ℕ, ◌==◌, Bool, true, false, not, ◌&&◌, ◌||◌, cond, List, [], ◌∷◌, refl, sym, ap, subst, ◌∙◌, map, filter, find, pos, Ordering, Less, Equal, int_cmp, arith, inl, inr, MatchBool, Result, Ok}
-use Rattle.std.specs.Prelude.{⊤, bytes_eq, nat_lt}
+use Rattle.std.proofs.Common.{◌≡◌, ℕ, ◌==◌, Bool, true, false, not, ◌&&◌, ◌||◌, cond, List, [], ◌∷◌, refl, sym, ap, subst, ◌∙◌, filter, pos, Ordering, Less, Equal, int_cmp, arith, inl, inr, Result}
+use Rattle.std.specs.Prelude.{⊤, bytes_eq, nat_le, nat_lt}
 use Rattle.std.specs.List.{AllByRecursion}
-use Rattle.std.specs.Option.{option_map_or}
 use Rattle.std.specs.Ordering.{ordering_then}
 use Rattle.std.specs.Cmp.Lexicographic.{slice_cmp}
-use Rattle.std.proofs.lemmas.Bool.{cases_Bool, eqb-true}
+use Rattle.std.proofs.lemmas.Bool.{cases_Bool}
 use Rattle.std.proofs.lemmas.Bool.Decides.{nat_tests}
 use Rattle.std.proofs.lemmas.Slice.Eq.{bytes_eq-Decides}
 use Rattle.sqlite_value.specs.declared.value.Value.TheVariants.{Int}
@@ -14,27 +13,24 @@ use Rattle.sqlite_value.proofs.OrderLemmas.{value_cmp-Int}
 use Rattle.sqlite_trees.specs.declared.store.Store.{Ghosts}
 use Rattle.sqlite.specs.Effect.{Database}
 use Rattle.sqlite.specs.Held.{Held, state}
-use Rattle.brk_money.specs.declared.fault.Fault.{Fault}
-use Rattle.brk_changes.specs.Rows.{cash_row_of, holding_row_of}
-use Rattle.brk_changes.specs.declared.cash_row.CashRow as row
+use Rattle.brk_changes.specs.Rows.{holding_row_of, move_row_of}
+use Rattle.brk_changes.specs.declared.move_row.MoveRow as row
 use Rattle.brk_changes.specs.declared.holding_row.HoldingRow as holding
-use Rattle.brk_model.specs.Joins.{trade_in}
 use Rattle.brk_model.specs.Keys.{word, by_key, row_before}
-use Rattle.brk_model.specs.Lists.{contains_number, insert_by, sort_by, text_before}
+use Rattle.brk_model.specs.Lists.{insert_by, sort_by, text_before}
 use Rattle.brk_model.specs.Statement.{lots_in}
-use Rattle.brk_model.specs.Tables.{CashRow, HoldingRow, Tables, TradeRow}
+use Rattle.brk_model.specs.Tables.{HoldingRow, MoveRow, Tables}
 use Rattle.brk_rows.specs.Rows.{Rises}
-use Rattle.brk_tables_form.specs.Desk.{CashRows, Holdings, Trades, order}
+use Rattle.brk_tables_form.specs.Desk.{CashMoves, Holdings, order}
 use Rattle.brk_tables_form.specs.Made.{HasRows}
 use Rattle.brk_book_laws.proofs.Bools.{same_text, texts_back}
 use Rattle.brk_book_laws.proofs.LotReading.{All-sort}
 use Rattle.brk_book_laws.proofs.Order.{by_key-filter, key_total}
-use Rattle.brk_tables_walks.specs.Lists.{cash_between, is_between, lots_by_symbol, stamp_key, symbol_key}
+use Rattle.brk_tables_walks.specs.Lists.{cash_between, lots_by_symbol, stamp_key, symbol_key}
 use Rattle.brk_tables_walks.specs.Walks.{Walks}
 use Rattle.brk_tables_walks.specs.declared.walking.Stop.{Stop}
-use Rattle.brk_store.specs.Holds.{IsRead}
 use Rattle.brk_store.specs.Walked.{IsWalked, cash_of}
-use Rattle.brk_store.proofs.Walking.{is_walked, is_walked_of}
+use Rattle.brk_store.proofs.Walking.{is_walked}
 
 -- ---- rows that stand by a number need no more of it in their order
 
@@ -115,54 +111,29 @@ lots_same account t climb =
 
 -- ---- cash
 
-filter_swap : {X : Type 0} (p q : X → Bool) (xs : List X) → filter p (filter q xs) ≡ filter q (filter p xs)
-filter_swap p q [] = refl
-filter_swap p q (x ∷ xs) = go (filter_swap p q xs) (p x) (q x) refl refl
+filter_both : {X : Type 0} (p q : X → Bool) (xs : List X) → filter (λ x. p x && q x) xs ≡ filter q (filter p xs)
+filter_both p q [] = refl
+filter_both p q (x ∷ xs) = go (filter_both p q xs) (p x) (q x) refl refl
   where
-    go : filter p (filter q xs) ≡ filter q (filter p xs) → (a b : Bool) → p x ≡ a → q x ≡ b → filter p (filter q (x ∷ xs)) ≡ filter q (filter p (x ∷ xs))
-    go more true true e f = rw (e, f, e) (ap (λ l. x ∷ l) more)
+    go : filter (λ x. p x && q x) xs ≡ filter q (filter p xs) → (a b : Bool) → p x ≡ a → q x ≡ b → filter (λ x. p x && q x) (x ∷ xs) ≡ filter q (filter p (x ∷ xs))
+    go more true true e f = rw (e, f) (ap (λ l. x ∷ l) more)
     go more true false e f = rw (e, f) more
-    go more false true e f = rw (e, f, e) more
-    go more false false e f = rw (e, f) more
-
--- whether a cash row is of an account's trade
-abbrev pub is_of : Tables → ℕ → CashRow → Bool
-is_of t account row = option_map_or (λ t. t.account == account) (trade_in t row.trade) false
+    go more false b e f = rw e more
 
 cash_tie : (a b p q : Bool) → p ≡ false → a || (not b && (p || (not q && false))) ≡ a
 cash_tie true b p q k = refl
 cash_tie false true p q k = refl
 cash_tie false false p q k = rw k (alone false q)
 
-pub cash_same : (account from to : ℕ) (t : Tables) → Climb (λ r. r.trade) t.cash → filter (is_of t account) (cash_between from to t) ≡ cash_of account from to t
+pub cash_same : (account from to : ℕ) (t : Tables) → Climb (λ r. r.id) t.moves → cash_between account from to t ≡ cash_of account from to t
 cash_same account from to t climb =
-    sym (by_key-filter stamp_key (is_of t account) (filter (is_between from to) t.cash))
-    ∙ ap (by_key stamp_key) (filter_swap (is_of t account) (is_between from to) t.cash)
-    ∙ by_key-filter stamp_key (is_between from to) (filter (is_of t account) t.cash)
-    ∙ ap (filter (is_between from to)) (sort_same (λ (r : CashRow). r.trade) (row_before stamp_key) (λ a b. nat_lt a.stamp b.stamp) (filter (is_of t account) t.cash)
-    (λ x y k. cash_tie (nat_lt y.stamp x.stamp) (nat_lt x.stamp y.stamp) (nat_lt y.trade x.trade) (nat_lt x.trade y.trade) (not_above x.trade y.trade k))
-    (climb_filter (λ (r : CashRow). r.trade) (is_of t account) t.cash climb))
-
--- ---- an account's trades
-
-none_above : (n account : ℕ) (xs : List TradeRow) → AllByRecursion (λ y. nat_lt n y.id ≡ true) xs → contains_number n (map (λ r. r.id) (filter (λ r. r.account == account) xs)) ≡ false
-none_above n account [] h = refl
-none_above n account (x ∷ xs) h = go (none_above n account xs h.1) (x.account == account) refl
-  where
-    go : contains_number n (map (λ r. r.id) (filter (λ r. r.account == account) xs)) ≡ false → (b : Bool) → (x.account == account) ≡ b → contains_number n (map (λ r. r.id) (filter (λ r. r.account == account) (x ∷ xs))) ≡ false
-    go more true e = let other : (x.id == n) ≡ false = grind (arith, nat_tests, h.0) in rw (e, other) more
-    go more false e = rw e more
-
-pub trades_same : (n account : ℕ) (xs : List TradeRow) → Climb (λ r. r.id) xs → contains_number n (map (λ r. r.id) (filter (λ r. r.account == account) xs)) ≡ option_map_or (λ t. t.account == account) (find (λ r. r.id == n) xs) false
-trades_same n account [] h = refl
-trades_same n account (x ∷ xs) h = go (trades_same n account xs h.1) (x.id == n) (x.account == account) refl refl
-  where
-    go : contains_number n (map (λ r. r.id) (filter (λ r. r.account == account) xs)) ≡ option_map_or (λ t. t.account == account) (find (λ r. r.id == n) xs) false → (a b : Bool) → (x.id == n) ≡ a → (x.account == account) ≡ b
-        → contains_number n (map (λ r. r.id) (filter (λ r. r.account == account) (x ∷ xs))) ≡ option_map_or (λ t. t.account == account) (find (λ r. r.id == n) (x ∷ xs)) false
-    go more true true e f = rw (f, e, f) refl
-    go more true false e f = rw (f, e, f) (none_above n account xs (subst (λ m. AllByRecursion (λ (y : TradeRow). nat_lt m y.id ≡ true) xs) (eqb-true x.id n e) h.0))
-    go more false true e f = rw (f, e) more
-    go more false false e f = rw (f, e) more
+    let mine = λ (r : MoveRow). r.account == account in
+    let within = λ (r : MoveRow). nat_le from r.stamp && nat_le r.stamp to in
+    ap (by_key stamp_key) (filter_both mine within t.moves)
+    ∙ by_key-filter stamp_key within (filter mine t.moves)
+    ∙ ap (filter within) (sort_same (λ (r : MoveRow). r.id) (row_before stamp_key) (λ a b. nat_lt a.stamp b.stamp) (filter mine t.moves)
+    (λ x y k. cash_tie (nat_lt y.stamp x.stamp) (nat_lt x.stamp y.stamp) (nat_lt y.id x.id) (nat_lt x.id y.id) (not_above x.id y.id k))
+    (climb_filter (λ (r : MoveRow). r.id) mine t.moves climb))
 
 -- ---- tables of a database climb
 
@@ -182,11 +153,8 @@ climbs n order less (x ∷ xs) h = (All-of (λ y. order x y ≡ Less) (λ y. nat
 pub holdings_climb : (t : Tables) (db : Database) → HasRows t db → Climb (λ r. r.trade) t.holdings
 holdings_climb t db has = climbs (λ (r : HoldingRow). r.trade) (order Holdings) (λ x y k. less_number x.trade y.trade k) t.holdings (has.1.rows Holdings).rising
 
-pub cash_climbs : (t : Tables) (db : Database) → HasRows t db → Climb (λ r. r.trade) t.cash
-cash_climbs t db has = climbs (λ (r : CashRow). r.trade) (order CashRows) (λ x y k. less_number x.trade y.trade k) t.cash (has.1.rows CashRows).rising
-
-pub trades_climb : (t : Tables) (db : Database) → HasRows t db → Climb (λ r. r.id) t.trades
-trades_climb t db has = climbs (λ (r : TradeRow). r.id) (order Trades) (λ x y k. less_number x.id y.id k) t.trades (has.1.rows Trades).rising
+pub moves_climb : (t : Tables) (db : Database) → HasRows t db → Climb (λ r. r.id) t.moves
+moves_climb t db has = climbs (λ (r : MoveRow). r.id) (order CashMoves) (λ x y k. less_number x.id y.id k) t.moves (has.1.rows CashMoves).rising
 
 -- ---- walks of a store
 
@@ -195,15 +163,7 @@ pub lots_walked : {S V E : Type 0} (g : Ghosts S) (old new : Held S) (account : 
 lots_walked g old new account takes stops before after result w =
     is_walked g old new holding_row_of (lots_by_symbol account) (λ t. lots_in t account) takes stops before after (λ t has. lots_same account t (holdings_climb t (state g old).now has)) result w
 
--- the cash rows of some stamps, those of an account's trades alone
-pub cash_walked : {S V E : Type 0} (g : Ghosts S) (old mid new : Held S) (account from to : ℕ) {W : Type 0} (inner : W → V) (trades : W → List ℕ) (takes : V → row.CashRow → V → Type 0) (stops : V → row.CashRow → E → V → Type 0) (before after : W) (ns : List ℕ)
-    → trades before ≡ ns → IsRead {E = Fault} g old mid (Ok ns) (λ numbers t. numbers ≡ map (λ r. r.id) (filter (λ r. r.account == account) t.trades)) → (result : Result (Unit {0}) (Stop E))
-    → Walks g mid new cash_row_of (cash_between from to) (λ p x q. (trades q ≡ trades p) × MatchBool (contains_number x.trade (trades p)) (takes (inner p) x (inner q)) (inner q ≡ inner p)) (λ p x e q. (contains_number x.trade (trades p) ≡ true) × stops (inner p) x e (inner q)) before after result
-    → IsWalked g old new cash_row_of (cash_of account from to) takes stops (inner before) (inner after) result
-cash_walked g old mid new account from to inner trades takes stops before after ns is_before read result w =
-    is_walked_of g old mid new cash_row_of (λ r. r.trade) inner trades takes stops before after ns is_before (cash_between from to) (cash_of account from to)
-    (λ numbers t. numbers ≡ map (λ r. r.id) (filter (λ r. r.account == account) t.trades))
-    (λ t has known.
-    (λ i. filter (λ (m : CashRow). (ap (contains_number m.trade) known ∙ trades_same m.trade account t.trades (trades_climb t (state g mid).now has)) i) (cash_between from to t))
-    ∙ cash_same account from to t (cash_climbs t (state g mid).now has))
-    read result w
+pub cash_walked : {S V E : Type 0} (g : Ghosts S) (old new : Held S) (account from to : ℕ) (takes : V → row.MoveRow → V → Type 0) (stops : V → row.MoveRow → E → V → Type 0) (before after : V) (result : Result (Unit {0}) (Stop E))
+    → Walks g old new move_row_of (cash_between account from to) takes stops before after result → IsWalked g old new move_row_of (cash_of account from to) takes stops before after result
+cash_walked g old new account from to takes stops before after result w =
+    is_walked g old new move_row_of (cash_between account from to) (cash_of account from to) takes stops before after (λ t has. cash_same account from to t (moves_climb t (state g old).now has)) result w

@@ -1,6 +1,7 @@
--- What an audit of a database answers.
-use Rattle.std.specs.Prelude.{⊤, Bool, Option, Some, None, Result, Ok, Err, OnOk, IsTrue}
+-- What an audit of a database answers, and what becomes of a database that is adopted.
+use Rattle.std.specs.Prelude.{◌≡◌, ◌≢◌, ◌⊎◌, ⊤, Option, Some, None, Result, Ok, Err, OnOk, OnErr, IsTrue}
 use Rattle.sqlite_trees.specs.declared.store.Store.{Ghosts}
+use Rattle.sqlite_trees.specs.Tree.{Trees}
 use Rattle.sqlite.specs.Effect.{Database}
 use Rattle.sqlite.specs.Held.{Held, state}
 use Rattle.sqlite.specs.State.{HasCleanDisk, Survives}
@@ -8,47 +9,52 @@ use Rattle.brk_money.specs.declared.fault.Condition.{Condition}
 use Rattle.brk_money.specs.declared.fault.Condition.TheVariants as condition
 use Rattle.brk_money.specs.declared.fault.Fault.{Fault}
 use Rattle.brk_money.specs.declared.fault.Fault.TheVariants.{Memory, Store, Damaged}
+use Rattle.brk_model.specs.Adopted.{base_of}
 use Rattle.brk_model.specs.Audit.{IsAudit}
 use Rattle.brk_model.specs.Base.{Base}
 use Rattle.brk_model.specs.Form.{has_texts}
+use Rattle.brk_model.specs.Schemas.{Schema, third_schema}
 use Rattle.brk_model.specs.Sheets.{sheets}
 use Rattle.brk_model.specs.Tables.{Tables}
-use Rattle.brk_tables_form.specs.Made.{HasRows}
-use Rattle.brk_tables_whole.specs.Schemas.{DeskSchema, HasDesk, IsDefined, first_schema}
+use Rattle.brk_changes.specs.declared.schema.Schema as known
+use Rattle.brk_changes.specs.declared.schema.Schema.TheVariants.{Third}
+use Rattle.brk_changes.specs.Schemas.{schema_of}
+use Rattle.brk_tables_form.specs.Made.{HasRows, HasRowsIn, IsOf}
+use Rattle.brk_tables_moving.specs.Moving.{KeepsStrangers}
+use Rattle.brk_tables_whole.specs.Schemas.{HasDesk, IsDefined, IsDefinedAs}
 use Rattle.brk_book_laws.specs.Books.{IsBooks}
 use Rattle.brk_adoption_laws.specs.Passing.{Passes}
 use Rattle.brk_sound_laws.specs.Sound.{IsSound}
-use Rattle.brk_store.specs.Holds.{Holds, IsSame}
+use Rattle.brk_store.specs.Holds.{AreTreesOf, Holds, IsSame}
 
--- What an audit asks under one schema of a desk. A file of an older schema is audited as that one asks.
-pub record Conditions (T : Type 0) : Type 1 where
-  -- the tables, and the number in DESK
-  pub schema : DeskSchema
-  -- the rows of a database are those of t
-  pub HasRows : T → Database → Type 0
-  -- the texts that may be any can be read
-  pub has_texts : T → Bool
-  -- the first condition that rows fail
-  pub IsAudit : T → Option Condition → Type 0
+-- ---- what is answered
 
--- what an audit answers that asks this
-abbrev pub AuditedBy : {T : Type 0} → Conditions T → Database → Option Condition → Type 0
+-- the database has these rows of a schema, with texts that can be read, and by the schema's conditions this is their audit
+abbrev pub Answered : Schema → Tables → Database → Option Condition → Type 0
+Answered schema t db answer = HasRowsIn schema t db × IsTrue (has_texts t) × IsAudit schema t answer
+
+-- what an audit answers that asks one schema: the first condition that fails, and none where the rows pass
+abbrev pub AuditedBy : Schema → Database → Option Condition → Type 0
 -- it is asked only where a desk is made
-AuditedBy asked db (Some condition.NotEmpty) = ⊥
--- no desk is there
-AuditedBy asked db (Some condition.Schema) = ¬ HasDesk asked.schema db
+AuditedBy schema db (Some condition.NotEmpty) = ⊥
+-- no desk of the schema is there
+AuditedBy schema db (Some condition.Schema) = ¬ HasDesk schema db
 -- one is there, and whatever has its rows has not their form
-AuditedBy {T} asked db (Some condition.Form) =
-    HasDesk asked.schema db × ((t : T) → asked.HasRows t db → IsTrue (asked.has_texts t) → asked.IsAudit t (Some condition.Form))
+AuditedBy schema db (Some condition.Form) =
+    HasDesk schema db × ((t : Tables) → HasRowsIn schema t db → IsTrue (has_texts t) → IsAudit schema t (Some condition.Form))
 -- the answer is that of its rows
-AuditedBy {T} asked db answer = (t : T) × asked.HasRows t db × IsTrue (asked.has_texts t) × asked.IsAudit t answer
+AuditedBy schema db answer = (t : Tables) × Answered schema t db answer
 
-abbrev pub first_conditions : Conditions Tables
-first_conditions = record { schema = first_schema; HasRows = HasRows; has_texts = has_texts; IsAudit = IsAudit }
+-- a desk of this schema is there, or of none
+abbrev pub HasDeskOf : Option known.Schema → Database → Type 0
+HasDeskOf (Some schema) db = HasDesk (schema_of schema) db
+HasDeskOf None db = (schema : known.Schema) → ¬ HasDesk (schema_of schema) db
 
--- The answer of an audit of a database: the first condition that fails, and none where its rows pass.
+-- what an audit answers that asks the schema whose desk is there: a file of an older one is audited by its own conditions
 abbrev pub Audited : Database → Option Condition → Type 0
-Audited = AuditedBy first_conditions
+Audited db (Some condition.NotEmpty) = ⊥
+Audited db (Some condition.Schema) = HasDeskOf None db
+Audited db answer = (schema : known.Schema) × AuditedBy (schema_of schema) db answer
 
 -- What is so of what an audit told: that the rows pass, or which condition fails. Want of memory and a fault of the disk tell neither.
 abbrev pub OnAnswer : Result (Unit {0}) Fault → (Option Condition → Type 0) → Type 0
@@ -57,14 +63,26 @@ OnAnswer (Err (Damaged failing)) P = P (Some failing)
 OnAnswer (Err Memory) P = ⊤
 OnAnswer (Err Store) P = ⊤
 
--- As far as the disk has returned what was written and no fault has shut the store, its tables by a desk's names and columns are a desk's.
+-- ---- premises on what is held
+
+-- As far as the disk has returned what was written and no fault has shut the store, its tables by the names and columns of a desk of any schema are such a desk's.
 abbrev pub IsDefinedIn : {S : Type 0} → Ghosts S → Held S → Type 0
 IsDefinedIn g held = HasCleanDisk (state g held) → IsTrue (state g held).is_open → IsDefined (state g held).now
 
--- an audit of what a connection or a store holds, which writes nothing
+-- likewise of a desk of the third schema alone
+abbrev pub IsThirdDefinedIn : {S : Type 0} → Ghosts S → Held S → Type 0
+IsThirdDefinedIn g held = HasCleanDisk (state g held) → IsTrue (state g held).is_open → IsDefinedAs third_schema (state g held).now
+
+-- a desk of the third schema is there
+abbrev pub HasThirdIn : {S : Type 0} → Ghosts S → Held S → Type 0
+HasThirdIn g held = HasCleanDisk (state g held) → IsTrue (state g held).is_open → HasDesk third_schema (state g held).now
+
+-- ---- an audit
+
+-- an audit by the third schema of what a connection or a store holds, which writes nothing
 pub record IsAudited {S : Type 0} (g : Ghosts S) (old new : Held S) (result : Result (Unit {0}) Fault) : Type 0 where
   -- it tells whether the rows pass, and else the first condition that fails
-  pub told : HasCleanDisk (state g new) → IsDefinedIn g old → OnAnswer result (Audited (state g old).now)
+  pub told : HasCleanDisk (state g new) → IsThirdDefinedIn g old → OnAnswer result (AuditedBy third_schema (state g old).now)
   -- only of a database that is open
   pub opened : HasCleanDisk (state g new) → OnAnswer result (λ _. IsTrue (state g old).is_open)
   -- the rows are held still, whatever the answer
@@ -74,10 +92,36 @@ pub record IsAudited {S : Type 0} (g : Ghosts S) (old new : Held S) (result : Re
   -- a crash leaves what it could leave before
   pub survives : Survives (state g old) (state g new) (λ _. ⊥)
 
--- the adoption of what a connection holds: an audit, and at Ok a store that holds rows that pass
+-- ---- an adoption
+
+-- The rows of some schema passed, and another database has the tables of the base that they give, in the third. Each table that is not the desk's stands, with its
+-- rows unless a foreign key of its own acts on them.
+abbrev pub HasMoved : Database → Database → Type 0
+HasMoved db after =
+    (schema : known.Schema) × (t : Tables) × (passed : Answered (schema_of schema) t db None) × HasRows (sheets (base_of t)) after × KeepsStrangers (IsOf (schema_of schema)) passed.0.0 db after
+
+-- the rows of an older schema passed, and these trees have the tables of the base that they give, in the third
+abbrev pub AreMoved : Database → Trees → Type 0
+AreMoved db trees = (schema : known.Schema) × (t : Tables) × (schema ≢ Third) × Answered (schema_of schema) t db None × AreTreesOf (sheets (base_of t)) trees
+
+-- the adoption of what a connection holds: an audit by the conditions of the schema that is there, and at Ok a store that holds the rows in the third
 pub record IsAdopted {S : Type 0} (g : Ghosts S) (old new : Held S) (result : Result (Unit {0}) Fault) : Type 0 where
-  pub audited : IsAudited g old new result
-  pub adopted : IsDefinedIn g old → OnOk result ((t : Tables) × Holds g new t × Passes t × IsTrue (has_texts t))
+  -- it tells whether the rows pass, and else the first condition that fails
+  pub told : HasCleanDisk (state g new) → IsDefinedIn g old → OnAnswer result (Audited (state g old).now)
+  -- only of a database that is open
+  pub opened : HasCleanDisk (state g new) → OnAnswer result (λ _. IsTrue (state g old).is_open)
+  -- at Ok rows are held that pass
+  pub adopted : IsDefinedIn g old → OnOk result ((t : Tables) × Holds g new t × Passes third_schema t × IsTrue (has_texts t))
+  -- these are the tables of the base that the rows gave, and they are committed
+  pub moved : HasCleanDisk (state g new) → IsTrue (state g new).is_open → IsDefinedIn g old → OnOk result (HasMoved (state g old).now (state g new).now × ((state g new).committed ≡ (state g new).now))
+  -- a store whose rows were moved is open still
+  pub stays : HasCleanDisk (state g new) → IsDefinedIn g old → OnOk result (HasThirdIn g old ⊎ IsTrue (state g new).is_open)
+  -- at a fault the whole database is as it was
+  pub same : HasCleanDisk (state g new) → IsTrue (state g new).is_open → OnErr result (IsSame (state g old) (state g new))
+  -- a crash leaves what it could leave before, or the tables of the base of rows of an older schema that passed
+  pub survives : IsDefinedIn g old → Survives (state g old) (state g new) (AreMoved (state g old).now)
+  -- of a desk of the third schema it is an audit, which writes nothing
+  pub audited : IsDefinedIn g old → HasThirdIn g old → IsAudited g old new result
 
 -- the store holds the tables of sound books in order, whose texts can be read
 pub record HoldsBooks {S : Type 0} (g : Ghosts S) (store : Held S) (base : Base) : Type 0 where

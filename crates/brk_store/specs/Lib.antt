@@ -1,4 +1,5 @@
 pub mod Audited
+pub mod Examined
 pub mod Holds
 pub mod Kept
 pub mod Numbers

@@ -1,20 +1,19 @@
 -- What a walk of a store comes to.
-use Rattle.std.specs.Prelude.{◌≡◌, ℕ, List, ◌++◌, filter, Result, Ok, Err, OnOk, IfErr, IsTrue}
+use Rattle.std.specs.Prelude.{◌≡◌, ℕ, ◌&&◌, List, ◌++◌, filter, nat_le, Result, Ok, Err, OnOk, IfErr, IsTrue}
 use Rattle.sqlite_trees.specs.declared.store.Store.{Ghosts}
 use Rattle.sqlite.specs.Held.{Held, state}
 use Rattle.sqlite.specs.State.{HasCleanDisk, Survives}
 use Rattle.brk_money.specs.declared.fault.Fault.{Fault}
 use Rattle.brk_model.specs.Statement.{cash_in}
-use Rattle.brk_model.specs.Tables.{Tables, CashRow}
-use Rattle.brk_tables_walks.specs.Lists.{is_between}
+use Rattle.brk_model.specs.Tables.{Tables, MoveRow}
 use Rattle.brk_tables_walks.specs.Walks.{BreaksOff, Takes}
 use Rattle.brk_tables_walks.specs.declared.walking.Stop.{Stop}
 use Rattle.brk_tables_walks.specs.declared.walking.Stop.TheVariants.{Failed, Cause}
 use Rattle.brk_store.specs.Holds.{Holds, IsSame}
 
 -- the cash rows of an account from one stamp to another, both included, by rising stamp
-abbrev pub cash_of : ℕ → ℕ → ℕ → Tables → List CashRow
-cash_of account from to t = filter (is_between from to) (cash_in t account)
+abbrev pub cash_of : ℕ → ℕ → ℕ → Tables → List MoveRow
+cash_of account from to t = filter (λ r. nat_le from r.stamp && nat_le r.stamp to) (cash_in t account)
 
 -- these are all records of the list, whatever rows the store holds
 abbrev pub AreAll : {S M : Type 0} → Ghosts S → Held S → (Tables → List M) → List M → Type 0

@@ -10,33 +10,48 @@ ghost use Rattle.brk_money.specs.declared.fault.Fault.{Fault};
 ghost use Rattle.brk_model.specs.Adopted.{base_of};
 ghost use Rattle.brk_model.specs.Audit.{IsAudit};
 ghost use Rattle.brk_model.specs.Base.{Base};
+ghost use Rattle.brk_model.specs.Schemas.{third_schema};
 ghost use Rattle.brk_model.specs.Tables.{Tables};
+ghost use Rattle.brk_changes.specs.declared.schema.Schema.{Schema};
+ghost use Rattle.brk_changes.specs.Schemas.{schema_of};
 ghost use Rattle.brk_adoption_laws.specs.Passing.{Passes};
-ghost use Rattle.brk_store.specs.Audited.{Audited, HoldsBooks, IsAdopted, IsAudited, IsDefinedIn, OnAnswer};
+ghost use Rattle.brk_store.specs.Audited.{Answered, Audited, AuditedBy, HasThirdIn, HoldsBooks, IsAdopted, IsAudited, IsDefinedIn, OnAnswer};
 ghost use Rattle.brk_store.specs.Holds.{Holds};
 
 use sqlite::Alter;
 
-/// An audit has one answer of a database: it passes, or one condition is the first that fails.
+/// An audit has one answer of a database: it passes, or one condition is the first that fails; by the schema whose desk is there, and
+/// by each schema.
 pub fn an_audit_has_one_answer()
-    ensures { (db : Database) (a b : Option Condition) → Audited db a → Audited db b → a ≡ b }
+    ensures whole { (db : Database) (a b : Option Condition) → Audited db a → Audited db b → a ≡ b }
+    ensures by { (schema : Schema) (db : Database) (a b : Option Condition) → AuditedBy (schema_of schema) db a → AuditedBy (schema_of schema) db b → a ≡ b }
 {}
 
-/// A database that has the tables of a desk, with whatever rows, is defined.
+/// A database that has the tables of a desk of the third schema, with whatever rows, is defined, and such a desk is there.
 pub fn a_desk_is_defined<S: Alter>()
-    ensures { (held : Held S) (t : Tables) → Holds S.Store held t → IsDefinedIn S.Store held }
+    ensures defined { (held : Held S) (t : Tables) → Holds S.Store held t → IsDefinedIn S.Store held }
+    ensures there { (held : Held S) (t : Tables) → Holds S.Store held t → HasThirdIn S.Store held }
 {}
 
 /// An audit of a store that holds rows tells what is so of these rows; of the rows of sound books in order, that they pass.
 pub fn an_audit_tells_of_the_rows<S: Alter>()
     ensures rows { (old new : Held S) (result : Result (Unit {0}) Fault) (t : Tables)
-        → IsAudited S.Store old new result → Holds S.Store old t → IsTrue (has_texts t) → HasCleanDisk (state S.Store new) → OnAnswer result (IsAudit t) }
+        → IsAudited S.Store old new result → Holds S.Store old t → IsTrue (has_texts t) → HasCleanDisk (state S.Store new) → OnAnswer result (IsAudit third_schema t) }
     ensures books { (old new : Held S) (result : Result (Unit {0}) Fault) (base : Base)
         → IsAudited S.Store old new result → HoldsBooks S.Store old base → HasCleanDisk (state S.Store new) → OnAnswer result (λ answer. answer ≡ None) }
 {}
 
-/// A store whose rows pass holds the tables of a base in order and sound, of the base that the rows give; so does one that was adopted.
+/// The adoption of what holds rows of the third schema is an audit: it writes nothing.
+pub fn an_adoption_of_rows_is_an_audit<S: Alter>()
+    ensures { (old new : Held S) (result : Result (Unit {0}) Fault) (t : Tables)
+        → IsAdopted S.Store old new result → Holds S.Store old t → IsAudited S.Store old new result }
+{}
+
+/// A store whose rows pass holds the tables of a base in order and sound, of the base that the rows give; so does one that was adopted: of
+/// the base that the rows gave that were found, in whichever schema.
 pub fn an_adopted_store_holds_its_books<S: Alter>()
-    ensures rows { (store : Held S) (t : Tables) → Holds S.Store store t → Passes t → IsTrue (has_texts t) → HoldsBooks S.Store store (base_of t) }
+    ensures rows { (store : Held S) (t : Tables) → Holds S.Store store t → Passes third_schema t → IsTrue (has_texts t) → HoldsBooks S.Store store (base_of t) }
     ensures adopted { (old new : Held S) → IsAdopted S.Store old new (Ok tt) → IsDefinedIn S.Store old → (base : Base) × HoldsBooks S.Store new base }
+    ensures found { (old new : Held S) → IsAdopted S.Store old new (Ok tt) → IsDefinedIn S.Store old → HasCleanDisk (state S.Store new) → IsTrue (state S.Store new).is_open
+        → (schema : Schema) × (rows : Tables) × Answered (schema_of schema) rows (state S.Store old).now None × HoldsBooks S.Store new (base_of rows) }
 {}

@@ -1,38 +1,55 @@
-//! The audit of a desk's database, and the adoption of one that passes.
+//! The audit of a desk's database by the third schema.
 
-ghost use Rattle.std.specs.Prelude.{◌≡◌, ◌≢◌, IfErr, IfOk, IsTrue, MatchResult, Ok, Err, Some, false, true};
+ghost use Rattle.std.specs.Prelude.{◌≡◌, ◌≢◌, IfErr, IfOk, IsTrue, Some, false};
 ghost use Rattle.brk_money.specs.declared.fault.Condition.TheVariants.{NotEmpty};
 ghost use Rattle.brk_money.specs.declared.fault.Fault.TheVariants as fault;
 ghost use Rattle.brk_model.specs.Run.{MayFail};
+ghost use Rattle.brk_model.specs.Schemas.{third_schema};
+ghost use Rattle.brk_changes.specs.Schemas.{schema_of};
 ghost use Rattle.brk_rows.specs.Model.{Steps};
-ghost use Rattle.brk_store.specs.Audited.{Audited, IsAdopted, IsAudited};
-ghost use Rattle.brk_tables_whole.specs.Schemas.{IsDefined};
+ghost use Rattle.brk_store.specs.Audited.{AuditedBy, IsAudited};
+ghost use Rattle.brk_tables_whole.specs.Schemas.{HasDesk, IsDefinedAs};
 
 use crate::Store;
 use crate::beginning::begin;
 use brk_audit::audit_rows;
+use brk_changes::Schema;
 use brk_money::{Condition, Fault};
 use brk_tables_whole::{has_desk, read_sheets};
 use sqlite::{Alter, Connection, Transaction};
 use std::alloc::Global;
 
-// The first condition that the database fails.
+/// The first condition that the rows of a schema fail, where its desk is there.
+pub(crate) fn audit_desk_of<S: Alter>(
+    tx: &mut Transaction<'_, S>,
+    alloc: Global,
+    schema: Schema,
+) -> Result<Option<Condition>, Fault>
+    ensures same_reference { tx.new.conn.ghost_name ≡ tx.old.conn.ghost_name }
+    ensures step { Steps S.Store tx.old tx.new result (λ answer a b. IsTrue a.is_open × (b.now ≡ a.now) × (IsDefinedAs (schema_of schema) a.now → HasDesk (schema_of schema) a.now → AuditedBy (schema_of schema) a.now answer)) }
+    ensures condition { IfOk result (λ answer. answer ≢ Some NotEmpty) }
+    ensures fault { IfErr result MayFail }
+{
+    match read_sheets(tx, alloc, schema)? {
+        None => Ok(Some(Condition::Form)),
+        Some(sheets) => audit_rows(alloc, schema, &sheets),
+    }
+}
+
+// The first condition of the third schema that the database fails.
 fn first_failing<S: Alter>(
     tx: &mut Transaction<'_, S>,
     alloc: Global,
 ) -> Result<Option<Condition>, Fault>
     ensures same_reference { tx.new.conn.ghost_name ≡ tx.old.conn.ghost_name }
-    ensures step { Steps S.Store tx.old tx.new result (λ answer a b. IsTrue a.is_open × (b.now ≡ a.now) × (IsDefined a.now → Audited a.now answer)) }
+    ensures step { Steps S.Store tx.old tx.new result (λ answer a b. IsTrue a.is_open × (b.now ≡ a.now) × (IsDefinedAs third_schema a.now → AuditedBy third_schema a.now answer)) }
     ensures condition { IfOk result (λ answer. answer ≢ Some NotEmpty) }
     ensures fault { IfErr result MayFail }
 {
-    if !has_desk(tx)? {
+    if !has_desk(tx, Schema::Third)? {
         return Ok(Some(Condition::Schema));
     }
-    match read_sheets(tx, alloc)? {
-        None => Ok(Some(Condition::Form)),
-        Some(sheets) => audit_rows(alloc, &sheets),
-    }
+    audit_desk_of(tx, alloc, Schema::Third)
 }
 
 // Audits the database in a transaction, which is rolled back.
@@ -51,26 +68,7 @@ fn audit_desk<S: Alter>(conn: &mut Connection<S>, alloc: Global) -> Result<(), F
 }
 
 impl<S: Alter> Store<S> {
-    #[tactic(auto, using(crate::proofs::Taking::adopts, crate::proofs::Taking::adopts_none))]
-    /// Audits the database of a connection and takes it over where its rows pass; else it answers `Damaged` with the first
-    /// condition that fails. It writes nothing. At a fault the connection comes back, with no transaction that it did not
-    /// have. A connection on which one is open is refused with `Store`, and comes back as it is.
-    pub fn adopt(alloc: Global, mut conn: Connection<S>) -> Result<Store<S>, (Connection<S>, Fault)>
-        ensures adopted { MatchResult result (λ store. IsAdopted S.Store conn store (Ok tt)) (λ e. IsAdopted S.Store conn e.0 (Err e.1)) }
-        ensures condition { IfErr result (λ e. e.1 ≢ fault.Damaged NotEmpty) }
-        ensures ended { IfErr result (λ e. conn.in_transaction ≡ false → e.0.in_transaction ≡ false) }
-        ensures refused { conn.in_transaction ≡ true → result ≡ Err (conn, fault.Store) }
-    {
-        if !conn.is_autocommit() {
-            return Err((conn, Fault::Store));
-        }
-        match audit_desk(&mut conn, alloc) {
-            Ok(()) => Ok(Store { conn }),
-            Err(fault) => Err((conn, fault)),
-        }
-    }
-
-    /// Audits the rows: `Damaged` has the first condition that fails. It writes nothing.
+    /// Audits the rows by the third schema: `Damaged` has the first condition that fails. It writes nothing.
     pub fn audit(&mut self, alloc: Global) -> Result<(), Fault>
         ensures audited { IsAudited S.Store self.old self.new result }
         ensures condition { IfErr result (λ f. f ≢ fault.Damaged NotEmpty) }

@@ -58,7 +58,7 @@ fn make<S: Alter>(tx: &mut Transaction<'_, S>, change: &Change) -> Result<(), Fa
             tx, *account, symbol,
         ),
         Change::AddSettlement(settlement) => brk_tables_trading::add_settlement(tx, settlement),
-        Change::AddCash(cash) => brk_tables_trading::add_cash(tx, cash),
+        Change::AddMove(posted) => brk_tables_cash::add_move(tx, posted),
         Change::SetBalance { account, balance } => brk_tables_trading::set_balance(
             tx, *account, *balance,
         ),
@@ -75,11 +75,12 @@ fn make<S: Alter>(tx: &mut Transaction<'_, S>, change: &Change) -> Result<(), Fa
         Change::SetCashType { trade, cash_type } => brk_tables_trading::set_cash_type(
             tx, *trade, *cash_type,
         ),
-        Change::SetCashName { trade, name } => brk_tables_trading::set_cash_name(
+        Change::SetCashName { trade, name } => brk_tables_cash::set_cash_name(
             tx,
             *trade,
             name.as_str(),
         ),
+        Change::SetRule(day) => brk_tables_cash::set_one_day(tx, *day),
         Change::Keep(kept) => brk_tables_form::add_kept(tx, kept),
         Change::SetLast(stamp) => brk_tables_form::set_last_stamp(tx, *stamp),
     }

@@ -4,14 +4,14 @@ ghost use Rattle.std.specs.Prelude.{◌≡◌, ◌==◌, Err, IfErr, OnErr, map}
 ghost use Rattle.brk_money.specs.declared.fault.Fault.TheVariants as fault;
 ghost use Rattle.brk_model.specs.Run.{MayFail};
 ghost use Rattle.brk_changes.specs.Chosen as chosen;
-ghost use Rattle.brk_changes.specs.Rows.{cash_row_of, settlement_row_of, trade_row_of};
+ghost use Rattle.brk_changes.specs.Rows.{settlement_row_of, trade_row_of};
 ghost use Rattle.brk_store.specs.Holds.{IsRead};
-ghost use Rattle.brk_tables_form.specs.Desk.{CashRows, Settlements};
+ghost use Rattle.brk_tables_form.specs.Desk.{Settlements};
 ghost use Rattle.brk_tables_form.specs.Statements.{Found};
 
 use crate::Store;
 use crate::beginning::begin;
-use brk_changes::{CashRow, SettlementRow, TradeRow};
+use brk_changes::{SettlementRow, TradeRow};
 use brk_money::{Fault, Id};
 use brk_orders::Span;
 use brk_ref::Symbol;
@@ -55,14 +55,5 @@ impl<S: Alter> Store<S> {
     {
         let mut tx = begin(&mut self.conn);
         brk_tables_trading::settlement_by_trade(&mut tx, trade)
-    }
-
-    /// What a trade moved, where it is completed and in cash.
-    pub fn cash_row(&mut self, trade: Id) -> Result<Option<CashRow>, Fault>
-        ensures read { IsRead S.Store self.old self.new result (Found CashRows cash_row_of (λ r. r.trade == trade)) }
-        ensures fault { OnErr result (result ≡ Err fault.Store) }
-    {
-        let mut tx = begin(&mut self.conn);
-        brk_tables_trading::cash_by_trade(&mut tx, trade)
     }
 }

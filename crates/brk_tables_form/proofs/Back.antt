@@ -11,9 +11,9 @@ use Rattle.brk_money.specs.declared.trade_type.TradeType.{TradeType}
 use Rattle.brk_money.specs.declared.trade_type.TradeType.TheVariants.{MarketBuy, MarketSell, StopLoss, LimitSell, LimitBuy}
 use Rattle.brk_model.specs.Forms.{type_of}
 use Rattle.brk_model.specs.Records.{Customer, Permission, Charge, Band, TaxRate, CustomerTax, Kept}
-use Rattle.brk_model.specs.Tables.{BrokerRow, AccountRow, SecurityRow}
+use Rattle.brk_model.specs.Tables.{BrokerRow, AccountRow, SecurityRow, MoveRow}
 use Rattle.brk_rows.proofs.Decode.{text_in}
-use Rattle.brk_tables_form.specs.Cells.{DeskRow, maybe, desk_row_cells, kept_cells, broker_cells, customer_cells, account_cells, permission_cells, security_cells, charge_cells, band_cells, tax_rate_cells, customer_tax_cells}
+use Rattle.brk_tables_form.specs.Cells.{DeskRow, RuleRow, maybe, move_cells, rule_cells, desk_row_cells, kept_cells, broker_cells, customer_cells, account_cells, permission_cells, security_cells, charge_cells, band_cells, tax_rate_cells, customer_tax_cells}
 
 abbrev pub natural : ℤ → ℕ
 natural (pos n) = n
@@ -134,3 +134,17 @@ customer_tax_back r = record { customer = number_in (column r 0); tax = number_i
 pub customer_tax_is_back : (x : CustomerTax) → customer_tax_back (customer_tax_cells x) ≡ x
 unfolding customer_tax_back
 customer_tax_is_back x = refl
+
+pub move_back : Row → MoveRow
+move_back r = record { id = number_in (column r 0); account = number_in (column r 1); trade = maybe_in (column r 2); stamp = number_in (column r 3); amount = id_in (column r 4); name = text_in (column r 5) }
+
+pub move_is_back : (m : MoveRow) → move_back (move_cells m) ≡ m
+unfolding move_back text_in
+move_is_back m = ap (λ t. let r : MoveRow = record m { trade = t } in r) (maybe_back m.trade)
+
+pub rule_back : Row → RuleRow
+rule_back r = record { id = number_in (column r 0); day = number_in (column r 1) }
+
+pub rule_is_back : (r : RuleRow) → rule_back (rule_cells r) ≡ r
+unfolding rule_back
+rule_is_back r = refl

@@ -6,6 +6,7 @@ use Rattle.sqlite_tied.proofs.RuleLemmas.{and_true}
 use Rattle.sqlite_keyed.specs.Lists.{insert_sorted}
 use Rattle.sqlite.specs.Effect.{Database}
 use Rattle.sqlite.specs.State.{State, Shown}
+use Rattle.brk_model.specs.Schemas.{third_schema}
 use Rattle.brk_model.specs.Tables.{Tables}
 use Rattle.brk_model.specs.Keys.{insert_row}
 use Rattle.brk_rows.specs.Desk.{HasTables, Turns, Tells}
@@ -15,11 +16,11 @@ use Rattle.brk_rows.proofs.Values.{cast_int, cast_null, cast_whole}
 use Rattle.brk_rows.proofs.Writes.{Place, updates_as}
 use Rattle.brk_rows.proofs.Looks.{tells_rising}
 use Rattle.brk_tables_form.specs.Cells.{DeskRow, nat, desk_row_cells}
-use Rattle.brk_tables_form.specs.Desk.{Which, TheDesk, Item, desk, desk_rows, desk_key, key, order, list}
+use Rattle.brk_tables_form.specs.Desk.{Which, TheDesk, Item, desk, desk_rows, rule_rows, desk_key, key, order, list}
 use Rattle.brk_changes.specs.Changes.{with_last}
 use Rattle.brk_tables_form.proofs.Order.{inserted, key_total}
 use Rattle.brk_tables_form.proofs.Tests.{same_number}
-use Rattle.brk_tables_form.proofs.Wide.{wide, widened, narrowed}
+use Rattle.brk_tables_form.proofs.Wide.{wide, wide_of, widened, narrowed}
 use Rattle.brk_tables_form.proofs.Places.{the_desk}
 use Rattle.brk_tables_form.proofs.SetLast
 use Rattle.brk_tables_form.proofs.DeskRows
@@ -38,8 +39,8 @@ sets_last old new stamp ran = λ t tree h.
     (λ tree r x whole e. let a : column r 2 ≡ nat x.schema = cc in
     rw (a, cast_int (pos x.schema), cast_int (pos stamp), cast_null) (ap (λ v. v ∷ Null ∷ nat x.schema ∷ nat stamp ∷ []) (cast_whole (column r 0) whole)))
     (λ tree r x e. let a : column r 0 ≡ nat x.id = cc in let b : column r 2 ≡ nat x.schema = cc in rw (a, b) refl) old new ran.0 ran.1
-    (record { rows = desk_rows t.last; tables = t }) tree (widened tree old.now t h) in
-    (narrowed tree new.now (desk_rows (Some stamp)) t (with_last stamp t) refl (λ w other. others w other t) turned.0, turned.1)
+    (wide_of third_schema t) tree (widened third_schema tree old.now t h) in
+    (narrowed third_schema tree new.now (desk_rows third_schema (Some stamp)) (rule_rows t.rule) t (with_last stamp t) refl refl (λ w other _. others w other t) turned.0, turned.1)
   where
     others : (w : Which) → w ≢ TheDesk → (t : Tables) → list w (with_last stamp t) ≡ list w t
     others TheDesk other t = absurd (other refl)
@@ -47,7 +48,7 @@ sets_last old new stamp ran = λ t tree h.
 
 -- ---- reads
 
-pub tells_last : (old new : State) (rows : List Row) → Shown DeskRows.statement [] old new rows → Tells desk (λ t. rows ≡ map desk_row_cells (desk_rows t.last)) old.now
+pub tells_last : (old new : State) (rows : List Row) → Shown DeskRows.statement [] old new rows → Tells desk (λ t. rows ≡ map desk_row_cells (desk_rows third_schema t.last)) old.now
 tells_last old new rows shown = λ t tree h.
     tells_rising desk TheDesk DeskRows.statement [] (read DeskRows.statement) DeskRows.terms DeskRows.project DeskRows.order DeskRows.paging DeskRows.names DeskRows.understood_as
     (λ _. true) (λ tree r x e. refl) desk_row_cells (λ tree r x e. e) (order TheDesk) (key_total desk_key)

@@ -1,9 +1,10 @@
 -- A comparison of a column with a parameter is that of its value.
-use Rattle.std.proofs.Common.{◌≡◌, ℕ, pos, List, ◌==◌, is_eq, int_cmp, refl, sym, ◌∙◌, inl, inr, arith, eq-eqb, ne_eqb}
+use Rattle.std.proofs.Common.{◌≡◌, ℕ, pos, List, Option, Some, None, false, ◌==◌, is_eq, int_cmp, refl, sym, ◌∙◌, inl, inr, arith, eq-eqb, ne_eqb}
 use Rattle.std.specs.Prelude.{nat_lt, bytes_eq}
+use Rattle.std.specs.Option.{option_map_or}
 use Rattle.std.proofs.lemmas.Bool.{cases_Bool, ltb-true, ltb-false}
 use Rattle.std.proofs.lemmas.Map.Text.{is_eq-slice_cmp}
-use Rattle.sqlite_value.specs.declared.value.Value.TheVariants.{Int, Text as Words}
+use Rattle.sqlite_value.specs.declared.value.Value.TheVariants.{Null, Int, Text as Words}
 use Rattle.sqlite_value.specs.declared.keys.Collation.TheVariants.{Binary}
 use Rattle.sqlite_sql.specs.declared.ops.BinaryOp.TheVariants.{Compare}
 use Rattle.sqlite_sql.specs.declared.ops.CompareOp.TheVariants.{Eq}
@@ -12,6 +13,7 @@ use Rattle.brk_money.specs.Kinds.{type_code, same_type}
 use Rattle.brk_money.specs.declared.trade_type.TradeType.{TradeType}
 use Rattle.brk_money.specs.declared.trade_type.TradeType.TheVariants.{MarketBuy, MarketSell, StopLoss, LimitSell, LimitBuy}
 use Rattle.brk_rows.proofs.Values.{equal_ints, equal_texts}
+use Rattle.brk_tables_form.specs.Cells.{maybe}
 
 numbers_tie : (m n : ℕ) → is_eq (int_cmp (pos m) (pos n)) ≡ (m == n)
 numbers_tie m n = elim (cases_Bool (nat_lt m n)) [
@@ -57,3 +59,13 @@ codes_tie LimitBuy LimitBuy = refl
 
 pub same_code : (j k : TradeType) → is_true (binary (Compare Eq Binary) (Words (type_code j)) (Words (type_code k))) ≡ same_type j k
 same_code j k = same_text (type_code j) (type_code k) ∙ codes_tie j k
+
+-- null is no number
+null_ties : (n : ℕ) → is_true (binary (Compare Eq Binary) Null (Int (pos n))) ≡ false
+unfolding binary
+null_ties n = refl
+
+-- a number that may be missing: where it is, no number is the same
+pub same_maybe : (o : Option ℕ) (n : ℕ) → is_true (binary (Compare Eq Binary) (maybe o) (Int (pos n))) ≡ option_map_or (λ m. m == n) o false
+same_maybe None n = null_ties n
+same_maybe (Some m) n = same_number m n

@@ -1,6 +1,7 @@
 -- Written by tools/tables.py: whether a table is a certain one.
 use Rattle.std.proofs.Common.{◌≡◌, ◌≢◌, ◌⊎◌, refl, inl, inr}
-use Rattle.brk_tables_form.specs.Desk.{Which, TheDesk, KeptRows, Brokers, Customers, Accounts, Permissions, Securities, LastTrades, Charges, Bands, TaxRates, CustomerTaxes, Trades, TradeHistory, Requests, Holdings, Summaries, HoldingHistory, Settlements, CashRows}
+use Rattle.sqlite_rules.specs.Lists.{Has}
+use Rattle.brk_tables_form.specs.Desk.{Which, TheDesk, KeptRows, Brokers, Customers, Accounts, Permissions, Securities, LastTrades, Charges, Bands, TaxRates, CustomerTaxes, Trades, TradeHistory, Requests, Holdings, Summaries, HoldingHistory, Settlements, CashRows, CashMoves, SettleRules, all_tables}
 
 pub is_desk_row : (v : Which) → (v ≡ TheDesk) ⊎ (v ≢ TheDesk)
 is_desk_row TheDesk = inl refl
@@ -81,3 +82,61 @@ is_settlement v = inr (λ e. absurd (let f = e in cc))
 pub is_cash : (v : Which) → (v ≡ CashRows) ⊎ (v ≢ CashRows)
 is_cash CashRows = inl refl
 is_cash v = inr (λ e. absurd (let f = e in cc))
+
+pub is_move : (v : Which) → (v ≡ CashMoves) ⊎ (v ≢ CashMoves)
+is_move CashMoves = inl refl
+is_move v = inr (λ e. absurd (let f = e in cc))
+
+pub is_rule : (v : Which) → (v ≡ SettleRules) ⊎ (v ≢ SettleRules)
+is_rule SettleRules = inl refl
+is_rule v = inr (λ e. absurd (let f = e in cc))
+
+-- whether a table is another
+pub split : (w v : Which) → (v ≡ w) ⊎ (v ≢ w)
+split TheDesk v = is_desk_row v
+split KeptRows v = is_kept v
+split Brokers v = is_broker v
+split Customers v = is_customer v
+split Accounts v = is_account v
+split Permissions v = is_permission v
+split Securities v = is_security v
+split LastTrades v = is_last_trade v
+split Charges v = is_charge v
+split Bands v = is_band v
+split TaxRates v = is_tax_rate v
+split CustomerTaxes v = is_customer_tax v
+split Trades v = is_trade v
+split TradeHistory v = is_history v
+split Requests v = is_request v
+split Holdings v = is_holding v
+split Summaries v = is_summary v
+split HoldingHistory v = is_holding_history v
+split Settlements v = is_settlement v
+split CashRows v = is_cash v
+split CashMoves v = is_move v
+split SettleRules v = is_rule v
+
+-- each is listed
+pub all_listed : (w : Which) → Has all_tables w
+all_listed TheDesk = inl refl
+all_listed KeptRows = inr (inl refl)
+all_listed Brokers = inr (inr (inl refl))
+all_listed Customers = inr (inr (inr (inl refl)))
+all_listed Accounts = inr (inr (inr (inr (inl refl))))
+all_listed Permissions = inr (inr (inr (inr (inr (inl refl)))))
+all_listed Securities = inr (inr (inr (inr (inr (inr (inl refl))))))
+all_listed LastTrades = inr (inr (inr (inr (inr (inr (inr (inl refl)))))))
+all_listed Charges = inr (inr (inr (inr (inr (inr (inr (inr (inl refl))))))))
+all_listed Bands = inr (inr (inr (inr (inr (inr (inr (inr (inr (inl refl)))))))))
+all_listed TaxRates = inr (inr (inr (inr (inr (inr (inr (inr (inr (inr (inl refl))))))))))
+all_listed CustomerTaxes = inr (inr (inr (inr (inr (inr (inr (inr (inr (inr (inr (inl refl)))))))))))
+all_listed Trades = inr (inr (inr (inr (inr (inr (inr (inr (inr (inr (inr (inr (inl refl))))))))))))
+all_listed TradeHistory = inr (inr (inr (inr (inr (inr (inr (inr (inr (inr (inr (inr (inr (inl refl)))))))))))))
+all_listed Requests = inr (inr (inr (inr (inr (inr (inr (inr (inr (inr (inr (inr (inr (inr (inl refl))))))))))))))
+all_listed Holdings = inr (inr (inr (inr (inr (inr (inr (inr (inr (inr (inr (inr (inr (inr (inr (inl refl)))))))))))))))
+all_listed Summaries = inr (inr (inr (inr (inr (inr (inr (inr (inr (inr (inr (inr (inr (inr (inr (inr (inl refl))))))))))))))))
+all_listed HoldingHistory = inr (inr (inr (inr (inr (inr (inr (inr (inr (inr (inr (inr (inr (inr (inr (inr (inr (inl refl)))))))))))))))))
+all_listed Settlements = inr (inr (inr (inr (inr (inr (inr (inr (inr (inr (inr (inr (inr (inr (inr (inr (inr (inr (inl refl))))))))))))))))))
+all_listed CashRows = inr (inr (inr (inr (inr (inr (inr (inr (inr (inr (inr (inr (inr (inr (inr (inr (inr (inr (inr (inl refl)))))))))))))))))))
+all_listed CashMoves = inr (inr (inr (inr (inr (inr (inr (inr (inr (inr (inr (inr (inr (inr (inr (inr (inr (inr (inr (inr (inl refl))))))))))))))))))))
+all_listed SettleRules = inr (inr (inr (inr (inr (inr (inr (inr (inr (inr (inr (inr (inr (inr (inr (inr (inr (inr (inr (inr (inr (inl refl)))))))))))))))))))))

@@ -6,13 +6,18 @@ use Rattle.sqlite_value.specs.Order.{Row}
 use Rattle.sqlite.specs.Values.{or_null}
 use Rattle.brk_money.specs.Kinds.{type_code, status_code, tax_status_number}
 use Rattle.brk_model.specs.Records.{Customer, Permission, Charge, Band, TaxRate, CustomerTax, Kept}
-use Rattle.brk_model.specs.Tables.{BrokerRow, AccountRow, SecurityRow, LastTradeRow, TradeRow, HistoryRow, RequestRow, HoldingRow, SummaryRow, HoldingHistoryRow, SettlementRow, CashRow}
+use Rattle.brk_model.specs.Tables.{BrokerRow, AccountRow, SecurityRow, LastTradeRow, TradeRow, HistoryRow, RequestRow, HoldingRow, SummaryRow, HoldingHistoryRow, SettlementRow, CashRow, MoveRow}
 
 -- the row of DESK: D_ID, D_SCHEMA, D_LAST
 pub record DeskRow : Type 0 where
   pub id : ℕ
   pub schema : ℕ
   pub last : Option ℕ
+
+-- a row of SETTLE_RULE: SR_ID, SR_DAY
+pub record RuleRow : Type 0 where
+  pub id : ℕ
+  pub day : ℕ
 
 -- a number that is not below 0
 abbrev pub nat : ℕ → Value
@@ -105,3 +110,11 @@ settlement_cells r = nat r.trade ∷ Words r.cash_type ∷ nat r.due_day ∷ Int
 -- CASH_TRANSACTION
 abbrev pub cash_cells : CashRow → Row
 cash_cells r = nat r.trade ∷ nat r.stamp ∷ Int r.amount ∷ Words r.name ∷ []
+
+-- CASH_MOVE
+abbrev pub move_cells : MoveRow → Row
+move_cells r = nat r.id ∷ nat r.account ∷ maybe r.trade ∷ nat r.stamp ∷ Int r.amount ∷ Words r.name ∷ []
+
+-- SETTLE_RULE
+abbrev pub rule_cells : RuleRow → Row
+rule_cells r = nat r.id ∷ nat r.day ∷ []

@@ -10,7 +10,8 @@ use Rattle.brk_money.specs.Moments.{last_day, last_stamp}
 use Rattle.brk_money.specs.declared.status.Status.{Status}
 use Rattle.brk_money.specs.declared.status.Status.TheVariants.{Completed, Active, Submitted, Pending, Canceled}
 use Rattle.brk_model.specs.Limits.{greatest_amount, greatest_charge, greatest_rate, greatest_tax_rate}
-use Rattle.brk_model.specs.Form.{is_id, is_qty, is_price, is_tier, is_amount}
+use Rattle.brk_model.specs.Form.{is_id, is_move_id, is_qty, is_price, is_tier, is_amount}
+use Rattle.brk_model.specs.Schemas.{Schema, third_schema}
 use Rattle.brk_model.specs.Forms.{is_name, is_tax_id, is_symbol, is_exchange, is_acl, is_batch_name, type_of}
 use Rattle.brk_changes.specs.Rows.{cash_type_word}
 use Rattle.brk_changes.specs.declared.cash_type.CashType.{CashType}
@@ -73,6 +74,9 @@ is_tax_status n = is_some (tax_status_of n)
 abbrev pub id_cell : Value → Bool
 id_cell = natural_cell is_id
 
+abbrev pub move_id_cell : Value → Bool
+move_id_cell = natural_cell is_move_id
+
 abbrev pub name_cell : Value → Bool
 name_cell = words_cell is_name
 
@@ -95,7 +99,7 @@ abbrev pub tier_cell : Value → Bool
 tier_cell = natural_cell is_tier
 
 abbrev pub qty_cell : Value → Bool
-qty_cell = natural_cell is_qty
+qty_cell = natural_cell (is_qty third_schema)
 
 abbrev pub price_cell : Value → Bool
 price_cell = natural_cell is_price
@@ -134,13 +138,13 @@ all_formed [] [] = true
 all_formed (has_form ∷ forms) (v ∷ row) = has_form v && all_formed forms row
 all_formed _ _ = false
 
-abbrev pub desk_forms : List (Value → Bool)
-desk_forms = natural_cell (λ n. n == 1) ∷ natural_cell (λ n. n == 1) ∷ last_cell ∷ []
+abbrev pub desk_forms : Schema → List (Value → Bool)
+desk_forms schema = natural_cell (λ n. n == 1) ∷ natural_cell (λ n. n == schema.number) ∷ last_cell ∷ []
 
--- the one row of DESK, of the first schema
-abbrev pub is_desk_row : List Row → Bool
-is_desk_row (row ∷ []) = all_formed desk_forms row
-is_desk_row _ = false
+-- the one row of DESK, in a schema
+abbrev pub is_desk_row : Schema → List Row → Bool
+is_desk_row schema (row ∷ []) = all_formed (desk_forms schema) row
+is_desk_row schema _ = false
 
 abbrev pub kept_forms : List (Value → Bool)
 kept_forms = words_cell is_batch_name ∷ id_cell ∷ text_cell ∷ text_cell ∷ []
@@ -200,3 +204,15 @@ settlement_forms = id_cell ∷ words_cell is_cash_word ∷ day_cell ∷ cents_ce
 
 abbrev pub cash_forms : List (Value → Bool)
 cash_forms = id_cell ∷ stamp_cell ∷ cents_cell ∷ text_cell ∷ []
+
+abbrev pub move_forms : List (Value → Bool)
+move_forms = move_id_cell ∷ id_cell ∷ maybe_cell is_id ∷ stamp_cell ∷ cents_cell ∷ text_cell ∷ []
+
+abbrev pub rule_forms : List (Value → Bool)
+rule_forms = natural_cell (λ n. n == 1) ∷ day_cell ∷ []
+
+-- the one row of SETTLE_RULE, or none
+abbrev pub is_rule : List Row → Bool
+is_rule [] = true
+is_rule (row ∷ []) = all_formed rule_forms row
+is_rule _ = false

@@ -102,3 +102,13 @@ settlement tree = table_of (codes "SETTLEMENT") tree (whole (codes "SE_T_ID") �
 abbrev pub cash : ℕ → Table
 cash tree = table_of (codes "CASH_TRANSACTION") tree (whole (codes "CT_T_ID") ∷ whole (codes "CT_DTS") ∷ whole (codes "CT_AMT") ∷ text (codes "CT_NAME") ∷ [])
     (Some 0) (0 ∷ []) ([]) (refers 0 (codes "TRADE") (codes "T_ID") ∷ [])
+
+-- CASH_MOVE
+abbrev pub move : ℕ → Table
+move tree = table_of (codes "CASH_MOVE") tree (whole (codes "CM_ID") ∷ whole (codes "CM_CA_ID") ∷ perhaps (codes "CM_T_ID") ∷ whole (codes "CM_DTS") ∷ whole (codes "CM_AMT") ∷ text (codes "CM_NAME") ∷ [])
+    (Some 0) (0 ∷ []) ((3 ∷ []) ∷ []) (refers 2 (codes "CUSTOMER_ACCOUNT") (codes "CA_ID") ∷ refers 3 (codes "TRADE") (codes "T_ID") ∷ [])
+
+-- SETTLE_RULE
+abbrev pub rule : ℕ → Table
+rule tree = table_of (codes "SETTLE_RULE") tree (whole (codes "SR_ID") ∷ whole (codes "SR_DAY") ∷ [])
+    (Some 0) (0 ∷ []) ([]) ([])

@@ -5,14 +5,16 @@ ghost use Rattle.sqlite_value.specs.declared.value.Value.TheVariants.{Int, Text}
 ghost use Rattle.sqlite_value.specs.Order.{column};
 ghost use Rattle.brk_money.specs.Kinds.{status_code, tax_status_number, type_code};
 ghost use Rattle.brk_changes.specs.Rows.{cash_type_word};
-ghost use Rattle.brk_model.specs.Form.{is_price};
+ghost use Rattle.brk_model.specs.Form.{is_id, is_price};
 ghost use Rattle.brk_tables_form.specs.Cells.{flag, maybe};
-ghost use Rattle.brk_tables_form.specs.Formed.{cents_cell, charge_cell, day_cell, flag_cell, id_cell, is_cash_word, is_status, is_tax_status, last_cell, maybe_cell, natural_cell, number_cell, price_cell, qty_cell, rate_cell, stamp_cell, status_cell, sum_cell, tax_cell, tax_status_cell, text_cell, tier_cell, type_cell, words_cell};
+ghost use Rattle.brk_tables_form.specs.Formed.{cents_cell, charge_cell, day_cell, flag_cell, id_cell, is_cash_word, is_status, is_tax_status, last_cell, maybe_cell, move_id_cell, natural_cell, number_cell, price_cell, qty_cell, rate_cell, stamp_cell, status_cell, sum_cell, tax_cell, tax_status_cell, text_cell, tier_cell, type_cell, words_cell};
 ghost use Rattle.brk_tables_form.specs.declared.misread.Misread.TheVariants.{Form as Formless};
 
 use crate::misread::{Misread, misread_by};
 use brk_changes::{Amount, CashType};
-use brk_money::{Cents, Day, Id, Price, Qty, Rate, Stamp, Status, TaxRate, TaxStatus, TradeType};
+use brk_money::{
+    Cents, Day, Id, MoveId, Price, Qty, Rate, Stamp, Status, TaxRate, TaxStatus, TradeType,
+};
 use brk_ref::{ChargeAmount, Form, RowNumber, Text as FormedText, Tier, Volume, parse_type};
 use sqlite::Row;
 use sqlite::types::FromSql;
@@ -106,6 +108,25 @@ pub fn id_in(row: &Row, at: usize) -> Result<Id, Misread>
     ensures form { result ≡ Err Formless → at < length row.now → id_cell (column row.now at) ≡ false }
 {
     Id::new(natural_in(row, at)?).ok_or(Misread::Form)
+}
+
+pub fn move_id_in(row: &Row, at: usize) -> Result<MoveId, Misread>
+    ensures value { IfOk result (λ id. column row.now at ≡ Int (pos id)) }
+    ensures form { result ≡ Err Formless → at < length row.now → move_id_cell (column row.now at) ≡ false }
+{
+    MoveId::new(natural_in(row, at)?).ok_or(Misread::Form)
+}
+
+/// An id, or none where the column is null.
+pub fn maybe_id_in(row: &Row, at: usize) -> Result<Option<Id>, Misread>
+    ensures value { IfOk result (λ id. column row.now at ≡ maybe id) }
+    ensures form { result ≡ Err Formless → at < length row.now → maybe_cell is_id (column row.now at) ≡ false }
+{
+    let number: Option<u64> = value_in(row, at)?;
+    let Some(number) = number else {
+        return Ok(None);
+    };
+    Ok(Some(Id::new(number).ok_or(Misread::Form)?))
 }
 
 pub fn tier_in(row: &Row, at: usize) -> Result<Tier, Misread>

@@ -1,7 +1,9 @@
 ghost use Rattle.std.specs.Prelude.{◌≡◌, ◌∷◌, [], IfOk, map, Err, OnErr, false};
 ghost use Rattle.brk_money.specs.declared.fault.Fault.TheVariants.{Store};
 ghost use Rattle.brk_rows.specs.Model.{Steps};
+ghost use Rattle.brk_model.specs.Schemas.{third_schema};
 ghost use Rattle.brk_changes.specs.Changes.{with_last};
+ghost use Rattle.brk_changes.specs.Schemas.{schema_of};
 ghost use Rattle.brk_tables_form.specs.Cells.{desk_row_cells};
 ghost use Rattle.brk_tables_form.specs.Desk.{desk_rows};
 ghost use Rattle.brk_tables_form.specs.Formed.{all_formed, desk_forms, is_desk_row};
@@ -12,6 +14,7 @@ use crate::calls::{run, select};
 use crate::cells::{has_columns, maybe_stamp_in, natural_in};
 use crate::misread::Misread;
 use crate::values::{number_value, stamp_value};
+use brk_changes::Schema;
 use brk_money::{Fault, Stamp};
 use sqlite::{Alter, Row, Transaction};
 
@@ -28,33 +31,33 @@ pub fn set_last_stamp<S: Alter>(tx: &mut Transaction<'_, S>, stamp: Stamp) -> Re
     )
 }
 
-fn stamp_of_row(row: &Row) -> Result<Option<Stamp>, Misread>
-    ensures value { IfOk result (λ last. map desk_row_cells (desk_rows last) ≡ row.now ∷ []) }
-    ensures form { result ≡ Err Formless → all_formed desk_forms row.now ≡ false }
+fn stamp_of_row(schema: Schema, row: &Row) -> Result<Option<Stamp>, Misread>
+    ensures value { IfOk result (λ last. map desk_row_cells (desk_rows (schema_of schema) last) ≡ row.now ∷ []) }
+    ensures form { result ≡ Err Formless → all_formed (desk_forms (schema_of schema)) row.now ≡ false }
 {
     has_columns(row, 3)?;
-    if natural_in(row, 0)? != 1 || natural_in(row, 1)? != 1 {
+    if natural_in(row, 0)? != 1 || natural_in(row, 1)? != u64::from(schema.number()) {
         return Err(Misread::Form);
     }
     maybe_stamp_in(row, 2)
 }
 
-/// The stamp in the one row of DESK.
-pub fn stamp_in_rows(rows: &[Row]) -> Result<Option<Stamp>, Misread>
-    ensures value { IfOk result (λ last. map desk_row_cells (desk_rows last) ≡ rows.now) }
-    ensures form { result ≡ Err Formless → is_desk_row rows.now ≡ false }
+/// The stamp in the one row of DESK, in a schema.
+pub fn stamp_in_rows(schema: Schema, rows: &[Row]) -> Result<Option<Stamp>, Misread>
+    ensures value { IfOk result (λ last. map desk_row_cells (desk_rows (schema_of schema) last) ≡ rows.now) }
+    ensures form { result ≡ Err Formless → is_desk_row (schema_of schema) rows.now ≡ false }
 {
     match rows {
-        [row] => stamp_of_row(row),
+        [row] => stamp_of_row(schema, row),
         _ => Err(Misread::Form),
     }
 }
 
 fn only_stamp(rows: &[Row]) -> Result<Option<Stamp>, Fault>
-    ensures value { IfOk result (λ last. map desk_row_cells (desk_rows last) ≡ rows.now) }
+    ensures value { IfOk result (λ last. map desk_row_cells (desk_rows third_schema last) ≡ rows.now) }
     ensures fault { OnErr result (result ≡ Err Store) }
 {
-    Ok(stamp_in_rows(rows)?)
+    Ok(stamp_in_rows(Schema::Third, rows)?)
 }
 
 /// The stamp of the last accepted command, where there is one (D_LAST).

@@ -10,6 +10,7 @@ pub mod kept;
 pub mod misread;
 pub mod record;
 mod reference_records;
+pub mod rule_row;
 mod trading_records;
 pub mod values;
 

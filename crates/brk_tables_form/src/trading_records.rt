@@ -2,19 +2,20 @@
 
 ghost use Rattle.std.specs.Prelude.{◌∷◌, []};
 ghost use Rattle.brk_ref.specs.Records.{last_trade_of};
-ghost use Rattle.brk_changes.specs.Rows.{cash_row_of, history_row_of, holding_row_of, lot_change_of, request_row_of, settlement_row_of, summary_row_of, trade_row_of};
-ghost use Rattle.brk_tables_form.specs.Cells.{cash_cells, history_cells, holding_cells, holding_history_cells, last_trade_cells, nat, request_cells, settlement_cells, summary_cells, trade_cells};
-ghost use Rattle.brk_tables_form.specs.Formed.{cash_forms, history_forms, holding_forms, holding_history_forms, id_cell, last_trade_forms, request_forms, settlement_forms, summary_forms, trade_forms};
+ghost use Rattle.brk_changes.specs.Rows.{cash_row_of, history_row_of, holding_row_of, lot_change_of, move_row_of, request_row_of, settlement_row_of, summary_row_of, trade_row_of};
+ghost use Rattle.brk_tables_form.specs.Cells.{cash_cells, history_cells, holding_cells, holding_history_cells, last_trade_cells, move_cells, nat, request_cells, settlement_cells, summary_cells, trade_cells};
+ghost use Rattle.brk_tables_form.specs.Formed.{cash_forms, history_forms, holding_forms, holding_history_forms, id_cell, last_trade_forms, move_forms, request_forms, settlement_forms, summary_forms, trade_forms};
 
 use crate::cells::{
     amount_in, cash_type_in, cents_in, charge_amount_in, day_in, flag_in, has_columns, id_in,
-    maybe_price_in, number_in, price_in, qty_in, stamp_in, status_in, text_in, text_of, type_in,
-    volume_in,
+    maybe_id_in, maybe_price_in, move_id_in, number_in, price_in, qty_in, stamp_in, status_in,
+    text_in, text_of, type_in, volume_in,
 };
 use crate::misread::Misread;
 use crate::record::Record;
 use brk_changes::{
-    CashRow, HistoryRow, HoldingRow, LotChange, RequestRow, SettlementRow, SummaryRow, TradeRow,
+    CashRow, HistoryRow, HoldingRow, LotChange, MoveRow, RequestRow, SettlementRow, SummaryRow,
+    TradeRow,
 };
 use brk_money::Id;
 use brk_ref::LastTrade;
@@ -173,6 +174,24 @@ impl Record for CashRow {
             stamp: stamp_in(row, 1)?,
             amount: cents_in(row, 2)?,
             name: text_in(row, 3)?,
+        })
+    }
+}
+
+impl Record for MoveRow {
+    ghost cells = { λ r. move_cells (move_row_of r) };
+
+    ghost forms = { move_forms };
+
+    fn from_row(row: &Row) -> Result<MoveRow, Misread> {
+        has_columns(row, 6)?;
+        Ok(MoveRow {
+            id: move_id_in(row, 0)?,
+            account: id_in(row, 1)?,
+            trade: maybe_id_in(row, 2)?,
+            stamp: stamp_in(row, 3)?,
+            amount: cents_in(row, 4)?,
+            name: text_in(row, 5)?,
         })
     }
 }

@@ -8,7 +8,9 @@ ghost use Rattle.brk_changes.specs.Rows.{cash_type_word};
 ghost use Rattle.brk_tables_form.specs.Cells.{flag, maybe};
 
 use brk_changes::{Amount, CashType};
-use brk_money::{Cents, Day, Id, Price, Qty, Rate, Stamp, Status, TaxRate, TaxStatus, TradeType};
+use brk_money::{
+    Cents, Day, Id, MoveId, Price, Qty, Rate, Stamp, Status, TaxRate, TaxStatus, TradeType,
+};
 use brk_ref::{ChargeAmount, RowNumber, Tier, Volume};
 use sqlite_value::value::ValueRef;
 
@@ -22,6 +24,22 @@ pub fn id_value<'a>(id: Id) -> ValueRef<'a>
     ensures { owned result ≡ Int (pos id) }
 {
     ValueRef::Int(id.get() as i64)
+}
+
+pub fn move_id_value<'a>(id: MoveId) -> ValueRef<'a>
+    ensures { owned result ≡ Int (pos id) }
+{
+    ValueRef::Int(id.get() as i64)
+}
+
+/// An id, or null where there is none.
+pub fn maybe_id_value<'a>(id: Option<Id>) -> ValueRef<'a>
+    ensures { owned result ≡ maybe id }
+{
+    match id {
+        Some(id) => ValueRef::Int(id.get() as i64),
+        None => ValueRef::Null,
+    }
 }
 
 pub fn row_number_value<'a>(number: RowNumber) -> ValueRef<'a>

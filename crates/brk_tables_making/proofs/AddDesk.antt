@@ -13,10 +13,10 @@ use Rattle.brk_rows.proofs.Texts.{read}
 use Rattle.brk_tables_form.specs.Shapes.{desk_row}
 
 abbrev pub statement : List ℕ
-statement = codes "INSERT INTO DESK (D_ID, D_SCHEMA, D_LAST) VALUES (1, 1, NULL)"
+statement = codes "INSERT INTO DESK (D_ID, D_SCHEMA, D_LAST) VALUES (1, 3, NULL)"
 
 abbrev pub terms : List Term
-terms = lit (Int (pos 1)) ∷ lit Null ∷ lit (Int (pos 1)) ∷ lit Null ∷ []
+terms = lit (Int (pos 1)) ∷ lit Null ∷ lit (Int (pos 3)) ∷ lit Null ∷ []
 
 pub understood_as : (schema : Schema) (at tree : ℕ) → Stands schema (desk_row tree) at → compiled schema statement ≡ Ok (meant (read statement) [] (Insert at (Values terms 4)))
 unfolding everything

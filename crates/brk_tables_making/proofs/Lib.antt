@@ -1,6 +1,6 @@
-pub mod Makes
-pub mod Founding
-pub mod Probing
-pub mod Told
-pub mod Every
 pub mod AddDesk
+pub mod Makes
+pub mod Probing
+pub mod Running
+pub mod Looking
+pub mod Founding

@@ -1,148 +1,245 @@
 -- Written by tools/tables.py: which table each text makes.
-use Rattle.std.proofs.Common.{ℕ, List, [], codes, Ok, refl}
+use Rattle.std.proofs.Common.{◌≡◌, ℕ, List, [], Ok, refl, inl, inr}
 use Rattle.sqlite.specs.State.{State, Executes}
 use Rattle.sqlite_tied.specs.Compute.{everything}
 use Rattle.brk_rows.specs.Desk.{Makes}
 use Rattle.brk_rows.proofs.Texts.{read}
 use Rattle.brk_rows.proofs.Created.{makes}
-use Rattle.brk_tables_form.specs.Shapes.{desk_row, kept, broker, customer, account, permission, security, last_trade, charge, band, tax_rate, customer_tax, trade, history, request, holding, summary, holding_history, settlement, cash}
+use Rattle.brk_rows.proofs.Founded.{Among}
+use Rattle.brk_model.specs.Tables.{no_rows}
+use Rattle.brk_tables_form.specs.Shapes.{desk_row, kept, broker, customer, account, permission, security, last_trade, charge, band, tax_rate, customer_tax, trade, history, request, holding, summary, holding_history, settlement, cash, move, rule}
+use Rattle.brk_tables_form.specs.Desk.{Which, TheDesk, KeptRows, Brokers, Customers, Accounts, Permissions, Securities, LastTrades, Charges, Bands, TaxRates, CustomerTaxes, Trades, TradeHistory, Requests, Holdings, Summaries, HoldingHistory, Settlements, CashRows, CashMoves, SettleRules, shape, all_tables}
+use Rattle.brk_tables_form.proofs.Wide.{Wide, wide, wide_list}
+use Rattle.brk_tables_making.specs.Texts.{create_text}
 
-abbrev pub desk_row_text : List ℕ
-desk_row_text = codes "CREATE TABLE DESK (D_ID INTEGER PRIMARY KEY NOT NULL, D_SCHEMA INTEGER NOT NULL, D_LAST INTEGER) STRICT"
+-- the tables without rows, that of DESK too
+abbrev pub bare : Wide
+bare = record { rows = []; rules = []; tables = no_rows }
 
-pub makes_desk_row : (old new : State) (count : ℕ) → Executes desk_row_text [] old new (Ok count) → Makes old.now new.now desk_row
+abbrev desk_row_text : List ℕ
+desk_row_text = create_text TheDesk
+
+makes_desk_row : (old new : State) (count : ℕ) → Executes desk_row_text [] old new (Ok count) → Makes old.now new.now desk_row
 unfolding everything
 makes_desk_row = makes desk_row_text desk_row refl (λ tree. refl) (λ tree. refl) refl (read desk_row_text) _ refl refl refl refl refl refl refl refl
 
-abbrev pub kept_text : List ℕ
-kept_text = codes "CREATE TABLE KEPT (K_BATCH TEXT NOT NULL, K_N INTEGER NOT NULL, K_ROW TEXT NOT NULL, K_LINE TEXT NOT NULL, PRIMARY KEY (K_BATCH, K_N)) STRICT"
+abbrev kept_text : List ℕ
+kept_text = create_text KeptRows
 
-pub makes_kept : (old new : State) (count : ℕ) → Executes kept_text [] old new (Ok count) → Makes old.now new.now kept
+makes_kept : (old new : State) (count : ℕ) → Executes kept_text [] old new (Ok count) → Makes old.now new.now kept
 unfolding everything
 makes_kept = makes kept_text kept refl (λ tree. refl) (λ tree. refl) refl (read kept_text) _ refl refl refl refl refl refl refl refl
 
-abbrev pub broker_text : List ℕ
-broker_text = codes "CREATE TABLE BROKER (B_ID INTEGER PRIMARY KEY NOT NULL, B_NAME TEXT NOT NULL, B_NUM_TRADES INTEGER NOT NULL, B_COMM_TOTAL INTEGER NOT NULL) STRICT"
+abbrev broker_text : List ℕ
+broker_text = create_text Brokers
 
-pub makes_broker : (old new : State) (count : ℕ) → Executes broker_text [] old new (Ok count) → Makes old.now new.now broker
+makes_broker : (old new : State) (count : ℕ) → Executes broker_text [] old new (Ok count) → Makes old.now new.now broker
 unfolding everything
 makes_broker = makes broker_text broker refl (λ tree. refl) (λ tree. refl) refl (read broker_text) _ refl refl refl refl refl refl refl refl
 
-abbrev pub customer_text : List ℕ
-customer_text = codes "CREATE TABLE CUSTOMER (C_ID INTEGER PRIMARY KEY NOT NULL, C_TIER INTEGER NOT NULL, C_TAX_ID TEXT NOT NULL UNIQUE, C_L_NAME TEXT NOT NULL, C_F_NAME TEXT NOT NULL) STRICT"
+abbrev customer_text : List ℕ
+customer_text = create_text Customers
 
-pub makes_customer : (old new : State) (count : ℕ) → Executes customer_text [] old new (Ok count) → Makes old.now new.now customer
+makes_customer : (old new : State) (count : ℕ) → Executes customer_text [] old new (Ok count) → Makes old.now new.now customer
 unfolding everything
 makes_customer = makes customer_text customer refl (λ tree. refl) (λ tree. refl) refl (read customer_text) _ refl refl refl refl refl refl refl refl
 
-abbrev pub account_text : List ℕ
-account_text = codes "CREATE TABLE CUSTOMER_ACCOUNT (CA_ID INTEGER PRIMARY KEY NOT NULL, CA_C_ID INTEGER NOT NULL REFERENCES CUSTOMER (C_ID), CA_B_ID INTEGER NOT NULL REFERENCES BROKER (B_ID), CA_NAME TEXT NOT NULL, CA_TAX_ST INTEGER NOT NULL, CA_OPEN INTEGER NOT NULL, CA_BAL INTEGER NOT NULL) STRICT"
+abbrev account_text : List ℕ
+account_text = create_text Accounts
 
-pub makes_account : (old new : State) (count : ℕ) → Executes account_text [] old new (Ok count) → Makes old.now new.now account
+makes_account : (old new : State) (count : ℕ) → Executes account_text [] old new (Ok count) → Makes old.now new.now account
 unfolding everything
 makes_account = makes account_text account refl (λ tree. refl) (λ tree. refl) refl (read account_text) _ refl refl refl refl refl refl refl refl
 
-abbrev pub permission_text : List ℕ
-permission_text = codes "CREATE TABLE ACCOUNT_PERMISSION (AP_CA_ID INTEGER NOT NULL REFERENCES CUSTOMER_ACCOUNT (CA_ID), AP_TAX_ID TEXT NOT NULL, AP_ACL TEXT NOT NULL, AP_L_NAME TEXT NOT NULL, AP_F_NAME TEXT NOT NULL, PRIMARY KEY (AP_CA_ID, AP_TAX_ID)) STRICT"
+abbrev permission_text : List ℕ
+permission_text = create_text Permissions
 
-pub makes_permission : (old new : State) (count : ℕ) → Executes permission_text [] old new (Ok count) → Makes old.now new.now permission
+makes_permission : (old new : State) (count : ℕ) → Executes permission_text [] old new (Ok count) → Makes old.now new.now permission
 unfolding everything
 makes_permission = makes permission_text permission refl (λ tree. refl) (λ tree. refl) refl (read permission_text) _ refl refl refl refl refl refl refl refl
 
-abbrev pub security_text : List ℕ
-security_text = codes "CREATE TABLE SECURITY (S_SYMB TEXT NOT NULL PRIMARY KEY, S_NAME TEXT NOT NULL, S_EX_ID TEXT NOT NULL, S_SECTOR TEXT NOT NULL) STRICT"
+abbrev security_text : List ℕ
+security_text = create_text Securities
 
-pub makes_security : (old new : State) (count : ℕ) → Executes security_text [] old new (Ok count) → Makes old.now new.now security
+makes_security : (old new : State) (count : ℕ) → Executes security_text [] old new (Ok count) → Makes old.now new.now security
 unfolding everything
 makes_security = makes security_text security refl (λ tree. refl) (λ tree. refl) refl (read security_text) _ refl refl refl refl refl refl refl refl
 
-abbrev pub last_trade_text : List ℕ
-last_trade_text = codes "CREATE TABLE LAST_TRADE (LT_S_SYMB TEXT NOT NULL PRIMARY KEY REFERENCES SECURITY (S_SYMB), LT_DTS INTEGER NOT NULL, LT_PRICE INTEGER NOT NULL, LT_VOL INTEGER NOT NULL) STRICT"
+abbrev last_trade_text : List ℕ
+last_trade_text = create_text LastTrades
 
-pub makes_last_trade : (old new : State) (count : ℕ) → Executes last_trade_text [] old new (Ok count) → Makes old.now new.now last_trade
+makes_last_trade : (old new : State) (count : ℕ) → Executes last_trade_text [] old new (Ok count) → Makes old.now new.now last_trade
 unfolding everything
 makes_last_trade = makes last_trade_text last_trade refl (λ tree. refl) (λ tree. refl) refl (read last_trade_text) _ refl refl refl refl refl refl refl refl
 
-abbrev pub charge_text : List ℕ
-charge_text = codes "CREATE TABLE CHARGE (CH_TT_ID TEXT NOT NULL, CH_C_TIER INTEGER NOT NULL, CH_CHRG INTEGER NOT NULL, PRIMARY KEY (CH_TT_ID, CH_C_TIER)) STRICT"
+abbrev charge_text : List ℕ
+charge_text = create_text Charges
 
-pub makes_charge : (old new : State) (count : ℕ) → Executes charge_text [] old new (Ok count) → Makes old.now new.now charge
+makes_charge : (old new : State) (count : ℕ) → Executes charge_text [] old new (Ok count) → Makes old.now new.now charge
 unfolding everything
 makes_charge = makes charge_text charge refl (λ tree. refl) (λ tree. refl) refl (read charge_text) _ refl refl refl refl refl refl refl refl
 
-abbrev pub band_text : List ℕ
-band_text = codes "CREATE TABLE COMMISSION_RATE (CR_C_TIER INTEGER NOT NULL, CR_TT_ID TEXT NOT NULL, CR_EX_ID TEXT NOT NULL, CR_FROM_QTY INTEGER NOT NULL, CR_TO_QTY INTEGER NOT NULL, CR_RATE INTEGER NOT NULL, PRIMARY KEY (CR_C_TIER, CR_TT_ID, CR_EX_ID, CR_FROM_QTY)) STRICT"
+abbrev band_text : List ℕ
+band_text = create_text Bands
 
-pub makes_band : (old new : State) (count : ℕ) → Executes band_text [] old new (Ok count) → Makes old.now new.now band
+makes_band : (old new : State) (count : ℕ) → Executes band_text [] old new (Ok count) → Makes old.now new.now band
 unfolding everything
 makes_band = makes band_text band refl (λ tree. refl) (λ tree. refl) refl (read band_text) _ refl refl refl refl refl refl refl refl
 
-abbrev pub tax_rate_text : List ℕ
-tax_rate_text = codes "CREATE TABLE TAXRATE (TX_ID INTEGER PRIMARY KEY NOT NULL, TX_NAME TEXT NOT NULL, TX_RATE INTEGER NOT NULL) STRICT"
+abbrev tax_rate_text : List ℕ
+tax_rate_text = create_text TaxRates
 
-pub makes_tax_rate : (old new : State) (count : ℕ) → Executes tax_rate_text [] old new (Ok count) → Makes old.now new.now tax_rate
+makes_tax_rate : (old new : State) (count : ℕ) → Executes tax_rate_text [] old new (Ok count) → Makes old.now new.now tax_rate
 unfolding everything
 makes_tax_rate = makes tax_rate_text tax_rate refl (λ tree. refl) (λ tree. refl) refl (read tax_rate_text) _ refl refl refl refl refl refl refl refl
 
-abbrev pub customer_tax_text : List ℕ
-customer_tax_text = codes "CREATE TABLE CUSTOMER_TAXRATE (CX_C_ID INTEGER NOT NULL REFERENCES CUSTOMER (C_ID), CX_TX_ID INTEGER NOT NULL REFERENCES TAXRATE (TX_ID), PRIMARY KEY (CX_C_ID, CX_TX_ID)) STRICT"
+abbrev customer_tax_text : List ℕ
+customer_tax_text = create_text CustomerTaxes
 
-pub makes_customer_tax : (old new : State) (count : ℕ) → Executes customer_tax_text [] old new (Ok count) → Makes old.now new.now customer_tax
+makes_customer_tax : (old new : State) (count : ℕ) → Executes customer_tax_text [] old new (Ok count) → Makes old.now new.now customer_tax
 unfolding everything
 makes_customer_tax = makes customer_tax_text customer_tax refl (λ tree. refl) (λ tree. refl) refl (read customer_tax_text) _ refl refl refl refl refl refl refl refl
 
-abbrev pub trade_text : List ℕ
-trade_text = codes "CREATE TABLE TRADE (T_ID INTEGER PRIMARY KEY NOT NULL, T_DTS INTEGER NOT NULL, T_ST_ID TEXT NOT NULL, T_TT_ID TEXT NOT NULL, T_IS_CASH INTEGER NOT NULL, T_S_SYMB TEXT NOT NULL REFERENCES SECURITY (S_SYMB), T_QTY INTEGER NOT NULL, T_BID_PRICE INTEGER NOT NULL, T_CA_ID INTEGER NOT NULL REFERENCES CUSTOMER_ACCOUNT (CA_ID), T_EXEC_NAME TEXT NOT NULL, T_TRADE_PRICE INTEGER, T_CHRG INTEGER NOT NULL, T_COMM INTEGER NOT NULL, T_TAX INTEGER NOT NULL, T_LIFO INTEGER NOT NULL) STRICT"
+abbrev trade_text : List ℕ
+trade_text = create_text Trades
 
-pub makes_trade : (old new : State) (count : ℕ) → Executes trade_text [] old new (Ok count) → Makes old.now new.now trade
+makes_trade : (old new : State) (count : ℕ) → Executes trade_text [] old new (Ok count) → Makes old.now new.now trade
 unfolding everything
 makes_trade = makes trade_text trade refl (λ tree. refl) (λ tree. refl) refl (read trade_text) _ refl refl refl refl refl refl refl refl
 
-abbrev pub history_text : List ℕ
-history_text = codes "CREATE TABLE TRADE_HISTORY (TH_T_ID INTEGER NOT NULL REFERENCES TRADE (T_ID), TH_ST_ID TEXT NOT NULL, TH_DTS INTEGER NOT NULL, PRIMARY KEY (TH_T_ID, TH_ST_ID)) STRICT"
+abbrev history_text : List ℕ
+history_text = create_text TradeHistory
 
-pub makes_history : (old new : State) (count : ℕ) → Executes history_text [] old new (Ok count) → Makes old.now new.now history
+makes_history : (old new : State) (count : ℕ) → Executes history_text [] old new (Ok count) → Makes old.now new.now history
 unfolding everything
 makes_history = makes history_text history refl (λ tree. refl) (λ tree. refl) refl (read history_text) _ refl refl refl refl refl refl refl refl
 
-abbrev pub request_text : List ℕ
-request_text = codes "CREATE TABLE TRADE_REQUEST (TR_T_ID INTEGER PRIMARY KEY NOT NULL REFERENCES TRADE (T_ID), TR_TT_ID TEXT NOT NULL, TR_S_SYMB TEXT NOT NULL REFERENCES SECURITY (S_SYMB), TR_QTY INTEGER NOT NULL, TR_BID_PRICE INTEGER NOT NULL, TR_B_ID INTEGER NOT NULL REFERENCES BROKER (B_ID)) STRICT"
+abbrev request_text : List ℕ
+request_text = create_text Requests
 
-pub makes_request : (old new : State) (count : ℕ) → Executes request_text [] old new (Ok count) → Makes old.now new.now request
+makes_request : (old new : State) (count : ℕ) → Executes request_text [] old new (Ok count) → Makes old.now new.now request
 unfolding everything
 makes_request = makes request_text request refl (λ tree. refl) (λ tree. refl) refl (read request_text) _ refl refl refl refl refl refl refl refl
 
-abbrev pub holding_text : List ℕ
-holding_text = codes "CREATE TABLE HOLDING (H_T_ID INTEGER PRIMARY KEY NOT NULL REFERENCES TRADE (T_ID), H_CA_ID INTEGER NOT NULL REFERENCES CUSTOMER_ACCOUNT (CA_ID), H_S_SYMB TEXT NOT NULL REFERENCES SECURITY (S_SYMB), H_DTS INTEGER NOT NULL, H_PRICE INTEGER NOT NULL, H_QTY INTEGER NOT NULL) STRICT"
+abbrev holding_text : List ℕ
+holding_text = create_text Holdings
 
-pub makes_holding : (old new : State) (count : ℕ) → Executes holding_text [] old new (Ok count) → Makes old.now new.now holding
+makes_holding : (old new : State) (count : ℕ) → Executes holding_text [] old new (Ok count) → Makes old.now new.now holding
 unfolding everything
 makes_holding = makes holding_text holding refl (λ tree. refl) (λ tree. refl) refl (read holding_text) _ refl refl refl refl refl refl refl refl
 
-abbrev pub summary_text : List ℕ
-summary_text = codes "CREATE TABLE HOLDING_SUMMARY (HS_CA_ID INTEGER NOT NULL REFERENCES CUSTOMER_ACCOUNT (CA_ID), HS_S_SYMB TEXT NOT NULL REFERENCES SECURITY (S_SYMB), HS_QTY INTEGER NOT NULL, PRIMARY KEY (HS_CA_ID, HS_S_SYMB)) STRICT"
+abbrev summary_text : List ℕ
+summary_text = create_text Summaries
 
-pub makes_summary : (old new : State) (count : ℕ) → Executes summary_text [] old new (Ok count) → Makes old.now new.now summary
+makes_summary : (old new : State) (count : ℕ) → Executes summary_text [] old new (Ok count) → Makes old.now new.now summary
 unfolding everything
 makes_summary = makes summary_text summary refl (λ tree. refl) (λ tree. refl) refl (read summary_text) _ refl refl refl refl refl refl refl refl
 
-abbrev pub holding_history_text : List ℕ
-holding_history_text = codes "CREATE TABLE HOLDING_HISTORY (HH_H_T_ID INTEGER NOT NULL REFERENCES TRADE (T_ID), HH_T_ID INTEGER NOT NULL REFERENCES TRADE (T_ID), HH_BEFORE_QTY INTEGER NOT NULL, HH_AFTER_QTY INTEGER NOT NULL, PRIMARY KEY (HH_H_T_ID, HH_T_ID)) STRICT"
+abbrev holding_history_text : List ℕ
+holding_history_text = create_text HoldingHistory
 
-pub makes_holding_history : (old new : State) (count : ℕ) → Executes holding_history_text [] old new (Ok count) → Makes old.now new.now holding_history
+makes_holding_history : (old new : State) (count : ℕ) → Executes holding_history_text [] old new (Ok count) → Makes old.now new.now holding_history
 unfolding everything
 makes_holding_history = makes holding_history_text holding_history refl (λ tree. refl) (λ tree. refl) refl (read holding_history_text) _ refl refl refl refl refl refl refl refl
 
-abbrev pub settlement_text : List ℕ
-settlement_text = codes "CREATE TABLE SETTLEMENT (SE_T_ID INTEGER PRIMARY KEY NOT NULL REFERENCES TRADE (T_ID), SE_CASH_TYPE TEXT NOT NULL, SE_CASH_DUE_DATE INTEGER NOT NULL, SE_AMT INTEGER NOT NULL) STRICT"
+abbrev settlement_text : List ℕ
+settlement_text = create_text Settlements
 
-pub makes_settlement : (old new : State) (count : ℕ) → Executes settlement_text [] old new (Ok count) → Makes old.now new.now settlement
+makes_settlement : (old new : State) (count : ℕ) → Executes settlement_text [] old new (Ok count) → Makes old.now new.now settlement
 unfolding everything
 makes_settlement = makes settlement_text settlement refl (λ tree. refl) (λ tree. refl) refl (read settlement_text) _ refl refl refl refl refl refl refl refl
 
-abbrev pub cash_text : List ℕ
-cash_text = codes "CREATE TABLE CASH_TRANSACTION (CT_T_ID INTEGER PRIMARY KEY NOT NULL REFERENCES TRADE (T_ID), CT_DTS INTEGER NOT NULL, CT_AMT INTEGER NOT NULL, CT_NAME TEXT NOT NULL) STRICT"
+abbrev cash_text : List ℕ
+cash_text = create_text CashRows
 
-pub makes_cash : (old new : State) (count : ℕ) → Executes cash_text [] old new (Ok count) → Makes old.now new.now cash
+makes_cash : (old new : State) (count : ℕ) → Executes cash_text [] old new (Ok count) → Makes old.now new.now cash
 unfolding everything
 makes_cash = makes cash_text cash refl (λ tree. refl) (λ tree. refl) refl (read cash_text) _ refl refl refl refl refl refl refl refl
+
+abbrev move_text : List ℕ
+move_text = create_text CashMoves
+
+makes_move : (old new : State) (count : ℕ) → Executes move_text [] old new (Ok count) → Makes old.now new.now move
+unfolding everything
+makes_move = makes move_text move refl (λ tree. refl) (λ tree. refl) refl (read move_text) _ refl refl refl refl refl refl refl refl
+
+abbrev rule_text : List ℕ
+rule_text = create_text SettleRules
+
+makes_rule : (old new : State) (count : ℕ) → Executes rule_text [] old new (Ok count) → Makes old.now new.now rule
+unfolding everything
+makes_rule = makes rule_text rule refl (λ tree. refl) (λ tree. refl) refl (read rule_text) _ refl refl refl refl refl refl refl refl
+
+pub makes_of : (w : Which) (old new : State) (count : ℕ) → Executes (create_text w) [] old new (Ok count) → Makes old.now new.now (shape w)
+makes_of TheDesk = makes_desk_row
+makes_of KeptRows = makes_kept
+makes_of Brokers = makes_broker
+makes_of Customers = makes_customer
+makes_of Accounts = makes_account
+makes_of Permissions = makes_permission
+makes_of Securities = makes_security
+makes_of LastTrades = makes_last_trade
+makes_of Charges = makes_charge
+makes_of Bands = makes_band
+makes_of TaxRates = makes_tax_rate
+makes_of CustomerTaxes = makes_customer_tax
+makes_of Trades = makes_trade
+makes_of TradeHistory = makes_history
+makes_of Requests = makes_request
+makes_of Holdings = makes_holding
+makes_of Summaries = makes_summary
+makes_of HoldingHistory = makes_holding_history
+makes_of Settlements = makes_settlement
+makes_of CashRows = makes_cash
+makes_of CashMoves = makes_move
+makes_of SettleRules = makes_rule
+
+-- each table is one of those that are made
+pub all_made : (w : Which) → Among wide all_tables (λ _. ⊥) w
+all_made TheDesk = inr (inr (inr (inr (inr (inr (inr (inr (inr (inr (inr (inr (inr (inr (inr (inr (inr (inr (inr (inr (inr (inl refl)))))))))))))))))))))
+all_made KeptRows = inr (inr (inr (inr (inr (inr (inr (inr (inr (inr (inr (inr (inr (inr (inr (inr (inr (inr (inr (inr (inl refl))))))))))))))))))))
+all_made Brokers = inr (inr (inr (inr (inr (inr (inr (inr (inr (inr (inr (inr (inr (inr (inr (inr (inr (inr (inr (inl refl)))))))))))))))))))
+all_made Customers = inr (inr (inr (inr (inr (inr (inr (inr (inr (inr (inr (inr (inr (inr (inr (inr (inr (inr (inl refl))))))))))))))))))
+all_made Accounts = inr (inr (inr (inr (inr (inr (inr (inr (inr (inr (inr (inr (inr (inr (inr (inr (inr (inl refl)))))))))))))))))
+all_made Permissions = inr (inr (inr (inr (inr (inr (inr (inr (inr (inr (inr (inr (inr (inr (inr (inr (inl refl))))))))))))))))
+all_made Securities = inr (inr (inr (inr (inr (inr (inr (inr (inr (inr (inr (inr (inr (inr (inr (inl refl)))))))))))))))
+all_made LastTrades = inr (inr (inr (inr (inr (inr (inr (inr (inr (inr (inr (inr (inr (inr (inl refl))))))))))))))
+all_made Charges = inr (inr (inr (inr (inr (inr (inr (inr (inr (inr (inr (inr (inr (inl refl)))))))))))))
+all_made Bands = inr (inr (inr (inr (inr (inr (inr (inr (inr (inr (inr (inr (inl refl))))))))))))
+all_made TaxRates = inr (inr (inr (inr (inr (inr (inr (inr (inr (inr (inr (inl refl)))))))))))
+all_made CustomerTaxes = inr (inr (inr (inr (inr (inr (inr (inr (inr (inr (inl refl))))))))))
+all_made Trades = inr (inr (inr (inr (inr (inr (inr (inr (inr (inl refl)))))))))
+all_made TradeHistory = inr (inr (inr (inr (inr (inr (inr (inr (inl refl))))))))
+all_made Requests = inr (inr (inr (inr (inr (inr (inr (inl refl)))))))
+all_made Holdings = inr (inr (inr (inr (inr (inr (inl refl))))))
+all_made Summaries = inr (inr (inr (inr (inr (inl refl)))))
+all_made HoldingHistory = inr (inr (inr (inr (inl refl))))
+all_made Settlements = inr (inr (inr (inl refl)))
+all_made CashRows = inr (inr (inl refl))
+all_made CashMoves = inr (inl refl)
+all_made SettleRules = inl refl
+
+-- none of them has rows yet
+pub none_held : (w : Which) → wide_list w bare ≡ []
+none_held TheDesk = refl
+none_held KeptRows = refl
+none_held Brokers = refl
+none_held Customers = refl
+none_held Accounts = refl
+none_held Permissions = refl
+none_held Securities = refl
+none_held LastTrades = refl
+none_held Charges = refl
+none_held Bands = refl
+none_held TaxRates = refl
+none_held CustomerTaxes = refl
+none_held Trades = refl
+none_held TradeHistory = refl
+none_held Requests = refl
+none_held Holdings = refl
+none_held Summaries = refl
+none_held HoldingHistory = refl
+none_held Settlements = refl
+none_held CashRows = refl
+none_held CashMoves = refl
+none_held SettleRules = refl

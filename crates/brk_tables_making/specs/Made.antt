@@ -1,20 +1,15 @@
 -- Tables that are made.
-use Rattle.std.specs.Prelude.{ℕ, List, codes}
-use Rattle.sqlite_schema.specs.declared.schema.Table.{Table}
+use Rattle.std.specs.Prelude.{ℕ, List, filter, not, codes}
 use Rattle.sqlite.specs.Effect.{Database}
+use Rattle.brk_model.specs.Schemas.{Schema}
 use Rattle.brk_model.specs.Tables.{no_rows}
-use Rattle.brk_rows.specs.Desk.{Makes, KeepsOthers}
+use Rattle.brk_rows.specs.Desk.{KeepsOthers}
+use Rattle.brk_tables_form.specs.Desk.{Which, all_tables, has_table}
 use Rattle.brk_tables_form.specs.Made.{HasRows}
 
--- four tables are made, one after another
-pub record MakesFour (first second third fourth : ℕ → Table) (old new : Database) : Type 0 where
-  pub one : Database
-  pub two : Database
-  pub three : Database
-  pub makes_first : Makes old one first
-  pub makes_second : Makes one two second
-  pub makes_third : Makes two three third
-  pub makes_fourth : Makes three new fourth
+-- the tables that a schema lacks
+abbrev pub later_than : Schema → List Which
+later_than schema = filter (λ w. not (has_table schema w)) all_tables
 
 -- the tables of a desk are made without rows, beside those that were there
 pub record MakesDesk (old new : Database) : Type 0 where
@@ -23,4 +18,4 @@ pub record MakesDesk (old new : Database) : Type 0 where
 
 -- the text that adds the row of DESK
 abbrev pub desk_row_text : List ℕ
-desk_row_text = codes "INSERT INTO DESK (D_ID, D_SCHEMA, D_LAST) VALUES (1, 1, NULL)"
+desk_row_text = codes "INSERT INTO DESK (D_ID, D_SCHEMA, D_LAST) VALUES (1, 3, NULL)"

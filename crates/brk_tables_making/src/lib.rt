@@ -4,6 +4,8 @@
 
 pub mod making;
 pub mod presence;
+pub mod table;
 
-pub use making::make_tables;
-pub use presence::{has_every_table, has_some_table};
+pub use making::{make_later_tables, make_tables};
+pub use presence::{has_some_table, has_tables_of};
+pub use table::Table;

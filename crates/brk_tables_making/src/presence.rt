@@ -1,49 +1,54 @@
-ghost use Rattle.std.specs.Prelude.{◌≡◌, ℕ, List, map, Err, OnErr, IsTrue};
-ghost use Rattle.brk_money.specs.declared.fault.Fault.TheVariants.{Store};
-ghost use Rattle.std.specs.Borrow.{Bor};
-ghost use Rattle.brk_tables_making.specs.Present.{HasEach, HasOne, has_table_of_desk, has_tables_of_desk};
-ghost use Rattle.brk_rows.specs.Model.{Steps};
+//! Tables found by their names.
 
+ghost use Rattle.std.specs.Prelude.{◌≡◌, ◌&&◌, Err, OnErr, IsTrue, not};
+ghost use Rattle.std.specs.List.{list_all, list_any};
+ghost use Rattle.brk_money.specs.declared.fault.Fault.TheVariants.{Store};
+ghost use Rattle.brk_changes.specs.Schemas.{schema_of};
+ghost use Rattle.brk_rows.specs.Model.{Steps};
+ghost use Rattle.brk_tables_making.specs.Present.{has_table_of_desk, has_tables_of_schema, is_named};
+ghost use Rattle.brk_tables_making.specs.Texts.{which_of};
+
+use crate::table::{IN_FIRST, IN_SECOND, IN_THIRD, SINCE_SECOND, SINCE_THIRD, Table};
+use brk_changes::Schema;
 use brk_money::Fault;
 use brk_tables_form::calls::is_understood;
 use sqlite::{Alter, Transaction};
 
-// A statement on each table. It is only looked at, and never run.
-const STATEMENTS: [&str; 20] = [
-    "DELETE FROM DESK",
-    "DELETE FROM KEPT",
-    "DELETE FROM BROKER",
-    "DELETE FROM CUSTOMER",
-    "DELETE FROM CUSTOMER_ACCOUNT",
-    "DELETE FROM ACCOUNT_PERMISSION",
-    "DELETE FROM SECURITY",
-    "DELETE FROM LAST_TRADE",
-    "DELETE FROM CHARGE",
-    "DELETE FROM COMMISSION_RATE",
-    "DELETE FROM TAXRATE",
-    "DELETE FROM CUSTOMER_TAXRATE",
-    "DELETE FROM TRADE",
-    "DELETE FROM TRADE_HISTORY",
-    "DELETE FROM TRADE_REQUEST",
-    "DELETE FROM HOLDING",
-    "DELETE FROM HOLDING_SUMMARY",
-    "DELETE FROM HOLDING_HISTORY",
-    "DELETE FROM SETTLEMENT",
-    "DELETE FROM CASH_TRANSACTION",
-];
-
-// Whether the table that one of the statements names is there.
-fn has_one_of<S: Alter>(tx: &mut Transaction<'_, S>, texts: &[&str]) -> Result<bool, Fault>
+// Whether there is a table of this name. The database is open if it answers.
+fn is_there<S: Alter>(tx: &mut Transaction<'_, S>, table: Table) -> Result<bool, Fault>
     ensures same_reference { tx.new.conn.ghost_name ≡ tx.old.conn.ghost_name }
-    ensures step { Steps S.Store tx.old tx.new result (λ has a b. (b.now ≡ a.now) × HasOne (map (λ (text : Bor (List ℕ)). text.now) texts.now) has a.now.schema) }
+    ensures step { Steps S.Store tx.old tx.new result (λ has a b. IsTrue a.is_open × (b.now ≡ a.now) × (has ≡ is_named a.now.schema (which_of table))) }
     ensures fault { OnErr result (result ≡ Err Store) }
 {
-    for text in texts {
-        if is_understood(tx, text)? {
+    is_understood(tx, table.probe_text())
+}
+
+// Whether one of the tables is there.
+fn has_one_of<S: Alter>(tx: &mut Transaction<'_, S>, tables: &[Table]) -> Result<bool, Fault>
+    ensures same_reference { tx.new.conn.ghost_name ≡ tx.old.conn.ghost_name }
+    ensures step { Steps S.Store tx.old tx.new result (λ has a b. (b.now ≡ a.now) × (has ≡ list_any (λ table. is_named a.now.schema (which_of table)) tables.now)) }
+    ensures fault { OnErr result (result ≡ Err Store) }
+{
+    for table in tables {
+        if is_there(tx, *table)? {
             return Ok(true);
         }
     }
     Ok(false)
+}
+
+// Whether each of the tables is there.
+fn has_each_of<S: Alter>(tx: &mut Transaction<'_, S>, tables: &[Table]) -> Result<bool, Fault>
+    ensures same_reference { tx.new.conn.ghost_name ≡ tx.old.conn.ghost_name }
+    ensures step { Steps S.Store tx.old tx.new result (λ has a b. (b.now ≡ a.now) × (has ≡ list_all (λ table. is_named a.now.schema (which_of table)) tables.now)) }
+    ensures fault { OnErr result (result ≡ Err Store) }
+{
+    for table in tables {
+        if !is_there(tx, *table)? {
+            return Ok(false);
+        }
+    }
+    Ok(true)
 }
 
 /// Whether the database has a table with the name of one of a desk's.
@@ -52,28 +57,46 @@ pub fn has_some_table<S: Alter>(tx: &mut Transaction<'_, S>) -> Result<bool, Fau
     ensures step { Steps S.Store tx.old tx.new result (λ has a b. (b.now ≡ a.now) × (has ≡ has_table_of_desk a.now.schema)) }
     ensures fault { OnErr result (result ≡ Err Store) }
 {
-    has_one_of(tx, &STATEMENTS)
+    has_one_of(tx, &IN_THIRD)
 }
 
-// Whether each table that the statements name is there.
-fn has_each_of<S: Alter>(tx: &mut Transaction<'_, S>, texts: &[&str]) -> Result<bool, Fault>
+// Whether each of some tables is there, and none of others.
+fn has_just<S: Alter>(
+    tx: &mut Transaction<'_, S>,
+    there: &[Table],
+    absent: &[Table],
+) -> Result<bool, Fault>
     ensures same_reference { tx.new.conn.ghost_name ≡ tx.old.conn.ghost_name }
-    ensures step { Steps S.Store tx.old tx.new result (λ has a b. (b.now ≡ a.now) × HasEach (map (λ (text : Bor (List ℕ)). text.now) texts.now) has a) }
+    ensures step { Steps S.Store tx.old tx.new result (λ has a b. (b.now ≡ a.now) × (has ≡ (list_all (λ table. is_named a.now.schema (which_of table)) there.now && not (list_any (λ table. is_named a.now.schema (which_of table)) absent.now)))) }
     ensures fault { OnErr result (result ≡ Err Store) }
 {
-    for text in texts {
-        if !is_understood(tx, text)? {
-            return Ok(false);
-        }
+    if !has_each_of(tx, there)? {
+        return Ok(false);
     }
-    Ok(true)
+    Ok(!has_one_of(tx, absent)?)
 }
 
-/// Whether the database has a table with the name of each of a desk's. It is open if it answers.
-pub fn has_every_table<S: Alter>(tx: &mut Transaction<'_, S>) -> Result<bool, Fault>
+// Whether just the tables of a schema are there.
+fn has_just_of<S: Alter>(tx: &mut Transaction<'_, S>, schema: Schema) -> Result<bool, Fault>
     ensures same_reference { tx.new.conn.ghost_name ≡ tx.old.conn.ghost_name }
-    ensures step { Steps S.Store tx.old tx.new result (λ has a b. IsTrue a.is_open × (b.now ≡ a.now) × (has ≡ has_tables_of_desk a.now.schema)) }
+    ensures step { Steps S.Store tx.old tx.new result (λ has a b. (b.now ≡ a.now) × (has ≡ has_tables_of_schema (schema_of schema) a.now.schema)) }
     ensures fault { OnErr result (result ≡ Err Store) }
 {
-    has_each_of(tx, &STATEMENTS)
+    match schema {
+        Schema::First => has_just(tx, &IN_FIRST, &SINCE_SECOND),
+        Schema::Second => has_just(tx, &IN_SECOND, &SINCE_THIRD),
+        Schema::Third => has_just(tx, &IN_THIRD, &[]),
+    }
+}
+
+/// Whether the database has a table with the name of each of a schema's, and none with that of one that a later schema adds.
+/// It is open if it answers.
+pub fn has_tables_of<S: Alter>(tx: &mut Transaction<'_, S>, schema: Schema) -> Result<bool, Fault>
+    ensures same_reference { tx.new.conn.ghost_name ≡ tx.old.conn.ghost_name }
+    ensures step { Steps S.Store tx.old tx.new result (λ has a b. IsTrue a.is_open × (b.now ≡ a.now) × (has ≡ has_tables_of_schema (schema_of schema) a.now.schema)) }
+    ensures fault { OnErr result (result ≡ Err Store) }
+{
+    // DESK is looked at once more below: that it answers shows that the database is open.
+    let _there = is_there(tx, Table::TheDesk)?;
+    has_just_of(tx, schema)
 }

@@ -6,19 +6,19 @@ use Rattle.sqlite_value.specs.Order.{column}
 use Rattle.sqlite_tied.proofs.RuleLemmas.{and_true}
 use Rattle.sqlite.specs.State.{State}
 use Rattle.brk_money.specs.Kinds.{tax_status_number}
-use Rattle.brk_model.specs.Tables.{BrokerRow, AccountRow, HoldingRow, SummaryRow, HoldingHistoryRow, SettlementRow, CashRow}
+use Rattle.brk_model.specs.Tables.{BrokerRow, AccountRow, HoldingRow, SummaryRow, HoldingHistoryRow, SettlementRow}
 use Rattle.brk_rows.specs.Desk.{Turns}
 use Rattle.brk_rows.specs.Model.{Ran}
 use Rattle.brk_rows.proofs.Texts.{read}
 use Rattle.brk_rows.proofs.Values.{cast_int, cast_null, cast_whole}
 use Rattle.brk_rows.proofs.Writes.{inserts_as, updates_as, deletes_as}
-use Rattle.brk_tables_form.specs.Cells.{nat, broker_cells, account_cells, holding_cells, summary_cells, holding_history_cells, settlement_cells, cash_cells}
-use Rattle.brk_tables_form.specs.Desk.{Brokers, Accounts, Holdings, Summaries, HoldingHistory, Settlements, CashRows, desk}
+use Rattle.brk_tables_form.specs.Cells.{nat, broker_cells, account_cells, holding_cells, summary_cells, holding_history_cells, settlement_cells}
+use Rattle.brk_tables_form.specs.Desk.{Brokers, Accounts, Holdings, Summaries, HoldingHistory, Settlements, desk}
 use Rattle.brk_tables_form.proofs.Places.{brokers, accounts}
 use Rattle.brk_tables_form.proofs.Steps.{added}
 use Rattle.brk_tables_form.proofs.Tests.{same_number, same_text}
-use Rattle.brk_changes.specs.Changes.{with_lot, with_lot_set, without_lot, with_lot_change, with_summary, with_summary_set, without_summary, with_settlement, with_cash, with_balance, with_broker_numbers}
-use Rattle.brk_tables_trading.proofs.Places.{lots, summaries, lot_changes, settlements, cash_rows}
+use Rattle.brk_changes.specs.Changes.{with_lot, with_lot_set, without_lot, with_lot_change, with_summary, with_summary_set, without_summary, with_settlement, with_balance, with_broker_numbers}
+use Rattle.brk_tables_trading.proofs.Places.{lots, summaries, lot_changes, settlements}
 use Rattle.brk_tables_trading.proofs.AddLot
 use Rattle.brk_tables_trading.proofs.SetLot
 use Rattle.brk_tables_trading.proofs.RemoveLot
@@ -27,7 +27,6 @@ use Rattle.brk_tables_trading.proofs.AddSummary
 use Rattle.brk_tables_trading.proofs.SetSummary
 use Rattle.brk_tables_trading.proofs.RemoveSummary
 use Rattle.brk_tables_trading.proofs.AddSettlement
-use Rattle.brk_tables_trading.proofs.AddCash
 use Rattle.brk_tables_trading.proofs.SetBalance
 use Rattle.brk_tables_trading.proofs.SetBrokerNumbers
 
@@ -59,13 +58,6 @@ adds_settlement old new x ran =
     (inserts_as desk Settlements settlements AddSettlement.statement (settlement_cells x) (read AddSettlement.statement) AddSettlement.terms 5
     (nat x.trade ∷ Null ∷ drop 1 (settlement_cells x)) x AddSettlement.understood_as (λ tree. refl)
     (λ tree rows. rw (cast_int (pos x.trade), cast_int (pos x.due_day), cast_int x.amount) refl) old new ran.0 ran.1)
-
-pub adds_cash : (old new : State) (x : CashRow) → Ran AddCash.statement (cash_cells x) old new → Turns desk (with_cash x) old.now new.now
-adds_cash old new x ran =
-    added CashRows cash_rows x old.now new.now
-    (inserts_as desk CashRows cash_rows AddCash.statement (cash_cells x) (read AddCash.statement) AddCash.terms 5
-    (nat x.trade ∷ Null ∷ drop 1 (cash_cells x)) x AddCash.understood_as (λ tree. refl)
-    (λ tree rows. rw (cast_int (pos x.trade), cast_int (pos x.stamp), cast_int x.amount) refl) old new ran.0 ran.1)
 
 -- ---- rows that go
 

@@ -32,16 +32,13 @@ pub mod AddSummary
 pub mod SetSummary
 pub mod RemoveSummary
 pub mod AddSettlement
-pub mod AddCash
 pub mod SetBalance
 pub mod SetBrokerNumbers
 pub mod HoldingWrites
 pub mod CompletedOfAccount
 pub mod CompletedCashOfSymbol
 pub mod SettlementByTrade
-pub mod CashByTrade
 pub mod SetExecutor
 pub mod SetCashType
-pub mod SetCashName
 pub mod UpdateReads
 pub mod UpdateWrites

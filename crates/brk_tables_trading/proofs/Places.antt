@@ -3,15 +3,15 @@ use Rattle.std.proofs.Common.{◌≡◌, ◌≢◌, pos, List, [], ◌∷◌, ta
 use Rattle.sqlite_value.specs.declared.value.Value.TheVariants.{Int}
 use Rattle.sqlite_value.specs.Order.{column}
 use Rattle.sqlite_value.proofs.OrderLemmas.{then-Equal}
-use Rattle.brk_model.specs.Tables.{Tables, TradeRow, HistoryRow, RequestRow, HoldingRow, SummaryRow, HoldingHistoryRow, SettlementRow, CashRow}
-use Rattle.brk_model.specs.Keys.{trade_key, history_key, request_key, holding_key, summary_key, holding_history_key, settlement_key, cash_key}
+use Rattle.brk_model.specs.Tables.{Tables, TradeRow, HistoryRow, RequestRow, HoldingRow, SummaryRow, HoldingHistoryRow, SettlementRow}
+use Rattle.brk_model.specs.Keys.{trade_key, history_key, request_key, holding_key, summary_key, holding_history_key, settlement_key}
 use Rattle.brk_rows.proofs.Writes.{Place, IsRowidKey, IsUniqueKey}
-use Rattle.brk_tables_form.specs.Shapes.{trade, history, request, holding, summary, holding_history, settlement, cash}
-use Rattle.brk_tables_form.specs.Cells.{trade_cells, history_cells, request_cells, holding_cells, summary_cells, holding_history_cells, settlement_cells, cash_cells}
-use Rattle.brk_tables_form.specs.Desk.{Which, Trades, TradeHistory, Requests, order, list, desk, Holdings, Summaries, HoldingHistory, Settlements, CashRows}
+use Rattle.brk_tables_form.specs.Shapes.{trade, history, request, holding, summary, holding_history, settlement}
+use Rattle.brk_tables_form.specs.Cells.{trade_cells, history_cells, request_cells, holding_cells, summary_cells, holding_history_cells, settlement_cells}
+use Rattle.brk_tables_form.specs.Desk.{Which, Trades, TradeHistory, Requests, order, list, desk, Holdings, Summaries, HoldingHistory, Settlements}
 use Rattle.brk_tables_form.proofs.Order.{key_total}
 use Rattle.brk_tables_form.proofs.Unique.{same_key}
-use Rattle.brk_tables_form.proofs.Which.{is_trade, is_history, is_request, is_holding, is_summary, is_holding_history, is_settlement, is_cash}
+use Rattle.brk_tables_form.proofs.Which.{is_trade, is_history, is_request, is_holding, is_summary, is_holding_history, is_settlement}
 
 pub trade_keyed : IsRowidKey trade trade_cells (order Trades)
 trade_keyed tree r s x y e f = let a : column r 0 ≡ Int (pos x.id) = cc in let b : column s 0 ≡ Int (pos y.id) = cc in rw (a, b) (ap is_eq (then-Equal _))
@@ -55,9 +55,6 @@ holding_history_keyed = record { key = 1 ∷ 2 ∷ []; first = λ tree. refl; ti
 pub settlement_keyed : IsRowidKey settlement settlement_cells (order Settlements)
 settlement_keyed tree r s x y e f = let a : column r 0 ≡ Int (pos x.trade) = cc in let b : column s 0 ≡ Int (pos y.trade) = cc in rw (a, b) (ap is_eq (then-Equal _))
 
-pub cash_keyed : IsRowidKey cash cash_cells (order CashRows)
-cash_keyed tree r s x y e f = let a : column r 0 ≡ Int (pos x.trade) = cc in let b : column s 0 ≡ Int (pos y.trade) = cc in rw (a, b) (ap is_eq (then-Equal _))
-
 pub holdings_alone : (v : Which) → v ≢ Holdings → (xs : List HoldingRow) (t : Tables) → list v (record t { holdings = xs }) ≡ list v t
 holdings_alone Holdings other xs t = absurd (other refl)
 holdings_alone v other xs t = refl
@@ -74,10 +71,6 @@ pub settlements_alone : (v : Which) → v ≢ Settlements → (xs : List Settlem
 settlements_alone Settlements other xs t = absurd (other refl)
 settlements_alone v other xs t = refl
 
-pub cash_alone : (v : Which) → v ≢ CashRows → (xs : List CashRow) (t : Tables) → list v (record t { cash = xs }) ≡ list v t
-cash_alone CashRows other xs t = absurd (other refl)
-cash_alone v other xs t = refl
-
 abbrev pub lots : Place desk Holdings
 lots = record { split = is_holding; put = λ xs t. record t { holdings = xs }; put_this = λ xs t. refl; put_others = holdings_alone; total = key_total holding_key; keyed = inl holding_keyed; uncounted = λ tree. refl }
 
@@ -89,6 +82,3 @@ lot_changes = record { split = is_holding_history; put = λ xs t. record t { hol
 
 abbrev pub settlements : Place desk Settlements
 settlements = record { split = is_settlement; put = λ xs t. record t { settlements = xs }; put_this = λ xs t. refl; put_others = settlements_alone; total = key_total settlement_key; keyed = inl settlement_keyed; uncounted = λ tree. refl }
-
-abbrev pub cash_rows : Place desk CashRows
-cash_rows = record { split = is_cash; put = λ xs t. record t { cash = xs }; put_this = λ xs t. refl; put_others = cash_alone; total = key_total cash_key; keyed = inl cash_keyed; uncounted = λ tree. refl }

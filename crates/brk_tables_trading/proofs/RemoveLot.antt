@@ -1,5 +1,5 @@
 -- Written by tools/tables.py: what a DELETE means.
-use Rattle.std.proofs.Common.{◌≡◌, ◌⊎◌, ℕ, List, [], ◌∷◌, codes, true, false, None, Some, Ok, Err, refl, slice_get}
+use Rattle.std.proofs.Common.{◌≡◌, ◌⊎◌, ℕ, List, [], ◌∷◌, codes, true, false, Option, None, Some, Ok, Err, refl, slice_get}
 use Rattle.sqlite_value.specs.declared.keys.Collation.TheVariants.{Binary}
 use Rattle.sqlite_sql.specs.declared.ops.BinaryOp.TheVariants.{Compare}
 use Rattle.sqlite_sql.specs.declared.ops.CompareOp.TheVariants.{Eq}
@@ -26,8 +26,8 @@ use Rattle.brk_tables_form.specs.Shapes.{holding}
 abbrev pub statement : List ℕ
 statement = codes "DELETE FROM HOLDING WHERE H_T_ID = ?1"
 
-abbrev pub test : Expr
-test = e.Binary operator.Eq (e.Column None (codes "H_T_ID")) (e.Parameter 1)
+abbrev pub test : Option Expr
+test = Some (e.Binary operator.Eq (e.Column None (codes "H_T_ID")) (e.Parameter 1))
 
 abbrev pub terms : List Term
 terms = op2 (Compare Eq Binary) (col 1 0) (col 0 0) ∷ []
@@ -38,11 +38,11 @@ project = col 1 0 ∷ []
 abbrev pub draft : ℕ → Draft
 draft tree = simple (Inner tree ∷ []) terms project
 
-draft_is : (schema : Schema) (at tree : ℕ) → slice_get schema.tables at ≡ Some (holding tree) → deleted schema at (holding tree) (Some test) ≡ Ok (draft tree)
+draft_is : (schema : Schema) (at tree : ℕ) → slice_get schema.tables at ≡ Some (holding tree) → deleted schema at (holding tree) test ≡ Ok (draft tree)
 unfolding lowering
 draft_is schema at tree found = rw (column_is schema at (holding tree) found (codes "HOLDING") [] [] false true (codes "H_T_ID") 0 (whole (codes "H_T_ID")) refl refl)
 
 pub understood_as : (schema : Schema) (at tree : ℕ) → Stands schema (holding tree) at
     → (compiled schema statement ≡ Ok (meant (read statement) [] (Delete at (record { lets = []; body = selection tree terms project [] whole_page })))) ⊎ (compiled schema statement ≡ Err Mismatch)
 unfolding everything
-understood_as schema at tree h = deletes_or schema statement (read statement) refl refl (codes "HOLDING") at (holding tree) h.named h.found (Some test) (draft tree) refl (draft_is schema at tree h.found)
+understood_as schema at tree h = deletes_or schema statement (read statement) refl refl (codes "HOLDING") at (holding tree) h.named h.found test (draft tree) refl (draft_is schema at tree h.found)

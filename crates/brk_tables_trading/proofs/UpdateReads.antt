@@ -13,24 +13,23 @@ use Rattle.brk_money.specs.Kinds.{same_status, status_code}
 use Rattle.brk_money.specs.declared.status.Status.{Status}
 use Rattle.brk_money.specs.declared.status.Status.TheVariants.{Completed, Active, Submitted, Pending, Canceled}
 use Rattle.brk_model.specs.Joins.{oldest_first_rows}
-use Rattle.brk_model.specs.Keys.{KeyPart, number, by_key, insert_row, settlement_key, cash_key}
+use Rattle.brk_model.specs.Keys.{KeyPart, number, by_key, insert_row, settlement_key}
 use Rattle.brk_model.specs.Lists as model
 use Rattle.brk_model.specs.LookupView.{is_between}
-use Rattle.brk_model.specs.Tables.{CashRow, SettlementRow, TradeRow}
+use Rattle.brk_model.specs.Tables.{SettlementRow, TradeRow}
 use Rattle.brk_rows.specs.Desk.{Tells}
 use Rattle.brk_rows.proofs.Answer.{limited_map}
 use Rattle.brk_rows.proofs.Decode.{text_in}
 use Rattle.brk_rows.proofs.Looks.{tells_rising, tells_sorted}
 use Rattle.brk_rows.proofs.Texts.{read}
-use Rattle.brk_tables_form.specs.Cells.{nat, flag, trade_cells, settlement_cells, cash_cells}
-use Rattle.brk_tables_form.specs.Desk.{Trades, Settlements, CashRows, desk, order}
+use Rattle.brk_tables_form.specs.Cells.{nat, flag, trade_cells, settlement_cells}
+use Rattle.brk_tables_form.specs.Desk.{Trades, Settlements, desk, order}
 use Rattle.brk_tables_form.specs.Order.{by_key_values}
 use Rattle.brk_tables_form.proofs.Back.{number_in}
 use Rattle.brk_tables_form.proofs.Compared.{at_least, at_most}
 use Rattle.brk_tables_form.proofs.Order.{key_total, inserted}
 use Rattle.brk_tables_form.proofs.Tests.{same_number, same_text}
 use Rattle.brk_changes.specs.Chosen.{completed_cash_of_symbol, completed_of_account}
-use Rattle.brk_tables_trading.proofs.CashByTrade
 use Rattle.brk_tables_trading.proofs.CompletedCashOfSymbol
 use Rattle.brk_tables_trading.proofs.CompletedOfAccount
 use Rattle.brk_tables_trading.proofs.SettlementByTrade
@@ -134,11 +133,4 @@ pub tells_settlement : (old new : State) (trade : ℕ) (rows : List Row) → Sho
 tells_settlement old new trade rows shown =
     tells_rising desk Settlements SettlementByTrade.statement (nat trade ∷ []) (read SettlementByTrade.statement) SettlementByTrade.terms SettlementByTrade.project SettlementByTrade.order SettlementByTrade.paging SettlementByTrade.names SettlementByTrade.understood_as
     (λ (r : SettlementRow). r.trade == trade) (λ tree r x e. let a : column r 0 ≡ nat x.trade = cc in rw (a, same_number x.trade trade) (and_true _)) settlement_cells (λ tree r x e. e) (order Settlements) (key_total settlement_key)
-    (λ tree a b x y e f. let p : column a 0 ≡ nat x.trade = cc in let q : column b 0 ≡ nat y.trade = cc in rw (p, q) refl) old new rows shown (λ x y. refl)
-
-pub tells_cash : (old new : State) (trade : ℕ) (rows : List Row) → Shown CashByTrade.statement (nat trade ∷ []) old new rows
-    → Tells desk (λ t. rows ≡ map cash_cells (filter (λ r. r.trade == trade) t.cash)) old.now
-tells_cash old new trade rows shown =
-    tells_rising desk CashRows CashByTrade.statement (nat trade ∷ []) (read CashByTrade.statement) CashByTrade.terms CashByTrade.project CashByTrade.order CashByTrade.paging CashByTrade.names CashByTrade.understood_as
-    (λ (r : CashRow). r.trade == trade) (λ tree r x e. let a : column r 0 ≡ nat x.trade = cc in rw (a, same_number x.trade trade) (and_true _)) cash_cells (λ tree r x e. e) (order CashRows) (key_total cash_key)
     (λ tree a b x y e f. let p : column a 0 ≡ nat x.trade = cc in let q : column b 0 ≡ nat y.trade = cc in rw (p, q) refl) old new rows shown (λ x y. refl)

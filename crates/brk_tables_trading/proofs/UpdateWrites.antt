@@ -8,18 +8,17 @@ use Rattle.sqlite_schema.specs.declared.schema.Kind.TheVariants.{Integer}
 use Rattle.sqlite.specs.Cast.{cast}
 use Rattle.sqlite.specs.State.{State}
 use Rattle.brk_money.specs.Kinds.{status_code, type_code}
-use Rattle.brk_model.specs.Tables.{CashRow, SettlementRow, TradeRow}
+use Rattle.brk_model.specs.Tables.{SettlementRow, TradeRow}
 use Rattle.brk_rows.specs.Desk.{Turns}
 use Rattle.brk_rows.specs.Model.{Ran}
 use Rattle.brk_rows.proofs.Texts.{read}
 use Rattle.brk_rows.proofs.Values.{cast_int, cast_null, cast_whole}
 use Rattle.brk_rows.proofs.Writes.{updates_as}
-use Rattle.brk_tables_form.specs.Cells.{nat, maybe, flag, trade_cells, settlement_cells, cash_cells}
-use Rattle.brk_tables_form.specs.Desk.{Trades, Settlements, CashRows, desk}
+use Rattle.brk_tables_form.specs.Cells.{nat, maybe, flag, trade_cells, settlement_cells}
+use Rattle.brk_tables_form.specs.Desk.{Trades, Settlements, desk}
 use Rattle.brk_tables_form.proofs.Tests.{same_number}
-use Rattle.brk_changes.specs.Changes.{with_cash_name, with_cash_type, with_executor}
-use Rattle.brk_tables_trading.proofs.Places.{trades, settlements, cash_rows}
-use Rattle.brk_tables_trading.proofs.SetCashName
+use Rattle.brk_changes.specs.Changes.{with_cash_type, with_executor}
+use Rattle.brk_tables_trading.proofs.Places.{trades, settlements}
 use Rattle.brk_tables_trading.proofs.SetCashType
 use Rattle.brk_tables_trading.proofs.SetExecutor
 
@@ -106,19 +105,3 @@ sets_cash_type old new trade word ran =
     let a3 : column r 3 ≡ nat x.due_day = cc in
     let a4 : column r 4 ≡ Int x.amount = cc in
     rw (a0, a3, a4) refl) old new ran.0 ran.1
-
-pub sets_cash_name : (old new : State) (trade : ℕ) (name : List ℕ) → Ran SetCashName.statement (Words name ∷ nat trade ∷ []) old new → Turns desk (with_cash_name trade name) old.now new.now
-sets_cash_name old new trade name ran =
-    updates_as desk CashRows cash_rows SetCashName.statement (Words name ∷ nat trade ∷ []) (read SetCashName.statement) SetCashName.terms SetCashName.project (λ (r : CashRow). r.trade == trade)
-    (λ tree r x e. let a : column r 0 ≡ nat x.trade = cc in rw (a, same_number x.trade trade) (and_true _)) (λ r. refl) SetCashName.understood_as
-    (λ r. column r 0 ∷ Null ∷ column r 2 ∷ column r 3 ∷ Words name ∷ [])
-    (λ (r : CashRow). record r { name = name }) (λ x y. refl) (λ x y. refl) (λ r. refl)
-    (λ tree r x whole e.
-    let a2 : column r 2 ≡ nat x.stamp = cc in
-    let a3 : column r 3 ≡ Int x.amount = cc in
-    rw (a2, a3, cast_null, cast_int (pos x.stamp), cast_int x.amount) (ap (λ v. v ∷ Null ∷ drop 1 (cash_cells (record x { name = name }))) (cast_whole (column r 0) whole)))
-    (λ tree r x e.
-    let a0 : column r 0 ≡ nat x.trade = cc in
-    let a2 : column r 2 ≡ nat x.stamp = cc in
-    let a3 : column r 3 ≡ Int x.amount = cc in
-    rw (a0, a2, a3) refl) old new ran.0 ran.1

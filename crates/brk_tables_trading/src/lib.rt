@@ -1,5 +1,5 @@
 //! The statements on trades, their history, the requests of those that wait, last trades on the market, lots and what trades made
-//! of them, what accounts hold in all, settlements, movements of cash, balances, brokers' numbers and words that are corrected: one
+//! of them, what accounts hold in all, settlements, balances, brokers' numbers and words that are corrected: one
 //! function for each. Each
 //! is called within an open transaction. An error that the database answers, and a row that breaks its form, are the fault
 //! `Store`.
@@ -26,12 +26,12 @@ pub use last_trades::{last_trade_by_symbol, set_last_trade};
 pub use looking::{history_of, last_fifty_of_account, last_ten_of_account};
 pub use lots::{add_lot, add_lot_change, remove_lot, set_lot};
 pub use requests::{add_request, remove_request, requests_at_or_above, requests_at_or_below};
-pub use settlements::{add_cash, add_settlement};
+pub use settlements::add_settlement;
 pub use summaries::{add_summary, remove_summary, set_summary};
 pub use trades::{
     add_trade, complete_trade, last_trade_id, set_status, submitted_trades, trade_by_id,
 };
 pub use updates::{
-    cash_by_trade, completed_cash_of_symbol, completed_of_account, set_cash_name, set_cash_type,
-    set_executor, settlement_by_trade,
+    completed_cash_of_symbol, completed_of_account, set_cash_type, set_executor,
+    settlement_by_trade,
 };

@@ -1,17 +1,15 @@
-//! What completed trades settle for, and what those in cash moved.
+//! What completed trades settle for.
 
 ghost use Rattle.std.specs.Prelude.{◌≡◌, Err, OnErr};
 ghost use Rattle.brk_money.specs.declared.fault.Fault.TheVariants.{Store};
-ghost use Rattle.brk_changes.specs.Changes.{with_cash, with_settlement};
-ghost use Rattle.brk_changes.specs.Rows.{cash_row_of, settlement_row_of};
+ghost use Rattle.brk_changes.specs.Changes.{with_settlement};
+ghost use Rattle.brk_changes.specs.Rows.{settlement_row_of};
 ghost use Rattle.brk_tables_form.specs.Statements.{Writes};
 
-use brk_changes::{CashRow, SettlementRow};
+use brk_changes::SettlementRow;
 use brk_money::Fault;
 use brk_tables_form::calls::run;
-use brk_tables_form::values::{
-    cash_type_value, cents_value, day_value, id_value, stamp_value, text_value,
-};
+use brk_tables_form::values::{cash_type_value, cents_value, day_value, id_value};
 use sqlite::{Alter, Transaction};
 
 /// Adds what a trade settles for, which is not settled yet.
@@ -31,24 +29,6 @@ pub fn add_settlement<S: Alter>(
             cash_type_value(settlement.cash_type),
             day_value(settlement.due_day),
             cents_value(settlement.amount),
-        ],
-    )
-}
-
-/// Adds what a trade moved, which has moved nothing yet.
-pub fn add_cash<S: Alter>(tx: &mut Transaction<'_, S>, cash: &CashRow) -> Result<(), Fault>
-    ensures same_reference { tx.new.conn.ghost_name ≡ tx.old.conn.ghost_name }
-    ensures step { Writes S.Store tx.old tx.new result (with_cash (cash_row_of cash.now)) }
-    ensures fault { OnErr result (result ≡ Err Store) }
-{
-    run(
-        tx,
-        "INSERT INTO CASH_TRANSACTION (CT_T_ID, CT_DTS, CT_AMT, CT_NAME) VALUES (?1, ?2, ?3, ?4)",
-        &[
-            id_value(cash.trade),
-            stamp_value(cash.stamp),
-            cents_value(cash.amount),
-            text_value(cash.name.as_str()),
         ],
     )
 }

@@ -3,13 +3,13 @@
 ghost use Rattle.std.specs.Prelude.{◌≡◌, ◌==◌, Err, IfErr, OnErr, map};
 ghost use Rattle.brk_money.specs.declared.fault.Fault.TheVariants.{Store};
 ghost use Rattle.brk_model.specs.Run.{MayFail};
-ghost use Rattle.brk_changes.specs.Changes.{with_cash_name, with_cash_type, with_executor};
+ghost use Rattle.brk_changes.specs.Changes.{with_cash_type, with_executor};
 ghost use Rattle.brk_changes.specs.Chosen as chosen;
-ghost use Rattle.brk_changes.specs.Rows.{cash_row_of, cash_type_word, settlement_row_of, trade_row_of};
-ghost use Rattle.brk_tables_form.specs.Desk.{CashRows, Settlements};
+ghost use Rattle.brk_changes.specs.Rows.{cash_type_word, settlement_row_of, trade_row_of};
+ghost use Rattle.brk_tables_form.specs.Desk.{Settlements};
 ghost use Rattle.brk_tables_form.specs.Statements.{Finds, Reads, Writes};
 
-use brk_changes::{CashRow, CashType, SettlementRow, TradeRow};
+use brk_changes::{CashType, SettlementRow, TradeRow};
 use brk_money::{Fault, Id, Stamp, Status};
 use brk_ref::Symbol;
 use brk_tables_form::calls::{run, select};
@@ -88,23 +88,6 @@ pub fn settlement_by_trade<S: Alter>(
     first_row(&rows)
 }
 
-/// What a trade moved.
-pub fn cash_by_trade<S: Alter>(
-    tx: &mut Transaction<'_, S>,
-    trade: Id,
-) -> Result<Option<CashRow>, Fault>
-    ensures same_reference { tx.new.conn.ghost_name ≡ tx.old.conn.ghost_name }
-    ensures step { Finds S.Store tx.old tx.new result CashRows cash_row_of (λ r. r.trade == trade) }
-    ensures fault { OnErr result (result ≡ Err Store) }
-{
-    let rows = select(
-        tx,
-        "SELECT CT_T_ID, CT_DTS, CT_AMT, CT_NAME FROM CASH_TRANSACTION WHERE CT_T_ID = ?1 ORDER BY CT_T_ID",
-        &[id_value(trade)],
-    )?;
-    first_row(&rows)
-}
-
 /// Sets the name of a trade's executor.
 pub fn set_executor<S: Alter>(
     tx: &mut Transaction<'_, S>,
@@ -136,22 +119,5 @@ pub fn set_cash_type<S: Alter>(
         tx,
         "UPDATE SETTLEMENT SET SE_CASH_TYPE = ?1 WHERE SE_T_ID = ?2",
         &[cash_type_value(cash_type), id_value(trade)],
-    )
-}
-
-/// Sets the text of what a trade moved.
-pub fn set_cash_name<S: Alter>(
-    tx: &mut Transaction<'_, S>,
-    trade: Id,
-    name: &str,
-) -> Result<(), Fault>
-    ensures same_reference { tx.new.conn.ghost_name ≡ tx.old.conn.ghost_name }
-    ensures step { Writes S.Store tx.old tx.new result (with_cash_name trade name.now) }
-    ensures fault { OnErr result (result ≡ Err Store) }
-{
-    run(
-        tx,
-        "UPDATE CASH_TRANSACTION SET CT_NAME = ?1 WHERE CT_T_ID = ?2",
-        &[text_value(name), id_value(trade)],
     )
 }

@@ -3,7 +3,7 @@ use Rattle.std.proofs.Common.{◌≡◌, ◌⊎◌, ℕ, ◌-◌, pos, negsuc, L
 use Rattle.sqlite_value.specs.declared.keys.Collation.TheVariants.{Binary}
 use Rattle.sqlite.specs.declared.types.Value.TheVariants.{Int}
 use Rattle.sqlite_sql.specs.declared.ops.BinaryOp.TheVariants.{Compare}
-use Rattle.sqlite_sql.specs.declared.ops.CompareOp.TheVariants.{Le, Ge}
+use Rattle.sqlite_sql.specs.declared.ops.CompareOp.TheVariants.{Eq, Le, Ge}
 use Rattle.sqlite_value.specs.declared.keys.Key.{Key}
 use Rattle.sqlite.specs.Term.{Term, lit, col, op2}
 use Rattle.sqlite.specs.Schema.{Schema}
@@ -16,12 +16,12 @@ use Rattle.sqlite_draft.specs.declared.join.Step.TheVariants.{Inner}
 use Rattle.sqlite_draft.specs.declared.query.Draft.{Draft}
 use Rattle.sqlite_tied.specs.Compute.{everything}
 use Rattle.brk_rows.specs.Partly.{lowering}
-use Rattle.brk_rows.specs.Desk.{whole, text, Stands}
+use Rattle.brk_rows.specs.Desk.{whole, text, perhaps, Stands}
 use Rattle.brk_rows.proofs.Meant.{meant, reads_or}
 use Rattle.brk_rows.proofs.Pick.{selection}
 use Rattle.brk_rows.proofs.Scoped.{column_is, heading_is}
 use Rattle.brk_rows.proofs.Texts.{read}
-use Rattle.brk_tables_form.specs.Shapes.{cash}
+use Rattle.brk_tables_form.specs.Shapes.{move}
 use Rattle.sqlite_ast.specs.declared.Shown.TheVariants.{One}
 use Rattle.sqlite_ast.specs.declared.Origin.TheVariants.{Table}
 use Rattle.sqlite_ast.specs.declared.Source.{Source, roll-Source}
@@ -44,35 +44,35 @@ use Rattle.sqlite_resolve.specs.declared.compiled.Compiled.{Compiled}
 use Rattle.sqlite.specs.Listing.{understood}
 
 abbrev pub statement : List ℕ
-statement = codes "SELECT CT_T_ID, CT_DTS, CT_AMT, CT_NAME FROM CASH_TRANSACTION WHERE CT_DTS >= ?1 AND CT_DTS <= ?2 ORDER BY CT_DTS, CT_T_ID"
+statement = codes "SELECT CM_ID, CM_CA_ID, CM_T_ID, CM_DTS, CM_AMT, CM_NAME FROM CASH_MOVE WHERE CM_CA_ID = ?1 AND CM_DTS >= ?2 AND CM_DTS <= ?3 ORDER BY CM_DTS, CM_ID"
 
 abbrev pub source : Source
-source = roll-Source (record { is_left = false; origin = Table (codes "CASH_TRANSACTION"); alias = None; on = None; using = [] })
+source = roll-Source (record { is_left = false; origin = Table (codes "CASH_MOVE"); alias = None; on = None; using = [] })
 
 abbrev pub core : Core
 core = roll-Core (record {
   distinct = false;
-  shown = One (e.Column None (codes "CT_T_ID")) None (codes "CT_T_ID") ∷ One (e.Column None (codes "CT_DTS")) None (codes "CT_DTS") ∷ One (e.Column None (codes "CT_AMT")) None (codes "CT_AMT") ∷ One (e.Column None (codes "CT_NAME")) None (codes "CT_NAME") ∷ [];
+  shown = One (e.Column None (codes "CM_ID")) None (codes "CM_ID") ∷ One (e.Column None (codes "CM_CA_ID")) None (codes "CM_CA_ID") ∷ One (e.Column None (codes "CM_T_ID")) None (codes "CM_T_ID") ∷ One (e.Column None (codes "CM_DTS")) None (codes "CM_DTS") ∷ One (e.Column None (codes "CM_AMT")) None (codes "CM_AMT") ∷ One (e.Column None (codes "CM_NAME")) None (codes "CM_NAME") ∷ [];
   from = source ∷ [];
-  filter = Some (e.Binary operator.And (e.Binary operator.Ge (e.Column None (codes "CT_DTS")) (e.Parameter 1)) (e.Binary operator.Le (e.Column None (codes "CT_DTS")) (e.Parameter 2)));
+  filter = Some (e.Binary operator.And (e.Binary operator.And (e.Binary operator.Eq (e.Column None (codes "CM_CA_ID")) (e.Parameter 1)) (e.Binary operator.Ge (e.Column None (codes "CM_DTS")) (e.Parameter 2))) (e.Binary operator.Le (e.Column None (codes "CM_DTS")) (e.Parameter 3)));
   group = [];
   having = None;
 })
 
 abbrev pub by : List Sort
-by = roll-Sort (record { key = e.Column None (codes "CT_DTS"); descending = false; nulls_first = None }) ∷ roll-Sort (record { key = e.Column None (codes "CT_T_ID"); descending = false; nulls_first = None }) ∷ []
+by = roll-Sort (record { key = e.Column None (codes "CM_DTS"); descending = false; nulls_first = None }) ∷ roll-Sort (record { key = e.Column None (codes "CM_ID"); descending = false; nulls_first = None }) ∷ []
 
 abbrev pub select : ast.Select
 select = ast.roll-Select (record { with = []; first = core; others = []; order = by; limit = None; offset = None })
 
 abbrev pub terms : List Term
-terms = op2 (Compare Ge Binary) (col 1 2) (col 0 0) ∷ op2 (Compare Le Binary) (col 1 2) (col 0 1) ∷ []
+terms = op2 (Compare Eq Binary) (col 1 2) (col 0 0) ∷ op2 (Compare Ge Binary) (col 1 4) (col 0 1) ∷ op2 (Compare Le Binary) (col 1 4) (col 0 2) ∷ []
 
 abbrev pub project : List Term
-project = col 1 0 ∷ col 1 2 ∷ col 1 3 ∷ col 1 4 ∷ []
+project = col 1 0 ∷ col 1 2 ∷ col 1 3 ∷ col 1 4 ∷ col 1 5 ∷ col 1 6 ∷ []
 
 abbrev pub order : List (Term × Key)
-order = (col 1 2, record { collation = Binary; descending = false }) ∷ (col 1 0, record { collation = Binary; descending = false }) ∷ []
+order = (col 1 4, record { collation = Binary; descending = false }) ∷ (col 1 0, record { collation = Binary; descending = false }) ∷ []
 
 abbrev pub paging : Term × Term
 paging = (lit (Int (negsuc 0)), lit (Int (pos 0)))
@@ -87,54 +87,58 @@ abbrev pub output : List ℕ → ℕ → Carried → Output
 output name place carried = record { name = name; is_alias = false; is_column = true; term = col 1 place; carried = carried }
 
 abbrev pub columns : List Output
-columns = output (codes "CT_T_ID") 0 nothing ∷ output (codes "CT_DTS") 2 binary ∷ output (codes "CT_AMT") 3 binary ∷ output (codes "CT_NAME") 4 binary ∷ []
+columns = output (codes "CM_ID") 0 nothing ∷ output (codes "CM_CA_ID") 2 binary ∷ output (codes "CM_T_ID") 3 binary ∷ output (codes "CM_DTS") 4 binary ∷ output (codes "CM_AMT") 5 binary ∷ output (codes "CM_NAME") 6 binary ∷ []
 
 abbrev pub names : List (List ℕ)
-names = codes "CT_T_ID" ∷ codes "CT_DTS" ∷ codes "CT_AMT" ∷ codes "CT_NAME" ∷ []
+names = codes "CM_ID" ∷ codes "CM_CA_ID" ∷ codes "CM_T_ID" ∷ codes "CM_DTS" ∷ codes "CM_AMT" ∷ codes "CM_NAME" ∷ []
 
 abbrev after : ℕ → Carried → State
 after spent last = record (fresh 2 max_budget) { budget = max_budget - spent; last = last }
 
-module _ (schema : Schema) (at tree : ℕ) (h : Stands schema (cash tree) at) where
-  abbrev found : slice_get schema.tables at ≡ Some (cash tree)
+module _ (schema : Schema) (at tree : ℕ) (h : Stands schema (move tree) at) where
+  abbrev found : slice_get schema.tables at ≡ Some (move tree)
   found = h.found
 
-  shows : result lower (outermost schema) (level_one (codes "CASH_TRANSACTION") at []) core (fresh 2 max_budget) ≡ Ok (columns, after 4 binary)
+  shows : result lower (outermost schema) (level_one (codes "CASH_MOVE") at []) core (fresh 2 max_budget) ≡ Ok (columns, after 6 binary)
   unfolding lowering
   shows =
       rw (
-        column_is schema at (cash tree) found (codes "CASH_TRANSACTION") [] [] true true (codes "CT_T_ID") 0 (whole (codes "CT_T_ID")) refl refl,
-        heading_is schema at (cash tree) found (codes "CASH_TRANSACTION") [] [] true true (e.Column None (codes "CT_T_ID")) (codes "CT_T_ID") (codes "CT_T_ID") 0 (whole (codes "CT_T_ID")) refl refl refl,
-        column_is schema at (cash tree) found (codes "CASH_TRANSACTION") [] [] true true (codes "CT_DTS") 1 (whole (codes "CT_DTS")) refl refl,
-        heading_is schema at (cash tree) found (codes "CASH_TRANSACTION") [] [] true true (e.Column None (codes "CT_DTS")) (codes "CT_DTS") (codes "CT_DTS") 1 (whole (codes "CT_DTS")) refl refl refl,
-        column_is schema at (cash tree) found (codes "CASH_TRANSACTION") [] [] true true (codes "CT_AMT") 2 (whole (codes "CT_AMT")) refl refl,
-        heading_is schema at (cash tree) found (codes "CASH_TRANSACTION") [] [] true true (e.Column None (codes "CT_AMT")) (codes "CT_AMT") (codes "CT_AMT") 2 (whole (codes "CT_AMT")) refl refl refl,
-        column_is schema at (cash tree) found (codes "CASH_TRANSACTION") [] [] true true (codes "CT_NAME") 3 (text (codes "CT_NAME")) refl refl,
-        heading_is schema at (cash tree) found (codes "CASH_TRANSACTION") [] [] true true (e.Column None (codes "CT_NAME")) (codes "CT_NAME") (codes "CT_NAME") 3 (text (codes "CT_NAME")) refl refl refl,
+        column_is schema at (move tree) found (codes "CASH_MOVE") [] [] true true (codes "CM_ID") 0 (whole (codes "CM_ID")) refl refl,
+        heading_is schema at (move tree) found (codes "CASH_MOVE") [] [] true true (e.Column None (codes "CM_ID")) (codes "CM_ID") (codes "CM_ID") 0 (whole (codes "CM_ID")) refl refl refl,
+        column_is schema at (move tree) found (codes "CASH_MOVE") [] [] true true (codes "CM_CA_ID") 1 (whole (codes "CM_CA_ID")) refl refl,
+        heading_is schema at (move tree) found (codes "CASH_MOVE") [] [] true true (e.Column None (codes "CM_CA_ID")) (codes "CM_CA_ID") (codes "CM_CA_ID") 1 (whole (codes "CM_CA_ID")) refl refl refl,
+        column_is schema at (move tree) found (codes "CASH_MOVE") [] [] true true (codes "CM_T_ID") 2 (perhaps (codes "CM_T_ID")) refl refl,
+        heading_is schema at (move tree) found (codes "CASH_MOVE") [] [] true true (e.Column None (codes "CM_T_ID")) (codes "CM_T_ID") (codes "CM_T_ID") 2 (perhaps (codes "CM_T_ID")) refl refl refl,
+        column_is schema at (move tree) found (codes "CASH_MOVE") [] [] true true (codes "CM_DTS") 3 (whole (codes "CM_DTS")) refl refl,
+        heading_is schema at (move tree) found (codes "CASH_MOVE") [] [] true true (e.Column None (codes "CM_DTS")) (codes "CM_DTS") (codes "CM_DTS") 3 (whole (codes "CM_DTS")) refl refl refl,
+        column_is schema at (move tree) found (codes "CASH_MOVE") [] [] true true (codes "CM_AMT") 4 (whole (codes "CM_AMT")) refl refl,
+        heading_is schema at (move tree) found (codes "CASH_MOVE") [] [] true true (e.Column None (codes "CM_AMT")) (codes "CM_AMT") (codes "CM_AMT") 4 (whole (codes "CM_AMT")) refl refl refl,
+        column_is schema at (move tree) found (codes "CASH_MOVE") [] [] true true (codes "CM_NAME") 5 (text (codes "CM_NAME")) refl refl,
+        heading_is schema at (move tree) found (codes "CASH_MOVE") [] [] true true (e.Column None (codes "CM_NAME")) (codes "CM_NAME") (codes "CM_NAME") 5 (text (codes "CM_NAME")) refl refl refl,
       )
 
-  matches : matching lower (outermost schema) (level_one (codes "CASH_TRANSACTION") at columns) core (after 4 binary)
-      ≡ Ok (record { steps = Inner tree ∷ []; filter = terms }, after 11 nothing)
+  matches : matching lower (outermost schema) (level_one (codes "CASH_MOVE") at columns) core (after 6 binary)
+      ≡ Ok (record { steps = Inner tree ∷ []; filter = terms }, after 17 nothing)
   unfolding lowering
-  matches = rw (found, column_is schema at (cash tree) found (codes "CASH_TRANSACTION") columns [] false true (codes "CT_DTS") 1 (whole (codes "CT_DTS")) refl refl, found, column_is schema at (cash tree) found (codes "CASH_TRANSACTION") columns [] false true (codes "CT_DTS") 1 (whole (codes "CT_DTS")) refl refl, found)
+  matches = rw (found, column_is schema at (move tree) found (codes "CASH_MOVE") columns [] false true (codes "CM_CA_ID") 1 (whole (codes "CM_CA_ID")) refl refl, found, column_is schema at (move tree) found (codes "CASH_MOVE") columns [] false true (codes "CM_DTS") 3 (whole (codes "CM_DTS")) refl refl, found, column_is schema at (move tree) found (codes "CASH_MOVE") columns [] false true (codes "CM_DTS") 3 (whole (codes "CM_DTS")) refl refl, found)
 
-  sorted : sorts lower (inside schema (level_one (codes "CASH_TRANSACTION") at columns) false) columns by (after 11 nothing) ≡ Ok ((draft tree).order, after 13 nothing)
+  sorted : sorts lower (inside schema (level_one (codes "CASH_MOVE") at columns) false) columns by (after 17 nothing) ≡ Ok ((draft tree).order, after 19 nothing)
   unfolding lowering
   sorted =
       rw (
-        column_is schema at (cash tree) found (codes "CASH_TRANSACTION") columns [] false true (codes "CT_DTS") 1 (whole (codes "CT_DTS")) refl refl,
-        column_is schema at (cash tree) found (codes "CASH_TRANSACTION") columns [] false true (codes "CT_T_ID") 0 (whole (codes "CT_T_ID")) refl refl,
+        column_is schema at (move tree) found (codes "CASH_MOVE") columns [] false true (codes "CM_DTS") 3 (whole (codes "CM_DTS")) refl refl,
+        column_is schema at (move tree) found (codes "CASH_MOVE") columns [] false true (codes "CM_ID") 0 (whole (codes "CM_ID")) refl refl,
       )
 
-  meaning_is : meaning schema select ≡ Ok ((draft tree, names, None ∷ Some Binary ∷ Some Binary ∷ Some Binary ∷ []), [])
+  meaning_is : meaning schema select ≡ Ok ((draft tree, names, None ∷ Some Binary ∷ Some Binary ∷ Some Binary ∷ Some Binary ∷ Some Binary ∷ []), [])
   unfolding everything
-  meaning_is = query_is schema select core source (codes "CASH_TRANSACTION") paging _ refl refl refl refl refl refl
-      (named_is schema core source (codes "CASH_TRANSACTION") at h.named refl refl refl refl columns (after 4 binary)
-      (record { steps = Inner tree ∷ []; filter = terms }) (after 11 nothing) shows matches by _ (after 13 nothing) _ refl refl sorted)
+  meaning_is = query_is schema select core source (codes "CASH_MOVE") paging _ refl refl refl refl refl refl
+      (named_is schema core source (codes "CASH_MOVE") at h.named refl refl refl refl columns (after 6 binary)
+      (record { steps = Inner tree ∷ []; filter = terms }) (after 17 nothing) shows matches by _ (after 19 nothing) _ refl refl sorted)
 
   pub understood_as : (compiled schema statement ≡ Ok (meant (read statement) [] (Select (record { lets = []; body = selection tree terms project order paging }) names))) ⊎ (compiled schema statement ≡ Err Mismatch)
   unfolding everything
-  understood_as = reads_or schema statement (read statement) refl refl select (draft tree) names (None ∷ Some Binary ∷ Some Binary ∷ Some Binary ∷ []) refl meaning_is
+  understood_as = reads_or schema statement (read statement) refl refl select (draft tree) names (None ∷ Some Binary ∷ Some Binary ∷ Some Binary ∷ Some Binary ∷ Some Binary ∷ []) refl meaning_is
 
 pub plain : (schema : Schema) (c : Compiled) → understood schema statement ≡ Ok c → c.returning ≡ None
 unfolding everything

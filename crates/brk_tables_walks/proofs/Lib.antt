@@ -1,11 +1,7 @@
 pub mod Starts
-pub mod Records
-pub mod TradesOf
 pub mod CashBetween
 pub mod LotsBySymbol
 pub mod Walked
 pub mod Telling
 pub mod TellingCash
-pub mod TellingTrades
-pub mod Rising
 pub mod Walks

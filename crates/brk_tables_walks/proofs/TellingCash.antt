@@ -1,5 +1,5 @@
 -- What the statement of a walk over cash rows tells of the tables.
-use Rattle.std.proofs.Common.{◌≡◌, ℕ, List, [], ◌∷◌, ◌++◌, IsTrue, ◌&&◌, map, filter, refl, sym, ap, ◌∙◌}
+use Rattle.std.proofs.Common.{◌≡◌, ℕ, List, [], ◌∷◌, ◌++◌, IsTrue, ◌&&◌, ◌==◌, map, filter, refl, sym, ap, ◌∙◌}
 use Rattle.std.specs.Prelude.{nat_le}
 use Rattle.sqlite_value.specs.Order.{Row, column, value_cmp}
 use Rattle.sqlite_tied.proofs.RuleLemmas.{and_true}
@@ -8,33 +8,37 @@ use Rattle.brk_rows.specs.Desk.{Tells}
 use Rattle.brk_rows.proofs.Looks.{tells_sorted}
 use Rattle.brk_tables_walks.proofs.Starts.{tells_start}
 use Rattle.brk_rows.proofs.Texts.{read}
-use Rattle.brk_tables_form.specs.Cells.{nat, cash_cells}
-use Rattle.brk_tables_form.specs.Desk.{CashRows, desk}
+use Rattle.brk_tables_form.specs.Cells.{nat, move_cells}
+use Rattle.brk_tables_form.specs.Desk.{CashMoves, desk}
 use Rattle.brk_tables_form.specs.Order.{by_key_values}
 use Rattle.brk_tables_form.proofs.Order.{key_total}
 use Rattle.brk_tables_walks.specs.Lists.{stamp_key, cash_between, is_between}
+use Rattle.brk_tables_form.proofs.Tests.{same_number}
 use Rattle.brk_tables_form.proofs.Compared.{at_least, at_most}
 use Rattle.brk_tables_walks.proofs.CashBetween
 use Rattle.brk_tables_walks.proofs.Telling.{second, sorted}
 
-pub tells_cash_between : (old new : State) (from to : ℕ) (rows : List Row) → Shown CashBetween.statement (nat from ∷ nat to ∷ []) old new rows
-    → Tells desk (λ t. rows ≡ map cash_cells (cash_between from to t)) old.now
-tells_cash_between old new from to rows shown = λ t tree h.
-    tells_sorted desk CashRows CashBetween.statement (nat from ∷ nat to ∷ []) (read CashBetween.statement) CashBetween.terms CashBetween.project CashBetween.order CashBetween.paging CashBetween.names CashBetween.understood_as
-    (is_between from to)
-    (λ tree r x e. let a0 : column r 2 ≡ nat x.stamp = ap (λ row. column row 1) e in rw (a0, at_least x.stamp from, at_most x.stamp to) (ap (λ c. nat_le from x.stamp && c) (and_true _)))
-    cash_cells (λ tree r x e. e) (by_key_values stamp_key) (key_total stamp_key)
+pub tells_cash_between : (old new : State) (account from to : ℕ) (rows : List Row) → Shown CashBetween.statement (nat account ∷ nat from ∷ nat to ∷ []) old new rows
+    → Tells desk (λ t. rows ≡ map move_cells (cash_between account from to t)) old.now
+tells_cash_between old new account from to rows shown = λ t tree h.
+    tells_sorted desk CashMoves CashBetween.statement (nat account ∷ nat from ∷ nat to ∷ []) (read CashBetween.statement) CashBetween.terms CashBetween.project CashBetween.order CashBetween.paging CashBetween.names CashBetween.understood_as
+    (is_between account from to)
+    (λ tree r x e.
+    let a0 : column r 2 ≡ nat x.account = ap (λ row. column row 1) e in
+    let a1 : column r 4 ≡ nat x.stamp = ap (λ row. column row 3) e in
+    rw (a0, a1, same_number x.account account, at_least x.stamp from, at_most x.stamp to) (ap (λ c. (x.account == account) && (nat_le from x.stamp && c)) (and_true _)))
+    move_cells (λ tree r x e. e) (by_key_values stamp_key) (key_total stamp_key)
     (λ tree a b x y e f.
-    let p0 : column a 2 ≡ nat x.stamp = ap (λ row. column row 1) e in
-    let q0 : column b 2 ≡ nat y.stamp = ap (λ row. column row 1) f in
-    let p1 : column a 0 ≡ nat x.trade = ap (λ row. column row 0) e in
-    let q1 : column b 0 ≡ nat y.trade = ap (λ row. column row 0) f in
+    let p0 : column a 4 ≡ nat x.stamp = ap (λ row. column row 3) e in
+    let q0 : column b 4 ≡ nat y.stamp = ap (λ row. column row 3) f in
+    let p1 : column a 0 ≡ nat x.id = ap (λ row. column row 0) e in
+    let q1 : column b 0 ≡ nat y.id = ap (λ row. column row 0) f in
     rw (p0, q0, p1, q1) refl)
     old new rows shown (λ x y e. second (value_cmp (nat x.stamp) (nat y.stamp)) _ e) t tree h
-    ∙ ap (map cash_cells) (sym (sorted stamp_key (filter (is_between from to) t.cash)))
+    ∙ ap (map move_cells) (sym (sorted stamp_key (filter (is_between account from to) t.moves)))
 
-pub cash_start : (s : State) (from to : ℕ) (rows : List Row) → IsTrue s.is_open → Begins CashBetween.statement (nat from ∷ nat to ∷ []) s rows
-    → Tells desk (λ t. (tail : List Row) × (rows ++ tail ≡ map cash_cells (cash_between from to t))) s.now
-cash_start s from to rows up begins =
-    tells_start desk CashRows CashBetween.statement (nat from ∷ nat to ∷ []) (read CashBetween.statement) CashBetween.terms CashBetween.project CashBetween.order CashBetween.paging CashBetween.names CashBetween.understood_as s rows begins up
-    (λ t all. all ≡ map cash_cells (cash_between from to t)) (λ all. tells_cash_between s s from to all)
+pub cash_start : (s : State) (account from to : ℕ) (rows : List Row) → IsTrue s.is_open → Begins CashBetween.statement (nat account ∷ nat from ∷ nat to ∷ []) s rows
+    → Tells desk (λ t. (tail : List Row) × (rows ++ tail ≡ map move_cells (cash_between account from to t))) s.now
+cash_start s account from to rows up begins =
+    tells_start desk CashMoves CashBetween.statement (nat account ∷ nat from ∷ nat to ∷ []) (read CashBetween.statement) CashBetween.terms CashBetween.project CashBetween.order CashBetween.paging CashBetween.names CashBetween.understood_as s rows begins up
+    (λ t all. all ≡ map move_cells (cash_between account from to t)) (λ all. tells_cash_between s s account from to all)

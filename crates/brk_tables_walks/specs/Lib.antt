@@ -1,4 +1,3 @@
 pub mod Walk
 pub mod Walks
 pub mod Lists
-pub mod Numbers

@@ -1,14 +1,12 @@
 //! Rows of an open query, handed out one at a time: the lots of an account, and cash rows by their stamps.
 #![tactic(auto)]
 
-pub mod account_trades;
 pub mod cash;
 pub mod lots;
 pub mod visitor;
 pub mod walking;
 
-pub use account_trades::{AccountTrades, trades_of};
-pub use cash::{OfTrades, walk_cash_between};
+pub use cash::walk_cash_between;
 pub use lots::walk_lots;
 pub use visitor::Visitor;
 pub use walking::{Stop, walk};

@@ -1,6 +1,6 @@
 -- Rows of tables in form have their forms column by column.
 use Rattle.std.proofs.Common.{◌≡◌, ℕ, List, [], ◌∷◌, Bool, true, false, Option, Some, None, map, refl, sym, subst, inl, inr, arith, is_some, find, codes}
-use Rattle.std.specs.Prelude.{◌&&◌, ◌||◌, ◌==◌, nat_le, bytes_eq}
+use Rattle.std.specs.Prelude.{◌&&◌, ◌||◌, ◌==◌, ◌≤◌, nat_le, bytes_eq}
 use Rattle.std.specs.List.{list_any, list_all}
 use Rattle.std.specs.Option.{option_map_or}
 use Rattle.std.proofs.lemmas.Bool.{cases_Bool, and_parts, eqb-true, leb-true, le-leb}
@@ -16,7 +16,8 @@ use Rattle.brk_money.specs.declared.status.Status.TheVariants.{Completed, Active
 use Rattle.brk_money.specs.declared.tax_status.TaxStatus.{TaxStatus}
 use Rattle.brk_money.specs.declared.tax_status.TaxStatus.TheVariants.{Untaxed, Withheld, Reported}
 use Rattle.brk_model.specs.Forms.{is_symbol}
-use Rattle.brk_model.specs.Form.{is_id, is_stamp, has_trade, has_account, has_security, has_customer, has_broker, customer_form, broker_form, account_form, security_form, trade_form, tax_rate_form, is_cash_type}
+use Rattle.brk_model.specs.Form.{is_id, is_qty, is_stamp, has_trade, has_account, has_security, has_customer, has_broker, customer_form, broker_form, account_form, security_form, trade_form, tax_rate_form, is_cash_type}
+use Rattle.brk_model.specs.Schemas.{Schema, third_schema}
 use Rattle.brk_model.specs.Tables.{Tables}
 use Rattle.brk_model_laws.specs.FormParts.{FormParts}
 use Rattle.brk_model_laws.proofs.Conjunctions.{parts3, parts5, parts6, parts10}
@@ -48,7 +49,7 @@ find_gives p q (x ∷ xs) h all = let k = and_parts (q x) (list_all q xs) all in
 pub same_bytes : (a b : List ℕ) → bytes_eq a b ≡ true → a ≡ b
 same_bytes a b h = (bytes_eq-Decides a b).0 h
 
-module _ (t : Tables) (p : FormParts t) where
+module _ (schema : Schema) (t : Tables) (p : FormParts schema t) where
   pub customer_id : (id : ℕ) → has_customer t id ≡ true → is_id id ≡ true
   customer_id id h = let c = any_gives (λ c. c.id == id) customer_form t.customers h p.customers in subst (λ n. is_id n ≡ true) (eqb-true c.0.id id c.1) (parts5 _ _ _ _ _ c.2).0
 
@@ -62,7 +63,7 @@ module _ (t : Tables) (p : FormParts t) where
   account_id id h = let a = find_gives (λ a. a.id == id) (account_form t) t.accounts h p.accounts in subst (λ n. is_id n ≡ true) (eqb-true a.0.id id a.1) (parts6 _ _ _ _ _ _ a.2).0
 
   pub trade_id : (id : ℕ) → has_trade t id ≡ true → is_id id ≡ true
-  trade_id id h = let r = find_gives (λ r. r.id == id) (trade_form t) t.trades h p.trades in subst (λ n. is_id n ≡ true) (eqb-true r.0.id id r.1) (parts10 _ _ _ _ _ _ _ _ _ _ r.2).0
+  trade_id id h = let r = find_gives (λ r. r.id == id) (trade_form schema t) t.trades h p.trades in subst (λ n. is_id n ≡ true) (eqb-true r.0.id id r.1) (parts10 _ _ _ _ _ _ _ _ _ _ r.2).0
 
   pub symbol_of : (symbol : List ℕ) → has_security t symbol ≡ true → is_symbol symbol ≡ true
   symbol_of symbol h = let s = find_gives (λ s. bytes_eq s.symbol symbol) (security_form t) t.securities h p.securities in subst (λ w. is_symbol w ≡ true) (same_bytes s.0.symbol symbol s.1) (parts5 _ _ _ _ _ s.2).0
@@ -73,6 +74,17 @@ module _ (t : Tables) (p : FormParts t) where
       go : (last : Option ℕ) → option_map_or (λ last. nat_le last last_stamp) last true ≡ true → option_map_or (λ last. nat_le stamp last) last false ≡ true → nat_le stamp last_stamp ≡ true
       go None c h = absurd (let e = h in cc)
       go (Some last) c h = let a = leb-true last last_stamp c in let b = leb-true stamp last h in le-leb stamp last_stamp (omega (arith, a, b))
+
+-- ---- quantities
+
+-- the limits of a schema are no greater than those of the third, by which a row is read
+pub wider : (schema : Schema) → schema.greatest_qty ≤ third_schema.greatest_qty → (n : ℕ) → is_qty schema n ≡ true → is_qty third_schema n ≡ true
+wider schema narrow n h =
+    let k = and_parts (nat_le 1 n) (nat_le n schema.greatest_qty) h in
+    both k.0 (at_most n schema.greatest_qty third_schema.greatest_qty narrow k.1)
+  where
+    at_most : (n a b : ℕ) → a ≤ b → nat_le n a ≡ true → nat_le n b ≡ true
+    at_most n a b narrow h = let k = leb-true n a h in le-leb n b (omega (arith, narrow, k))
 
 -- ---- words
 

@@ -5,7 +5,7 @@ use Rattle.sqlite_value.specs.Order.{column}
 use Rattle.sqlite_value.proofs.OrderLemmas.{then-Equal}
 use Rattle.brk_model.specs.Keys.{history_key, summary_key, holding_history_key}
 use Rattle.brk_rows.proofs.Writes.{IsRowidKey, IsUniqueKey}
-use Rattle.brk_tables_form.specs.Desk.{Which, TheDesk, KeptRows, Brokers, Customers, Accounts, Permissions, Securities, LastTrades, Charges, Bands, TaxRates, CustomerTaxes, Trades, TradeHistory, Requests, Holdings, Summaries, HoldingHistory, Settlements, CashRows, shape, encode, order}
+use Rattle.brk_tables_form.specs.Desk.{Which, TheDesk, KeptRows, Brokers, Customers, Accounts, Permissions, Securities, LastTrades, Charges, Bands, TaxRates, CustomerTaxes, Trades, TradeHistory, Requests, Holdings, Summaries, HoldingHistory, Settlements, CashRows, CashMoves, SettleRules, shape, encode, order}
 use Rattle.brk_tables_form.proofs.Places.{desk_keyed, broker_keyed, customer_keyed, account_keyed, tax_rate_keyed}
 use Rattle.brk_tables_form.proofs.Unique.{same_key, kept_keyed, permission_keyed, security_keyed, last_trade_keyed, charge_keyed, band_keyed, customer_tax_keyed}
 
@@ -77,3 +77,11 @@ summary_once = inr (record { key = 1 ∷ 2 ∷ []; first = λ tree. refl; tied =
 
 pub holding_history_once : IsOnce HoldingHistory
 holding_history_once = inr (record { key = 1 ∷ 2 ∷ []; first = λ tree. refl; tied = λ tree r s x y e f. same_key (holding_history_key x) (holding_history_key y) (1 ∷ 2 ∷ []) r s (ap (take 2) e) (ap (take 2) f) })
+
+pub move_once : IsOnce CashMoves
+move_once =
+    inl (λ tree r s x y e f. let a : column r 0 ≡ Int (pos x.id) = cc in let b : column s 0 ≡ Int (pos y.id) = cc in rw (a, b) (ap is_eq (then-Equal _)))
+
+pub rule_once : IsOnce SettleRules
+rule_once =
+    inl (λ tree r s x y e f. let a : column r 0 ≡ Int (pos x.id) = cc in let b : column s 0 ≡ Int (pos y.id) = cc in rw (a, b) (ap is_eq (then-Equal _)))

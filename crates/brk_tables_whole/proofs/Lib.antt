@@ -1,4 +1,7 @@
 pub mod AllAccounts
+pub mod AllCashMoves
+pub mod AllSettleRules
+pub mod Listed
 pub mod AllBands
 pub mod AllBrokers
 pub mod AllCashRows

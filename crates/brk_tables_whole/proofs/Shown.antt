@@ -4,14 +4,14 @@ use Rattle.sqlite_value.specs.declared.value.Value.TheVariants.{Text as Words}
 use Rattle.sqlite_value.specs.Order.{Row, column}
 use Rattle.sqlite.specs.State.{State, Shown}
 use Rattle.brk_money.specs.Kinds.{type_code, status_code}
-use Rattle.brk_model.specs.Keys.{kept_key, broker_key, customer_key, account_key, permission_key, security_key, last_trade_key, charge_key, band_key, tax_rate_key, customer_tax_key, trade_key, history_key, request_key, holding_key, summary_key, holding_history_key, settlement_key, cash_key}
+use Rattle.brk_model.specs.Keys.{kept_key, broker_key, customer_key, account_key, permission_key, security_key, last_trade_key, charge_key, band_key, tax_rate_key, customer_tax_key, trade_key, history_key, request_key, holding_key, summary_key, holding_history_key, settlement_key, cash_key, move_key}
 use Rattle.brk_rows.proofs.Texts.{read}
 use Rattle.brk_tables_form.specs.Cells.{nat}
-use Rattle.brk_tables_form.specs.Desk.{TheDesk, KeptRows, Brokers, Customers, Accounts, Permissions, Securities, LastTrades, Charges, Bands, TaxRates, CustomerTaxes, Trades, TradeHistory, Requests, Holdings, Summaries, HoldingHistory, Settlements, CashRows, desk_key}
+use Rattle.brk_tables_form.specs.Desk.{TheDesk, KeptRows, Brokers, Customers, Accounts, Permissions, Securities, LastTrades, Charges, Bands, TaxRates, CustomerTaxes, Trades, TradeHistory, Requests, Holdings, Summaries, HoldingHistory, Settlements, CashRows, CashMoves, SettleRules, desk_key, rule_key}
 use Rattle.brk_tables_form.proofs.Order.{key_total}
 use Rattle.brk_tables_whole.specs.Whole.{ShowsAll}
 use Rattle.brk_tables_whole.proofs.Whole.{shows_all}
-use Rattle.brk_tables_whole.proofs.Keyed.{desk_row_once, kept_once, broker_once, customer_once, account_once, permission_once, security_once, last_trade_once, charge_once, band_once, tax_rate_once, customer_tax_once, trade_once, history_once, request_once, holding_once, summary_once, holding_history_once, settlement_once, cash_once}
+use Rattle.brk_tables_whole.proofs.Keyed.{desk_row_once, kept_once, broker_once, customer_once, account_once, permission_once, security_once, last_trade_once, charge_once, band_once, tax_rate_once, customer_tax_once, trade_once, history_once, request_once, holding_once, summary_once, holding_history_once, settlement_once, cash_once, move_once, rule_once}
 use Rattle.brk_tables_whole.proofs.AllDesk
 use Rattle.brk_tables_whole.proofs.AllKeptRows
 use Rattle.brk_tables_whole.proofs.AllBrokers
@@ -32,6 +32,8 @@ use Rattle.brk_tables_whole.proofs.AllSummaries
 use Rattle.brk_tables_whole.proofs.AllHoldingHistory
 use Rattle.brk_tables_whole.proofs.AllSettlements
 use Rattle.brk_tables_whole.proofs.AllCashRows
+use Rattle.brk_tables_whole.proofs.AllCashMoves
+use Rattle.brk_tables_whole.proofs.AllSettleRules
 
 pub desk_row_shown : (old new : State) (rows : List Row) → Shown AllDesk.statement [] old new rows → ShowsAll TheDesk rows old.now
 desk_row_shown old new rows shown =
@@ -132,3 +134,13 @@ pub cash_shown : (old new : State) (rows : List Row) → Shown AllCashRows.state
 cash_shown old new rows shown =
     shows_all CashRows (key_total cash_key) cash_once AllCashRows.statement (read AllCashRows.statement) AllCashRows.project AllCashRows.order AllCashRows.names AllCashRows.understood_as (λ tree r. refl)
     (λ tree a b x y e f. let p0 : column a 0 ≡ nat x.trade = cc in let q0 : column b 0 ≡ nat y.trade = cc in rw (p0, q0) refl) old new rows shown
+
+pub move_shown : (old new : State) (rows : List Row) → Shown AllCashMoves.statement [] old new rows → ShowsAll CashMoves rows old.now
+move_shown old new rows shown =
+    shows_all CashMoves (key_total move_key) move_once AllCashMoves.statement (read AllCashMoves.statement) AllCashMoves.project AllCashMoves.order AllCashMoves.names AllCashMoves.understood_as (λ tree r. refl)
+    (λ tree a b x y e f. let p0 : column a 0 ≡ nat x.id = cc in let q0 : column b 0 ≡ nat y.id = cc in rw (p0, q0) refl) old new rows shown
+
+pub rule_shown : (old new : State) (rows : List Row) → Shown AllSettleRules.statement [] old new rows → ShowsAll SettleRules rows old.now
+rule_shown old new rows shown =
+    shows_all SettleRules (key_total rule_key) rule_once AllSettleRules.statement (read AllSettleRules.statement) AllSettleRules.project AllSettleRules.order AllSettleRules.names AllSettleRules.understood_as (λ tree r. refl)
+    (λ tree a b x y e f. let p0 : column a 0 ≡ nat x.id = cc in let q0 : column b 0 ≡ nat y.id = cc in rw (p0, q0) refl) old new rows shown

@@ -1,5 +1,5 @@
 -- Written by tools/tables.py: what a statement that shows all columns of a table, and is not run, tells of them.
-use Rattle.std.proofs.Common.{◌≡◌, ℕ, List, codes, map, Some, Ok, refl, slice_get}
+use Rattle.std.proofs.Common.{◌≡◌, ℕ, codes, map, Some, Ok, refl, slice_get}
 use Rattle.sqlite_schema.specs.declared.schema.Schema.{Schema}
 use Rattle.sqlite_schema.specs.declared.schema.Table.{Table}
 use Rattle.sqlite_schema.specs.Names.{table_named}
@@ -9,29 +9,8 @@ use Rattle.sqlite.specs.Steps.{column_names}
 use Rattle.sqlite_tied.specs.Compute.{everything}
 use Rattle.brk_rows.proofs.Stars.{shown_columns}
 use Rattle.brk_rows.proofs.Texts.{read}
-use Rattle.brk_tables_form.specs.Desk.{Which, TheDesk, KeptRows, Brokers, Customers, Accounts, Permissions, Securities, LastTrades, Charges, Bands, TaxRates, CustomerTaxes, Trades, TradeHistory, Requests, Holdings, Summaries, HoldingHistory, Settlements, CashRows, shape}
-
-abbrev pub star : Which → List ℕ
-star TheDesk = codes "SELECT * FROM DESK"
-star KeptRows = codes "SELECT * FROM KEPT"
-star Brokers = codes "SELECT * FROM BROKER"
-star Customers = codes "SELECT * FROM CUSTOMER"
-star Accounts = codes "SELECT * FROM CUSTOMER_ACCOUNT"
-star Permissions = codes "SELECT * FROM ACCOUNT_PERMISSION"
-star Securities = codes "SELECT * FROM SECURITY"
-star LastTrades = codes "SELECT * FROM LAST_TRADE"
-star Charges = codes "SELECT * FROM CHARGE"
-star Bands = codes "SELECT * FROM COMMISSION_RATE"
-star TaxRates = codes "SELECT * FROM TAXRATE"
-star CustomerTaxes = codes "SELECT * FROM CUSTOMER_TAXRATE"
-star Trades = codes "SELECT * FROM TRADE"
-star TradeHistory = codes "SELECT * FROM TRADE_HISTORY"
-star Requests = codes "SELECT * FROM TRADE_REQUEST"
-star Holdings = codes "SELECT * FROM HOLDING"
-star Summaries = codes "SELECT * FROM HOLDING_SUMMARY"
-star HoldingHistory = codes "SELECT * FROM HOLDING_HISTORY"
-star Settlements = codes "SELECT * FROM SETTLEMENT"
-star CashRows = codes "SELECT * FROM CASH_TRANSACTION"
+use Rattle.brk_tables_form.specs.Desk.{Which, TheDesk, KeptRows, Brokers, Customers, Accounts, Permissions, Securities, LastTrades, Charges, Bands, TaxRates, CustomerTaxes, Trades, TradeHistory, Requests, Holdings, Summaries, HoldingHistory, Settlements, CashRows, CashMoves, SettleRules, shape}
+use Rattle.brk_tables_whole.specs.Headings.{star}
 
 pub columns_told : (w : Which) (schema : Schema) (at : ℕ) (table : Table) → table_named schema (shape w 0).name ≡ Some at → slice_get schema.tables at ≡ Some table
     → (c : Compiled) → understood schema (star w) ≡ Ok c → column_names c ≡ map (λ c. c.name) table.columns
@@ -56,3 +35,5 @@ columns_told Summaries = shown_columns (star Summaries) (read (star Summaries)) 
 columns_told HoldingHistory = shown_columns (star HoldingHistory) (read (star HoldingHistory)) (codes "HOLDING_HISTORY") refl refl refl refl
 columns_told Settlements = shown_columns (star Settlements) (read (star Settlements)) (codes "SETTLEMENT") refl refl refl refl
 columns_told CashRows = shown_columns (star CashRows) (read (star CashRows)) (codes "CASH_TRANSACTION") refl refl refl refl
+columns_told CashMoves = shown_columns (star CashMoves) (read (star CashMoves)) (codes "CASH_MOVE") refl refl refl refl
+columns_told SettleRules = shown_columns (star SettleRules) (read (star SettleRules)) (codes "SETTLE_RULE") refl refl refl refl

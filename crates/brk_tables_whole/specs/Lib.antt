@@ -1,5 +1,5 @@
-pub mod Headings
 pub mod Schemas
+pub mod Headings
 pub mod Whole
 pub mod Raw
 pub mod Decoded

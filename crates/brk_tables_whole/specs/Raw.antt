@@ -2,13 +2,15 @@
 use Rattle.std.specs.Prelude.{◌≡◌, List, IsTrue}
 use Rattle.sqlite_value.specs.Order.{Row}
 use Rattle.sqlite.specs.State.{State}
-use Rattle.brk_tables_form.specs.Desk.{Which, TheDesk, KeptRows, Brokers, Customers, Accounts, Permissions, Securities, LastTrades, Charges, Bands, TaxRates, CustomerTaxes, Trades, TradeHistory, Requests, Holdings, Summaries, HoldingHistory, Settlements, CashRows}
-use Rattle.brk_tables_whole.specs.Whole.{ShowsAll}
+use Rattle.brk_tables_form.specs.Desk.{Which, TheDesk, KeptRows, Brokers, Customers, Accounts, Permissions, Securities, LastTrades, Charges, Bands, TaxRates, CustomerTaxes, Trades, TradeHistory, Requests, Holdings, Summaries, HoldingHistory, Settlements, CashRows, CashMoves, SettleRules}
+use Rattle.brk_model.specs.Schemas.{Schema}
+use Rattle.brk_tables_whole.specs.Whole.{ShowsAll, ShowsIf}
 use Rattle.brk_tables_whole.specs.declared.raw.FirstRows.{FirstRows}
 use Rattle.brk_tables_whole.specs.declared.raw.AccountRows.{AccountRows}
 use Rattle.brk_tables_whole.specs.declared.raw.RateRows.{RateRows}
 use Rattle.brk_tables_whole.specs.declared.raw.TradeRows.{TradeRows}
 use Rattle.brk_tables_whole.specs.declared.raw.LastRows.{LastRows}
+use Rattle.brk_tables_whole.specs.declared.raw.LaterRows.{LaterRows}
 use Rattle.brk_tables_whole.specs.declared.raw.RawSheets.{RawSheets}
 
 -- nothing changed, and the database is open
@@ -38,6 +40,12 @@ ShowsTrade raw = ShowsFour Trades TradeHistory Requests Holdings raw.trades.item
 abbrev pub ShowsLast : LastRows → State → State → Type 0
 ShowsLast raw = ShowsFour Summaries HoldingHistory Settlements CashRows raw.summaries.items raw.holding_history.items raw.settlements.items raw.cash.items
 
+-- the rows of the tables that later schemas add, where a schema has them
+pub record ShowsLater (desk : Schema) (raw : LaterRows) (old new : State) : Type 0 where
+  pub same : new.now ≡ old.now
+  pub moves : ShowsIf desk CashMoves raw.moves.items old.now
+  pub rule : ShowsIf desk SettleRules raw.rule.items old.now
+
 -- the rows of each table
 abbrev pub raw_rows : RawSheets → Which → List Row
 raw_rows raw TheDesk = raw.first.desk.items
@@ -60,7 +68,9 @@ raw_rows raw Summaries = raw.last.summaries.items
 raw_rows raw HoldingHistory = raw.last.holding_history.items
 raw_rows raw Settlements = raw.last.settlements.items
 raw_rows raw CashRows = raw.last.cash.items
+raw_rows raw CashMoves = raw.later.moves.items
+raw_rows raw SettleRules = raw.later.rule.items
 
--- each table is shown whole, and nothing changed
-abbrev pub ShowsDesk : RawSheets → State → State → Type 0
-ShowsDesk raw old new = Stays old new × ((w : Which) → ShowsAll w (raw_rows raw w) old.now)
+-- each table of a schema is shown whole, none of another, and nothing changed
+abbrev pub ShowsDesk : Schema → RawSheets → State → State → Type 0
+ShowsDesk desk raw old new = Stays old new × ((w : Which) → ShowsIf desk w (raw_rows raw w) old.now)

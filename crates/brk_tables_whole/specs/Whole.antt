@@ -1,11 +1,12 @@
 -- What the reads of whole tables tell.
-use Rattle.std.specs.Prelude.{◌≡◌, ℕ, false, ◌&&◌, List, map, Option, Some, None, Result, IsTrue}
+use Rattle.std.specs.Prelude.{◌≡◌, ℕ, false, ◌&&◌, List, [], map, Option, Some, None, Result, IsTrue}
 use Rattle.std.specs.Global.{Vec}
 use Rattle.std.specs.List.Sorted.{IsPermutation}
 use Rattle.sqlite_value.specs.Order.{Row}
 use Rattle.sqlite_trees.specs.declared.store.Store.{Ghosts}
 use Rattle.sqlite.specs.Effect.{Database, IsDatabase}
 use Rattle.sqlite.specs.declared.transaction.Transaction.{Transaction}
+use Rattle.brk_model.specs.Schemas.{Schema}
 use Rattle.brk_model.specs.Tables.{Tables}
 use Rattle.brk_model.specs.Form.{has_form, has_texts}
 use Rattle.brk_changes.specs.declared.sheets.Sheets.{Sheets}
@@ -13,8 +14,8 @@ use Rattle.brk_changes.specs.Sheets.{tables_in_sheets}
 use Rattle.brk_rows.specs.Rows.{cells, Holds}
 use Rattle.brk_rows.specs.Desk.{Stands}
 use Rattle.brk_rows.specs.Model.{Steps}
-use Rattle.brk_tables_form.specs.Desk.{Which, Item, shape, encode, order}
-use Rattle.brk_tables_form.specs.Made.{HasRows}
+use Rattle.brk_tables_form.specs.Desk.{Which, Item, shape, encode, order, has_table}
+use Rattle.brk_tables_form.specs.Made.{HasRowsIn, IsOf}
 use Rattle.brk_tables_whole.specs.Schemas.{IsKeyed}
 
 -- rows are those of a table at this tree, in the order of its key
@@ -34,7 +35,15 @@ ShowsAll w rows db = (at tree : ℕ) → Stands db.schema (shape w tree) at → 
 abbrev pub ReadsWhole : {S E : Type 0} → Ghosts S → Transaction S → Transaction S → Result (Vec Row) E → Which → Type 0
 ReadsWhole g old new result w = Steps g old new result (λ rows a b. IsTrue a.is_open × (b.now ≡ a.now) × ShowsAll w rows.items a.now)
 
--- the rows were read in types: these are what the desk's tables hold, or no tables in form have these rows
-abbrev pub WasRead : Database → Option Sheets → Type 0
-WasRead db (Some sheets) = HasRows (tables_in_sheets sheets) db
-WasRead db None = (t : Tables) → HasRows t db → has_form t && has_texts t ≡ false
+-- the rows of a table that a schema has, and no rows of one that it lacks
+abbrev pub ShowsIf : Schema → Which → List Row → Database → Type 0
+ShowsIf desk w rows db = (IsOf desk w → ShowsAll w rows db) × (has_table desk w ≡ false → rows ≡ [])
+
+-- it changes nothing, and its answer is the rows of this table, where the schema has it
+abbrev pub ReadsIf : {S E : Type 0} → Ghosts S → Transaction S → Transaction S → Result (Vec Row) E → Schema → Which → Type 0
+ReadsIf g old new result desk w = Steps g old new result (λ rows a b. (b.now ≡ a.now) × ShowsIf desk w rows.items a.now)
+
+-- the rows were read in types: these are what the tables of the schema hold, or no tables in form by the schema have these rows
+abbrev pub WasRead : Schema → Database → Option Sheets → Type 0
+WasRead desk db (Some sheets) = HasRowsIn desk (tables_in_sheets sheets) db
+WasRead desk db None = (t : Tables) → HasRowsIn desk t db → has_form desk t && has_texts t ≡ false

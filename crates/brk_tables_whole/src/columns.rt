@@ -3,13 +3,16 @@
 ghost use Rattle.std.specs.Prelude.{◌≡◌, ◌↔◌, map, Err, OnErr, IsTrue};
 ghost use Rattle.brk_money.specs.declared.fault.Fault.TheVariants.{Store};
 ghost use Rattle.brk_rows.specs.Model.{Steps};
-ghost use Rattle.brk_tables_whole.specs.Headings.{HeadsEach, heading};
-ghost use Rattle.brk_tables_whole.specs.Schemas.{HasTablesOf, first_schema};
+ghost use Rattle.brk_tables_whole.specs.Headings.{HeadsEach, heading, heading_of};
+ghost use Rattle.brk_changes.specs.Schemas.{schema_of};
+ghost use Rattle.brk_tables_form.specs.Desk.{tables_in};
+ghost use Rattle.brk_tables_whole.specs.Schemas.{HasTablesOf, LacksLater};
 
-use crate::column_names::COLUMN_NAMES;
+use crate::column_names::{IN_FIRST, IN_SECOND, IN_THIRD};
+use brk_changes::Schema;
 use brk_money::Fault;
 use brk_tables_form::calls::shows_columns;
-use brk_tables_making::has_every_table;
+use brk_tables_making::has_tables_of;
 use sqlite::{Alter, Transaction};
 
 // Whether each of the statements shows just the columns of its names.
@@ -29,14 +32,28 @@ fn each_shows<S: Alter>(
     Ok(true)
 }
 
-/// Whether each table of a desk is there, with just its columns in their order. It is asked of whatever tables there are.
-pub fn has_tables<S: Alter>(tx: &mut Transaction<'_, S>) -> Result<bool, Fault>
+// Whether the tables of a schema show just their columns.
+fn shows_columns_of<S: Alter>(tx: &mut Transaction<'_, S>, schema: Schema) -> Result<bool, Fault>
     ensures same_reference { tx.new.conn.ghost_name ≡ tx.old.conn.ghost_name }
-    ensures step { Steps S.Store tx.old tx.new result (λ has a b. IsTrue a.is_open × (b.now ≡ a.now) × (IsTrue has ↔ HasTablesOf first_schema a.now.schema)) }
+    ensures step { Steps S.Store tx.old tx.new result (λ has a b. (b.now ≡ a.now) × HeadsEach (map heading_of (tables_in (schema_of schema))) has a.now.schema) }
     ensures fault { OnErr result (result ≡ Err Store) }
 {
-    if !has_every_table(tx)? {
+    match schema {
+        Schema::First => each_shows(tx, &IN_FIRST),
+        Schema::Second => each_shows(tx, &IN_SECOND),
+        Schema::Third => each_shows(tx, &IN_THIRD),
+    }
+}
+
+/// Whether each table of a schema is there, with just its columns in their order, and none that a later schema adds. It is asked
+/// of whatever tables there are.
+pub fn has_tables<S: Alter>(tx: &mut Transaction<'_, S>, schema: Schema) -> Result<bool, Fault>
+    ensures same_reference { tx.new.conn.ghost_name ≡ tx.old.conn.ghost_name }
+    ensures step { Steps S.Store tx.old tx.new result (λ has a b. IsTrue a.is_open × (b.now ≡ a.now) × (IsTrue has ↔ HasTablesOf (schema_of schema) a.now.schema × LacksLater (schema_of schema) a.now.schema)) }
+    ensures fault { OnErr result (result ≡ Err Store) }
+{
+    if !has_tables_of(tx, schema)? {
         return Ok(false);
     }
-    each_shows(tx, &COLUMN_NAMES)
+    shows_columns_of(tx, schema)
 }

@@ -2,14 +2,15 @@
 
 ghost use Rattle.std.specs.Prelude.{◌≡◌, Err, IfOk, false};
 ghost use Rattle.brk_tables_form.specs.declared.misread.Misread.TheVariants.{Form as Formless};
-ghost use Rattle.brk_tables_whole.specs.Decoded.{AreSheets, IsFirst, IsAccount, IsRate, IsTrade, IsLast, formed, formed_first, formed_accounts, formed_rates, formed_trades, formed_last};
+ghost use Rattle.brk_tables_whole.specs.Decoded.{AreSheets, IsFirst, IsAccount, IsRate, IsTrade, IsLast, IsLater, formed, formed_first, formed_accounts, formed_rates, formed_trades, formed_last, formed_later};
+ghost use Rattle.brk_changes.specs.Schemas.{schema_of};
 
-use crate::raw::{AccountRows, FirstRows, LastRows, RateRows, RawSheets, TradeRows};
+use crate::raw::{AccountRows, FirstRows, LastRows, LaterRows, RateRows, RawSheets, TradeRows};
 use brk_changes::{
-    CashRow, HistoryRow, HoldingRow, LotChange, RequestRow, SettlementRow, Sheets, SummaryRow,
-    TradeRow,
+    CashRow, HistoryRow, HoldingRow, LotChange, MoveRow, RequestRow, Schema, SettlementRow, Sheets,
+    SummaryRow, TradeRow,
 };
-use brk_money::Stamp;
+use brk_money::{Day, Stamp};
 use brk_ref::{
     AccountRow, Band, BrokerRow, Charge, Customer, CustomerTax, Kept, LastTrade, Permission,
     Security, Tax,
@@ -17,6 +18,7 @@ use brk_ref::{
 use brk_tables_form::Misread;
 use brk_tables_form::desk_row::stamp_in_rows;
 use brk_tables_form::record::all_records;
+use brk_tables_form::rule_row::day_in_rows;
 use std::alloc::Global;
 
 #[derive(Drop)]
@@ -28,12 +30,12 @@ pub struct FirstSheets {
 }
 
 #[tactic(auto, using(crate::proofs::Formless::first_fails, crate::proofs::Formless::last_fails))]
-fn decode_first(alloc: Global, raw: &FirstRows) -> Result<FirstSheets, Misread>
-    ensures value { IfOk result (λ sheets. IsFirst sheets raw.now) }
-    ensures form { result ≡ Err Formless → formed_first raw.now ≡ false }
+fn decode_first(alloc: Global, schema: Schema, raw: &FirstRows) -> Result<FirstSheets, Misread>
+    ensures value { IfOk result (λ sheets. IsFirst (schema_of schema) sheets raw.now) }
+    ensures form { result ≡ Err Formless → formed_first (schema_of schema) raw.now ≡ false }
 {
     Ok(FirstSheets {
-        last: stamp_in_rows(&raw.desk)?,
+        last: stamp_in_rows(schema, &raw.desk)?,
         kept: all_records(alloc, &raw.kept)?,
         brokers: all_records(alloc, &raw.brokers)?,
         customers: all_records(alloc, &raw.customers)?,
@@ -124,16 +126,34 @@ fn decode_last(alloc: Global, raw: &LastRows) -> Result<LastSheets, Misread>
     })
 }
 
-/// All rows in types, where each column has its form.
-pub fn decode(alloc: Global, raw: &RawSheets) -> Result<Sheets, Misread>
-    ensures value { IfOk result (λ sheets. AreSheets sheets raw.now) }
-    ensures form { result ≡ Err Formless → formed raw.now ≡ false }
+#[derive(Drop)]
+pub struct LaterSheets {
+    moves: Vec<MoveRow>,
+    rule: Option<Day>,
+}
+
+#[tactic(auto, using(crate::proofs::Formless::first_fails, crate::proofs::Formless::last_fails))]
+fn decode_later(alloc: Global, raw: &LaterRows) -> Result<LaterSheets, Misread>
+    ensures value { IfOk result (λ sheets. IsLater sheets raw.now) }
+    ensures form { result ≡ Err Formless → formed_later raw.now ≡ false }
 {
-    let first = decode_first(alloc, &raw.first)?;
+    Ok(LaterSheets {
+        moves: all_records(alloc, &raw.moves)?,
+        rule: day_in_rows(&raw.rule)?,
+    })
+}
+
+/// All rows in types, where each column has its form.
+pub fn decode(alloc: Global, schema: Schema, raw: &RawSheets) -> Result<Sheets, Misread>
+    ensures value { IfOk result (λ sheets. AreSheets (schema_of schema) sheets raw.now) }
+    ensures form { result ≡ Err Formless → formed (schema_of schema) raw.now ≡ false }
+{
+    let first = decode_first(alloc, schema, &raw.first)?;
     let accounts = decode_accounts(alloc, &raw.accounts)?;
     let rates = decode_rates(alloc, &raw.rates)?;
     let trades = decode_trades(alloc, &raw.trades)?;
     let last = decode_last(alloc, &raw.last)?;
+    let later = decode_later(alloc, &raw.later)?;
     Ok(Sheets {
         last: first.last,
         kept: first.kept,
@@ -155,5 +175,7 @@ pub fn decode(alloc: Global, raw: &RawSheets) -> Result<Sheets, Misread>
         holding_history: last.holding_history,
         settlements: last.settlements,
         cash: last.cash,
+        moves: later.moves,
+        rule: later.rule,
     })
 }

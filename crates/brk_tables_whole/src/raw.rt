@@ -3,16 +3,19 @@
 ghost use Rattle.std.specs.Prelude.{◌≡◌, Err, OnErr};
 ghost use Rattle.brk_money.specs.declared.fault.Fault.TheVariants.{Store};
 ghost use Rattle.brk_rows.specs.Model.{Steps};
-ghost use Rattle.brk_tables_whole.specs.Raw.{ShowsFirst, ShowsAccount, ShowsRate, ShowsTrade, ShowsLast, ShowsDesk};
+ghost use Rattle.brk_tables_whole.specs.Raw.{ShowsFirst, ShowsAccount, ShowsRate, ShowsTrade, ShowsLast, ShowsLater, ShowsDesk};
+ghost use Rattle.brk_changes.specs.Schemas.{schema_of};
 
 use crate::rows::{
     account_rows, band_rows, broker_rows, cash_rows, charge_rows, customer_rows, customer_tax_rows,
     desk_rows, history_rows, holding_history_rows, holding_rows, kept_rows, last_trade_rows,
-    permission_rows, request_rows, security_rows, settlement_rows, summary_rows, tax_rate_rows,
-    trade_rows,
+    move_rows_in, permission_rows, request_rows, rule_rows_in, security_rows, settlement_rows,
+    summary_rows, tax_rate_rows, trade_rows,
 };
+use brk_changes::Schema;
 use brk_money::Fault;
 use sqlite::{Alter, Row, Transaction};
+use std::alloc::Global;
 
 /// The rows of DESK, KEPT, BROKER and CUSTOMER.
 #[derive(Drop)]
@@ -59,6 +62,13 @@ pub struct LastRows {
     pub cash: Vec<Row>,
 }
 
+/// The rows of CASH_MOVE and SETTLE_RULE.
+#[derive(Drop)]
+pub struct LaterRows {
+    pub moves: Vec<Row>,
+    pub rule: Vec<Row>,
+}
+
 /// The rows of all tables.
 #[derive(Drop)]
 pub struct RawSheets {
@@ -67,6 +77,7 @@ pub struct RawSheets {
     pub rates: RateRows,
     pub trades: TradeRows,
     pub last: LastRows,
+    pub later: LaterRows,
 }
 
 fn read_first<S: Alter>(tx: &mut Transaction<'_, S>) -> Result<FirstRows, Fault>
@@ -134,10 +145,29 @@ fn read_last<S: Alter>(tx: &mut Transaction<'_, S>) -> Result<LastRows, Fault>
     })
 }
 
-/// Reads all tables.
-pub fn read_raw<S: Alter>(tx: &mut Transaction<'_, S>) -> Result<RawSheets, Fault>
+fn read_later<S: Alter>(
+    tx: &mut Transaction<'_, S>,
+    alloc: Global,
+    schema: Schema,
+) -> Result<LaterRows, Fault>
     ensures same_reference { tx.new.conn.ghost_name ≡ tx.old.conn.ghost_name }
-    ensures step { Steps S.Store tx.old tx.new result (λ raw. ShowsDesk raw) }
+    ensures step { Steps S.Store tx.old tx.new result (λ raw. ShowsLater (schema_of schema) raw) }
+    ensures fault { OnErr result (result ≡ Err Store) }
+{
+    Ok(LaterRows {
+        moves: move_rows_in(tx, alloc, schema)?,
+        rule: rule_rows_in(tx, alloc, schema)?,
+    })
+}
+
+/// Reads all tables of a schema.
+pub fn read_raw<S: Alter>(
+    tx: &mut Transaction<'_, S>,
+    alloc: Global,
+    schema: Schema,
+) -> Result<RawSheets, Fault>
+    ensures same_reference { tx.new.conn.ghost_name ≡ tx.old.conn.ghost_name }
+    ensures step { Steps S.Store tx.old tx.new result (λ raw. ShowsDesk (schema_of schema) raw) }
     ensures fault { OnErr result (result ≡ Err Store) }
 {
     Ok(RawSheets {
@@ -146,5 +176,6 @@ pub fn read_raw<S: Alter>(tx: &mut Transaction<'_, S>) -> Result<RawSheets, Faul
         rates: read_rates(tx)?,
         trades: read_trades(tx)?,
         last: read_last(tx)?,
+        later: read_later(tx, alloc, schema)?,
     })
 }

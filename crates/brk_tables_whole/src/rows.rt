@@ -2,12 +2,15 @@
 
 ghost use Rattle.std.specs.Prelude.{◌≡◌, Err, OnErr};
 ghost use Rattle.brk_money.specs.declared.fault.Fault.TheVariants.{Store};
-ghost use Rattle.brk_tables_form.specs.Desk.{TheDesk, KeptRows, Brokers, Customers, Accounts, Permissions, Securities, LastTrades, Charges, Bands, TaxRates, CustomerTaxes, Trades, TradeHistory, Requests, Holdings, Summaries, HoldingHistory, Settlements, CashRows};
-ghost use Rattle.brk_tables_whole.specs.Whole.{ReadsWhole};
+ghost use Rattle.brk_tables_form.specs.Desk.{TheDesk, KeptRows, Brokers, Customers, Accounts, Permissions, Securities, LastTrades, Charges, Bands, TaxRates, CustomerTaxes, Trades, TradeHistory, Requests, Holdings, Summaries, HoldingHistory, Settlements, CashRows, CashMoves, SettleRules};
+ghost use Rattle.brk_changes.specs.Schemas.{schema_of};
+ghost use Rattle.brk_tables_whole.specs.Whole.{ReadsIf, ReadsWhole};
 
+use brk_changes::Schema;
 use brk_money::Fault;
 use brk_tables_form::calls::select;
 use sqlite::{Alter, Row, Transaction};
+use std::alloc::Global;
 
 /// All rows of DESK.
 pub fn desk_rows<S: Alter>(tx: &mut Transaction<'_, S>) -> Result<Vec<Row>, Fault>
@@ -267,4 +270,60 @@ pub fn cash_rows<S: Alter>(tx: &mut Transaction<'_, S>) -> Result<Vec<Row>, Faul
         "SELECT CT_T_ID, CT_DTS, CT_AMT, CT_NAME FROM CASH_TRANSACTION ORDER BY CT_T_ID",
         &[],
     )
+}
+
+fn move_rows<S: Alter>(tx: &mut Transaction<'_, S>) -> Result<Vec<Row>, Fault>
+    ensures same_reference { tx.new.conn.ghost_name ≡ tx.old.conn.ghost_name }
+    ensures step { ReadsWhole S.Store tx.old tx.new result CashMoves }
+    ensures fault { OnErr result (result ≡ Err Store) }
+{
+    select(
+        tx,
+        "SELECT CM_ID, CM_CA_ID, CM_T_ID, CM_DTS, CM_AMT, CM_NAME FROM CASH_MOVE ORDER BY CM_ID",
+        &[],
+    )
+}
+
+fn rule_rows<S: Alter>(tx: &mut Transaction<'_, S>) -> Result<Vec<Row>, Fault>
+    ensures same_reference { tx.new.conn.ghost_name ≡ tx.old.conn.ghost_name }
+    ensures step { ReadsWhole S.Store tx.old tx.new result SettleRules }
+    ensures fault { OnErr result (result ≡ Err Store) }
+{
+    select(
+        tx,
+        "SELECT SR_ID, SR_DAY FROM SETTLE_RULE ORDER BY SR_ID",
+        &[],
+    )
+}
+
+/// All rows of CASH_MOVE, in a schema that has it, and else none.
+pub fn move_rows_in<S: Alter>(
+    tx: &mut Transaction<'_, S>,
+    alloc: Global,
+    schema: Schema,
+) -> Result<Vec<Row>, Fault>
+    ensures same_reference { tx.new.conn.ghost_name ≡ tx.old.conn.ghost_name }
+    ensures step { ReadsIf S.Store tx.old tx.new result (schema_of schema) CashMoves }
+    ensures fault { OnErr result (result ≡ Err Store) }
+{
+    if !schema.has_moves() {
+        return Ok(Vec::new(alloc));
+    }
+    move_rows(tx)
+}
+
+/// All rows of SETTLE_RULE, in a schema that has it, and else none.
+pub fn rule_rows_in<S: Alter>(
+    tx: &mut Transaction<'_, S>,
+    alloc: Global,
+    schema: Schema,
+) -> Result<Vec<Row>, Fault>
+    ensures same_reference { tx.new.conn.ghost_name ≡ tx.old.conn.ghost_name }
+    ensures step { ReadsIf S.Store tx.old tx.new result (schema_of schema) SettleRules }
+    ensures fault { OnErr result (result ≡ Err Store) }
+{
+    if !schema.has_rule() {
+        return Ok(Vec::new(alloc));
+    }
+    rule_rows(tx)
 }

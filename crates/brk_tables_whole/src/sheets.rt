@@ -1,29 +1,31 @@
 ghost use Rattle.std.specs.Prelude.{◌≡◌, IfErr, IsTrue};
 ghost use Rattle.brk_model.specs.Run.{MayFail};
+ghost use Rattle.brk_changes.specs.Schemas.{schema_of};
 ghost use Rattle.brk_rows.specs.Model.{Steps};
-ghost use Rattle.brk_tables_whole.specs.Schemas.{HasDesk, IsDefined, first_schema};
+ghost use Rattle.brk_tables_whole.specs.Schemas.{HasDesk, IsDefinedAs};
 ghost use Rattle.brk_tables_whole.specs.Whole.{WasRead};
 
 use crate::decoding::decode;
 use crate::raw::read_raw;
-use brk_changes::Sheets;
+use brk_changes::{Schema, Sheets};
 use brk_money::Fault;
 use brk_tables_form::Misread;
 use sqlite::{Alter, Transaction};
 use std::alloc::Global;
 
-/// All rows of the desk's tables in types, each list by rising key. `None`: the rows break their form. All twenty tables are read
+/// All rows of the tables of a schema in types, each list by rising key. `None`: the rows break their form. All tables are read
 /// before the first row is looked at.
 pub fn read_sheets<S: Alter>(
     tx: &mut Transaction<'_, S>,
     alloc: Global,
+    schema: Schema,
 ) -> Result<Option<Sheets>, Fault>
     ensures same_reference { tx.new.conn.ghost_name ≡ tx.old.conn.ghost_name }
-    ensures step { Steps S.Store tx.old tx.new result (λ read a b. IsTrue a.is_open × (b.now ≡ a.now) × (IsDefined a.now → HasDesk first_schema a.now → WasRead a.now read)) }
+    ensures step { Steps S.Store tx.old tx.new result (λ read a b. IsTrue a.is_open × (b.now ≡ a.now) × (IsDefinedAs (schema_of schema) a.now → HasDesk (schema_of schema) a.now → WasRead (schema_of schema) a.now read)) }
     ensures fault { IfErr result MayFail }
 {
-    let raw = read_raw(tx)?;
-    match decode(alloc, &raw) {
+    let raw = read_raw(tx, alloc, schema)?;
+    match decode(alloc, schema, &raw) {
         Ok(sheets) => Ok(Some(sheets)),
         Err(Misread::Form) => Ok(None),
         Err(Misread::Memory) => Err(Fault::Memory),

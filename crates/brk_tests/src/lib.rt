@@ -32,6 +32,10 @@ mod made;
 #[cfg(test)]
 mod many_results;
 #[cfg(test)]
+mod moves;
+#[cfg(test)]
+mod older;
+#[cfg(test)]
 mod order_batches;
 #[cfg(test)]
 mod order_fields;

@@ -169,9 +169,9 @@ const AMOUNTS_AT_THEIR_LIMITS: [Step; 1] = [Step::Done(
 const QUANTITIES_AND_RATES_AT_THEIR_LIMITS: [Step; 1] = [Step::Done(
     b"batch,L\n\
     band,2,TMB,NYSE,1,1,0\n\
-    band,2,TMB,NYSE,999999,999999,10000\n\
+    band,2,TMB,NYSE,9999999,9999999,10000\n\
     band,2,TMB,NYSE,0,100,50\n\
-    band,2,TMB,NYSE,2,1000000,50\n\
+    band,2,TMB,NYSE,2,10000000,50\n\
     band,2,TMB,NYSE,02,100,50\n\
     band,2,TMB,NYSE,2.0,100,50\n\
     band,2,TMB,NYSE,2,999999999999999999999999999999999999999999999,50\n\

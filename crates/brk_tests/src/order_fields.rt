@@ -32,7 +32,7 @@ const ORDERS_OUT_OF_FORM: [Step; 1] = [Step::Done(
     order,100,TMB,ABC,100,,cash,fifo,Ann,Lee,T_10\n\
     order,100,TMB,ABC,100,,cash,fifo,Ann,Lee,123456789012345678901\n\
     order,100,TMB,ABC,0,,cash,fifo,Ann,Lee,T10\n\
-    order,100,TMB,ABC,1000000,,cash,fifo,Ann,Lee,T10\n\
+    order,100,TMB,ABC,10000000,,cash,fifo,Ann,Lee,T10\n\
     order,100,TMB,ABC,0100,,cash,fifo,Ann,Lee,T10\n\
     order,100,TMB,ABC,,,cash,fifo,Ann,Lee,T10\n\
     order,100,TMB,ABC,1.5,,cash,fifo,Ann,Lee,T10\n\
@@ -85,7 +85,7 @@ const FEEDS_OUT_OF_FORM: [Step; 1] = [Step::Done(
     feed,abc,10.00,1\n\
     feed,,10.00,1\n\
     feed,ABC,10.00,0\n\
-    feed,ABC,10.00,1000000\n\
+    feed,ABC,10.00,10000000\n\
     feed,ABC,10.00,01\n\
     feed,ABC,10.00,\n\
     feed,ABC,0.00,1\n\
@@ -129,7 +129,7 @@ const FEEDS_OUT_OF_FORM: [Step; 1] = [Step::Done(
     order,100,TLS,ABC,10,10.01,cash,fifo,Ann,Lee,T10\n\
     feed,ABC,10.00,1,ABC,10.00,1,ABC,10.00,1,ABC,10.00,1,ABC,10.00,1,ABC,10.00,1,\
     ABC,10.00,1,ABC,10.00,1,ABC,10.00,1,ABC,10.00,1,ABC,10.00,1,ABC,10.00,1,ABC,10.00,1,\
-    ABC,10.00,1,ABC,10.00,1,ABC,10.00,1,ABC,10.00,1,ABC,10.00,1,ABC,10.00,1,ABC,9.00,999999\n\
+    ABC,10.00,1,ABC,10.00,1,ABC,10.00,1,ABC,10.00,1,ABC,10.00,1,ABC,10.00,1,ABC,9.00,9999999\n\
     feed,ABC,99999.99,1\n\
     end,35\n",
     "1,no,18\n2,no,18\n3,no,18\n4,no,18\n5,no,18\n6,no,18\n7,no,18\n8,no,18\n9,no,18\n\

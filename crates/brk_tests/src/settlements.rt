@@ -3,12 +3,12 @@ use crate::tables::{Booked, expect_booked};
 use std::test::Fail;
 
 // What the tables hold after a purchase on margin.
-const MARGIN: &str = "DESK\n1,1,1709251200017\nBROKER\n1,Bo,1,1010\nCUSTOMER_ACCOUNT\n\
+const MARGIN: &str = "DESK\n1,3,1709251200017\nBROKER\n1,Bo,1,1010\nCUSTOMER_ACCOUNT\n\
     100,10,1,Main,1,1000000,1000000\nLAST_TRADE\nABC,1709251200003,1000,0\nTRADE\n\
     1,1709251200017,CMPT,TMB,0,ABC,100,1000,100,Ann Lee,1010,500,1010,0,0\nTRADE_HISTORY\n\
     1,CMPT,1709251200017\n1,SBMT,1709251200016\nTRADE_REQUEST\nHOLDING\n\
     1,100,ABC,1709251200017,1010,100\nHOLDING_SUMMARY\n100,ABC,100\nHOLDING_HISTORY\n\
-    1,1,0,100\nSETTLEMENT\n1,Margin,19785,-102510\nCASH_TRANSACTION\n\
+    1,1,0,100\nSETTLEMENT\n1,Margin,19785,-102510\nCASH_TRANSACTION\nCASH_MOVE\nSETTLE_RULE\n\
     KEPT WHERE K_BATCH <> 'SET'\n\
     M,1,order\x1f100\x1fTMB\x1fABC\x1f100\x1f\x1fmargin\x1ffifo\x1fAnn\x1fLee\x1fT10,1709251200016,1,SBMT,10.00,0.00,0.00,0.00,10.00,5.00,10000.00\n\
     M,2,result\x1f1\x1f10.10,1709251200017,10.10,0.00,-1025.10,2024-03-03,0.00,0.00,10000.00\n";
@@ -24,7 +24,7 @@ const A_TRADE_ON_MARGIN_MOVES_NO_CASH: [Step; 1] = [Step::Done(
 
 // What the tables hold after three accounts of each tax status did the same trades.
 const TAX_STATUSES: &str =
-    "DESK\n1,1,1709251200042\nBROKER\n1,Bo,4,6559\n2,Cy,8,13118\nCUSTOMER_ACCOUNT\n\
+    "DESK\n1,3,1709251200042\nBROKER\n1,Bo,4,6559\n2,Cy,8,13118\nCUSTOMER_ACCOUNT\n\
     100,10,1,Main,1,1000000,958541\n102,10,2,Side,2,1000000,965341\n\
     103,10,2,Free,0,1000000,965341\nLAST_TRADE\nABC,1709251200003,1000,0\nTRADE\n\
     1,1709251200024,CMPT,TMB,1,ABC,100,1000,100,Ann Lee,1010,500,1010,0,0\n\
@@ -54,18 +54,20 @@ const TAX_STATUSES: &str =
     4,Cash Account,19785,-242900\n5,Cash Account,19785,-242900\n6,Cash Account,19785,-242900\n\
     7,Cash Account,19785,185750\n8,Cash Account,19785,192550\n9,Cash Account,19785,192550\n\
     10,Cash Account,19785,118201\n11,Cash Account,19785,118201\n12,Cash Account,19785,118201\n\
-    CASH_TRANSACTION\n1,1709251200024,-102510,Market-Buy 100 shares of Acme\n\
-    2,1709251200023,-102510,Market-Buy 100 shares of Acme\n\
-    3,1709251200022,-102510,Market-Buy 100 shares of Acme\n\
-    4,1709251200030,-242900,Market-Buy 200 shares of Acme\n\
-    5,1709251200029,-242900,Market-Buy 200 shares of Acme\n\
-    6,1709251200028,-242900,Market-Buy 200 shares of Acme\n\
-    7,1709251200034,185750,Market-Sell 150 shares of Acme\n\
-    8,1709251200035,192550,Market-Sell 150 shares of Acme\n\
-    9,1709251200036,192550,Market-Sell 150 shares of Acme\n\
-    10,1709251200040,118201,Market-Sell 100 shares of Acme\n\
-    11,1709251200041,118201,Market-Sell 100 shares of Acme\n\
-    12,1709251200042,118201,Market-Sell 100 shares of Acme\nKEPT WHERE K_BATCH <> 'SET'\n\
+    CASH_TRANSACTION\nCASH_MOVE\n\
+    1,103,3,1709251200022,-102510,Market-Buy 100 shares of Acme\n\
+    2,102,2,1709251200023,-102510,Market-Buy 100 shares of Acme\n\
+    3,100,1,1709251200024,-102510,Market-Buy 100 shares of Acme\n\
+    4,103,6,1709251200028,-242900,Market-Buy 200 shares of Acme\n\
+    5,102,5,1709251200029,-242900,Market-Buy 200 shares of Acme\n\
+    6,100,4,1709251200030,-242900,Market-Buy 200 shares of Acme\n\
+    7,100,7,1709251200034,185750,Market-Sell 150 shares of Acme\n\
+    8,102,8,1709251200035,192550,Market-Sell 150 shares of Acme\n\
+    9,103,9,1709251200036,192550,Market-Sell 150 shares of Acme\n\
+    10,103,10,1709251200040,118201,Market-Sell 100 shares of Acme\n\
+    11,102,11,1709251200041,118201,Market-Sell 100 shares of Acme\n\
+    12,100,12,1709251200042,118201,Market-Sell 100 shares of Acme\n\
+    SETTLE_RULE\nKEPT WHERE K_BATCH <> 'SET'\n\
     S,1,broker\x1f2\x1fCy,1709251200016\n\
     S,2,account\x1f102\x1f10\x1f2\x1fSide\x1f2\x1f10000.00,1709251200017\n\
     S,3,account\x1f103\x1f10\x1f2\x1fFree\x1f0\x1f10000.00,1709251200018\n\

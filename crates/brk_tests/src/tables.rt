@@ -20,7 +20,7 @@ const REFERENCE: [&str; 8] = [
 ];
 
 // The other tables, and the other rows that are kept.
-const TRADING: [&str; 13] = [
+const TRADING: [&str; 15] = [
     "DESK",
     "BROKER",
     "CUSTOMER_ACCOUNT",
@@ -33,6 +33,8 @@ const TRADING: [&str; 13] = [
     "HOLDING_HISTORY",
     "SETTLEMENT",
     "CASH_TRANSACTION",
+    "CASH_MOVE",
+    "SETTLE_RULE",
     "KEPT WHERE K_BATCH <> 'SET'",
 ];
 

@@ -11,6 +11,8 @@ mod lots;
 #[cfg(test)]
 mod money;
 #[cfg(test)]
+mod move_plans;
+#[cfg(test)]
 mod plans;
 #[cfg(test)]
 mod result_plans;

@@ -1,6 +1,6 @@
 use crate::told::told_plan;
 use brk_lots::Position;
-use brk_money::{Cents, Id, Price, Qty, Rate, Stamp, Status, TaxRate, TaxStatus, TradeType};
+use brk_money::{Cents, Id, MoveId, Price, Qty, Rate, Stamp, Status, TaxRate, TaxStatus, TradeType};
 use brk_ref::{ChargeAmount, Name, Symbol};
 use brk_trade::{
     Amount, BrokerNumbers, ResultAccount, ResultFound, TradeCount, TradeRow, plan_result,
@@ -89,6 +89,7 @@ fn found(alloc: Global, case: Case) -> Result<ResultFound, Fail> {
     let rates = TaxRate::new(20_000).ok_or("rates")?;
     let security = Name::parse(alloc, b"Acme")?.ok_or("security")?;
     let trade = trade(alloc, case)?;
+    let next = MoveId::new(1).ok_or("number")?;
     Ok(ResultFound {
         trade,
         account,
@@ -97,6 +98,8 @@ fn found(alloc: Global, case: Case) -> Result<ResultFound, Fail> {
         security,
         rate: case.rate,
         rates,
+        rule: None,
+        next,
     })
 }
 
@@ -154,7 +157,7 @@ fn beyond_broker() -> Case {
 // the balance is at its lower limit,
 fn beyond_balance() -> Case {
     Case {
-        held: Some(999_999_899),
+        held: Some(9_999_999_899),
         balance: -100_000_000_000_000_000,
         ..beyond_broker()
     }
@@ -163,7 +166,7 @@ fn beyond_balance() -> Case {
 // as many shares are held as may be, less 99,
 fn beyond_summary() -> Case {
     Case {
-        held: Some(999_999_900),
+        held: Some(9_999_999_900),
         ..beyond_balance()
     }
 }
@@ -238,10 +241,10 @@ fn summaries_at_their_limits(rt: HostRuntime) -> Result<(), Fail> {
     let bought = "1709251200017,100.90,0.00,-10195.80,2024-03-03,0.00,0.00,-195.80";
     let sold = "1709251200017,100.90,0.00,9984.00,2024-03-03,0.00,0.00,19984.00";
     for (kind, held, qty, wanted) in [
-        (TradeType::MarketBuy, 999_999_000, 999, bought),
-        (TradeType::MarketBuy, 999_999_000, 1_000, "no,14,summary"),
-        (TradeType::LimitSell, -999_999_000, 999, sold),
-        (TradeType::LimitSell, -999_999_000, 1_000, "no,14,summary"),
+        (TradeType::MarketBuy, 9_999_999_000, 999, bought),
+        (TradeType::MarketBuy, 9_999_999_000, 1_000, "no,14,summary"),
+        (TradeType::LimitSell, -9_999_999_000, 999, sold),
+        (TradeType::LimitSell, -9_999_999_000, 1_000, "no,14,summary"),
     ] {
         let case = Case {
             kind,

@@ -5,13 +5,13 @@ use Rattle.brk_trade.specs.Estimates.{tax_at}
 use Rattle.brk_lots.specs.declared.values.Values.{Values}
 use Rattle.brk_lots.specs.declared.closing.Closing.{Closing}
 use Rattle.brk_model.specs.Base.{takes_tax_off}
-use Rattle.brk_model.specs.Derived.{proceeds, settlement_days}
+use Rattle.brk_model.specs.Derived.{due_after, proceeds}
 use Rattle.brk_model.specs.Limits.{greatest_amount, greatest_price, greatest_qty, greatest_summary}
 use Rattle.brk_model.specs.Shares.{Deal, signed}
 use Rattle.brk_model.specs.Tests.{Test}
 use Rattle.brk_money.specs.Amounts.{commission}
 use Rattle.brk_money.specs.Kinds.{same_status, side_of}
-use Rattle.brk_money.specs.Moments.{day_of, last_day}
+use Rattle.brk_money.specs.Moments.{last_day}
 use Rattle.brk_money.specs.declared.refusal.Limit.TheVariants as limit
 use Rattle.brk_money.specs.declared.refusal.Refusal.TheVariants.{WrongStatus, NoRate, Range, ClockEnd}
 use Rattle.brk_money.specs.declared.status.Status.TheVariants.{Submitted}
@@ -67,14 +67,14 @@ first_tests found =
     ∷ (nat_lt greatest_summary (nat_abs (summary_after found)), Range limit.Summary) ∷ []
 
 -- a stamp has to be left, and the day on which the trade settles has to be one
-abbrev pub due_test : Option ℕ → Test
-due_test stamp = (option_map_or (λ s. nat_lt last_day (day_of s + settlement_days)) stamp true, ClockEnd)
+abbrev pub due_test : Option ℕ → Option ℕ → Test
+due_test rule stamp = (option_map_or (λ s. nat_lt last_day (due_after rule s)) stamp true, ClockEnd)
 
 -- what is tested by the values of the shares that are closed
 abbrev pub last_tests : ResultFound → ℕ → Values → Option ℕ → List Test
 last_tests found price values stamp =
     (found.trade.is_cash && nat_lt greatest_amount (nat_abs (balance_after found price values)), Range limit.Balance)
-    ∷ (nat_lt greatest_amount (commissions_after found price), Range limit.Broker) ∷ due_test stamp ∷ []
+    ∷ (nat_lt greatest_amount (commissions_after found price), Range limit.Broker) ∷ due_test found.rule stamp ∷ []
 
 -- what a result of a trade is tested for
 abbrev pub result_tests : ResultFound → ℕ → Values → Option ℕ → List Test
@@ -88,7 +88,7 @@ values_in closing = record { buy_value = nat_abs closing.buy_value; sell_value =
 abbrev pub outcome_of : ResultFound → ℕ → Values → ℕ → Outcome
 outcome_of found price values stamp = record {
   stamp = stamp;
-  due_day = day_of stamp + settlement_days;
+  due_day = due_after found.rule stamp;
   commission = commission_at found price;
   tax = tax_upon found values;
   amount = amount_of found price values;

@@ -20,13 +20,13 @@ use Rattle.brk_money.specs.Spelling.{Text}
 use Rattle.brk_money.specs.declared.refusal.Refusal.{Refusal}
 use Rattle.brk_money.specs.declared.refusal.Refusal.TheVariants.{NoTrade}
 use Rattle.brk_money.specs.declared.status.Status.TheVariants as status
-use Rattle.brk_changes.specs.Rows.{cash_row_of}
+use Rattle.brk_changes.specs.Rows.{move_row_of}
 use Rattle.brk_trade.specs.Outcomes.{deal_of, first_tests, result_tests, outcome_of, values_in}
-use Rattle.brk_changes.specs.declared.cash_row.CashRow.{CashRow}
 use Rattle.brk_changes.specs.declared.cash_type.CashType.{CashType}
 use Rattle.brk_changes.specs.declared.cash_type.CashType.TheVariants as cash_type
 use Rattle.brk_changes.specs.declared.change.Change.{Change}
 use Rattle.brk_changes.specs.declared.change.Change.TheVariants as change
+use Rattle.brk_changes.specs.declared.move_row.MoveRow.{MoveRow}
 use Rattle.brk_trade.specs.declared.outcome.Outcome.{Outcome}
 use Rattle.brk_trade.specs.declared.result_found.ResultFound.{ResultFound}
 use Rattle.brk_plans.specs.declared.plan.Plan.{Plan}
@@ -71,16 +71,23 @@ shares_text qty = 32 ∷ decimal qty ++ codes " shares of "
 abbrev pub cash_name : TradeRow → Text → Text
 cash_name t security = type_name t.kind ++ 32 ∷ decimal t.qty ++ codes " shares of " ++ security
 
--- what a cash trade moves, if it is one
-abbrev pub cash_row : ResultFound → Outcome → Option tables.CashRow
+-- the cash row of a trade with the next number, if it is a cash trade
+abbrev pub cash_row : ResultFound → Outcome → Option tables.MoveRow
 cash_row found outcome =
     if found.trade.is_cash
-    then Some (record { trade = found.trade.id; stamp = outcome.stamp; amount = outcome.amount; name = cash_name found.trade found.security })
+    then Some (record {
+      id = found.next;
+      account = found.trade.account;
+      trade = Some found.trade.id;
+      stamp = outcome.stamp;
+      amount = outcome.amount;
+      name = cash_name found.trade found.security;
+    })
     else None
 
 -- the changes of what a cash trade moves
-abbrev pub cash_changes : ℕ → ℤ → CashRow → List Change
-cash_changes account balance row = change.AddCash row ∷ change.SetBalance account balance ∷ []
+abbrev pub cash_changes : ℕ → ℤ → MoveRow → List Change
+cash_changes account balance row = change.AddMove row ∷ change.SetBalance account balance ∷ []
 
 -- the changes of a completed trade's own row and of its status
 abbrev pub trade_changes : ℕ → ℕ → Outcome → List Change
@@ -104,7 +111,7 @@ sum_changes found outcome =
 
 -- the changes that complete a trade: its own; the lots that it touches and the one that it opens; what follows of sums; what it
 -- moves, if it is a cash trade; and the last stamp
-abbrev pub changes_of : ResultFound → ℕ → Closing → Outcome → Option CashRow → List Change
+abbrev pub changes_of : ResultFound → ℕ → Closing → Outcome → Option MoveRow → List Change
 changes_of found price closing outcome cash =
     trade_changes found.trade.id price outcome
     ++ flat_map (touched_changes found.trade.id) closing.touched.items
@@ -115,8 +122,8 @@ changes_of found price closing outcome cash =
 
 -- the changes that complete a trade, by the lots that are closed and what it comes to
 pub record AreChanges (found : ResultFound) (price : ℕ) (closing : Closing) (outcome : Outcome) (changes : List Change) : Type 0 where
-  pub cash : Option CashRow
-  pub moved : option_map cash_row_of cash ≡ cash_row found outcome
+  pub cash : Option MoveRow
+  pub moved : option_map move_row_of cash ≡ cash_row found outcome
   pub changed : changes ≡ changes_of found price closing outcome cash
 
 -- what is told of a completion

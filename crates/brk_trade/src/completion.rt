@@ -4,12 +4,12 @@ ghost use Rattle.std.specs.Prelude.{◌≡◌, ◌++◌, flat_map, option_map, o
 ghost use Rattle.brk_money.specs.declared.fault.Fault.TheVariants.{Memory};
 ghost use Rattle.brk_trade.specs.Results as spec;
 ghost use Rattle.brk_trade.specs.Results.{AreChanges};
-ghost use Rattle.brk_changes.specs.Rows.{cash_row_of};
+ghost use Rattle.brk_changes.specs.Rows.{move_row_of};
 
 use crate::outcome::Outcome;
 use crate::result_found::ResultFound;
 use brk_changes::{
-    Amount, CashRow, CashType, Change, HistoryRow, HoldingRow, LotChange, SettlementRow,
+    Amount, CashType, Change, HistoryRow, HoldingRow, LotChange, MoveRow, SettlementRow,
     SummaryRow, TradeRow,
 };
 use brk_lots::{Closing, Lot, Touch};
@@ -207,14 +207,16 @@ fn cash_row(
     alloc: Global,
     found: &ResultFound,
     outcome: &Outcome,
-) -> Result<Option<CashRow>, AllocError>
-    ensures { IfOk result (λ cash. option_map cash_row_of cash ≡ spec.cash_row found.now outcome.now) }
+) -> Result<Option<MoveRow>, AllocError>
+    ensures { IfOk result (λ cash. option_map move_row_of cash ≡ spec.cash_row found.now outcome.now) }
 {
     if !found.trade.is_cash {
         return Ok(None);
     }
-    Ok(Some(CashRow {
-        trade: found.trade.id,
+    Ok(Some(MoveRow {
+        id: found.next,
+        account: found.trade.account,
+        trade: Some(found.trade.id),
         stamp: outcome.stamp,
         amount: outcome.amount,
         name: cash_name(alloc, &found.trade, &found.security)?,
@@ -225,7 +227,7 @@ fn cash_row(
 fn move_cash(
     account: Id,
     outcome: &Outcome,
-    cash: Option<CashRow>,
+    cash: Option<MoveRow>,
     changes: &mut Vec<Change>,
 ) -> Result<(), Fault>
     ensures changes { OnOk result (changes.new.items ≡ changes.old.items ++ flat_map (spec.cash_changes account outcome.now.balance) (option_to_list cash)) }
@@ -234,7 +236,7 @@ fn move_cash(
     let Some(row) = cash else {
         return Ok(());
     };
-    changes.push(Change::AddCash(row))?;
+    changes.push(Change::AddMove(row))?;
     changes.push(Change::SetBalance {
         account,
         balance: outcome.balance,
@@ -249,7 +251,7 @@ fn changes_of(
     price: Price,
     closing: &Closing,
     outcome: &Outcome,
-    cash: Option<CashRow>,
+    cash: Option<MoveRow>,
 ) -> Result<Vec<Change>, Fault>
     ensures changes { IfOk result (λ changes. changes.items ≡ spec.changes_of found.now price closing.now outcome.now cash) }
     ensures fault { OnErr result (result ≡ Err Memory) }

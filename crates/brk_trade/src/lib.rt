@@ -11,13 +11,13 @@ pub mod result_found;
 mod settling;
 
 pub use brk_changes::{
-    Amount, BrokerNumbers, CashRow, CashType, Change, HistoryRow, HoldingRow, LotChange,
+    Amount, BrokerNumbers, CashType, Change, HistoryRow, HoldingRow, LotChange, MoveRow,
     RequestRow, SettlementRow, SummaryRow, TradeCount, TradeRow, is_submitted,
 };
 pub use brk_plans::{
-    Completed, Corrected, Estimate, Found, Ordered, Paid, Plan, Quote, Reference, Reply, Settled,
-    Span, has_no_quote, plan_cancel, plan_feed, plan_reference, plan_update, quote_with, span_of,
-    triggers,
+    Completed, Corrected, Estimate, Found, MoveFound, Ordered, Paid, Plan, Quote, Reference, Reply,
+    Settled, Span, has_no_quote, plan_cancel, plan_feed, plan_move, plan_oneday, plan_reference,
+    plan_update, quote_with, span_of, triggers,
 };
 pub use estimate::{Terms, estimate_order, tax_on};
 pub use order::{OrderAccount, OrderFound, plan_estimate, plan_order};

@@ -9,14 +9,14 @@ ghost use Rattle.brk_trade.specs.Outcomes.{first_tests, last_tests, outcome_of, 
 
 use crate::result_found::ResultFound;
 use crate::settling::{
-    amount_of, balance_after, commission_at, commissions_after, due_after, tax_upon, values_of,
+    amount_of, balance_after, commission_at, commissions_after, due_day, tax_upon, values_of,
 };
 use brk_changes::{Amount, is_submitted};
 use brk_lots::Closing;
 use brk_money::{Cents, Day, Limit, Price, Rate, Refusal, Side, Stamp};
 
 // The greatest number of shares of a security that an account holds, either way.
-const GREATEST_SUMMARY: u128 = 999_999_999;
+const GREATEST_SUMMARY: u128 = 9_999_999_999;
 
 /// What the completion of a trade comes to, in cents (Trade-Result).
 #[derive(Clone, Copy, PartialEq, Eq)]
@@ -121,7 +121,7 @@ pub(crate) fn complete(
     let Some(stamp) = stamp else {
         return Err(Refusal::ClockEnd);
     };
-    let Some(due_day) = due_after(stamp) else {
+    let Some(due_day) = due_day(found.rule, stamp) else {
         return Err(Refusal::ClockEnd);
     };
     Ok(Outcome {

@@ -1,5 +1,5 @@
 use brk_changes::{BrokerNumbers, TradeRow};
-use brk_money::{Cents, Id, Rate, TaxRate, TaxStatus};
+use brk_money::{Cents, Day, Id, MoveId, Rate, TaxRate, TaxStatus};
 use brk_ref::Name;
 
 /// The account of a trade that is to be completed.
@@ -29,4 +29,8 @@ pub struct ResultFound {
     pub rate: Option<Rate>,
     /// The sum of the tax rates that the account's customer pays.
     pub rates: TaxRate,
+    /// The first day whose completions settle after one day, where it is set (SR_DAY).
+    pub rule: Option<Day>,
+    /// The number that the next cash row has (CM_ID).
+    pub next: MoveId,
 }

@@ -2,23 +2,21 @@
 
 ghost use Rattle.std.specs.Prelude.{◌≡◌, ◌+◌, ◌*◌, ◌≤◌, ◌≤ℤ◌, ◌+ℤ◌, ◌-ℤ◌, ◌&&◌, true, false, nat_lt, nat_abs, pos, if◌then◌else◌, MatchOption};
 ghost use Rattle.brk_model.specs.Base.{takes_tax_off};
-ghost use Rattle.brk_model.specs.Derived.{proceeds, settlement_days};
+ghost use Rattle.brk_model.specs.Derived as derived;
+ghost use Rattle.brk_model.specs.Derived.{proceeds};
 ghost use Rattle.brk_model.specs.Limits.{greatest_amount, greatest_price};
 ghost use Rattle.brk_money.specs.Amounts as amounts;
 ghost use Rattle.brk_money.specs.Kinds.{side_of};
-ghost use Rattle.brk_money.specs.Moments as moments;
 ghost use Rattle.brk_money.specs.Moments.{last_day};
 ghost use Rattle.brk_trade.specs.Outcomes as spec;
 ghost use Rattle.brk_trade.specs.Outcomes.{greatest_value, values_in};
 
 use crate::estimate::tax_on;
 use crate::result_found::ResultFound;
-use brk_changes::{Amount, BrokerNumbers, TradeRow};
+use brk_changes::{Amount, BrokerNumbers, TradeRow, due_after};
 use brk_lots::{Closing, Values};
-use brk_money::{Cents, Day, Price, Qty, Rate, Side, Stamp, TaxStatus, Wide, commission, day_of};
-
-// How many days after its completion a trade settles.
-const SETTLEMENT_DAYS: u16 = 2;
+use brk_money::{Cents, Day, Price, Qty, Rate, Side, Stamp, TaxStatus, Wide, commission};
+use brk_plans::added;
 
 // The value of closed shares as an amount.
 fn amount(value: Wide) -> Amount
@@ -100,15 +98,6 @@ pub(crate) fn amount_of(found: &ResultFound, price: Price, commission: Amount, t
     settled(trade.kind.side(), value, taken_off)
 }
 
-// The balance after an amount is added, where it is within the limit.
-fn added(balance: Cents, amount: Cents) -> Option<Cents>
-    ensures { MatchOption result
-        (nat_lt greatest_amount (nat_abs (balance +ℤ amount)) ≡ true)
-        (λ after. (after ≡ balance +ℤ amount) × (nat_lt greatest_amount (nat_abs (balance +ℤ amount)) ≡ false)) }
-{
-    Cents::new(balance.get() + amount.get())
-}
-
 // The account's balance after the trade, where it is within the limit; a trade on margin leaves it.
 pub(crate) fn balance_after(found: &ResultFound, amount: Cents) -> Option<Cents>
     ensures { MatchOption result
@@ -131,10 +120,10 @@ pub(crate) fn commissions_after(broker: BrokerNumbers, commission: Amount) -> Op
 }
 
 // The day on which a trade settles that is completed at a stamp, where it is one.
-pub(crate) fn due_after(stamp: Stamp) -> Option<Day>
+pub(crate) fn due_day(rule: Option<Day>, stamp: Stamp) -> Option<Day>
     ensures { MatchOption result
-        (nat_lt last_day (moments.day_of stamp + settlement_days) ≡ true)
-        (λ day. (day ≡ moments.day_of stamp + settlement_days) × (nat_lt last_day (moments.day_of stamp + settlement_days) ≡ false)) }
+        (nat_lt last_day (derived.due_after rule stamp) ≡ true)
+        (λ day. (day ≡ derived.due_after rule stamp) × (nat_lt last_day (derived.due_after rule stamp) ≡ false)) }
 {
-    day_of(stamp).later(SETTLEMENT_DAYS)
+    due_after(rule, stamp)
 }

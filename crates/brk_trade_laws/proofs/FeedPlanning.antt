@@ -107,6 +107,7 @@ told_reply stamp ids (reply.Ordered ordered) k = absurd k
 told_reply stamp ids (reply.Canceled at) k = absurd k
 told_reply stamp ids (reply.Completed completed) k = absurd k
 told_reply stamp ids (reply.Changed at count) k = absurd k
+told_reply stamp ids (reply.Moved at number balance) k = absurd k
 
 pub feed_plan_does : (base : Base) (ticks : List Tick) (quotes : List Held) (last : Option ℕ) (now : ℕ) (plan : Plan) → IsReadForFeed base ticks quotes last now
     → IsFeed ticks quotes last now plan → DoesCommand base now (FeedTicks (ticks_of ticks)) plan

@@ -11,3 +11,4 @@ pub mod FeedPlanning
 pub mod ResultFinding
 pub mod ResultRefusing
 pub mod ResultDoing
+pub mod MovePlanning

@@ -8,7 +8,8 @@ use Rattle.brk_model.specs.Base.{Base, account_with, band_with, broker_of, charg
 use Rattle.brk_model.specs.Joins.{account_in, security_in}
 use Rattle.brk_model.specs.Orders.{assets_of, is_permitted, permitted}
 use Rattle.brk_model.specs.PositionView.{asset_total}
-use Rattle.brk_model.specs.Records.{Account, Customer, Security, Trade}
+use Rattle.brk_model.specs.Derived.{Posting, postings_of}
+use Rattle.brk_model.specs.Records.{Account, Customer, Security}
 use Rattle.brk_model.specs.Sheets.{sheets}
 use Rattle.brk_model.specs.Tables.{AccountRow, account_row, last_trade_row, security_row}
 use Rattle.brk_model.specs.Tests as model
@@ -45,7 +46,7 @@ pub record OwnerFound (base : Base) (account : ℕ) : Type 0 where
   pub a : Account
   pub c : Customer
   pub there : account_with base account ≡ Some a
-  pub row : account_in (sheets base) account ≡ Some (account_row base.accounts (completed base) a)
+  pub row : account_in (sheets base) account ≡ Some (account_row base.accounts (postings_of base) a)
   pub customer_row : find (λ r. r.id == a.customer) (sheets base).customers ≡ Some c
   pub customer_is : customer_with base (customer_of base account) ≡ Some c
 
@@ -58,13 +59,13 @@ owner_found base account books h =
       a = a;
       c = of_account.0;
       there = found.1;
-      row = reads_account base account ∙ ap (option_map (account_row base.accounts (completed base))) found.1;
+      row = reads_account base account ∙ ap (option_map (account_row base.accounts (postings_of base))) found.1;
       customer_row = reads_customer base a.customer ∙ of_account.1;
       customer_is = ap (λ x. customer_with base (option_map_or (λ a. a.customer) x 0)) found.1 ∙ of_account.1;
     }
 
 pub of_account : (base : Base) (account : ℕ) (holds : AccountRow → Type 0) (f : OwnerFound base account) → IfSome (account_in (sheets base) account) holds
-    → holds (account_row base.accounts (completed base) f.a)
+    → holds (account_row base.accounts (postings_of base) f.a)
 of_account base account holds f h = subst (λ x. IfSome x holds) f.row h
 
 pub of_customer : (base : Base) (account : ℕ) (holds : Customer → Type 0) (f : OwnerFound base account) → IfCustomer (sheets base) account holds → holds f.c
@@ -91,7 +92,7 @@ passes_charge found a s p c = rw (a, s, p, c) refl
 account_read : (base : Base) (order : Order) (found : OrderFound) → IsFoundForEstimate (sheets base) order found → is_none found.account ≡ is_none (account_with base order.account)
 account_read base order found k =
     ap is_none k.account ∙ is_none-map order_account (account_in (sheets base) order.account) ∙ ap is_none (reads_account base order.account)
-    ∙ is_none-map (account_row base.accounts (completed base)) (account_with base order.account)
+    ∙ is_none-map (account_row base.accounts (postings_of base)) (account_with base order.account)
 
 security_read : (base : Base) (order : Order) (found : OrderFound) → IsFoundForEstimate (sheets base) order found → Passes 1 found → is_none found.last_price ≡ is_none (security_with base order.symbol)
 security_read base order found k p =
@@ -173,10 +174,10 @@ price_or : (s : Option Security) → unwrap_or (option_map (λ r. r.price) (opti
 price_or None = refl
 price_or (Some s) = refl
 
-status_or : (accounts : List Account) (done : List Trade) (a : Option Account)
-    → option_map_or (λ a. a.tax_status) (option_map order_account (option_map (account_row accounts done) a)) Untaxed ≡ option_map_or (λ a. a.tax_status) a Untaxed
-status_or accounts done None = refl
-status_or accounts done (Some a) = refl
+status_or : (accounts : List Account) (posted : List Posting) (a : Option Account)
+    → option_map_or (λ a. a.tax_status) (option_map order_account (option_map (account_row accounts posted) a)) Untaxed ≡ option_map_or (λ a. a.tax_status) a Untaxed
+status_or accounts posted None = refl
+status_or accounts posted (Some a) = refl
 
 some_or : (o : Option ℕ) → is_some o ≡ true → o ≡ Some (unwrap_or o 0)
 some_or None h = absurd (cc)
@@ -196,7 +197,7 @@ all_assets : (base : Base) (order : Order) (found : OrderFound) → IsBooks base
     → found.assets ≡ assets_of base order.account
 all_assets base order found books k f e =
     of_account base order.account (λ a. found.assets ≡ a.balance +ℤ asset_total (sheets base) a) f (k.assets e)
-    ∙ reads_assets base order.account (account_row base.accounts (completed base) f.a) books f.row
+    ∙ reads_assets base order.account (account_row base.accounts (postings_of base) f.a) books f.row
 
 -- what was found for an order that nothing refuses
 pub record AllFound (base : Base) (order : Order) (found : OrderFound) : Type 0 where
@@ -204,10 +205,10 @@ pub record AllFound (base : Base) (order : Order) (found : OrderFound) : Type 0 
   pub terms : AreTerms base (order_of order) (terms_of order found)
   pub held : (terms_of order found).held ≡ lots_total (position_in (sheets base) order.account order.symbol)
 
-broker_or : (accounts : List Account) (done : List Trade) (a : Option Account)
-    → option_map_or (λ a. a.broker) (option_map order_account (option_map (account_row accounts done) a)) 0 ≡ option_map_or (λ a. a.broker) a 0
-broker_or accounts done None = refl
-broker_or accounts done (Some a) = refl
+broker_or : (accounts : List Account) (posted : List Posting) (a : Option Account)
+    → option_map_or (λ a. a.broker) (option_map order_account (option_map (account_row accounts posted) a)) 0 ≡ option_map_or (λ a. a.broker) a 0
+broker_or accounts posted None = refl
+broker_or accounts posted (Some a) = refl
 
 pub all_found : (base : Base) (order : Order) (found : OrderFound) → IsBooks base → IsFoundForEstimate (sheets base) order found → first_refusal (order_tests found) ≡ None
     → AllFound base order found
@@ -222,12 +223,12 @@ all_found base order found books k e =
     let rated = not_not (is_some found.rate) p.1.1.1.1.0 in
     let account = k.account ∙ ap (option_map order_account) (reads_account base order.account) in
     record {
-      broker = ap (λ o. option_map_or (λ a. a.broker) o 0) account ∙ broker_or base.accounts (completed base) (account_with base order.account);
+      broker = ap (λ o. option_map_or (λ a. a.broker) o 0) account ∙ broker_or base.accounts (postings_of base) (account_with base order.account);
       terms = record {
         side = refl;
         qty = refl;
         price = ap (λ n. unwrap_or (price_asked order.order_type) n) (last_price_read base order found k one);
-        tax_status = ap (λ o. option_map_or (λ a. a.tax_status) o Untaxed) account ∙ status_or base.accounts (completed base) (account_with base order.account);
+        tax_status = ap (λ o. option_map_or (λ a. a.tax_status) o Untaxed) account ∙ status_or base.accounts (postings_of base) (account_with base order.account);
         rates = rates_read base order found k f e;
         rate = sym (rate_read base order found books k f listed four) ∙ some_or found.rate rated;
         charge = sym (charge_read base order found k f three) ∙ some_or found.charge charged;

@@ -45,6 +45,8 @@ market quotes = record {
   tax_rates = [];
   customer_taxes = [];
   trades = [];
+  movements = [];
+  rule = None;
   kept = [];
   last = None;
 }
@@ -59,6 +61,7 @@ market_books quotes d v = record {
   market = record { symbols = distinct quotes d; volumes = All-mapped HasVolume security_of quotes v; bands = tt; apart = tt };
   trades = record { accounts = tt; securities = tt; numbered = tt; ways = tt; completions = tt };
   times = record { early = tt; moments = tt; clock = tt };
+  movements = record { holders = tt; early = tt; apart = tt };
 }
 
 -- its securities move with the quotes

@@ -1,5 +1,5 @@
 -- The plan of a result does its command.
-use Rattle.std.proofs.Common.{◌≡◌, ◌<◌, ℕ, ◌+◌, Bool, true, false, cond, zero, suc, List, [], ◌∷◌, ◌++◌, refl, sym, subst, ◌∙◌, ap, map, arith, ℤ, pos, ◌+ℤ◌, Option, Some, None}
+use Rattle.std.proofs.Common.{◌≡◌, ◌<◌, ℕ, ◌+◌, Bool, true, false, cond, zero, suc, List, [], ◌∷◌, ◌++◌, refl, sym, subst, ◌∙◌, ap, length, map, arith, ℤ, pos, ◌+ℤ◌, Option, Some, None}
 use Rattle.std.specs.Prelude.{decimal, codes, is_none, is_some, nat_abs, option_map, option_to_list, unwrap_or, flat_map, Ok}
 use Rattle.std.specs.Option.{option_map_or}
 use Rattle.std.proofs.lemmas.Int.{ints}
@@ -12,7 +12,7 @@ use Rattle.brk_model.specs.Base.{Base, broker_of, completed, moment_of, trade_wi
 use Rattle.brk_model.specs.Commands as model
 use Rattle.brk_model.specs.Commands.{CompleteTrade, CompletedTrade}
 use Rattle.brk_model.specs.Derived as derived
-use Rattle.brk_model.specs.Derived.{balance_of, commissions_of, due_day, settlement_days, shares_in, summary_of, trade_count_of}
+use Rattle.brk_model.specs.Derived.{balance_of, commissions_of, due_after, due_day, postings_of, shares_in, summary_of, trade_count_of}
 use Rattle.brk_model.specs.Lists.{is_zero}
 use Rattle.brk_model.specs.Records.{Trade}
 use Rattle.brk_model.specs.Results as results
@@ -25,18 +25,17 @@ use Rattle.brk_model.specs.Tables as tables
 use Rattle.brk_model.specs.Tables.{SummaryRow, Tables, TradeRow, trade_row}
 use Rattle.brk_model.specs.Tests.{first_refusal, next_stamp, refusal_of}
 use Rattle.brk_money.specs.Kinds.{side_of, type_name}
-use Rattle.brk_money.specs.Moments.{day_of}
 use Rattle.brk_money.specs.Spelling.{Text}
 use Rattle.brk_money.specs.declared.side.Side.{Side}
 use Rattle.brk_money.specs.declared.side.Side.TheVariants.{Buy, Sell}
 use Rattle.brk_money.specs.declared.status.Status.TheVariants.{Completed}
-use Rattle.brk_changes.specs.Changes.{after_change, after_changes, with_balance, with_broker_numbers, with_cash, with_completion, with_history, with_last, with_lot_change, with_settlement}
+use Rattle.brk_changes.specs.Changes.{after_change, after_changes, with_balance, with_broker_numbers, with_completion, with_history, with_last, with_lot_change, with_move, with_settlement}
 use Rattle.brk_trade.specs.Outcomes.{deal_of, outcome_of, result_tests, summary_after, values_in}
 use Rattle.brk_plans.specs.Replies.{reply_of}
 use Rattle.brk_trade.specs.Results as planner
 use Rattle.brk_trade.specs.Results.{IsCompleted, cash_changes, changes_of, first_cash_type, opened_changes, sum_changes, summary_change, touched_changes, told_of, trade_changes}
-use Rattle.brk_changes.specs.Rows.{cash_row_of, cash_type_word, trade_row_of}
-use Rattle.brk_changes.specs.declared.cash_row.CashRow.{CashRow}
+use Rattle.brk_changes.specs.Rows.{cash_type_word, move_row_of, trade_row_of}
+use Rattle.brk_changes.specs.declared.move_row.MoveRow.{MoveRow}
 use Rattle.brk_changes.specs.declared.change.Change.{Change}
 use Rattle.brk_changes.specs.declared.change.Change.TheVariants as change
 use Rattle.brk_trade.specs.declared.outcome.Outcome.{Outcome}
@@ -53,7 +52,7 @@ use Rattle.brk_book_laws.specs.Results.{cash_rows, completed_rows, opened_rows, 
 use Rattle.brk_book_laws.specs.TradeReads.{position_in, row_of_summary, summary_in}
 use Rattle.brk_book_laws.specs.Trading.{status_row}
 use Rattle.brk_trade_laws.proofs.QuotedTicks.{after_more}
-use Rattle.brk_trade_laws.proofs.ResultFinding.{TradeFound, amount_read, balance_read, broker_found, commission_read, commissions_read, held_found, account_found, passes_rate, passes_status, passes_summary, result_refusal, result_values, security_found, summary_found, summary_read, tax_read, trade_found}
+use Rattle.brk_trade_laws.proofs.ResultFinding.{TradeFound, amount_read, balance_read, broker_found, commission_read, commissions_read, held_found, account_found, next_found, passes_rate, passes_status, passes_summary, result_refusal, result_values, rule_found, security_found, summary_found, summary_read, tax_read, trade_found}
 use Rattle.brk_book_laws.proofs.ResultKeeping.{Found, books_result, found_at, step_result, submitted}
 use Rattle.brk_book_laws.proofs.ResultRows.{IsResult, moment_then}
 use Rattle.brk_book_laws.proofs.ResultSums.{count_grows}
@@ -141,9 +140,9 @@ record Agrees (base : Base) (price : ℕ) (t : Trade) (found : ResultFound) (clo
   pub commission : (outcome_planned found price closing stamp).commission ≡ (completed_trade base stamp price t).commission
   pub tax : (outcome_planned found price closing stamp).tax ≡ (completed_trade base stamp price t).tax
   pub amount : (outcome_planned found price closing stamp).amount ≡ derived.amount_of base.accounts (completed_trade base stamp price t)
-  pub due : (outcome_planned found price closing stamp).due_day ≡ due_day (completed_trade base stamp price t)
+  pub due : (outcome_planned found price closing stamp).due_day ≡ due_day base.rule (completed_trade base stamp price t)
   pub summary : (outcome_planned found price closing stamp).summary ≡ summary_of (completed (with_result base stamp price t)) t.account t.symbol
-  pub balance : (outcome_planned found price closing stamp).balance ≡ balance_of base.accounts (completed (with_result base stamp price t)) t.account
+  pub balance : (outcome_planned found price closing stamp).balance ≡ balance_of base.accounts (postings_of (with_result base stamp price t)) t.account
   pub commissions : (outcome_planned found price closing stamp).commissions ≡ commissions_of base.accounts (completed (with_result base stamp price t)) (broker_of base t.account)
   pub trades : pos (found.broker.trades + 1) ≡ pos (trade_count_of base.accounts (completed (with_result base stamp price t)) (broker_of base t.account))
   pub broker : found.account.broker ≡ broker_of base t.account
@@ -156,7 +155,7 @@ agrees base price last now t found closing stamp k =
       commission = commission_read base stamp price t found f k.one k.rated;
       tax = ap (λ v. (outcome_of found price v stamp).tax) k.values ∙ tax_read base stamp price t found f k.three;
       amount = ap (λ v. (outcome_of found price v stamp).amount) k.values ∙ amount_read base stamp price t found f k.three k.rated k.one;
-      due = ap (λ m. day_of m + settlement_days) (sym (moment_then base stamp price t));
+      due = λ i. due_after (rule_found base t found f k.three i) (sym (moment_then base stamp price t) i);
       summary = summary_read base stamp price t k.front k.back found f k.result k.two;
       balance = ap (λ v. (outcome_of found price v stamp).balance) k.values ∙ balance_read base stamp price t k.front k.back found f k.result k.three k.rated k.one;
       commissions = commissions_read base stamp price t k.front k.back found f k.result k.three k.rated k.one;
@@ -257,7 +256,7 @@ sums_made base price last now t found closing stamp k x =
     (with_broker_numbers (a.broker i) (a.trades i) (a.commissions i) (summary_row_is base price last now t found closing stamp k x i))
 
 cash_made : (base : Base) (price : ℕ) (last : Option ℕ) (now : ℕ) (t : Trade) (found : ResultFound) (closing : Closing) (stamp : ℕ) → Planned base price last now t found closing stamp
-    → (cash : Option CashRow) → option_map cash_row_of cash ≡ planner.cash_row found (outcome_planned found price closing stamp) → (x : Tables)
+    → (cash : Option MoveRow) → option_map move_row_of cash ≡ planner.cash_row found (outcome_planned found price closing stamp) → (x : Tables)
     → after_changes (flat_map (cash_changes found.trade.account (outcome_planned found price closing stamp).balance) (option_to_list cash)) x
     ≡ cash_rows t.is_cash (rows_of_result base stamp price t).cash t.account (rows_of_result base stamp price t).balance x
 unfolding completed_trade
@@ -269,11 +268,18 @@ cash_made base price last now t found closing stamp k cash moved x = by_cash t.i
     f : TradeFound base t found
     f = k.found_it
 
-    row : tables.CashRow
+    row : tables.MoveRow
     row = (rows_of_result base stamp price t).cash
 
-    moves : tables.CashRow
-    moves = record { trade = t.id; stamp = moment_of (completed_trade base stamp price t); amount = row.amount; name = results.cash_text (codes " shares of ") base t }
+    moves : tables.MoveRow
+    moves = record {
+      id = length (postings_of base) + 1;
+      account = t.account;
+      trade = Some t.id;
+      stamp = moment_of (completed_trade base stamp price t);
+      amount = row.amount;
+      name = results.cash_text (codes " shares of ") base t;
+    }
 
     name : t.is_cash ≡ true → row.name ≡ results.cash_text (codes " shares of ") base t
     name e = ap (λ b. cond b (results.cash_text (codes " shares of ") base t) []) e
@@ -281,40 +287,42 @@ cash_made base price last now t found closing stamp k cash moved x = by_cash t.i
     told : planner.cash_row found (outcome_planned found price closing stamp)
         ≡ cond t.is_cash (Some moves) None
     told = λ i. cond (f.row i).is_cash (Some (record {
-      trade = (f.row i).id;
+      id = next_found base t found f k.three i;
+      account = (f.row i).account;
+      trade = Some (f.row i).id;
       stamp = sym (moment_then base stamp price t) i;
       amount = a.amount i;
       name = type_name (f.row i).kind ++ 32 ∷ decimal (f.row i).qty ++ codes " shares of " ++ security_found base t found f k.three i;
     })) None
 
-    Made : Bool → Option CashRow → Type 0
+    Made : Bool → Option MoveRow → Type 0
     Made b cash = after_changes (flat_map (cash_changes found.trade.account (outcome_planned found price closing stamp).balance) (option_to_list cash)) x
         ≡ cash_rows b row t.account (rows_of_result base stamp price t).balance x
 
-    unsome : (c d : tables.CashRow) → Some c ≡ Some d → c ≡ d
+    unsome : (c d : tables.MoveRow) → Some c ≡ Some d → c ≡ d
     unsome c d e = cc
 
-    by_cash : (b : Bool) → t.is_cash ≡ b → (cash : Option CashRow)
-        → option_map cash_row_of cash ≡ cond t.is_cash (Some moves) None
+    by_cash : (b : Bool) → t.is_cash ≡ b → (cash : Option MoveRow)
+        → option_map move_row_of cash ≡ cond t.is_cash (Some moves) None
         → Made t.is_cash cash
     by_cash true e None h =
         let j : None ≡ Some moves =
         h ∙ ap (λ b. cond b (Some moves) None) e in
         absurd (cc)
     by_cash true e (Some c) h =
-        let j : Some (cash_row_of c) ≡ Some moves =
+        let j : Some (move_row_of c) ≡ Some moves =
         h ∙ ap (λ b. cond b (Some moves) None) e in
-        let same : cash_row_of c ≡ row = unsome (cash_row_of c) moves j ∙ (λ i. record row { name = sym (name e) i }) in
-        (λ i. with_balance (f.row i).account (a.balance i) (with_cash (same i) x)) ∙ sym (ap (λ b. cash_rows b row t.account (rows_of_result base stamp price t).balance x) e)
+        let same : move_row_of c ≡ row = unsome (move_row_of c) moves j ∙ (λ i. record row { name = sym (name e) i }) in
+        (λ i. with_balance (f.row i).account (a.balance i) (with_move (same i) x)) ∙ sym (ap (λ b. cash_rows b row t.account (rows_of_result base stamp price t).balance x) e)
     by_cash false e None h = sym (ap (λ b. cash_rows b row t.account (rows_of_result base stamp price t).balance x) e)
     by_cash false e (Some c) h =
-        let j : Some (cash_row_of c) ≡ None =
+        let j : Some (move_row_of c) ≡ None =
         h ∙ ap (λ b. cond b (Some moves) None) e in
         absurd (cc)
 
 -- all of them
 changes_made : (base : Base) (price : ℕ) (last : Option ℕ) (now : ℕ) (t : Trade) (found : ResultFound) (closing : Closing) (stamp : ℕ) → Planned base price last now t found closing stamp
-    → (cash : Option CashRow) → option_map cash_row_of cash ≡ planner.cash_row found (outcome_planned found price closing stamp) → (x : Tables)
+    → (cash : Option MoveRow) → option_map move_row_of cash ≡ planner.cash_row found (outcome_planned found price closing stamp) → (x : Tables)
     → after_changes (changes_of found price closing (outcome_planned found price closing stamp) cash) x ≡ with_last stamp (result_rows (rows_of_result base stamp price t) x)
 unfolding completed_trade
 changes_made base price last now t found closing stamp k cash moved x =

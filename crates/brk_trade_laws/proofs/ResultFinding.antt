@@ -1,5 +1,5 @@
 -- A result is refused by what was found for it as by the base.
-use Rattle.std.proofs.Common.{◌≡◌, ◌≤◌, ℕ, ◌+◌, ◌*◌, ◌==◌, ◌&&◌, Bool, true, false, not, cond, List, [], ◌∷◌, ◌++◌, refl, sym, subst, ◌∙◌, ap, ℤ, pos, ◌+ℤ◌, ◌-ℤ◌, Option, Some, None}
+use Rattle.std.proofs.Common.{◌≡◌, ◌≤◌, ℕ, ◌+◌, ◌*◌, ◌==◌, ◌&&◌, Bool, true, false, not, cond, List, [], ◌∷◌, ◌++◌, refl, sym, subst, ◌∙◌, ap, length, ℤ, pos, ◌+ℤ◌, ◌-ℤ◌, Option, Some, None}
 use Rattle.std.specs.Prelude.{is_some, is_none, nat_abs, nat_lt, option_map, unwrap_or, find, IfSome}
 use Rattle.std.specs.Option.{option_map_or}
 use Rattle.std.proofs.lemmas.Bool.{eqb-true}
@@ -9,21 +9,21 @@ use Rattle.brk_model.specs.Base as base_spec
 use Rattle.brk_model.specs.Base.{Base, band_with, bears_tax, broker_of, broker_with, completed, customer_of, exchange_of, has_status, last_mark, security_name, security_with, takes_tax_off, tax_status_in, tier_of, trade_with}
 use Rattle.brk_model.specs.Commands.{CompleteTrade}
 use Rattle.brk_model.specs.Derived as derived
-use Rattle.brk_model.specs.Derived.{balance_of, commissions_of, proceeds, settlement_days, shares_in, summary_of, trade_count_of}
+use Rattle.brk_model.specs.Derived.{balance_of, commissions_of, due_after, postings_of, proceeds, shares_in, summary_of, trade_count_of}
 use Rattle.brk_model.specs.Joins.{account_in, security_in}
 use Rattle.brk_model.specs.Limits.{greatest_amount, greatest_summary}
 use Rattle.brk_model.specs.Records.{Account, Band, Broker, Mark, Security, Trade}
 use Rattle.brk_model.specs.Results.{completed_trade, result_deal, with_result}
 use Rattle.brk_model.specs.Shares.{gain, signed}
-use Rattle.brk_model.specs.Sheets.{sheets}
-use Rattle.brk_model.specs.Tables.{TradeRow, broker_row, security_row, status_of, trade_row}
+use Rattle.brk_model.specs.Sheets.{sheets, sheets_of}
+use Rattle.brk_model.specs.Tables.{TradeRow, broker_row, security_row, status_of, tables_at, trade_row}
 use Rattle.brk_model.specs.Tests as model
 use Rattle.brk_model.specs.Tests.{Test, first_refusal, next_stamp, refusal_of, tests}
 use Rattle.brk_money.specs.Amounts.{commission, tax}
 use Rattle.brk_money.specs.Kinds.{same_status, side_of}
-use Rattle.brk_money.specs.Moments.{day_of, last_day, last_stamp, stamp_after}
+use Rattle.brk_money.specs.Moments.{last_day, last_stamp, stamp_after}
 use Rattle.brk_money.specs.declared.refusal.Limit.TheVariants as limit
-use Rattle.brk_money.specs.declared.refusal.Refusal.TheVariants.{ClockEnd, NoRate, NoTrade, Range, WrongStatus}
+use Rattle.brk_money.specs.declared.refusal.Refusal.TheVariants.{ClockEnd, NoRate, NoTrade, Range, TooEarly, WrongStatus}
 use Rattle.brk_money.specs.declared.status.Status.TheVariants.{Canceled, Submitted}
 use Rattle.brk_money.specs.declared.tax_status.TaxStatus.TheVariants.{Untaxed}
 use Rattle.brk_trade.specs.Outcomes.{amount_of, balance_after, commission_at, commissions_after, due_test, result_tests, summary_after, tax_upon}
@@ -38,6 +38,7 @@ use Rattle.brk_trade_laws.specs.ResultPlans.{IsFoundForResult, PassesFirst, resu
 use Rattle.brk_book_laws.specs.TradeReads.{band_in, summary_in}
 use Rattle.brk_book_laws.proofs.Holding.{held_read}
 use Rattle.brk_book_laws.proofs.Same.{find-All}
+use Rattle.brk_book_laws.proofs.MoveReading.{reads_last_move}
 use Rattle.brk_book_laws.proofs.Places.{FoundAt, find-at, some_of}
 use Rattle.brk_book_laws.proofs.Reading.{is_none-map, reads_broker}
 use Rattle.brk_book_laws.proofs.TermReading.{reads_rates, reads_security}
@@ -111,7 +112,7 @@ held_found base t found k p =
 
 -- an account, as the definitions have it
 abbrev pub account_is : Base → Trade → ResultAccount
-account_is base t = record { broker = broker_of base t.account; tax_status = tax_status_in base.accounts t.account; balance = balance_of base.accounts (completed base) t.account }
+account_is base t = record { broker = broker_of base t.account; tax_status = tax_status_in base.accounts t.account; balance = balance_of base.accounts (postings_of base) t.account }
 
 account_id : (base : Base) (account : ℕ) (f : OwnerFound base account) → f.a.id ≡ account
 account_id base account f = let g : FoundAt Account (λ a. a.id == account) f.a base.accounts = find-at (λ a. a.id == account) base.accounts f.a f.there in eqb-true f.a.id account g.passes
@@ -124,7 +125,7 @@ account_found base t found k p =
     ∙ (λ i. record {
       broker = sym (ap (λ x. option_map_or (λ a. a.broker) x 0) k.owner.there) i;
       tax_status = sym (ap (λ x. option_map_or (λ a. a.tax_status) x Untaxed) k.owner.there) i;
-      balance = balance_of base.accounts (completed base) (account_id base t.account k.owner i);
+      balance = balance_of base.accounts (postings_of base) (account_id base t.account k.owner i);
     })
 
 rates_found : (base : Base) (t : Trade) (found : ResultFound) → TradeFound base t found → PassesFirst 3 found → found.rates ≡ base_spec.rates_of base (customer_of base t.account)
@@ -155,6 +156,13 @@ security_found base t found k p =
     subst (λ x. IfSome x (λ s. found.security ≡ s.name)) row
     (subst (λ (r : TradeRow). IfSome (security_in (sheets base) r.symbol) (λ s. found.security ≡ s.name)) k.row (k.read.security p))
     ∙ sym (ap (λ x. option_map_or (λ s. s.name) x []) k.listed_is)
+
+pub rule_found : (base : Base) (t : Trade) (found : ResultFound) → TradeFound base t found → PassesFirst 3 found → found.rule ≡ base.rule
+unfolding tables_at sheets_of
+rule_found base t found k p = k.read.rule p
+
+pub next_found : (base : Base) (t : Trade) (found : ResultFound) → TradeFound base t found → PassesFirst 3 found → found.next ≡ length (postings_of base) + 1
+next_found base t found k p = k.read.next p ∙ ap (λ n. n + 1) (reads_last_move base)
 
 -- ---- what follows from it
 
@@ -193,7 +201,7 @@ amount_read base stamp price t found k p h q =
 
 pub balance_read : (base : Base) (stamp price : ℕ) (t : Trade) (xs ys : List Trade) (found : ResultFound) → TradeFound base t found → IsResult base stamp price t xs ys
     → PassesFirst 3 found → is_none found.rate ≡ false → PassesFirst 1 found
-    → balance_after found price (result_values base stamp price t) ≡ balance_of base.accounts (completed (with_result base stamp price t)) t.account
+    → balance_after found price (result_values base stamp price t) ≡ balance_of base.accounts (postings_of (with_result base stamp price t)) t.account
 balance_read base stamp price t xs ys found k r p h q =
     (λ i. cond (k.row i).is_cash ((a i).balance +ℤ m i) (a i).balance) ∙ by_cash t.is_cash refl
   where
@@ -204,13 +212,13 @@ balance_read base stamp price t xs ys found k r p h q =
     m = amount_read base stamp price t found k p h q
 
     by_cash : (b : Bool) → t.is_cash ≡ b
-        → cond t.is_cash (balance_of base.accounts (completed base) t.account +ℤ derived.amount_of base.accounts (completed_trade base stamp price t)) (balance_of base.accounts (completed base) t.account)
-        ≡ balance_of base.accounts (completed (with_result base stamp price t)) t.account
+        → cond t.is_cash (balance_of base.accounts (postings_of base) t.account +ℤ derived.amount_of base.accounts (completed_trade base stamp price t)) (balance_of base.accounts (postings_of base) t.account)
+        ≡ balance_of base.accounts (postings_of (with_result base stamp price t)) t.account
     by_cash true e =
-        ap (λ b. cond b (balance_of base.accounts (completed base) t.account +ℤ derived.amount_of base.accounts (completed_trade base stamp price t)) (balance_of base.accounts (completed base) t.account)) e
+        ap (λ b. cond b (balance_of base.accounts (postings_of base) t.account +ℤ derived.amount_of base.accounts (completed_trade base stamp price t)) (balance_of base.accounts (postings_of base) t.account)) e
         ∙ sym (balance_grows base stamp price t xs ys r e)
     by_cash false e =
-        ap (λ b. cond b (balance_of base.accounts (completed base) t.account +ℤ derived.amount_of base.accounts (completed_trade base stamp price t)) (balance_of base.accounts (completed base) t.account)) e
+        ap (λ b. cond b (balance_of base.accounts (postings_of base) t.account +ℤ derived.amount_of base.accounts (completed_trade base stamp price t)) (balance_of base.accounts (postings_of base) t.account)) e
         ∙ sym (balance_stays base stamp price t xs ys r e)
 
 pub summary_read : (base : Base) (stamp price : ℕ) (t : Trade) (xs ys : List Trade) (found : ResultFound) → TradeFound base t found → IsResult base stamp price t xs ys → PassesFirst 2 found
@@ -235,20 +243,20 @@ status_read t found row = ap (λ (r : TradeRow). not (same_status r.status Submi
 
 -- a stamp that is left, and the day of settlement
 due_read : (base : Base) (last : Option ℕ) (now : ℕ) (o : Option ℕ) → IsBooks base → last ≡ (sheets base).last → now ≤ last_stamp → stamp_after last now ≡ o
-    → first_refusal (due_test o ∷ []) ≡ first_refusal ((nat_lt last_day (day_of (next_stamp base now) + settlement_days), ClockEnd) ∷ (nat_lt last_stamp (next_stamp base now), ClockEnd) ∷ [])
+    → first_refusal (due_test base.rule o ∷ []) ≡ first_refusal ((nat_lt last_day (due_after base.rule (next_stamp base now)), ClockEnd) ∷ (nat_lt last_stamp (next_stamp base now), ClockEnd) ∷ (false, TooEarly) ∷ [])
 due_read base last now None books l h e =
     let late : true ≡ nat_lt last_stamp (next_stamp base now) = sym (ap is_none e) ∙ clock_read base last now books l h in
-    by_day (nat_lt last_day (day_of (next_stamp base now) + settlement_days))
-    ∙ ap (λ b. first_refusal ((nat_lt last_day (day_of (next_stamp base now) + settlement_days), ClockEnd) ∷ (b, ClockEnd) ∷ [])) late
+    by_day (nat_lt last_day (due_after base.rule (next_stamp base now)))
+    ∙ ap (λ b. first_refusal ((nat_lt last_day (due_after base.rule (next_stamp base now)), ClockEnd) ∷ (b, ClockEnd) ∷ [])) late
   where
     by_day : (b : Bool) → first_refusal ((true, ClockEnd) ∷ []) ≡ first_refusal ((b, ClockEnd) ∷ (true, ClockEnd) ∷ [])
     by_day true = refl
     by_day false = refl
 due_read base last now (Some stamp) books l h e =
     let in_time : false ≡ nat_lt last_stamp (next_stamp base now) = sym (ap is_none e) ∙ clock_read base last now books l h in
-    ap (λ s. first_refusal ((nat_lt last_day (day_of s + settlement_days), ClockEnd) ∷ [])) (stamp_read base last now stamp l e)
-    ∙ by_day (nat_lt last_day (day_of (next_stamp base now) + settlement_days))
-    ∙ ap (λ b. first_refusal ((nat_lt last_day (day_of (next_stamp base now) + settlement_days), ClockEnd) ∷ (b, ClockEnd) ∷ [])) in_time
+    ap (λ s. first_refusal ((nat_lt last_day (due_after base.rule s), ClockEnd) ∷ [])) (stamp_read base last now stamp l e)
+    ∙ by_day (nat_lt last_day (due_after base.rule (next_stamp base now)))
+    ∙ ap (λ b. first_refusal ((nat_lt last_day (due_after base.rule (next_stamp base now)), ClockEnd) ∷ (b, ClockEnd) ∷ [])) in_time
   where
     by_day : (b : Bool) → first_refusal ((b, ClockEnd) ∷ []) ≡ first_refusal ((b, ClockEnd) ∷ (false, ClockEnd) ∷ [])
     by_day true = refl
@@ -257,7 +265,7 @@ due_read base last now (Some stamp) books l h e =
 all_alike : (base : Base) (now id price : ℕ) (t : Trade) (found : ResultFound) (last : Option ℕ) → TradeFound base t found → trade_with base id ≡ Some t
     → last ≡ (sheets base).last → now ≤ last_stamp
     → Alike (result_tests found price (result_values base (next_stamp base now) price t) (stamp_after last now))
-    (model.result_tests base (with_result base (next_stamp base now) price t) (next_stamp base now) t ++ (nat_lt last_stamp (next_stamp base now), ClockEnd) ∷ [])
+    (model.result_tests base (with_result base (next_stamp base now) price t) (next_stamp base now) t ++ (nat_lt last_stamp (next_stamp base now), ClockEnd) ∷ (false, TooEarly) ∷ [])
 all_alike base now id price t found last k e l h =
     subst (λ s. Alike ((not (same_status found.trade.status Submitted), WrongStatus s) ∷ F) G) (ap (λ (r : TradeRow). r.status) (sym k.row))
     (same_first _ _ (WrongStatus (status_of t)) _ _ (status_read t found k.row) (λ a.
@@ -272,7 +280,7 @@ all_alike base now id price t found last k e l h =
     (λ i. (k.row i).is_cash && nat_lt greatest_amount (nat_abs (balance_read base stamp price t f.front f.back found k f.result three b one i))) (λ d.
     same_first _ _ (Range limit.Broker) _ _
     (ap (λ n. nat_lt greatest_amount n) (commissions_read base stamp price t f.front f.back found k f.result three b one)) (λ g.
-    record { first = due_read base last now (stamp_after last now) k.books l h refl }))))))
+    record { first = ap (λ rule. first_refusal (due_test rule (stamp_after last now) ∷ [])) (rule_found base t found k three) ∙ due_read base last now (stamp_after last now) k.books l h refl }))))))
   where
     stamp : ℕ
     stamp = next_stamp base now
@@ -283,10 +291,10 @@ all_alike base now id price t found last k e l h =
     F : List Test
     F = (is_none found.rate, NoRate) ∷ (nat_lt greatest_summary (nat_abs (summary_after found)), Range limit.Summary)
         ∷ (found.trade.is_cash && nat_lt greatest_amount (nat_abs (balance_after found price V)), Range limit.Balance)
-        ∷ (nat_lt greatest_amount (commissions_after found price), Range limit.Broker) ∷ due_test (stamp_after last now) ∷ []
+        ∷ (nat_lt greatest_amount (commissions_after found price), Range limit.Broker) ∷ due_test found.rule (stamp_after last now) ∷ []
 
     G : List Test
-    G = model.result_tests base (with_result base stamp price t) stamp t ++ (nat_lt last_stamp stamp, ClockEnd) ∷ []
+    G = model.result_tests base (with_result base stamp price t) stamp t ++ (nat_lt last_stamp stamp, ClockEnd) ∷ (false, TooEarly) ∷ []
 
 pub result_refusal : (base : Base) (now id price : ℕ) (t : Trade) (found : ResultFound) (last : Option ℕ) → TradeFound base t found → trade_with base id ≡ Some t
     → last ≡ (sheets base).last → now ≤ last_stamp
@@ -295,11 +303,11 @@ unfolding refusal_of tests
 result_refusal base now id price t found last k e l h =
     (all_alike base now id price t found last k e l h).first
     ∙ sym (ap (λ o. first_refusal (option_map_or (λ t. model.result_tests base (with_result base (next_stamp base now) price t) (next_stamp base now) t) o ((true, NoTrade) ∷ [])
-    ++ (nat_lt last_stamp (next_stamp base now), ClockEnd) ∷ [])) e)
+    ++ (nat_lt last_stamp (next_stamp base now), ClockEnd) ∷ (false, TooEarly) ∷ [])) e)
 
 -- a result of no trade
 pub nothing_refused : (base : Base) (now id price : ℕ) → trade_with base id ≡ None → refusal_of base now (CompleteTrade id price) ≡ Some NoTrade
 unfolding refusal_of tests
 nothing_refused base now id price e =
     ap (λ o. first_refusal (option_map_or (λ t. model.result_tests base (with_result base (next_stamp base now) price t) (next_stamp base now) t) o ((true, NoTrade) ∷ [])
-    ++ (nat_lt last_stamp (next_stamp base now), ClockEnd) ∷ [])) e
+    ++ (nat_lt last_stamp (next_stamp base now), ClockEnd) ∷ (false, TooEarly) ∷ [])) e

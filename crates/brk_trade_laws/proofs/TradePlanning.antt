@@ -6,7 +6,7 @@ use Rattle.std.specs.List.{list_any}
 use Rattle.brk_money.specs.Moments.{last_stamp, stamp_after}
 use Rattle.brk_money.specs.Kinds.{same_status}
 use Rattle.brk_money.specs.declared.refusal.Refusal.{Refusal}
-use Rattle.brk_money.specs.declared.refusal.Refusal.TheVariants.{NoTrade, NoSecurity, WrongStatus, Range, ClockEnd}
+use Rattle.brk_money.specs.declared.refusal.Refusal.TheVariants.{NoTrade, NoSecurity, WrongStatus, Range, ClockEnd, TooEarly}
 use Rattle.brk_money.specs.declared.refusal.Limit.TheVariants as limit
 use Rattle.brk_money.specs.declared.status.Status.TheVariants.{Pending, Canceled}
 use Rattle.brk_model.specs.Limits.{greatest_amount}
@@ -21,6 +21,7 @@ use Rattle.brk_model.specs.Tests.{Test, tests, refusal_of, first_refusal, next_s
 use Rattle.brk_model.specs.Step.{reply_to, step, unless}
 use Rattle.brk_changes.specs.Changes.{with_last}
 use Rattle.brk_plans.specs.Reference.{clock_test}
+use Rattle.brk_plans.proofs.Refusals.{first_joined, first_of}
 use Rattle.brk_book_laws.specs.Books.{IsBooks}
 use Rattle.brk_book_laws.specs.Steps.{base_then, ChangesRows, IsDone, LeavesBooks}
 use Rattle.brk_book_laws.specs.Trading.{cancel_rows, feed_rows, fed_trades}
@@ -63,6 +64,15 @@ is_done base now command stamp reply change books e s told rows kept = record {
 pub refused_first : (b c : Bool) (refusal : Refusal) (xs ys : List Test) → b ≡ true → c ≡ true → first_refusal ((b, refusal) ∷ xs) ≡ first_refusal ((c, refusal) ∷ ys)
 refused_first b c refusal xs ys e f = ap (λ b. first_refusal ((b, refusal) ∷ xs)) e ∙ sym (ap (λ c. first_refusal ((c, refusal) ∷ ys)) f)
 
+-- what has no day is not too early
+pub never_early : (ts : List Test) (b : Bool) → first_refusal (ts ++ (b, ClockEnd) ∷ []) ≡ first_refusal (ts ++ (b, ClockEnd) ∷ (false, TooEarly) ∷ [])
+never_early ts b =
+    first_joined ts ((b, ClockEnd) ∷ []) ∙ ap (λ later. first_of (first_refusal ts) later) (same b) ∙ sym (first_joined ts ((b, ClockEnd) ∷ (false, TooEarly) ∷ []))
+  where
+    same : (b : Bool) → first_refusal ((b, ClockEnd) ∷ []) ≡ first_refusal ((b, ClockEnd) ∷ (false, TooEarly) ∷ [])
+    same true = refl
+    same false = refl
+
 -- ---- a cancel
 
 mark_status : (o : Option Mark) → same_status (option_map_or (λ m. m.status) o Canceled) Pending ≡ option_map_or (λ m. same_status m.status Pending) o false
@@ -82,6 +92,7 @@ cancel_refusal base now id books h =
     ap (λ o. first_refusal (cancel_tests o (sheets base).last now)) (reads_trade base id)
     ∙ ap first_refusal (same_tests (trade_with base id) (sheets base).last now)
     ∙ ap (λ b. first_refusal (option_map_or (λ t. wrong_status (has_status Pending t) t ∷ []) (trade_with base id) ((true, NoTrade) ∷ []) ++ (b, ClockEnd) ∷ [])) clock
+    ∙ never_early (option_map_or (λ t. wrong_status (has_status Pending t) t ∷ []) (trade_with base id) ((true, NoTrade) ∷ [])) (nat_lt last_stamp (next_stamp base now))
 
 pub cancel_done : (base : Base) (now id stamp : ℕ) → IsBooks base → now ≤ last_stamp
     → first_refusal (cancel_tests (trade_in (sheets base) id) (sheets base).last now) ≡ None → stamp_after (sheets base).last now ≡ Some stamp

@@ -2,5 +2,6 @@ pub mod Found
 pub mod TradeTests
 pub mod Plans
 pub mod TradePlans
+pub mod MovePlans
 pub mod OrderPlans
 pub mod ResultPlans

@@ -1,5 +1,5 @@
 -- What is read from the tables before a result is planned.
-use Rattle.std.specs.Prelude.{◌≡◌, ◌≤◌, ◌<◌, ℕ, ◌==◌, List, find, take, IfSome, Option, None, option_map, pos}
+use Rattle.std.specs.Prelude.{◌≡◌, ◌≤◌, ◌<◌, ◌+◌, ℕ, ◌==◌, List, find, take, IfSome, Option, None, option_map, pos}
 use Rattle.brk_lots.specs.declared.lot.Lot.{Lot}
 use Rattle.brk_model.specs.Base.{Base}
 use Rattle.brk_model.specs.Joins.{account_in, security_in, trade_in}
@@ -15,7 +15,7 @@ use Rattle.brk_changes.specs.declared.trade_row.TradeRow.{TradeRow}
 use Rattle.brk_book_laws.specs.Books.{IsBooks}
 use Rattle.brk_book_laws.specs.OrderReads.{GivesLots, IfCustomer}
 use Rattle.brk_book_laws.specs.Reads.{rates_of}
-use Rattle.brk_book_laws.specs.TradeReads.{band_in, summary_in}
+use Rattle.brk_book_laws.specs.TradeReads.{band_in, last_move, summary_in}
 
 -- ---- what was found
 
@@ -43,6 +43,9 @@ pub record IsFoundForResult (t : Tables) (found : ResultFound) : Type 0 where
       → IfSome (account_in t found.trade.account) (λ a. IfSome (find (λ r. r.id == a.broker) t.brokers) (λ b.
       (pos found.broker.trades ≡ b.trades) × (found.broker.commissions ≡ b.commissions)))
   pub security : PassesFirst 3 found → IfSome (security_in t found.trade.symbol) (λ s. found.security ≡ s.name)
+  -- the settlement day, and the number after that of the last cash row
+  pub rule : PassesFirst 3 found → found.rule ≡ t.rule
+  pub next : PassesFirst 3 found → found.next ≡ last_move t + 1
 
 -- ---- lots
 

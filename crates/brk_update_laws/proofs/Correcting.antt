@@ -11,14 +11,15 @@ use Rattle.brk_money.specs.declared.refusal.Refusal.{Refusal}
 use Rattle.brk_money.specs.declared.refusal.Refusal.TheVariants.{ClockEnd, NoAccount, NoSecurity, NoTrade}
 use Rattle.brk_model.specs.Base.{Base, account_with, completed, is_completed, security_name, security_with, trade_with}
 use Rattle.brk_model.specs.Commands.{Changed, Command}
-use Rattle.brk_model.specs.Derived.{cash_trades}
+use Rattle.brk_model.specs.Derived.{Posting, cash_trades, in_turn, posting_of_movement, posting_of_trade, postings_of}
 use Rattle.brk_model.specs.Joins.{account_in, security_in, trade_in}
-use Rattle.brk_model.specs.Keys.{by_key, cash_key, settlement_key, trade_key}
+use Rattle.brk_model.specs.Keys.{by_key, move_key, settlement_key, trade_key}
 use Rattle.brk_model.specs.Lists.{contains_number, update_where}
+use Rattle.brk_model.specs.LookupView.{is_cash_of}
 use Rattle.brk_model.specs.Records.{Security, Trade}
 use Rattle.brk_model.specs.Sheets.{sheets, sheets_of}
 use Rattle.brk_model.specs.Step.{records_after, reply_to, step, unless}
-use Rattle.brk_model.specs.Tables.{CashRow, SecurityRow, SettlementRow, Tables, TradeRow, cash_row, security_row, settlement_row, tables_of, trade_row}
+use Rattle.brk_model.specs.Tables.{MoveRow, SecurityRow, SettlementRow, Tables, TradeRow, numbered, security_row, settlement_row, tables_at, trade_row}
 use Rattle.brk_model.specs.Tests.{first_refusal, next_stamp, refusal_of, tests}
 use Rattle.brk_model.specs.Updates.{changed_cash_name, changed_cash_type, changed_executor, chosen_of_account, chosen_of_symbol, is_within, with_cash_names, with_cash_types, with_executors}
 use Rattle.brk_orders.specs.Records.{update_of}
@@ -56,6 +57,7 @@ use Rattle.brk_update_laws.proofs.Choosing.{account_rows, chosen_trades, of_chos
 use Rattle.brk_update_laws.proofs.Owning.{own_cash, own_rows, own_settlements}
 use Rattle.brk_update_laws.proofs.Rewording.{reworded, tables_reworded}
 use Rattle.brk_update_laws.proofs.Setting.{all_set, fold-last, fold-map}
+use Rattle.brk_update_laws.proofs.Texting.{all_named, each_text, rows_through, texts_named}
 use Rattle.brk_update_laws.proofs.Through.{All-both}
 
 some_is : {X : Type 0} (x y : X) → Some x ≡ Some y → x ≡ y
@@ -77,7 +79,7 @@ renamed p t = by_test (p t)
 
 pub executors_rows : (base : Base) (ids : List ℕ) → sheets (with_executors ids base)
     ≡ record (sheets base) { trades = by_key trade_key (map (λ t. record (trade_row t) { executor = name_then (λ t. contains_number t.id ids) t }) base.trades) }
-unfolding tables_of sheets_of
+unfolding tables_at sheets_of
 executors_rows base ids =
     let p : Trade → Bool = λ t. contains_number t.id ids in
     ap (λ ts. sheets (record base { trades = ts })) (map-same _ (reworded (name_then p) (λ t. t.cash_type) (λ t. t.cash_name)) base.trades (All-of base.trades (renamed p)))
@@ -110,7 +112,7 @@ found_each t (c ∷ rows) (id ∷ ids) e =
 
 pub executors_set : (base : Base) (ids : List ℕ) (rows : List row.TradeRow) → IsBooks base → AreTradesOf (sheets base) ids rows
     → sheets (with_executors ids base) ≡ fold (λ t c. executor_set c t) (sheets base) rows
-unfolding tables_of sheets_of
+unfolding tables_at sheets_of
 executors_set base ids rows books read =
     let found = found_each (sheets base) rows ids read in
     executors_rows base ids
@@ -145,8 +147,8 @@ resettled p t = by_test (p t)
     by_test false = refl
 
 pub cash_types_rows : (base : Base) (ids : List ℕ) → sheets (with_cash_types ids base)
-    ≡ record (sheets base) { settlements = by_key settlement_key (map (λ t. record (settlement_row base.accounts t) { cash_type = word_then (λ t. contains_number t.id ids) t }) (completed base)) }
-unfolding tables_of sheets_of
+    ≡ record (sheets base) { settlements = by_key settlement_key (map (λ t. record (settlement_row base.accounts base.rule t) { cash_type = word_then (λ t. contains_number t.id ids) t }) (completed base)) }
+unfolding tables_at sheets_of
 cash_types_rows base ids =
     let p : Trade → Bool = λ t. contains_number t.id ids in
     ap (λ ts. sheets (record base { trades = ts })) (map-same _ (reworded (λ t. t.executor) (word_then p) (λ t. t.cash_name)) base.trades (All-of base.trades (resettled p)))
@@ -175,7 +177,7 @@ same_row base t u same own other = some_is _ _ (sym other ∙ ap (trade_in (shee
 
 pub cash_types_set : (base : Base) (account first last : ℕ) (cs : List Settled) → IsBooks base → AreSettled (sheets base) (completed_of_account account first last (sheets base)) cs
     → sheets (with_cash_types (chosen_of_account base account first last) base) ≡ fold (λ t c. cash_type_set c t) (sheets base) cs
-unfolding tables_of sheets_of
+unfolding tables_at sheets_of
 cash_types_set base account first last cs books read =
     let us : List Trade = chosen_trades base (λ t. t.account == account) first last in
     let ids : List ℕ = chosen_of_account base account first last in
@@ -186,7 +188,7 @@ cash_types_set base account first last cs books read =
     ∙ sym (cash_types_along (sheets base) cs
     ∙ ap (λ settlements. record (sheets base) { settlements = settlements })
     (all_set (λ (r : SettlementRow). r.trade) (λ w (r : SettlementRow). record r { cash_type = w }) (λ (c : Settled). c.trade) (λ (c : Settled). planner.changed_cash_type c.is_cash (cash_type_word c.cash_type))
-    (settlement_row base.accounts) changed_cash_type (λ w r. refl) (λ v w r. refl) (λ t. refl) settlement_key (λ w r. refl) cs (completed base)
+    (settlement_row base.accounts base.rule) changed_cash_type (λ w r. refl) (λ v w r. refl) (λ t. refl) settlement_key (λ w r. refl) cs (completed base)
     (All-map (completed base) (λ t own. All-map cs (λ c f same.
     let at : t.id ≡ f.0.id = eqb-true t.id c.trade same ∙ ap (λ (r : SettledRow). r.0) f.1 in
     let one : trade_row f.0 ≡ trade_row t = same_row base t f.0 at own.0 f.2.0 in
@@ -195,11 +197,11 @@ cash_types_set base account first last cs books read =
     λ i. planner.changed_cash_type ((ap (λ (r : SettledRow). r.1) f.1 ∙ ap (λ (r : TradeRow). r.is_cash) one) i) (word i)) found.0)
     (All-both _ _ (completed base) (All-filter _ is_completed base.trades rows) (own_settlements base books.numbered)))
     ∙ ap (by_key settlement_key)
-    (ap (λ is. map (λ t. cond (contains_number t.id is) (record (settlement_row base.accounts t) { cash_type = changed_cash_type t }) (settlement_row base.accounts t)) (completed base)) found.1
-    ∙ map-same _ (λ t. record (settlement_row base.accounts t) { cash_type = word_then (λ t. contains_number t.id ids) t }) (completed base) (All-of (completed base) (λ t. by_test t (contains_number t.id ids))))))
+    (ap (λ is. map (λ t. cond (contains_number t.id is) (record (settlement_row base.accounts base.rule t) { cash_type = changed_cash_type t }) (settlement_row base.accounts base.rule t)) (completed base)) found.1
+    ∙ map-same _ (λ t. record (settlement_row base.accounts base.rule t) { cash_type = word_then (λ t. contains_number t.id ids) t }) (completed base) (All-of (completed base) (λ t. by_test t (contains_number t.id ids))))))
   where
-    by_test : (t : Trade) (b : Bool) → (let r : SettlementRow = cond b (record (settlement_row base.accounts t) { cash_type = changed_cash_type t }) (settlement_row base.accounts t) in r)
-        ≡ record (settlement_row base.accounts t) { cash_type = cond b (changed_cash_type t) t.cash_type }
+    by_test : (t : Trade) (b : Bool) → (let r : SettlementRow = cond b (record (settlement_row base.accounts base.rule t) { cash_type = changed_cash_type t }) (settlement_row base.accounts base.rule t) in r)
+        ≡ record (settlement_row base.accounts base.rule t) { cash_type = cond b (changed_cash_type t) t.cash_type }
     by_test t true = refl
     by_test t false = refl
 
@@ -216,16 +218,20 @@ repaid base p t = by_test (p t)
     by_test true = refl
     by_test false = refl
 
+-- the postings of a base with other texts of trades that pass
+abbrev pub texts_with : Base → (Trade → Bool) → List Posting
+texts_with base p = map (λ t. record (posting_of_trade base.accounts t) { name = text_then base p t }) (cash_trades (completed base)) ++ map posting_of_movement base.movements
+
 pub cash_names_rows : (base : Base) (ids : List ℕ) → sheets (with_cash_names ids base)
-    ≡ record (sheets base) { cash = by_key cash_key (map (λ t. record (cash_row base.accounts t) { name = text_then base (λ t. contains_number t.id ids) t }) (cash_trades (completed base))) }
-unfolding tables_of sheets_of
+    ≡ record (sheets base) { moves = by_key move_key (numbered 1 (in_turn (texts_with base (λ t. contains_number t.id ids)))) }
+unfolding tables_at sheets_of
 cash_names_rows base ids =
     let p : Trade → Bool = λ t. contains_number t.id ids in
     ap (λ ts. sheets (record base { trades = ts })) (map-same _ (reworded (λ t. t.executor) (λ t. t.cash_type) (text_then base p)) base.trades (All-of base.trades (repaid base p)))
     ∙ tables_reworded (λ t. t.executor) (λ t. t.cash_type) (text_then base p) base
 
 cash_names_along : (security : Text) (t : Tables) (cs : List Paid) → fold (λ t c. cash_name_set security c t) t cs
-    ≡ record t { cash = fold (λ rows c. update_where (λ r. r.trade == c.trade) (λ r. record r { name = planner.changed_cash_name security c }) rows) t.cash cs }
+    ≡ record t { moves = fold (λ rows c. update_where (is_cash_of c.trade) (λ r. record r { name = planner.changed_cash_name security c }) rows) t.moves cs }
 cash_names_along security t [] = refl
 cash_names_along security t (c ∷ cs) = cash_names_along security (cash_name_set security c t) cs
 
@@ -244,7 +250,7 @@ and_last false b c e = absurd (cc)
 pub cash_names_set : (base : Base) (symbol : Text) (first last : ℕ) (name : Text) (cs : List Paid) → IsBooks base → IsNamed (sheets base) symbol name
     → ArePaid (sheets base) (completed_cash_of_symbol symbol first last (sheets base)) cs
     → sheets (with_cash_names (chosen_of_symbol base symbol first last) base) ≡ fold (λ t c. cash_name_set name c t) (sheets base) cs
-unfolding tables_of sheets_of
+unfolding tables_at sheets_of
 cash_names_set base symbol first last name cs books is_named read =
     let test : Trade → Bool = λ t. t.is_cash && bytes_eq t.symbol symbol in
     let us : List Trade = chosen_trades base test first last in
@@ -254,26 +260,21 @@ cash_names_set base symbol first last name cs books is_named read =
     (of_chosen _ base test first last rows) in
     cash_names_rows base ids
     ∙ sym (cash_names_along name (sheets base) cs
-    ∙ ap (λ cash. record (sheets base) { cash = cash })
-    (all_set (λ (r : CashRow). r.trade) (λ w (r : CashRow). record r { name = w }) (λ (c : Paid). c.trade) (λ (c : Paid). planner.changed_cash_name name c)
-    (cash_row base.accounts) (changed_cash_name base) (λ w r. refl) (λ v w r. refl) (λ t. refl) cash_key (λ w r. refl) cs (cash_trades (completed base))
+    ∙ ap (λ moves. record (sheets base) { moves = moves })
+    (each_text (λ (c : Paid). c.trade) (λ (c : Paid). planner.changed_cash_name name c) (sheets base).moves cs
+    ∙ rows_through (all_named (λ (c : Paid). c.trade) (λ (c : Paid). planner.changed_cash_name name c) cs) (postings_of base)
+    ∙ ap (λ ps. by_key move_key (numbered 1 (in_turn ps)))
+    (texts_named (λ (c : Paid). c.trade) (λ (c : Paid). planner.changed_cash_name name c) (changed_cash_name base) base.accounts (completed base) base.movements cs
     (All-map (cash_trades (completed base)) (λ t own. All-map cs (λ c f same.
     let at : t.id ≡ f.0.id = eqb-true t.id c.trade same ∙ ap (λ (r : PaidRow). r.0) f.1 in
     let one : trade_row f.0 ≡ trade_row t = same_row base t f.0 at own.0 f.2.0 in
     let text : string_bytes c.name ≡ t.cash_name =
-    some_is _ _ (ap (λ (r : PaidRow). r.3) f.1 ∙ ap (λ (n : ℕ). option_map (λ (r : CashRow). r.name) (cash_in (sheets base) n)) (sym at) ∙ ap (option_map (λ (r : CashRow). r.name)) own.1) in
+    some_is _ _ (ap (λ (r : PaidRow). r.3) f.1 ∙ ap (λ (n : ℕ). option_map (λ (r : MoveRow). r.name) (cash_in (sheets base) n)) (sym at) ∙ own.1) in
     let its_symbol : t.symbol ≡ symbol = ap (λ (r : TradeRow). r.symbol) (sym one) ∙ same_text f.0.symbol symbol (and_last f.0.is_cash (bytes_eq f.0.symbol symbol) (is_within first last f.0) f.2.1) in
     let its_name : name ≡ security_name base t.symbol = sym (ap (security_name base) its_symbol ∙ name_is base symbol name is_named) in
     λ i. planner.text_anew ((ap (λ (r : PaidRow). r.1) f.1 ∙ ap (λ (r : TradeRow). r.kind) one) i) ((ap (λ (r : PaidRow). r.2) f.1 ∙ ap (λ (r : TradeRow). r.qty) one) i) (its_name i) (text i)) found.0)
     (All-both _ _ (cash_trades (completed base)) (All-filter _ (λ t. t.is_cash) (completed base) (All-filter _ is_completed base.trades rows)) (own_cash base books.numbered)))
-    ∙ ap (by_key cash_key)
-    (ap (λ is. map (λ t. cond (contains_number t.id is) (record (cash_row base.accounts t) { name = changed_cash_name base t }) (cash_row base.accounts t)) (cash_trades (completed base))) found.1
-    ∙ map-same _ (λ t. record (cash_row base.accounts t) { name = text_then base (λ t. contains_number t.id ids) t }) (cash_trades (completed base)) (All-of (cash_trades (completed base)) (λ t. by_test t (contains_number t.id ids))))))
-  where
-    by_test : (t : Trade) (b : Bool) → (let r : CashRow = cond b (record (cash_row base.accounts t) { name = changed_cash_name base t }) (cash_row base.accounts t) in r)
-        ≡ record (cash_row base.accounts t) { name = cond b (changed_cash_name base t) t.cash_name }
-    by_test t true = refl
-    by_test t false = refl
+    ∙ ap (λ is. map (λ t. record (posting_of_trade base.accounts t) { name = cond (contains_number t.id is) (changed_cash_name base t) t.cash_name }) (cash_trades (completed base)) ++ map posting_of_movement base.movements) found.1)))
 
 -- ---- whether it is refused
 

@@ -8,7 +8,8 @@ use Rattle.brk_model.specs.Base.{Base}
 use Rattle.brk_model.specs.Commands.{Command}
 use Rattle.brk_model.specs.Joins.{account_in, security_in, trade_in}
 use Rattle.brk_model.specs.Sheets.{sheets}
-use Rattle.brk_model.specs.Tables.{CashRow, SettlementRow, Tables, TradeRow}
+use Rattle.brk_model.specs.LookupView.{is_cash_of}
+use Rattle.brk_model.specs.Tables.{MoveRow, SettlementRow, Tables, TradeRow}
 use Rattle.brk_model.specs.Tests.{next_stamp}
 use Rattle.brk_orders.specs.declared.update.Update as told
 use Rattle.brk_orders.specs.declared.update.Update.TheVariants as update
@@ -30,8 +31,8 @@ abbrev pub settlement_in : Tables → ℕ → Option SettlementRow
 settlement_in t trade = find (λ r. r.trade == trade) t.settlements
 
 -- what a trade moved
-abbrev pub cash_in : Tables → ℕ → Option CashRow
-cash_in t trade = find (λ r. r.trade == trade) t.cash
+abbrev pub cash_in : Tables → ℕ → Option MoveRow
+cash_in t trade = find (is_cash_of trade) t.moves
 
 -- the trades with some ids, each of them
 abbrev pub AreTradesOf : Tables → List ℕ → List row.TradeRow → Type 0
@@ -121,12 +122,12 @@ no_word r = record r { cash_type = [] }
 abbrev pub wordless : List SettlementRow → List SettlementRow
 wordless rows = map no_word rows
 
--- what a trade moved, without the text
-abbrev pub no_text : CashRow → CashRow
+-- a cash row without the text
+abbrev pub no_text : MoveRow → MoveRow
 no_text r = record r { name = [] }
 
--- what trades moved, without the texts
-abbrev pub textless : List CashRow → List CashRow
+-- cash rows without the texts
+abbrev pub textless : List MoveRow → List MoveRow
 textless rows = map no_text rows
 
 -- a command changes names of executors and the last stamp, and nothing else
@@ -141,5 +142,5 @@ pub record ChangesWordsAlone (base : Base) (now : ℕ) (command : Command) : Typ
 
 -- a command changes texts of what trades moved and the last stamp, and nothing else
 pub record ChangesTextsAlone (base : Base) (now : ℕ) (command : Command) : Type 0 where
-  pub others : sheets_then base now command ≡ with_last (next_stamp base now) (record (sheets base) { cash = (sheets_then base now command).cash })
-  pub rows : textless (sheets_then base now command).cash ≡ textless (sheets base).cash
+  pub others : sheets_then base now command ≡ with_last (next_stamp base now) (record (sheets base) { moves = (sheets_then base now command).moves })
+  pub rows : textless (sheets_then base now command).moves ≡ textless (sheets base).moves

@@ -5,8 +5,8 @@ use Rattle.std.specs.Fmt.{signed_decimal}
 use Rattle.std.specs.List.{list_any}
 use Rattle.std.specs.Option.{option_map_or}
 use Rattle.brk_changes.specs.Rows.{history_row_of, trade_row_of}
-use Rattle.brk_changes.specs.declared.cash_row.CashRow.{CashRow}
 use Rattle.brk_changes.specs.declared.history_row.HistoryRow.{HistoryRow}
+use Rattle.brk_changes.specs.declared.move_row.MoveRow.{MoveRow}
 use Rattle.brk_changes.specs.declared.settlement_row.SettlementRow.{SettlementRow}
 use Rattle.brk_changes.specs.declared.trade_row.TradeRow.{TradeRow}
 use Rattle.brk_model.specs.Joins.{history_in, oldest_first_rows, recent_first, security_in, trades_in}
@@ -105,7 +105,7 @@ moments_shown history =
     ap (map moment_record) (map_sorted before older_moment moment_of history (λ a b. refl)) ∙ map_map moment_record moment_of (sort_by before history)
     ∙ sym (map_map shown history_row_of (sort_by before history)) ∙ ap (map shown) (sym (map_sorted before older_status history_row_of history (λ a b. refl)))
 
-pub one_shown : (t : Tables) (trade : TradeRow) (settlement : Option SettlementRow) (cash : Option CashRow) (history : List HistoryRow) (moments : Vec StatusMoment) → moments.items ≡ sort_by older_moment (map moment_of history)
+pub one_shown : (t : Tables) (trade : TradeRow) (settlement : Option SettlementRow) (cash : Option MoveRow) (history : List HistoryRow) (moments : Vec StatusMoment) → moments.items ≡ sort_by older_moment (map moment_of history)
     → IsOfTrade t trade settlement cash history
     → looked_up_records (record { trade = trade; settlement = settlement; cash = cash; history = moments }) ≡ model.lookup_records t (trade_row_of trade)
 one_shown t trade settlement cash history moments e is =

@@ -1,9 +1,9 @@
 -- What is shown of trades that are looked up.
 use Rattle.std.specs.Prelude.{◌≡◌, Bool, ◌==◌, nat_lt, List, [], ◌∷◌, ◌++◌, filter, map, codes, decimal, Option, option_map, option_to_list}
 use Rattle.std.specs.Option.{option_map_or}
-use Rattle.brk_changes.specs.Rows.{cash_row_of, history_row_of, settlement_row_of, trade_row_of}
-use Rattle.brk_changes.specs.declared.cash_row.CashRow.{CashRow}
+use Rattle.brk_changes.specs.Rows.{history_row_of, move_row_of, settlement_row_of, trade_row_of}
 use Rattle.brk_changes.specs.declared.history_row.HistoryRow.{HistoryRow}
+use Rattle.brk_changes.specs.declared.move_row.MoveRow.{MoveRow}
 use Rattle.brk_changes.specs.declared.settlement_row.SettlementRow.{SettlementRow}
 use Rattle.brk_changes.specs.declared.trade_row.TradeRow.{TradeRow}
 use Rattle.brk_model.specs.Joins.{history_in}
@@ -52,11 +52,11 @@ abbrev pub looked_up_records : LookedUp → View
 looked_up_records l =
     model.trade_record (trade_row_of l.trade)
     ∷ map model.settlement_record (option_to_list (option_map settlement_row_of l.settlement))
-    ++ map model.cash_record (option_to_list (option_map cash_row_of l.cash))
+    ++ map model.cash_record (option_to_list (option_map move_row_of l.cash))
     ++ map moment_record l.history.items
 
 -- what became of a trade stands in its rows
-pub record IsOfTrade (t : Tables) (trade : TradeRow) (settlement : Option SettlementRow) (cash : Option CashRow) (history : List HistoryRow) : Type 0 where
+pub record IsOfTrade (t : Tables) (trade : TradeRow) (settlement : Option SettlementRow) (cash : Option MoveRow) (history : List HistoryRow) : Type 0 where
   pub settles : option_to_list (option_map settlement_row_of settlement) ≡ filter (λ s. s.trade == trade.id) t.settlements
-  pub moves : option_to_list (option_map cash_row_of cash) ≡ filter (λ c. c.trade == trade.id) t.cash
+  pub moves : option_to_list (option_map move_row_of cash) ≡ filter (model.is_cash_of trade.id) t.moves
   pub comes : map history_row_of history ≡ history_in t trade.id

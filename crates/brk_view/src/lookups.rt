@@ -12,7 +12,7 @@ ghost use Rattle.brk_view.specs.Views.{fields_of};
 
 use crate::ordering::{Ranked, in_order};
 use crate::view::View;
-use brk_changes::{CashRow, HistoryRow, SettlementRow, TradeRow};
+use brk_changes::{HistoryRow, MoveRow, SettlementRow, TradeRow};
 use brk_money::{Fault, Stamp, Status};
 use std::alloc::Global;
 
@@ -49,7 +49,7 @@ pub struct LookedUp {
     /// What it settles for, where it is completed.
     pub settlement: Option<SettlementRow>,
     /// What it moved, where it is completed and in cash.
-    pub cash: Option<CashRow>,
+    pub cash: Option<MoveRow>,
     /// When it came to its statuses, the oldest first.
     pub history: Vec<StatusMoment>,
 }
@@ -75,7 +75,7 @@ pub fn looked_up(
     alloc: Global,
     trade: TradeRow,
     settlement: Option<SettlementRow>,
-    cash: Option<CashRow>,
+    cash: Option<MoveRow>,
     history: &[HistoryRow],
 ) -> Result<LookedUp, Fault>
     ensures records { IfOk result (λ found. (t : Tables) → IsOfTrade t trade settlement cash history.now → looked_up_records found ≡ lookup_records t (trade_row_of trade)) }

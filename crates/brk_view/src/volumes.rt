@@ -54,7 +54,7 @@ impl Ranked for BrokerVolume {
 // The worth of a request, in cents.
 fn worth_of(request: &RequestRow) -> u128
     ensures worth { result ≡ request_worth (request_row_of request.now) }
-    ensures limit { result ≤ 9999989000001 }
+    ensures limit { result ≤ 99999980000001 }
 {
     u128::from(request.qty.get()) * u128::from(request.bid.get())
 }

@@ -1,22 +1,32 @@
 -- What a store finds by a key is all that there is of it, and trades that are found one after another are all that are named.
-use Rattle.std.proofs.Common.{◌≡◌, ℕ, ◌==◌, List, [], ◌∷◌, Bool, true, false, not, refl, ap, ◌∙◌, filter, find, arith}
+use Rattle.std.proofs.Common.{◌≡◌, ℕ, ◌==◌, List, [], ◌∷◌, ◌++◌, Bool, true, false, cond, not, refl, sym, ap, subst, ◌∙◌, map, filter, find, arith}
 use Rattle.std.specs.Prelude.{◌&&◌, ◌||◌, flat_map, nat_lt, option_to_list}
 use Rattle.std.specs.List.{AllByRecursion, list_any}
 use Rattle.std.proofs.lemmas.Bool.{eqb-true}
 use Rattle.std.proofs.lemmas.Bool.Decides.{nat_tests}
-use Rattle.brk_model.specs.Base.{Base}
+use Rattle.brk_model.specs.Adopted.{is_posted_by, posting_of_move}
+use Rattle.brk_model.specs.Base.{Base, completed, is_completed}
+use Rattle.brk_model.specs.Derived.{Posting, cash_trades, in_turn, posting_of_movement, posting_of_trade, postings_of}
 use Rattle.brk_model.specs.Joins.{oldest_first_rows}
-use Rattle.brk_model.specs.Keys.{account_key, cash_key, customer_key, number, settlement_key, trade_key}
+use Rattle.brk_model.specs.Keys.{account_key, customer_key, number, settlement_key, trade_key}
 use Rattle.brk_model.specs.Lists.{all_distinct, contains_number, rising}
-use Rattle.brk_model.specs.Sheets.{sheets}
-use Rattle.brk_model.specs.Tables.{TradeRow}
+use Rattle.brk_model.specs.LookupView.{is_cash_of}
+use Rattle.brk_model.specs.Records.{Movement, Trade}
+use Rattle.brk_model.specs.Sheets.{sheets, sheets_of}
+use Rattle.brk_model.specs.Tables.{MoveRow, TradeRow, numbered, tables_at}
+use Rattle.brk_adoption_laws.proofs.Again.{found_first}
+use Rattle.brk_adoption_laws.proofs.MovedBase.{IsShort, posted_once, short_rows}
 use Rattle.brk_adoption_laws.proofs.Climbs.{Climbs}
 use Rattle.brk_adoption_laws.proofs.Parts.{KeyParts, key_parts}
 use Rattle.brk_sound_laws.specs.Sound.{IsSound}
 use Rattle.brk_sound_laws.proofs.FormKeys.{keys_of}
 use Rattle.brk_book_laws.specs.Books.{IsBooks}
 use Rattle.brk_book_laws.proofs.Bools.{numbers_back}
-use Rattle.brk_book_laws.proofs.Order.{Splits}
+use Rattle.brk_book_laws.proofs.LotReading.{numbered_rise, rise_apart, rise_filter}
+use Rattle.brk_book_laws.proofs.MoveReading.{postings_back, turn_filter}
+use Rattle.brk_book_laws.proofs.Order.{Splits, append_nil}
+use Rattle.brk_book_laws.proofs.Places.{filter-append}
+use Rattle.brk_book_laws.proofs.Postings.{numbered_stay}
 use Rattle.brk_view_laws.proofs.Gathering.{Excludes, same_pieces, sort_gathered}
 use Rattle.brk_view_laws.proofs.OneRow.{found_is_all}
 use Rattle.brk_view_laws.proofs.Sorting.{AllApart, same_rows}
@@ -29,9 +39,20 @@ pub settlement_alone : (base : Base) (id : ℕ) → IsBooks base → IsSound bas
 settlement_alone base id books sound =
     found_is_all settlement_key (λ s. s.trade == id) (number id ∷ []) (sheets base).settlements (λ s e. ap (λ n. number n ∷ []) (eqb-true s.trade id e)) (parts base books sound).settlements
 
-pub cash_alone : (base : Base) (id : ℕ) → IsBooks base → IsSound base → option_to_list (find (λ c. c.trade == id) (sheets base).cash) ≡ filter (λ c. c.trade == id) (sheets base).cash
+-- of rows of which at most one passes, the one that is found is all
+found_of_short : {X : Type 0} (p : X → Bool) (xs : List X) → IsShort (filter p xs) → option_to_list (find p xs) ≡ filter p xs
+found_of_short {X = X} p xs h = ap option_to_list (found_first p xs) ∙ first_of_short (filter p xs) h
+  where
+    first_of_short : (ys : List X) → IsShort ys → option_to_list (find (λ x. true) ys) ≡ ys
+    first_of_short [] h = refl
+    first_of_short (y ∷ []) h = refl
+    first_of_short (y ∷ z ∷ ys) h = absurd h
+
+pub cash_alone : (base : Base) (id : ℕ) → IsBooks base → IsSound base → option_to_list (find (is_cash_of id) (sheets base).moves) ≡ filter (is_cash_of id) (sheets base).moves
+unfolding sheets_of tables_at
 cash_alone base id books sound =
-    found_is_all cash_key (λ c. c.trade == id) (number id ∷ []) (sheets base).cash (λ c e. ap (λ n. number n ∷ []) (eqb-true c.trade id e)) (parts base books sound).cash
+    found_of_short (is_cash_of id) (sheets base).moves
+    (subst (λ rows. IsShort (filter (is_cash_of id) rows)) (sym (numbered_stay 1 (in_turn (postings_of base)))) (short_rows id 1 (in_turn (postings_of base)) (posted_once base id books)))
 
 pub account_alone : (base : Base) (id : ℕ) → IsBooks base → IsSound base → option_to_list (find (λ a. a.id == id) (sheets base).accounts) ≡ filter (λ a. a.id == id) (sheets base).accounts
 account_alone base id books sound =

@@ -6,15 +6,17 @@ use Rattle.std.proofs.lemmas.Bool.{eqb-true}
 use Rattle.std.proofs.lemmas.Bool.Decides.{nat_tests}
 use Rattle.brk_money.specs.Kinds.{status_code}
 use Rattle.brk_model.specs.Base.{Base}
+use Rattle.brk_model.specs.Derived.{in_turn, postings_of}
 use Rattle.brk_model.specs.Joins.{history_in, oldest_first_rows}
-use Rattle.brk_model.specs.Keys.{cash_key, history_key, number, row_before, settlement_key}
+use Rattle.brk_model.specs.Keys.{history_key, number, row_before, settlement_key}
 use Rattle.brk_model.specs.Lists.{sort_by}
-use Rattle.brk_model.specs.LookupView.{cash_record, lookup_records, lookup_view, settlement_record, trade_record}
+use Rattle.brk_model.specs.LookupView.{cash_record, is_cash_of, lookup_records, lookup_view, settlement_record, trade_record}
 use Rattle.brk_model.specs.Sheets.{sheets, sheets_of}
-use Rattle.brk_model.specs.Tables.{HistoryRow, TradeRow, tables_of}
+use Rattle.brk_model.specs.Tables.{HistoryRow, TradeRow, tables_at, tables_of}
 use Rattle.brk_sound_laws.specs.Sound.{IsSound}
 use Rattle.brk_book_laws.specs.Books.{IsBooks}
 use Rattle.brk_book_laws.proofs.Order.{Splits}
+use Rattle.brk_book_laws.proofs.Postings.{numbered_stay}
 use Rattle.brk_book_laws.proofs.Same.{flat_map-same}
 use Rattle.brk_view_laws.proofs.OneRow.{rows_of_key}
 use Rattle.brk_view_laws.proofs.Sorting.{AllApart, All-sort, sort_twice}
@@ -26,9 +28,9 @@ same_settlements : (base : Base) (id : ℕ) → filter (λ s. s.trade == id) (sh
 unfolding sheets_of
 same_settlements base id = rows_of_key settlement_key (λ s. s.trade == id) (number id ∷ []) (tables_of base).settlements (λ s e. ap (λ n. number n ∷ []) (eqb-true s.trade id e))
 
-same_cash : (base : Base) (id : ℕ) → filter (λ c. c.trade == id) (sheets base).cash ≡ filter (λ c. c.trade == id) (tables_of base).cash
-unfolding sheets_of
-same_cash base id = rows_of_key cash_key (λ c. c.trade == id) (number id ∷ []) (tables_of base).cash (λ c e. ap (λ n. number n ∷ []) (eqb-true c.trade id e))
+same_cash : (base : Base) (id : ℕ) → filter (is_cash_of id) (sheets base).moves ≡ filter (is_cash_of id) (tables_of base).moves
+unfolding sheets_of tables_at
+same_cash base id = ap (filter (is_cash_of id)) (numbered_stay 1 (in_turn (postings_of base)))
 
 -- ---- its statuses, the oldest first
 

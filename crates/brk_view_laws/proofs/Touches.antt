@@ -12,7 +12,7 @@ use Rattle.brk_model.specs.Keys.{holding_history_key}
 use Rattle.brk_model.specs.Lists.{rising}
 use Rattle.brk_model.specs.Records.{Trade}
 use Rattle.brk_model.specs.Sheets.{sheets, sheets_of}
-use Rattle.brk_model.specs.Tables.{HoldingHistoryRow, lot_history, tables_of, trade_row}
+use Rattle.brk_model.specs.Tables.{HoldingHistoryRow, lot_history, tables_of, trade_row, tables_at}
 use Rattle.brk_adoption_laws.proofs.Climbs.{Climbs}
 use Rattle.brk_adoption_laws.proofs.Members.{All-flat_map}
 use Rattle.brk_adoption_laws.proofs.Parts.{key_parts}
@@ -95,7 +95,7 @@ abbrev pub stamp_at : Base → ℕ → ℕ
 stamp_at base id = option_map_or (λ t. t.stamp) (trade_in (tables_of base) id) 0
 
 stamp_is : (base : Base) (id : ℕ) → IsBooks base → IsAmong (completed base) id → stamp_at base id ≡ moment_in (completed base) id
-unfolding tables_of
+unfolding tables_at
 stamp_is base id books e =
     ap (λ o. option_map_or (λ t. t.stamp) o 0) (find-map (λ r. r.id == id) trade_row base.trades) ∙ of_row (with_id id base.trades)
     ∙ ap (λ o. option_map_or moment_of o 0) (found_of_all is_completed id base.trades (rise_apart base.trades (numbered_rise 1 base.trades books.numbered)) e)
@@ -124,7 +124,7 @@ each_history done [] = tt
 each_history done (t ∷ ts) = (All-history (λ lot trade. IsAmong done trade) done t (each_deal done t.account t.symbol), each_history done ts)
 
 pub each_made : (base : Base) → AllByRecursion (λ r. IsAmong (completed base) r.trade) (sheets base).holding_history
-unfolding sheets_of tables_of
+unfolding sheets_of tables_at
 each_made base =
     All-sort (λ (r : HoldingHistoryRow). IsAmong (completed base) r.trade) _ (flat_map (lot_history (completed base)) (completed base))
     (All-flat_map (λ (r : HoldingHistoryRow). IsAmong (completed base) r.trade) (lot_history (completed base)) (completed base) (each_history (completed base) (completed base)))

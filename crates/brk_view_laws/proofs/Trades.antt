@@ -8,7 +8,7 @@ use Rattle.brk_model.specs.Joins.{history_in}
 use Rattle.brk_model.specs.Keys.{by_key, history_key}
 use Rattle.brk_model.specs.Records.{Mark, Trade}
 use Rattle.brk_model.specs.Sheets.{sheets, sheets_of}
-use Rattle.brk_model.specs.Tables.{HistoryRow, TradeRow, tables_of, trade_row}
+use Rattle.brk_model.specs.Tables.{HistoryRow, TradeRow, tables_of, trade_row, tables_at}
 use Rattle.brk_model.specs.Ways.{is_rising}
 use Rattle.brk_adoption_laws.proofs.Again.{IsRead, reads}
 use Rattle.brk_sound_laws.specs.Sound.{IsSound, IsSoundTrade}
@@ -17,7 +17,7 @@ use Rattle.brk_book_laws.proofs.Order.{by_key-filter}
 use Rattle.brk_book_laws.proofs.TradeReading.{trades_in_order}
 
 pub same_trades : (base : Base) → IsBooks base → (sheets base).trades ≡ (tables_of base).trades
-unfolding tables_of
+unfolding tables_at
 same_trades base books = trades_in_order base books.numbered
 
 -- ---- the statuses of a trade
@@ -52,13 +52,13 @@ rows_rise id (m ∷ n ∷ marks) e =
     ((both.0, earlier_through m.stamp n.stamp (map (λ m. record { trade = id; status = m.status; stamp = m.stamp }) marks) both.0 after.0), after)
 
 own_rows : (base : Base) (ts : List Trade) → AllByRecursion (IsRead base) ts → AllByRecursion (IsSoundTrade base) ts → AllByRecursion (λ (r : TradeRow). AllRise (history_in (tables_of base) r.id)) (map trade_row ts)
-unfolding tables_of
+unfolding tables_at
 own_rows base [] h k = tt
 own_rows base (t ∷ ts) h k = (subst AllRise (sym h.0.history) (rows_rise t.id t.marks k.0.stamps), own_rows base ts h.1 k.1)
 
 -- the statuses of each trade rise
 pub statuses_rise : (base : Base) → IsBooks base → IsSound base → AllByRecursion (λ (r : TradeRow). AllRise (history_in (tables_of base) r.id)) (tables_of base).trades
-unfolding tables_of
+unfolding tables_at
 statuses_rise base books sound = own_rows base base.trades (reads base books.numbered) sound.trades
 
 -- a store reads them by the codes of the statuses

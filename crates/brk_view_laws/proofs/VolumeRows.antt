@@ -11,7 +11,7 @@ use Rattle.brk_model.specs.Keys.{KeyPart, broker_key, key_before, number, word}
 use Rattle.brk_model.specs.Lists.{distinct_texts, sort_by, text_before}
 use Rattle.brk_model.specs.Rows.{price_text}
 use Rattle.brk_model.specs.Sheets.{sheets, sheets_of}
-use Rattle.brk_model.specs.Tables.{BrokerRow, RequestRow, Tables, tables_of}
+use Rattle.brk_model.specs.Tables.{BrokerRow, RequestRow, Tables, tables_of, tables_at}
 use Rattle.brk_model.specs.VolumeView.{by_volume, requests_in, volume_in, volume_view}
 use Rattle.brk_adoption_laws.proofs.Climbs.{Climbs, not_itself}
 use Rattle.brk_adoption_laws.proofs.Parts.{key_parts}
@@ -28,7 +28,7 @@ use Rattle.brk_view_laws.proofs.StatusRows.{same_security}
 -- ---- one broker
 
 same_requests : (base : Base) → IsBooks base → (sheets base).requests ≡ (tables_of base).requests
-unfolding tables_of
+unfolding tables_at
 same_requests base books = requests_in_order base books.numbered
 
 same_in : (base : Base) (sector : Text) (broker : ℕ) → IsBooks base → requests_in (sheets base) sector broker ≡ requests_in (tables_of base) sector broker

@@ -6,14 +6,15 @@ use Rattle.std.specs.Option.{option_map_or}
 use Rattle.std.proofs.lemmas.Bool.Decides.{nat_tests}
 use Rattle.std.proofs.lemmas.Int.{ints}
 use Rattle.brk_money.specs.Spelling.{Text, cents_text}
-use Rattle.brk_model.specs.Base.{Base, completed}
+use Rattle.brk_model.specs.Base.{Base}
+use Rattle.brk_model.specs.Derived.{postings_of}
 use Rattle.brk_model.specs.Joins.{price_in}
 use Rattle.brk_model.specs.Keys.{account_key, customer_key, summary_key}
 use Rattle.brk_model.specs.Lists.{sort_by, total_by}
 use Rattle.brk_model.specs.PositionView.{asset_total, by_worth, position_view}
 use Rattle.brk_model.specs.Records.{Account, Customer}
 use Rattle.brk_model.specs.Sheets.{sheets, sheets_of}
-use Rattle.brk_model.specs.Tables.{AccountRow, SummaryRow, Tables, account_row, last_trade_row, tables_of}
+use Rattle.brk_model.specs.Tables.{AccountRow, SummaryRow, Tables, account_row, last_trade_row, tables_of, tables_at}
 use Rattle.brk_book_laws.specs.Books.{DistinctAccounts, IsBooks}
 use Rattle.brk_book_laws.proofs.Order.{Splits, by_key-filter}
 use Rattle.brk_book_laws.proofs.Reading.{any-sorted, find-map}
@@ -24,7 +25,7 @@ use Rattle.brk_view_laws.proofs.Sorting.{AllApart, apart_filter, same_map, same_
 -- ---- one account
 
 pub same_price : (base : Base) (symbol : Text) → price_in (sheets base) symbol ≡ price_in (tables_of base) symbol
-unfolding tables_of
+unfolding tables_at
 same_price base symbol =
     ap (λ o. option_map_or (λ r. r.price) o 0) (reads_last_trade base symbol ∙ sym (find-map (λ r. bytes_eq r.symbol symbol) last_trade_row base.securities))
 
@@ -52,12 +53,12 @@ worth_apart x y x' y' h = grind (arith, ints, nat_tests)
 splits : (t : Tables) → Splits (by_worth t)
 splits t x y z g h = worth_splits (asset_total t x) (asset_total t y) (asset_total t z) x.id y.id z.id g h
 
-apart : (base : Base) (t : Tables) (accounts : List Account) → DistinctAccounts accounts → AllApart (by_worth t) (map (account_row base.accounts (completed base)) accounts)
+apart : (base : Base) (t : Tables) (accounts : List Account) → DistinctAccounts accounts → AllApart (by_worth t) (map (account_row base.accounts (postings_of base)) accounts)
 apart base t [] d = tt
 apart base t (a ∷ accounts) d = (from_one accounts d.0, apart base t accounts d.1)
   where
     row : Account → AccountRow
-    row = account_row base.accounts (completed base)
+    row = account_row base.accounts (postings_of base)
 
     from_one : (others : List Account) → AllByRecursion (λ b. (b.id == a.id) ≡ false) others → AllByRecursion (λ y. by_worth t (row a) y ≡ not (by_worth t y (row a))) (map row others)
     from_one [] h = tt
@@ -69,7 +70,7 @@ abbrev owned_by : (Customer → Bool) → List Customer → AccountRow → Bool
 owned_by test customers a = list_any (λ c. test c && (c.id == a.customer)) customers
 
 pub same_position : (base : Base) (test : Customer → Bool) → IsBooks base → position_view (sheets base) test ≡ position_view (tables_of base) test
-unfolding position_view sheets_of tables_of
+unfolding position_view sheets_of tables_at
 same_position base test books =
     let t : Tables = tables_of base in
     let s : Tables = sheets base in

@@ -4,7 +4,7 @@ ghost use Rattle.std.specs.Prelude.{◌≡◌, ◌==◌, ℕ, Bool, List, filter
 ghost use Rattle.brk_model.specs.Base.{Base};
 ghost use Rattle.brk_model.specs.Joins.{oldest_first_rows};
 ghost use Rattle.brk_model.specs.Lists.{all_distinct, contains_number};
-ghost use Rattle.brk_model.specs.LookupView.{is_touched_by, lookup_view, lots_view};
+ghost use Rattle.brk_model.specs.LookupView.{is_cash_of, is_touched_by, lookup_view, lots_view};
 ghost use Rattle.brk_model.specs.Sheets.{sheets};
 ghost use Rattle.brk_model.specs.Tables.{TradeRow, tables_of};
 ghost use Rattle.brk_sound_laws.specs.Sound.{IsSound};
@@ -28,7 +28,7 @@ pub fn rows_are_found_alone()
     ensures settlements { (base : Base) (trade : ℕ) → IsBooks base → IsSound base
         → option_to_list (find (λ s. s.trade == trade) (sheets base).settlements) ≡ filter (λ s. s.trade == trade) (sheets base).settlements }
     ensures cash { (base : Base) (trade : ℕ) → IsBooks base → IsSound base
-        → option_to_list (find (λ c. c.trade == trade) (sheets base).cash) ≡ filter (λ c. c.trade == trade) (sheets base).cash }
+        → option_to_list (find (is_cash_of trade) (sheets base).moves) ≡ filter (is_cash_of trade) (sheets base).moves }
     ensures accounts { (base : Base) (id : ℕ) → IsBooks base → IsSound base
         → option_to_list (find (λ a. a.id == id) (sheets base).accounts) ≡ filter (λ a. a.id == id) (sheets base).accounts }
     ensures customers { (base : Base) (id : ℕ) → IsBooks base → IsSound base

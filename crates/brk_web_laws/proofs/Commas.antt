@@ -9,7 +9,7 @@ use Rattle.brk_money.specs.Moments.{Civil, civil_of}
 use Rattle.brk_money.specs.Kinds.{status_code}
 use Rattle.brk_money.specs.declared.status.Status.{Status}
 use Rattle.brk_money.specs.declared.status.Status.TheVariants.{Completed, Active, Submitted, Pending, Canceled}
-use Rattle.brk_model.specs.Commands.{Reply, Booked, Ordered, Ticked, CanceledTrade, CompletedTrade, Changed, Estimate, Completion}
+use Rattle.brk_model.specs.Commands.{Reply, Booked, Ordered, Ticked, CanceledTrade, CompletedTrade, Changed, Estimate, Completion, MovedCash}
 use Rattle.brk_model.specs.Rows.{completion_fields, estimate_fields, line_text, price_text, reply_fields}
 use Rattle.brk_web.specs.Routes.{parts_at}
 
@@ -92,6 +92,7 @@ fields (Ticked stamp triggered) = (number stamp, numbers triggered)
 fields (CanceledTrade stamp) = (number stamp, ((refl, (refl, (refl, (refl, tt)))), tt))
 fields (CompletedTrade stamp c) = (number stamp, completion c)
 fields (Changed stamp count) = (number stamp, (number count, tt))
+fields (MovedCash stamp move balance) = (number stamp, (number move, (cents balance, tt)))
 
 -- ---- cutting
 
@@ -118,3 +119,4 @@ fields_cut (Ticked stamp triggered) = cut _ _ (fields (Ticked stamp triggered))
 fields_cut (CanceledTrade stamp) = cut _ _ (fields (CanceledTrade stamp))
 fields_cut (CompletedTrade stamp c) = cut _ _ (fields (CompletedTrade stamp c))
 fields_cut (Changed stamp count) = cut _ _ (fields (Changed stamp count))
+fields_cut (MovedCash stamp move balance) = cut _ _ (fields (MovedCash stamp move balance))

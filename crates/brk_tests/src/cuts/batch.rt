@@ -31,7 +31,7 @@ const LINES: [&str; 6] = [
 ];
 
 // The tables after them, but for those that no trade changes.
-const TABLES: &str = "DESK\n1,1,1709251200021\n\
+const TABLES: &str = "DESK\n1,3,1709251200021\n\
     BROKER\n1,Bo,2,1615\n\
     CUSTOMER_ACCOUNT\n100,10,1,Main,1,1000000,954885\n\
     LAST_TRADE\nABC,1709251200019,950,100\n\
@@ -45,8 +45,10 @@ const TABLES: &str = "DESK\n1,1,1709251200021\n\
     HOLDING_SUMMARY\n100,ABC,50\n\
     HOLDING_HISTORY\n1,1,0,100\n1,2,100,50\n\
     SETTLEMENT\n1,Cash Account,19785,-102510\n2,Cash Account,19785,57395\n\
-    CASH_TRANSACTION\n1,1709251200017,-102510,Market-Buy 100 shares of Acme\n\
-    2,1709251200020,57395,Stop-Loss 50 shares of Acme\n\
+    CASH_TRANSACTION\nCASH_MOVE\n\
+    1,100,1,1709251200017,-102510,Market-Buy 100 shares of Acme\n\
+    2,100,2,1709251200020,57395,Stop-Loss 50 shares of Acme\n\
+    SETTLE_RULE\n\
     KEPT WHERE K_BATCH <> 'SET'\n\
     T,1,order\x1f100\x1fTMB\x1fABC\x1f100\x1f\x1fcash\x1ffifo\x1fAnn\x1fLee\x1fT10,\
     1709251200016,1,SBMT,10.00,0.00,0.00,0.00,10.00,5.00,10000.00\n\

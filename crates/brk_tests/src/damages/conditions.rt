@@ -75,7 +75,7 @@ const DAMAGES: [(&str, Option<Condition>); 18] = [
         Some(Condition::Settlement),
     ),
     (
-        "UPDATE CASH_TRANSACTION SET CT_AMT = -102509",
+        "UPDATE CASH_MOVE SET CM_AMT = -102509",
         Some(Condition::Cash),
     ),
     (
@@ -117,10 +117,7 @@ const ONE_FOR_EACH: [(&str, Condition); 12] = [
         "UPDATE SETTLEMENT SET SE_AMT = -102509",
         Condition::Settlement,
     ),
-    (
-        "UPDATE CASH_TRANSACTION SET CT_AMT = -102509",
-        Condition::Cash,
-    ),
+    ("UPDATE CASH_MOVE SET CM_AMT = -102509", Condition::Cash),
     (
         "UPDATE CUSTOMER_ACCOUNT SET CA_BAL = 897491",
         Condition::Balance,

@@ -5,13 +5,31 @@ use brk_money::Condition;
 use std::test::Fail;
 
 // The tables, their columns and the row of DESK.
-const SCHEMAS: [(&str, Option<Condition>); 10] = [
+const SCHEMAS: [(&str, Option<Condition>); 18] = [
     ("DELETE FROM DESK", Some(Condition::Schema)),
     (
-        "INSERT INTO DESK VALUES (2, 1, NULL)",
+        "INSERT INTO DESK VALUES (2, 3, NULL)",
         Some(Condition::Schema),
     ),
     ("DROP TABLE CASH_TRANSACTION", Some(Condition::Schema)),
+    ("DROP TABLE CASH_MOVE", Some(Condition::Schema)),
+    ("DROP TABLE SETTLE_RULE", Some(Condition::Schema)),
+    // An older desk has no table of a later one, and has its own.
+    ("UPDATE DESK SET D_SCHEMA = 1", Some(Condition::Schema)),
+    ("UPDATE DESK SET D_SCHEMA = 2", Some(Condition::Schema)),
+    (
+        "UPDATE DESK SET D_SCHEMA = 1; DROP TABLE SETTLE_RULE",
+        Some(Condition::Schema),
+    ),
+    (
+        "UPDATE DESK SET D_SCHEMA = 1; DROP TABLE SETTLE_RULE; DROP TABLE CASH_MOVE",
+        Some(Condition::Cash),
+    ),
+    (
+        "UPDATE DESK SET D_SCHEMA = 1; DROP TABLE SETTLE_RULE; DROP TABLE CASH_MOVE; CREATE TABLE Cash_Move (A TEXT)",
+        Some(Condition::Schema),
+    ),
+    ("UPDATE DESK SET D_SCHEMA = 2; DROP TABLE SETTLE_RULE", None),
     (
         "DROP TABLE CHARGE; CREATE TABLE CHARGE (CH_TT_ID TEXT NOT NULL, CH_C_TIER INTEGER NOT NULL, PRIMARY KEY (CH_TT_ID, CH_C_TIER)) STRICT",
         Some(Condition::Schema),
@@ -192,7 +210,7 @@ const TRADES: [(&str, Option<Condition>); 25] = [
 ];
 
 // What follows from the completed trades.
-const DERIVED: [(&str, Option<Condition>); 22] = [
+const DERIVED: [(&str, Option<Condition>); 24] = [
     ("UPDATE HOLDING SET H_PRICE = 0", Some(Condition::Form)),
     (
         "UPDATE HOLDING SET H_DTS = 1709251200016",
@@ -200,7 +218,7 @@ const DERIVED: [(&str, Option<Condition>); 22] = [
     ),
     ("DELETE FROM HOLDING", Some(Condition::Lots)),
     (
-        "UPDATE HOLDING_SUMMARY SET HS_QTY = 1000000000",
+        "UPDATE HOLDING_SUMMARY SET HS_QTY = 10000000000",
         Some(Condition::Form),
     ),
     ("DELETE FROM HOLDING_SUMMARY", Some(Condition::Summary)),
@@ -235,21 +253,23 @@ const DERIVED: [(&str, Option<Condition>); 22] = [
         "INSERT INTO SETTLEMENT VALUES (2, 'Cash Account', 19785, 0)",
         Some(Condition::Settlement),
     ),
+    ("UPDATE CASH_MOVE SET CM_NAME = 'x'", Some(Condition::Form)),
     (
-        "UPDATE CASH_TRANSACTION SET CT_NAME = 'x'",
-        Some(Condition::Form),
-    ),
-    (
-        "UPDATE CASH_TRANSACTION SET CT_NAME = 'Market-Buy 100 Shares of Acme'",
+        "UPDATE CASH_MOVE SET CM_NAME = 'Market-Buy 100 Shares of Acme'",
         None,
     ),
     (
-        "UPDATE CASH_TRANSACTION SET CT_DTS = CT_DTS - 1",
+        "UPDATE CASH_MOVE SET CM_DTS = CM_DTS - 1",
         Some(Condition::Cash),
     ),
-    ("DELETE FROM CASH_TRANSACTION", Some(Condition::Cash)),
+    ("UPDATE CASH_MOVE SET CM_ID = 2", Some(Condition::Cash)),
+    ("DELETE FROM CASH_MOVE", Some(Condition::Cash)),
     (
-        "INSERT INTO CASH_TRANSACTION VALUES (2, 1709251200018, 0, 'Market-Buy 200 shares of Acme')",
+        "INSERT INTO CASH_MOVE VALUES (2, 100, 2, 1709251200018, 0, 'Market-Buy 200 shares of Acme')",
+        Some(Condition::Cash),
+    ),
+    (
+        "INSERT INTO CASH_TRANSACTION VALUES (1, 1709251200017, -102510, 'Market-Buy 100 shares of Acme')",
         Some(Condition::Cash),
     ),
     (
@@ -262,6 +282,80 @@ const DERIVED: [(&str, Option<Condition>); 22] = [
     ),
 ];
 
+// Cash rows without a trade, and the first day whose completions settle after one day.
+const LATER: [(&str, Option<Condition>); 18] = [
+    (
+        "INSERT INTO CASH_MOVE VALUES (2, 100, NULL, 1709251200018, 1, 'Deposit'); UPDATE CUSTOMER_ACCOUNT SET CA_BAL = 897491",
+        None,
+    ),
+    (
+        "INSERT INTO CASH_MOVE VALUES (2, 100, NULL, 1709251200018, -1, 'Withdrawal'); UPDATE CUSTOMER_ACCOUNT SET CA_BAL = 897489",
+        None,
+    ),
+    (
+        "UPDATE CASH_MOVE SET CM_ID = 2; INSERT INTO CASH_MOVE VALUES (1, 100, NULL, 0, 1, 'Deposit'); UPDATE CUSTOMER_ACCOUNT SET CA_BAL = 897491",
+        None,
+    ),
+    (
+        "INSERT INTO CASH_MOVE VALUES (2, 100, NULL, 0, 1, 'Deposit'); UPDATE CUSTOMER_ACCOUNT SET CA_BAL = 897491",
+        Some(Condition::Cash),
+    ),
+    (
+        "INSERT INTO CASH_MOVE VALUES (3, 100, NULL, 1709251200018, 1, 'Deposit'); UPDATE CUSTOMER_ACCOUNT SET CA_BAL = 897491",
+        Some(Condition::Cash),
+    ),
+    (
+        "INSERT INTO CASH_MOVE VALUES (2, 100, NULL, 1709251200018, 1, 'Deposit')",
+        Some(Condition::Balance),
+    ),
+    (
+        "INSERT INTO CASH_MOVE VALUES (2, 100, NULL, 1709251200018, 0, 'Deposit')",
+        Some(Condition::Form),
+    ),
+    (
+        "INSERT INTO CASH_MOVE VALUES (2, 100, NULL, 1709251200018, -1, 'Deposit')",
+        Some(Condition::Form),
+    ),
+    (
+        "INSERT INTO CASH_MOVE VALUES (2, 100, NULL, 1709251200018, 1, 'Withdrawal')",
+        Some(Condition::Form),
+    ),
+    (
+        "INSERT INTO CASH_MOVE VALUES (2, 100, NULL, 1709251200018, 1, 'deposit')",
+        Some(Condition::Form),
+    ),
+    (
+        "INSERT INTO CASH_MOVE VALUES (2, 100, NULL, 1709251200019, 1, 'Deposit')",
+        Some(Condition::Form),
+    ),
+    (
+        "INSERT INTO CASH_MOVE VALUES (2, 100, NULL, 1709251200017, 1, 'Deposit')",
+        Some(Condition::Status),
+    ),
+    (
+        "INSERT INTO CASH_MOVE VALUES (2, 100, NULL, 1, 1, 'Deposit'); INSERT INTO CASH_MOVE VALUES (3, 100, NULL, 1, 1, 'Deposit')",
+        Some(Condition::Status),
+    ),
+    // The purchase was completed on day 19783.
+    ("INSERT INTO SETTLE_RULE VALUES (1, 19784)", None),
+    (
+        "INSERT INTO SETTLE_RULE VALUES (1, 19783)",
+        Some(Condition::Settlement),
+    ),
+    (
+        "INSERT INTO SETTLE_RULE VALUES (2, 19784)",
+        Some(Condition::Form),
+    ),
+    (
+        "INSERT INTO SETTLE_RULE VALUES (1, 19784); INSERT INTO SETTLE_RULE VALUES (2, 19784)",
+        Some(Condition::Form),
+    ),
+    (
+        "INSERT INTO SETTLE_RULE VALUES (1, 2932897)",
+        Some(Condition::Form),
+    ),
+];
+
 #[test]
 fn what_could_not_stand_is_told(rt: HostRuntime) -> Result<(), Fail> {
     for cases in [
@@ -269,6 +363,7 @@ fn what_could_not_stand_is_told(rt: HostRuntime) -> Result<(), Fail> {
         REFERENCE.as_slice(),
         TRADES.as_slice(),
         DERIVED.as_slice(),
+        LATER.as_slice(),
     ] {
         expect_told(&rt, rt.alloc(), ORDERED, cases)?;
     }

@@ -196,3 +196,20 @@ pub fn run(
     let is_db = come_back(&mut db, stop.loses, &mut left.db)?;
     Ok((left, is_log || is_db))
 }
+
+/// What these files hold after another program changed the desk in them.
+pub fn changed(alloc: Global, held: &Held, change: &str) -> Result<Held, Fail> {
+    let log = file_of(alloc, &held.log, u64::MAX)?;
+    let db = file_of(alloc, &held.db, u64::MAX)?;
+    let Ok(mut conn) = Connection::open_files(alloc, Files { log, db }, Options::new(1)) else {
+        return Err("files that cannot be opened")?;
+    };
+    conn.execute_batch(change)?;
+    let Ok(Files { mut log, mut db }) = conn.close_files() else {
+        return Err("files that cannot be closed")?;
+    };
+    let mut left = Held::nothing(alloc);
+    come_back(&mut log, false, &mut left.log)?;
+    come_back(&mut db, false, &mut left.db)?;
+    Ok(left)
+}

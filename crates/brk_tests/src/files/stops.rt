@@ -1,9 +1,11 @@
-//! A store that is stopped at each of its calls, of the log and then of the database file, while its tables are made and
-//! while it books a batch.
+//! A store that is stopped at each of its calls, of the log and then of the database file, while its tables are made, while
+//! it books a batch, and while a desk of the first schema is moved to the third.
 
 use crate::cuts::batch::{ROWS, all_lines};
 use crate::desks::set_desk;
-use crate::files::machine::{File, Held, Seen, Stop, book, run};
+use crate::files::machine::{File, Held, Seen, Stop, book, changed, run};
+use crate::older::FIRST;
+use crate::worked;
 use crate::worked::{SET, SET_LINES, batch_of};
 use std::alloc::Global;
 use std::test::Fail;
@@ -194,6 +196,54 @@ fn a_store_may_be_stopped_while_it_books(rt: HostRuntime) -> Result<(), Fail> {
         for calls in 0..MOST_CALLS {
             let stop = Stop { calls, ..stop };
             was_stopped = stops_booking(rt.alloc(), stop, &start, batch.as_str(), &tables)?;
+            if !was_stopped {
+                break;
+            }
+        }
+        assert!(rt; !was_stopped, "always stopped");
+    }
+    Ok(())
+}
+
+// The files of a desk of the first schema that traded, and its tables once they are moved.
+fn older(alloc: Global) -> Result<(Held, String), Fail> {
+    let mut seen = Seen::nothing(alloc);
+    let batch = batch_of(alloc, &worked::ROWS[..6])?;
+    let nothing = Held::nothing(alloc);
+    let (set, _) = run(alloc, &nothing, Stop::NEVER, SET, &mut seen)?;
+    let mut seen = Seen::nothing(alloc);
+    let (traded, _) = run(alloc, &set, Stop::NEVER, batch.as_bytes(), &mut seen)?;
+    let held = changed(alloc, &traded, FIRST)?;
+    let Seen { after, .. } = seen;
+    if after.is_empty() {
+        return Err("tables that could not be read")?;
+    }
+    Ok((held, after))
+}
+
+// Opens an older desk until a stop, and then again. It was moved as a whole or not at all. Tells whether there was a stop.
+fn stops_moving(alloc: Global, stop: Stop, start: &Held, tables: &str) -> Result<bool, Fail> {
+    let mut seen = Seen::nothing(alloc);
+    let (held, was_stopped) = run(alloc, start, stop, NO_ROWS, &mut Seen::nothing(alloc))?;
+    run(alloc, &held, Stop::NEVER, NO_ROWS, &mut seen)?;
+    let is_whole = seen.before.is_empty() || seen.before.as_str() == tables;
+    holds(is_whole, stop, "it is moved in part")?;
+    holds(
+        is_done(&seen, "end,0,0,0\n", tables),
+        stop,
+        "it is not moved",
+    )?;
+    Ok(was_stopped)
+}
+
+#[test]
+fn a_store_may_be_stopped_while_it_is_moved(rt: HostRuntime) -> Result<(), Fail> {
+    let (start, tables) = older(rt.alloc())?;
+    for stop in STOPS {
+        let mut was_stopped = true;
+        for calls in 0..MOST_CALLS {
+            let stop = Stop { calls, ..stop };
+            was_stopped = stops_moving(rt.alloc(), stop, &start, tables.as_str())?;
             if !was_stopped {
                 break;
             }

@@ -1,12 +1,12 @@
 //! Walks: the rows in order, both ends of the span among them, and the first error of the closure ends the walk.
 
 use crate::desks::{Step, expect, set_desk};
-use brk_changes::CashRow;
+use brk_changes::MoveRow;
 use brk_lots::Lot;
 use brk_money::{Fault, Id, Stamp};
 use std::test::Fail;
 
-// Two purchases, a sale that takes the last lot first, and a short sale on margin of another symbol.
+// Two purchases, a sale that takes the last lot first, a short sale on margin of another symbol, and a deposit.
 const TRADES: Step = Step::Done(
     b"batch,W\n\
         order,100,TMB,ABC,100,,cash,fifo,Ann,Lee,T10\n\
@@ -18,7 +18,8 @@ const TRADES: Step = Step::Done(
         security,AB,Abe,NYSE,Tech,2.50\n\
         order,100,TMS,AB,10,,margin,fifo,Ann,Lee,T10\n\
         result,4,2.60\n\
-        end,9\n",
+        deposit,100,1.00\n\
+        end,10\n",
     "1,ok,1709251200016,1,SBMT,10.00,0.00,0.00,0.00,10.00,5.00,10000.00\n\
         2,ok,1709251200017,10.10,0.00,-1025.10,2024-03-03,0.00,0.00,8974.90\n\
         3,ok,1709251200018,2,SBMT,10.00,0.00,0.00,0.00,20.00,5.00,9974.90\n\
@@ -27,7 +28,8 @@ const TRADES: Step = Step::Done(
         6,ok,1709251200021,19.50,30.00,1895.50,2024-03-03,1800.00,1950.00,8441.40\n\
         7,ok,1709251200022\n\
         8,ok,1709251200023,4,SBMT,2.50,0.00,0.00,0.00,0.25,5.00,9941.40\n\
-        9,ok,1709251200024,0.26,0.00,20.74,2024-03-03,0.00,0.00,8441.40\nend,9,0,0\n",
+        9,ok,1709251200024,0.26,0.00,20.74,2024-03-03,0.00,0.00,8441.40\n\
+        10,ok,1709251200025,4,8442.40\nend,10,0,0\n",
 );
 
 // Why a walk ended early: a fault, or the trade at whose row it was to stop.
@@ -50,26 +52,27 @@ struct Seen {
     left: u64,
 }
 
-// Counts a row of a trade, if it is still to be seen.
-fn count(seen: &mut Seen, trade: Id) -> Result<(), Ended> {
+// Counts a row of a trade, if it is still to be seen. A movement is of none, which is told as 0.
+fn count(seen: &mut Seen, trade: u64) -> Result<(), Ended> {
     if seen.left == 0 {
-        return Err(Ended::At(trade.get()));
+        return Err(Ended::At(trade));
     }
     seen.left = seen.left.saturating_sub(1);
     Ok(())
 }
 
-fn see_cash(seen: &mut Seen, row: &CashRow) -> Result<(), Ended> {
-    count(seen, row.trade)?;
-    let (trade, stamp, amount) = (row.trade.get(), row.stamp.get(), row.amount.get());
-    match writeln!(seen.rows, "{trade} {stamp} {amount} {}", row.name) {
+fn see_cash(seen: &mut Seen, row: &MoveRow) -> Result<(), Ended> {
+    let trade = row.trade.map_or(0, Id::get);
+    count(seen, trade)?;
+    let (place, stamp, amount) = (row.id.get(), row.stamp.get(), row.amount.get());
+    match writeln!(seen.rows, "{place} {trade} {stamp} {amount} {}", row.name) {
         Ok(()) => Ok(()),
         Err(_) => Err(Ended::Fault(Fault::Memory)),
     }
 }
 
 fn see_lot(seen: &mut Seen, symbol: &str, lot: &Lot) -> Result<(), Ended> {
-    count(seen, lot.trade)?;
+    count(seen, lot.trade.get())?;
     let (trade, stamp, price) = (lot.trade.get(), lot.stamp.get(), lot.price.get());
     match writeln!(seen.rows, "{trade} {stamp} {} {symbol} {price}", lot.qty) {
         Ok(()) => Ok(()),
@@ -77,38 +80,39 @@ fn see_lot(seen: &mut Seen, symbol: &str, lot: &Lot) -> Result<(), Ended> {
     }
 }
 
-// Two stamps, how many rows a walk is to see, those that it sees, and how it ends.
-const CASH: [(i64, i64, u64, &str, Result<(), Ended>); 9] = [
+// Two stamps, how many rows a walk is to see, those that it sees, each after its place among all, and how it ends.
+const CASH: [(i64, i64, u64, &str, Result<(), Ended>); 10] = [
     (
         0,
         253_402_300_799_999,
         9,
-        "1 1709251200017 -102510 Market-Buy 100 shares of Acme\n\
-            2 1709251200019 -242900 Market-Buy 200 shares of Acme\n\
-            3 1709251200021 189550 Market-Sell 150 shares of Acme\n",
+        "1 1 1709251200017 -102510 Market-Buy 100 shares of Acme\n\
+            2 2 1709251200019 -242900 Market-Buy 200 shares of Acme\n\
+            3 3 1709251200021 189550 Market-Sell 150 shares of Acme\n\
+            4 0 1709251200025 100 Deposit\n",
         Ok(()),
     ),
     (
         1_709_251_200_017,
         1_709_251_200_021,
         3,
-        "1 1709251200017 -102510 Market-Buy 100 shares of Acme\n\
-            2 1709251200019 -242900 Market-Buy 200 shares of Acme\n\
-            3 1709251200021 189550 Market-Sell 150 shares of Acme\n",
+        "1 1 1709251200017 -102510 Market-Buy 100 shares of Acme\n\
+            2 2 1709251200019 -242900 Market-Buy 200 shares of Acme\n\
+            3 3 1709251200021 189550 Market-Sell 150 shares of Acme\n",
         Ok(()),
     ),
     (
         1_709_251_200_018,
         1_709_251_200_020,
         9,
-        "2 1709251200019 -242900 Market-Buy 200 shares of Acme\n",
+        "2 2 1709251200019 -242900 Market-Buy 200 shares of Acme\n",
         Ok(()),
     ),
     (
         1_709_251_200_019,
         1_709_251_200_019,
         9,
-        "2 1709251200019 -242900 Market-Buy 200 shares of Acme\n",
+        "2 2 1709251200019 -242900 Market-Buy 200 shares of Acme\n",
         Ok(()),
     ),
     (1_709_251_200_020, 1_709_251_200_020, 9, "", Ok(())),
@@ -118,15 +122,22 @@ const CASH: [(i64, i64, u64, &str, Result<(), Ended>); 9] = [
         0,
         1_709_251_200_021,
         1,
-        "1 1709251200017 -102510 Market-Buy 100 shares of Acme\n",
+        "1 1 1709251200017 -102510 Market-Buy 100 shares of Acme\n",
         Err(Ended::At(2)),
+    ),
+    (
+        1_709_251_200_022,
+        1_709_251_200_025,
+        0,
+        "",
+        Err(Ended::At(0)),
     ),
     (
         0,
         1_709_251_200_021,
         2,
-        "1 1709251200017 -102510 Market-Buy 100 shares of Acme\n\
-            2 1709251200019 -242900 Market-Buy 200 shares of Acme\n",
+        "1 1 1709251200017 -102510 Market-Buy 100 shares of Acme\n\
+            2 2 1709251200019 -242900 Market-Buy 200 shares of Acme\n",
         Err(Ended::At(3)),
     ),
 ];
@@ -143,11 +154,10 @@ fn cash_rows_are_walked_by_their_stamps(rt: HostRuntime) -> Result<(), Fail> {
             left,
         };
         let ended = desk.walk_cash(
-            alloc,
             account,
             Stamp::nearest(from),
             Stamp::nearest(to),
-            |row: &CashRow| see_cash(&mut seen, row),
+            |row: &MoveRow| see_cash(&mut seen, row),
         );
         assert!(rt; ended == wanted, "{from} to {to}, {left}");
         assert!(rt; seen.rows.as_str() == rows, "{from} to {to}, {left}");

@@ -219,7 +219,7 @@ const CASES: [Case; 22] = [
         "a quantity out of form",
         &[
             "estimate,100,TMB,ABC,0,,cash,fifo,Ann,Lee,T10",
-            "estimate,100,TMB,ABC,1000000,,cash,fifo,Ann,Lee,T10",
+            "estimate,100,TMB,ABC,10000000,,cash,fifo,Ann,Lee,T10",
             "estimate,100,TMX,ABC,,x,cash,fifo,Ann,Lee,T10",
         ],
         "no,8",

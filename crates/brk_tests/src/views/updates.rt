@@ -9,7 +9,7 @@ use std::alloc::Global;
 use std::test::Fail;
 
 // The tables that hold words that are corrected.
-const WORDS: [&str; 3] = ["TRADE", "SETTLEMENT", "CASH_TRANSACTION"];
+const WORDS: [&str; 4] = ["TRADE", "SETTLEMENT", "CASH_TRANSACTION", "CASH_MOVE"];
 
 // A desk that was set up and then bought 100 and 200 shares and sold 150 of them.
 fn traded(alloc: Global) -> Result<Desk<MemStore>, Fail> {
@@ -51,10 +51,11 @@ fn each_kind_corrects_its_words(rt: HostRuntime) -> Result<(), Fail> {
         "TRADE\n1,1709251200017,CMPT,TMB,1,ABC,100,1000,100,Ann X Lee,1010,500,1010,0,0\n\
         2,1709251200019,CMPT,TMB,1,ABC,200,1000,100,Ann Lee,1200,500,2400,0,0\n\
         3,1709251200021,CMPT,TMS,1,ABC,150,1000,100,Ann Lee,1300,500,1950,6800,0\nSETTLEMENT\n\
-        1,Cash,19785,-102510\n2,Cash,19785,-242900\n3,Cash,19785,185750\nCASH_TRANSACTION\n\
-        1,1709251200017,-102510,Market-Buy 100 Shares of Acme\n\
-        2,1709251200019,-242900,Market-Buy 200 Shares of Acme\n\
-        3,1709251200021,185750,Market-Sell 150 Shares of Acme\n",
+        1,Cash,19785,-102510\n2,Cash,19785,-242900\n3,Cash,19785,185750\n\
+        CASH_TRANSACTION\nCASH_MOVE\n\
+        1,100,1,1709251200017,-102510,Market-Buy 100 Shares of Acme\n\
+        2,100,2,1709251200019,-242900,Market-Buy 200 Shares of Acme\n\
+        3,100,3,1709251200021,185750,Market-Sell 150 Shares of Acme\n",
     )
 }
 
@@ -77,10 +78,10 @@ fn what_is_corrected_twice_is_as_it_was(rt: HostRuntime) -> Result<(), Fail> {
         2,1709251200019,CMPT,TMB,1,ABC,200,1000,100,Ann X Lee,1200,500,2400,0,0\n\
         3,1709251200021,CMPT,TMS,1,ABC,150,1000,100,Ann Lee,1300,500,1950,6800,0\nSETTLEMENT\n\
         1,Cash Account,19785,-102510\n2,Cash Account,19785,-242900\n\
-        3,Cash Account,19785,185750\nCASH_TRANSACTION\n\
-        1,1709251200017,-102510,Market-Buy 100 shares of Acme\n\
-        2,1709251200019,-242900,Market-Buy 200 shares of Acme\n\
-        3,1709251200021,185750,Market-Sell 150 shares of Acme\n",
+        3,Cash Account,19785,185750\nCASH_TRANSACTION\nCASH_MOVE\n\
+        1,100,1,1709251200017,-102510,Market-Buy 100 shares of Acme\n\
+        2,100,2,1709251200019,-242900,Market-Buy 200 shares of Acme\n\
+        3,100,3,1709251200021,185750,Market-Sell 150 shares of Acme\n",
     )
 }
 
@@ -115,8 +116,8 @@ fn odd_words_are_corrected_from_the_left(rt: HostRuntime) -> Result<(), Fail> {
         &WORDS,
         "TRADE\n1,1709251200021,CMPT,TMB,1,BIG,10,1000,100,Ann X Lee,1000,500,100,0,0\n\
         2,1709251200022,CMPT,TMB,0,BIG,20,1000,100,Ann X  X Mary X Lee,1000,500,200,0,0\nSETTLEMENT\n\
-        1,Cash Account,19785,-10600\n2,Margin,19785,-20700\nCASH_TRANSACTION\n\
-        1,1709251200021,-10600,Market-Buy 10 Shares of Big shares of Small\n",
+        1,Cash Account,19785,-10600\n2,Margin,19785,-20700\nCASH_TRANSACTION\nCASH_MOVE\n\
+        1,100,1,1709251200021,-10600,Market-Buy 10 Shares of Big shares of Small\n",
     )
 }
 

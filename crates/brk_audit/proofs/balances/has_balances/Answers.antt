@@ -1,11 +1,11 @@
-use Rattle.std.proofs.Common.{◌≡◌, ℕ, ◌==◌, refl, ◌∙◌, sym, ap}
+use Rattle.std.proofs.Common.{◌≡◌, ◌++◌, List, ℕ, ◌==◌, refl, ◌∙◌, sym, ap}
 use Rattle.std.specs.Prelude.{◌+ℤ◌, find, option_map}
 use Rattle.std.specs.BTreeMap.{BTreeMap}
 use Rattle.std.specs.List.{filter_map}
 use Rattle.std.specs.Ordering.{nat_cmp}
 use Rattle.brk_model.specs.Tables.{Tables}
 use Rattle.brk_ref.specs.Records.{account_row_of}
-use Rattle.brk_changes.specs.Rows.{trade_row_of}
+use Rattle.brk_changes.specs.Rows.{move_row_of, trade_row_of}
 use Rattle.brk_changes.specs.Sheets.{tables_in_sheets}
 use Rattle.brk_changes.specs.declared.sheets.Sheets.{Sheets}
 use Rattle.brk_adoption_laws.proofs.Parts.{key_parts}
@@ -13,25 +13,31 @@ use Rattle.brk_model_laws.proofs.FormParts.{form_parts}
 use Rattle.brk_audit.specs.declared.account_terms.AccountTerms.{AccountTerms}
 use Rattle.brk_audit.specs.AccountTerms.{tax_status_by, terms_of}
 use Rattle.brk_audit.specs.Settling.{amount_at, is_done_in_cash, tax_status_at}
-use Rattle.brk_audit.specs.Sums.{cash_posting, sum_of_account}
+use Rattle.brk_audit.specs.Sums.{cash_posting, movement_posting, sum_of_account}
+use Rattle.brk_audit.specs.declared.tally.Posting.{Posting}
 use Rattle.brk_audit.specs.Tally.{at_key, total_at}
 use Rattle.brk_audit.proofs.AccountTerms.{HasTerms, same_tax_statuses}
-use Rattle.brk_audit.proofs.Checked.{posted_sum, told_by}
-use Rattle.brk_audit.proofs.SumRows.{balances_by_rows}
+use Rattle.brk_audit.proofs.Checked.{moved_sum, posted_sum, told_by, total_both}
+use Rattle.brk_audit.proofs.SumRows.{balances_by_rows, moved_on}
 use Rattle.brk_audit.proofs.balances.has_balances.Goals as goal
 
 pub returns-clause-told : goal.returns-clause-told
-returns-clause-told c =
+returns-clause-told c = λ schema.
     let s : Sheets = c.args.sheets.now in
     let t : Tables = tables_in_sheets s in
     let terms : BTreeMap ℕ AccountTerms = c.in_ok-terms.terms in
     let has : HasTerms terms s.accounts.items = λ id. c.in_ok-terms.ensures.terms id ∙ ap (λ rows. option_map terms_of (find (λ a. a.account.id == id) rows)) c.deref.ensures.value in
     let posted : c.in_ok-postings.postings.items ≡ filter_map (λ r. cash_posting (tax_status_by terms) (trade_row_of r)) s.trades.items =
     c.in_ok-postings.ensures.all ∙ ap (filter_map (λ r. cash_posting (tax_status_by terms) (trade_row_of r))) c.deref-2.ensures.value in
-    let sum : (q : ℕ) → at_key nat_cmp c.in_ok-sums.sums q ≡ sum_of_account t (λ r. amount_at (tax_status_at t r.account) r) q = λ q.
-    c.in_ok-sums.ensures.sums q ∙ ap (λ ps. total_at nat_cmp ps q) (c.deref-3.ensures.value ∙ posted)
-    ∙ posted_sum is_done_in_cash (λ r. r.account) (λ r. r.account) (λ r. amount_at (tax_status_by terms r.account) r) (λ r. amount_at (tax_status_at t r.account) r) s.trades.items q (λ r. refl) (λ r. ap (λ status. amount_at status r) (same_tax_statuses s terms has r.account)) in
-    told_by (λ row. row.balance ≡ row.account.opening +ℤ at_key nat_cmp c.in_ok-sums.sums row.account.id) (λ row. row.balance ≡ row.opening +ℤ sum_of_account t (λ r. amount_at (tax_status_at t r.account) r) row.id) account_row_of s.accounts.items c.deref-4.result.now c.deref-4.ensures.value c.are_balanced.ensures
+    let moved : c.deref-4.result.now ≡ c.in_ok-postings.postings.items ++ filter_map (λ r. movement_posting (move_row_of r)) s.moves.items =
+    c.deref-4.ensures.value ∙ c.in_ok-add_movements.ensures.all ∙ ap (λ rows. c.in_ok-postings.postings.items ++ filter_map (λ r. movement_posting (move_row_of r)) rows) c.deref-3.ensures.value in
+    let trades : List (Posting ℕ) = filter_map (λ r. cash_posting (tax_status_by terms) (trade_row_of r)) s.trades.items in
+    let trades_sum : (q : ℕ) → total_at nat_cmp trades q ≡ sum_of_account t (λ r. amount_at (tax_status_at t r.account) r) q = λ q. posted_sum is_done_in_cash (λ r. r.account) (λ r. r.account) (λ r. amount_at (tax_status_by terms r.account) r) (λ r. amount_at (tax_status_at t r.account) r) s.trades.items q (λ r. refl) (λ r. ap (λ status. amount_at status r) (same_tax_statuses s terms has r.account)) in
+    let sum : (q : ℕ) → at_key nat_cmp c.in_ok-sums.sums q ≡ moved_on t q = λ q.
+    c.in_ok-sums.ensures.sums q ∙ ap (λ ps. total_at nat_cmp ps q) (moved ∙ ap (λ ps. ps ++ filter_map (λ r. movement_posting (move_row_of r)) s.moves.items) posted)
+    ∙ total_both trades (filter_map (λ r. movement_posting (move_row_of r)) s.moves.items) q
+    ∙ (λ i. trades_sum q i +ℤ moved_sum s.moves.items q i) in
+    told_by (λ row. row.balance ≡ row.account.opening +ℤ at_key nat_cmp c.in_ok-sums.sums row.account.id) (λ row. row.balance ≡ row.opening +ℤ moved_on t row.id) account_row_of s.accounts.items c.deref-5.result.now c.deref-5.ensures.value c.are_balanced.ensures
     (λ row e. e ∙ ap (λ z. row.account.opening +ℤ z) (sum row.account.id))
     (λ row e. e ∙ sym (ap (λ z. row.account.opening +ℤ z) (sum row.account.id)))
-    (balances_by_rows t (key_parts t (form_parts t c.requires.form).keys).accounts c.requires.status)
+    (balances_by_rows schema t (key_parts t (form_parts c.requires.form.schema t c.requires.form.form).keys).accounts c.requires.status)

@@ -22,7 +22,7 @@ use Rattle.brk_audit.proofs.SumRows.{counts_by_rows}
 use Rattle.brk_audit.proofs.counts.has_counts.Goals as goal
 
 pub returns-clause-told : goal.returns-clause-told
-returns-clause-told c =
+returns-clause-told c = λ schema.
     let s : Sheets = c.args.sheets.now in
     let t : Tables = tables_in_sheets s in
     let terms : BTreeMap ℕ AccountTerms = c.in_ok-terms.terms in
@@ -35,4 +35,4 @@ returns-clause-told c =
     told_by (λ row. row.trades ≡ at_key nat_cmp c.in_ok-sums.sums row.broker.id) (λ row. row.trades ≡ sum_of_broker t (λ r. pos 1) row.id) broker_row_of s.brokers.items c.deref-4.result.now c.deref-4.ensures.value c.are_counted.ensures
     (λ row e. e ∙ sum row.broker.id)
     (λ row e. e ∙ sym (sum row.broker.id))
-    (counts_by_rows t (key_parts t (form_parts t c.requires.form).keys).brokers c.requires.status)
+    (counts_by_rows schema t (key_parts t (form_parts c.requires.form.schema t c.requires.form.form).keys).brokers c.requires.status)

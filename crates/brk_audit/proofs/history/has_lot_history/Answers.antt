@@ -33,7 +33,7 @@ moves_made-requires-clause-priced c =
 
 pub returns-clause-told : goal.returns-clause-told
 unfolding Holds
-returns-clause-told c =
+returns-clause-told c = λ schema.
     let t : Tables = tables_in_sheets c.args.sheets.now in
     let done = c.deref-2.result.now in
     let rows = c.in_ok-rows.rows.items in
@@ -43,7 +43,7 @@ returns-clause-told c =
     let q : IsPermutation (map plain_row rows) (map plain_row sorted) = IsPermutation-map plain_row rows sorted c.sort_by_lot.ensures.permutation in
     let a : Sorted (row_before holding_history_key) (map plain_row sorted) =
     sorted_map (row_before holding_history_key) plain_row sorted (sorted_by (λ x y. row_before holding_history_key (plain_row x) (plain_row y)) (key_order (λ x. holding_history_key (plain_row x))) sorted c.sort_by_lot.ensures.order) in
-    let k : (map plain_row sorted ≡ t.holding_history) ↔ (t.holding_history ≡ (expected t).holding_history) = moves_told t c.requires.form c.requires.status (map seen done) (map plain_row rows) (map plain_row sorted) p o c.in_ok-rows.ensures.made q a in
+    let k : (map plain_row sorted ≡ t.holding_history) ↔ (t.holding_history ≡ (expected schema t).holding_history) = moves_told schema t c.requires.form c.requires.status (map seen done) (map plain_row rows) (map plain_row sorted) p o c.in_ok-rows.ensures.made q a in
     let left : map plain_row c.deref-3.result.now ≡ map plain_row sorted = ap (map plain_row) c.deref-3.ensures.value in
     let there : map lot_change_of c.deref-4.result.now ≡ t.holding_history = ap (map lot_change_of) c.deref-4.ensures.value in (
       (λ e. k.0 (sym left ∙ c.are_same_rows.ensures.0 e ∙ there)),

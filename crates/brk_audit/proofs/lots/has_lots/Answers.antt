@@ -5,7 +5,6 @@ use Rattle.std.proofs.lemmas.List.Sorted.{IsNonDecreasingBy-from_sort_by_key, Is
 use Rattle.brk_changes.specs.Rows.{holding_row_of, trade_row_of}
 use Rattle.brk_changes.specs.Sheets.{tables_in_sheets}
 use Rattle.brk_changes.specs.declared.holding_row.HoldingRow as code
-use Rattle.brk_changes.specs.declared.trade_row.TradeRow as trade
 use Rattle.brk_model.specs.Audit.{Holds, expected}
 use Rattle.brk_model.specs.Tables.{HoldingRow, Tables}
 use Rattle.brk_sound_laws.proofs.FormBack.{All-unmapped}
@@ -32,7 +31,7 @@ lots_left-requires-clause-priced c =
 
 pub returns-clause-told : goal.returns-clause-told
 unfolding Holds
-returns-clause-told c =
+returns-clause-told c = λ schema.
     let t : Tables = tables_in_sheets c.args.sheets.now in
     let done = c.deref-2.result.now in
     let held = c.in_ok-held.held.items in
@@ -42,7 +41,7 @@ returns-clause-told c =
     let q : IsPermutation (map holding_row_of held) (map holding_row_of sorted) = IsPermutation-map holding_row_of held sorted c.sort_unstable_by_key.ensures.permutation in
     let n : IsNonDecreasingBy (λ (h : code.HoldingRow). h.trade) sorted = IsNonDecreasingBy-from_sort_by_key (λ (h : code.HoldingRow). h.trade) _ c.sort_unstable_by_key.ensures.sorted (λ a r b k. search rules) in
     let a : Ascends (λ h. h.trade) (map holding_row_of sorted) = ascends_map (λ (h : HoldingRow). h.trade) holding_row_of sorted (ascends (λ (h : code.HoldingRow). h.trade) sorted n) in
-    let k : map holding_row_of sorted ≡ (expected t).holdings = lots_told t c.requires.form c.requires.status (map seen done) (map holding_row_of held) (map holding_row_of sorted) p o c.in_ok-held.ensures.left q a in
+    let k : map holding_row_of sorted ≡ (expected schema t).holdings = lots_told schema t c.requires.form c.requires.status (map seen done) (map holding_row_of held) (map holding_row_of sorted) p o c.in_ok-held.ensures.left q a in
     let left : map holding_row_of c.deref-3.result.now ≡ map holding_row_of sorted = ap (map holding_row_of) c.deref-3.ensures.value in
     let there : map holding_row_of c.deref-4.result.now ≡ t.holdings = ap (map holding_row_of) c.deref-4.ensures.value in (
       (λ e. sym there ∙ sym (c.are_same_rows.ensures.0 e) ∙ left ∙ k),

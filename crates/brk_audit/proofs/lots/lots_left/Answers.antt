@@ -1,4 +1,4 @@
-use Rattle.std.proofs.Common.{arith, ◌≡◌, ◌+◌, ◌-◌, ◌++◌, true, false, List, [], ◌∷◌, length, drop, take, map, sym, ap, ◌∙◌, subst, append-nil}
+use Rattle.std.proofs.Common.{arith, ◌≡◌, ◌+◌, ◌-◌, ◌++◌, List, [], ◌∷◌, length, drop, take, map, sym, ap, ◌∙◌, subst, append-nil}
 use Rattle.std.proofs.lemmas.List.{append_assoc, drop_all, length-drop, length-take}
 use Rattle.brk_changes.specs.Rows.{holding_row_of}
 use Rattle.brk_lots.specs.declared.lot.Lot.{Lot}

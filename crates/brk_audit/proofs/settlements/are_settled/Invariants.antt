@@ -8,4 +8,4 @@ use Rattle.brk_audit.proofs.settlements.are_settled.Given as goal
 
 abbrev pub invariant-loop-trade : goal.invariant-loop-trade
 invariant-loop-trade l =
-    Walked due_in (due_of (tax_status_by l.terms)) is_done (map settlement_row_of l.settlements) l.trades (map settlement_row_of l.rest) (drop l.trade-index l.trades)
+    Walked due_in (due_of l.rule (tax_status_by l.terms)) is_done (map settlement_row_of l.settlements) l.trades (map settlement_row_of l.rest) (drop l.trade-index l.trades)

@@ -18,7 +18,7 @@ abbrev Tells : SummaryRow → Type 0
 Tells r = is_zero r.qty ≡ false
 
 pub returns-clause-told : goal.returns-clause-told
-returns-clause-told c =
+returns-clause-told c = λ schema.
     let s : Sheets = c.args.sheets.now in
     let t : Tables = tables_in_sheets s in
     let ps : List (Posting Place) = c.in_ok-postings.postings.items in
@@ -34,7 +34,7 @@ returns-clause-told c =
     let each_trade : c.deref-5.result.now ≡ ps = c.deref-5.ensures.value in
     let each_row : c.deref-6.result.now ≡ cs = c.deref-6.ensures.value in
     let rows : c.deref-7.result.now ≡ s.summaries.items = c.deref-7.ensures.value in
-    let law = summaries_by_rows t c.requires.form c.requires.status in (
+    let law = summaries_by_rows schema t c.requires.form c.requires.status in (
       (λ b. let h = c.all_three.ensures.0 b in
           law.1 (they_hold s sums told ps cs w (subst (AllByRecursion (Agree sums told)) each_trade (c.agree-each_trade.ensures.0 h.0))
           (subst (AllByRecursion (Agree sums told)) each_row (c.agree-each_row.ensures.0 h.1)) (subst (AllByRecursion Tells) rows (c.tell_shares-shares.ensures.0 h.2)))),

@@ -1,6 +1,6 @@
 use Rattle.std.proofs.Common.{codes}
 use Rattle.brk_ref.specs.Fields.{texts}
-use Rattle.brk_commands.proofs.Unknown.{other_text, same_text, unknown_kind}
+use Rattle.brk_commands.proofs.Unknown.{no_update, other_text, same_text}
 use Rattle.brk_commands.proofs.parse_update.parse_update.Goals as goal
 
 pub returns-then-eq-clause-read : goal.returns-then-eq-clause-read
@@ -20,7 +20,8 @@ returns-then-eq-3-clause-read c =
 
 pub returns-clause-read : goal.returns-clause-read
 returns-clause-read c =
-    unknown_kind c.args.kind.now (texts c.args.fields.now)
+    rw (no_update c.args.kind.now (texts c.args.fields.now)
     (other_text c.args.kind.now c.as_slice.result.now (codes "upname") c.eq.result c.eq.ensures c.as_slice.ensures c.if-eq.false)
     (other_text c.args.kind.now c.as_slice-2.result.now (codes "upcash") c.eq-2.result c.eq-2.ensures c.as_slice-2.ensures c.if-eq-2.false)
-    (other_text c.args.kind.now c.as_slice-3.result.now (codes "uptext") c.eq-3.result c.eq-3.ensures c.as_slice-3.ensures c.if-eq-3.false)
+    (other_text c.args.kind.now c.as_slice-3.result.now (codes "uptext") c.eq-3.result c.eq-3.ensures c.as_slice-3.ensures c.if-eq-3.false))
+    c.parse_movement.ensures

@@ -2,9 +2,9 @@ use Rattle.std.proofs.Common.{◌≡◌, option_map}
 use Rattle.brk_money.specs.declared.fault.Fault.{Fault}
 use Rattle.brk_model.specs.Tables.{SummaryRow, Tables}
 use Rattle.brk_book_laws.specs.TradeReads.{summary_in}
-use Rattle.brk_decisions.specs.ResultFinds.{IsFoundOf}
+use Rattle.brk_decisions.specs.ResultFinds.{IsFoundOf, IsPosting}
 use Rattle.brk_decisions.proofs.Looking.{read_both}
-use Rattle.brk_decisions.proofs.ResultReading.{OwnerKnown, SecurityKnown, found_known, found_with}
+use Rattle.brk_decisions.proofs.ResultReading.{OwnerKnown, SecurityKnown, SummaryKnown, found_known, found_with}
 use Rattle.brk_decisions.proofs.result_finding.find_of_trade.Goals as goal
 
 pub returns-clause-read : goal.returns-clause-read
@@ -14,13 +14,20 @@ returns-clause-read g c =
     let parties = c.in_ok-parties.parties in
     let listed = c.in_ok-listed.listed in
     let summary = c.in_ok-summary.summary in
-    read_both g.S.Store old c.find_listed.new.store c.find_summary.new.store {H = Fault} listed summary (found_with trade parties listed summary)
+    let posting = c.in_ok-posting.posting in
+    read_both g.S.Store old c.find_summary.new.store c.find_posting.new.store {H = Fault} summary posting (found_with trade parties listed summary posting)
+    (λ summary (t : Tables). (OwnerKnown t trade parties listed summary × SecurityKnown t trade parties listed summary) × SummaryKnown t trade parties listed summary)
+    (λ posting (t : Tables). IsPosting t posting)
+    (λ found (t : Tables). IsFoundOf t trade found)
+    (λ t k p. found_known t trade parties listed summary posting k.0.0 k.0.1 k.1 p)
+    (read_both g.S.Store old c.find_listed.new.store c.find_summary.new.store {H = Fault} listed summary summary
     (λ listed (t : Tables). OwnerKnown t trade parties listed summary × SecurityKnown t trade parties listed summary)
     (λ held (t : Tables). held ≡ option_map (λ (r : SummaryRow). r.qty) (summary_in t trade.account trade.symbol))
-    (λ found (t : Tables). IsFoundOf t trade found)
-    (λ t k h. found_known t trade parties listed summary k.0 k.1 h)
+    (λ summary (t : Tables). (OwnerKnown t trade parties listed summary × SecurityKnown t trade parties listed summary) × SummaryKnown t trade parties listed summary)
+    (λ t k h. (k, h))
     (read_both g.S.Store old c.find_parties.new.store c.find_listed.new.store {H = Fault} parties listed listed
     (λ parties (t : Tables). OwnerKnown t trade parties listed summary) (λ listed (t : Tables). SecurityKnown t trade parties listed summary)
     (λ listed (t : Tables). OwnerKnown t trade parties listed summary × SecurityKnown t trade parties listed summary)
     (λ t o s. (o, s)) c.in_ok-parties.ensures.read c.in_ok-listed.ensures.read)
-    c.in_ok-summary.ensures.read
+    c.in_ok-summary.ensures.read)
+    c.in_ok-posting.ensures.read

@@ -1,6 +1,5 @@
-use Rattle.std.proofs.Common.{rules}
 use Rattle.brk_files.proofs.Opening.{stands_if}
 use Rattle.brk_files.proofs.file.take.Goals as goal
 
 pub returns : goal.returns
-returns g c = stands_if g.S.Store g.met.S.Store.settled c.args.conn c.adopt.result _ (c.is_autocommit-settled.ensures.settled (search rules)) c.adopt.ensures.adopted
+returns g c = stands_if g.S.Store g.met.S.Store.settled c.args.conn c.adopt.result _ c.adopt.ensures.adopted

@@ -1,6 +1,6 @@
 use Rattle.std.proofs.Common.{◌≡◌, Bool, true, false, ℕ, ℤ, List, [], ◌∷◌, length, refl, inl, inr, ap, arith}
 use Rattle.std.specs.Prelude.{nat_abs}
-use Rattle.brk_model.specs.Tables.{RequestRow, HoldingRow, HoldingHistoryRow, SummaryRow, SettlementRow, CashRow}
+use Rattle.brk_model.specs.Tables.{RequestRow, HoldingRow, HoldingHistoryRow, SummaryRow, SettlementRow, CashRow, MoveRow}
 use Rattle.brk_model_examples.proofs.OnLiterals.{model_on_literals}
 use Rattle.brk_model_examples.proofs.audits.changes_are_told.Goals as goal
 
@@ -39,9 +39,20 @@ settled : List SettlementRow → ℕ
 settled [] = 0
 settled (row ∷ rows) = nat_abs row.amount
 
-moved : List CashRow → ℕ
+moved : List MoveRow → ℕ
 moved [] = 0
 moved (row ∷ rows) = nat_abs row.amount
+
+first_id : List MoveRow → ℕ
+first_id [] = 0
+first_id (row ∷ rows) = row.id
+
+first_due : List SettlementRow → ℕ
+first_due [] = 0
+first_due (row ∷ rows) = row.due_day
+
+left : List CashRow → ℕ
+left rows = length rows
 
 -- two numbers that are the same
 abbrev Equal : ℕ → ℕ → Type 0
@@ -109,11 +120,27 @@ returns-clause-other_settlement c = inl (refl, inl (refl, inl (refl, inl (refl, 
 
 pub returns-clause-other_cash : goal.returns-clause-other_cash
 unfolding model_on_literals moved
-returns-clause-other_cash c = inl (refl, inl (refl, inl (refl, inl (refl, inl (refl, inl (refl, inl (refl, inl (refl, inl (refl, inr (λ e. let q : Equal 102509 102510 = ap moved e in omega (q, arith), refl))))))))))
+returns-clause-other_cash c = inl (refl, inl (refl, inl (refl, inl (refl, inl (refl, inl (refl, inl (refl, inl (refl, inl (refl, inr (λ e. let q : Equal 102509 102510 = ap moved e.1 in omega (q, arith), refl))))))))))
+
+pub returns-clause-second_row : goal.returns-clause-second_row
+unfolding model_on_literals
+returns-clause-second_row c = inr (λ e. let q : Same false true = e in absurd (cc), refl)
+
+pub returns-clause-other_number : goal.returns-clause-other_number
+unfolding model_on_literals first_id
+returns-clause-other_number c = inl (refl, inl (refl, inl (refl, inl (refl, inl (refl, inl (refl, inl (refl, inl (refl, inl (refl, inr (λ e. let q : Equal 2 1 = ap first_id e.1 in omega (q, arith), refl))))))))))
+
+pub returns-clause-left_behind : goal.returns-clause-left_behind
+unfolding model_on_literals left
+returns-clause-left_behind c = inl (refl, inl (refl, inl (refl, inl (refl, inl (refl, inl (refl, inl (refl, inl (refl, inl (refl, inr (λ e. let q : Equal 1 0 = ap left e.0 in omega (q, arith), refl))))))))))
+
+pub returns-clause-early_day : goal.returns-clause-early_day
+unfolding model_on_literals first_due
+returns-clause-early_day c = inl (refl, inl (refl, inl (refl, inl (refl, inl (refl, inl (refl, inl (refl, inl (refl, inr (λ e. let q : Equal 19785 19784 = ap first_due e in omega (q, arith), refl)))))))))
 
 pub returns-clause-other_balance : goal.returns-clause-other_balance
 unfolding model_on_literals first_number
-returns-clause-other_balance c = inl (refl, inl (refl, inl (refl, inl (refl, inl (refl, inl (refl, inl (refl, inl (refl, inl (refl, inl (refl, inr (λ e. let q : Equal 897491 897490 = ap first_number e in omega (q, arith), refl)))))))))))
+returns-clause-other_balance c = inl (refl, inl (refl, inl (refl, inl (refl, inl (refl, inl (refl, inl (refl, inl (refl, inl (refl, inl ((refl, refl), inr (λ e. let q : Equal 897491 897490 = ap first_number e in omega (q, arith), refl)))))))))))
 
 pub returns-clause-two_changes : goal.returns-clause-two_changes
 unfolding model_on_literals length_of_lots

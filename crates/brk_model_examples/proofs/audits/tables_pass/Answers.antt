@@ -4,4 +4,11 @@ use Rattle.brk_model_examples.proofs.audits.tables_pass.Goals as goal
 
 pub returns : goal.returns
 unfolding model_on_literals
-returns c = inl (refl, inl (refl, inl (refl, inl (refl, inl (refl, inl (refl, inl (refl, inl (refl, inl (refl, inl (refl, inl (refl, refl)))))))))))
+returns c = record {
+  third = inl (refl, inl (refl, inl (refl, inl (refl, inl (refl, inl (refl, inl (refl, inl (refl, inl (refl, inl ((refl, refl), inl (refl, refl)))))))))));
+  second = inl (refl, inl (refl, inl (refl, inl (refl, inl (refl, inl (refl, inl (refl, inl (refl, inl (refl, inl ((refl, refl), inl (refl, refl)))))))))));
+  first = inl (refl, inl (refl, inl (refl, inl (refl, inl (refl, inl (refl, inl (refl, inl (refl, inl (refl, inl ((refl, refl), inl (refl, refl)))))))))));
+  day_set = inl (refl, inl (refl, inl (refl, inl (refl, inl (refl, inl (refl, inl (refl, inl (refl, inl (refl, inl ((refl, refl), inl (refl, refl)))))))))));
+  deposit = inl (refl, inl (refl, inl (refl, inl (refl, inl (refl, inl (refl, inl (refl, inl (refl, inl (refl, inl ((refl, refl), inl (refl, refl)))))))))));
+  withdrawal = inl (refl, inl (refl, inl (refl, inl (refl, inl (refl, inl (refl, inl (refl, inl (refl, inl (refl, inl ((refl, refl), inl (refl, refl)))))))))));
+}

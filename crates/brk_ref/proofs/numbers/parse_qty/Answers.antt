@@ -9,5 +9,5 @@ use Rattle.brk_ref.proofs.numbers.parse_qty.Goals as goal
 pub returns : goal.returns
 returns c =
     let found = c.in-Some.ensures.found in
-    within_both 1 999999 BadQty (number_of c.args.bytes.now) (Some c.in-Some.number) c.new.result
-    (at_most_found c.args.bytes.now c.in-Some.number 999999 (lit≤ tt) found.0 found.1) c.new.ensures
+    within_both 1 9999999 BadQty (number_of c.args.bytes.now) (Some c.in-Some.number) c.new.result
+    (at_most_found c.args.bytes.now c.in-Some.number 9999999 (lit≤ tt) found.0 found.1) c.new.ensures

@@ -1,5 +1,5 @@
 use Rattle.std.proofs.Common.{◌+ℤ◌, arith, List, ap, ◌∙◌}
-use Rattle.brk_changes.specs.Rows.{cash_row_of}
+use Rattle.brk_changes.specs.Rows.{move_row_of}
 use Rattle.brk_model.specs.Statement.{cash_total}
 use Rattle.brk_model.specs.Tables as tables
 use Rattle.brk_store.specs.Walked.{cash_of}
@@ -15,5 +15,5 @@ pub returns-in-Ok-clause-sum : goal.returns-in-Ok-clause-sum
 returns-in-Ok-clause-sum g c = λ clean t holds.
     let list = cash_of c.args.account c.nearest.result c.in-Some.last in
     let days = rows_before t c.args.account c.args.from c.nearest.result c.in-Some.last (c.nearest.ensures.below (omega arith)) c.in-Some.ensures.0 c.in-Some.ensures.1 in
-    let s = added_all g.S.Store _ _ cash_row_of list _ _ _ _ t clean holds c.visit_cash.result c.visit_cash.ensures.walked (λ row. row.amount) (λ (v : Sum). v.total) (λ p x q h. h) c.in-Ok.field-0 c.in-Ok.is in
-    s ∙ ap (λ z. z +ℤ cash_total (list t)) c.from-2.ensures ∙ ap (λ (rows : List tables.CashRow). c.args.opening +ℤ cash_total rows) days
+    let s = added_all g.S.Store _ _ move_row_of list _ _ _ _ t clean holds c.visit_cash.result c.visit_cash.ensures.walked (λ row. row.amount) (λ (v : Sum). v.total) (λ p x q h. h) c.in-Ok.field-0 c.in-Ok.is in
+    s ∙ ap (λ z. z +ℤ cash_total (list t)) c.from-2.ensures ∙ ap (λ (rows : List tables.MoveRow). c.args.opening +ℤ cash_total rows) days

@@ -2,7 +2,7 @@ use Rattle.std.proofs.Common.{◌≡◌, ◌+ℤ◌, List, Ok, length, map, refl
 use Rattle.std.specs.Io.KnownBytes.{Appends}
 use Rattle.sqlite.specs.Held.{state}
 use Rattle.sqlite.specs.State.{HasCleanDisk}
-use Rattle.brk_changes.specs.Rows.{cash_row_of}
+use Rattle.brk_changes.specs.Rows.{move_row_of}
 use Rattle.brk_model.specs.Statement.{cash_in, cash_line, cash_total, cash_within, lines_text}
 use Rattle.brk_model.specs.Tables as tables
 use Rattle.brk_report_lines.specs.Written.{BreaksOff}
@@ -24,11 +24,11 @@ returns-in-Ok-clause-written g c =
     (λ clean t holds.
     let list = cash_of c.args.account c.first_stamp.result c.last_stamp.result in
     let days = rows_within t c.args.account c.args.from c.args.to c.first_stamp.result c.last_stamp.result c.first_stamp.ensures c.last_stamp.ensures in
-    let w = written_all g.S.Store _ _ cash_row_of list _ _ _ _ t clean holds c.visit_cash.result c.visit_cash.ensures.walked cash_line (λ (v : CashLines g.row.W.Denot). g.W.Write.contents v.writer.now) (λ v. v.moved.count)
+    let w = written_all g.S.Store _ _ move_row_of list _ _ _ _ t clean holds c.visit_cash.result c.visit_cash.ensures.walked cash_line (λ (v : CashLines g.row.W.Denot). g.W.Write.contents v.writer.now) (λ v. v.moved.count)
     (λ p x q h. (h.2, h.1)) (λ p x e q h. h) c.in-Ok.field-0 c.in-Ok.is refl in
-    let s = added_all g.S.Store _ _ cash_row_of list _ _ _ _ t clean holds c.visit_cash.result c.visit_cash.ensures.walked (λ row. row.amount) (λ (v : CashLines g.row.W.Denot). v.moved.total) (λ p x q h. h.0) c.in-Ok.field-0 c.in-Ok.is in
+    let s = added_all g.S.Store _ _ move_row_of list _ _ _ _ t clean holds c.visit_cash.result c.visit_cash.ensures.walked (λ row. row.amount) (λ (v : CashLines g.row.W.Denot). v.moved.total) (λ p x q h. h.0) c.in-Ok.field-0 c.in-Ok.is in
     subst (λ (moved : Moved). WritesCash t c.args.account c.args.from c.args.to c.args.opening (g.W.Write.contents c.args.writer.now) (g.W.Write.contents c.visit_cash.new.visitor.writer.now) (Ok moved)) (sym c.moved.ensures)
-    (subst (λ (rows : List tables.CashRow).
+    (subst (λ (rows : List tables.MoveRow).
     Appends (g.W.Write.contents c.args.writer.now) (g.W.Write.contents c.visit_cash.new.visitor.writer.now) (lines_text (map cash_line rows)) × (c.visit_cash.new.visitor.moved.count ≡ length rows)
     × (c.visit_cash.new.visitor.moved.total ≡ c.args.opening +ℤ cash_total rows)) days (w.0, w.1, s)))
 
@@ -41,7 +41,7 @@ returns-in-Err-clause-written g c =
     (λ clean t holds.
     let list = cash_of c.args.account c.first_stamp.result c.last_stamp.result in
     let days = rows_within t c.args.account c.args.from c.args.to c.first_stamp.result c.last_stamp.result c.first_stamp.ensures c.last_stamp.ensures in
-    let w = written_first g.S.Store _ _ cash_row_of list _ _ _ _ t clean holds c.visit_cash.result c.visit_cash.ensures.walked cash_line (λ (v : CashLines g.row.W.Denot). g.W.Write.contents v.writer.now) (λ v. v.moved.count)
+    let w = written_first g.S.Store _ _ move_row_of list _ _ _ _ t clean holds c.visit_cash.result c.visit_cash.ensures.walked cash_line (λ (v : CashLines g.row.W.Denot). g.W.Write.contents v.writer.now) (λ v. v.moved.count)
     (λ p x q h. (h.2, h.1)) (λ p x e q h. h) c.in-Err.stop c.in-Err.is in
-    subst (λ (rows : List tables.CashRow). BreaksOff (map cash_line rows) (g.W.Write.contents c.args.writer.now) (g.W.Write.contents c.visit_cash.new.visitor.writer.now) c.broken.result) days
+    subst (λ (rows : List tables.MoveRow). BreaksOff (map cash_line rows) (g.W.Write.contents c.args.writer.now) (g.W.Write.contents c.visit_cash.new.visitor.writer.now) c.broken.result) days
     (subst (λ e. BreaksOff (map cash_line (list t)) (g.W.Write.contents c.args.writer.now) (g.W.Write.contents c.visit_cash.new.visitor.writer.now) e) (sym c.broken.ensures) w))

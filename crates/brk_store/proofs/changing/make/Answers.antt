@@ -80,8 +80,11 @@ returns-in-RemoveSummary-clause-step g c = made _ _ _ _ _ c.in-RemoveSummary.is 
 pub returns-in-AddSettlement-clause-step : goal.returns-in-AddSettlement-clause-step
 returns-in-AddSettlement-clause-step g c = made _ _ _ _ _ c.in-AddSettlement.is c.add_settlement.ensures.step
 
-pub returns-in-AddCash-clause-step : goal.returns-in-AddCash-clause-step
-returns-in-AddCash-clause-step g c = made _ _ _ _ _ c.in-AddCash.is c.add_cash.ensures.step
+pub returns-in-AddMove-clause-step : goal.returns-in-AddMove-clause-step
+returns-in-AddMove-clause-step g c = made _ _ _ _ _ c.in-AddMove.is c.add_move.ensures.step
+
+pub returns-in-SetRule-clause-step : goal.returns-in-SetRule-clause-step
+returns-in-SetRule-clause-step g c = made _ _ _ _ _ c.in-SetRule.is c.set_one_day.ensures.step
 
 pub returns-in-SetBalance-clause-step : goal.returns-in-SetBalance-clause-step
 returns-in-SetBalance-clause-step g c = made _ _ _ _ _ c.in-SetBalance.is c.set_balance.ensures.step

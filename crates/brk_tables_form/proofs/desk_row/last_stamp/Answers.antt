@@ -1,5 +1,6 @@
 use Rattle.std.proofs.Common.{ℕ, List, [], ◌∷◌, Option, None, ap}
 use Rattle.sqlite.specs.Held.{state}
+use Rattle.brk_model.specs.Schemas.{third_schema}
 use Rattle.brk_model.specs.Tables.{Tables}
 use Rattle.brk_rows.proofs.Answer.{look_all}
 use Rattle.brk_rows.proofs.Inside.{step_weaker}
@@ -24,4 +25,4 @@ returns-clause-step g c =
     let new = state g.S.Store c.select.new.tx.conn.now in
     step_weaker old new c.only_stamp.result _ _ (λ v looks. (looks.0, looks.1, λ t tree h. ap first_last (looks.2 t tree h)))
     (look_all desk desk_row_cells desk_back desk_is_back (λ (r : DeskRow). r) DeskRows.statement [] old new c.in_ok-rows.rows (λ rows. rows.items) _ c.deref.ensures.value c.in_ok-rows.ensures.step
-    desk_rows c.only_stamp.result c.only_stamp.ensures.value (λ (t : Tables). desk_rows t.last) (tells_last old new _))
+    (desk_rows third_schema) c.only_stamp.result c.only_stamp.ensures.value (λ (t : Tables). desk_rows third_schema t.last) (tells_last old new _))

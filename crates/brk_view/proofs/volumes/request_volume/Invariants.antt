@@ -7,5 +7,5 @@ use Rattle.brk_view.proofs.volumes.request_volume.Given as goal
 abbrev pub invariant-loop-request : goal.invariant-loop-request
 invariant-loop-request l = record {
   worth : l.cents ≡ sum_by request_worth (map request_row_of (take l.request-index l.requests));
-  limit : l.cents ≤ 9999989000001 * l.request-index;
+  limit : l.cents ≤ 99999980000001 * l.request-index;
 }

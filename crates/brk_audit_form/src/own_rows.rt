@@ -1,0 +1,40 @@
+ghost use Rattle.std.specs.Prelude.{◌≡◌, ◌||◌, ◌==◌, ℕ, false, not, IfErr, IfOk, OnOk, map};
+ghost use Rattle.std.specs.BTreeSet.{contains};
+ghost use Rattle.std.specs.Option.{option_map_or};
+ghost use Rattle.std.specs.Ordering.{nat_cmp};
+ghost use Rattle.brk_money.specs.declared.fault.Fault.TheVariants.{Memory};
+ghost use Rattle.brk_model.specs.Form.{trades_moved};
+ghost use Rattle.brk_model.specs.Lists.{all_distinct};
+ghost use Rattle.brk_changes.specs.Rows.{move_row_of};
+
+use brk_changes::MoveRow;
+use brk_money::{Fault, Id};
+use std::alloc::Global;
+use std::collections::BTreeSet;
+
+// Whether no cash row of this trade was seen, if the row is of a trade; it is seen from then on.
+fn is_new(seen: &mut BTreeSet<u64>, trade: Option<Id>) -> Result<bool, Fault>
+    ensures new { IfOk result (λ new. new ≡ not (option_map_or (λ id. contains nat_cmp seen.old id) trade false)) }
+    ensures seen { OnOk result ((q : ℕ) → contains nat_cmp seen.new q ≡ contains nat_cmp seen.old q || option_map_or (λ id. id == q) trade false) }
+    ensures fault { IfErr result (λ fault. fault ≡ Memory) }
+{
+    let Some(trade) = trade else {
+        return Ok(true);
+    };
+    let new = seen.insert(trade.get())?;
+    Ok(new)
+}
+
+/// Whether no trade has two rows of CASH_MOVE.
+pub(crate) fn has_own_rows(alloc: Global, moves: &[MoveRow]) -> Result<bool, Fault>
+    ensures told { IfOk result (λ own. own ≡ all_distinct (trades_moved (map move_row_of moves.now))) }
+    ensures fault { IfErr result (λ fault. fault ≡ Memory) }
+{
+    let mut seen = BTreeSet::new(alloc);
+    for row in moves {
+        if !is_new(&mut seen, row.trade)? {
+            return Ok(false);
+        }
+    }
+    Ok(true)
+}

@@ -1,0 +1,9 @@
+-- The schema that each of the three values stands for.
+use Rattle.brk_model.specs.Schemas.{Schema, first_schema, second_schema, third_schema}
+use Rattle.brk_changes.specs.declared.schema.Schema as declared
+use Rattle.brk_changes.specs.declared.schema.Schema.TheVariants.{First, Second, Third}
+
+abbrev pub schema_of : declared.Schema → Schema
+schema_of First = first_schema
+schema_of Second = second_schema
+schema_of Third = third_schema

@@ -1,0 +1,62 @@
+//! The texts of movements of cash and of the settlement day that are kept with their keys.
+#![tactic(auto, unfolding(brk_model::specs::Rows::row_fields))]
+
+ghost use Rattle.std.specs.Prelude.{◌≡◌, ◌∷◌, [], IfOk, OnErr, Err, codes, string_bytes};
+ghost use Rattle.std.specs.List.{join_with_byte};
+ghost use Rattle.brk_model.specs.Commands.{DepositCash, SetOneDay, WithdrawCash};
+ghost use Rattle.brk_model.specs.Rows as model;
+ghost use Rattle.brk_money.specs.declared.fault.Fault.TheVariants.{Memory};
+ghost use Rattle.brk_orders.specs.Records.{movement_of};
+
+use crate::line::day_text;
+use brk_money::{Day, Fault, Id, Wide};
+use brk_orders::{Direction, Movement};
+use brk_ref::MovedAmount;
+use std::alloc::{AllocError, Global};
+
+fn deposit_text(alloc: Global, account: Id, amount: MovedAmount) -> Result<String, AllocError>
+    ensures { IfOk result (λ row. string_bytes row ≡ model.row_text (DepositCash account amount)) }
+{
+    format!(in alloc;
+        "deposit\x1f{}\x1f{}",
+        account.get(),
+        Wide::new(i128::from(amount.get()))
+    )
+}
+
+fn withdrawal_text(alloc: Global, account: Id, amount: MovedAmount) -> Result<String, AllocError>
+    ensures { IfOk result (λ row. string_bytes row ≡ model.row_text (WithdrawCash account amount)) }
+{
+    format!(in alloc;
+        "withdraw\x1f{}\x1f{}",
+        account.get(),
+        Wide::new(i128::from(amount.get()))
+    )
+}
+
+/// The row of a movement of cash.
+pub fn movement_text(alloc: Global, movement: &Movement) -> Result<String, AllocError>
+    ensures { IfOk result (λ row. string_bytes row ≡ model.row_text (movement_of movement.now)) }
+{
+    match movement.direction {
+        Direction::Deposit => deposit_text(alloc, movement.account, movement.amount),
+        Direction::Withdrawal => withdrawal_text(alloc, movement.account, movement.amount),
+    }
+}
+
+// The kind of a settlement day, and the text of the day.
+fn kept_day(alloc: Global, day: &str) -> Result<String, AllocError>
+    ensures { IfOk result (λ row. string_bytes row ≡ join_with_byte 31 (codes "oneday" ∷ day.now ∷ [])) }
+{
+    format!(in alloc; "oneday\x1f{day}")
+}
+
+/// The row that sets the settlement day.
+pub fn oneday_text(alloc: Global, day: Day) -> Result<String, Fault>
+    ensures row { IfOk result (λ row. string_bytes row ≡ model.row_text (SetOneDay day)) }
+    ensures fault { OnErr result (result ≡ Err Memory) }
+{
+    let text = day_text(alloc, day)?;
+    let row = kept_day(alloc, text.as_str())?;
+    Ok(row)
+}

@@ -1,0 +1,48 @@
+-- What was read for a settlement day decides on it.
+use Rattle.std.proofs.Common.{◌≡◌, ◌≤◌, ◌∙◌, ℕ, Option, Result, Ok, Err, IfOk, ap}
+use Rattle.std.specs.Prelude.{MatchResult, Some}
+use Rattle.sqlite_trees.specs.declared.store.Store.{Ghosts}
+use Rattle.sqlite.specs.Held.{Held}
+use Rattle.brk_money.specs.Moments.{last_stamp}
+use Rattle.brk_money.specs.declared.fault.Fault.{Fault}
+use Rattle.brk_money.specs.declared.refusal.Refusal.{Refusal}
+use Rattle.brk_model.specs.Base.{Base}
+use Rattle.brk_model.specs.Commands.{SetOneDay}
+use Rattle.brk_model.specs.Sheets.{sheets}
+use Rattle.brk_model.specs.Tables.{Tables}
+use Rattle.brk_model.specs.Tests.{first_refusal}
+use Rattle.brk_plans.specs.OneDay.{IsOneDay, one_day_tests}
+use Rattle.brk_plans.specs.declared.plan.Plan.{Plan}
+use Rattle.brk_book_laws.specs.Books.{IsBooks}
+use Rattle.brk_trade_laws.specs.MovePlans.{IsReadForOneDay}
+use Rattle.brk_trade_laws.proofs.MovePlanning.{one_day_plan_does, one_day_refused}
+use Rattle.brk_store.specs.Holds.{IsRead}
+use Rattle.brk_decisions.specs.Decisions.{Decides}
+use Rattle.brk_decisions.proofs.Looking.{read_both}
+
+-- the last stamp, and the settlement day that is set, where there is one
+abbrev pub Known : Option ℕ → Option ℕ → Tables → Type 0
+Known rule last t = (last ≡ t.last) × (rule ≡ t.rule)
+
+-- they are known after two reads
+pub last_and_rule : {S E F : Type 0} (g : Ghosts S) (old mid end : Held S) (rule last : Option ℕ) → IsRead {E = E} g old mid (Ok last) (λ last t. last ≡ t.last)
+    → IsRead {E = F} g mid end (Ok rule) (λ rule t. rule ≡ t.rule) → IsRead {E = Fault} g old end (Ok rule) (λ r. Known r last)
+last_and_rule g old mid end rule last at_last at_rule =
+    read_both g old mid end {H = Fault} last rule rule (λ last t. last ≡ t.last) (λ rule t. rule ≡ t.rule) (λ r. Known r last) (λ t e f. (e, f)) at_last at_rule
+
+-- a settlement day's plan sets it, and its refusal is that of the command
+module _ (day : ℕ) (rule last : Option ℕ) (now : ℕ) (moment : now ≤ last_stamp) where
+  looked_up : (t : Tables) → Known rule last t → (base : Base) → IsBooks base → t ≡ sheets base → IsReadForOneDay base rule last now
+  looked_up t known base books e = record {
+    books = books;
+    rule_read = known.1 ∙ ap (λ x. x.rule) e;
+    last_read = known.0 ∙ ap (λ x. x.last) e;
+    moment = moment;
+  }
+
+  pub one_day_decided : (result : Result (Result Plan Refusal) Fault)
+      → IfOk result (λ planned. MatchResult planned (IsOneDay day rule last now) (λ refusal. first_refusal (one_day_tests day rule last now) ≡ Some refusal))
+      → IfOk result (λ planned. (t : Tables) → Known rule last t → Decides now (SetOneDay day) planned t)
+  one_day_decided (Ok (Ok plan)) p = λ t known base books e. one_day_plan_does base day rule last now plan (looked_up t known base books e) p
+  one_day_decided (Ok (Err refusal)) p = λ t known base books e. one_day_refused base day rule last now refusal (looked_up t known base books e) p
+  one_day_decided (Err fault) p = tt

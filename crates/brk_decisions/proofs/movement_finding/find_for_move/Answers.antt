@@ -1,0 +1,27 @@
+use Rattle.std.proofs.Common.{◌≡◌, ◌+◌}
+use Rattle.brk_money.specs.declared.fault.Fault.{Fault}
+use Rattle.brk_model.specs.Tables.{Tables}
+use Rattle.brk_plans.specs.declared.movement.MoveFound.{MoveFound}
+use Rattle.brk_book_laws.specs.TradeReads.{last_move}
+use Rattle.brk_trade_laws.specs.MovePlans.{IsFoundForMove}
+use Rattle.brk_decisions.proofs.Looking.{read_both}
+use Rattle.brk_decisions.proofs.Moves.{BalanceKnown, CountKnown}
+use Rattle.brk_decisions.proofs.movement_finding.find_for_move.Goals as goal
+
+pub returns-clause-read : goal.returns-clause-read
+returns-clause-read g c =
+    let old = c.args.store.now in
+    let m = c.args.movement.now in
+    let balance = c.in_ok-balance.balance in
+    let movements = c.in_ok-movements.movements in
+    let next = c.in_ok-next.next in
+    let found : MoveFound = record { balance = balance; movements = movements; next = next } in
+    read_both g.S.Store old c.movements.new.self c.next_move.new.self {H = Fault} movements next found
+    (λ movements (t : Tables). BalanceKnown m.account balance t × CountKnown movements t)
+    (λ next (t : Tables). next ≡ last_move t + 1)
+    (λ found (t : Tables). IsFoundForMove t m found)
+    (λ t k n. record { balance = k.0; counted = k.1; next = n })
+    (read_both g.S.Store old c.balance_of.new.self c.movements.new.self {H = Fault} balance movements movements
+    (BalanceKnown m.account) CountKnown (λ movements (t : Tables). BalanceKnown m.account balance t × CountKnown movements t)
+    (λ t b n. (b, n)) c.in_ok-balance.ensures.read c.in_ok-movements.ensures.read)
+    c.in_ok-next.ensures.read

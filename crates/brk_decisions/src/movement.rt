@@ -1,0 +1,32 @@
+//! Deposits and withdrawals, decided on.
+
+ghost use Rattle.std.specs.Prelude.{IfErr};
+ghost use Rattle.brk_decisions.specs.Decisions.{Decides};
+ghost use Rattle.brk_model.specs.Run.{MayFail};
+ghost use Rattle.brk_orders.specs.Records.{movement_of};
+ghost use Rattle.brk_store.specs.Holds.{IsRead};
+
+use crate::movement_finding::find_for_move;
+use brk_money::{Planned, Stamp};
+use brk_orders::Movement;
+use brk_store::Store;
+use brk_trade::{Plan, plan_move};
+use sqlite::Alter;
+use std::alloc::Global;
+
+/// Decides on a deposit or a withdrawal at a moment: why it is refused, or its plan. Nothing is changed; the only faults are
+/// want of memory and the store's, also where no number is left for a cash row.
+pub fn decide_move<S: Alter>(
+    alloc: Global,
+    store: &mut Store<S>,
+    now: Stamp,
+    movement: &Movement,
+) -> Planned<Plan>
+    ensures read { IsRead S.Store store.old store.new result (Decides now (movement_of movement.now)) }
+    ensures fault { IfErr result MayFail }
+{
+    let _moment = now.get();
+    let last = store.last()?;
+    let found = find_for_move(store, movement)?;
+    plan_move(alloc, movement, &found, last, now)
+}

@@ -1,0 +1,40 @@
+-- A database that has the tables of one schema is defined whatever schema is asked: what it lacks it has by no name.
+use Rattle.std.proofs.Common.{◌≡◌, ◌∙◌, ℕ, Bool, true, false, Some, None, refl, sym, ap}
+use Rattle.sqlite_schema.specs.Names.{table_named}
+use Rattle.sqlite.specs.Effect.{Database}
+use Rattle.brk_model.specs.Schemas.{Schema}
+use Rattle.brk_model.specs.Tables.{Tables}
+use Rattle.brk_changes.specs.Schemas.{schema_of}
+use Rattle.brk_rows.specs.Desk.{Stands}
+use Rattle.brk_tables_form.specs.Desk.{Which, has_table, name_of, shape}
+use Rattle.brk_tables_form.specs.Made.{HasRowsIn, IsOf}
+use Rattle.brk_tables_whole.specs.Schemas.{IsDefined, IsMadeAlike}
+use Rattle.brk_tables_whole.proofs.Defined.{desk_is_defined, desk_is_there}
+use Rattle.brk_tables_whole.proofs.Listed.{same_name_at}
+
+module _ (a : Schema) (t : Tables) (db : Database) (has : HasRowsIn a t db) where
+  alike : IsMadeAlike a db
+  alike = desk_is_defined a t db has (desk_is_there a t db has).tables
+
+  -- a table that is found by its name is one of its schema
+  is_of : (w : Which) (at : ℕ) → table_named db.schema (name_of w) ≡ Some at → IsOf a w
+  is_of w at named = by_test (has_table a w) refl
+    where
+      by_test : (b : Bool) → has_table a w ≡ b → IsOf a w
+      by_test true e = e
+      by_test false e = absurd (let clash : None ≡ Some at = sym (has.2 w e).0 ∙ named in cc)
+
+  named_at : (w : Which) (at n : ℕ) → Stands db.schema (shape w n) at → table_named db.schema (name_of w) ≡ Some at
+  named_at w at n s = ap (table_named db.schema) (same_name_at w 0 n) ∙ s.named
+
+  pub defined_over : (b : Schema) → IsMadeAlike b db
+  defined_over b = record {
+    sound = alike.sound;
+    shaped = λ w of at table named found. alike.shaped w (is_of w at named) at table named found;
+    apart = λ v w p q i j tree m n. alike.apart v w (is_of v i (named_at v i tree m)) (is_of w j (named_at w j tree n)) i j tree m n;
+    calm = λ w of at tree s. alike.calm w (is_of w at (named_at w at tree s)) at tree s;
+    keyed = λ w of at tree s. alike.keyed w (is_of w at (named_at w at tree s)) at tree s;
+  }
+
+  pub defined_whole : IsDefined db
+  defined_whole schema _ = defined_over (schema_of schema)

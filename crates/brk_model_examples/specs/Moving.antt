@@ -1,0 +1,23 @@
+-- A deposit and a withdrawal after the first sale, and the first purchase with a settlement day set.
+use Rattle.std.specs.Prelude.{Some, [], ◌∷◌, pos, negsuc, codes}
+use Rattle.brk_model.specs.Base.{Base}
+use Rattle.brk_model.specs.Records.{Trade}
+use Rattle.brk_money.specs.declared.status.Status.TheVariants.{Completed, Submitted}
+use Rattle.brk_model_examples.specs.Setting.{setting}
+use Rattle.brk_model_examples.specs.Trading.{first_purchase, sold}
+
+unfoldable pub deposited : Base
+deposited = record sold {
+  movements =
+      record { account = 100; stamp = 1709251200022; amount = pos 10000; name = codes "Deposit" }
+      ∷ record { account = 100; stamp = 1709251200023; amount = negsuc 899999; name = codes "Withdrawal" } ∷ [];
+  last = Some 1709251200023;
+}
+
+-- the first purchase, one stamp later
+abbrev pub later_purchase : Trade
+later_purchase = record first_purchase { marks = record { stamp = 1709251200017; status = Submitted } ∷ record { stamp = 1709251200018; status = Completed } ∷ [] }
+
+-- from 2024-03-02 on completions settle after one day
+unfoldable pub one_day : Base
+one_day = record setting { trades = later_purchase ∷ []; rule = Some 19784; last = Some 1709251200018 }

@@ -1,0 +1,92 @@
+//! Deposits and withdrawals.
+#![tactic(auto, unfolding(crate::proofs::OnLiterals::model_on_literals))]
+
+ghost use Rattle.std.specs.Prelude.{◌≡◌, ◌∷◌, [], ℕ, ℤ, Ok, map, pos, negsuc, codes};
+ghost use Rattle.brk_model.specs.Tables.{tables_of};
+ghost use Rattle.brk_model.specs.Statement.{statement};
+ghost use Rattle.brk_model_examples.specs.Batches.{after, Gives, in_lines, unkept, view};
+ghost use Rattle.brk_model_examples.specs.Moving.{deposited};
+ghost use Rattle.brk_model_examples.specs.Setting.{setting};
+ghost use Rattle.brk_model_examples.specs.Trading.{sold};
+
+/// A balance may go below 0, and up to its limit. Each movement is told with the number of its cash row, after those of the trades.
+pub fn movements_after_a_sale()
+    ensures lines { Gives sold
+        (codes "deposit,100,100.00"
+        ∷ codes "withdraw,100,9000.00"
+        ∷ codes "withdraw,100,0.00"
+        ∷ codes "deposit,109,1.00"
+        ∷ codes "deposit,100,1000000000000000.00"
+        ∷ codes "deposit,100,496.61"
+        ∷ codes "deposit,100,496.60" ∷ [])
+        (codes "1,ok,1709251200022,4,8503.40"
+        ∷ codes "2,ok,1709251200023,5,-496.60"
+        ∷ codes "3,no,18"
+        ∷ codes "4,no,1"
+        ∷ codes "5,ok,1709251200024,6,999999999999503.40"
+        ∷ codes "6,no,14,balance"
+        ∷ codes "7,ok,1709251200025,7,1000000000000000.00"
+        ∷ codes "end,4,0,3" ∷ []) }
+    ensures base { unkept (after sold (codes "deposit,100,100.00" ∷ codes "withdraw,100,9000.00" ∷ [])) ≡ deposited }
+{}
+
+/// Their rows stand behind those of the trades, in the statement too; the words of a trade are looked up with its own row alone.
+pub fn rows_of_movements()
+    ensures numbers { map {B = ℕ} (λ row. row.id) (tables_of deposited).moves ≡ 1 ∷ 2 ∷ 3 ∷ 4 ∷ 5 ∷ [] }
+    ensures amounts { map {B = ℤ} (λ row. row.amount) (tables_of deposited).moves ≡ negsuc 102509 ∷ negsuc 242899 ∷ pos 185750 ∷ pos 10000 ∷ negsuc 899999 ∷ [] }
+    ensures balances { map {B = ℤ} (λ row. row.balance) (tables_of deposited).accounts ≡ negsuc 49659 ∷ [] }
+    ensures none_left { (tables_of deposited).cash ≡ [] }
+    ensures month { statement (tables_of deposited) 100 19783 19813 ≡ Ok (in_lines (codes "Statement of account 100"
+        ∷ codes "Main"
+        ∷ codes "From 2024-03-01 to 2024-03-31"
+        ∷ codes "Opening                  10000.00"
+        ∷ codes "2024-03-01               -1025.10 Market-Buy 100 shares of Acme"
+        ∷ codes "2024-03-01               -2429.00 Market-Buy 200 shares of Acme"
+        ∷ codes "2024-03-01                1857.50 Market-Sell 150 shares of Acme"
+        ∷ codes "2024-03-01                 100.00 Deposit"
+        ∷ codes "2024-03-01               -9000.00 Withdrawal"
+        ∷ codes "Closing                   -496.60"
+        ∷ codes "ABC                         2         150      12.00"
+        ∷ codes "Holdings                  1500.00"
+        ∷ codes "Cash rows 5, lots 1" ∷ [])) }
+    ensures trade { view deposited (codes "trades") (codes "3" ∷ [])
+        ≡ Ok ((codes "trade" ∷ codes "3" ∷ codes "1709251200021" ∷ codes "CMPT" ∷ codes "TMS" ∷ codes "ABC" ∷ codes "150" ∷ codes "10.00" ∷ codes "Ann Lee" ∷ codes "13.00" ∷ codes "5.00" ∷ codes "19.50" ∷ codes "68.00" ∷ codes "cash" ∷ codes "fifo" ∷ [])
+        ∷ (codes "settlement" ∷ codes "Cash Account" ∷ codes "2024-03-03" ∷ codes "1857.50" ∷ [])
+        ∷ (codes "cash" ∷ codes "1709251200021" ∷ codes "1857.50" ∷ codes "Market-Sell 150 shares of Acme" ∷ [])
+        ∷ (codes "history" ∷ codes "1709251200020" ∷ codes "SBMT" ∷ [])
+        ∷ (codes "history" ∷ codes "1709251200021" ∷ codes "CMPT" ∷ [])
+        ∷ []) }
+    ensures words { map (λ row. row.name) (tables_of (after deposited (codes "uptext,ABC,0,253402300799999" ∷ []))).moves
+        ≡ codes "Market-Buy 100 Shares of Acme" ∷ codes "Market-Buy 200 Shares of Acme" ∷ codes "Market-Sell 150 Shares of Acme" ∷ codes "Deposit" ∷ codes "Withdrawal" ∷ [] }
+{}
+
+/// A movement before the first trade is the first cash row, and the trade's is the next.
+pub fn movement_before_a_trade()
+    ensures { map {B = ℤ} (λ row. row.amount) (tables_of (after setting
+        (codes "deposit,100,100.00"
+        ∷ codes "order,100,TMB,ABC,100,,cash,fifo,Ann,Lee,T10"
+        ∷ codes "result,1,10.10" ∷ []))).moves ≡ pos 10000 ∷ negsuc 102509 ∷ [] }
+{}
+
+/// A deposit that comes again under its key is no second one.
+pub fn one_deposit_to_a_key()
+    ensures { map {B = ℤ} (λ row. row.balance) (tables_of (after (after setting
+        (codes "deposit,100,100.00" ∷ []))
+        (codes "deposit,100,100.00" ∷ []))).accounts ≡ pos 1010000 ∷ [] }
+{}
+
+/// What is no amount, or no account.
+pub fn movements_out_of_form()
+    ensures { Gives setting
+        (codes "deposit,100,1000000000000000.01"
+        ∷ codes "deposit,100,1.0"
+        ∷ codes "deposit,100,-1.00"
+        ∷ codes "deposit,100"
+        ∷ codes "withdraw,0,1.00" ∷ [])
+        (codes "1,no,18"
+        ∷ codes "2,no,18"
+        ∷ codes "3,no,18"
+        ∷ codes "4,no,18"
+        ∷ codes "5,no,18"
+        ∷ codes "end,0,0,5" ∷ []) }
+{}

@@ -1,0 +1,91 @@
+//! The settlement day, and quantities.
+#![tactic(auto, unfolding(crate::proofs::OnLiterals::model_on_literals))]
+
+ghost use Rattle.std.specs.Prelude.{◌≡◌, ◌∷◌, [], ℕ, map, Some, replicate, codes};
+ghost use Rattle.brk_model.specs.Tables.{tables_of};
+ghost use Rattle.brk_model.specs.Computed.{batch};
+ghost use Rattle.brk_model_examples.specs.Batches.{after, batch_text, Gives, in_lines, unkept};
+ghost use Rattle.brk_model_examples.specs.Moving.{one_day};
+ghost use Rattle.brk_model_examples.specs.Setting.{setting};
+
+/// The day is later than that of the command, and is set once. What is completed before it settles after two days.
+pub fn day_is_set()
+    ensures lines { Gives setting
+        (codes "oneday,2024-03-01"
+        ∷ codes "oneday,2024-03-02"
+        ∷ codes "oneday,2024-03-01"
+        ∷ codes "order,100,TMB,ABC,100,,cash,fifo,Ann,Lee,T10"
+        ∷ codes "result,1,10.10" ∷ [])
+        (codes "1,no,22"
+        ∷ codes "2,ok,1709251200016"
+        ∷ codes "3,no,15"
+        ∷ codes "4,ok,1709251200017,1,SBMT,10.00,0.00,0.00,0.00,10.00,5.00,10000.00"
+        ∷ codes "5,ok,1709251200018,10.10,0.00,-1025.10,2024-03-03,0.00,0.00,8974.90"
+        ∷ codes "end,3,0,2" ∷ []) }
+    ensures base { unkept (after setting
+        (codes "oneday,2024-03-02"
+        ∷ codes "order,100,TMB,ABC,100,,cash,fifo,Ann,Lee,T10"
+        ∷ codes "result,1,10.10" ∷ [])) ≡ one_day }
+    ensures day { (tables_of one_day).rule ≡ Some 19784 }
+{}
+
+/// From that day on it settles after one day; what was completed before keeps its due day.
+pub fn days_from_the_set_day()
+    ensures lines { (batch one_day (replicate 2 1709337600000) (batch_text (codes "G")
+        (codes "order,100,TMB,ABC,200,,cash,fifo,Ann,Lee,T10"
+        ∷ codes "result,2,12.00" ∷ []))).text
+        ≡ in_lines (codes "1,ok,1709337600000,2,SBMT,10.00,0.00,0.00,0.00,20.00,5.00,9974.90"
+        ∷ codes "2,ok,1709337600001,24.00,0.00,-2429.00,2024-03-03,0.00,0.00,6545.90"
+        ∷ codes "end,2,0,0" ∷ []) }
+    ensures days { map {B = ℕ} (λ row. row.due_day) (tables_of (batch one_day (1709337600000 ∷ 1709424000000 ∷ []) (batch_text (codes "G")
+        (codes "order,100,TMB,ABC,200,,cash,fifo,Ann,Lee,T10"
+        ∷ codes "result,2,12.00" ∷ []))).base).settlements ≡ 19785 ∷ 19786 ∷ [] }
+{}
+
+/// Where completions settle after one day, the last day for one is 9999-12-30.
+pub fn last_day_of_a_completion()
+    ensures accepted { (batch one_day (253402214399998 ∷ 253402214399999 ∷ []) (batch_text (codes "Y")
+        (codes "order,100,TMB,ABC,100,,cash,fifo,Ann,Lee,T10"
+        ∷ codes "result,2,10.00" ∷ []))).text
+        ≡ in_lines (codes "1,ok,253402214399998,2,SBMT,10.00,0.00,0.00,0.00,10.00,5.00,9974.90"
+        ∷ codes "2,ok,253402214399999,10.00,0.00,-1015.00,9999-12-31,0.00,0.00,7959.90"
+        ∷ codes "end,2,0,0" ∷ []) }
+    ensures refused { (batch one_day (253402214399999 ∷ 253402214400000 ∷ []) (batch_text (codes "Y")
+        (codes "order,100,TMB,ABC,100,,cash,fifo,Ann,Lee,T10"
+        ∷ codes "result,2,10.00" ∷ []))).text
+        ≡ in_lines (codes "1,ok,253402214399999,2,SBMT,10.00,0.00,0.00,0.00,10.00,5.00,9974.90"
+        ∷ codes "2,no,21"
+        ∷ codes "end,1,0,1" ∷ []) }
+{}
+
+/// A day has its one spelling, within the calendar.
+pub fn days_out_of_form()
+    ensures { Gives setting
+        (codes "oneday,2024-3-02"
+        ∷ codes "oneday,2024-02-30"
+        ∷ codes "oneday,10000-01-01"
+        ∷ codes "oneday"
+        ∷ codes "oneday,2024-03-02,2024-03-03"
+        ∷ codes "oneday,9999-12-31" ∷ [])
+        (codes "1,no,18"
+        ∷ codes "2,no,18"
+        ∷ codes "3,no,18"
+        ∷ codes "4,no,18"
+        ∷ codes "5,no,18"
+        ∷ codes "6,ok,1709251200016"
+        ∷ codes "end,1,0,5" ∷ []) }
+{}
+
+/// Quantities go to 9,999,999, where a band has them.
+pub fn large_quantities()
+    ensures { Gives setting
+        (codes "order,100,TMB,ABC,1000000,,cash,fifo,Ann,Lee,T10"
+        ∷ codes "band,1,TMB,NYSE,1000000,9999999,50"
+        ∷ codes "order,100,TMB,ABC,1000000,,cash,fifo,Ann,Lee,T10"
+        ∷ codes "order,100,TMB,ABC,10000000,,cash,fifo,Ann,Lee,T10" ∷ [])
+        (codes "1,no,11"
+        ∷ codes "2,ok,1709251200016"
+        ∷ codes "3,ok,1709251200017,1,SBMT,10.00,0.00,0.00,0.00,50000.00,5.00,10000.00"
+        ∷ codes "4,no,8"
+        ∷ codes "end,2,0,2" ∷ []) }
+{}

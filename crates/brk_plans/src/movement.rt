@@ -1,0 +1,162 @@
+ghost use Rattle.std.specs.Prelude.{◌≡◌, ◌∷◌, ◌++◌, ◌+ℤ◌, [], true, false, nat_abs, nat_lt, IfOk, OnErr, Err, MatchOption, MatchResult, None, Some};
+ghost use Rattle.brk_changes.specs.Rows.{move_row_of};
+ghost use Rattle.brk_model.specs.Limits.{greatest_amount};
+ghost use Rattle.brk_model.specs.Tests.{first_refusal};
+ghost use Rattle.brk_money.specs.declared.fault.Fault.TheVariants.{Memory};
+ghost use Rattle.brk_plans.specs.Movement as spec;
+ghost use Rattle.brk_plans.specs.Movement.{IsMove, IsMoved, move_tests};
+ghost use Rattle.brk_plans.specs.Reference.{clock_test};
+
+use crate::plan::Plan;
+use crate::reply::Reply;
+use brk_changes::{Change, MoveRow};
+use brk_money::{Cents, Fault, Id, Limit, MoveId, Planned, Refusal, Stamp, stamp_after};
+use brk_orders::{Direction, Movement};
+use std::alloc::{AllocError, Global};
+
+/// What the tables hold that decides on a movement of cash.
+#[derive(Clone, Copy, PartialEq, Eq)]
+pub struct MoveFound {
+    /// The balance of the account, where it is there (CA_BAL).
+    pub balance: Option<Cents>,
+    /// How many movements there are; where there are fewer than there may be, any number below that serves.
+    pub movements: u64,
+    /// The number that the next cash row has (CM_ID).
+    pub next: MoveId,
+}
+
+// What is moved, below 0 where it is taken out.
+fn signed(movement: &Movement) -> Cents
+    ensures { result ≡ spec.signed movement.now }
+{
+    let cents = movement.amount.get() as i64;
+    let cents = match movement.direction {
+        Direction::Deposit => cents,
+        Direction::Withdrawal => -cents,
+    };
+    Cents::new(cents).unwrap()
+}
+
+// The name of a movement (CM_NAME).
+fn name_of(direction: Direction) -> &'static str
+    ensures { result.now ≡ spec.name_of direction }
+{
+    match direction {
+        Direction::Deposit => "Deposit",
+        Direction::Withdrawal => "Withdrawal",
+    }
+}
+
+/// A balance after an amount is added, where it is within the limit.
+pub fn added(balance: Cents, amount: Cents) -> Option<Cents>
+    ensures { MatchOption result
+        (nat_lt greatest_amount (nat_abs (balance +ℤ amount)) ≡ true)
+        (λ after. (after ≡ balance +ℤ amount) × (nat_lt greatest_amount (nat_abs (balance +ℤ amount)) ≡ false)) }
+{
+    Cents::new(balance.get() + amount.get())
+}
+
+// The balance of the account with the movement, or the first cause to refuse it.
+fn balance_after(movement: &Movement, found: &MoveFound) -> Result<Cents, Refusal>
+    ensures { MatchResult result
+        (λ balance. (first_refusal (move_tests movement.now found.now) ≡ None) × (balance ≡ spec.balance_after movement.now found.now))
+        (λ refusal. first_refusal (move_tests movement.now found.now) ≡ Some refusal) }
+{
+    let Some(balance) = found.balance else {
+        return Err(Refusal::NoAccount);
+    };
+    let Some(balance) = added(balance, signed(movement)) else {
+        return Err(Refusal::Range(Limit::Balance));
+    };
+    if found.movements >= Id::GREATEST {
+        return Err(Refusal::Range(Limit::Moves));
+    }
+    Ok(balance)
+}
+
+// The cash row of a movement.
+fn move_row(
+    alloc: Global,
+    movement: &Movement,
+    number: MoveId,
+    stamp: Stamp,
+) -> Result<MoveRow, AllocError>
+    ensures { IfOk result (λ row. move_row_of row ≡ spec.move_row movement.now number stamp) }
+{
+    Ok(MoveRow {
+        id: number,
+        account: movement.account,
+        trade: None,
+        stamp,
+        amount: signed(movement),
+        name: String::from_str(alloc, name_of(movement.direction))?,
+    })
+}
+
+// The changes of a movement: its row, the balance of the account, and the last stamp.
+fn changes_of(
+    alloc: Global,
+    account: Id,
+    row: MoveRow,
+    balance: Cents,
+    stamp: Stamp,
+) -> Result<Vec<Change>, Fault>
+    ensures changes { IfOk result (λ changes. changes.items ≡ spec.move_changes account row balance stamp) }
+    ensures fault { OnErr result (result ≡ Err Memory) }
+{
+    let mut changes = Vec::new(alloc);
+    changes.push(Change::AddMove(row))?;
+    changes.push(Change::SetBalance { account, balance })?;
+    changes.push(Change::SetLast(stamp))?;
+    Ok(changes)
+}
+
+// What a movement comes to that is accepted, with this number and this balance after it.
+fn plan_of(
+    alloc: Global,
+    movement: &Movement,
+    number: MoveId,
+    balance: Cents,
+    stamp: Stamp,
+) -> Result<Plan, Fault>
+    ensures moved { IfOk result (λ plan. IsMoved movement.now number balance stamp plan) }
+    ensures fault { OnErr result (result ≡ Err Memory) }
+{
+    let row = move_row(alloc, movement, number, stamp)?;
+    let changes = changes_of(alloc, movement.account, row, balance, stamp)?;
+    Ok(Plan {
+        changes,
+        reply: Reply::Moved {
+            stamp,
+            number,
+            balance,
+        },
+    })
+}
+
+/// Plans a deposit or a withdrawal, by what was found in the tables and the stamp of the last accepted command. It is
+/// refused with the first of `NoAccount`, `Range(Balance)` and `Range(Moves)` (there are as many movements as there may be)
+/// that there is cause for, and with `ClockEnd` where no later stamp is left; else a cash row is added with the next number,
+/// the account's balance is moved, and the last stamp; the number and the balance are told.
+pub fn plan_move(
+    alloc: Global,
+    movement: &Movement,
+    found: &MoveFound,
+    last: Option<Stamp>,
+    now: Stamp,
+) -> Planned<Plan>
+    ensures planned { IfOk result (λ planned. MatchResult planned
+        (IsMove movement.now found.now last now)
+        (λ refusal. first_refusal (move_tests movement.now found.now ++ clock_test last now ∷ []) ≡ Some refusal)) }
+    ensures fault { OnErr result (result ≡ Err Memory) }
+{
+    let balance = match balance_after(movement, found) {
+        Ok(balance) => balance,
+        Err(refusal) => return Ok(Err(refusal)),
+    };
+    let Some(stamp) = stamp_after(last, now) else {
+        return Ok(Err(Refusal::ClockEnd));
+    };
+    let plan = plan_of(alloc, movement, found.next, balance, stamp)?;
+    Ok(Ok(plan))
+}

@@ -1,0 +1,54 @@
+ghost use Rattle.std.specs.Prelude.{◌≡◌, ◌∷◌, [], IfOk, OnErr, Err, MatchResult, Some};
+ghost use Rattle.brk_changes.specs.declared.change.Change.TheVariants as change;
+ghost use Rattle.brk_model.specs.Tests.{first_refusal};
+ghost use Rattle.brk_money.specs.declared.fault.Fault.TheVariants.{Memory};
+ghost use Rattle.brk_plans.specs.OneDay.{IsOneDay, one_day_tests};
+
+use crate::plan::Plan;
+use crate::reply::Reply;
+use brk_changes::Change;
+use brk_money::{Day, Fault, Planned, Refusal, Stamp, day_of, stamp_after};
+use std::alloc::Global;
+
+// The changes of a settlement day that is set: its row, and the last stamp.
+fn changes_of(alloc: Global, day: Day, stamp: Stamp) -> Result<Vec<Change>, Fault>
+    ensures changes { IfOk result (λ changes. changes.items ≡ change.SetRule day ∷ change.SetLast stamp ∷ []) }
+    ensures fault { OnErr result (result ≡ Err Memory) }
+{
+    let mut changes = Vec::new(alloc);
+    changes.push(Change::SetRule(day))?;
+    changes.push(Change::SetLast(stamp))?;
+    Ok(changes)
+}
+
+/// Plans the first day whose completions settle after one day, by the one that is set, where there is one, and the stamp of
+/// the last accepted command. It is refused with the first of `Exists` (a day is set), `ClockEnd` (no later stamp is left) and
+/// `TooEarly` (it is not after the day of the command's stamp) that there is cause for; else it is set, and the last stamp is
+/// moved.
+pub fn plan_oneday(
+    alloc: Global,
+    day: Day,
+    rule: Option<Day>,
+    last: Option<Stamp>,
+    now: Stamp,
+) -> Planned<Plan>
+    ensures planned { IfOk result (λ planned. MatchResult planned
+        (IsOneDay day rule last now)
+        (λ refusal. first_refusal (one_day_tests day rule last now) ≡ Some refusal)) }
+    ensures fault { OnErr result (result ≡ Err Memory) }
+{
+    if rule.is_some() {
+        return Ok(Err(Refusal::Exists));
+    }
+    let Some(stamp) = stamp_after(last, now) else {
+        return Ok(Err(Refusal::ClockEnd));
+    };
+    if day.get() <= day_of(stamp).get() {
+        return Ok(Err(Refusal::TooEarly));
+    }
+    let changes = changes_of(alloc, day, stamp)?;
+    Ok(Ok(Plan {
+        changes,
+        reply: Reply::Booked(stamp),
+    }))
+}

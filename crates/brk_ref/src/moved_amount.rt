@@ -1,0 +1,42 @@
+ghost use Rattle.std.specs.Prelude.{◌≡◌, ℕ, ◌≤◌, SomeIff};
+ghost use Rattle.brk_ref.specs.declared.moved_amount.TheConstants.MovedAmount;
+
+use std::marker::Model;
+
+/// What a deposit or a withdrawal moves, in cents, 1 to 10^17.
+#[derive(Clone, Copy, Debug, PartialEq, Eq)]
+pub struct MovedAmount(u64);
+
+impl Model for MovedAmount {
+    ghost Value = { ℕ };
+
+    ghost view = { λ amount. amount.0 };
+
+    ghost inverse = { λ n. record { 0 = n } };
+
+    ghost invariant = { λ amount. (1 ≤ amount.0) × (amount.0 ≤ MovedAmount.GREATEST) };
+}
+
+impl MovedAmount {
+    /// The greatest amount, in cents.
+    pub const GREATEST: u64 = 100_000_000_000_000_000;
+
+    /// The amount of so many cents, where it is within the limits.
+    pub fn new(cents: u64) -> Option<MovedAmount>
+        ensures { SomeIff result ((1 ≤ cents) × (cents ≤ MovedAmount.GREATEST)) cents }
+    {
+        if 1 <= cents && cents <= MovedAmount::GREATEST {
+            Some(MovedAmount(cents))
+        } else {
+            None
+        }
+    }
+
+    pub fn get(self) -> u64
+        ensures value { result ≡ self }
+        ensures low { 1 ≤ self }
+        ensures high { self ≤ MovedAmount.GREATEST }
+    {
+        self.0
+    }
+}

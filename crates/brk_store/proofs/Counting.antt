@@ -1,0 +1,46 @@
+-- How many cash rows there can be by the number of the last.
+use Rattle.std.proofs.Common.{◌≡◌, ◌∙◌, ◌≤◌, ◌<◌, ◌+◌, ℕ, true, false, Bool, List, [], ◌∷◌, ◌++◌, filter, is_none, length, nat_le, nat_lt, option_map, reverse, slice_get, unwrap_or, refl, ap, arith}
+use Rattle.std.specs.List.{AllByRecursion}
+use Rattle.std.proofs.lemmas.Bool.Decides.{nat_tests}
+use Rattle.std.proofs.lemmas.List.{reverse-append}
+use Rattle.sqlite.specs.Effect.{Database}
+use Rattle.brk_model.specs.Limits.{greatest_id}
+use Rattle.brk_model.specs.Tables.{MoveRow, Tables}
+use Rattle.brk_book_laws.specs.TradeReads.{last_move}
+use Rattle.brk_tables_form.specs.Made.{HasRows}
+use Rattle.brk_store.proofs.WalkedLists.{Climb, moves_climb}
+
+-- the number of the last of some rows, or another where there is none
+abbrev last_or : ℕ → List MoveRow → ℕ
+last_or m rs = unwrap_or (option_map (λ r. r.id) (slice_get (reverse rs) 0)) m
+
+first_of_more : (rows : List MoveRow) (m : ℕ) (r : MoveRow) → unwrap_or (option_map (λ r. r.id) (slice_get (rows ++ r ∷ []) 0)) m ≡ unwrap_or (option_map (λ r. r.id) (slice_get rows 0)) r.id
+first_of_more [] m r = refl
+first_of_more (q ∷ rows) m r = refl
+
+last_more : (m : ℕ) (r : MoveRow) (rs : List MoveRow) → last_or m (r ∷ rs) ≡ last_or r.id rs
+last_more m r rs = ap (λ l. unwrap_or (option_map (λ (q : MoveRow). q.id) (slice_get l 0)) m) (reverse-append (r ∷ []) rs) ∙ first_of_more (reverse rs) m r
+
+-- rows that climb from a number are no more than lie between it and the last
+above : (m : ℕ) (rs : List MoveRow) → AllByRecursion (λ r. nat_lt m r.id ≡ true) rs → Climb (λ r. r.id) rs → m + length rs ≤ last_or m rs
+above m [] h climb = omega arith
+above m (r ∷ rs) h climb = let more = above r.id rs climb.0 climb.1 in let one : nat_lt m r.id ≡ true = h.0 in let same = last_more m r rs in grind (arith, nat_tests)
+
+few : (rs : List MoveRow) → Climb (λ r. r.id) rs → length rs ≤ last_or 0 rs + 1
+few [] climb = omega arith
+few (r ∷ rs) climb = let more = above r.id rs climb.0 climb.1 in let same = last_more 0 r rs in omega (arith, more, same)
+
+filter_fewer : {X : Type 0} (p : X → Bool) (xs : List X) → length (filter p xs) ≤ length xs
+filter_fewer p [] = omega arith
+filter_fewer p (x ∷ xs) = go (p x) refl (filter_fewer p xs)
+  where
+    go : (b : Bool) → p x ≡ b → length (filter p xs) ≤ length xs → length (filter p (x ∷ xs)) ≤ length (x ∷ xs)
+    go true e h = rw e (omega (arith, h))
+    go false e h = rw e (omega (arith, h))
+
+-- where the next number is below the greatest number of movements, there are fewer
+pub too_few : (t : Tables) (db : Database) (next : ℕ) → HasRows t db → next ≡ last_move t + 1 → next < greatest_id → nat_le greatest_id next ≡ nat_le greatest_id (length (filter (λ r. is_none r.trade) t.moves))
+too_few t db next has is low =
+    let rows = few t.moves (moves_climb t db has) in
+    let moved = filter_fewer (λ (r : MoveRow). is_none r.trade) t.moves in
+    grind (arith, nat_tests)

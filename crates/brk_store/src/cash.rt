@@ -1,0 +1,91 @@
+//! Reads of cash rows and of the settlement day. Each that asks the database once is a transaction of its own, which is rolled back.
+
+ghost use Rattle.std.specs.Prelude.{◌≡◌, ◌+◌, Err, OnErr, filter, is_none, length, nat_le, option_map, reverse, slice_get};
+ghost use Rattle.brk_money.specs.declared.fault.Fault.TheVariants as fault;
+ghost use Rattle.brk_model.specs.Limits.{greatest_id};
+ghost use Rattle.brk_model.specs.LookupView.{is_cash_of};
+ghost use Rattle.brk_changes.specs.Rows.{move_row_of};
+ghost use Rattle.brk_book_laws.specs.TradeReads.{last_move};
+ghost use Rattle.brk_store.specs.Holds.{IsRead};
+ghost use Rattle.brk_tables_form.specs.Desk.{CashMoves};
+ghost use Rattle.brk_tables_form.specs.Statements.{Found};
+
+use crate::Store;
+use crate::beginning::begin;
+use brk_changes::MoveRow;
+use brk_money::{Day, Fault, Id, MoveId};
+use sqlite::Alter;
+
+// How many movements there may be.
+const ALL_MOVEMENTS: u64 = 1_000_000_000_000;
+
+#[tactic(auto, using(crate::proofs::Ending::is_read_of))]
+impl<S: Alter> Store<S> {
+    /// The first day whose completions settle after one day, where it is set.
+    pub fn one_day(&mut self) -> Result<Option<Day>, Fault>
+        ensures read { IsRead S.Store self.old self.new result (λ day t. day ≡ t.rule) }
+        ensures fault { OnErr result (result ≡ Err fault.Store) }
+    {
+        let mut tx = begin(&mut self.conn);
+        brk_tables_cash::one_day(&mut tx)
+    }
+
+    /// What a trade moved, where it is completed and in cash.
+    pub fn cash_row(&mut self, trade: Id) -> Result<Option<MoveRow>, Fault>
+        ensures read { IsRead S.Store self.old self.new result (Found CashMoves move_row_of (is_cash_of trade)) }
+        ensures fault { OnErr result (result ≡ Err fault.Store) }
+    {
+        let mut tx = begin(&mut self.conn);
+        brk_tables_cash::move_by_trade(&mut tx, trade)
+    }
+
+    // The cash row with the greatest number, where there is one.
+    fn last_cash_row(&mut self) -> Result<Option<MoveRow>, Fault>
+        ensures read { IsRead S.Store self.old self.new result (λ o t. option_map move_row_of o ≡ slice_get (reverse t.moves) 0) }
+        ensures fault { OnErr result (result ≡ Err fault.Store) }
+    {
+        let mut tx = begin(&mut self.conn);
+        brk_tables_cash::last_move(&mut tx)
+    }
+
+    // Whether there are as many movements as there may be: the database goes over all cash rows.
+    fn has_all_movements(&mut self) -> Result<bool, Fault>
+        ensures read { IsRead S.Store self.old self.new result (λ all t. all ≡ nat_le greatest_id (length (filter (λ r. is_none r.trade) t.moves))) }
+        ensures fault { OnErr result (result ≡ Err fault.Store) }
+    {
+        let mut tx = begin(&mut self.conn);
+        brk_tables_cash::has_all_movements(&mut tx)
+    }
+
+    /// The number of the next cash row. That none is left is a fault.
+    pub fn next_move(&mut self) -> Result<MoveId, Fault>
+        ensures read { IsRead S.Store self.old self.new result (λ next t. next ≡ last_move t + 1) }
+        ensures fault { OnErr result (result ≡ Err fault.Store) }
+    {
+        let number = match self.last_cash_row()? {
+            Some(row) => row.id.get() + 1,
+            None => 1,
+        };
+        match MoveId::new(number) {
+            Some(next) => Ok(next),
+            None => Err(Fault::Store),
+        }
+    }
+
+    /// As many movements as there may be, where there are as many, and else a number below that. They are counted only where there
+    /// can be as many by the number of the last cash row.
+    pub fn movements(&mut self) -> Result<u64, Fault>
+        ensures read { IsRead S.Store self.old self.new result (λ count t. nat_le greatest_id count ≡ nat_le greatest_id (length (filter (λ r. is_none r.trade) t.moves))) }
+        ensures fault { OnErr result (result ≡ Err fault.Store) }
+    {
+        let next = self.next_move()?;
+        if next.get() < ALL_MOVEMENTS {
+            return Ok(next.get());
+        }
+        if self.has_all_movements()? {
+            Ok(ALL_MOVEMENTS)
+        } else {
+            Ok(0)
+        }
+    }
+}

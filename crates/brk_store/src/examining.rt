@@ -1,0 +1,64 @@
+//! What an audit tells of a database: the schema whose desk is there, and whether its rows pass.
+
+ghost use Rattle.std.specs.Prelude.{◌≡◌, ◌≢◌, IfErr, IfOk, IsTrue, Err, OnErr};
+ghost use Rattle.brk_money.specs.declared.fault.Condition.TheVariants.{NotEmpty};
+ghost use Rattle.brk_money.specs.declared.fault.Fault.TheVariants as fault;
+ghost use Rattle.brk_model.specs.Run.{MayFail};
+ghost use Rattle.brk_rows.specs.Model.{Steps};
+ghost use Rattle.brk_store.specs.Audited.{HasDeskOf};
+ghost use Rattle.brk_store.specs.Examined.{Tells};
+ghost use Rattle.brk_store.specs.declared.examining.Examined.TheVariants as told;
+ghost use Rattle.brk_tables_whole.specs.Schemas.{IsDefined};
+
+use crate::auditing::audit_desk_of;
+use brk_changes::Schema;
+use brk_money::{Condition, Fault};
+use brk_tables_whole::has_desk;
+use sqlite::{Alter, Transaction};
+use std::alloc::Global;
+
+/// What an audit of a database told.
+#[derive(Clone, Copy)]
+pub enum Examined {
+    /// A desk of this schema is there, and its rows pass.
+    Passes(Schema),
+    /// This condition fails.
+    Fails(Condition),
+}
+
+// The schema of which a desk is there, where one is.
+fn schema_of_desk<S: Alter>(tx: &mut Transaction<'_, S>) -> Result<Option<Schema>, Fault>
+    ensures same_reference { tx.new.conn.ghost_name ≡ tx.old.conn.ghost_name }
+    ensures step { Steps S.Store tx.old tx.new result (λ found a b. IsTrue a.is_open × (b.now ≡ a.now) × (IsDefined a.now → HasDeskOf found a.now)) }
+    ensures fault { OnErr result (result ≡ Err fault.Store) }
+{
+    if has_desk(tx, Schema::Third)? {
+        return Ok(Some(Schema::Third));
+    }
+    if has_desk(tx, Schema::Second)? {
+        return Ok(Some(Schema::Second));
+    }
+    if has_desk(tx, Schema::First)? {
+        return Ok(Some(Schema::First));
+    }
+    Ok(None)
+}
+
+/// Audits the rows of the desk that is there, by the conditions of its schema.
+pub(crate) fn examine<S: Alter>(
+    tx: &mut Transaction<'_, S>,
+    alloc: Global,
+) -> Result<Examined, Fault>
+    ensures same_reference { tx.new.conn.ghost_name ≡ tx.old.conn.ghost_name }
+    ensures step { Steps S.Store tx.old tx.new result (λ examined a b. IsTrue a.is_open × (b.now ≡ a.now) × (IsDefined a.now → Tells examined a.now)) }
+    ensures condition { IfOk result (λ examined. examined ≢ told.Fails NotEmpty) }
+    ensures fault { IfErr result MayFail }
+{
+    let Some(schema) = schema_of_desk(tx)? else {
+        return Ok(Examined::Fails(Condition::Schema));
+    };
+    match audit_desk_of(tx, alloc, schema)? {
+        None => Ok(Examined::Passes(schema)),
+        Some(condition) => Ok(Examined::Fails(condition)),
+    }
+}

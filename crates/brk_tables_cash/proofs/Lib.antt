@@ -1,0 +1,12 @@
+pub mod Places
+pub mod AddMove
+pub mod LastMove
+pub mod MoveByTrade
+pub mod MovementBehind
+pub mod SetCashName
+pub mod RemoveCashRows
+pub mod AddRule
+pub mod RuleRows
+pub mod SetSchema
+pub mod CashWrites
+pub mod CashReads

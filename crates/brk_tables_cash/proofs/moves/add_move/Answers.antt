@@ -1,0 +1,16 @@
+use Rattle.std.proofs.Common.{◌∙◌, ap, subst}
+use Rattle.sqlite_value.specs.declared.value.Value.TheVariants.{Text as Words}
+use Rattle.sqlite.specs.Held.{state}
+use Rattle.brk_rows.specs.Model.{Ran}
+use Rattle.brk_rows.proofs.Inside.{step_weaker}
+use Rattle.brk_changes.specs.Rows.{move_row_of}
+use Rattle.brk_tables_cash.proofs.AddMove
+use Rattle.brk_tables_cash.proofs.CashWrites.{adds_move, params_are}
+use Rattle.brk_tables_cash.proofs.moves.add_move.Goals as goal
+
+pub returns-clause-step : goal.returns-clause-step
+returns-clause-step g c =
+    let old = state g.S.Store c.args.tx.now.conn.now in
+    let new = state g.S.Store c.run.new.tx.conn.now in
+    let same = params_are (move_row_of c.args.row.now) _ _ _ _ _ _ c.move_id_value.ensures c.id_value.ensures c.maybe_id_value.ensures c.stamp_value.ensures c.cents_value.ensures (c.text_value.ensures ∙ ap Words c.as_str.ensures.value) in
+    step_weaker old new c.run.result _ _ (λ _ ran. adds_move old new (move_row_of c.args.row.now) (subst (λ params. Ran AddMove.statement params old new) same ran)) c.run.ensures.step

@@ -1,0 +1,101 @@
+//! Rows of CASH_MOVE.
+
+ghost use Rattle.std.specs.Prelude.{◌≡◌, Err, OnErr, filter, is_none, length, nat_le, option_map, reverse, slice_get};
+ghost use Rattle.brk_money.specs.declared.fault.Fault.TheVariants.{Store};
+ghost use Rattle.brk_model.specs.Limits.{greatest_id};
+ghost use Rattle.brk_model.specs.LookupView.{is_cash_of};
+ghost use Rattle.brk_changes.specs.Changes.{with_cash_name, with_move};
+ghost use Rattle.brk_changes.specs.Rows.{move_row_of};
+ghost use Rattle.brk_tables_form.specs.Desk.{CashMoves};
+ghost use Rattle.brk_tables_form.specs.Statements.{Finds, Reads, Writes};
+
+use brk_changes::MoveRow;
+use brk_money::{Fault, Id};
+use brk_tables_form::calls::{run, select};
+use brk_tables_form::record::first_row;
+use brk_tables_form::values::{
+    cents_value, id_value, maybe_id_value, move_id_value, number_value, stamp_value, text_value,
+};
+use sqlite::{Alter, Transaction};
+
+/// Adds a cash row, whose number is new.
+pub fn add_move<S: Alter>(tx: &mut Transaction<'_, S>, row: &MoveRow) -> Result<(), Fault>
+    ensures same_reference { tx.new.conn.ghost_name ≡ tx.old.conn.ghost_name }
+    ensures step { Writes S.Store tx.old tx.new result (with_move (move_row_of row.now)) }
+    ensures fault { OnErr result (result ≡ Err Store) }
+{
+    run(
+        tx,
+        "INSERT INTO CASH_MOVE (CM_ID, CM_CA_ID, CM_T_ID, CM_DTS, CM_AMT, CM_NAME) VALUES (?1, ?2, ?3, ?4, ?5, ?6)",
+        &[
+            move_id_value(row.id),
+            id_value(row.account),
+            maybe_id_value(row.trade),
+            stamp_value(row.stamp),
+            cents_value(row.amount),
+            text_value(row.name.as_str()),
+        ],
+    )
+}
+
+/// The cash row with the greatest number, where there is one.
+pub fn last_move<S: Alter>(tx: &mut Transaction<'_, S>) -> Result<Option<MoveRow>, Fault>
+    ensures same_reference { tx.new.conn.ghost_name ≡ tx.old.conn.ghost_name }
+    ensures step { Reads S.Store tx.old tx.new result (λ o t. option_map move_row_of o ≡ slice_get (reverse t.moves) 0) }
+    ensures fault { OnErr result (result ≡ Err Store) }
+{
+    let rows = select(
+        tx,
+        "SELECT CM_ID, CM_CA_ID, CM_T_ID, CM_DTS, CM_AMT, CM_NAME FROM CASH_MOVE ORDER BY CM_ID DESC LIMIT 1",
+        &[],
+    )?;
+    first_row(&rows)
+}
+
+/// Whether there are as many movements as there may be: the database passes over all but the last of so many rows.
+pub fn has_all_movements<S: Alter>(tx: &mut Transaction<'_, S>) -> Result<bool, Fault>
+    ensures same_reference { tx.new.conn.ghost_name ≡ tx.old.conn.ghost_name }
+    ensures step { Reads S.Store tx.old tx.new result (λ all t. all ≡ nat_le greatest_id (length (filter (λ r. is_none r.trade) t.moves))) }
+    ensures fault { OnErr result (result ≡ Err Store) }
+{
+    let rows = select(
+        tx,
+        "SELECT CM_ID, CM_CA_ID, CM_T_ID, CM_DTS, CM_AMT, CM_NAME FROM CASH_MOVE WHERE CM_T_ID IS NULL ORDER BY CM_ID LIMIT 1 OFFSET ?1",
+        &[number_value(999_999_999_999)],
+    )?;
+    Ok(!rows.is_empty())
+}
+
+/// The cash row of a trade, where it has one.
+pub fn move_by_trade<S: Alter>(
+    tx: &mut Transaction<'_, S>,
+    trade: Id,
+) -> Result<Option<MoveRow>, Fault>
+    ensures same_reference { tx.new.conn.ghost_name ≡ tx.old.conn.ghost_name }
+    ensures step { Finds S.Store tx.old tx.new result CashMoves move_row_of (is_cash_of trade) }
+    ensures fault { OnErr result (result ≡ Err Store) }
+{
+    let rows = select(
+        tx,
+        "SELECT CM_ID, CM_CA_ID, CM_T_ID, CM_DTS, CM_AMT, CM_NAME FROM CASH_MOVE WHERE CM_T_ID = ?1 ORDER BY CM_ID",
+        &[id_value(trade)],
+    )?;
+    first_row(&rows)
+}
+
+/// Sets the text of what a trade moved.
+pub fn set_cash_name<S: Alter>(
+    tx: &mut Transaction<'_, S>,
+    trade: Id,
+    name: &str,
+) -> Result<(), Fault>
+    ensures same_reference { tx.new.conn.ghost_name ≡ tx.old.conn.ghost_name }
+    ensures step { Writes S.Store tx.old tx.new result (with_cash_name trade name.now) }
+    ensures fault { OnErr result (result ≡ Err Store) }
+{
+    run(
+        tx,
+        "UPDATE CASH_MOVE SET CM_NAME = ?1 WHERE CM_T_ID = ?2",
+        &[text_value(name), id_value(trade)],
+    )
+}

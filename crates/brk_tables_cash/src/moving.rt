@@ -1,0 +1,34 @@
+//! What the move of an older file does besides: the number of the schema is set, and the rows of CASH_TRANSACTION go.
+
+ghost use Rattle.std.specs.Prelude.{◌≡◌, Err, OnErr};
+ghost use Rattle.brk_money.specs.declared.fault.Fault.TheVariants.{Store};
+ghost use Rattle.brk_rows.specs.Model.{Steps};
+ghost use Rattle.brk_tables_form.specs.Statements.{Writes};
+ghost use Rattle.brk_tables_cash.specs.Moving.{Raises, without_cash};
+
+use brk_money::Fault;
+use brk_tables_form::calls::run;
+use brk_tables_form::values::number_value;
+use sqlite::{Alter, Transaction};
+
+/// Sets the number of the third schema, where all of its tables are there.
+pub fn set_schema<S: Alter>(tx: &mut Transaction<'_, S>) -> Result<(), Fault>
+    ensures same_reference { tx.new.conn.ghost_name ≡ tx.old.conn.ghost_name }
+    ensures step { Steps S.Store tx.old tx.new result (λ _ a b. Raises a.now b.now) }
+    ensures fault { OnErr result (result ≡ Err Store) }
+{
+    run(
+        tx,
+        "UPDATE DESK SET D_SCHEMA = ?1 WHERE D_ID = ?2",
+        &[number_value(3), number_value(1)],
+    )
+}
+
+/// Removes all rows of CASH_TRANSACTION.
+pub fn remove_cash_rows<S: Alter>(tx: &mut Transaction<'_, S>) -> Result<(), Fault>
+    ensures same_reference { tx.new.conn.ghost_name ≡ tx.old.conn.ghost_name }
+    ensures step { Writes S.Store tx.old tx.new result without_cash }
+    ensures fault { OnErr result (result ≡ Err Store) }
+{
+    run(tx, "DELETE FROM CASH_TRANSACTION", &[])
+}

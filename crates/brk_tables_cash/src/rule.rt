@@ -1,0 +1,48 @@
+//! The row of SETTLE_RULE.
+
+ghost use Rattle.std.specs.Prelude.{◌≡◌, Err, IfOk, OnErr, map};
+ghost use Rattle.brk_money.specs.declared.fault.Fault.TheVariants.{Store};
+ghost use Rattle.brk_changes.specs.Changes.{with_rule};
+ghost use Rattle.brk_tables_form.specs.Cells.{rule_cells};
+ghost use Rattle.brk_tables_form.specs.Desk.{rule_rows};
+ghost use Rattle.brk_tables_form.specs.Statements.{Reads, Writes};
+
+use brk_money::{Day, Fault};
+use brk_tables_form::calls::{run, select};
+use brk_tables_form::rule_row::day_in_rows;
+use brk_tables_form::values::{day_value, number_value};
+use sqlite::{Alter, Row, Transaction};
+
+/// Sets the first day whose completions settle after one day, where none is set.
+pub fn set_one_day<S: Alter>(tx: &mut Transaction<'_, S>, day: Day) -> Result<(), Fault>
+    ensures same_reference { tx.new.conn.ghost_name ≡ tx.old.conn.ghost_name }
+    ensures step { Writes S.Store tx.old tx.new result (with_rule day) }
+    ensures fault { OnErr result (result ≡ Err Store) }
+{
+    run(
+        tx,
+        "INSERT INTO SETTLE_RULE (SR_ID, SR_DAY) VALUES (?1, ?2)",
+        &[number_value(1), day_value(day)],
+    )
+}
+
+fn only_day(rows: &[Row]) -> Result<Option<Day>, Fault>
+    ensures value { IfOk result (λ day. map rule_cells (rule_rows day) ≡ rows.now) }
+    ensures fault { OnErr result (result ≡ Err Store) }
+{
+    Ok(day_in_rows(rows)?)
+}
+
+/// The first day whose completions settle after one day, where it is set.
+pub fn one_day<S: Alter>(tx: &mut Transaction<'_, S>) -> Result<Option<Day>, Fault>
+    ensures same_reference { tx.new.conn.ghost_name ≡ tx.old.conn.ghost_name }
+    ensures step { Reads S.Store tx.old tx.new result (λ day t. day ≡ t.rule) }
+    ensures fault { OnErr result (result ≡ Err Store) }
+{
+    let rows = select(
+        tx,
+        "SELECT SR_ID, SR_DAY FROM SETTLE_RULE ORDER BY SR_ID",
+        &[],
+    )?;
+    only_day(&rows)
+}

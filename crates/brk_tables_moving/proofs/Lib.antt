@@ -1,0 +1,7 @@
+pub mod CashByStamp
+pub mod AccountOfTrade
+pub mod Telling
+pub mod Sorting
+pub mod Numbered
+pub mod Raising
+pub mod Turning

@@ -1,0 +1,106 @@
+use crate::told::told_plan;
+use brk_money::{Cents, Day, Id, MoveId, Stamp};
+use brk_orders::{Direction, Movement};
+use brk_ref::MovedAmount;
+use brk_trade::{MoveFound, plan_move, plan_oneday};
+use std::alloc::Global;
+use std::process::Abort;
+use std::test::Fail;
+
+// A movement of the account 100, and what was there before it.
+#[derive(Clone, Copy)]
+struct Case {
+    direction: Direction,
+    cents: u64,
+    balance: Option<i64>,
+    movements: u64,
+    next: u64,
+}
+
+fn found(case: Case) -> Result<MoveFound, Fail> {
+    let balance = match case.balance {
+        Some(balance) => Some(Cents::new(balance).ok_or("balance")?),
+        None => None,
+    };
+    Ok(MoveFound {
+        balance,
+        movements: case.movements,
+        next: MoveId::new(case.next).ok_or("number")?,
+    })
+}
+
+// Compares what is told of such a movement at a stamp after @21.
+fn expect_move(rt: &impl Abort, alloc: Global, case: Case, wanted: &str) -> Result<(), Fail> {
+    let movement = Movement {
+        direction: case.direction,
+        account: Id::new(100).ok_or("account")?,
+        amount: MovedAmount::new(case.cents).ok_or("amount")?,
+    };
+    let found = found(case)?;
+    let last = Stamp::new(1_709_251_200_021);
+    let now = Stamp::nearest(1_709_251_200_000);
+    let planned = plan_move(alloc, &movement, &found, last, now)?;
+    let told = told_plan(alloc, planned)?;
+    assert_eq!(rt; told.as_str(), wanted);
+    Ok(())
+}
+
+#[test]
+fn movements_with_their_numbers_and_balances(rt: HostRuntime) -> Result<(), Fail> {
+    let alloc = rt.alloc();
+    let deposit = Case {
+        direction: Direction::Deposit,
+        cents: 10_000,
+        balance: Some(840_340),
+        movements: 0,
+        next: 4,
+    };
+    let withdrawal = Case {
+        direction: Direction::Withdrawal,
+        cents: 900_000,
+        balance: Some(850_340),
+        ..deposit
+    };
+    let beyond = Case {
+        balance: Some(99_999_999_999_990_001),
+        ..deposit
+    };
+    let unknown = Case {
+        balance: None,
+        movements: 1_000_000_000_000,
+        ..deposit
+    };
+    let full = Case {
+        movements: 1_000_000_000_000,
+        ..deposit
+    };
+    for (case, wanted) in [
+        (deposit, "1709251200022,4,8503.40"),
+        (withdrawal, "1709251200022,4,-496.60"),
+        (beyond, "no,14,balance"),
+        (unknown, "no,1"),
+        (full, "no,14,moves"),
+    ] {
+        expect_move(&rt, alloc, case, wanted)?;
+    }
+    Ok(())
+}
+
+#[test]
+fn a_settlement_day_after_that_of_its_stamp(rt: HostRuntime) -> Result<(), Fail> {
+    let alloc = rt.alloc();
+    let last = Stamp::new(1_709_251_200_015);
+    let now = Stamp::nearest(1_709_251_200_000);
+    let set = Day::new(19_784);
+    for (days, rule, wanted) in [
+        (19_783, None, "no,22"),
+        (19_784, None, "1709251200016"),
+        (19_783, set, "no,15"),
+    ] {
+        let day = Day::new(days).ok_or("day")?;
+        let planned = plan_oneday(alloc, day, rule, last, now)?;
+        let told = told_plan(alloc, planned)?;
+        assert_eq!(rt; told.as_str(), wanted);
+    }
+    Ok(())
+}
