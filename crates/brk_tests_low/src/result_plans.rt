@@ -1,6 +1,8 @@
 use crate::told::told_plan;
 use brk_lots::Position;
-use brk_money::{Cents, Id, MoveId, Price, Qty, Rate, Stamp, Status, TaxRate, TaxStatus, TradeType};
+use brk_money::{
+    Cents, Id, MoveId, Price, Qty, Rate, Stamp, Status, TaxRate, TaxStatus, TradeType,
+};
 use brk_ref::{ChargeAmount, Name, Symbol};
 use brk_trade::{
     Amount, BrokerNumbers, ResultAccount, ResultFound, TradeCount, TradeRow, plan_result,

@@ -31,10 +31,13 @@ returns-clause-step g c =
     let rows = c.in_ok-rows.rows in
     step_read old new rows (Ok (not c.is_empty.result)) (λ shown. Selected MovementBehind.statement (nat 999999999999 ∷ []) shown.items) (λ all. Looks desk (λ t. all ≡ nat_le greatest_id (length (filter (λ (r : MoveRow). is_none r.trade) t.moves))))
     (λ all is s.
-    let told : not c.is_empty.result ≡ all = cc in
-    (s.2, s.1, λ t tree h.
-    let movements = filter (λ (r : MoveRow). is_none r.trade) t.moves in
-    let many : length rows.items ≡ length (take 1 (drop 999999999999 movements)) = ap length (tells_movement old new 999999999999 rows.items s.0 t tree h) ∙ length-map (take 1 (drop 999999999999 movements)) move_cells in
-    let none : c.is_empty.result ≡ (length rows.items == 0) = search rules in
-    sym told ∙ ap not (none ∙ ap (λ n. n == 0) many) ∙ one_behind 999999999999 movements))
+    let told : not c.is_empty.result ≡ all = cc in (
+      s.2,
+      s.1,
+      λ t tree h.
+          let movements = filter (λ (r : MoveRow). is_none r.trade) t.moves in
+          let many : length rows.items ≡ length (take 1 (drop 999999999999 movements)) = ap length (tells_movement old new 999999999999 rows.items s.0 t tree h) ∙ length-map (take 1 (drop 999999999999 movements)) move_cells in
+          let none : c.is_empty.result ≡ (length rows.items == 0) = search rules in
+          sym told ∙ ap not (none ∙ ap (λ n. n == 0) many) ∙ one_behind 999999999999 movements,
+    ))
     (rw c.number_value.ensures at c.in_ok-rows.ensures.step)
