@@ -9,67 +9,91 @@ use sqlite::{Connection, MemStore};
 use std::alloc::Global;
 use std::test::Fail;
 
-/// What makes a desk of the first schema of one that bought 100 and 200 shares and sold 150.
+/// Makes a desk of the first schema from one that bought 100 and 200 shares and sold 150.
 pub const FIRST: &str =
     "UPDATE DESK SET D_SCHEMA = 1; DROP TABLE SETTLE_RULE; DROP TABLE CASH_MOVE; \
     INSERT INTO CASH_TRANSACTION VALUES (1, 1709251200017, -102510, 'Market-Buy 100 shares of Acme'); \
     INSERT INTO CASH_TRANSACTION VALUES (2, 1709251200019, -242900, 'Market-Buy 200 shares of Acme'); \
     INSERT INTO CASH_TRANSACTION VALUES (3, 1709251200021, 185750, 'Market-Sell 150 shares of Acme')";
 
-// What makes one of the second.
+// Makes one of the second schema.
 const SECOND: &str = "UPDATE DESK SET D_SCHEMA = 2; DROP TABLE SETTLE_RULE";
 
-// The database of such a desk, and its tables.
-fn traded(alloc: Global, more: &[&str]) -> Result<(Connection<MemStore>, String), Fail> {
-    let batch = batch_of(alloc, &ROWS[..6])?;
-    let told = accepted(alloc, &LINES[..6])?;
+// Two purchases of which the second completes first.
+const CROSSED_ROWS: [&str; 4] = [
+    "order,100,TMB,ABC,100,,cash,fifo,Ann,Lee,T10",
+    "order,100,TMB,ABC,200,,cash,fifo,Ann,Lee,T10",
+    "result,2,12.00",
+    "result,1,10.10",
+];
+
+const CROSSED_LINES: [&str; 4] = [
+    "1709251200016,1,SBMT,10.00,0.00,0.00,0.00,10.00,5.00,10000.00",
+    "1709251200017,2,SBMT,10.00,0.00,0.00,0.00,20.00,5.00,10000.00",
+    "1709251200018,24.00,0.00,-2429.00,2024-03-03,0.00,0.00,7571.00",
+    "1709251200019,10.10,0.00,-1025.10,2024-03-03,0.00,0.00,6545.90",
+];
+
+// Makes a desk of the first schema from one that booked them: its cash rows rise by trade, and fall by stamp.
+const CROSSED_FIRST: &str =
+    "UPDATE DESK SET D_SCHEMA = 1; DROP TABLE SETTLE_RULE; DROP TABLE CASH_MOVE; \
+    INSERT INTO CASH_TRANSACTION VALUES (1, 1709251200019, -102510, 'Market-Buy 100 shares of Acme'); \
+    INSERT INTO CASH_TRANSACTION VALUES (2, 1709251200018, -242900, 'Market-Buy 200 shares of Acme')";
+
+// A deposit after the three trades.
+const DEPOSIT: &[u8] = b"batch,M\ndeposit,100,0.01\nend,1\n";
+
+// The database of a desk that booked these rows, and then this batch.
+fn booked(
+    alloc: Global,
+    rows: &[&str],
+    lines: &[&str],
+    last: Step<'_>,
+) -> Result<Connection<MemStore>, Fail> {
+    let batch = batch_of(alloc, rows)?;
+    let told = accepted(alloc, lines)?;
     let mut desk = set_desk(alloc)?;
-    expect(
-        alloc,
-        &mut desk,
-        "trades",
-        Step::Done(batch.as_bytes(), told.as_str()),
-    )?;
-    for row in more {
-        let batch = format!(in alloc; "batch,M\n{row}\nend,1\n")?;
-        expect(
-            alloc,
-            &mut desk,
-            "a movement",
-            Step::Done(
-                batch.as_bytes(),
-                "1,ok,1709251200022,4,8403.41\nend,1,0,0\n",
-            ),
-        )?;
-    }
-    let mut conn = desk.into_store().into_conn();
-    let tables = all_tables(alloc, &mut conn).map_err(|_| "tables that cannot be read")?;
-    Ok((conn, tables))
+    let step = Step::Done(batch.as_bytes(), told.as_str());
+    expect(alloc, &mut desk, "trades", step)?;
+    expect(alloc, &mut desk, "the last batch", last)?;
+    Ok(desk.into_store().into_conn())
 }
 
-// The tables of a desk that was made older and then adopted.
-fn moved(alloc: Global, mut conn: Connection<MemStore>, older: &str) -> Result<String, Fail> {
+// The database of a desk with three trades.
+fn traded(alloc: Global) -> Result<Connection<MemStore>, Fail> {
+    let nothing = Step::Done(b"batch,M\nend,0\n", "end,0,0,0\n");
+    booked(alloc, &ROWS[..6], &LINES[..6], nothing)
+}
+
+// Makes a desk older and adopts it: it passes its audit, and has all tables as before.
+fn expect_moved(alloc: Global, mut conn: Connection<MemStore>, older: &str) -> Result<(), Fail> {
+    let before = all_tables(alloc, &mut conn).map_err(|_| "tables that cannot be read")?;
     conn.execute_batch(older)?;
     let Ok(mut store) = Store::adopt(alloc, conn) else {
         return Err("it does not pass")?;
     };
     if store.audit(alloc).is_err() {
-        return Err("it does not pass as it was moved")?;
+        return Err("it does not pass once it is moved")?;
     }
     let mut conn = store.into_conn();
-    Ok(all_tables(alloc, &mut conn).map_err(|_| "tables that cannot be read")?)
+    let after = all_tables(alloc, &mut conn).map_err(|_| "tables that cannot be read")?;
+    if after == before {
+        Ok(())
+    } else {
+        Err("other tables")?
+    }
 }
 
 #[test]
 fn older_desks_are_moved(rt: HostRuntime) -> Result<(), Fail> {
     let alloc = rt.alloc();
-    let (conn, tables) = traded(alloc, &[])?;
-    let after = moved(alloc, conn, FIRST)?;
-    assert!(rt; after.as_str() == tables.as_str(), "the first schema");
-    let (conn, tables) = traded(alloc, &["deposit,100,0.01"])?;
-    let after = moved(alloc, conn, SECOND)?;
-    assert!(rt; after.as_str() == tables.as_str(), "the second schema");
-    Ok(())
+    let nothing = Step::Done(b"batch,M\nend,0\n", "end,0,0,0\n");
+    let deposit = Step::Done(DEPOSIT, "1,ok,1709251200022,4,8403.41\nend,1,0,0\n");
+    expect_moved(alloc, traded(alloc)?, FIRST)?;
+    let conn = booked(alloc, &CROSSED_ROWS, &CROSSED_LINES, nothing)?;
+    expect_moved(alloc, conn, CROSSED_FIRST)?;
+    let conn = booked(alloc, &ROWS[..6], &LINES[..6], deposit)?;
+    expect_moved(alloc, conn, SECOND)
 }
 
 // What is told of an older desk after a change.
@@ -127,7 +151,7 @@ fn schema_of(conn: &mut Connection<MemStore>) -> Result<i64, Fail> {
 fn older_desks_are_audited_by_their_own_conditions(rt: HostRuntime) -> Result<(), Fail> {
     let alloc = rt.alloc();
     for (older, change, condition) in DAMAGES {
-        let (mut conn, _) = traded(alloc, &[])?;
+        let mut conn = traded(alloc)?;
         conn.execute_batch(older)?;
         conn.execute_batch(change)?;
         let before = schema_of(&mut conn)?;

@@ -86,21 +86,36 @@ fn movements_with_their_numbers_and_balances(rt: HostRuntime) -> Result<(), Fail
     Ok(())
 }
 
+// Compares what is replied to a settlement day at the first midnight of 2024-03-01, at a desk that has one or none.
+fn expect_day(
+    rt: &impl Abort,
+    alloc: Global,
+    days: i32,
+    rule: Option<i32>,
+    wanted: &str,
+) -> Result<(), Fail> {
+    let day = Day::new(days).ok_or("day")?;
+    let set = match rule {
+        Some(set) => Some(Day::new(set).ok_or("day")?),
+        None => None,
+    };
+    let last = Stamp::new(1_709_251_200_015);
+    let now = Stamp::nearest(1_709_251_200_000);
+    let planned = plan_oneday(alloc, day, set, last, now)?;
+    let told = told_plan(alloc, planned)?;
+    assert_eq!(rt; told.as_str(), wanted);
+    Ok(())
+}
+
 #[test]
 fn a_settlement_day_after_that_of_its_stamp(rt: HostRuntime) -> Result<(), Fail> {
     let alloc = rt.alloc();
-    let last = Stamp::new(1_709_251_200_015);
-    let now = Stamp::nearest(1_709_251_200_000);
-    let set = Day::new(19_784);
     for (days, rule, wanted) in [
         (19_783, None, "no,22"),
         (19_784, None, "1709251200016"),
-        (19_783, set, "no,15"),
+        (19_783, Some(19_784), "no,15"),
     ] {
-        let day = Day::new(days).ok_or("day")?;
-        let planned = plan_oneday(alloc, day, rule, last, now)?;
-        let told = told_plan(alloc, planned)?;
-        assert_eq!(rt; told.as_str(), wanted);
+        expect_day(&rt, alloc, days, rule, wanted)?;
     }
     Ok(())
 }
