@@ -16,8 +16,18 @@ pub const FIRST: &str =
     INSERT INTO CASH_TRANSACTION VALUES (2, 1709251200019, -242900, 'Market-Buy 200 shares of Acme'); \
     INSERT INTO CASH_TRANSACTION VALUES (3, 1709251200021, 185750, 'Market-Sell 150 shares of Acme')";
 
-// Makes one of the second schema.
-const SECOND: &str = "UPDATE DESK SET D_SCHEMA = 2; DROP TABLE SETTLE_RULE";
+// Makes one of the first schema from one that booked all the worked trades.
+const ALL_FIRST: &str =
+    "UPDATE DESK SET D_SCHEMA = 1; DROP TABLE SETTLE_RULE; DROP TABLE CASH_MOVE; \
+    INSERT INTO CASH_TRANSACTION VALUES (1, 1709251200017, -102510, 'Market-Buy 100 shares of Acme'); \
+    INSERT INTO CASH_TRANSACTION VALUES (2, 1709251200019, -242900, 'Market-Buy 200 shares of Acme'); \
+    INSERT INTO CASH_TRANSACTION VALUES (3, 1709251200021, 185750, 'Market-Sell 150 shares of Acme'); \
+    INSERT INTO CASH_TRANSACTION VALUES (4, 1709251200023, 511300, 'Market-Sell 400 shares of Acme'); \
+    INSERT INTO CASH_TRANSACTION VALUES (5, 1709251200025, -343800, 'Market-Buy 300 shares of Acme'); \
+    INSERT INTO CASH_TRANSACTION VALUES (6, 1709251200027, 53950, 'Market-Sell 50 shares of Acme')";
+
+/// Makes a desk of the second schema.
+pub const SECOND: &str = "UPDATE DESK SET D_SCHEMA = 2; DROP TABLE SETTLE_RULE";
 
 // Two purchases of which the second completes first.
 const CROSSED_ROWS: [&str; 4] = [
@@ -89,20 +99,26 @@ fn older_desks_are_moved(rt: HostRuntime) -> Result<(), Fail> {
     let alloc = rt.alloc();
     let nothing = Step::Done(b"batch,M\nend,0\n", "end,0,0,0\n");
     let deposit = Step::Done(DEPOSIT, "1,ok,1709251200022,4,8403.41\nend,1,0,0\n");
-    expect_moved(alloc, traded(alloc)?, FIRST)?;
+    expect_moved(alloc, booked(alloc, &ROWS, &LINES, nothing)?, ALL_FIRST)?;
     let conn = booked(alloc, &CROSSED_ROWS, &CROSSED_LINES, nothing)?;
     expect_moved(alloc, conn, CROSSED_FIRST)?;
     let conn = booked(alloc, &ROWS[..6], &LINES[..6], deposit)?;
     expect_moved(alloc, conn, SECOND)
 }
 
-// What is told of an older desk after a change.
-const DAMAGES: [(&str, &str, Option<Condition>); 10] = [
+// Changes of an older desk, each with the condition that then fails, or none.
+const DAMAGES: [(&str, &str, Option<Condition>); 23] = [
     (FIRST, "UPDATE DESK SET D_ID = 1", None),
+    (FIRST, "UPDATE DESK SET D_ID = 2", Some(Condition::Schema)),
     (
         FIRST,
-        "UPDATE CASH_TRANSACTION SET CT_AMT = 1 WHERE CT_T_ID = 1",
-        Some(Condition::Cash),
+        "CREATE TABLE SETTLE_RULE (A TEXT)",
+        Some(Condition::Schema),
+    ),
+    (
+        FIRST,
+        "CREATE TABLE CASH_MOVE (A TEXT)",
+        Some(Condition::Schema),
     ),
     (
         FIRST,
@@ -111,13 +127,49 @@ const DAMAGES: [(&str, &str, Option<Condition>); 10] = [
     ),
     (
         FIRST,
-        "CREATE TABLE SETTLE_RULE (A TEXT)",
-        Some(Condition::Schema),
+        "UPDATE COMMISSION_RATE SET CR_TO_QTY = 1000000 WHERE CR_TT_ID = 'TLB'",
+        Some(Condition::Form),
     ),
     (
         FIRST,
-        "UPDATE COMMISSION_RATE SET CR_TO_QTY = 1000000 WHERE CR_TT_ID = 'TLB'",
+        "UPDATE HOLDING_SUMMARY SET HS_QTY = 1000000000",
         Some(Condition::Form),
+    ),
+    (
+        FIRST,
+        "UPDATE HOLDING_SUMMARY SET HS_QTY = 999999999",
+        Some(Condition::Summary),
+    ),
+    (
+        FIRST,
+        "UPDATE CASH_TRANSACTION SET CT_AMT = 1 WHERE CT_T_ID = 1",
+        Some(Condition::Cash),
+    ),
+    (
+        FIRST,
+        "UPDATE CASH_TRANSACTION SET CT_DTS = CT_DTS - 1 WHERE CT_T_ID = 3",
+        Some(Condition::Cash),
+    ),
+    (
+        FIRST,
+        "DELETE FROM CASH_TRANSACTION WHERE CT_T_ID = 3",
+        Some(Condition::Cash),
+    ),
+    (
+        FIRST,
+        "UPDATE CUSTOMER_ACCOUNT SET CA_BAL = 840341",
+        Some(Condition::Balance),
+    ),
+    (
+        SECOND,
+        "CREATE TABLE Settle_Rule (A TEXT)",
+        Some(Condition::Schema),
+    ),
+    (SECOND, "DROP TABLE CASH_MOVE", Some(Condition::Schema)),
+    (
+        SECOND,
+        "UPDATE COMMISSION_RATE SET CR_TO_QTY = 999999 WHERE CR_TT_ID = 'TLB'",
+        None,
     ),
     (
         SECOND,
@@ -131,14 +183,33 @@ const DAMAGES: [(&str, &str, Option<Condition>); 10] = [
     ),
     (
         SECOND,
-        "CREATE TABLE Settle_Rule (A TEXT)",
-        Some(Condition::Schema),
+        "UPDATE TRADE SET T_QTY = 1000000 WHERE T_ID = 1",
+        Some(Condition::Form),
     ),
-    (SECOND, "DROP TABLE CASH_MOVE", Some(Condition::Schema)),
+    (
+        SECOND,
+        "INSERT INTO CASH_MOVE VALUES (4, 100, NULL, 1709251200020, 0, 'Deposit')",
+        Some(Condition::Form),
+    ),
+    (
+        SECOND,
+        "INSERT INTO CASH_MOVE VALUES (4, 100, NULL, 1709251200021, 1, 'Deposit')",
+        Some(Condition::Status),
+    ),
+    (
+        SECOND,
+        "UPDATE CASH_MOVE SET CM_AMT = 1 WHERE CM_ID = 1",
+        Some(Condition::Cash),
+    ),
     (
         SECOND,
         "INSERT INTO CASH_TRANSACTION VALUES (1, 1709251200017, -102510, 'Market-Buy 100 shares of Acme')",
         Some(Condition::Cash),
+    ),
+    (
+        SECOND,
+        "UPDATE CUSTOMER_ACCOUNT SET CA_BAL = 840341",
+        Some(Condition::Balance),
     ),
 ];
 
@@ -147,25 +218,29 @@ fn schema_of(conn: &mut Connection<MemStore>) -> Result<i64, Fail> {
     Ok(conn.query_row("SELECT D_SCHEMA FROM DESK", &[])?.get(0)?)
 }
 
+// Adopts an older desk after a change. Returns the fault, and whether the schema is the third after an adoption and unchanged after a fault.
+fn adopted(alloc: Global, older: &str, change: &str) -> Result<(Option<Fault>, bool), Fail> {
+    let mut conn = traded(alloc)?;
+    conn.execute_batch(older)?;
+    conn.execute_batch(change)?;
+    let before = schema_of(&mut conn)?;
+    let (mut conn, fault) = match Store::adopt(alloc, conn) {
+        Ok(store) => (store.into_conn(), None),
+        Err((conn, fault)) => (conn, Some(fault)),
+    };
+    let after = schema_of(&mut conn)?;
+    let wanted = if fault.is_none() { 3 } else { before };
+    Ok((fault, after == wanted))
+}
+
 #[test]
 fn older_desks_are_audited_by_their_own_conditions(rt: HostRuntime) -> Result<(), Fail> {
-    let alloc = rt.alloc();
     for (older, change, condition) in DAMAGES {
-        let mut conn = traded(alloc)?;
-        conn.execute_batch(older)?;
-        conn.execute_batch(change)?;
-        let before = schema_of(&mut conn)?;
-        match Store::adopt(alloc, conn) {
-            Ok(_) => assert!(rt; condition.is_none(), "{older} and {change}"),
-            Err((mut conn, fault)) => {
-                assert!(rt;
-                    Some(fault) == condition.map(Fault::Damaged),
-                    "{older} and {change}"
-                );
-                let after = schema_of(&mut conn)?;
-                assert!(rt; after == before, "{older} and {change}: moved in part");
-            }
-        }
+        let (fault, is_whole) = adopted(rt.alloc(), older, change)?;
+        assert!(rt;
+            is_whole && fault == condition.map(Fault::Damaged),
+            "{older} and {change}"
+        );
     }
     Ok(())
 }

@@ -5,8 +5,9 @@ use brk_money::Condition;
 use std::test::Fail;
 
 // The tables, their columns and the row of DESK.
-const SCHEMAS: [(&str, Option<Condition>); 18] = [
+const SCHEMAS: [(&str, Option<Condition>); 19] = [
     ("DELETE FROM DESK", Some(Condition::Schema)),
+    ("UPDATE DESK SET D_ID = 2", Some(Condition::Schema)),
     (
         "INSERT INTO DESK VALUES (2, 3, NULL)",
         Some(Condition::Schema),
@@ -283,7 +284,16 @@ const DERIVED: [(&str, Option<Condition>); 24] = [
 ];
 
 // Cash rows without a trade, and the first day whose completions settle after one day.
-const LATER: [(&str, Option<Condition>); 18] = [
+const LATER: [(&str, Option<Condition>); 20] = [
+    // A table without its rule that a trade has one row: one row of a trade, and two.
+    (
+        "DROP TABLE CASH_MOVE; CREATE TABLE CASH_MOVE (CM_ID INTEGER PRIMARY KEY NOT NULL, CM_CA_ID INTEGER NOT NULL, CM_T_ID INTEGER, CM_DTS INTEGER NOT NULL, CM_AMT INTEGER NOT NULL, CM_NAME TEXT NOT NULL) STRICT; INSERT INTO CASH_MOVE VALUES (1, 100, 1, 1709251200017, -102510, 'Market-Buy 100 shares of Acme')",
+        None,
+    ),
+    (
+        "DROP TABLE CASH_MOVE; CREATE TABLE CASH_MOVE (CM_ID INTEGER PRIMARY KEY NOT NULL, CM_CA_ID INTEGER NOT NULL, CM_T_ID INTEGER, CM_DTS INTEGER NOT NULL, CM_AMT INTEGER NOT NULL, CM_NAME TEXT NOT NULL) STRICT; INSERT INTO CASH_MOVE VALUES (1, 100, 1, 1709251200017, -102510, 'Market-Buy 100 shares of Acme'); INSERT INTO CASH_MOVE VALUES (2, 100, 1, 1709251200017, -102510, 'Market-Buy 100 shares of Acme')",
+        Some(Condition::Form),
+    ),
     (
         "INSERT INTO CASH_MOVE VALUES (2, 100, NULL, 1709251200018, 1, 'Deposit'); UPDATE CUSTOMER_ACCOUNT SET CA_BAL = 897491",
         None,

@@ -197,17 +197,44 @@ pub fn run(
     Ok((left, is_log || is_db))
 }
 
-/// What these files hold after another program changed the desk in them.
-pub fn changed(alloc: Global, held: &Held, change: &str) -> Result<Held, Fail> {
+// Changes the tables of a database, and stores whether that succeeds.
+fn change<S: Alter + Drop>(
+    mut conn: Connection<S>,
+    text: &str,
+    is_done: &mut bool,
+) -> Connection<S> {
+    *is_done = conn.execute_batch(text).is_ok();
+    conn
+}
+
+// Opens these files, changes the tables in them, and closes them.
+fn change_in(
+    alloc: Global,
+    files: Files<Fuse<Memory>>,
+    text: &str,
+    is_done: &mut bool,
+) -> Files<Fuse<Memory>> {
+    if !files.log.may_be_used() || !files.db.may_be_used() {
+        return files;
+    }
+    match Connection::open_files(alloc, files, Options::new(1)) {
+        Ok(conn) => match change(conn, text, is_done).close_files() {
+            Ok(files) => files,
+            Err((_, store)) => store.close(),
+        },
+        Err((_, left)) => left.into_files(),
+    }
+}
+
+/// The bytes of these files after another program changes the desk in them.
+pub fn changed(alloc: Global, held: &Held, text: &str) -> Result<Held, Fail> {
+    let mut is_done = false;
     let log = file_of(alloc, &held.log, u64::MAX)?;
     let db = file_of(alloc, &held.db, u64::MAX)?;
-    let Ok(mut conn) = Connection::open_files(alloc, Files { log, db }, Options::new(1)) else {
-        return Err("files that cannot be opened")?;
-    };
-    conn.execute_batch(change)?;
-    let Ok(Files { mut log, mut db }) = conn.close_files() else {
-        return Err("files that cannot be closed")?;
-    };
+    let Files { mut log, mut db } = change_in(alloc, Files { log, db }, text, &mut is_done);
+    if !is_done {
+        return Err("a change that fails")?;
+    }
     let mut left = Held::nothing(alloc);
     come_back(&mut log, false, &mut left.log)?;
     come_back(&mut db, false, &mut left.db)?;

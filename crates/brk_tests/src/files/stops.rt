@@ -1,10 +1,10 @@
 //! A store that is stopped at each of its calls, of the log and then of the database file, while its tables are made, while
-//! it books a batch, and while a desk of the first schema is moved to the third.
+//! it books a batch, and while a desk of the first or of the second schema is moved to the third.
 
 use crate::cuts::batch::{ROWS, all_lines};
 use crate::desks::set_desk;
 use crate::files::machine::{File, Held, Seen, Stop, book, changed, run};
-use crate::older::FIRST;
+use crate::older::{FIRST, SECOND};
 use crate::worked;
 use crate::worked::{SET, SET_LINES, batch_of};
 use std::alloc::Global;
@@ -205,15 +205,15 @@ fn a_store_may_be_stopped_while_it_books(rt: HostRuntime) -> Result<(), Fail> {
     Ok(())
 }
 
-// The files of a desk of the first schema that traded, and its tables once they are moved.
-fn older(alloc: Global) -> Result<(Held, String), Fail> {
+// The files of an older desk that traded, and its tables once they are moved.
+fn older(alloc: Global, change: &str) -> Result<(Held, String), Fail> {
     let mut seen = Seen::nothing(alloc);
     let batch = batch_of(alloc, &worked::ROWS[..6])?;
     let nothing = Held::nothing(alloc);
     let (set, _) = run(alloc, &nothing, Stop::NEVER, SET, &mut seen)?;
     let mut seen = Seen::nothing(alloc);
     let (traded, _) = run(alloc, &set, Stop::NEVER, batch.as_bytes(), &mut seen)?;
-    let held = changed(alloc, &traded, FIRST)?;
+    let held = changed(alloc, &traded, change)?;
     let Seen { after, .. } = seen;
     if after.is_empty() {
         return Err("tables that could not be read")?;
@@ -221,12 +221,14 @@ fn older(alloc: Global) -> Result<(Held, String), Fail> {
     Ok((held, after))
 }
 
-// Opens an older desk until a stop, and then again. It was moved as a whole or not at all. Tells whether there was a stop.
+// Opens an older desk until a stop, and then again. The move is atomic, and no batch is answered before its commit. Returns whether there was a stop.
 fn stops_moving(alloc: Global, stop: Stop, start: &Held, tables: &str) -> Result<bool, Fail> {
+    let mut first = Seen::nothing(alloc);
     let mut seen = Seen::nothing(alloc);
-    let (held, was_stopped) = run(alloc, start, stop, NO_ROWS, &mut Seen::nothing(alloc))?;
+    let (held, was_stopped) = run(alloc, start, stop, NO_ROWS, &mut first)?;
     run(alloc, &held, Stop::NEVER, NO_ROWS, &mut seen)?;
-    let is_whole = seen.before.is_empty() || seen.before.as_str() == tables;
+    let is_older = seen.before.is_empty() && first.lines.is_empty();
+    let is_whole = is_older || seen.before.as_str() == tables;
     holds(is_whole, stop, "it is moved in part")?;
     holds(
         is_done(&seen, "end,0,0,0\n", tables),
@@ -236,19 +238,34 @@ fn stops_moving(alloc: Global, stop: Stop, start: &Held, tables: &str) -> Result
     Ok(was_stopped)
 }
 
-#[test]
-fn a_store_may_be_stopped_while_it_is_moved(rt: HostRuntime) -> Result<(), Fail> {
-    let (start, tables) = older(rt.alloc())?;
+// Stops the move of an older desk at each call of each file. Returns whether a run without a stop came for each.
+fn stops_each_move(alloc: Global, change: &str) -> Result<bool, Fail> {
+    let (start, tables) = older(alloc, change)?;
+    let mut is_always = false;
     for stop in STOPS {
         let mut was_stopped = true;
         for calls in 0..MOST_CALLS {
             let stop = Stop { calls, ..stop };
-            was_stopped = stops_moving(rt.alloc(), stop, &start, tables.as_str())?;
+            was_stopped = stops_moving(alloc, stop, &start, tables.as_str())?;
             if !was_stopped {
                 break;
             }
         }
-        assert!(rt; !was_stopped, "always stopped");
+        is_always = is_always || was_stopped;
     }
+    Ok(!is_always)
+}
+
+#[test]
+fn a_store_may_be_stopped_while_its_first_schema_is_moved(rt: HostRuntime) -> Result<(), Fail> {
+    let is_ended = stops_each_move(rt.alloc(), FIRST)?;
+    assert!(rt; is_ended, "always stopped");
+    Ok(())
+}
+
+#[test]
+fn a_store_may_be_stopped_while_its_second_schema_is_moved(rt: HostRuntime) -> Result<(), Fail> {
+    let is_ended = stops_each_move(rt.alloc(), SECOND)?;
+    assert!(rt; is_ended, "always stopped");
     Ok(())
 }
