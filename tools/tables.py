@@ -953,6 +953,242 @@ pub {d[0]}_shown : (old new : State) (rows : List Row) → Shown {n}.statement [
 """
     save('crates/brk_tables_whole/proofs/Shown.antt', out)
 
+# The tables in groups of four, as they are read and decoded; the last group is of the tables that later schemas add. Of each the
+# word its types begin with, its field, and its variable in proofs.
+GROUPS = [('First', 'first', 'f'), ('Account', 'accounts', 'a'), ('Rate', 'rates', 'r'), ('Trade', 'trades', 't'), ('Last', 'last', 'l'), ('Later', 'later', 'n')]
+
+# the types of rows whose name in code is another
+RUST = {'SecurityRow': 'Security', 'LastTradeRow': 'LastTrade', 'TaxRate': 'Tax', 'HoldingHistoryRow': 'LotChange'}
+
+# the tables of at most one row, which the sheets hold as a value: its type, how code decodes it, its rows, and whether they have their form
+VALUES = {
+    'desk_row': ('Option<Stamp>', 'stamp_in_rows(schema, &raw.desk)', 'desk_rows schema sheets.last', 'is_desk_row desk raw.desk.items'),
+    'rule': ('Option<Day>', 'day_in_rows(&raw.rule)', 'rule_rows sheets.rule', 'is_rule raw.rule.items'),
+}
+
+WHICHES = ', '.join(d[2] for d in DATA)
+CELLS = ', '.join(d[0] + '_cells' for d in DATA)
+SAME_REFERENCE = 'ensures same_reference { tx.new.conn.ghost_name ≡ tx.old.conn.ghost_name }'
+STORE_FAULT = 'ensures fault { OnErr result (result ≡ Err Store) }'
+
+def groups():
+    """Each group with its tables"""
+    return [(*group, DATA[4 * n:4 * n + 4]) for n, group in enumerate(GROUPS)]
+
+def raw_field(d):
+    """The field that holds the rows of a table as the database shows them"""
+    return 'desk' if d[0] == 'desk_row' else sheet_field(d)
+
+def sheet_field(d):
+    """The field of the sheets that holds the rows of a table, or the value in its row"""
+    return re.search(r't\.(\w+)$', d[5])[1]
+
+def record_type(d):
+    """The type of a table's rows in code"""
+    return RUST.get(d[3], d[3])
+
+def record_meaning(d):
+    """What a row in code is in the model"""
+    return re.sub(r'(?<!^)([A-Z])', r'_\1', record_type(d)).lower() + '_of'
+
+def records_of(crate):
+    """The tables whose type of rows is in brk_ref, which are those before the trades, or in brk_changes"""
+    trades = [d[0] for d in DATA].index('trade')
+    tables = DATA[:trades] if crate == 'brk_ref' else DATA[trades:]
+    return [d for d in tables if d[0] not in VALUES]
+
+def all_of(words):
+    """The words in a row, the last after 'and'"""
+    return f'{", ".join(words[:-1])} and {words[-1]}'
+
+def rows_name(d):
+    """The function that reads a whole table, in every schema"""
+    return 'desk_rows' if d[0] == 'desk_row' else f'{d[0]}_rows'
+
+def read_whole(d):
+    """The function that reads one whole table"""
+    columns, keys = ', '.join(c[0] for c in d[7]), ', '.join(key_columns(d))
+    head = 'fn' if d[0] in LATER else f'/// All rows of {d[1]}.\npub fn'
+    return f"""
+{head} {rows_name(d)}<S: Alter>(tx: &mut Transaction<'_, S>) -> Result<Vec<Row>, Fault>
+    {SAME_REFERENCE}
+    ensures step {{ ReadsWhole S.Store tx.old tx.new result {d[2]} }}
+    {STORE_FAULT}
+{{
+    select(
+        tx,
+        "SELECT {columns} FROM {d[1]} ORDER BY {keys}",
+        &[],
+    )
+}}
+"""
+
+def read_later_table(d):
+    """The function that reads a table which not every schema has"""
+    return f"""
+/// All rows of {d[1]}, in a schema that has it, and else none.
+pub fn {rows_name(d)}_in<S: Alter>(
+    tx: &mut Transaction<'_, S>,
+    alloc: Global,
+    schema: Schema,
+) -> Result<Vec<Row>, Fault>
+    {SAME_REFERENCE}
+    ensures step {{ ReadsIf S.Store tx.old tx.new result (schema_of schema) {d[2]} }}
+    {STORE_FAULT}
+{{
+    if !schema.{LATER[d[0]]}() {{
+        return Ok(Vec::new(alloc));
+    }}
+    {rows_name(d)}(tx)
+}}
+"""
+
+def rows_code():
+    """The reads of whole tables in code"""
+    out = f"""//! All rows of each table, by rising key, as the database shows them.
+
+ghost use Rattle.std.specs.Prelude.{{◌≡◌, Err, OnErr}};
+ghost use Rattle.brk_money.specs.declared.fault.Fault.TheVariants.{{Store}};
+ghost use Rattle.brk_tables_form.specs.Desk.{{{WHICHES}}};
+ghost use Rattle.brk_changes.specs.Schemas.{{schema_of}};
+ghost use Rattle.brk_tables_whole.specs.Whole.{{ReadsIf, ReadsWhole}};
+
+use brk_changes::Schema;
+use brk_money::Fault;
+use brk_tables_form::calls::select;
+use sqlite::{{Alter, Row, Transaction}};
+use std::alloc::Global;
+"""
+    out += ''.join(read_whole(d) for d in DATA) + ''.join(read_later_table(d) for d in DATA if d[0] in LATER)
+    save('crates/brk_tables_whole/src/rows.rt', out)
+
+def raw_struct(word, tables):
+    """The rows of a group's tables"""
+    fields = ''.join(f'    pub {raw_field(d)}: Vec<Row>,\n' for d in tables)
+    return f"""
+/// The rows of {all_of([d[1] for d in tables])}.
+#[derive(Drop)]
+pub struct {word}Rows {{
+{fields}}}
+"""
+
+def read_group(word, field, tables):
+    """The function that reads a group"""
+    later = word == 'Later'
+    takes = "(\n    tx: &mut Transaction<'_, S>,\n    alloc: Global,\n    schema: Schema,\n)" if later else "(tx: &mut Transaction<'_, S>)"
+    shows = 'ShowsLater (schema_of schema)' if later else f'Shows{word}'
+    call = lambda d: f'{rows_name(d)}_in(tx, alloc, schema)?' if later else f'{rows_name(d)}(tx)?'
+    fields = ''.join(f'        {raw_field(d)}: {call(d)},\n' for d in tables)
+    return f"""
+fn read_{field}<S: Alter>{takes} -> Result<{word}Rows, Fault>
+    {SAME_REFERENCE}
+    ensures step {{ Steps S.Store tx.old tx.new result (λ raw. {shows} raw) }}
+    {STORE_FAULT}
+{{
+    Ok({word}Rows {{
+{fields}    }})
+}}
+"""
+
+def raw_code():
+    """The reads of the groups in code"""
+    reads = sorted(f'{rows_name(d)}_in' if d[0] in LATER else rows_name(d) for d in DATA)
+    out = f"""//! The rows of all tables as the database shows them, read before any of them is looked at.
+
+ghost use Rattle.std.specs.Prelude.{{◌≡◌, Err, OnErr}};
+ghost use Rattle.brk_money.specs.declared.fault.Fault.TheVariants.{{Store}};
+ghost use Rattle.brk_rows.specs.Model.{{Steps}};
+ghost use Rattle.brk_tables_whole.specs.Raw.{{{', '.join(f'Shows{group[0]}' for group in GROUPS)}, ShowsDesk}};
+ghost use Rattle.brk_changes.specs.Schemas.{{schema_of}};
+
+use crate::rows::{{{', '.join(reads)}}};
+use brk_changes::Schema;
+use brk_money::Fault;
+use sqlite::{{Alter, Row, Transaction}};
+use std::alloc::Global;
+"""
+    out += ''.join(raw_struct(word, tables) for word, _, _, tables in groups())
+    out += f"""
+/// The rows of all tables.
+#[derive(Drop)]
+pub struct RawSheets {{
+{''.join(f'    pub {field}: {word}Rows,{chr(10)}' for word, field, _ in GROUPS)}}}
+"""
+    out += ''.join(read_group(word, field, tables) for word, field, _, tables in groups())
+    call = lambda word: '(tx, alloc, schema)?' if word == 'Later' else '(tx)?'
+    out += f"""
+/// Reads all tables of a schema.
+pub fn read_raw<S: Alter>(
+    tx: &mut Transaction<'_, S>,
+    alloc: Global,
+    schema: Schema,
+) -> Result<RawSheets, Fault>
+    {SAME_REFERENCE}
+    ensures step {{ Steps S.Store tx.old tx.new result (λ raw. ShowsDesk (schema_of schema) raw) }}
+    {STORE_FAULT}
+{{
+    Ok(RawSheets {{
+{''.join(f'        {field}: read_{field}{call(word)},{chr(10)}' for word, field, _ in GROUPS)}    }})
+}}
+"""
+    save('crates/brk_tables_whole/src/raw.rt', out)
+
+def decode_group(word, field, tables):
+    """The rows of a group in types, and the function that decodes them"""
+    first = word == 'First'
+    schema, of_schema = ('schema: Schema, ', ' (schema_of schema)') if first else ('', '')
+    types = ''.join(f'    {sheet_field(d)}: {VALUES[d[0]][0] if d[0] in VALUES else f"Vec<{record_type(d)}>"},\n' for d in tables)
+    decoded = lambda d: VALUES[d[0]][1] if d[0] in VALUES else f'all_records(alloc, &raw.{raw_field(d)})'
+    fields = ''.join(f'        {sheet_field(d)}: {decoded(d)}?,\n' for d in tables)
+    return f"""
+#[derive(Drop)]
+pub struct {word}Sheets {{
+{types}}}
+
+#[tactic(auto, using(crate::proofs::Formless::first_fails, crate::proofs::Formless::last_fails))]
+fn decode_{field}(alloc: Global, {schema}raw: &{word}Rows) -> Result<{word}Sheets, Misread>
+    ensures value {{ IfOk result (λ sheets. Is{word}{of_schema} sheets raw.now) }}
+    ensures form {{ result ≡ Err Formless → formed_{field}{of_schema} raw.now ≡ false }}
+{{
+    Ok({word}Sheets {{
+{fields}    }})
+}}
+"""
+
+def decoding_code():
+    """The decoding of all rows in code"""
+    types = lambda crate, *more: ', '.join(sorted([record_type(d) for d in records_of(crate)] + list(more)))
+    out = f"""//! The rows of all tables in types.
+
+ghost use Rattle.std.specs.Prelude.{{◌≡◌, Err, IfOk, false}};
+ghost use Rattle.brk_tables_form.specs.declared.misread.Misread.TheVariants.{{Form as Formless}};
+ghost use Rattle.brk_tables_whole.specs.Decoded.{{AreSheets, {', '.join(f'Is{group[0]}' for group in GROUPS)}, formed, {', '.join(f'formed_{group[1]}' for group in GROUPS)}}};
+ghost use Rattle.brk_changes.specs.Schemas.{{schema_of}};
+
+use crate::raw::{{{', '.join(sorted([f'{group[0]}Rows' for group in GROUPS] + ['RawSheets']))}}};
+use brk_changes::{{{types('brk_changes', 'Schema', 'Sheets')}}};
+use brk_money::{{Day, Stamp}};
+use brk_ref::{{{types('brk_ref')}}};
+use brk_tables_form::Misread;
+use brk_tables_form::desk_row::stamp_in_rows;
+use brk_tables_form::record::all_records;
+use brk_tables_form::rule_row::day_in_rows;
+use std::alloc::Global;
+"""
+    out += ''.join(decode_group(word, field, tables) for word, field, _, tables in groups())
+    schema = lambda word: 'schema, ' if word == 'First' else ''
+    out += f"""
+/// All rows in types, where each column has its form.
+pub fn decode(alloc: Global, schema: Schema, raw: &RawSheets) -> Result<Sheets, Misread>
+    ensures value {{ IfOk result (λ sheets. AreSheets (schema_of schema) sheets raw.now) }}
+    ensures form {{ result ≡ Err Formless → formed (schema_of schema) raw.now ≡ false }}
+{{
+{''.join(f'    let {field} = decode_{field}(alloc, {schema(word)}&raw.{field})?;{chr(10)}' for word, field, _ in GROUPS)}    Ok(Sheets {{
+{''.join(f'        {sheet_field(d)}: {field}.{sheet_field(d)},{chr(10)}' for _, field, _, tables in groups() for d in tables)}    }})
+}}
+"""
+    save('crates/brk_tables_whole/src/decoding.rt', out)
+
 def lay_out():
     """Lays out the crates that were written to, and gives each file that came out as it was its time again"""
     for crate in STATEMENTS:
@@ -977,6 +1213,9 @@ if __name__ == '__main__':
     column_names()
     listed()
     whole()
+    rows_code()
+    raw_code()
+    decoding_code()
     all_texts = [create_text(table) for table in DATA]
     for crate, statements in STATEMENTS.items():
         all_texts += [write_one(crate, *parts) for write_one, *parts in statements]
