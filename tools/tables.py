@@ -1189,9 +1189,175 @@ pub fn decode(alloc: Global, schema: Schema, raw: &RawSheets) -> Result<Sheets, 
 """
     save('crates/brk_tables_whole/src/decoding.rt', out)
 
+def declared(module, suffix):
+    """The imports of the types of a group"""
+    return '\n'.join(f'use Rattle.brk_tables_whole.specs.declared.{module}.{word}{suffix}.{{{word}{suffix}}}' for word, _, _ in GROUPS)
+
+def meanings():
+    """The imports of what rows in code are in the model"""
+    names = lambda crate: ', '.join(record_meaning(d) for d in records_of(crate))
+    return f"""use Rattle.brk_ref.specs.Records.{{{names('brk_ref')}}}
+use Rattle.brk_changes.specs.Rows.{{{names('brk_changes')}}}"""
+
+def raw_spec():
+    """What the reads of all tables show"""
+    out = f"""-- What the reads of all tables show.
+use Rattle.std.specs.Prelude.{{◌≡◌, List, IsTrue}}
+use Rattle.sqlite_value.specs.Order.{{Row}}
+use Rattle.sqlite.specs.State.{{State}}
+use Rattle.brk_tables_form.specs.Desk.{{Which, {WHICHES}}}
+use Rattle.brk_model.specs.Schemas.{{Schema}}
+use Rattle.brk_tables_whole.specs.Whole.{{ShowsAll, ShowsIf}}
+{declared('raw', 'Rows')}
+use Rattle.brk_tables_whole.specs.declared.raw.RawSheets.{{RawSheets}}
+
+-- nothing changed, and the database is open
+abbrev pub Stays : State → State → Type 0
+Stays old new = IsTrue old.is_open × (new.now ≡ old.now)
+
+-- the rows of four tables
+pub record ShowsFour (first second third fourth : Which) (a b c d : List Row) (old new : State) : Type 0 where
+  pub stays : Stays old new
+  pub one : ShowsAll first a old.now
+  pub two : ShowsAll second b old.now
+  pub three : ShowsAll third c old.now
+  pub four : ShowsAll fourth d old.now
+"""
+    for word, _, _, tables in groups()[:-1]:
+        out += f"""
+abbrev pub Shows{word} : {word}Rows → State → State → Type 0
+Shows{word} raw = ShowsFour {' '.join(d[2] for d in tables)} {' '.join(f'raw.{raw_field(d)}.items' for d in tables)}
+"""
+    out += f"""
+-- the rows of the tables that later schemas add, where a schema has them
+pub record ShowsLater (desk : Schema) (raw : LaterRows) (old new : State) : Type 0 where
+  pub same : new.now ≡ old.now
+{chr(10).join(f'  pub {raw_field(d)} : ShowsIf desk {d[2]} raw.{raw_field(d)}.items old.now' for d in groups()[-1][3])}
+
+-- the rows of each table
+abbrev pub raw_rows : RawSheets → Which → List Row
+{chr(10).join(f'raw_rows raw {d[2]} = raw.{field}.{raw_field(d)}.items' for _, field, _, tables in groups() for d in tables)}
+
+-- each table of a schema is shown whole, none of another, and nothing changed
+abbrev pub ShowsDesk : Schema → RawSheets → State → State → Type 0
+ShowsDesk desk raw old new = Stays old new × ((w : Which) → ShowsIf desk w (raw_rows raw w) old.now)
+"""
+    save('crates/brk_tables_whole/specs/Raw.antt', out)
+
+def decoded_group(word, field, tables):
+    """That the sheets of a group are its rows in types, and whether these have their forms"""
+    first = word == 'First'
+    rows = lambda d: VALUES[d[0]][2] if d[0] in VALUES else f'sheets.{sheet_field(d)}.items'
+    shown = lambda d: f'{d[0]}_cells' if d[0] in VALUES else f'(λ r. {d[0]}_cells ({record_meaning(d)} r))'
+    of = lambda d: f'({rows(d)})' if d[0] in VALUES else rows(d)
+    form = lambda d: VALUES[d[0]][3] if d[0] in VALUES else f'list_all (all_formed {d[0]}_forms) raw.{raw_field(d)}.items'
+    fields = '\n'.join(f'  pub {raw_field(d)} : map {shown(d)} {of(d)} ≡ raw.{raw_field(d)}.items' for d in tables)
+    return f"""
+-- they are the rows of these tables in types
+pub record Is{word} {'(schema : Schema) ' if first else ''}(sheets : {word}Sheets) (raw : {word}Rows) : Type 0 where
+{fields}
+
+abbrev pub formed_{field} : {'Schema → ' if first else ''}{word}Rows → Bool
+formed_{field} {'desk ' if first else ''}raw = {' && '.join(form(d) for d in tables)}
+"""
+
+def decoded_spec():
+    """What the rows of all tables are in types"""
+    forms = ', '.join(VALUES[d[0]][3].split()[0] if d[0] in VALUES else f'{d[0]}_forms' for d in DATA)
+    out = f"""-- What the rows of all tables are in types, and whether they have their forms.
+use Rattle.std.specs.Prelude.{{◌≡◌, Bool, ◌&&◌, map}}
+use Rattle.std.specs.List.{{list_all}}
+use Rattle.brk_model.specs.Schemas.{{Schema}}
+{meanings()}
+use Rattle.brk_changes.specs.Sheets.{{tables_in_sheets}}
+use Rattle.brk_changes.specs.declared.sheets.Sheets.{{Sheets}}
+use Rattle.brk_tables_form.specs.Cells.{{{CELLS}}}
+use Rattle.brk_tables_form.specs.Desk.{{Which, desk_rows, rule_rows, encode, list_in}}
+use Rattle.brk_tables_form.specs.Formed.{{all_formed, {forms}}}
+use Rattle.brk_tables_whole.specs.Raw.{{raw_rows}}
+use Rattle.brk_tables_whole.specs.declared.raw.RawSheets.{{RawSheets}}
+{declared('raw', 'Rows')}
+{declared('decoding', 'Sheets')}
+"""
+    out += ''.join(decoded_group(word, field, tables) for word, field, _, tables in groups())
+    desk = lambda word: 'desk ' if word == 'First' else ''
+    out += f"""
+-- each column of each row has its form
+abbrev pub formed : Schema → RawSheets → Bool
+formed desk raw = {' && '.join(f'formed_{field} {desk(word)}raw.{field}' for word, field, _ in GROUPS)}
+
+-- the sheets are the rows of all tables in types
+abbrev pub AreSheets : Schema → Sheets → RawSheets → Type 0
+AreSheets desk sheets raw = (w : Which) → map (encode w) (list_in desk w (tables_in_sheets sheets)) ≡ raw_rows raw w
+"""
+    save('crates/brk_tables_whole/specs/Decoded.antt', out)
+
+def sheeted():
+    """That the rows in types are the sheets"""
+    cells = ', '.join(f'{d[0]}_cells' for d in DATA if d[0] not in VALUES)
+    desk = lambda word: 'desk ' if word == 'First' else ''
+    sheets = ' '.join(f'({v} : {word}Sheets)' for word, _, v in GROUPS)
+    are = ' '.join(f'(is_{v} : Is{word} {desk(word)}{v} raw.{field})' for word, field, v in GROUPS)
+    twice = lambda d, v: '' if d[0] in VALUES else f'map_twice {d[0]}_cells {record_meaning(d)} {v}.{sheet_field(d)}.items ∙ '
+    out = f"""-- The rows of all tables in types are the sheets.
+use Rattle.std.proofs.Common.{{◌∙◌}}
+use Rattle.brk_rows.proofs.Order.{{map_twice}}
+use Rattle.brk_model.specs.Schemas.{{Schema}}
+{meanings()}
+use Rattle.brk_changes.specs.declared.sheets.Sheets.{{Sheets}}
+use Rattle.brk_tables_form.specs.Cells.{{{cells}}}
+use Rattle.brk_tables_form.specs.Desk.{{{WHICHES}}}
+use Rattle.brk_tables_whole.specs.Decoded.{{AreSheets, {', '.join(f'Is{group[0]}' for group in GROUPS)}}}
+use Rattle.brk_tables_whole.specs.declared.raw.RawSheets.{{RawSheets}}
+{declared('decoding', 'Sheets')}
+
+module _ {sheets} (desk : Schema) (raw : RawSheets) {are} where
+  abbrev pub sheets : Sheets
+  sheets = record {{ {'; '.join(f'{sheet_field(d)} = {v}.{sheet_field(d)}' for _, _, v, tables in groups() for d in tables)} }}
+
+  pub are_sheets : AreSheets desk sheets raw
+{chr(10).join(f'  are_sheets {d[2]} = {twice(d, v)}is_{v}.{raw_field(d)}' for _, _, v, tables in groups() for d in tables)}
+"""
+    save('crates/brk_tables_whole/proofs/Sheeted.antt', out)
+
+def sheets_spec():
+    """What the sheets are in the model"""
+    rows = lambda d: f's.{sheet_field(d)}' if d[0] in VALUES else f'map {record_meaning(d)} s.{sheet_field(d)}.items'
+    out = f"""-- What the rows of a desk's tables are in the abstract brokerage.
+use Rattle.std.specs.Prelude.{{map}}
+use Rattle.brk_model.specs.Tables.{{Tables}}
+{meanings()}
+use Rattle.brk_changes.specs.declared.sheets.Sheets.{{Sheets}}
+
+-- the tables that the rows in types are
+abbrev pub tables_in_sheets : Sheets → Tables
+tables_in_sheets s = record {{
+{chr(10).join(f'  {sheet_field(d)} = {rows(d)};' for d in DATA)}
+}}
+"""
+    save('crates/brk_changes/specs/Sheets.antt', out)
+
+def sheets_code():
+    """The sheets in code"""
+    module = lambda d: record_meaning(d).removesuffix('_of')
+    uses = sorted(f'use crate::{module(d)}::{record_type(d)};' for d in records_of('brk_changes'))
+    told = {'desk_row': 'The stamp of the last accepted command.', 'rule': 'The first day whose completions settle after one day, where one is set.'}
+    kind = lambda d: VALUES[d[0]][0] if d[0] in VALUES else f'Vec<{record_type(d)}>'
+    fields = ''.join((f'    /// {told[d[0]]}\n' if d[0] in told else '') + f'    pub {sheet_field(d)}: {kind(d)},\n' for d in DATA)
+    text = f"""{chr(10).join(uses)}
+use brk_money::{{Day, Stamp}};
+use brk_ref::{{{', '.join(sorted(record_type(d) for d in records_of('brk_ref')))}}};
+
+/// The rows of a desk's tables, each list by rising key.
+#[derive(Drop)]
+pub struct Sheets {{
+{fields}}}
+"""
+    save('crates/brk_changes/src/sheets.rt', text)
+
 def lay_out():
     """Lays out the crates that were written to, and gives each file that came out as it was its time again"""
-    for crate in STATEMENTS:
+    for crate in ['brk_changes', *STATEMENTS]:
         done = subprocess.run(['rt', 'fmt'], cwd=f'crates/{crate}', stdout=subprocess.PIPE, stderr=subprocess.STDOUT, text=True)
         if done.returncode != 0:
             sys.exit(f'tools/tables.py: rt fmt in crates/{crate}:\n{done.stdout}')
@@ -1216,6 +1382,11 @@ if __name__ == '__main__':
     rows_code()
     raw_code()
     decoding_code()
+    raw_spec()
+    decoded_spec()
+    sheeted()
+    sheets_spec()
+    sheets_code()
     all_texts = [create_text(table) for table in DATA]
     for crate, statements in STATEMENTS.items():
         all_texts += [write_one(crate, *parts) for write_one, *parts in statements]
