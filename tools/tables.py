@@ -1,11 +1,10 @@
 #!/usr/bin/env python3
-"""Writes the parts of the crates brk_tables_form, brk_tables_making, brk_tables_reference, brk_tables_trading, brk_tables_views, brk_tables_walks and
-brk_tables_whole that follow from the list of tables and statements below: the shapes and cells of the tables (brk_tables_form), which text makes which table
-(brk_tables_making), the names of all columns (brk_tables_whole), and what each SQL text means over any schema (in the crate of the
-statement). Run it at the top of the repository after a change of the
-list; `.ci/run` does so first. It lays out what it wrote by `rt fmt`, so where nothing changed it leaves the tree as it was, and
-it prints nothing. With `--texts` it prints the SQL texts as well, for the Rust code. What it writes is checked like any other
-file."""
+"""Writes the files that follow from the list of tables and statements below: the shapes and cells of the tables (brk_tables_form), which
+text makes which table (brk_tables_making), the rows of a desk's tables in code (brk_changes), the names of all columns, the reads of
+whole tables and their decoding (brk_tables_whole), and what each SQL text means over any schema (in the crate of the statement). Run
+it at the top of the repository after a change of the list; `.ci/run` does so first. It lays out what it wrote by `rt fmt`, so where
+nothing changed it leaves the tree as it was, and it prints nothing. With `--texts` it prints the SQL texts as well, for the Rust code.
+What it writes is checked like any other file."""
 import os
 import re
 import subprocess
