@@ -972,6 +972,8 @@ STORE_FAULT = 'ensures fault { OnErr result (result ≡ Err Store) }'
 
 def groups():
     """Each group with its tables"""
+    if len(DATA) > 4 * len(GROUPS):
+        sys.exit('tools/tables.py: GROUPS lacks a group for the last tables')
     return [(*group, DATA[4 * n:4 * n + 4]) for n, group in enumerate(GROUPS)]
 
 def raw_field(d):
