@@ -3,7 +3,9 @@ ghost use Rattle.brk_money.specs.declared.move_id.TheConstants.MoveId;
 
 use std::marker::Model;
 
-/// The number of a cash row: its place among all of them, 1 to 2 x 10^12, since each is of a trade or of a movement (CM_ID).
+/// The number of a cash row (CM_ID), 1 to 2 x 10^12, both included: its position among the cash
+/// rows of all accounts. At most 10^12 of them belong to trades, and at most 10^12 are deposits or
+/// withdrawals.
 #[derive(Clone, Copy, Debug, PartialEq, Eq)]
 pub struct MoveId(u64);
 
@@ -21,7 +23,7 @@ impl MoveId {
     /// The greatest number.
     pub const GREATEST: u64 = 2_000_000_000_000;
 
-    /// The number, where it is within the limits.
+    /// Returns the number, or `None` if it is not within 1 to `GREATEST`.
     pub fn new(number: u64) -> Option<MoveId>
         ensures { SomeIff result ((1 ≤ number) × (number ≤ MoveId.GREATEST)) number }
     {

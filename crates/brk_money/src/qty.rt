@@ -3,7 +3,7 @@ ghost use Rattle.brk_money.specs.declared.qty.TheConstants.Qty;
 
 use std::marker::Model;
 
-/// A number of shares that a trade is for, 1 to 9,999,999.
+/// The quantity of an order, a band or a tick: 1 to 9,999,999 shares, both included.
 #[derive(Clone, Copy, Debug, PartialEq, Eq)]
 pub struct Qty(u32);
 

@@ -23,7 +23,7 @@ pub enum Limit {
     Trades,
     /// The accounts of a customer.
     Accounts,
-    /// The number of movements.
+    /// The number of deposits and withdrawals, at most `Id::GREATEST`.
     Moves,
 }
 
@@ -84,12 +84,12 @@ pub enum Refusal {
     Range(Limit),
     /// No later stamp is left, or a due day would fall after 9999-12-31.
     ClockEnd,
-    /// The day is not after that of the command's stamp.
+    /// The settlement day is not later than the day (UTC) of the command's stamp.
     TooEarly,
 }
 
 impl Refusal {
-    /// The number that is printed of the refusal, 1 to 22.
+    /// Returns the number that is printed for the refusal, 1 to 22.
     pub fn number(self) -> u8
         ensures { result ≡ refusal_number self }
     {
