@@ -3,7 +3,7 @@ ghost use Rattle.brk_ref.specs.declared.moved_amount.TheConstants.MovedAmount;
 
 use std::marker::Model;
 
-/// What a deposit or a withdrawal moves, in cents, 1 to 10^17.
+/// The amount of a deposit or a withdrawal in cents, 1 to 10^17, both included.
 #[derive(Clone, Copy, Debug, PartialEq, Eq)]
 pub struct MovedAmount(u64);
 
@@ -21,7 +21,7 @@ impl MovedAmount {
     /// The greatest amount, in cents.
     pub const GREATEST: u64 = 100_000_000_000_000_000;
 
-    /// The amount of so many cents, where it is within the limits.
+    /// Returns the amount of `cents` cents, or `None` if it is not within 1 to `GREATEST`.
     pub fn new(cents: u64) -> Option<MovedAmount>
         ensures { SomeIff result ((1 ≤ cents) × (cents ≤ MovedAmount.GREATEST)) cents }
     {

@@ -105,7 +105,8 @@ pub fn parse_charge_amount(bytes: &[u8]) -> Option<ChargeAmount>
     ChargeAmount::new(cents as u32)
 }
 
-/// The amount that the bytes spell, which is moved.
+/// Parses the amount of a deposit or a withdrawal. Returns `None` if the bytes are malformed, or if
+/// the amount is not within 1 to 10^17 cents.
 pub fn parse_moved_amount(bytes: &[u8]) -> Option<MovedAmount>
     ensures { ok_or result BadText ≡ read_amount bytes.now }
 {
