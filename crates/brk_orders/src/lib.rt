@@ -1,5 +1,5 @@
-//! Orders, ticks of the market, cancels, completions, corrections of words, movements of cash and the settlement day as they
-//! are asked for, and the tests that make them of fields.
+//! Orders, market ticks, cancels, completions, text updates, deposits and withdrawals, and the
+//! settlement day, each as it is requested, with the format checks that make them from fields.
 #![tactic(auto)]
 
 pub mod cancel;

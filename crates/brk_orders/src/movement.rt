@@ -5,16 +5,16 @@ ghost use Rattle.brk_ref.specs.Fields.{Reads, texts};
 use brk_money::{Id, Refusal};
 use brk_ref::{MovedAmount, parse_id, parse_moved_amount};
 
-/// Which way cash is moved.
+/// The direction of a movement of cash.
 #[derive(Clone, Copy, Debug, PartialEq, Eq)]
 pub enum Direction {
     /// Into the account.
     Deposit,
-    /// Out of it.
+    /// Out of the account.
     Withdrawal,
 }
 
-/// Cash that is to be moved into an account or out of it, without a trade.
+/// A deposit or a withdrawal: cash that moves into an account or out of it without a trade.
 #[derive(Clone, Copy)]
 pub struct Movement {
     pub direction: Direction,
@@ -22,7 +22,10 @@ pub struct Movement {
     pub amount: MovedAmount,
 }
 
-/// The movement in a direction that the fields ACCOUNT and AMOUNT are, or the refusal of their form. It takes no memory.
+/// Reads a deposit or a withdrawal from the fields ACCOUNT and AMOUNT.
+///
+/// Refuses with `BadText` if there are not exactly two fields, or if a field is malformed or not
+/// within its limits. Does not allocate.
 pub fn check_move(direction: Direction, fields: &[&[u8]]) -> Result<Movement, Refusal>
     ensures { Reads movement_of result (read_movement (moved_by direction) (texts fields.now)) }
 {

@@ -7,20 +7,23 @@ ghost use Rattle.brk_ref.specs.Fields.{Reads, texts};
 
 use brk_money::{Day, Refusal, parse_day};
 
-// The day of the calendar that the bytes spell.
+// Parses a day of the calendar.
 fn calendar_day(bytes: &[u8]) -> Option<Day>
     ensures { ok_or result BadText ≡ read_day bytes.now }
 {
     let Some(day) = parse_day(bytes) else {
         return None;
     };
-    // It reads what the limit says of the day.
+    // Proof-only: `get` states the limit of the day.
     let _limit = day.get();
     Some(day)
 }
 
-/// The first day whose completions are to settle after one day, which the field DAY is, or the refusal of its form. It
-/// takes no memory.
+/// Reads the settlement day, the first day whose completions settle after one day, from the field
+/// DAY.
+///
+/// Refuses with `BadText` if there is not exactly one field, or if it is not a day of the calendar.
+/// Does not allocate.
 pub fn check_oneday(fields: &[&[u8]]) -> Result<Day, Refusal>
     ensures { Reads (λ day. day) result (read_oneday (texts fields.now)) }
 {
