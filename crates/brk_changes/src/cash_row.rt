@@ -1,7 +1,7 @@
 use brk_money::{Cents, Id, Stamp};
 
-/// What a completed cash trade moved on its account, under a text that tells what was traded: a row of CASH_TRANSACTION, which has
-/// rows in the first schema alone.
+/// A row of CASH_TRANSACTION, which has rows in schema 1 only: the cash that a completed cash trade
+/// moved on its account, with a text that describes the trade.
 #[derive(Drop)]
 pub struct CashRow {
     pub trade: Id,

@@ -82,7 +82,7 @@ pub enum Change {
     },
     /// What a completed trade settles for.
     AddSettlement(SettlementRow),
-    /// What was posted to an account's cash.
+    /// A cash row of a cash trade, a deposit or a withdrawal (CASH_MOVE).
     AddMove(MoveRow),
     /// Another balance of an account.
     SetBalance {
@@ -105,12 +105,13 @@ pub enum Change {
         trade: Id,
         cash_type: CashType,
     },
-    /// Another text of what a trade moved (CM_NAME).
+    /// Another text of a trade's cash row (CM_NAME).
     SetCashName {
         trade: Id,
         name: String,
     },
-    /// The first day whose completions settle after one day, where none was set (SR_DAY).
+    /// The settlement day, if none was set: the first day whose completions settle after one day
+    /// (SR_DAY).
     SetRule(Day),
     /// An accepted row under its key.
     Keep(Kept),

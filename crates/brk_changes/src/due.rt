@@ -4,7 +4,8 @@ ghost use Rattle.brk_model.specs.Derived as derived;
 
 use brk_money::{Day, Stamp, day_of};
 
-/// How many days after a day its completions settle: one where a first such day is set and has come, else two.
+/// Returns the number of days after `day` on which a trade that is completed on `day` settles: one
+/// if a settlement day is set and is not later than `day`, otherwise two.
 pub fn settlement_days(rule: Option<Day>, day: Day) -> u16
     ensures { result ≡ derived.settlement_days rule day }
 {
@@ -14,7 +15,8 @@ pub fn settlement_days(rule: Option<Day>, day: Day) -> u16
     }
 }
 
-/// The day on which a completion at a stamp settles, where it is within the calendar.
+/// Returns the day on which a trade that is completed at `stamp` settles, or `None` if that day is
+/// later than 9999-12-31.
 pub fn due_after(rule: Option<Day>, stamp: Stamp) -> Option<Day>
     ensures { SomeIff result (derived.due_after rule stamp ≤ last_day) (derived.due_after rule stamp) }
 {

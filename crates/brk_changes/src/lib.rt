@@ -1,5 +1,5 @@
-//! The rows of trades and of what trades make of holdings, settlements and cash, the schemas that they stand in, and the changes
-//! of rows that a store makes in one transaction.
+//! Typed rows of trades, holdings, settlements and cash, the schemas of a database, and the row
+//! changes that a store applies in one transaction.
 #![tactic(auto)]
 
 pub mod broker_numbers;

@@ -1,10 +1,10 @@
 use brk_money::{Cents, Id, MoveId, Stamp};
 
-/// What was posted to an account's cash (a row of CASH_MOVE): by a completed cash trade, under a text that tells what was traded,
-/// or by a deposit or a withdrawal.
+/// A row of CASH_MOVE: cash that was posted to an account by a completed cash trade, with a text
+/// that describes the trade, or by a deposit or a withdrawal, which have no trade.
 #[derive(Drop)]
 pub struct MoveRow {
-    /// Its place among all of them, from 1.
+    /// Its position among the cash rows of all accounts, from 1 (CM_ID).
     pub id: MoveId,
     pub account: Id,
     pub trade: Option<Id>,

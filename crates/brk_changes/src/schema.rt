@@ -3,19 +3,21 @@ ghost use Rattle.brk_changes.specs.Schemas.{schema_of};
 
 use brk_money::Qty;
 
-/// The schemas of a database (D_SCHEMA): a desk keeps the third, and moves one of an older schema to it.
+/// A schema of a database (D_SCHEMA). A desk uses the third; a database of an older schema is
+/// upgraded to it.
 #[derive(Clone, Copy, PartialEq, Eq)]
 pub enum Schema {
-    /// Cash rows are of trades.
+    /// Each cash row belongs to a trade (CASH_TRANSACTION).
     First,
-    /// Cash rows are of trades or of movements.
+    /// Cash rows are numbered, and belong to a trade or are a deposit or a withdrawal (CASH_MOVE).
     Second,
-    /// A settlement day may stand, and quantities are larger.
+    /// In addition to the second: a settlement day can be set (SETTLE_RULE), and quantities are
+    /// larger.
     Third,
 }
 
 impl Schema {
-    /// Its number.
+    /// Returns the number of the schema, 1 to 3 (D_SCHEMA).
     pub fn number(self) -> u32
         ensures { result ≡ (schema_of self).number }
     {
@@ -26,7 +28,7 @@ impl Schema {
         }
     }
 
-    /// Whether cash rows are numbered and may have no trade.
+    /// Returns whether cash rows are numbered and may have no trade (CASH_MOVE).
     pub fn has_moves(self) -> bool
         ensures { result ≡ (schema_of self).has_moves }
     {
@@ -36,7 +38,7 @@ impl Schema {
         }
     }
 
-    /// Whether the settlement day stands.
+    /// Returns whether a settlement day can be set (SETTLE_RULE).
     pub fn has_rule(self) -> bool
         ensures { result ≡ (schema_of self).has_rule }
     {
@@ -46,7 +48,7 @@ impl Schema {
         }
     }
 
-    /// The greatest quantity.
+    /// Returns the greatest quantity of an order or a band, in shares.
     pub fn greatest_qty(self) -> u32
         ensures { result ≡ (schema_of self).greatest_qty }
     {
@@ -56,7 +58,7 @@ impl Schema {
         }
     }
 
-    /// The greatest number of shares of a security that an account holds, either way.
+    /// Returns the greatest number of shares of a security that an account holds, or is short of.
     pub fn greatest_summary(self) -> u64
         ensures { result ≡ (schema_of self).greatest_summary }
     {
