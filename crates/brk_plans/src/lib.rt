@@ -1,5 +1,6 @@
-//! What a plan is, a reply and the changes of rows that go with it, and the plans of commands that look at no lots: reference
-//! rows, ticks of the market, cancels, corrections of words, movements of cash, the settlement day.
+//! Plans, which are row changes and a reply, and the planning of commands that read no lots:
+//! reference rows, market ticks, cancels, text updates, deposits and withdrawals, the settlement
+//! day.
 #![tactic(auto)]
 
 pub mod cancel;

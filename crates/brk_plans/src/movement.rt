@@ -14,18 +14,19 @@ use brk_money::{Cents, Fault, Id, Limit, MoveId, Planned, Refusal, Stamp, stamp_
 use brk_orders::{Direction, Movement};
 use std::alloc::{AllocError, Global};
 
-/// What the tables hold that decides on a movement of cash.
+/// The facts in the tables that decide a deposit or a withdrawal.
 #[derive(Clone, Copy, PartialEq, Eq)]
 pub struct MoveFound {
-    /// The balance of the account, where it is there (CA_BAL).
+    /// The balance of the account in cents, or `None` if the account does not exist (CA_BAL).
     pub balance: Option<Cents>,
-    /// How many movements there are; where there are fewer than there may be, any number below that serves.
+    /// At least `Id::GREATEST` if there are that many deposits and withdrawals, otherwise any
+    /// number below it.
     pub movements: u64,
-    /// The number that the next cash row has (CM_ID).
+    /// The number of the next cash row (CM_ID).
     pub next: MoveId,
 }
 
-// What is moved, below 0 where it is taken out.
+// Returns the amount in cents, negative for a withdrawal.
 fn signed(movement: &Movement) -> Cents
     ensures { result ≡ spec.signed movement.now }
 {
@@ -37,7 +38,7 @@ fn signed(movement: &Movement) -> Cents
     Cents::new(cents).unwrap()
 }
 
-// The name of a movement (CM_NAME).
+// Returns the text of the cash row (CM_NAME).
 fn name_of(direction: Direction) -> &'static str
     ensures { result.now ≡ spec.name_of direction }
 {
@@ -47,7 +48,7 @@ fn name_of(direction: Direction) -> &'static str
     }
 }
 
-/// A balance after an amount is added, where it is within the limit.
+/// Returns the sum of `balance` and `amount`, or `None` if it is not within the limit of a balance.
 pub fn added(balance: Cents, amount: Cents) -> Option<Cents>
     ensures { MatchOption result
         (nat_lt greatest_amount (nat_abs (balance +ℤ amount)) ≡ true)
@@ -56,7 +57,7 @@ pub fn added(balance: Cents, amount: Cents) -> Option<Cents>
     Cents::new(balance.get() + amount.get())
 }
 
-// The balance of the account with the movement, or the first cause to refuse it.
+// Returns the balance after the movement, or the first refusal that applies.
 fn balance_after(movement: &Movement, found: &MoveFound) -> Result<Cents, Refusal>
     ensures { MatchResult result
         (λ balance. (first_refusal (move_tests movement.now found.now) ≡ None) × (balance ≡ spec.balance_after movement.now found.now))
@@ -74,7 +75,7 @@ fn balance_after(movement: &Movement, found: &MoveFound) -> Result<Cents, Refusa
     Ok(balance)
 }
 
-// The cash row of a movement.
+// Returns the cash row of a movement.
 fn move_row(
     alloc: Global,
     movement: &Movement,
@@ -93,7 +94,7 @@ fn move_row(
     })
 }
 
-// The changes of a movement: its row, the balance of the account, and the last stamp.
+// Returns the row changes of a movement: its row, the balance of the account, and the last stamp.
 fn changes_of(
     alloc: Global,
     account: Id,
@@ -111,7 +112,7 @@ fn changes_of(
     Ok(changes)
 }
 
-// What a movement comes to that is accepted, with this number and this balance after it.
+// Returns the plan of an accepted movement with this number and this balance after it.
 fn plan_of(
     alloc: Global,
     movement: &Movement,
@@ -134,10 +135,15 @@ fn plan_of(
     })
 }
 
-/// Plans a deposit or a withdrawal, by what was found in the tables and the stamp of the last accepted command. It is
-/// refused with the first of `NoAccount`, `Range(Balance)` and `Range(Moves)` (there are as many movements as there may be)
-/// that there is cause for, and with `ClockEnd` where no later stamp is left; else a cash row is added with the next number,
-/// the account's balance is moved, and the last stamp; the number and the balance are told.
+/// Plans a deposit or a withdrawal from the facts in the tables and the stamp of the last accepted
+/// command.
+///
+/// The plan adds a cash row with the number `found.next`, and sets the balance of the account and
+/// the last stamp. Its reply has the stamp, the number and the balance in cents.
+///
+/// Refuses with the first that applies of `NoAccount`; `Range(Balance)`; `Range(Moves)`, if there
+/// are `Id::GREATEST` deposits and withdrawals; and `ClockEnd`, if no later stamp is left. Fails
+/// with `Memory` only.
 pub fn plan_move(
     alloc: Global,
     movement: &Movement,

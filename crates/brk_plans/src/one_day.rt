@@ -10,7 +10,7 @@ use brk_changes::Change;
 use brk_money::{Day, Fault, Planned, Refusal, Stamp, day_of, stamp_after};
 use std::alloc::Global;
 
-// The changes of a settlement day that is set: its row, and the last stamp.
+// Returns the row changes that set the settlement day: its row, and the last stamp.
 fn changes_of(alloc: Global, day: Day, stamp: Stamp) -> Result<Vec<Change>, Fault>
     ensures changes { IfOk result (λ changes. changes.items ≡ change.SetRule day ∷ change.SetLast stamp ∷ []) }
     ensures fault { OnErr result (result ≡ Err Memory) }
@@ -21,10 +21,14 @@ fn changes_of(alloc: Global, day: Day, stamp: Stamp) -> Result<Vec<Change>, Faul
     Ok(changes)
 }
 
-/// Plans the first day whose completions settle after one day, by the one that is set, where there is one, and the stamp of
-/// the last accepted command. It is refused with the first of `Exists` (a day is set), `ClockEnd` (no later stamp is left) and
-/// `TooEarly` (it is not after the day of the command's stamp) that there is cause for; else it is set, and the last stamp is
-/// moved.
+/// Plans to set `day` as the settlement day, the first day whose completions settle after one day.
+/// `rule` is the one that is set, if any, and `last` the stamp of the last accepted command.
+///
+/// The plan sets the day and the last stamp. Its reply has the stamp.
+///
+/// Refuses with the first that applies of `Exists`, if a day is set; `ClockEnd`, if no later stamp
+/// is left; and `TooEarly`, if `day` is not later than the day (UTC) of the command's stamp. Fails
+/// with `Memory` only.
 pub fn plan_oneday(
     alloc: Global,
     day: Day,

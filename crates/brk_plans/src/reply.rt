@@ -47,10 +47,10 @@ pub enum Reply {
     Completed(Completed),
     /// Words of so many trades were corrected.
     Changed(Stamp, usize),
-    /// Cash was moved without a trade.
+    /// Cash was deposited or withdrawn.
     Moved {
         stamp: Stamp,
-        /// The number of its cash row.
+        /// The number of its cash row (CM_ID).
         number: MoveId,
         /// The account's balance after it.
         balance: Cents,
