@@ -61,7 +61,8 @@ fn is_name_of(alloc: Global, sheets: &Sheets, trade: &TradeRow, name: &str) -> R
     Ok(name == second.as_str())
 }
 
-// Whether a name is one of the two of a trade that is there.
+// Returns whether the name is one of the two texts of this trade's cash row; false if the trade
+// does not exist.
 fn is_name_of_trade(alloc: Global, sheets: &Sheets, id: Id, name: &str) -> Result<bool, Fault>
     requires { HasKeys sheets.now }
     ensures told { IfOk result (λ holds. holds ≡ option_map_or (form.is_cash_name (tables_in_sheets sheets.now) name.now) (trade_in (tables_in_sheets sheets.now) id) false) }
@@ -73,7 +74,7 @@ fn is_name_of_trade(alloc: Global, sheets: &Sheets, id: Id, name: &str) -> Resul
     is_name_of(alloc, sheets, trade, name)
 }
 
-// Whether the row of CASH_TRANSACTION has its form.
+// Returns whether a row of CASH_TRANSACTION is well-formed.
 fn is_cash_row(alloc: Global, sheets: &Sheets, row: &CashRow) -> Result<bool, Fault>
     requires { HasKeys sheets.now }
     ensures told { IfOk result (λ holds. holds ≡ form.cash_form (tables_in_sheets sheets.now) (cash_row_of row.now)) }
@@ -83,14 +84,15 @@ fn is_cash_row(alloc: Global, sheets: &Sheets, row: &CashRow) -> Result<bool, Fa
     Ok(is_named && is_stamp(sheets, row.stamp) && is_balance(row.amount))
 }
 
-// Whether the name of a movement goes with its sign.
+// Returns whether this is a deposit with an amount above 0, or a withdrawal with one below 0.
 fn is_movement(name: &str, amount: Cents) -> bool
     ensures { result ≡ form.is_movement name.now amount }
 {
     (name == "Deposit" && 0 < amount.get()) || (name == "Withdrawal" && amount.get() < 0)
 }
 
-// Whether the name of a row of CASH_MOVE is one of its trade, or that of a movement.
+// Returns whether the name of a row of CASH_MOVE is one of the two of its trade or, if it has no
+// trade, fits the sign of its amount.
 fn is_named(alloc: Global, sheets: &Sheets, row: &MoveRow) -> Result<bool, Fault>
     requires { HasKeys sheets.now }
     ensures told { IfOk result (λ holds. holds
@@ -103,7 +105,7 @@ fn is_named(alloc: Global, sheets: &Sheets, row: &MoveRow) -> Result<bool, Fault
     }
 }
 
-// Whether the row of CASH_MOVE has its form.
+// Returns whether a row of CASH_MOVE is well-formed.
 fn is_move_row(alloc: Global, sheets: &Sheets, row: &MoveRow) -> Result<bool, Fault>
     requires { HasKeys sheets.now }
     ensures told { IfOk result (λ holds. holds ≡ form.move_form (tables_in_sheets sheets.now) (move_row_of row.now)) }
@@ -134,7 +136,7 @@ pub(crate) fn are_cash_rows(alloc: Global, sheets: &Sheets) -> Result<bool, Faul
     Ok(true)
 }
 
-/// Whether each row of CASH_MOVE has its form.
+/// Returns whether each row of CASH_MOVE is well-formed. Fails with `Memory` only.
 pub(crate) fn are_move_rows(alloc: Global, sheets: &Sheets) -> Result<bool, Fault>
     requires { HasKeys sheets.now }
     ensures told { IfOk result (λ holds. holds ≡ list_all (form.move_form (tables_in_sheets sheets.now)) (map move_row_of sheets.now.moves.items)) }

@@ -30,7 +30,7 @@ fn is_last(last: Option<Stamp>) -> bool
     }
 }
 
-// Whether the settlement day is within the calendar.
+// Returns whether the settlement day, if one is set, is within the calendar.
 fn is_rule(rule: Option<Day>) -> bool
     ensures { result ≡ option_map_or (λ day. nat_le day last_day) rule true }
 {
@@ -40,15 +40,16 @@ fn is_rule(rule: Option<Day>) -> bool
     }
 }
 
-// Whether the tables that a schema lacks have no rows.
+// Returns whether the tables that a schema lacks have no rows.
 fn fits(schema: Schema, sheets: &Sheets) -> bool
     ensures { result ≡ fits_schema (schema_of schema) (tables_in_sheets sheets.now) }
 {
     (schema.has_moves() || sheets.moves.is_empty()) && (schema.has_rule() || sheets.rule.is_none())
 }
 
-// What is tested without memory: the keys, the forms of the rows but for the cash rows, the bands, the numbers of the
-// trades, how many movements there are, the settlement day, and the tables that a schema lacks.
+// Runs the tests that do not allocate: the keys, the forms of the rows but for the cash rows, the
+// bands, the numbers of the trades, the number of movements, the settlement day, and the tables
+// that the schema lacks.
 fn has_plain_form(schema: Schema, sheets: &Sheets) -> bool
     ensures { result ≡ plain_form (schema_of schema) sheets.now }
 {
@@ -67,7 +68,10 @@ fn has_plain_form(schema: Schema, sheets: &Sheets) -> bool
         && fits(schema, sheets)
 }
 
-/// Whether each row has its form, within the limits of a schema, what it names is there, and no key stands twice.
+/// Returns whether the rows meet the condition `Form` of `schema`: each is well-formed and within
+/// the limits of the schema, whatever it names exists, and no key occurs twice.
+///
+/// Fails with `Memory` only.
 pub fn has_form(alloc: Global, schema: Schema, sheets: &Sheets) -> Result<bool, Fault>
     ensures told { IfOk result (λ holds. IsTrue holds ↔ Holds (schema_of schema) Form (tables_in_sheets sheets.now)) }
     ensures fault { IfErr result (λ fault. fault ≡ Memory) }

@@ -15,14 +15,14 @@ pub(crate) fn is_id(id: Id) -> bool
     1 <= id.get() && id.get() <= Id::GREATEST
 }
 
-/// Whether the number of a cash row is within its limits.
+/// Returns whether the number of a cash row is within its limits.
 pub(crate) fn is_move_id(id: MoveId) -> bool
     ensures { result ≡ form.is_move_id id }
 {
     1 <= id.get() && id.get() <= MoveId::GREATEST
 }
 
-/// Whether a quantity is within the limit of a schema.
+/// Returns whether a quantity is within the limits of a schema.
 pub(crate) fn is_qty(schema: Schema, qty: Qty) -> bool
     ensures { result ≡ form.is_qty (schema_of schema) qty }
 {

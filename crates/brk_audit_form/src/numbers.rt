@@ -18,7 +18,7 @@ pub(crate) fn are_numbered(trades: &[TradeRow]) -> bool
     true
 }
 
-/// Whether there are no more movements than ids.
+/// Returns whether there are at most `Id::GREATEST` deposits and withdrawals.
 pub(crate) fn are_few(moves: &[MoveRow]) -> bool
     ensures { result ≡ nat_le (length (filter (λ r. is_none r.trade) moves.now)) greatest_id }
 {

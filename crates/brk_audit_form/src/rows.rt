@@ -12,7 +12,8 @@ use brk_changes::{Schema, Sheets};
 pub(crate) trait Formed {
     ghost form: { schemas.Schema → Tables → Self → Bool };
 
-    /// Whether its columns have their forms, within the limits of a schema, and what it names is there.
+    /// Returns whether its columns are well-formed and within the limits of a schema, and whatever
+    /// it names exists.
     fn is_formed(&self, schema: Schema, sheets: &Sheets) -> bool
         requires { HasKeys sheets.now }
         ensures { result ≡ form (schema_of schema) (tables_in_sheets sheets.now) self.now };
