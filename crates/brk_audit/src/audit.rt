@@ -19,7 +19,10 @@ use brk_changes::{Schema, Sheets};
 use brk_money::{Condition, Fault};
 use std::alloc::Global;
 
-/// The first condition of a schema, of form to balance, that the rows fail, and none where they pass (the consistency conditions, and this project's own).
+/// Returns the first condition of `schema` that the rows fail, in the order from `Form` to
+/// `Balance`, or `None` if they pass (the consistency conditions of TPC-E, and this project's own).
+///
+/// Fails with `Memory` only.
 #[tactic(auto, using(crate::proofs::Chain::form_held, crate::proofs::Chain::statuses_held))]
 pub fn audit_rows(
     alloc: Global,

@@ -51,7 +51,8 @@ fn postings_of(
     Ok(all)
 }
 
-// What a movement moves on its account.
+// Returns what a deposit or a withdrawal moves on its account, or `None` if the row belongs to a
+// trade.
 fn movement_of(row: &MoveRow) -> Option<Posting<u64>>
     ensures { result ≡ movement_posting (move_row_of row.now) }
 {
@@ -63,7 +64,7 @@ fn movement_of(row: &MoveRow) -> Option<Posting<u64>>
     Some(Posting { key, amount })
 }
 
-// Adds what the movements moved.
+// Adds what the deposits and withdrawals moved.
 fn add_movements(all: &mut Vec<Posting<u64>>, moves: &[MoveRow]) -> Result<(), Fault>
     ensures all { OnOk result (all.new.items ≡ all.old.items ++ filter_map (λ r. movement_posting (move_row_of r)) moves.now) }
     ensures fault { OnErr result (result ≡ Err Memory) }
@@ -117,7 +118,8 @@ fn are_balanced(sums: &BTreeMap<u64, i128>, rows: &[AccountRow]) -> bool
     true
 }
 
-/// Whether each balance is its opening and what the cash trades and the movements of its account moved.
+/// Returns whether each balance is the opening of its account plus what its cash trades, deposits
+/// and withdrawals moved.
 pub(crate) fn has_balances(alloc: Global, sheets: &Sheets) -> Result<bool, Fault>
     requires form { HasForm sheets.now }
     requires status { HasStatuses sheets.now }

@@ -73,7 +73,7 @@ fn are_moved(cash: &[CashRow], trades: &[TradeRow], terms: &BTreeMap<u64, Accoun
     rest.is_empty()
 }
 
-// The numbers of a cash row of a trade.
+// The numbers of a trade's cash row.
 #[derive(Clone, Copy, Drop)]
 struct Posted {
     account: Id,
@@ -82,7 +82,7 @@ struct Posted {
     amount: Cents,
 }
 
-// Those of a row, where it is of a trade.
+// Returns the numbers of a row, or `None` if it belongs to no trade.
 fn posted_by_row(row: &MoveRow) -> Option<Posted>
     ensures { option_map posted_of result ≡ posted_in (move_row_of row.now) }
 {
@@ -95,7 +95,7 @@ fn posted_by_row(row: &MoveRow) -> Option<Posted>
     })
 }
 
-// Those of all rows of trades.
+// Returns the numbers of all rows that belong to trades.
 fn posted_rows(alloc: Global, moves: &[MoveRow]) -> Result<Vec<Posted>, Fault>
     ensures all { IfOk result (λ all. map posted_of all.items ≡ filter_map (λ r. posted_in (move_row_of r)) moves.now) }
     ensures fault { IfErr result (λ fault. fault ≡ Memory) }
@@ -109,7 +109,7 @@ fn posted_rows(alloc: Global, moves: &[MoveRow]) -> Result<Vec<Posted>, Fault>
     Ok(all)
 }
 
-// Whether a row has the numbers of a completed trade at its account's tax status.
+// Returns whether a row has the numbers of a completed trade at its account's tax status.
 fn is_posted_by(row: Posted, trade: &TradeRow, tax_status: TaxStatus) -> bool
     ensures { IsTrue result ↔ ((row.account ≡ trade.now.account) × (row.trade ≡ trade.now.id) × (row.stamp ≡ trade.now.stamp) × (row.amount ≡ amount_at tax_status (trade_row_of trade.now))) }
 {
@@ -119,7 +119,8 @@ fn is_posted_by(row: Posted, trade: &TradeRow, tax_status: TaxStatus) -> bool
         && row.amount.get() == amount_of_row(trade, tax_status)
 }
 
-// The rows that are left after a trade, whose own is the first of these if it moves cash; none where it isn't.
+// Returns the rows after that of `trade`, or all rows if it moves no cash. Returns `None` if the
+// first row is not that of `trade`.
 fn posted_after<'a>(
     rows: &'a [Posted],
     trade: &TradeRow,
@@ -142,7 +143,7 @@ fn posted_after<'a>(
     }
 }
 
-// Whether rows are those of the completed cash trades, both in the order of the trades.
+// Returns whether the rows are those of the completed cash trades, both in the order of the trades.
 fn are_posted(rows: &[Posted], trades: &[TradeRow], terms: &BTreeMap<u64, AccountTerms>) -> bool
     ensures { IsTrue result ↔ (map (λ p. p) (map posted_of rows.now) ≡ map (posted_by (tax_status_by terms.now)) (filter is_done_in_cash (map trade_row_of trades.now))) }
 {
@@ -156,14 +157,14 @@ fn are_posted(rows: &[Posted], trades: &[TradeRow], terms: &BTreeMap<u64, Accoun
     rest.is_empty()
 }
 
-// Whether a row has a number, and a stamp that is no less than another one.
+// Returns whether a row has this number, and a stamp that is not less than `stamp`.
 fn is_next(row: &MoveRow, number: u64, stamp: u64) -> bool
     ensures { result ≡ (row.now.id == number) && nat_le stamp row.now.stamp }
 {
     row.id.get() == number && stamp <= millis(row.stamp)
 }
 
-// Whether the rows are numbered in turn, by rising stamps.
+// Returns whether the rows are numbered from 1 without a gap, and their stamps do not decrease.
 fn are_in_turn(moves: &[MoveRow]) -> bool
     ensures { result ≡ is_in_turn 1 0 (map move_row_of moves.now) }
 {
@@ -177,7 +178,9 @@ fn are_in_turn(moves: &[MoveRow]) -> bool
     true
 }
 
-/// Whether the cash rows, in the table of the schema, are those of the completed cash trades and of movements.
+/// Returns whether the cash rows are those of the completed cash trades. In schema 1 they are in
+/// CASH_TRANSACTION. In later schemas they are in CASH_MOVE, numbered from 1 by ascending stamp,
+/// deposits and withdrawals among them, and CASH_TRANSACTION is empty.
 pub(crate) fn has_cash_rows(alloc: Global, schema: Schema, sheets: &Sheets) -> Result<bool, Fault>
     requires form { Holds (schema_of schema) Form (tables_in_sheets sheets.now) }
     requires status { HasStatuses sheets.now }

@@ -19,7 +19,8 @@ use brk_money::{Day, Fault, Stamp, TaxStatus, day_of};
 use std::alloc::Global;
 use std::collections::BTreeMap;
 
-// Whether what is completed at a stamp settles on a day, where a first day is set whose completions settle after one.
+// Returns whether a trade that is completed at `stamp` settles on `day`. `rule` is the settlement
+// day, if one is set.
 fn is_due(day: Day, rule: Option<Day>, stamp: Stamp) -> bool
     ensures { IsTrue result ↔ (day ≡ due_after rule stamp) }
 {

@@ -26,7 +26,7 @@ pub(crate) fn is_completed(status: Status) -> bool
     status == Status::Completed
 }
 
-/// The milliseconds of a stamp.
+/// Returns the stamp in milliseconds since 1970-01-01 UTC.
 pub(crate) fn millis(stamp: Stamp) -> u64
     ensures { result ≡ stamp }
 {
@@ -131,7 +131,8 @@ fn is_new(seen: &mut BTreeSet<u64>, row: &HistoryRow) -> Result<bool, Fault>
     Ok(new)
 }
 
-// Whether nothing was seen at the stamp of this movement, if the row is of one; it is seen from then on.
+// Adds the stamp of a deposit or a withdrawal to `seen`. Returns false if the stamp was seen
+// before, otherwise true; a row of a trade adds nothing.
 fn is_new_movement(seen: &mut BTreeSet<u64>, row: &MoveRow) -> Result<bool, Fault>
     ensures new { IfOk result (λ new. new ≡ not (is_none row.now.trade && contains nat_cmp seen.old row.now.stamp)) }
     ensures seen { OnOk result ((q : ℕ) → contains nat_cmp seen.new q ≡ contains nat_cmp seen.old q || (is_none row.now.trade && (row.now.stamp == q))) }
@@ -144,7 +145,7 @@ fn is_new_movement(seen: &mut BTreeSet<u64>, row: &MoveRow) -> Result<bool, Faul
     Ok(new)
 }
 
-// Whether no two rows tell completions or movements at one stamp.
+// Returns whether no two completions, deposits or withdrawals have the same stamp.
 fn are_apart(alloc: Global, history: &[HistoryRow], moves: &[MoveRow]) -> Result<bool, Fault>
     ensures told { IfOk result (λ apart. apart ≡ all_distinct (spec.stamps_of (map history_row_of history.now) ++ spec.moved_stamps_of (map move_row_of moves.now))) }
     ensures fault { IfErr result (λ fault. fault ≡ Memory) }
@@ -163,7 +164,8 @@ fn are_apart(alloc: Global, history: &[HistoryRow], moves: &[MoveRow]) -> Result
     Ok(true)
 }
 
-/// Whether each trade's statuses are a way that a trade can go, and no two trades complete at one stamp, nor is a movement made at one of these or of another.
+/// Returns whether each trade's history is a valid status sequence, and no two completions,
+/// deposits or withdrawals have the same stamp.
 pub(crate) fn has_statuses(alloc: Global, sheets: &Sheets) -> Result<bool, Fault>
     requires form { HasForm sheets.now }
     ensures told { IfOk result (λ holds. (schema : Schema) → IsTrue holds ↔ Holds schema condition.Status (tables_in_sheets sheets.now)) }

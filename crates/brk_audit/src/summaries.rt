@@ -114,7 +114,7 @@ fn tell_shares(rows: &[SummaryRow]) -> bool
     true
 }
 
-/// Whether all of three tests passed.
+/// Returns whether all three tests passed.
 pub(crate) fn all_three(one: bool, other: bool, last: bool) -> bool
     ensures { IsTrue result ↔ (IsTrue one × IsTrue other × IsTrue last) }
 {
