@@ -17,8 +17,8 @@ pub enum Command {
     Complete(Completion),
     /// Words of trades are corrected (Trade-Update).
     Update(Update),
-    /// Cash is moved without a trade.
+    /// Cash is deposited or withdrawn.
     Move(Movement),
-    /// The first day whose completions settle after one day is set.
+    /// The settlement day is set: the first day whose completions settle after one day.
     OneDay(Day),
 }

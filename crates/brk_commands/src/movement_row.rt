@@ -1,4 +1,4 @@
-//! The texts of movements of cash and of the settlement day that are kept with their keys.
+//! The texts of deposits, withdrawals and the settlement day that are stored with their keys.
 #![tactic(auto, unfolding(brk_model::specs::Rows::row_fields))]
 
 ghost use Rattle.std.specs.Prelude.{◌≡◌, ◌∷◌, [], IfOk, OnErr, Err, codes, string_bytes};
@@ -34,7 +34,7 @@ fn withdrawal_text(alloc: Global, account: Id, amount: MovedAmount) -> Result<St
     )
 }
 
-/// The row of a movement of cash.
+/// Returns the row of a deposit or a withdrawal, its fields joined by byte 31.
 pub fn movement_text(alloc: Global, movement: &Movement) -> Result<String, AllocError>
     ensures { IfOk result (λ row. string_bytes row ≡ model.row_text (movement_of movement.now)) }
 {
@@ -44,14 +44,15 @@ pub fn movement_text(alloc: Global, movement: &Movement) -> Result<String, Alloc
     }
 }
 
-// The kind of a settlement day, and the text of the day.
+// Joins the kind `oneday` and the text of its day.
 fn kept_day(alloc: Global, day: &str) -> Result<String, AllocError>
     ensures { IfOk result (λ row. string_bytes row ≡ join_with_byte 31 (codes "oneday" ∷ day.now ∷ [])) }
 {
     format!(in alloc; "oneday\x1f{day}")
 }
 
-/// The row that sets the settlement day.
+/// Returns the row that sets the settlement day, its fields joined by byte 31. Fails with `Memory`
+/// only.
 pub fn oneday_text(alloc: Global, day: Day) -> Result<String, Fault>
     ensures row { IfOk result (λ row. string_bytes row ≡ model.row_text (SetOneDay day)) }
     ensures fault { OnErr result (result ≡ Err Memory) }

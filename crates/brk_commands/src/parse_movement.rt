@@ -27,7 +27,7 @@ fn parse_oneday(fields: &[&[u8]]) -> Result<Command, Refusal>
     }
 }
 
-// The command of one of the kinds of movements, or of a settlement day.
+// Parses a deposit, a withdrawal or a settlement day. Refuses any other kind with `BadText`.
 pub(crate) fn parse_movement(kind: &[u8], fields: &[&[u8]]) -> Result<Command, Refusal>
     ensures { Reads command_of result (parse_by movement_readers (kind.now ∷ texts fields.now)) }
 {

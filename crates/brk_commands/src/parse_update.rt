@@ -41,7 +41,7 @@ fn parse_uptext(alloc: Global, fields: &[&[u8]]) -> Planned<Command>
     }
 }
 
-// The command of one of the kinds of corrections, or of a kind after them.
+// Parses a text update, a deposit, a withdrawal or a settlement day.
 pub(crate) fn parse_update(alloc: Global, kind: &[u8], fields: &[&[u8]]) -> Planned<Command>
     ensures read { IfOk result (λ read. Reads command_of read (parse_by (update_readers ++ movement_readers) (kind.now ∷ texts fields.now))) }
     ensures fault { OnErr result (result ≡ Err Memory) }
