@@ -1,5 +1,6 @@
-//! Cash rows and the settlement day over SQL, and the statements of the move of an older file. Each call is made within an open
-//! transaction. An error that the database answers is the fault `Store`.
+//! The SQL statements on cash rows and on the settlement day, and those of the upgrade of an older
+//! file. Each function is called within an open transaction. An error of the `sqlite` crate is
+//! returned as `Store`.
 #![tactic(auto)]
 
 pub mod moves;

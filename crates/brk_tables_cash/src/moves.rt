@@ -18,7 +18,7 @@ use brk_tables_form::values::{
 };
 use sqlite::{Alter, Transaction};
 
-/// Adds a cash row, whose number is new.
+/// Inserts a cash row, whose number has to be new.
 pub fn add_move<S: Alter>(tx: &mut Transaction<'_, S>, row: &MoveRow) -> Result<(), Fault>
     ensures same_reference { tx.new.conn.ghost_name ≡ tx.old.conn.ghost_name }
     ensures step { Writes S.Store tx.old tx.new result (with_move (move_row_of row.now)) }
@@ -38,7 +38,7 @@ pub fn add_move<S: Alter>(tx: &mut Transaction<'_, S>, row: &MoveRow) -> Result<
     )
 }
 
-/// The cash row with the greatest number, where there is one.
+/// Returns the cash row with the greatest number, if there is one.
 pub fn last_move<S: Alter>(tx: &mut Transaction<'_, S>) -> Result<Option<MoveRow>, Fault>
     ensures same_reference { tx.new.conn.ghost_name ≡ tx.old.conn.ghost_name }
     ensures step { Reads S.Store tx.old tx.new result (λ o t. option_map move_row_of o ≡ slice_get (reverse t.moves) 0) }
@@ -52,7 +52,8 @@ pub fn last_move<S: Alter>(tx: &mut Transaction<'_, S>) -> Result<Option<MoveRow
     first_row(&rows)
 }
 
-/// Whether there are as many movements as there may be: the database passes over all but the last of so many rows.
+/// Returns whether there are at least 10^12 deposits and withdrawals. The database steps over all
+/// of them but the last.
 pub fn has_all_movements<S: Alter>(tx: &mut Transaction<'_, S>) -> Result<bool, Fault>
     ensures same_reference { tx.new.conn.ghost_name ≡ tx.old.conn.ghost_name }
     ensures step { Reads S.Store tx.old tx.new result (λ all t. all ≡ nat_le greatest_id (length (filter (λ r. is_none r.trade) t.moves))) }
@@ -66,7 +67,7 @@ pub fn has_all_movements<S: Alter>(tx: &mut Transaction<'_, S>) -> Result<bool, 
     Ok(!rows.is_empty())
 }
 
-/// The cash row of a trade, where it has one.
+/// Returns the cash row of a trade, or `None` if it has none.
 pub fn move_by_trade<S: Alter>(
     tx: &mut Transaction<'_, S>,
     trade: Id,
@@ -83,7 +84,7 @@ pub fn move_by_trade<S: Alter>(
     first_row(&rows)
 }
 
-/// Sets the text of what a trade moved.
+/// Sets the text of a trade's cash row (CM_NAME).
 pub fn set_cash_name<S: Alter>(
     tx: &mut Transaction<'_, S>,
     trade: Id,

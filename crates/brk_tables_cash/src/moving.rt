@@ -1,4 +1,5 @@
-//! What the move of an older file does besides: the number of the schema is set, and the rows of CASH_TRANSACTION go.
+//! The statements that only an upgrade needs: it sets the number of the schema, and deletes the
+//! rows of CASH_TRANSACTION.
 
 ghost use Rattle.std.specs.Prelude.{◌≡◌, Err, OnErr};
 ghost use Rattle.brk_money.specs.declared.fault.Fault.TheVariants.{Store};
@@ -11,7 +12,7 @@ use brk_tables_form::calls::run;
 use brk_tables_form::values::number_value;
 use sqlite::{Alter, Transaction};
 
-/// Sets the number of the third schema, where all of its tables are there.
+/// Sets the number of the schema to 3 (D_SCHEMA). The tables of schema 3 have to exist.
 pub fn set_schema<S: Alter>(tx: &mut Transaction<'_, S>) -> Result<(), Fault>
     ensures same_reference { tx.new.conn.ghost_name ≡ tx.old.conn.ghost_name }
     ensures step { Steps S.Store tx.old tx.new result (λ _ a b. Raises a.now b.now) }
@@ -24,7 +25,7 @@ pub fn set_schema<S: Alter>(tx: &mut Transaction<'_, S>) -> Result<(), Fault>
     )
 }
 
-/// Removes all rows of CASH_TRANSACTION.
+/// Deletes all rows of CASH_TRANSACTION.
 pub fn remove_cash_rows<S: Alter>(tx: &mut Transaction<'_, S>) -> Result<(), Fault>
     ensures same_reference { tx.new.conn.ghost_name ≡ tx.old.conn.ghost_name }
     ensures step { Writes S.Store tx.old tx.new result without_cash }

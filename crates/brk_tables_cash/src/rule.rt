@@ -13,7 +13,8 @@ use brk_tables_form::rule_row::day_in_rows;
 use brk_tables_form::values::{day_value, number_value};
 use sqlite::{Alter, Row, Transaction};
 
-/// Sets the first day whose completions settle after one day, where none is set.
+/// Inserts the settlement day, the first day whose completions settle after one day. None may be
+/// set before.
 pub fn set_one_day<S: Alter>(tx: &mut Transaction<'_, S>, day: Day) -> Result<(), Fault>
     ensures same_reference { tx.new.conn.ghost_name ≡ tx.old.conn.ghost_name }
     ensures step { Writes S.Store tx.old tx.new result (with_rule day) }
@@ -33,7 +34,7 @@ fn only_day(rows: &[Row]) -> Result<Option<Day>, Fault>
     Ok(day_in_rows(rows)?)
 }
 
-/// The first day whose completions settle after one day, where it is set.
+/// Returns the settlement day, if one is set (SR_DAY).
 pub fn one_day<S: Alter>(tx: &mut Transaction<'_, S>) -> Result<Option<Day>, Fault>
     ensures same_reference { tx.new.conn.ghost_name ≡ tx.old.conn.ghost_name }
     ensures step { Reads S.Store tx.old tx.new result (λ day t. day ≡ t.rule) }
