@@ -1,4 +1,4 @@
-//! The tables made.
+//! Creation of a desk's tables.
 
 ghost use Rattle.std.specs.Prelude.{◌≡◌, ℕ, List, [], Err, OnErr, map};
 ghost use Rattle.brk_money.specs.declared.fault.Fault.TheVariants.{Store};
@@ -15,7 +15,7 @@ use brk_money::Fault;
 use brk_tables_form::calls::run;
 use sqlite::{Alter, Transaction};
 
-// Makes a table.
+// Creates a table.
 fn make<S: Alter>(tx: &mut Transaction<'_, S>, table: Table) -> Result<(), Fault>
     ensures same_reference { tx.new.conn.ghost_name ≡ tx.old.conn.ghost_name }
     ensures step { Steps S.Store tx.old tx.new result (λ _ a b. Makes a.now b.now (shape (which_of table))) }
@@ -24,7 +24,7 @@ fn make<S: Alter>(tx: &mut Transaction<'_, S>, table: Table) -> Result<(), Fault
     run(tx, table.create_text(), &[])
 }
 
-// Makes tables, one after another.
+// Creates tables, in order.
 fn make_each<S: Alter>(tx: &mut Transaction<'_, S>, tables: &[Table]) -> Result<(), Fault>
     ensures same_reference { tx.new.conn.ghost_name ≡ tx.old.conn.ghost_name }
     ensures step { Steps S.Store tx.old tx.new result (λ _ a b. MakesEach (map (λ table. shape (which_of table)) tables.now) a.now b.now) }
@@ -36,7 +36,7 @@ fn make_each<S: Alter>(tx: &mut Transaction<'_, S>, tables: &[Table]) -> Result<
     Ok(())
 }
 
-// Adds the one row of DESK, of the third schema and with no stamp yet.
+// Inserts the one row of DESK, with schema 3 and no stamp.
 fn add_desk_row<S: Alter>(tx: &mut Transaction<'_, S>) -> Result<(), Fault>
     ensures same_reference { tx.new.conn.ghost_name ≡ tx.old.conn.ghost_name }
     ensures step { Steps S.Store tx.old tx.new result (λ _. Ran desk_row_text []) }
@@ -49,7 +49,8 @@ fn add_desk_row<S: Alter>(tx: &mut Transaction<'_, S>) -> Result<(), Fault>
     )
 }
 
-/// Makes the tables, empty but for the one row of DESK, beside whatever tables there are, which keep their rows.
+/// Creates the tables of schema 3, empty but for the one row of DESK. Tables that exist keep their
+/// rows.
 pub fn make_tables<S: Alter>(tx: &mut Transaction<'_, S>) -> Result<(), Fault>
     ensures same_reference { tx.new.conn.ghost_name ≡ tx.old.conn.ghost_name }
     ensures step { Steps S.Store tx.old tx.new result (λ _ a b. MakesDesk a.now b.now) }
@@ -59,7 +60,7 @@ pub fn make_tables<S: Alter>(tx: &mut Transaction<'_, S>) -> Result<(), Fault>
     add_desk_row(tx)
 }
 
-/// Makes the tables that a schema lacks, without rows.
+/// Creates the tables that later schemas add to `schema`, without rows.
 pub fn make_later_tables<S: Alter>(tx: &mut Transaction<'_, S>, schema: Schema) -> Result<(), Fault>
     ensures same_reference { tx.new.conn.ghost_name ≡ tx.old.conn.ghost_name }
     ensures step { Steps S.Store tx.old tx.new result (λ _ a b. MakesEach (map shape (later_than (schema_of schema))) a.now b.now) }

@@ -1,4 +1,4 @@
-//! Tables found by their names.
+//! Lookups of tables by their names.
 
 ghost use Rattle.std.specs.Prelude.{◌≡◌, ◌&&◌, Err, OnErr, IsTrue, not};
 ghost use Rattle.std.specs.List.{list_all, list_any};
@@ -14,7 +14,7 @@ use brk_money::Fault;
 use brk_tables_form::calls::is_understood;
 use sqlite::{Alter, Transaction};
 
-// Whether there is a table of this name. The database is open if it answers.
+// Returns whether a table with this name exists. If it returns a value, the database is open.
 fn is_there<S: Alter>(tx: &mut Transaction<'_, S>, table: Table) -> Result<bool, Fault>
     ensures same_reference { tx.new.conn.ghost_name ≡ tx.old.conn.ghost_name }
     ensures step { Steps S.Store tx.old tx.new result (λ has a b. IsTrue a.is_open × (b.now ≡ a.now) × (has ≡ is_named a.now.schema (which_of table))) }
@@ -23,7 +23,7 @@ fn is_there<S: Alter>(tx: &mut Transaction<'_, S>, table: Table) -> Result<bool,
     is_understood(tx, table.probe_text())
 }
 
-// Whether one of the tables is there.
+// Returns whether one of the tables exists.
 fn has_one_of<S: Alter>(tx: &mut Transaction<'_, S>, tables: &[Table]) -> Result<bool, Fault>
     ensures same_reference { tx.new.conn.ghost_name ≡ tx.old.conn.ghost_name }
     ensures step { Steps S.Store tx.old tx.new result (λ has a b. (b.now ≡ a.now) × (has ≡ list_any (λ table. is_named a.now.schema (which_of table)) tables.now)) }
@@ -37,7 +37,7 @@ fn has_one_of<S: Alter>(tx: &mut Transaction<'_, S>, tables: &[Table]) -> Result
     Ok(false)
 }
 
-// Whether each of the tables is there.
+// Returns whether each of the tables exists.
 fn has_each_of<S: Alter>(tx: &mut Transaction<'_, S>, tables: &[Table]) -> Result<bool, Fault>
     ensures same_reference { tx.new.conn.ghost_name ≡ tx.old.conn.ghost_name }
     ensures step { Steps S.Store tx.old tx.new result (λ has a b. (b.now ≡ a.now) × (has ≡ list_all (λ table. is_named a.now.schema (which_of table)) tables.now)) }
@@ -60,7 +60,7 @@ pub fn has_some_table<S: Alter>(tx: &mut Transaction<'_, S>) -> Result<bool, Fau
     has_one_of(tx, &IN_THIRD)
 }
 
-// Whether each of some tables is there, and none of others.
+// Returns whether each table of `there` exists, and none of `absent`.
 fn has_just<S: Alter>(
     tx: &mut Transaction<'_, S>,
     there: &[Table],
@@ -76,7 +76,7 @@ fn has_just<S: Alter>(
     Ok(!has_one_of(tx, absent)?)
 }
 
-// Whether just the tables of a schema are there.
+// Returns whether the tables of a schema exist, and none that a later schema adds.
 fn has_just_of<S: Alter>(tx: &mut Transaction<'_, S>, schema: Schema) -> Result<bool, Fault>
     ensures same_reference { tx.new.conn.ghost_name ≡ tx.old.conn.ghost_name }
     ensures step { Steps S.Store tx.old tx.new result (λ has a b. (b.now ≡ a.now) × (has ≡ has_tables_of_schema (schema_of schema) a.now.schema)) }
@@ -89,14 +89,14 @@ fn has_just_of<S: Alter>(tx: &mut Transaction<'_, S>, schema: Schema) -> Result<
     }
 }
 
-/// Whether the database has a table with the name of each of a schema's, and none with that of one that a later schema adds.
-/// It is open if it answers.
+/// Returns whether a table with the name of each of a schema's exists, and none with the name of
+/// one that a later schema adds. If it returns a value, the database is open.
 pub fn has_tables_of<S: Alter>(tx: &mut Transaction<'_, S>, schema: Schema) -> Result<bool, Fault>
     ensures same_reference { tx.new.conn.ghost_name ≡ tx.old.conn.ghost_name }
     ensures step { Steps S.Store tx.old tx.new result (λ has a b. IsTrue a.is_open × (b.now ≡ a.now) × (has ≡ has_tables_of_schema (schema_of schema) a.now.schema)) }
     ensures fault { OnErr result (result ≡ Err Store) }
 {
-    // DESK is looked at once more below: that it answers shows that the database is open.
+    // Any answer shows that the database is open. DESK is looked up again below.
     let _there = is_there(tx, Table::TheDesk)?;
     has_just_of(tx, schema)
 }
