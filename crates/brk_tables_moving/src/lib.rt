@@ -1,5 +1,5 @@
-//! The move of the tables of an older schema to the third, within an open transaction. An error that the database answers is the
-//! fault `Store`.
+//! The upgrade of the tables of an older schema to schema 3, within an open transaction. An error
+//! of the `sqlite` crate is returned as `Store`.
 #![tactic(auto)]
 
 pub mod moving;

@@ -1,4 +1,4 @@
-//! The tables moved.
+//! The upgrade of the tables.
 
 ghost use Rattle.std.specs.Prelude.{◌≡◌, IfErr, true};
 ghost use Rattle.brk_model.specs.Run.{MayFail};
@@ -16,7 +16,7 @@ use brk_tables_making::make_later_tables;
 use sqlite::{Alter, Transaction};
 use std::alloc::Global;
 
-// Makes the tables that a schema lacks, and sets the number of the third.
+// Creates the tables that a schema lacks, and sets the number of the schema to 3.
 fn raise<S: Alter>(tx: &mut Transaction<'_, S>, schema: Schema) -> Result<(), Fault>
     ensures same_reference { tx.new.conn.ghost_name ≡ tx.old.conn.ghost_name }
     ensures step { Steps S.Store tx.old tx.new result (λ _ a b. IsRaised (schema_of schema) a.now b.now) }
@@ -26,7 +26,8 @@ fn raise<S: Alter>(tx: &mut Transaction<'_, S>, schema: Schema) -> Result<(), Fa
     set_schema(tx)
 }
 
-// Numbers the cash rows of the first schema by rising stamp, and leaves none where they stood.
+// Inserts the rows of CASH_TRANSACTION into CASH_MOVE, numbered by ascending stamp, and deletes
+// them from CASH_TRANSACTION.
 fn move_cash<S: Alter>(tx: &mut Transaction<'_, S>, alloc: Global) -> Result<(), Fault>
     ensures same_reference { tx.new.conn.ghost_name ≡ tx.old.conn.ghost_name }
     ensures step { Writes S.Store tx.old tx.new result with_cash_moved }
@@ -37,7 +38,8 @@ fn move_cash<S: Alter>(tx: &mut Transaction<'_, S>, alloc: Global) -> Result<(),
     remove_cash_rows(tx)
 }
 
-/// Moves the tables of a schema to the third, whatever rows they hold.
+/// Upgrades the tables of `schema` to schema 3, whatever rows they have. Fails with `Memory` or
+/// `Store`.
 pub fn move_tables<S: Alter>(
     tx: &mut Transaction<'_, S>,
     alloc: Global,

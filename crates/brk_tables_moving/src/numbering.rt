@@ -1,4 +1,4 @@
-//! Cash rows of the first schema, added under numbers.
+//! Cash rows of schema 1, inserted under numbers.
 
 ghost use Rattle.std.specs.Prelude.{◌≡◌, IfErr, map};
 ghost use Rattle.brk_model.specs.Run.{MayFail};
@@ -12,7 +12,8 @@ use brk_money::{Fault, MoveId};
 use brk_tables_cash::add_move;
 use sqlite::{Alter, Transaction};
 
-// Adds what a trade moved, under a number that is new.
+// Inserts the cash row of a trade under a number, which has to be new. Fails with `Store` if the
+// trade does not exist.
 fn add_numbered<S: Alter>(
     tx: &mut Transaction<'_, S>,
     id: MoveId,
@@ -36,7 +37,7 @@ fn add_numbered<S: Alter>(
     add_move(tx, &numbered)
 }
 
-/// Adds what trades moved, numbered in turn from 1.
+/// Inserts the cash rows of trades, numbered from 1 in their order. Fails with `Memory` or `Store`.
 pub fn add_all<S: Alter>(tx: &mut Transaction<'_, S>, rows: &[CashRow]) -> Result<(), Fault>
     ensures same_reference { tx.new.conn.ghost_name ≡ tx.old.conn.ghost_name }
     ensures step { Writes S.Store tx.old tx.new result (with_cash_from 1 (map cash_row_of rows.now)) }

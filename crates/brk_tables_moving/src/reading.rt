@@ -1,4 +1,4 @@
-//! What the move reads: the cash rows of the first schema by their stamps, and the account of each.
+//! The reads of the upgrade: the cash rows of schema 1 by their stamps, and the account of each.
 
 ghost use Rattle.std.specs.Prelude.{◌≡◌, Err, IfErr, OnErr, map, option_map};
 ghost use Rattle.brk_money.specs.declared.fault.Fault.TheVariants.{Store};
@@ -16,7 +16,8 @@ use brk_tables_form::values::id_value;
 use sqlite::{Alter, Transaction};
 use std::alloc::Global;
 
-/// All rows of CASH_TRANSACTION by rising stamp.
+/// Returns all rows of CASH_TRANSACTION, sorted by stamp, ascending, and then by trade. Fails with
+/// `Memory` or `Store`.
 pub fn cash_by_stamp<S: Alter>(
     tx: &mut Transaction<'_, S>,
     alloc: Global,
@@ -33,7 +34,7 @@ pub fn cash_by_stamp<S: Alter>(
     all_rows(alloc, &rows)
 }
 
-/// The account of a trade, where there is the trade.
+/// Returns the account of a trade, or `None` if the trade does not exist.
 pub fn account_of_trade<S: Alter>(
     tx: &mut Transaction<'_, S>,
     trade: Id,
