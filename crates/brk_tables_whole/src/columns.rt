@@ -32,7 +32,7 @@ fn each_shows<S: Alter>(
     Ok(true)
 }
 
-// Whether the tables of a schema show just their columns.
+// Returns whether the tables of a schema have exactly their columns.
 fn shows_columns_of<S: Alter>(tx: &mut Transaction<'_, S>, schema: Schema) -> Result<bool, Fault>
     ensures same_reference { tx.new.conn.ghost_name ≡ tx.old.conn.ghost_name }
     ensures step { Steps S.Store tx.old tx.new result (λ has a b. (b.now ≡ a.now) × HeadsEach (map heading_of (tables_in (schema_of schema))) has a.now.schema) }
@@ -45,8 +45,8 @@ fn shows_columns_of<S: Alter>(tx: &mut Transaction<'_, S>, schema: Schema) -> Re
     }
 }
 
-/// Whether each table of a schema is there, with just its columns in their order, and none that a later schema adds. It is asked
-/// of whatever tables there are.
+/// Returns whether each table of `schema` exists with exactly its columns, in their order, and none
+/// that a later schema adds. It assumes nothing of the tables that exist.
 pub fn has_tables<S: Alter>(tx: &mut Transaction<'_, S>, schema: Schema) -> Result<bool, Fault>
     ensures same_reference { tx.new.conn.ghost_name ≡ tx.old.conn.ghost_name }
     ensures step { Steps S.Store tx.old tx.new result (λ has a b. IsTrue a.is_open × (b.now ≡ a.now) × (IsTrue has ↔ HasTablesOf (schema_of schema) a.now.schema × LacksLater (schema_of schema) a.now.schema)) }

@@ -160,7 +160,7 @@ fn read_later<S: Alter>(
     })
 }
 
-/// Reads all tables of a schema.
+/// Reads the rows of all tables of `schema`. Those of a table that it lacks are none.
 pub fn read_raw<S: Alter>(
     tx: &mut Transaction<'_, S>,
     alloc: Global,

@@ -296,7 +296,7 @@ fn rule_rows<S: Alter>(tx: &mut Transaction<'_, S>) -> Result<Vec<Row>, Fault>
     )
 }
 
-/// All rows of CASH_MOVE, in a schema that has it, and else none.
+/// All rows of CASH_MOVE, or none if `schema` lacks the table.
 pub fn move_rows_in<S: Alter>(
     tx: &mut Transaction<'_, S>,
     alloc: Global,
@@ -312,7 +312,7 @@ pub fn move_rows_in<S: Alter>(
     move_rows(tx)
 }
 
-/// All rows of SETTLE_RULE, in a schema that has it, and else none.
+/// All rows of SETTLE_RULE, or none if `schema` lacks the table.
 pub fn rule_rows_in<S: Alter>(
     tx: &mut Transaction<'_, S>,
     alloc: Global,

@@ -13,7 +13,7 @@ use brk_money::Fault;
 use sqlite::{Alter, Row, Transaction};
 use sqlite_value::value::ValueRef;
 
-// The number of a schema as DESK has it.
+// Returns the number of a schema, as it is stored in DESK (D_SCHEMA).
 fn number_of(schema: Schema) -> i64
     ensures { result ≡ pos (schema_of schema).number }
 {
@@ -24,7 +24,7 @@ fn number_of(schema: Schema) -> i64
     }
 }
 
-// Whether a column holds a number.
+// Returns whether a column holds the integer `wanted`.
 fn is_number(row: &Row, at: usize, wanted: i64) -> bool
     ensures one { IsTrue result → column row.now at ≡ Int wanted }
     ensures other { result ≡ false → at < length row.now → column row.now at ≢ Int wanted }
@@ -35,7 +35,7 @@ fn is_number(row: &Row, at: usize, wanted: i64) -> bool
     }
 }
 
-// Whether a row of DESK has the number of a schema.
+// Returns whether a row of DESK has the number of a schema.
 #[tactic(auto, using(crate::proofs::Firsts::is_row, crate::proofs::Firsts::not_three, crate::proofs::Firsts::not_id, crate::proofs::Firsts::not_schema))]
 fn is_row_of(schema: Schema, row: &Row) -> bool
     ensures first { IsTrue result → IsRowOf (schema_of schema) row.now }
@@ -47,7 +47,7 @@ fn is_row_of(schema: Schema, row: &Row) -> bool
     is_number(row, 0, 1) && is_number(row, 1, number_of(schema))
 }
 
-// Whether DESK has one row, with the number of a schema.
+// Returns whether DESK has exactly one row, with the number of a schema.
 #[tactic(auto, using(crate::proofs::Firsts::says_one, crate::proofs::Firsts::first_of))]
 fn says(schema: Schema, rows: &[Row]) -> bool
     ensures first { IsTrue result → Says (schema_of schema) rows.now }
@@ -59,8 +59,8 @@ fn says(schema: Schema, rows: &[Row]) -> bool
     }
 }
 
-/// Whether the database has the tables of a desk in a schema, each with its columns, none that a later schema adds, and in DESK
-/// one row that says so.
+/// Returns whether the database has a desk of `schema`: each table of the schema with exactly its
+/// columns, none that a later schema adds, and in DESK one row with the schema's number.
 pub fn has_desk<S: Alter>(tx: &mut Transaction<'_, S>, schema: Schema) -> Result<bool, Fault>
     ensures same_reference { tx.new.conn.ghost_name ≡ tx.old.conn.ghost_name }
     ensures step { Steps S.Store tx.old tx.new result (λ has a b. IsTrue a.is_open × (b.now ≡ a.now) × (IsDefinedAs (schema_of schema) a.now → IsTrue has ↔ HasDesk (schema_of schema) a.now)) }

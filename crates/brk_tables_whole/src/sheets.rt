@@ -13,8 +13,10 @@ use brk_tables_form::Misread;
 use sqlite::{Alter, Transaction};
 use std::alloc::Global;
 
-/// All rows of the tables of a schema in types, each list by rising key. `None`: the rows break their form. All tables are read
-/// before the first row is looked at.
+/// Reads the tables of `schema` as typed rows, each list sorted by key, ascending. Returns `None`
+/// if the rows are malformed. All tables are read before the first row is decoded.
+///
+/// Fails with `Memory` or `Store`.
 pub fn read_sheets<S: Alter>(
     tx: &mut Transaction<'_, S>,
     alloc: Global,
