@@ -1,4 +1,4 @@
-//! The audit of a desk's database by the third schema.
+//! The audit of a desk's database by the conditions of schema 3.
 
 ghost use Rattle.std.specs.Prelude.{◌≡◌, ◌≢◌, IfErr, IfOk, IsTrue, Some, false};
 ghost use Rattle.brk_money.specs.declared.fault.Condition.TheVariants.{NotEmpty};
@@ -19,7 +19,8 @@ use brk_tables_whole::{has_desk, read_sheets};
 use sqlite::{Alter, Connection, Transaction};
 use std::alloc::Global;
 
-/// The first condition that the rows of a schema fail, where its desk is there.
+/// Returns the first condition that the rows of a schema fail, or `None` if they pass. The desk of
+/// the schema has to exist.
 pub(crate) fn audit_desk_of<S: Alter>(
     tx: &mut Transaction<'_, S>,
     alloc: Global,
@@ -36,7 +37,7 @@ pub(crate) fn audit_desk_of<S: Alter>(
     }
 }
 
-// The first condition of the third schema that the database fails.
+// Returns the first condition of schema 3 that the database fails, or `None` if it passes.
 fn first_failing<S: Alter>(
     tx: &mut Transaction<'_, S>,
     alloc: Global,
@@ -68,7 +69,9 @@ fn audit_desk<S: Alter>(conn: &mut Connection<S>, alloc: Global) -> Result<(), F
 }
 
 impl<S: Alter> Store<S> {
-    /// Audits the rows by the third schema: `Damaged` has the first condition that fails. It writes nothing.
+    /// Audits the database by the conditions of schema 3. Writes nothing.
+    ///
+    /// Fails with `Damaged` and the first condition that fails, or with `Memory` or `Store`.
     pub fn audit(&mut self, alloc: Global) -> Result<(), Fault>
         ensures audited { IsAudited S.Store self.old self.new result }
         ensures condition { IfErr result (λ f. f ≢ fault.Damaged NotEmpty) }

@@ -1,4 +1,5 @@
-//! Reads of cash rows and of the settlement day. Each that asks the database once is a transaction of its own, which is rolled back.
+//! Reads of cash rows and of the settlement day. Each read of the database is a transaction of its
+//! own, which is rolled back.
 
 ghost use Rattle.std.specs.Prelude.{◌≡◌, ◌+◌, Err, OnErr, filter, is_none, length, nat_le, option_map, reverse, slice_get};
 ghost use Rattle.brk_money.specs.declared.fault.Fault.TheVariants as fault;
@@ -16,12 +17,13 @@ use brk_changes::MoveRow;
 use brk_money::{Day, Fault, Id, MoveId};
 use sqlite::Alter;
 
-// How many movements there may be.
+// The greatest number of deposits and withdrawals.
 const ALL_MOVEMENTS: u64 = 1_000_000_000_000;
 
 #[tactic(auto, using(crate::proofs::Ending::is_read_of))]
 impl<S: Alter> Store<S> {
-    /// The first day whose completions settle after one day, where it is set.
+    /// Returns the settlement day, the first day whose completions settle after one day, or `None`
+    /// if none is set. Fails with `Store` only.
     pub fn one_day(&mut self) -> Result<Option<Day>, Fault>
         ensures read { IsRead S.Store self.old self.new result (λ day t. day ≡ t.rule) }
         ensures fault { OnErr result (result ≡ Err fault.Store) }
@@ -30,7 +32,7 @@ impl<S: Alter> Store<S> {
         brk_tables_cash::one_day(&mut tx)
     }
 
-    /// What a trade moved, where it is completed and in cash.
+    /// Returns the cash row of a trade, or `None` if it has none. Fails with `Store` only.
     pub fn cash_row(&mut self, trade: Id) -> Result<Option<MoveRow>, Fault>
         ensures read { IsRead S.Store self.old self.new result (Found CashMoves move_row_of (is_cash_of trade)) }
         ensures fault { OnErr result (result ≡ Err fault.Store) }
@@ -39,7 +41,7 @@ impl<S: Alter> Store<S> {
         brk_tables_cash::move_by_trade(&mut tx, trade)
     }
 
-    // The cash row with the greatest number, where there is one.
+    // Returns the cash row with the greatest number, if there is one.
     fn last_cash_row(&mut self) -> Result<Option<MoveRow>, Fault>
         ensures read { IsRead S.Store self.old self.new result (λ o t. option_map move_row_of o ≡ slice_get (reverse t.moves) 0) }
         ensures fault { OnErr result (result ≡ Err fault.Store) }
@@ -48,7 +50,8 @@ impl<S: Alter> Store<S> {
         brk_tables_cash::last_move(&mut tx)
     }
 
-    // Whether there are as many movements as there may be: the database goes over all cash rows.
+    // Returns whether there are at least `ALL_MOVEMENTS` deposits and withdrawals. The database
+    // goes over all cash rows.
     fn has_all_movements(&mut self) -> Result<bool, Fault>
         ensures read { IsRead S.Store self.old self.new result (λ all t. all ≡ nat_le greatest_id (length (filter (λ r. is_none r.trade) t.moves))) }
         ensures fault { OnErr result (result ≡ Err fault.Store) }
@@ -57,7 +60,8 @@ impl<S: Alter> Store<S> {
         brk_tables_cash::has_all_movements(&mut tx)
     }
 
-    /// The number of the next cash row. That none is left is a fault.
+    /// Returns the number of the next cash row: one more than the greatest, or 1 if there is none.
+    /// Fails with `Store` only, also if no number is left.
     pub fn next_move(&mut self) -> Result<MoveId, Fault>
         ensures read { IsRead S.Store self.old self.new result (λ next t. next ≡ last_move t + 1) }
         ensures fault { OnErr result (result ≡ Err fault.Store) }
@@ -72,8 +76,9 @@ impl<S: Alter> Store<S> {
         }
     }
 
-    /// As many movements as there may be, where there are as many, and else a number below that. They are counted only where there
-    /// can be as many by the number of the last cash row.
+    /// Returns at least `Id::GREATEST` if there are that many deposits and withdrawals, otherwise a
+    /// number below it, which need not be their number. Counts them only if the number of the next
+    /// cash row allows that many. Fails with `Store` only.
     pub fn movements(&mut self) -> Result<u64, Fault>
         ensures read { IsRead S.Store self.old self.new result (λ count t. nat_le greatest_id count ≡ nat_le greatest_id (length (filter (λ r. is_none r.trade) t.moves))) }
         ensures fault { OnErr result (result ≡ Err fault.Store) }

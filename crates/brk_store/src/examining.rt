@@ -1,4 +1,4 @@
-//! What an audit tells of a database: the schema whose desk is there, and whether its rows pass.
+//! The audit of a database by the conditions of its own schema.
 
 ghost use Rattle.std.specs.Prelude.{◌≡◌, ◌≢◌, IfErr, IfOk, IsTrue, Err, OnErr};
 ghost use Rattle.brk_money.specs.declared.fault.Condition.TheVariants.{NotEmpty};
@@ -17,16 +17,16 @@ use brk_tables_whole::has_desk;
 use sqlite::{Alter, Transaction};
 use std::alloc::Global;
 
-/// What an audit of a database told.
+/// The result of an audit.
 #[derive(Clone, Copy)]
 pub enum Examined {
-    /// A desk of this schema is there, and its rows pass.
+    /// The database has a desk of this schema, and its rows pass.
     Passes(Schema),
-    /// This condition fails.
+    /// The first condition that fails.
     Fails(Condition),
 }
 
-// The schema of which a desk is there, where one is.
+// Returns the schema of the desk in the database, or `None` if it has no desk.
 fn schema_of_desk<S: Alter>(tx: &mut Transaction<'_, S>) -> Result<Option<Schema>, Fault>
     ensures same_reference { tx.new.conn.ghost_name ≡ tx.old.conn.ghost_name }
     ensures step { Steps S.Store tx.old tx.new result (λ found a b. IsTrue a.is_open × (b.now ≡ a.now) × (IsDefined a.now → HasDeskOf found a.now)) }
@@ -44,7 +44,7 @@ fn schema_of_desk<S: Alter>(tx: &mut Transaction<'_, S>) -> Result<Option<Schema
     Ok(None)
 }
 
-/// Audits the rows of the desk that is there, by the conditions of its schema.
+/// Audits the rows of the desk in the database by the conditions of its own schema.
 pub(crate) fn examine<S: Alter>(
     tx: &mut Transaction<'_, S>,
     alloc: Global,

@@ -1,4 +1,4 @@
-//! The adoption of a database: its audit, and its move to the third schema where it is of an older one.
+//! The adoption of a database: its audit and, if its schema is older, its upgrade to schema 3.
 
 ghost use Rattle.std.specs.Prelude.{◌≡◌, ◌≢◌, IfErr, MatchResult, Ok, Err, false, true};
 ghost use Rattle.brk_money.specs.declared.fault.Condition.TheVariants.{NotEmpty};
@@ -13,8 +13,8 @@ use brk_tables_moving::move_tables;
 use sqlite::{Alter, Connection};
 use std::alloc::Global;
 
-// Audits the rows of the desk that is there, by the conditions of its schema, and where they pass moves those of an older one to
-// the third, in one transaction.
+// Audits the rows of the desk in the database by the conditions of its own schema. If they pass and
+// the schema is older, upgrades them to schema 3 in the same transaction.
 fn adopt_desk<S: Alter>(conn: &mut Connection<S>, alloc: Global) -> Result<(), Fault>
     requires { conn.old.in_transaction ≡ false }
     ensures mode { conn.new.in_transaction ≡ false }
@@ -26,7 +26,7 @@ fn adopt_desk<S: Alter>(conn: &mut Connection<S>, alloc: Global) -> Result<(), F
         Examined::Fails(condition) => return Err(Fault::Damaged(condition)),
         Examined::Passes(schema) => schema,
     };
-    // A desk of the third schema stays as it is.
+    // A desk of schema 3 needs no upgrade.
     if schema.has_rule() {
         return Ok(());
     }
@@ -38,10 +38,16 @@ fn adopt_desk<S: Alter>(conn: &mut Connection<S>, alloc: Global) -> Result<(), F
 }
 
 impl<S: Alter> Store<S> {
-    /// Audits the database of a connection by the conditions of its schema and takes it over where its rows pass, moved to the
-    /// third schema where they are of an older one; else it answers `Damaged` with the first condition that fails. At a
-    /// fault the database is as it was, and the connection comes back, with no transaction that it did not have. A
-    /// connection on which one is open is refused with `Store`, and comes back as it is.
+    /// Audits the database of `conn` by the conditions of its own schema and, if its rows pass,
+    /// opens it as a store. A database of an older schema is upgraded to schema 3 in one
+    /// transaction; one of schema 3 is not written.
+    ///
+    /// Errors return the connection, with no transaction open that was not open before, and the
+    /// open database unchanged: `Damaged` with the first condition that fails; `Memory`; `Store`,
+    /// also if a transaction is open on `conn`, which is then returned unchanged.
+    ///
+    /// A crash exposes a state that was possible before the call or, if rows of an older schema
+    /// passed, the upgraded tables. After an error too, a crash may find the upgrade committed.
     pub fn adopt(alloc: Global, mut conn: Connection<S>) -> Result<Store<S>, (Connection<S>, Fault)>
         ensures adopted { MatchResult result (λ store. IsAdopted S.Store conn store (Ok tt)) (λ e. IsAdopted S.Store conn e.0 (Err e.1)) }
         ensures condition { IfErr result (λ e. e.1 ≢ fault.Damaged NotEmpty) }
