@@ -1,4 +1,4 @@
-//! Deposits and withdrawals, decided on.
+//! Decisions on deposits and withdrawals.
 
 ghost use Rattle.std.specs.Prelude.{IfErr};
 ghost use Rattle.brk_decisions.specs.Decisions.{Decides};
@@ -14,8 +14,10 @@ use brk_trade::{Plan, plan_move};
 use sqlite::Alter;
 use std::alloc::Global;
 
-/// Decides on a deposit or a withdrawal at a moment: why it is refused, or its plan. Nothing is changed; the only faults are
-/// want of memory and the store's, also where no number is left for a cash row.
+/// Decides on a deposit or a withdrawal at the clock reading `now`: returns its plan, or the
+/// refusal. Changes nothing.
+///
+/// Fails with `Memory` or `Store` only; with `Store` also if no number is left for a cash row.
 pub fn decide_move<S: Alter>(
     alloc: Global,
     store: &mut Store<S>,

@@ -1,4 +1,4 @@
-//! What the tables hold that decides on a movement of cash.
+//! The reads that decide a deposit or a withdrawal.
 
 ghost use Rattle.std.specs.Prelude.{IfErr};
 ghost use Rattle.brk_trade_laws.specs.MovePlans.{IsFoundForMove};
@@ -11,7 +11,8 @@ use brk_store::Store;
 use brk_trade::MoveFound;
 use sqlite::Alter;
 
-/// What the tables hold that decides on a movement of cash.
+/// Reads the facts that decide a deposit or a withdrawal. Fails with `Memory` or `Store` only; with
+/// `Store` also if no number is left for a cash row.
 pub(crate) fn find_for_move<S: Alter>(
     store: &mut Store<S>,
     movement: &Movement,

@@ -1,4 +1,4 @@
-//! The settlement day, decided on.
+//! Decisions on the settlement day.
 
 ghost use Rattle.std.specs.Prelude.{IfErr};
 ghost use Rattle.brk_decisions.specs.Decisions.{Decides};
@@ -12,8 +12,10 @@ use brk_trade::{Plan, plan_oneday};
 use sqlite::Alter;
 use std::alloc::Global;
 
-/// Decides at a moment on the first day whose completions settle after one day: why it is refused, or its plan. Nothing is
-/// changed; the only faults are want of memory and the store's.
+/// Decides at the clock reading `now` whether `day` becomes the settlement day, the first day whose
+/// completions settle after one day: returns its plan, or the refusal. Changes nothing.
+///
+/// Fails with `Memory` or `Store` only.
 pub fn decide_oneday<S: Alter>(
     alloc: Global,
     store: &mut Store<S>,

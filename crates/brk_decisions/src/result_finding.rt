@@ -51,16 +51,17 @@ fn find_listed<S: Alter>(
     })
 }
 
-/// The settlement day, and the number of the next cash row.
+/// The settlement day, if one is set, and the number of the next cash row.
 #[derive(Clone, Copy)]
 pub struct Posting {
-    /// The first day whose completions settle after one day, where it is set.
+    /// The first day whose completions settle after one day, if it is set (SR_DAY).
     pub rule: Option<Day>,
-    /// The number that the next cash row has.
+    /// The number of the next cash row (CM_ID).
     pub next: MoveId,
 }
 
-// The settlement day, and the number of the next cash row.
+// Reads the settlement day and the number of the next cash row. Fails with `Store` if no number is
+// left.
 fn find_posting<S: Alter>(store: &mut Store<S>) -> Result<Posting, Fault>
     ensures read { IsRead S.Store store.old store.new result (λ posting t. IsPosting t posting) }
     ensures fault { IfErr result MayFail }
