@@ -29,8 +29,16 @@ fn are_in_form(command: &Command, key: Option<&Key>)
     }
 }
 
-/// Books a command, where it is accepted, and keeps it under its key, where it has one. The only faults are want of memory and
-/// the store's; at one of them the store holds the rows that it held.
+/// Executes `command` at the clock reading `now` and, if it is accepted, commits it with its key in
+/// one transaction.
+///
+/// Returns `Done` with the reply after the commit, `Refused` with the first reason that applies,
+/// or, if `key` was accepted before, `Again` with the stored reply (same command) or refusal 19
+/// (another command).
+///
+/// Fails with `Memory` or `Store` only. A refusal, a stored reply or a fault changes nothing in the
+/// open store and records no key. After a fault, a crash may still find the command committed:
+/// retry under the same key.
 pub fn book<S: Alter>(
     alloc: Global,
     store: &mut Store<S>,

@@ -1,4 +1,4 @@
-//! A command and a key are in form: their fields are of types that hold nothing else.
+//! Commands and keys are well-formed: their fields are of types that hold no other values.
 
 ghost use Rattle.std.specs.Prelude.{◌≡◌};
 ghost use Rattle.std.specs.List.{AllByRecursion};
@@ -133,7 +133,7 @@ fn movement_is_in_form(movement: &Movement)
     }
 }
 
-/// The fields of a command are in form. There is nothing to call it for but this fact.
+/// States that a command is well-formed. Proof-only: does nothing at run time.
 pub fn command_is_in_form(command: &Command)
     ensures { IsInForm (command_of command.now) }
 {
@@ -153,7 +153,7 @@ pub fn command_is_in_form(command: &Command)
     }
 }
 
-/// The name and the number of a key are in form. There is nothing to call it for but this fact.
+/// States that a key is well-formed. Proof-only: does nothing at run time.
 pub fn key_is_in_form(key: &Key)
     ensures { IsKeyInForm (key_of key.now) }
 {
