@@ -29,8 +29,9 @@ pub fn a_made_store_keeps_the_empty_base<S: Alter>()
     ensures { (store : Held S) → Holds S.Store store no_rows → KeepsBase S.Store store empty_base }
 {}
 
-/// A store with rows that pass an audit, whose texts can be read, keeps the books of their base. So does one with the rows of an older
-/// schema that pass by its own conditions, moved to the third: the books are those of the rows that were moved.
+/// A store represents the base that its rows give, if these pass the audit of schema 3 and their
+/// texts are UTF-8. A store with the upgraded rows of an older schema represents the base that the
+/// older rows give, if these pass the audit of their own schema and their texts are UTF-8.
 pub fn an_adopted_store_keeps_its_books<S: Alter>()
     ensures rows { (store : Held S) (rows : Tables) → Holds S.Store store rows → IsTrue (has_texts rows) → Passes third_schema rows
         → KeepsBase S.Store store (base_of rows) }

@@ -62,10 +62,16 @@ impl<S: Alter> Desk<S> {
         Desk { store }
     }
 
-    /// Decides on a command at a moment and books it where it is accepted: by one change of the tables, after which the
-    /// store has committed what it holds. Under a key a command acts once: accepted it is kept, and where the key is kept the
-    /// same command is answered with its line, and another is refused with 19. At a refusal or a fault the tables are as
-    /// they were, and no key is kept.
+    /// Executes `command` at the clock reading `now` and, if it is accepted, commits it in one
+    /// transaction.
+    ///
+    /// Returns `Done` with the reply after the commit, `Refused` with the first reason that
+    /// applies, or, if `key` was accepted before, `Again` with the stored reply (same command) or
+    /// refusal 19 (another command).
+    ///
+    /// Fails with `Memory` or `Store` only. A refusal, a stored reply or a fault changes nothing in
+    /// the open store and records no key. After a fault, a crash may still find the command
+    /// committed: retry under the same key.
     pub fn call(
         &mut self,
         alloc: Global,

@@ -26,12 +26,23 @@ ghost use Rattle.brk_store.specs.Holds.{IsCreated};
 
 use sqlite::Alter;
 
-/// Whatever a stop leaves within a call or within a run of calls: where it is opened and adopted no audit finds it damaged, and the books
-/// stand of a base that was told, or of one with the command more that was under way. So it is within the making of the tables, unless
-/// what was left could be left before it. What stands then is what such a run begins with, so it goes on like this over any number of
-/// stops. It begins with tables that were just made, or with an adopted database, of whichever schema: the books are those of its rows.
-/// Whatever a stop leaves within an adoption, that of an older schema too, no later one finds it damaged, and where one goes well the
-/// books of the same rows stand.
+/// Recovery never reports damage: if a state that a crash exposed is opened and adopted, the
+/// adoption does not fail with `Damaged`; it may fail with `Memory` or `Store`. All of it under the
+/// disk assumption, that every read so far returned what was written.
+///
+/// `made`, `adopted`: once tables were created, or a database of any schema was adopted, the store
+/// represents the empty base, or the base that the rows give, and a crash exposes its tables only.
+///
+/// `call`, `run`: after a crash in a call or in a run of such a store, the adopted store represents
+/// an acknowledged base, or the base with one command more, and a crash exposes its tables only. So
+/// this holds for any number of crashes.
+///
+/// `making`: after a crash in the creation of the tables, the adopted store represents the empty
+/// base, unless the state was possible before; of such a state nothing is said.
+///
+/// `moving`: after a crash in an adoption of rows that pass the audit of their schema, an older one
+/// included, a later adoption finds no damage. If it succeeds, the store represents the base that
+/// the same rows give.
 pub fn what_a_stop_leaves_is_adopted<S: Alter>()
     ensures made { (conn store : Held S) → IsCreated S.Store conn store (Ok tt) → HasCleanDisk (state S.Store store) → StandsAlone S.Store store empty_base }
     ensures adopted { (trees : Trees) (conn store : Held S) → IsJustOpened S.Store trees conn → IsDefinedIn S.Store conn → IsAdopted S.Store conn store (Ok tt)
