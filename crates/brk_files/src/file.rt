@@ -35,14 +35,14 @@ fn connect(rt: &HostRuntime, path: &str) -> Result<Connection<FileStore<File>>, 
     }
 }
 
-// The desk of a connection.
+// Adopts the database of a connection.
 fn take<S: Alter>(alloc: Global, conn: Connection<S>) -> Result<Store<S>, (Connection<S>, Fault)>
     ensures { IfOk result (λ store. StandsOnRows S.Store store) }
 {
     Store::adopt(alloc, conn)
 }
 
-// The desk of a connection. Where it is none the file is closed all the same.
+// Adopts the database of a connection. If that fails, closes the file.
 fn adopt(rt: &HostRuntime, conn: Connection<FileStore<File>>) -> Result<FileDesk, Fault>
     requires { conn.in_transaction ≡ false }
     ensures { IfOk result (λ store. StandsOnRows over_files store) }
@@ -56,8 +56,10 @@ fn adopt(rt: &HostRuntime, conn: Connection<FileStore<File>>) -> Result<FileDesk
     }
 }
 
-/// Opens the desk in a file, or makes one where the file is missing or empty or has no table of a desk. A file of an older
-/// schema is moved. A desk that was made is closed and opened once more: so its tables stand in the file itself, and a file
+/// Opens the desk in the file at `path`, and upgrades a file of an older schema. Creates a desk if
+/// the file is missing or empty or has no table of a desk.
+///
+/// A new desk is closed and opened again, so that its tables are in the file itself, and a file
 /// that then loses its log is never taken for a new one.
 pub fn open_or_make(rt: &HostRuntime, path: &str) -> Result<FileDesk, Fault>
     ensures stands { IfOk result (λ store. StandsOnRows over_files store) }
@@ -83,8 +85,8 @@ fn is_missing(rt: &HostRuntime, path: &str) -> bool {
     }
 }
 
-/// Opens the desk in a file, and makes none: a file that is missing or empty has no desk's tables. A file of an older schema
-/// is moved.
+/// Opens the desk in the file at `path`, and upgrades a file of an older schema. Creates nothing:
+/// if the file is missing or empty, fails with `Damaged(Schema)`.
 pub fn open(rt: &HostRuntime, path: &str) -> Result<FileDesk, Fault>
     ensures stands { IfOk result (λ store. StandsOnRows over_files store) }
 {
