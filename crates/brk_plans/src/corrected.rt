@@ -10,7 +10,8 @@ pub struct Settled {
     pub cash_type: CashType,
 }
 
-/// What tells the text of what a completed cash trade moved (CT_NAME), and that text.
+/// A completed cash trade whose text (CM_NAME) may be updated: the facts that make the text, and
+/// the stored text.
 #[derive(Drop)]
 pub struct Paid {
     pub trade: Id,
