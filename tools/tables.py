@@ -1027,7 +1027,7 @@ def read_whole(d):
 def read_later_table(d):
     """The function that reads a table which not every schema has"""
     return f"""
-/// All rows of {d[1]}, in a schema that has it, and else none.
+/// All rows of {d[1]}, or none if `schema` lacks the table.
 pub fn {rows_name(d)}_in<S: Alter>(
     tx: &mut Transaction<'_, S>,
     alloc: Global,
@@ -1118,7 +1118,7 @@ pub struct RawSheets {{
     out += ''.join(read_group(word, field, tables) for word, field, _, tables in groups())
     call = lambda word: '(tx, alloc, schema)?' if word == 'Later' else '(tx)?'
     out += f"""
-/// Reads all tables of a schema.
+/// Reads the rows of all tables of `schema`. Those of a table that it lacks are none.
 pub fn read_raw<S: Alter>(
     tx: &mut Transaction<'_, S>,
     alloc: Global,
@@ -1342,7 +1342,7 @@ def sheets_code():
     """The sheets in code"""
     module = lambda d: record_meaning(d).removesuffix('_of')
     uses = sorted(f'use crate::{module(d)}::{record_type(d)};' for d in records_of('brk_changes'))
-    told = {'desk_row': 'The stamp of the last accepted command.', 'rule': 'The first day whose completions settle after one day, where one is set.'}
+    told = {'desk_row': 'The stamp of the last accepted command.', 'rule': 'The settlement day, if one is set: the first day whose completions settle after one day (SR_DAY).'}
     kind = lambda d: VALUES[d[0]][0] if d[0] in VALUES else f'Vec<{record_type(d)}>'
     fields = ''.join((f'    /// {told[d[0]]}\n' if d[0] in told else '') + f'    pub {sheet_field(d)}: {kind(d)},\n' for d in DATA)
     text = f"""{chr(10).join(uses)}
