@@ -38,7 +38,7 @@ NAMES = {
         'own': 'limit_word refusal_number refusal_words refusal_fields refusal_text condition_word fault_number',
         '—': 'same_type same_status same_side',
     },
-    'Records': {'own': 'Key Kept', 'Trade-Order': 'Executor'},
+    'Records': {'own': 'Key Kept Movement SettleRule', 'Trade-Order': 'Executor'},
     'Base': {
         'own': 'empty_base marked with_trades',
         'Trade-Order, Trade-Result': 'rates_of bears_tax is_taxed',
@@ -50,12 +50,13 @@ NAMES = {
         'Trade-Result (HOLDING_HISTORY)': 'history',
     },
     'Derived': {
+        'own': 'due_after Posting posting_of_trade posting_of_movement postings in_turn postings_of posted_to',
         'Trade-Order': 'holdings_of pending',
         'Trade-Result; calendar days are our own': 'settlement_days',
         'consistency conditions': 'summary_of trade_count_of commissions_of',
         'consistency conditions, with an opening of our own': 'balance_of',
     },
-    'Tables': {'own': 'no_rows tables_upon tables_of'},
+    'Tables': {'own': 'no_rows tables_upon tables_at tables_of MoveRow move_row numbered move_rows'},
     'Tests': {'Trade-Order': 'lacks_charge lacks_rate order_tests'},
     'Audit': {'consistency conditions for Summary, Count and Commission; the others are our own': 'Holds'},
 }
