@@ -1,5 +1,5 @@
 #!/usr/bin/env python3
-"""Writes the tables of docs/DEFINITIONS.md from the comments above the definitions of brk_money, brk_model and brk_web. The headings
+"""Writes the tables of docs/DEFINITIONS.md from the comments above the definitions of brk_money, brk_model and brk_http_model. The headings
 of that page and the text that stands elsewhere in it are written by hand: under a heading '### FILE' the script writes what
 the file's head says and a row for each of its definitions, in their order. Run it at the top of the repository after a change
 of a definition; `.ci/run` does so first. It prints nothing where all is well."""
@@ -7,7 +7,7 @@ import re
 import sys
 
 PAGE = 'docs/DEFINITIONS.md'
-CRATES = ['brk_money', 'brk_model', 'brk_web']
+CRATES = ['brk_money', 'brk_model', 'brk_http_model']
 
 # What a file's definitions are from, where that is not this project's own profile.
 FILES = {

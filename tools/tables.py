@@ -1,7 +1,7 @@
 #!/usr/bin/env python3
-"""Writes the files that follow from the list of tables and statements below: the shapes and cells of the tables (brk_tables_form), which
-text makes which table (brk_tables_making), the rows of a desk's tables in code (brk_changes), the names of all columns, the reads of
-whole tables and their decoding (brk_tables_whole), and what each SQL text means over any schema (in the crate of the statement). Run
+"""Writes the files that follow from the list of tables and statements below: the shapes and cells of the tables (brk_tables_schema), which
+text makes which table (brk_tables_create), the rows of a desk's tables in code (brk_changes), the names of all columns, the reads of
+whole tables and their decoding (brk_tables_scan), and what each SQL text means over any schema (in the crate of the statement). Run
 it at the top of the repository after a change of the list; `.ci/run` does so first. It lays out what it wrote by `rt fmt`, so where
 nothing changed it leaves the tree as it was, and it prints nothing. With `--texts` it prints the SQL texts as well, for the Rust code.
 What it writes is checked like any other file."""
@@ -10,9 +10,9 @@ import re
 import subprocess
 import sys
 
-OUT = 'crates/brk_tables_form/proofs'
-SPECS = 'crates/brk_tables_form/specs'
-MAKING = 'crates/brk_tables_making/proofs'
+OUT = 'crates/brk_tables_schema/proofs'
+SPECS = 'crates/brk_tables_schema/specs'
+MAKING = 'crates/brk_tables_create/proofs'
 
 # For each table: the SQL name, its name among the tables, the type of its rows, the key of a row, the list of its rows,
 # whether its key is the rowid, and its columns: name, kind, how a row r shows it, the table and column it names.
@@ -136,13 +136,13 @@ use Rattle.sqlite_draft.specs.declared.join.Step.TheVariants.{{Inner}}
 use Rattle.sqlite_draft.specs.declared.query.Draft.{{Draft}}
 use Rattle.sqlite_draft.specs.Query.{{query_of}}
 use Rattle.sqlite_tied.specs.Compute.{{everything}}
-use Rattle.brk_rows.specs.Partly.{{lowering}}
-use Rattle.brk_rows.specs.Desk.{{whole, text, perhaps, Stands}}
-use Rattle.brk_rows.proofs.Meant.{{meant, inserts, updates_or, deletes_or, reads_or}}
-use Rattle.brk_rows.proofs.Pick.{{selection, whole_page}}
-use Rattle.brk_rows.proofs.Scoped.{{over_one, column_is, heading_is}}
-use Rattle.brk_rows.proofs.Texts.{{read}}
-use Rattle.brk_tables_form.specs.Shapes.{{{table}}}
+use Rattle.brk_sql.specs.Partly.{{lowering}}
+use Rattle.brk_sql.specs.Desk.{{whole, text, perhaps, Stands}}
+use Rattle.brk_sql.proofs.Meant.{{meant, inserts, updates_or, deletes_or, reads_or}}
+use Rattle.brk_sql.proofs.Pick.{{selection, whole_page}}
+use Rattle.brk_sql.proofs.Scoped.{{over_one, column_is, heading_is}}
+use Rattle.brk_sql.proofs.Texts.{{read}}
+use Rattle.brk_tables_schema.specs.Shapes.{{{table}}}
 '''
 
 def is_named(name, body):
@@ -286,8 +286,8 @@ use Rattle.sqlite_resolve.specs.Expr.{lower}
 use Rattle.sqlite_resolve.specs.Order.{sorts}
 use Rattle.sqlite_resolve.specs.Body.{result, matching}
 use Rattle.sqlite_resolve.specs.Select.{outermost, inside}
-use Rattle.brk_rows.proofs.Selecting.{level_one, named_is, query_is}
-use Rattle.brk_rows.proofs.Looks.{no_returning}
+use Rattle.brk_sql.proofs.Selecting.{level_one, named_is, query_is}
+use Rattle.brk_sql.proofs.Looks.{no_returning}
 use Rattle.sqlite_resolve.specs.declared.compiled.Compiled.{Compiled}
 use Rattle.sqlite.specs.Listing.{understood}
 '''
@@ -417,7 +417,7 @@ def shapes():
     out = """-- Written by tools/tables.py: what the tables are made of, each at any tree.
 use Rattle.std.specs.Prelude.{ℕ, List, [], ◌∷◌, codes, Some, None}
 use Rattle.sqlite_schema.specs.declared.schema.Table.{Table}
-use Rattle.brk_rows.specs.Desk.{text, whole, perhaps, refers, table_of}
+use Rattle.brk_sql.specs.Desk.{text, whole, perhaps, refers, table_of}
 """
     for t, sql, w, row, key, rows, rowkey, cols in DATA:
         cs = lst(f'{k} ({q(c)})' for c, k, _, _ in cols)
@@ -490,10 +490,10 @@ use Rattle.brk_model.specs.Records.{{{RECORDS}}}
 use Rattle.brk_model.specs.Schemas.{{Schema, third_schema}}
 use Rattle.brk_model.specs.Tables.{{Tables, {ROWS}}}
 use Rattle.brk_model.specs.Keys.{{KeyPart, number, {', '.join(d[4] for d in DATA if d[4] not in OWN_KEYS)}}}
-use Rattle.brk_rows.specs.Desk.{{Desk}}
-use Rattle.brk_tables_form.specs.Shapes.{{{', '.join(d[0] for d in DATA)}}}
-use Rattle.brk_tables_form.specs.Cells.{{DeskRow, RuleRow, {', '.join(d[0] + '_cells' for d in DATA)}}}
-use Rattle.brk_tables_form.specs.Order.{{by_key_values}}
+use Rattle.brk_sql.specs.Desk.{{Desk}}
+use Rattle.brk_tables_schema.specs.Shapes.{{{', '.join(d[0] for d in DATA)}}}
+use Rattle.brk_tables_schema.specs.Cells.{{DeskRow, RuleRow, {', '.join(d[0] + '_cells' for d in DATA)}}}
+use Rattle.brk_tables_schema.specs.Order.{{by_key_values}}
 
 -- the tables by name
 pub data Which : Type 0 where
@@ -577,7 +577,7 @@ def splits():
     out = f"""-- Written by tools/tables.py: whether a table is a certain one.
 use Rattle.std.proofs.Common.{{◌≡◌, ◌≢◌, ◌⊎◌, refl, inl, inr}}
 use Rattle.sqlite_rules.specs.Lists.{{Has}}
-use Rattle.brk_tables_form.specs.Desk.{{Which, {', '.join(d[2] for d in DATA)}, all_tables}}
+use Rattle.brk_tables_schema.specs.Desk.{{Which, {', '.join(d[2] for d in DATA)}, all_tables}}
 """
     for d in DATA:
         out += f"""
@@ -621,15 +621,15 @@ def making():
 use Rattle.std.proofs.Common.{{◌≡◌, ℕ, List, [], ◌∷◌, codes, Ok, refl, inl, inr}}
 use Rattle.sqlite.specs.State.{{State, Executes}}
 use Rattle.sqlite_tied.specs.Compute.{{everything}}
-use Rattle.brk_rows.specs.Desk.{{Makes}}
-use Rattle.brk_rows.proofs.Texts.{{read}}
-use Rattle.brk_rows.proofs.Created.{{makes}}
-use Rattle.brk_rows.proofs.Founded.{{Among}}
+use Rattle.brk_sql.specs.Desk.{{Makes}}
+use Rattle.brk_sql.proofs.Texts.{{read}}
+use Rattle.brk_sql.proofs.Created.{{makes}}
+use Rattle.brk_sql.proofs.Founded.{{Among}}
 use Rattle.brk_model.specs.Tables.{{no_rows}}
-use Rattle.brk_tables_form.specs.Shapes.{{{', '.join(d[0] for d in DATA)}}}
-use Rattle.brk_tables_form.specs.Desk.{{Which, {', '.join(d[2] for d in DATA)}, shape, all_tables}}
-use Rattle.brk_tables_form.proofs.Wide.{{Wide, wide, wide_list}}
-use Rattle.brk_tables_making.specs.Texts.{{create_text}}
+use Rattle.brk_tables_schema.specs.Shapes.{{{', '.join(d[0] for d in DATA)}}}
+use Rattle.brk_tables_schema.specs.Desk.{{Which, {', '.join(d[2] for d in DATA)}, shape, all_tables}}
+use Rattle.brk_tables_schema.proofs.Wide.{{Wide, wide, wide_list}}
+use Rattle.brk_tables_create.specs.Texts.{{create_text}}
 
 -- the tables without rows, that of DESK too
 abbrev pub bare : Wide
@@ -667,9 +667,9 @@ def since():
 def texts():
     out = f"""-- Written by tools/tables.py: the tables as the code names them, and their texts.
 use Rattle.std.specs.Prelude.{{ℕ, List, ◌++◌, codes}}
-use Rattle.brk_tables_form.specs.Desk.{{Which, {', '.join(d[2] for d in DATA)}, name_of}}
-use Rattle.brk_tables_making.specs.declared.table.Table.{{Table}}
-use Rattle.brk_tables_making.specs.declared.table.Table.TheVariants as table
+use Rattle.brk_tables_schema.specs.Desk.{{Which, {', '.join(d[2] for d in DATA)}, name_of}}
+use Rattle.brk_tables_create.specs.declared.table.Table.{{Table}}
+use Rattle.brk_tables_create.specs.declared.table.Table.TheVariants as table
 
 abbrev pub which_of : Table → Which
 {chr(10).join(f'which_of table.{d[2]} = {d[2]}' for d in DATA)}
@@ -682,7 +682,7 @@ abbrev pub create_text : Which → List ℕ
 abbrev pub probe_text : Which → List ℕ
 probe_text w = codes "DELETE FROM " ++ name_of w
 """
-    save('crates/brk_tables_making/specs/Texts.antt', out)
+    save('crates/brk_tables_create/specs/Texts.antt', out)
     def function(name, what, contract, text):
         return f"""
     /// {what}
@@ -697,7 +697,7 @@ probe_text w = codes "DELETE FROM " ++ name_of w
     out = f"""//! Written by tools/tables.py: the tables of a desk, and their texts.
 
 ghost use Rattle.std.specs.Prelude.{{◌≡◌}};
-ghost use Rattle.brk_tables_making.specs.Texts.{{create_text, probe_text, which_of}};
+ghost use Rattle.brk_tables_create.specs.Texts.{{create_text, probe_text, which_of}};
 
 /// A table of a desk.
 #[derive(Clone, Copy)]
@@ -712,7 +712,7 @@ impl Table {{{function('create_text', 'The text that makes it.', 'create_text', 
 /// {what[0].upper()}{what[1:]}.
 pub const {name.upper()}: [Table; {len(tables)}] = [{', '.join(f'Table::{d[2]}' for d in tables)}];
 """
-    save('crates/brk_tables_making/src/table.rt', out)
+    save('crates/brk_tables_create/src/table.rt', out)
 
 def probing():
     out = f"""-- Written by tools/tables.py: what a statement that is looked at, and not run, tells of a table.
@@ -720,12 +720,12 @@ use Rattle.std.proofs.Common.{{◌≡◌, ℕ, List, codes, Bool, refl}}
 use Rattle.sqlite_schema.specs.declared.schema.Schema.{{Schema}}
 use Rattle.sqlite.specs.Listing.{{listing_schema}}
 use Rattle.sqlite_tied.specs.Compute.{{everything}}
-use Rattle.brk_rows.specs.Desk.{{Probes}}
-use Rattle.brk_rows.proofs.Probe.{{probed}}
-use Rattle.brk_rows.proofs.Texts.{{read}}
-use Rattle.brk_tables_form.specs.Desk.{{Which, {', '.join(d[2] for d in DATA)}}}
-use Rattle.brk_tables_making.specs.Present.{{is_named}}
-use Rattle.brk_tables_making.specs.Texts.{{probe_text}}
+use Rattle.brk_sql.specs.Desk.{{Probes}}
+use Rattle.brk_sql.proofs.Probe.{{probed}}
+use Rattle.brk_sql.proofs.Texts.{{read}}
+use Rattle.brk_tables_schema.specs.Desk.{{Which, {', '.join(d[2] for d in DATA)}}}
+use Rattle.brk_tables_create.specs.Present.{{is_named}}
+use Rattle.brk_tables_create.specs.Texts.{{probe_text}}
 """
     for d in DATA:
         out += f"""
@@ -767,17 +767,17 @@ use Rattle.sqlite_resolve.specs.declared.compiled.Compiled.{{Compiled}}
 use Rattle.sqlite.specs.Listing.{{listing_schema, understood}}
 use Rattle.sqlite.specs.Steps.{{column_names}}
 use Rattle.sqlite_tied.specs.Compute.{{everything}}
-use Rattle.brk_rows.proofs.Stars.{{shown_columns}}
-use Rattle.brk_rows.proofs.Texts.{{read}}
-use Rattle.brk_tables_form.specs.Desk.{{Which, {', '.join(d[2] for d in DATA)}, shape}}
-use Rattle.brk_tables_whole.specs.Headings.{{star}}
+use Rattle.brk_sql.proofs.Stars.{{shown_columns}}
+use Rattle.brk_sql.proofs.Texts.{{read}}
+use Rattle.brk_tables_schema.specs.Desk.{{Which, {', '.join(d[2] for d in DATA)}, shape}}
+use Rattle.brk_tables_scan.specs.Headings.{{star}}
 
 pub columns_told : (w : Which) (schema : Schema) (at : ℕ) (table : Table) → table_named schema (shape w 0).name ≡ Some at → slice_get schema.tables at ≡ Some table
     → (c : Compiled) → understood schema (star w) ≡ Ok c → column_names c ≡ map (λ c. c.name) table.columns
 unfolding everything listing_schema
 """
     out += ''.join(f'columns_told {d[2]} = shown_columns (star {d[2]}) (read (star {d[2]})) ({q(d[1])}) refl refl refl refl\n' for d in DATA)
-    save('crates/brk_tables_whole/proofs/Stars.antt', out)
+    save('crates/brk_tables_scan/proofs/Stars.antt', out)
 
 def column_names():
     names = lambda d: ', '.join(f'"{c}"' for c, _, _, _ in d[7])
@@ -789,13 +789,13 @@ def column_names():
 pub(crate) const {name.upper()}: [(&str, &[&str]); {len(tables)}] = [
 """
         out += ''.join(f'("{star_text(d)}", &[{names(d)}]),\n' for d in tables) + '];\n'
-    save('crates/brk_tables_whole/src/column_names.rt', out)
+    save('crates/brk_tables_scan/src/column_names.rt', out)
 
 def listed():
     out = f"""-- Written by tools/tables.py: the name of a table and the names of its columns are no matter of its tree.
 use Rattle.std.proofs.Common.{{◌≡◌, ℕ, refl}}
-use Rattle.brk_tables_form.specs.Desk.{{Which, {', '.join(d[2] for d in DATA)}, shape}}
-use Rattle.brk_tables_whole.specs.Schemas.{{names_of}}
+use Rattle.brk_tables_schema.specs.Desk.{{Which, {', '.join(d[2] for d in DATA)}, shape}}
+use Rattle.brk_tables_scan.specs.Schemas.{{names_of}}
 
 pub same_name_at : (w : Which) (i j : ℕ) → (shape w i).name ≡ (shape w j).name
 {chr(10).join(f'same_name_at {d[2]} i j = refl' for d in DATA)}
@@ -803,17 +803,17 @@ pub same_name_at : (w : Which) (i j : ℕ) → (shape w i).name ≡ (shape w j).
 pub names_alike : (w : Which) (m n : ℕ) → names_of (shape w m) ≡ names_of (shape w n)
 {chr(10).join(f'names_alike {d[2]} m n = refl' for d in DATA)}
 """
-    save('crates/brk_tables_whole/proofs/Listed.antt', out)
+    save('crates/brk_tables_scan/proofs/Listed.antt', out)
 
 # for each crate: its statements, each with its name, its table, and what it takes
 STATEMENTS = {
-    'brk_tables_form': [
+    'brk_tables_schema': [
         (insert, 'AddKept', 'kept', [1, 2, 3, 4]),
         (update, 'SetLast', 'desk_row', [('D_LAST', 1)], [('D_ID', 2)]),
         (select, 'DeskRows', 'desk_row', [], [('D_ID', False)]),
         (select, 'KeptByKey', 'kept', [('K_BATCH', 1), ('K_N', 2)], [('K_BATCH', False), ('K_N', False)]),
     ],
-    'brk_tables_making': [
+    'brk_tables_create': [
         (insert, 'AddDesk', 'desk_row', [('lit', 1), ('lit', 3), 'null']),
     ],
     'brk_tables_reference': [
@@ -888,7 +888,7 @@ STATEMENTS = {
         (select, 'RuleRows', 'rule', [], [('SR_ID', False)]),
         (update, 'SetSchema', 'desk_row', [('D_SCHEMA', 1)], [('D_ID', 2)]),
     ],
-    'brk_tables_moving': [
+    'brk_tables_upgrade': [
         (select, 'CashByStamp', 'cash', [], [('CT_DTS', False), ('CT_T_ID', False)]),
         (select, 'AccountOfTrade', 'trade', [('T_ID', 1)], [('T_ID', False)], None, ['T_CA_ID']),
     ],
@@ -915,7 +915,7 @@ def whole_name(d):
     return f'All{d[2].removeprefix("The")}'
 
 # the reads of whole tables
-STATEMENTS['brk_tables_whole'] = [(select, whole_name(d), d[0], [], [(c, False) for c in key_columns(d)]) for d in DATA]
+STATEMENTS['brk_tables_scan'] = [(select, whole_name(d), d[0], [], [(c, False) for c in key_columns(d)]) for d in DATA]
 
 def cell_at(d, c, row):
     """How a row shows a column"""
@@ -930,14 +930,14 @@ use Rattle.sqlite_value.specs.Order.{{Row, column}}
 use Rattle.sqlite.specs.State.{{State, Shown}}
 use Rattle.brk_money.specs.Kinds.{{type_code, status_code}}
 use Rattle.brk_model.specs.Keys.{{{', '.join(d[4] for d in DATA if d[4] not in OWN_KEYS)}}}
-use Rattle.brk_rows.proofs.Texts.{{read}}
-use Rattle.brk_tables_form.specs.Cells.{{nat}}
-use Rattle.brk_tables_form.specs.Desk.{{{', '.join(d[2] for d in DATA)}, desk_key, rule_key}}
-use Rattle.brk_tables_form.proofs.Order.{{key_total}}
-use Rattle.brk_tables_whole.specs.Whole.{{ShowsAll}}
-use Rattle.brk_tables_whole.proofs.Whole.{{shows_all}}
-use Rattle.brk_tables_whole.proofs.Keyed.{{{', '.join(d[0] + '_once' for d in DATA)}}}
-{chr(10).join(f'use Rattle.brk_tables_whole.proofs.{whole_name(d)}' for d in DATA)}
+use Rattle.brk_sql.proofs.Texts.{{read}}
+use Rattle.brk_tables_schema.specs.Cells.{{nat}}
+use Rattle.brk_tables_schema.specs.Desk.{{{', '.join(d[2] for d in DATA)}, desk_key, rule_key}}
+use Rattle.brk_tables_schema.proofs.Order.{{key_total}}
+use Rattle.brk_tables_scan.specs.Whole.{{ShowsAll}}
+use Rattle.brk_tables_scan.proofs.Whole.{{shows_all}}
+use Rattle.brk_tables_scan.proofs.Keyed.{{{', '.join(d[0] + '_once' for d in DATA)}}}
+{chr(10).join(f'use Rattle.brk_tables_scan.proofs.{whole_name(d)}' for d in DATA)}
 """
     for d in DATA:
         n = whole_name(d)
@@ -950,7 +950,7 @@ pub {d[0]}_shown : (old new : State) (rows : List Row) → Shown {n}.statement [
     shows_all {d[2]} (key_total {d[4]}) {d[0]}_once {n}.statement (read {n}.statement) {n}.project {n}.order {n}.names {n}.understood_as (λ tree r. refl)
     (λ tree a b x y e f. {lets}rw ({rws}) refl) old new rows shown
 """
-    save('crates/brk_tables_whole/proofs/Shown.antt', out)
+    save('crates/brk_tables_scan/proofs/Shown.antt', out)
 
 # The tables in groups of four, as they are read and decoded; the last group is of the tables that later schemas add. Of each the
 # word its types begin with, its field, and its variable in proofs.
@@ -1050,18 +1050,18 @@ def rows_code():
 
 ghost use Rattle.std.specs.Prelude.{{◌≡◌, Err, OnErr}};
 ghost use Rattle.brk_money.specs.declared.fault.Fault.TheVariants.{{Store}};
-ghost use Rattle.brk_tables_form.specs.Desk.{{{WHICHES}}};
+ghost use Rattle.brk_tables_schema.specs.Desk.{{{WHICHES}}};
 ghost use Rattle.brk_changes.specs.Schemas.{{schema_of}};
-ghost use Rattle.brk_tables_whole.specs.Whole.{{ReadsIf, ReadsWhole}};
+ghost use Rattle.brk_tables_scan.specs.Whole.{{ReadsIf, ReadsWhole}};
 
 use brk_changes::Schema;
 use brk_money::Fault;
-use brk_tables_form::calls::select;
+use brk_tables_schema::calls::select;
 use sqlite::{{Alter, Row, Transaction}};
 use std::alloc::Global;
 """
     out += ''.join(read_whole(d) for d in DATA) + ''.join(read_later_table(d) for d in DATA if d[0] in LATER)
-    save('crates/brk_tables_whole/src/rows.rt', out)
+    save('crates/brk_tables_scan/src/rows.rt', out)
 
 def raw_struct(word, tables):
     """The rows of a group's tables"""
@@ -1098,8 +1098,8 @@ def raw_code():
 
 ghost use Rattle.std.specs.Prelude.{{◌≡◌, Err, OnErr}};
 ghost use Rattle.brk_money.specs.declared.fault.Fault.TheVariants.{{Store}};
-ghost use Rattle.brk_rows.specs.Model.{{Steps}};
-ghost use Rattle.brk_tables_whole.specs.Raw.{{{', '.join(f'Shows{group[0]}' for group in GROUPS)}, ShowsDesk}};
+ghost use Rattle.brk_sql.specs.Model.{{Steps}};
+ghost use Rattle.brk_tables_scan.specs.Raw.{{{', '.join(f'Shows{group[0]}' for group in GROUPS)}, ShowsDesk}};
 ghost use Rattle.brk_changes.specs.Schemas.{{schema_of}};
 
 use crate::rows::{{{', '.join(reads)}}};
@@ -1132,7 +1132,7 @@ pub fn read_raw<S: Alter>(
 {''.join(f'        {field}: read_{field}{call(word)},{chr(10)}' for word, field, _ in GROUPS)}    }})
 }}
 """
-    save('crates/brk_tables_whole/src/raw.rt', out)
+    save('crates/brk_tables_scan/src/raw.rt', out)
 
 def decode_group(word, field, tables):
     """The rows of a group in types, and the function that decodes them"""
@@ -1162,18 +1162,18 @@ def decoding_code():
     out = f"""//! The rows of all tables in types.
 
 ghost use Rattle.std.specs.Prelude.{{◌≡◌, Err, IfOk, false}};
-ghost use Rattle.brk_tables_form.specs.declared.misread.Misread.TheVariants.{{Form as Formless}};
-ghost use Rattle.brk_tables_whole.specs.Decoded.{{AreSheets, {', '.join(f'Is{group[0]}' for group in GROUPS)}, formed, {', '.join(f'formed_{group[1]}' for group in GROUPS)}}};
+ghost use Rattle.brk_tables_schema.specs.declared.misread.Misread.TheVariants.{{Form as Formless}};
+ghost use Rattle.brk_tables_scan.specs.Decoded.{{AreSheets, {', '.join(f'Is{group[0]}' for group in GROUPS)}, formed, {', '.join(f'formed_{group[1]}' for group in GROUPS)}}};
 ghost use Rattle.brk_changes.specs.Schemas.{{schema_of}};
 
 use crate::raw::{{{', '.join(sorted([f'{group[0]}Rows' for group in GROUPS] + ['RawSheets']))}}};
 use brk_changes::{{{types('brk_changes', 'Schema', 'Sheets')}}};
 use brk_money::{{Day, Stamp}};
 use brk_ref::{{{types('brk_ref')}}};
-use brk_tables_form::Misread;
-use brk_tables_form::desk_row::stamp_in_rows;
-use brk_tables_form::record::all_records;
-use brk_tables_form::rule_row::day_in_rows;
+use brk_tables_schema::Misread;
+use brk_tables_schema::desk_row::stamp_in_rows;
+use brk_tables_schema::record::all_records;
+use brk_tables_schema::rule_row::day_in_rows;
 use std::alloc::Global;
 """
     out += ''.join(decode_group(word, field, tables) for word, field, _, tables in groups())
@@ -1188,11 +1188,11 @@ pub fn decode(alloc: Global, schema: Schema, raw: &RawSheets) -> Result<Sheets, 
 {''.join(f'        {sheet_field(d)}: {field}.{sheet_field(d)},{chr(10)}' for _, field, _, tables in groups() for d in tables)}    }})
 }}
 """
-    save('crates/brk_tables_whole/src/decoding.rt', out)
+    save('crates/brk_tables_scan/src/decoding.rt', out)
 
 def declared(module, suffix):
     """The imports of the types of a group"""
-    return '\n'.join(f'use Rattle.brk_tables_whole.specs.declared.{module}.{word}{suffix}.{{{word}{suffix}}}' for word, _, _ in GROUPS)
+    return '\n'.join(f'use Rattle.brk_tables_scan.specs.declared.{module}.{word}{suffix}.{{{word}{suffix}}}' for word, _, _ in GROUPS)
 
 def meanings():
     """The imports of what rows in code are in the model"""
@@ -1206,11 +1206,11 @@ def raw_spec():
 use Rattle.std.specs.Prelude.{{◌≡◌, List, IsTrue}}
 use Rattle.sqlite_value.specs.Order.{{Row}}
 use Rattle.sqlite.specs.State.{{State}}
-use Rattle.brk_tables_form.specs.Desk.{{Which, {WHICHES}}}
+use Rattle.brk_tables_schema.specs.Desk.{{Which, {WHICHES}}}
 use Rattle.brk_model.specs.Schemas.{{Schema}}
-use Rattle.brk_tables_whole.specs.Whole.{{ShowsAll, ShowsIf}}
+use Rattle.brk_tables_scan.specs.Whole.{{ShowsAll, ShowsIf}}
 {declared('raw', 'Rows')}
-use Rattle.brk_tables_whole.specs.declared.raw.RawSheets.{{RawSheets}}
+use Rattle.brk_tables_scan.specs.declared.raw.RawSheets.{{RawSheets}}
 
 -- nothing changed, and the database is open
 abbrev pub Stays : State → State → Type 0
@@ -1243,7 +1243,7 @@ abbrev pub raw_rows : RawSheets → Which → List Row
 abbrev pub ShowsDesk : Schema → RawSheets → State → State → Type 0
 ShowsDesk desk raw old new = Stays old new × ((w : Which) → ShowsIf desk w (raw_rows raw w) old.now)
 """
-    save('crates/brk_tables_whole/specs/Raw.antt', out)
+    save('crates/brk_tables_scan/specs/Raw.antt', out)
 
 def decoded_group(word, field, tables):
     """That the sheets of a group are its rows in types, and whether these have their forms"""
@@ -1272,11 +1272,11 @@ use Rattle.brk_model.specs.Schemas.{{Schema}}
 {meanings()}
 use Rattle.brk_changes.specs.Sheets.{{tables_in_sheets}}
 use Rattle.brk_changes.specs.declared.sheets.Sheets.{{Sheets}}
-use Rattle.brk_tables_form.specs.Cells.{{{CELLS}}}
-use Rattle.brk_tables_form.specs.Desk.{{Which, desk_rows, rule_rows, encode, list_in}}
-use Rattle.brk_tables_form.specs.Formed.{{all_formed, {forms}}}
-use Rattle.brk_tables_whole.specs.Raw.{{raw_rows}}
-use Rattle.brk_tables_whole.specs.declared.raw.RawSheets.{{RawSheets}}
+use Rattle.brk_tables_schema.specs.Cells.{{{CELLS}}}
+use Rattle.brk_tables_schema.specs.Desk.{{Which, desk_rows, rule_rows, encode, list_in}}
+use Rattle.brk_tables_schema.specs.Formed.{{all_formed, {forms}}}
+use Rattle.brk_tables_scan.specs.Raw.{{raw_rows}}
+use Rattle.brk_tables_scan.specs.declared.raw.RawSheets.{{RawSheets}}
 {declared('raw', 'Rows')}
 {declared('decoding', 'Sheets')}
 """
@@ -1291,7 +1291,7 @@ formed desk raw = {' && '.join(f'formed_{field} {desk(word)}raw.{field}' for wor
 abbrev pub AreSheets : Schema → Sheets → RawSheets → Type 0
 AreSheets desk sheets raw = (w : Which) → map (encode w) (list_in desk w (tables_in_sheets sheets)) ≡ raw_rows raw w
 """
-    save('crates/brk_tables_whole/specs/Decoded.antt', out)
+    save('crates/brk_tables_scan/specs/Decoded.antt', out)
 
 def sheeted():
     """That the rows in types are the sheets"""
@@ -1302,14 +1302,14 @@ def sheeted():
     twice = lambda d, v: '' if d[0] in VALUES else f'map_twice {d[0]}_cells {record_meaning(d)} {v}.{sheet_field(d)}.items ∙ '
     out = f"""-- The rows of all tables in types are the sheets.
 use Rattle.std.proofs.Common.{{◌∙◌}}
-use Rattle.brk_rows.proofs.Order.{{map_twice}}
+use Rattle.brk_sql.proofs.Order.{{map_twice}}
 use Rattle.brk_model.specs.Schemas.{{Schema}}
 {meanings()}
 use Rattle.brk_changes.specs.declared.sheets.Sheets.{{Sheets}}
-use Rattle.brk_tables_form.specs.Cells.{{{cells}}}
-use Rattle.brk_tables_form.specs.Desk.{{{WHICHES}}}
-use Rattle.brk_tables_whole.specs.Decoded.{{AreSheets, {', '.join(f'Is{group[0]}' for group in GROUPS)}}}
-use Rattle.brk_tables_whole.specs.declared.raw.RawSheets.{{RawSheets}}
+use Rattle.brk_tables_schema.specs.Cells.{{{cells}}}
+use Rattle.brk_tables_schema.specs.Desk.{{{WHICHES}}}
+use Rattle.brk_tables_scan.specs.Decoded.{{AreSheets, {', '.join(f'Is{group[0]}' for group in GROUPS)}}}
+use Rattle.brk_tables_scan.specs.declared.raw.RawSheets.{{RawSheets}}
 {declared('decoding', 'Sheets')}
 
 module _ {sheets} (desk : Schema) (raw : RawSheets) {are} where
@@ -1319,7 +1319,7 @@ module _ {sheets} (desk : Schema) (raw : RawSheets) {are} where
   pub are_sheets : AreSheets desk sheets raw
 {chr(10).join(f'  are_sheets {d[2]} = {twice(d, v)}is_{v}.{raw_field(d)}' for _, _, v, tables in groups() for d in tables)}
 """
-    save('crates/brk_tables_whole/proofs/Sheeted.antt', out)
+    save('crates/brk_tables_scan/proofs/Sheeted.antt', out)
 
 def sheets_spec():
     """What the sheets are in the model"""

@@ -5,7 +5,7 @@ use Rattle.std.specs.Option.{option_map_or}
 use Rattle.std.specs.Ordering.{nat_cmp}
 use Rattle.std.specs.BTreeMap.{BTreeMap, get}
 use Rattle.brk_money.specs.declared.tax_status.TaxStatus.TheVariants.{Untaxed}
-use Rattle.brk_book_laws.proofs.Reading.{find-map}
+use Rattle.brk_book_theorems.proofs.Reading.{find-map}
 use Rattle.brk_ref.specs.Records.{account_row_of}
 use Rattle.brk_ref.specs.declared.account.AccountRow.{AccountRow}
 use Rattle.brk_changes.specs.Sheets.{tables_in_sheets}

@@ -11,8 +11,8 @@ use Rattle.brk_model.specs.Audit.{Holds}
 use Rattle.brk_model.specs.Form.{has_form}
 use Rattle.brk_model.specs.Schemas.{Schema}
 use Rattle.brk_model.specs.Tables.{Tables, TradeRow}
-use Rattle.brk_book_laws.proofs.Orders.{Ascends, ascends, ascends_map}
-use Rattle.brk_book_laws.proofs.Same.{All-of, map-same}
+use Rattle.brk_book_theorems.proofs.Orders.{Ascends, ascends, ascends_map}
+use Rattle.brk_book_theorems.proofs.Same.{All-of, map-same}
 use Rattle.brk_changes.specs.Rows.{cash_row_of, move_row_of, trade_row_of}
 use Rattle.brk_changes.specs.Sheets.{tables_in_sheets}
 use Rattle.brk_changes.specs.declared.sheets.Sheets.{Sheets}

@@ -23,18 +23,18 @@ use Rattle.brk_model.specs.Adopted.{base_of, is_posted_by, movement_of_row, post
 use Rattle.brk_model.specs.Form.{has_form, trades_moved}
 use Rattle.brk_model.specs.Ways.{has_status_rows, trade_status}
 use Rattle.brk_model.specs.Audit.{Holds, expected}
-use Rattle.brk_book_laws.specs.Books.{IsBooks, IsOtherwhen, MomentsApart, MovementsApart}
-use Rattle.brk_book_laws.proofs.Order.{All-insert}
-use Rattle.brk_book_laws.proofs.LotReading.{All-sort}
-use Rattle.brk_book_laws.proofs.Orders.{Ascends, Rises, SameSums, one_order, permuted, sum_append, sum_map, sum_sort}
-use Rattle.brk_book_laws.proofs.Postings.{numbered_stay}
-use Rattle.brk_book_laws.proofs.Same.{All-append, All-filter, All-map, All-mapped, All-of, map-same}
-use Rattle.brk_adoption_laws.proofs.AdoptedBooks.{adopted_books}
-use Rattle.brk_adoption_laws.proofs.Climbs.{Climbs, In, climbs_filter, each_in, of_all}
-use Rattle.brk_adoption_laws.proofs.Members.{map-map}
-use Rattle.brk_adoption_laws.proofs.Parts.{key_parts}
-use Rattle.brk_model_laws.specs.FormParts.{FormParts}
-use Rattle.brk_model_laws.proofs.FormParts.{form_parts}
+use Rattle.brk_book_theorems.specs.Books.{IsBooks, IsOtherwhen, MomentsApart, MovementsApart}
+use Rattle.brk_book_theorems.proofs.Order.{All-insert}
+use Rattle.brk_book_theorems.proofs.LotReading.{All-sort}
+use Rattle.brk_book_theorems.proofs.Orders.{Ascends, Rises, SameSums, one_order, permuted, sum_append, sum_map, sum_sort}
+use Rattle.brk_book_theorems.proofs.Postings.{numbered_stay}
+use Rattle.brk_book_theorems.proofs.Same.{All-append, All-filter, All-map, All-mapped, All-of, map-same}
+use Rattle.brk_audit_theorems.proofs.AdoptedBooks.{adopted_books}
+use Rattle.brk_audit_theorems.proofs.Climbs.{Climbs, In, climbs_filter, each_in, of_all}
+use Rattle.brk_audit_theorems.proofs.Members.{map-map}
+use Rattle.brk_audit_theorems.proofs.Parts.{key_parts}
+use Rattle.brk_model_theorems.specs.FormParts.{FormParts}
+use Rattle.brk_model_theorems.proofs.FormParts.{form_parts}
 use Rattle.brk_money.specs.Spelling.{Text}
 use Rattle.brk_audit.specs.Settling.{Posted, is_done_in_cash, is_in_turn, posted_by, posted_in, tax_status_at}
 use Rattle.brk_audit.proofs.Completed.{right_rows, row_moment}

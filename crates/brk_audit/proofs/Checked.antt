@@ -10,9 +10,9 @@ use Rattle.brk_changes.specs.Rows.{move_row_of, trade_row_of}
 use Rattle.brk_changes.specs.declared.trade_row.TradeRow as trade
 use Rattle.brk_changes.specs.declared.move_row.MoveRow as move
 use Rattle.brk_audit.specs.Sums.{movement_posting}
-use Rattle.brk_book_laws.proofs.Places.{filter-append}
-use Rattle.brk_book_laws.proofs.Worth.{total-append}
-use Rattle.brk_book_laws.proofs.Same.{All-map, All-mapped, All-of, filter-same, total_by-same}
+use Rattle.brk_book_theorems.proofs.Places.{filter-append}
+use Rattle.brk_book_theorems.proofs.Worth.{total-append}
+use Rattle.brk_book_theorems.proofs.Same.{All-map, All-mapped, All-of, filter-same, total_by-same}
 use Rattle.brk_audit.specs.declared.tally.Posting.{Posting}
 use Rattle.brk_audit.specs.Tally.{total_at}
 use Rattle.brk_audit.proofs.Postings.{total_mapped, total_posted}

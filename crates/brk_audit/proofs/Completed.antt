@@ -12,10 +12,10 @@ use Rattle.brk_model.specs.Derived.{pending}
 use Rattle.brk_model.specs.Tables.{Tables, TradeRow}
 use Rattle.brk_model.specs.Adopted.{base_of, trade_of_row}
 use Rattle.brk_model.specs.Ways.{completion_stamps, movement_stamps, has_status_rows, trade_status}
-use Rattle.brk_book_laws.proofs.Same.{All-map, All-filter, filter-same}
-use Rattle.brk_adoption_laws.proofs.Climbs.{list_all_true}
-use Rattle.brk_adoption_laws.proofs.Marks.{Lasts, lasts, same_statuses}
-use Rattle.brk_adoption_laws.proofs.AdoptedBooks.{filter-map}
+use Rattle.brk_book_theorems.proofs.Same.{All-map, All-filter, filter-same}
+use Rattle.brk_audit_theorems.proofs.Climbs.{list_all_true}
+use Rattle.brk_audit_theorems.proofs.Marks.{Lasts, lasts, same_statuses}
+use Rattle.brk_audit_theorems.proofs.AdoptedBooks.{filter-map}
 use Rattle.brk_audit.specs.Completed.{done_rows, is_done, is_waiting, waiting_rows}
 
 -- each trade's statuses are right

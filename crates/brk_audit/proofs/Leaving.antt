@@ -14,15 +14,15 @@ use Rattle.brk_lots.specs.declared.lot.Lot.{Lot}
 use Rattle.brk_lots.specs.Lots.{plain_lot}
 use Rattle.brk_lots.proofs.Ends.{walk_of}
 use Rattle.brk_lots.proofs.Plain.{lots_walk}
-use Rattle.brk_book_laws.specs.Books.{IsBooks}
-use Rattle.brk_book_laws.specs.TradeReads.{lots_in, position_in, row_lot}
-use Rattle.brk_book_laws.proofs.LotOrder.{position_read, shares_read}
-use Rattle.brk_book_laws.proofs.LotReading.{All-sort, all_pass}
-use Rattle.brk_book_laws.proofs.Places.{filter-all, filter-append}
-use Rattle.brk_book_laws.proofs.Same.{All-map, All-of, filter-none}
-use Rattle.brk_adoption_laws.proofs.Climbs.{In}
+use Rattle.brk_book_theorems.specs.Books.{IsBooks}
+use Rattle.brk_book_theorems.specs.TradeReads.{lots_in, position_in, row_lot}
+use Rattle.brk_book_theorems.proofs.LotOrder.{position_read, shares_read}
+use Rattle.brk_book_theorems.proofs.LotReading.{All-sort, all_pass}
+use Rattle.brk_book_theorems.proofs.Places.{filter-all, filter-append}
+use Rattle.brk_book_theorems.proofs.Same.{All-map, All-of, filter-none}
+use Rattle.brk_audit_theorems.proofs.Climbs.{In}
 use Rattle.brk_audit.specs.Positions.{Leave, lot_row, nothing, position, row_deal, run_rows, same_place}
-use Rattle.brk_book_laws.proofs.Orders.{sum_append, sum_both, sum_filter, sum_same, sum_sort}
+use Rattle.brk_book_theorems.proofs.Orders.{sum_append, sum_both, sum_filter, sum_same, sum_sort}
 use Rattle.brk_audit.proofs.Places.{all_back, at_one, one_place, same_self}
 
 -- ---- rows of lots at a trade's position

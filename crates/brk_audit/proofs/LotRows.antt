@@ -31,26 +31,26 @@ use Rattle.brk_model.specs.Form.{has_account, has_security, is_id, is_price, is_
 use Rattle.brk_changes.specs.Rows.{trade_row_of}
 use Rattle.brk_changes.specs.declared.trade_row.TradeRow as trade
 use Rattle.brk_lots.proofs.Left.{same_is}
-use Rattle.brk_book_laws.specs.Books.{IsBooks, MomentsApart}
-use Rattle.brk_book_laws.proofs.Bools.{numbers_back}
-use Rattle.brk_book_laws.proofs.LotOrder.{Follows, InOrder, held_in_order, trades_held}
-use Rattle.brk_book_laws.proofs.LotReading.{IdsApart, IdsRise, all_pass, filter-map, holdings_in_order, is_left, numbered_rise, rise_apart, rise_filter}
-use Rattle.brk_book_laws.proofs.Order.{NoneBefore, Sorted, sorted_filter}
-use Rattle.brk_book_laws.proofs.Places.{filter-all}
-use Rattle.brk_book_laws.proofs.Same.{NonePass, All-filter, All-map, All-of}
-use Rattle.brk_adoption_laws.proofs.AdoptedBooks.{adopted_books}
-use Rattle.brk_adoption_laws.proofs.Again.{both_all}
-use Rattle.brk_adoption_laws.proofs.Climbs.{In, list_all_true}
-use Rattle.brk_adoption_laws.proofs.Marks.{IsOf, Lasts, filtered, last_is_row, lasts, same_statuses}
-use Rattle.brk_adoption_laws.proofs.Members.{in_filter}
-use Rattle.brk_model_laws.specs.FormParts.{FormParts}
-use Rattle.brk_model_laws.proofs.FormParts.{form_parts}
-use Rattle.brk_model_laws.proofs.Conjunctions.{parts10}
+use Rattle.brk_book_theorems.specs.Books.{IsBooks, MomentsApart}
+use Rattle.brk_book_theorems.proofs.Bools.{numbers_back}
+use Rattle.brk_book_theorems.proofs.LotOrder.{Follows, InOrder, held_in_order, trades_held}
+use Rattle.brk_book_theorems.proofs.LotReading.{IdsApart, IdsRise, all_pass, filter-map, holdings_in_order, is_left, numbered_rise, rise_apart, rise_filter}
+use Rattle.brk_book_theorems.proofs.Order.{NoneBefore, Sorted, sorted_filter}
+use Rattle.brk_book_theorems.proofs.Places.{filter-all}
+use Rattle.brk_book_theorems.proofs.Same.{NonePass, All-filter, All-map, All-of}
+use Rattle.brk_audit_theorems.proofs.AdoptedBooks.{adopted_books}
+use Rattle.brk_audit_theorems.proofs.Again.{both_all}
+use Rattle.brk_audit_theorems.proofs.Climbs.{In, list_all_true}
+use Rattle.brk_audit_theorems.proofs.Marks.{IsOf, Lasts, filtered, last_is_row, lasts, same_statuses}
+use Rattle.brk_audit_theorems.proofs.Members.{in_filter}
+use Rattle.brk_model_theorems.specs.FormParts.{FormParts}
+use Rattle.brk_model_theorems.proofs.FormParts.{form_parts}
+use Rattle.brk_model_theorems.proofs.Conjunctions.{parts10}
 use Rattle.brk_audit.specs.Completed.{done_rows, is_done}
 use Rattle.brk_audit.specs.Positions.{Leave, clash, place_before, row_deal, same_place}
 use Rattle.brk_audit.proofs.Completed.{completed_rows, done_moments, right_rows}
 use Rattle.brk_audit.proofs.Leaving.{any_in, at_any, at_place, leave_sums}
-use Rattle.brk_book_laws.proofs.Orders.{Ascends, Rises, one_order, permuted, sum_filter, sum_map, sum_same, sum_sort}
+use Rattle.brk_book_theorems.proofs.Orders.{Ascends, Rises, one_order, permuted, sum_filter, sum_map, sum_same, sum_sort}
 use Rattle.brk_audit.proofs.Places.{at_one, moment_order}
 use Rattle.brk_audit.proofs.Stretches.{seen}
 use Rattle.brk_audit.specs.Conditions.{IsFormed}

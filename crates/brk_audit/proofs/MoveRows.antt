@@ -20,21 +20,21 @@ use Rattle.brk_model.specs.Audit.{expected}
 use Rattle.brk_model.specs.Ways.{has_status_rows}
 use Rattle.brk_lots.specs.Chains.{replay_rows}
 use Rattle.brk_lots.specs.Deals.{AreDeals, IsLater}
-use Rattle.brk_book_laws.specs.Books.{IsBooks}
-use Rattle.brk_book_laws.proofs.LotOrder.{Follows, InOrder, held_in_order, trades_held}
-use Rattle.brk_book_laws.proofs.Order.{Sorted, key_one_way, key_splits, sorted_sort}
-use Rattle.brk_book_laws.proofs.Same.{All-map, All-of}
-use Rattle.brk_adoption_laws.proofs.AdoptedBooks.{adopted_books}
-use Rattle.brk_adoption_laws.proofs.Climbs.{Climbs}
-use Rattle.brk_adoption_laws.proofs.Parts.{key_parts}
-use Rattle.brk_model_laws.proofs.FormParts.{form_parts}
+use Rattle.brk_book_theorems.specs.Books.{IsBooks}
+use Rattle.brk_book_theorems.proofs.LotOrder.{Follows, InOrder, held_in_order, trades_held}
+use Rattle.brk_book_theorems.proofs.Order.{Sorted, key_one_way, key_splits, sorted_sort}
+use Rattle.brk_book_theorems.proofs.Same.{All-map, All-of}
+use Rattle.brk_audit_theorems.proofs.AdoptedBooks.{adopted_books}
+use Rattle.brk_audit_theorems.proofs.Climbs.{Climbs}
+use Rattle.brk_audit_theorems.proofs.Parts.{key_parts}
+use Rattle.brk_model_theorems.proofs.FormParts.{form_parts}
 use Rattle.brk_audit.specs.Completed.{done_rows}
 use Rattle.brk_audit.specs.Positions.{Trace, moves, place_before, row_deal, same_place, untouched}
 use Rattle.brk_audit.proofs.Completed.{completed_rows}
 use Rattle.brk_audit.proofs.Leaving.{AreDealt, deals_among, own_run}
 use Rattle.brk_audit.proofs.LotRows.{dealt}
 use Rattle.brk_audit.proofs.Moves.{run_sums}
-use Rattle.brk_book_laws.proofs.Orders.{SameSums, permuted, sum_append, sum_map, sum_none, sum_same, sum_sort}
+use Rattle.brk_book_theorems.proofs.Orders.{SameSums, permuted, sum_append, sum_map, sum_none, sum_same, sum_sort}
 use Rattle.brk_audit.proofs.Places.{all_back, at_one, same_self}
 use Rattle.brk_audit.specs.Conditions.{IsFormed}
 use Rattle.brk_audit.proofs.Expected.{same_history}

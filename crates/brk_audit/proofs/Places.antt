@@ -13,8 +13,8 @@ use Rattle.brk_model.specs.Keys.{KeyPart, number, word, key_before}
 use Rattle.brk_model.specs.Lists.{text_before}
 use Rattle.brk_model.specs.Tables.{TradeRow}
 use Rattle.brk_lots.specs.Deals.{AreDeals, IsLater}
-use Rattle.brk_book_laws.proofs.Order.{NoneBefore, Sorted, key_one_way, key_splits, key_total}
-use Rattle.brk_book_laws.proofs.Same.{All-map}
+use Rattle.brk_book_theorems.proofs.Order.{NoneBefore, Sorted, key_one_way, key_splits, key_total}
+use Rattle.brk_book_theorems.proofs.Same.{All-map}
 use Rattle.brk_audit_form.proofs.KeyOrders.{gt_lt, numbers_before, texts_before}
 use Rattle.brk_audit.specs.Positions.{Heads, clash, place_before, place_key, row_deal, same_place}
 

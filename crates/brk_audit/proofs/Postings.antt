@@ -7,9 +7,9 @@ use Rattle.std.specs.Ordering.{is_eq}
 use Rattle.std.proofs.lemmas.List.{take_more}
 use Rattle.std.proofs.lemmas.List.Elements.{filter_map-append}
 use Rattle.brk_model.specs.Lists.{total_by}
-use Rattle.brk_book_laws.proofs.SumReading.{total-map}
-use Rattle.brk_book_laws.proofs.Same.{map-last}
-use Rattle.brk_adoption_laws.proofs.AdoptedBooks.{filter-map}
+use Rattle.brk_book_theorems.proofs.SumReading.{total-map}
+use Rattle.brk_book_theorems.proofs.Same.{map-last}
+use Rattle.brk_audit_theorems.proofs.AdoptedBooks.{filter-map}
 use Rattle.brk_audit.specs.declared.tally.Posting.{Posting}
 use Rattle.brk_audit.specs.Tally.{total_at}
 

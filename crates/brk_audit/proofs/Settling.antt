@@ -17,13 +17,13 @@ use Rattle.brk_model.specs.Keys.{number, by_key, row_before, cash_key, move_key,
 use Rattle.brk_model.specs.Adopted.{account_of_row, base_of, is_posted_by, posting_of_cash, posting_of_move, postings_in, trade_of_row}
 use Rattle.brk_model.specs.Ways.{has_status_rows, trade_status}
 use Rattle.brk_model.specs.Audit.{Holds, expected}
-use Rattle.brk_book_laws.proofs.Same.{All-filter, All-map, find-each, map-same}
+use Rattle.brk_book_theorems.proofs.Same.{All-filter, All-map, find-each, map-same}
 use Rattle.brk_model.specs.Lists.{sort_by}
-use Rattle.brk_book_laws.proofs.Order.{append_nil}
-use Rattle.brk_book_laws.proofs.Reading.{find-map}
-use Rattle.brk_adoption_laws.proofs.Climbs.{Climbs, In, climbs_filter, climbs_map, each_in, stays}
-use Rattle.brk_adoption_laws.proofs.Members.{FoundIn, found_in, map-map, one_of_key}
-use Rattle.brk_adoption_laws.proofs.AdoptedBooks.{filter-map}
+use Rattle.brk_book_theorems.proofs.Order.{append_nil}
+use Rattle.brk_book_theorems.proofs.Reading.{find-map}
+use Rattle.brk_audit_theorems.proofs.Climbs.{Climbs, In, climbs_filter, climbs_map, each_in, stays}
+use Rattle.brk_audit_theorems.proofs.Members.{FoundIn, found_in, map-map, one_of_key}
+use Rattle.brk_audit_theorems.proofs.AdoptedBooks.{filter-map}
 use Rattle.brk_audit.specs.Completed.{done_rows, is_done, is_waiting, waiting_rows}
 use Rattle.brk_audit.specs.Settling.{amount_at, broker_at, due_in, due_of, is_done_in_cash, moved_by, moved_in, request_of, tax_status_at}
 use Rattle.brk_audit.proofs.Completed.{completed_rows, pending_rows, right_rows, row_moment}

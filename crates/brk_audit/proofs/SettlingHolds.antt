@@ -9,9 +9,9 @@ use Rattle.brk_model.specs.Audit.{Holds}
 use Rattle.brk_model.specs.Tables.{MoveRow, Tables, TradeRow}
 use Rattle.brk_model.specs.Form.{fits_schema, has_form}
 use Rattle.std.proofs.lemmas.Bool.{and_parts, eqb-true}
-use Rattle.brk_book_laws.proofs.Same.{All-of, map-same}
-use Rattle.brk_adoption_laws.proofs.Parts.{KeyParts, key_parts}
-use Rattle.brk_model_laws.proofs.FormParts.{form_parts}
+use Rattle.brk_book_theorems.proofs.Same.{All-of, map-same}
+use Rattle.brk_audit_theorems.proofs.Parts.{KeyParts, key_parts}
+use Rattle.brk_model_theorems.proofs.FormParts.{form_parts}
 use Rattle.brk_changes.specs.Rows.{cash_row_of, request_row_of, settlement_row_of, trade_row_of}
 use Rattle.brk_changes.specs.Sheets.{tables_in_sheets}
 use Rattle.brk_changes.specs.declared.sheets.Sheets.{Sheets}

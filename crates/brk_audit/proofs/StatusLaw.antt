@@ -13,14 +13,14 @@ use Rattle.brk_model.specs.Keys.{number, key_before, history_key, trade_key}
 use Rattle.brk_model.specs.Form.{history_form}
 use Rattle.brk_model.specs.Ways.{completion_stamps, movement_stamps, has_status_rows, trade_status}
 use Rattle.brk_model.specs.Audit.{Holds}
-use Rattle.brk_book_laws.proofs.Same.{All-map}
-use Rattle.brk_book_laws.proofs.LotReading.{all_pass}
-use Rattle.brk_adoption_laws.proofs.Climbs.{Climbs, list_all_true}
-use Rattle.brk_adoption_laws.proofs.Members.{All-flat_map}
-use Rattle.brk_adoption_laws.proofs.Parts.{KeyParts, key_parts}
-use Rattle.brk_model_laws.specs.FormParts.{FormParts}
-use Rattle.brk_model_laws.proofs.FormParts.{form_parts}
-use Rattle.brk_adoption_laws.proofs.AdoptedHistory.{joined}
+use Rattle.brk_book_theorems.proofs.Same.{All-map}
+use Rattle.brk_book_theorems.proofs.LotReading.{all_pass}
+use Rattle.brk_audit_theorems.proofs.Climbs.{Climbs, list_all_true}
+use Rattle.brk_audit_theorems.proofs.Members.{All-flat_map}
+use Rattle.brk_audit_theorems.proofs.Parts.{KeyParts, key_parts}
+use Rattle.brk_model_theorems.specs.FormParts.{FormParts}
+use Rattle.brk_model_theorems.proofs.FormParts.{form_parts}
+use Rattle.brk_audit_theorems.proofs.AdoptedHistory.{joined}
 use Rattle.brk_audit.specs.Statuses.{all_go, goes_way, stamps_of}
 use Rattle.brk_audit.proofs.Statuses.{status_by_rows}
 use Rattle.brk_audit.specs.Conditions.{IsFormed}

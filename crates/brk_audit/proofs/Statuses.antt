@@ -13,13 +13,13 @@ use Rattle.brk_model.specs.Joins.{history_in}
 use Rattle.brk_model.specs.Keys.{word, key_before, by_key, history_key}
 use Rattle.brk_model.specs.Adopted.{marks_in, trade_of_row}
 use Rattle.brk_model.specs.Ways.{is_last_of, is_rising, is_way, trade_status}
-use Rattle.brk_book_laws.proofs.Same.{All-map}
-use Rattle.brk_book_laws.proofs.LotReading.{all_pass}
-use Rattle.brk_adoption_laws.proofs.Climbs.{Climbs, climbs_filter, stays}
-use Rattle.brk_adoption_laws.proofs.Members.{sorted_each}
-use Rattle.brk_adoption_laws.proofs.Marks.{no_more_ways}
-use Rattle.brk_adoption_laws.proofs.AdoptedHistory.{own_rows}
-use Rattle.brk_model_laws.proofs.Conjunctions.{parts3}
+use Rattle.brk_book_theorems.proofs.Same.{All-map}
+use Rattle.brk_book_theorems.proofs.LotReading.{all_pass}
+use Rattle.brk_audit_theorems.proofs.Climbs.{Climbs, climbs_filter, stays}
+use Rattle.brk_audit_theorems.proofs.Members.{sorted_each}
+use Rattle.brk_audit_theorems.proofs.Marks.{no_more_ways}
+use Rattle.brk_audit_theorems.proofs.AdoptedHistory.{own_rows}
+use Rattle.brk_model_theorems.proofs.Conjunctions.{parts3}
 use Rattle.brk_audit.specs.Statuses.{goes_way, is_at}
 
 false_true : {A : Type 0} → false ≡ true → A

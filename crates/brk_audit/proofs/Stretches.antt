@@ -7,10 +7,10 @@ use Rattle.brk_changes.specs.Rows.{trade_row_of}
 use Rattle.brk_changes.specs.declared.trade_row.TradeRow as code
 use Rattle.brk_lots.specs.Deals.{AreDeals}
 use Rattle.brk_model.specs.Tables.{TradeRow}
-use Rattle.brk_book_laws.proofs.Order.{Sorted}
-use Rattle.brk_adoption_laws.proofs.Members.{map-map}
+use Rattle.brk_book_theorems.proofs.Order.{Sorted}
+use Rattle.brk_audit_theorems.proofs.Members.{map-map}
 use Rattle.brk_audit.specs.Positions.{Heads, clash, place_before, row_deal, same_place}
-use Rattle.brk_book_laws.proofs.Orders.{sorted_by, sorted_map}
+use Rattle.brk_book_theorems.proofs.Orders.{sorted_by, sorted_map}
 use Rattle.brk_audit.proofs.Places.{deals_follow, distinct_drop, distinct_front, others, place_order, same_self, sorted_drop, sorted_front}
 
 -- a row behind a reference, as the definitions have it

@@ -17,11 +17,11 @@ use Rattle.brk_model.specs.Keys.{account_key, broker_key, by_key, number}
 use Rattle.brk_model.specs.Adopted.{account_of_row, base_of, movement_of_row, trade_of_row}
 use Rattle.brk_model.specs.Ways.{has_status_rows}
 use Rattle.brk_model.specs.Audit.{Holds, expected}
-use Rattle.brk_book_laws.proofs.Postings.{balance_parts}
-use Rattle.brk_book_laws.proofs.Same.{All-map, All-of, filter-same, find-each, map-same, total_by-same}
-use Rattle.brk_adoption_laws.proofs.Climbs.{Climbs, In, climbs_map, each_in, stays}
-use Rattle.brk_adoption_laws.proofs.Members.{FoundIn, found_in, map-map, one_of_key}
-use Rattle.brk_adoption_laws.proofs.AdoptedTables.{brokers_there}
+use Rattle.brk_book_theorems.proofs.Postings.{balance_parts}
+use Rattle.brk_book_theorems.proofs.Same.{All-map, All-of, filter-same, find-each, map-same, total_by-same}
+use Rattle.brk_audit_theorems.proofs.Climbs.{Climbs, In, climbs_map, each_in, stays}
+use Rattle.brk_audit_theorems.proofs.Members.{FoundIn, found_in, map-map, one_of_key}
+use Rattle.brk_audit_theorems.proofs.AdoptedTables.{brokers_there}
 use Rattle.brk_audit.specs.Completed.{done_rows, is_done}
 use Rattle.brk_audit.specs.Settling.{amount_at, broker_at, is_done_in_cash, tax_status_at}
 use Rattle.brk_audit.specs.Sums.{sum_of_account, sum_of_broker, sum_of_movements}

@@ -23,11 +23,11 @@ use Rattle.brk_model.specs.Tables.{Tables, SummaryRow, TradeRow}
 use Rattle.brk_changes.specs.Rows.{summary_row_of, trade_row_of}
 use Rattle.brk_changes.specs.Sheets.{tables_in_sheets}
 use Rattle.brk_changes.specs.declared.sheets.Sheets.{Sheets}
-use Rattle.brk_book_laws.proofs.Same.{All-map, All-mapped, All-of, filter-none, filter-same, find-none}
-use Rattle.brk_adoption_laws.proofs.Climbs.{list_all_true, of_all}
-use Rattle.brk_adoption_laws.proofs.Members.{FoundIn, found_in}
-use Rattle.brk_model_laws.proofs.FormParts.{form_parts}
-use Rattle.brk_model_laws.proofs.Conjunctions.{parts10, parts3}
+use Rattle.brk_book_theorems.proofs.Same.{All-map, All-mapped, All-of, filter-none, filter-same, find-none}
+use Rattle.brk_audit_theorems.proofs.Climbs.{list_all_true, of_all}
+use Rattle.brk_audit_theorems.proofs.Members.{FoundIn, found_in}
+use Rattle.brk_model_theorems.proofs.FormParts.{form_parts}
+use Rattle.brk_model_theorems.proofs.Conjunctions.{parts10, parts3}
 use Rattle.brk_audit.specs.Completed.{is_done}
 use Rattle.brk_audit.specs.PositionSums.{SummariesHold, TellsShares, plain, position_cmp, shares_posting, sum_of_position, told_of_position, told_posting}
 use Rattle.brk_audit.specs.Tally.{at_key, total_at}

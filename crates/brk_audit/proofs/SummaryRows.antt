@@ -21,20 +21,20 @@ use Rattle.brk_model.specs.Tables.{Tables, AccountRow, SecurityRow, SummaryRow, 
 use Rattle.brk_model.specs.Adopted.{account_of_row, base_of, security_of_row, trade_of_row}
 use Rattle.brk_model.specs.Ways.{has_status_rows}
 use Rattle.brk_model.specs.Audit.{Holds, expected}
-use Rattle.brk_book_laws.specs.Books.{IsBooks}
-use Rattle.brk_book_laws.proofs.Reading.{find-map}
-use Rattle.brk_book_laws.proofs.Same.{All-map, All-mapped, All-of, filter-none, find-each, find-none}
-use Rattle.brk_book_laws.proofs.Summaries.{all_summaries, own_summary}
-use Rattle.brk_book_laws.proofs.Worth.{summaries_in}
-use Rattle.brk_adoption_laws.proofs.AdoptedBooks.{adopted_books, symbol_of}
-use Rattle.brk_adoption_laws.proofs.Climbs.{Climbs, In, climbs_append, climbs_filter, climbs_map, each_in, list_all_true, not_itself, of_all, same_rows, stays}
-use Rattle.brk_adoption_laws.specs.Told.{account_id, symbol_key}
-use Rattle.brk_adoption_laws.proofs.Members.{All-flat_map, FoundIn, found_in}
-use Rattle.brk_adoption_laws.proofs.Parts.{KeyParts, key_parts}
-use Rattle.brk_model_laws.specs.FormParts.{FormParts}
-use Rattle.brk_model_laws.proofs.FormParts.{form_parts}
-use Rattle.brk_model_laws.proofs.Conjunctions.{parts3}
-use Rattle.brk_adoption_laws.proofs.Sorted.{All-block, All-rows}
+use Rattle.brk_book_theorems.specs.Books.{IsBooks}
+use Rattle.brk_book_theorems.proofs.Reading.{find-map}
+use Rattle.brk_book_theorems.proofs.Same.{All-map, All-mapped, All-of, filter-none, find-each, find-none}
+use Rattle.brk_book_theorems.proofs.Summaries.{all_summaries, own_summary}
+use Rattle.brk_book_theorems.proofs.Worth.{summaries_in}
+use Rattle.brk_audit_theorems.proofs.AdoptedBooks.{adopted_books, symbol_of}
+use Rattle.brk_audit_theorems.proofs.Climbs.{Climbs, In, climbs_append, climbs_filter, climbs_map, each_in, list_all_true, not_itself, of_all, same_rows, stays}
+use Rattle.brk_audit_theorems.specs.Told.{account_id, symbol_key}
+use Rattle.brk_audit_theorems.proofs.Members.{All-flat_map, FoundIn, found_in}
+use Rattle.brk_audit_theorems.proofs.Parts.{KeyParts, key_parts}
+use Rattle.brk_model_theorems.specs.FormParts.{FormParts}
+use Rattle.brk_model_theorems.proofs.FormParts.{form_parts}
+use Rattle.brk_model_theorems.proofs.Conjunctions.{parts3}
+use Rattle.brk_audit_theorems.proofs.Sorted.{All-block, All-rows}
 use Rattle.brk_audit.specs.Completed.{done_rows, is_done}
 use Rattle.brk_audit.specs.PositionSums.{SummariesHold, TellsShares, sum_of_position, told_of_position}
 use Rattle.brk_audit.proofs.Completed.{completed_rows}

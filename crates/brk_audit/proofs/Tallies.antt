@@ -11,7 +11,7 @@ use Rattle.std.proofs.Math.IntN.{+ℤ_idr}
 use Rattle.std.proofs.lemmas.List.Elements.{filter_more}
 use Rattle.brk_audit.specs.declared.tally.Posting.{Posting}
 use Rattle.brk_model.specs.Lists.{total_by}
-use Rattle.brk_book_laws.proofs.Worth.{total-append}
+use Rattle.brk_book_theorems.proofs.Worth.{total-append}
 use Rattle.brk_audit.specs.Tally.{at_key, total_at}
 
 is_equal : (o : Ordering) → is_eq o ≡ true → o ≡ Equal

@@ -20,8 +20,8 @@ use Rattle.brk_model.specs.Form.{band_form, no_overlap, is_tier, is_qty}
 use Rattle.brk_model.specs.Forms.{is_exchange}
 use Rattle.brk_model.specs.Limits.{greatest_rate}
 use Rattle.brk_audit_form.specs.Keys.{key_cmp}
-use Rattle.brk_adoption_laws.proofs.Climbs.{Climbs, list_all_true}
-use Rattle.brk_model_laws.proofs.Conjunctions.{parts5, parts6}
+use Rattle.brk_audit_theorems.proofs.Climbs.{Climbs, list_all_true}
+use Rattle.brk_model_theorems.proofs.Conjunctions.{parts5, parts6}
 use Rattle.brk_audit_form.proofs.KeyOrders.{key_lt}
 use Rattle.brk_audit_form.proofs.Searches.{eq_number}
 use Rattle.brk_audit_form.proofs.Places.{less_of}

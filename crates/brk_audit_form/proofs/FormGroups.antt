@@ -11,8 +11,8 @@ use Rattle.brk_changes.specs.Sheets.{tables_in_sheets}
 use Rattle.brk_model.specs.Schemas.{Schema}
 use Rattle.brk_model.specs.Tables.{Tables}
 use Rattle.brk_changes.specs.declared.sheets.Sheets.{Sheets}
-use Rattle.brk_model_laws.proofs.Conjunctions.{joined, parts, whole}
-use Rattle.brk_model_laws.proofs.FormParts.{keys_rise}
+use Rattle.brk_model_theorems.proofs.Conjunctions.{joined, parts, whole}
+use Rattle.brk_model_theorems.proofs.FormParts.{keys_rise}
 use Rattle.brk_audit_form.specs.Groups.{reference_forms, reference_keys, trading_forms, trading_keys}
 
 pub rises-map : {X Y : Type 0} (key : Y → List KeyPart) (of : X → Y) (xs : List X) → rises (λ x. key (of x)) xs ≡ rises key (map of xs)

@@ -14,7 +14,7 @@ use Rattle.brk_money.specs.declared.status.Status.TheVariants.{Completed, Active
 use Rattle.brk_model.specs.Keys.{number, word, key_before, history_key}
 use Rattle.brk_changes.specs.Rows.{history_row_of}
 use Rattle.brk_changes.specs.declared.history_row.HistoryRow.{HistoryRow}
-use Rattle.brk_adoption_laws.proofs.Climbs.{Climbs}
+use Rattle.brk_audit_theorems.proofs.Climbs.{Climbs}
 use Rattle.brk_audit_form.proofs.KeyOrders.{key_lt}
 use Rattle.brk_audit_form.proofs.Searches.{Climbing, climbing, rising_keys, any_searched, any_found, any_map, eq_number, number_less, word_less}
 

@@ -14,7 +14,7 @@ use Rattle.std.proofs.lemmas.Map.Text.{is_eq-slice_cmp}
 use Rattle.std.proofs.lemmas.List.Sorted.{searchable_from_sorted}
 use Rattle.brk_model.specs.Keys.{KeyPart, number, word, key_before}
 use Rattle.brk_model.specs.Lists.{text_before}
-use Rattle.brk_adoption_laws.proofs.Climbs.{Climbs}
+use Rattle.brk_audit_theorems.proofs.Climbs.{Climbs}
 use Rattle.brk_audit_form.proofs.KeyOrders.{texts_before}
 
 pub any_found : {X : Type 0} (p : X → Bool) (xs : List X) → list_any p xs ≡ is_some (find p xs)

@@ -14,10 +14,10 @@ use Rattle.brk_ref.specs.Records.{customer_of, band_of}
 use Rattle.brk_changes.specs.Rows.{trade_row_of, cash_row_of, move_row_of}
 use Rattle.brk_changes.specs.Sheets.{tables_in_sheets}
 use Rattle.brk_changes.specs.declared.sheets.Sheets.{Sheets}
-use Rattle.brk_model_laws.specs.FormParts.{FormParts}
-use Rattle.brk_model_laws.proofs.FormParts.{form_parts}
-use Rattle.brk_model_laws.proofs.Conjunctions.{Hold, joined, parts, whole}
-use Rattle.brk_model_laws.proofs.FormParts.{form_whole}
+use Rattle.brk_model_theorems.specs.FormParts.{FormParts}
+use Rattle.brk_model_theorems.proofs.FormParts.{form_parts}
+use Rattle.brk_model_theorems.proofs.Conjunctions.{Hold, joined, parts, whole}
+use Rattle.brk_model_theorems.proofs.FormParts.{form_whole}
 use Rattle.brk_audit_form.specs.Groups.{plain_form, reference_forms, trading_forms}
 use Rattle.brk_audit_form.proofs.CustomerSums.{count-mapped}
 use Rattle.brk_audit_form.proofs.FormGroups.{ReferenceForms, TradingForms, reference_forms_parts, reference_forms_whole, trading_forms_parts, trading_forms_whole}

@@ -1,4 +1,4 @@
-use brk_endings::Ending;
+use brk_exit::Ending;
 use brk_files as file;
 
 /// Audits the desk in the file at a path, and prints `ok` where its tables follow from one another.

@@ -1,6 +1,6 @@
 use crate::moment::Moments;
 use brk_desk::Desk;
-use brk_endings::{Ending, after_close};
+use brk_exit::{Ending, after_close};
 use brk_files as file;
 use brk_import::run_batch;
 use brk_money::{Fault, Stamp};

@@ -7,8 +7,8 @@ mod moment;
 mod serve;
 mod statement;
 
-use brk_endings::{Ending, end_with};
-use brk_words::{Job, UsageFault, no_text, read_words};
+use brk_args::{Job, UsageFault, no_text, read_words};
+use brk_exit::{Ending, end_with};
 use std::alloc::AllocError;
 use std::env;
 use std::io::ErrorKind;

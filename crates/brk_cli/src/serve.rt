@@ -2,7 +2,7 @@
 
 use crate::moment::Moments;
 use brk_desk::Desk;
-use brk_endings::{Ending, after_close};
+use brk_exit::{Ending, after_close};
 use brk_files as file;
 use brk_http::{ListenFault, serve_on};
 use brk_money::{Fault, Stamp};

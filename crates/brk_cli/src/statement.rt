@@ -1,5 +1,5 @@
 use brk_desk::Desk;
-use brk_endings::{Ending, after_close};
+use brk_exit::{Ending, after_close};
 use brk_files as file;
 use brk_money::{Day, Id};
 use brk_report::statement;

@@ -16,9 +16,9 @@ use Rattle.brk_model.specs.Tests.{first_refusal}
 use Rattle.brk_plans.specs.Cancel.{IsCancel, cancel_tests}
 use Rattle.brk_plans.specs.Reference.{clock_test}
 use Rattle.brk_plans.specs.declared.plan.Plan.{Plan}
-use Rattle.brk_book_laws.specs.Books.{IsBooks}
-use Rattle.brk_trade_laws.specs.TradePlans.{IsReadForCancel}
-use Rattle.brk_trade_laws.proofs.CancelPlanning.{cancel_plan_does, cancel_refused}
+use Rattle.brk_book_theorems.specs.Books.{IsBooks}
+use Rattle.brk_trade_theorems.specs.TradePlans.{IsReadForCancel}
+use Rattle.brk_trade_theorems.proofs.CancelPlanning.{cancel_plan_does, cancel_refused}
 use Rattle.brk_store.specs.Holds.{IsRead}
 use Rattle.brk_decisions.specs.Decisions.{Decides}
 use Rattle.brk_decisions.proofs.Looking.{read_both}

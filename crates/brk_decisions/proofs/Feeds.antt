@@ -24,13 +24,13 @@ use Rattle.brk_changes.specs.declared.request_row.RequestRow as request
 use Rattle.brk_plans.specs.declared.plan.Plan.{Plan}
 use Rattle.brk_plans.specs.declared.quote.Quote.{Quote}
 use Rattle.brk_plans.specs.declared.span.Span.{Span}
-use Rattle.brk_book_laws.specs.Books.{IsBooks}
-use Rattle.brk_trade_laws.specs.TradePlans.{AreQuotes, IsQuote, IsReadForFeed}
-use Rattle.brk_book_laws.specs.TradeReads.{last_trade_in, requests_of}
-use Rattle.brk_trade_laws.proofs.FeedPlanning.{feed_plan_does, feed_refused}
-use Rattle.brk_trade_laws.proofs.Quotes.{quoted_before, not_listed, quote_read, read_quote}
-use Rattle.brk_trade_laws.proofs.Waiting.{limit_buys, limit_sells, may, selected, stop_losses}
-use Rattle.brk_book_laws.proofs.Tested.{not_not}
+use Rattle.brk_book_theorems.specs.Books.{IsBooks}
+use Rattle.brk_trade_theorems.specs.TradePlans.{AreQuotes, IsQuote, IsReadForFeed}
+use Rattle.brk_book_theorems.specs.TradeReads.{last_trade_in, requests_of}
+use Rattle.brk_trade_theorems.proofs.FeedPlanning.{feed_plan_does, feed_refused}
+use Rattle.brk_trade_theorems.proofs.Quotes.{quoted_before, not_listed, quote_read, read_quote}
+use Rattle.brk_trade_theorems.proofs.Waiting.{limit_buys, limit_sells, may, selected, stop_losses}
+use Rattle.brk_book_theorems.proofs.Tested.{not_not}
 use Rattle.brk_decisions.specs.Decisions.{Decides}
 
 -- by all ticks of a feed the quote of one, where its symbol has a last trade

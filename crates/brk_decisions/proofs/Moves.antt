@@ -18,9 +18,9 @@ use Rattle.brk_plans.specs.Movement.{IsMove, move_tests}
 use Rattle.brk_plans.specs.Reference.{clock_test}
 use Rattle.brk_plans.specs.declared.movement.MoveFound.{MoveFound}
 use Rattle.brk_plans.specs.declared.plan.Plan.{Plan}
-use Rattle.brk_book_laws.specs.Books.{IsBooks}
-use Rattle.brk_trade_laws.specs.MovePlans.{IsFoundForMove, IsReadForMove}
-use Rattle.brk_trade_laws.proofs.MovePlanning.{move_plan_does, move_refused}
+use Rattle.brk_book_theorems.specs.Books.{IsBooks}
+use Rattle.brk_trade_theorems.specs.MovePlans.{IsFoundForMove, IsReadForMove}
+use Rattle.brk_trade_theorems.proofs.MovePlanning.{move_plan_does, move_refused}
 use Rattle.brk_store.specs.Holds.{IsRead}
 use Rattle.brk_decisions.specs.Decisions.{Decides}
 use Rattle.brk_decisions.proofs.Looking.{read_both}

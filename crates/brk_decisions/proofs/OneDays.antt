@@ -13,9 +13,9 @@ use Rattle.brk_model.specs.Tables.{Tables}
 use Rattle.brk_model.specs.Tests.{first_refusal}
 use Rattle.brk_plans.specs.OneDay.{IsOneDay, one_day_tests}
 use Rattle.brk_plans.specs.declared.plan.Plan.{Plan}
-use Rattle.brk_book_laws.specs.Books.{IsBooks}
-use Rattle.brk_trade_laws.specs.MovePlans.{IsReadForOneDay}
-use Rattle.brk_trade_laws.proofs.MovePlanning.{one_day_plan_does, one_day_refused}
+use Rattle.brk_book_theorems.specs.Books.{IsBooks}
+use Rattle.brk_trade_theorems.specs.MovePlans.{IsReadForOneDay}
+use Rattle.brk_trade_theorems.proofs.MovePlanning.{one_day_plan_does, one_day_refused}
 use Rattle.brk_store.specs.Holds.{IsRead}
 use Rattle.brk_decisions.specs.Decisions.{Decides}
 use Rattle.brk_decisions.proofs.Looking.{read_both}

@@ -19,10 +19,10 @@ use Rattle.brk_ref.specs.declared.customer.Customer as customer
 use Rattle.brk_changes.specs.Rows.{summary_row_of}
 use Rattle.brk_trade.specs.declared.order.OrderFound.{OrderFound}
 use Rattle.brk_changes.specs.declared.summary_row.SummaryRow.{SummaryRow}
-use Rattle.brk_book_laws.specs.OrderReads.{IfCustomer, charge_in}
-use Rattle.brk_trade_laws.specs.OrderPlans.{IsFoundForEstimate, order_account}
-use Rattle.brk_book_laws.specs.Reads.{rates_of}
-use Rattle.brk_book_laws.specs.TradeReads.{band_in, permission_in}
+use Rattle.brk_book_theorems.specs.OrderReads.{IfCustomer, charge_in}
+use Rattle.brk_trade_theorems.specs.OrderPlans.{IsFoundForEstimate, order_account}
+use Rattle.brk_book_theorems.specs.Reads.{rates_of}
+use Rattle.brk_book_theorems.specs.TradeReads.{band_in, permission_in}
 use Rattle.brk_decisions.specs.Finds.{AreAmounts, AreTested, IsCustomer, IsFoundOf, found_of, nothing, worth_in}
 use Rattle.brk_decisions.specs.declared.tested.Tested.{Tested}
 use Rattle.brk_decisions.specs.declared.amounts.Amounts.{Amounts}

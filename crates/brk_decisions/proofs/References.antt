@@ -14,11 +14,11 @@ use Rattle.brk_plans.specs.Reference.{IsPlanned, clock_test, tests_of}
 use Rattle.brk_plans.specs.declared.plan.Plan.{Plan}
 use Rattle.brk_plans.specs.declared.reference.Found.{Found}
 use Rattle.brk_plans.specs.declared.reference.Reference.{Reference}
-use Rattle.brk_book_laws.specs.Books.{IsBooks}
+use Rattle.brk_book_theorems.specs.Books.{IsBooks}
 use Rattle.brk_plans.specs.Commands.{command_of}
-use Rattle.brk_trade_laws.specs.Plans.{IsRead as IsLookedUp}
-use Rattle.brk_trade_laws.specs.Found.{IsFound}
-use Rattle.brk_trade_laws.proofs.Planning.{plan_does, refusal_does}
+use Rattle.brk_trade_theorems.specs.Plans.{IsRead as IsLookedUp}
+use Rattle.brk_trade_theorems.specs.Found.{IsFound}
+use Rattle.brk_trade_theorems.proofs.Planning.{plan_does, refusal_does}
 use Rattle.brk_store.specs.Holds.{IsRead}
 use Rattle.brk_decisions.specs.Decisions.{Decides}
 use Rattle.brk_decisions.proofs.Looking.{read_both}

@@ -12,9 +12,9 @@ use Rattle.brk_changes.specs.declared.broker_numbers.BrokerNumbers.{BrokerNumber
 use Rattle.brk_trade.specs.declared.result_found.ResultFound.{ResultFound}
 use Rattle.brk_changes.specs.declared.summary_row.SummaryRow as summary
 use Rattle.brk_changes.specs.declared.trade_row.TradeRow.{TradeRow}
-use Rattle.brk_book_laws.specs.Reads.{rates_of}
-use Rattle.brk_trade_laws.specs.ResultPlans.{result_account}
-use Rattle.brk_book_laws.specs.TradeReads.{band_in, summary_in}
+use Rattle.brk_book_theorems.specs.Reads.{rates_of}
+use Rattle.brk_trade_theorems.specs.ResultPlans.{result_account}
+use Rattle.brk_book_theorems.specs.TradeReads.{band_in, summary_in}
 use Rattle.brk_decisions.specs.Finds.{IsCustomer}
 use Rattle.brk_decisions.specs.ResultFinds.{AreNumbers, AreParties, IsFoundAt, IsFoundOf, IsListedAs, IsPosting}
 use Rattle.brk_decisions.specs.declared.parties.Parties.{Parties}

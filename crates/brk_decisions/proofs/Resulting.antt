@@ -17,10 +17,10 @@ use Rattle.brk_money.specs.declared.refusal.Refusal.TheVariants.{NoTrade}
 use Rattle.brk_trade.specs.Results.{IsCompleted, IsRefused}
 use Rattle.brk_trade.specs.declared.result_found.ResultFound.{ResultFound}
 use Rattle.brk_plans.specs.declared.plan.Plan.{Plan}
-use Rattle.brk_book_laws.specs.Books.{IsBooks}
-use Rattle.brk_trade_laws.specs.ResultPlans.{IsFoundForResult, IsReadForResult}
-use Rattle.brk_trade_laws.proofs.ResultDoing.{result_plan_does}
-use Rattle.brk_trade_laws.proofs.ResultRefusing.{result_refused}
+use Rattle.brk_book_theorems.specs.Books.{IsBooks}
+use Rattle.brk_trade_theorems.specs.ResultPlans.{IsFoundForResult, IsReadForResult}
+use Rattle.brk_trade_theorems.proofs.ResultDoing.{result_plan_does}
+use Rattle.brk_trade_theorems.proofs.ResultRefusing.{result_refused}
 use Rattle.brk_store.specs.Holds.{IsRead}
 use Rattle.brk_decisions.specs.Decisions.{Decides}
 use Rattle.brk_decisions.specs.ResultFinds.{IsFoundAt, lots_met}

@@ -14,8 +14,8 @@ use Rattle.brk_plans.specs.Replies.{told}
 use Rattle.brk_plans.specs.declared.estimate.Estimate.{Estimate}
 use Rattle.brk_plans.specs.Replies.{estimate_of}
 use Rattle.brk_plans.specs.declared.plan.Plan.{Plan}
-use Rattle.brk_book_laws.specs.Books.{IsBooks}
-use Rattle.brk_trade_laws.specs.Plans.{DoesCommand}
+use Rattle.brk_book_theorems.specs.Books.{IsBooks}
+use Rattle.brk_trade_theorems.specs.Plans.{DoesCommand}
 
 -- where the rows are the tables of a base in order, a command at a moment is decided on as its step is: its plan does it, or it is refused for the same reason
 abbrev pub Decides : ℕ → Command → Result Plan Refusal → Tables → Type 0

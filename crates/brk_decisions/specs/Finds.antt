@@ -10,10 +10,10 @@ use Rattle.brk_ref.specs.Records.{account_row_of, customer_of, executor_of}
 use Rattle.brk_ref.specs.declared.account.AccountRow.{AccountRow}
 use Rattle.brk_ref.specs.declared.customer.Customer.{Customer}
 use Rattle.brk_trade.specs.declared.order.OrderFound.{OrderFound}
-use Rattle.brk_trade_laws.specs.OrderPlans.{IsFoundForEstimate}
-use Rattle.brk_book_laws.specs.OrderReads.{charge_in, last_price_in}
-use Rattle.brk_book_laws.specs.Reads.{rates_of}
-use Rattle.brk_book_laws.specs.TradeReads.{band_in, permission_in, summary_in}
+use Rattle.brk_trade_theorems.specs.OrderPlans.{IsFoundForEstimate}
+use Rattle.brk_book_theorems.specs.OrderReads.{charge_in, last_price_in}
+use Rattle.brk_book_theorems.specs.Reads.{rates_of}
+use Rattle.brk_book_theorems.specs.TradeReads.{band_in, permission_in, summary_in}
 use Rattle.brk_decisions.specs.declared.tested.Tested.{Tested}
 use Rattle.brk_decisions.specs.declared.amounts.Amounts.{Amounts}
 

@@ -13,9 +13,9 @@ use Rattle.brk_changes.specs.Rows.{trade_row_of}
 use Rattle.brk_changes.specs.declared.broker_numbers.BrokerNumbers.{BrokerNumbers}
 use Rattle.brk_trade.specs.declared.result_found.ResultFound.{ResultFound}
 use Rattle.brk_changes.specs.declared.trade_row.TradeRow.{TradeRow}
-use Rattle.brk_book_laws.specs.Reads.{rates_of}
-use Rattle.brk_trade_laws.specs.ResultPlans.{IsFoundForResult, result_account}
-use Rattle.brk_book_laws.specs.TradeReads.{band_in, last_move, position_in}
+use Rattle.brk_book_theorems.specs.Reads.{rates_of}
+use Rattle.brk_trade_theorems.specs.ResultPlans.{IsFoundForResult, result_account}
+use Rattle.brk_book_theorems.specs.TradeReads.{band_in, last_move, position_in}
 use Rattle.brk_decisions.specs.declared.parties.Parties.{Parties}
 use Rattle.brk_decisions.specs.declared.result_finding.Listed.{Listed}
 use Rattle.brk_decisions.specs.declared.result_finding.Posting.{Posting}

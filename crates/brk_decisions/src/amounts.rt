@@ -1,7 +1,7 @@
 //! The amounts that an account's orders are estimated by.
 
 ghost use Rattle.std.specs.Prelude.{◌≡◌, ◌+ℤ◌, ◌*ℤ◌, IfErr, IfSome, pos};
-ghost use Rattle.brk_book_laws.specs.Reads.{rates_of};
+ghost use Rattle.brk_book_theorems.specs.Reads.{rates_of};
 ghost use Rattle.brk_decisions.specs.Finds.{AreAmounts, worth_in, worth_of};
 ghost use Rattle.brk_model.specs.Run.{MayFail};
 ghost use Rattle.brk_store.specs.Holds.{IsRead};

@@ -1,8 +1,8 @@
 //! Feeds of the market, decided on.
 
 ghost use Rattle.std.specs.Prelude.{◌≡◌, IfErr, IfSome, option_map};
-ghost use Rattle.brk_trade_laws.specs.TradePlans.{AreQuotes, IsQuote};
-ghost use Rattle.brk_book_laws.specs.TradeReads.{last_trade_in};
+ghost use Rattle.brk_trade_theorems.specs.TradePlans.{AreQuotes, IsQuote};
+ghost use Rattle.brk_book_theorems.specs.TradeReads.{last_trade_in};
 ghost use Rattle.brk_decisions.specs.Decisions.{Decides};
 ghost use Rattle.brk_model.specs.Commands.{FeedTicks};
 ghost use Rattle.brk_model.specs.Run.{MayFail};

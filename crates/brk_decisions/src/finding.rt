@@ -2,8 +2,8 @@
 
 ghost use Rattle.std.specs.Prelude.{◌≡◌, IfErr};
 ghost use Rattle.brk_model.specs.Run.{MayFail};
-ghost use Rattle.brk_trade_laws.specs.Found.{IsFound, IsFoundForAccount};
-ghost use Rattle.brk_book_laws.specs.Reads.{accounts_of, has_account, has_broker, has_customer, has_security, has_tax_id, has_tax_rate};
+ghost use Rattle.brk_trade_theorems.specs.Found.{IsFound, IsFoundForAccount};
+ghost use Rattle.brk_book_theorems.specs.Reads.{accounts_of, has_account, has_broker, has_customer, has_security, has_tax_id, has_tax_rate};
 ghost use Rattle.brk_store.specs.Holds.{IsRead};
 
 use crate::terms::{

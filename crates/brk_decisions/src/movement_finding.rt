@@ -1,7 +1,7 @@
 //! The reads that decide a deposit or a withdrawal.
 
 ghost use Rattle.std.specs.Prelude.{IfErr};
-ghost use Rattle.brk_trade_laws.specs.MovePlans.{IsFoundForMove};
+ghost use Rattle.brk_trade_theorems.specs.MovePlans.{IsFoundForMove};
 ghost use Rattle.brk_model.specs.Run.{MayFail};
 ghost use Rattle.brk_store.specs.Holds.{IsRead};
 

@@ -1,7 +1,7 @@
 //! What the tables hold that decides on an order.
 
 ghost use Rattle.std.specs.Prelude.{◌≡◌, IfErr};
-ghost use Rattle.brk_trade_laws.specs.OrderPlans.{IsFoundForEstimate, IsFoundForOrder};
+ghost use Rattle.brk_trade_theorems.specs.OrderPlans.{IsFoundForEstimate, IsFoundForOrder};
 ghost use Rattle.brk_decisions.specs.Finds.{IsFoundOf, found_of, nothing};
 ghost use Rattle.brk_model.specs.Run.{MayFail};
 ghost use Rattle.brk_store.specs.Holds.{IsRead};

@@ -1,7 +1,7 @@
 //! How many shares of a security an account holds in all.
 
 ghost use Rattle.std.specs.Prelude.{◌≡◌, IfErr, option_map};
-ghost use Rattle.brk_book_laws.specs.TradeReads.{summary_in};
+ghost use Rattle.brk_book_theorems.specs.TradeReads.{summary_in};
 ghost use Rattle.brk_model.specs.Run.{MayFail};
 ghost use Rattle.brk_store.specs.Holds.{IsRead};
 

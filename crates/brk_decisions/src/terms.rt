@@ -1,8 +1,8 @@
 //! What the tables hold that decides on what is agreed: permissions, securities, charges, bands and taxes.
 
 ghost use Rattle.std.specs.Prelude.{◌≡◌, ◌==◌, ◌≤◌, IfErr, SomeIff, Some, filter, map};
-ghost use Rattle.brk_trade_laws.specs.Found.{IsFoundForTax};
-ghost use Rattle.brk_book_laws.specs.Reads.{has_account, has_charge, has_overlap, has_permission, has_security, has_tax_rate, pays_tax, rate_of, rates_of, tax_rate_of};
+ghost use Rattle.brk_trade_theorems.specs.Found.{IsFoundForTax};
+ghost use Rattle.brk_book_theorems.specs.Reads.{has_account, has_charge, has_overlap, has_permission, has_security, has_tax_rate, pays_tax, rate_of, rates_of, tax_rate_of};
 ghost use Rattle.brk_model.specs.Limits.{greatest_tax_rate};
 ghost use Rattle.brk_model.specs.Run.{MayFail};
 ghost use Rattle.brk_ref.specs.Records.{band_of, tax_of};

@@ -2,8 +2,8 @@
 
 ghost use Rattle.std.specs.Prelude.{◌≡◌, IfErr, IfSome, option_map};
 ghost use Rattle.brk_money.specs.OrderTypes.{kind_of};
-ghost use Rattle.brk_book_laws.specs.OrderReads.{charge_in, last_price_in};
-ghost use Rattle.brk_book_laws.specs.TradeReads.{band_in, permission_in};
+ghost use Rattle.brk_book_theorems.specs.OrderReads.{charge_in, last_price_in};
+ghost use Rattle.brk_book_theorems.specs.TradeReads.{band_in, permission_in};
 ghost use Rattle.brk_decisions.specs.Finds.{AreTested};
 ghost use Rattle.brk_model.specs.Joins.{security_in};
 ghost use Rattle.brk_model.specs.Orders.{permitted};

@@ -14,17 +14,17 @@ use Rattle.brk_model.specs.Records.{Customer}
 use Rattle.brk_model.specs.Sheets.{sheets, sheets_of}
 use Rattle.brk_model.specs.Tables.{Tables, tables_at, tables_of}
 use Rattle.brk_model.specs.Views.{view_of}
-use Rattle.brk_book_laws.proofs.Places.{find-at}
-use Rattle.brk_book_laws.proofs.Reading.{reads_customer}
+use Rattle.brk_book_theorems.proofs.Places.{find-at}
+use Rattle.brk_book_theorems.proofs.Reading.{reads_customer}
 use Rattle.brk_view.specs.Views.{fields_of}
 use Rattle.brk_view.specs.Worths.{worth_in}
 use Rattle.brk_view.specs.declared.view.View.{View}
 use Rattle.brk_view.specs.declared.worths.AccountWorth.{AccountWorth}
 use Rattle.brk_desk.specs.Shows.{Shows}
 use Rattle.brk_desk.proofs.Tested.{answered, is_missing, is_there, refused}
-use Rattle.brk_view_laws.proofs.Owners.{apart_sorted, missing_sorted, owned_by_id, owned_by_tax_id}
-use Rattle.brk_view_laws.proofs.Sorting.{same_rows}
-use Rattle.brk_view_laws.proofs.Worths.{same_position}
+use Rattle.brk_view_theorems.proofs.Owners.{apart_sorted, missing_sorted, owned_by_id, owned_by_tax_id}
+use Rattle.brk_view_theorems.proofs.Sorting.{same_rows}
+use Rattle.brk_view_theorems.proofs.Worths.{same_position}
 
 -- what these accounts are worth
 abbrev pub WorthsOf : ℕ → List AccountWorth → Tables → Type 0

@@ -8,11 +8,11 @@ use Rattle.brk_model.specs.Queries.{Query}
 use Rattle.brk_model.specs.Run.{MayFail}
 use Rattle.brk_model.specs.Sheets.{sheets}
 use Rattle.brk_view.specs.declared.view.View.{View}
-use Rattle.brk_rows.proofs.Inside.{clean_before}
+use Rattle.brk_sql.proofs.Inside.{clean_before}
 use Rattle.brk_store.specs.Holds.{IsRead}
 use Rattle.brk_desk.specs.Shows.{Shows}
 use Rattle.brk_desk.specs.Keeping.{IsAsked}
-use Rattle.brk_booking.proofs.Seen.{still_kept}
+use Rattle.brk_commit.proofs.Seen.{still_kept}
 
 -- what was read answers a query over each base whose books are kept
 pub is_asked : {S : Type 0} (g : Ghosts S) (old new : Held S) (query : Query) (result : Result (Result View Refusal) Fault) → IsRead g old new result (Shows query)

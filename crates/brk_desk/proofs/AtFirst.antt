@@ -11,13 +11,13 @@ use Rattle.brk_model.specs.Run.{Call, Do, Outcome}
 use Rattle.brk_model.specs.Tables.{Tables, no_rows}
 use Rattle.brk_changes.specs.Schemas.{schema_of}
 use Rattle.brk_changes.specs.declared.schema.Schema as known
-use Rattle.brk_adoption_laws.specs.Passing.{Passes}
-use Rattle.brk_book_laws.proofs.Steps.{empty_books, empty_rows}
-use Rattle.brk_sound_laws.specs.Runs.{IsCallInForm}
-use Rattle.brk_sound_laws.proofs.SoundRuns.{Both, keyed_both, run_both}
-use Rattle.brk_sound_laws.proofs.SoundSteps.{empty_sound}
+use Rattle.brk_audit_theorems.specs.Passing.{Passes}
+use Rattle.brk_book_theorems.proofs.Steps.{empty_books, empty_rows}
+use Rattle.brk_invariant_theorems.specs.Runs.{IsCallInForm}
+use Rattle.brk_invariant_theorems.proofs.SoundRuns.{Both, keyed_both, run_both}
+use Rattle.brk_invariant_theorems.proofs.SoundSteps.{empty_sound}
 use Rattle.brk_store.specs.Holds.{Holds}
-use Rattle.brk_booking.specs.Booked.{KeepsBase}
+use Rattle.brk_commit.specs.Booked.{KeepsBase}
 use Rattle.brk_desk.specs.Stops.{MayStand}
 use Rattle.brk_desk.proofs.MovedRows.{are_moved}
 

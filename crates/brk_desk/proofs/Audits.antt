@@ -7,7 +7,7 @@ use Rattle.brk_model.specs.Sheets.{sheets}
 use Rattle.brk_store.specs.Audited.{IsAudited}
 use Rattle.brk_store.proofs.Taking.{sound_books_pass}
 use Rattle.brk_desk.specs.Keeping.{IsDeskAudited}
-use Rattle.brk_booking.proofs.Seen.{still_kept}
+use Rattle.brk_commit.proofs.Seen.{still_kept}
 
 pub audits : {S : Type 0} (g : Ghosts S) (old new : Held S) (result : Result (Unit {0}) Fault) → IsAudited g old new result → IsDeskAudited g old new result
 audits g old new result audit = record {

@@ -5,12 +5,12 @@ use Rattle.sqlite.specs.Effect.{Database}
 use Rattle.brk_model.specs.Schemas.{Schema}
 use Rattle.brk_model.specs.Tables.{Tables}
 use Rattle.brk_changes.specs.Schemas.{schema_of}
-use Rattle.brk_rows.specs.Desk.{Stands}
-use Rattle.brk_tables_form.specs.Desk.{Which, has_table, name_of, shape}
-use Rattle.brk_tables_form.specs.Made.{HasRowsIn, IsOf}
-use Rattle.brk_tables_whole.specs.Schemas.{IsDefined, IsMadeAlike}
-use Rattle.brk_tables_whole.proofs.Defined.{desk_is_defined, desk_is_there}
-use Rattle.brk_tables_whole.proofs.Listed.{same_name_at}
+use Rattle.brk_sql.specs.Desk.{Stands}
+use Rattle.brk_tables_schema.specs.Desk.{Which, has_table, name_of, shape}
+use Rattle.brk_tables_schema.specs.Made.{HasRowsIn, IsOf}
+use Rattle.brk_tables_scan.specs.Schemas.{IsDefined, IsMadeAlike}
+use Rattle.brk_tables_scan.proofs.Defined.{desk_is_defined, desk_is_there}
+use Rattle.brk_tables_scan.proofs.Listed.{same_name_at}
 
 module _ (a : Schema) (t : Tables) (db : Database) (has : HasRowsIn a t db) where
   alike : IsMadeAlike a db

@@ -19,22 +19,22 @@ use Rattle.brk_model.specs.Queries.{TradesOfAccount, TradesOfSymbol, TradesWith}
 use Rattle.brk_model.specs.Sheets.{sheets}
 use Rattle.brk_model.specs.Tables.{AccountRow, HistoryRow, SecurityRow, SettlementRow, Tables, TradeRow, security_row, tables_of, trade_row}
 use Rattle.brk_model.specs.Views.{view_of}
-use Rattle.brk_sound_laws.specs.Sound.{IsSound}
-use Rattle.brk_book_laws.specs.Books.{IsBooks}
-use Rattle.brk_book_laws.proofs.Reading.{is_none-map}
-use Rattle.brk_book_laws.proofs.TermReading.{reads_security}
-use Rattle.brk_book_laws.proofs.TradeReading.{reads_trade}
-use Rattle.brk_update_laws.specs.Corrections.{AreTradesOf}
+use Rattle.brk_invariant_theorems.specs.Sound.{IsSound}
+use Rattle.brk_book_theorems.specs.Books.{IsBooks}
+use Rattle.brk_book_theorems.proofs.Reading.{is_none-map}
+use Rattle.brk_book_theorems.proofs.TermReading.{reads_security}
+use Rattle.brk_book_theorems.proofs.TradeReading.{reads_trade}
+use Rattle.brk_update_theorems.specs.Corrections.{AreTradesOf}
 use Rattle.brk_view.specs.Lookup.{IsOfTrade, looked_up_records}
 use Rattle.brk_view.specs.Views.{fields_of}
 use Rattle.brk_view.specs.declared.lookups.LookedUp.{LookedUp}
 use Rattle.brk_view.specs.declared.view.View.{View}
-use Rattle.brk_view_laws.proofs.FoundRows.{cash_alone, settlement_alone, trades_by_id}
-use Rattle.brk_view_laws.proofs.LookupRows.{same_lookup}
+use Rattle.brk_view_theorems.proofs.FoundRows.{cash_alone, settlement_alone, trades_by_id}
+use Rattle.brk_view_theorems.proofs.LookupRows.{same_lookup}
 use Rattle.brk_desk.specs.LookedUp.{AreLookedUp}
 use Rattle.brk_desk.specs.Shows.{Shows}
 use Rattle.brk_desk.proofs.Tested.{answered, is_missing, is_there, refused}
-use Rattle.brk_corrections.proofs.Found.{twice}
+use Rattle.brk_update_decisions.proofs.Found.{twice}
 use Rattle.brk_desk.proofs.RecentViews.{account_missing, account_there}
 
 -- ---- one trade

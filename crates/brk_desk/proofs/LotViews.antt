@@ -15,14 +15,14 @@ use Rattle.brk_model.specs.Queries.{LotsTouched}
 use Rattle.brk_model.specs.Sheets.{sheets}
 use Rattle.brk_model.specs.Tables.{AccountRow, HoldingHistoryRow, Tables, TradeRow, tables_of}
 use Rattle.brk_model.specs.Views.{view_of}
-use Rattle.brk_sound_laws.specs.Sound.{IsSound}
-use Rattle.brk_book_laws.specs.Books.{IsBooks}
+use Rattle.brk_invariant_theorems.specs.Sound.{IsSound}
+use Rattle.brk_book_theorems.specs.Books.{IsBooks}
 use Rattle.brk_view.specs.Lots.{IsTouched, touch_before, touch_in, touches_of}
 use Rattle.brk_view.specs.Views.{fields_of}
 use Rattle.brk_view.specs.declared.lots.LotTouch.{LotTouch}
 use Rattle.brk_view.specs.declared.lots.TouchedLots.{TouchedLots}
 use Rattle.brk_view.specs.declared.view.View.{View}
-use Rattle.brk_view_laws.proofs.TouchRows.{same_lots, touched_by_lot}
+use Rattle.brk_view_theorems.proofs.TouchRows.{same_lots, touched_by_lot}
 use Rattle.brk_desk.specs.Shows.{Shows}
 use Rattle.brk_desk.specs.Touched.{AreTouched, changes_with}
 use Rattle.brk_desk.proofs.RecentViews.{account_missing, account_there}

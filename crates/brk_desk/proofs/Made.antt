@@ -3,8 +3,8 @@ use Rattle.std.proofs.Common.{◌≡◌, ℕ, List, [], ◌∷◌, ◌++◌, ref
 use Rattle.std.proofs.lemmas.List.{append-nil}
 use Rattle.sqlite_trees.specs.declared.store.Store.{Ghosts}
 use Rattle.sqlite.specs.Held.{Held}
-use Rattle.brk_outside.proofs.Calls.{made_then}
-use Rattle.brk_outside.specs.Calls.{AreMade}
+use Rattle.brk_io.proofs.Calls.{made_then}
+use Rattle.brk_io.specs.Calls.{AreMade}
 use Rattle.brk_desk.proofs.Promise.{promise_kept}
 use Rattle.brk_desk.proofs.Running.{runs_more, runs_none}
 use Rattle.brk_desk.specs.Keeping.{IsMade, IsRun}

@@ -14,17 +14,17 @@ use Rattle.brk_model.specs.Tables.{MoveRow, Tables, numbered}
 use Rattle.brk_changes.specs.Schemas.{schema_of}
 use Rattle.brk_changes.specs.declared.schema.Schema as known
 use Rattle.brk_changes.specs.declared.schema.Schema.TheVariants.{First, Second, Third}
-use Rattle.brk_book_laws.proofs.LotReading.{All-sort}
-use Rattle.brk_book_laws.proofs.Same.{All-append, All-mapped}
-use Rattle.brk_adoption_laws.specs.Moving.{IsMoved, IsNarrower}
-use Rattle.brk_adoption_laws.specs.Passing.{Passes}
-use Rattle.brk_adoption_laws.proofs.AgainStatus.{all_list}
-use Rattle.brk_adoption_laws.proofs.Climbs.{list_all_true}
-use Rattle.brk_adoption_laws.proofs.MovedRows.{first_narrower, moved_rows, rows_moved_from, second_narrower}
-use Rattle.brk_adoption_laws.proofs.Passing.{passing_books}
-use Rattle.brk_book_laws.specs.Books.{IsBooks}
-use Rattle.brk_sound_laws.specs.Sound.{IsSound}
-use Rattle.brk_sound_laws.proofs.Adopted.{passing_sound}
+use Rattle.brk_book_theorems.proofs.LotReading.{All-sort}
+use Rattle.brk_book_theorems.proofs.Same.{All-append, All-mapped}
+use Rattle.brk_audit_theorems.specs.Moving.{IsMoved, IsNarrower}
+use Rattle.brk_audit_theorems.specs.Passing.{Passes}
+use Rattle.brk_audit_theorems.proofs.AgainStatus.{all_list}
+use Rattle.brk_audit_theorems.proofs.Climbs.{list_all_true}
+use Rattle.brk_audit_theorems.proofs.MovedRows.{first_narrower, moved_rows, rows_moved_from, second_narrower}
+use Rattle.brk_audit_theorems.proofs.Passing.{passing_books}
+use Rattle.brk_book_theorems.specs.Books.{IsBooks}
+use Rattle.brk_invariant_theorems.specs.Sound.{IsSound}
+use Rattle.brk_invariant_theorems.proofs.Adopted.{passing_sound}
 
 abbrev IsRead : Posting → Type 0
 IsRead p = is_utf8 p.name ≡ true

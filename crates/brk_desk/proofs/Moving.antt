@@ -20,10 +20,10 @@ use Rattle.brk_model.specs.Tables.{Tables}
 use Rattle.brk_changes.specs.Schemas.{schema_of}
 use Rattle.brk_changes.specs.declared.schema.Schema as known
 use Rattle.brk_changes.specs.declared.schema.Schema.TheVariants.{Third}
-use Rattle.brk_rows.proofs.Inside.{clean_before}
-use Rattle.brk_tables_form.specs.Made.{HasRows}
-use Rattle.brk_tables_whole.proofs.Defined.{desk_is_there}
-use Rattle.brk_exact_laws.proofs.OneTables.{one_schema}
+use Rattle.brk_sql.proofs.Inside.{clean_before}
+use Rattle.brk_tables_schema.specs.Made.{HasRows}
+use Rattle.brk_tables_scan.proofs.Defined.{desk_is_there}
+use Rattle.brk_tables_unique.proofs.OneTables.{one_schema}
 use Rattle.brk_store.specs.Audited.{Answered, Audited, IsAdopted, IsDefinedIn, OnAnswer}
 use Rattle.brk_store.specs.Holds.{AreTreesOf}
 use Rattle.brk_store.proofs.Schemas.{third_rows}

@@ -5,11 +5,11 @@ use Rattle.sqlite.specs.Held.{Held, state}
 use Rattle.sqlite.specs.State.{HasCleanDisk}
 use Rattle.brk_model.specs.Adopted.{base_of}
 use Rattle.brk_model.specs.Base.{Base, empty_base}
-use Rattle.brk_book_laws.proofs.RunSums.{run_adds_up}
-use Rattle.brk_sound_laws.proofs.Adopted.{sound_passes}
+use Rattle.brk_book_theorems.proofs.RunSums.{run_adds_up}
+use Rattle.brk_invariant_theorems.proofs.Adopted.{sound_passes}
 use Rattle.brk_desk.specs.Answers.{outcome_of}
 use Rattle.brk_desk.specs.Commands.{call_of}
-use Rattle.brk_booking.specs.Booked.{KeepsBase}
+use Rattle.brk_commit.specs.Booked.{KeepsBase}
 use Rattle.brk_desk.specs.Keeping.{IsRun, KeepsPromise, Leads}
 use Rattle.brk_desk.specs.declared.call.Call.{Call}
 use Rattle.brk_desk.specs.declared.call.Outcome.{Outcome}

@@ -14,10 +14,10 @@ use Rattle.brk_model.specs.Queries.{RecentOf}
 use Rattle.brk_model.specs.Sheets.{sheets}
 use Rattle.brk_model.specs.Tables.{AccountRow, Tables, account_row, tables_of}
 use Rattle.brk_model.specs.Views.{view_of}
-use Rattle.brk_book_laws.proofs.Reading.{is_none-map, reads_account}
+use Rattle.brk_book_theorems.proofs.Reading.{is_none-map, reads_account}
 use Rattle.brk_view.specs.Views.{fields_of}
 use Rattle.brk_view.specs.declared.view.View.{View}
-use Rattle.brk_view_laws.proofs.RecentRows.{same_recent}
+use Rattle.brk_view_theorems.proofs.RecentRows.{same_recent}
 use Rattle.brk_desk.specs.Shows.{Shows}
 use Rattle.brk_desk.proofs.Tested.{answered, is_missing, is_there, refused}
 

@@ -12,25 +12,25 @@ use Rattle.brk_model.specs.Form.{has_texts}
 use Rattle.brk_model.specs.Records.{Key}
 use Rattle.brk_model.specs.Sheets.{sheets}
 use Rattle.brk_model.specs.Tables.{Tables}
-use Rattle.brk_rows.proofs.Inside.{clean_before}
-use Rattle.brk_book_laws.proofs.Steps.{empty_books, empty_rows}
-use Rattle.brk_sound_laws.proofs.SoundRuns.{keyed_both}
-use Rattle.brk_sound_laws.proofs.SoundSteps.{empty_sound}
+use Rattle.brk_sql.proofs.Inside.{clean_before}
+use Rattle.brk_book_theorems.proofs.Steps.{empty_books, empty_rows}
+use Rattle.brk_invariant_theorems.proofs.SoundRuns.{keyed_both}
+use Rattle.brk_invariant_theorems.proofs.SoundSteps.{empty_sound}
 use Rattle.brk_store.specs.Audited.{IsAdopted, IsAudited}
 use Rattle.brk_store.specs.Holds.{AreTreesOf, IsCreated, LeavesOnly}
 use Rattle.brk_store.proofs.Found.{found_again}
 use Rattle.brk_store.proofs.Taking.{sound_books_pass, third_audited}
 use Rattle.brk_desk.specs.Answers.{outcome_of}
 use Rattle.brk_desk.specs.Commands.{call_of}
-use Rattle.brk_booking.specs.Booked.{IsCalled, KeepsBase, MayCome, base_after_call}
+use Rattle.brk_commit.specs.Booked.{IsCalled, KeepsBase, MayCome, base_after_call}
 use Rattle.brk_desk.specs.Keeping.{IsRun}
 use Rattle.brk_desk.specs.Reopening.{CanBeKept, IsJustOpened, IsReopened, IsTakenOver, StandsAlone}
 use Rattle.brk_desk.specs.Stops.{MayStand}
-use Rattle.brk_booking.specs.declared.answer.Answer.{Answer}
+use Rattle.brk_commit.specs.declared.answer.Answer.{Answer}
 use Rattle.brk_desk.specs.declared.call.Call.{Call}
 use Rattle.brk_desk.specs.declared.call.Outcome.{Outcome}
 use Rattle.brk_desk.proofs.AtFirst.{made_keeps, stands}
-use Rattle.brk_booking.proofs.Seen.{still_kept}
+use Rattle.brk_commit.proofs.Seen.{still_kept}
 
 pub made_stands : {S : Type 0} (g : Ghosts S) (conn store : Held S) → IsCreated g conn store (Ok tt) → HasCleanDisk (state g store) → StandsAlone g store empty_base
 made_stands g conn store created clean = record {

@@ -7,12 +7,12 @@ use Rattle.sqlite_trees.specs.Tree.{Trees}
 use Rattle.brk_model.specs.Commands as model_answer
 use Rattle.brk_model.specs.Keyed.{keyed_step}
 use Rattle.brk_model.specs.Sheets.{sheets}
-use Rattle.brk_sound_laws.specs.Runs.{IsCallInForm}
+use Rattle.brk_invariant_theorems.specs.Runs.{IsCallInForm}
 use Rattle.brk_store.specs.Holds.{AreTreesOf, LeavesOnly}
 use Rattle.brk_desk.specs.Stops.{IsQuiet, MayStand}
-use Rattle.brk_booking.proofs.Seen.{still}
+use Rattle.brk_commit.proofs.Seen.{still}
 use Rattle.brk_desk.proofs.Stopping.{may_be_there, quiet_leaves, stands_still}
-use Rattle.brk_booking.specs.declared.answer.Answer.TheVariants as given
+use Rattle.brk_commit.specs.declared.answer.Answer.TheVariants as given
 use Rattle.sqlite_trees.specs.declared.store.Store.{Ghosts}
 use Rattle.sqlite.specs.Held.{Held, state}
 use Rattle.sqlite.specs.State.{HasCleanDisk, State, Survives}
@@ -24,14 +24,14 @@ use Rattle.brk_model.specs.Queries as model
 use Rattle.brk_model.specs.Run.{Answers, Ask, Run}
 use Rattle.brk_view.specs.Queries.{query_of}
 use Rattle.brk_view.specs.declared.view.View.{View}
-use Rattle.brk_booking.specs.Answers.{answer_of}
+use Rattle.brk_commit.specs.Answers.{answer_of}
 use Rattle.brk_desk.specs.Answers.{outcome_for, outcome_of, outcome_seen}
 use Rattle.brk_commands.specs.Commands.{command_of}
-use Rattle.brk_booking.specs.Keys.{key_for}
+use Rattle.brk_commit.specs.Keys.{key_for}
 use Rattle.brk_desk.specs.Commands.{call_of}
-use Rattle.brk_booking.specs.Booked.{IsCalled, KeepsBase, base_after_call}
+use Rattle.brk_commit.specs.Booked.{IsCalled, KeepsBase, base_after_call}
 use Rattle.brk_desk.specs.Keeping.{IsAsked, IsMade, IsRun}
-use Rattle.brk_booking.specs.declared.answer.Answer as desk
+use Rattle.brk_commit.specs.declared.answer.Answer as desk
 use Rattle.brk_desk.specs.declared.call.Call.{Call}
 use Rattle.brk_desk.specs.declared.call.Call.TheVariants as call
 use Rattle.brk_desk.specs.declared.call.Outcome.{Outcome}

@@ -25,8 +25,8 @@ use Rattle.brk_view.specs.Views.{fields_of}
 use Rattle.brk_view.specs.declared.statuses.AccountStatus.{AccountStatus}
 use Rattle.brk_view.specs.declared.statuses.TradeStatus.{TradeStatus}
 use Rattle.brk_view.specs.declared.view.View.{View}
-use Rattle.brk_view_laws.proofs.FoundRows.{account_alone, customer_alone}
-use Rattle.brk_view_laws.proofs.StatusRows.{same_status_view}
+use Rattle.brk_view_theorems.proofs.FoundRows.{account_alone, customer_alone}
+use Rattle.brk_view_theorems.proofs.StatusRows.{same_status_view}
 use Rattle.brk_desk.specs.Parties.{ArePartiesOf}
 use Rattle.brk_desk.specs.Shows.{Shows}
 use Rattle.brk_desk.proofs.Tested.{answered, refused}

@@ -13,14 +13,14 @@ use Rattle.brk_model.specs.Sheets.{sheets}
 use Rattle.brk_model.specs.Tables.{BrokerRow, RequestRow, Tables}
 use Rattle.brk_model.specs.Views.{view_of}
 use Rattle.brk_model.specs.VolumeView.{by_volume, requests_in, volume_view}
-use Rattle.brk_book_laws.proofs.LotReading.{filter-both}
-use Rattle.brk_book_laws.proofs.Places.{filter-append}
+use Rattle.brk_book_theorems.proofs.LotReading.{filter-both}
+use Rattle.brk_book_theorems.proofs.Places.{filter-append}
 use Rattle.brk_view.specs.Views.{fields_of}
 use Rattle.brk_view.specs.Volume.{is_shown, request_worth}
 use Rattle.brk_view.specs.Volume as volume
 use Rattle.brk_view.specs.declared.view.View.{View}
 use Rattle.brk_view.specs.declared.volumes.BrokerVolume.{BrokerVolume}
-use Rattle.brk_view_laws.proofs.VolumeRows.{brokers_by_name, same_volumes}
+use Rattle.brk_view_theorems.proofs.VolumeRows.{brokers_by_name, same_volumes}
 use Rattle.brk_desk.specs.Shows.{Shows}
 use Rattle.brk_desk.specs.Volumes.{has_requests, is_in, named_in, volumes_in, with_request}
 use Rattle.brk_desk.proofs.Each.{first_more}

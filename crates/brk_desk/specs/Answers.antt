@@ -5,8 +5,8 @@ use Rattle.brk_money.specs.declared.refusal.Refusal.{Refusal}
 use Rattle.brk_model.specs.Run as run
 use Rattle.brk_view.specs.Views.{fields_of}
 use Rattle.brk_view.specs.declared.view.View.{View}
-use Rattle.brk_booking.specs.Answers.{answer_of}
-use Rattle.brk_booking.specs.declared.answer.Answer as desk
+use Rattle.brk_commit.specs.Answers.{answer_of}
+use Rattle.brk_commit.specs.declared.answer.Answer as desk
 use Rattle.brk_desk.specs.declared.call.Outcome.{Outcome}
 use Rattle.brk_desk.specs.declared.call.Outcome.TheVariants as came
 

@@ -1,6 +1,6 @@
 -- What calls are in the abstract brokerage.
 use Rattle.std.specs.Prelude.{ℕ}
-use Rattle.brk_booking.specs.Keys.{key_for}
+use Rattle.brk_commit.specs.Keys.{key_for}
 use Rattle.brk_commands.specs.Commands.{command_of}
 use Rattle.brk_model.specs.Run as run
 use Rattle.brk_view.specs.Queries.{query_of}

@@ -18,21 +18,21 @@ use Rattle.brk_model.specs.Run.{MayFail, Run}
 use Rattle.brk_model.specs.Tables.{Tables, no_rows}
 use Rattle.brk_changes.specs.Schemas.{schema_of}
 use Rattle.brk_changes.specs.declared.schema.Schema as known
-use Rattle.brk_book_laws.specs.Runs.{RunAddsUp}
-use Rattle.brk_adoption_laws.specs.Passing.{Passes}
-use Rattle.brk_sound_laws.specs.Runs.{IsCallInForm}
+use Rattle.brk_book_theorems.specs.Runs.{RunAddsUp}
+use Rattle.brk_audit_theorems.specs.Passing.{Passes}
+use Rattle.brk_invariant_theorems.specs.Runs.{IsCallInForm}
 use Rattle.brk_store.specs.Audited.{IsAudited, OnAnswer}
 use Rattle.brk_store.specs.Holds.{AreTreesOf, Holds, IsSame, LeavesOnly}
 use Rattle.brk_desk.specs.Shows.{seen_of}
 use Rattle.brk_view.specs.Queries.{query_of}
 use Rattle.brk_view.specs.declared.view.View.{View}
-use Rattle.brk_booking.specs.Booked.{IsCalled, KeepsBase, StillKeeps}
+use Rattle.brk_commit.specs.Booked.{IsCalled, KeepsBase, StillKeeps}
 use Rattle.brk_desk.specs.Answers.{outcome_for, outcome_of, outcome_seen}
 use Rattle.brk_commands.specs.Commands.{command_of}
-use Rattle.brk_booking.specs.Keys.{key_for}
+use Rattle.brk_commit.specs.Keys.{key_for}
 use Rattle.brk_desk.specs.Commands.{call_of}
 use Rattle.brk_desk.specs.Stops.{MayStand}
-use Rattle.brk_booking.specs.declared.answer.Answer as desk
+use Rattle.brk_commit.specs.declared.answer.Answer as desk
 use Rattle.brk_desk.specs.declared.call.Call.{Call}
 use Rattle.brk_desk.specs.declared.call.Call.TheVariants as call
 use Rattle.brk_desk.specs.declared.call.Outcome.{Outcome}

@@ -12,11 +12,11 @@ use Rattle.brk_model.specs.Sheets.{sheets}
 use Rattle.brk_model.specs.Tables.{Tables}
 use Rattle.brk_changes.specs.Schemas.{schema_of}
 use Rattle.brk_changes.specs.declared.schema.Schema as known
-use Rattle.brk_book_laws.specs.Books.{IsBooks}
-use Rattle.brk_sound_laws.specs.Sound.{IsSound}
+use Rattle.brk_book_theorems.specs.Books.{IsBooks}
+use Rattle.brk_invariant_theorems.specs.Sound.{IsSound}
 use Rattle.brk_store.specs.Audited.{Answered, OnAnswer}
 use Rattle.brk_store.specs.Holds.{AreTreesOf, IsOpenedOver, LeavesOnly}
-use Rattle.brk_booking.specs.Booked.{KeepsBase}
+use Rattle.brk_commit.specs.Booked.{KeepsBase}
 
 -- the books of a base are in order and sound, so that their tables pass an audit, and their texts can be read
 pub record CanBeKept (base : Base) : Type 0 where

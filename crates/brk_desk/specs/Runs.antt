@@ -2,7 +2,7 @@
 use Rattle.std.specs.Prelude.{ℕ, List}
 use Rattle.sqlite_trees.specs.declared.store.Store.{Ghosts}
 use Rattle.sqlite.specs.Held.{Held}
-use Rattle.brk_outside.specs.Calls.{AreMade}
+use Rattle.brk_io.specs.Calls.{AreMade}
 use Rattle.brk_desk.specs.Keeping.{IsMade, IsRun, KeepsPromise}
 use Rattle.brk_desk.specs.declared.call.Call.{Call}
 use Rattle.brk_desk.specs.declared.call.Outcome.{Outcome}

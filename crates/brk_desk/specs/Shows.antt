@@ -7,8 +7,8 @@ use Rattle.brk_model.specs.Queries as model
 use Rattle.brk_model.specs.Queries.{Query}
 use Rattle.brk_model.specs.Sheets.{sheets}
 use Rattle.brk_model.specs.Tables.{Tables}
-use Rattle.brk_sound_laws.specs.Sound.{IsSound}
-use Rattle.brk_book_laws.specs.Books.{IsBooks}
+use Rattle.brk_invariant_theorems.specs.Sound.{IsSound}
+use Rattle.brk_book_theorems.specs.Books.{IsBooks}
 use Rattle.brk_view.specs.Views.{fields_of}
 use Rattle.brk_view.specs.declared.view.View.{View}
 

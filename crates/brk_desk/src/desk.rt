@@ -1,9 +1,9 @@
 use crate::asking::look;
 use crate::call::{Call, Outcome};
 use crate::head::{Head, find_head};
-use brk_booking::{Answer, book};
 use brk_changes::{HoldingRow, MoveRow};
 use brk_commands::Command;
+use brk_commit::{Answer, book};
 use brk_lots::Lot;
 use brk_money::{Fault, Id, Planned, Stamp};
 use brk_ref::Key;
@@ -39,8 +39,8 @@ impl<S: Alter> Desk<S> {
     ghost use Rattle.std.specs.Prelude.{◌≡◌, ◌≢◌, ◌++◌, List, Err, IfErr, OnOk, OnErr};
     ghost use Rattle.std.specs.Option.{option_copied};
     ghost use Rattle.brk_commands.specs.Commands.{command_of};
-    ghost use Rattle.brk_booking.specs.Keys.{key_for};
-    ghost use Rattle.brk_booking.specs.Booked.{IsCalled};
+    ghost use Rattle.brk_commit.specs.Keys.{key_for};
+    ghost use Rattle.brk_commit.specs.Booked.{IsCalled};
     ghost use Rattle.brk_desk.specs.Keeping.{IsAsked, IsDeskAudited, IsMade, IsRun, KeepsPromise};
     ghost use Rattle.brk_desk.specs.declared.call.Outcome as came;
     ghost use Rattle.brk_money.specs.declared.fault.Condition.TheVariants.{NotEmpty};

@@ -17,12 +17,12 @@ pub mod reopening;
 mod statuses;
 mod volumes;
 
-pub use brk_booking::Answer;
 pub use brk_commands::{Command, line_text, parse_row, row_text};
-pub use brk_shown::view_fields;
+pub use brk_commit::Answer;
 pub use brk_store;
 pub use brk_store::{Stop, Visitor};
 pub use brk_view::{Query, View, parse_query};
+pub use brk_view_text::view_fields;
 pub use call::{Call, Outcome};
 pub use desk::Desk;
 pub use head::Head;

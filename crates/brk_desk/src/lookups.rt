@@ -8,12 +8,12 @@ ghost use Rattle.brk_model.specs.Queries.{TradesOfAccount, TradesOfSymbol, Trade
 ghost use Rattle.brk_model.specs.Run.{MayFail};
 ghost use Rattle.brk_store.specs.Holds.{IsRead};
 
-use brk_corrections::find_trades;
 use brk_money::{Fault, Id, Planned, Refusal};
 use brk_orders::Span;
 use brk_ref::Symbol;
 use brk_store::Store;
 use brk_trade::TradeRow;
+use brk_update_decisions::find_trades;
 use brk_view::{
     LookedUp, NamedTrades, View, looked_up, lookup_account, lookup_ids, lookup_symbol, oldest_first,
 };

@@ -9,10 +9,10 @@ use Rattle.brk_money.specs.declared.refusal.Refusal.{Refusal}
 use Rattle.brk_model.specs.Base.{Base}
 use Rattle.brk_model.specs.Run.{Answers, Ask, Call, Did, Do, Failed, Outcome}
 use Rattle.brk_ref.specs.declared.key.Key.{Key}
-use Rattle.brk_booking.specs.Answers.{answer_of}
-use Rattle.brk_booking.specs.Booked.{IsCalled, KeepsBase}
-use Rattle.brk_booking.specs.Keys.{key_for}
-use Rattle.brk_booking.specs.declared.answer.Answer.{Answer}
+use Rattle.brk_commit.specs.Answers.{answer_of}
+use Rattle.brk_commit.specs.Booked.{IsCalled, KeepsBase}
+use Rattle.brk_commit.specs.Keys.{key_for}
+use Rattle.brk_commit.specs.declared.answer.Answer.{Answer}
 use Rattle.brk_commands.specs.Commands.{command_of}
 use Rattle.brk_commands.specs.declared.command.Command.{Command}
 use Rattle.brk_desk.proofs.Running.{runs_more, runs_none}
@@ -25,7 +25,7 @@ use Rattle.brk_view.specs.Queries.{query_of}
 use Rattle.brk_view.specs.Views.{fields_of}
 use Rattle.brk_view.specs.declared.query.Query.{Query}
 use Rattle.brk_view.specs.declared.view.View.{View}
-use Rattle.brk_serving.specs.Codes.{query_outcome}
+use Rattle.brk_http_engine.specs.Codes.{query_outcome}
 use Rattle.brk_http.specs.Acts.{DeskActs}
 
 seen_is : (result : Result (Result View Refusal) Fault) → outcome_of (outcome_seen result) ≡ query_outcome fields_of result

@@ -12,12 +12,12 @@ use Rattle.brk_desk.specs.declared.call.Call.{Call}
 use Rattle.brk_desk.specs.declared.call.Outcome.{Outcome}
 use Rattle.brk_model.specs.Run as run
 use Rattle.brk_money.specs.Spelling.{Text}
-use Rattle.brk_outside.specs.Calls.{AreMade}
-use Rattle.brk_outside.specs.Span.{Outside, with_base}
-use Rattle.brk_serving.proofs.Promised.{tells}
-use Rattle.brk_serving.specs.Promises.{TellsOutcomes, WasCalled}
-use Rattle.brk_serving.specs.Turns.{ServeGives}
-use Rattle.brk_serving.specs.declared.stream.ServeFault.{ServeFault}
+use Rattle.brk_io.specs.Calls.{AreMade}
+use Rattle.brk_io.specs.Span.{Outside, with_base}
+use Rattle.brk_http_engine.proofs.Promised.{tells}
+use Rattle.brk_http_engine.specs.Promises.{TellsOutcomes, WasCalled}
+use Rattle.brk_http_engine.specs.Turns.{ServeGives}
+use Rattle.brk_http_engine.specs.declared.stream.ServeFault.{ServeFault}
 use Rattle.brk_http.specs.Acts.{DeskActs}
 use Rattle.brk_http.specs.Forms.{known_forms}
 

@@ -2,7 +2,7 @@
 use Rattle.std.specs.Prelude.{map}
 use Rattle.brk_model.specs.Ask.{parse_query, views}
 use Rattle.brk_model.specs.Parse.{parse_by, readers}
-use Rattle.brk_web.specs.Asked.{Forms}
+use Rattle.brk_http_model.specs.Asked.{Forms}
 
 -- all rows and all views
 abbrev pub known_forms : Forms

@@ -1,20 +1,20 @@
 ghost use Rattle.std.specs.Prelude.{◌≡◌, Ok};
 ghost use Rattle.brk_commands.specs.Commands.{command_of};
-ghost use Rattle.brk_booking.specs.Answers.{answer_of};
+ghost use Rattle.brk_commit.specs.Answers.{answer_of};
 ghost use Rattle.brk_http.specs.Acts.{DeskActs};
 ghost use Rattle.brk_http.specs.Forms.{known_forms};
 ghost use Rattle.brk_model.specs.Run.{Did};
 ghost use Rattle.brk_plans.specs.Replies.{reply_of};
-ghost use Rattle.brk_serving.specs.Codes.{row_outcome};
+ghost use Rattle.brk_http_engine.specs.Codes.{row_outcome};
 ghost use Rattle.brk_view.specs.Queries.{query_of};
 ghost use Rattle.brk_view.specs.Views.{fields_of};
 
 use brk_desk::{
     Answer, Command, Desk, Query, View, line_text, parse_query, parse_row, view_fields,
 };
+use brk_http_engine::{RowAnswer, Service, line_fields};
 use brk_money::{Fault, Planned, Stamp};
 use brk_ref::Key;
-use brk_serving::{RowAnswer, Service, line_fields};
 use brk_trade::Reply;
 use sqlite::Alter;
 use std::alloc::{AllocError, Global};

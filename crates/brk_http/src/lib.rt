@@ -7,7 +7,7 @@ mod streams;
 
 pub use at_desk::AtDesk;
 pub use brk_desk;
-pub use brk_outside::Clock;
-pub use brk_serving::{FaultKind, ServeFault};
+pub use brk_http_engine::{FaultKind, ServeFault};
+pub use brk_io::Clock;
 pub use listening::{ListenFault, PATIENCE, serve_on};
 pub use streams::serve_stream;

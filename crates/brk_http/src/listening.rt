@@ -2,8 +2,8 @@ ghost use Rattle.brk_desk.specs.Runs.{WasRun};
 
 use crate::streams::serve_stream;
 use brk_desk::Desk;
-use brk_outside::Clock;
-use brk_serving::{FaultKind, ServeFault};
+use brk_http_engine::{FaultKind, ServeFault};
+use brk_io::Clock;
 use sqlite::Alter;
 use std::alloc::Global;
 use std::io;

@@ -1,5 +1,5 @@
 ghost use Rattle.std.specs.Prelude.{ℕ, IfSome, List, map};
-ghost use Rattle.brk_booking.specs.Booked.{KeepsBase};
+ghost use Rattle.brk_commit.specs.Booked.{KeepsBase};
 ghost use Rattle.brk_desk.specs.Answers.{outcome_of};
 ghost use Rattle.brk_desk.specs.Commands.{call_of};
 ghost use Rattle.brk_desk.specs.Runs.{IsRunOf};
@@ -7,14 +7,14 @@ ghost use Rattle.brk_desk.specs.declared.call.Call as made;
 ghost use Rattle.brk_desk.specs.declared.call.Outcome as came;
 ghost use Rattle.brk_http.specs.Forms.{known_forms};
 ghost use Rattle.brk_model.specs.Run.{Answers};
-ghost use Rattle.brk_serving.specs.Promises.{KeepsBooks, TellsOutcomes};
+ghost use Rattle.brk_http_engine.specs.Promises.{KeepsBooks, TellsOutcomes};
 ghost use Rattle.sqlite.specs.Held.{state};
 ghost use Rattle.sqlite.specs.State.{HasCleanDisk};
 
 use crate::at_desk::AtDesk;
 use brk_desk::Desk;
-use brk_outside::Clock;
-use brk_serving::{ServeFault, serve};
+use brk_http_engine::{ServeFault, serve};
+use brk_io::Clock;
 use sqlite::Alter;
 use std::alloc::Global;
 use std::io::{Read, Write};

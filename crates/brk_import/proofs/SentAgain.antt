@@ -17,23 +17,23 @@ use Rattle.brk_model.specs.Forms.{Read}
 use Rattle.brk_model.specs.Input.{Begins, end_of, header_of}
 use Rattle.brk_model.specs.Lines.{end_line, lines_from}
 use Rattle.brk_model.specs.Sheets.{sheets}
-use Rattle.brk_model_laws.specs.Laws.{IsBookedNext, IsCompleted}
-use Rattle.brk_model_laws.proofs.StoppedLaws.{booked-completed, completed, next-goes-on, rows-go-on}
-use Rattle.brk_outside.specs.Moments.{Moments}
-use Rattle.brk_outside.specs.Span.{Outside, with_base}
+use Rattle.brk_model_theorems.specs.Laws.{IsBookedNext, IsCompleted}
+use Rattle.brk_model_theorems.proofs.StoppedLaws.{booked-completed, completed, next-goes-on, rows-go-on}
+use Rattle.brk_io.specs.Moments.{Moments}
+use Rattle.brk_io.specs.Span.{Outside, with_base}
 use Rattle.brk_store.specs.Audited.{IsAdopted, OnAnswer}
 use Rattle.brk_store.specs.Holds.{AreTreesOf}
-use Rattle.brk_booking.specs.Booked.{KeepsBase}
+use Rattle.brk_commit.specs.Booked.{KeepsBase}
 use Rattle.brk_desk.specs.Reopening.{CanBeKept, IsReopened, StandsAlone}
 use Rattle.brk_desk.proofs.Reopened.{Settles, kept_can_be, taken_over}
-use Rattle.brk_batches.specs.Batch.{BatchGives, CameTo, Faulted, IsUnderWay, KeepsBooks, LeavesAt, LeavesBooks, Stopped}
+use Rattle.brk_batch_engine.specs.Batch.{BatchGives, CameTo, Faulted, IsUnderWay, KeepsBooks, LeavesAt, LeavesBooks, Stopped}
 use Rattle.brk_import.specs.Leaving.{LeavesOneOf}
 use Rattle.brk_import.specs.SentAgain.{IsSentAgain}
-use Rattle.brk_outside.specs.declared.batch_fault.BatchFault.{BatchFault}
-use Rattle.brk_outside.specs.declared.batch_fault.FaultKind.{FaultKind}
-use Rattle.brk_outside.specs.declared.batch_fault.FaultKind.TheVariants as kinds
-use Rattle.brk_batches.specs.declared.counts.Counts.{Counts}
-use Rattle.brk_batches.proofs.Reading.{begins_front}
+use Rattle.brk_io.specs.declared.batch_fault.BatchFault.{BatchFault}
+use Rattle.brk_io.specs.declared.batch_fault.FaultKind.{FaultKind}
+use Rattle.brk_io.specs.declared.batch_fault.FaultKind.TheVariants as kinds
+use Rattle.brk_batch_engine.specs.declared.counts.Counts.{Counts}
+use Rattle.brk_batch_engine.proofs.Reading.{begins_front}
 
 module _ {S C : Type 0} (g : Ghosts S) (rests : Settles g) (form : Fields → Read Command) (apart : (n : ℕ) (command : Command) → form (end_of n) ≡ Ok command → ⊥) (gives : C → ℕ → C → Type 0)
     (text : Text) (one : Outside C) (base : Base) where

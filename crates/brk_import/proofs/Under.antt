@@ -12,9 +12,9 @@ use Rattle.brk_model.specs.Commands.{Command}
 use Rattle.brk_model.specs.Records.{Key}
 use Rattle.brk_model.specs.Sheets.{sheets}
 use Rattle.brk_store.specs.Holds.{AreTreesOf}
-use Rattle.brk_booking.specs.Answers.{answer_of}
-use Rattle.brk_booking.specs.Booked.{IsCalled, KeepsBase}
-use Rattle.brk_booking.specs.Keys.{key_for}
+use Rattle.brk_commit.specs.Answers.{answer_of}
+use Rattle.brk_commit.specs.Booked.{IsCalled, KeepsBase}
+use Rattle.brk_commit.specs.Keys.{key_for}
 use Rattle.brk_commands.specs.Commands.{command_of}
 use Rattle.brk_commands.specs.declared.command.Command as commands
 use Rattle.brk_ref.specs.declared.key.Key as keys
@@ -23,11 +23,11 @@ use Rattle.brk_desk.specs.Reopening.{CanBeKept}
 use Rattle.brk_desk.specs.Runs.{WasRun}
 use Rattle.brk_desk.specs.declared.call.Call.TheVariants as call
 use Rattle.brk_desk.proofs.Made.{one_run}
-use Rattle.brk_booking.specs.declared.answer.Answer.{Answer}
-use Rattle.brk_booking.specs.declared.answer.Answer.TheVariants as given
+use Rattle.brk_commit.specs.declared.answer.Answer.{Answer}
+use Rattle.brk_commit.specs.declared.answer.Answer.TheVariants as given
 use Rattle.brk_desk.proofs.Reopened.{booked_can_be}
 use Rattle.brk_desk.proofs.Stopping.{quiet_leaves}
-use Rattle.brk_batches.specs.Answers.{Acts, MayAct, StandsBy}
+use Rattle.brk_batch_engine.specs.Answers.{Acts, MayAct, StandsBy}
 use Rattle.brk_import.specs.Leaving.{LeavesOneOf}
 
 module _ {S : Type 0} (g : Ghosts S) (old new : Held S) (now : ℕ) (command : Command) where

@@ -7,10 +7,10 @@ use Rattle.brk_model.specs.Base.{Base}
 use Rattle.brk_model.specs.Commands.{Answer, Command}
 use Rattle.brk_model.specs.Forms.{Read}
 use Rattle.brk_model.specs.Lines.{count_refused, end_line, lines_from}
-use Rattle.brk_model_laws.specs.Laws.{IsCompleted}
-use Rattle.brk_outside.specs.Moments.{Moments}
-use Rattle.brk_outside.specs.Span.{Outside}
-use Rattle.brk_batches.specs.Batch.{EndsRight}
+use Rattle.brk_model_theorems.specs.Laws.{IsCompleted}
+use Rattle.brk_io.specs.Moments.{Moments}
+use Rattle.brk_io.specs.Span.{Outside}
+use Rattle.brk_batch_engine.specs.Batch.{EndsRight}
 
 -- the first sending began at one base, and the second one, which ended well, led to the other
 pub record IsSentAgain {C : Type 0} (form : Fields → Read Command) (gives : C → ℕ → C → Type 0) (text : Option Text) (base after : Base) (one two : Outside C) : Type 0 where

@@ -7,13 +7,13 @@ ghost use Rattle.brk_model.specs.Commands as model;
 ghost use Rattle.brk_model.specs.Parse.{parse_by, readers};
 ghost use Rattle.brk_commands.specs.Commands.{command_of};
 ghost use Rattle.brk_plans.specs.Replies.{reply_of};
-ghost use Rattle.brk_booking.specs.Booked.{KeepsBase};
+ghost use Rattle.brk_commit.specs.Booked.{KeepsBase};
 ghost use Rattle.brk_desk.specs.Runs.{WasRun};
 ghost use Rattle.brk_import.specs.Leaving.{LeavesOneOf, called_then, not_called};
 ghost use Rattle.sqlite.specs.Held.{state};
 ghost use Rattle.sqlite.specs.State.{HasCleanDisk};
 
-use brk_batches::{RowAnswer, Rows};
+use brk_batch_engine::{RowAnswer, Rows};
 use brk_desk::{Answer, Command, Desk, line_text, parse_row};
 use brk_money::{Fault, Planned, Stamp};
 use brk_ref::{BatchName, Key, RowNumber};

@@ -7,5 +7,5 @@ pub mod sent_again;
 
 pub use at_desk::AtDesk;
 pub use batch::run_batch;
-pub use brk_batches::{BatchFault, Clock, Counts, FaultKind, MOST_BYTES};
+pub use brk_batch_engine::{BatchFault, Clock, Counts, FaultKind, MOST_BYTES};
 pub use brk_desk;

@@ -1,24 +1,24 @@
 //! A batch that was stopped and is sent again.
 
 ghost use Rattle.std.specs.Prelude.{◌≡◌, ℕ, List, None, Ok, Result, Some};
-ghost use Rattle.brk_booking.specs.Booked.{KeepsBase};
+ghost use Rattle.brk_commit.specs.Booked.{KeepsBase};
 ghost use Rattle.brk_desk.specs.Reopening.{IsReopened, StandsAlone};
-ghost use Rattle.brk_batches.specs.Batch.{KeepsBooks, LeavesBooks};
+ghost use Rattle.brk_batch_engine.specs.Batch.{KeepsBooks, LeavesBooks};
 ghost use Rattle.brk_import.specs.Leaving.{LeavesOneOf};
 ghost use Rattle.brk_import.specs.SentAgain.{IsSentAgain};
-ghost use Rattle.brk_outside.specs.declared.batch_fault.BatchFault as faults;
-ghost use Rattle.brk_batches.specs.declared.counts.Counts as counted;
+ghost use Rattle.brk_io.specs.declared.batch_fault.BatchFault as faults;
+ghost use Rattle.brk_batch_engine.specs.declared.counts.Counts as counted;
 ghost use Rattle.brk_model.specs.Base.{Base};
 ghost use Rattle.brk_model.specs.Batch.{row_step};
 ghost use Rattle.brk_model.specs.Input.{text_of};
 ghost use Rattle.brk_model.specs.Parse.{parse_by, readers};
 ghost use Rattle.brk_money.specs.declared.fault.Fault as money;
-ghost use Rattle.brk_outside.specs.Span.{Outside};
+ghost use Rattle.brk_io.specs.Span.{Outside};
 ghost use Rattle.brk_store.specs.Audited.{IsAdopted, OnAnswer};
 ghost use Rattle.sqlite.specs.Held.{Held, state};
 ghost use Rattle.sqlite.specs.State.{HasCleanDisk};
 
-use brk_outside::Clock;
+use brk_io::Clock;
 use sqlite::Alter;
 
 /// Whatever a stop leaves of a batch, where it is opened again and adopted, no audit finds it damaged. Where the same batch is then

@@ -4,8 +4,8 @@ ghost use Rattle.brk_model.specs.Run.{MayFail};
 ghost use Rattle.brk_report_lines.specs.Written.{Writes, ended};
 
 use crate::fault::LinesFault;
+use brk_io::write_out;
 use brk_money::Fault;
-use brk_writing::write_out;
 use std::io::Write;
 
 /// Writes a line, which was made or could not be.

@@ -27,20 +27,20 @@ use Rattle.brk_model.specs.Tables.{Tables, no_rows}
 use Rattle.brk_changes.specs.declared.schema.Schema as known
 use Rattle.brk_changes.specs.declared.schema.Schema.TheVariants.{First, Second, Third}
 use Rattle.brk_changes.specs.Schemas.{schema_of}
-use Rattle.brk_rows.specs.Model.{IsStep}
-use Rattle.brk_rows.proofs.Inside.{clean_before, step_then}
-use Rattle.brk_book_laws.proofs.Steps.{empty_books, empty_rows}
-use Rattle.brk_adoption_laws.specs.Passing.{Passes}
-use Rattle.brk_adoption_laws.proofs.MovedRows.{first_narrower, moved_rows, rows_moved_from, second_narrower}
-use Rattle.brk_adoption_laws.proofs.Passing.{passing_tables}
-use Rattle.brk_sound_laws.proofs.Adopted.{sound_passes}
-use Rattle.brk_sound_laws.proofs.SoundSteps.{empty_sound}
-use Rattle.brk_rows.specs.Desk.{IsCalm}
-use Rattle.brk_tables_form.specs.Desk.{Which}
-use Rattle.brk_tables_form.specs.Made.{HasRows, IsOf}
-use Rattle.brk_tables_moving.specs.Moving.{KeepsStrangers, Moves}
-use Rattle.brk_tables_whole.specs.Schemas.{HasDesk, IsDefined, IsDefinedAs}
-use Rattle.brk_tables_whole.proofs.Defined.{desk_is_there}
+use Rattle.brk_sql.specs.Model.{IsStep}
+use Rattle.brk_sql.proofs.Inside.{clean_before, step_then}
+use Rattle.brk_book_theorems.proofs.Steps.{empty_books, empty_rows}
+use Rattle.brk_audit_theorems.specs.Passing.{Passes}
+use Rattle.brk_audit_theorems.proofs.MovedRows.{first_narrower, moved_rows, rows_moved_from, second_narrower}
+use Rattle.brk_audit_theorems.proofs.Passing.{passing_tables}
+use Rattle.brk_invariant_theorems.proofs.Adopted.{sound_passes}
+use Rattle.brk_invariant_theorems.proofs.SoundSteps.{empty_sound}
+use Rattle.brk_sql.specs.Desk.{IsCalm}
+use Rattle.brk_tables_schema.specs.Desk.{Which}
+use Rattle.brk_tables_schema.specs.Made.{HasRows, IsOf}
+use Rattle.brk_tables_upgrade.specs.Moving.{KeepsStrangers, Moves}
+use Rattle.brk_tables_scan.specs.Schemas.{HasDesk, IsDefined, IsDefinedAs}
+use Rattle.brk_tables_scan.proofs.Defined.{desk_is_there}
 use Rattle.brk_store.specs.Audited.{AreMoved, Answered, Audited, AuditedBy, HasMoved, HasThirdIn, IsAdopted, IsAudited, IsDefinedIn, OnAnswer}
 use Rattle.brk_store.specs.Examined.{Tells}
 use Rattle.brk_store.specs.Holds.{Holds, IsSame}

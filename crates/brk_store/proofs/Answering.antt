@@ -16,12 +16,12 @@ use Rattle.brk_changes.specs.declared.schema.Schema.TheVariants.{Third}
 use Rattle.brk_changes.specs.Schemas.{schema_of}
 use Rattle.brk_changes.specs.Sheets.{tables_in_sheets}
 use Rattle.brk_changes.specs.declared.sheets.Sheets.{Sheets}
-use Rattle.brk_rows.specs.Model.{IsStep}
-use Rattle.brk_rows.proofs.Inside.{step_read, step_then}
-use Rattle.brk_exact_laws.proofs.OneTables.{one_schema}
-use Rattle.brk_tables_form.specs.Made.{HasRowsIn}
-use Rattle.brk_tables_whole.specs.Schemas.{HasDesk, IsDefinedAs}
-use Rattle.brk_tables_whole.specs.Whole.{WasRead}
+use Rattle.brk_sql.specs.Model.{IsStep}
+use Rattle.brk_sql.proofs.Inside.{step_read, step_then}
+use Rattle.brk_tables_unique.proofs.OneTables.{one_schema}
+use Rattle.brk_tables_schema.specs.Made.{HasRowsIn}
+use Rattle.brk_tables_scan.specs.Schemas.{HasDesk, IsDefinedAs}
+use Rattle.brk_tables_scan.specs.Whole.{WasRead}
 use Rattle.brk_store.specs.Audited.{AuditedBy}
 use Rattle.brk_store.proofs.Texts.{typed_texts}
 

@@ -8,8 +8,8 @@ use Rattle.brk_money.specs.declared.fault.Fault.{Fault}
 use Rattle.brk_money.specs.declared.fault.Fault.TheVariants.{Memory, Store, Damaged}
 use Rattle.brk_model.specs.Run.{MayFail}
 use Rattle.brk_model.specs.Schemas.{third_schema}
-use Rattle.brk_rows.specs.Model.{IsStep}
-use Rattle.brk_rows.proofs.Inside.{clean_before}
+use Rattle.brk_sql.specs.Model.{IsStep}
+use Rattle.brk_sql.proofs.Inside.{clean_before}
 use Rattle.brk_store.specs.Audited.{AuditedBy, IsAudited, IsThirdDefinedIn, OnAnswer}
 use Rattle.brk_store.specs.Holds.{IsSame}
 use Rattle.brk_store.proofs.Answering.{Told}

@@ -6,8 +6,8 @@ use Rattle.std.proofs.lemmas.List.{reverse-append}
 use Rattle.sqlite.specs.Effect.{Database}
 use Rattle.brk_model.specs.Limits.{greatest_id}
 use Rattle.brk_model.specs.Tables.{MoveRow, Tables}
-use Rattle.brk_book_laws.specs.TradeReads.{last_move}
-use Rattle.brk_tables_form.specs.Made.{HasRows}
+use Rattle.brk_book_theorems.specs.TradeReads.{last_move}
+use Rattle.brk_tables_schema.specs.Made.{HasRows}
 use Rattle.brk_store.proofs.WalkedLists.{Climb, moves_climb}
 
 -- the number of the last of some rows, or another where there is none

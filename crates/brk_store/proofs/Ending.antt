@@ -10,15 +10,15 @@ use Rattle.sqlite.specs.declared.error.Error.{Error}
 use Rattle.sqlite.proofs.Callers.{survives_begin}
 use Rattle.sqlite.proofs.StateLemmas.{survives_then, survives_weaker}
 use Rattle.brk_model.specs.Tables.{Tables}
-use Rattle.brk_rows.specs.Desk.{Turns}
-use Rattle.brk_rows.specs.Model.{IsStep, Looks}
-use Rattle.brk_rows.proofs.Inside.{clean_before, commits_all, commits_crash, step_then}
+use Rattle.brk_sql.specs.Desk.{Turns}
+use Rattle.brk_sql.specs.Model.{IsStep, Looks}
+use Rattle.brk_sql.proofs.Inside.{clean_before, commits_all, commits_crash, step_then}
 use Rattle.brk_money.specs.declared.fault.Fault.{Fault}
 use Rattle.brk_money.specs.declared.fault.Fault.TheVariants.{Store}
-use Rattle.brk_tables_form.specs.Desk.{desk}
-use Rattle.brk_tables_form.specs.Made.{HasRows}
-use Rattle.brk_tables_making.specs.Made.{MakesDesk}
-use Rattle.brk_tables_making.specs.Present.{has_table_of_desk}
+use Rattle.brk_tables_schema.specs.Desk.{desk}
+use Rattle.brk_tables_schema.specs.Made.{HasRows}
+use Rattle.brk_tables_create.specs.Made.{MakesDesk}
+use Rattle.brk_tables_create.specs.Present.{has_table_of_desk}
 use Rattle.brk_store.specs.Holds.{Holds, IsSame, IsRead, IsApplied, IsCreated}
 
 abbrev pub begun : {S : Type 0} → Held S → Held S

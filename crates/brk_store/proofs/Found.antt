@@ -9,7 +9,7 @@ use Rattle.sqlite_trees.specs.Objects.{catalog_tree}
 use Rattle.sqlite_trees.specs.Tree.{Trees}
 use Rattle.sqlite_trees.specs.declared.store.Store.{Ghosts}
 use Rattle.brk_model.specs.Tables.{Tables}
-use Rattle.brk_tables_form.specs.Made.{HasRows}
+use Rattle.brk_tables_schema.specs.Made.{HasRows}
 use Rattle.brk_store.specs.Holds.{AreTreesOf, Holds, IsOpenedOver}
 
 -- two sound readings of the same trees have the same rows

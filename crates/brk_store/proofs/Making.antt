@@ -1,10 +1,10 @@
 -- Changes that are made one after another.
 use Rattle.std.proofs.Common.{◌≡◌, Result, Ok, inl, refl, sym, subst, arith}
 use Rattle.sqlite.specs.State.{State}
-use Rattle.brk_rows.specs.Desk.{Turns}
-use Rattle.brk_rows.specs.Model.{IsStep}
-use Rattle.brk_rows.proofs.Strangers.{spares_itself}
-use Rattle.brk_tables_form.specs.Desk.{desk}
+use Rattle.brk_sql.specs.Desk.{Turns}
+use Rattle.brk_sql.specs.Model.{IsStep}
+use Rattle.brk_sql.proofs.Strangers.{spares_itself}
+use Rattle.brk_tables_schema.specs.Desk.{desk}
 use Rattle.brk_changes.specs.Changes.{after_change}
 use Rattle.brk_changes.specs.declared.change.Change.{Change}
 

@@ -7,13 +7,13 @@ use Rattle.brk_model.specs.Tables.{Tables}
 use Rattle.brk_changes.specs.declared.schema.Schema as known
 use Rattle.brk_changes.specs.declared.schema.Schema.TheVariants.{First, Second, Third}
 use Rattle.brk_changes.specs.Schemas.{schema_of}
-use Rattle.brk_rows.specs.Desk.{Stands}
-use Rattle.brk_rows.proofs.Grown.{all_there, some_there}
-use Rattle.brk_tables_form.specs.Desk.{Which, TheDesk, CashMoves, SettleRules, desk_in}
-use Rattle.brk_tables_form.specs.Shapes.{desk_row}
-use Rattle.brk_tables_form.specs.Made.{HasRows, HasRowsIn, IsOf}
-use Rattle.brk_tables_whole.specs.Schemas.{HasDesk, IsDefined, IsDefinedAs, IsMadeAlike, Says}
-use Rattle.brk_tables_whole.proofs.Defined.{desk_is_defined, desk_is_there}
+use Rattle.brk_sql.specs.Desk.{Stands}
+use Rattle.brk_sql.proofs.Grown.{all_there, some_there}
+use Rattle.brk_tables_schema.specs.Desk.{Which, TheDesk, CashMoves, SettleRules, desk_in}
+use Rattle.brk_tables_schema.specs.Shapes.{desk_row}
+use Rattle.brk_tables_schema.specs.Made.{HasRows, HasRowsIn, IsOf}
+use Rattle.brk_tables_scan.specs.Schemas.{HasDesk, IsDefined, IsDefinedAs, IsMadeAlike, Says}
+use Rattle.brk_tables_scan.proofs.Defined.{desk_is_defined, desk_is_there}
 
 -- in the third schema all tables are there
 of_third : (w : Which) → IsOf third_schema w

@@ -19,15 +19,15 @@ use Rattle.brk_model.specs.Tables.{Tables}
 use Rattle.brk_changes.specs.declared.schema.Schema as known
 use Rattle.brk_changes.specs.declared.schema.Schema.TheVariants.{First, Second, Third}
 use Rattle.brk_changes.specs.Schemas.{schema_of}
-use Rattle.brk_adoption_laws.specs.Passing.{Passes}
-use Rattle.brk_adoption_laws.proofs.MovedRows.{first_narrower, moved_rows, second_narrower}
-use Rattle.brk_adoption_laws.proofs.Passing.{passing_books, passing_tables}
-use Rattle.brk_sound_laws.proofs.Adopted.{passing_sound, sound_passes}
-use Rattle.brk_exact_laws.proofs.OneTables.{one_schema}
-use Rattle.brk_rows.proofs.Inside.{clean_before}
-use Rattle.brk_tables_form.specs.Made.{HasRowsIn}
-use Rattle.brk_tables_whole.specs.Schemas.{HasDesk}
-use Rattle.brk_tables_whole.proofs.Defined.{desk_is_there}
+use Rattle.brk_audit_theorems.specs.Passing.{Passes}
+use Rattle.brk_audit_theorems.proofs.MovedRows.{first_narrower, moved_rows, second_narrower}
+use Rattle.brk_audit_theorems.proofs.Passing.{passing_books, passing_tables}
+use Rattle.brk_invariant_theorems.proofs.Adopted.{passing_sound, sound_passes}
+use Rattle.brk_tables_unique.proofs.OneTables.{one_schema}
+use Rattle.brk_sql.proofs.Inside.{clean_before}
+use Rattle.brk_tables_schema.specs.Made.{HasRowsIn}
+use Rattle.brk_tables_scan.specs.Schemas.{HasDesk}
+use Rattle.brk_tables_scan.proofs.Defined.{desk_is_there}
 use Rattle.brk_store.specs.Audited.{Answered, Audited, AuditedBy, HasDeskOf, HasMoved, HasThirdIn, HoldsBooks, IsAdopted, IsAudited, IsDefinedIn, IsThirdDefinedIn, OnAnswer}
 use Rattle.brk_store.specs.Holds.{Holds}
 use Rattle.brk_store.proofs.Adoption.{moved_pass, moved_read}

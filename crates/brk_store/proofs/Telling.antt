@@ -9,9 +9,9 @@ use Rattle.brk_money.specs.declared.fault.Condition.TheVariants as condition
 use Rattle.brk_changes.specs.declared.schema.Schema as known
 use Rattle.brk_changes.specs.declared.schema.Schema.TheVariants.{First, Second, Third}
 use Rattle.brk_changes.specs.Schemas.{schema_of}
-use Rattle.brk_rows.specs.Model.{IsStep}
-use Rattle.brk_rows.proofs.Inside.{step_then, step_read}
-use Rattle.brk_tables_whole.specs.Schemas.{HasDesk, IsDefined}
+use Rattle.brk_sql.specs.Model.{IsStep}
+use Rattle.brk_sql.proofs.Inside.{step_then, step_read}
+use Rattle.brk_tables_scan.specs.Schemas.{HasDesk, IsDefined}
 use Rattle.brk_store.specs.Audited.{Audited, AuditedBy, HasDeskOf}
 use Rattle.brk_store.specs.Examined.{Tells}
 use Rattle.brk_store.specs.declared.examining.Examined.{Examined}

@@ -4,7 +4,7 @@ use Rattle.std.specs.List.{list_all, AllByRecursion}
 use Rattle.std.specs.Str.{is_utf8}
 use Rattle.std.specs.Prelude.{String, nat_lt, string_bytes}
 use Rattle.std.proofs.lemmas.Str.{IsUtf8-string_bytes, is_utf8-from_IsUtf8}
-use Rattle.brk_book_laws.proofs.LotReading.{All-sort}
+use Rattle.brk_book_theorems.proofs.LotReading.{All-sort}
 use Rattle.brk_model.specs.Adopted.{posting_of_cash, posting_of_move, postings_in}
 use Rattle.brk_model.specs.Derived.{Posting, in_turn}
 use Rattle.brk_model.specs.Form.{has_texts}

@@ -8,14 +8,14 @@ use Rattle.sqlite_trees.specs.declared.store.Store.{Ghosts}
 use Rattle.sqlite.specs.Held.{Held}
 use Rattle.brk_lots.specs.Lots.{from_end}
 use Rattle.brk_lots.specs.declared.lot.Lot.{Lot}
-use Rattle.brk_book_laws.specs.OrderReads.{lot_in}
+use Rattle.brk_book_theorems.specs.OrderReads.{lot_in}
 use Rattle.brk_money.specs.Spelling.{Text}
 use Rattle.brk_store.specs.Holds.{Holds}
 use Rattle.brk_model.specs.Tables.{Tables, HoldingRow}
 use Rattle.brk_changes.specs.Rows.{holding_row_of}
 use Rattle.brk_changes.specs.declared.holding_row.HoldingRow as row
 use Rattle.brk_tables_trading.specs.Pages.{on_page, page_size}
-use Rattle.brk_book_laws.specs.TradeReads.{row_lot}
+use Rattle.brk_book_theorems.specs.TradeReads.{row_lot}
 use Rattle.brk_store.specs.Pages.{left_of, further, rows_from}
 
 pub page_turned : (rows : List HoldingRow) (read : ℕ) (page : List row.HoldingRow) → map holding_row_of page ≡ on_page read rows

@@ -20,12 +20,12 @@ use Rattle.brk_model.specs.Keys.{word, by_key, row_before}
 use Rattle.brk_model.specs.Lists.{insert_by, sort_by, text_before}
 use Rattle.brk_model.specs.Statement.{lots_in}
 use Rattle.brk_model.specs.Tables.{HoldingRow, MoveRow, Tables}
-use Rattle.brk_rows.specs.Rows.{Rises}
-use Rattle.brk_tables_form.specs.Desk.{CashMoves, Holdings, order}
-use Rattle.brk_tables_form.specs.Made.{HasRows}
-use Rattle.brk_book_laws.proofs.Bools.{same_text, texts_back}
-use Rattle.brk_book_laws.proofs.LotReading.{All-sort}
-use Rattle.brk_book_laws.proofs.Order.{by_key-filter, key_total}
+use Rattle.brk_sql.specs.Rows.{Rises}
+use Rattle.brk_tables_schema.specs.Desk.{CashMoves, Holdings, order}
+use Rattle.brk_tables_schema.specs.Made.{HasRows}
+use Rattle.brk_book_theorems.proofs.Bools.{same_text, texts_back}
+use Rattle.brk_book_theorems.proofs.LotReading.{All-sort}
+use Rattle.brk_book_theorems.proofs.Order.{by_key-filter, key_total}
 use Rattle.brk_tables_walks.specs.Lists.{cash_between, lots_by_symbol, stamp_key, symbol_key}
 use Rattle.brk_tables_walks.specs.Walks.{Walks}
 use Rattle.brk_tables_walks.specs.declared.walking.Stop.{Stop}

@@ -5,8 +5,8 @@ use Rattle.sqlite_trees.specs.declared.store.Store.{Ghosts}
 use Rattle.sqlite.specs.Held.{Held, state}
 use Rattle.sqlite.specs.State.{HasCleanDisk}
 use Rattle.brk_model.specs.Tables.{Tables}
-use Rattle.brk_rows.proofs.Inside.{clean_before}
-use Rattle.brk_tables_form.specs.Made.{HasRows}
+use Rattle.brk_sql.proofs.Inside.{clean_before}
+use Rattle.brk_tables_schema.specs.Made.{HasRows}
 use Rattle.brk_tables_walks.specs.Walks as tables
 use Rattle.brk_tables_walks.specs.Walks.{BreaksOff, Takes, Walks}
 use Rattle.brk_tables_walks.specs.declared.walking.Stop.{Stop}

@@ -19,12 +19,12 @@ use Rattle.brk_model.specs.Tables.{Tables}
 use Rattle.brk_changes.specs.declared.schema.Schema as known
 use Rattle.brk_changes.specs.declared.schema.Schema.TheVariants.{Third}
 use Rattle.brk_changes.specs.Schemas.{schema_of}
-use Rattle.brk_tables_form.specs.Made.{HasRows, HasRowsIn, IsOf}
-use Rattle.brk_tables_moving.specs.Moving.{KeepsStrangers}
-use Rattle.brk_tables_whole.specs.Schemas.{HasDesk, IsDefined, IsDefinedAs}
-use Rattle.brk_book_laws.specs.Books.{IsBooks}
-use Rattle.brk_adoption_laws.specs.Passing.{Passes}
-use Rattle.brk_sound_laws.specs.Sound.{IsSound}
+use Rattle.brk_tables_schema.specs.Made.{HasRows, HasRowsIn, IsOf}
+use Rattle.brk_tables_upgrade.specs.Moving.{KeepsStrangers}
+use Rattle.brk_tables_scan.specs.Schemas.{HasDesk, IsDefined, IsDefinedAs}
+use Rattle.brk_book_theorems.specs.Books.{IsBooks}
+use Rattle.brk_audit_theorems.specs.Passing.{Passes}
+use Rattle.brk_invariant_theorems.specs.Sound.{IsSound}
 use Rattle.brk_store.specs.Holds.{AreTreesOf, Holds, IsSame}
 
 -- ---- what is answered

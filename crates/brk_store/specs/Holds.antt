@@ -9,10 +9,10 @@ use Rattle.brk_money.specs.declared.fault.Condition.TheVariants.{NotEmpty}
 use Rattle.brk_money.specs.declared.fault.Fault.{Fault}
 use Rattle.brk_money.specs.declared.fault.Fault.TheVariants.{Damaged}
 use Rattle.brk_model.specs.Tables.{Tables, no_rows}
-use Rattle.brk_rows.specs.Desk.{HasTables, KeepsOthers, SparesStrangers}
-use Rattle.brk_tables_form.specs.Desk.{Which, desk}
-use Rattle.brk_tables_form.specs.Made.{HasRows}
-use Rattle.brk_tables_making.specs.Present.{has_table_of_desk}
+use Rattle.brk_sql.specs.Desk.{HasTables, KeepsOthers, SparesStrangers}
+use Rattle.brk_tables_schema.specs.Desk.{Which, desk}
+use Rattle.brk_tables_schema.specs.Made.{HasRows}
+use Rattle.brk_tables_create.specs.Present.{has_table_of_desk}
 
 -- as far as the disk has returned what was written and no fault has shut the store, the desk's tables have these rows
 abbrev pub Holds : {S : Type 0} → Ghosts S → Held S → Tables → Type 0

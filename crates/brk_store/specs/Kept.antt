@@ -6,7 +6,7 @@ use Rattle.sqlite.specs.Held.{Held, state}
 use Rattle.sqlite.specs.State.{HasCleanDisk, Survives}
 use Rattle.sqlite.proofs.StateLemmas.{survives_then}
 use Rattle.brk_model.specs.Tables.{Tables}
-use Rattle.brk_rows.proofs.Inside.{clean_before}
+use Rattle.brk_sql.proofs.Inside.{clean_before}
 use Rattle.brk_store.specs.Holds.{Holds, IsRead, IsSame}
 
 -- what reads may make of a store: it holds what it held, the whole database is as it was, and a crash leaves what it left

@@ -7,7 +7,7 @@ use Rattle.brk_money.specs.Spelling.{Text}
 use Rattle.brk_changes.specs.Rows.{holding_row_of}
 use Rattle.brk_changes.specs.declared.holding_row.HoldingRow as row
 use Rattle.brk_tables_trading.specs.Pages.{lots_held}
-use Rattle.brk_book_laws.specs.TradeReads.{row_lot}
+use Rattle.brk_book_theorems.specs.TradeReads.{row_lot}
 
 -- the rows of an account in a security, from one end
 abbrev pub rows_from : Bool → ℕ → Text → Tables → List HoldingRow

@@ -14,7 +14,7 @@ ghost use Rattle.brk_model.specs.Schemas.{third_schema};
 ghost use Rattle.brk_model.specs.Tables.{Tables};
 ghost use Rattle.brk_changes.specs.declared.schema.Schema.{Schema};
 ghost use Rattle.brk_changes.specs.Schemas.{schema_of};
-ghost use Rattle.brk_adoption_laws.specs.Passing.{Passes};
+ghost use Rattle.brk_audit_theorems.specs.Passing.{Passes};
 ghost use Rattle.brk_store.specs.Audited.{Answered, Audited, AuditedBy, HasThirdIn, HoldsBooks, IsAdopted, IsAudited, IsDefinedIn, OnAnswer};
 ghost use Rattle.brk_store.specs.Holds.{Holds};
 

@@ -6,16 +6,16 @@ ghost use Rattle.brk_money.specs.declared.fault.Fault.TheVariants as fault;
 ghost use Rattle.brk_model.specs.Run.{MayFail};
 ghost use Rattle.brk_model.specs.Schemas.{third_schema};
 ghost use Rattle.brk_changes.specs.Schemas.{schema_of};
-ghost use Rattle.brk_rows.specs.Model.{Steps};
+ghost use Rattle.brk_sql.specs.Model.{Steps};
 ghost use Rattle.brk_store.specs.Audited.{AuditedBy, IsAudited};
-ghost use Rattle.brk_tables_whole.specs.Schemas.{HasDesk, IsDefinedAs};
+ghost use Rattle.brk_tables_scan.specs.Schemas.{HasDesk, IsDefinedAs};
 
 use crate::Store;
 use crate::beginning::begin;
 use brk_audit::audit_rows;
 use brk_changes::Schema;
 use brk_money::{Condition, Fault};
-use brk_tables_whole::{has_desk, read_sheets};
+use brk_tables_scan::{has_desk, read_sheets};
 use sqlite::{Alter, Connection, Transaction};
 use std::alloc::Global;
 

@@ -5,8 +5,8 @@ ghost use Rattle.brk_changes.specs.Rows.{request_row_of};
 ghost use Rattle.brk_model.specs.Run.{MayFail};
 ghost use Rattle.brk_ref.specs.Records.{broker_row_of};
 ghost use Rattle.brk_store.specs.Holds.{IsRead};
-ghost use Rattle.brk_tables_form.specs.Desk.{Brokers, Requests};
-ghost use Rattle.brk_tables_form.specs.Statements.{Listed};
+ghost use Rattle.brk_tables_schema.specs.Desk.{Brokers, Requests};
+ghost use Rattle.brk_tables_schema.specs.Statements.{Listed};
 
 use crate::Store;
 use crate::beginning::begin;

@@ -6,10 +6,10 @@ ghost use Rattle.brk_money.specs.declared.fault.Fault.TheVariants as fault;
 ghost use Rattle.brk_model.specs.Limits.{greatest_id};
 ghost use Rattle.brk_model.specs.LookupView.{is_cash_of};
 ghost use Rattle.brk_changes.specs.Rows.{move_row_of};
-ghost use Rattle.brk_book_laws.specs.TradeReads.{last_move};
+ghost use Rattle.brk_book_theorems.specs.TradeReads.{last_move};
 ghost use Rattle.brk_store.specs.Holds.{IsRead};
-ghost use Rattle.brk_tables_form.specs.Desk.{CashMoves};
-ghost use Rattle.brk_tables_form.specs.Statements.{Found};
+ghost use Rattle.brk_tables_schema.specs.Desk.{CashMoves};
+ghost use Rattle.brk_tables_schema.specs.Statements.{Found};
 
 use crate::Store;
 use crate::beginning::begin;

@@ -4,9 +4,9 @@ ghost use Rattle.std.specs.Prelude.{◌≡◌, ◌⊎◌, Err, IfErr, OnErr, fal
 ghost use Rattle.brk_money.specs.declared.fault.Condition.TheVariants.{NotEmpty};
 ghost use Rattle.brk_money.specs.declared.fault.Fault.TheVariants as fault;
 ghost use Rattle.sqlite.specs.Held.{state};
-ghost use Rattle.brk_rows.specs.Desk.{Turns};
-ghost use Rattle.brk_rows.specs.Model.{IsStep};
-ghost use Rattle.brk_tables_form.specs.Desk.{desk};
+ghost use Rattle.brk_sql.specs.Desk.{Turns};
+ghost use Rattle.brk_sql.specs.Model.{IsStep};
+ghost use Rattle.brk_tables_schema.specs.Desk.{desk};
 ghost use Rattle.brk_changes.specs.Changes.{after_change, after_changes};
 ghost use Rattle.brk_store.specs.Holds.{IsApplied, IsCreated};
 
@@ -81,8 +81,8 @@ fn make<S: Alter>(tx: &mut Transaction<'_, S>, change: &Change) -> Result<(), Fa
             name.as_str(),
         ),
         Change::SetRule(day) => brk_tables_cash::set_one_day(tx, *day),
-        Change::Keep(kept) => brk_tables_form::add_kept(tx, kept),
-        Change::SetLast(stamp) => brk_tables_form::set_last_stamp(tx, *stamp),
+        Change::Keep(kept) => brk_tables_schema::add_kept(tx, kept),
+        Change::SetLast(stamp) => brk_tables_schema::set_last_stamp(tx, *stamp),
     }
 }
 
@@ -107,7 +107,7 @@ pub(crate) fn apply_all<S: Alter>(conn: &mut Connection<S>, changes: &[Change]) 
     let _settled = conn.is_autocommit();
     let mut tx = conn.transaction();
     // What it tells is known already; that it answers shows that the store is open.
-    let _last = brk_tables_form::last_stamp(&mut tx)?;
+    let _last = brk_tables_schema::last_stamp(&mut tx)?;
     make_all(&mut tx, changes)?;
     match tx.commit() {
         Ok(()) => Ok(()),
@@ -124,10 +124,10 @@ pub(crate) fn make_desk<S: Alter>(conn: &mut Connection<S>) -> Result<(), Fault>
 {
     let _settled = conn.is_autocommit();
     let mut tx = conn.transaction();
-    if brk_tables_making::has_some_table(&mut tx)? {
+    if brk_tables_create::has_some_table(&mut tx)? {
         return Err(Fault::Damaged(Condition::NotEmpty));
     }
-    brk_tables_making::make_tables(&mut tx)?;
+    brk_tables_create::make_tables(&mut tx)?;
     match tx.commit() {
         Ok(()) => Ok(()),
         Err(_) => Err(Fault::Store),

@@ -4,16 +4,16 @@ ghost use Rattle.std.specs.Prelude.{◌≡◌, ◌≢◌, IfErr, IfOk, IsTrue, E
 ghost use Rattle.brk_money.specs.declared.fault.Condition.TheVariants.{NotEmpty};
 ghost use Rattle.brk_money.specs.declared.fault.Fault.TheVariants as fault;
 ghost use Rattle.brk_model.specs.Run.{MayFail};
-ghost use Rattle.brk_rows.specs.Model.{Steps};
+ghost use Rattle.brk_sql.specs.Model.{Steps};
 ghost use Rattle.brk_store.specs.Audited.{HasDeskOf};
 ghost use Rattle.brk_store.specs.Examined.{Tells};
 ghost use Rattle.brk_store.specs.declared.examining.Examined.TheVariants as told;
-ghost use Rattle.brk_tables_whole.specs.Schemas.{IsDefined};
+ghost use Rattle.brk_tables_scan.specs.Schemas.{IsDefined};
 
 use crate::auditing::audit_desk_of;
 use brk_changes::Schema;
 use brk_money::{Condition, Fault};
-use brk_tables_whole::has_desk;
+use brk_tables_scan::has_desk;
 use sqlite::{Alter, Transaction};
 use std::alloc::Global;
 

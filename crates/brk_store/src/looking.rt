@@ -5,8 +5,8 @@ ghost use Rattle.brk_changes.specs.Rows.{history_row_of, trade_row_of};
 ghost use Rattle.brk_model.specs.Joins.{recent_first, trades_in};
 ghost use Rattle.brk_model.specs.Run.{MayFail};
 ghost use Rattle.brk_store.specs.Holds.{IsRead};
-ghost use Rattle.brk_tables_form.specs.Desk.{TradeHistory};
-ghost use Rattle.brk_tables_form.specs.Statements.{Listed};
+ghost use Rattle.brk_tables_schema.specs.Desk.{TradeHistory};
+ghost use Rattle.brk_tables_schema.specs.Statements.{Listed};
 
 use crate::Store;
 use crate::beginning::begin;

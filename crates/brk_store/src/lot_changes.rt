@@ -4,8 +4,8 @@ ghost use Rattle.std.specs.Prelude.{◌==◌, IfErr};
 ghost use Rattle.brk_changes.specs.Rows.{lot_change_of};
 ghost use Rattle.brk_model.specs.Run.{MayFail};
 ghost use Rattle.brk_store.specs.Holds.{IsRead};
-ghost use Rattle.brk_tables_form.specs.Desk.{HoldingHistory};
-ghost use Rattle.brk_tables_form.specs.Statements.{Listed};
+ghost use Rattle.brk_tables_schema.specs.Desk.{HoldingHistory};
+ghost use Rattle.brk_tables_schema.specs.Statements.{Listed};
 
 use crate::Store;
 use crate::beginning::begin;

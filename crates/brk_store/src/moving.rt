@@ -9,7 +9,7 @@ use crate::Store;
 use crate::beginning::begin;
 use crate::examining::{Examined, examine};
 use brk_money::Fault;
-use brk_tables_moving::move_tables;
+use brk_tables_upgrade::move_tables;
 use sqlite::{Alter, Connection};
 use std::alloc::Global;
 

@@ -5,7 +5,7 @@ ghost use Rattle.std.specs.List.{All};
 ghost use Rattle.brk_model.specs.Run.{MayFail};
 ghost use Rattle.brk_changes.specs.Rows.{holding_row_of};
 ghost use Rattle.brk_tables_trading.specs.Pages.{on_page, page_size};
-ghost use Rattle.brk_book_laws.specs.OrderReads.{lot_in};
+ghost use Rattle.brk_book_theorems.specs.OrderReads.{lot_in};
 ghost use Rattle.brk_store.specs.Holds.{IsRead};
 ghost use Rattle.brk_store.specs.Pages.{rows_from};
 
@@ -131,7 +131,7 @@ impl<S: Alter> Store<S> {
     ghost use Rattle.brk_model.specs.Tables.{Tables};
     ghost use Rattle.brk_store.specs.Holds.{Holds};
     ghost use Rattle.brk_store.specs.Resting.{lent, read_by};
-    ghost use Rattle.brk_book_laws.specs.TradeReads.{position_in};
+    ghost use Rattle.brk_book_theorems.specs.TradeReads.{position_in};
 
     /// The lots of an account in a security, from the newest for last in first out, else from the oldest. Nothing is read
     /// yet.

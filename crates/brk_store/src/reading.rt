@@ -5,8 +5,8 @@ ghost use Rattle.brk_money.specs.declared.fault.Fault.TheVariants as fault;
 ghost use Rattle.brk_model.specs.Run.{MayFail};
 ghost use Rattle.brk_ref.specs.Records.{account_row_of, broker_row_of, customer_of, kept_of};
 ghost use Rattle.brk_store.specs.Holds.{IsRead};
-ghost use Rattle.brk_tables_form.specs.Desk.{Accounts, Brokers, Customers, KeptRows};
-ghost use Rattle.brk_tables_form.specs.Statements.{Found, Listed};
+ghost use Rattle.brk_tables_schema.specs.Desk.{Accounts, Brokers, Customers, KeptRows};
+ghost use Rattle.brk_tables_schema.specs.Statements.{Found, Listed};
 
 use crate::Store;
 use crate::beginning::begin;
@@ -23,7 +23,7 @@ impl<S: Alter> Store<S> {
         ensures fault { OnErr result (result ≡ Err fault.Store) }
     {
         let mut tx = begin(&mut self.conn);
-        brk_tables_form::last_stamp(&mut tx)
+        brk_tables_schema::last_stamp(&mut tx)
     }
 
     /// The broker with an id.
@@ -77,6 +77,6 @@ impl<S: Alter> Store<S> {
         ensures fault { OnErr result (result ≡ Err fault.Store) }
     {
         let mut tx = begin(&mut self.conn);
-        brk_tables_form::kept_by_key(&mut tx, key)
+        brk_tables_schema::kept_by_key(&mut tx, key)
     }
 }

@@ -6,8 +6,8 @@ ghost use Rattle.brk_model.specs.Run.{MayFail};
 ghost use Rattle.brk_money.specs.Kinds.{same_type};
 ghost use Rattle.brk_ref.specs.Records.{band_of, charge_of, customer_tax_of, permission_of, security_of, tax_of};
 ghost use Rattle.brk_store.specs.Holds.{IsRead};
-ghost use Rattle.brk_tables_form.specs.Desk.{Bands, Charges, CustomerTaxes, Permissions, Securities, TaxRates};
-ghost use Rattle.brk_tables_form.specs.Statements.{Found, Listed};
+ghost use Rattle.brk_tables_schema.specs.Desk.{Bands, Charges, CustomerTaxes, Permissions, Securities, TaxRates};
+ghost use Rattle.brk_tables_schema.specs.Statements.{Found, Listed};
 
 use crate::Store;
 use crate::beginning::begin;

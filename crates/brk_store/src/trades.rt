@@ -8,8 +8,8 @@ ghost use Rattle.brk_money.specs.declared.status.Status.TheVariants.{Submitted};
 ghost use Rattle.brk_ref.specs.Records.{last_trade_of};
 ghost use Rattle.brk_changes.specs.Rows.{holding_row_of, request_row_of, summary_row_of, trade_row_of};
 ghost use Rattle.brk_store.specs.Holds.{IsRead};
-ghost use Rattle.brk_tables_form.specs.Desk.{LastTrades, Requests, Summaries, Trades};
-ghost use Rattle.brk_tables_form.specs.Statements.{Found, Listed};
+ghost use Rattle.brk_tables_schema.specs.Desk.{LastTrades, Requests, Summaries, Trades};
+ghost use Rattle.brk_tables_schema.specs.Statements.{Found, Listed};
 ghost use Rattle.brk_tables_trading.specs.Pages.{lots_held, on_page};
 
 use crate::Store;

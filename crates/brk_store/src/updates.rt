@@ -6,8 +6,8 @@ ghost use Rattle.brk_model.specs.Run.{MayFail};
 ghost use Rattle.brk_changes.specs.Chosen as chosen;
 ghost use Rattle.brk_changes.specs.Rows.{settlement_row_of, trade_row_of};
 ghost use Rattle.brk_store.specs.Holds.{IsRead};
-ghost use Rattle.brk_tables_form.specs.Desk.{Settlements};
-ghost use Rattle.brk_tables_form.specs.Statements.{Found};
+ghost use Rattle.brk_tables_schema.specs.Desk.{Settlements};
+ghost use Rattle.brk_tables_schema.specs.Statements.{Found};
 
 use crate::Store;
 use crate::beginning::begin;

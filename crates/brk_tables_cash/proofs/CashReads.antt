@@ -11,15 +11,15 @@ use Rattle.sqlite_tied.proofs.RuleLemmas.{and_true}
 use Rattle.sqlite.specs.State.{State, Shown}
 use Rattle.brk_model.specs.LookupView.{is_cash_of}
 use Rattle.brk_model.specs.Keys.{move_key}
-use Rattle.brk_rows.specs.Desk.{Tells}
-use Rattle.brk_rows.proofs.Answer.{limited_map}
-use Rattle.brk_rows.proofs.Decode.{filter_true}
-use Rattle.brk_rows.proofs.Looks.{tells_rising, tells_falling}
-use Rattle.brk_rows.proofs.Texts.{read}
-use Rattle.brk_tables_form.specs.Cells.{nat, maybe, move_cells, rule_cells}
-use Rattle.brk_tables_form.specs.Desk.{CashMoves, SettleRules, desk, order, rule_key, rule_rows}
-use Rattle.brk_tables_form.proofs.Order.{key_total}
-use Rattle.brk_tables_form.proofs.Tests.{same_maybe}
+use Rattle.brk_sql.specs.Desk.{Tells}
+use Rattle.brk_sql.proofs.Answer.{limited_map}
+use Rattle.brk_sql.proofs.Decode.{filter_true}
+use Rattle.brk_sql.proofs.Looks.{tells_rising, tells_falling}
+use Rattle.brk_sql.proofs.Texts.{read}
+use Rattle.brk_tables_schema.specs.Cells.{nat, maybe, move_cells, rule_cells}
+use Rattle.brk_tables_schema.specs.Desk.{CashMoves, SettleRules, desk, order, rule_key, rule_rows}
+use Rattle.brk_tables_schema.proofs.Order.{key_total}
+use Rattle.brk_tables_schema.proofs.Tests.{same_maybe}
 use Rattle.brk_tables_cash.proofs.LastMove
 use Rattle.brk_tables_cash.proofs.MoveByTrade
 use Rattle.brk_tables_cash.proofs.MovementBehind

@@ -14,20 +14,20 @@ use Rattle.sqlite.specs.Values.{bound, bound_value}
 use Rattle.brk_model.specs.LookupView.{is_cash_of}
 use Rattle.brk_model.specs.Schemas.{third_schema}
 use Rattle.brk_model.specs.Tables.{Tables, CashRow, MoveRow}
-use Rattle.brk_rows.specs.Desk.{HasTables, Turns}
-use Rattle.brk_rows.specs.Rows.{Rises}
-use Rattle.brk_rows.specs.Model.{Ran}
-use Rattle.brk_rows.proofs.Texts.{read}
-use Rattle.brk_rows.proofs.Values.{cast_int, cast_null, cast_whole}
-use Rattle.brk_rows.proofs.Writes.{inserts_as, updates_as, deletes_as}
+use Rattle.brk_sql.specs.Desk.{HasTables, Turns}
+use Rattle.brk_sql.specs.Rows.{Rises}
+use Rattle.brk_sql.specs.Model.{Ran}
+use Rattle.brk_sql.proofs.Texts.{read}
+use Rattle.brk_sql.proofs.Values.{cast_int, cast_null, cast_whole}
+use Rattle.brk_sql.proofs.Writes.{inserts_as, updates_as, deletes_as}
 use Rattle.brk_changes.specs.Changes.{with_cash_name, with_move, with_rule}
-use Rattle.brk_tables_form.specs.Cells.{DeskRow, RuleRow, nat, maybe, move_cells}
-use Rattle.brk_tables_form.specs.Desk.{Which, TheDesk, CashRows, CashMoves, SettleRules, desk, desk_rows, rule_rows, rule_key, list, order}
-use Rattle.brk_tables_form.proofs.Order.{key_total}
-use Rattle.brk_tables_form.proofs.Places.{the_desk}
-use Rattle.brk_tables_form.proofs.Steps.{added}
-use Rattle.brk_tables_form.proofs.Tests.{same_number, same_maybe}
-use Rattle.brk_tables_form.proofs.Wide.{wide, wide_of, widened, narrowed}
+use Rattle.brk_tables_schema.specs.Cells.{DeskRow, RuleRow, nat, maybe, move_cells}
+use Rattle.brk_tables_schema.specs.Desk.{Which, TheDesk, CashRows, CashMoves, SettleRules, desk, desk_rows, rule_rows, rule_key, list, order}
+use Rattle.brk_tables_schema.proofs.Order.{key_total}
+use Rattle.brk_tables_schema.proofs.Places.{the_desk}
+use Rattle.brk_tables_schema.proofs.Steps.{added}
+use Rattle.brk_tables_schema.proofs.Tests.{same_number, same_maybe}
+use Rattle.brk_tables_schema.proofs.Wide.{wide, wide_of, widened, narrowed}
 use Rattle.brk_tables_cash.specs.Moving.{Raises, without_cash}
 use Rattle.brk_tables_cash.proofs.Places.{cash_rows, moves, the_rule}
 use Rattle.brk_tables_cash.proofs.AddMove

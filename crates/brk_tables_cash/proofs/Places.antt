@@ -5,13 +5,13 @@ use Rattle.sqlite_value.specs.Order.{column}
 use Rattle.sqlite_value.proofs.OrderLemmas.{then-Equal}
 use Rattle.brk_model.specs.Tables.{Tables, CashRow, MoveRow}
 use Rattle.brk_model.specs.Keys.{cash_key, move_key}
-use Rattle.brk_rows.proofs.Writes.{Place, IsRowidKey}
-use Rattle.brk_tables_form.specs.Shapes.{cash, move, rule}
-use Rattle.brk_tables_form.specs.Cells.{RuleRow, cash_cells, move_cells, rule_cells}
-use Rattle.brk_tables_form.specs.Desk.{Which, CashRows, CashMoves, SettleRules, order, list, desk, rule_key}
-use Rattle.brk_tables_form.proofs.Order.{key_total}
-use Rattle.brk_tables_form.proofs.Which.{is_cash, is_move, is_rule}
-use Rattle.brk_tables_form.proofs.Wide.{Wide, wide, wide_list}
+use Rattle.brk_sql.proofs.Writes.{Place, IsRowidKey}
+use Rattle.brk_tables_schema.specs.Shapes.{cash, move, rule}
+use Rattle.brk_tables_schema.specs.Cells.{RuleRow, cash_cells, move_cells, rule_cells}
+use Rattle.brk_tables_schema.specs.Desk.{Which, CashRows, CashMoves, SettleRules, order, list, desk, rule_key}
+use Rattle.brk_tables_schema.proofs.Order.{key_total}
+use Rattle.brk_tables_schema.proofs.Which.{is_cash, is_move, is_rule}
+use Rattle.brk_tables_schema.proofs.Wide.{Wide, wide, wide_list}
 
 pub cash_keyed : IsRowidKey cash cash_cells (order CashRows)
 cash_keyed tree r s x y e f = let a : column r 0 ≡ Int (pos x.trade) = cc in let b : column s 0 ≡ Int (pos y.trade) = cc in rw (a, b) (ap is_eq (then-Equal _))

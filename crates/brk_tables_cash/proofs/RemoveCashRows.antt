@@ -10,12 +10,12 @@ use Rattle.sqlite_resolve.specs.declared.error.CompileError.TheVariants.{Mismatc
 use Rattle.sqlite_draft.specs.declared.join.Step.TheVariants.{Inner}
 use Rattle.sqlite_draft.specs.declared.query.Draft.{Draft}
 use Rattle.sqlite_tied.specs.Compute.{everything}
-use Rattle.brk_rows.specs.Partly.{lowering}
-use Rattle.brk_rows.specs.Desk.{Stands}
-use Rattle.brk_rows.proofs.Meant.{meant, deletes_or}
-use Rattle.brk_rows.proofs.Pick.{selection, whole_page}
-use Rattle.brk_rows.proofs.Texts.{read}
-use Rattle.brk_tables_form.specs.Shapes.{cash}
+use Rattle.brk_sql.specs.Partly.{lowering}
+use Rattle.brk_sql.specs.Desk.{Stands}
+use Rattle.brk_sql.proofs.Meant.{meant, deletes_or}
+use Rattle.brk_sql.proofs.Pick.{selection, whole_page}
+use Rattle.brk_sql.proofs.Texts.{read}
+use Rattle.brk_tables_schema.specs.Shapes.{cash}
 
 abbrev pub statement : List ℕ
 statement = codes "DELETE FROM CASH_TRANSACTION"

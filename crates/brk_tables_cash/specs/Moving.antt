@@ -3,8 +3,8 @@ use Rattle.std.specs.Prelude.{ℕ, []}
 use Rattle.sqlite.specs.Effect.{Database}
 use Rattle.brk_model.specs.Schemas.{Schema}
 use Rattle.brk_model.specs.Tables.{Tables}
-use Rattle.brk_rows.specs.Desk.{HasTables, SparesStrangers}
-use Rattle.brk_tables_form.specs.Desk.{Which, desk, desk_in}
+use Rattle.brk_sql.specs.Desk.{HasTables, SparesStrangers}
+use Rattle.brk_tables_schema.specs.Desk.{Which, desk, desk_in}
 
 -- no row of CASH_TRANSACTION
 abbrev pub without_cash : Tables → Tables

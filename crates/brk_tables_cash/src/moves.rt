@@ -6,14 +6,14 @@ ghost use Rattle.brk_model.specs.Limits.{greatest_id};
 ghost use Rattle.brk_model.specs.LookupView.{is_cash_of};
 ghost use Rattle.brk_changes.specs.Changes.{with_cash_name, with_move};
 ghost use Rattle.brk_changes.specs.Rows.{move_row_of};
-ghost use Rattle.brk_tables_form.specs.Desk.{CashMoves};
-ghost use Rattle.brk_tables_form.specs.Statements.{Finds, Reads, Writes};
+ghost use Rattle.brk_tables_schema.specs.Desk.{CashMoves};
+ghost use Rattle.brk_tables_schema.specs.Statements.{Finds, Reads, Writes};
 
 use brk_changes::MoveRow;
 use brk_money::{Fault, Id};
-use brk_tables_form::calls::{run, select};
-use brk_tables_form::record::first_row;
-use brk_tables_form::values::{
+use brk_tables_schema::calls::{run, select};
+use brk_tables_schema::record::first_row;
+use brk_tables_schema::values::{
     cents_value, id_value, maybe_id_value, move_id_value, number_value, stamp_value, text_value,
 };
 use sqlite::{Alter, Transaction};

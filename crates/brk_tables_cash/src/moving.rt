@@ -3,13 +3,13 @@
 
 ghost use Rattle.std.specs.Prelude.{◌≡◌, Err, OnErr};
 ghost use Rattle.brk_money.specs.declared.fault.Fault.TheVariants.{Store};
-ghost use Rattle.brk_rows.specs.Model.{Steps};
-ghost use Rattle.brk_tables_form.specs.Statements.{Writes};
+ghost use Rattle.brk_sql.specs.Model.{Steps};
+ghost use Rattle.brk_tables_schema.specs.Statements.{Writes};
 ghost use Rattle.brk_tables_cash.specs.Moving.{Raises, without_cash};
 
 use brk_money::Fault;
-use brk_tables_form::calls::run;
-use brk_tables_form::values::number_value;
+use brk_tables_schema::calls::run;
+use brk_tables_schema::values::number_value;
 use sqlite::{Alter, Transaction};
 
 /// Sets the number of the schema to 3 (D_SCHEMA). The tables of schema 3 have to exist.

@@ -3,14 +3,14 @@
 ghost use Rattle.std.specs.Prelude.{◌≡◌, Err, IfOk, OnErr, map};
 ghost use Rattle.brk_money.specs.declared.fault.Fault.TheVariants.{Store};
 ghost use Rattle.brk_changes.specs.Changes.{with_rule};
-ghost use Rattle.brk_tables_form.specs.Cells.{rule_cells};
-ghost use Rattle.brk_tables_form.specs.Desk.{rule_rows};
-ghost use Rattle.brk_tables_form.specs.Statements.{Reads, Writes};
+ghost use Rattle.brk_tables_schema.specs.Cells.{rule_cells};
+ghost use Rattle.brk_tables_schema.specs.Desk.{rule_rows};
+ghost use Rattle.brk_tables_schema.specs.Statements.{Reads, Writes};
 
 use brk_money::{Day, Fault};
-use brk_tables_form::calls::{run, select};
-use brk_tables_form::rule_row::day_in_rows;
-use brk_tables_form::values::{day_value, number_value};
+use brk_tables_schema::calls::{run, select};
+use brk_tables_schema::rule_row::day_in_rows;
+use brk_tables_schema::values::{day_value, number_value};
 use sqlite::{Alter, Row, Transaction};
 
 /// Inserts the settlement day, the first day whose completions settle after one day. None may be

@@ -15,13 +15,13 @@ use Rattle.sqlite_resolve.specs.declared.error.CompileError.TheVariants.{Mismatc
 use Rattle.sqlite_draft.specs.declared.join.Step.TheVariants.{Inner}
 use Rattle.sqlite_draft.specs.declared.query.Draft.{Draft}
 use Rattle.sqlite_tied.specs.Compute.{everything}
-use Rattle.brk_rows.specs.Partly.{lowering}
-use Rattle.brk_rows.specs.Desk.{whole, text, Stands}
-use Rattle.brk_rows.proofs.Meant.{meant, reads_or}
-use Rattle.brk_rows.proofs.Pick.{selection}
-use Rattle.brk_rows.proofs.Scoped.{column_is, heading_is}
-use Rattle.brk_rows.proofs.Texts.{read}
-use Rattle.brk_tables_form.specs.Shapes.{band}
+use Rattle.brk_sql.specs.Partly.{lowering}
+use Rattle.brk_sql.specs.Desk.{whole, text, Stands}
+use Rattle.brk_sql.proofs.Meant.{meant, reads_or}
+use Rattle.brk_sql.proofs.Pick.{selection}
+use Rattle.brk_sql.proofs.Scoped.{column_is, heading_is}
+use Rattle.brk_sql.proofs.Texts.{read}
+use Rattle.brk_tables_schema.specs.Shapes.{band}
 use Rattle.sqlite_ast.specs.declared.Shown.TheVariants.{One}
 use Rattle.sqlite_ast.specs.declared.Origin.TheVariants.{Table}
 use Rattle.sqlite_ast.specs.declared.Source.{Source, roll-Source}
@@ -38,8 +38,8 @@ use Rattle.sqlite_resolve.specs.Expr.{lower}
 use Rattle.sqlite_resolve.specs.Order.{sorts}
 use Rattle.sqlite_resolve.specs.Body.{result, matching}
 use Rattle.sqlite_resolve.specs.Select.{outermost, inside}
-use Rattle.brk_rows.proofs.Selecting.{level_one, named_is, query_is}
-use Rattle.brk_rows.proofs.Looks.{no_returning}
+use Rattle.brk_sql.proofs.Selecting.{level_one, named_is, query_is}
+use Rattle.brk_sql.proofs.Looks.{no_returning}
 use Rattle.sqlite_resolve.specs.declared.compiled.Compiled.{Compiled}
 use Rattle.sqlite.specs.Listing.{understood}
 

@@ -4,16 +4,16 @@ use Rattle.sqlite_value.specs.declared.value.Value.TheVariants.{Null, Text as Wo
 use Rattle.sqlite.specs.State.{State}
 use Rattle.brk_model.specs.Records.{Permission, Charge, Band, TaxRate, CustomerTax}
 use Rattle.brk_model.specs.Tables.{SecurityRow, LastTradeRow}
-use Rattle.brk_rows.specs.Desk.{Turns}
-use Rattle.brk_rows.specs.Model.{Ran}
-use Rattle.brk_rows.proofs.Texts.{read}
-use Rattle.brk_rows.proofs.Values.{cast_int, cast_null}
-use Rattle.brk_rows.proofs.Writes.{inserts_as}
+use Rattle.brk_sql.specs.Desk.{Turns}
+use Rattle.brk_sql.specs.Model.{Ran}
+use Rattle.brk_sql.proofs.Texts.{read}
+use Rattle.brk_sql.proofs.Values.{cast_int, cast_null}
+use Rattle.brk_sql.proofs.Writes.{inserts_as}
 use Rattle.brk_changes.specs.Changes.{with_permission, with_security, with_last_trade, with_charge, with_band, with_tax_rate, with_customer_tax}
-use Rattle.brk_tables_form.specs.Cells.{nat, permission_cells, security_cells, last_trade_cells, charge_cells, band_cells, tax_rate_cells, customer_tax_cells}
-use Rattle.brk_tables_form.specs.Desk.{Permissions, Securities, LastTrades, Charges, Bands, TaxRates, CustomerTaxes, desk}
-use Rattle.brk_tables_form.proofs.Places.{permissions, securities, last_trades, charges, bands, tax_rates, customer_taxes}
-use Rattle.brk_tables_form.proofs.Steps.{added}
+use Rattle.brk_tables_schema.specs.Cells.{nat, permission_cells, security_cells, last_trade_cells, charge_cells, band_cells, tax_rate_cells, customer_tax_cells}
+use Rattle.brk_tables_schema.specs.Desk.{Permissions, Securities, LastTrades, Charges, Bands, TaxRates, CustomerTaxes, desk}
+use Rattle.brk_tables_schema.proofs.Places.{permissions, securities, last_trades, charges, bands, tax_rates, customer_taxes}
+use Rattle.brk_tables_schema.proofs.Steps.{added}
 use Rattle.brk_tables_reference.proofs.AddPermission
 use Rattle.brk_tables_reference.proofs.AddSecurity
 use Rattle.brk_tables_reference.proofs.AddLastTrade

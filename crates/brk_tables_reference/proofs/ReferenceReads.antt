@@ -10,13 +10,13 @@ use Rattle.brk_money.specs.declared.trade_type.TradeType.{TradeType}
 use Rattle.brk_model.specs.Records.{Permission, Charge, Band, TaxRate, CustomerTax}
 use Rattle.brk_model.specs.Tables.{SecurityRow}
 use Rattle.brk_model.specs.Keys.{permission_key, security_key, charge_key, band_key, tax_rate_key, customer_tax_key}
-use Rattle.brk_rows.specs.Desk.{Tells}
-use Rattle.brk_rows.proofs.Looks.{tells_rising}
-use Rattle.brk_rows.proofs.Texts.{read}
-use Rattle.brk_tables_form.specs.Cells.{nat, permission_cells, security_cells, charge_cells, band_cells, tax_rate_cells, customer_tax_cells}
-use Rattle.brk_tables_form.specs.Desk.{Permissions, Securities, Charges, Bands, TaxRates, CustomerTaxes, desk, order}
-use Rattle.brk_tables_form.proofs.Order.{key_total}
-use Rattle.brk_tables_form.proofs.Tests.{same_number, same_text, same_code}
+use Rattle.brk_sql.specs.Desk.{Tells}
+use Rattle.brk_sql.proofs.Looks.{tells_rising}
+use Rattle.brk_sql.proofs.Texts.{read}
+use Rattle.brk_tables_schema.specs.Cells.{nat, permission_cells, security_cells, charge_cells, band_cells, tax_rate_cells, customer_tax_cells}
+use Rattle.brk_tables_schema.specs.Desk.{Permissions, Securities, Charges, Bands, TaxRates, CustomerTaxes, desk, order}
+use Rattle.brk_tables_schema.proofs.Order.{key_total}
+use Rattle.brk_tables_schema.proofs.Tests.{same_number, same_text, same_code}
 use Rattle.brk_tables_reference.proofs.PermissionByKey
 use Rattle.brk_tables_reference.proofs.SecurityBySymbol
 use Rattle.brk_tables_reference.proofs.ChargeByKey

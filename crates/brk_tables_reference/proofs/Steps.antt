@@ -9,18 +9,18 @@ use Rattle.brk_money.specs.Kinds.{tax_status_number}
 use Rattle.brk_model.specs.Records.{Broker, Customer, Account}
 use Rattle.brk_model.specs.Tables.{BrokerRow, AccountRow}
 use Rattle.brk_model.specs.Keys.{broker_key, customer_key, account_key}
-use Rattle.brk_rows.specs.Desk.{Turns, Tells}
-use Rattle.brk_rows.specs.Model.{Ran}
-use Rattle.brk_rows.proofs.Texts.{read}
-use Rattle.brk_rows.proofs.Values.{cast_int}
-use Rattle.brk_rows.proofs.Writes.{inserts_as}
-use Rattle.brk_rows.proofs.Looks.{tells_rising}
-use Rattle.brk_tables_form.specs.Cells.{nat, broker_cells, customer_cells, account_cells}
-use Rattle.brk_tables_form.specs.Desk.{Brokers, Customers, Accounts, desk, order}
+use Rattle.brk_sql.specs.Desk.{Turns, Tells}
+use Rattle.brk_sql.specs.Model.{Ran}
+use Rattle.brk_sql.proofs.Texts.{read}
+use Rattle.brk_sql.proofs.Values.{cast_int}
+use Rattle.brk_sql.proofs.Writes.{inserts_as}
+use Rattle.brk_sql.proofs.Looks.{tells_rising}
+use Rattle.brk_tables_schema.specs.Cells.{nat, broker_cells, customer_cells, account_cells}
+use Rattle.brk_tables_schema.specs.Desk.{Brokers, Customers, Accounts, desk, order}
 use Rattle.brk_changes.specs.Changes.{with_broker, with_customer, with_account}
-use Rattle.brk_tables_form.proofs.Order.{key_total}
-use Rattle.brk_tables_form.proofs.Tests.{same_number, same_text}
-use Rattle.brk_tables_form.proofs.Places.{brokers, customers, accounts}
+use Rattle.brk_tables_schema.proofs.Order.{key_total}
+use Rattle.brk_tables_schema.proofs.Tests.{same_number, same_text}
+use Rattle.brk_tables_schema.proofs.Places.{brokers, customers, accounts}
 use Rattle.brk_tables_reference.proofs.AddBroker
 use Rattle.brk_tables_reference.proofs.AddCustomer
 use Rattle.brk_tables_reference.proofs.AddAccount
@@ -29,7 +29,7 @@ use Rattle.brk_tables_reference.proofs.CustomerById
 use Rattle.brk_tables_reference.proofs.CustomerByTaxId
 use Rattle.brk_tables_reference.proofs.AccountById
 use Rattle.brk_tables_reference.proofs.AccountsOfCustomer
-use Rattle.brk_tables_form.proofs.Steps.{added}
+use Rattle.brk_tables_schema.proofs.Steps.{added}
 
 -- ---- changes
 

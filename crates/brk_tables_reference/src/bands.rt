@@ -4,14 +4,14 @@ ghost use Rattle.brk_money.specs.declared.fault.Fault.TheVariants.{Store};
 ghost use Rattle.brk_model.specs.Run.{MayFail};
 ghost use Rattle.brk_ref.specs.Records.{band_of};
 ghost use Rattle.brk_changes.specs.Changes.{with_band};
-ghost use Rattle.brk_tables_form.specs.Desk.{Bands};
-ghost use Rattle.brk_tables_form.specs.Statements.{Lists, Writes};
+ghost use Rattle.brk_tables_schema.specs.Desk.{Bands};
+ghost use Rattle.brk_tables_schema.specs.Statements.{Lists, Writes};
 
 use brk_money::{Fault, TradeType};
 use brk_ref::{Band, Exchange, Tier};
-use brk_tables_form::calls::{run, select};
-use brk_tables_form::record::all_rows;
-use brk_tables_form::values::{qty_value, rate_value, text_value, tier_value, type_value};
+use brk_tables_schema::calls::{run, select};
+use brk_tables_schema::record::all_rows;
+use brk_tables_schema::values::{qty_value, rate_value, text_value, tier_value, type_value};
 use sqlite::{Alter, Transaction};
 use std::alloc::Global;
 

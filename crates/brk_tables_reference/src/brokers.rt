@@ -2,14 +2,14 @@ ghost use Rattle.std.specs.Prelude.{◌≡◌, ◌==◌, Err, OnErr};
 ghost use Rattle.brk_money.specs.declared.fault.Fault.TheVariants.{Store};
 ghost use Rattle.brk_ref.specs.Records.{broker_of, broker_row_of};
 ghost use Rattle.brk_changes.specs.Changes.{with_broker};
-ghost use Rattle.brk_tables_form.specs.Desk.{Brokers};
-ghost use Rattle.brk_tables_form.specs.Statements.{Finds, Writes};
+ghost use Rattle.brk_tables_schema.specs.Desk.{Brokers};
+ghost use Rattle.brk_tables_schema.specs.Statements.{Finds, Writes};
 
 use brk_money::{Fault, Id};
 use brk_ref::{Broker, BrokerRow};
-use brk_tables_form::calls::{run, select};
-use brk_tables_form::record::first_row;
-use brk_tables_form::values::{id_value, text_value};
+use brk_tables_schema::calls::{run, select};
+use brk_tables_schema::record::first_row;
+use brk_tables_schema::values::{id_value, text_value};
 use sqlite::{Alter, Transaction};
 
 /// Adds a broker, with no trades and no commissions yet.

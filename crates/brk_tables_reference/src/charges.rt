@@ -3,14 +3,14 @@ ghost use Rattle.brk_money.specs.Kinds.{same_type};
 ghost use Rattle.brk_money.specs.declared.fault.Fault.TheVariants.{Store};
 ghost use Rattle.brk_ref.specs.Records.{charge_of};
 ghost use Rattle.brk_changes.specs.Changes.{with_charge};
-ghost use Rattle.brk_tables_form.specs.Desk.{Charges};
-ghost use Rattle.brk_tables_form.specs.Statements.{Finds, Writes};
+ghost use Rattle.brk_tables_schema.specs.Desk.{Charges};
+ghost use Rattle.brk_tables_schema.specs.Statements.{Finds, Writes};
 
 use brk_money::{Fault, TradeType};
 use brk_ref::{Charge, Tier};
-use brk_tables_form::calls::{run, select};
-use brk_tables_form::record::first_row;
-use brk_tables_form::values::{charge_amount_value, tier_value, type_value};
+use brk_tables_schema::calls::{run, select};
+use brk_tables_schema::record::first_row;
+use brk_tables_schema::values::{charge_amount_value, tier_value, type_value};
 use sqlite::{Alter, Transaction};
 
 /// Adds a charge, whose type and tier are new together.

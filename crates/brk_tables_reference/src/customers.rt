@@ -2,14 +2,14 @@ ghost use Rattle.std.specs.Prelude.{◌≡◌, ◌==◌, Err, OnErr, bytes_eq};
 ghost use Rattle.brk_money.specs.declared.fault.Fault.TheVariants.{Store};
 ghost use Rattle.brk_ref.specs.Records.{customer_of};
 ghost use Rattle.brk_changes.specs.Changes.{with_customer};
-ghost use Rattle.brk_tables_form.specs.Desk.{Customers};
-ghost use Rattle.brk_tables_form.specs.Statements.{Finds, Writes};
+ghost use Rattle.brk_tables_schema.specs.Desk.{Customers};
+ghost use Rattle.brk_tables_schema.specs.Statements.{Finds, Writes};
 
 use brk_money::{Fault, Id};
 use brk_ref::{Customer, TaxId};
-use brk_tables_form::calls::{run, select};
-use brk_tables_form::record::first_row;
-use brk_tables_form::values::{id_value, text_value, tier_value};
+use brk_tables_schema::calls::{run, select};
+use brk_tables_schema::record::first_row;
+use brk_tables_schema::values::{id_value, text_value, tier_value};
 use sqlite::{Alter, Transaction};
 
 /// Adds a customer, whose id and tax id are new.

@@ -2,14 +2,14 @@ ghost use Rattle.std.specs.Prelude.{◌≡◌, Err, OnErr, bytes_eq};
 ghost use Rattle.brk_money.specs.declared.fault.Fault.TheVariants.{Store};
 ghost use Rattle.brk_ref.specs.Records.{security_of, last_trade_of};
 ghost use Rattle.brk_changes.specs.Changes.{with_security, with_last_trade};
-ghost use Rattle.brk_tables_form.specs.Desk.{Securities};
-ghost use Rattle.brk_tables_form.specs.Statements.{Finds, Writes};
+ghost use Rattle.brk_tables_schema.specs.Desk.{Securities};
+ghost use Rattle.brk_tables_schema.specs.Statements.{Finds, Writes};
 
 use brk_money::Fault;
 use brk_ref::{LastTrade, Security, Symbol};
-use brk_tables_form::calls::{run, select};
-use brk_tables_form::record::first_row;
-use brk_tables_form::values::{price_value, stamp_value, text_value, volume_value};
+use brk_tables_schema::calls::{run, select};
+use brk_tables_schema::record::first_row;
+use brk_tables_schema::values::{price_value, stamp_value, text_value, volume_value};
 use sqlite::{Alter, Transaction};
 
 /// Adds a security, whose symbol is new. Its last trade is a row of its own.

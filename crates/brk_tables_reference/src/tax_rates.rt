@@ -3,14 +3,14 @@ ghost use Rattle.brk_money.specs.declared.fault.Fault.TheVariants.{Store};
 ghost use Rattle.brk_model.specs.Run.{MayFail};
 ghost use Rattle.brk_ref.specs.Records.{tax_of, customer_tax_of};
 ghost use Rattle.brk_changes.specs.Changes.{with_tax_rate, with_customer_tax};
-ghost use Rattle.brk_tables_form.specs.Desk.{CustomerTaxes, TaxRates};
-ghost use Rattle.brk_tables_form.specs.Statements.{Finds, Lists, Writes};
+ghost use Rattle.brk_tables_schema.specs.Desk.{CustomerTaxes, TaxRates};
+ghost use Rattle.brk_tables_schema.specs.Statements.{Finds, Lists, Writes};
 
 use brk_money::{Fault, Id};
 use brk_ref::{CustomerTax, Tax};
-use brk_tables_form::calls::{run, select};
-use brk_tables_form::record::{all_rows, first_row};
-use brk_tables_form::values::{id_value, tax_rate_value, text_value};
+use brk_tables_schema::calls::{run, select};
+use brk_tables_schema::record::{all_rows, first_row};
+use brk_tables_schema::values::{id_value, tax_rate_value, text_value};
 use sqlite::{Alter, Transaction};
 use std::alloc::Global;
 

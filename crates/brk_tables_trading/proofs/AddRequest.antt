@@ -7,10 +7,10 @@ use Rattle.sqlite.specs.Source.TheVariants.{Values}
 use Rattle.sqlite.specs.Command.TheVariants.{Insert}
 use Rattle.sqlite_resolve.specs.Compile.{compiled}
 use Rattle.sqlite_tied.specs.Compute.{everything}
-use Rattle.brk_rows.specs.Desk.{Stands}
-use Rattle.brk_rows.proofs.Meant.{meant, inserts}
-use Rattle.brk_rows.proofs.Texts.{read}
-use Rattle.brk_tables_form.specs.Shapes.{request}
+use Rattle.brk_sql.specs.Desk.{Stands}
+use Rattle.brk_sql.proofs.Meant.{meant, inserts}
+use Rattle.brk_sql.proofs.Texts.{read}
+use Rattle.brk_tables_schema.specs.Shapes.{request}
 
 abbrev pub statement : List ℕ
 statement = codes "INSERT INTO TRADE_REQUEST (TR_T_ID, TR_TT_ID, TR_S_SYMB, TR_QTY, TR_BID_PRICE, TR_B_ID) VALUES (?1, ?2, ?3, ?4, ?5, ?6)"

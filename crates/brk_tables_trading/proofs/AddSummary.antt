@@ -7,10 +7,10 @@ use Rattle.sqlite.specs.Source.TheVariants.{Values}
 use Rattle.sqlite.specs.Command.TheVariants.{Insert}
 use Rattle.sqlite_resolve.specs.Compile.{compiled}
 use Rattle.sqlite_tied.specs.Compute.{everything}
-use Rattle.brk_rows.specs.Desk.{Stands}
-use Rattle.brk_rows.proofs.Meant.{meant, inserts}
-use Rattle.brk_rows.proofs.Texts.{read}
-use Rattle.brk_tables_form.specs.Shapes.{summary}
+use Rattle.brk_sql.specs.Desk.{Stands}
+use Rattle.brk_sql.proofs.Meant.{meant, inserts}
+use Rattle.brk_sql.proofs.Texts.{read}
+use Rattle.brk_tables_schema.specs.Shapes.{summary}
 
 abbrev pub statement : List ℕ
 statement = codes "INSERT INTO HOLDING_SUMMARY (HS_CA_ID, HS_S_SYMB, HS_QTY) VALUES (?1, ?2, ?3)"

@@ -16,20 +16,20 @@ use Rattle.sqlite_sql.specs.Term.{Term}
 use Rattle.sqlite_trees.specs.Tree.{IsAscending}
 use Rattle.sqlite_keyed.proofs.ListLemmas.{ascending-filter}
 use Rattle.brk_model.specs.Keys.{KeyPart, by_key, insert_row, holding_key, summary_key}
-use Rattle.brk_rows.specs.Rows.{Rises, cells}
-use Rattle.brk_rows.proofs.Answer.{limited_map}
-use Rattle.brk_rows.proofs.Pick.{passes}
-use Rattle.brk_tables_form.specs.Shapes.{holding}
-use Rattle.brk_rows.specs.Desk.{Tells}
-use Rattle.brk_rows.proofs.Decode.{text_in}
-use Rattle.brk_rows.proofs.Looks.{tells_rising, tells_sorted}
-use Rattle.brk_rows.proofs.Texts.{read}
-use Rattle.brk_tables_form.specs.Cells.{nat, holding_cells, summary_cells}
-use Rattle.brk_tables_form.specs.Desk.{Holdings, Summaries, desk, order}
-use Rattle.brk_tables_form.specs.Order.{by_key_values}
-use Rattle.brk_tables_form.proofs.Back.{number_in}
-use Rattle.brk_tables_form.proofs.Order.{key_total, inserted}
-use Rattle.brk_tables_form.proofs.Tests.{same_number, same_text}
+use Rattle.brk_sql.specs.Rows.{Rises, cells}
+use Rattle.brk_sql.proofs.Answer.{limited_map}
+use Rattle.brk_sql.proofs.Pick.{passes}
+use Rattle.brk_tables_schema.specs.Shapes.{holding}
+use Rattle.brk_sql.specs.Desk.{Tells}
+use Rattle.brk_sql.proofs.Decode.{text_in}
+use Rattle.brk_sql.proofs.Looks.{tells_rising, tells_sorted}
+use Rattle.brk_sql.proofs.Texts.{read}
+use Rattle.brk_tables_schema.specs.Cells.{nat, holding_cells, summary_cells}
+use Rattle.brk_tables_schema.specs.Desk.{Holdings, Summaries, desk, order}
+use Rattle.brk_tables_schema.specs.Order.{by_key_values}
+use Rattle.brk_tables_schema.proofs.Back.{number_in}
+use Rattle.brk_tables_schema.proofs.Order.{key_total, inserted}
+use Rattle.brk_tables_schema.proofs.Tests.{same_number, same_text}
 use Rattle.brk_changes.specs.Rows.{age_key, oldest_lots_first}
 use Rattle.brk_tables_trading.specs.Pages.{on_page, page_size}
 use Rattle.brk_tables_trading.proofs.NewestLots

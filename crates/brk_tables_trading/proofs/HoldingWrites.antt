@@ -7,16 +7,16 @@ use Rattle.sqlite_tied.proofs.RuleLemmas.{and_true}
 use Rattle.sqlite.specs.State.{State}
 use Rattle.brk_money.specs.Kinds.{tax_status_number}
 use Rattle.brk_model.specs.Tables.{BrokerRow, AccountRow, HoldingRow, SummaryRow, HoldingHistoryRow, SettlementRow}
-use Rattle.brk_rows.specs.Desk.{Turns}
-use Rattle.brk_rows.specs.Model.{Ran}
-use Rattle.brk_rows.proofs.Texts.{read}
-use Rattle.brk_rows.proofs.Values.{cast_int, cast_null, cast_whole}
-use Rattle.brk_rows.proofs.Writes.{inserts_as, updates_as, deletes_as}
-use Rattle.brk_tables_form.specs.Cells.{nat, broker_cells, account_cells, holding_cells, summary_cells, holding_history_cells, settlement_cells}
-use Rattle.brk_tables_form.specs.Desk.{Brokers, Accounts, Holdings, Summaries, HoldingHistory, Settlements, desk}
-use Rattle.brk_tables_form.proofs.Places.{brokers, accounts}
-use Rattle.brk_tables_form.proofs.Steps.{added}
-use Rattle.brk_tables_form.proofs.Tests.{same_number, same_text}
+use Rattle.brk_sql.specs.Desk.{Turns}
+use Rattle.brk_sql.specs.Model.{Ran}
+use Rattle.brk_sql.proofs.Texts.{read}
+use Rattle.brk_sql.proofs.Values.{cast_int, cast_null, cast_whole}
+use Rattle.brk_sql.proofs.Writes.{inserts_as, updates_as, deletes_as}
+use Rattle.brk_tables_schema.specs.Cells.{nat, broker_cells, account_cells, holding_cells, summary_cells, holding_history_cells, settlement_cells}
+use Rattle.brk_tables_schema.specs.Desk.{Brokers, Accounts, Holdings, Summaries, HoldingHistory, Settlements, desk}
+use Rattle.brk_tables_schema.proofs.Places.{brokers, accounts}
+use Rattle.brk_tables_schema.proofs.Steps.{added}
+use Rattle.brk_tables_schema.proofs.Tests.{same_number, same_text}
 use Rattle.brk_changes.specs.Changes.{with_lot, with_lot_set, without_lot, with_lot_change, with_summary, with_summary_set, without_summary, with_settlement, with_balance, with_broker_numbers}
 use Rattle.brk_tables_trading.proofs.Places.{lots, summaries, lot_changes, settlements}
 use Rattle.brk_tables_trading.proofs.AddLot

@@ -15,18 +15,18 @@ use Rattle.brk_model.specs.Joins.{recent_first, trades_in}
 use Rattle.brk_model.specs.Keys.{KeyPart, history_key, key_before, number, trade_key}
 use Rattle.brk_model.specs.Lists as model
 use Rattle.brk_model.specs.Tables.{HistoryRow, TradeRow}
-use Rattle.brk_rows.specs.Desk.{Tells}
-use Rattle.brk_rows.proofs.Answer.{limited_map}
-use Rattle.brk_rows.proofs.Decode.{text_in}
-use Rattle.brk_rows.proofs.Looks.{tells_rising, tells_sorted}
-use Rattle.brk_rows.proofs.Texts.{read}
-use Rattle.brk_tables_form.specs.Cells.{nat, history_cells, trade_cells}
-use Rattle.brk_tables_form.specs.Desk.{Trades, TradeHistory, desk, order}
-use Rattle.brk_tables_form.specs.Order.{by_key_values, key_values}
-use Rattle.brk_tables_form.proofs.Back.{number_in}
-use Rattle.brk_tables_form.proofs.Order.{inserted, key_total}
-use Rattle.brk_tables_form.proofs.Tests.{same_number}
-use Rattle.brk_tables_form.proofs.TradingBack.{status_at, status_back}
+use Rattle.brk_sql.specs.Desk.{Tells}
+use Rattle.brk_sql.proofs.Answer.{limited_map}
+use Rattle.brk_sql.proofs.Decode.{text_in}
+use Rattle.brk_sql.proofs.Looks.{tells_rising, tells_sorted}
+use Rattle.brk_sql.proofs.Texts.{read}
+use Rattle.brk_tables_schema.specs.Cells.{nat, history_cells, trade_cells}
+use Rattle.brk_tables_schema.specs.Desk.{Trades, TradeHistory, desk, order}
+use Rattle.brk_tables_schema.specs.Order.{by_key_values, key_values}
+use Rattle.brk_tables_schema.proofs.Back.{number_in}
+use Rattle.brk_tables_schema.proofs.Order.{inserted, key_total}
+use Rattle.brk_tables_schema.proofs.Tests.{same_number}
+use Rattle.brk_tables_schema.proofs.TradingBack.{status_at, status_back}
 use Rattle.brk_tables_trading.proofs.HistoryOf
 use Rattle.brk_tables_trading.proofs.LastFiftyOfAccount
 use Rattle.brk_tables_trading.proofs.LastTenOfAccount

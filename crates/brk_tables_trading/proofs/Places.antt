@@ -5,13 +5,13 @@ use Rattle.sqlite_value.specs.Order.{column}
 use Rattle.sqlite_value.proofs.OrderLemmas.{then-Equal}
 use Rattle.brk_model.specs.Tables.{Tables, TradeRow, HistoryRow, RequestRow, HoldingRow, SummaryRow, HoldingHistoryRow, SettlementRow}
 use Rattle.brk_model.specs.Keys.{trade_key, history_key, request_key, holding_key, summary_key, holding_history_key, settlement_key}
-use Rattle.brk_rows.proofs.Writes.{Place, IsRowidKey, IsUniqueKey}
-use Rattle.brk_tables_form.specs.Shapes.{trade, history, request, holding, summary, holding_history, settlement}
-use Rattle.brk_tables_form.specs.Cells.{trade_cells, history_cells, request_cells, holding_cells, summary_cells, holding_history_cells, settlement_cells}
-use Rattle.brk_tables_form.specs.Desk.{Which, Trades, TradeHistory, Requests, order, list, desk, Holdings, Summaries, HoldingHistory, Settlements}
-use Rattle.brk_tables_form.proofs.Order.{key_total}
-use Rattle.brk_tables_form.proofs.Unique.{same_key}
-use Rattle.brk_tables_form.proofs.Which.{is_trade, is_history, is_request, is_holding, is_summary, is_holding_history, is_settlement}
+use Rattle.brk_sql.proofs.Writes.{Place, IsRowidKey, IsUniqueKey}
+use Rattle.brk_tables_schema.specs.Shapes.{trade, history, request, holding, summary, holding_history, settlement}
+use Rattle.brk_tables_schema.specs.Cells.{trade_cells, history_cells, request_cells, holding_cells, summary_cells, holding_history_cells, settlement_cells}
+use Rattle.brk_tables_schema.specs.Desk.{Which, Trades, TradeHistory, Requests, order, list, desk, Holdings, Summaries, HoldingHistory, Settlements}
+use Rattle.brk_tables_schema.proofs.Order.{key_total}
+use Rattle.brk_tables_schema.proofs.Unique.{same_key}
+use Rattle.brk_tables_schema.proofs.Which.{is_trade, is_history, is_request, is_holding, is_summary, is_holding_history, is_settlement}
 
 pub trade_keyed : IsRowidKey trade trade_cells (order Trades)
 trade_keyed tree r s x y e f = let a : column r 0 ≡ Int (pos x.id) = cc in let b : column s 0 ≡ Int (pos y.id) = cc in rw (a, b) (ap is_eq (then-Equal _))

@@ -17,13 +17,13 @@ use Rattle.sqlite_resolve.specs.declared.error.CompileError.TheVariants.{Mismatc
 use Rattle.sqlite_draft.specs.declared.join.Step.TheVariants.{Inner}
 use Rattle.sqlite_draft.specs.declared.query.Draft.{Draft}
 use Rattle.sqlite_tied.specs.Compute.{everything}
-use Rattle.brk_rows.specs.Partly.{lowering}
-use Rattle.brk_rows.specs.Desk.{whole, Stands}
-use Rattle.brk_rows.proofs.Meant.{meant, updates_or}
-use Rattle.brk_rows.proofs.Pick.{selection, whole_page}
-use Rattle.brk_rows.proofs.Scoped.{column_is}
-use Rattle.brk_rows.proofs.Texts.{read}
-use Rattle.brk_tables_form.specs.Shapes.{settlement}
+use Rattle.brk_sql.specs.Partly.{lowering}
+use Rattle.brk_sql.specs.Desk.{whole, Stands}
+use Rattle.brk_sql.proofs.Meant.{meant, updates_or}
+use Rattle.brk_sql.proofs.Pick.{selection, whole_page}
+use Rattle.brk_sql.proofs.Scoped.{column_is}
+use Rattle.brk_sql.proofs.Texts.{read}
+use Rattle.brk_tables_schema.specs.Shapes.{settlement}
 
 abbrev pub statement : List ℕ
 statement = codes "UPDATE SETTLEMENT SET SE_CASH_TYPE = ?1 WHERE SE_T_ID = ?2"

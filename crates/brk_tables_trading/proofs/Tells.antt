@@ -12,16 +12,16 @@ use Rattle.brk_money.specs.declared.status.Status.TheVariants.{Completed, Active
 use Rattle.brk_money.specs.declared.trade_type.TradeType.{TradeType}
 use Rattle.brk_model.specs.Tables.{TradeRow, RequestRow, LastTradeRow}
 use Rattle.brk_model.specs.Keys.{trade_key, request_key, last_trade_key}
-use Rattle.brk_rows.specs.Desk.{Tells}
-use Rattle.brk_rows.proofs.Answer.{limited_map}
-use Rattle.brk_rows.proofs.Decode.{filter_true}
-use Rattle.brk_rows.proofs.Looks.{tells_rising, tells_falling}
-use Rattle.brk_rows.proofs.Texts.{read}
-use Rattle.brk_tables_form.specs.Cells.{nat, trade_cells, request_cells, last_trade_cells}
-use Rattle.brk_tables_form.specs.Desk.{Trades, Requests, LastTrades, desk, order}
-use Rattle.brk_tables_form.proofs.Compared.{at_least, at_most}
-use Rattle.brk_tables_form.proofs.Order.{key_total}
-use Rattle.brk_tables_form.proofs.Tests.{same_code, same_number, same_text}
+use Rattle.brk_sql.specs.Desk.{Tells}
+use Rattle.brk_sql.proofs.Answer.{limited_map}
+use Rattle.brk_sql.proofs.Decode.{filter_true}
+use Rattle.brk_sql.proofs.Looks.{tells_rising, tells_falling}
+use Rattle.brk_sql.proofs.Texts.{read}
+use Rattle.brk_tables_schema.specs.Cells.{nat, trade_cells, request_cells, last_trade_cells}
+use Rattle.brk_tables_schema.specs.Desk.{Trades, Requests, LastTrades, desk, order}
+use Rattle.brk_tables_schema.proofs.Compared.{at_least, at_most}
+use Rattle.brk_tables_schema.proofs.Order.{key_total}
+use Rattle.brk_tables_schema.proofs.Tests.{same_code, same_number, same_text}
 use Rattle.brk_tables_trading.proofs.TradeById
 use Rattle.brk_tables_trading.proofs.LastTradeId
 use Rattle.brk_tables_trading.proofs.SubmittedTrades

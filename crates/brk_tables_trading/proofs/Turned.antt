@@ -6,8 +6,8 @@ use Rattle.std.specs.Cmp.{IsTotalOrder}
 use Rattle.std.specs.List.{AllByRecursion}
 use Rattle.sqlite_trees.specs.Tree.{IsAscending}
 use Rattle.sqlite_keyed.specs.Lists.{insert_sorted, sort_by}
-use Rattle.brk_rows.specs.Rows.{Rises}
-use Rattle.brk_rows.proofs.Order.{rises-insert_sorted}
+use Rattle.brk_sql.specs.Rows.{Rises}
+use Rattle.brk_sql.proofs.Order.{rises-insert_sorted}
 
 abbrev pub flipped : {X : Type 0} → (X → X → Ordering) → X → X → Ordering
 flipped C x y = C y x

@@ -17,18 +17,18 @@ use Rattle.brk_model.specs.Keys.{KeyPart, number, by_key, insert_row, settlement
 use Rattle.brk_model.specs.Lists as model
 use Rattle.brk_model.specs.LookupView.{is_between}
 use Rattle.brk_model.specs.Tables.{SettlementRow, TradeRow}
-use Rattle.brk_rows.specs.Desk.{Tells}
-use Rattle.brk_rows.proofs.Answer.{limited_map}
-use Rattle.brk_rows.proofs.Decode.{text_in}
-use Rattle.brk_rows.proofs.Looks.{tells_rising, tells_sorted}
-use Rattle.brk_rows.proofs.Texts.{read}
-use Rattle.brk_tables_form.specs.Cells.{nat, flag, trade_cells, settlement_cells}
-use Rattle.brk_tables_form.specs.Desk.{Trades, Settlements, desk, order}
-use Rattle.brk_tables_form.specs.Order.{by_key_values}
-use Rattle.brk_tables_form.proofs.Back.{number_in}
-use Rattle.brk_tables_form.proofs.Compared.{at_least, at_most}
-use Rattle.brk_tables_form.proofs.Order.{key_total, inserted}
-use Rattle.brk_tables_form.proofs.Tests.{same_number, same_text}
+use Rattle.brk_sql.specs.Desk.{Tells}
+use Rattle.brk_sql.proofs.Answer.{limited_map}
+use Rattle.brk_sql.proofs.Decode.{text_in}
+use Rattle.brk_sql.proofs.Looks.{tells_rising, tells_sorted}
+use Rattle.brk_sql.proofs.Texts.{read}
+use Rattle.brk_tables_schema.specs.Cells.{nat, flag, trade_cells, settlement_cells}
+use Rattle.brk_tables_schema.specs.Desk.{Trades, Settlements, desk, order}
+use Rattle.brk_tables_schema.specs.Order.{by_key_values}
+use Rattle.brk_tables_schema.proofs.Back.{number_in}
+use Rattle.brk_tables_schema.proofs.Compared.{at_least, at_most}
+use Rattle.brk_tables_schema.proofs.Order.{key_total, inserted}
+use Rattle.brk_tables_schema.proofs.Tests.{same_number, same_text}
 use Rattle.brk_changes.specs.Chosen.{completed_cash_of_symbol, completed_of_account}
 use Rattle.brk_tables_trading.proofs.CompletedCashOfSymbol
 use Rattle.brk_tables_trading.proofs.CompletedOfAccount

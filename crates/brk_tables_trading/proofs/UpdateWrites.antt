@@ -9,14 +9,14 @@ use Rattle.sqlite.specs.Cast.{cast}
 use Rattle.sqlite.specs.State.{State}
 use Rattle.brk_money.specs.Kinds.{status_code, type_code}
 use Rattle.brk_model.specs.Tables.{SettlementRow, TradeRow}
-use Rattle.brk_rows.specs.Desk.{Turns}
-use Rattle.brk_rows.specs.Model.{Ran}
-use Rattle.brk_rows.proofs.Texts.{read}
-use Rattle.brk_rows.proofs.Values.{cast_int, cast_null, cast_whole}
-use Rattle.brk_rows.proofs.Writes.{updates_as}
-use Rattle.brk_tables_form.specs.Cells.{nat, maybe, flag, trade_cells, settlement_cells}
-use Rattle.brk_tables_form.specs.Desk.{Trades, Settlements, desk}
-use Rattle.brk_tables_form.proofs.Tests.{same_number}
+use Rattle.brk_sql.specs.Desk.{Turns}
+use Rattle.brk_sql.specs.Model.{Ran}
+use Rattle.brk_sql.proofs.Texts.{read}
+use Rattle.brk_sql.proofs.Values.{cast_int, cast_null, cast_whole}
+use Rattle.brk_sql.proofs.Writes.{updates_as}
+use Rattle.brk_tables_schema.specs.Cells.{nat, maybe, flag, trade_cells, settlement_cells}
+use Rattle.brk_tables_schema.specs.Desk.{Trades, Settlements, desk}
+use Rattle.brk_tables_schema.proofs.Tests.{same_number}
 use Rattle.brk_changes.specs.Changes.{with_cash_type, with_executor}
 use Rattle.brk_tables_trading.proofs.Places.{trades, settlements}
 use Rattle.brk_tables_trading.proofs.SetCashType

@@ -11,16 +11,16 @@ use Rattle.brk_money.specs.Kinds.{type_code, status_code}
 use Rattle.brk_money.specs.declared.status.Status.{Status}
 use Rattle.brk_money.specs.declared.status.Status.TheVariants.{Completed}
 use Rattle.brk_model.specs.Tables.{TradeRow, HistoryRow, RequestRow, LastTradeRow}
-use Rattle.brk_rows.specs.Desk.{Turns}
-use Rattle.brk_rows.specs.Model.{Ran}
-use Rattle.brk_rows.proofs.Texts.{read}
-use Rattle.brk_rows.proofs.Values.{cast_int, cast_null, cast_whole}
-use Rattle.brk_rows.proofs.Writes.{inserts_as, updates_as, deletes_as}
-use Rattle.brk_tables_form.specs.Cells.{nat, maybe, flag, trade_cells, history_cells, request_cells}
-use Rattle.brk_tables_form.specs.Desk.{Trades, TradeHistory, Requests, LastTrades, desk}
-use Rattle.brk_tables_form.proofs.Places.{last_trades}
-use Rattle.brk_tables_form.proofs.Steps.{added}
-use Rattle.brk_tables_form.proofs.Tests.{same_number, same_text}
+use Rattle.brk_sql.specs.Desk.{Turns}
+use Rattle.brk_sql.specs.Model.{Ran}
+use Rattle.brk_sql.proofs.Texts.{read}
+use Rattle.brk_sql.proofs.Values.{cast_int, cast_null, cast_whole}
+use Rattle.brk_sql.proofs.Writes.{inserts_as, updates_as, deletes_as}
+use Rattle.brk_tables_schema.specs.Cells.{nat, maybe, flag, trade_cells, history_cells, request_cells}
+use Rattle.brk_tables_schema.specs.Desk.{Trades, TradeHistory, Requests, LastTrades, desk}
+use Rattle.brk_tables_schema.proofs.Places.{last_trades}
+use Rattle.brk_tables_schema.proofs.Steps.{added}
+use Rattle.brk_tables_schema.proofs.Tests.{same_number, same_text}
 use Rattle.brk_changes.specs.Changes.{with_trade, with_history, with_request, without_request, with_last_trade_set, with_status, with_completion}
 use Rattle.brk_tables_trading.proofs.Places.{trades, trade_history, requests}
 use Rattle.brk_tables_trading.proofs.AddTrade

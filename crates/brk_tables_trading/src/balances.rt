@@ -1,11 +1,11 @@
 ghost use Rattle.std.specs.Prelude.{◌≡◌, Err, OnErr};
 ghost use Rattle.brk_money.specs.declared.fault.Fault.TheVariants.{Store};
 ghost use Rattle.brk_changes.specs.Changes.{with_balance};
-ghost use Rattle.brk_tables_form.specs.Statements.{Writes};
+ghost use Rattle.brk_tables_schema.specs.Statements.{Writes};
 
 use brk_money::{Cents, Fault, Id};
-use brk_tables_form::calls::run;
-use brk_tables_form::values::{cents_value, id_value};
+use brk_tables_schema::calls::run;
+use brk_tables_schema::values::{cents_value, id_value};
 use sqlite::{Alter, Transaction};
 
 /// Sets the balance of an account.

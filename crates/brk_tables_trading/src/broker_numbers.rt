@@ -1,12 +1,12 @@
 ghost use Rattle.std.specs.Prelude.{◌≡◌, Err, OnErr};
 ghost use Rattle.brk_money.specs.declared.fault.Fault.TheVariants.{Store};
 ghost use Rattle.brk_changes.specs.Changes.{with_broker_numbers};
-ghost use Rattle.brk_tables_form.specs.Statements.{Writes};
+ghost use Rattle.brk_tables_schema.specs.Statements.{Writes};
 
 use brk_changes::Amount;
 use brk_money::{Fault, Id};
-use brk_tables_form::calls::run;
-use brk_tables_form::values::{amount_value, id_value, number_value};
+use brk_tables_schema::calls::run;
+use brk_tables_schema::values::{amount_value, id_value, number_value};
 use sqlite::{Alter, Transaction};
 
 /// Sets the number of a broker's completed trades and the sum of their commissions.

@@ -2,12 +2,12 @@ ghost use Rattle.std.specs.Prelude.{◌≡◌, Err, OnErr};
 ghost use Rattle.brk_money.specs.declared.fault.Fault.TheVariants.{Store};
 ghost use Rattle.brk_changes.specs.Changes.{with_history};
 ghost use Rattle.brk_changes.specs.Rows.{history_row_of};
-ghost use Rattle.brk_tables_form.specs.Statements.{Writes};
+ghost use Rattle.brk_tables_schema.specs.Statements.{Writes};
 
 use brk_changes::HistoryRow;
 use brk_money::Fault;
-use brk_tables_form::calls::run;
-use brk_tables_form::values::{id_value, stamp_value, status_value};
+use brk_tables_schema::calls::run;
+use brk_tables_schema::values::{id_value, stamp_value, status_value};
 use sqlite::{Alter, Transaction};
 
 /// Adds a status that a trade came to, which it did not have yet.

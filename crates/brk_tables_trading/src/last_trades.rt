@@ -2,14 +2,14 @@ ghost use Rattle.std.specs.Prelude.{◌≡◌, Err, OnErr, bytes_eq};
 ghost use Rattle.brk_money.specs.declared.fault.Fault.TheVariants.{Store};
 ghost use Rattle.brk_ref.specs.Records.{last_trade_of};
 ghost use Rattle.brk_changes.specs.Changes.{with_last_trade_set};
-ghost use Rattle.brk_tables_form.specs.Desk.{LastTrades};
-ghost use Rattle.brk_tables_form.specs.Statements.{Finds, Writes};
+ghost use Rattle.brk_tables_schema.specs.Desk.{LastTrades};
+ghost use Rattle.brk_tables_schema.specs.Statements.{Finds, Writes};
 
 use brk_money::Fault;
 use brk_ref::{LastTrade, Symbol};
-use brk_tables_form::calls::{run, select};
-use brk_tables_form::record::first_row;
-use brk_tables_form::values::{price_value, stamp_value, text_value, volume_value};
+use brk_tables_schema::calls::{run, select};
+use brk_tables_schema::record::first_row;
+use brk_tables_schema::values::{price_value, stamp_value, text_value, volume_value};
 use sqlite::{Alter, Transaction};
 
 /// Sets the last trade of a security, by its symbol.

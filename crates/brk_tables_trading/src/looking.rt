@@ -4,14 +4,14 @@ ghost use Rattle.std.specs.Prelude.{◌≡◌, ◌==◌, IfErr, map, take};
 ghost use Rattle.brk_model.specs.Joins.{recent_first, trades_in};
 ghost use Rattle.brk_model.specs.Run.{MayFail};
 ghost use Rattle.brk_changes.specs.Rows.{history_row_of, trade_row_of};
-ghost use Rattle.brk_tables_form.specs.Desk.{TradeHistory};
-ghost use Rattle.brk_tables_form.specs.Statements.{Lists, Reads};
+ghost use Rattle.brk_tables_schema.specs.Desk.{TradeHistory};
+ghost use Rattle.brk_tables_schema.specs.Statements.{Lists, Reads};
 
 use brk_changes::{HistoryRow, TradeRow};
 use brk_money::{Fault, Id};
-use brk_tables_form::calls::select;
-use brk_tables_form::record::all_rows;
-use brk_tables_form::values::id_value;
+use brk_tables_schema::calls::select;
+use brk_tables_schema::record::all_rows;
+use brk_tables_schema::values::id_value;
 use sqlite::{Alter, Transaction};
 use std::alloc::Global;
 

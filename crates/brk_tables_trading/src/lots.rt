@@ -4,12 +4,12 @@ ghost use Rattle.std.specs.Prelude.{◌≡◌, Err, OnErr};
 ghost use Rattle.brk_money.specs.declared.fault.Fault.TheVariants.{Store};
 ghost use Rattle.brk_changes.specs.Changes.{with_lot, with_lot_change, with_lot_set, without_lot};
 ghost use Rattle.brk_changes.specs.Rows.{holding_row_of, lot_change_of};
-ghost use Rattle.brk_tables_form.specs.Statements.{Writes};
+ghost use Rattle.brk_tables_schema.specs.Statements.{Writes};
 
 use brk_changes::{HoldingRow, LotChange};
 use brk_money::{Fault, Id};
-use brk_tables_form::calls::run;
-use brk_tables_form::values::{id_value, number_value, price_value, stamp_value, text_value};
+use brk_tables_schema::calls::run;
+use brk_tables_schema::values::{id_value, number_value, price_value, stamp_value, text_value};
 use sqlite::{Alter, Transaction};
 
 /// Adds the lot that a trade opened, which has none yet.

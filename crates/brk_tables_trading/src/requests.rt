@@ -4,15 +4,15 @@ ghost use Rattle.brk_money.specs.declared.fault.Fault.TheVariants.{Store};
 ghost use Rattle.brk_model.specs.Run.{MayFail};
 ghost use Rattle.brk_changes.specs.Changes.{with_request, without_request};
 ghost use Rattle.brk_changes.specs.Rows.{request_row_of};
-ghost use Rattle.brk_tables_form.specs.Desk.{Requests};
-ghost use Rattle.brk_tables_form.specs.Statements.{Lists, Writes};
+ghost use Rattle.brk_tables_schema.specs.Desk.{Requests};
+ghost use Rattle.brk_tables_schema.specs.Statements.{Lists, Writes};
 
 use brk_changes::RequestRow;
 use brk_money::{Fault, Id, Price, TradeType};
 use brk_ref::Symbol;
-use brk_tables_form::calls::{run, select};
-use brk_tables_form::record::all_rows;
-use brk_tables_form::values::{id_value, price_value, qty_value, text_value, type_value};
+use brk_tables_schema::calls::{run, select};
+use brk_tables_schema::record::all_rows;
+use brk_tables_schema::values::{id_value, price_value, qty_value, text_value, type_value};
 use sqlite::{Alter, Transaction};
 use std::alloc::Global;
 

@@ -4,12 +4,12 @@ ghost use Rattle.std.specs.Prelude.{◌≡◌, Err, OnErr};
 ghost use Rattle.brk_money.specs.declared.fault.Fault.TheVariants.{Store};
 ghost use Rattle.brk_changes.specs.Changes.{with_settlement};
 ghost use Rattle.brk_changes.specs.Rows.{settlement_row_of};
-ghost use Rattle.brk_tables_form.specs.Statements.{Writes};
+ghost use Rattle.brk_tables_schema.specs.Statements.{Writes};
 
 use brk_changes::SettlementRow;
 use brk_money::Fault;
-use brk_tables_form::calls::run;
-use brk_tables_form::values::{cash_type_value, cents_value, day_value, id_value};
+use brk_tables_schema::calls::run;
+use brk_tables_schema::values::{cash_type_value, cents_value, day_value, id_value};
 use sqlite::{Alter, Transaction};
 
 /// Adds what a trade settles for, which is not settled yet.

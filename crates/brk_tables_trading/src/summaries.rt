@@ -4,13 +4,13 @@ ghost use Rattle.std.specs.Prelude.{◌≡◌, Err, OnErr};
 ghost use Rattle.brk_money.specs.declared.fault.Fault.TheVariants.{Store};
 ghost use Rattle.brk_changes.specs.Changes.{with_summary, with_summary_set, without_summary};
 ghost use Rattle.brk_changes.specs.Rows.{summary_row_of};
-ghost use Rattle.brk_tables_form.specs.Statements.{Writes};
+ghost use Rattle.brk_tables_schema.specs.Statements.{Writes};
 
 use brk_changes::SummaryRow;
 use brk_money::{Fault, Id};
 use brk_ref::Symbol;
-use brk_tables_form::calls::run;
-use brk_tables_form::values::{id_value, number_value, text_value};
+use brk_tables_schema::calls::run;
+use brk_tables_schema::values::{id_value, number_value, text_value};
 use sqlite::{Alter, Transaction};
 
 /// Adds how many shares of a security an account holds, which has no such row yet.

@@ -5,14 +5,14 @@ ghost use Rattle.brk_money.specs.declared.status.Status.TheVariants.{Submitted};
 ghost use Rattle.brk_model.specs.Run.{MayFail};
 ghost use Rattle.brk_changes.specs.Changes.{with_completion, with_status, with_trade};
 ghost use Rattle.brk_changes.specs.Rows.{trade_row_of};
-ghost use Rattle.brk_tables_form.specs.Desk.{Trades};
-ghost use Rattle.brk_tables_form.specs.Statements.{Finds, Lists, Reads, Writes};
+ghost use Rattle.brk_tables_schema.specs.Desk.{Trades};
+ghost use Rattle.brk_tables_schema.specs.Statements.{Finds, Lists, Reads, Writes};
 
 use brk_changes::{Amount, TradeRow};
 use brk_money::{Fault, Id, Price, Stamp, Status};
-use brk_tables_form::calls::{run, select};
-use brk_tables_form::record::{all_rows, first_row};
-use brk_tables_form::values::{
+use brk_tables_schema::calls::{run, select};
+use brk_tables_schema::record::{all_rows, first_row};
+use brk_tables_schema::values::{
     amount_value, charge_amount_value, flag_value, id_value, maybe_price_value, price_value,
     qty_value, stamp_value, status_value, text_value, type_value,
 };

@@ -6,15 +6,15 @@ ghost use Rattle.brk_model.specs.Run.{MayFail};
 ghost use Rattle.brk_changes.specs.Changes.{with_cash_type, with_executor};
 ghost use Rattle.brk_changes.specs.Chosen as chosen;
 ghost use Rattle.brk_changes.specs.Rows.{cash_type_word, settlement_row_of, trade_row_of};
-ghost use Rattle.brk_tables_form.specs.Desk.{Settlements};
-ghost use Rattle.brk_tables_form.specs.Statements.{Finds, Reads, Writes};
+ghost use Rattle.brk_tables_schema.specs.Desk.{Settlements};
+ghost use Rattle.brk_tables_schema.specs.Statements.{Finds, Reads, Writes};
 
 use brk_changes::{CashType, SettlementRow, TradeRow};
 use brk_money::{Fault, Id, Stamp, Status};
 use brk_ref::Symbol;
-use brk_tables_form::calls::{run, select};
-use brk_tables_form::record::{all_rows, first_row};
-use brk_tables_form::values::{
+use brk_tables_schema::calls::{run, select};
+use brk_tables_schema::record::{all_rows, first_row};
+use brk_tables_schema::values::{
     cash_type_value, flag_value, id_value, stamp_value, status_value, text_value,
 };
 use sqlite::{Alter, Transaction};

@@ -7,16 +7,16 @@ use Rattle.sqlite_tied.proofs.RuleLemmas.{and_true}
 use Rattle.sqlite.specs.State.{State, Shown}
 use Rattle.brk_model.specs.Keys.{broker_key, holding_history_key, request_key}
 use Rattle.brk_model.specs.Tables.{BrokerRow, HoldingHistoryRow, RequestRow}
-use Rattle.brk_rows.specs.Desk.{Tells}
-use Rattle.brk_rows.specs.Rows.{cells}
-use Rattle.brk_rows.proofs.Looks.{tells_rising}
-use Rattle.brk_rows.proofs.Pick.{sorted_by}
-use Rattle.brk_rows.proofs.Texts.{read}
-use Rattle.brk_tables_form.specs.Cells.{nat, broker_cells, holding_history_cells, request_cells}
-use Rattle.brk_tables_form.specs.Desk.{Brokers, HoldingHistory, Requests, desk, order}
-use Rattle.brk_tables_form.specs.Shapes.{holding_history}
-use Rattle.brk_tables_form.proofs.Order.{key_total}
-use Rattle.brk_tables_form.proofs.Tests.{same_number, same_text}
+use Rattle.brk_sql.specs.Desk.{Tells}
+use Rattle.brk_sql.specs.Rows.{cells}
+use Rattle.brk_sql.proofs.Looks.{tells_rising}
+use Rattle.brk_sql.proofs.Pick.{sorted_by}
+use Rattle.brk_sql.proofs.Texts.{read}
+use Rattle.brk_tables_schema.specs.Cells.{nat, broker_cells, holding_history_cells, request_cells}
+use Rattle.brk_tables_schema.specs.Desk.{Brokers, HoldingHistory, Requests, desk, order}
+use Rattle.brk_tables_schema.specs.Shapes.{holding_history}
+use Rattle.brk_tables_schema.proofs.Order.{key_total}
+use Rattle.brk_tables_schema.proofs.Tests.{same_number, same_text}
 use Rattle.brk_tables_views.proofs.BrokersNamed
 use Rattle.brk_tables_views.proofs.ChangesBy
 use Rattle.brk_tables_views.proofs.ChangesOf

@@ -13,19 +13,19 @@ use Rattle.brk_model.specs.Keys.{KeyPart, number, by_key, insert_row}
 use Rattle.brk_model.specs.Lists as model
 use Rattle.brk_model.specs.LookupView.{is_between}
 use Rattle.brk_model.specs.Tables.{TradeRow}
-use Rattle.brk_rows.specs.Desk.{Tells}
-use Rattle.brk_rows.specs.Rows.{cells}
-use Rattle.brk_rows.proofs.Answer.{limited_map}
-use Rattle.brk_rows.proofs.Looks.{tells_sorted}
-use Rattle.brk_rows.proofs.Pick.{sorted_by}
-use Rattle.brk_rows.proofs.Texts.{read}
-use Rattle.brk_tables_form.specs.Cells.{nat, trade_cells}
-use Rattle.brk_tables_form.specs.Desk.{Trades, desk}
-use Rattle.brk_tables_form.specs.Order.{by_key_values}
-use Rattle.brk_tables_form.specs.Shapes.{trade}
-use Rattle.brk_tables_form.proofs.Compared.{at_least, at_most}
-use Rattle.brk_tables_form.proofs.Order.{key_total, inserted}
-use Rattle.brk_tables_form.proofs.Tests.{same_number, same_text}
+use Rattle.brk_sql.specs.Desk.{Tells}
+use Rattle.brk_sql.specs.Rows.{cells}
+use Rattle.brk_sql.proofs.Answer.{limited_map}
+use Rattle.brk_sql.proofs.Looks.{tells_sorted}
+use Rattle.brk_sql.proofs.Pick.{sorted_by}
+use Rattle.brk_sql.proofs.Texts.{read}
+use Rattle.brk_tables_schema.specs.Cells.{nat, trade_cells}
+use Rattle.brk_tables_schema.specs.Desk.{Trades, desk}
+use Rattle.brk_tables_schema.specs.Order.{by_key_values}
+use Rattle.brk_tables_schema.specs.Shapes.{trade}
+use Rattle.brk_tables_schema.proofs.Compared.{at_least, at_most}
+use Rattle.brk_tables_schema.proofs.Order.{key_total, inserted}
+use Rattle.brk_tables_schema.proofs.Tests.{same_number, same_text}
 use Rattle.brk_tables_views.proofs.FirstSince
 use Rattle.brk_tables_views.proofs.TwentyOfAccount
 use Rattle.brk_tables_views.proofs.TwentyOfSymbol

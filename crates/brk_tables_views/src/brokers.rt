@@ -4,15 +4,15 @@ ghost use Rattle.std.specs.Prelude.{◌≡◌, ◌==◌, IfErr, bytes_eq};
 ghost use Rattle.brk_model.specs.Run.{MayFail};
 ghost use Rattle.brk_ref.specs.Records.{broker_row_of};
 ghost use Rattle.brk_changes.specs.Rows.{request_row_of};
-ghost use Rattle.brk_tables_form.specs.Desk.{Brokers, Requests};
-ghost use Rattle.brk_tables_form.specs.Statements.{Lists};
+ghost use Rattle.brk_tables_schema.specs.Desk.{Brokers, Requests};
+ghost use Rattle.brk_tables_schema.specs.Statements.{Lists};
 
 use brk_changes::RequestRow;
 use brk_money::{Fault, Id};
 use brk_ref::{BrokerRow, Name};
-use brk_tables_form::calls::select;
-use brk_tables_form::record::all_rows;
-use brk_tables_form::values::{id_value, text_value};
+use brk_tables_schema::calls::select;
+use brk_tables_schema::record::all_rows;
+use brk_tables_schema::values::{id_value, text_value};
 use sqlite::{Alter, Transaction};
 use std::alloc::Global;
 

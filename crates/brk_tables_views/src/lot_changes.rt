@@ -3,14 +3,14 @@
 ghost use Rattle.std.specs.Prelude.{◌≡◌, ◌==◌, IfErr};
 ghost use Rattle.brk_model.specs.Run.{MayFail};
 ghost use Rattle.brk_changes.specs.Rows.{lot_change_of};
-ghost use Rattle.brk_tables_form.specs.Desk.{HoldingHistory};
-ghost use Rattle.brk_tables_form.specs.Statements.{Lists};
+ghost use Rattle.brk_tables_schema.specs.Desk.{HoldingHistory};
+ghost use Rattle.brk_tables_schema.specs.Statements.{Lists};
 
 use brk_changes::LotChange;
 use brk_money::{Fault, Id};
-use brk_tables_form::calls::select;
-use brk_tables_form::record::all_rows;
-use brk_tables_form::values::id_value;
+use brk_tables_schema::calls::select;
+use brk_tables_schema::record::all_rows;
+use brk_tables_schema::values::id_value;
 use sqlite::{Alter, Transaction};
 use std::alloc::Global;
 

@@ -6,14 +6,14 @@ ghost use Rattle.brk_model.specs.Joins.{oldest_first_rows, trades_in};
 ghost use Rattle.brk_model.specs.LookupView.{is_between};
 ghost use Rattle.brk_model.specs.Run.{MayFail};
 ghost use Rattle.brk_changes.specs.Rows.{trade_row_of};
-ghost use Rattle.brk_tables_form.specs.Statements.{Reads};
+ghost use Rattle.brk_tables_schema.specs.Statements.{Reads};
 
 use brk_changes::TradeRow;
 use brk_money::{Fault, Id, Stamp};
 use brk_ref::Symbol;
-use brk_tables_form::calls::select;
-use brk_tables_form::record::{all_rows, first_row};
-use brk_tables_form::values::{id_value, stamp_value, text_value};
+use brk_tables_schema::calls::select;
+use brk_tables_schema::record::{all_rows, first_row};
+use brk_tables_schema::values::{id_value, stamp_value, text_value};
 use sqlite::{Alter, Transaction};
 use std::alloc::Global;
 

@@ -11,10 +11,10 @@ use Rattle.sqlite_resolve.specs.declared.error.CompileError.TheVariants.{Mismatc
 use Rattle.sqlite.specs.State.{State, Shown, Begins, IsUnchanged}
 use Rattle.sqlite.specs.Clock.{timed}
 use Rattle.sqlite.proofs.Callers.{EndsIn, begins_shown}
-use Rattle.brk_rows.specs.Desk.{Desk, Stands, Tells}
-use Rattle.brk_rows.proofs.Effects.{same_value}
-use Rattle.brk_rows.proofs.Meant.{meant, known, when_understood}
-use Rattle.brk_rows.proofs.Pick.{selection}
+use Rattle.brk_sql.specs.Desk.{Desk, Stands, Tells}
+use Rattle.brk_sql.proofs.Effects.{same_value}
+use Rattle.brk_sql.proofs.Meant.{meant, known, when_understood}
+use Rattle.brk_sql.proofs.Pick.{selection}
 
 -- an open database that nothing is done to
 pub still : (s : State) → IsTrue s.is_open → IsUnchanged s s

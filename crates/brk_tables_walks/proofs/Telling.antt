@@ -8,15 +8,15 @@ use Rattle.sqlite_tied.proofs.RuleLemmas.{and_true}
 use Rattle.sqlite.specs.State.{State, Shown, Begins}
 use Rattle.brk_model.specs.Tables.{HoldingRow}
 use Rattle.brk_model.specs.Keys.{KeyPart, by_key, insert_row}
-use Rattle.brk_rows.specs.Desk.{Tells}
-use Rattle.brk_rows.proofs.Looks.{tells_sorted}
+use Rattle.brk_sql.specs.Desk.{Tells}
+use Rattle.brk_sql.proofs.Looks.{tells_sorted}
 use Rattle.brk_tables_walks.proofs.Starts.{tells_start}
-use Rattle.brk_rows.proofs.Texts.{read}
-use Rattle.brk_tables_form.specs.Cells.{nat, holding_cells}
-use Rattle.brk_tables_form.specs.Desk.{Holdings, desk}
-use Rattle.brk_tables_form.specs.Order.{by_key_values}
-use Rattle.brk_tables_form.proofs.Order.{key_total, inserted}
-use Rattle.brk_tables_form.proofs.Tests.{same_number}
+use Rattle.brk_sql.proofs.Texts.{read}
+use Rattle.brk_tables_schema.specs.Cells.{nat, holding_cells}
+use Rattle.brk_tables_schema.specs.Desk.{Holdings, desk}
+use Rattle.brk_tables_schema.specs.Order.{by_key_values}
+use Rattle.brk_tables_schema.proofs.Order.{key_total, inserted}
+use Rattle.brk_tables_schema.proofs.Tests.{same_number}
 use Rattle.brk_tables_walks.specs.Lists.{symbol_key, lots_by_symbol}
 use Rattle.brk_tables_walks.proofs.LotsBySymbol
 

@@ -4,17 +4,17 @@ use Rattle.std.specs.Prelude.{nat_le}
 use Rattle.sqlite_value.specs.Order.{Row, column, value_cmp}
 use Rattle.sqlite_tied.proofs.RuleLemmas.{and_true}
 use Rattle.sqlite.specs.State.{State, Shown, Begins}
-use Rattle.brk_rows.specs.Desk.{Tells}
-use Rattle.brk_rows.proofs.Looks.{tells_sorted}
+use Rattle.brk_sql.specs.Desk.{Tells}
+use Rattle.brk_sql.proofs.Looks.{tells_sorted}
 use Rattle.brk_tables_walks.proofs.Starts.{tells_start}
-use Rattle.brk_rows.proofs.Texts.{read}
-use Rattle.brk_tables_form.specs.Cells.{nat, move_cells}
-use Rattle.brk_tables_form.specs.Desk.{CashMoves, desk}
-use Rattle.brk_tables_form.specs.Order.{by_key_values}
-use Rattle.brk_tables_form.proofs.Order.{key_total}
+use Rattle.brk_sql.proofs.Texts.{read}
+use Rattle.brk_tables_schema.specs.Cells.{nat, move_cells}
+use Rattle.brk_tables_schema.specs.Desk.{CashMoves, desk}
+use Rattle.brk_tables_schema.specs.Order.{by_key_values}
+use Rattle.brk_tables_schema.proofs.Order.{key_total}
 use Rattle.brk_tables_walks.specs.Lists.{stamp_key, cash_between, is_between}
-use Rattle.brk_tables_form.proofs.Tests.{same_number}
-use Rattle.brk_tables_form.proofs.Compared.{at_least, at_most}
+use Rattle.brk_tables_schema.proofs.Tests.{same_number}
+use Rattle.brk_tables_schema.proofs.Compared.{at_least, at_most}
 use Rattle.brk_tables_walks.proofs.CashBetween
 use Rattle.brk_tables_walks.proofs.Telling.{second, sorted}
 

@@ -6,10 +6,10 @@ use Rattle.sqlite_keyed.proofs.ListLemmas.{map_back}
 use Rattle.sqlite.specs.Held.{Held, state}
 use Rattle.sqlite.specs.State.{HasCleanDisk, Survives, IsUnchanged, IsRolledBack, Shown, Begins}
 use Rattle.brk_model.specs.Tables.{Tables}
-use Rattle.brk_rows.specs.Desk.{Tells}
-use Rattle.brk_rows.proofs.Decode.{all_are}
-use Rattle.brk_rows.proofs.Order.{map_twice}
-use Rattle.brk_tables_form.specs.Desk.{desk}
+use Rattle.brk_sql.specs.Desk.{Tells}
+use Rattle.brk_sql.proofs.Decode.{all_are}
+use Rattle.brk_sql.proofs.Order.{map_twice}
+use Rattle.brk_tables_schema.specs.Desk.{desk}
 use Rattle.brk_tables_walks.specs.declared.walking.Stop.{Stop}
 use Rattle.brk_tables_walks.specs.declared.walking.Stop.TheVariants.{Failed, Cause}
 use Rattle.brk_tables_walks.specs.Walk.{TakesAll, EndsEarly}

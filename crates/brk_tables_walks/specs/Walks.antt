@@ -6,7 +6,7 @@ use Rattle.sqlite.specs.Held.{Held, state}
 use Rattle.sqlite.specs.State.{State, HasCleanDisk, Survives}
 use Rattle.brk_model.specs.Run.{MayFail}
 use Rattle.brk_model.specs.Tables.{Tables}
-use Rattle.brk_tables_form.specs.Made.{HasRows}
+use Rattle.brk_tables_schema.specs.Made.{HasRows}
 use Rattle.brk_tables_walks.specs.declared.walking.Stop.{Stop}
 use Rattle.brk_tables_walks.specs.declared.walking.Stop.TheVariants.{Failed, Cause}
 

@@ -9,7 +9,7 @@ use crate::visitor::Visitor;
 use crate::walking::{Stop, walk};
 use brk_changes::MoveRow;
 use brk_money::{Id, Stamp};
-use brk_tables_form::values::{id_value, stamp_value};
+use brk_tables_schema::values::{id_value, stamp_value};
 use sqlite::{Alter, Connection};
 
 /// Hands the cash rows of an account from one stamp to another, both included, to a visitor, by stamp, until it stops at one.

@@ -9,7 +9,7 @@ use crate::visitor::Visitor;
 use crate::walking::{Stop, walk};
 use brk_changes::HoldingRow;
 use brk_money::Id;
-use brk_tables_form::values::id_value;
+use brk_tables_schema::values::id_value;
 use sqlite::{Alter, Connection};
 
 /// Hands the lots of an account to a visitor, by symbol and then by the moment of opening, until it stops at one.

@@ -7,8 +7,8 @@ ghost use Rattle.brk_tables_walks.specs.Walk.{EndsEarly, IsQuery, TakesAll};
 
 use crate::visitor::Visitor;
 use brk_money::Fault;
-use brk_tables_form::misread::Misread;
-use brk_tables_form::record::Record;
+use brk_tables_schema::misread::Misread;
+use brk_tables_schema::record::Record;
 use sqlite::{Alter, Connection, Row};
 use sqlite_value::value::ValueRef;
 

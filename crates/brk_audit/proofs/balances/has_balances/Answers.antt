@@ -8,8 +8,8 @@ use Rattle.brk_ref.specs.Records.{account_row_of}
 use Rattle.brk_changes.specs.Rows.{move_row_of, trade_row_of}
 use Rattle.brk_changes.specs.Sheets.{tables_in_sheets}
 use Rattle.brk_changes.specs.declared.sheets.Sheets.{Sheets}
-use Rattle.brk_adoption_laws.proofs.Parts.{key_parts}
-use Rattle.brk_model_laws.proofs.FormParts.{form_parts}
+use Rattle.brk_audit_theorems.proofs.Parts.{key_parts}
+use Rattle.brk_model_theorems.proofs.FormParts.{form_parts}
 use Rattle.brk_audit.specs.declared.account_terms.AccountTerms.{AccountTerms}
 use Rattle.brk_audit.specs.AccountTerms.{tax_status_by, terms_of}
 use Rattle.brk_audit.specs.Settling.{amount_at, is_done_in_cash, tax_status_at}

@@ -8,13 +8,13 @@ use Rattle.brk_lots.specs.Chains.{plain_row}
 use Rattle.brk_model.specs.Audit.{Holds, expected}
 use Rattle.brk_model.specs.Keys.{holding_history_key, row_before}
 use Rattle.brk_model.specs.Tables.{Tables}
-use Rattle.brk_sound_laws.proofs.FormBack.{All-unmapped}
-use Rattle.brk_book_laws.proofs.Order.{Sorted}
+use Rattle.brk_invariant_theorems.proofs.FormBack.{All-unmapped}
+use Rattle.brk_book_theorems.proofs.Order.{Sorted}
 use Rattle.brk_audit.specs.Completed.{done_rows}
 use Rattle.brk_audit.specs.Positions.{place_before}
 use Rattle.brk_audit.proofs.LotRows.{all_moved, clash_apart, clash_moved, priced_rows, rows_moved}
 use Rattle.brk_audit.proofs.MoveRows.{moves_told}
-use Rattle.brk_book_laws.proofs.Orders.{sorted_by, sorted_map}
+use Rattle.brk_book_theorems.proofs.Orders.{sorted_by, sorted_map}
 use Rattle.brk_audit.proofs.Places.{key_order, place_order}
 use Rattle.brk_audit.proofs.Stretches.{seen}
 use Rattle.brk_audit.proofs.history.has_lot_history.Goals as goal

@@ -7,12 +7,12 @@ use Rattle.brk_changes.specs.Sheets.{tables_in_sheets}
 use Rattle.brk_changes.specs.declared.holding_row.HoldingRow as code
 use Rattle.brk_model.specs.Audit.{Holds, expected}
 use Rattle.brk_model.specs.Tables.{HoldingRow, Tables}
-use Rattle.brk_sound_laws.proofs.FormBack.{All-unmapped}
-use Rattle.brk_book_laws.proofs.Order.{Sorted}
+use Rattle.brk_invariant_theorems.proofs.FormBack.{All-unmapped}
+use Rattle.brk_book_theorems.proofs.Order.{Sorted}
 use Rattle.brk_audit.specs.Completed.{done_rows}
 use Rattle.brk_audit.specs.Positions.{place_before}
 use Rattle.brk_audit.proofs.LotRows.{all_moved, clash_apart, clash_moved, lots_told, priced_rows, rows_moved}
-use Rattle.brk_book_laws.proofs.Orders.{Ascends, ascends, ascends_map, sorted_by, sorted_map}
+use Rattle.brk_book_theorems.proofs.Orders.{Ascends, ascends, ascends_map, sorted_by, sorted_map}
 use Rattle.brk_audit.proofs.Places.{place_order}
 use Rattle.brk_audit.proofs.Stretches.{seen}
 use Rattle.brk_audit.proofs.lots.has_lots.Goals as goal

@@ -4,7 +4,7 @@ use Rattle.brk_model.specs.Keys.{band_key}
 use Rattle.brk_model.specs.Tests.{bands_meet}
 use Rattle.brk_ref.specs.Records.{band_of}
 use Rattle.brk_changes.specs.Schemas.{schema_of}
-use Rattle.brk_adoption_laws.proofs.Climbs.{climbs}
+use Rattle.brk_audit_theorems.proofs.Climbs.{climbs}
 use Rattle.brk_audit_form.proofs.BandsApart.{apart_told}
 use Rattle.brk_audit_form.proofs.bands.are_apart.Goals as goal
 

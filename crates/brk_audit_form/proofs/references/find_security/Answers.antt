@@ -4,7 +4,7 @@ use Rattle.std.specs.Cmp.Lexicographic.{slice_cmp}
 use Rattle.std.proofs.lemmas.Fn.{always_returns_same}
 use Rattle.brk_ref.specs.Records.{security_of}
 use Rattle.brk_changes.specs.Sheets.{tables_in_sheets}
-use Rattle.brk_adoption_laws.proofs.Parts.{key_parts}
+use Rattle.brk_audit_theorems.proofs.Parts.{key_parts}
 use Rattle.brk_audit_form.proofs.Searches.{word_found}
 use Rattle.brk_audit_form.proofs.Places.{word_placed, none_found}
 use Rattle.brk_audit_form.proofs.references.find_security.Goals as goal

@@ -3,7 +3,7 @@ use Rattle.std.specs.Prelude.{find}
 use Rattle.std.proofs.lemmas.List.Sorted.{answers_always}
 use Rattle.brk_changes.specs.Rows.{trade_row_of}
 use Rattle.brk_changes.specs.Sheets.{tables_in_sheets}
-use Rattle.brk_adoption_laws.proofs.Parts.{key_parts}
+use Rattle.brk_audit_theorems.proofs.Parts.{key_parts}
 use Rattle.brk_audit_form.proofs.Searches.{number_found}
 use Rattle.brk_audit_form.proofs.Places.{number_placed, none_found}
 use Rattle.brk_audit_form.proofs.references.find_trade.Goals as goal

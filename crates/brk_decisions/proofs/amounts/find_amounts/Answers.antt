@@ -1,8 +1,8 @@
 use Rattle.std.proofs.Common.{◌≡◌, ◌+ℤ◌, option_map}
 use Rattle.brk_money.specs.declared.fault.Fault.{Fault}
 use Rattle.brk_model.specs.Tables.{SummaryRow, Tables}
-use Rattle.brk_book_laws.specs.Reads.{rates_of}
-use Rattle.brk_book_laws.specs.TradeReads.{summary_in}
+use Rattle.brk_book_theorems.specs.Reads.{rates_of}
+use Rattle.brk_book_theorems.specs.TradeReads.{summary_in}
 use Rattle.brk_decisions.specs.Finds.{AreAmounts, worth_of}
 use Rattle.brk_decisions.specs.declared.amounts.Amounts.{Amounts}
 use Rattle.brk_decisions.proofs.Looking.{read_both}

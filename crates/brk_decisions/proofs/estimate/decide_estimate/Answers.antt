@@ -1,7 +1,7 @@
 use Rattle.std.proofs.Common.{rules}
 use Rattle.brk_orders.specs.Records.{order_of}
 use Rattle.brk_store.specs.Holds.{Holds}
-use Rattle.brk_trade_laws.specs.OrderPlans.{IsFoundForEstimate}
+use Rattle.brk_trade_theorems.specs.OrderPlans.{IsFoundForEstimate}
 use Rattle.brk_decisions.specs.Decisions.{Tells}
 use Rattle.brk_decisions.proofs.Deciding.{decided_on, read_at}
 use Rattle.brk_decisions.proofs.Ordering.{estimate_decided}

@@ -5,8 +5,8 @@ use Rattle.brk_ref.specs.Records.{last_trade_of}
 use Rattle.brk_ref.specs.declared.last_trade.LastTrade.{LastTrade}
 use Rattle.brk_changes.specs.Rows.{request_row_of}
 use Rattle.brk_plans.specs.declared.quote.Quote.{Quote}
-use Rattle.brk_book_laws.specs.TradeReads.{last_trade_in}
-use Rattle.brk_trade_laws.proofs.Waiting.{limit_buys, limit_sells, stop_losses}
+use Rattle.brk_book_theorems.specs.TradeReads.{last_trade_in}
+use Rattle.brk_trade_theorems.proofs.Waiting.{limit_buys, limit_sells, stop_losses}
 use Rattle.brk_decisions.proofs.Feeds.{IsQuoteOf, selected_quote}
 use Rattle.brk_store.proofs.Retelling.{retold}
 use Rattle.brk_decisions.proofs.Looking.{read_both}

@@ -6,8 +6,8 @@ use Rattle.brk_model.specs.Tables.{Tables}
 use Rattle.brk_orders.specs.declared.tick.Tick.{Tick}
 use Rattle.brk_plans.specs.Feed.{held, lacks_quote}
 use Rattle.brk_plans.specs.declared.quote.Quote.{Quote}
-use Rattle.brk_trade_laws.specs.TradePlans.{AreQuotes}
-use Rattle.brk_trade_laws.proofs.Quotes.{no_quotes}
+use Rattle.brk_trade_theorems.specs.TradePlans.{AreQuotes}
+use Rattle.brk_trade_theorems.proofs.Quotes.{no_quotes}
 use Rattle.brk_store.specs.Holds.{IsRead}
 use Rattle.brk_decisions.proofs.Feeds.{IsQuoteOf, Known, one_quoted, one_not_listed, one_read}
 use Rattle.brk_store.proofs.Retelling.{retold}

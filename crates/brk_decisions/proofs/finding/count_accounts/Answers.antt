@@ -1,8 +1,8 @@
 use Rattle.std.proofs.Common.{◌≡◌, ◌==◌, ◌∙◌, filter, map}
 use Rattle.brk_model.specs.Tables.{Tables}
 use Rattle.brk_ref.specs.Records.{account_row_of}
-use Rattle.brk_book_laws.specs.Reads.{accounts_of}
-use Rattle.brk_book_laws.proofs.Reading.{are_counted}
+use Rattle.brk_book_theorems.specs.Reads.{accounts_of}
+use Rattle.brk_book_theorems.proofs.Reading.{are_counted}
 use Rattle.brk_store.proofs.Retelling.{retold}
 use Rattle.brk_decisions.proofs.finding.count_accounts.Goals as goal
 

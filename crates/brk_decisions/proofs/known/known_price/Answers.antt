@@ -2,7 +2,7 @@ use Rattle.std.proofs.Common.{◌≡◌, Some, find, sym}
 use Rattle.std.specs.Prelude.{bytes_eq}
 use Rattle.brk_model.specs.Joins.{price_in}
 use Rattle.brk_model.specs.Tables.{LastTradeRow, Tables}
-use Rattle.brk_book_laws.specs.OrderReads.{last_price_in}
+use Rattle.brk_book_theorems.specs.OrderReads.{last_price_in}
 use Rattle.brk_store.proofs.Retelling.{retold}
 use Rattle.brk_decisions.proofs.OrderFinds.{price_there}
 use Rattle.brk_decisions.proofs.known.known_price.Goals as goal

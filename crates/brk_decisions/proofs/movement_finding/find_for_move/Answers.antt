@@ -2,8 +2,8 @@ use Rattle.std.proofs.Common.{◌≡◌, ◌+◌}
 use Rattle.brk_money.specs.declared.fault.Fault.{Fault}
 use Rattle.brk_model.specs.Tables.{Tables}
 use Rattle.brk_plans.specs.declared.movement.MoveFound.{MoveFound}
-use Rattle.brk_book_laws.specs.TradeReads.{last_move}
-use Rattle.brk_trade_laws.specs.MovePlans.{IsFoundForMove}
+use Rattle.brk_book_theorems.specs.TradeReads.{last_move}
+use Rattle.brk_trade_theorems.specs.MovePlans.{IsFoundForMove}
 use Rattle.brk_decisions.proofs.Looking.{read_both}
 use Rattle.brk_decisions.proofs.Moves.{BalanceKnown, CountKnown}
 use Rattle.brk_decisions.proofs.movement_finding.find_for_move.Goals as goal

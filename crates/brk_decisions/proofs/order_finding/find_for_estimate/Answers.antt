@@ -4,7 +4,7 @@ use Rattle.brk_model.specs.Tables as tables
 use Rattle.brk_model.specs.Tables.{Tables}
 use Rattle.brk_ref.specs.declared.account.AccountRow.{AccountRow}
 use Rattle.brk_ref.specs.Records.{account_row_of}
-use Rattle.brk_trade_laws.specs.OrderPlans.{IsFoundForEstimate}
+use Rattle.brk_trade_theorems.specs.OrderPlans.{IsFoundForEstimate}
 use Rattle.brk_decisions.specs.Finds.{IsFoundOf}
 use Rattle.brk_store.proofs.Retelling.{retold}
 use Rattle.brk_decisions.proofs.Looking.{read_both}

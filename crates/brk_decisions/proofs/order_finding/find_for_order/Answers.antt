@@ -1,8 +1,8 @@
 use Rattle.std.proofs.Common.{◌≡◌}
 use Rattle.brk_money.specs.declared.fault.Fault.{Fault}
 use Rattle.brk_model.specs.Tables.{Tables}
-use Rattle.brk_trade_laws.specs.OrderPlans.{IsFoundForEstimate, IsFoundForOrder}
-use Rattle.brk_book_laws.specs.OrderReads.{last_trade_in}
+use Rattle.brk_trade_theorems.specs.OrderPlans.{IsFoundForEstimate, IsFoundForOrder}
+use Rattle.brk_book_theorems.specs.OrderReads.{last_trade_in}
 use Rattle.brk_decisions.proofs.Looking.{read_both}
 use Rattle.brk_decisions.proofs.OrderFinds.{with_last_trade}
 use Rattle.brk_decisions.proofs.order_finding.find_for_order.Goals as goal

@@ -2,7 +2,7 @@ use Rattle.std.proofs.Common.{◌≡◌}
 use Rattle.brk_money.specs.declared.fault.Fault.{Fault}
 use Rattle.brk_model.specs.Tables.{Tables}
 use Rattle.brk_ref.specs.Records.{account_row_of}
-use Rattle.brk_book_laws.specs.Reads.{rates_of}
+use Rattle.brk_book_theorems.specs.Reads.{rates_of}
 use Rattle.brk_decisions.specs.Finds.{IsCustomer}
 use Rattle.brk_decisions.specs.ResultFinds.{AreNumbers, AreParties}
 use Rattle.brk_decisions.proofs.Looking.{read_both}

@@ -4,7 +4,7 @@ use Rattle.brk_money.specs.declared.fault.Fault.{Fault}
 use Rattle.brk_model.specs.Joins.{security_in}
 use Rattle.brk_model.specs.Records.{Band}
 use Rattle.brk_model.specs.Tables.{SecurityRow, Tables}
-use Rattle.brk_book_laws.specs.TradeReads.{band_in}
+use Rattle.brk_book_theorems.specs.TradeReads.{band_in}
 use Rattle.brk_decisions.specs.ResultFinds.{IsListedAs, IsSecurity}
 use Rattle.brk_decisions.specs.declared.result_finding.Listed.{Listed}
 use Rattle.brk_decisions.proofs.Looking.{read_both}

@@ -1,7 +1,7 @@
 use Rattle.std.proofs.Common.{◌≡◌, option_map}
 use Rattle.brk_money.specs.declared.fault.Fault.{Fault}
 use Rattle.brk_model.specs.Tables.{SummaryRow, Tables}
-use Rattle.brk_book_laws.specs.TradeReads.{summary_in}
+use Rattle.brk_book_theorems.specs.TradeReads.{summary_in}
 use Rattle.brk_decisions.specs.ResultFinds.{IsFoundOf, IsPosting}
 use Rattle.brk_decisions.proofs.Looking.{read_both}
 use Rattle.brk_decisions.proofs.ResultReading.{OwnerKnown, SecurityKnown, SummaryKnown, found_known, found_with}

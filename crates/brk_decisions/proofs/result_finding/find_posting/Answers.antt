@@ -1,7 +1,7 @@
 use Rattle.std.proofs.Common.{◌≡◌, ◌+◌}
 use Rattle.brk_money.specs.declared.fault.Fault.{Fault}
 use Rattle.brk_model.specs.Tables.{Tables}
-use Rattle.brk_book_laws.specs.TradeReads.{last_move}
+use Rattle.brk_book_theorems.specs.TradeReads.{last_move}
 use Rattle.brk_decisions.specs.ResultFinds.{IsPosting}
 use Rattle.brk_decisions.specs.declared.result_finding.Posting.{Posting}
 use Rattle.brk_decisions.proofs.Looking.{read_both}

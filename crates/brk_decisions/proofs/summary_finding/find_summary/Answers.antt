@@ -2,7 +2,7 @@ use Rattle.std.proofs.Common.{◌≡◌, ◌==◌, ◌∙◌, ap, find, option_m
 use Rattle.std.specs.Prelude.{◌&&◌, bytes_eq}
 use Rattle.brk_model.specs.Tables.{SummaryRow, Tables}
 use Rattle.brk_changes.specs.Rows.{summary_row_of}
-use Rattle.brk_book_laws.specs.TradeReads.{summary_in}
+use Rattle.brk_book_theorems.specs.TradeReads.{summary_in}
 use Rattle.brk_store.proofs.Retelling.{retold}
 use Rattle.brk_decisions.proofs.ResultReading.{number_in}
 use Rattle.brk_decisions.proofs.summary_finding.find_summary.Goals as goal

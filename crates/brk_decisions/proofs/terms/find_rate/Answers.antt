@@ -3,7 +3,7 @@ use Rattle.brk_model.specs.Records.{TaxRate}
 use Rattle.brk_model.specs.Tables.{Tables}
 use Rattle.brk_ref.specs.Records.{tax_of}
 use Rattle.brk_ref.specs.declared.tax.Tax.{Tax}
-use Rattle.brk_book_laws.specs.Reads.{rate_of}
+use Rattle.brk_book_theorems.specs.Reads.{rate_of}
 use Rattle.brk_store.proofs.Retelling.{retold}
 use Rattle.brk_decisions.proofs.terms.find_rate.Goals as goal
 

@@ -3,8 +3,8 @@ use Rattle.std.specs.Prelude.{◌&&◌}
 use Rattle.brk_money.specs.Kinds.{same_type}
 use Rattle.brk_model.specs.Tables.{Tables}
 use Rattle.brk_ref.specs.Records.{charge_of}
-use Rattle.brk_book_laws.specs.Reads.{has_charge}
-use Rattle.brk_book_laws.proofs.Reading.{is_there}
+use Rattle.brk_book_theorems.specs.Reads.{has_charge}
+use Rattle.brk_book_theorems.proofs.Reading.{is_there}
 use Rattle.brk_store.proofs.Retelling.{retold}
 use Rattle.brk_decisions.proofs.terms.is_charge_there.Goals as goal
 

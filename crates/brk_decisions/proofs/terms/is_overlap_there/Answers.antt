@@ -6,7 +6,7 @@ use Rattle.brk_model.specs.Records.{Band}
 use Rattle.brk_model.specs.Tables.{Tables}
 use Rattle.brk_model.specs.Tests.{bands_meet}
 use Rattle.brk_ref.specs.Records.{band_of}
-use Rattle.brk_book_laws.specs.Reads.{has_overlap}
+use Rattle.brk_book_theorems.specs.Reads.{has_overlap}
 use Rattle.brk_store.proofs.Retelling.{retold}
 use Rattle.brk_decisions.proofs.terms.is_overlap_there.Goals as goal
 

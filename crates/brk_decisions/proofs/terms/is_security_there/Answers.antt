@@ -2,8 +2,8 @@ use Rattle.std.proofs.Common.{◌≡◌, ◌∙◌, find, option_map}
 use Rattle.std.specs.Prelude.{bytes_eq}
 use Rattle.brk_model.specs.Tables.{Tables}
 use Rattle.brk_ref.specs.Records.{security_of}
-use Rattle.brk_book_laws.specs.Reads.{has_security}
-use Rattle.brk_book_laws.proofs.Reading.{is_there}
+use Rattle.brk_book_theorems.specs.Reads.{has_security}
+use Rattle.brk_book_theorems.proofs.Reading.{is_there}
 use Rattle.brk_store.proofs.Retelling.{retold}
 use Rattle.brk_decisions.proofs.terms.is_security_there.Goals as goal
 

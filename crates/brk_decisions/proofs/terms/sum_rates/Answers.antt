@@ -3,8 +3,8 @@ use Rattle.std.specs.Prelude.{SomeIff, sum_by}
 use Rattle.brk_model.specs.Limits.{greatest_tax_rate}
 use Rattle.brk_model.specs.Tables.{Tables}
 use Rattle.brk_ref.specs.Records.{tax_of}
-use Rattle.brk_book_laws.specs.Reads.{rates_of, tax_rate_of}
-use Rattle.brk_book_laws.proofs.TermReading.{taxes_found}
+use Rattle.brk_book_theorems.specs.Reads.{rates_of, tax_rate_of}
+use Rattle.brk_book_theorems.proofs.TermReading.{taxes_found}
 use Rattle.brk_store.proofs.Retelling.{retold}
 use Rattle.brk_decisions.proofs.terms.sum_rates.Goals as goal
 

@@ -6,7 +6,7 @@ use Rattle.brk_model.specs.Tables.{Tables}
 use Rattle.brk_ref.specs.Records.{customer_tax_of, tax_of}
 use Rattle.brk_ref.specs.declared.customer_tax.CustomerTax as ref
 use Rattle.brk_ref.specs.declared.tax.Tax.{Tax}
-use Rattle.brk_book_laws.specs.Reads.{tax_rate_of}
+use Rattle.brk_book_theorems.specs.Reads.{tax_rate_of}
 use Rattle.brk_store.proofs.Retelling.{retold}
 use Rattle.brk_decisions.proofs.Looking.{read_both}
 use Rattle.brk_decisions.proofs.terms.taxes_of.Goals as goal

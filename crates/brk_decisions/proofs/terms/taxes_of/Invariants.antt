@@ -1,7 +1,7 @@
 use Rattle.std.proofs.Common.{◌≡◌, ◌==◌, Ok, Some, filter, map, take}
 use Rattle.brk_money.specs.declared.fault.Fault.{Fault}
 use Rattle.brk_ref.specs.Records.{customer_tax_of, tax_of}
-use Rattle.brk_book_laws.specs.Reads.{tax_rate_of}
+use Rattle.brk_book_theorems.specs.Reads.{tax_rate_of}
 use Rattle.brk_store.specs.Holds.{IsRead}
 use Rattle.brk_decisions.proofs.terms.taxes_of.Given as goal
 

@@ -4,7 +4,7 @@ use Rattle.brk_money.specs.Kinds.{same_type}
 use Rattle.brk_model.specs.Records.{Band}
 use Rattle.brk_model.specs.Tables.{Tables}
 use Rattle.brk_ref.specs.Records.{band_of}
-use Rattle.brk_book_laws.specs.TradeReads.{band_in}
+use Rattle.brk_book_theorems.specs.TradeReads.{band_in}
 use Rattle.brk_store.proofs.Retelling.{retold}
 use Rattle.brk_decisions.proofs.tested.find_band_rate.Goals as goal
 

@@ -5,7 +5,7 @@ use Rattle.brk_model.specs.Tables.{Tables}
 use Rattle.brk_money.specs.Kinds.{same_type}
 use Rattle.brk_ref.specs.Records.{charge_of}
 use Rattle.brk_ref.specs.declared.charge.Charge as ref
-use Rattle.brk_book_laws.specs.OrderReads.{charge_in}
+use Rattle.brk_book_theorems.specs.OrderReads.{charge_in}
 use Rattle.brk_store.proofs.Retelling.{retold}
 use Rattle.brk_decisions.proofs.tested.find_charge.Goals as goal
 

@@ -7,7 +7,7 @@ use Rattle.brk_model.specs.Joins.{security_in}
 use Rattle.brk_model.specs.Tables.{SecurityRow, Tables}
 use Rattle.brk_ref.specs.Records.{security_of}
 use Rattle.brk_ref.specs.declared.security.Security.{Security}
-use Rattle.brk_book_laws.specs.TradeReads.{band_in}
+use Rattle.brk_book_theorems.specs.TradeReads.{band_in}
 use Rattle.brk_store.proofs.Retelling.{retold}
 use Rattle.brk_decisions.proofs.Looking.{read_both}
 use Rattle.brk_decisions.proofs.tested.find_order_rate.Goals as goal

@@ -3,7 +3,7 @@ use Rattle.std.specs.Prelude.{◌&&◌, bytes_eq, option_to_list}
 use Rattle.brk_model.specs.Orders.{permitted}
 use Rattle.brk_model.specs.Tables.{Tables}
 use Rattle.brk_ref.specs.Records.{customer_of, executor_of, permission_of}
-use Rattle.brk_book_laws.specs.TradeReads.{permission_in}
+use Rattle.brk_book_theorems.specs.TradeReads.{permission_in}
 use Rattle.brk_store.proofs.Retelling.{retold}
 use Rattle.brk_decisions.proofs.OrderFinds.{listed}
 use Rattle.brk_decisions.proofs.tested.find_permission.Goals as goal

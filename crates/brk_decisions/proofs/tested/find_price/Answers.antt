@@ -3,7 +3,7 @@ use Rattle.std.specs.Prelude.{bytes_eq}
 use Rattle.brk_model.specs.Tables.{LastTradeRow, Tables}
 use Rattle.brk_ref.specs.Records.{last_trade_of}
 use Rattle.brk_ref.specs.declared.last_trade.LastTrade.{LastTrade}
-use Rattle.brk_book_laws.specs.OrderReads.{last_price_in}
+use Rattle.brk_book_theorems.specs.OrderReads.{last_price_in}
 use Rattle.brk_store.proofs.Retelling.{retold}
 use Rattle.brk_decisions.proofs.tested.find_price.Goals as goal
 

@@ -5,7 +5,7 @@ use Rattle.brk_model.specs.PositionView.{asset_total}
 use Rattle.brk_model.specs.Tables.{AccountRow, Tables}
 use Rattle.brk_ref.specs.declared.account.AccountRow as account
 use Rattle.brk_ref.specs.Records.{account_row_of}
-use Rattle.brk_book_laws.proofs.Places.{find-at}
+use Rattle.brk_book_theorems.proofs.Places.{find-at}
 use Rattle.brk_store.proofs.Retelling.{retold}
 use Rattle.brk_decisions.specs.Finds.{worth_of}
 use Rattle.brk_decisions.proofs.Looking.{read_both}

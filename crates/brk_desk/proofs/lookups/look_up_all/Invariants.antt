@@ -5,8 +5,8 @@ use Rattle.brk_model.specs.Base.{Base}
 use Rattle.brk_model.specs.LookupView.{lookup_records}
 use Rattle.brk_model.specs.Sheets.{sheets}
 use Rattle.brk_store.specs.Holds.{IsRead}
-use Rattle.brk_sound_laws.specs.Sound.{IsSound}
-use Rattle.brk_book_laws.specs.Books.{IsBooks}
+use Rattle.brk_invariant_theorems.specs.Sound.{IsSound}
+use Rattle.brk_book_theorems.specs.Books.{IsBooks}
 use Rattle.brk_view.specs.Lookup.{looked_up_records}
 use Rattle.brk_desk.proofs.lookups.look_up_all.Given as goal
 

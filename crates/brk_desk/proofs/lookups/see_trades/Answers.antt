@@ -11,7 +11,7 @@ use Rattle.brk_model.specs.Joins.{trade_in}
 use Rattle.brk_model.specs.Queries.{TradesWith}
 use Rattle.brk_model.specs.Tables.{Tables}
 use Rattle.brk_store.proofs.Retelling.{retold}
-use Rattle.brk_update_laws.specs.Corrections.{AreTradesOf}
+use Rattle.brk_update_theorems.specs.Corrections.{AreTradesOf}
 use Rattle.brk_decisions.proofs.Looking.{read_both}
 use Rattle.brk_view.specs.declared.view.View.{View}
 use Rattle.brk_desk.specs.LookedUp.{AreLookedUp}

@@ -1,9 +1,9 @@
 use Rattle.std.proofs.Common.{None, Option, List, ℕ, Some, IfSome}
 use Rattle.sqlite.specs.Held.{state}
 use Rattle.sqlite.specs.State.{HasCleanDisk}
-use Rattle.brk_booking.specs.Booked.{KeepsBase}
+use Rattle.brk_commit.specs.Booked.{KeepsBase}
 use Rattle.brk_model.specs.Run.{Answers}
-use Rattle.brk_serving.proofs.Promised.{keeps}
+use Rattle.brk_http_engine.proofs.Promised.{keeps}
 use Rattle.brk_http.specs.Acts.{DeskActs}
 use Rattle.brk_http.specs.Forms.{known_forms}
 use Rattle.brk_http.proofs.Acted.{earlier, steps}

@@ -1,6 +1,6 @@
 use Rattle.brk_model.specs.Input.{text_of}
 use Rattle.brk_model.specs.Parse.{parse_by, readers}
-use Rattle.brk_model_laws.proofs.StoppedLaws.{end-apart}
+use Rattle.brk_model_theorems.proofs.StoppedLaws.{end-apart}
 use Rattle.brk_import.proofs.SentAgain.{sent_again}
 use Rattle.brk_import.proofs.sent_again.a_stopped_batch_is_sent_again.Goals as goal
 

@@ -2,7 +2,7 @@ use Rattle.std.proofs.Common.{Bool, true, Ok, subst}
 use Rattle.sqlite.specs.Held.{state}
 use Rattle.brk_money.specs.declared.fault.Fault.{Fault}
 use Rattle.brk_changes.specs.declared.schema.Schema.TheVariants.{Third}
-use Rattle.brk_rows.specs.Model.{IsStep}
+use Rattle.brk_sql.specs.Model.{IsStep}
 use Rattle.brk_store.proofs.Answering.{Asked, desk_told}
 use Rattle.brk_store.proofs.auditing.first_failing.Goals as goal
 

@@ -1,8 +1,8 @@
 use Rattle.std.proofs.Common.{◌≡◌, Ok, Err, subst, rules}
 use Rattle.brk_money.specs.declared.fault.Fault.{Fault}
 use Rattle.brk_money.specs.declared.fault.Fault.TheVariants.{Store}
-use Rattle.brk_rows.specs.Desk.{Turns}
-use Rattle.brk_tables_form.specs.Desk.{desk}
+use Rattle.brk_sql.specs.Desk.{Turns}
+use Rattle.brk_tables_schema.specs.Desk.{desk}
 use Rattle.brk_changes.specs.Changes.{after_changes}
 use Rattle.brk_store.specs.Holds.{IsApplied}
 use Rattle.brk_store.proofs.Ending.{after_look, applies, applies_none, open_at_look}

@@ -4,11 +4,11 @@ use Rattle.std.proofs.lemmas.List.Sums.{fold_more}
 use Rattle.sqlite.specs.Held.{state}
 use Rattle.brk_money.specs.declared.fault.Fault.{Fault}
 use Rattle.brk_model.specs.Tables.{Tables}
-use Rattle.brk_rows.proofs.Inside.{step_then}
-use Rattle.brk_rows.proofs.Strangers.{spares_then}
-use Rattle.brk_rows.specs.Desk.{HasTables, Turns}
-use Rattle.brk_rows.specs.Model.{IsStep}
-use Rattle.brk_tables_form.specs.Desk.{desk}
+use Rattle.brk_sql.proofs.Inside.{step_then}
+use Rattle.brk_sql.proofs.Strangers.{spares_then}
+use Rattle.brk_sql.specs.Desk.{HasTables, Turns}
+use Rattle.brk_sql.specs.Model.{IsStep}
+use Rattle.brk_tables_schema.specs.Desk.{desk}
 use Rattle.brk_changes.specs.Changes.{after_change, after_changes}
 use Rattle.brk_changes.specs.declared.change.Change.{Change}
 use Rattle.brk_store.proofs.Making.{none_made}

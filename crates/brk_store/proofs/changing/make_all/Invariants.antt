@@ -1,9 +1,9 @@
 use Rattle.std.proofs.Common.{◌≡◌, Ok, take}
 use Rattle.sqlite.specs.Held.{state}
 use Rattle.brk_money.specs.declared.fault.Fault.{Fault}
-use Rattle.brk_rows.specs.Model.{IsStep}
-use Rattle.brk_rows.specs.Desk.{Turns}
-use Rattle.brk_tables_form.specs.Desk.{desk}
+use Rattle.brk_sql.specs.Model.{IsStep}
+use Rattle.brk_sql.specs.Desk.{Turns}
+use Rattle.brk_tables_schema.specs.Desk.{desk}
 use Rattle.brk_changes.specs.Changes.{after_changes}
 use Rattle.brk_store.proofs.changing.make_all.Given as goal
 

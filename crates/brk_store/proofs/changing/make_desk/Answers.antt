@@ -2,9 +2,9 @@ use Rattle.std.proofs.Common.{◌≡◌, ◌∙◌, false, Ok, Err, subst, sym, 
 use Rattle.sqlite.specs.Effect.{Database}
 use Rattle.sqlite.specs.Held.{state}
 use Rattle.brk_money.specs.declared.fault.Fault.TheVariants.{Store}
-use Rattle.brk_rows.proofs.Inside.{step_then}
-use Rattle.brk_tables_making.specs.Made.{MakesDesk}
-use Rattle.brk_tables_making.specs.Present.{has_table_of_desk}
+use Rattle.brk_sql.proofs.Inside.{step_then}
+use Rattle.brk_tables_create.specs.Made.{MakesDesk}
+use Rattle.brk_tables_create.specs.Present.{has_table_of_desk}
 use Rattle.brk_store.specs.Holds.{IsCreated}
 use Rattle.brk_store.proofs.Ending.{begun, creates, commits_none}
 use Rattle.brk_store.proofs.changing.make_desk.Goals as goal

@@ -1,8 +1,8 @@
 use Rattle.std.proofs.Common.{◌∙◌, ap, subst}
 use Rattle.sqlite_value.specs.declared.value.Value.TheVariants.{Text as Words}
 use Rattle.sqlite.specs.Held.{state}
-use Rattle.brk_rows.specs.Model.{Ran}
-use Rattle.brk_rows.proofs.Inside.{step_weaker}
+use Rattle.brk_sql.specs.Model.{Ran}
+use Rattle.brk_sql.proofs.Inside.{step_weaker}
 use Rattle.brk_changes.specs.Rows.{move_row_of}
 use Rattle.brk_tables_cash.proofs.AddMove
 use Rattle.brk_tables_cash.proofs.CashWrites.{adds_move, params_are}

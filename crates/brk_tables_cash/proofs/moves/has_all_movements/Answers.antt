@@ -4,10 +4,10 @@ use Rattle.std.proofs.lemmas.List.{length-drop, length-map}
 use Rattle.sqlite.specs.Held.{state}
 use Rattle.brk_model.specs.Limits.{greatest_id}
 use Rattle.brk_model.specs.Tables.{MoveRow}
-use Rattle.brk_rows.specs.Model.{Looks, Selected}
-use Rattle.brk_rows.proofs.Inside.{step_read}
-use Rattle.brk_tables_form.specs.Cells.{nat, move_cells}
-use Rattle.brk_tables_form.specs.Desk.{desk}
+use Rattle.brk_sql.specs.Model.{Looks, Selected}
+use Rattle.brk_sql.proofs.Inside.{step_read}
+use Rattle.brk_tables_schema.specs.Cells.{nat, move_cells}
+use Rattle.brk_tables_schema.specs.Desk.{desk}
 use Rattle.brk_tables_cash.proofs.MovementBehind
 use Rattle.brk_tables_cash.proofs.MovementBehind.{plain}
 use Rattle.brk_tables_cash.proofs.CashReads.{tells_movement}

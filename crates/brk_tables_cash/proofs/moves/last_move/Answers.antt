@@ -2,10 +2,10 @@ use Rattle.std.proofs.Common.{◌≡◌, List, [], ◌∷◌, take, reverse, sli
 use Rattle.sqlite.specs.Held.{state}
 use Rattle.brk_changes.specs.Rows.{move_row_of}
 use Rattle.brk_model.specs.Tables.{Tables, MoveRow}
-use Rattle.brk_rows.proofs.Answer.{look_first}
-use Rattle.brk_tables_form.specs.Cells.{move_cells}
-use Rattle.brk_tables_form.specs.Desk.{desk}
-use Rattle.brk_tables_form.proofs.Back.{move_back, move_is_back}
+use Rattle.brk_sql.proofs.Answer.{look_first}
+use Rattle.brk_tables_schema.specs.Cells.{move_cells}
+use Rattle.brk_tables_schema.specs.Desk.{desk}
+use Rattle.brk_tables_schema.proofs.Back.{move_back, move_is_back}
 use Rattle.brk_tables_cash.proofs.LastMove
 use Rattle.brk_tables_cash.proofs.LastMove.{plain}
 use Rattle.brk_tables_cash.proofs.CashReads.{tells_last_move}

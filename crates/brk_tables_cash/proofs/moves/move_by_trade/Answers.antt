@@ -4,10 +4,10 @@ use Rattle.sqlite.specs.Held.{state}
 use Rattle.brk_changes.specs.Rows.{move_row_of}
 use Rattle.brk_model.specs.LookupView.{is_cash_of}
 use Rattle.brk_model.specs.Tables.{Tables}
-use Rattle.brk_rows.proofs.Answer.{look_first}
-use Rattle.brk_tables_form.specs.Cells.{nat, move_cells}
-use Rattle.brk_tables_form.specs.Desk.{desk}
-use Rattle.brk_tables_form.proofs.Back.{move_back, move_is_back}
+use Rattle.brk_sql.proofs.Answer.{look_first}
+use Rattle.brk_tables_schema.specs.Cells.{nat, move_cells}
+use Rattle.brk_tables_schema.specs.Desk.{desk}
+use Rattle.brk_tables_schema.proofs.Back.{move_back, move_is_back}
 use Rattle.brk_tables_cash.proofs.MoveByTrade
 use Rattle.brk_tables_cash.proofs.MoveByTrade.{plain}
 use Rattle.brk_tables_cash.proofs.CashReads.{tells_move}

@@ -1,5 +1,5 @@
 use Rattle.sqlite.specs.Held.{state}
-use Rattle.brk_rows.proofs.Inside.{step_weaker}
+use Rattle.brk_sql.proofs.Inside.{step_weaker}
 use Rattle.brk_tables_cash.proofs.CashWrites.{removes_cash}
 use Rattle.brk_tables_cash.proofs.moving.remove_cash_rows.Goals as goal
 

@@ -1,5 +1,5 @@
 use Rattle.sqlite.specs.Held.{state}
-use Rattle.brk_rows.proofs.Inside.{step_weaker}
+use Rattle.brk_sql.proofs.Inside.{step_weaker}
 use Rattle.brk_tables_cash.proofs.CashWrites.{raises}
 use Rattle.brk_tables_cash.proofs.moving.set_schema.Goals as goal
 

@@ -1,11 +1,11 @@
 use Rattle.std.proofs.Common.{ℕ, List, [], ◌∷◌, Option, Some, None, map, ◌≡◌, refl, ap, sym, ◌∙◌}
 use Rattle.sqlite.specs.Held.{state}
 use Rattle.brk_model.specs.Tables.{Tables}
-use Rattle.brk_rows.proofs.Answer.{look_all}
-use Rattle.brk_rows.proofs.Inside.{step_weaker}
-use Rattle.brk_tables_form.specs.Cells.{RuleRow, rule_cells}
-use Rattle.brk_tables_form.specs.Desk.{desk, rule_rows}
-use Rattle.brk_tables_form.proofs.Back.{rule_back, rule_is_back}
+use Rattle.brk_sql.proofs.Answer.{look_all}
+use Rattle.brk_sql.proofs.Inside.{step_weaker}
+use Rattle.brk_tables_schema.specs.Cells.{RuleRow, rule_cells}
+use Rattle.brk_tables_schema.specs.Desk.{desk, rule_rows}
+use Rattle.brk_tables_schema.proofs.Back.{rule_back, rule_is_back}
 use Rattle.brk_tables_cash.proofs.RuleRows
 use Rattle.brk_tables_cash.proofs.RuleRows.{plain}
 use Rattle.brk_tables_cash.proofs.CashReads.{tells_rule}

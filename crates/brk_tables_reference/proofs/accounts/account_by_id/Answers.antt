@@ -3,11 +3,11 @@ use Rattle.sqlite_value.specs.declared.value.Value.TheVariants.{Int}
 use Rattle.sqlite_keyed.proofs.ListLemmas.{slice_get-filter}
 use Rattle.sqlite.specs.Held.{state}
 use Rattle.brk_model.specs.Tables.{AccountRow}
-use Rattle.brk_rows.proofs.Answer.{look_first}
-use Rattle.brk_tables_form.specs.Cells.{account_cells}
-use Rattle.brk_tables_form.specs.Desk.{desk}
+use Rattle.brk_sql.proofs.Answer.{look_first}
+use Rattle.brk_tables_schema.specs.Cells.{account_cells}
+use Rattle.brk_tables_schema.specs.Desk.{desk}
 use Rattle.brk_ref.specs.Records.{account_row_of}
-use Rattle.brk_tables_form.proofs.Back.{account_back, account_is_back}
+use Rattle.brk_tables_schema.proofs.Back.{account_back, account_is_back}
 use Rattle.brk_tables_reference.proofs.AccountById
 use Rattle.brk_tables_reference.proofs.AccountById.{plain}
 use Rattle.brk_tables_reference.proofs.Steps.{tells_account}

@@ -2,11 +2,11 @@ use Rattle.std.proofs.Common.{◌==◌, pos, [], ◌∷◌, filter}
 use Rattle.sqlite_value.specs.declared.value.Value.TheVariants.{Int}
 use Rattle.sqlite.specs.Held.{state}
 use Rattle.brk_model.specs.Tables.{AccountRow}
-use Rattle.brk_rows.proofs.Answer.{look_all}
-use Rattle.brk_tables_form.specs.Cells.{account_cells}
-use Rattle.brk_tables_form.specs.Desk.{desk}
+use Rattle.brk_sql.proofs.Answer.{look_all}
+use Rattle.brk_tables_schema.specs.Cells.{account_cells}
+use Rattle.brk_tables_schema.specs.Desk.{desk}
 use Rattle.brk_ref.specs.Records.{account_row_of}
-use Rattle.brk_tables_form.proofs.Back.{account_back, account_is_back}
+use Rattle.brk_tables_schema.proofs.Back.{account_back, account_is_back}
 use Rattle.brk_tables_reference.proofs.AccountsOfCustomer
 use Rattle.brk_tables_reference.proofs.AccountsOfCustomer.{plain}
 use Rattle.brk_tables_reference.proofs.Steps.{tells_accounts}

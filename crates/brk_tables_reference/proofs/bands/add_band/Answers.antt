@@ -1,6 +1,6 @@
 use Rattle.sqlite.specs.Held.{state}
 use Rattle.brk_ref.specs.Records.{band_of}
-use Rattle.brk_rows.proofs.Inside.{step_weaker}
+use Rattle.brk_sql.proofs.Inside.{step_weaker}
 use Rattle.brk_tables_reference.proofs.ReferenceAdds.{adds_band}
 use Rattle.brk_tables_reference.proofs.bands.add_band.Goals as goal
 

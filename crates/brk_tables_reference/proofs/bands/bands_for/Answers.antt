@@ -5,10 +5,10 @@ use Rattle.sqlite.specs.Held.{state}
 use Rattle.brk_money.specs.Kinds.{type_code, same_type}
 use Rattle.brk_ref.specs.Records.{band_of}
 use Rattle.brk_model.specs.Records.{Band}
-use Rattle.brk_rows.proofs.Answer.{look_all}
-use Rattle.brk_tables_form.specs.Cells.{band_cells}
-use Rattle.brk_tables_form.specs.Desk.{desk}
-use Rattle.brk_tables_form.proofs.Back.{band_back, band_is_back}
+use Rattle.brk_sql.proofs.Answer.{look_all}
+use Rattle.brk_tables_schema.specs.Cells.{band_cells}
+use Rattle.brk_tables_schema.specs.Desk.{desk}
+use Rattle.brk_tables_schema.proofs.Back.{band_back, band_is_back}
 use Rattle.brk_tables_reference.proofs.BandsFor
 use Rattle.brk_tables_reference.proofs.BandsFor.{plain}
 use Rattle.brk_tables_reference.proofs.ReferenceReads.{tells_bands}

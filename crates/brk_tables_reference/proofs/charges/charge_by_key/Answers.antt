@@ -5,10 +5,10 @@ use Rattle.sqlite.specs.Held.{state}
 use Rattle.brk_money.specs.Kinds.{type_code, same_type}
 use Rattle.brk_ref.specs.Records.{charge_of}
 use Rattle.brk_model.specs.Records.{Charge}
-use Rattle.brk_rows.proofs.Answer.{look_first}
-use Rattle.brk_tables_form.specs.Cells.{charge_cells}
-use Rattle.brk_tables_form.specs.Desk.{desk}
-use Rattle.brk_tables_form.proofs.Back.{charge_back, charge_is_back}
+use Rattle.brk_sql.proofs.Answer.{look_first}
+use Rattle.brk_tables_schema.specs.Cells.{charge_cells}
+use Rattle.brk_tables_schema.specs.Desk.{desk}
+use Rattle.brk_tables_schema.proofs.Back.{charge_back, charge_is_back}
 use Rattle.brk_tables_reference.proofs.ChargeByKey
 use Rattle.brk_tables_reference.proofs.ChargeByKey.{plain}
 use Rattle.brk_tables_reference.proofs.ReferenceReads.{tells_charge}

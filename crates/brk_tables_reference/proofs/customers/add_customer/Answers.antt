@@ -1,6 +1,6 @@
 use Rattle.sqlite.specs.Held.{state}
 use Rattle.brk_ref.specs.Records.{customer_of}
-use Rattle.brk_rows.proofs.Inside.{step_weaker}
+use Rattle.brk_sql.proofs.Inside.{step_weaker}
 use Rattle.brk_tables_reference.proofs.Steps.{adds_customer}
 use Rattle.brk_tables_reference.proofs.customers.add_customer.Goals as goal
 

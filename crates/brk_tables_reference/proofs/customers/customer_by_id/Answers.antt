@@ -4,10 +4,10 @@ use Rattle.sqlite_keyed.proofs.ListLemmas.{slice_get-filter}
 use Rattle.sqlite.specs.Held.{state}
 use Rattle.brk_ref.specs.Records.{customer_of}
 use Rattle.brk_model.specs.Records.{Customer}
-use Rattle.brk_rows.proofs.Answer.{look_first}
-use Rattle.brk_tables_form.specs.Cells.{customer_cells}
-use Rattle.brk_tables_form.specs.Desk.{desk}
-use Rattle.brk_tables_form.proofs.Back.{customer_back, customer_is_back}
+use Rattle.brk_sql.proofs.Answer.{look_first}
+use Rattle.brk_tables_schema.specs.Cells.{customer_cells}
+use Rattle.brk_tables_schema.specs.Desk.{desk}
+use Rattle.brk_tables_schema.proofs.Back.{customer_back, customer_is_back}
 use Rattle.brk_tables_reference.proofs.CustomerById
 use Rattle.brk_tables_reference.proofs.CustomerById.{plain}
 use Rattle.brk_tables_reference.proofs.Steps.{tells_customer}

@@ -5,10 +5,10 @@ use Rattle.sqlite_keyed.proofs.ListLemmas.{slice_get-filter}
 use Rattle.sqlite.specs.Held.{state}
 use Rattle.brk_ref.specs.Records.{security_of}
 use Rattle.brk_model.specs.Tables.{SecurityRow}
-use Rattle.brk_rows.proofs.Answer.{look_first}
-use Rattle.brk_tables_form.specs.Cells.{security_cells}
-use Rattle.brk_tables_form.specs.Desk.{desk}
-use Rattle.brk_tables_form.proofs.Back.{security_back, security_is_back}
+use Rattle.brk_sql.proofs.Answer.{look_first}
+use Rattle.brk_tables_schema.specs.Cells.{security_cells}
+use Rattle.brk_tables_schema.specs.Desk.{desk}
+use Rattle.brk_tables_schema.proofs.Back.{security_back, security_is_back}
 use Rattle.brk_tables_reference.proofs.SecurityBySymbol
 use Rattle.brk_tables_reference.proofs.SecurityBySymbol.{plain}
 use Rattle.brk_tables_reference.proofs.ReferenceReads.{tells_security}

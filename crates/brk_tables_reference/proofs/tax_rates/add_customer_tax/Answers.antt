@@ -1,6 +1,6 @@
 use Rattle.sqlite.specs.Held.{state}
 use Rattle.brk_ref.specs.Records.{customer_tax_of}
-use Rattle.brk_rows.proofs.Inside.{step_weaker}
+use Rattle.brk_sql.proofs.Inside.{step_weaker}
 use Rattle.brk_tables_reference.proofs.ReferenceAdds.{adds_customer_tax}
 use Rattle.brk_tables_reference.proofs.tax_rates.add_customer_tax.Goals as goal
 

@@ -4,10 +4,10 @@ use Rattle.sqlite_keyed.proofs.ListLemmas.{slice_get-filter}
 use Rattle.sqlite.specs.Held.{state}
 use Rattle.brk_ref.specs.Records.{customer_tax_of}
 use Rattle.brk_model.specs.Records.{CustomerTax}
-use Rattle.brk_rows.proofs.Answer.{look_first}
-use Rattle.brk_tables_form.specs.Cells.{customer_tax_cells}
-use Rattle.brk_tables_form.specs.Desk.{desk}
-use Rattle.brk_tables_form.proofs.Back.{customer_tax_back, customer_tax_is_back}
+use Rattle.brk_sql.proofs.Answer.{look_first}
+use Rattle.brk_tables_schema.specs.Cells.{customer_tax_cells}
+use Rattle.brk_tables_schema.specs.Desk.{desk}
+use Rattle.brk_tables_schema.proofs.Back.{customer_tax_back, customer_tax_is_back}
 use Rattle.brk_tables_reference.proofs.CustomerTaxByKey
 use Rattle.brk_tables_reference.proofs.CustomerTaxByKey.{plain}
 use Rattle.brk_tables_reference.proofs.ReferenceReads.{tells_customer_tax}

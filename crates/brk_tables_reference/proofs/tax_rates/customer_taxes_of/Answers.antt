@@ -3,10 +3,10 @@ use Rattle.sqlite_value.specs.declared.value.Value.TheVariants.{Int}
 use Rattle.sqlite.specs.Held.{state}
 use Rattle.brk_ref.specs.Records.{customer_tax_of}
 use Rattle.brk_model.specs.Records.{CustomerTax}
-use Rattle.brk_rows.proofs.Answer.{look_all}
-use Rattle.brk_tables_form.specs.Cells.{customer_tax_cells}
-use Rattle.brk_tables_form.specs.Desk.{desk}
-use Rattle.brk_tables_form.proofs.Back.{customer_tax_back, customer_tax_is_back}
+use Rattle.brk_sql.proofs.Answer.{look_all}
+use Rattle.brk_tables_schema.specs.Cells.{customer_tax_cells}
+use Rattle.brk_tables_schema.specs.Desk.{desk}
+use Rattle.brk_tables_schema.proofs.Back.{customer_tax_back, customer_tax_is_back}
 use Rattle.brk_tables_reference.proofs.CustomerTaxesOf
 use Rattle.brk_tables_reference.proofs.CustomerTaxesOf.{plain}
 use Rattle.brk_tables_reference.proofs.ReferenceReads.{tells_customer_taxes}

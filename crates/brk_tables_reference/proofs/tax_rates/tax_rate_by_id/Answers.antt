@@ -4,10 +4,10 @@ use Rattle.sqlite_keyed.proofs.ListLemmas.{slice_get-filter}
 use Rattle.sqlite.specs.Held.{state}
 use Rattle.brk_ref.specs.Records.{tax_of}
 use Rattle.brk_model.specs.Records.{TaxRate}
-use Rattle.brk_rows.proofs.Answer.{look_first}
-use Rattle.brk_tables_form.specs.Cells.{tax_rate_cells}
-use Rattle.brk_tables_form.specs.Desk.{desk}
-use Rattle.brk_tables_form.proofs.Back.{tax_rate_back, tax_rate_is_back}
+use Rattle.brk_sql.proofs.Answer.{look_first}
+use Rattle.brk_tables_schema.specs.Cells.{tax_rate_cells}
+use Rattle.brk_tables_schema.specs.Desk.{desk}
+use Rattle.brk_tables_schema.proofs.Back.{tax_rate_back, tax_rate_is_back}
 use Rattle.brk_tables_reference.proofs.TaxRateById
 use Rattle.brk_tables_reference.proofs.TaxRateById.{plain}
 use Rattle.brk_tables_reference.proofs.ReferenceReads.{tells_tax_rate}

@@ -1,5 +1,5 @@
 use Rattle.sqlite.specs.Held.{state}
-use Rattle.brk_rows.proofs.Inside.{step_weaker}
+use Rattle.brk_sql.proofs.Inside.{step_weaker}
 use Rattle.brk_tables_trading.proofs.HoldingWrites.{sets_balance}
 use Rattle.brk_tables_trading.proofs.balances.set_balance.Goals as goal
 

@@ -1,5 +1,5 @@
 use Rattle.sqlite.specs.Held.{state}
-use Rattle.brk_rows.proofs.Inside.{step_weaker}
+use Rattle.brk_sql.proofs.Inside.{step_weaker}
 use Rattle.brk_changes.specs.Rows.{history_row_of}
 use Rattle.brk_tables_trading.proofs.Writes.{adds_history}
 use Rattle.brk_tables_trading.proofs.history.add_trade_history.Goals as goal

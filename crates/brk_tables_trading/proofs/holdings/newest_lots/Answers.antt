@@ -1,12 +1,12 @@
 use Rattle.std.proofs.Common.{pos, [], ◌∷◌, reverse}
 use Rattle.sqlite_value.specs.declared.value.Value.TheVariants.{Int, Text}
 use Rattle.sqlite.specs.Held.{state}
-use Rattle.brk_rows.proofs.Answer.{look_all}
-use Rattle.brk_tables_form.specs.Cells.{holding_cells}
-use Rattle.brk_tables_form.specs.Desk.{desk}
+use Rattle.brk_sql.proofs.Answer.{look_all}
+use Rattle.brk_tables_schema.specs.Cells.{holding_cells}
+use Rattle.brk_tables_schema.specs.Desk.{desk}
 use Rattle.brk_changes.specs.Rows.{holding_row_of}
 use Rattle.brk_tables_trading.specs.Pages.{lots_held, on_page}
-use Rattle.brk_tables_form.proofs.TradingBack.{holding_back, holding_is_back}
+use Rattle.brk_tables_schema.proofs.TradingBack.{holding_back, holding_is_back}
 use Rattle.brk_tables_trading.proofs.Holding.{tells_newest}
 use Rattle.brk_tables_trading.proofs.NewestLots
 use Rattle.brk_tables_trading.proofs.NewestLots.{plain}

@@ -2,11 +2,11 @@ use Rattle.std.proofs.Common.{pos, [], ◌∷◌, ◌==◌, filter}
 use Rattle.sqlite_value.specs.declared.value.Value.TheVariants.{Int}
 use Rattle.sqlite.specs.Held.{state}
 use Rattle.brk_model.specs.Tables.{SummaryRow}
-use Rattle.brk_rows.proofs.Answer.{look_all}
-use Rattle.brk_tables_form.specs.Cells.{summary_cells}
-use Rattle.brk_tables_form.specs.Desk.{desk}
+use Rattle.brk_sql.proofs.Answer.{look_all}
+use Rattle.brk_tables_schema.specs.Cells.{summary_cells}
+use Rattle.brk_tables_schema.specs.Desk.{desk}
 use Rattle.brk_changes.specs.Rows.{summary_row_of}
-use Rattle.brk_tables_form.proofs.TradingBack.{summary_back, summary_is_back}
+use Rattle.brk_tables_schema.proofs.TradingBack.{summary_back, summary_is_back}
 use Rattle.brk_tables_trading.proofs.Holding.{tells_summaries}
 use Rattle.brk_tables_trading.proofs.SummariesOf
 use Rattle.brk_tables_trading.proofs.SummariesOf.{plain}

@@ -5,10 +5,10 @@ use Rattle.sqlite_keyed.proofs.ListLemmas.{slice_get-filter}
 use Rattle.sqlite.specs.Held.{state}
 use Rattle.brk_model.specs.Tables.{LastTradeRow}
 use Rattle.brk_ref.specs.Records.{last_trade_of}
-use Rattle.brk_rows.proofs.Answer.{look_first}
-use Rattle.brk_tables_form.specs.Cells.{last_trade_cells}
-use Rattle.brk_tables_form.specs.Desk.{desk}
-use Rattle.brk_tables_form.proofs.TradingBack.{last_trade_back, last_trade_is_back}
+use Rattle.brk_sql.proofs.Answer.{look_first}
+use Rattle.brk_tables_schema.specs.Cells.{last_trade_cells}
+use Rattle.brk_tables_schema.specs.Desk.{desk}
+use Rattle.brk_tables_schema.proofs.TradingBack.{last_trade_back, last_trade_is_back}
 use Rattle.brk_tables_trading.proofs.LastTradeBySymbol
 use Rattle.brk_tables_trading.proofs.LastTradeBySymbol.{plain}
 use Rattle.brk_tables_trading.proofs.Tells.{tells_last_trade}

@@ -1,6 +1,6 @@
 use Rattle.sqlite.specs.Held.{state}
 use Rattle.brk_ref.specs.Records.{last_trade_of}
-use Rattle.brk_rows.proofs.Inside.{step_weaker}
+use Rattle.brk_sql.proofs.Inside.{step_weaker}
 use Rattle.brk_tables_trading.proofs.Writes.{sets_last_trade}
 use Rattle.brk_tables_trading.proofs.last_trades.set_last_trade.Goals as goal
 

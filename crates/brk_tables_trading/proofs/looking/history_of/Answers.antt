@@ -1,11 +1,11 @@
 use Rattle.std.proofs.Common.{[], ◌∷◌, filter, ◌==◌}
 use Rattle.sqlite.specs.Held.{state}
 use Rattle.brk_model.specs.Tables.{HistoryRow}
-use Rattle.brk_rows.proofs.Answer.{look_all}
-use Rattle.brk_tables_form.specs.Cells.{nat, history_cells}
-use Rattle.brk_tables_form.specs.Desk.{desk}
+use Rattle.brk_sql.proofs.Answer.{look_all}
+use Rattle.brk_tables_schema.specs.Cells.{nat, history_cells}
+use Rattle.brk_tables_schema.specs.Desk.{desk}
 use Rattle.brk_changes.specs.Rows.{history_row_of}
-use Rattle.brk_tables_form.proofs.TradingBack.{history_back, history_is_back}
+use Rattle.brk_tables_schema.proofs.TradingBack.{history_back, history_is_back}
 use Rattle.brk_tables_trading.proofs.HistoryOf
 use Rattle.brk_tables_trading.proofs.HistoryOf.{plain}
 use Rattle.brk_tables_trading.proofs.LookingReads.{tells_history}

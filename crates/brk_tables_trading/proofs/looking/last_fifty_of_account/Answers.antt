@@ -1,11 +1,11 @@
 use Rattle.std.proofs.Common.{[], ◌∷◌, take}
 use Rattle.sqlite.specs.Held.{state}
 use Rattle.brk_model.specs.Joins.{recent_first, trades_in}
-use Rattle.brk_rows.proofs.Answer.{look_all}
-use Rattle.brk_tables_form.specs.Cells.{nat, trade_cells}
-use Rattle.brk_tables_form.specs.Desk.{desk}
+use Rattle.brk_sql.proofs.Answer.{look_all}
+use Rattle.brk_tables_schema.specs.Cells.{nat, trade_cells}
+use Rattle.brk_tables_schema.specs.Desk.{desk}
 use Rattle.brk_changes.specs.Rows.{trade_row_of}
-use Rattle.brk_tables_form.proofs.TradingBack.{trade_back, trade_is_back}
+use Rattle.brk_tables_schema.proofs.TradingBack.{trade_back, trade_is_back}
 use Rattle.brk_tables_trading.proofs.LastFiftyOfAccount
 use Rattle.brk_tables_trading.proofs.LastFiftyOfAccount.{plain}
 use Rattle.brk_tables_trading.proofs.LookingReads.{tells_last_fifty}

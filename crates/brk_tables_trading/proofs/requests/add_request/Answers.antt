@@ -1,5 +1,5 @@
 use Rattle.sqlite.specs.Held.{state}
-use Rattle.brk_rows.proofs.Inside.{step_weaker}
+use Rattle.brk_sql.proofs.Inside.{step_weaker}
 use Rattle.brk_changes.specs.Rows.{request_row_of}
 use Rattle.brk_tables_trading.proofs.Writes.{adds_request}
 use Rattle.brk_tables_trading.proofs.requests.add_request.Goals as goal

@@ -1,5 +1,5 @@
 use Rattle.sqlite.specs.Held.{state}
-use Rattle.brk_rows.proofs.Inside.{step_weaker}
+use Rattle.brk_sql.proofs.Inside.{step_weaker}
 use Rattle.brk_tables_trading.proofs.Writes.{removes_request}
 use Rattle.brk_tables_trading.proofs.requests.remove_request.Goals as goal
 

@@ -4,11 +4,11 @@ use Rattle.sqlite_value.specs.declared.value.Value.TheVariants.{Text}
 use Rattle.sqlite.specs.Held.{state}
 use Rattle.brk_money.specs.Kinds.{same_type, type_code}
 use Rattle.brk_model.specs.Tables.{RequestRow}
-use Rattle.brk_rows.proofs.Answer.{look_all}
-use Rattle.brk_tables_form.specs.Cells.{nat, request_cells}
-use Rattle.brk_tables_form.specs.Desk.{desk}
+use Rattle.brk_sql.proofs.Answer.{look_all}
+use Rattle.brk_tables_schema.specs.Cells.{nat, request_cells}
+use Rattle.brk_tables_schema.specs.Desk.{desk}
 use Rattle.brk_changes.specs.Rows.{request_row_of}
-use Rattle.brk_tables_form.proofs.TradingBack.{request_back, request_is_back}
+use Rattle.brk_tables_schema.proofs.TradingBack.{request_back, request_is_back}
 use Rattle.brk_tables_trading.proofs.RequestsAbove
 use Rattle.brk_tables_trading.proofs.RequestsAbove.{plain}
 use Rattle.brk_tables_trading.proofs.Tells.{tells_requests_above}

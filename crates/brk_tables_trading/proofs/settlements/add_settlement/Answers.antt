@@ -1,5 +1,5 @@
 use Rattle.sqlite.specs.Held.{state}
-use Rattle.brk_rows.proofs.Inside.{step_weaker}
+use Rattle.brk_sql.proofs.Inside.{step_weaker}
 use Rattle.brk_changes.specs.Rows.{settlement_row_of}
 use Rattle.brk_tables_trading.proofs.HoldingWrites.{adds_settlement}
 use Rattle.brk_tables_trading.proofs.settlements.add_settlement.Goals as goal

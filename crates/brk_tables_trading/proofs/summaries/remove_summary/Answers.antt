@@ -1,5 +1,5 @@
 use Rattle.sqlite.specs.Held.{state}
-use Rattle.brk_rows.proofs.Inside.{step_weaker}
+use Rattle.brk_sql.proofs.Inside.{step_weaker}
 use Rattle.brk_tables_trading.proofs.HoldingWrites.{removes_summary}
 use Rattle.brk_tables_trading.proofs.summaries.remove_summary.Goals as goal
 

@@ -1,11 +1,11 @@
 use Rattle.std.proofs.Common.{◌∙◌, ap, subst}
 use Rattle.sqlite_value.specs.declared.value.Value.TheVariants.{Text as Words}
 use Rattle.sqlite.specs.Held.{state}
-use Rattle.brk_rows.specs.Model.{Ran}
-use Rattle.brk_rows.proofs.Inside.{step_weaker}
+use Rattle.brk_sql.specs.Model.{Ran}
+use Rattle.brk_sql.proofs.Inside.{step_weaker}
 use Rattle.brk_changes.specs.Rows.{trade_row_of}
 use Rattle.brk_tables_trading.proofs.AddTrade
-use Rattle.brk_tables_form.proofs.TradeCells.{params_are}
+use Rattle.brk_tables_schema.proofs.TradeCells.{params_are}
 use Rattle.brk_tables_trading.proofs.Writes.{adds_trade}
 use Rattle.brk_tables_trading.proofs.trades.add_trade.Goals as goal
 

@@ -1,10 +1,10 @@
 use Rattle.std.proofs.Common.{◌≡◌, ℕ, List, [], ◌∷◌, Option, Some, None, option_map, map, take, reverse, slice_get, refl}
 use Rattle.sqlite.specs.Held.{state}
 use Rattle.brk_model.specs.Tables.{Tables, TradeRow}
-use Rattle.brk_rows.proofs.Answer.{look_first}
-use Rattle.brk_rows.proofs.Inside.{step_weaker}
-use Rattle.brk_tables_form.specs.Desk.{desk}
-use Rattle.brk_tables_form.proofs.TradingBack.{id_back, id_is_back}
+use Rattle.brk_sql.proofs.Answer.{look_first}
+use Rattle.brk_sql.proofs.Inside.{step_weaker}
+use Rattle.brk_tables_schema.specs.Desk.{desk}
+use Rattle.brk_tables_schema.proofs.TradingBack.{id_back, id_is_back}
 use Rattle.brk_tables_trading.proofs.LastTradeId
 use Rattle.brk_tables_trading.proofs.LastTradeId.{plain}
 use Rattle.brk_tables_trading.proofs.Tells.{id_cells, tells_last_id}

@@ -3,11 +3,11 @@ use Rattle.sqlite_value.specs.declared.value.Value.TheVariants.{Int}
 use Rattle.sqlite_keyed.proofs.ListLemmas.{slice_get-filter}
 use Rattle.sqlite.specs.Held.{state}
 use Rattle.brk_model.specs.Tables.{TradeRow}
-use Rattle.brk_rows.proofs.Answer.{look_first}
-use Rattle.brk_tables_form.specs.Cells.{trade_cells}
-use Rattle.brk_tables_form.specs.Desk.{desk}
+use Rattle.brk_sql.proofs.Answer.{look_first}
+use Rattle.brk_tables_schema.specs.Cells.{trade_cells}
+use Rattle.brk_tables_schema.specs.Desk.{desk}
 use Rattle.brk_changes.specs.Rows.{trade_row_of}
-use Rattle.brk_tables_form.proofs.TradingBack.{trade_back, trade_is_back}
+use Rattle.brk_tables_schema.proofs.TradingBack.{trade_back, trade_is_back}
 use Rattle.brk_tables_trading.proofs.TradeById
 use Rattle.brk_tables_trading.proofs.TradeById.{plain}
 use Rattle.brk_tables_trading.proofs.Tells.{tells_trade}

@@ -3,12 +3,12 @@ use Rattle.sqlite_value.specs.declared.value.Value.TheVariants.{Text}
 use Rattle.sqlite.specs.Held.{state}
 use Rattle.brk_money.specs.Kinds.{status_code}
 use Rattle.brk_money.specs.declared.status.Status.TheVariants.{Completed}
-use Rattle.brk_rows.proofs.Answer.{look_all}
-use Rattle.brk_tables_form.specs.Cells.{flag, nat, trade_cells}
-use Rattle.brk_tables_form.specs.Desk.{desk}
+use Rattle.brk_sql.proofs.Answer.{look_all}
+use Rattle.brk_tables_schema.specs.Cells.{flag, nat, trade_cells}
+use Rattle.brk_tables_schema.specs.Desk.{desk}
 use Rattle.brk_changes.specs.Chosen.{completed_cash_of_symbol}
 use Rattle.brk_changes.specs.Rows.{trade_row_of}
-use Rattle.brk_tables_form.proofs.TradingBack.{trade_back, trade_is_back}
+use Rattle.brk_tables_schema.proofs.TradingBack.{trade_back, trade_is_back}
 use Rattle.brk_tables_trading.proofs.CompletedCashOfSymbol
 use Rattle.brk_tables_trading.proofs.CompletedCashOfSymbol.{plain}
 use Rattle.brk_tables_trading.proofs.UpdateReads.{tells_completed_cash_of_symbol}

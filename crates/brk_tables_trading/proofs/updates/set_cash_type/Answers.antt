@@ -1,6 +1,6 @@
 use Rattle.sqlite.specs.Held.{state}
 use Rattle.brk_changes.specs.Rows.{cash_type_word}
-use Rattle.brk_rows.proofs.Inside.{step_weaker}
+use Rattle.brk_sql.proofs.Inside.{step_weaker}
 use Rattle.brk_tables_trading.proofs.UpdateWrites.{sets_cash_type}
 use Rattle.brk_tables_trading.proofs.updates.set_cash_type.Goals as goal
 

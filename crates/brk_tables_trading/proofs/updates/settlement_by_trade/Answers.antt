@@ -3,13 +3,13 @@ use Rattle.sqlite_value.specs.declared.value.Value.TheVariants.{Int}
 use Rattle.sqlite_keyed.proofs.ListLemmas.{slice_get-filter}
 use Rattle.sqlite.specs.Held.{state}
 use Rattle.brk_model.specs.Tables.{SettlementRow}
-use Rattle.brk_rows.proofs.Answer.{look_first}
-use Rattle.brk_tables_form.specs.Cells.{settlement_cells}
-use Rattle.brk_tables_form.specs.Desk.{desk}
+use Rattle.brk_sql.proofs.Answer.{look_first}
+use Rattle.brk_tables_schema.specs.Cells.{settlement_cells}
+use Rattle.brk_tables_schema.specs.Desk.{desk}
 use Rattle.brk_changes.specs.Rows.{settlement_row_of}
 use Rattle.brk_tables_trading.proofs.SettlementByTrade
 use Rattle.brk_tables_trading.proofs.SettlementByTrade.{plain}
-use Rattle.brk_tables_form.proofs.TradingBack.{settlement_back, settlement_is_back}
+use Rattle.brk_tables_schema.proofs.TradingBack.{settlement_back, settlement_is_back}
 use Rattle.brk_tables_trading.proofs.UpdateReads.{tells_settlement}
 use Rattle.brk_tables_trading.proofs.updates.settlement_by_trade.Goals as goal
 

@@ -3,11 +3,11 @@ use Rattle.std.specs.Prelude.{bytes_eq}
 use Rattle.sqlite_value.specs.declared.value.Value.TheVariants.{Text as Words}
 use Rattle.sqlite.specs.Held.{state}
 use Rattle.brk_model.specs.Tables.{BrokerRow}
-use Rattle.brk_rows.proofs.Answer.{look_all}
-use Rattle.brk_tables_form.specs.Cells.{broker_cells}
-use Rattle.brk_tables_form.specs.Desk.{desk}
+use Rattle.brk_sql.proofs.Answer.{look_all}
+use Rattle.brk_tables_schema.specs.Cells.{broker_cells}
+use Rattle.brk_tables_schema.specs.Desk.{desk}
 use Rattle.brk_ref.specs.Records.{broker_row_of}
-use Rattle.brk_tables_form.proofs.Back.{broker_back, broker_is_back}
+use Rattle.brk_tables_schema.proofs.Back.{broker_back, broker_is_back}
 use Rattle.brk_tables_views.proofs.ListReads.{tells_brokers_named}
 use Rattle.brk_tables_views.proofs.BrokersNamed
 use Rattle.brk_tables_views.proofs.BrokersNamed.{plain}

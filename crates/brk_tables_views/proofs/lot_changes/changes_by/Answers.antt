@@ -1,11 +1,11 @@
 use Rattle.std.proofs.Common.{[], ◌∷◌, filter, ◌==◌}
 use Rattle.sqlite.specs.Held.{state}
 use Rattle.brk_model.specs.Tables.{HoldingHistoryRow}
-use Rattle.brk_rows.proofs.Answer.{look_all}
-use Rattle.brk_tables_form.specs.Cells.{nat, holding_history_cells}
-use Rattle.brk_tables_form.specs.Desk.{desk}
+use Rattle.brk_sql.proofs.Answer.{look_all}
+use Rattle.brk_tables_schema.specs.Cells.{nat, holding_history_cells}
+use Rattle.brk_tables_schema.specs.Desk.{desk}
 use Rattle.brk_changes.specs.Rows.{lot_change_of}
-use Rattle.brk_tables_form.proofs.TradingBack.{holding_history_back, holding_history_is_back}
+use Rattle.brk_tables_schema.proofs.TradingBack.{holding_history_back, holding_history_is_back}
 use Rattle.brk_tables_views.proofs.ListReads.{tells_changes_by}
 use Rattle.brk_tables_views.proofs.ChangesBy
 use Rattle.brk_tables_views.proofs.ChangesBy.{plain}

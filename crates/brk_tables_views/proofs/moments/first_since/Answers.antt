@@ -3,13 +3,13 @@ use Rattle.std.specs.Prelude.{nat_le, option_to_list}
 use Rattle.sqlite.specs.Held.{state}
 use Rattle.brk_model.specs.Joins.{oldest_first_rows, trades_in}
 use Rattle.brk_model.specs.Tables.{Tables, TradeRow}
-use Rattle.brk_rows.proofs.Answer.{look_first}
-use Rattle.brk_rows.proofs.Inside.{step_weaker}
-use Rattle.brk_tables_form.specs.Cells.{nat, trade_cells}
-use Rattle.brk_tables_form.specs.Desk.{desk}
+use Rattle.brk_sql.proofs.Answer.{look_first}
+use Rattle.brk_sql.proofs.Inside.{step_weaker}
+use Rattle.brk_tables_schema.specs.Cells.{nat, trade_cells}
+use Rattle.brk_tables_schema.specs.Desk.{desk}
 use Rattle.brk_changes.specs.Rows.{trade_row_of}
 use Rattle.brk_tables_views.proofs.MomentReads.{tells_first_since}
-use Rattle.brk_tables_form.proofs.TradingBack.{trade_back, trade_is_back}
+use Rattle.brk_tables_schema.proofs.TradingBack.{trade_back, trade_is_back}
 use Rattle.brk_tables_views.proofs.FirstSince
 use Rattle.brk_tables_views.proofs.FirstSince.{plain}
 use Rattle.brk_tables_views.proofs.moments.first_since.Goals as goal

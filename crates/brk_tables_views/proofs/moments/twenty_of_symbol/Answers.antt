@@ -5,12 +5,12 @@ use Rattle.sqlite.specs.Held.{state}
 use Rattle.brk_model.specs.Joins.{oldest_first_rows}
 use Rattle.brk_model.specs.LookupView.{is_between}
 use Rattle.brk_model.specs.Tables.{TradeRow}
-use Rattle.brk_rows.proofs.Answer.{look_all}
-use Rattle.brk_tables_form.specs.Cells.{nat, trade_cells}
-use Rattle.brk_tables_form.specs.Desk.{desk}
+use Rattle.brk_sql.proofs.Answer.{look_all}
+use Rattle.brk_tables_schema.specs.Cells.{nat, trade_cells}
+use Rattle.brk_tables_schema.specs.Desk.{desk}
 use Rattle.brk_changes.specs.Rows.{trade_row_of}
 use Rattle.brk_tables_views.proofs.MomentReads.{tells_twenty_of_symbol}
-use Rattle.brk_tables_form.proofs.TradingBack.{trade_back, trade_is_back}
+use Rattle.brk_tables_schema.proofs.TradingBack.{trade_back, trade_is_back}
 use Rattle.brk_tables_views.proofs.TwentyOfSymbol
 use Rattle.brk_tables_views.proofs.TwentyOfSymbol.{plain}
 use Rattle.brk_tables_views.proofs.moments.twenty_of_symbol.Goals as goal

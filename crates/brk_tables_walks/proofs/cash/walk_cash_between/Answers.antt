@@ -1,10 +1,10 @@
 use Rattle.std.proofs.Common.{[], ◌∷◌, rules}
 use Rattle.sqlite.specs.Held.{state}
-use Rattle.brk_tables_form.specs.Cells.{nat, move_cells}
+use Rattle.brk_tables_schema.specs.Cells.{nat, move_cells}
 use Rattle.brk_changes.specs.Rows.{move_row_of}
 use Rattle.brk_tables_walks.specs.Lists.{cash_between}
 use Rattle.brk_tables_walks.proofs.CashBetween
-use Rattle.brk_tables_form.proofs.Back.{move_back, move_is_back}
+use Rattle.brk_tables_schema.proofs.Back.{move_back, move_is_back}
 use Rattle.brk_tables_walks.proofs.TellingCash.{tells_cash_between, cash_start}
 use Rattle.brk_tables_walks.proofs.Walks.{walks}
 use Rattle.brk_tables_walks.proofs.cash.walk_cash_between.Goals as goal

@@ -1,8 +1,8 @@
 use Rattle.std.proofs.Common.{[], ◌∷◌, rules}
 use Rattle.sqlite.specs.Held.{state}
-use Rattle.brk_tables_form.specs.Cells.{nat, holding_cells}
+use Rattle.brk_tables_schema.specs.Cells.{nat, holding_cells}
 use Rattle.brk_changes.specs.Rows.{holding_row_of}
-use Rattle.brk_tables_form.proofs.TradingBack.{holding_back, holding_is_back}
+use Rattle.brk_tables_schema.proofs.TradingBack.{holding_back, holding_is_back}
 use Rattle.brk_tables_walks.specs.Lists.{lots_by_symbol}
 use Rattle.brk_tables_walks.proofs.LotsBySymbol
 use Rattle.brk_tables_walks.proofs.Telling.{tells_lots_by_symbol, lots_start}

@@ -1,8 +1,8 @@
 use Rattle.std.proofs.Common.{ap, ◌∙◌}
 use Rattle.std.proofs.lemmas.Result.{IfOk-weaker}
 use Rattle.brk_plans.specs.Replies.{reply_of}
-use Rattle.brk_web.specs.Routes.{parts_at}
-use Rattle.brk_web_laws.proofs.Commas.{fields_cut}
+use Rattle.brk_http_model.specs.Routes.{parts_at}
+use Rattle.brk_http_theorems.proofs.Commas.{fields_cut}
 use Rattle.brk_http.proofs.at_desk.AtDeskService.reply_fields.Goals as goal
 
 pub returns-in-Ok : goal.returns-in-Ok

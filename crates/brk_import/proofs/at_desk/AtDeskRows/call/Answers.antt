@@ -2,7 +2,7 @@ use Rattle.std.proofs.Common.{Some}
 use Rattle.std.proofs.lemmas.Result.{err_from_is_err_and}
 use Rattle.brk_ref.specs.Records.{key_of}
 use Rattle.brk_commands.specs.Commands.{command_of}
-use Rattle.brk_booking.specs.declared.answer.Answer.TheVariants as given
+use Rattle.brk_commit.specs.declared.answer.Answer.TheVariants as given
 use Rattle.brk_import.proofs.Under.{may_act, under, was_called}
 use Rattle.brk_import.proofs.at_desk.AtDeskRows.call.Goals as goal
 

@@ -1,8 +1,8 @@
 use Rattle.std.proofs.Common.{◌≡◌, ◌+◌, ◌∙◌, [], drop, length, nat_lt, map, slice_get, rules, ap}
 use Rattle.std.specs.Prelude.{option_map}
 use Rattle.std.proofs.lemmas.List.{drop_all}
-use Rattle.brk_book_laws.specs.OrderReads.{lot_in}
-use Rattle.brk_book_laws.specs.TradeReads.{row_lot}
+use Rattle.brk_book_theorems.specs.OrderReads.{lot_in}
+use Rattle.brk_book_theorems.specs.TradeReads.{row_lot}
 use Rattle.brk_store.specs.Pages.{left_of, rows_from}
 use Rattle.brk_store.proofs.Turning.{turned}
 use Rattle.brk_store.proofs.pages.Pages+S+Page.turn.Goals as goal

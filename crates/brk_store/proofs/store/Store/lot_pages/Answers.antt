@@ -1,6 +1,6 @@
 use Rattle.std.proofs.Common.{◌≡◌, ◌∙◌, [], ap, false, rules, sym}
 use Rattle.brk_tables_trading.specs.Pages.{lots_held}
-use Rattle.brk_book_laws.specs.TradeReads.{row_lot}
+use Rattle.brk_book_theorems.specs.TradeReads.{row_lot}
 use Rattle.brk_store.specs.Pages.{left_of, rows_from}
 use Rattle.brk_store.proofs.Turning.{map_end}
 use Rattle.brk_store.proofs.store.Store.lot_pages.Goals as goal

@@ -2,7 +2,7 @@ use Rattle.std.proofs.Common.{◌≡◌, ◌+◌, ◌<◌, ℕ, Bool, true, fals
 use Rattle.sqlite.specs.Held.{state}
 use Rattle.brk_model.specs.Limits.{greatest_id}
 use Rattle.brk_model.specs.Tables.{MoveRow, Tables}
-use Rattle.brk_book_laws.specs.TradeReads.{last_move}
+use Rattle.brk_book_theorems.specs.TradeReads.{last_move}
 use Rattle.brk_store.proofs.Counting.{too_few}
 use Rattle.brk_store.proofs.Retelling.{read_after, retold, retold_of}
 use Rattle.brk_store.proofs.store.Store.movements.Goals as goal

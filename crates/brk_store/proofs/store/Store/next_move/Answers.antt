@@ -1,6 +1,6 @@
 use Rattle.std.proofs.Common.{◌≡◌, ◌∙◌, ◌+◌, ℕ, Option, ap, option_map, refl, reverse, rules, slice_get, unwrap_or}
 use Rattle.brk_model.specs.Tables.{MoveRow, Tables}
-use Rattle.brk_book_laws.specs.TradeReads.{last_move}
+use Rattle.brk_book_theorems.specs.TradeReads.{last_move}
 use Rattle.brk_changes.specs.Rows.{move_row_of}
 use Rattle.brk_store.proofs.Retelling.{retold}
 use Rattle.brk_store.proofs.store.Store.next_move.Goals as goal

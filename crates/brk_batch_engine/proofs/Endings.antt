@@ -1,0 +1,294 @@
+-- How a batch ends from where it stands.
+use Rattle.std.proofs.Common.{◌≡◌, ◌+◌, ◌⊎◌, ◌++◌, ◌∷◌, [], ℕ, List, sym, ap, ◌∙◌, refl, length, arith, inl, inr}
+use Rattle.std.specs.Prelude.{Option, Ok, Err}
+use Rattle.std.specs.Io.KnownBytes.{Appends}
+use Rattle.std.proofs.KnownBytes.{Appends-nil, Appends-trans}
+use Rattle.std.proofs.lemmas.List.{append-nil, length-append}
+use Rattle.csv.specs.declared.reader.Reader.{Reader}
+use Rattle.csv.specs.Reading.{source_of}
+use Rattle.brk_money.specs.Spelling.{Text}
+use Rattle.brk_money.specs.declared.fault.Fault.{Fault}
+use Rattle.brk_money.specs.declared.fault.Fault.TheVariants.{Memory}
+use Rattle.brk_money.specs.declared.refusal.Refusal.TheVariants.{BadText}
+use Rattle.brk_model.specs.Answers.{Fields, RowStep}
+use Rattle.brk_model.specs.Commands.{Answer, Refused}
+use Rattle.brk_model.specs.Forms.{Read}
+use Rattle.brk_model.specs.Input.{AreAll, Begins, IsEnd, IsName, end_of, header_of}
+use Rattle.brk_model.specs.Lines.{answer_line, end_line, lines_from}
+use Rattle.brk_model.specs.Run.{MayFail}
+use Rattle.brk_batch_engine.specs.Batch.{BatchGives, EndsRight, Faulted, LeavesAt, Stopped}
+use Rattle.brk_io.specs.Span.{IsUntouched, Span}
+use Rattle.brk_batch_engine.specs.Counts.{counts_line}
+use Rattle.brk_io.specs.Moments.{AskedOnce}
+use Rattle.brk_batch_engine.specs.Parts.{CutPart, EndPart, HeaderPart, Part}
+use Rattle.brk_batch_engine.specs.declared.counts.Counts.{Counts}
+use Rattle.brk_io.specs.declared.batch_fault.FaultKind.{FaultKind}
+use Rattle.brk_io.specs.declared.batch_fault.FaultKind.TheVariants as kinds
+use Rattle.brk_batch_engine.proofs.Progress.{At, Progress, Start, StandsAt, counts_whole}
+use Rattle.brk_batch_engine.proofs.Pushes.{lines_push}
+use Rattle.brk_batch_engine.proofs.Reading.{begins_front, begins_of}
+
+abbrev pub span_of : {S C R : Type 0} → Start S C R → At S C R → C → Option Text → Span S C
+span_of start now later new = record { base = start.base; after = now.after; clock = start.clock; later = later; old = start.old; new = new }
+
+pub begins_at : {R : Type 0} (rem : R → Option Text) (text : Option Text) (records : List Fields) (reader : Reader R) → StandsAt rem text records reader → Begins text records
+begins_at rem text records reader h = begins_of text records reader.state (source_of rem reader) h
+
+-- what was settled, with the lines that were told of it
+abbrev pub stopped_of : {S X C R : Type 0} (form : Fields → Read X) (step : RowStep S X) (gives : C → ℕ → C → Type 0) (rem : R → Option Text)
+    (start : Start S C R) (now : At S C R) (later : C) (new : Option Text) (text : Option Text) → Progress form step gives rem start now
+    → StandsAt rem text (header_of start.name ∷ []) start.reader → Stopped form step gives text (span_of start now later new) now.settled
+stopped_of form step gives rem start now later new text p h = record {
+  name = start.name;
+  rows = p.rows;
+  answers = p.answers;
+  told = p.answers;
+  moments = p.moments;
+  mid = now.later;
+  taken = p.taken;
+  settled = p.settled;
+  begins = begins_front text (header_of start.name ∷ p.rows) (now.row ∷ []) (begins_at rem text _ now.reader (p.stands text h));
+  next = λ some. (now.row, begins_at rem text _ now.reader (p.stands text h));
+  counted = sym p.size ∙ sym p.settled.each;
+}
+
+-- the record that was read is the right end record
+ends_right : {S X C R : Type 0} (form : Fields → Read X) (step : RowStep S X) (gives : C → ℕ → C → Type 0) (rem : R → Option Text)
+    (start : Start S C R) (now : At S C R) (text : Option Text) (p : Progress form step gives rem start now) → now.row ≡ end_of now.settled
+    → StandsAt rem text (header_of start.name ∷ []) start.reader → EndsRight text start.name p.rows
+ends_right form step gives rem start now text p right h =
+    let e : now.row ≡ end_of (length p.rows) = right ∙ ap end_of (sym p.size) in
+    rw e at (begins_at rem text _ now.reader (p.stands text h))
+
+-- the batch ended with its right end record
+pub ended_well : {S X C R : Type 0} (form : Fields → Read X) (step : RowStep S X) (gives : C → ℕ → C → Type 0) (rem : R → Option Text)
+    (start : Start S C R) (now : At S C R) (mid new : Option Text) (text : Option Text) (p : Progress form step gives rem start now)
+    → Appends start.old mid (lines_from 1 p.answers) → now.row ≡ end_of now.settled → Appends mid new (counts_line now.counts)
+    → StandsAt rem text (header_of start.name ∷ []) start.reader → BatchGives form step gives text (span_of start now now.later new) (Ok now.counts)
+ended_well form step gives rem start now mid new text p wrote right last h = (
+  record {
+    moments = p.moments;
+    lines = lines_from 1 p.answers ++ end_line p.answers;
+    taken = p.taken;
+    answered = record {
+      name = start.name;
+      rows = p.rows;
+      answers = p.answers;
+      told = p.answers;
+      settled = p.settled;
+      ends = (ends_right form step gives rem start now text p right h, refl, refl);
+      counted = ap (λ (c : Counts). c.ok + c.again + c.no) p.counts ∙ counts_whole p.answers;
+    };
+    written = Appends-trans _ _ _ _ _ wrote (rw p.counts at last);
+  },
+  p.counts,
+)
+
+-- the end record is wrong, or was not answered
+pub end_failed : {S X C R : Type 0} (form : Fields → Read X) (step : RowStep S X) (gives : C → ℕ → C → Type 0) (rem : R → Option Text)
+    (start : Start S C R) (now : At S C R) (mid new : Option Text) (text : Option Text) (p : Progress form step gives rem start now) (kind : FaultKind)
+    → Appends start.old mid (lines_from 1 p.answers) → IsEnd now.row → EndPart mid new now.row now.settled now.counts kind
+    → StandsAt rem text (header_of start.name ∷ []) start.reader → Faulted form step gives text (span_of start now now.later new) now.settled kind
+end_failed form step gives rem start now mid new text p kinds.BadEnd wrote ends part h = record {
+  moments = p.moments;
+  lines = lines_from 1 p.answers;
+  taken = p.taken;
+  answered = record {
+    name = start.name;
+    rows = p.rows;
+    answers = p.answers;
+    told = p.answers;
+    settled = p.settled;
+    ends = ((now.row, ends, (λ e. part.0 (e ∙ ap end_of p.size)), begins_at rem text _ now.reader (p.stands text h)), refl, refl);
+    counted = sym p.size ∙ sym p.settled.each;
+  };
+  written = rw append-nil at (Appends-trans _ _ _ _ _ wrote part.1);
+}
+end_failed form step gives rem start now mid new text p kinds.Write wrote ends part h = (
+  stopped_of form step gives rem start now now.later new text p h,
+  refl,
+  inr (refl, ends_right form step gives rem start now text p part.0 h, (part.1.0, Appends-trans _ _ _ _ _ wrote (rw p.counts at part.1.1))),
+)
+end_failed form step gives rem start now mid new text p (kinds.Desk f) wrote ends part h =
+    inr (inr (stopped_of form step gives rem start now now.later new text p h, refl, part.0, inl refl, inl (rw append-nil at (Appends-trans _ _ _ _ _ wrote part.1))))
+end_failed form step gives rem start now mid new text p kinds.Read wrote ends part h = absurd part
+end_failed form step gives rem start now mid new text p kinds.BadHeader wrote ends part h = absurd part
+end_failed form step gives rem start now mid new text p kinds.NoEnd wrote ends part h = absurd part
+
+-- the next record was not read
+pub read_failed : {S X C R : Type 0} (form : Fields → Read X) (step : RowStep S X) (gives : C → ℕ → C → Type 0) (rem : R → Option Text)
+    (start : Start S C R) (now : At S C R) (new : Option Text) (text : Option Text) (p : Progress form step gives rem start now) (kind : FaultKind)
+    → Appends start.old new (lines_from 1 p.answers) → (kind ≡ kinds.Read) ⊎ (kind ≡ kinds.Desk Memory)
+    → StandsAt rem text (header_of start.name ∷ []) start.reader → Faulted form step gives text (span_of start now now.later new) now.settled kind
+read_failed form step gives rem start now new text p kind wrote (inl e) h =
+    rw e (inr (stopped_of form step gives rem start now now.later new text p h, refl, refl, wrote))
+read_failed form step gives rem start now new text p kind wrote (inr e) h =
+    rw e (inr (inr (stopped_of form step gives rem start now now.later new text p h, refl, refl, inl refl, inl wrote)))
+
+-- nothing was asked or written yet
+pub untouched : {S C : Type 0} (base : S) (clock : C) (old : Option Text) → IsUntouched (record { base = base; after = base; clock = clock; later = clock; old = old; new = old })
+untouched base clock old = record { base = refl; clock = refl; written = Appends-nil old }
+
+-- the first row or the header was not read
+pub nothing_read : {S X C : Type 0} (form : Fields → Read X) (step : RowStep S X) (gives : C → ℕ → C → Type 0) (text : Option Text)
+    (span : Span S C) (kind : FaultKind) → IsUntouched span → (kind ≡ kinds.Read) ⊎ (kind ≡ kinds.Desk Memory) → Faulted form step gives text span 0 kind
+nothing_read form step gives text span kind u (inl e) = rw e (inl (refl, u))
+nothing_read form step gives text span kind u (inr e) = rw e (inl (refl, refl, u))
+
+-- the header was not read, or is none
+pub header_failed : {S X C : Type 0} (form : Fields → Read X) (step : RowStep S X) (gives : C → ℕ → C → Type 0) (text : Option Text)
+    (base : S) (clock : C) (old : Option Text) (kind : FaultKind) → HeaderPart text kind
+    → Faulted form step gives text (record { base = base; after = base; clock = clock; later = clock; old = old; new = old }) 0 kind
+header_failed form step gives text base clock old kinds.BadHeader h =
+    (untouched base clock old, record { headless = h; ending = refl; asked = refl; unchanged = refl; told = refl; counted = refl })
+header_failed form step gives text base clock old kinds.Read h = inl (refl, untouched base clock old)
+header_failed form step gives text base clock old (kinds.Desk f) h = inl (h, refl, untouched base clock old)
+header_failed form step gives text base clock old kinds.Write h = absurd h
+header_failed form step gives text base clock old kinds.NoEnd h = absurd h
+header_failed form step gives text base clock old kinds.BadEnd h = absurd h
+
+-- the row was not answered
+pub answer_failed : {S X C R : Type 0} (form : Fields → Read X) (step : RowStep S X) (gives : C → ℕ → C → Type 0) (rem : R → Option Text)
+    (start : Start S C R) (now : At S C R) (later : C) (new : Option Text) (text : Option Text) (p : Progress form step gives rem start now) (f : Fault)
+    → Appends start.old new (lines_from 1 p.answers) → AskedOnce gives now.later later → MayFail f
+    → StandsAt rem text (header_of start.name ∷ []) start.reader → Faulted form step gives text (span_of start now later new) now.settled (kinds.Desk f)
+answer_failed form step gives rem start now later new text p f wrote asked may h =
+    inr (inl (stopped_of form step gives rem start now later new text p h, asked, may, refl, wrote))
+
+-- what a stop leaves then
+pub answer_left : {D S X C R : Type 0} (form : Fields → Read X) (step : RowStep S X) (gives : C → ℕ → C → Type 0) (leaves : D → S → S → Type 0) (rem : R → Option Text)
+    (start : Start S C R) (now : At S C R) (later : C) (new : Option Text) (text : Option Text) (p : Progress form step gives rem start now) (last : D) (f : Fault)
+    → StandsAt rem text (header_of start.name ∷ []) start.reader
+    → leaves last now.after now.after ⊎ ((moment : ℕ) × (command : X) × (form now.row ≡ Ok command) × gives now.later moment later
+    × leaves last now.after (step now.after moment command (record { batch = start.name; row = now.settled + 1 })).1)
+    → LeavesAt form step gives leaves text (span_of start now later new) last (Err (record { rows = now.settled; kind = kinds.Desk f }))
+answer_left form step gives leaves rem start now later new text p last f h (inl alone) = inl alone
+answer_left form step gives leaves rem start now later new text p last f h (inr way) = inr (record {
+  cause = f;
+  kind = refl;
+  stopped = stopped_of form step gives rem start now later new text p h;
+  told = refl;
+  row = now.row;
+  begins = begins_at rem text _ now.reader (p.stands text h);
+  command = way.1;
+  formed = way.2;
+  moment = way.0;
+  given = way.3;
+  may = way.4;
+})
+
+-- the line of the row that was answered last was not written
+pub tell_failed : {S X C R : Type 0} (form : Fields → Read X) (step : RowStep S X) (gives : C → ℕ → C → Type 0) (rem : R → Option Text)
+    (start : Start S C R) (now : At S C R) (mid new : Option Text) (text : Option Text) (p : Progress form step gives rem start now)
+    (front : List Answer) (answer : Answer) (kind : FaultKind)
+    → p.answers ≡ front ++ (answer ∷ []) → Appends start.old mid (lines_from 1 front) → Part mid new (answer_line now.settled answer) kind
+    → StandsAt rem text (header_of start.name ∷ []) start.reader → Faulted form step gives text (span_of start now now.later new) now.settled kind
+tell_failed form step gives rem start now mid new text p front answer kinds.Write split wrote part h =
+    let many : now.settled ≡ length p.answers = sym p.size ∙ sym p.settled.each in (
+      stopped_of form step gives rem start now now.later new text p h,
+      refl,
+      inl (inl refl, (front, answer, part.0, split, Appends-trans _ _ _ _ _ wrote (rw many at part.1))),
+    )
+tell_failed form step gives rem start now mid new text p front answer (kinds.Desk f) split wrote part h =
+    inr (inr (
+      stopped_of form step gives rem start now now.later new text p h,
+      refl,
+      part.0,
+      inl refl,
+      inr (front, answer, split, rw append-nil at (Appends-trans _ _ _ _ _ wrote part.1)),
+    ))
+tell_failed form step gives rem start now mid new text p front answer kinds.Read split wrote part h = absurd part
+tell_failed form step gives rem start now mid new text p front answer kinds.BadHeader split wrote part h = absurd part
+tell_failed form step gives rem start now mid new text p front answer kinds.NoEnd split wrote part h = absurd part
+tell_failed form step gives rem start now mid new text p front answer kinds.BadEnd split wrote part h = absurd part
+
+-- what was settled, with the refusal of the row that has no record after it
+abbrev pub cut_stopped : {S X C R : Type 0} (form : Fields → Read X) (step : RowStep S X) (gives : C → ℕ → C → Type 0) (rem : R → Option Text)
+    (start : Start S C R) (now : At S C R) (new : Option Text) (text : Option Text) → Progress form step gives rem start now
+    → StandsAt rem text (header_of start.name ∷ []) start.reader → Stopped form step gives text (span_of start now now.later new) (now.settled + 1)
+cut_stopped form step gives rem start now new text p h = record {
+  name = start.name;
+  rows = p.rows;
+  answers = p.answers;
+  told = p.answers ++ (Refused BadText ∷ []);
+  moments = p.moments;
+  mid = now.later;
+  taken = p.taken;
+  settled = p.settled;
+  begins = begins_front text (header_of start.name ∷ p.rows) (now.row ∷ []) (begins_at rem text _ now.reader (p.stands text h));
+  next = λ some. (now.row, begins_at rem text _ now.reader (p.stands text h));
+  counted = ap (λ (n : ℕ). n + 1) (sym p.size ∙ sym p.settled.each) ∙ sym (length-append p.answers (Refused BadText ∷ []));
+}
+
+-- the row has no record after it
+pub row_cut_off : {S X C R : Type 0} (form : Fields → Read X) (step : RowStep S X) (gives : C → ℕ → C → Type 0) (rem : R → Option Text)
+    (start : Start S C R) (now : At S C R) (mid new : Option Text) (text : Option Text) (p : Progress form step gives rem start now) (kind : FaultKind)
+    → Appends start.old mid (lines_from 1 p.answers) → ¬ (IsEnd now.row) → CutPart mid new (answer_line (now.settled + 1) (Refused BadText)) kind
+    → ((text : Option Text) (before : List Fields) → StandsAt rem text before now.reader → AreAll text before)
+    → StandsAt rem text (header_of start.name ∷ []) start.reader → Faulted form step gives text (span_of start now now.later new) (now.settled + 1) kind
+row_cut_off form step gives rem start now mid new text p kinds.NoEnd wrote other part all h =
+    let place : now.settled + 1 ≡ 1 + length p.answers = omega (arith, p.size, p.settled.each) in
+    record {
+      moments = p.moments;
+      lines = lines_from 1 (p.answers ++ (Refused BadText ∷ []));
+      taken = p.taken;
+      answered = record {
+        name = start.name;
+        rows = p.rows;
+        answers = p.answers;
+        told = p.answers ++ (Refused BadText ∷ []);
+        settled = p.settled;
+        ends = (inr (now.row, other, all text _ (p.stands text h), refl), refl);
+        counted = (cut_stopped form step gives rem start now new text p h).counted;
+      };
+      written = rw (lines_push 1 p.answers (Refused BadText)) (Appends-trans _ _ _ _ _ wrote (rw place at part));
+    }
+row_cut_off form step gives rem start now mid new text p kinds.Write wrote other part all h =
+    let place : now.settled + 1 ≡ length (p.answers ++ (Refused BadText ∷ [])) = (cut_stopped form step gives rem start now new text p h).counted in (
+      cut_stopped form step gives rem start now new text p h,
+      refl,
+      inl (inr (inr (now.row, other, all text _ (p.stands text h), refl)), (p.answers, Refused BadText, part.0, refl, Appends-trans _ _ _ _ _ wrote (rw place at part.1))),
+    )
+row_cut_off form step gives rem start now mid new text p (kinds.Desk f) wrote other part all h =
+    inr (inr (
+      cut_stopped form step gives rem start now new text p h,
+      refl,
+      part.0,
+      inr (inr (now.row, other, all text _ (p.stands text h), refl)),
+      inr (p.answers, Refused BadText, refl, rw append-nil at (Appends-trans _ _ _ _ _ wrote part.1)),
+    ))
+row_cut_off form step gives rem start now mid new text p kinds.Read wrote other part all h = absurd part
+row_cut_off form step gives rem start now mid new text p kinds.BadHeader wrote other part all h = absurd part
+row_cut_off form step gives rem start now mid new text p kinds.BadEnd wrote other part all h = absurd part
+
+-- the input ends after its header
+pub no_rows : {S X C : Type 0} (form : Fields → Read X) (step : RowStep S X) (gives : C → ℕ → C → Type 0) (text : Option Text)
+    (name : Text) (base : S) (clock : C) (old : Option Text) → IsName name → AreAll text (header_of name ∷ [])
+    → Faulted form step gives text (record { base = base; after = base; clock = clock; later = clock; old = old; new = old }) 0 kinds.NoEnd
+no_rows form step gives text name base clock old named all = record {
+  moments = [];
+  lines = [];
+  taken = refl;
+  answered = record {
+    name = name;
+    rows = [];
+    answers = [];
+    told = [];
+    settled = record {
+      named = named;
+      rows_only = tt;
+      answered = record { replies = []; one_each = refl; run = refl; all = refl };
+      each = refl;
+    };
+    ends = (inl (refl, all, refl), refl);
+    counted = refl;
+  };
+  written = Appends-nil old;
+}
+
+-- the loop ran out of turns
+pub turns_over : {S X C R : Type 0} (form : Fields → Read X) (step : RowStep S X) (gives : C → ℕ → C → Type 0) (rem : R → Option Text)
+    (start : Start S C R) (now : At S C R) (new : Option Text) (text : Option Text) (count : ℕ) → count ≡ now.settled
+    → (p : Progress form step gives rem start now) → Appends start.old new (lines_from 1 p.answers)
+    → StandsAt rem text (header_of start.name ∷ []) start.reader → Faulted form step gives text (span_of start now now.later new) count (kinds.Desk Memory)
+turns_over form step gives rem start now new text count e p wrote h = rw e (read_failed form step gives rem start now new text p (kinds.Desk Memory) wrote (inr refl) h)

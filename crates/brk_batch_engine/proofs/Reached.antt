@@ -1,0 +1,171 @@
+-- How far a batch has come, whatever is known of its desk.
+use Rattle.std.proofs.Common.{◌≡◌, ◌+◌, ◌++◌, ◌∷◌, [], ℕ, List, Ok, Err, inl, sym, ap, ◌∙◌, refl, length, arith}
+use Rattle.std.specs.Prelude.{Bool, true, false, Option, Result}
+use Rattle.std.specs.List.{AllByRecursion}
+use Rattle.std.proofs.lemmas.List.{length-append}
+use Rattle.csv.specs.declared.reader.Reader.{Reader}
+use Rattle.brk_money.specs.Spelling.{Text}
+use Rattle.brk_model.specs.Answers.{Fields, InTurn, RowStep, calls_of, formed_from}
+use Rattle.brk_model.specs.Commands.{Answer}
+use Rattle.brk_model.specs.Forms.{Read}
+use Rattle.brk_model.specs.Input.{IsEnd, IsName, header_of}
+use Rattle.brk_batch_engine.specs.Answers.{AnsweredBy, Keeps, StandsBy, scripted}
+use Rattle.brk_batch_engine.specs.Batch.{BatchGives, Comes, LeavesAt}
+use Rattle.brk_io.specs.Span.{Outside, Span, with_base}
+use Rattle.brk_batch_engine.specs.Counts.{counted, counts_of}
+use Rattle.brk_io.specs.declared.batch_fault.BatchFault.{BatchFault}
+use Rattle.brk_batch_engine.specs.declared.counts.Counts.{Counts}
+use Rattle.brk_batch_engine.proofs.Progress.{At, Progress, Start, StandsAt, all_push, counts_push}
+use Rattle.brk_batch_engine.proofs.Pushes.{Answered, answered_push, calls_length, scripted_turns}
+
+-- where a batch starts, after its header
+pub record Head (C R : Type 0) : Type 0 where
+  pub name : Text
+  pub clock : C
+  pub old : Option Text
+  pub reader : Reader R
+
+-- where it stands: so many rows were answered, and the record after them was read
+pub record Place (C R : Type 0) : Type 0 where
+  pub settled : ℕ
+  pub counts : Counts
+  pub row : Fields
+  pub later : C
+  pub reader : Reader R
+
+-- the rows up to here were answered, from the desk that was first to this one
+pub record Reached {D S X C R : Type 0} (honest : D → Type 0) (stands : Bool → D → S → Type 0) (form : Fields → Read X) (step : RowStep S X) (gives : C → ℕ → C → Type 0)
+    (rem : R → Option Text) (first : D) (head : Head C R) (desk : D) (place : Place C R) : Type 0 where
+  pub rows : List Fields
+  pub answers : List Answer
+  pub named : IsName head.name
+  pub rows_only : AllByRecursion (λ row. ¬ (IsEnd row)) rows
+  pub answered : Answered honest stands form step gives head.name first head.clock rows answers desk place.later
+  pub each : length answers ≡ length rows
+  pub size : length rows ≡ place.settled
+  pub counts : place.counts ≡ counts_of answers
+  pub read : (text : Option Text) → StandsAt rem text (header_of head.name ∷ []) head.reader
+      → StandsAt rem text (header_of head.name ∷ (rows ++ (place.row ∷ []))) place.reader
+
+-- before the first row
+pub reached_start : {D S X C R : Type 0} (honest : D → Type 0) (stands : Bool → D → S → Type 0) (form : Fields → Read X) (step : RowStep S X) (gives : C → ℕ → C → Type 0)
+    (rem : R → Option Text) (first : D) (head : Head C R) (row : Fields) (reader : Reader R) → IsName head.name
+    → ((text : Option Text) (before : List Fields) → StandsAt rem text before head.reader → StandsAt rem text (before ++ (row ∷ [])) reader)
+    → (r : Reached honest stands form step gives rem first head first
+    (record { settled = 0; counts = record { ok = 0; again = 0; no = 0 }; row = row; later = head.clock; reader = reader })) × (r.answers ≡ [])
+reached_start honest stands form step gives rem first head row reader named found = (
+  record {
+    rows = [];
+    answers = [];
+    named = named;
+    rows_only = tt;
+    answered = record {
+      moments = [];
+      replies = [];
+      taken = refl;
+      one_each = refl;
+      replied = refl;
+      all = refl;
+      follows = λ sure good base stood. (base, stood, refl);
+    };
+    each = refl;
+    size = refl;
+    counts = refl;
+    read = λ text h. found text _ h;
+  },
+  refl,
+)
+
+abbrev pub next_place : {C R : Type 0} → Place C R → Counts → Fields → C → Reader R → Place C R
+next_place place counts row later reader = record { settled = place.settled + 1; counts = counts; row = row; later = later; reader = reader }
+
+-- one row more was answered, after the record after it had been read
+pub reached_more : {D S X C R : Type 0} (honest : D → Type 0) (stands : Bool → D → S → Type 0) (form : Fields → Read X) (step : RowStep S X) (gives : C → ℕ → C → Type 0)
+    (rem : R → Option Text) (first : D) (head : Head C R) (mid : D) (place : Place C R) (answer : Answer) (counts : Counts) (row : Fields) (desk : D) (later : C) (reader : Reader R)
+    → (r : Reached honest stands form step gives rem first head mid place) → ¬ (IsEnd place.row) → counts ≡ counted place.counts answer → (honest desk → honest mid)
+    → AnsweredBy honest stands step gives (form place.row) head.name (place.settled + 1) answer mid desk place.later later
+    → ((text : Option Text) (before : List Fields) → StandsAt rem text before place.reader → StandsAt rem text (before ++ (row ∷ [])) reader)
+    → (q : Reached honest stands form step gives rem first head desk (next_place place counts row later reader)) × (q.answers ≡ r.answers ++ (answer ∷ []))
+reached_more honest stands form step gives rem first head mid place answer counts row desk later reader r other more earlier given found =
+    let number : place.settled + 1 ≡ 1 + length r.rows = omega (arith, r.size) in (
+      record {
+        rows = r.rows ++ (place.row ∷ []);
+        answers = r.answers ++ (answer ∷ []);
+        named = r.named;
+        rows_only = all_push (λ (x : Fields). ¬ (IsEnd x)) r.rows place.row r.rows_only other;
+        answered = answered_push honest stands form step gives head.name first mid desk head.clock place.later later r.rows r.answers place.row answer r.answered earlier
+            (form place.row) refl (rw number at given);
+        each = length-append r.answers (answer ∷ []) ∙ ap (λ (n : ℕ). n + 1) r.each ∙ sym (length-append r.rows (place.row ∷ []));
+        size = length-append r.rows (place.row ∷ []) ∙ ap (λ (n : ℕ). n + 1) r.size;
+        counts = more ∙ ap (λ (c : Counts). counted c answer) r.counts ∙ counts_push r.answers answer;
+        read = λ text h. found text _ (r.read text h);
+      },
+      refl,
+    )
+
+abbrev pub start_of : {S C R : Type 0} → Head C R → S → Start S C R
+start_of head base = record { name = head.name; base = base; clock = head.clock; old = head.old; reader = head.reader }
+
+abbrev pub at_of : {S C R : Type 0} → Place C R → S → At S C R
+at_of place after = record { settled = place.settled; counts = place.counts; row = place.row; after = after; later = place.later; reader = place.reader }
+
+-- how far it has come by some steps, over some base
+abbrev pub progress_of : {D S T X C R : Type 0} (honest : D → Type 0) (stands : Bool → D → S → Type 0) (form : Fields → Read X) (step : RowStep S X) (gives : C → ℕ → C → Type 0)
+    (rem : R → Option Text) (first : D) (head : Head C R) (desk : D) (place : Place C R) (r : Reached honest stands form step gives rem first head desk place)
+    (other : RowStep T X) (base after : T) → InTurn other base (calls_of head.name r.answered.moments (formed_from form 1 r.rows)) r.answered.replies after
+    → Progress form other gives rem (start_of head base) (at_of place after)
+progress_of honest stands form step gives rem first head desk place r other base after turns = record {
+  rows = r.rows;
+  answers = r.answers;
+  moments = r.answered.moments;
+  taken = r.answered.taken;
+  settled = record {
+    named = r.named;
+    rows_only = r.rows_only;
+    answered = record { replies = r.answered.replies; one_each = r.answered.one_each; run = turns; all = r.answered.all };
+    each = r.each;
+  };
+  size = r.size;
+  counts = r.counts;
+  stands = r.read;
+}
+
+-- a stop leaves the base after the batch alone
+pub alone_at : {D S X C : Type 0} (form : Fields → Read X) (step : RowStep S X) (gives : C → ℕ → C → Type 0) (leaves : D → S → S → Type 0) (text : Option Text) (span : Span S C) (last : D)
+    (result : Result Counts BatchFault) → leaves last span.after span.after → LeavesAt form step gives leaves text span last result
+alone_at form step gives leaves text span last (Ok counts) alone = alone
+alone_at form step gives leaves text span last (Err fault) alone = inl alone
+
+-- what holds by all steps, over all bases that they lead from and to, is what the batch comes to
+pub comes : {D S X C R : Type 0} (honest : D → Type 0) (stands : D → S → Type 0) (leaves : D → S → S → Type 0) (form : Fields → Read X) (step : RowStep S X) (gives : C → ℕ → C → Type 0)
+    (rem : R → Option Text) (first : D) (head : Head C R) (desk : D) (place : Place C R) (r : Reached honest (StandsBy stands leaves) form step gives rem first head desk place)
+    (last : D) (text : Option Text) (outside : Outside C) (result : Result Counts BatchFault) → (honest last → honest desk) → Keeps honest stands desk last
+    → ((T : Type 0) (other : RowStep T X) (base after : T) → InTurn other base (calls_of head.name r.answered.moments (formed_from form 1 r.rows)) r.answered.replies after
+    → BatchGives form other gives text (with_base base after outside) result)
+    → (honest last → (base after : S) → InTurn step base (calls_of head.name r.answered.moments (formed_from form 1 r.rows)) r.answered.replies after → stands desk after → leaves desk after after
+    → LeavesAt form step gives leaves text (with_base base after outside) last result)
+    → Comes honest stands leaves form step gives text first last outside result
+comes {S = S} honest stands leaves form step gives rem first head desk place r last text outside result earlier keeps so stops = record {
+  told = (
+    r.answered.replies,
+    so (List Answer) scripted r.answered.replies [] (scripted_turns _ r.answered.replies
+        (r.answered.replied ∙ sym (calls_length head.name r.answered.moments (formed_from form 1 r.rows) r.answered.one_each))),
+  );
+  kept = λ good base stood.
+      let led = r.answered.follows false (earlier good) base stood in
+      (led.0, keeps good led.0 led.1, so S step base led.0 led.2);
+  left = λ good base stood alone.
+      let led = r.answered.follows true (earlier good) base (stood, alone) in
+      (led.0, keeps good led.0 led.1.0, so S step base led.0 led.2, stops good base led.0 led.2 led.1.0 led.1.1);
+}
+
+-- the same where nothing was asked of the desk
+pub comes_at_once : {D S X C : Type 0} (honest : D → Type 0) (stands : D → S → Type 0) (leaves : D → S → S → Type 0) (form : Fields → Read X) (step : RowStep S X) (gives : C → ℕ → C → Type 0)
+    (desk : D) (text : Option Text) (outside : Outside C) (result : Result Counts BatchFault)
+    → ((T : Type 0) (other : RowStep T X) (base : T) → BatchGives form other gives text (with_base base base outside) result)
+    → Comes honest stands leaves form step gives text desk desk outside result
+comes_at_once {S = S} honest stands leaves form step gives desk text outside result so = record {
+  told = ([], so (List Answer) scripted []);
+  kept = λ good base stood. (base, stood, so S step base);
+  left = λ good base stood alone. (base, stood, so S step base, alone_at form step gives leaves text (with_base base base outside) desk result alone);
+}

@@ -1,0 +1,24 @@
+-- How many rows were answered with each word.
+use Rattle.std.specs.Prelude.{◌+◌, ◌∷◌, ◌++◌, [], List, codes, if◌then◌else◌}
+use Rattle.std.specs.Fmt.{decimal}
+use Rattle.brk_money.specs.Spelling.{Text}
+use Rattle.brk_model.specs.Commands.{Answer}
+use Rattle.brk_model.specs.Lines.{count_again, count_done, count_refused, is_again, is_done, is_refused}
+use Rattle.brk_model.specs.Rows.{line_of}
+use Rattle.brk_batch_engine.specs.declared.counts.Counts.{Counts}
+
+-- the counts of all the answers
+abbrev pub counts_of : List Answer → Counts
+counts_of answers = record { ok = count_done answers; again = count_again answers; no = count_refused answers }
+
+-- the counts with one answer more
+abbrev pub counted : Counts → Answer → Counts
+counted counts answer = record {
+  ok = counts.ok + (if is_done answer then 1 else 0);
+  again = counts.again + (if is_again answer then 1 else 0);
+  no = counts.no + (if is_refused answer then 1 else 0);
+}
+
+-- the line that ends a batch with these counts
+abbrev pub counts_line : Counts → Text
+counts_line counts = line_of (codes "end" ∷ decimal counts.ok ∷ decimal counts.again ∷ decimal counts.no ∷ []) ++ 10 ∷ []

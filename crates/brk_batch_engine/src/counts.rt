@@ -1,0 +1,42 @@
+ghost use Rattle.std.specs.Prelude.{◌≡◌, ◌+◌, ◌<◌, ◌^◌};
+ghost use Rattle.brk_model.specs.Commands.{Reply};
+ghost use Rattle.brk_batch_engine.specs.Answers.{answer_of};
+ghost use Rattle.brk_batch_engine.specs.Counts.{counted};
+
+use crate::answer::RowAnswer;
+
+/// How many rows of a batch were answered with each word.
+#[derive(Clone, Copy, Debug, PartialEq, Eq)]
+pub struct Counts {
+    /// Rows that were done.
+    pub ok: u64,
+    /// Rows that had been done before.
+    pub again: u64,
+    /// Rows that were refused.
+    pub no: u64,
+}
+
+impl Counts {
+    // The counts before the first row.
+    pub(crate) const NONE: Counts = Counts {
+        ok: 0,
+        again: 0,
+        no: 0,
+    };
+
+    // The counts with one row more.
+    pub(crate) fn with<R>(self, answer: &RowAnswer<R>) -> Counts
+        requires ok { self.ok + 1 < 2 ^ 64 }
+        requires again { self.again + 1 < 2 ^ 64 }
+        requires no { self.no + 1 < 2 ^ 64 }
+        ensures { (reply : R → Reply) → result ≡ counted self (answer_of reply answer.now) }
+    {
+        let mut counts = self;
+        match answer {
+            RowAnswer::Done(_) => counts.ok += 1,
+            RowAnswer::Again(_) => counts.again += 1,
+            RowAnswer::Refused(_) => counts.no += 1,
+        }
+        counts
+    }
+}

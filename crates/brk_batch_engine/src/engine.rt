@@ -1,0 +1,198 @@
+ghost use Rattle.std.specs.Prelude.{◌≡◌, ◌∷◌, [], ℕ, List, Option, IfOk, IfErr, OnOk, option_map};
+ghost use Rattle.std.specs.Io.KnownBytes.{Appends};
+ghost use Rattle.csv.specs.Reading.{reader_state, source_of};
+ghost use Rattle.csv.specs.Records.{fields_of};
+ghost use Rattle.brk_money.specs.declared.refusal.Refusal.TheVariants.{BadText};
+ghost use Rattle.brk_model.specs.Commands.{Refused};
+ghost use Rattle.brk_model.specs.Input.{IsName, end_of, header_of, text_of};
+ghost use Rattle.brk_model.specs.Lines.{answer_line};
+ghost use Rattle.brk_batch_engine.specs.Answers.{answer_of};
+ghost use Rattle.brk_batch_engine.specs.Batch.{Comes, KeepsBooks, LeavesBooks, TellsAnswers};
+ghost use Rattle.brk_batch_engine.specs.Counts.{counts_line};
+ghost use Rattle.brk_batch_engine.specs.Parts.{CutPart, EndPart, HeaderPart, Part};
+ghost use Rattle.brk_batch_engine.specs.Reading.{ReadsBatch, Stands};
+
+use crate::answer::{RowAnswer, answer_row};
+use crate::counts::Counts;
+use crate::lines::{last_line, line_of};
+use crate::records::{MOST_BYTES, header_name, is_end, is_end_of, open_records, read_record};
+use crate::rows::Rows;
+use brk_io::{BatchFault, Clock, FaultKind, write_out};
+use brk_money::{Fault, Refusal};
+use brk_ref::BatchName;
+use csv::{ByteRecord, Reader};
+use std::alloc::Global;
+use std::io::{Read, Take, Write};
+use std::mem;
+
+// Writes the line of row n.
+fn tell<W: Write, D: Rows>(
+    alloc: Global,
+    writer: &mut W,
+    n: u64,
+    answer: &RowAnswer<D::Reply>,
+) -> Result<(), FaultKind>
+    ensures ok { OnOk result (Appends (W.contents writer.old) (W.contents writer.new) (answer_line n (answer_of D.told answer.now))) }
+    ensures err { IfErr result (λ kind. Part (W.contents writer.old) (W.contents writer.new) (answer_line n (answer_of D.told answer.now)) kind) }
+{
+    let Ok(text) = line_of::<D>(alloc, n, answer) else {
+        return Err(FaultKind::Desk(Fault::Memory));
+    };
+    match write_out(writer, text.as_slice()) {
+        Ok(()) => Ok(()),
+        Err(_) => Err(FaultKind::Write),
+    }
+}
+
+// Refuses row n, which has no record after it.
+fn cut_off<W: Write, D: Rows>(alloc: Global, writer: &mut W, n: u64) -> FaultKind
+    ensures { CutPart (W.contents writer.old) (W.contents writer.new) (answer_line n (Refused BadText)) result }
+{
+    match tell::<W, D>(alloc, writer, n, &RowAnswer::Refused(Refusal::BadText)) {
+        Ok(()) => FaultKind::NoEnd,
+        Err(kind) => kind,
+    }
+}
+
+// Ends a batch of n rows with the record that ends it.
+fn finish<W: Write>(
+    alloc: Global,
+    writer: &mut W,
+    row: &ByteRecord,
+    n: u64,
+    counts: Counts,
+) -> Result<(), FaultKind>
+    ensures right { OnOk result (fields_of row.now ≡ end_of n) }
+    ensures ok { OnOk result (Appends (W.contents writer.old) (W.contents writer.new) (counts_line counts)) }
+    ensures err { IfErr result (λ kind. EndPart (W.contents writer.old) (W.contents writer.new) (fields_of row.now) n counts kind) }
+{
+    if !is_end_of(row, n) {
+        return Err(FaultKind::BadEnd);
+    }
+    let Ok(text) = last_line(alloc, counts) else {
+        return Err(FaultKind::Desk(Fault::Memory));
+    };
+    match write_out(writer, text.as_slice()) {
+        Ok(()) => Ok(()),
+        Err(_) => Err(FaultKind::Write),
+    }
+}
+
+// Reads the header, for the name of the batch.
+fn read_header<R: Read>(alloc: Global, records: &mut Reader<R>) -> Result<BatchName, FaultKind>
+    requires { ReadsBatch records.old }
+    ensures setup { OnOk result (ReadsBatch records.new) }
+    ensures named { IfOk result (λ name. IsName name) }
+    ensures ok { IfOk result (λ name. (text : Option (List ℕ)) → Stands text [] (reader_state records.old) (source_of R.remaining records.old)
+        → Stands text (header_of name ∷ []) (reader_state records.new) (source_of R.remaining records.new)) }
+    ensures err { IfErr result (λ kind. (text : Option (List ℕ)) → Stands text [] (reader_state records.old) (source_of R.remaining records.old)
+        → HeaderPart text kind) }
+{
+    let mut header = ByteRecord::new(alloc);
+    if !read_record(records, &mut header)? {
+        return Err(FaultKind::BadHeader);
+    }
+    match header_name(alloc, &header) {
+        Ok(Some(name)) => Ok(name),
+        Ok(None) => Err(FaultKind::BadHeader),
+        Err(_) => Err(FaultKind::Desk(Fault::Memory)),
+    }
+}
+
+// Answers the rows after the header of a batch of this name. A record takes a byte at least, so that there are no more
+// rows than bytes.
+fn run_rows<R: Read, W: Write, C: Clock, D: Rows>(
+    alloc: Global,
+    records: &mut Reader<R>,
+    name: &BatchName,
+    writer: &mut W,
+    clock: &mut C,
+    desk: &mut D::Desk,
+) -> Result<Counts, BatchFault>
+    requires setup { ReadsBatch records.old }
+    requires named { IsName name.now }
+    ensures leads { D.leads desk.old desk.new }
+    ensures comes { (text : Option (List ℕ)) → Stands text (header_of name.now ∷ []) (reader_state records.old) (source_of R.remaining records.old)
+        → Comes D.honest D.stands D.leaves D.form D.step C.gives text desk.old desk.new
+        (record { clock = clock.old; later = clock.new; old = W.contents writer.old; new = W.contents writer.new }) result }
+{
+    let mut counts = Counts::NONE;
+    let mut row = ByteRecord::new(alloc);
+    let mut after = ByteRecord::new(alloc);
+    let has_first = match read_record(records, &mut row) {
+        Ok(found) => found,
+        Err(kind) => return Err(BatchFault { rows: 0, kind }),
+    };
+    if !has_first {
+        return Err(BatchFault {
+            rows: 0,
+            kind: FaultKind::NoEnd,
+        });
+    }
+    for settled in 0..MOST_BYTES {
+        if is_end(&row) {
+            if let Err(kind) = finish(alloc, writer, &row, settled, counts) {
+                return Err(BatchFault {
+                    rows: settled,
+                    kind,
+                });
+            }
+            return Ok(counts);
+        }
+        let has_next = match read_record(records, &mut after) {
+            Ok(found) => found,
+            Err(kind) => {
+                return Err(BatchFault {
+                    rows: settled,
+                    kind,
+                });
+            }
+        };
+        let n = settled + 1;
+        if !has_next {
+            let kind = cut_off::<W, D>(alloc, writer, n);
+            return Err(BatchFault { rows: n, kind });
+        }
+        let told = match answer_row::<C, D>(alloc, desk, clock, name, n, &row) {
+            Ok(told) => told,
+            Err(fault) => {
+                return Err(BatchFault {
+                    rows: settled,
+                    kind: FaultKind::Desk(fault),
+                });
+            }
+        };
+        counts = counts.with(&told);
+        if let Err(kind) = tell::<W, D>(alloc, writer, n, &told) {
+            return Err(BatchFault { rows: n, kind });
+        }
+        mem::swap(&mut row, &mut after);
+    }
+    Err(BatchFault {
+        rows: MOST_BYTES,
+        kind: FaultKind::Desk(Fault::Memory),
+    })
+}
+
+/// Reads a batch, runs its rows and writes their lines.
+pub fn run<R: Read + Drop, W: Write, C: Clock, D: Rows>(
+    alloc: Global,
+    reader: R,
+    writer: &mut W,
+    clock: &mut C,
+    desk: &mut D::Desk,
+) -> Result<Counts, BatchFault>
+    ensures leads { D.leads desk.old desk.new }
+    ensures told { TellsAnswers D.form C.gives (option_map text_of (R.remaining reader))
+        (record { clock = clock.old; later = clock.new; old = W.contents writer.old; new = W.contents writer.new }) result }
+    ensures kept { KeepsBooks D.honest D.stands D.form D.step C.gives (option_map text_of (R.remaining reader)) desk.old desk.new
+        (record { clock = clock.old; later = clock.new; old = W.contents writer.old; new = W.contents writer.new }) result }
+    ensures left { LeavesBooks D.honest D.stands D.leaves D.form D.step C.gives (option_map text_of (R.remaining reader)) desk.old desk.new
+        (record { clock = clock.old; later = clock.new; old = W.contents writer.old; new = W.contents writer.new }) result }
+{
+    let mut records = open_records(alloc, reader);
+    match read_header(alloc, &mut records) {
+        Ok(name) => run_rows::<Take<R>, W, C, D>(alloc, &mut records, &name, writer, clock, desk),
+        Err(kind) => Err(BatchFault { rows: 0, kind }),
+    }
+}

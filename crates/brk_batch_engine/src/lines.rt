@@ -1,0 +1,57 @@
+ghost use Rattle.std.specs.Prelude.{◌≡◌, IfOk, string_bytes};
+ghost use Rattle.brk_model.specs.Commands.{Reply};
+ghost use Rattle.brk_model.specs.Lines.{answer_line, answer_text};
+ghost use Rattle.brk_batch_engine.specs.Answers.{answer_of};
+ghost use Rattle.brk_batch_engine.specs.Counts.{counts_line};
+
+use crate::answer::RowAnswer;
+use crate::counts::Counts;
+use crate::rows::Rows;
+use itoa::Buffer;
+use std::alloc::{AllocError, Global};
+
+// The word of an answer and its fields, joined by commas.
+fn answer_text<D: Rows>(alloc: Global, answer: &RowAnswer<D::Reply>) -> Result<String, AllocError>
+    ensures { IfOk result (λ text. string_bytes text ≡ answer_text (answer_of D.told answer.now)) }
+{
+    match answer {
+        RowAnswer::Done(reply) => {
+            let fields = D::reply_line(alloc, reply)?;
+            format!(in alloc; "ok,{fields}")
+        }
+        RowAnswer::Again(line) => format!(in alloc; "again,{line}"),
+        RowAnswer::Refused(refusal) => format!(in alloc; "no,{refusal}"),
+    }
+}
+
+/// The line of row n.
+pub fn line_of<D: Rows>(
+    alloc: Global,
+    n: u64,
+    answer: &RowAnswer<D::Reply>,
+) -> Result<Vec<u8>, AllocError>
+    ensures { IfOk result (λ line. line.items ≡ answer_line n (answer_of D.told answer.now)) }
+{
+    let text = answer_text::<D>(alloc, answer)?;
+    let mut buffer = Buffer::new();
+    let mut line = Vec::from_slice(alloc, buffer.format(n).as_bytes())?;
+    line.push(b',')?;
+    line.extend_from_slice(text.as_bytes())?;
+    line.push(b'\n')?;
+    Ok(line)
+}
+
+/// The last line of a batch that ends well.
+pub fn last_line(alloc: Global, counts: Counts) -> Result<Vec<u8>, AllocError>
+    ensures { IfOk result (λ line. line.items ≡ counts_line counts) }
+{
+    let mut line = Vec::from_slice(alloc, b"end,")?;
+    let mut buffer = Buffer::new();
+    line.extend_from_slice(buffer.format(counts.ok).as_bytes())?;
+    line.push(b',')?;
+    line.extend_from_slice(buffer.format(counts.again).as_bytes())?;
+    line.push(b',')?;
+    line.extend_from_slice(buffer.format(counts.no).as_bytes())?;
+    line.push(b'\n')?;
+    Ok(line)
+}

@@ -1,0 +1,124 @@
+ghost use Rattle.std.specs.Prelude.{◌≡◌, ◌⊎◌, ◌↔◌, ◌∷◌, ◌++◌, [], ℕ, List, Option, Some, IsTrue, IfOk, IfErr, OnOk, MatchBool, MatchOption, option_map, OnErr, Err};
+ghost use Rattle.std.specs.Io.Take.{take_remaining};
+ghost use Rattle.csv.specs.Reading.{reader_state, source_of};
+ghost use Rattle.csv.specs.Records.{field_at, fields_of};
+ghost use Rattle.brk_model.specs.Answers.{Fields};
+ghost use Rattle.brk_money.specs.declared.fault.Fault.TheVariants.{Memory};
+ghost use Rattle.brk_model.specs.Input.{AreAll, IsEnd, IsName, end_of, header_of, text_of};
+ghost use Rattle.brk_ref.specs.Fields.{texts};
+ghost use Rattle.brk_batch_engine.specs.Reading.{ReadsBatch, Stands};
+
+use brk_io::FaultKind;
+use brk_money::Fault;
+use brk_ref::BatchName;
+use csv::{ByteRecord, Reader, ReaderBuilder};
+use itoa::Buffer;
+use std::alloc::{AllocError, Global};
+use std::io::{Read, Take};
+
+/// The most bytes that are read of an input. What is cut there is a cut input.
+pub const MOST_BYTES: u64 = 67_108_864;
+
+/// The records of the first bytes of an input: comma-separated, of any number of fields, with no header row.
+pub fn open_records<R: Read + Drop>(alloc: Global, reader: R) -> Reader<Take<R>>
+    ensures setup { ReadsBatch result }
+    ensures start { Stands (option_map text_of (R.remaining reader)) [] (reader_state result) (source_of (take_remaining R.remaining) result) }
+{
+    ReaderBuilder::new()
+        .has_headers(false)
+        .flexible(true)
+        .from_reader(alloc, reader.take(MOST_BYTES))
+}
+
+/// Reads the next record, if there is one.
+pub fn read_record<R: Read>(
+    records: &mut Reader<R>,
+    row: &mut ByteRecord,
+) -> Result<bool, FaultKind>
+    requires { ReadsBatch records.old }
+    ensures setup { OnOk result (ReadsBatch records.new) }
+    ensures found { IfOk result (λ found. (text : Option (List ℕ)) (before : List Fields)
+        → Stands text before (reader_state records.old) (source_of R.remaining records.old)
+        → MatchBool found
+        (Stands text (before ++ (fields_of row.new ∷ [])) (reader_state records.new) (source_of R.remaining records.new))
+        (AreAll text before)) }
+    ensures kind { IfErr result (λ kind. (kind ≡ FaultKind.Read) ⊎ (kind ≡ FaultKind.Desk Fault.Memory)) }
+{
+    match records.read_byte_record(row) {
+        Ok(found) => Ok(found),
+        Err(e) => {
+            if e.is_io_error() {
+                Err(FaultKind::Read)
+            } else {
+                Err(FaultKind::Desk(Fault::Memory))
+            }
+        }
+    }
+}
+
+/// The fields of a record in turn.
+pub fn fields_list(alloc: Global, row: &ByteRecord) -> Result<Vec<&[u8]>, AllocError>
+    ensures { IfOk result (λ all. texts all.items ≡ fields_of row.now) }
+{
+    let mut all = Vec::new(alloc);
+    while let Some(field) = row.get(all.len()) {
+        all.push(field)?;
+    }
+    Ok(all)
+}
+
+// Whether the field at a place is this text.
+fn field_is(row: &ByteRecord, i: usize, text: &[u8]) -> bool
+    ensures { IsTrue result ↔ (field_at (fields_of row.now) i ≡ Some text.now) }
+{
+    match row.get(i) {
+        Some(field) => field == text,
+        None => false,
+    }
+}
+
+// Whether a record has just these two fields.
+#[tactic(auto, using(crate::proofs::Reading::pair_found, crate::proofs::Reading::pair_fields))]
+fn is_pair(row: &ByteRecord, first: &[u8], second: &[u8]) -> bool
+    ensures { IsTrue result ↔ (fields_of row.now ≡ first.now ∷ second.now ∷ []) }
+{
+    if row.len() != 2 {
+        return false;
+    }
+    if !field_is(row, 0, first) {
+        return false;
+    }
+    field_is(row, 1, second)
+}
+
+/// Whether a record ends a batch, rightly or not.
+pub fn is_end(row: &ByteRecord) -> bool
+    ensures { IsTrue result ↔ IsEnd (fields_of row.now) }
+{
+    field_is(row, 0, b"end")
+}
+
+/// Whether a record is the right end after n rows.
+pub fn is_end_of(row: &ByteRecord, n: u64) -> bool
+    ensures { IsTrue result ↔ (fields_of row.now ≡ end_of n) }
+{
+    let mut buffer = Buffer::new();
+    is_pair(row, b"end", buffer.format(n).as_bytes())
+}
+
+/// The name that a header gives its batch, if the record is a header.
+#[tactic(auto, using(crate::proofs::Reading::header_name_is))]
+pub fn header_name(alloc: Global, row: &ByteRecord) -> Result<Option<BatchName>, Fault>
+    ensures header { IfOk result (λ found. MatchOption found
+        ((name : List ℕ) → IsName name → fields_of row.now ≡ header_of name → ⊥)
+        (λ name. IsName name × (fields_of row.now ≡ header_of name))) }
+    ensures fault { OnErr result (result ≡ Err Memory) }
+{
+    let Some(name) = row.get(1) else {
+        return Ok(None);
+    };
+    if !is_pair(row, b"batch", name) {
+        return Ok(None);
+    }
+    BatchName::parse(alloc, name)
+}

@@ -1,5 +1,0 @@
-use Rattle.brk_book_laws.proofs.Reading.{reads_count}
-use Rattle.brk_book_laws.proofs.reads.accounts_are_counted.Goals as goal
-
-pub returns : goal.returns
-returns c = reads_count

@@ -1,5 +1,0 @@
-use Rattle.brk_book_laws.proofs.TradeReading.{reads_apart}
-use Rattle.brk_book_laws.proofs.reads.requests_are_of_different_trades.Goals as goal
-
-pub returns : goal.returns
-returns c = reads_apart

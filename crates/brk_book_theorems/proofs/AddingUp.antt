@@ -1,0 +1,254 @@
+-- The sums that the tables of a base in order hold are those of their rows.
+use Rattle.std.proofs.Common.{◌≡◌, ◌≢◌, ℕ, ◌+◌, ◌==◌, zero, suc, Bool, true, false, not, cond, List, [], ◌∷◌, refl, sym, ◌∙◌, ap, subst, length, map, filter, arith, ℤ, pos, negsuc, neg_ℤ, ◌+ℤ◌, Some, None}
+use Rattle.std.specs.Prelude.{bytes_eq, find, flat_map, is_some, sum_by}
+use Rattle.std.specs.Option.{option_map_or}
+use Rattle.std.specs.List.{AllByRecursion}
+use Rattle.std.proofs.lemmas.Bool.{eq-eqb}
+use Rattle.std.proofs.lemmas.Int.{ints}
+use Rattle.brk_lots.specs.Books.{lots_total}
+use Rattle.brk_lots.specs.Lots.{side_of_qty}
+use Rattle.brk_lots.specs.Position.{IsPosition}
+use Rattle.brk_lots.specs.declared.lot.Lot.{Lot}
+use Rattle.brk_money.specs.Spelling.{Text}
+use Rattle.brk_money.specs.declared.side.Side.TheVariants.{Buy, Sell}
+use Rattle.brk_model.specs.Base.{Base, account_with, completed, is_completed, security_with}
+use Rattle.brk_model.specs.Derived.{balance_of, commissions_of, of_broker, postings_of, summary_of, trade_count_of}
+use Rattle.brk_model.specs.Keys.{account_key, broker_key, number, row_before, summary_key}
+use Rattle.brk_model.specs.Lists.{insert_by, is_zero, sort_by, total_by}
+use Rattle.brk_model.specs.Names.{KnowsAccount, KnowsSecurity}
+use Rattle.brk_model.specs.Records.{Account, Broker}
+use Rattle.brk_model.specs.Sheets.{sheets, sheets_of}
+use Rattle.brk_model.specs.Tables.{AccountRow, BrokerRow, HoldingRow, SummaryRow, account_row, broker_row, holding_row, summary_rows, tables_at, trade_row}
+use Rattle.brk_book_theorems.specs.Books.{DistinctAccounts, IsBooks}
+use Rattle.brk_book_theorems.specs.Sums.{AddUp, IsBalance, IsBrokerSum, IsSummary, IsSummed, held_in, is_lot_of}
+use Rattle.brk_book_theorems.specs.TradeReads.{lots_in, position_in, row_lot}
+use Rattle.brk_book_theorems.proofs.Bools.{numbers_back}
+use Rattle.brk_book_theorems.proofs.Holding.{total_is}
+use Rattle.brk_book_theorems.proofs.LotLives.{lots_live_on}
+use Rattle.brk_book_theorems.proofs.LotOrder.{position_read}
+use Rattle.brk_book_theorems.proofs.LotReading.{All-sort, holdings_in_order, is_left}
+use Rattle.brk_book_theorems.proofs.NewKeys.{and_both, same_bytes}
+use Rattle.brk_book_theorems.proofs.Same.{All-append, All-filter, All-map, All-mapped, All-of}
+use Rattle.brk_book_theorems.proofs.SumReading.{broker_trades, cash_moves, length-map, sum-map, total-map}
+use Rattle.brk_book_theorems.proofs.Summaries.{all_summaries, reads_summary_row}
+use Rattle.brk_book_theorems.proofs.Volumes.{All-both}
+use Rattle.brk_book_theorems.proofs.Worth.{total-sorted}
+
+-- ---- brokers
+
+broker_adds : (base : Base) → IsBooks base → (b : Broker) → IsBrokerSum (sheets base) (broker_row base.accounts (completed base) b)
+unfolding trade_count_of commissions_of
+broker_adds base books b = record {
+  trades = ap pos (sym (ap length (broker_trades base b.id books) ∙ length-map trade_row (of_broker base.accounts (completed base) b.id)));
+  commissions = sym (ap (sum_by (λ t. t.commission)) (broker_trades base b.id books) ∙ sum-map (λ t. t.commission) trade_row (of_broker base.accounts (completed base) b.id));
+}
+
+brokers_are : (base : Base) → (sheets base).brokers ≡ sort_by (row_before broker_key) (map (broker_row base.accounts (completed base)) base.brokers)
+unfolding tables_at sheets_of
+brokers_are base = refl
+
+brokers_add : (base : Base) → IsBooks base → AllByRecursion (IsBrokerSum (sheets base)) (sheets base).brokers
+brokers_add base books =
+    let rows : List BrokerRow = map (broker_row base.accounts (completed base)) base.brokers in
+    subst (AllByRecursion (IsBrokerSum (sheets base))) (sym (brokers_are base))
+    (All-sort (IsBrokerSum (sheets base)) (row_before broker_key) rows
+    (All-mapped (IsBrokerSum (sheets base)) (broker_row base.accounts (completed base)) base.brokers (All-of base.brokers (broker_adds base books))))
+
+-- ---- balances
+
+-- each account is found by its id
+accounts_found : (accounts : List Account) → DistinctAccounts accounts → AllByRecursion (λ a. find (λ b. b.id == a.id) accounts ≡ Some a) accounts
+accounts_found [] d = tt
+accounts_found (a ∷ accounts) d = (
+  ap (λ b. cond b (Some a) (find (λ b. b.id == a.id) accounts)) (eq-eqb a.id a.id refl),
+  behind accounts d.0 (accounts_found accounts d.1),
+)
+  where
+    behind : (bs : List Account) → AllByRecursion (λ b. (b.id == a.id) ≡ false) bs → AllByRecursion (λ b. find (λ c. c.id == b.id) accounts ≡ Some b) bs
+        → AllByRecursion (λ b. find (λ c. c.id == b.id) (a ∷ accounts) ≡ Some b) bs
+    behind [] h k = tt
+    behind (b ∷ bs) h k = (ap (λ x. cond x (Some a) (find (λ c. c.id == b.id) accounts)) (numbers_back a.id b.id ∙ h.0) ∙ k.0, behind bs h.1 k.1)
+
+balance_adds : (base : Base) → IsBooks base → (a : Account) → account_with base a.id ≡ Some a → IsBalance (sheets base) (account_row base.accounts (postings_of base) a)
+unfolding balance_of
+balance_adds base books a e = λ i. option_map_or (λ a. a.opening) (e i) (pos 0) +ℤ sym (cash_moves base a.id) i
+
+accounts_are : (base : Base) → (sheets base).accounts ≡ sort_by (row_before account_key) (map (account_row base.accounts (postings_of base)) base.accounts)
+unfolding tables_at sheets_of
+accounts_are base = refl
+
+balances_add : (base : Base) → IsBooks base → AllByRecursion (IsBalance (sheets base)) (sheets base).accounts
+balances_add base books =
+    let rows : List AccountRow = map (account_row base.accounts (postings_of base)) base.accounts in
+    subst (AllByRecursion (IsBalance (sheets base))) (sym (accounts_are base))
+    (All-sort (IsBalance (sheets base)) (row_before account_key) rows
+    (All-mapped (IsBalance (sheets base)) (account_row base.accounts (postings_of base)) base.accounts
+    (All-map base.accounts (balance_adds base books) (accounts_found base.accounts books.owners))))
+
+-- ---- what is held
+
+lots_held : (base : Base) (account : ℕ) (symbol : Text) → lots_total (position_in (sheets base) account symbol) ≡ held_in (sheets base) account symbol
+lots_held base account symbol =
+    let own : List HoldingRow = filter (is_lot_of account symbol) (sheets base).holdings in
+    total-map (λ l. l.qty) row_lot (lots_in (sheets base) account symbol)
+    ∙ total-sorted (λ r. number r.stamp ∷ number r.trade ∷ []) (λ h. h.qty) own
+
+pub held_is : (base : Base) (account : ℕ) (symbol : Text) → IsBooks base → held_in (sheets base) account symbol ≡ summary_of (completed base) account symbol
+held_is base account symbol books =
+    sym (lots_held base account symbol) ∙ total_is base account symbol books
+
+-- ---- summaries
+
+not_zero : (q : ℤ) → is_zero q ≡ false → q ≢ pos 0
+not_zero q e k = let h : true ≡ false = sym (ap is_zero k) ∙ e in absurd (cc)
+
+summary_adds : (base : Base) → IsBooks base → (account : ℕ) (symbol : Text) → AllByRecursion (IsSummary (sheets base)) (summary_rows (completed base) account symbol)
+summary_adds base books account symbol = by_test (is_zero (summary_of (completed base) account symbol)) refl
+  where
+    row : SummaryRow
+    row = record { account = account; symbol = symbol; qty = summary_of (completed base) account symbol }
+
+    by_test : (b : Bool) → is_zero (summary_of (completed base) account symbol) ≡ b → AllByRecursion (IsSummary (sheets base)) (cond (not b) (row ∷ []) [])
+    by_test true e = tt
+    by_test false e = (record { sum = sym (held_is base account symbol books); some = not_zero (summary_of (completed base) account symbol) e }, tt)
+
+All-flat : {X Y : Type 0} (P : Y → Type 0) (f : X → List Y) (xs : List X) → ((x : X) → AllByRecursion P (f x)) → AllByRecursion P (flat_map f xs)
+All-flat P f [] h = tt
+All-flat P f (x ∷ xs) h = All-append P (f x) (flat_map f xs) (h x) (All-flat P f xs h)
+
+summaries_are : (base : Base) → (sheets base).summaries ≡ sort_by (row_before summary_key) (all_summaries base (completed base))
+unfolding tables_at sheets_of
+summaries_are base = refl
+
+summaries_add : (base : Base) → IsBooks base → AllByRecursion (IsSummary (sheets base)) (sheets base).summaries
+summaries_add base books =
+    let P : SummaryRow → Type 0 = IsSummary (sheets base) in
+    subst (AllByRecursion P) (sym (summaries_are base))
+    (All-sort P (row_before summary_key) (all_summaries base (completed base))
+    (All-flat P _ base.accounts (λ a. All-flat P _ base.securities (λ s. summary_adds base books a.id s.symbol))))
+
+-- ---- lots of one side add up to something
+
+bought : (ls : List Lot) → AllByRecursion (λ m. side_of_qty m.qty ≡ Buy) ls → (n : ℕ) × (lots_total ls ≡ pos n)
+unfolding total_by
+bought [] h = (0, refl)
+bought (m ∷ ls) h = by_qty m.qty refl (bought ls h.1)
+  where
+    by_qty : (q : ℤ) → m.qty ≡ q → (n : ℕ) × (lots_total ls ≡ pos n) → (n : ℕ) × (m.qty +ℤ lots_total ls ≡ pos n)
+    by_qty (pos k) e r = (k + r.0, let t = r.1 in omega (arith, ints, e, t))
+    by_qty (negsuc k) e r = let j : Sell ≡ Buy = sym (ap side_of_qty e) ∙ h.0 in absurd (cc)
+
+sold : (ls : List Lot) → AllByRecursion (λ m. side_of_qty m.qty ≡ Sell) ls → (n : ℕ) × (lots_total ls ≡ neg_ℤ (pos n))
+unfolding total_by
+sold [] h = (0, refl)
+sold (m ∷ ls) h = by_qty m.qty refl (sold ls h.1)
+  where
+    by_qty : (q : ℤ) → m.qty ≡ q → (n : ℕ) × (lots_total ls ≡ neg_ℤ (pos n)) → (n : ℕ) × (m.qty +ℤ lots_total ls ≡ neg_ℤ (pos n))
+    by_qty (pos k) e r = let j : Buy ≡ Sell = sym (ap side_of_qty e) ∙ h.0 in absurd (cc)
+    by_qty (negsuc k) e r = (suc k + r.0, let t = r.1 in omega (arith, ints, e, t))
+
+no_lots : (ls : List Lot) → IsPosition ls → lots_total ls ≡ pos 0 → ls ≡ []
+unfolding total_by
+no_lots [] p e = refl
+no_lots (l ∷ ls) p e = by_qty l.qty refl
+  where
+    by_qty : (q : ℤ) → l.qty ≡ q → l ∷ ls ≡ []
+    by_qty (pos zero) k = absurd (p.0 k)
+    by_qty (pos (suc n)) k =
+        let r = bought ls (All-map ls (λ m h. h.0.0 ∙ ap side_of_qty k) p.1) in
+        let t = r.1 in
+        absurd (omega (arith, ints, k, t, e))
+    by_qty (negsuc n) k =
+        let r = sold ls (All-map ls (λ m h. h.0.0 ∙ ap side_of_qty k) p.1) in
+        let t = r.1 in
+        absurd (omega (arith, ints, k, t, e))
+
+-- ---- no lots are without a summary
+
+none_mapped : {X Y : Type 0} (f : X → Y) (xs : List X) → map f xs ≡ [] → xs ≡ []
+none_mapped f [] e = refl
+none_mapped f (x ∷ xs) e = absurd (cc)
+
+some_inserted : {X : Type 0} (before : X → X → Bool) (x : X) (ys : List X) → insert_by before x ys ≡ [] → ⊥
+some_inserted before x [] e = absurd (cc)
+some_inserted {X = X} before x (y ∷ ys) e = by_test (before y x) e
+  where
+    by_test : (b : Bool) → cond b (y ∷ insert_by before x ys) (x ∷ y ∷ ys) ≡ [] → ⊥
+    by_test true e = absurd (cc)
+    by_test false e = absurd (cc)
+
+none_sorted : {X : Type 0} (before : X → X → Bool) (xs : List X) → sort_by before xs ≡ [] → xs ≡ []
+unfolding sort_by
+none_sorted before [] e = refl
+none_sorted before (x ∷ xs) e = absurd (some_inserted before x (sort_by before xs) e)
+
+-- an element that passes a test of its own is left where the others are tested
+each_left : {X : Type 0} (p : X → X → Bool) → ((x : X) → p x x ≡ true) → (xs : List X) → AllByRecursion (λ x. filter (p x) xs ≡ [] → ⊥) xs
+each_left p own [] = tt
+each_left {X = X} p own (x ∷ xs) = (
+  (λ e. let k : x ∷ filter (p x) xs ≡ [] = sym (ap (λ b. cond b (x ∷ filter (p x) xs) (filter (p x) xs)) (own x)) ∙ e in absurd (cc)),
+  All-map xs behind (each_left p own xs),
+)
+  where
+    behind : (y : X) → (filter (p y) xs ≡ [] → ⊥) → filter (p y) (x ∷ xs) ≡ [] → ⊥
+    behind y h e = by_test (p y x) e
+      where
+        by_test : (b : Bool) → cond b (x ∷ filter (p y) xs) (filter (p y) xs) ≡ [] → ⊥
+        by_test true e = absurd (cc)
+        by_test false e = h e
+
+of_itself : (h : HoldingRow) → is_lot_of h.account h.symbol h ≡ true
+of_itself h = and_both (h.account == h.account) (bytes_eq h.symbol h.symbol) (eq-eqb h.account h.account refl) (same_bytes h.symbol h.symbol refl)
+
+-- the account and the security of a lot are there
+abbrev IsKnown : Base → HoldingRow → Type 0
+IsKnown base h = (is_some (account_with base h.account) ≡ true) × (is_some (security_with base h.symbol) ≡ true)
+
+lots_known : (base : Base) → IsBooks base → AllByRecursion (IsKnown base) (sheets base).holdings
+lots_known base books =
+    subst (AllByRecursion (IsKnown base)) (sym (holdings_in_order base books.numbered))
+    (All-filter (IsKnown base) is_left (map (holding_row (completed base)) (completed base))
+    (All-mapped (IsKnown base) (holding_row (completed base)) (completed base)
+    (All-filter (λ t. KnowsAccount base t × KnowsSecurity base t) is_completed base.trades
+    (All-both (KnowsAccount base) (KnowsSecurity base) base.trades books.accounts books.securities))))
+
+nothing_held : (base : Base) (account : ℕ) (symbol : Text) → IsBooks base → held_in (sheets base) account symbol ≡ pos 0 → filter (is_lot_of account symbol) (sheets base).holdings ≡ []
+nothing_held base account symbol books e =
+    let position : position_in (sheets base) account symbol ≡ [] =
+    no_lots (position_in (sheets base) account symbol) (position_read base account symbol books) (lots_held base account symbol ∙ e) in
+    none_sorted _ (filter (is_lot_of account symbol) (sheets base).holdings) (none_mapped row_lot (lots_in (sheets base) account symbol) position)
+
+zero_is : (q : ℤ) → is_zero q ≡ true → q ≡ pos 0
+zero_is (pos zero) e = refl
+zero_is (pos (suc n)) e = absurd (cc)
+zero_is (negsuc n) e = absurd (cc)
+
+lot_summed : (base : Base) → IsBooks base → (h : HoldingRow) → IsKnown base h × (filter (is_lot_of h.account h.symbol) (sheets base).holdings ≡ [] → ⊥) → IsSummed (sheets base) h
+lot_summed base books h k = by_test (is_zero (summary_of (completed base) h.account h.symbol)) refl
+  where
+    by_test : (b : Bool) → is_zero (summary_of (completed base) h.account h.symbol) ≡ b → IsSummed (sheets base) h
+    by_test true e =
+        absurd (k.1 (nothing_held base h.account h.symbol books
+        (held_is base h.account h.symbol books ∙ zero_is (summary_of (completed base) h.account h.symbol) e)))
+    by_test false e =
+        ap is_some (reads_summary_row base h.account h.symbol books k.0.0 k.0.1)
+        ∙ ap (λ b. is_some (cond b None (Some (let row : SummaryRow = record { account = h.account; symbol = h.symbol; qty = summary_of (completed base) h.account h.symbol } in row)))) e
+
+all_summed : (base : Base) → IsBooks base → AllByRecursion (IsSummed (sheets base)) (sheets base).holdings
+all_summed base books =
+    let rows : List HoldingRow = (sheets base).holdings in
+    All-map rows (lot_summed base books)
+    (All-both (IsKnown base) (λ h. filter (is_lot_of h.account h.symbol) (sheets base).holdings ≡ [] → ⊥) rows (lots_known base books)
+    (each_left (λ h. is_lot_of h.account h.symbol) of_itself rows))
+
+-- ---- all of it
+
+pub sums_add_up : (base : Base) → IsBooks base → AddUp (sheets base)
+sums_add_up base books = record {
+  brokers = brokers_add base books;
+  balances = balances_add base books;
+  summaries = summaries_add base books;
+  summed = all_summed base books;
+  positions = λ account symbol. position_read base account symbol books;
+  lives = lots_live_on base books;
+}

@@ -1,0 +1,292 @@
+-- The rows of a lot's changes, by the completion of their trades, are its life.
+use Rattle.std.proofs.Common.{◌≡◌, ◌<◌, ℕ, ◌==◌, Bool, true, false, not, cond, List, [], ◌∷◌, ◌++◌, refl, sym, ◌∙◌, ap, subst, map, filter, arith, ℤ, pos, negsuc, zero, suc, ◌-ℤ◌, Option, Some, None}
+use Rattle.std.specs.Prelude.{⊤, find, flat_map, is_some, nat_lt, option_map}
+use Rattle.std.specs.Option.{option_map_or}
+use Rattle.std.specs.List.{AllByRecursion}
+use Rattle.std.proofs.lemmas.Bool.{eqb-true, ne_eqb}
+use Rattle.std.proofs.lemmas.Bool.Decides.{nat_tests}
+use Rattle.std.proofs.lemmas.Int.{ints}
+use Rattle.brk_money.specs.declared.side.Side.{Side}
+use Rattle.brk_money.specs.declared.side.Side.TheVariants.{Buy}
+use Rattle.brk_lots.specs.Chains.{IsLife, rows_of}
+use Rattle.brk_lots.specs.Deals.{AreDeals}
+use Rattle.brk_lots.proofs.Books.{side_after}
+use Rattle.brk_lots.proofs.Counts.{OneSide}
+use Rattle.brk_lots.proofs.Deals.{all_after}
+use Rattle.brk_model.specs.Base.{Base, completed, is_completed, moment_of, trade_with}
+use Rattle.brk_model.specs.Derived.{deal_of, deals_in, shares_in}
+use Rattle.brk_model.specs.Joins.{trade_in}
+use Rattle.brk_model.specs.Keys.{by_key, holding_history_key, row_before}
+use Rattle.brk_model.specs.Lists.{insert_by, is_zero, sort_by}
+use Rattle.brk_model.specs.LookupView.{touch_stamp}
+use Rattle.brk_model.specs.Records.{Trade}
+use Rattle.brk_model.specs.Shares.{Deal, Share, lot_qty, shares_after}
+use Rattle.brk_model.specs.Sheets.{sheets, sheets_of}
+use Rattle.brk_model.specs.Tables.{HoldingHistoryRow, HoldingRow, holding_row, is_moved, lot_history, lot_rows, tables_at, touch_of_row, trade_row}
+use Rattle.brk_book_theorems.specs.Books.{IsBooks}
+use Rattle.brk_book_theorems.specs.Lives.{IsLotLife, IsOpened, LotsLive, changes_in, left_in}
+use Rattle.brk_book_theorems.proofs.Histories.{Others, filter-flat_map, no_rows}
+use Rattle.brk_book_theorems.proofs.LotOrder.{Follows, InOrder, held_in_order, of_held, trades_held}
+use Rattle.brk_book_theorems.proofs.LotReading.{All-sort, IdsApart, holdings_in_order, is_left, numbered_rise, rise_apart, rise_filter}
+use Rattle.brk_book_theorems.proofs.Order.{by_key-filter, insert_commute, insert_front}
+use Rattle.brk_book_theorems.proofs.Places.{FoundAt, filter-all, find-at, map-append}
+use Rattle.brk_book_theorems.proofs.References.{append_nil}
+use Rattle.brk_book_theorems.proofs.RunLaws.{deals_are, lot_lives}
+use Rattle.brk_book_theorems.proofs.Same.{NonePass, All-filter, All-map, All-mapped, filter-none, find-none, flat_map-append, flat_map-empty}
+use Rattle.brk_book_theorems.proofs.SumReading.{found_each}
+use Rattle.brk_book_theorems.proofs.Touching.{Without, lot_without, unchanged, without_of}
+use Rattle.brk_book_theorems.proofs.TradeReading.{reads_trade}
+
+-- ---- rows that rise by a number
+
+-- each number is above those before it
+abbrev Rise : {X : Type 0} → (X → ℕ) → List X → Type 0
+Rise m [] = ⊤
+Rise m (x ∷ xs) = AllByRecursion (λ y. m x < m y) xs × Rise m xs
+
+rise_left : {X : Type 0} (m : X → ℕ) (p : X → Bool) (xs : List X) → Rise m xs → Rise m (filter p xs)
+rise_left m p [] r = tt
+rise_left m p (x ∷ xs) r =
+    elim (p x) as (λ b. Rise m (cond b (x ∷ filter p xs) (filter p xs)))
+    [ true ↦ (All-filter (λ y. m x < m y) p xs r.0, rise_left m p xs r.1) | false ↦ rise_left m p xs r.1 ]
+
+-- the order by that number
+abbrev by : {X : Type 0} → (X → ℕ) → X → X → Bool
+by m x y = nat_lt (m x) (m y)
+
+splits : (x y z : ℕ) → nat_lt z x ≡ true → nat_lt z y ≡ false → nat_lt y x ≡ true
+splits x y z g h = grind (arith, nat_tests)
+
+not_before : (x y : ℕ) → x < y → nat_lt y x ≡ false
+not_before x y h = grind (arith, nat_tests)
+
+is_before : (x y : ℕ) → x < y → nat_lt x y ≡ true
+is_before x y h = grind (arith, nat_tests)
+
+sort_put : {X : Type 0} (m : X → ℕ) (before : X → X → Bool) (x : X) (ys : List X) → AllByRecursion (λ y. m x < m y) ys
+    → sort_by (by m) (insert_by before x ys) ≡ insert_by (by m) x (sort_by (by m) ys)
+unfolding sort_by
+sort_put m before x [] h = refl
+sort_put {X = X} m before x (y ∷ ys) h = by_test (sort_put m before x ys h.1) (before y x)
+  where
+    turned : by m y x ≡ not (by m x y)
+    turned = not_before (m x) (m y) h.0 ∙ sym (ap not (is_before (m x) (m y) h.0))
+
+    by_test : sort_by (by m) (insert_by before x ys) ≡ insert_by (by m) x (sort_by (by m) ys) → (b : Bool)
+        → sort_by (by m) (cond b (y ∷ insert_by before x ys) (x ∷ y ∷ ys)) ≡ insert_by (by m) x (insert_by (by m) y (sort_by (by m) ys))
+    by_test ih true = ap (insert_by (by m) y) ih ∙ insert_commute (by m) x y (sort_by (by m) ys) (λ a b c g k. splits (m a) (m b) (m c) g k) turned
+    by_test ih false = refl
+
+-- in whatever order they were put, they stand as they rise
+sort_any : {X : Type 0} (m : X → ℕ) (before : X → X → Bool) (xs : List X) → Rise m xs → sort_by (by m) (sort_by before xs) ≡ xs
+unfolding sort_by
+sort_any m before [] r = refl
+sort_any m before (x ∷ xs) r =
+    sort_put m before x (sort_by before xs) (All-sort (λ y. m x < m y) before xs r.0)
+    ∙ ap (insert_by (by m) x) (sort_any m before xs r.1)
+    ∙ insert_front (by m) x xs (All-map xs (λ y h. not_before (m x) (m y) h) r.0)
+
+-- ---- the changes of one lot
+
+lots_same : (lot : ℕ) (shares : List Share) (deals : List Deal) → AllByRecursion (λ r. r.lot ≡ lot) (lot_rows lot shares deals)
+lots_same lot shares [] = tt
+lots_same lot shares (d ∷ deals) = (refl, lots_same lot (shares_after shares d) deals)
+
+zero_is : (z : ℤ) → is_zero z ≡ true → z ≡ pos 0
+zero_is (pos zero) e = refl
+zero_is (pos (suc n)) e = absurd (cc)
+zero_is (negsuc n) e = absurd (cc)
+
+-- what is left of nothing is nothing
+zero_left : (a b : ℤ) → a ≡ pos 0 → not (is_zero (a -ℤ b)) ≡ false → is_zero b ≡ true
+zero_left a b e f = let d : a -ℤ b ≡ pos 0 = zero_is (a -ℤ b) (is_true (is_zero (a -ℤ b)) f) in let none : b ≡ pos 0 = omega (arith, ints, d, e) in ap is_zero none
+  where
+    is_true : (c : Bool) → not c ≡ false → c ≡ true
+    is_true true f = refl
+    is_true false f = absurd (cc)
+
+-- the first deal that changes the lot of a trade is that trade's
+opened_first : (id : ℕ) (side : Side) (shares : List Share) (deals : List Deal) → OneSide side shares → Without id shares → AreDeals deals → IsOpened id (filter is_moved (lot_rows id shares deals))
+opened_first id side shares [] one w a = tt
+opened_first id side shares (d ∷ deals) one w a = by_trade (d.trade == id) refl (opened_first id next.0 after deals next.1)
+  where
+    after : List Share
+    after = shares_after shares d
+
+    next : (s : Side) × OneSide s after
+    next = side_after side d shares one
+
+    row : HoldingHistoryRow
+    row = record { lot = id; trade = d.trade; before = lot_qty shares id; after = lot_qty after id }
+
+    rest : List HoldingHistoryRow
+    rest = filter is_moved (lot_rows id after deals)
+
+    others : d.trade ≡ id → Others id deals
+    others own = All-map deals (λ e l. ne_eqb e.trade id (λ same. l.0 (own ∙ sym same))) a.0
+
+    by_own : (b : Bool) → is_moved row ≡ b → d.trade ≡ id → IsOpened id (cond b (row ∷ rest) rest)
+    by_own true e own = own
+    by_own false e own =
+        let none : Without id after = without_of next.0 id after next.1 (zero_left (lot_qty shares id) (lot_qty after id) (lot_without id shares w) e) in
+        subst (IsOpened id) (sym (no_rows id after deals none (others own))) tt
+
+    by_trade : (b : Bool) → (d.trade == id) ≡ b → (Without id after → AreDeals deals → IsOpened id rest) → IsOpened id (cond (is_moved row) (row ∷ rest) rest)
+    by_trade true e again = by_own (is_moved row) refl (eqb-true d.trade id e)
+    by_trade false e again =
+        subst (λ c. IsOpened id (cond c (row ∷ rest) rest)) (sym (unchanged id d shares e w)) (again (all_after (λ s. (s.trade == id) ≡ false) d shares e w) a.1)
+
+-- the stamp of a trade, as the tables tell it
+abbrev stamp_in : Base → ℕ → ℕ
+stamp_in base id = option_map_or (λ t. t.stamp) (trade_in (sheets base) id) 0
+
+stamp_is : (base : Base) (t : Trade) → trade_with base t.id ≡ Some t → stamp_in base t.id ≡ moment_of t
+stamp_is base t e = ap (λ o. option_map_or (λ t. t.stamp) o 0) (reads_trade base t.id ∙ ap (option_map trade_row) e)
+
+changes_rise : (base : Base) (lot : ℕ) (shares : List Share) (ts : List Trade) → InOrder ts → AllByRecursion (λ u. stamp_in base u.id ≡ moment_of u) ts
+    → Rise (touch_stamp (sheets base)) (lot_rows lot shares (map deal_of ts))
+changes_rise base lot shares [] o h = tt
+changes_rise base lot shares (u ∷ ts) o h =
+    (behind (shares_after shares (deal_of u)) ts o.0 h.1, changes_rise base lot (shares_after shares (deal_of u)) ts o.1 h.1)
+  where
+    behind : (left : List Share) (vs : List Trade) → AllByRecursion (Follows u) vs → AllByRecursion (λ v. stamp_in base v.id ≡ moment_of v) vs
+        → AllByRecursion (λ r. stamp_in base u.id < touch_stamp (sheets base) r) (lot_rows lot left (map deal_of vs))
+    behind left [] f k = tt
+    behind left (v ∷ vs) f k =
+        let lt : moment_of u < moment_of v = f.0.1 in (
+          subst (λ (n : ℕ). n < stamp_in base v.id) (sym h.0) (subst (λ (n : ℕ). moment_of u < n) (sym k.0) lt),
+          behind (shares_after left (deal_of v)) vs f.1 k.1,
+        )
+
+done_found : (base : Base) → IsBooks base → AllByRecursion (λ t. trade_with base t.id ≡ Some t) (completed base)
+done_found base books =
+    All-filter (λ t. trade_with base t.id ≡ Some t) is_completed base.trades (found_each base.trades (rise_apart base.trades (numbered_rise 1 base.trades books.numbered)))
+
+history_rises : (base : Base) (t : Trade) → IsBooks base → Rise (touch_stamp (sheets base)) (lot_history (completed base) t)
+history_rises base t books =
+    rise_left (touch_stamp (sheets base)) is_moved (lot_rows t.id [] (deals_in (completed base) t.account t.symbol))
+    (changes_rise base t.id [] (trades_held base t.account t.symbol) (held_in_order base t.account t.symbol books)
+    (of_held (λ u. stamp_in base u.id ≡ moment_of u) base t.account t.symbol (All-map (completed base) (λ u e. stamp_is base u e) (done_found base books))))
+
+-- ---- among the changes of all lots
+
+ids_after : (xs : List Trade) (t : Trade) (ys : List Trade) → IdsApart (xs ++ t ∷ ys) → NonePass (λ u. u.id == t.id) ys
+ids_after [] t ys d = d.0
+ids_after (x ∷ xs) t ys d = ids_after xs t ys d.1
+
+done_apart : (base : Base) → IsBooks base → IdsApart (completed base)
+done_apart base books = rise_apart (completed base) (rise_filter is_completed base.trades (numbered_rise 1 base.trades books.numbered))
+
+abbrev of_lot : ℕ → HoldingHistoryRow → Bool
+of_lot lot h = h.lot == lot
+
+own_lots : (done : List Trade) (t : Trade) → AllByRecursion (λ r. r.lot ≡ t.id) (lot_history done t)
+own_lots done t = All-filter (λ r. r.lot ≡ t.id) is_moved (lot_rows t.id [] (deals_in done t.account t.symbol)) (lots_same t.id [] (deals_in done t.account t.symbol))
+
+none_other : (done : List Trade) (lot : ℕ) (ts : List Trade) → NonePass (λ u. u.id == lot) ts → flat_map (λ u. filter (of_lot lot) (lot_history done u)) ts ≡ []
+none_other done lot ts h =
+    flat_map-empty (λ u. filter (of_lot lot) (lot_history done u)) ts
+    (All-map ts (λ u e. filter-none (of_lot lot) (lot_history done u) (All-map (lot_history done u) (λ r same. ap (λ (n : ℕ). n == lot) same ∙ e) (own_lots done u))) h)
+
+own_changes : (done : List Trade) (lot : ℕ) (t : Trade) → IdsApart done → (f : FoundAt Trade (λ u. u.id == lot) t done)
+    → filter (of_lot lot) (flat_map (lot_history done) done) ≡ lot_history done t
+own_changes done lot t d f =
+    let F : Trade → List HoldingHistoryRow = λ u. filter (of_lot lot) (lot_history done u) in
+    let same : t.id ≡ lot = eqb-true t.id lot f.passes in
+    let after : NonePass (λ u. u.id == lot) f.after = subst (λ (n : ℕ). NonePass (λ u. u.id == n) f.after) same (ids_after f.before t f.after (subst IdsApart f.stands d)) in
+    filter-flat_map (of_lot lot) (lot_history done) done
+    ∙ ap (flat_map F) f.stands ∙ flat_map-append F f.before (t ∷ f.after)
+    ∙ (λ i. none_other done lot f.before f.others i ++ (F t ++ none_other done lot f.after after i))
+    ∙ append_nil (F t)
+    ∙ filter-all (of_lot lot) (lot_history done t) (All-map (lot_history done t) (λ r e. ap (λ (n : ℕ). n == lot) e ∙ f.passes) (own_lots done t))
+
+history_is : (base : Base) → (sheets base).holding_history ≡ by_key holding_history_key (flat_map (lot_history (completed base)) (completed base))
+unfolding tables_at sheets_of
+history_is base = refl
+
+changes_of : (base : Base) (lot : ℕ) (rows : List HoldingHistoryRow) → filter (of_lot lot) (flat_map (lot_history (completed base)) (completed base)) ≡ rows
+    → Rise (touch_stamp (sheets base)) rows → changes_in (sheets base) lot ≡ rows
+changes_of base lot rows e r =
+    let S : HoldingHistoryRow → HoldingHistoryRow → Bool = by (touch_stamp (sheets base)) in
+    ap (λ rs. sort_by S (filter (of_lot lot) rs)) (history_is base)
+    ∙ ap (sort_by S) (sym (by_key-filter holding_history_key (of_lot lot) (flat_map (lot_history (completed base)) (completed base))) ∙ ap (by_key holding_history_key) e)
+    ∙ sort_any (touch_stamp (sheets base)) (row_before holding_history_key) rows r
+
+-- ---- what is left
+
+none_found : {X : Type 0} (p : X → Bool) (xs : List X) → NonePass p xs → find p xs ≡ None
+none_found p [] h = refl
+none_found p (x ∷ xs) h = ap (λ b. cond b (Some x) (find p xs)) h.0 ∙ none_found p xs h.1
+
+find_left : {X : Type 0} (p q : X → Bool) (xs : List X) (x : X) (ys : List X) → NonePass p xs → p x ≡ true → NonePass p ys
+    → find p (filter q (xs ++ x ∷ ys)) ≡ cond (q x) (Some x) None
+find_left p q [] x ys g e h = by_test (q x)
+  where
+    by_test : (b : Bool) → find p (cond b (x ∷ filter q ys) (filter q ys)) ≡ cond b (Some x) None
+    by_test true = ap (λ b. cond b (Some x) (find p (filter q ys))) e
+    by_test false = none_found p (filter q ys) (All-filter (λ y. p y ≡ false) q ys h)
+find_left {X = X} p q (y ∷ xs) x ys g e h = by_test (q y) (find_left p q xs x ys g.1 e h)
+  where
+    by_test : (b : Bool) → find p (filter q (xs ++ x ∷ ys)) ≡ cond (q x) (Some x) None
+        → find p (cond b (y ∷ filter q (xs ++ x ∷ ys)) (filter q (xs ++ x ∷ ys))) ≡ cond (q x) (Some x) None
+    by_test true ih = ap (λ b. cond b (Some y) (find p (filter q (xs ++ x ∷ ys)))) g.0 ∙ ih
+    by_test false ih = ih
+
+left_or : (row : HoldingRow) (q : ℤ) → row.qty ≡ q → option_map_or (λ h. h.qty) (cond (not (is_zero q)) (Some row) None) (pos 0) ≡ q
+left_or row (pos zero) e = refl
+left_or row (pos (suc n)) e = e
+left_or row (negsuc n) e = e
+
+abbrev opened : ℕ → HoldingRow → Bool
+opened lot h = h.trade == lot
+
+left_is : (base : Base) (lot : ℕ) (t : Trade) → IsBooks base → (f : FoundAt Trade (λ u. u.id == lot) t (completed base)) → left_in (sheets base) lot ≡ (holding_row (completed base) t).qty
+left_is base lot t books f =
+    let done : List Trade = completed base in
+    let row : Trade → HoldingRow = holding_row done in
+    let same : t.id ≡ lot = eqb-true t.id lot f.passes in
+    let after : NonePass (λ u. u.id == lot) f.after =
+    subst (λ (n : ℕ). NonePass (λ u. u.id == n) f.after) same (ids_after f.before t f.after (subst IdsApart f.stands (done_apart base books))) in
+    ap (λ o. option_map_or (λ h. h.qty) o (pos 0))
+    (ap (find (opened lot)) (holdings_in_order base books.numbered)
+    ∙ ap (λ rows. find (opened lot) (filter is_left rows)) (ap (map row) f.stands ∙ map-append row f.before (t ∷ f.after))
+    ∙ find_left (opened lot) is_left (map row f.before) (row t) (map row f.after)
+    (All-mapped (λ h. opened lot h ≡ false) row f.before f.others) f.passes (All-mapped (λ h. opened lot h ≡ false) row f.after after))
+    ∙ left_or (row t) (row t).qty refl
+
+-- ---- each lot
+
+of_done : (base : Base) (lot : ℕ) (t : Trade) → IsBooks base → find (λ u. u.id == lot) (completed base) ≡ Some t → IsLotLife (sheets base) lot
+unfolding shares_in
+of_done base lot t books e =
+    let f : FoundAt Trade (λ u. u.id == lot) t (completed base) = find-at (λ u. u.id == lot) (completed base) t e in
+    let deals : List Deal = deals_in (completed base) t.account t.symbol in
+    let same : t.id ≡ lot = eqb-true t.id lot f.passes in
+    let changes : changes_in (sheets base) lot ≡ lot_history (completed base) t =
+    changes_of base lot (lot_history (completed base) t) (own_changes (completed base) lot t (done_apart base books) f) (history_rises base t books) in
+    let rows : map touch_of_row (changes_in (sheets base) lot) ≡ rows_of t.id deals [] = ap (map touch_of_row) changes in
+    record {
+      opened = subst (IsOpened lot) (sym changes) (subst (λ (n : ℕ). IsOpened n (lot_history (completed base) t)) same (opened_first t.id Buy [] deals tt tt (deals_are base t.account t.symbol books)));
+      life = subst (λ rs. IsLife rs (left_in (sheets base) lot)) (sym rows)
+          (subst (λ q. IsLife (rows_of t.id deals []) q) (sym (left_is base lot t books f)) (lot_lives base t.account t.symbol t.id books));
+    }
+
+of_none : (base : Base) (lot : ℕ) → IsBooks base → find (λ u. u.id == lot) (completed base) ≡ None → IsLotLife (sheets base) lot
+of_none base lot books e =
+    let none : NonePass (λ u. u.id == lot) (completed base) = find-none (λ u. u.id == lot) (completed base) (ap is_some e) in
+    let rows : changes_in (sheets base) lot ≡ [] =
+    changes_of base lot [] (filter-flat_map (of_lot lot) (lot_history (completed base)) (completed base) ∙ none_other (completed base) lot (completed base) none) tt in
+    let left : left_in (sheets base) lot ≡ pos 0 =
+    ap (λ o. option_map_or (λ h. h.qty) o (pos 0))
+    (ap (find (opened lot)) (holdings_in_order base books.numbered)
+    ∙ none_found (opened lot) (filter is_left (map (holding_row (completed base)) (completed base)))
+    (All-filter (λ h. opened lot h ≡ false) is_left (map (holding_row (completed base)) (completed base))
+    (All-mapped (λ h. opened lot h ≡ false) (holding_row (completed base)) (completed base) none))) in
+    record { opened = subst (IsOpened lot) (sym rows) tt; life = subst (λ rs. IsLife (map touch_of_row rs) (left_in (sheets base) lot)) (sym rows) (sym left) }
+
+pub lots_live_on : (base : Base) → IsBooks base → LotsLive (sheets base)
+lots_live_on base books lot = by_trade (find (λ u. u.id == lot) (completed base)) refl
+  where
+    by_trade : (o : Option Trade) → find (λ u. u.id == lot) (completed base) ≡ o → IsLotLife (sheets base) lot
+    by_trade (Some t) e = of_done base lot t books e
+    by_trade None e = of_none base lot books e

@@ -1,0 +1,409 @@
+-- The tables after a result are those before with its rows.
+use Rattle.std.proofs.Common.{◌≡◌, ◌<◌, ℕ, ◌==◌, Bool, true, false, not, cond, List, [], ◌∷◌, ◌++◌, refl, sym, subst, ◌∙◌, ap, map, filter, ℤ, pos, Option, Some, None, length, ◌+◌}
+use Rattle.std.specs.Prelude.{flat_map, unwrap_or}
+use Rattle.std.specs.Option.{option_map_or}
+use Rattle.std.specs.List.{AllByRecursion}
+use Rattle.std.proofs.lemmas.Bool.{eqb-false, eq-eqb}
+use Rattle.brk_money.specs.Kinds.{same_status, status_code}
+use Rattle.brk_money.specs.declared.status.Status.{Status}
+use Rattle.brk_money.specs.declared.status.Status.TheVariants.{Completed, Active, Submitted, Pending, Canceled}
+use Rattle.brk_model.specs.Lists.{is_zero, update_where}
+use Rattle.brk_model.specs.Records.{Account, Mark, Security, Trade}
+use Rattle.brk_model.specs.Base.{Base, account_with, broker_in, completed, has_status, is_completed, last_mark, moment_of, security_with}
+use Rattle.brk_model.specs.Derived.{Posting, balance_of, commissions_of, deal_of, in_turn, pending, posting_of_trade, postings, postings_of, trade_count_of}
+use Rattle.brk_model.specs.Results.{completed_trade, result_deal, with_result}
+use Rattle.brk_model.specs.Shares as model
+use Rattle.brk_model.specs.Shares.{Touch}
+use Rattle.brk_model.specs.Tables.{BrokerRow, HistoryRow, MoveRow, SummaryRow, Tables, TradeRow, account_row, broker_row, history_rows, holding_row, lot_history, move_row as numbered_row, numbered, request_row, settlement_row, tables_at, trade_row}
+use Rattle.brk_model.specs.Keys.{number, word, account_key, broker_key, by_key, history_key, holding_history_key, holding_key, insert_row, move_key, request_key, settlement_key, summary_key, trade_key}
+use Rattle.brk_model.specs.Sheets.{sheets, sheets_of}
+use Rattle.brk_model.specs.Names.{NumberedFrom}
+use Rattle.brk_book_theorems.specs.Books.{IsBooks, IsNoCompletion}
+use Rattle.brk_book_theorems.specs.Results.{ResultRows, cash_rows, change_of_lot, completed_rows, left_of_lot, opened_rows, result_rows, rows_of_result, rows_upon, summary_rows_moved, touched_rows}
+use Rattle.brk_changes.specs.Changes.{with_broker_numbers, with_lot_change, with_settlement}
+use Rattle.brk_book_theorems.specs.Trading.{status_row}
+use Rattle.brk_book_theorems.proofs.Order.{NewKey, by_key-map, by_key-middle}
+use Rattle.brk_book_theorems.proofs.Same.{NonePass, All-append, All-filter, All-map, All-mapped, flat_map-append, map-last}
+use Rattle.brk_book_theorems.proofs.Places.{append_assoc, filter-not_one, filter-one, map-append, update_where-one}
+use Rattle.brk_book_theorems.proofs.Numbering.{ids_other, last_of_marked, numbered_after, numbered_before, status_of_marked}
+use Rattle.brk_book_theorems.proofs.Moving.{history_of_others}
+use Rattle.brk_book_theorems.proofs.Completing.{Completes}
+use Rattle.brk_book_theorems.proofs.LotSetting.{set_lot, set_lots}
+use Rattle.brk_book_theorems.proofs.Holdings.{holdings_after, open_lots}
+use Rattle.brk_book_theorems.proofs.Histories.{histories_after, put_changes, put_openings}
+use Rattle.brk_book_theorems.proofs.Summaries.{all_summaries, is_of, move_row, summaries_after}
+use Rattle.brk_book_theorems.proofs.Sums.{accounts_after, brokers_after, cash_after, margin_accounts, margin_cash, posted_before, settlements_after, with_numbers, with_other_balance}
+
+-- ---- a trade at the market, and once it is completed
+
+at_market : (o : Option Mark) → option_map_or (λ m. same_status m.status Submitted) o false ≡ true
+    → (option_map_or (λ m. same_status m.status Completed) o false ≡ false) × (option_map_or (λ m. same_status m.status Pending) o false ≡ false)
+at_market None h = (refl, refl)
+at_market (Some m) h = by_status m.status h
+  where
+    by_status : (s : Status) → same_status s Submitted ≡ true → (same_status s Completed ≡ false) × (same_status s Pending ≡ false)
+    by_status Completed h = absurd (cc)
+    by_status Active h = (refl, refl)
+    by_status Submitted h = (refl, refl)
+    by_status Pending h = absurd (cc)
+    by_status Canceled h = (refl, refl)
+
+pub submitted_not_completed : (t : Trade) → has_status Submitted t ≡ true → is_completed t ≡ false
+submitted_not_completed t h = (at_market (last_mark t) h).0
+
+submitted_not_pending : (t : Trade) → has_status Submitted t ≡ true → has_status Pending t ≡ false
+submitted_not_pending t h = (at_market (last_mark t) h).1
+
+pub status_then : (base : Base) (stamp price : ℕ) (t : Trade) (wanted : Status) → has_status wanted (completed_trade base stamp price t) ≡ same_status Completed wanted
+unfolding completed_trade
+status_then base stamp price t wanted = status_of_marked stamp Completed wanted t
+
+pub moment_then : (base : Base) (stamp price : ℕ) (t : Trade) → moment_of (completed_trade base stamp price t) ≡ stamp
+unfolding completed_trade
+moment_then base stamp price t = ap (λ o. option_map_or (λ m. m.stamp) o 0) (last_of_marked stamp Completed t)
+
+pub deal_then : (base : Base) (stamp price : ℕ) (t : Trade) → deal_of (completed_trade base stamp price t) ≡ result_deal stamp price t
+unfolding completed_trade
+deal_then base stamp price t = λ i. record (result_deal stamp price t) { stamp = moment_then base stamp price t i }
+
+-- ---- TRADE
+
+abbrev completed_row : TradeRow → TradeRow → TradeRow
+completed_row c r = record r { status = Completed; stamp = c.stamp; price = Some (unwrap_or c.price 0); commission = c.commission; tax = c.tax }
+
+trades_after : (base : Base) (stamp price : ℕ) (xs : List Trade) (t : Trade) (ys : List Trade) → ids_other t.id xs → ids_other t.id ys
+    → by_key trade_key (map trade_row (xs ++ completed_trade base stamp price t ∷ ys))
+    ≡ update_where (λ r. r.id == t.id) (completed_row (trade_row (completed_trade base stamp price t))) (by_key trade_key (map trade_row (xs ++ t ∷ ys)))
+unfolding completed_trade
+trades_after base stamp price xs t ys g h =
+    let u : Trade = completed_trade base stamp price t in
+    let c : TradeRow = trade_row u in
+    let row : c ≡ completed_row c (trade_row t) = λ i. record c { status = option_map_or (λ m. m.status) (last_of_marked stamp Completed t i) Canceled } in
+    let change : TradeRow → TradeRow = λ r. cond (r.id == t.id) (completed_row c r) r in
+    ap (by_key trade_key) (map-append trade_row xs (u ∷ ys)
+    ∙ ap (λ r. map trade_row xs ++ r ∷ map trade_row ys) row
+    ∙ sym (update_where-one (λ r. r.id == t.id) (completed_row c) (map trade_row xs) (trade_row t) (map trade_row ys)
+    (All-mapped _ trade_row xs g) (eq-eqb t.id t.id refl) (All-mapped _ trade_row ys h))
+    ∙ ap (map change) (sym (map-append trade_row xs (t ∷ ys))))
+    ∙ by_key-map trade_key trade_key change (map trade_row (xs ++ t ∷ ys)) (λ r. same_key c r (r.id == t.id))
+  where
+    same_key : (c r : TradeRow) (b : Bool) → trade_key (cond b (completed_row c r) r) ≡ trade_key r
+    same_key c r true = refl
+    same_key c r false = refl
+
+-- ---- TRADE_HISTORY
+
+first_of : List ℕ → ℕ
+first_of [] = 0
+first_of (c ∷ cs) = c
+
+second_of : List ℕ → ℕ
+second_of [] = 0
+second_of (c ∷ []) = 0
+second_of (c ∷ d ∷ cs) = d
+
+no_completion : (s : Status) → same_status s Completed ≡ false → status_code s ≡ status_code Completed → ⊥
+unfolding first_of second_of
+no_completion Completed g e = absurd (cc)
+no_completion Active g e = eqb-false 65 67 refl (ap first_of e)
+no_completion Submitted g e = eqb-false 83 67 refl (ap first_of e)
+no_completion Pending g e = eqb-false 80 67 refl (ap first_of e)
+no_completion Canceled g e = eqb-false 78 77 refl (ap second_of e)
+
+own_history : (stamp : ℕ) (t : Trade) → AllByRecursion IsNoCompletion t.marks → NewKey history_key (status_row t.id Completed stamp) (history_rows t)
+own_history stamp t h =
+    All-mapped (λ r. history_key r ≡ history_key (status_row t.id Completed stamp) → ⊥) (λ m. status_row t.id m.status m.stamp) t.marks
+    (All-map t.marks (λ m g e. no_completion m.status g (code_of t.id (status_code m.status) (status_code Completed) e)) h)
+  where
+    code_of : (n : ℕ) (a b : List ℕ) → number n ∷ word a ∷ [] ≡ number n ∷ word b ∷ [] → a ≡ b
+    code_of n a b e = cc
+
+history_after : (base : Base) (stamp price : ℕ) (xs : List Trade) (t : Trade) (ys : List Trade) → ids_other t.id xs → AllByRecursion IsNoCompletion t.marks
+    → by_key history_key (flat_map history_rows (xs ++ completed_trade base stamp price t ∷ ys))
+    ≡ insert_row history_key (status_row t.id Completed stamp) (by_key history_key (flat_map history_rows (xs ++ t ∷ ys)))
+unfolding completed_trade
+history_after base stamp price xs t ys g h =
+    let row : HistoryRow = status_row t.id Completed stamp in
+    let H : List Trade → List HistoryRow = flat_map history_rows in
+    let after : H (xs ++ completed_trade base stamp price t ∷ ys) ≡ (H xs ++ history_rows t) ++ row ∷ H ys =
+    flat_map-append history_rows xs (completed_trade base stamp price t ∷ ys)
+    ∙ ap (λ rows. H xs ++ (rows ++ H ys)) (map-last (λ m. status_row t.id m.status m.stamp) t.marks (record { stamp = stamp; status = Completed }))
+    ∙ ap (λ rows. H xs ++ rows) (append_assoc (history_rows t) (row ∷ []) (H ys))
+    ∙ sym (append_assoc (H xs) (history_rows t) (row ∷ H ys)) in
+    let before : H (xs ++ t ∷ ys) ≡ (H xs ++ history_rows t) ++ H ys =
+    flat_map-append history_rows xs (t ∷ ys) ∙ sym (append_assoc (H xs) (history_rows t) (H ys)) in
+    ap (by_key history_key) after
+    ∙ by_key-middle history_key (H xs ++ history_rows t) row (H ys)
+    (All-append (λ r. history_key r ≡ history_key row → ⊥) (H xs) (history_rows t) (history_of_others row xs g) (own_history stamp t h))
+    ∙ ap (λ rows. insert_row history_key row (by_key history_key rows)) (sym before)
+
+-- ---- the rows of a result, table by table
+
+left_is : (touch : Touch) (t : Tables) → left_of_lot touch t ≡ record t { holdings = set_lot touch t.holdings }
+left_is touch t = by_test (is_zero touch.after)
+  where
+    by_test : (b : Bool)
+        → cond b (record t { holdings = filter (λ r. not (r.trade == touch.lot)) t.holdings }) (record t { holdings = update_where (λ r. r.trade == touch.lot) (λ r. record r { qty = touch.after }) t.holdings })
+        ≡ record t { holdings = cond b (filter (λ r. not (r.trade == touch.lot)) t.holdings) (update_where (λ r. r.trade == touch.lot) (λ r. record r { qty = touch.after }) t.holdings) }
+    by_test true = refl
+    by_test false = refl
+
+touched_are : (id : ℕ) (touched : List Touch) (t : Tables) → touched_rows id touched t ≡ record t { holdings = set_lots touched t.holdings; holding_history = put_changes id touched t.holding_history }
+touched_are id [] t = refl
+touched_are id (touch ∷ touched) t =
+    ap (λ t. touched_rows id touched (with_lot_change (change_of_lot id touch) t)) (left_is touch t)
+    ∙ touched_are id touched (with_lot_change (change_of_lot id touch) (record t { holdings = set_lot touch t.holdings }))
+
+opened_are : (u : Trade) (opened : List model.Lot) (t : Tables)
+    → opened_rows (trade_row u) opened t ≡ record t { holdings = open_lots u opened t.holdings; holding_history = put_openings opened t.holding_history }
+opened_are u [] t = refl
+opened_are u (lot ∷ opened) t = opened_are u opened _
+
+summary_is : (before after : ℤ) (row : SummaryRow) (t : Tables) → summary_rows_moved before after row t ≡ record t { summaries = move_row before after row t.summaries }
+summary_is before after row t = by_test (is_zero after) (is_zero before)
+  where
+    F : Tables
+    F = record t { summaries = filter (λ r. not (is_of row.account row.symbol r)) t.summaries }
+
+    I : Tables
+    I = record t { summaries = insert_row summary_key row t.summaries }
+
+    U : Tables
+    U = record t { summaries = update_where (is_of row.account row.symbol) (λ r. record r { qty = row.qty }) t.summaries }
+
+    by_test : (b c : Bool) → cond b F (cond c I U) ≡ record t { summaries = cond b F.summaries (cond c I.summaries U.summaries) }
+    by_test true c = refl
+    by_test false true = refl
+    by_test false false = refl
+
+cash_is : (u : Trade) (c : ResultRows) (t : Tables) → cash_rows u.is_cash c.cash u.account c.balance t
+    ≡ record t { accounts = cond u.is_cash (map (with_other_balance u.account c.balance) t.accounts) t.accounts; moves = cond u.is_cash (insert_row move_key c.cash t.moves) t.moves }
+cash_is u c t = by_test u.is_cash
+  where
+    by_test : (b : Bool) → cash_rows b c.cash u.account c.balance t
+        ≡ record t { accounts = cond b (map (with_other_balance u.account c.balance) t.accounts) t.accounts; moves = cond b (insert_row move_key c.cash t.moves) t.moves }
+    by_test true = refl
+    by_test false = refl
+
+-- ---- all tables
+
+-- what is known of a trade that is completed
+pub record IsResult (base : Base) (stamp price : ℕ) (t : Trade) (xs ys : List Trade) : Type 0 where
+  pub books : IsBooks base
+  pub stands : base.trades ≡ xs ++ t ∷ ys
+  pub submitted : has_status Submitted t ≡ true
+  pub later : AllByRecursion (λ u. moment_of u < stamp) (completed base)
+  pub moved : AllByRecursion (λ m. m.stamp < stamp) base.movements
+
+-- its trades, with the trade completed
+pub trades_then : (base : Base) (stamp price : ℕ) (t : Trade) (xs ys : List Trade) → IsResult base stamp price t xs ys
+    → update_where (λ u. u.id == t.id) (completed_trade base stamp price) base.trades ≡ xs ++ completed_trade base stamp price t ∷ ys
+trades_then base stamp price t xs ys k =
+    let n : NumberedFrom 1 (xs ++ t ∷ ys) = subst (NumberedFrom 1) k.stands k.books.numbered in
+    ap (update_where (λ u. u.id == t.id) (completed_trade base stamp price)) k.stands
+    ∙ update_where-one (λ u. u.id == t.id) (completed_trade base stamp price) xs t ys (numbered_before 1 xs t ys n) (eq-eqb t.id t.id refl) (numbered_after 1 xs t ys n)
+
+pub done_then : (base : Base) (stamp price : ℕ) (t : Trade) (xs ys : List Trade) → IsResult base stamp price t xs ys
+    → completed (with_result base stamp price t) ≡ filter is_completed xs ++ completed_trade base stamp price t ∷ filter is_completed ys
+done_then base stamp price t xs ys k =
+    ap (filter is_completed) (trades_then base stamp price t xs ys k) ∙ filter-one is_completed xs (completed_trade base stamp price t) ys (status_then base stamp price t Completed)
+
+pub done_now : (base : Base) (stamp price : ℕ) (t : Trade) (xs ys : List Trade) → IsResult base stamp price t xs ys → completed base ≡ filter is_completed xs ++ filter is_completed ys
+done_now base stamp price t xs ys k = ap (filter is_completed) k.stands ∙ filter-not_one is_completed xs t ys (submitted_not_completed t k.submitted)
+
+pub completes : (base : Base) (stamp price : ℕ) (t : Trade) (xs ys : List Trade) → IsResult base stamp price t xs ys
+    → Completes base (filter is_completed xs) (completed_trade base stamp price t) (filter is_completed ys)
+unfolding completed_trade
+completes base stamp price t xs ys k =
+    let n : NumberedFrom 1 (xs ++ t ∷ ys) = subst (NumberedFrom 1) k.stands k.books.numbered in
+    record {
+      books = k.books;
+      split = done_now base stamp price t xs ys k;
+      last = subst (λ (m : ℕ). AllByRecursion (λ u. moment_of u < m) (completed base)) (sym (moment_then base stamp price t)) k.later;
+      fresh = subst (ids_other t.id) (sym (done_now base stamp price t xs ys k))
+          (All-append (λ u. (u.id == t.id) ≡ false) (filter is_completed xs) (filter is_completed ys)
+          (All-filter (λ u. (u.id == t.id) ≡ false) is_completed xs (numbered_before 1 xs t ys n)) (All-filter (λ u. (u.id == t.id) ≡ false) is_completed ys (numbered_after 1 xs t ys n)));
+    }
+
+-- the rows of a result, table by table
+abbrev rows_set : Trade → ResultRows → Tables → Tables
+rows_set u c t = record t {
+  brokers = map (with_numbers c.broker c.trades c.commissions) t.brokers;
+  accounts = cond u.is_cash (map (with_other_balance u.account c.balance) t.accounts) t.accounts;
+  trades = update_where (λ r. r.id == u.id) (completed_row (trade_row u)) t.trades;
+  history = insert_row history_key (status_row u.id Completed (moment_of u)) t.history;
+  holdings = open_lots u c.opened (set_lots c.touched t.holdings);
+  summaries = move_row c.before c.after (record { account = u.account; symbol = u.symbol; qty = c.after }) t.summaries;
+  holding_history = put_openings c.opened (put_changes u.id c.touched t.holding_history);
+  settlements = insert_row settlement_key c.settlement t.settlements;
+  moves = cond u.is_cash (insert_row move_key c.cash t.moves) t.moves;
+}
+
+rows_are : (u : Trade) (c : ResultRows) (t : Tables) → result_rows (record c { trade = trade_row u }) t ≡ rows_set u c t
+rows_are u c t =
+    ap (λ x. C (S (B (M (opened_rows (trade_row u) c.opened x))))) (touched_are u.id c.touched (completed_rows (trade_row u) t))
+    ∙ ap (λ x. C (S (B (M x)))) (opened_are u c.opened touched)
+    ∙ ap (λ x. C (S (B x))) (summary_is c.before c.after row opened)
+    ∙ cash_is u c (S (B (record opened { summaries = move_row c.before c.after row opened.summaries })))
+  where
+    B : Tables → Tables
+    B x = with_broker_numbers c.broker c.trades c.commissions x
+
+    C : Tables → Tables
+    C x = cash_rows u.is_cash c.cash u.account c.balance x
+
+    S : Tables → Tables
+    S x = with_settlement c.settlement x
+
+    row : SummaryRow
+    row = record { account = u.account; symbol = u.symbol; qty = c.after }
+
+    M : Tables → Tables
+    M x = summary_rows_moved c.before c.after row x
+
+    done : Tables
+    done = completed_rows (trade_row u) t
+
+    touched : Tables
+    touched = record done { holdings = set_lots c.touched done.holdings; holding_history = put_changes u.id c.touched done.holding_history }
+
+    opened : Tables
+    opened = record touched { holdings = open_lots u c.opened touched.holdings; holding_history = put_openings c.opened touched.holding_history }
+
+pub sheets_then : (base : Base) (stamp price : ℕ) (t : Trade) (xs ys : List Trade) → IsResult base stamp price t xs ys → (a : Account) (s : Security)
+    → account_with base t.account ≡ Some a → security_with base t.symbol ≡ Some s → AllByRecursion IsNoCompletion t.marks
+    → sheets (with_result base stamp price t) ≡ result_rows (rows_of_result base stamp price t) (sheets base)
+unfolding tables_at sheets_of completed_trade
+sheets_then base stamp price t xs ys k a s ea es marks =
+    moved ∙ sym (rows_are u c (sheets base)) ∙ (λ i. result_rows (rows_upon base (sym then i) (deal_then base stamp price t i) u) (sheets base))
+  where
+    u : Trade
+    u = completed_trade base stamp price t
+
+    A : List Trade
+    A = filter is_completed xs
+
+    Z : List Trade
+    Z = filter is_completed ys
+
+    done : List Trade
+    done = A ++ u ∷ Z
+
+    after : Base
+    after = with_result base stamp price t
+
+    c : ResultRows
+    c = rows_upon base done (deal_of u) u
+
+    all : update_where (λ v. v.id == t.id) (completed_trade base stamp price) base.trades ≡ xs ++ u ∷ ys
+    all = trades_then base stamp price t xs ys k
+
+    then : completed after ≡ done
+    then = done_then base stamp price t xs ys k
+
+    now : completed base ≡ A ++ Z
+    now = done_now base stamp price t xs ys k
+
+    m : Completes base A u Z
+    m = completes base stamp price t xs ys k
+
+    n : NumberedFrom 1 (xs ++ t ∷ ys)
+    n = subst (NumberedFrom 1) k.stands k.books.numbered
+
+    front : ids_other t.id xs
+    front = numbered_before 1 xs t ys n
+
+    others : NonePass (λ v. v.id == u.id) A
+    others = All-filter (λ v. (v.id == t.id) ≡ false) is_completed xs front
+
+    broker : ℕ
+    broker = broker_in base.accounts u.account
+
+    numbers : BrokerRow → BrokerRow
+    numbers = with_numbers broker (pos (trade_count_of base.accounts done broker)) (commissions_of base.accounts done broker)
+
+    brokers : by_key broker_key (map (broker_row base.accounts (completed after)) base.brokers) ≡ map numbers (sheets base).brokers
+    brokers =
+        ap (λ ts. by_key broker_key (map (broker_row base.accounts ts) base.brokers)) then ∙ brokers_after base.accounts base.brokers A u Z
+        ∙ ap (λ ts. map numbers (by_key broker_key (map (broker_row base.accounts ts) base.brokers))) (sym now)
+
+    posted : List Posting
+    posted = postings base.accounts done base.movements
+
+    accounts : (b : Bool) → t.is_cash ≡ b → by_key account_key (map (account_row base.accounts (postings_of after)) base.accounts)
+        ≡ cond t.is_cash (map (with_other_balance u.account (balance_of base.accounts posted u.account)) (sheets base).accounts) (sheets base).accounts
+    accounts true e =
+        ap (λ ts. by_key account_key (map (account_row base.accounts (postings base.accounts ts base.movements)) base.accounts)) then ∙ accounts_after base.accounts base.accounts A u Z base.movements
+        ∙ ap (λ ts. map (with_other_balance u.account (balance_of base.accounts posted u.account)) (by_key account_key (map (account_row base.accounts (postings base.accounts ts base.movements)) base.accounts))) (sym now)
+        ∙ sym (ap (λ b. cond b (map (with_other_balance u.account (balance_of base.accounts posted u.account)) (sheets base).accounts) (sheets base).accounts) e)
+    accounts false e =
+        ap (λ ts. by_key account_key (map (account_row base.accounts (postings base.accounts ts base.movements)) base.accounts)) then ∙ margin_accounts base.accounts base.accounts A u Z base.movements e
+        ∙ ap (λ ts. by_key account_key (map (account_row base.accounts (postings base.accounts ts base.movements)) base.accounts)) (sym now)
+        ∙ sym (ap (λ b. cond b (map (with_other_balance u.account (balance_of base.accounts posted u.account)) (sheets base).accounts) (sheets base).accounts) e)
+
+    trades : by_key trade_key (map trade_row after.trades) ≡ update_where (λ r. r.id == u.id) (completed_row (trade_row u)) (sheets base).trades
+    trades =
+        ap (λ ts. by_key trade_key (map trade_row ts)) all ∙ trades_after base stamp price xs t ys front (numbered_after 1 xs t ys n)
+        ∙ ap (λ ts. update_where (λ r. r.id == u.id) (completed_row (trade_row u)) (by_key trade_key (map trade_row ts))) (sym k.stands)
+
+    history : by_key history_key (flat_map history_rows after.trades) ≡ insert_row history_key (status_row u.id Completed (moment_of u)) (sheets base).history
+    history =
+        ap (λ ts. by_key history_key (flat_map history_rows ts)) all ∙ history_after base stamp price xs t ys front marks
+        ∙ (λ i. insert_row history_key (status_row u.id Completed (sym (moment_then base stamp price t) i)) (by_key history_key (flat_map history_rows (sym k.stands i))))
+
+    requests : by_key request_key (map (request_row base.accounts) (pending after.trades)) ≡ (sheets base).requests
+    requests =
+        ap (λ ts. by_key request_key (map (request_row base.accounts) (pending ts))) all
+        ∙ ap (λ ts. by_key request_key (map (request_row base.accounts) ts))
+        (filter-not_one (has_status Pending) xs u ys (status_then base stamp price t Pending) ∙ sym (filter-not_one (has_status Pending) xs t ys (submitted_not_pending t k.submitted))
+        ∙ ap pending (sym k.stands))
+
+    settlements : by_key settlement_key (map (settlement_row base.accounts base.rule) (completed after)) ≡ insert_row settlement_key (settlement_row base.accounts base.rule u) (sheets base).settlements
+    settlements =
+        ap (λ ts. by_key settlement_key (map (settlement_row base.accounts base.rule) ts)) then ∙ settlements_after base.accounts base.rule A u Z others
+        ∙ ap (λ ts. insert_row settlement_key (settlement_row base.accounts base.rule u) (by_key settlement_key (map (settlement_row base.accounts base.rule) ts))) (sym now)
+
+    -- what was posted before
+    M : Tables → List MoveRow
+    M x = cond u.is_cash (insert_row move_key c.cash x.moves) x.moves
+
+    before : AllByRecursion (λ p. p.stamp < moment_of u) (postings base.accounts (A ++ Z) base.movements)
+    before =
+        subst (λ (m : ℕ). AllByRecursion (λ p. p.stamp < m) (postings base.accounts (A ++ Z) base.movements)) (sym (moment_then base stamp price t))
+        (posted_before base.accounts (A ++ Z) base.movements stamp (subst (AllByRecursion (λ v. moment_of v < stamp)) now k.later) k.moved)
+
+    row_of : List Trade → MoveRow
+    row_of ts = numbered_row (length (postings base.accounts ts base.movements) + 1) (posting_of_trade base.accounts u)
+
+    cash : (b : Bool) → t.is_cash ≡ b → by_key move_key (numbered 1 (in_turn (postings_of after))) ≡ M (sheets base)
+    cash true e =
+        ap (λ ts. by_key move_key (numbered 1 (in_turn (postings base.accounts ts base.movements)))) then ∙ cash_after base.accounts A u Z base.movements e before
+        ∙ ap (λ ts. insert_row move_key (row_of ts) (by_key move_key (numbered 1 (in_turn (postings base.accounts ts base.movements))))) (sym now)
+        ∙ sym (ap (λ b. cond b (insert_row move_key (row_of (completed base)) (sheets base).moves) (sheets base).moves) e)
+    cash false e =
+        ap (λ ts. by_key move_key (numbered 1 (in_turn (postings base.accounts ts base.movements)))) then ∙ margin_cash base.accounts A u Z base.movements e
+        ∙ ap (λ ts. by_key move_key (numbered 1 (in_turn (postings base.accounts ts base.movements)))) (sym now)
+        ∙ sym (ap (λ b. cond b (insert_row move_key (row_of (completed base)) (sheets base).moves) (sheets base).moves) e)
+
+    holdings : (sheets after).holdings ≡ open_lots u c.opened (set_lots c.touched (sheets base).holdings)
+    holdings = ap (λ ts. by_key holding_key (filter (λ row. not (is_zero row.qty)) (map (holding_row ts) ts))) then ∙ holdings_after base A u Z m
+
+    summaries : (sheets after).summaries ≡ move_row c.before c.after (record { account = u.account; symbol = u.symbol; qty = c.after }) (sheets base).summaries
+    summaries = ap (λ ts. by_key summary_key (all_summaries base ts)) then ∙ summaries_after base A u Z m a s ea es
+
+    histories : (sheets after).holding_history ≡ put_openings c.opened (put_changes u.id c.touched (sheets base).holding_history)
+    histories = ap (λ ts. by_key holding_history_key (flat_map (lot_history ts) ts)) then ∙ histories_after base A u Z m
+
+    moved : sheets after ≡ rows_set u c (sheets base)
+    moved = λ i. record (sheets base) {
+      brokers = brokers i;
+      accounts = accounts t.is_cash refl i;
+      trades = trades i;
+      history = history i;
+      requests = requests i;
+      holdings = holdings i;
+      summaries = summaries i;
+      holding_history = histories i;
+      settlements = settlements i;
+      moves = cash t.is_cash refl i;
+    }

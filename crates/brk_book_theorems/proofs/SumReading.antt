@@ -1,0 +1,130 @@
+-- The balance of an account and the numbers of a broker, by the rows that they count.
+use Rattle.std.proofs.Common.{◌≡◌, ℕ, ◌+◌, ◌==◌, ◌&&◌, Bool, false, cond, List, [], ◌∷◌, refl, sym, ◌∙◌, ap, length, map, filter, arith, ℤ, pos, ◌+ℤ◌, Option, Some, None}
+use Rattle.std.specs.Prelude.{find, option_map, sum_by}
+use Rattle.std.specs.Option.{option_map_or}
+use Rattle.std.specs.List.{AllByRecursion}
+use Rattle.std.proofs.lemmas.Bool.{eqb-true, eq-eqb}
+use Rattle.std.proofs.lemmas.List.Sums.{sum_by-cons}
+use Rattle.brk_money.specs.Kinds.{same_status}
+use Rattle.brk_money.specs.declared.status.Status.TheVariants.{Canceled, Completed}
+use Rattle.brk_model.specs.Lists.{total_by}
+use Rattle.brk_model.specs.Records.{Account, Broker, Mark, Trade}
+use Rattle.brk_model.specs.Base.{Base, account_with, broker_in, broker_with, completed, is_completed, last_mark, trade_with}
+use Rattle.brk_model.specs.Derived.{Posting, balance_of, commissions_of, of_broker, posted_to, postings_of, trade_count_of}
+use Rattle.brk_model.specs.Joins.{account_in}
+use Rattle.brk_model.specs.Sheets.{sheets, sheets_of}
+use Rattle.brk_model.specs.Tables.{AccountRow, BrokerRow, account_row, broker_row, tables_at, trade_row}
+use Rattle.brk_book_theorems.specs.Books.{IsBooks}
+use Rattle.brk_book_theorems.specs.Sums.{cash_of_account, done_of_broker, is_of_broker}
+use Rattle.brk_book_theorems.proofs.Bools.{numbers_back}
+use Rattle.brk_book_theorems.proofs.Order.{by_key-filter}
+use Rattle.brk_book_theorems.proofs.Same.{All-filter, All-map, filter-same}
+use Rattle.brk_book_theorems.proofs.Places.{FoundAt, find-at}
+use Rattle.brk_book_theorems.proofs.Reading.{reads_account, reads_broker}
+use Rattle.brk_book_theorems.proofs.LotReading.{IdsApart, filter-both, filter-map, filter-swap, numbered_rise, rise_apart}
+use Rattle.brk_book_theorems.proofs.TradeReading.{reads_trade, trades_in_order}
+use Rattle.brk_book_theorems.proofs.Postings.{rows_total}
+
+-- ---- sums over rows
+
+pub total-map : {X Y : Type 0} (f : Y → ℤ) (g : X → Y) (xs : List X) → total_by f (map g xs) ≡ total_by (λ x. f (g x)) xs
+unfolding total_by
+total-map f g [] = refl
+total-map f g (x ∷ xs) = ap (λ n. f (g x) +ℤ n) (total-map f g xs)
+
+pub sum-map : {X Y : Type 0} (f : Y → ℕ) (g : X → Y) (xs : List X) → sum_by f (map g xs) ≡ sum_by (λ x. f (g x)) xs
+sum-map f g [] = refl
+sum-map f g (x ∷ xs) = sum_by-cons f (g x) (map g xs) ∙ ap (λ n. f (g x) + n) (sum-map f g xs) ∙ sym (sum_by-cons (λ x. f (g x)) x xs)
+
+pub length-map : {X Y : Type 0} (g : X → Y) (xs : List X) → length (map g xs) ≡ length xs
+length-map g [] = refl
+length-map g (x ∷ xs) = let h = length-map g xs in omega (arith, h)
+
+-- ---- brokers
+
+done_told : (o : Option Mark) → same_status (option_map_or (λ m. m.status) o Canceled) Completed ≡ option_map_or (λ m. same_status m.status Completed) o false
+done_told None = refl
+done_told (Some m) = refl
+
+broker_or : (accounts : List Account) (posted : List Posting) (a : Option Account) → option_map_or (λ r. r.broker) (option_map (account_row accounts posted) a) 0 ≡ option_map_or (λ a. a.broker) a 0
+broker_or accounts posted None = refl
+broker_or accounts posted (Some a) = refl
+
+broker_told : (base : Base) (account : ℕ) → option_map_or (λ r. r.broker) (account_in (sheets base) account) 0 ≡ broker_in base.accounts account
+broker_told base account = ap (λ o. option_map_or (λ r. r.broker) o 0) (reads_account base account) ∙ broker_or base.accounts (postings_of base) (account_with base account)
+
+pub broker_trades : (base : Base) (broker : ℕ) → IsBooks base → done_of_broker (sheets base) broker ≡ map trade_row (of_broker base.accounts (completed base) broker)
+broker_trades base broker books =
+    ap (filter (is_of_broker (sheets base) broker)) (trades_in_order base books.numbered)
+    ∙ filter-map (is_of_broker (sheets base) broker) trade_row base.trades
+    ∙ ap (map trade_row) (filter-same (λ t. is_of_broker (sheets base) broker (trade_row t)) (λ t. is_completed t && (broker_in base.accounts t.account == broker)) base.trades (every base.trades)
+    ∙ filter-both is_completed (λ t. broker_in base.accounts t.account == broker) base.trades)
+  where
+    every : (ts : List Trade) → AllByRecursion (λ t. is_of_broker (sheets base) broker (trade_row t) ≡ is_completed t && (broker_in base.accounts t.account == broker)) ts
+    every [] = tt
+    every (t ∷ ts) = ((λ i. done_told (last_mark t) i && (broker_told base t.account i == broker)), every ts)
+
+row_of : (base : Base) (id : ℕ) (r : BrokerRow) → find (λ r. r.id == id) (sheets base).brokers ≡ Some r → (b : Broker) × (broker_with base id ≡ Some b) × (r ≡ broker_row base.accounts (completed base) b)
+row_of base id r e = by_broker (broker_with base id) refl
+  where
+    by_broker : (o : Option Broker) → broker_with base id ≡ o → (b : Broker) × (broker_with base id ≡ Some b) × (r ≡ broker_row base.accounts (completed base) b)
+    by_broker None f = let k : Some r ≡ None = sym e ∙ reads_broker base id ∙ ap (option_map (broker_row base.accounts (completed base))) f in absurd (cc)
+    by_broker (Some b) f =
+        let k : Some r ≡ Some (broker_row base.accounts (completed base) b) = sym e ∙ reads_broker base id ∙ ap (option_map (broker_row base.accounts (completed base))) f in
+        let j : r ≡ broker_row base.accounts (completed base) b = cc in (b, f, j)
+
+broker_id : (base : Base) (id : ℕ) (b : Broker) → broker_with base id ≡ Some b → b.id ≡ id
+broker_id base id b e = let f : FoundAt Broker (λ b. b.id == id) b base.brokers = find-at (λ b. b.id == id) base.brokers b e in eqb-true b.id id f.passes
+
+pub broker_counts : (base : Base) (id : ℕ) (r : BrokerRow) → IsBooks base → find (λ r. r.id == id) (sheets base).brokers ≡ Some r → r.trades ≡ pos (length (done_of_broker (sheets base) id))
+unfolding trade_count_of
+broker_counts base id r books e =
+    let k = row_of base id r e in
+    ap (λ r. r.trades) k.2 ∙ ap (λ (m : ℕ). pos (trade_count_of base.accounts (completed base) m)) (broker_id base id k.0 k.1)
+    ∙ ap pos (sym (ap length (broker_trades base id books) ∙ length-map trade_row (of_broker base.accounts (completed base) id)))
+
+pub broker_sums : (base : Base) (id : ℕ) (r : BrokerRow) → IsBooks base → find (λ r. r.id == id) (sheets base).brokers ≡ Some r
+    → r.commissions ≡ sum_by (λ t. t.commission) (done_of_broker (sheets base) id)
+unfolding commissions_of
+broker_sums base id r books e =
+    let k = row_of base id r e in
+    ap (λ r. r.commissions) k.2 ∙ ap (λ (m : ℕ). commissions_of base.accounts (completed base) m) (broker_id base id k.0 k.1)
+    ∙ sym (ap (sum_by (λ t. t.commission)) (broker_trades base id books) ∙ sum-map (λ t. t.commission) trade_row (of_broker base.accounts (completed base) id))
+
+-- ---- balances
+
+-- each trade is found by its id
+pub found_each : (ts : List Trade) → IdsApart ts → AllByRecursion (λ t. find (λ u. u.id == t.id) ts ≡ Some t) ts
+found_each [] d = tt
+found_each (t ∷ ts) d = (
+  ap (λ b. cond b (Some t) (find (λ u. u.id == t.id) ts)) (eq-eqb t.id t.id refl),
+  behind ts d.0 (found_each ts d.1),
+)
+  where
+    behind : (us : List Trade) → AllByRecursion (λ u. (u.id == t.id) ≡ false) us → AllByRecursion (λ u. find (λ v. v.id == u.id) ts ≡ Some u) us
+        → AllByRecursion (λ u. find (λ v. v.id == u.id) (t ∷ ts) ≡ Some u) us
+    behind [] h k = tt
+    behind (u ∷ us) h k = (ap (λ b. cond b (Some t) (find (λ v. v.id == u.id) ts)) (numbers_back t.id u.id ∙ h.0) ∙ k.0, behind us h.1 k.1)
+
+pub cash_moves : (base : Base) (account : ℕ) → total_by (λ r. r.amount) (cash_of_account (sheets base) account) ≡ total_by (λ p. p.amount) (posted_to (postings_of base) account)
+unfolding tables_at sheets_of
+cash_moves base account = rows_total account (postings_of base)
+
+account_of_row : (base : Base) (id : ℕ) (r : AccountRow) → account_in (sheets base) id ≡ Some r → (a : Account) × (account_with base id ≡ Some a) × (r ≡ account_row base.accounts (postings_of base) a)
+account_of_row base id r e = by_account (account_with base id) refl
+  where
+    by_account : (o : Option Account) → account_with base id ≡ o → (a : Account) × (account_with base id ≡ Some a) × (r ≡ account_row base.accounts (postings_of base) a)
+    by_account None f = let k : Some r ≡ None = sym e ∙ reads_account base id ∙ ap (option_map (account_row base.accounts (postings_of base))) f in absurd (cc)
+    by_account (Some a) f =
+        let k : Some r ≡ Some (account_row base.accounts (postings_of base) a) = sym e ∙ reads_account base id ∙ ap (option_map (account_row base.accounts (postings_of base))) f in
+        let j : r ≡ account_row base.accounts (postings_of base) a = cc in (a, f, j)
+
+pub balance_sums : (base : Base) (id : ℕ) (r : AccountRow) → IsBooks base → account_in (sheets base) id ≡ Some r
+    → r.balance ≡ r.opening +ℤ total_by (λ r. r.amount) (cash_of_account (sheets base) id)
+unfolding balance_of
+balance_sums base id r books e =
+    let k = account_of_row base id r e in
+    let g : FoundAt Account (λ a. a.id == id) k.0 base.accounts = find-at (λ a. a.id == id) base.accounts k.0 k.1 in
+    ap (λ r. r.balance) k.2 ∙ ap (λ (m : ℕ). balance_of base.accounts (postings_of base) m) (eqb-true k.0.id id g.passes)
+    ∙ (λ i. option_map_or (λ a. a.opening) (k.1 i) (pos 0) +ℤ sym (cash_moves base id) i)
+    ∙ sym (ap (λ r. r.opening +ℤ total_by (λ r. r.amount) (cash_of_account (sheets base) id)) k.2)

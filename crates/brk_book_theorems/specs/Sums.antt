@@ -1,0 +1,65 @@
+-- The sums that tables hold: the numbers of brokers, balances and summaries, each by the rows that it counts.
+use Rattle.std.specs.Prelude.{◌≡◌, ◌≢◌, ℕ, ◌==◌, ◌&&◌, Bool, true, false, List, filter, is_some, length, sum_by, ℤ, pos, ◌+ℤ◌, bytes_eq}
+use Rattle.std.specs.List.{AllByRecursion}
+use Rattle.std.specs.Option.{option_map_or}
+use Rattle.brk_lots.specs.Position.{IsPosition}
+use Rattle.brk_money.specs.Kinds.{same_status}
+use Rattle.brk_money.specs.declared.status.Status.TheVariants.{Completed}
+use Rattle.brk_money.specs.Spelling.{Text}
+use Rattle.brk_model.specs.Joins.{account_in, trade_in}
+use Rattle.brk_model.specs.Lists.{total_by}
+use Rattle.brk_model.specs.Tables.{AccountRow, BrokerRow, MoveRow, HoldingRow, SummaryRow, Tables, TradeRow}
+use Rattle.brk_book_theorems.specs.Lives.{LotsLive}
+use Rattle.brk_book_theorems.specs.TradeReads.{position_in, summary_in}
+
+-- what was posted to an account
+abbrev pub cash_of_account : Tables → ℕ → List MoveRow
+cash_of_account t account = filter (λ r. r.account == account) t.moves
+
+-- whether a trade is completed, and of an account of a broker
+abbrev pub is_of_broker : Tables → ℕ → TradeRow → Bool
+is_of_broker t broker r = same_status r.status Completed && (option_map_or (λ a. a.broker) (account_in t r.account) 0 == broker)
+
+-- the completed trades of a broker's accounts
+abbrev pub done_of_broker : Tables → ℕ → List TradeRow
+done_of_broker t broker = filter (is_of_broker t broker) t.trades
+
+-- whether a lot is of an account in a symbol
+abbrev pub is_lot_of : ℕ → Text → HoldingRow → Bool
+is_lot_of account symbol h = (h.account == account) && bytes_eq h.symbol symbol
+
+-- what an account holds of a symbol: its lots added up
+abbrev pub held_in : Tables → ℕ → Text → ℤ
+held_in t account symbol = total_by (λ h. h.qty) (filter (is_lot_of account symbol) t.holdings)
+
+-- ---- all rows of a kind
+
+-- a broker's numbers are those of the completed trades of the broker's accounts: how many, and their commissions added up
+pub record IsBrokerSum (t : Tables) (b : BrokerRow) : Type 0 where
+  pub trades : b.trades ≡ pos (length (done_of_broker t b.id))
+  pub commissions : b.commissions ≡ sum_by (λ r. r.commission) (done_of_broker t b.id)
+
+-- a balance is the opening and what was posted to its account
+abbrev pub IsBalance : Tables → AccountRow → Type 0
+IsBalance t a = a.balance ≡ a.opening +ℤ total_by (λ c. c.amount) (cash_of_account t a.id)
+
+-- a summary is the sum of the lots of its account in its symbol, and not 0
+pub record IsSummary (t : Tables) (s : SummaryRow) : Type 0 where
+  pub sum : s.qty ≡ held_in t s.account s.symbol
+  pub some : s.qty ≢ pos 0
+
+-- a lot is summed up: its account has a summary in its symbol
+abbrev pub IsSummed : Tables → HoldingRow → Type 0
+IsSummed t h = is_some (summary_in t h.account h.symbol) ≡ true
+
+-- the sums of some tables are those of their rows
+pub record AddUp (t : Tables) : Type 0 where
+  pub brokers : AllByRecursion (IsBrokerSum t) t.brokers
+  pub balances : AllByRecursion (IsBalance t) t.accounts
+  pub summaries : AllByRecursion (IsSummary t) t.summaries
+  -- no lots are without a summary
+  pub summed : AllByRecursion (IsSummed t) t.holdings
+  -- the lots of an account in a symbol are those of a position: none is 0, and all have one side
+  pub positions : (account : ℕ) (symbol : Text) → IsPosition (position_in t account symbol)
+  -- what trades made of each lot is a chain: from 0 to what its own trade opened, and then ever nearer to 0, to what is left
+  pub lives : LotsLive t

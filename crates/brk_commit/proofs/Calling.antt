@@ -1,0 +1,213 @@
+-- A command over what was read: it fails, is answered again, is refused, or is booked.
+use Rattle.brk_model.specs.Form.{has_texts}
+use Rattle.std.specs.Prelude.{IfSome}
+use Rattle.std.proofs.Common.{◌≡◌, ◌∙◌, ℕ, Bool, true, false, List, if◌then◌else◌, Result, Ok, Err, IfOk, OnErr, None, Some, Option, refl, sym, ap, subst, inl}
+use Rattle.sqlite_trees.specs.declared.store.Store.{Ghosts}
+use Rattle.sqlite.specs.Held.{Held, state}
+use Rattle.sqlite.specs.State.{HasCleanDisk, Survives}
+use Rattle.sqlite.proofs.StateLemmas.{survives_weaker}
+use Rattle.sqlite_trees.specs.Tree.{Trees}
+use Rattle.brk_money.specs.declared.fault.Fault.{Fault}
+use Rattle.brk_money.specs.declared.fault.Fault.TheVariants.{Memory}
+use Rattle.brk_money.specs.declared.refusal.Refusal.{Refusal}
+use Rattle.brk_model.specs.Base.{Base, empty_base}
+use Rattle.brk_model.specs.Commands.{Again, Answer, Command, Done, Refused, Reply}
+use Rattle.brk_model.specs.Sheets.{sheets}
+use Rattle.brk_model.specs.Step.{step}
+use Rattle.brk_model.specs.Tables.{Tables}
+use Rattle.brk_model.specs.Tests.{next_stamp}
+use Rattle.brk_model.specs.Records.{Key, Kept}
+use Rattle.brk_model.specs.Rows.{row_text}
+use Rattle.brk_money.specs.declared.refusal.Refusal.TheVariants.{KeyReused}
+use Rattle.std.specs.Prelude.{bytes_eq}
+use Rattle.brk_model.specs.Run.{MayFail}
+use Rattle.brk_model.specs.Keyed.{acted, keeping, keyed_step, repeated}
+use Rattle.brk_changes.specs.Changes.{after_changes}
+use Rattle.brk_plans.specs.declared.plan.Plan.{Plan}
+use Rattle.brk_sql.proofs.Inside.{clean_before}
+use Rattle.brk_plans.specs.Replies.{reply_of}
+use Rattle.brk_book_theorems.specs.Books.{IsBooks}
+use Rattle.brk_trade_theorems.specs.Plans.{DoesCommand}
+use Rattle.brk_book_theorems.specs.Steps.{base_then}
+use Rattle.brk_book_theorems.proofs.Keepers.{books_kept}
+use Rattle.brk_invariant_theorems.specs.InForm.{IsInForm, IsKeyInForm}
+use Rattle.brk_invariant_theorems.specs.Sound.{IsSound}
+use Rattle.brk_invariant_theorems.proofs.SoundSteps.{keyed_sound}
+use Rattle.brk_store.specs.Holds.{AreTreesOf, Holds, IsApplied, IsRead}
+use Rattle.brk_decisions.specs.Decisions.{Decides}
+use Rattle.brk_decisions.proofs.Looking.{none_then, same_then}
+use Rattle.brk_commit.specs.Answers.{IsDone, answer_of}
+use Rattle.brk_commit.specs.Booked.{IsCalled, KeepsBase, MayCome, base_after_call}
+use Rattle.brk_commit.specs.Keys.{IsSought, kept_in, with_key}
+use Rattle.brk_commit.specs.declared.answer.Answer as booked
+use Rattle.brk_commit.specs.declared.answer.Answer.TheVariants as given
+use Rattle.brk_commit.proofs.Kept.{rows_with_key, steps_again, steps_anew}
+use Rattle.brk_commit.proofs.RowTexts.{changes_keep_texts}
+use Rattle.brk_commit.proofs.Seen.{still_kept, IsSeen, seen, seen_both, sought_none}
+
+-- what is known of the tables where a command is decided on, whose key is not kept
+abbrev pub Known : ℕ → Command → Option Key → Result Plan Refusal → Tables → Type 0
+Known now command key planned t = (None ≡ kept_in t key) × Decides now command planned t
+
+-- it is known after two reads
+pub known : {S E : Type 0} (g : Ghosts S) (old first mid : Held S) (now : ℕ) (command : Command) (key : Option Key) (planned : Result Plan Refusal) → IsSought g old first key (Ok None)
+    → IsRead {E = E} g first mid (Ok planned) (Decides now command) → IsSeen g old mid (Known now command key planned)
+known g old first mid now command key planned sought decided =
+    seen_both g old first mid (λ t. None ≡ kept_in t key) (Decides now command planned) (sought_none g old first key sought) (seen g first mid planned (Decides now command) decided)
+
+pub same_fault : {V : Type 0} (fault other : Fault) (result : Result V Fault) → result ≡ Err fault → result ≡ Err other → fault ≡ other
+same_fault fault other result is was = cc
+
+not_done : (b : Bool) (line : List ℕ) (reply : Reply) → (if b then Again line else Refused KeyReused) ≡ Done reply → ⊥
+not_done true line reply e = absurd (let f = e in cc)
+not_done false line reply e = absurd (let f = e in cc)
+
+-- what a kept key is answered with is never that it was done now
+never_done : (base : Base) (command : Command) (k : Kept) (answer : booked.Answer) → repeated base command k ≡ (answer_of answer, base) → IsDone (Ok answer) → ⊥
+never_done base command k (given.Done reply) e done = not_done (bytes_eq k.row_text (row_text command)) k.line (reply_of reply) (ap (λ (x : Answer × Base). x.0) e)
+never_done base command k (given.Again line) e done = done
+never_done base command k (given.Refused refusal) e done = done
+
+module _ {S : Type 0} (g : Ghosts S) (old mid : Held S) (now : ℕ) (command : Command) (key : Option Key) (formed : IsInForm command × IfSome key IsKeyInForm) where
+  -- the base after the command is sound
+  sound_after : (base : Base) → KeepsBase g old base → (after : Base) (answer : Answer) → keyed_step base now command key ≡ (answer, after) → IsSound after
+  sound_after base keeps after answer e = subst IsSound (ap (λ (x : Answer × Base). x.1) e) (keyed_sound base now command key keeps.sound keeps.books formed.0 formed.1)
+
+  -- what was read is of no use
+  pub fails : (P : Tables → Type 0) → IsSeen g old mid P → (fault : Fault) → MayFail fault → IsCalled g old mid now command key (Err fault)
+  fails P seen fault may = record {
+    answered = λ clean. tt;
+    kept = λ base keeps. still_kept g old mid base (seen.kept (sheets base)) keeps;
+    fault = may;
+    survives = survives_weaker (state g old) (state g mid) (λ _. ⊥) _ (λ _ db none. absurd none) seen.survives;
+    durable = λ clean done. absurd done;
+    opened = λ clean done. absurd done;
+    same = λ clean o none. seen.same clean o;
+    clean = seen.clean;
+    in_form = formed;
+  }
+
+  -- its key is kept
+  pub repeats : (k : Kept) (answer : booked.Answer) → ((base : Base) → repeated base command k ≡ (answer_of answer, base)) → IsSeen g old mid (λ t. Some k ≡ kept_in t key)
+      → IsCalled g old mid now command key (Ok answer)
+  repeats k answer told seen = record {
+    answered = λ clean base keeps. (
+      base,
+      still_kept g old mid base (seen.kept (sheets base)) keeps,
+      steps_again base now command key k (answer_of answer, base) (seen.told clean (sheets base) keeps.rows) (told base),
+    );
+    kept = tt;
+    fault = tt;
+    survives = survives_weaker (state g old) (state g mid) (λ _. ⊥) _ (λ _ db none. absurd none) seen.survives;
+    durable = λ clean done base keeps. absurd (never_done base command k answer (told base) done);
+    opened = λ clean done. absurd (never_done empty_base command k answer (told empty_base) done);
+    same = λ clean o none. seen.same clean o;
+    clean = seen.clean;
+    in_form = formed;
+  }
+
+  -- its key is kept, and the answer may find no memory
+  pub repeats_or_fails : (k : Kept) (result : Result booked.Answer Fault) → IfOk result (λ answer. (base : Base) → repeated base command k ≡ (answer_of answer, base))
+      → OnErr result (result ≡ Err Memory) → IsSeen g old mid (λ t. Some k ≡ kept_in t key) → IsCalled g old mid now command key result
+  repeats_or_fails k (Ok answer) told none seen = repeats k answer told seen
+  repeats_or_fails k (Err fault) none e seen = fails (λ t. Some k ≡ kept_in t key) seen fault (inl (same_fault fault Memory (Err fault) refl e))
+
+  -- it is refused
+  pub refuses : (refusal : Refusal) → IsSeen g old mid (Known now command key (Err refusal)) → IsCalled g old mid now command key (Ok (given.Refused refusal))
+  refuses refusal seen = record {
+    answered = λ clean base keeps.
+        let known = seen.told clean (sheets base) keeps.rows in
+        let refused : step base now command ≡ Err refusal = known.1 base keeps.books refl in (
+          base,
+          still_kept g old mid base (seen.kept (sheets base)) keeps,
+          steps_anew base now command key known.0 ∙ ap (acted base key command) refused,
+        );
+    kept = tt;
+    fault = tt;
+    survives = survives_weaker (state g old) (state g mid) (λ _. ⊥) _ (λ _ db none. absurd none) seen.survives;
+    durable = λ clean done. absurd done;
+    opened = λ clean done. absurd done;
+    same = λ clean o none. seen.same clean o;
+    clean = seen.clean;
+    in_form = formed;
+  }
+
+  -- it is planned, and is kept with its plan
+  module _ (plan : Plan) (seen : IsSeen g old mid (Known now command key (Ok plan))) (end : Held S) (kept : Plan) (reply : kept.reply ≡ plan.reply)
+      (rows : (t : Tables) → after_changes kept.changes.items t ≡ with_key key command (reply_of plan.reply) (after_changes plan.changes.items t)) where
+    clean_then : {r : Result (Unit {0}) Fault} → IsApplied g mid end r (after_changes kept.changes.items) → HasCleanDisk (state g end) → HasCleanDisk (state g mid)
+    clean_then applied = clean_before (state g mid) (state g end) _ applied.survives
+
+    -- the changes lead to the tables after the command
+    lands : HasCleanDisk (state g mid) → (base : Base) → KeepsBase g old base → (after : Base) × (sheets after ≡ after_changes kept.changes.items (sheets base)) × IsBooks after
+        × (keyed_step base now command key ≡ (answer_of (given.Done kept.reply), after)) × (has_texts (sheets after) ≡ true)
+    lands clean base keeps =
+        let known = seen.told clean (sheets base) keeps.rows in
+        let does : DoesCommand base now command plan = known.1 base keeps.books refl in
+        let new = known.0 in
+        let after = base_then base now command in
+        let told = reply_of plan.reply in
+        let all : after_changes kept.changes.items (sheets base) ≡ sheets (keeping key command told after) =
+        rows (sheets base) ∙ ap (with_key key command told) (sym does.rows) ∙ sym (rows_with_key base (next_stamp base now) command key told new) in (
+          keeping key command told after,
+          sym all,
+          books_kept after key command told does.kept,
+          steps_anew base now command key new ∙ ap (acted base key command) does.steps ∙ ap (λ reply. (answer_of (given.Done reply), keeping key command told after)) (sym reply),
+          ap has_texts (sym all) ∙ changes_keep_texts (sheets base) kept.changes.items keeps.texts,
+        )
+
+    -- and so do the trees that a crash may leave
+    comes : HasCleanDisk (state g mid) → (base : Base) → KeepsBase g old base → (trees : Trees) → AreTreesOf (after_changes kept.changes.items (sheets base)) trees
+        → AreTreesOf (sheets (base_after_call base now command key)) trees
+    comes clean base keeps trees are =
+        let l = lands clean base keeps in
+        subst (λ t. AreTreesOf t trees) (sym l.1 ∙ ap (λ (x : Answer × Base). sheets x.1) (sym l.3)) are
+
+    texts_come : HasCleanDisk (state g mid) → (base : Base) → KeepsBase g old base → has_texts (sheets (base_after_call base now command key)) ≡ true
+    texts_come clean base keeps =
+        let l = lands clean base keeps in
+        ap (λ (x : Answer × Base). has_texts (sheets x.1)) l.3 ∙ l.4
+
+    come : {r : Result (Unit {0}) Fault} → (applied : IsApplied g mid end r (after_changes kept.changes.items)) → Survives (state g old) (state g end) (MayCome g old now command key)
+    come applied =
+        none_then (state g old) (state g mid) (state g end) (MayCome g old now command key) seen.survives
+        (survives_weaker (state g mid) (state g end) _ _ (λ clean trees may.
+        let was = seen.same (clean_then applied clean) may.0 in (
+          was.was_open,
+          (λ base keeps. comes (clean_then applied clean) base keeps trees (may.1 (sheets base) (seen.kept (sheets base) keeps.rows (clean_then applied clean) may.0))),
+          (λ base keeps. texts_come (clean_then applied clean) base keeps),
+        )) applied.survives)
+
+    -- the changes failed
+    pub books_none : (fault : Fault) → MayFail fault → IsApplied {V = Unit {0}} g mid end (Err fault) (after_changes kept.changes.items) → IsCalled g old end now command key (Err fault)
+    books_none fault may applied =
+        let clean_mid = clean_before (state g mid) (state g end) _ applied.survives in
+        record {
+          answered = λ clean. tt;
+          kept = λ base keeps. still_kept g old end base (λ rows. applied.kept (sheets base) (seen.kept (sheets base) rows)) keeps;
+          fault = may;
+          survives = come applied;
+          durable = λ clean done. absurd done;
+          opened = λ clean done. absurd done;
+          same = λ clean o none. let s = applied.same clean o in same_then (state g old) (state g mid) (state g end) (seen.same (clean_mid clean) s.was_open) s;
+          clean = λ clean. seen.clean (clean_mid clean);
+          in_form = formed;
+        }
+
+    -- they are made
+    pub books_it : (x : Unit {0}) → IsApplied {E = Fault} g mid end (Ok x) (after_changes kept.changes.items) → IsCalled g old end now command key (Ok (given.Done kept.reply))
+    books_it x applied =
+        let clean_mid = clean_before (state g mid) (state g end) _ applied.survives in
+        record {
+          answered = λ clean base keeps.
+              let l = lands (clean_mid clean) base keeps in
+              (l.0, record { books = l.2; sound = sound_after base keeps l.0 (answer_of (given.Done kept.reply)) l.3; texts = l.4; rows = subst (Holds g end) (sym l.1) (applied.made (sheets base) (seen.kept (sheets base) keeps.rows)) }, l.3);
+          kept = tt;
+          fault = tt;
+          survives = come applied;
+          durable = λ clean done base keeps trees may. comes (clean_mid clean) base keeps trees (applied.durable clean (sheets base) (seen.kept (sheets base) keeps.rows) trees may);
+          opened = λ clean done. let o = applied.opened clean in ((seen.same (clean_mid clean) o.0).was_open, o.1, o.2);
+          same = λ clean o none. absurd none;
+          clean = λ clean. seen.clean (clean_mid clean);
+          in_form = formed;
+        }

@@ -1,0 +1,61 @@
+-- What is known after reads of a store, one after another: nothing was changed, and something is so of the rows.
+use Rattle.std.proofs.Common.{◌≡◌, Option, Some, None, Ok, IsTrue, arith, inl, refl, sym, subst}
+use Rattle.std.specs.Prelude.{option_map}
+use Rattle.sqlite_trees.specs.declared.store.Store.{Ghosts}
+use Rattle.sqlite.specs.Held.{Held, state}
+use Rattle.sqlite.specs.State.{HasCleanDisk, State, Survives}
+use Rattle.brk_model.specs.Base.{Base}
+use Rattle.brk_model.specs.Records.{Key}
+use Rattle.brk_model.specs.Sheets.{sheets}
+use Rattle.brk_model.specs.Tables.{Tables}
+use Rattle.brk_ref.specs.Records.{kept_of}
+use Rattle.brk_ref.specs.declared.key.Kept as row
+use Rattle.brk_sql.proofs.Inside.{clean_before}
+use Rattle.brk_store.specs.Holds.{Holds, IsRead, IsSame}
+use Rattle.brk_decisions.proofs.Looking.{none_then, same_then}
+use Rattle.brk_commit.specs.Booked.{KeepsBase}
+use Rattle.brk_commit.specs.Keys.{IsSought, kept_in}
+
+-- a call that does nothing
+pub still : (s : State) → Survives s s (λ _. ⊥)
+still s = record { clean = omega arith; shield = λ x. x; counts = omega arith; limit = refl; closes = λ _ o. inl o; crash = λ _ db may. inl may }
+
+module _ {S : Type 0} (g : Ghosts S) where
+  -- books are kept where the rows are
+  pub still_kept : (old new : Held S) (base : Base) → (Holds g old (sheets base) → Holds g new (sheets base)) → KeepsBase g old base → KeepsBase g new base
+  still_kept old new base rows keeps = record { books = keeps.books; sound = keeps.sound; texts = keeps.texts; rows = rows keeps.rows }
+
+  -- nothing was changed, and this is so of whatever rows the store holds
+  pub record IsSeen (old new : Held S) (P : Tables → Type 0) : Type 0 where
+    pub told : HasCleanDisk (state g new) → (t : Tables) → Holds g old t → P t
+    pub kept : (t : Tables) → Holds g old t → Holds g new t
+    pub same : HasCleanDisk (state g new) → IsTrue (state g new).is_open → IsSame (state g old) (state g new)
+    pub clean : HasCleanDisk (state g new) → HasCleanDisk (state g old)
+    pub survives : Survives (state g old) (state g new) (λ _. ⊥)
+
+  pub seen : {V E : Type 0} (old new : Held S) (v : V) (P : V → Tables → Type 0) → IsRead {E = E} g old new (Ok v) P → IsSeen old new (P v)
+  seen old new v P read =
+      record { told = read.told; kept = read.kept; same = read.same; clean = clean_before (state g old) (state g new) (λ _. ⊥) read.survives; survives = read.survives }
+
+  pub seen_both : (old mid new : Held S) (P Q : Tables → Type 0) → IsSeen old mid P → IsSeen mid new Q → IsSeen old new (λ t. P t × Q t)
+  seen_both old mid new P Q first second = record {
+    told = λ clean t holds. (first.told (second.clean clean) t holds, second.told clean t (first.kept t holds));
+    kept = λ t holds. second.kept t (first.kept t holds);
+    same = λ clean o. let s = second.same clean o in same_then (state g old) (state g mid) (state g new) (first.same (second.clean clean) s.was_open) s;
+    clean = λ clean. first.clean (second.clean clean);
+    survives = none_then (state g old) (state g mid) (state g new) (λ _. ⊥) first.survives second.survives;
+  }
+
+  seen_still : (store : Held S) (P : Tables → Type 0) → ((t : Tables) → P t) → IsSeen store store P
+  seen_still store P all =
+      record { told = λ clean t holds. all t; kept = λ t holds. holds; same = λ clean o. record { was_open = o; now = refl; committed = refl }; clean = λ clean. clean; survives = still (state g store) }
+
+  -- nothing is kept under the key
+  pub sought_none : (old new : Held S) (key : Option Key) → IsSought g old new key (Ok None) → IsSeen old new (λ t. None ≡ kept_in t key)
+  sought_none old new None s = subst (λ n. IsSeen old n (λ t. None ≡ kept_in t None)) (sym s.0) (seen_still old (λ t. None ≡ kept_in t None) (λ t. refl))
+  sought_none old new (Some key) s = seen old new None (λ kept t. option_map kept_of kept ≡ kept_in t (Some key)) s
+
+  -- this row is
+  pub sought_some : (old new : Held S) (key : Option Key) (k : row.Kept) → IsSought g old new key (Ok (Some k)) → IsSeen old new (λ t. Some (kept_of k) ≡ kept_in t key)
+  sought_some old new None k s = let other = s.1 in absurd (cc)
+  sought_some old new (Some key) k s = seen old new (Some k) (λ kept t. option_map kept_of kept ≡ kept_in t (Some key)) s

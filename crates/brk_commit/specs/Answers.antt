@@ -1,0 +1,26 @@
+-- What answers are in the abstract brokerage.
+use Rattle.std.specs.Prelude.{Result, Ok, Err, string_bytes}
+use Rattle.brk_money.specs.declared.fault.Fault.{Fault}
+use Rattle.brk_model.specs.Commands.{Answer, Done, Again, Refused}
+use Rattle.brk_plans.specs.Replies.{reply_of}
+use Rattle.brk_commit.specs.declared.answer.Answer as booked
+use Rattle.brk_commit.specs.declared.answer.Answer.TheVariants as given
+
+abbrev pub answer_of : booked.Answer → Answer
+answer_of (given.Done reply) = Done (reply_of reply)
+answer_of (given.Again line) = Again (string_bytes line)
+answer_of (given.Refused refusal) = Refused refusal
+
+-- nothing was booked: the call was refused or failed, or had been answered before
+abbrev pub BookedNothing : Result booked.Answer Fault → Type 0
+BookedNothing (Ok (given.Done reply)) = ⊥
+BookedNothing (Ok (given.Again line)) = Unit {0}
+BookedNothing (Ok (given.Refused refusal)) = Unit {0}
+BookedNothing (Err fault) = Unit {0}
+
+-- it was booked just now
+abbrev pub IsDone : Result booked.Answer Fault → Type 0
+IsDone (Ok (given.Done reply)) = Unit {0}
+IsDone (Ok (given.Again line)) = ⊥
+IsDone (Ok (given.Refused refusal)) = ⊥
+IsDone (Err fault) = ⊥

@@ -1,0 +1,41 @@
+//! Commands that are decided on, each kind by its own function.
+
+ghost use Rattle.std.specs.Prelude.{IfErr};
+ghost use Rattle.brk_commands.specs.Commands.{command_of};
+ghost use Rattle.brk_decisions.specs.Decisions.{Decides};
+ghost use Rattle.brk_model.specs.Run.{MayFail};
+ghost use Rattle.brk_store.specs.Holds.{IsRead};
+
+use brk_commands::Command;
+use brk_decisions::{
+    decide_cancel, decide_feed, decide_move, decide_oneday, decide_order, decide_reference,
+    decide_result,
+};
+use brk_money::{Planned, Stamp};
+use brk_store::Store;
+use brk_trade::Plan;
+use brk_update_decisions::decide_update;
+use sqlite::Alter;
+use std::alloc::Global;
+
+// Decides on a command at a moment: why it is refused, or its plan.
+pub(crate) fn decide<S: Alter>(
+    alloc: Global,
+    store: &mut Store<S>,
+    now: Stamp,
+    command: &Command,
+) -> Planned<Plan>
+    ensures read { IsRead S.Store store.old store.new result (Decides now (command_of command.now)) }
+    ensures fault { IfErr result MayFail }
+{
+    match command {
+        Command::Add(reference) => decide_reference(alloc, store, now, reference),
+        Command::Order(order) => decide_order(alloc, store, now, order),
+        Command::Feed(feed) => decide_feed(alloc, store, now, feed),
+        Command::Cancel(trade) => decide_cancel(alloc, store, now, *trade),
+        Command::Complete(completion) => decide_result(alloc, store, now, completion),
+        Command::Update(update) => decide_update(alloc, store, now, update),
+        Command::Move(movement) => decide_move(alloc, store, now, movement),
+        Command::OneDay(day) => decide_oneday(alloc, store, now, *day),
+    }
+}

@@ -1,0 +1,79 @@
+//! Commands that are kept under their keys, and what they are answered when they come again.
+
+ghost use Rattle.std.specs.Prelude.{◌≡◌, IfOk, IfErr, OnErr, Err};
+ghost use Rattle.std.specs.Option.{option_copied};
+ghost use Rattle.brk_commands.specs.Commands.{command_of};
+ghost use Rattle.brk_commit.specs.Answers.{answer_of};
+ghost use Rattle.brk_commit.specs.Keys.{key_for};
+ghost use Rattle.brk_commit.specs.Keys.{IsSought, with_key};
+ghost use Rattle.brk_model.specs.Base.{Base};
+ghost use Rattle.brk_model.specs.Keyed.{repeated};
+ghost use Rattle.brk_model.specs.Run.{MayFail};
+ghost use Rattle.brk_model.specs.Tables.{Tables};
+ghost use Rattle.brk_money.specs.declared.fault.Fault.TheVariants.{Memory};
+ghost use Rattle.brk_changes.specs.Changes.{after_changes};
+ghost use Rattle.brk_plans.specs.Replies.{reply_of};
+ghost use Rattle.brk_ref.specs.Records.{kept_of};
+
+use crate::answer::Answer;
+use brk_commands::{Command, line_text, row_text};
+use brk_money::{Fault, Refusal};
+use brk_ref::{Kept, Key};
+use brk_store::Store;
+use brk_trade::{Change, Plan};
+use sqlite::Alter;
+use std::alloc::Global;
+
+// What is kept under a key, where there is one.
+pub(crate) fn find_kept<S: Alter>(
+    store: &mut Store<S>,
+    key: Option<&Key>,
+) -> Result<Option<Kept>, Fault>
+    ensures sought { IsSought S.Store store.old store.new (key_for (option_copied key.entry)) result }
+    ensures fault { IfErr result MayFail }
+{
+    match key {
+        Some(key) => store.kept(key),
+        None => Ok(None),
+    }
+}
+
+// The answer to a command whose key is kept already.
+pub(crate) fn repeat(alloc: Global, command: &Command, kept: Kept) -> Result<Answer, Fault>
+    ensures answer { IfOk result (λ answer. (base : Base) → repeated base (command_of command.now) (kept_of kept) ≡ (answer_of answer, base)) }
+    ensures fault { OnErr result (result ≡ Err Memory) }
+{
+    let row = row_text(alloc, command)?;
+    if kept.row_text == row {
+        Ok(Answer::Again(kept.line))
+    } else {
+        Ok(Answer::Refused(Refusal::KeyReused))
+    }
+}
+
+// The plan of a command with the row that keeps it under its key, where it has one.
+pub(crate) fn keep(
+    alloc: Global,
+    plan: Plan,
+    command: &Command,
+    key: Option<&Key>,
+) -> Result<Plan, Fault>
+    ensures reply { IfOk result (λ kept. kept.reply ≡ plan.reply) }
+    ensures rows { IfOk result (λ kept. (t : Tables) → after_changes kept.changes.items t
+        ≡ with_key (key_for (option_copied key.entry)) (command_of command.now) (reply_of plan.reply) (after_changes plan.changes.items t)) }
+    ensures fault { OnErr result (result ≡ Err Memory) }
+{
+    let Some(key) = key else {
+        return Ok(plan);
+    };
+    let key = key.clone()?;
+    let row_text = row_text(alloc, command)?;
+    let line = line_text(alloc, &plan.reply)?;
+    let mut plan = plan;
+    plan.changes.push(Change::Keep(Kept {
+        key,
+        row_text,
+        line,
+    }))?;
+    Ok(plan)
+}

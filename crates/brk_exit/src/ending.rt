@@ -1,0 +1,169 @@
+ghost use Rattle.std.specs.Prelude.{◌≡◌, OnErr, OnOk};
+ghost use Rattle.std.specs.Io.KnownBytes.{Appends};
+ghost use Rattle.brk_exit.specs.Ending as spec;
+ghost use Rattle.brk_exit.specs.Lines as line;
+
+use crate::telling::{Line, fault_line, write_line};
+use brk_args::UsageFault;
+use brk_http_engine::{FaultKind as StreamFault, ServeFault};
+use brk_io::{BatchFault, FaultKind, NotWritten, write_out};
+use brk_money::Fault;
+use brk_report_lines::StatementFault;
+use itoa::Buffer;
+use std::io::Write;
+
+/// How the program ends.
+#[derive(Drop)]
+pub enum Ending {
+    /// All was done, also where rows were refused.
+    Done,
+    /// The database could not be opened as a desk's, or not be closed.
+    Open(Fault),
+    /// The batch ended early.
+    Batch(BatchFault),
+    /// The statement is refused, or ended early.
+    Statement(StatementFault),
+    /// A stream of requests ended for want of memory.
+    Serve(ServeFault),
+    /// No stream could be taken: the port is in use, or the machine gives no more.
+    Net,
+    /// What was asked for could not be printed.
+    Output,
+    /// The words of the command line ask for no job.
+    Usage(UsageFault),
+}
+
+fn batch_line(kind: FaultKind) -> Line<'static>
+    ensures { line.told result ≡ spec.batch_line kind }
+{
+    match kind {
+        FaultKind::BadHeader => ("brk: batch: ", "bad header"),
+        FaultKind::NoEnd => ("brk: batch: ", "no end"),
+        FaultKind::BadEnd => ("brk: batch: ", "bad end"),
+        FaultKind::Read => ("brk: fault: ", "read"),
+        FaultKind::Write => ("brk: fault: ", "write"),
+        FaultKind::Desk(fault) => fault_line(fault),
+    }
+}
+
+fn stream_line(kind: StreamFault) -> Line<'static>
+    ensures { line.told result ≡ spec.stream_line kind }
+{
+    match kind {
+        StreamFault::Read => ("brk: fault: ", "read"),
+        StreamFault::Write => ("brk: fault: ", "write"),
+        StreamFault::Memory => ("brk: fault: ", "memory"),
+    }
+}
+
+// The exit status of a fault: 1 for tables that are no desk's, 3 for what memory or a device refused.
+fn fault_status(fault: Fault) -> u8
+    ensures { result ≡ spec.fault_status fault }
+{
+    match fault {
+        Fault::Damaged(_) => 1,
+        Fault::Memory | Fault::Store => 3,
+    }
+}
+
+fn batch_status(kind: FaultKind) -> u8
+    ensures { result ≡ spec.batch_status kind }
+{
+    match kind {
+        FaultKind::BadHeader | FaultKind::NoEnd | FaultKind::BadEnd => 1,
+        FaultKind::Read | FaultKind::Write => 3,
+        FaultKind::Desk(fault) => fault_status(fault),
+    }
+}
+
+fn statement_status(fault: &StatementFault) -> u8
+    ensures { result ≡ spec.statement_status fault.now }
+{
+    match fault {
+        StatementFault::Refused(_) => 1,
+        StatementFault::Desk(fault) => fault_status(*fault),
+        StatementFault::Write => 3,
+    }
+}
+
+fn status(ending: &Ending) -> u8
+    ensures { result ≡ spec.status_of ending.now }
+{
+    match ending {
+        Ending::Done => 0,
+        Ending::Open(fault) => fault_status(*fault),
+        Ending::Batch(fault) => batch_status(fault.kind),
+        Ending::Statement(fault) => statement_status(fault),
+        Ending::Serve(_) => 3,
+        Ending::Net => 3,
+        Ending::Output => 3,
+        Ending::Usage(UsageFault::Help(_)) => 0,
+        Ending::Usage(UsageFault::Words(_) | UsageFault::Day | UsageFault::NotYet) => 2,
+        Ending::Usage(UsageFault::Memory) => 3,
+    }
+}
+
+/// How the program ends once the database was closed: the first fault is told, so that of the close only where there was
+/// no other.
+pub fn after_close(ending: Ending, closed: Result<(), Fault>) -> Ending
+    ensures { result ≡ spec.after_close ending closed }
+{
+    match (ending, closed) {
+        (Ending::Done, Err(fault)) => Ending::Open(fault),
+        (ending, _) => ending,
+    }
+}
+
+fn tell_statement<W: Write>(fault: &StatementFault, errors: &mut W) -> Result<(), NotWritten>
+    ensures ok { OnOk result (Appends (W.contents errors.old) (W.contents errors.new) (spec.statement_line fault.now)) }
+    ensures err { OnErr result (line.WritesFront (W.contents errors.old) (W.contents errors.new) (spec.statement_line fault.now)) }
+{
+    match fault {
+        StatementFault::Refused(refusal) => {
+            let mut buffer = Buffer::new();
+            write_line(errors, ("brk: refused: ", buffer.format(refusal.number())))
+        }
+        StatementFault::Desk(fault) => write_line(errors, fault_line(*fault)),
+        StatementFault::Write => write_line(errors, ("brk: fault: ", "write")),
+    }
+}
+
+fn tell_usage<W: Write>(fault: &UsageFault, errors: &mut W) -> Result<(), NotWritten>
+    ensures ok { OnOk result (Appends (W.contents errors.old) (W.contents errors.new) (spec.usage_line fault.now)) }
+    ensures err { OnErr result (line.WritesFront (W.contents errors.old) (W.contents errors.new) (spec.usage_line fault.now)) }
+{
+    match fault {
+        UsageFault::Words(text) => write_out(errors, text.as_bytes()),
+        UsageFault::Help(_) => Ok(()),
+        UsageFault::Day => write_line(errors, ("brk: usage: ", "day")),
+        UsageFault::NotYet => write_line(errors, ("brk: usage: ", "not yet")),
+        UsageFault::Memory => write_line(errors, ("brk: fault: ", "memory")),
+    }
+}
+
+// Writes the line of an ending, or its front where the writer fails.
+fn tell<W: Write>(ending: &Ending, errors: &mut W) -> Result<(), NotWritten>
+    ensures ok { OnOk result (Appends (W.contents errors.old) (W.contents errors.new) (spec.line_of ending.now)) }
+    ensures err { OnErr result (line.WritesFront (W.contents errors.old) (W.contents errors.new) (spec.line_of ending.now)) }
+{
+    match ending {
+        Ending::Done => Ok(()),
+        Ending::Open(fault) => write_line(errors, fault_line(*fault)),
+        Ending::Batch(fault) => write_line(errors, batch_line(fault.kind)),
+        Ending::Statement(fault) => tell_statement(fault, errors),
+        Ending::Serve(fault) => write_line(errors, stream_line(fault.kind)),
+        Ending::Net => write_line(errors, ("brk: fault: ", "net")),
+        Ending::Output => write_line(errors, ("brk: fault: ", "write")),
+        Ending::Usage(fault) => tell_usage(fault, errors),
+    }
+}
+
+/// Writes what there is to say of an ending to the errors' stream, and answers the exit status, also where that write
+/// fails. Of help and of what was done it writes nothing.
+pub fn end_with<W: Write>(ending: &Ending, errors: &mut W) -> u8
+    ensures status { result ≡ spec.status_of ending.now }
+    ensures line { line.WritesFront (W.contents errors.old) (W.contents errors.new) (spec.line_of ending.now) }
+{
+    let _ = tell(ending, errors);
+    status(ending)
+}

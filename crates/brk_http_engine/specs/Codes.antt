@@ -1,0 +1,71 @@
+-- What the code's values are in the definitions.
+use Rattle.std.specs.Prelude.{List, map, Option, option_map, Result, Ok, Err, String, string_bytes}
+use Rattle.std.specs.Global.{Global, Vec}
+use Rattle.brk_money.specs.Spelling.{Text}
+use Rattle.brk_money.specs.declared.fault.Fault.{Fault}
+use Rattle.brk_money.specs.declared.refusal.Refusal.{Refusal}
+use Rattle.brk_model.specs.Commands as model
+use Rattle.brk_model.specs.Queries as queries
+use Rattle.brk_model.specs.Records as records
+use Rattle.brk_model.specs.Run as run
+use Rattle.brk_ref.specs.Records.{key_of}
+use Rattle.brk_ref.specs.declared.key.Key as ref
+use Rattle.brk_http_model.specs.Asked as asked
+use Rattle.brk_http_model.specs.Replies.{Response, Wrong, Came}
+use Rattle.brk_http_model.specs.Routes as routes
+use Rattle.brk_http_engine.specs.declared.service.RowAnswer.{RowAnswer}
+use Rattle.brk_http_engine.specs.declared.service.RowAnswer.TheVariants as given
+use Rattle.brk_http_engine.specs.declared.routes.Route.{Route}
+use Rattle.brk_http_engine.specs.declared.routes.Route.TheVariants as route
+use Rattle.brk_http_engine.specs.declared.asking.Asking.{Asking}
+use Rattle.brk_http_engine.specs.declared.asking.Asking.TheVariants as asking
+use Rattle.brk_http_engine.specs.declared.acting.Told.{Told}
+use Rattle.brk_http_engine.specs.declared.acting.Told.TheVariants as told
+
+-- the key of a row, if it has one
+abbrev pub key_for : Option ref.Key → Option records.Key
+key_for key = option_map key_of key
+
+-- what came of a row
+abbrev pub row_outcome : {R : Type 0} → (R → model.Reply) → Result (RowAnswer R) Fault → run.Outcome
+row_outcome reply (Ok (given.Done r)) = run.Did (model.Done (reply r))
+row_outcome reply (Ok (given.Again line)) = run.Did (model.Again (string_bytes line))
+row_outcome reply (Ok (given.Refused refusal)) = run.Did (model.Refused refusal)
+row_outcome reply (Err fault) = run.Failed fault
+
+-- what came of a query
+abbrev pub query_outcome : {V : Type 0} → (V → queries.View) → Result (Result V Refusal) Fault → run.Outcome
+query_outcome shown (Ok (Ok view)) = run.Saw (shown view)
+query_outcome shown (Ok (Err refusal)) = run.NoView refusal
+query_outcome shown (Err fault) = run.Failed fault
+
+-- the texts of a list
+abbrev pub list_of : Vec (String Global) → List Text
+list_of texts = map string_bytes texts.items
+
+-- the texts of records
+abbrev pub records_of : Vec (Vec (String Global)) → queries.View
+records_of records = map list_of records.items
+
+-- the route that was found
+abbrev pub route_is : Route → routes.Route
+route_is (route.ToRow key) = routes.ToRow (key_for key)
+route_is (route.ToView view) = routes.ToView view.now
+
+-- what a request was found to ask
+abbrev pub asked_is : {X Q : Type 0} → (X → model.Command) → (Q → queries.Query) → Asking X Q → asked.Asked
+asked_is command query (asking.Wrong problem) = asked.Answers (Wrong problem)
+asked_is command query (asking.BadRow refusal) = asked.Answers (Came (run.Did (model.Refused refusal)))
+asked_is command query (asking.BadQuery refusal) = asked.Answers (Came (run.NoView refusal))
+asked_is command query (asking.Row x key) = asked.Calls (run.Do (command x) (key_for key))
+asked_is command query (asking.View q) = asked.Calls (run.Ask (query q))
+
+-- what is told of a request
+abbrev pub response_of : {R V : Type 0} → (R → model.Reply) → (V → queries.View) → Told R V → Response
+response_of reply shown (told.Wrong problem) = Wrong problem
+response_of reply shown (told.NoRow refusal) = Came (run.Did (model.Refused refusal))
+response_of reply shown (told.NoView refusal) = Came (run.NoView refusal)
+response_of reply shown (told.Done r) = Came (run.Did (model.Done (reply r)))
+response_of reply shown (told.Again line) = Came (run.Did (model.Again (string_bytes line)))
+response_of reply shown (told.Saw view) = Came (run.Saw (shown view))
+response_of reply shown (told.Failed fault) = Came (run.Failed fault)

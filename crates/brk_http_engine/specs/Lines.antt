@@ -1,0 +1,12 @@
+-- The first lines of a reply's head.
+use Rattle.std.specs.Prelude.{ℕ, ◌∷◌, ◌++◌, [], codes, decimal, unwrap_or}
+use Rattle.brk_money.specs.Spelling.{Text}
+use Rattle.brk_http_model.specs.Replies.{head_line}
+use Rattle.http.specs.StatusCode.{code_digits, reason_phrase}
+
+-- a status as a head tells it: its digits and its phrase
+unfoldable pub line_of : ℕ → Text
+line_of code = code_digits code ++ 32 ∷ unwrap_or (reason_phrase code) []
+
+unfoldable pub first_lines : Text → ℕ → Text
+first_lines status len = head_line (codes "HTTP/1.1 " ++ status) ++ head_line (codes "Content-Type: application/json") ++ head_line (codes "Content-Length: " ++ decimal len)

@@ -1,0 +1,74 @@
+-- What a turn of a stream and a whole stream do, by how they end. Said of a desk by what one call of it does.
+use Rattle.std.specs.Prelude.{◌≡◌, ◌⊎◌, ◌==◌, ◌||◌, Bool, ℕ, ◌+◌, List, [], Option, Some, Result, Ok, Err, length, take}
+use Rattle.std.specs.Io.KnownBytes.{Appends}
+use Rattle.std.specs.List.{concat}
+use Rattle.brk_money.specs.Spelling.{Text}
+use Rattle.brk_http_model.specs.Asked.{Forms, asked_of}
+use Rattle.brk_http_model.specs.Found.{Request, Finds, NoMore}
+use Rattle.brk_http_model.specs.Replies.{Response, is_fault, reply_text}
+use Rattle.brk_http_model.specs.Stream.{Does, Responds, most_requests, Next, Ends, GoesOn, One, Replies, Begins}
+use Rattle.brk_io.specs.Span.{IsUntouched, Span}
+use Rattle.brk_io.specs.Moments.{Moments}
+use Rattle.brk_http_engine.specs.declared.turning.Turn.{Turn}
+use Rattle.brk_http_engine.specs.declared.turning.Turn.TheVariants as turn
+use Rattle.brk_http_engine.specs.declared.turning.FaultKind.{FaultKind}
+use Rattle.brk_http_engine.specs.declared.turning.FaultKind.TheVariants as kinds
+use Rattle.brk_http_engine.specs.declared.stream.ServeFault.{ServeFault}
+
+-- one request was answered from here: the clock gave the moments that were taken
+pub record Answered {B C : Type 0} (forms : Forms) (does : Does B) (gives : C → ℕ → C → Type 0) (n : ℕ) (input : Text) (span : Span B C) (reply : Text) (next : Next) : Type 0 where
+  pub taken : List ℕ
+  pub moments : Moments gives span.clock taken span.later
+  pub one : One forms does n input span.base taken reply next span.after
+
+-- a request was acted on: it has this reply
+pub record Acted {B C : Type 0} (forms : Forms) (does : Does B) (gives : C → ℕ → C → Type 0) (n : ℕ) (request : Request) (span : Span B C) (closes : Bool) (reply : Text) : Type 0 where
+  pub taken : List ℕ
+  pub response : Response
+  pub moments : Moments gives span.clock taken span.later
+  pub responds : Responds does (asked_of forms request) span.base taken response span.after
+  pub last : closes ≡ ((n + 1 == most_requests) || request.closes || is_fault response)
+  pub bytes : reply ≡ reply_text response closes
+
+-- a turn that did not fail
+abbrev pub Turned : {B C : Type 0} → Forms → Does B → (C → ℕ → C → Type 0) → ℕ → Text → Span B C → Option Text → Turn → Type 0
+Turned forms does gives n input span left turn.Ended = Finds input NoMore × IsUntouched span
+Turned forms does gives n input span left turn.Closed = (reply : Text) × Answered forms does gives n input span reply Ends × Appends span.old span.new reply
+Turned forms does gives n input span left turn.Open =
+    (reply : Text) × (rest : Text) × Answered forms does gives n input span reply (GoesOn rest) × Appends span.old span.new reply × (left ≡ Some rest)
+
+-- a turn that failed: a read changed nothing; where memory was wanted the request may have acted, and where the writer failed it has
+abbrev pub Failed : {B C : Type 0} → Forms → Does B → (C → ℕ → C → Type 0) → ℕ → Text → Span B C → FaultKind → Type 0
+Failed forms does gives n input span kinds.Read = IsUntouched span
+Failed forms does gives n input span kinds.Memory =
+    IsUntouched span ⊎ ((reply : Text) × (next : Next) × Answered forms does gives n input span reply next × Appends span.old span.new [])
+Failed forms does gives n input span kinds.Write =
+    (reply : Text) × (next : Next) × (k : ℕ) × Answered forms does gives n input span reply next × Appends span.old span.new (take k reply)
+
+-- a stream that ended well: what was written is its reply text, at the moments that the clock gave
+pub record Served {B C : Type 0} (forms : Forms) (does : Does B) (gives : C → ℕ → C → Type 0) (input : Text) (span : Span B C) (count : ℕ) : Type 0 where
+  pub moments : List ℕ
+  pub replies : List Text
+  pub taken : Moments gives span.clock moments span.later
+  pub replied : Replies forms does 0 (GoesOn input) span.base moments replies span.after
+  pub written : Appends span.old span.new (concat replies)
+  pub counted : count ≡ length replies
+
+-- a stream that a fault ended: the first replies are written, and the next request failed
+pub record Stopped {B C : Type 0} (forms : Forms) (does : Does B) (gives : C → ℕ → C → Type 0) (input : Text) (span : Span B C) (kind : FaultKind) (count : ℕ) : Type 0 where
+  pub moments : List ℕ
+  pub replies : List Text
+  pub rest : Text
+  pub mid : B
+  pub later : C
+  pub between : Option Text
+  pub taken : Moments gives span.clock moments later
+  pub begun : Begins forms does 0 input span.base moments replies rest mid
+  pub written : Appends span.old between (concat replies)
+  pub failed : Failed forms does gives (length replies) rest (record { base = mid; after = span.after; clock = later; later = span.later; old = between; new = span.new }) kind
+  pub counted : count ≡ length replies
+
+-- what a stream comes to
+abbrev pub ServeGives : {B C : Type 0} → Forms → Does B → (C → ℕ → C → Type 0) → Text → Span B C → Result ℕ ServeFault → Type 0
+ServeGives forms does gives input span (Ok count) = Served forms does gives input span count
+ServeGives forms does gives input span (Err fault) = Stopped forms does gives input span fault.kind fault.done

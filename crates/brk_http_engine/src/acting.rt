@@ -1,0 +1,85 @@
+ghost use Rattle.std.specs.Prelude.{◌≡◌, ℕ, List};
+ghost use Rattle.brk_model.specs.Run.{Ask, Do, Outcome};
+ghost use Rattle.brk_http_model.specs.Replies.{Came};
+ghost use Rattle.brk_io.specs.Moments.{Moments};
+ghost use Rattle.brk_http_model.specs.Stream.{Responds};
+ghost use Rattle.brk_http_engine.specs.Codes.{asked_is, key_for, response_of};
+
+use crate::asking::Asking;
+use crate::service::{RowAnswer, Service};
+use brk_http_model::Problem;
+use brk_io::Clock;
+use brk_money::{Fault, Refusal, Stamp};
+use brk_ref::Key;
+use std::alloc::Global;
+
+/// What is told of a request.
+#[derive(Debug, Drop)]
+pub enum Told<R, V> {
+    Wrong(Problem),
+    /// A row was refused.
+    NoRow(Refusal),
+    /// A query was refused.
+    NoView(Refusal),
+    Done(R),
+    Again(String),
+    Saw(V),
+    Failed(Fault),
+}
+
+// Runs a command.
+fn act_on_row<D: Service>(
+    alloc: Global,
+    desk: &mut D::Desk,
+    now: Stamp,
+    command: &D::Command,
+    key: &Option<Key>,
+) -> Told<D::Reply, D::View>
+    ensures { (outcome : Outcome) × (response_of D.told D.shown result ≡ Came outcome)
+        × D.acts desk.old now (Do (D.command_of command.now) (key_for key.now)) outcome desk.new }
+{
+    match D::call(desk, alloc, now, command, key.as_ref()) {
+        Ok(RowAnswer::Done(reply)) => Told::Done(reply),
+        Ok(RowAnswer::Again(line)) => Told::Again(line),
+        Ok(RowAnswer::Refused(refusal)) => Told::NoRow(refusal),
+        Err(fault) => Told::Failed(fault),
+    }
+}
+
+// Answers a query.
+fn act_on_query<D: Service>(
+    alloc: Global,
+    desk: &mut D::Desk,
+    query: &D::Query,
+) -> Told<D::Reply, D::View>
+    ensures { (outcome : Outcome) × (response_of D.told D.shown result ≡ Came outcome)
+        × D.acts desk.old 0 (Ask (D.query_of query.now)) outcome desk.new }
+{
+    match D::ask(desk, alloc, query) {
+        Ok(Ok(view)) => Told::Saw(view),
+        Ok(Err(refusal)) => Told::NoView(refusal),
+        Err(fault) => Told::Failed(fault),
+    }
+}
+
+/// Does what was asked. The clock is asked once for a row in form, and else not.
+pub fn act<C: Clock, D: Service>(
+    alloc: Global,
+    clock: &mut C,
+    desk: &mut D::Desk,
+    asking: Asking<D::Command, D::Query>,
+) -> Told<D::Reply, D::View>
+    ensures { (taken : List ℕ) × Moments C.gives clock.old taken clock.new
+        × Responds D.acts (asked_is D.command_of D.query_of asking) desk.old taken (response_of D.told D.shown result) desk.new }
+{
+    match asking {
+        Asking::Wrong(problem) => Told::Wrong(problem),
+        Asking::BadRow(refusal) => Told::NoRow(refusal),
+        Asking::BadQuery(refusal) => Told::NoView(refusal),
+        Asking::Row(command, key) => {
+            let now = clock.now();
+            act_on_row::<D>(alloc, desk, now, &command, &key)
+        }
+        Asking::View(query) => act_on_query::<D>(alloc, desk, &query),
+    }
+}

@@ -1,0 +1,126 @@
+ghost use Rattle.std.specs.Prelude.{◌≡◌, ◌≢◌, List, ℕ, map, codes, string_bytes, IfOk, IfSome, IfNone, option_map};
+ghost use Rattle.serde_json.specs.Data.{Data, string, array, object, member, no_members};
+ghost use Rattle.serde_json.specs.View.{view, items_of};
+ghost use Rattle.brk_http_model.specs.Bodies as spec;
+ghost use Rattle.brk_http_engine.specs.Codes.{list_of};
+ghost use Rattle.brk_http_engine.specs.Words.{word_text};
+
+use serde_json::{Value, json};
+use std::alloc::{AllocError, Global};
+
+// The texts in a list of values, if each is a text.
+fn strings(alloc: Global, values: &[Value]) -> Result<Option<Vec<String>>, AllocError>
+    ensures found { IfOk result (λ o. IfSome o (λ v. map view values.now ≡ map string (map string_bytes v.items))) }
+    ensures none { IfOk result (λ o. IfNone o ((ts : List (List ℕ)) → map view values.now ≢ map string ts)) }
+{
+    let mut texts = Vec::new(alloc);
+    for value in values {
+        match value.as_str() {
+            Some(text) => texts.push(String::from_str(alloc, text)?)?,
+            None => return Ok(None),
+        }
+    }
+    Ok(Some(texts))
+}
+
+/// The texts of a body that is a JSON list of texts.
+#[tactic(auto, using(crate::proofs::BodyLemmas::no_value))]
+pub fn texts_of(alloc: Global, body: &[u8]) -> Result<Option<Vec<String>>, AllocError>
+    ensures { IfOk result (λ found. option_map list_of found ≡ spec.texts_of body.now) }
+{
+    let Ok(text) = str::from_utf8(body) else {
+        return Ok(None);
+    };
+    let value = match Value::from_str(alloc, text) {
+        Ok(value) => value,
+        Err(error) => {
+            if error.is_memory() {
+                return Err(AllocError);
+            }
+            return Ok(None);
+        }
+    };
+    match value.as_array() {
+        Some(values) => strings(alloc, values),
+        None => Ok(None),
+    }
+}
+
+/// The one member of a reply's object.
+#[derive(Clone, Copy, Debug, PartialEq, Eq)]
+pub enum Word {
+    Ok,
+    Again,
+    No,
+    View,
+    Error,
+}
+
+// Texts as a list.
+fn list_value(alloc: Global, texts: &[String]) -> Result<Value, AllocError>
+    ensures { IfOk result (λ v. view v ≡ spec.listed (map string_bytes texts.now)) }
+{
+    let mut list = Vec::new(alloc);
+    for text in texts {
+        list.push(Value::String(String::from_str(alloc, text.as_str())?))?;
+    }
+    Ok(Value::Array(list))
+}
+
+// Records of texts as a list of lists.
+fn records_value(alloc: Global, records: &[Vec<String>]) -> Result<Value, AllocError>
+    ensures { IfOk result (λ v. view v ≡ array (items_of (map spec.listed (map list_of records.now)))) }
+{
+    let mut list = Vec::new(alloc);
+    for record in records {
+        list.push(list_value(alloc, record)?)?;
+    }
+    Ok(Value::Array(list))
+}
+
+// An object of one member.
+fn told_value(alloc: Global, word: Word, value: Value) -> Result<Value, AllocError>
+    ensures { IfOk result (λ v. view v ≡ object (member (word_text word) (view value) no_members)) }
+{
+    match word {
+        Word::Ok => json!(in alloc; {"ok": value}),
+        Word::Again => json!(in alloc; {"again": value}),
+        Word::No => json!(in alloc; {"no": value}),
+        Word::View => json!(in alloc; {"view": value}),
+        Word::Error => json!(in alloc; {"error": value}),
+    }
+}
+
+/// A list of texts under a word.
+pub fn told_texts(alloc: Global, word: Word, texts: &[String]) -> Result<String, AllocError>
+    ensures { IfOk result (λ s. string_bytes s ≡ spec.told_texts (word_text word) (map string_bytes texts.now)) }
+{
+    let list = list_value(alloc, texts)?;
+    let told = told_value(alloc, word, list)?;
+    told.to_string(alloc)
+}
+
+/// Records of texts as a view.
+pub fn told_records(alloc: Global, records: &[Vec<String>]) -> Result<String, AllocError>
+    ensures { IfOk result (λ s. string_bytes s ≡ spec.told_records (codes "view") (map list_of records.now)) }
+{
+    let list = records_value(alloc, records)?;
+    let told = told_value(alloc, Word::View, list)?;
+    told.to_string(alloc)
+}
+
+// A text as a value.
+fn text_value(alloc: Global, text: &str) -> Result<Value, AllocError>
+    ensures { IfOk result (λ v. view v ≡ string text.now) }
+{
+    Ok(Value::String(String::from_str(alloc, text)?))
+}
+
+/// An error in words.
+pub fn told_error(alloc: Global, words: &str) -> Result<String, AllocError>
+    ensures { IfOk result (λ s. string_bytes s ≡ spec.told_error words.now) }
+{
+    let text = text_value(alloc, words)?;
+    let told = told_value(alloc, Word::Error, text)?;
+    told.to_string(alloc)
+}

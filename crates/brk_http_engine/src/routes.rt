@@ -1,0 +1,124 @@
+ghost use Rattle.std.specs.Prelude.{◌≡◌, ◌∷◌, [], Bool, IfOk, option_map};
+ghost use Rattle.std.specs.List.{list_all};
+ghost use Rattle.brk_http_engine.specs.Rows.{has_byte, the_routes};
+ghost use Rattle.brk_http_model.specs.Routes.{begins_with, row_of_batch, route_by, route_of};
+ghost use Rattle.brk_model.specs.Forms.{read_id};
+ghost use Rattle.brk_ref.specs.Fields.{texts};
+ghost use Rattle.brk_ref.specs.Records.{key_of};
+ghost use Rattle.brk_http_engine.specs.Codes.{route_is};
+
+use crate::pieces::parts_at;
+use crate::router::{Kind, is_routed};
+use crate::service::Service;
+use brk_money::Fault;
+use brk_ref::{BatchName, Key, RowNumber, parse_id};
+use matchit::Router;
+use std::alloc::Global;
+
+/// What a target asks for.
+#[derive(Drop)]
+pub enum Route {
+    ToRow(Option<Key>),
+    ToView(&'static str),
+}
+
+// The row of a batch, where the name and the number have their form.
+fn row_of_batch(alloc: Global, batch: &[u8], n: &[u8]) -> Result<Option<Key>, Fault>
+    ensures { IfOk result (λ key. option_map key_of key ≡ row_of_batch batch.now (read_id n.now)) }
+{
+    let Some(id) = parse_id(n) else {
+        return Ok(None);
+    };
+    let Some(batch) = BatchName::parse(alloc, batch)? else {
+        return Ok(None);
+    };
+    let row = RowNumber::new(id.get()).unwrap();
+    Ok(Some(Key { batch, row }))
+}
+
+// Whether the first part is empty and the second this word.
+fn begins_with(first: &str, word: &str, name: &str) -> bool
+    ensures { result ≡ begins_with first.now word.now name.now }
+{
+    if first != "" {
+        return false;
+    }
+    word == name
+}
+
+// The view with a name, after its word.
+fn view_route<D: Service>(first: &str, word: &str, view: &str) -> Option<Route>
+    ensures { option_map route_is result ≡ route_by D.forms.views (first.now ∷ word.now ∷ view.now ∷ []) }
+{
+    if !begins_with(first, word, "ask") {
+        return None;
+    }
+    match D::view_named(view) {
+        Some(view) => Some(Route::ToView(view)),
+        None => None,
+    }
+}
+
+// The row of a batch, after its word.
+fn keyed_route<D: Service>(
+    alloc: Global,
+    first: &str,
+    word: &str,
+    batch: &str,
+    n: &str,
+) -> Result<Option<Route>, Fault>
+    ensures { IfOk result (λ route. option_map route_is route ≡ route_by D.forms.views (first.now ∷ word.now ∷ batch.now ∷ n.now ∷ [])) }
+{
+    if !begins_with(first, word, "rows") {
+        return Ok(None);
+    }
+    match row_of_batch(alloc, batch.as_bytes(), n.as_bytes())? {
+        Some(key) => Ok(Some(Route::ToRow(Some(key)))),
+        None => Ok(None),
+    }
+}
+
+// A row without a key, after its word.
+fn plain_route<D: Service>(first: &str, word: &str) -> Option<Route>
+    ensures { option_map route_is result ≡ route_by D.forms.views (first.now ∷ word.now ∷ []) }
+{
+    if begins_with(first, word, "rows") {
+        Some(Route::ToRow(None))
+    } else {
+        None
+    }
+}
+
+// The route with these parts.
+fn route_by<D: Service>(alloc: Global, parts: &[&str]) -> Result<Option<Route>, Fault>
+    ensures { IfOk result (λ route. option_map route_is route ≡ route_by D.forms.views (texts parts.now)) }
+{
+    match parts {
+        [first, word] => Ok(plain_route::<D>(first, word)),
+        [first, word, view] => Ok(view_route::<D>(first, word, view)),
+        [first, word, batch, n] => keyed_route::<D>(alloc, first, word, batch, n),
+        _ => Ok(None),
+    }
+}
+
+/// The route of a target.
+#[tactic(auto, unfolding(brk_http_model::specs::Routes::route_of))]
+pub fn route_of<D: Service>(
+    alloc: Global,
+    router: &Router<Kind>,
+    target: &[u8],
+) -> Result<Option<Route>, Fault>
+    requires routes { router.now ≡ the_routes }
+    requires named { list_all has_byte D.forms.views ≡ Bool.true }
+    ensures { IfOk result (λ route. option_map route_is route ≡ route_of D.forms.views target.now) }
+{
+    let Ok(text) = str::from_utf8(target) else {
+        return Ok(None);
+    };
+    if is_routed(router, text) {
+        let parts = parts_at(alloc, '/', text)?;
+        route_by::<D>(alloc, &parts)
+    } else {
+        Ok(None)
+    }
+}

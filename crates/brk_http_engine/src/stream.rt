@@ -1,0 +1,78 @@
+ghost use Rattle.std.specs.Prelude.{◌≡◌, Bool, IfSome};
+ghost use Rattle.std.specs.List.{list_all};
+ghost use Rattle.brk_http_engine.specs.Rows.{has_byte, the_routes};
+ghost use Rattle.brk_http_engine.specs.Promises.{WasCalled};
+ghost use Rattle.brk_http_engine.specs.Turns.{ServeGives};
+
+use crate::router::{Kind, new_router};
+use crate::service::Service;
+use crate::turning::{FaultKind, Turn, take_turn};
+use brk_io::Clock;
+use matchit::Router;
+use std::alloc::Global;
+use std::io::{Read, Write};
+
+/// A stream that ended early, and how many requests were answered before.
+#[derive(Clone, Copy, Debug, PartialEq, Eq)]
+pub struct ServeFault {
+    pub done: u64,
+    pub kind: FaultKind,
+}
+
+// Answers the requests of a stream with a router of the three routes.
+fn serve_by<R: Read + Drop, W: Write, C: Clock, D: Service>(
+    alloc: Global,
+    router: &Router<Kind>,
+    mut reader: R,
+    writer: &mut W,
+    clock: &mut C,
+    desk: &mut D::Desk,
+) -> Result<u64, ServeFault>
+    requires routes { router.now ≡ the_routes }
+    requires named { list_all has_byte D.forms.views ≡ Bool.true }
+    ensures called { WasCalled D.acts desk.old desk.new }
+    ensures gives { IfSome (R.remaining reader) (λ input. ServeGives D.forms D.acts C.gives input
+        (record { base = desk.old; after = desk.new; clock = clock.old; later = clock.new; old = W.contents writer.old; new = W.contents writer.new }) result) }
+{
+    let mut buffer = Vec::new(alloc);
+    let mut done = 0;
+    'serving: loop {
+        match take_turn::<R, W, C, D>(
+            alloc,
+            router,
+            &mut reader,
+            &mut buffer,
+            writer,
+            clock,
+            desk,
+            done,
+        ) {
+            Ok(Turn::Ended) => return Ok(done),
+            Ok(Turn::Closed) => return Ok(done + 1),
+            Ok(Turn::Open) => done += 1,
+            Err(kind) => return Err(ServeFault { done, kind }),
+        }
+    }
+}
+
+/// Answers the requests of a stream, one after the other, and says how many there were. The names of views are none of them empty.
+pub fn serve<R: Read + Drop, W: Write, C: Clock, D: Service>(
+    alloc: Global,
+    reader: R,
+    writer: &mut W,
+    clock: &mut C,
+    desk: &mut D::Desk,
+) -> Result<u64, ServeFault>
+    requires named { list_all has_byte D.forms.views ≡ Bool.true }
+    ensures called { WasCalled D.acts desk.old desk.new }
+    ensures gives { IfSome (R.remaining reader) (λ input. ServeGives D.forms D.acts C.gives input
+        (record { base = desk.old; after = desk.new; clock = clock.old; later = clock.new; old = W.contents writer.old; new = W.contents writer.new }) result) }
+{
+    match new_router(alloc) {
+        Ok(router) => serve_by::<R, W, C, D>(alloc, &router, reader, writer, clock, desk),
+        Err(_) => Err(ServeFault {
+            done: 0,
+            kind: FaultKind::Memory,
+        }),
+    }
+}

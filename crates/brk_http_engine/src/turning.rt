@@ -1,0 +1,164 @@
+ghost use Rattle.std.specs.Prelude.{◌≡◌, ◌==◌, ◌||◌, ◌+◌, ◌<◌, ◌++◌, ℕ, Bool, List, Option, Ok, Err, IfErr, IfOk, IfSome, length, string_bytes};
+ghost use Rattle.std.specs.Io.KnownBytes.{prepend_known};
+ghost use Rattle.std.specs.List.{list_all};
+ghost use Rattle.brk_http_engine.specs.Rows.{has_byte, the_routes};
+ghost use Rattle.brk_http_model.specs.Stream.{most_requests};
+ghost use Rattle.httparse.specs.Spans.{IsWithin};
+ghost use Rattle.brk_http_reader.specs.Shown.{asked_at};
+ghost use Rattle.brk_http_engine.specs.Promises.{WasCalled};
+ghost use Rattle.brk_http_engine.specs.Turns.{Acted, Failed, Turned};
+
+use crate::acting::act;
+use crate::asking::asking_of;
+use crate::replying::{is_fault, problem_text, reply_text};
+use crate::router::Kind;
+use crate::service::Service;
+use brk_http_reader::{Front, InputFault, Places, consume, next_request};
+use brk_io::{Clock, write_out};
+use matchit::Router;
+use std::alloc::Global;
+use std::io::{Read, Write};
+
+/// A stream has at most so many requests answered.
+pub const MOST_REQUESTS: u64 = 1000;
+
+#[derive(Clone, Copy, Debug, PartialEq, Eq)]
+pub enum Turn {
+    /// The input ended before a request.
+    Ended,
+    /// The stream goes on after the reply.
+    Open,
+    /// The reply ended the stream.
+    Closed,
+}
+
+/// Why a stream ended early.
+#[derive(Clone, Copy, Debug, PartialEq, Eq)]
+pub enum FaultKind {
+    /// The reader failed; an interrupted read is a failure too.
+    Read,
+    /// The writer failed, or took no byte.
+    Write,
+    /// Memory was refused.
+    Memory,
+}
+
+// Whether a reply is the last.
+fn is_last(done: u64, closes: bool, failed: bool) -> bool
+    requires few { done < most_requests }
+    ensures { result ≡ ((done + 1 == most_requests) || closes || failed) }
+{
+    done + 1 == MOST_REQUESTS || closes || failed
+}
+
+// The bytes of a reply, and whether it is the last.
+#[derive(Drop)]
+struct Draft {
+    text: String,
+    closes: bool,
+}
+
+// Why there is no draft.
+#[derive(Clone, Copy, Debug, PartialEq, Eq)]
+enum Lack {
+    // Memory was refused before anything was asked of the desk.
+    Before,
+    // Memory was refused after the request was answered.
+    After,
+}
+
+// Answers a request.
+fn respond<C: Clock, D: Service>(
+    alloc: Global,
+    router: &Router<Kind>,
+    clock: &mut C,
+    desk: &mut D::Desk,
+    buffer: &[u8],
+    places: Places,
+    done: u64,
+) -> Result<Draft, Lack>
+    requires few { done < most_requests }
+    requires routes { router.now ≡ the_routes }
+    requires named { list_all has_byte D.forms.views ≡ Bool.true }
+    requires method { IsWithin (length buffer.now) places.method }
+    requires target { IsWithin (length buffer.now) places.target }
+    requires body { IsWithin (length buffer.now) places.body }
+    ensures called { WasCalled D.acts desk.old desk.new }
+    ensures open { IfOk result (λ draft. draft.closes ≡ Bool.false → done + 1 < most_requests) }
+    ensures ok { (old : Option (List ℕ)) (new : Option (List ℕ)) → IfOk result (λ draft. Acted D.forms D.acts C.gives done (asked_at buffer.now places)
+        (record { base = desk.old; after = desk.new; clock = clock.old; later = clock.new; old = old; new = new }) draft.closes (string_bytes draft.text)) }
+    ensures before { result ≡ Err Lack.Before → (desk.new ≡ desk.old) × (clock.new ≡ clock.old) }
+    ensures after { (old : Option (List ℕ)) (new : Option (List ℕ)) → result ≡ Err Lack.After → (closes : Bool) × (reply : List ℕ) × Acted D.forms D.acts C.gives done (asked_at buffer.now places)
+        (record { base = desk.old; after = desk.new; clock = clock.old; later = clock.new; old = old; new = new }) closes reply }
+{
+    let method = places.method.of(buffer);
+    let target = places.target.of(buffer);
+    let body = places.body.of(buffer);
+    let Ok(asking) = asking_of::<D>(alloc, router, method, target, places.closes, body) else {
+        return Err(Lack::Before);
+    };
+    let told = act::<C, D>(alloc, clock, desk, asking);
+    let closes = is_last(done, places.closes, is_fault(&told));
+    match reply_text::<D>(alloc, &told, closes) {
+        Ok(text) => Ok(Draft { text, closes }),
+        Err(_) => Err(Lack::After),
+    }
+}
+
+/// Reads one request, answers it and writes the reply.
+pub fn take_turn<R: Read, W: Write, C: Clock, D: Service>(
+    alloc: Global,
+    router: &Router<Kind>,
+    reader: &mut R,
+    buffer: &mut Vec<u8>,
+    writer: &mut W,
+    clock: &mut C,
+    desk: &mut D::Desk,
+    done: u64,
+) -> Result<Turn, FaultKind>
+    requires few { done < most_requests }
+    requires routes { router.now ≡ the_routes }
+    requires named { list_all has_byte D.forms.views ≡ Bool.true }
+    ensures called { WasCalled D.acts desk.old desk.new }
+    ensures open { result ≡ Ok Turn.Open → done + 1 < most_requests }
+    ensures ok { IfOk result (λ turn. IfSome (R.remaining reader.old) (λ xs. Turned D.forms D.acts C.gives done (buffer.old.items ++ xs)
+        (record { base = desk.old; after = desk.new; clock = clock.old; later = clock.new; old = W.contents writer.old; new = W.contents writer.new })
+        (prepend_known buffer.new.items (R.remaining reader.new)) turn)) }
+    ensures err { IfErr result (λ kind. IfSome (R.remaining reader.old) (λ xs. Failed D.forms D.acts C.gives done (buffer.old.items ++ xs)
+        (record { base = desk.old; after = desk.new; clock = clock.old; later = clock.new; old = W.contents writer.old; new = W.contents writer.new }) kind)) }
+{
+    let front = match next_request(reader, buffer) {
+        Ok(front) => front,
+        Err(InputFault::Read) => return Err(FaultKind::Read),
+        Err(InputFault::Memory) => return Err(FaultKind::Memory),
+    };
+    match front {
+        Front::Ended => Ok(Turn::Ended),
+        Front::Broken(problem) => {
+            let Ok(text) = problem_text(alloc, problem) else {
+                return Err(FaultKind::Memory);
+            };
+            match write_out(writer, text.as_bytes()) {
+                Ok(()) => Ok(Turn::Closed),
+                Err(_) => Err(FaultKind::Write),
+            }
+        }
+        Front::Whole(places) => {
+            let draft = match respond::<C, D>(alloc, router, clock, desk, buffer, places, done) {
+                Ok(draft) => draft,
+                Err(Lack::Before) => return Err(FaultKind::Memory),
+                Err(Lack::After) => return Err(FaultKind::Memory),
+            };
+            match write_out(writer, draft.text.as_bytes()) {
+                Ok(()) => {}
+                Err(_) => return Err(FaultKind::Write),
+            }
+            consume(buffer, places.body.end);
+            if draft.closes {
+                Ok(Turn::Closed)
+            } else {
+                Ok(Turn::Open)
+            }
+        }
+    }
+}

@@ -1,0 +1,74 @@
+//! Where heads end, how long bodies are, what has a route, what is a list of texts, and which check comes first.
+#![tactic(auto, unfolding(crate::proofs::OnLiterals::web_on_literals))]
+
+ghost use Rattle.std.specs.Prelude.{◌≡◌, ◌∷◌, [], ℕ, Ok, Err, Some, None, codes};
+ghost use Rattle.brk_http_model.specs.Asked.{Answers, Asked, all_forms, asked_of};
+ghost use Rattle.brk_http_model.specs.Bodies.{texts_of};
+ghost use Rattle.brk_http_model.specs.Fields.{body_len};
+ghost use Rattle.brk_http_model.specs.Heads.{head_end, head_end_within};
+ghost use Rattle.brk_http_model.specs.Replies.{Wrong};
+ghost use Rattle.brk_http_model.specs.Routes.{ToRow, ToView, parts_at, route_of};
+ghost use Rattle.brk_http_model.specs.declared.head_end.HeadEnd.TheVariants.{At, Cut, Nothing, TooLong};
+ghost use Rattle.brk_http_model.specs.declared.problem.Problem.TheVariants.{BadRequest, NotAllowed, NotFound, NotImplemented, TooLarge};
+ghost use Rattle.brk_http_examples.specs.Streams.{get, post};
+
+/// A head ends with its first empty line, which lies within the limit.
+pub fn where_heads_end()
+    ensures first { head_end (codes "GET / HTTP/1.1\r\n\r\nGET") ≡ At 18 }
+    ensures bare { head_end (codes "a\n\nb\r\n\r\n") ≡ At 3 }
+    ensures mixed { head_end (codes "a\n\r\nb") ≡ At 4 }
+    ensures none { head_end [] ≡ Nothing }
+    ensures cut { head_end (codes "a\r\n\r") ≡ Cut }
+    ensures within { head_end_within 4 (codes "ab\n\nc") ≡ At 4 }
+    ensures beyond { head_end_within 4 (codes "abc\n\n") ≡ TooLong }
+    ensures hopeless { head_end_within 4 (codes "\0\0\0\0") ≡ TooLong }
+{}
+
+/// The length of a body, and what is wrong with it; names of fields go without case.
+pub fn how_long_bodies_are()
+    ensures absent { body_len ((codes "Host", codes "x") ∷ []) ≡ Ok 0 }
+    ensures zeros { body_len ((codes "content-LENGTH", codes "000000012") ∷ []) ≡ Ok 12 }
+    ensures most { body_len ((codes "Content-Length", codes "65536") ∷ []) ≡ Ok 65536 }
+    ensures more { body_len ((codes "Content-Length", codes "65537") ∷ []) ≡ Err TooLarge }
+    ensures long { body_len ((codes "Content-Length", codes "0000000002") ∷ []) ≡ Err TooLarge }
+    ensures signed { body_len ((codes "Content-Length", codes "+2") ∷ []) ≡ Err BadRequest }
+    ensures empty { body_len ((codes "Content-Length", []) ∷ []) ≡ Err BadRequest }
+    ensures twice { body_len ((codes "Content-Length", codes "2") ∷ (codes "Content-Length", codes "2") ∷ []) ≡ Err BadRequest }
+    ensures coded { body_len ((codes "Content-Length", codes "x") ∷ (codes "Transfer-Encoding", []) ∷ []) ≡ Err NotImplemented }
+{}
+
+/// What has a route.
+pub fn what_has_a_route()
+    ensures row { route_of all_forms.views (codes "/rows") ≡ Some (ToRow None) }
+    ensures keyed { route_of all_forms.views (codes "/rows/A.b-c_1/1000000000000") ≡ Some (ToRow (Some (record { batch = codes "A.b-c_1"; row = 1000000000000 }))) }
+    ensures view { route_of all_forms.views (codes "/ask/lots") ≡ Some (ToView (codes "lots")) }
+    ensures unknown { route_of all_forms.views (codes "/ask/nope") ≡ None }
+    ensures zero { route_of all_forms.views (codes "/rows/A/0") ≡ None }
+    ensures padded { route_of all_forms.views (codes "/rows/A/01") ≡ None }
+    ensures beyond { route_of all_forms.views (codes "/rows/A/1000000000001") ≡ None }
+    ensures coded { route_of all_forms.views (codes "/rows/%41/1") ≡ None }
+    ensures slash { route_of all_forms.views (codes "/rows/") ≡ None }
+    ensures asked { route_of all_forms.views (codes "/ask/lots?x=1") ≡ None }
+    ensures whole { route_of all_forms.views (codes "http://h/rows") ≡ None }
+    ensures parts { parts_at 44 (codes "1,SBMT,,") ≡ codes "1" ∷ codes "SBMT" ∷ [] ∷ [] ∷ [] }
+{}
+
+/// What is a JSON list of texts.
+pub fn what_is_a_list_of_texts()
+    ensures none { texts_of (codes " [ ] ") ≡ Some [] }
+    ensures escaped { texts_of (codes "[\"\\u0041\\n\",\"\"]") ≡ Some ((65 ∷ 10 ∷ []) ∷ [] ∷ []) }
+    ensures empty { texts_of [] ≡ None }
+    ensures number { texts_of (codes "[\"a\",2]") ≡ None }
+    ensures list { texts_of (codes "[[]]") ≡ None }
+    ensures object { texts_of (codes "{}") ≡ None }
+    ensures surrogate { texts_of (codes "[\"\\ud83d\"]") ≡ None }
+    ensures bytes { texts_of (91 ∷ 34 ∷ 255 ∷ 34 ∷ 93 ∷ []) ≡ None }
+    ensures mark { texts_of (239 ∷ 187 ∷ 191 ∷ 91 ∷ 93 ∷ []) ≡ None }
+{}
+
+/// The route is looked at before the method, the method before the body, and the body before what it asks.
+pub fn which_check_comes_first()
+    ensures route { asked_of all_forms (get (codes "/ask/nope")) ≡ Answers (Wrong NotFound) }
+    ensures method { asked_of all_forms (get (codes "/ask/lots")) ≡ Answers (Wrong NotAllowed) }
+    ensures body { asked_of all_forms (post (codes "/ask/lots") (codes "[")) ≡ Answers (Wrong BadRequest) }
+{}

@@ -1,0 +1,61 @@
+-- What a request asks of the desk. The first check that fails is told.
+use Rattle.std.specs.Prelude.{List, map, Option, Some, None, Ok, Err, if◌then◌else◌, codes, bytes_eq}
+use Rattle.brk_money.specs.Spelling.{Text}
+use Rattle.brk_model.specs.Answers.{Fields}
+use Rattle.brk_model.specs.Commands.{Command, Refused}
+use Rattle.brk_model.specs.Forms.{Read}
+use Rattle.brk_model.specs.Parse.{parse_row}
+use Rattle.brk_model.specs.Ask.{parse_query, views}
+use Rattle.brk_model.specs.Records.{Key}
+use Rattle.brk_model.specs.Run.{Call, Do, Ask, Did, NoView}
+use Rattle.brk_model.specs.Queries.{Query}
+use Rattle.brk_http_model.specs.Bodies.{texts_of}
+use Rattle.brk_http_model.specs.Found.{Request}
+use Rattle.brk_http_model.specs.Replies.{Response, Wrong, Came}
+use Rattle.brk_http_model.specs.Routes.{Route, ToRow, ToView, route_of}
+use Rattle.brk_http_model.specs.declared.problem.Problem.TheVariants.{NotFound, NotAllowed, BadRequest}
+
+-- how rows and queries are read, and which views are known
+pub record Forms : Type 0 where
+  pub row : Fields → Read Command
+  pub views : List Text
+  pub query : Text → Fields → Read Query
+
+-- those of the definitions
+abbrev pub all_forms : Forms
+all_forms = record { row = parse_row; views = map (λ reader. reader.0) views; query = parse_query }
+
+-- a request is answered without the desk, or makes a call
+pub data Asked : Type 0 where
+  Answers : Response → Asked
+  Calls : Call → Asked
+
+-- a row, or the refusal of its form
+abbrev pub row_asked : Option Key → Read Command → Asked
+row_asked key (Ok command) = Calls (Do command key)
+row_asked key (Err refusal) = Answers (Came (Did (Refused refusal)))
+
+-- a query, or the refusal of its form
+abbrev pub query_asked : Read Query → Asked
+query_asked (Ok query) = Calls (Ask query)
+query_asked (Err refusal) = Answers (Came (NoView refusal))
+
+-- the texts of the body, by the route
+abbrev pub asked_by : Forms → Route → Fields → Asked
+asked_by forms (ToRow key) texts = row_asked key (forms.row texts)
+asked_by forms (ToView view) texts = query_asked (forms.query view texts)
+
+-- a body that is a list of texts, or that is none
+abbrev pub asked_with : Forms → Route → Option Fields → Asked
+asked_with forms route None = Answers (Wrong BadRequest)
+asked_with forms route (Some texts) = asked_by forms route texts
+
+-- a target with a route, or without one: then the method, then the body
+abbrev pub asked_at : Forms → Option Route → Request → Asked
+asked_at forms None request = Answers (Wrong NotFound)
+asked_at forms (Some route) request =
+    if bytes_eq request.method (codes "POST") then asked_with forms route (texts_of request.body) else Answers (Wrong NotAllowed)
+
+-- what a request asks
+unfoldable pub asked_of : Forms → Request → Asked
+asked_of forms request = asked_at forms (route_of forms.views request.target) request

@@ -1,0 +1,115 @@
+-- The bytes of a reply.
+use Rattle.std.specs.Prelude.{◌++◌, ◌∷◌, [], Bool, true, false, if◌then◌else◌, length, codes, decimal}
+use Rattle.brk_money.specs.Kinds.{refusal_fields}
+use Rattle.brk_money.specs.Spelling.{Text}
+use Rattle.brk_money.specs.declared.fault.Fault.{Fault}
+use Rattle.brk_money.specs.declared.fault.Fault.TheVariants as fault
+use Rattle.brk_model.specs.Commands.{Answer, Done, Again, Refused}
+use Rattle.brk_model.specs.Rows.{reply_fields}
+use Rattle.brk_model.specs.Run.{Outcome, Did, Saw, NoView, Failed}
+use Rattle.brk_http_model.specs.Bodies.{told_texts, told_records, told_error}
+use Rattle.brk_http_model.specs.Routes.{parts_at}
+use Rattle.brk_http_model.specs.declared.problem.Problem.{Problem}
+use Rattle.brk_http_model.specs.declared.problem.Problem.TheVariants.{TooLarge, BadRequest, NotImplemented, NotFound, NotAllowed}
+
+-- what a request is answered with: an error, or what came of a call of the desk
+pub data Response : Type 0 where
+  Wrong : Problem → Response
+  Came : Outcome → Response
+
+-- the status of a problem, and its phrase
+abbrev pub problem_status : Problem → Text
+problem_status TooLarge = codes "413 Payload Too Large"
+problem_status BadRequest = codes "400 Bad Request"
+problem_status NotImplemented = codes "501 Not Implemented"
+problem_status NotFound = codes "404 Not Found"
+problem_status NotAllowed = codes "405 Method Not Allowed"
+
+-- a problem in words
+abbrev pub problem_words : Problem → Text
+problem_words TooLarge = codes "too large"
+problem_words BadRequest = codes "bad request"
+problem_words NotImplemented = codes "not implemented"
+problem_words NotFound = codes "not found"
+problem_words NotAllowed = codes "method not allowed"
+
+-- a fault of the desk in one word; damage, which no call of a desk answers, is told as the store's
+abbrev pub fault_word : Fault → Text
+fault_word fault.Memory = codes "memory"
+fault_word fault.Store = codes "store"
+fault_word (fault.Damaged condition) = codes "store"
+
+-- the status of an answer to a row: a refusal is a conflict
+abbrev pub answer_status : Answer → Text
+answer_status (Done reply) = codes "200 OK"
+answer_status (Again line) = codes "200 OK"
+answer_status (Refused refusal) = codes "409 Conflict"
+
+-- the status of what came of a call
+abbrev pub outcome_status : Outcome → Text
+outcome_status (Did answer) = answer_status answer
+outcome_status (Saw view) = codes "200 OK"
+outcome_status (NoView refusal) = codes "409 Conflict"
+outcome_status (Failed fault) = codes "503 Service Unavailable"
+
+-- the status of a reply, and its phrase
+abbrev pub status_of : Response → Text
+status_of (Wrong problem) = problem_status problem
+status_of (Came outcome) = outcome_status outcome
+
+-- the fields that are told of an answer; a kept line is cut at its commas
+abbrev pub answer_body : Answer → Text
+answer_body (Done reply) = told_texts (codes "ok") (reply_fields reply)
+answer_body (Again line) = told_texts (codes "again") (parts_at 44 line)
+answer_body (Refused refusal) = told_texts (codes "no") (refusal_fields refusal)
+
+-- the body that tells what came of a call
+abbrev pub outcome_body : Outcome → Text
+outcome_body (Did answer) = answer_body answer
+outcome_body (Saw view) = told_records (codes "view") view
+outcome_body (NoView refusal) = told_texts (codes "no") (refusal_fields refusal)
+outcome_body (Failed fault) = told_error (fault_word fault)
+
+-- the body of a reply
+abbrev pub body_of : Response → Text
+body_of (Wrong problem) = told_error (problem_words problem)
+body_of (Came outcome) = outcome_body outcome
+
+-- only a wrong method is told which one is right
+abbrev pub asks_for_post : Response → Bool
+asks_for_post (Wrong NotAllowed) = true
+asks_for_post (Wrong TooLarge) = false
+asks_for_post (Wrong BadRequest) = false
+asks_for_post (Wrong NotImplemented) = false
+asks_for_post (Wrong NotFound) = false
+asks_for_post (Came outcome) = false
+
+-- a fault of the desk ends a stream
+abbrev pub is_fault : Response → Bool
+is_fault (Came (Failed fault)) = true
+is_fault (Came (Did answer)) = false
+is_fault (Came (Saw view)) = false
+is_fault (Came (NoView refusal)) = false
+is_fault (Wrong problem) = false
+
+-- a line of a head
+abbrev pub head_line : Text → Text
+head_line text = text ++ 13 ∷ 10 ∷ []
+
+-- a line, where it is to stand
+abbrev pub line_if : Bool → Text → Text
+line_if stands text = if stands then head_line text else []
+
+-- the reply with these parts: the line of its status, its fields, an empty line, the body
+unfoldable pub reply_with : Text → Bool → Bool → Text → Text
+reply_with status asks_post closes body =
+    head_line (codes "HTTP/1.1 " ++ status)
+    ++ head_line (codes "Content-Type: application/json")
+    ++ head_line (codes "Content-Length: " ++ decimal (length body))
+    ++ line_if asks_post (codes "Allow: POST")
+    ++ line_if closes (codes "Connection: close")
+    ++ head_line [] ++ body
+
+-- the bytes of a reply, which may say that it is the last
+abbrev pub reply_text : Response → Bool → Text
+reply_text response closes = reply_with (status_of response) (asks_for_post response) closes (body_of response)

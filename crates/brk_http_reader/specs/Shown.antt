@@ -1,0 +1,22 @@
+-- What the places in the buffer show.
+use Rattle.std.specs.Prelude.{◌≡◌, ℕ, List, drop, Option, Some, ⊤}
+use Rattle.std.specs.Io.KnownBytes.{prepend_known}
+use Rattle.httparse.specs.Spans.{span_bytes, IsWithin}
+use Rattle.brk_http_model.specs.Found.{Request, Found, NoMore, Unreadable, Asks}
+use Rattle.brk_http_reader.specs.declared.next.Places.{Places}
+use Rattle.brk_http_reader.specs.declared.next.Front.{Front}
+use Rattle.brk_http_reader.specs.declared.next.Front.TheVariants.{Ended, Broken, Whole}
+
+abbrev pub IsRequestWithin : Front → ℕ → Type 0
+IsRequestWithin Ended len = ⊤
+IsRequestWithin (Broken b) len = ⊤
+IsRequestWithin (Whole r) len = IsWithin len r.method × IsWithin len r.target × IsWithin len r.body
+
+-- the request as the buffer has it
+abbrev pub asked_at : List ℕ → Places → Request
+asked_at buffer r = record { method = span_bytes buffer r.method; target = span_bytes buffer r.target; closes = r.closes; body = span_bytes buffer r.body }
+
+abbrev pub Shows : Front → List ℕ → Option (List ℕ) → Found → Type 0
+Shows Ended buffer left found = found ≡ NoMore
+Shows (Broken b) buffer left found = found ≡ Unreadable b
+Shows (Whole r) buffer left found = (rest : List ℕ) × (prepend_known (drop r.body.end buffer) left ≡ Some rest) × (found ≡ Asks (asked_at buffer r) rest)

@@ -1,0 +1,127 @@
+//! What the fields of a head say.
+ghost use Rattle.std.specs.Prelude.{◌≡◌, ◌≤◌, ℕ, All, List, true, map, length, IfOk};
+ghost use Rattle.std.specs.List.{list_all};
+ghost use Rattle.std.specs.Char.{is_ascii_digit};
+ghost use Rattle.std.specs.Str.Parse.{digits_value};
+ghost use Rattle.httparse.specs.Spans.{header_bytes, IsHeaderWithin};
+ghost use Rattle.brk_http_model.specs.Fields as spec;
+ghost use Rattle.brk_http_reader.specs.Seen.{add_field};
+
+use brk_http_model::Problem;
+use httparse::spans::HeaderSpan;
+
+#[derive(Clone, Copy, Debug)]
+pub struct FieldFacts {
+    /// How long the body is.
+    pub len: Result<usize, Problem>,
+    /// A field Connection says close.
+    pub closes: bool,
+}
+
+fn same_word(a: &[u8], b: &[u8]) -> bool
+    ensures { result ≡ spec.same_word a.now b.now }
+{
+    a.eq_ignore_ascii_case(b)
+}
+
+fn all_digits(value: &[u8]) -> bool
+    ensures { result ≡ list_all is_ascii_digit value.now }
+{
+    value.iter().all(|b| b.is_ascii_digit())
+}
+
+/// Whether there are bytes, and all are digits.
+fn is_digits(value: &[u8]) -> bool
+    ensures { result ≡ spec.is_digits value.now }
+{
+    value.len() > 0 && all_digits(value)
+}
+
+/// The number that a few digits write.
+fn number(value: &[u8]) -> usize
+    requires few { length value.now ≤ 9 }
+    requires digits { list_all is_ascii_digit value.now ≡ true }
+    ensures { result ≡ digits_value 10 value.now }
+{
+    let mut number = 0usize;
+    for byte in value {
+        number = number * 10 + usize::from(*byte - b'0');
+    }
+    number
+}
+
+/// A length by its digits.
+fn length_value(value: &[u8]) -> Result<usize, Problem>
+    ensures value { result ≡ spec.length_value value.now }
+    ensures small { IfOk result (λ n. n ≤ 65536) }
+{
+    if !is_digits(value) {
+        return Err(Problem::BadRequest);
+    }
+    if value.len() > 9 {
+        return Err(Problem::TooLarge);
+    }
+    let len = number(value);
+    if len > 65536 {
+        Err(Problem::TooLarge)
+    } else {
+        Ok(len)
+    }
+}
+
+/// What the fields seen so far say.
+#[derive(Clone, Copy, Debug)]
+struct Seen {
+    chunked: bool,
+    closes: bool,
+    any_length: bool,
+    len: Result<usize, Problem>,
+}
+
+/// One more field.
+fn add_field(seen: Seen, name: &[u8], value: &[u8]) -> Seen
+    ensures value { result ≡ add_field seen (name.now, value.now) }
+    ensures small { IfOk seen.len (λ n. n ≤ 65536) → IfOk result.len (λ n. n ≤ 65536) }
+{
+    let is_length = same_word(name, b"content-length");
+    let is_close = same_word(name, b"connection") && same_word(value, b"close");
+    let len = match is_length {
+        false => seen.len,
+        true => match seen.any_length {
+            true => Err(Problem::BadRequest),
+            false => length_value(value),
+        },
+    };
+    Seen {
+        chunked: seen.chunked || same_word(name, b"transfer-encoding"),
+        closes: seen.closes || is_close,
+        any_length: seen.any_length || is_length,
+        len,
+    }
+}
+
+/// What the fields say of the body's length and of the stream's end.
+pub fn field_facts(front: &[u8], headers: &[HeaderSpan]) -> FieldFacts
+    requires { All (IsHeaderWithin (length front.now)) headers.now }
+    ensures len { result.len ≡ spec.body_len (map (header_bytes front.now) headers.now) }
+    ensures small { IfOk result.len (λ n. n ≤ 65536) }
+    ensures closes { result.closes ≡ spec.asks_close (map (header_bytes front.now) headers.now) }
+{
+    let mut seen = Seen {
+        chunked: false,
+        closes: false,
+        any_length: false,
+        len: Ok(0),
+    };
+    for header in headers {
+        seen = add_field(seen, header.name.of(front), header.value.of(front));
+    }
+    FieldFacts {
+        len: if seen.chunked {
+            Err(Problem::NotImplemented)
+        } else {
+            seen.len
+        },
+        closes: seen.closes,
+    }
+}

@@ -1,0 +1,51 @@
+//! The head of a request.
+ghost use Rattle.std.specs.Prelude.{◌≡◌, ◌||◌, ◌≤◌, ℕ, List, length, IfSome, IfNone, IfOk};
+ghost use Rattle.httparse.specs.Grammar.{RequestHead};
+ghost use Rattle.httparse.specs.Spans.{span_bytes, IsWithin};
+ghost use Rattle.brk_http_model.specs.Found.{IsHead};
+ghost use Rattle.brk_http_reader.specs.Heads.{IsHeadAt};
+
+use crate::fields::field_facts;
+use brk_http_model::Problem;
+use httparse::Status;
+use httparse::spans::{EMPTY_HEADER_SPAN, Span, parse_request};
+
+const MOST_FIELDS: usize = 100;
+
+#[derive(Clone, Copy, Debug)]
+pub struct HeadFacts {
+    pub method: Span,
+    pub target: Span,
+    /// The request says that it is the last, or is of version 1.0.
+    pub closes: bool,
+    /// How long the body is.
+    pub len: Result<usize, Problem>,
+}
+
+fn either(a: bool, b: bool) -> bool
+    ensures { result ≡ (a || b) }
+{
+    a || b
+}
+
+/// What a head says, or `None` where the bytes are no head.
+pub fn parse_front(front: &[u8]) -> Option<HeadFacts>
+    ensures within { IfSome result (λ facts. IsWithin (length front.now) facts.method × IsWithin (length front.now) facts.target) }
+    ensures small { IfSome result (λ facts. IfOk facts.len (λ n. n ≤ 65536)) }
+    ensures head { IfSome result (λ facts. (h : RequestHead) × (rest : List ℕ) × IsHeadAt front.now facts h rest) }
+    ensures none { IfNone result ((h : RequestHead) → ¬ (IsHead front.now h)) }
+{
+    let mut headers = [EMPTY_HEADER_SPAN; MOST_FIELDS];
+    match parse_request(front, &mut headers) {
+        Ok(Status::Complete(found)) => {
+            let fields = field_facts(front, &headers[..found.headers]);
+            Some(HeadFacts {
+                method: found.method,
+                target: found.path,
+                closes: either(found.version == 0, fields.closes),
+                len: fields.len,
+            })
+        }
+        _ => None,
+    }
+}

@@ -1,0 +1,123 @@
+//! Filling a buffer from a reader, up to the end of a head and of a body.
+ghost use Rattle.std.specs.Prelude.{◌≡◌, ℕ, ◌+◌, ◌<◌, ◌≤◌, ◌++◌, List, length, true, false, Ok, IfOk, OnOk, IfSome};
+ghost use Rattle.std.specs.Io.KnownBytes.{IsAtEnd};
+ghost use Rattle.brk_http_model.specs.Heads as spec;
+ghost use Rattle.brk_http_reader.specs.Moves.{Moves, IsEndWithin};
+
+use brk_http_model::HeadEnd;
+use std::alloc::{AllocError, Global};
+use std::io::Read;
+
+/// A head has its empty line within so many bytes.
+const HEAD_LIMIT: usize = 16384;
+
+#[derive(Clone, Copy, Debug, PartialEq, Eq)]
+pub enum InputFault {
+    Read,
+    Memory,
+}
+
+impl From<AllocError> for InputFault {
+    ghost use Rattle.brk_http_reader.specs.declared.input.InputFault.TheVariants.{Memory};
+
+    ghost from_gives = { λ _ e. e ≡ Memory };
+
+    fn from(_error: AllocError) -> InputFault {
+        InputFault::Memory
+    }
+}
+
+/// How many bytes a line end at this place takes.
+fn line_end_at(bytes: &[u8]) -> Option<usize>
+    ensures { result ≡ spec.begins_line_end bytes.now }
+{
+    match bytes {
+        [b'\n', ..] => Some(1),
+        [b'\r', b'\n', ..] => Some(2),
+        _ => None,
+    }
+}
+
+/// Whether an empty line begins with this byte, and how far it goes into what follows.
+fn line_end_after(byte: u8, rest: &[u8]) -> Option<usize>
+    ensures { result ≡ spec.line_end_after byte rest.now }
+{
+    if byte == b'\n' {
+        line_end_at(rest)
+    } else {
+        None
+    }
+}
+
+/// How many bytes there are up to the end of the first empty line.
+pub fn head_len(bytes: &[u8]) -> Option<usize>
+    ensures value { result ≡ spec.head_len bytes.now }
+    ensures within { IfSome result (λ n. n ≤ length bytes.now) }
+{
+    for (i, byte) in bytes.iter().enumerate() {
+        match line_end_after(*byte, &bytes[i + 1..]) {
+            Some(n) => return Some(i + 1 + n),
+            None => {}
+        }
+    }
+    None
+}
+
+/// Reads once, and adds what came to the buffer; `false` at the end of the input.
+pub fn fill<R: Read>(reader: &mut R, buffer: &mut Vec<u8>) -> Result<bool, InputFault>
+    ensures moves { OnOk result (Moves (R.remaining reader.old) (R.remaining reader.new) buffer.old.items buffer.new.items) }
+    ensures more { result ≡ Ok true → length buffer.old.items < length buffer.new.items }
+    ensures end { result ≡ Ok false → IsAtEnd (R.remaining reader.new) × (buffer.new.items ≡ buffer.old.items) }
+{
+    let mut chunk = [0u8; 1024];
+    let Ok(count) = reader.read(&mut chunk) else {
+        return Err(InputFault::Read);
+    };
+    buffer.extend_from_slice(&chunk[..count])?;
+    Ok(count > 0)
+}
+
+/// Reads until the head at the front has its end in the buffer, or has none.
+pub fn read_head<R: Read>(reader: &mut R, buffer: &mut Vec<u8>) -> Result<HeadEnd, InputFault>
+    ensures moves { OnOk result (Moves (R.remaining reader.old) (R.remaining reader.new) buffer.old.items buffer.new.items) }
+    ensures within { IfOk result (λ end. IsEndWithin end (length buffer.new.items)) }
+    ensures value { IfOk result (λ end. IfSome (R.remaining reader.old) (λ xs. end ≡ spec.head_end (buffer.old.items ++ xs))) }
+{
+    'filling: loop {
+        let len = buffer.len();
+        let seen = len.min(HEAD_LIMIT);
+        match head_len(&buffer[..seen]) {
+            Some(n) => return Ok(HeadEnd::At(n)),
+            None => {}
+        }
+        if len >= HEAD_LIMIT {
+            return Ok(HeadEnd::TooLong);
+        }
+        if !fill(reader, buffer)? {
+            if len == 0 {
+                return Ok(HeadEnd::Nothing);
+            }
+            return Ok(HeadEnd::Cut);
+        }
+    }
+}
+
+/// Reads until the buffer has so many bytes; `false` where the input ends before.
+pub fn read_body<R: Read>(
+    reader: &mut R,
+    buffer: &mut Vec<u8>,
+    len: usize,
+) -> Result<bool, InputFault>
+    ensures moves { OnOk result (Moves (R.remaining reader.old) (R.remaining reader.new) buffer.old.items buffer.new.items) }
+    ensures there { result ≡ Ok true → len ≤ length buffer.new.items }
+    ensures short { result ≡ Ok false → (length buffer.new.items < len) × IsAtEnd (R.remaining reader.new) }
+{
+    'filling: loop {
+        if buffer.len() >= len {
+            return Ok(true);
+        }
+        if !fill(reader, buffer)? {
+            return Ok(false);
+        }
+    }
+}

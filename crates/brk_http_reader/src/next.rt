@@ -1,0 +1,63 @@
+//! The next request of a stream.
+ghost use Rattle.std.specs.Prelude.{◌≡◌, ◌++◌, List, ℕ, length, IfOk, OnOk, IfSome};
+ghost use Rattle.brk_http_model.specs.Found.{Found, Finds};
+ghost use Rattle.brk_http_reader.specs.Moves.{Moves};
+ghost use Rattle.brk_http_reader.specs.Shown.{Shows, IsRequestWithin};
+
+use crate::head::parse_front;
+use crate::input::{InputFault, read_body, read_head};
+use brk_http_model::{HeadEnd, Problem};
+use httparse::spans::Span;
+use std::io::Read;
+
+/// Where the parts of a request are in the buffer. Its body ends it.
+#[derive(Clone, Copy, Debug)]
+pub struct Places {
+    pub method: Span,
+    pub target: Span,
+    pub closes: bool,
+    pub body: Span,
+}
+
+#[derive(Clone, Copy, Debug)]
+pub enum Front {
+    Ended,
+    Broken(Problem),
+    Whole(Places),
+}
+
+/// Reads as far as the next request goes.
+pub fn next_request<R: Read>(reader: &mut R, buffer: &mut Vec<u8>) -> Result<Front, InputFault>
+    ensures moves { OnOk result (Moves (R.remaining reader.old) (R.remaining reader.new) buffer.old.items buffer.new.items) }
+    ensures within { IfOk result (λ front. IsRequestWithin front (length buffer.new.items)) }
+    ensures found { IfOk result (λ front. IfSome (R.remaining reader.old) (λ xs. (found : Found) × Finds (buffer.old.items ++ xs) found
+        × Shows front buffer.new.items (R.remaining reader.new) found)) }
+{
+    let end = match read_head(reader, buffer)? {
+        HeadEnd::Nothing => return Ok(Front::Ended),
+        HeadEnd::TooLong => return Ok(Front::Broken(Problem::TooLarge)),
+        HeadEnd::Cut => return Ok(Front::Broken(Problem::BadRequest)),
+        HeadEnd::At(end) => end,
+    };
+    let Some(facts) = parse_front(&buffer[..end]) else {
+        return Ok(Front::Broken(Problem::BadRequest));
+    };
+    let len = match facts.len {
+        Ok(len) => len,
+        Err(problem) => return Ok(Front::Broken(problem)),
+    };
+    let stop = end + len;
+    let there = read_body(reader, buffer, stop)?;
+    if !there {
+        return Ok(Front::Broken(Problem::BadRequest));
+    }
+    Ok(Front::Whole(Places {
+        method: facts.method,
+        target: facts.target,
+        closes: facts.closes,
+        body: Span {
+            start: end,
+            end: stop,
+        },
+    }))
+}

@@ -1,0 +1,30 @@
+//! A key acts once, whichever way its row comes: in a batch or as a request.
+
+ghost use Rattle.std.specs.Prelude.{◌≡◌, ℕ, List, Some, codes};
+ghost use Rattle.brk_model.specs.Base.{Base};
+ghost use Rattle.brk_model.specs.Batch.{row_step};
+ghost use Rattle.brk_model.specs.Commands.{Again, Command, Done, Reply};
+ghost use Rattle.brk_model.specs.Records.{Key};
+ghost use Rattle.brk_model.specs.Rows.{line_text, reply_fields};
+ghost use Rattle.brk_model.specs.Run.{Answers, Call, Did, Do, Outcome, Run};
+ghost use Rattle.brk_http_model.specs.Bodies.{told_texts};
+ghost use Rattle.brk_http_model.specs.Replies.{answer_body};
+ghost use Rattle.brk_http_model.specs.Routes.{parts_at};
+
+/// A reply's line, cut at its commas, gives its fields back: none of them has a comma. So what is told of a row that comes
+/// again are the very fields that were told when it was accepted.
+pub fn fields_have_no_comma()
+    ensures cut { (reply : Reply) → parts_at 44 (line_text reply) ≡ reply_fields reply }
+    ensures told { (reply : Reply) → answer_body (Again (line_text reply)) ≡ told_texts (codes "again") (reply_fields reply) }
+{}
+
+/// A row that a batch booked is answered as a request with its kept line, and one that a request booked is answered so in a
+/// batch, whatever was booked between them; neither changes anything.
+pub fn a_key_repeats_on_either_way()
+    ensures booked_by_a_batch { (base mid after : Base) (now later : ℕ) (command : Command) (key : Key) (reply : Reply) (calls : List (ℕ × Call)) (outcomes : List Outcome)
+        → row_step base now command key ≡ (Done reply, mid) → Run mid calls outcomes after
+        → Answers after later (Do command (Some key)) (Did (Again (line_text reply))) after }
+    ensures booked_by_a_request { (base mid after : Base) (now later : ℕ) (command : Command) (key : Key) (reply : Reply) (calls : List (ℕ × Call)) (outcomes : List Outcome)
+        → Answers base now (Do command (Some key)) (Did (Done reply)) mid → Run mid calls outcomes after
+        → row_step after later command key ≡ (Again (line_text reply), after) }
+{}

@@ -1,0 +1,385 @@
+-- A base in order whose tables have form is sound.
+use Rattle.std.proofs.Common.{◌≡◌, ◌≤◌, ℕ, ◌==◌, ◌+◌, Bool, true, false, not, cond, List, [], ◌∷◌, refl, sym, ◌∙◌, ap, subst, map, filter, length, arith, Option, Some, None, pos, negsuc, zero, suc, ℤ, ◌+ℤ◌}
+use Rattle.std.specs.Prelude.{◌&&◌, ◌||◌, bytes_eq, find, flat_map, is_none, is_some, nat_abs, nat_le, option_map, sum_by, nat_lt}
+use Rattle.std.specs.List.{AllByRecursion, list_all, list_any}
+use Rattle.std.specs.Option.{option_map_or}
+use Rattle.std.proofs.lemmas.Bool.{and_parts, eqb-true, leb-true, not-true, and_from}
+use Rattle.std.proofs.lemmas.Slice.Eq.{bytes_eq-Decides}
+use Rattle.brk_money.specs.Spelling.{Text}
+use Rattle.brk_money.specs.Moments.{day_of, last_day}
+use Rattle.brk_money.specs.Kinds.{same_status, side_of}
+use Rattle.brk_money.specs.declared.status.Status.TheVariants.{Completed}
+use Rattle.brk_book_theorems.proofs.MoveReading.{moves_counted, rows_posted}
+use Rattle.brk_audit_theorems.proofs.MovedForm.{HasForm, move_posted}
+use Rattle.brk_model.specs.Schemas.{third_schema}
+use Rattle.brk_model.specs.Limits.{greatest_amount, greatest_charge, greatest_summary, greatest_tax_rate, most_accounts, greatest_id}
+use Rattle.brk_model.specs.Lists.{insert_by, is_zero, sort_by, total_by}
+use Rattle.brk_model.specs.Records.{Account, Customer, Trade}
+use Rattle.brk_model.specs.Base.{Base, account_with, broker_with, completed, customer_with, is_completed, moment_of, rates_of, security_with, tax_rate_with, trade_with}
+use Rattle.brk_model.specs.Derived.{amount_of, balance_of, cash_trades, commissions_of, due_day, of_account, of_broker, of_position, summary_of, posted_to, posting_of_movement, posting_of_trade, postings_of, due_after}
+use Rattle.brk_model.specs.Shares.{signed}
+use Rattle.brk_model.specs.Tables.{Tables, account_row, broker_row, history_rows, last_trade_row, security_row, settlement_row, summary_rows, tables_at, trade_row}
+use Rattle.brk_model.specs.Sheets.{sheets, sheets_of}
+use Rattle.brk_model.specs.Adopted.{base_of, posting_of_move}
+use Rattle.brk_model.specs.Joins.{history_in, trade_in}
+use Rattle.brk_model.specs.Form.{account_form, broker_form, cash_form, charge_form, customer_form, customer_limits, customer_tax_form, has_account, has_broker, has_customer, has_form, has_security, has_trade, history_form, is_amount, is_cash_name, is_cash_type, is_id, is_price, is_qty, last_trade_form, one_tax_id_each, permission_form, price_form, security_form, settlement_form, summary_form, trade_form, is_movement, move_form}
+use Rattle.brk_model.specs.Forms.{is_acl, is_exchange, is_name, is_symbol, is_tax_id}
+use Rattle.brk_model.specs.Keys.{KeyPart, word, by_key, row_before, account_key, band_key, broker_key, cash_key, charge_key, customer_key, customer_tax_key, history_key, kept_key, last_trade_key, permission_key, security_key, settlement_key, summary_key, tax_rate_key, trade_key}
+use Rattle.brk_book_theorems.specs.Books.{IsBooks}
+use Rattle.brk_book_theorems.proofs.NewKeys.{same_bytes, unused}
+use Rattle.brk_book_theorems.proofs.Order.{NewKey, by_key-filter}
+use Rattle.brk_book_theorems.proofs.Same.{All-filter, All-map, any-none, filter-none, All-mapped}
+use Rattle.brk_book_theorems.proofs.Completing.{All-unfilter, All-unsort}
+use Rattle.brk_book_theorems.proofs.Reading.{any-sorted, reads_count}
+use Rattle.brk_book_theorems.proofs.References.{no_broker_trades, no_trades_of, nothing_posted}
+use Rattle.brk_book_theorems.proofs.LotReading.{numbered_rise, rise_apart}
+use Rattle.brk_book_theorems.proofs.TradeReading.{reads_trade}
+use Rattle.brk_book_theorems.proofs.Tested.{All-back, All-front}
+use Rattle.brk_audit_theorems.specs.Told.{GoesAWay, HasItsWords, IsTold, StampsRise, broker_id}
+use Rattle.brk_audit_theorems.proofs.Again.{IsRead, both_all, reads}
+use Rattle.brk_audit_theorems.proofs.Climbs.{Climbs, list_all_true, not_itself, of_all}
+use Rattle.brk_audit_theorems.proofs.Members.{found_in}
+use Rattle.brk_audit_theorems.proofs.Parts.{KeyParts, key_parts}
+use Rattle.brk_model_theorems.specs.FormParts.{FormParts}
+use Rattle.brk_model_theorems.proofs.FormParts.{form_parts}
+use Rattle.brk_model_theorems.proofs.Conjunctions.{parts3, parts4, parts5, parts6, parts10}
+use Rattle.brk_invariant_theorems.specs.Sound.{IsSound, IsSoundTrade, KeysApart, NamesCustomer, is_past, tax_id_key, is_named_by, movement_fields}
+use Rattle.brk_invariant_theorems.proofs.OneTrade.{false_true}
+use Rattle.brk_model_theorems.proofs.Conjunctions.{and5, and6}
+use Rattle.brk_invariant_theorems.proofs.FormRows.{any_mark, found_trades, has_account_is, has_customer_is, has_rate_is, rates_same, row_of, same_name}
+use Rattle.brk_model_theorems.proofs.Conjunctions.{and3, and4}
+
+-- ---- back from sorted lists and lists made of others
+
+pub All-unmapped : {X Y : Type 0} (P : Y → Type 0) (f : X → Y) (xs : List X) → AllByRecursion P (map f xs) → AllByRecursion (λ x. P (f x)) xs
+All-unmapped P f [] h = tt
+All-unmapped P f (x ∷ xs) h = (h.0, All-unmapped P f xs h.1)
+
+All-unflat : {X Y : Type 0} (P : Y → Type 0) (f : X → List Y) (xs : List X) → AllByRecursion P (flat_map f xs) → AllByRecursion (λ x. AllByRecursion P (f x)) xs
+All-unflat P f [] h = tt
+All-unflat P f (x ∷ xs) h = (All-front P (f x) (flat_map f xs) h, All-unflat P f xs (All-back P (f x) (flat_map f xs) h))
+
+back_rows : {Row : Type 0} (form : Row → Bool) (key : Row → List KeyPart) (rows : List Row) → list_all form (by_key key rows) ≡ true → AllByRecursion (λ r. form r ≡ true) rows
+back_rows form key rows h = All-unsort (λ r. form r ≡ true) (row_before key) rows (list_all_true form (by_key key rows) h)
+
+back_mapped : {X Row : Type 0} (form : Row → Bool) (key : Row → List KeyPart) (row : X → Row) (xs : List X) → list_all form (by_key key (map row xs)) ≡ true → AllByRecursion (λ x. form (row x) ≡ true) xs
+back_mapped form key row xs h = All-unmapped (λ r. form r ≡ true) row xs (back_rows form key (map row xs) h)
+
+climbs_apart : {Row : Type 0} (key : Row → List KeyPart) (xs : List Row) → Climbs key xs → KeysApart key xs
+climbs_apart key [] c = tt
+climbs_apart key (x ∷ xs) c = (All-map xs (λ y h e. not_itself (key x) (key y) (sym e) h) c.0, climbs_apart key xs c.1)
+
+apart_taken : {Row : Type 0} (key : Row → List KeyPart) (before : Row → Row → Bool) (x : Row) (ys : List Row) → KeysApart key (insert_by before x ys) → NewKey key x ys × KeysApart key ys
+apart_taken key before x [] a = (tt, tt)
+apart_taken {Row = Row} key before x (y ∷ ys) a = by_test (before y x) a (apart_taken key before x ys)
+  where
+    by_test : (b : Bool) → KeysApart key (cond b (y ∷ insert_by before x ys) (x ∷ y ∷ ys)) → (KeysApart key (insert_by before x ys) → NewKey key x ys × KeysApart key ys) → NewKey key x (y ∷ ys) × KeysApart key (y ∷ ys)
+    by_test true k ih =
+        let r = ih k.1 in
+        let new : AllByRecursion (λ z. key z ≡ key y → ⊥) (x ∷ ys) = out (λ z. key z ≡ key y → ⊥) x ys k.0 in
+        (((λ e. new.0 (sym e)), r.0), (new.1, r.1))
+      where
+        out : (P : Row → Type 0) (x : Row) (ys : List Row) → AllByRecursion P (insert_by before x ys) → AllByRecursion P (x ∷ ys)
+        out P x [] h = h
+        out P x (z ∷ zs) h = by_place (before z x) h (out P x zs)
+          where
+            by_place : (b : Bool) → AllByRecursion P (cond b (z ∷ insert_by before x zs) (x ∷ z ∷ zs)) → (AllByRecursion P (insert_by before x zs) → AllByRecursion P (x ∷ zs)) → AllByRecursion P (x ∷ z ∷ zs)
+            by_place true h ih = let g = ih h.1 in (g.0, (h.0, g.1))
+            by_place false h ih = h
+    by_test false k ih = k
+
+apart_unsort : {Row : Type 0} (key : Row → List KeyPart) (before : Row → Row → Bool) (xs : List Row) → KeysApart key (sort_by before xs) → KeysApart key xs
+unfolding sort_by
+apart_unsort key before [] a = tt
+apart_unsort key before (x ∷ xs) a = let k = apart_taken key before x (sort_by before xs) a in (All-unsort (λ y. key y ≡ key x → ⊥) before xs k.0, apart_unsort key before xs k.1)
+
+apart_unmap : {X Row : Type 0} (key : X → List KeyPart) (key' : Row → List KeyPart) (f : X → Row) (xs : List X) → ((z : X) → key' (f z) ≡ key z) → KeysApart key' (map f xs) → KeysApart key xs
+apart_unmap key key' f [] e a = tt
+apart_unmap key key' f (x ∷ xs) e a =
+    (All-map xs (λ y h p. h (e y ∙ p ∙ sym (e x))) (All-unmapped (λ r. key' r ≡ key' (f x) → ⊥) f xs a.0), apart_unmap key key' f xs e a.1)
+
+back_keys : {Row : Type 0} (key : Row → List KeyPart) (xs : List Row) → Climbs key (by_key key xs) → KeysApart key xs
+back_keys key xs c = apart_unsort key (row_before key) xs (climbs_apart key (by_key key xs) c)
+
+word_of : (s t : Text) → word s ∷ [] ≡ word t ∷ [] → s ≡ t
+word_of s t e = cc
+
+tax_ids_each : (cs : List Customer) → one_tax_id_each cs ≡ true → KeysApart tax_id_key cs
+tax_ids_each [] e = tt
+tax_ids_each (c ∷ cs) e =
+    let p = and_parts (not (list_any (λ d. bytes_eq d.tax_id c.tax_id) cs)) (one_tax_id_each cs) e in (
+      All-map cs (λ d h q. false_true (sym h ∙ same_bytes d.tax_id c.tax_id (word_of d.tax_id c.tax_id q)))
+          (any-none (λ d. bytes_eq d.tax_id c.tax_id) cs (not-true (list_any (λ d. bytes_eq d.tax_id c.tax_id) cs) p.0)),
+      tax_ids_each cs p.1,
+    )
+
+-- ---- limits of what is there, and of what is not
+
+found_item : {X : Type 0} (p : X → Bool) (xs : List X) (P : X → Type 0) → AllByRecursion P xs → is_some (find p xs) ≡ true → (x : X) × (P x × (p x ≡ true))
+found_item p xs P h e = let f = found_in p xs e in (f.item, (of_all P xs f.item h f.there, f.passes))
+
+-- what is found is not what is not found
+other_id : {X : Type 0} (found : ℕ → Option X) (id other : ℕ) → is_some (found id) ≡ false → is_some (found other) ≡ true → (other == id) ≡ false
+other_id found id other h k = by_test (other == id) refl
+  where
+    by_test : (b : Bool) → (other == id) ≡ b → (other == id) ≡ false
+    by_test false e = e
+    by_test true e = false_true (sym h ∙ ap (λ n. is_some (found n)) (sym (eqb-true other id e)) ∙ k)
+
+by_some : (b : Bool) (A : Type 0) → (b ≡ true → A) → (b ≡ false → A) → A
+by_some true A f g = f refl
+by_some false A f g = g refl
+
+sum_none : {X : Type 0} (f : X → ℕ) (xs : List X) (m : ℕ) → xs ≡ [] → sum_by f xs ≤ m
+sum_none f xs m e = subst (λ ys. sum_by f ys ≤ m) (sym e) (omega arith)
+
+commissions_back : (base : Base) (broker : ℕ) → IsBooks base → AllByRecursion (λ b. commissions_of base.accounts (completed base) b.id ≤ greatest_amount) base.brokers
+    → commissions_of base.accounts (completed base) broker ≤ greatest_amount
+unfolding commissions_of
+commissions_back base broker books h =
+    by_some (is_some (broker_with base broker)) _
+    (λ e. let f = found_item (λ b. b.id == broker) base.brokers (λ b. commissions_of base.accounts (completed base) b.id ≤ greatest_amount) h e in
+    subst (λ n. commissions_of base.accounts (completed base) n ≤ greatest_amount) (eqb-true f.0.id broker f.1.1) f.1.0)
+    (λ e. sum_none (λ t. t.commission) (of_broker base.accounts (completed base) broker) greatest_amount (no_broker_trades base broker books e))
+
+no_account : (base : Base) (o : Option Account) → is_some o ≡ false → option_map_or (λ a. a.opening) o (pos 0) ≡ pos 0
+no_account base None e = refl
+no_account base (Some a) e = false_true (sym e)
+
+no_balance : (base : Base) (account : ℕ) → IsBooks base → is_some (account_with base account) ≡ false → nat_abs (balance_of base.accounts (postings_of base) account) ≤ greatest_amount
+unfolding balance_of total_by
+no_balance base account books e =
+    subst (λ z. nat_abs (z +ℤ total_by (λ p. p.amount) (posted_to (postings_of base) account)) ≤ greatest_amount) (sym (no_account base (account_with base account) e))
+    (subst (λ ps. nat_abs (pos 0 +ℤ total_by (λ p. p.amount) ps) ≤ greatest_amount) (sym (nothing_posted base account books e)) (omega arith))
+
+balances_back : (base : Base) (account : ℕ) → IsBooks base → AllByRecursion (λ a. nat_abs (balance_of base.accounts (postings_of base) a.id) ≤ greatest_amount) base.accounts
+    → nat_abs (balance_of base.accounts (postings_of base) account) ≤ greatest_amount
+balances_back base account books h =
+    by_some (is_some (account_with base account)) _
+    (λ e. let f = found_item (λ a. a.id == account) base.accounts (λ a. nat_abs (balance_of base.accounts (postings_of base) a.id) ≤ greatest_amount) h e in
+    subst (λ n. nat_abs (balance_of base.accounts (postings_of base) n) ≤ greatest_amount) (eqb-true f.0.id account f.1.1) f.1.0)
+    (no_balance base account books)
+
+length_none : {X : Type 0} (xs : List X) (m : ℕ) → xs ≡ [] → length xs ≤ m
+length_none xs m e = subst (λ ys. length ys ≤ m) (sym e) (omega arith)
+
+owned_back : (base : Base) (customer : ℕ) → IsBooks base → AllByRecursion (λ c. length (filter (λ a. a.customer == c.id) base.accounts) ≤ most_accounts) base.customers
+    → length (filter (λ a. a.customer == customer) base.accounts) ≤ most_accounts
+owned_back base customer books h =
+    by_some (is_some (customer_with base customer)) _
+    (λ e. let f = found_item (λ c. c.id == customer) base.customers (λ c. length (filter (λ a. a.customer == c.id) base.accounts) ≤ most_accounts) h e in
+    subst (λ n. length (filter (λ a. a.customer == n) base.accounts) ≤ most_accounts) (eqb-true f.0.id customer f.1.1) f.1.0)
+    (λ e. length_none (filter (λ a. a.customer == customer) base.accounts) most_accounts (filter-none (λ a. a.customer == customer) base.accounts
+    (All-map base.accounts (λ a k. other_id (customer_with base) customer a.customer e k) books.customers)))
+
+rates_back : (base : Base) (customer : ℕ) → AllByRecursion (NamesCustomer base.customers) base.customer_taxes → AllByRecursion (λ c. rates_of base c.id ≤ greatest_tax_rate) base.customers
+    → rates_of base customer ≤ greatest_tax_rate
+rates_back base customer payers h =
+    by_some (is_some (customer_with base customer)) _
+    (λ e. let f = found_item (λ c. c.id == customer) base.customers (λ c. rates_of base c.id ≤ greatest_tax_rate) h e in
+    subst (λ n. rates_of base n ≤ greatest_tax_rate) (eqb-true f.0.id customer f.1.1) f.1.0)
+    (λ e. sum_none (λ x. option_map_or (λ r. r.rate) (tax_rate_with base x.tax) 0) (filter (λ x. x.customer == customer) base.customer_taxes) greatest_tax_rate
+    (filter-none (λ x. x.customer == customer) base.customer_taxes (All-map base.customer_taxes (λ x k. other_id (customer_with base) customer x.customer e k) payers)))
+
+-- the summary of a position whose row is in form, if there is one
+row_low : (T : Tables) (done : List Trade) (account : ℕ) (symbol : Text) → AllByRecursion (λ r. summary_form third_schema T r ≡ true) (summary_rows done account symbol)
+    → nat_abs (summary_of done account symbol) ≤ greatest_summary
+row_low T done account symbol h = by_zero (not (is_zero (summary_of done account symbol))) refl h
+  where
+    zero_low : (z : ℤ) → not (is_zero z) ≡ false → nat_abs z ≤ greatest_summary
+    zero_low (pos zero) e = omega arith
+    zero_low (pos (suc n)) e = false_true (sym e)
+    zero_low (negsuc n) e = false_true (sym e)
+
+    by_zero : (b : Bool) → not (is_zero (summary_of done account symbol)) ≡ b
+        → AllByRecursion (λ r. summary_form third_schema T r ≡ true) (cond b (record { account = account; symbol = symbol; qty = summary_of done account symbol } ∷ []) []) → nat_abs (summary_of done account symbol) ≤ greatest_summary
+    by_zero true e k =
+        leb-true (nat_abs (summary_of done account symbol)) greatest_summary
+        (parts3 (has_account T account) (has_security T symbol) (nat_le (nat_abs (summary_of done account symbol)) greatest_summary) k.0).2
+    by_zero false e k = zero_low (summary_of done account symbol) e
+
+no_summary_low : (done : List Trade) (account : ℕ) (symbol : Text) → of_position done account symbol ≡ [] → nat_abs (summary_of done account symbol) ≤ greatest_summary
+unfolding summary_of total_by
+no_summary_low done account symbol e = subst (λ ts. nat_abs (total_by (λ t. signed (side_of t.kind) t.qty) ts) ≤ greatest_summary) (sym e) (omega arith)
+
+summaries_back : (base : Base) (account : ℕ) (symbol : Text) → IsBooks base
+    → AllByRecursion (λ a. AllByRecursion (λ s. nat_abs (summary_of (completed base) a.id s.symbol) ≤ greatest_summary) base.securities) base.accounts
+    → nat_abs (summary_of (completed base) account symbol) ≤ greatest_summary
+summaries_back base account symbol books h =
+    let done : List Trade = completed base in
+    by_some (is_some (account_with base account)) _
+    (λ e. let f = found_item (λ a. a.id == account) base.accounts (λ a. AllByRecursion (λ s. nat_abs (summary_of done a.id s.symbol) ≤ greatest_summary) base.securities) h e in
+    by_some (is_some (security_with base symbol)) _
+    (λ g. let s = found_item (λ s. bytes_eq s.symbol symbol) base.securities (λ s. nat_abs (summary_of done f.0.id s.symbol) ≤ greatest_summary) f.1.0 g in
+    subst (λ n. nat_abs (summary_of done n symbol) ≤ greatest_summary) (eqb-true f.0.id account f.1.1)
+    (subst (λ x. nat_abs (summary_of done f.0.id x) ≤ greatest_summary) ((bytes_eq-Decides s.0.symbol symbol).0 s.1.1) s.1.0))
+    (λ g. no_summary_low done account symbol (filter-none (λ t. bytes_eq t.symbol symbol) (of_account done account)
+    (All-filter (λ t. bytes_eq t.symbol symbol ≡ false) (λ t. t.account == account) done
+    (All-filter (λ t. bytes_eq t.symbol symbol ≡ false) is_completed base.trades (unused base symbol base.trades g books.securities))))))
+    (λ e. no_summary_low done account symbol (ap (filter (λ t. bytes_eq t.symbol symbol)) (no_trades_of base account books e)))
+
+-- ---- trades
+
+-- what is known of each trade
+record Read (base : Base) (t : Trade) : Type 0 where
+  pub row : trade_form third_schema (sheets base) (trade_row t) ≡ true
+  pub history : AllByRecursion (λ r. history_form (sheets base) r ≡ true) (history_rows t)
+  pub stamps : StampsRise t
+  pub way : GoesAWay t
+  pub words : HasItsWords t
+  pub found : trade_with base t.id ≡ Some t
+  pub read : IsRead base t
+  pub settled : is_completed t ≡ true → settlement_form (sheets base) (settlement_row base.accounts base.rule t) ≡ true
+  pub moved : is_completed t ≡ true → t.is_cash ≡ true → HasForm (sheets base) (posting_of_trade base.accounts t)
+
+row_of_trade : (base : Base) (t : Trade) → trade_with base t.id ≡ Some t → trade_in (sheets base) t.id ≡ Some (trade_row t)
+row_of_trade base t e = reads_trade base t.id ∙ ap (option_map trade_row) e
+
+trade_back : (base : Base) (t : Trade) → IsBooks base → IsTold base → Read base t → IsSoundTrade base t
+unfolding sheets_of tables_at
+trade_back base t books told h =
+    let T : Tables = sheets base in
+    let f = parts10 (is_id t.id) (is_past base.last (moment_of t)) (has_security T t.symbol) (is_qty third_schema t.qty) (is_price t.bid) (has_account T t.account) (price_form T (trade_row t))
+    (nat_le t.charge greatest_charge) (nat_le t.commission greatest_amount) (nat_le t.tax greatest_amount) h.row in
+    let marks = All-map t.marks (λ m k. parts3 (has_trade T t.id) (is_past base.last m.stamp) (not (same_status m.status Completed) || nat_le (due_after base.rule m.stamp) last_day) k)
+    (All-unmapped (λ r. history_form T r ≡ true) (row_of t.id) t.marks h.history) in
+    let done : list_any (λ h. same_status h.status Completed) (history_in T t.id) ≡ is_completed t =
+    ap (list_any (λ h. same_status h.status Completed))
+    (sym (by_key-filter history_key (λ h. h.trade == t.id) (flat_map history_rows base.trades)) ∙ ap (by_key history_key) h.read.history)
+    ∙ any-sorted history_key (λ h. same_status h.status Completed) (history_rows t) ∙ any_mark t.id t.marks h.way in
+    let row = row_of_trade base t h.found in
+    record {
+      alone = record {
+        fields = and6 (is_id t.id) (is_qty third_schema t.qty) (is_price t.bid) (nat_le t.charge greatest_charge) (nat_le t.commission greatest_amount) (nat_le t.tax greatest_amount) f.0 f.3 f.4 f.7 f.8 f.9;
+        stamps = h.stamps;
+        way = h.way;
+        priced = sym (ap (λ b. cond b (option_map_or is_price t.price false) (is_none t.price)) done) ∙ f.6;
+        words = h.words;
+        cash_type = λ d.
+            let p = parts3 (option_map_or (λ row. is_cash_type row.is_cash t.cash_type) (trade_in T t.id) false) (nat_le (due_day base.rule t) last_day) (is_amount (amount_of base.accounts t)) (h.settled d) in
+            sym (ap (λ o. option_map_or (λ row. is_cash_type row.is_cash t.cash_type) o false) row) ∙ p.0;
+      };
+      past = All-map t.marks (λ m k. k.1) marks;
+      due = All-map t.marks (λ m k. k.2) marks;
+      cash_name = λ d.
+          let c = and_parts (is_completed t) t.is_cash d in
+          sym (ap (is_named_by t) (same_name base t.symbol books told)) ∙ sym (ap (λ o. option_map_or (is_cash_name T t.cash_name) o false) row) ∙ (h.moved c.0 c.1).name;
+      amount = λ d. (parts3 (option_map_or (λ row. is_cash_type row.is_cash t.cash_type) (trade_in T t.id) false) (nat_le (due_day base.rule t) last_day) (is_amount (amount_of base.accounts t)) (h.settled d)).2;
+    }
+
+-- the postings of a base whose cash rows have form
+posted_back : (base : Base) → list_all (move_form (sheets base)) (sheets base).moves ≡ true → AllByRecursion (HasForm (sheets base)) (postings_of base)
+posted_back base f =
+    All-unsort (HasForm (sheets base)) (λ a b. nat_lt a.stamp b.stamp) (postings_of base)
+    (subst (AllByRecursion (HasForm (sheets base))) (rows_posted base)
+    (All-mapped (HasForm (sheets base)) posting_of_move (sheets base).moves (All-map (sheets base).moves (move_posted (sheets base)) (list_all_true (move_form (sheets base)) (sheets base).moves f))))
+
+cash_back : (base : Base) → AllByRecursion (HasForm (sheets base)) (postings_of base) → AllByRecursion (λ t. HasForm (sheets base) (posting_of_trade base.accounts t)) (cash_trades (completed base))
+cash_back base h =
+    All-unmapped (HasForm (sheets base)) (posting_of_trade base.accounts) (cash_trades (completed base))
+    (All-front (HasForm (sheets base)) (map (posting_of_trade base.accounts) (cash_trades (completed base))) (map posting_of_movement base.movements) h)
+
+movements_formed : (base : Base) → AllByRecursion (HasForm (sheets base)) (postings_of base) → AllByRecursion (λ m. movement_fields m ≡ true) base.movements
+movements_formed base h =
+    All-map base.movements (λ m k. and_from (is_movement m.name m.amount) (is_amount m.amount) k.name k.amount)
+    (All-unmapped (HasForm (sheets base)) posting_of_movement base.movements
+    (All-back (HasForm (sheets base)) (map (posting_of_trade base.accounts) (cash_trades (completed base))) (map posting_of_movement base.movements) h))
+
+reads_back : (base : Base) → IsBooks base → IsTold base → FormParts third_schema (sheets base) → AllByRecursion (Read base) base.trades
+unfolding sheets_of tables_at
+reads_back base books told f =
+    let T : Tables = sheets base in
+    let done : List Trade = completed base in
+    let S = All-unfilter (λ t. settlement_form T (settlement_row base.accounts base.rule t) ≡ true) is_completed base.trades (back_mapped (settlement_form T) settlement_key (settlement_row base.accounts base.rule) done f.settlements) in
+    let C = All-unfilter (λ t. t.is_cash ≡ true → HasForm T (posting_of_trade base.accounts t)) is_completed base.trades
+    (All-unfilter (λ t. HasForm T (posting_of_trade base.accounts t)) (λ t. t.is_cash) done (cash_back base (posted_back base f.moves))) in
+    All-map base.trades (λ t h. record {
+      row = h.0;
+      history = h.1.0;
+      stamps = h.1.1.0;
+      way = h.1.1.1.0;
+      words = h.1.1.1.1.0;
+      found = h.1.1.1.1.1.0;
+      read = h.1.1.1.1.1.1.0;
+      settled = h.1.1.1.1.1.1.1.0;
+      moved = h.1.1.1.1.1.1.1.1;
+    })
+    (both_all _ _ base.trades (back_mapped (trade_form third_schema T) trade_key trade_row base.trades f.trades)
+    (both_all _ _ base.trades (All-unflat (λ r. history_form T r ≡ true) history_rows base.trades (back_rows (history_form T) history_key (flat_map history_rows base.trades) f.history))
+    (both_all _ _ base.trades told.stamps
+    (both_all _ _ base.trades told.ways
+    (both_all _ _ base.trades told.words
+    (both_all _ _ base.trades (found_trades base.trades (rise_apart base.trades (numbered_rise 1 base.trades books.numbered)))
+    (both_all _ _ base.trades (reads base books.numbered)
+    (both_all _ _ base.trades S C))))))))
+
+-- ---- all of it
+
+pub sound_back : (base : Base) → IsBooks base → IsTold base → has_form third_schema (sheets base) ≡ true → IsSound base
+unfolding sheets_of tables_at
+sound_back base books told form =
+    let T : Tables = sheets base in
+    let done : List Trade = completed base in
+    let f : FormParts third_schema T = form_parts third_schema T form in
+    let r : KeyParts T = key_parts T f.keys in
+    let brokers = All-map base.brokers (λ b h. and_parts (is_id b.id && is_name b.name) (nat_le (commissions_of base.accounts done b.id) greatest_amount) h)
+    (back_mapped broker_form broker_key (broker_row base.accounts done) base.brokers f.brokers) in
+    let accounts = All-map base.accounts (λ a h. parts6 (is_id a.id) (has_customer T a.customer) (has_broker T a.broker) (is_name a.name) (is_amount a.opening) (is_amount (balance_of base.accounts (postings_of base) a.id)) h)
+    (back_mapped (account_form T) account_key (account_row base.accounts (postings_of base)) base.accounts f.accounts) in
+    let permissions = All-map base.permissions (λ p h. parts5 (has_account T p.account) (is_acl p.acl) (is_tax_id p.tax_id) (is_name p.last_name) (is_name p.first_name) h)
+    (back_rows (permission_form T) permission_key base.permissions f.permissions) in
+    let securities = All-map base.securities (λ s h. parts5 (is_symbol s.symbol) (is_name s.name) (is_exchange s.exchange) (is_name s.sector) (list_any (λ l. bytes_eq l.symbol s.symbol) T.last_trades) h)
+    (back_mapped (security_form T) security_key security_row base.securities f.securities) in
+    let lasts = All-map base.securities (λ s h. parts4 (has_security T s.symbol) (is_past base.last s.moment) (is_price s.last_price) (nat_le s.volume greatest_amount) h)
+    (back_mapped (last_trade_form T) last_trade_key last_trade_row base.securities f.last_trades) in
+    let paid = All-map base.customer_taxes (λ x h. and_parts (has_customer T x.customer) (list_any (λ r. r.id == x.tax) T.tax_rates) h)
+    (back_rows (customer_tax_form T) customer_tax_key base.customer_taxes f.customer_taxes) in
+    let payers : AllByRecursion (NamesCustomer base.customers) base.customer_taxes = All-map base.customer_taxes (λ x h. sym (has_customer_is base x.customer) ∙ h.0) paid in
+    let limits = All-map base.customers
+    (λ c h. and_parts (nat_le (length (filter (λ a. a.customer == c.id) T.accounts)) most_accounts) (nat_le (rates_of (base_of T) c.id) greatest_tax_rate) h)
+    (back_rows (customer_limits T) customer_key base.customers f.limits) in
+    record {
+      keyed = record { kept = back_rows _ kept_key base.kept f.kept; kept_keys = back_keys kept_key base.kept r.kept };
+      parties = record {
+        brokers = All-map base.brokers (λ b h. h.0) brokers;
+        customers = back_rows customer_form customer_key base.customers f.customers;
+        accounts = All-map base.accounts (λ a h. and3 (is_id a.id) (is_name a.name) (is_amount a.opening) h.0 h.3 h.4) accounts;
+        permissions = All-map base.permissions (λ p h. and4 (is_acl p.acl) (is_tax_id p.tax_id) (is_name p.last_name) (is_name p.first_name) h.1 h.2 h.3 h.4) permissions;
+        broker_keys = apart_unmap broker_id broker_key (broker_row base.accounts done) base.brokers (λ b. refl) (back_keys broker_key (map (broker_row base.accounts done) base.brokers) r.brokers);
+        customer_keys = back_keys customer_key base.customers r.customers;
+        tax_ids = apart_unsort tax_id_key (row_before customer_key) base.customers (tax_ids_each (by_key customer_key base.customers) f.tax_ids);
+        permitted = All-map base.permissions (λ p h. sym (has_account_is base p.account) ∙ h.0) permissions;
+        owned = λ customer. owned_back base customer books (All-map base.customers (λ c h. leb-true _ most_accounts (sym (ap (λ n. nat_le n most_accounts) (reads_count base c.id)) ∙ h.0)) limits);
+      };
+      terms = record {
+        charges = back_rows charge_form charge_key base.charges f.charges;
+        bands = back_rows _ band_key base.bands f.bands;
+        tax_rates = back_rows _ tax_rate_key base.tax_rates f.tax_rates;
+        charge_keys = back_keys charge_key base.charges r.charges;
+        tax_rate_keys = back_keys tax_rate_key base.tax_rates r.tax_rates;
+        customer_tax_keys = back_keys customer_tax_key base.customer_taxes r.customer_taxes;
+        payers = payers;
+        taxes = All-map base.customer_taxes (λ x h. sym (has_rate_is base x.tax) ∙ h.1) paid;
+        rates = λ customer. rates_back base customer payers (All-map base.customers (λ c h. leb-true _ greatest_tax_rate (sym (ap (λ n. nat_le n greatest_tax_rate) (rates_same base c.id)) ∙ h.1)) limits);
+      };
+      listed = record {
+        securities = All-map base.securities (λ s h. and5 (is_symbol s.symbol) (is_name s.name) (is_exchange s.exchange) (is_name s.sector) (is_price s.last_price) h.0.0 h.0.1 h.0.2 h.0.3 h.1.2)
+            (both_all _ _ base.securities securities lasts);
+        moments = All-map base.securities (λ s h. h.1) lasts;
+      };
+      trades = All-map base.trades (λ t h. trade_back base t books told h) (reads_back base books told f);
+      cash = record {
+        fields = movements_formed base (posted_back base f.moves);
+        risen = told.movements;
+        few = leb-true (length base.movements) greatest_id (sym (ap (λ n. nat_le n greatest_id) (moves_counted base)) ∙ f.counted);
+        day = f.rule;
+      };
+      sums = record {
+        summaries = λ account symbol. summaries_back base account symbol books
+            (All-map base.accounts (λ a h. All-map base.securities (λ s g. row_low T done a.id s.symbol g) (All-unflat (λ r. summary_form third_schema T r ≡ true) (λ s. summary_rows done a.id s.symbol) base.securities h))
+            (All-unflat (λ r. summary_form third_schema T r ≡ true) (λ a. flat_map (λ s. summary_rows done a.id s.symbol) base.securities) base.accounts
+            (back_rows (summary_form third_schema T) summary_key (flat_map (λ a. flat_map (λ s. summary_rows done a.id s.symbol) base.securities) base.accounts) f.summaries)));
+        balances = λ account. balances_back base account books (All-map base.accounts (λ a h. leb-true _ greatest_amount h.5) accounts);
+        commissions = λ broker. commissions_back base broker books (All-map base.brokers (λ b h. leb-true _ greatest_amount h.1) brokers);
+      };
+    }

@@ -1,0 +1,177 @@
+-- Shares of one side, and what a deal adds to them.
+use Rattle.std.proofs.Common.{◌≡◌, ◌<◌, ◌≤◌, ◌⊎◌, inl, inr, ℕ, ◌+◌, ◌-◌, Bool, true, false, not, cond, List, [], ◌∷◌, ◌++◌, refl, sym, ◌∙◌, ap, length, take, drop, arith, length-drop, pos, zero, suc, min, replicate, ◌+ℤ◌}
+use Rattle.std.specs.Prelude.{fold}
+use Rattle.std.specs.List.{AllByRecursion}
+use Rattle.std.proofs.lemmas.List.{length-take, length-replicate}
+use Rattle.brk_money.specs.Kinds.{same_side}
+use Rattle.brk_money.specs.declared.side.Side.{Side}
+use Rattle.brk_money.specs.declared.side.Side.TheVariants.{Buy, Sell}
+use Rattle.std.proofs.lemmas.Int.{ints}
+use Rattle.std.proofs.lemmas.Bool.{cases_lt}
+use Rattle.brk_model.specs.Lists.{total_by}
+use Rattle.brk_model.specs.Shares.{Share, Deal, closed_count, kept_shares, opened_shares, shares_after, replay, signed, net}
+use Rattle.brk_model_theorems.specs.Positions.{AllOf, IsOneSided}
+use Rattle.brk_model_theorems.proofs.Sums.{total_by-append}
+
+-- ---- elements of a list that is cut, joined or repeated
+
+pub All-append : {X : Type 0} (P : X → Type 0) (xs ys : List X) → AllByRecursion P xs → AllByRecursion P ys → AllByRecursion P (xs ++ ys)
+All-append P [] ys g h = h
+All-append P (x ∷ xs) ys g h = (g.0, All-append P xs ys g.1 h)
+
+All-take : {X : Type 0} (P : X → Type 0) (n : ℕ) (xs : List X) → AllByRecursion P xs → AllByRecursion P (take n xs)
+All-take P zero xs h = tt
+All-take P (suc n) [] h = tt
+All-take P (suc n) (x ∷ xs) h = (h.0, All-take P n xs h.1)
+
+All-drop : {X : Type 0} (P : X → Type 0) (n : ℕ) (xs : List X) → AllByRecursion P xs → AllByRecursion P (drop n xs)
+All-drop P zero xs h = h
+All-drop P (suc n) [] h = tt
+All-drop P (suc n) (x ∷ xs) h = All-drop P n xs h.1
+
+All-replicate : {X : Type 0} (P : X → Type 0) (n : ℕ) (x : X) → P x → AllByRecursion P (replicate n x)
+All-replicate P zero x h = tt
+All-replicate P (suc n) x h = (h, All-replicate P n x h)
+
+-- what holds of all shares holds of those that stay
+pub kept-All : (P : Share → Type 0) (d : Deal) (shares : List Share) → AllByRecursion P shares → AllByRecursion P (kept_shares d shares)
+kept-All P d shares h = at d.is_lifo
+  where
+    at : (b : Bool) → AllByRecursion P (cond b (take (length shares - closed_count d shares) shares) (drop (closed_count d shares) shares))
+    at true = All-take P (length shares - closed_count d shares) shares h
+    at false = All-drop P (closed_count d shares) shares h
+
+-- and of those after a deal, where it holds of the one that it opens
+pub after-All : (P : Share → Type 0) (d : Deal) (shares : List Share) → AllByRecursion P shares → P (record { side = d.side; trade = d.trade; price = d.price; stamp = d.stamp })
+    → AllByRecursion P (shares_after shares d)
+unfolding shares_after
+after-All P d shares h p = All-append P (kept_shares d shares) (opened_shares d shares) (kept-All P d shares h) (All-replicate P (d.qty - closed_count d shares) _ p)
+
+-- ---- counts
+
+pub signed_sum : (side : Side) (m n : ℕ) → signed side m +ℤ signed side n ≡ signed side (m + n)
+signed_sum Buy m n = omega (arith, ints)
+signed_sum Sell m n = omega (arith, ints)
+
+-- shares of one side, counted with their signs
+pub net-one_side : (side : Side) (shares : List Share) → AllOf side shares → net shares ≡ signed side (length shares)
+unfolding total_by
+net-one_side Buy [] h = refl
+net-one_side Sell [] h = refl
+net-one_side side (share ∷ shares) h =
+    ap (λ s. signed s 1 +ℤ net shares) h.0 ∙ ap (λ y. signed side 1 +ℤ y) (net-one_side side shares h.1) ∙ signed_sum side 1 (length shares) ∙ ap (signed side) (omega arith)
+
+length-kept : (d : Deal) (shares : List Share) → length (kept_shares d shares) ≡ length shares - closed_count d shares
+length-kept d shares = at d.is_lifo
+  where
+    at : (b : Bool) → length (cond b (take (length shares - closed_count d shares) shares) (drop (closed_count d shares) shares)) ≡ length shares - closed_count d shares
+    at true = length-take (length shares - closed_count d shares) shares ∙ omega arith
+    at false = length-drop (closed_count d shares) shares
+
+opened-All : (d : Deal) (shares : List Share) → AllOf d.side (opened_shares d shares)
+opened-All d shares = All-replicate (λ share. share.side ≡ d.side) (d.qty - closed_count d shares) _ refl
+
+-- the position after a deal, counted
+net-after : (side : Side) (d : Deal) (shares : List Share) → AllOf side shares
+    → net (shares_after shares d) ≡ signed side (length shares - closed_count d shares) +ℤ signed d.side (d.qty - closed_count d shares)
+unfolding shares_after
+net-after side d shares h =
+    total_by-append (λ share. signed share.side 1) (kept_shares d shares) (opened_shares d shares)
+    ∙ ap (λ x. x +ℤ net (opened_shares d shares)) (net-one_side side (kept_shares d shares) (kept-All (λ share. share.side ≡ side) d shares h) ∙ ap (signed side) (length-kept d shares))
+    ∙ ap (λ y. signed side (length shares - closed_count d shares) +ℤ y) (net-one_side d.side (opened_shares d shares) (opened-All d shares) ∙ ap (signed d.side) (length-replicate _ _))
+
+-- what closes and what opens add up to the deal
+counts : (side other : Side) (n q : ℕ) → signed side (n - cond (not (same_side side other)) (min q n) 0) +ℤ signed other (q - cond (not (same_side side other)) (min q n) 0) ≡ signed side n +ℤ signed other q
+counts Buy Buy n q = omega (arith, ints)
+counts Sell Sell n q = omega (arith, ints)
+counts Buy Sell n q = omega (arith, ints)
+counts Sell Buy n q = omega (arith, ints)
+
+-- a deal moves the sum by its signed quantity
+pub net-step : (side : Side) (d : Deal) (shares : List Share) → AllOf side shares → net (shares_after shares d) ≡ net shares +ℤ signed d.side d.qty
+unfolding total_by
+net-step side d [] h = net-after d.side d [] tt ∙ empty d.side d.qty
+  where
+    empty : (s : Side) (q : ℕ) → signed s (0 - 0) +ℤ signed s (q - 0) ≡ pos 0 +ℤ signed s q
+    empty Buy q = omega (arith, ints)
+    empty Sell q = omega (arith, ints)
+net-step side d (share ∷ shares) h =
+    net-after side d (share ∷ shares) h
+    ∙ ap (λ s. signed side (length (share ∷ shares) - cond (not (same_side s d.side)) (min d.qty (length (share ∷ shares))) 0) +ℤ signed d.side (d.qty - cond (not (same_side s d.side)) (min d.qty (length (share ∷ shares))) 0)) h.0
+    ∙ counts side d.side (length (share ∷ shares)) d.qty
+    ∙ ap (λ y. y +ℤ signed d.side d.qty) (sym (net-one_side side (share ∷ shares) h))
+
+-- ---- one side
+
+-- none of no shares
+All-none : (P : Share → Type 0) (n : ℕ) (x : Share) → n ≡ 0 → AllByRecursion P (replicate n x)
+All-none P zero x e = tt
+All-none P (suc n) x e = absurd (omega (e, arith))
+
+take-none : (P : Share → Type 0) (n : ℕ) (xs : List Share) → n ≡ 0 → AllByRecursion P (take n xs)
+take-none P zero xs e = tt
+take-none P (suc n) xs e = absurd (omega (e, arith))
+
+drop-all : (P : Share → Type 0) (n : ℕ) (xs : List Share) → length xs ≤ n → AllByRecursion P (drop n xs)
+drop-all P zero [] h = tt
+drop-all P zero (x ∷ xs) h = absurd (omega (h, arith))
+drop-all P (suc n) [] h = tt
+drop-all P (suc n) (x ∷ xs) h = drop-all P n xs (omega (h, arith))
+
+-- a deal that closes all shares leaves none of them
+kept-none : (P : Share → Type 0) (d : Deal) (shares : List Share) → closed_count d shares ≡ length shares → AllByRecursion P (kept_shares d shares)
+kept-none P d shares e = at d.is_lifo
+  where
+    at : (b : Bool) → AllByRecursion P (cond b (take (length shares - closed_count d shares) shares) (drop (closed_count d shares) shares))
+    at true = take-none P (length shares - closed_count d shares) shares (omega (e, arith))
+    at false = drop-all P (closed_count d shares) shares (omega (e, arith))
+
+by_count : (side : Side) (d : Deal) (shares : List Share) → AllOf side shares → closed_count d shares ≡ min d.qty (length shares) → IsOneSided (shares_after shares d)
+unfolding shares_after
+by_count side d shares h e = at (cases_lt d.qty (length shares))
+  where
+    at : (d.qty < length shares) ⊎ (length shares ≤ d.qty) → IsOneSided (shares_after shares d)
+    at (inl l) = (
+      side,
+      All-append (λ share. share.side ≡ side) (kept_shares d shares) (opened_shares d shares)
+          (kept-All (λ share. share.side ≡ side) d shares h) (All-none (λ share. share.side ≡ side) (d.qty - closed_count d shares) _ (omega (l, e, arith))),
+    )
+    at (inr l) = (
+      d.side,
+      All-append (λ share. share.side ≡ d.side) (kept_shares d shares) (opened_shares d shares)
+          (kept-none (λ share. share.side ≡ d.side) d shares (omega (l, e, arith))) (opened-All d shares),
+    )
+
+side-is : (s t : Side) → same_side s t ≡ true → s ≡ t
+side-is Buy Buy h = refl
+side-is Sell Sell h = refl
+side-is Buy Sell h = absurd (cc)
+side-is Sell Buy h = absurd (cc)
+
+one_sided-after : (side : Side) (d : Deal) (shares : List Share) → AllOf side shares → IsOneSided (shares_after shares d)
+one_sided-after side d [] h = (d.side, after-All (λ share. share.side ≡ d.side) d [] tt refl)
+one_sided-after side d (share ∷ shares) h = at (same_side share.side d.side) refl
+  where
+    at : (b : Bool) → same_side share.side d.side ≡ b → IsOneSided (shares_after (share ∷ shares) d)
+    at true e = (side, after-All (λ s. s.side ≡ side) d (share ∷ shares) h (sym (side-is share.side d.side e) ∙ h.0))
+    at false e = by_count side d (share ∷ shares) h (ap (λ b. cond (not b) (min d.qty (length (share ∷ shares))) 0) e)
+
+one_sided-fold : (deals : List Deal) (shares : List Share) → IsOneSided shares → IsOneSided (fold shares_after shares deals)
+one_sided-fold [] shares h = h
+one_sided-fold (d ∷ deals) shares h = one_sided-fold deals (shares_after shares d) (one_sided-after h.0 d shares h.1)
+
+-- all shares of a position are of one side, whatever its deals are
+pub one_sided : (deals : List Deal) → IsOneSided (replay deals)
+one_sided deals = one_sided-fold deals [] (Buy, tt)
+
+net-fold : (deals : List Deal) (shares : List Share) → IsOneSided shares → net (fold shares_after shares deals) ≡ net shares +ℤ total_by (λ d. signed d.side d.qty) deals
+unfolding total_by
+net-fold [] shares h = omega (arith, ints)
+net-fold (d ∷ deals) shares h =
+    let k = net-fold deals (shares_after shares d) (one_sided-after h.0 d shares h.1) in
+    let s = net-step h.0 d shares h.1 in omega (k, s, arith, ints)
+
+-- the shares of a position, counted with their signs, are the sum of its deals
+pub net-replay : (deals : List Deal) → net (replay deals) ≡ total_by (λ d. signed d.side d.qty) deals
+unfolding total_by
+net-replay deals = let k = net-fold deals [] (Buy, tt) in omega (k, arith, ints)

@@ -1,0 +1,38 @@
+//! A key acts once.
+
+ghost use Rattle.std.specs.Prelude.{◌≡◌, ℕ, false, List, Some, None, Ok, bytes_eq};
+ghost use Rattle.brk_money.specs.declared.refusal.Refusal.{Refusal};
+ghost use Rattle.brk_money.specs.declared.refusal.Refusal.TheVariants.{KeyReused};
+ghost use Rattle.brk_model.specs.Base.{Base};
+ghost use Rattle.brk_model.specs.Records.{Key};
+ghost use Rattle.brk_model.specs.Commands.{Again, Command, Done, Refused, Reply};
+ghost use Rattle.brk_model.specs.Rows.{line_text, row_text};
+ghost use Rattle.brk_model.specs.Keyed.{keeping, kept_under, keyed_step};
+ghost use Rattle.brk_model.specs.Step.{step};
+ghost use Rattle.brk_model.specs.Run.{Call, Outcome, Run};
+ghost use Rattle.brk_model_theorems.specs.Laws.{NoneDoneUnder};
+
+/// A row that comes again under its key is answered with its kept line, at any moment, and changes nothing.
+pub fn repeat_is_answered()
+    ensures { (base after : Base) (now later : ℕ) (command : Command) (key : Key) (reply : Reply) → keyed_step base now command (Some key) ≡ (Done reply, after)
+        → keyed_step after later command (Some key) ≡ (Again (line_text reply), after) }
+{}
+
+/// Another row under a key that is kept is refused, and changes nothing.
+pub fn changed_repeat_is_refused()
+    ensures { (base after : Base) (now later : ℕ) (command other : Command) (key : Key) (reply : Reply) → keyed_step base now command (Some key) ≡ (Done reply, after)
+        → bytes_eq (row_text command) (row_text other) ≡ false → keyed_step after later other (Some key) ≡ (Refused KeyReused, after) }
+{}
+
+/// A row that is refused keeps no key, so that it may be sent again. Where it is refused for anything but its key, nothing was kept under that.
+/// A key stays free while no row under it is accepted, and over any base where it is free its row is accepted as the command is.
+pub fn a_refused_row_keeps_no_key()
+    ensures keeps_none { (base after : Base) (now : ℕ) (command : Command) (key : Key) (refusal : Refusal) → keyed_step base now command (Some key) ≡ (Refused refusal, after)
+        → kept_under base key ≡ None → (after ≡ base) × (kept_under after key ≡ None) }
+    ensures was_free { (base after : Base) (now : ℕ) (command : Command) (key : Key) (refusal : Refusal) → keyed_step base now command (Some key) ≡ (Refused refusal, after)
+        → ¬ (refusal ≡ KeyReused) → kept_under base key ≡ None }
+    ensures stays_free { (base later : Base) (key : Key) (calls : List (ℕ × Call)) (outcomes : List Outcome) → kept_under base key ≡ None
+        → Run base calls outcomes later → NoneDoneUnder key calls outcomes → kept_under later key ≡ None }
+    ensures acts { (later booked : Base) (now : ℕ) (command : Command) (key : Key) (reply : Reply) → kept_under later key ≡ None
+        → step later now command ≡ Ok (reply, booked) → keyed_step later now command (Some key) ≡ (Done reply, keeping (Some key) command reply booked) }
+{}

@@ -1,0 +1,27 @@
+//! Laws of positions.
+
+ghost use Rattle.std.specs.Prelude.{◌≡◌, ℕ, List, filter};
+ghost use Rattle.brk_model.specs.Base.{Base, completed};
+ghost use Rattle.brk_model.specs.Lists.{total_by};
+ghost use Rattle.brk_model.specs.Names.{NumberedFrom};
+ghost use Rattle.brk_model.specs.Run.{Call, Outcome, Run};
+ghost use Rattle.brk_model.specs.Shares.{Deal, replay};
+ghost use Rattle.brk_model.specs.Derived.{summary_of};
+ghost use Rattle.brk_model.specs.Tables.{tables_of};
+ghost use Rattle.brk_model_theorems.specs.Names.{IsNamed};
+ghost use Rattle.brk_model_theorems.specs.Positions.{IsOneSided, in_position};
+
+/// Whatever deals a position came through, it is long or short: all its shares are of one side.
+pub fn shares_are_of_one_side()
+    ensures { (deals : List Deal) → IsOneSided (replay deals) }
+{}
+
+/// Where trades are numbered from 1 in turn, the lots of an account in a symbol add up to its holding summary. So they do after any calls from a base
+/// where what records name is there, as the empty one.
+pub fn lots_add_up()
+    ensures numbered { (base : Base) (account : ℕ) (symbol : List ℕ) → NumberedFrom 1 base.trades
+        → total_by (λ row. row.qty) (filter (in_position account symbol) (tables_of base).holdings) ≡ summary_of (completed base) account symbol }
+    ensures run { (base after : Base) (calls : List (ℕ × Call)) (outcomes : List Outcome) (account : ℕ) (symbol : List ℕ)
+        → IsNamed base → Run base calls outcomes after
+        → total_by (λ row. row.qty) (filter (in_position account symbol) (tables_of after).holdings) ≡ summary_of (completed after) account symbol }
+{}

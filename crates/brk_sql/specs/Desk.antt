@@ -1,0 +1,173 @@
+-- The tables of one program in a database that may have others.
+use Rattle.std.specs.Prelude.{◌≡◌, ◌≢◌, ◌==◌, ℕ, Bool, true, false, List, [], ◌∷◌, ◌++◌, Option, Some, not, ◌||◌, slice_get}
+use Rattle.std.specs.List.{list_all, AllByRecursion}
+use Rattle.std.specs.declared.cmp.Ordering.{Ordering}
+use Rattle.sqlite_value.specs.Order.{Row}
+use Rattle.sqlite_value.specs.declared.value.Value.TheVariants.{Null}
+use Rattle.sqlite_value.specs.declared.keys.Collation.TheVariants.{Binary}
+use Rattle.sqlite_value.specs.Keys.{plain}
+use Rattle.sqlite_schema.specs.declared.schema.Kind.{Kind}
+use Rattle.sqlite_schema.specs.declared.schema.Kind.TheVariants.{Integer, Text}
+use Rattle.sqlite_schema.specs.declared.schema.Column.{Column}
+use Rattle.sqlite_schema.specs.declared.schema.Reference.{Reference}
+use Rattle.sqlite_schema.specs.declared.schema.Action.{Action}
+use Rattle.sqlite_schema.specs.declared.schema.Action.TheVariants.{NoAction, Restrict, Cascade, SetNull, SetDefault}
+use Rattle.sqlite_schema.specs.declared.schema.Table.{Table}
+use Rattle.sqlite_schema.specs.declared.schema.Schema.{Schema}
+use Rattle.sqlite_schema.specs.Names.{table_named}
+use Rattle.sqlite.specs.Effect.{Database, IsDatabase}
+use Rattle.std.specs.Prelude.{◌↔◌, Ok, Err, IsTrue}
+use Rattle.sqlite_resolve.specs.declared.compiled.Compiled.{Compiled}
+use Rattle.sqlite_resolve.specs.declared.error.CompileError.TheVariants.{NoSuchTable}
+use Rattle.sqlite.specs.Listing.{understood}
+use Rattle.sqlite.specs.Steps.{column_names}
+use Rattle.brk_sql.specs.Rows.{Holds}
+
+-- ---- what a table is made of
+
+abbrev pub of_kind : Kind → List ℕ → Column
+of_kind kind name = record { name = name; kind = kind; is_strict = true; not_null = true; default = Null; collation = Binary }
+
+abbrev pub text : List ℕ → Column
+text = of_kind Text
+
+abbrev pub whole : List ℕ → Column
+whole = of_kind Integer
+
+-- one that may be null
+abbrev pub perhaps : List ℕ → Column
+perhaps name = record (whole name) { not_null = false }
+
+abbrev pub refers : ℕ → List ℕ → List ℕ → Reference
+refers place parent column = record { columns = place ∷ []; parent = parent; parent_columns = column ∷ []; on_delete = NoAction; on_update = NoAction; is_deferred = false }
+
+abbrev pub table_of : List ℕ → ℕ → List Column → Option ℕ → List ℕ → List (List ℕ) → List Reference → Table
+table_of name tree columns key primary uniques references = record {
+  name = name;
+  tree = tree;
+  columns = columns;
+  key = key;
+  primary = primary;
+  uniques = uniques;
+  orders = Rattle.std.specs.Prelude.map (λ _. plain) uniques;
+  checks = [];
+  references = references;
+  computed = [];
+  stamps = record { places = []; terms = []; formats = [] };
+  is_counted = false;
+}
+
+-- ---- where it stands
+
+-- the name finds the table
+pub record Stands (schema : Schema) (table : Table) (at : ℕ) : Type 0 where
+  pub named : table_named schema table.name ≡ Some at
+  pub found : slice_get schema.tables at ≡ Some table
+
+-- what a foreign key does to the rows that refer: it writes them, or it refuses at most
+abbrev pub writes_rows : Action → Bool
+writes_rows NoAction = false
+writes_rows Restrict = false
+writes_rows Cascade = true
+writes_rows SetNull = true
+writes_rows SetDefault = true
+
+-- it writes them where the row that they refer to is deleted, or gets another key
+abbrev pub acts : Reference → Bool
+acts ref = writes_rows ref.on_delete || writes_rows ref.on_update
+
+abbrev pub is_calm_at : ℕ → Table → Bool
+is_calm_at tree t = not (t.tree == tree) || list_all (λ ref. not (acts ref)) t.references
+
+-- no reference of a table at this tree acts, so no action reaches it, whatever a stranger's reference does
+abbrev pub IsCalm : Schema → ℕ → Type 0
+IsCalm schema tree = list_all (is_calm_at tree) schema.tables ≡ true
+
+abbrev pub is_inert : Table → Bool
+is_inert t = list_all (λ ref. not (acts ref)) t.references
+
+-- what CREATE TABLE leaves, whatever was there
+pub record Makes (old new : Database) (shape : ℕ → Table) : Type 0 where
+  pub tree : ℕ
+  pub at : ℕ
+  pub stands : Stands new.schema (shape tree) at
+  pub empty : new.trees tree ≡ []
+  pub kept : (table : Table) (place : ℕ) → Stands old.schema table place → Stands new.schema table place
+  pub rows : AllByRecursion (λ t. new.trees t.tree ≡ old.trees t.tree) old.schema.tables
+  -- the tree is none that was used
+  pub apart : AllByRecursion (λ t. t.tree ≢ tree) old.schema.tables
+  -- the tables that came, of which no reference acts
+  pub more : List Table
+  pub tables : new.schema.tables ≡ old.schema.tables ++ more
+  pub inert : list_all is_inert more ≡ true
+  pub sound : IsDatabase new
+
+-- several are made, one after another
+abbrev pub MakesEach : List (ℕ → Table) → Database → Database → Type 0
+MakesEach [] old new = new ≡ old
+MakesEach (shape ∷ shapes) old new = (mid : Database) × Makes old mid shape × MakesEach shapes mid new
+
+-- ---- all of them
+
+-- W names the tables, and T has a list for each
+pub record Desk (W T : Type 0) : Type 1 where
+  pub shape : W → ℕ → Table
+  pub placed : (w : W) (tree : ℕ) → (shape w tree).tree ≡ tree
+  pub Item : W → Type 0
+  pub encode : (w : W) → Item w → Row
+  pub order : (w : W) → Item w → Item w → Ordering
+  pub list : (w : W) → T → List (Item w)
+
+-- The database has the tables, at these trees, with these records. It may have others before, between and after.
+pub record HasTables {W T : Type 0} (desk : Desk W T) (t : T) (tree : W → ℕ) (db : Database) : Type 0 where
+  pub place : W → ℕ
+  pub stands : (w : W) → Stands db.schema (desk.shape w (tree w)) (place w)
+  pub apart : (v w : W) → tree v ≡ tree w → v ≡ w
+  pub calm : (w : W) → IsCalm db.schema (tree w)
+  -- the trees list the schema and obey it, so that whoever opens them again finds it
+  pub sound : IsDatabase db
+  pub rows : (w : W) → Holds (desk.shape w (tree w)) (desk.encode w) (desk.order w) (desk.list w t) (db.trees (tree w))
+
+-- The database has those of the tables that are In, as HasTables says of all of them.
+pub record HasSome {W T : Type 0} (desk : Desk W T) (In : W → Type 0) (t : T) (tree : W → ℕ) (db : Database) : Type 0 where
+  pub place : W → ℕ
+  pub stands : (w : W) → In w → Stands db.schema (desk.shape w (tree w)) (place w)
+  pub apart : (v w : W) → In v → In w → tree v ≡ tree w → v ≡ w
+  pub calm : (w : W) → In w → IsCalm db.schema (tree w)
+  pub sound : IsDatabase db
+  pub rows : (w : W) → In w → Holds (desk.shape w (tree w)) (desk.encode w) (desk.order w) (desk.list w t) (db.trees (tree w))
+
+-- The schema stays, and so do the rows of each table in none of these trees, unless a foreign key of its own acts on them.
+pub record SparesStrangers {W : Type 0} (tree : W → ℕ) (old new : Database) : Type 0 where
+  pub schema : new.schema ≡ old.schema
+  pub rows : AllByRecursion (λ k. ((w : W) → k.tree ≢ tree w) → IsCalm old.schema k.tree → new.trees k.tree ≡ old.trees k.tree) old.schema.tables
+
+-- whatever the tables hold before, they hold f of it after, at the same trees, and the tables of others stay
+abbrev pub Turns : {W T : Type 0} → Desk W T → (T → T) → Database → Database → Type 0
+Turns {W} {T} desk f old new = (t : T) (tree : W → ℕ) → HasTables desk t tree old → HasTables desk (f t) tree new × SparesStrangers tree old new
+
+-- whatever the tables hold, this is so of it
+abbrev pub Tells : {W T : Type 0} → Desk W T → (T → Type 0) → Database → Type 0
+Tells {W} {T} desk P db = (t : T) (tree : W → ℕ) → HasTables desk t tree db → P t
+
+-- each table that stood stands, with its rows
+pub record KeepsOthers (old new : Database) : Type 0 where
+  pub more : List Table
+  pub tables : new.schema.tables ≡ old.schema.tables ++ more
+  pub rows : AllByRecursion (λ t. new.trees t.tree ≡ old.trees t.tree) old.schema.tables
+
+-- the tables are made, with these records, at trees that no table had
+pub record Founds {W T : Type 0} (desk : Desk W T) (t : T) (old new : Database) : Type 0 where
+  pub tree : W → ℕ
+  pub tables : HasTables desk t tree new
+  pub fresh : (w : W) → AllByRecursion (λ t. t.tree ≢ tree w) old.schema.tables
+  pub others : KeepsOthers old new
+
+-- what it says of a text that it was understood, or that its table is not there
+abbrev pub Probes : List ℕ → Bool → Schema → Type 0
+Probes text true schema = (c : Compiled) × (understood schema text ≡ Ok c)
+Probes text false schema = understood schema text ≡ Err NoSuchTable
+
+-- what it says of a text that was understood: whether it shows just the columns of these names, in their order
+abbrev pub Heads : List ℕ → List (List ℕ) → Bool → Schema → Type 0
+Heads text names has schema = (c : Compiled) × (understood schema text ≡ Ok c) × (IsTrue has ↔ column_names c ≡ names)

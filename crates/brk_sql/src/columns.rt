@@ -1,0 +1,37 @@
+//! The columns that a text shows.
+
+ghost use Rattle.std.specs.Prelude.{◌≡◌, ◌↔◌, ℕ, List, IsTrue, map};
+ghost use Rattle.std.specs.Borrow.{Bor};
+ghost use Rattle.brk_sql.specs.Desk.{Heads};
+ghost use Rattle.brk_sql.specs.Model.{Steps};
+
+use sqlite::{Alter, Error, Transaction};
+use sqlite_value::value::Bytes;
+
+// Whether the columns have just these names, in their order.
+fn are_named(columns: &[Bytes], names: &[&str]) -> bool
+    ensures { IsTrue result ↔ columns.now ≡ map (λ (name : Bor (List ℕ)). name.now) names.now }
+{
+    if columns.len() != names.len() {
+        return false;
+    }
+    for (column, name) in columns.iter().zip(names) {
+        if column.as_slice() != name.as_bytes() {
+            return false;
+        }
+    }
+    true
+}
+
+/// Whether the rows that a text shows have just the columns of these names, in their order. It runs nothing.
+pub fn shows_columns<S: Alter>(
+    tx: &mut Transaction<'_, S>,
+    text: &str,
+    names: &[&str],
+) -> Result<bool, Error>
+    ensures same_reference { tx.new.conn.ghost_name ≡ tx.old.conn.ghost_name }
+    ensures step { Steps S.Store tx.old tx.new result (λ has old new. IsTrue old.is_open × (new.now ≡ old.now) × Heads text.now (map (λ (name : Bor (List ℕ)). name.now) names.now) has old.now.schema) }
+{
+    let statement = tx.prepare(text)?;
+    Ok(are_named(statement.column_names(), names))
+}

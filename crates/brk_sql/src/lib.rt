@@ -1,0 +1,55 @@
+//! The tables of a program as lists of records, in a database that may have others.
+#![tactic(auto)]
+
+mod columns;
+
+ghost use Rattle.std.specs.Prelude.{◌≡◌, IfOk, IsTrue, None, map};
+ghost use Rattle.sqlite_value.specs.declared.value.Value.TheVariants.{Int};
+ghost use Rattle.sqlite_value.specs.Order.{column};
+ghost use Rattle.brk_sql.specs.Rows.{climbs_from};
+ghost use Rattle.brk_sql.specs.Model.{Steps};
+ghost use Rattle.brk_sql.specs.Desk.{Probes};
+
+pub use columns::shows_columns;
+use sqlite::{Alter, Error, Row, Transaction};
+use sqlite_resolve::error::CompileError;
+use std::alloc::Global;
+
+/// Whether each number is above the one before it.
+pub fn climbs(numbers: &[i64]) -> bool
+    ensures { result ≡ climbs_from None numbers.now }
+{
+    let mut last: Option<i64> = None;
+    for number in numbers {
+        if let Some(before) = last {
+            if before >= *number {
+                return false;
+            }
+        }
+        last = Some(*number);
+    }
+    true
+}
+
+/// The numbers in a column.
+pub fn numbers_in(alloc: Global, rows: &[Row], at: usize) -> Result<Vec<i64>, Error>
+    ensures { IfOk result (λ all. map Int all.items ≡ map (λ r. column r at) rows.now) }
+{
+    let mut all = Vec::new(alloc);
+    for row in rows {
+        all.push(row.get(at)?)?;
+    }
+    Ok(all)
+}
+
+/// Whether a text is understood, or names a table that is not there. It runs nothing.
+pub fn is_understood<S: Alter>(tx: &mut Transaction<'_, S>, text: &str) -> Result<bool, Error>
+    ensures same_reference { tx.new.conn.ghost_name ≡ tx.old.conn.ghost_name }
+    ensures step { Steps S.Store tx.old tx.new result (λ has old new. IsTrue old.is_open × (new.now ≡ old.now) × Probes text.now has old.now.schema) }
+{
+    match tx.prepare(text) {
+        Ok(_) => Ok(true),
+        Err(Error::SqlInputError(CompileError::NoSuchTable)) => Ok(false),
+        Err(e) => Err(e),
+    }
+}

@@ -1,0 +1,102 @@
+//! Lookups of tables by their names.
+
+ghost use Rattle.std.specs.Prelude.{◌≡◌, ◌&&◌, Err, OnErr, IsTrue, not};
+ghost use Rattle.std.specs.List.{list_all, list_any};
+ghost use Rattle.brk_money.specs.declared.fault.Fault.TheVariants.{Store};
+ghost use Rattle.brk_changes.specs.Schemas.{schema_of};
+ghost use Rattle.brk_sql.specs.Model.{Steps};
+ghost use Rattle.brk_tables_create.specs.Present.{has_table_of_desk, has_tables_of_schema, is_named};
+ghost use Rattle.brk_tables_create.specs.Texts.{which_of};
+
+use crate::table::{IN_FIRST, IN_SECOND, IN_THIRD, SINCE_SECOND, SINCE_THIRD, Table};
+use brk_changes::Schema;
+use brk_money::Fault;
+use brk_tables_schema::calls::is_understood;
+use sqlite::{Alter, Transaction};
+
+// Returns whether a table with this name exists. If it returns a value, the database is open.
+fn is_there<S: Alter>(tx: &mut Transaction<'_, S>, table: Table) -> Result<bool, Fault>
+    ensures same_reference { tx.new.conn.ghost_name ≡ tx.old.conn.ghost_name }
+    ensures step { Steps S.Store tx.old tx.new result (λ has a b. IsTrue a.is_open × (b.now ≡ a.now) × (has ≡ is_named a.now.schema (which_of table))) }
+    ensures fault { OnErr result (result ≡ Err Store) }
+{
+    is_understood(tx, table.probe_text())
+}
+
+// Returns whether one of the tables exists.
+fn has_one_of<S: Alter>(tx: &mut Transaction<'_, S>, tables: &[Table]) -> Result<bool, Fault>
+    ensures same_reference { tx.new.conn.ghost_name ≡ tx.old.conn.ghost_name }
+    ensures step { Steps S.Store tx.old tx.new result (λ has a b. (b.now ≡ a.now) × (has ≡ list_any (λ table. is_named a.now.schema (which_of table)) tables.now)) }
+    ensures fault { OnErr result (result ≡ Err Store) }
+{
+    for table in tables {
+        if is_there(tx, *table)? {
+            return Ok(true);
+        }
+    }
+    Ok(false)
+}
+
+// Returns whether each of the tables exists.
+fn has_each_of<S: Alter>(tx: &mut Transaction<'_, S>, tables: &[Table]) -> Result<bool, Fault>
+    ensures same_reference { tx.new.conn.ghost_name ≡ tx.old.conn.ghost_name }
+    ensures step { Steps S.Store tx.old tx.new result (λ has a b. (b.now ≡ a.now) × (has ≡ list_all (λ table. is_named a.now.schema (which_of table)) tables.now)) }
+    ensures fault { OnErr result (result ≡ Err Store) }
+{
+    for table in tables {
+        if !is_there(tx, *table)? {
+            return Ok(false);
+        }
+    }
+    Ok(true)
+}
+
+/// Whether the database has a table with the name of one of a desk's.
+pub fn has_some_table<S: Alter>(tx: &mut Transaction<'_, S>) -> Result<bool, Fault>
+    ensures same_reference { tx.new.conn.ghost_name ≡ tx.old.conn.ghost_name }
+    ensures step { Steps S.Store tx.old tx.new result (λ has a b. (b.now ≡ a.now) × (has ≡ has_table_of_desk a.now.schema)) }
+    ensures fault { OnErr result (result ≡ Err Store) }
+{
+    has_one_of(tx, &IN_THIRD)
+}
+
+// Returns whether each table of `there` exists, and none of `absent`.
+fn has_just<S: Alter>(
+    tx: &mut Transaction<'_, S>,
+    there: &[Table],
+    absent: &[Table],
+) -> Result<bool, Fault>
+    ensures same_reference { tx.new.conn.ghost_name ≡ tx.old.conn.ghost_name }
+    ensures step { Steps S.Store tx.old tx.new result (λ has a b. (b.now ≡ a.now) × (has ≡ (list_all (λ table. is_named a.now.schema (which_of table)) there.now && not (list_any (λ table. is_named a.now.schema (which_of table)) absent.now)))) }
+    ensures fault { OnErr result (result ≡ Err Store) }
+{
+    if !has_each_of(tx, there)? {
+        return Ok(false);
+    }
+    Ok(!has_one_of(tx, absent)?)
+}
+
+// Returns whether the tables of a schema exist, and none that a later schema adds.
+fn has_just_of<S: Alter>(tx: &mut Transaction<'_, S>, schema: Schema) -> Result<bool, Fault>
+    ensures same_reference { tx.new.conn.ghost_name ≡ tx.old.conn.ghost_name }
+    ensures step { Steps S.Store tx.old tx.new result (λ has a b. (b.now ≡ a.now) × (has ≡ has_tables_of_schema (schema_of schema) a.now.schema)) }
+    ensures fault { OnErr result (result ≡ Err Store) }
+{
+    match schema {
+        Schema::First => has_just(tx, &IN_FIRST, &SINCE_SECOND),
+        Schema::Second => has_just(tx, &IN_SECOND, &SINCE_THIRD),
+        Schema::Third => has_just(tx, &IN_THIRD, &[]),
+    }
+}
+
+/// Returns whether a table with the name of each of a schema's exists, and none with the name of
+/// one that a later schema adds. If it returns a value, the database is open.
+pub fn has_tables_of<S: Alter>(tx: &mut Transaction<'_, S>, schema: Schema) -> Result<bool, Fault>
+    ensures same_reference { tx.new.conn.ghost_name ≡ tx.old.conn.ghost_name }
+    ensures step { Steps S.Store tx.old tx.new result (λ has a b. IsTrue a.is_open × (b.now ≡ a.now) × (has ≡ has_tables_of_schema (schema_of schema) a.now.schema)) }
+    ensures fault { OnErr result (result ≡ Err Store) }
+{
+    // Any answer shows that the database is open. DESK is looked up again below.
+    let _there = is_there(tx, Table::TheDesk)?;
+    has_just_of(tx, schema)
+}

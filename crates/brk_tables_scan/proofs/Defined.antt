@@ -1,0 +1,100 @@
+-- A database that has the tables of a schema with some rows is defined, and the desk is there.
+use Rattle.std.proofs.Common.{◌≡◌, ◌∙◌, ℕ, suc, zero, List, [], ◌∷◌, map, length, slice_get, true, false, not, Some, None, refl, sym, ap, subst, inl, inr}
+use Rattle.std.specs.List.{AllByRecursion}
+use Rattle.std.specs.List.Sorted.{IsPermutation}
+use Rattle.std.proofs.lemmas.List.Sorted.{length_permutation}
+use Rattle.sqlite_value.specs.declared.value.Value.{Value}
+use Rattle.sqlite_value.specs.Order.{Row}
+use Rattle.sqlite_rules.specs.Lists.{Has}
+use Rattle.sqlite_rules.proofs.ListLemmas.{all_from, has_filtered}
+use Rattle.sqlite_schema.specs.Names.{table_named}
+use Rattle.sqlite_schema.specs.declared.schema.Table.{Table}
+use Rattle.sqlite.specs.Effect.{Database}
+use Rattle.brk_model.specs.Schemas.{Schema}
+use Rattle.brk_model.specs.Tables.{Tables}
+use Rattle.brk_sql.proofs.Order.{has_permuted}
+use Rattle.brk_sql.specs.Desk.{IsCalm, Stands}
+use Rattle.brk_sql.specs.Rows.{cells}
+use Rattle.brk_tables_schema.specs.Cells.{maybe, nat}
+use Rattle.brk_tables_schema.specs.Desk.{Which, TheDesk, all_tables, has_table, name_of, placed, shape, tables_in}
+use Rattle.brk_tables_schema.specs.Made.{HasRowsIn, IsOf}
+use Rattle.brk_tables_schema.specs.Shapes.{desk_row}
+use Rattle.brk_tables_create.specs.Made.{later_than}
+use Rattle.brk_tables_scan.specs.Schemas.{HasDesk, HasTable, IsDefinedAs, IsKeyed, Says, names_of}
+use Rattle.brk_tables_scan.proofs.Listed.{names_alike}
+
+some_same : {X : Type 0} (x y : X) → Some x ≡ Some y → x ≡ y
+some_same x y e = cc
+
+-- ---- a list that is a permutation of one row
+
+pub one_row : (x : Row) (rows : List Row) → IsPermutation (x ∷ []) rows → rows ≡ x ∷ []
+one_row x [] p = absurd (let e = length_permutation (x ∷ []) [] p in cc)
+one_row x (y ∷ []) p = ap (λ z. z ∷ []) (only (has_permuted (x ∷ []) (y ∷ []) y p (inl refl)))
+  where
+    only : Has (x ∷ []) y → y ≡ x
+    only (inl e) = e
+    only (inr none) = absurd none
+one_row x (y ∷ z ∷ rows) p = absurd (let e : suc (suc (length rows)) ≡ suc zero = length_permutation (x ∷ []) (y ∷ z ∷ rows) p in cc)
+
+-- ---- where a table stands
+
+module _ (desk : Schema) (t : Tables) (db : Database) (has : HasRowsIn desk t db) where
+  abbrev tree : Which → ℕ
+  tree = has.0
+
+  stands : (w : Which) → IsOf desk w → Stands db.schema (shape w (tree w)) (has.1.place w)
+  stands w of = has.1.stands w of
+
+  -- whatever is found by its name is the desk's
+  found_table : (w : Which) → IsOf desk w → (at : ℕ) (table : Table) → table_named db.schema (name_of w) ≡ Some at → slice_get db.schema.tables at ≡ Some table → table ≡ shape w (tree w)
+  found_table w of at table named found =
+      let e : at ≡ has.1.place w = some_same at (has.1.place w) (sym named ∙ ap (λ n. table_named db.schema n.name) (names_alike w 0 (tree w)) ∙ (stands w of).named) in
+      some_same table (shape w (tree w)) (sym found ∙ ap (slice_get db.schema.tables) e ∙ (stands w of).found)
+
+  at_its_tree : (w : Which) → IsOf desk w → (at n : ℕ) → Stands db.schema (shape w n) at → n ≡ tree w
+  at_its_tree w of at n s =
+      let e : shape w n ≡ shape w (tree w) = found_table w of at (shape w n) (ap (λ n. table_named db.schema n.name) (names_alike w 0 n) ∙ s.named) s.found in
+      sym (placed w n) ∙ ap (λ (table : Table). table.tree) e ∙ placed w (tree w)
+
+  there : (w : Which) → IsOf desk w → HasTable db.schema (names_of (shape w 0))
+  there w of = (
+    has.1.place w,
+    shape w (tree w),
+    record {
+      named = ap (λ n. table_named db.schema n.name) (names_alike w 0 (tree w)) ∙ (stands w of).named;
+      found = (stands w of).found;
+      columns = ap (λ n. n.columns) (names_alike w (tree w) 0);
+    },
+  )
+
+  -- ---- the row of DESK
+
+  desk_row_shown : map (cells (desk_row (tree TheDesk))) (db.trees (tree TheDesk)) ≡ (nat 1 ∷ nat desk.number ∷ maybe t.last ∷ []) ∷ []
+  desk_row_shown = one_row (nat 1 ∷ nat desk.number ∷ maybe t.last ∷ []) (map (cells (desk_row (tree TheDesk))) (db.trees (tree TheDesk))) (has.1.rows TheDesk refl).shown
+
+  the_row : (at n : ℕ) → Stands db.schema (desk_row n) at → Says desk (map (cells (desk_row n)) (db.trees n))
+  the_row at n s = (maybe t.last, subst (λ k. map (cells (desk_row k)) (db.trees k) ≡ (nat 1 ∷ nat desk.number ∷ maybe t.last ∷ []) ∷ []) (sym (at_its_tree TheDesk refl at n s)) desk_row_shown)
+
+  not_not : (b : _) → not b ≡ true → b ≡ false
+  not_not true h = absurd (let e = h in cc)
+  not_not false h = refl
+
+  pub desk_is_there : HasDesk desk db
+  desk_is_there = record {
+    tables = all_from (λ w. HasTable db.schema (names_of (shape w 0))) (tables_in desk) (λ w listed. there w (has_filtered (has_table desk) all_tables w listed).1);
+    later = all_from (λ w. table_named db.schema (name_of w) ≡ None) (later_than desk) (λ w listed. (has.2 w (not_not (has_table desk w) (has_filtered (λ w. not (has_table desk w)) all_tables w listed).1)).0);
+    row = the_row;
+  }
+
+  pub desk_is_defined : IsDefinedAs desk db
+  desk_is_defined _ = record {
+    sound = has.1.sound;
+    shaped = λ w of at table named found.
+        let e : table ≡ shape w (tree w) = found_table w of at table named found in
+        let n : tree w ≡ table.tree = sym (ap (λ (u : Table). u.tree) e ∙ placed w (tree w)) in
+        e ∙ ap (shape w) n;
+    apart = λ v w a b i j n p q. has.1.apart v w a b (sym (at_its_tree v a i n p) ∙ at_its_tree w b j n q);
+    calm = λ w of at n s. subst (IsCalm db.schema) (sym (at_its_tree w of at n s)) (has.1.calm w of);
+    keyed = λ w of at n s. let rows = has.1.rows w of in subst (λ k. IsKeyed (db.trees k)) (sym (at_its_tree w of at n s)) (record { keyed = rows.keyed; apart = rows.apart });
+  }

@@ -1,0 +1,110 @@
+-- The tables of a schema that stand, with the rows that were read.
+use Rattle.std.proofs.Common.{◌≡◌, ℕ, Bool, true, false, not, List, [], ◌∷◌, map, Some, None, refl, sym, ap, subst, ◌∙◌, inl, inr, arith}
+use Rattle.std.specs.Prelude.{◌&&◌, ◌≤◌}
+use Rattle.std.proofs.lemmas.Bool.{cases_Bool, and_parts}
+use Rattle.sqlite_rules.specs.Lists.{Has}
+use Rattle.sqlite_rules.proofs.ListLemmas.{all_has, has_kept}
+use Rattle.sqlite_value.specs.Order.{Row}
+use Rattle.sqlite_schema.specs.Names.{table_named}
+use Rattle.sqlite.specs.Effect.{Database}
+use Rattle.brk_model.specs.Schemas.{Schema, third_schema}
+use Rattle.brk_model.specs.Tables.{Tables}
+use Rattle.brk_model.specs.Form.{has_form, has_texts}
+use Rattle.brk_sql.specs.Desk.{Stands}
+use Rattle.brk_changes.specs.declared.schema.Schema as known
+use Rattle.brk_changes.specs.declared.schema.Schema.TheVariants.{First, Second, Third}
+use Rattle.brk_changes.specs.Schemas.{schema_of}
+use Rattle.brk_changes.specs.declared.sheets.Sheets.{Sheets}
+use Rattle.brk_changes.specs.Sheets.{tables_in_sheets}
+use Rattle.brk_tables_schema.specs.Desk.{Which, all_tables, encode, has_table, list_in, shape, tables_in, name_of}
+use Rattle.brk_tables_schema.specs.Made.{HasRowsIn, IsOf}
+use Rattle.brk_tables_schema.proofs.Which.{all_listed}
+use Rattle.brk_tables_create.specs.Made.{later_than}
+use Rattle.brk_tables_scan.specs.Schemas.{HasDesk, HasTable, IsDefinedAs, IsMadeAlike, names_of}
+use Rattle.brk_tables_scan.specs.Whole.{ShowsIf}
+use Rattle.brk_tables_scan.specs.Raw.{raw_rows}
+use Rattle.brk_tables_scan.specs.Decoded.{AreSheets, formed}
+use Rattle.brk_tables_scan.specs.declared.raw.RawSheets.{RawSheets}
+use Rattle.brk_tables_scan.proofs.FormedTables.{tables_formed}
+use Rattle.brk_tables_scan.proofs.Listed.{same_name_at}
+
+-- only no records have no rows
+pub unshown : {X : Type 0} (f : X → Row) (xs : List X) → map f xs ≡ [] → xs ≡ []
+unshown f [] e = refl
+unshown f (x ∷ xs) e = absurd (let g = e in cc)
+
+module _ (desk : Schema) (db : Database) (has : HasDesk desk db) (defined : IsDefinedAs desk db) where
+  pub table_of : (w : Which) → IsOf desk w → HasTable db.schema (names_of (shape w 0))
+  table_of w of = all_has (λ w. HasTable db.schema (names_of (shape w 0))) (tables_in desk) w has.tables (has_kept (has_table desk) all_tables w (all_listed w) of)
+
+  alike : IsMadeAlike desk db
+  alike = defined has.tables
+
+  -- where a table stands, if the schema has it
+  abbrev tree_if : (w : Which) (b : Bool) → has_table desk w ≡ b → ℕ
+  tree_if w true of = (table_of w of).1.tree
+  tree_if w false lacks = 0
+
+  abbrev place_if : (w : Which) (b : Bool) → has_table desk w ≡ b → ℕ
+  place_if w true of = (table_of w of).0
+  place_if w false lacks = 0
+
+  abbrev pub tree : Which → ℕ
+  tree w = tree_if w (has_table desk w) refl
+
+  abbrev pub place : Which → ℕ
+  place w = place_if w (has_table desk w) refl
+
+  stood : (w : Which) (b : Bool) (e : has_table desk w ≡ b) → b ≡ true → Stands db.schema (shape w (tree_if w b e)) (place_if w b e)
+  stood w true of sure =
+      let t = table_of w of in
+      record {
+        named = subst (λ name. table_named db.schema name ≡ Some t.0) (same_name_at w 0 t.1.tree) t.2.named;
+        found = t.2.found ∙ ap Some (alike.shaped w of t.0 t.1 t.2.named t.2.found);
+      }
+  stood w false lacks sure = absurd (let f = sure in cc)
+
+  pub stands : (w : Which) → IsOf desk w → Stands db.schema (shape w (tree w)) (place w)
+  stands w of = stood w (has_table desk w) refl of
+
+  -- what was read is what the tables hold
+  pub rows_read : (raw : RawSheets) → ((w : Which) → ShowsIf desk w (raw_rows raw w) db) → (sheets : Sheets) → AreSheets desk sheets raw → HasRowsIn desk (tables_in_sheets sheets) db
+  rows_read raw shown sheets are = (
+    tree,
+    record {
+      place = place;
+      stands = stands;
+      apart = λ v w a b same. alike.apart v w a b (place v) (place w) (tree v) (stands v a) (subst (λ n. Stands db.schema (shape w n) (place w)) (sym same) (stands w b));
+      calm = λ w of. alike.calm w of (place w) (tree w) (stands w of);
+      sound = alike.sound;
+      rows = λ w of. ((shown w).0 of (place w) (tree w) (stands w of)).held (list_in desk w (tables_in_sheets sheets)) alike.sound (alike.keyed w of (place w) (tree w) (stands w of)) (are w);
+    },
+    λ w lacks. (
+      all_has (λ w. table_named db.schema (name_of w) ≡ None) (later_than desk) w has.later (has_kept (λ w. not (has_table desk w)) all_tables w (all_listed w) (ap not lacks)),
+      unshown (encode w) (list_in desk w (tables_in_sheets sheets)) (are w ∙ (shown w).1 lacks),
+    ),
+  )
+
+-- the rows of tables are those that are shown, also where the schema lacks the table
+rows_shown : (desk : Schema) (db : Database) (raw : RawSheets) → ((w : Which) → ShowsIf desk w (raw_rows raw w) db) → (t : Tables) → HasRowsIn desk t db → (w : Which) → raw_rows raw w ≡ map (encode w) (list_in desk w t)
+rows_shown desk db raw shown t h w = by_test (has_table desk w) refl
+  where
+    by_test : (b : Bool) → has_table desk w ≡ b → raw_rows raw w ≡ map (encode w) (list_in desk w t)
+    by_test true of = ((shown w).0 of (h.1.place w) (h.0 w) (h.1.stands w of)).told (list_in desk w t) (h.1.rows w of)
+    by_test false lacks = (shown w).1 lacks ∙ sym (ap (map (encode w)) (h.2 w lacks).1)
+
+-- no tables in form have rows of which one has no form
+pub none_in_form : (desk : Schema) → desk.greatest_qty ≤ third_schema.greatest_qty → (db : Database) (raw : RawSheets) → ((w : Which) → ShowsIf desk w (raw_rows raw w) db) → formed desk raw ≡ false → (t : Tables) → HasRowsIn desk t db → has_form desk t && has_texts t ≡ false
+none_in_form desk narrow db raw shown unformed t h = elim (cases_Bool (has_form desk t && has_texts t)) [
+  | inl e ↦
+      let p = and_parts (has_form desk t) (has_texts t) e in
+      let sure = tables_formed desk narrow t raw (rows_shown desk db raw shown t h) p.0 p.1 in
+      absurd (let clash = sym sure ∙ unformed in cc)
+  | inr e ↦ e
+]
+
+-- each schema has narrower limits than the third, or the same
+pub narrower : (schema : known.Schema) → (schema_of schema).greatest_qty ≤ third_schema.greatest_qty
+narrower First = omega arith
+narrower Second = omega arith
+narrower Third = omega arith

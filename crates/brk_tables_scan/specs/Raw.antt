@@ -1,0 +1,76 @@
+-- What the reads of all tables show.
+use Rattle.std.specs.Prelude.{◌≡◌, List, IsTrue}
+use Rattle.sqlite_value.specs.Order.{Row}
+use Rattle.sqlite.specs.State.{State}
+use Rattle.brk_tables_schema.specs.Desk.{Which, TheDesk, KeptRows, Brokers, Customers, Accounts, Permissions, Securities, LastTrades, Charges, Bands, TaxRates, CustomerTaxes, Trades, TradeHistory, Requests, Holdings, Summaries, HoldingHistory, Settlements, CashRows, CashMoves, SettleRules}
+use Rattle.brk_model.specs.Schemas.{Schema}
+use Rattle.brk_tables_scan.specs.Whole.{ShowsAll, ShowsIf}
+use Rattle.brk_tables_scan.specs.declared.raw.FirstRows.{FirstRows}
+use Rattle.brk_tables_scan.specs.declared.raw.AccountRows.{AccountRows}
+use Rattle.brk_tables_scan.specs.declared.raw.RateRows.{RateRows}
+use Rattle.brk_tables_scan.specs.declared.raw.TradeRows.{TradeRows}
+use Rattle.brk_tables_scan.specs.declared.raw.LastRows.{LastRows}
+use Rattle.brk_tables_scan.specs.declared.raw.LaterRows.{LaterRows}
+use Rattle.brk_tables_scan.specs.declared.raw.RawSheets.{RawSheets}
+
+-- nothing changed, and the database is open
+abbrev pub Stays : State → State → Type 0
+Stays old new = IsTrue old.is_open × (new.now ≡ old.now)
+
+-- the rows of four tables
+pub record ShowsFour (first second third fourth : Which) (a b c d : List Row) (old new : State) : Type 0 where
+  pub stays : Stays old new
+  pub one : ShowsAll first a old.now
+  pub two : ShowsAll second b old.now
+  pub three : ShowsAll third c old.now
+  pub four : ShowsAll fourth d old.now
+
+abbrev pub ShowsFirst : FirstRows → State → State → Type 0
+ShowsFirst raw = ShowsFour TheDesk KeptRows Brokers Customers raw.desk.items raw.kept.items raw.brokers.items raw.customers.items
+
+abbrev pub ShowsAccount : AccountRows → State → State → Type 0
+ShowsAccount raw = ShowsFour Accounts Permissions Securities LastTrades raw.accounts.items raw.permissions.items raw.securities.items raw.last_trades.items
+
+abbrev pub ShowsRate : RateRows → State → State → Type 0
+ShowsRate raw = ShowsFour Charges Bands TaxRates CustomerTaxes raw.charges.items raw.bands.items raw.tax_rates.items raw.customer_taxes.items
+
+abbrev pub ShowsTrade : TradeRows → State → State → Type 0
+ShowsTrade raw = ShowsFour Trades TradeHistory Requests Holdings raw.trades.items raw.history.items raw.requests.items raw.holdings.items
+
+abbrev pub ShowsLast : LastRows → State → State → Type 0
+ShowsLast raw = ShowsFour Summaries HoldingHistory Settlements CashRows raw.summaries.items raw.holding_history.items raw.settlements.items raw.cash.items
+
+-- the rows of the tables that later schemas add, where a schema has them
+pub record ShowsLater (desk : Schema) (raw : LaterRows) (old new : State) : Type 0 where
+  pub same : new.now ≡ old.now
+  pub moves : ShowsIf desk CashMoves raw.moves.items old.now
+  pub rule : ShowsIf desk SettleRules raw.rule.items old.now
+
+-- the rows of each table
+abbrev pub raw_rows : RawSheets → Which → List Row
+raw_rows raw TheDesk = raw.first.desk.items
+raw_rows raw KeptRows = raw.first.kept.items
+raw_rows raw Brokers = raw.first.brokers.items
+raw_rows raw Customers = raw.first.customers.items
+raw_rows raw Accounts = raw.accounts.accounts.items
+raw_rows raw Permissions = raw.accounts.permissions.items
+raw_rows raw Securities = raw.accounts.securities.items
+raw_rows raw LastTrades = raw.accounts.last_trades.items
+raw_rows raw Charges = raw.rates.charges.items
+raw_rows raw Bands = raw.rates.bands.items
+raw_rows raw TaxRates = raw.rates.tax_rates.items
+raw_rows raw CustomerTaxes = raw.rates.customer_taxes.items
+raw_rows raw Trades = raw.trades.trades.items
+raw_rows raw TradeHistory = raw.trades.history.items
+raw_rows raw Requests = raw.trades.requests.items
+raw_rows raw Holdings = raw.trades.holdings.items
+raw_rows raw Summaries = raw.last.summaries.items
+raw_rows raw HoldingHistory = raw.last.holding_history.items
+raw_rows raw Settlements = raw.last.settlements.items
+raw_rows raw CashRows = raw.last.cash.items
+raw_rows raw CashMoves = raw.later.moves.items
+raw_rows raw SettleRules = raw.later.rule.items
+
+-- each table of a schema is shown whole, none of another, and nothing changed
+abbrev pub ShowsDesk : Schema → RawSheets → State → State → Type 0
+ShowsDesk desk raw old new = Stays old new × ((w : Which) → ShowsIf desk w (raw_rows raw w) old.now)

@@ -1,0 +1,86 @@
+-- Which tables a database has to have to be a desk's in a schema, and the premise under which their rows are known.
+use Rattle.std.specs.Prelude.{◌≡◌, ℕ, List, [], ◌∷◌, map, Some, None, slice_get, IsTrue}
+use Rattle.std.specs.List.{AllByRecursion, IsDistinct}
+use Rattle.sqlite_value.specs.declared.value.Value.{Value}
+use Rattle.sqlite_value.specs.Order.{Row}
+use Rattle.sqlite_trees.specs.Tree.{rowid}
+use Rattle.sqlite_trees.specs.View.{is_int}
+use Rattle.sqlite_schema.specs.declared.schema.Schema as database
+use Rattle.sqlite_schema.specs.declared.schema.Table.{Table}
+use Rattle.sqlite_schema.specs.Names.{table_named}
+use Rattle.sqlite.specs.Effect.{Database, IsDatabase}
+use Rattle.brk_model.specs.Schemas.{Schema}
+use Rattle.brk_changes.specs.declared.schema.Schema as known
+use Rattle.brk_changes.specs.Schemas.{schema_of}
+use Rattle.brk_sql.specs.Rows.{cells, same_rowid}
+use Rattle.brk_sql.specs.Desk.{Stands, IsCalm}
+use Rattle.brk_tables_schema.specs.Cells.{nat}
+use Rattle.brk_tables_schema.specs.Shapes.{desk_row}
+use Rattle.brk_tables_schema.specs.Desk.{Which, name_of, shape, tables_in}
+use Rattle.brk_tables_schema.specs.Made.{IsOf}
+use Rattle.brk_tables_create.specs.Made.{later_than}
+
+-- a table by its name and the names of its columns, in their order
+pub record TableNames : Type 0 where
+  pub name : List ℕ
+  pub columns : List (List ℕ)
+
+-- the names of a table
+abbrev pub names_of : Table → TableNames
+names_of table = record { name = table.name; columns = map (λ c. c.name) table.columns }
+
+-- it is the table with this name, and has exactly these columns, in this order
+pub record IsTableOf (schema : database.Schema) (names : TableNames) (at : ℕ) (table : Table) : Type 0 where
+  pub named : table_named schema names.name ≡ Some at
+  pub found : slice_get schema.tables at ≡ Some table
+  pub columns : map (λ c. c.name) table.columns ≡ names.columns
+
+-- it is there
+abbrev pub HasTable : database.Schema → TableNames → Type 0
+HasTable schema names = (at : ℕ) × (table : Table) × IsTableOf schema names at table
+
+-- each table of a schema is there
+abbrev pub HasTablesOf : Schema → database.Schema → Type 0
+HasTablesOf desk schema = AllByRecursion (λ w. HasTable schema (names_of (shape w 0))) (tables_in desk)
+
+-- none is there that a later schema adds
+abbrev pub LacksLater : Schema → database.Schema → Type 0
+LacksLater desk schema = AllByRecursion (λ w. table_named schema (name_of w) ≡ None) (later_than desk)
+
+-- the row of DESK in a schema
+abbrev pub IsRowOf : Schema → Row → Type 0
+IsRowOf desk row = (last : Value) × (row ≡ nat 1 ∷ nat desk.number ∷ last ∷ [])
+
+-- these are the rows of DESK, of which there is one, with the number of the schema
+abbrev pub Says : Schema → List Row → Type 0
+Says desk rows = (last : Value) × (rows ≡ (nat 1 ∷ nat desk.number ∷ last ∷ []) ∷ [])
+
+-- the database has the tables of a desk in a schema, by their names and those of their columns, none of a later schema, and in DESK one row with the number of the schema
+pub record HasDesk (desk : Schema) (db : Database) : Type 0 where
+  pub tables : HasTablesOf desk db.schema
+  pub later : LacksLater desk db.schema
+  pub row : (at tree : ℕ) → Stands db.schema (desk_row tree) at → Says desk (map (cells (desk_row tree)) (db.trees tree))
+
+-- no two rows have one rowid, and each is an integer
+pub record IsKeyed (rows : List Row) : Type 0 where
+  pub keyed : AllByRecursion (λ r. IsTrue (is_int (rowid r))) rows
+  pub apart : IsDistinct same_rowid rows
+
+-- What no look at the names of tables and columns can tell: the tables of a schema are made as the desk makes them.
+pub record IsMadeAlike (desk : Schema) (db : Database) : Type 0 where
+  pub sound : IsDatabase db
+  -- the types of the columns, and the keys and references, are those of the desk's table
+  pub shaped : (w : Which) → IsOf desk w → (at : ℕ) (table : Table) → table_named db.schema (name_of w) ≡ Some at → slice_get db.schema.tables at ≡ Some table → table ≡ shape w table.tree
+  -- no tree is of two of them
+  pub apart : (v w : Which) → IsOf desk v → IsOf desk w → (i j tree : ℕ) → Stands db.schema (shape v tree) i → Stands db.schema (shape w tree) j → v ≡ w
+  -- no reference of whatever table acts on their rows
+  pub calm : (w : Which) → IsOf desk w → (at tree : ℕ) → Stands db.schema (shape w tree) at → IsCalm db.schema tree
+  pub keyed : (w : Which) → IsOf desk w → (at tree : ℕ) → Stands db.schema (shape w tree) at → IsKeyed (db.trees tree)
+
+-- where the tables of a schema are there by their names and columns, they are made alike
+abbrev pub IsDefinedAs : Schema → Database → Type 0
+IsDefinedAs desk db = HasTablesOf desk db.schema → IsMadeAlike desk db
+
+-- The premise on a database that others made. It asks nothing of one that lacks a table or a column of a desk, or has a column too many.
+abbrev pub IsDefined : Database → Type 0
+IsDefined db = (schema : known.Schema) → IsDefinedAs (schema_of schema) db

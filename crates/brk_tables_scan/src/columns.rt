@@ -1,0 +1,59 @@
+//! Whether the tables of a desk are there, by their names and those of their columns.
+
+ghost use Rattle.std.specs.Prelude.{◌≡◌, ◌↔◌, map, Err, OnErr, IsTrue};
+ghost use Rattle.brk_money.specs.declared.fault.Fault.TheVariants.{Store};
+ghost use Rattle.brk_sql.specs.Model.{Steps};
+ghost use Rattle.brk_tables_scan.specs.Headings.{HeadsEach, heading, heading_of};
+ghost use Rattle.brk_changes.specs.Schemas.{schema_of};
+ghost use Rattle.brk_tables_schema.specs.Desk.{tables_in};
+ghost use Rattle.brk_tables_scan.specs.Schemas.{HasTablesOf, LacksLater};
+
+use crate::column_names::{IN_FIRST, IN_SECOND, IN_THIRD};
+use brk_changes::Schema;
+use brk_money::Fault;
+use brk_tables_create::has_tables_of;
+use brk_tables_schema::calls::shows_columns;
+use sqlite::{Alter, Transaction};
+
+// Whether each of the statements shows just the columns of its names.
+fn each_shows<S: Alter>(
+    tx: &mut Transaction<'_, S>,
+    headings: &[(&str, &[&str])],
+) -> Result<bool, Fault>
+    ensures same_reference { tx.new.conn.ghost_name ≡ tx.old.conn.ghost_name }
+    ensures step { Steps S.Store tx.old tx.new result (λ has a b. (b.now ≡ a.now) × HeadsEach (map heading headings.now) has a.now.schema) }
+    ensures fault { OnErr result (result ≡ Err Store) }
+{
+    for (text, names) in headings {
+        if !shows_columns(tx, text, names)? {
+            return Ok(false);
+        }
+    }
+    Ok(true)
+}
+
+// Returns whether the tables of a schema have exactly their columns.
+fn shows_columns_of<S: Alter>(tx: &mut Transaction<'_, S>, schema: Schema) -> Result<bool, Fault>
+    ensures same_reference { tx.new.conn.ghost_name ≡ tx.old.conn.ghost_name }
+    ensures step { Steps S.Store tx.old tx.new result (λ has a b. (b.now ≡ a.now) × HeadsEach (map heading_of (tables_in (schema_of schema))) has a.now.schema) }
+    ensures fault { OnErr result (result ≡ Err Store) }
+{
+    match schema {
+        Schema::First => each_shows(tx, &IN_FIRST),
+        Schema::Second => each_shows(tx, &IN_SECOND),
+        Schema::Third => each_shows(tx, &IN_THIRD),
+    }
+}
+
+/// Returns whether each table of `schema` exists with exactly its columns, in their order, and none
+/// that a later schema adds. It assumes nothing of the tables that exist.
+pub fn has_tables<S: Alter>(tx: &mut Transaction<'_, S>, schema: Schema) -> Result<bool, Fault>
+    ensures same_reference { tx.new.conn.ghost_name ≡ tx.old.conn.ghost_name }
+    ensures step { Steps S.Store tx.old tx.new result (λ has a b. IsTrue a.is_open × (b.now ≡ a.now) × (IsTrue has ↔ HasTablesOf (schema_of schema) a.now.schema × LacksLater (schema_of schema) a.now.schema)) }
+    ensures fault { OnErr result (result ≡ Err Store) }
+{
+    if !has_tables_of(tx, schema)? {
+        return Ok(false);
+    }
+    shows_columns_of(tx, schema)
+}

@@ -1,0 +1,181 @@
+//! The rows of all tables as the database shows them, read before any of them is looked at.
+
+ghost use Rattle.std.specs.Prelude.{◌≡◌, Err, OnErr};
+ghost use Rattle.brk_money.specs.declared.fault.Fault.TheVariants.{Store};
+ghost use Rattle.brk_sql.specs.Model.{Steps};
+ghost use Rattle.brk_tables_scan.specs.Raw.{ShowsFirst, ShowsAccount, ShowsRate, ShowsTrade, ShowsLast, ShowsLater, ShowsDesk};
+ghost use Rattle.brk_changes.specs.Schemas.{schema_of};
+
+use crate::rows::{
+    account_rows, band_rows, broker_rows, cash_rows, charge_rows, customer_rows, customer_tax_rows,
+    desk_rows, history_rows, holding_history_rows, holding_rows, kept_rows, last_trade_rows,
+    move_rows_in, permission_rows, request_rows, rule_rows_in, security_rows, settlement_rows,
+    summary_rows, tax_rate_rows, trade_rows,
+};
+use brk_changes::Schema;
+use brk_money::Fault;
+use sqlite::{Alter, Row, Transaction};
+use std::alloc::Global;
+
+/// The rows of DESK, KEPT, BROKER and CUSTOMER.
+#[derive(Drop)]
+pub struct FirstRows {
+    pub desk: Vec<Row>,
+    pub kept: Vec<Row>,
+    pub brokers: Vec<Row>,
+    pub customers: Vec<Row>,
+}
+
+/// The rows of CUSTOMER_ACCOUNT, ACCOUNT_PERMISSION, SECURITY and LAST_TRADE.
+#[derive(Drop)]
+pub struct AccountRows {
+    pub accounts: Vec<Row>,
+    pub permissions: Vec<Row>,
+    pub securities: Vec<Row>,
+    pub last_trades: Vec<Row>,
+}
+
+/// The rows of CHARGE, COMMISSION_RATE, TAXRATE and CUSTOMER_TAXRATE.
+#[derive(Drop)]
+pub struct RateRows {
+    pub charges: Vec<Row>,
+    pub bands: Vec<Row>,
+    pub tax_rates: Vec<Row>,
+    pub customer_taxes: Vec<Row>,
+}
+
+/// The rows of TRADE, TRADE_HISTORY, TRADE_REQUEST and HOLDING.
+#[derive(Drop)]
+pub struct TradeRows {
+    pub trades: Vec<Row>,
+    pub history: Vec<Row>,
+    pub requests: Vec<Row>,
+    pub holdings: Vec<Row>,
+}
+
+/// The rows of HOLDING_SUMMARY, HOLDING_HISTORY, SETTLEMENT and CASH_TRANSACTION.
+#[derive(Drop)]
+pub struct LastRows {
+    pub summaries: Vec<Row>,
+    pub holding_history: Vec<Row>,
+    pub settlements: Vec<Row>,
+    pub cash: Vec<Row>,
+}
+
+/// The rows of CASH_MOVE and SETTLE_RULE.
+#[derive(Drop)]
+pub struct LaterRows {
+    pub moves: Vec<Row>,
+    pub rule: Vec<Row>,
+}
+
+/// The rows of all tables.
+#[derive(Drop)]
+pub struct RawSheets {
+    pub first: FirstRows,
+    pub accounts: AccountRows,
+    pub rates: RateRows,
+    pub trades: TradeRows,
+    pub last: LastRows,
+    pub later: LaterRows,
+}
+
+fn read_first<S: Alter>(tx: &mut Transaction<'_, S>) -> Result<FirstRows, Fault>
+    ensures same_reference { tx.new.conn.ghost_name ≡ tx.old.conn.ghost_name }
+    ensures step { Steps S.Store tx.old tx.new result (λ raw. ShowsFirst raw) }
+    ensures fault { OnErr result (result ≡ Err Store) }
+{
+    Ok(FirstRows {
+        desk: desk_rows(tx)?,
+        kept: kept_rows(tx)?,
+        brokers: broker_rows(tx)?,
+        customers: customer_rows(tx)?,
+    })
+}
+
+fn read_accounts<S: Alter>(tx: &mut Transaction<'_, S>) -> Result<AccountRows, Fault>
+    ensures same_reference { tx.new.conn.ghost_name ≡ tx.old.conn.ghost_name }
+    ensures step { Steps S.Store tx.old tx.new result (λ raw. ShowsAccount raw) }
+    ensures fault { OnErr result (result ≡ Err Store) }
+{
+    Ok(AccountRows {
+        accounts: account_rows(tx)?,
+        permissions: permission_rows(tx)?,
+        securities: security_rows(tx)?,
+        last_trades: last_trade_rows(tx)?,
+    })
+}
+
+fn read_rates<S: Alter>(tx: &mut Transaction<'_, S>) -> Result<RateRows, Fault>
+    ensures same_reference { tx.new.conn.ghost_name ≡ tx.old.conn.ghost_name }
+    ensures step { Steps S.Store tx.old tx.new result (λ raw. ShowsRate raw) }
+    ensures fault { OnErr result (result ≡ Err Store) }
+{
+    Ok(RateRows {
+        charges: charge_rows(tx)?,
+        bands: band_rows(tx)?,
+        tax_rates: tax_rate_rows(tx)?,
+        customer_taxes: customer_tax_rows(tx)?,
+    })
+}
+
+fn read_trades<S: Alter>(tx: &mut Transaction<'_, S>) -> Result<TradeRows, Fault>
+    ensures same_reference { tx.new.conn.ghost_name ≡ tx.old.conn.ghost_name }
+    ensures step { Steps S.Store tx.old tx.new result (λ raw. ShowsTrade raw) }
+    ensures fault { OnErr result (result ≡ Err Store) }
+{
+    Ok(TradeRows {
+        trades: trade_rows(tx)?,
+        history: history_rows(tx)?,
+        requests: request_rows(tx)?,
+        holdings: holding_rows(tx)?,
+    })
+}
+
+fn read_last<S: Alter>(tx: &mut Transaction<'_, S>) -> Result<LastRows, Fault>
+    ensures same_reference { tx.new.conn.ghost_name ≡ tx.old.conn.ghost_name }
+    ensures step { Steps S.Store tx.old tx.new result (λ raw. ShowsLast raw) }
+    ensures fault { OnErr result (result ≡ Err Store) }
+{
+    Ok(LastRows {
+        summaries: summary_rows(tx)?,
+        holding_history: holding_history_rows(tx)?,
+        settlements: settlement_rows(tx)?,
+        cash: cash_rows(tx)?,
+    })
+}
+
+fn read_later<S: Alter>(
+    tx: &mut Transaction<'_, S>,
+    alloc: Global,
+    schema: Schema,
+) -> Result<LaterRows, Fault>
+    ensures same_reference { tx.new.conn.ghost_name ≡ tx.old.conn.ghost_name }
+    ensures step { Steps S.Store tx.old tx.new result (λ raw. ShowsLater (schema_of schema) raw) }
+    ensures fault { OnErr result (result ≡ Err Store) }
+{
+    Ok(LaterRows {
+        moves: move_rows_in(tx, alloc, schema)?,
+        rule: rule_rows_in(tx, alloc, schema)?,
+    })
+}
+
+/// Reads the rows of all tables of `schema`. Those of a table that it lacks are none.
+pub fn read_raw<S: Alter>(
+    tx: &mut Transaction<'_, S>,
+    alloc: Global,
+    schema: Schema,
+) -> Result<RawSheets, Fault>
+    ensures same_reference { tx.new.conn.ghost_name ≡ tx.old.conn.ghost_name }
+    ensures step { Steps S.Store tx.old tx.new result (λ raw. ShowsDesk (schema_of schema) raw) }
+    ensures fault { OnErr result (result ≡ Err Store) }
+{
+    Ok(RawSheets {
+        first: read_first(tx)?,
+        accounts: read_accounts(tx)?,
+        rates: read_rates(tx)?,
+        trades: read_trades(tx)?,
+        last: read_last(tx)?,
+        later: read_later(tx, alloc, schema)?,
+    })
+}

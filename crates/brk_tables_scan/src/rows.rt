@@ -1,0 +1,329 @@
+//! All rows of each table, by rising key, as the database shows them.
+
+ghost use Rattle.std.specs.Prelude.{◌≡◌, Err, OnErr};
+ghost use Rattle.brk_money.specs.declared.fault.Fault.TheVariants.{Store};
+ghost use Rattle.brk_tables_schema.specs.Desk.{TheDesk, KeptRows, Brokers, Customers, Accounts, Permissions, Securities, LastTrades, Charges, Bands, TaxRates, CustomerTaxes, Trades, TradeHistory, Requests, Holdings, Summaries, HoldingHistory, Settlements, CashRows, CashMoves, SettleRules};
+ghost use Rattle.brk_changes.specs.Schemas.{schema_of};
+ghost use Rattle.brk_tables_scan.specs.Whole.{ReadsIf, ReadsWhole};
+
+use brk_changes::Schema;
+use brk_money::Fault;
+use brk_tables_schema::calls::select;
+use sqlite::{Alter, Row, Transaction};
+use std::alloc::Global;
+
+/// All rows of DESK.
+pub fn desk_rows<S: Alter>(tx: &mut Transaction<'_, S>) -> Result<Vec<Row>, Fault>
+    ensures same_reference { tx.new.conn.ghost_name ≡ tx.old.conn.ghost_name }
+    ensures step { ReadsWhole S.Store tx.old tx.new result TheDesk }
+    ensures fault { OnErr result (result ≡ Err Store) }
+{
+    select(
+        tx,
+        "SELECT D_ID, D_SCHEMA, D_LAST FROM DESK ORDER BY D_ID",
+        &[],
+    )
+}
+
+/// All rows of KEPT.
+pub fn kept_rows<S: Alter>(tx: &mut Transaction<'_, S>) -> Result<Vec<Row>, Fault>
+    ensures same_reference { tx.new.conn.ghost_name ≡ tx.old.conn.ghost_name }
+    ensures step { ReadsWhole S.Store tx.old tx.new result KeptRows }
+    ensures fault { OnErr result (result ≡ Err Store) }
+{
+    select(
+        tx,
+        "SELECT K_BATCH, K_N, K_ROW, K_LINE FROM KEPT ORDER BY K_BATCH, K_N",
+        &[],
+    )
+}
+
+/// All rows of BROKER.
+pub fn broker_rows<S: Alter>(tx: &mut Transaction<'_, S>) -> Result<Vec<Row>, Fault>
+    ensures same_reference { tx.new.conn.ghost_name ≡ tx.old.conn.ghost_name }
+    ensures step { ReadsWhole S.Store tx.old tx.new result Brokers }
+    ensures fault { OnErr result (result ≡ Err Store) }
+{
+    select(
+        tx,
+        "SELECT B_ID, B_NAME, B_NUM_TRADES, B_COMM_TOTAL FROM BROKER ORDER BY B_ID",
+        &[],
+    )
+}
+
+/// All rows of CUSTOMER.
+pub fn customer_rows<S: Alter>(tx: &mut Transaction<'_, S>) -> Result<Vec<Row>, Fault>
+    ensures same_reference { tx.new.conn.ghost_name ≡ tx.old.conn.ghost_name }
+    ensures step { ReadsWhole S.Store tx.old tx.new result Customers }
+    ensures fault { OnErr result (result ≡ Err Store) }
+{
+    select(
+        tx,
+        "SELECT C_ID, C_TIER, C_TAX_ID, C_L_NAME, C_F_NAME FROM CUSTOMER ORDER BY C_ID",
+        &[],
+    )
+}
+
+/// All rows of CUSTOMER_ACCOUNT.
+pub fn account_rows<S: Alter>(tx: &mut Transaction<'_, S>) -> Result<Vec<Row>, Fault>
+    ensures same_reference { tx.new.conn.ghost_name ≡ tx.old.conn.ghost_name }
+    ensures step { ReadsWhole S.Store tx.old tx.new result Accounts }
+    ensures fault { OnErr result (result ≡ Err Store) }
+{
+    select(
+        tx,
+        "SELECT CA_ID, CA_C_ID, CA_B_ID, CA_NAME, CA_TAX_ST, CA_OPEN, CA_BAL FROM CUSTOMER_ACCOUNT ORDER BY CA_ID",
+        &[],
+    )
+}
+
+/// All rows of ACCOUNT_PERMISSION.
+pub fn permission_rows<S: Alter>(tx: &mut Transaction<'_, S>) -> Result<Vec<Row>, Fault>
+    ensures same_reference { tx.new.conn.ghost_name ≡ tx.old.conn.ghost_name }
+    ensures step { ReadsWhole S.Store tx.old tx.new result Permissions }
+    ensures fault { OnErr result (result ≡ Err Store) }
+{
+    select(
+        tx,
+        "SELECT AP_CA_ID, AP_TAX_ID, AP_ACL, AP_L_NAME, AP_F_NAME FROM ACCOUNT_PERMISSION ORDER BY AP_CA_ID, AP_TAX_ID",
+        &[],
+    )
+}
+
+/// All rows of SECURITY.
+pub fn security_rows<S: Alter>(tx: &mut Transaction<'_, S>) -> Result<Vec<Row>, Fault>
+    ensures same_reference { tx.new.conn.ghost_name ≡ tx.old.conn.ghost_name }
+    ensures step { ReadsWhole S.Store tx.old tx.new result Securities }
+    ensures fault { OnErr result (result ≡ Err Store) }
+{
+    select(
+        tx,
+        "SELECT S_SYMB, S_NAME, S_EX_ID, S_SECTOR FROM SECURITY ORDER BY S_SYMB",
+        &[],
+    )
+}
+
+/// All rows of LAST_TRADE.
+pub fn last_trade_rows<S: Alter>(tx: &mut Transaction<'_, S>) -> Result<Vec<Row>, Fault>
+    ensures same_reference { tx.new.conn.ghost_name ≡ tx.old.conn.ghost_name }
+    ensures step { ReadsWhole S.Store tx.old tx.new result LastTrades }
+    ensures fault { OnErr result (result ≡ Err Store) }
+{
+    select(
+        tx,
+        "SELECT LT_S_SYMB, LT_DTS, LT_PRICE, LT_VOL FROM LAST_TRADE ORDER BY LT_S_SYMB",
+        &[],
+    )
+}
+
+/// All rows of CHARGE.
+pub fn charge_rows<S: Alter>(tx: &mut Transaction<'_, S>) -> Result<Vec<Row>, Fault>
+    ensures same_reference { tx.new.conn.ghost_name ≡ tx.old.conn.ghost_name }
+    ensures step { ReadsWhole S.Store tx.old tx.new result Charges }
+    ensures fault { OnErr result (result ≡ Err Store) }
+{
+    select(
+        tx,
+        "SELECT CH_TT_ID, CH_C_TIER, CH_CHRG FROM CHARGE ORDER BY CH_TT_ID, CH_C_TIER",
+        &[],
+    )
+}
+
+/// All rows of COMMISSION_RATE.
+pub fn band_rows<S: Alter>(tx: &mut Transaction<'_, S>) -> Result<Vec<Row>, Fault>
+    ensures same_reference { tx.new.conn.ghost_name ≡ tx.old.conn.ghost_name }
+    ensures step { ReadsWhole S.Store tx.old tx.new result Bands }
+    ensures fault { OnErr result (result ≡ Err Store) }
+{
+    select(
+        tx,
+        "SELECT CR_C_TIER, CR_TT_ID, CR_EX_ID, CR_FROM_QTY, CR_TO_QTY, CR_RATE FROM COMMISSION_RATE ORDER BY CR_C_TIER, CR_TT_ID, CR_EX_ID, CR_FROM_QTY",
+        &[],
+    )
+}
+
+/// All rows of TAXRATE.
+pub fn tax_rate_rows<S: Alter>(tx: &mut Transaction<'_, S>) -> Result<Vec<Row>, Fault>
+    ensures same_reference { tx.new.conn.ghost_name ≡ tx.old.conn.ghost_name }
+    ensures step { ReadsWhole S.Store tx.old tx.new result TaxRates }
+    ensures fault { OnErr result (result ≡ Err Store) }
+{
+    select(
+        tx,
+        "SELECT TX_ID, TX_NAME, TX_RATE FROM TAXRATE ORDER BY TX_ID",
+        &[],
+    )
+}
+
+/// All rows of CUSTOMER_TAXRATE.
+pub fn customer_tax_rows<S: Alter>(tx: &mut Transaction<'_, S>) -> Result<Vec<Row>, Fault>
+    ensures same_reference { tx.new.conn.ghost_name ≡ tx.old.conn.ghost_name }
+    ensures step { ReadsWhole S.Store tx.old tx.new result CustomerTaxes }
+    ensures fault { OnErr result (result ≡ Err Store) }
+{
+    select(
+        tx,
+        "SELECT CX_C_ID, CX_TX_ID FROM CUSTOMER_TAXRATE ORDER BY CX_C_ID, CX_TX_ID",
+        &[],
+    )
+}
+
+/// All rows of TRADE.
+pub fn trade_rows<S: Alter>(tx: &mut Transaction<'_, S>) -> Result<Vec<Row>, Fault>
+    ensures same_reference { tx.new.conn.ghost_name ≡ tx.old.conn.ghost_name }
+    ensures step { ReadsWhole S.Store tx.old tx.new result Trades }
+    ensures fault { OnErr result (result ≡ Err Store) }
+{
+    select(
+        tx,
+        "SELECT T_ID, T_DTS, T_ST_ID, T_TT_ID, T_IS_CASH, T_S_SYMB, T_QTY, T_BID_PRICE, T_CA_ID, T_EXEC_NAME, T_TRADE_PRICE, T_CHRG, T_COMM, T_TAX, T_LIFO FROM TRADE ORDER BY T_ID",
+        &[],
+    )
+}
+
+/// All rows of TRADE_HISTORY.
+pub fn history_rows<S: Alter>(tx: &mut Transaction<'_, S>) -> Result<Vec<Row>, Fault>
+    ensures same_reference { tx.new.conn.ghost_name ≡ tx.old.conn.ghost_name }
+    ensures step { ReadsWhole S.Store tx.old tx.new result TradeHistory }
+    ensures fault { OnErr result (result ≡ Err Store) }
+{
+    select(
+        tx,
+        "SELECT TH_T_ID, TH_ST_ID, TH_DTS FROM TRADE_HISTORY ORDER BY TH_T_ID, TH_ST_ID",
+        &[],
+    )
+}
+
+/// All rows of TRADE_REQUEST.
+pub fn request_rows<S: Alter>(tx: &mut Transaction<'_, S>) -> Result<Vec<Row>, Fault>
+    ensures same_reference { tx.new.conn.ghost_name ≡ tx.old.conn.ghost_name }
+    ensures step { ReadsWhole S.Store tx.old tx.new result Requests }
+    ensures fault { OnErr result (result ≡ Err Store) }
+{
+    select(
+        tx,
+        "SELECT TR_T_ID, TR_TT_ID, TR_S_SYMB, TR_QTY, TR_BID_PRICE, TR_B_ID FROM TRADE_REQUEST ORDER BY TR_T_ID",
+        &[],
+    )
+}
+
+/// All rows of HOLDING.
+pub fn holding_rows<S: Alter>(tx: &mut Transaction<'_, S>) -> Result<Vec<Row>, Fault>
+    ensures same_reference { tx.new.conn.ghost_name ≡ tx.old.conn.ghost_name }
+    ensures step { ReadsWhole S.Store tx.old tx.new result Holdings }
+    ensures fault { OnErr result (result ≡ Err Store) }
+{
+    select(
+        tx,
+        "SELECT H_T_ID, H_CA_ID, H_S_SYMB, H_DTS, H_PRICE, H_QTY FROM HOLDING ORDER BY H_T_ID",
+        &[],
+    )
+}
+
+/// All rows of HOLDING_SUMMARY.
+pub fn summary_rows<S: Alter>(tx: &mut Transaction<'_, S>) -> Result<Vec<Row>, Fault>
+    ensures same_reference { tx.new.conn.ghost_name ≡ tx.old.conn.ghost_name }
+    ensures step { ReadsWhole S.Store tx.old tx.new result Summaries }
+    ensures fault { OnErr result (result ≡ Err Store) }
+{
+    select(
+        tx,
+        "SELECT HS_CA_ID, HS_S_SYMB, HS_QTY FROM HOLDING_SUMMARY ORDER BY HS_CA_ID, HS_S_SYMB",
+        &[],
+    )
+}
+
+/// All rows of HOLDING_HISTORY.
+pub fn holding_history_rows<S: Alter>(tx: &mut Transaction<'_, S>) -> Result<Vec<Row>, Fault>
+    ensures same_reference { tx.new.conn.ghost_name ≡ tx.old.conn.ghost_name }
+    ensures step { ReadsWhole S.Store tx.old tx.new result HoldingHistory }
+    ensures fault { OnErr result (result ≡ Err Store) }
+{
+    select(
+        tx,
+        "SELECT HH_H_T_ID, HH_T_ID, HH_BEFORE_QTY, HH_AFTER_QTY FROM HOLDING_HISTORY ORDER BY HH_H_T_ID, HH_T_ID",
+        &[],
+    )
+}
+
+/// All rows of SETTLEMENT.
+pub fn settlement_rows<S: Alter>(tx: &mut Transaction<'_, S>) -> Result<Vec<Row>, Fault>
+    ensures same_reference { tx.new.conn.ghost_name ≡ tx.old.conn.ghost_name }
+    ensures step { ReadsWhole S.Store tx.old tx.new result Settlements }
+    ensures fault { OnErr result (result ≡ Err Store) }
+{
+    select(
+        tx,
+        "SELECT SE_T_ID, SE_CASH_TYPE, SE_CASH_DUE_DATE, SE_AMT FROM SETTLEMENT ORDER BY SE_T_ID",
+        &[],
+    )
+}
+
+/// All rows of CASH_TRANSACTION.
+pub fn cash_rows<S: Alter>(tx: &mut Transaction<'_, S>) -> Result<Vec<Row>, Fault>
+    ensures same_reference { tx.new.conn.ghost_name ≡ tx.old.conn.ghost_name }
+    ensures step { ReadsWhole S.Store tx.old tx.new result CashRows }
+    ensures fault { OnErr result (result ≡ Err Store) }
+{
+    select(
+        tx,
+        "SELECT CT_T_ID, CT_DTS, CT_AMT, CT_NAME FROM CASH_TRANSACTION ORDER BY CT_T_ID",
+        &[],
+    )
+}
+
+fn move_rows<S: Alter>(tx: &mut Transaction<'_, S>) -> Result<Vec<Row>, Fault>
+    ensures same_reference { tx.new.conn.ghost_name ≡ tx.old.conn.ghost_name }
+    ensures step { ReadsWhole S.Store tx.old tx.new result CashMoves }
+    ensures fault { OnErr result (result ≡ Err Store) }
+{
+    select(
+        tx,
+        "SELECT CM_ID, CM_CA_ID, CM_T_ID, CM_DTS, CM_AMT, CM_NAME FROM CASH_MOVE ORDER BY CM_ID",
+        &[],
+    )
+}
+
+fn rule_rows<S: Alter>(tx: &mut Transaction<'_, S>) -> Result<Vec<Row>, Fault>
+    ensures same_reference { tx.new.conn.ghost_name ≡ tx.old.conn.ghost_name }
+    ensures step { ReadsWhole S.Store tx.old tx.new result SettleRules }
+    ensures fault { OnErr result (result ≡ Err Store) }
+{
+    select(
+        tx,
+        "SELECT SR_ID, SR_DAY FROM SETTLE_RULE ORDER BY SR_ID",
+        &[],
+    )
+}
+
+/// All rows of CASH_MOVE, or none if `schema` lacks the table.
+pub fn move_rows_in<S: Alter>(
+    tx: &mut Transaction<'_, S>,
+    alloc: Global,
+    schema: Schema,
+) -> Result<Vec<Row>, Fault>
+    ensures same_reference { tx.new.conn.ghost_name ≡ tx.old.conn.ghost_name }
+    ensures step { ReadsIf S.Store tx.old tx.new result (schema_of schema) CashMoves }
+    ensures fault { OnErr result (result ≡ Err Store) }
+{
+    if !schema.has_moves() {
+        return Ok(Vec::new(alloc));
+    }
+    move_rows(tx)
+}
+
+/// All rows of SETTLE_RULE, or none if `schema` lacks the table.
+pub fn rule_rows_in<S: Alter>(
+    tx: &mut Transaction<'_, S>,
+    alloc: Global,
+    schema: Schema,
+) -> Result<Vec<Row>, Fault>
+    ensures same_reference { tx.new.conn.ghost_name ≡ tx.old.conn.ghost_name }
+    ensures step { ReadsIf S.Store tx.old tx.new result (schema_of schema) SettleRules }
+    ensures fault { OnErr result (result ≡ Err Store) }
+{
+    if !schema.has_rule() {
+        return Ok(Vec::new(alloc));
+    }
+    rule_rows(tx)
+}

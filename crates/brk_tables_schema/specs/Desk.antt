@@ -1,0 +1,237 @@
+-- Written by tools/tables.py: the tables of a desk, and the list of rows that each of them holds.
+use Rattle.std.specs.Prelude.{◌≡◌, ℕ, Bool, true, List, [], ◌∷◌, Option, Some, None, map, filter, refl}
+use Rattle.std.specs.declared.cmp.Ordering.{Ordering}
+use Rattle.sqlite_value.specs.Order.{Row}
+use Rattle.sqlite_schema.specs.declared.schema.Table.{Table}
+use Rattle.brk_model.specs.Records.{Customer, Permission, Charge, Band, TaxRate, CustomerTax, Kept}
+use Rattle.brk_model.specs.Schemas.{Schema, third_schema}
+use Rattle.brk_model.specs.Tables.{Tables, BrokerRow, AccountRow, SecurityRow, LastTradeRow, TradeRow, HistoryRow, RequestRow, HoldingRow, SummaryRow, HoldingHistoryRow, SettlementRow, CashRow, MoveRow}
+use Rattle.brk_model.specs.Keys.{KeyPart, number, kept_key, broker_key, customer_key, account_key, permission_key, security_key, last_trade_key, charge_key, band_key, tax_rate_key, customer_tax_key, trade_key, history_key, request_key, holding_key, summary_key, holding_history_key, settlement_key, cash_key, move_key}
+use Rattle.brk_sql.specs.Desk.{Desk}
+use Rattle.brk_tables_schema.specs.Shapes.{desk_row, kept, broker, customer, account, permission, security, last_trade, charge, band, tax_rate, customer_tax, trade, history, request, holding, summary, holding_history, settlement, cash, move, rule}
+use Rattle.brk_tables_schema.specs.Cells.{DeskRow, RuleRow, desk_row_cells, kept_cells, broker_cells, customer_cells, account_cells, permission_cells, security_cells, last_trade_cells, charge_cells, band_cells, tax_rate_cells, customer_tax_cells, trade_cells, history_cells, request_cells, holding_cells, summary_cells, holding_history_cells, settlement_cells, cash_cells, move_cells, rule_cells}
+use Rattle.brk_tables_schema.specs.Order.{by_key_values}
+
+-- the tables by name
+pub data Which : Type 0 where
+  TheDesk : Which
+  KeptRows : Which
+  Brokers : Which
+  Customers : Which
+  Accounts : Which
+  Permissions : Which
+  Securities : Which
+  LastTrades : Which
+  Charges : Which
+  Bands : Which
+  TaxRates : Which
+  CustomerTaxes : Which
+  Trades : Which
+  TradeHistory : Which
+  Requests : Which
+  Holdings : Which
+  Summaries : Which
+  HoldingHistory : Which
+  Settlements : Which
+  CashRows : Which
+  CashMoves : Which
+  SettleRules : Which
+
+-- the one row of DESK, in a schema
+abbrev pub desk_rows : Schema → Option ℕ → List DeskRow
+desk_rows schema last = record { id = 1; schema = schema.number; last = last } ∷ []
+
+abbrev pub desk_key : DeskRow → List KeyPart
+desk_key r = number r.id ∷ []
+
+-- the one row of SETTLE_RULE, or none
+abbrev pub rule_rows : Option ℕ → List RuleRow
+rule_rows None = []
+rule_rows (Some day) = record { id = 1; day = day } ∷ []
+
+abbrev pub rule_key : RuleRow → List KeyPart
+rule_key r = number r.id ∷ []
+
+-- whether a schema has a table
+abbrev pub has_table : Schema → Which → Bool
+has_table schema CashMoves = schema.has_moves
+has_table schema SettleRules = schema.has_rule
+has_table schema w = true
+
+-- what each is made of
+abbrev pub shape : Which → ℕ → Table
+shape TheDesk = desk_row
+shape KeptRows = kept
+shape Brokers = broker
+shape Customers = customer
+shape Accounts = account
+shape Permissions = permission
+shape Securities = security
+shape LastTrades = last_trade
+shape Charges = charge
+shape Bands = band
+shape TaxRates = tax_rate
+shape CustomerTaxes = customer_tax
+shape Trades = trade
+shape TradeHistory = history
+shape Requests = request
+shape Holdings = holding
+shape Summaries = summary
+shape HoldingHistory = holding_history
+shape Settlements = settlement
+shape CashRows = cash
+shape CashMoves = move
+shape SettleRules = rule
+
+abbrev pub placed : (w : Which) (tree : ℕ) → (shape w tree).tree ≡ tree
+placed TheDesk tree = refl
+placed KeptRows tree = refl
+placed Brokers tree = refl
+placed Customers tree = refl
+placed Accounts tree = refl
+placed Permissions tree = refl
+placed Securities tree = refl
+placed LastTrades tree = refl
+placed Charges tree = refl
+placed Bands tree = refl
+placed TaxRates tree = refl
+placed CustomerTaxes tree = refl
+placed Trades tree = refl
+placed TradeHistory tree = refl
+placed Requests tree = refl
+placed Holdings tree = refl
+placed Summaries tree = refl
+placed HoldingHistory tree = refl
+placed Settlements tree = refl
+placed CashRows tree = refl
+placed CashMoves tree = refl
+placed SettleRules tree = refl
+
+-- what a row of it is
+abbrev pub Item : Which → Type 0
+Item TheDesk = DeskRow
+Item KeptRows = Kept
+Item Brokers = BrokerRow
+Item Customers = Customer
+Item Accounts = AccountRow
+Item Permissions = Permission
+Item Securities = SecurityRow
+Item LastTrades = LastTradeRow
+Item Charges = Charge
+Item Bands = Band
+Item TaxRates = TaxRate
+Item CustomerTaxes = CustomerTax
+Item Trades = TradeRow
+Item TradeHistory = HistoryRow
+Item Requests = RequestRow
+Item Holdings = HoldingRow
+Item Summaries = SummaryRow
+Item HoldingHistory = HoldingHistoryRow
+Item Settlements = SettlementRow
+Item CashRows = CashRow
+Item CashMoves = MoveRow
+Item SettleRules = RuleRow
+
+abbrev pub encode : (w : Which) → Item w → Row
+encode TheDesk = desk_row_cells
+encode KeptRows = kept_cells
+encode Brokers = broker_cells
+encode Customers = customer_cells
+encode Accounts = account_cells
+encode Permissions = permission_cells
+encode Securities = security_cells
+encode LastTrades = last_trade_cells
+encode Charges = charge_cells
+encode Bands = band_cells
+encode TaxRates = tax_rate_cells
+encode CustomerTaxes = customer_tax_cells
+encode Trades = trade_cells
+encode TradeHistory = history_cells
+encode Requests = request_cells
+encode Holdings = holding_cells
+encode Summaries = summary_cells
+encode HoldingHistory = holding_history_cells
+encode Settlements = settlement_cells
+encode CashRows = cash_cells
+encode CashMoves = move_cells
+encode SettleRules = rule_cells
+
+abbrev pub key : (w : Which) → Item w → List KeyPart
+key TheDesk = desk_key
+key KeptRows = kept_key
+key Brokers = broker_key
+key Customers = customer_key
+key Accounts = account_key
+key Permissions = permission_key
+key Securities = security_key
+key LastTrades = last_trade_key
+key Charges = charge_key
+key Bands = band_key
+key TaxRates = tax_rate_key
+key CustomerTaxes = customer_tax_key
+key Trades = trade_key
+key TradeHistory = history_key
+key Requests = request_key
+key Holdings = holding_key
+key Summaries = summary_key
+key HoldingHistory = holding_history_key
+key Settlements = settlement_key
+key CashRows = cash_key
+key CashMoves = move_key
+key SettleRules = rule_key
+
+-- by rising key
+abbrev pub order : (w : Which) → Item w → Item w → Ordering
+order w = by_key_values (key w)
+
+-- the rows that it holds in a schema
+abbrev pub list_in : Schema → (w : Which) → Tables → List (Item w)
+list_in schema TheDesk t = desk_rows schema t.last
+list_in schema KeptRows t = t.kept
+list_in schema Brokers t = t.brokers
+list_in schema Customers t = t.customers
+list_in schema Accounts t = t.accounts
+list_in schema Permissions t = t.permissions
+list_in schema Securities t = t.securities
+list_in schema LastTrades t = t.last_trades
+list_in schema Charges t = t.charges
+list_in schema Bands t = t.bands
+list_in schema TaxRates t = t.tax_rates
+list_in schema CustomerTaxes t = t.customer_taxes
+list_in schema Trades t = t.trades
+list_in schema TradeHistory t = t.history
+list_in schema Requests t = t.requests
+list_in schema Holdings t = t.holdings
+list_in schema Summaries t = t.summaries
+list_in schema HoldingHistory t = t.holding_history
+list_in schema Settlements t = t.settlements
+list_in schema CashRows t = t.cash
+list_in schema CashMoves t = t.moves
+list_in schema SettleRules t = rule_rows t.rule
+
+-- the rows that it holds, in the schema that a desk keeps
+abbrev pub list : (w : Which) → Tables → List (Item w)
+list = list_in third_schema
+
+-- the tables of a desk in a schema, which may lack some
+abbrev pub desk_in : Schema → Desk Which Tables
+desk_in schema = record { shape = shape; placed = placed; Item = Item; encode = encode; order = order; list = list_in schema }
+
+-- all of them
+abbrev pub desk : Desk Which Tables
+desk = desk_in third_schema
+
+abbrev pub all_tables : List Which
+all_tables = TheDesk ∷ KeptRows ∷ Brokers ∷ Customers ∷ Accounts ∷ Permissions ∷ Securities ∷ LastTrades ∷ Charges ∷ Bands ∷ TaxRates ∷ CustomerTaxes ∷ Trades ∷ TradeHistory ∷ Requests ∷ Holdings ∷ Summaries ∷ HoldingHistory ∷ Settlements ∷ CashRows ∷ CashMoves ∷ SettleRules ∷ []
+
+-- the tables of a schema, and those that it lacks
+abbrev pub tables_in : Schema → List Which
+tables_in schema = filter (has_table schema) all_tables
+
+-- the name of a table
+abbrev pub name_of : Which → List ℕ
+name_of w = (shape w 0).name
+
+-- their names
+abbrev pub names : List (List ℕ)
+names = map name_of all_tables

@@ -1,0 +1,76 @@
+//! Calls of the database within a transaction. Each of its errors is the fault `Store`.
+
+ghost use Rattle.std.specs.Prelude.{◌≡◌, ℕ, List, map, Ok, None, Err, OnErr, IsTrue};
+ghost use Rattle.std.specs.Borrow.{Bor};
+ghost use Rattle.brk_money.specs.declared.fault.Fault.TheVariants.{Store};
+ghost use Rattle.sqlite.specs.Listing.{understood};
+ghost use Rattle.sqlite.specs.Values.{bound};
+ghost use Rattle.sqlite_resolve.specs.declared.compiled.Compiled.{Compiled};
+ghost use Rattle.sqlite_schema.specs.declared.schema.Schema.{Schema};
+ghost use Rattle.brk_sql.specs.Desk.{Heads, Probes};
+ghost use Rattle.brk_sql.specs.Model.{Ran, Selected, Steps};
+
+use brk_money::Fault;
+use sqlite::{Alter, Row, Transaction};
+use sqlite_value::value::ValueRef;
+
+/// Runs a statement that makes a table or changes rows.
+pub fn run<S: Alter>(
+    tx: &mut Transaction<'_, S>,
+    text: &str,
+    params: &[ValueRef<'_>],
+) -> Result<(), Fault>
+    ensures same_reference { tx.new.conn.ghost_name ≡ tx.old.conn.ghost_name }
+    ensures step { Steps S.Store tx.old tx.new result (λ _. Ran text.now (bound params.now)) }
+    ensures fault { OnErr result (result ≡ Err Store) }
+{
+    match tx.execute(text, params) {
+        Ok(_) => Ok(()),
+        Err(_) => Err(Fault::Store),
+    }
+}
+
+/// The rows that a statement selects.
+pub fn select<S: Alter>(
+    tx: &mut Transaction<'_, S>,
+    text: &str,
+    params: &[ValueRef<'_>],
+) -> Result<Vec<Row>, Fault>
+    requires plain { (schema : Schema) (c : Compiled) → understood schema text.now ≡ Ok c → c.returning ≡ None }
+    ensures same_reference { tx.new.conn.ghost_name ≡ tx.old.conn.ghost_name }
+    ensures step { Steps S.Store tx.old tx.new result (λ rows. Selected text.now (bound params.now) rows.items) }
+    ensures fault { OnErr result (result ≡ Err Store) }
+{
+    match tx.query_all(text, params) {
+        Ok(rows) => Ok(rows),
+        Err(_) => Err(Fault::Store),
+    }
+}
+
+/// Whether the table that a statement names is there. It runs nothing.
+pub fn is_understood<S: Alter>(tx: &mut Transaction<'_, S>, text: &str) -> Result<bool, Fault>
+    ensures same_reference { tx.new.conn.ghost_name ≡ tx.old.conn.ghost_name }
+    ensures step { Steps S.Store tx.old tx.new result (λ has a b. IsTrue a.is_open × (b.now ≡ a.now) × Probes text.now has a.now.schema) }
+    ensures fault { OnErr result (result ≡ Err Store) }
+{
+    match brk_sql::is_understood(tx, text) {
+        Ok(has) => Ok(has),
+        Err(_) => Err(Fault::Store),
+    }
+}
+
+/// Whether the rows that a statement shows have just the columns of these names, in their order. It runs nothing.
+pub fn shows_columns<S: Alter>(
+    tx: &mut Transaction<'_, S>,
+    text: &str,
+    names: &[&str],
+) -> Result<bool, Fault>
+    ensures same_reference { tx.new.conn.ghost_name ≡ tx.old.conn.ghost_name }
+    ensures step { Steps S.Store tx.old tx.new result (λ has a b. IsTrue a.is_open × (b.now ≡ a.now) × Heads text.now (map (λ (name : Bor (List ℕ)). name.now) names.now) has a.now.schema) }
+    ensures fault { OnErr result (result ≡ Err Store) }
+{
+    match brk_sql::shows_columns(tx, text, names) {
+        Ok(has) => Ok(has),
+        Err(_) => Err(Fault::Store),
+    }
+}

@@ -1,0 +1,75 @@
+ghost use Rattle.std.specs.Prelude.{◌≡◌, ◌∷◌, [], IfOk, map, Err, OnErr, false};
+ghost use Rattle.brk_money.specs.declared.fault.Fault.TheVariants.{Store};
+ghost use Rattle.brk_sql.specs.Model.{Steps};
+ghost use Rattle.brk_model.specs.Schemas.{third_schema};
+ghost use Rattle.brk_changes.specs.Changes.{with_last};
+ghost use Rattle.brk_changes.specs.Schemas.{schema_of};
+ghost use Rattle.brk_tables_schema.specs.Cells.{desk_row_cells};
+ghost use Rattle.brk_tables_schema.specs.Desk.{desk_rows};
+ghost use Rattle.brk_tables_schema.specs.Formed.{all_formed, desk_forms, is_desk_row};
+ghost use Rattle.brk_tables_schema.specs.declared.misread.Misread.TheVariants.{Form as Formless};
+ghost use Rattle.brk_tables_schema.specs.Statements.{Reads, Writes};
+
+use crate::calls::{run, select};
+use crate::cells::{has_columns, maybe_stamp_in, natural_in};
+use crate::misread::Misread;
+use crate::values::{number_value, stamp_value};
+use brk_changes::Schema;
+use brk_money::{Fault, Stamp};
+use sqlite::{Alter, Row, Transaction};
+
+/// Sets the stamp of the last accepted command (D_LAST).
+pub fn set_last_stamp<S: Alter>(tx: &mut Transaction<'_, S>, stamp: Stamp) -> Result<(), Fault>
+    ensures same_reference { tx.new.conn.ghost_name ≡ tx.old.conn.ghost_name }
+    ensures step { Writes S.Store tx.old tx.new result (with_last stamp) }
+    ensures fault { OnErr result (result ≡ Err Store) }
+{
+    run(
+        tx,
+        "UPDATE DESK SET D_LAST = ?1 WHERE D_ID = ?2",
+        &[stamp_value(stamp), number_value(1)],
+    )
+}
+
+fn stamp_of_row(schema: Schema, row: &Row) -> Result<Option<Stamp>, Misread>
+    ensures value { IfOk result (λ last. map desk_row_cells (desk_rows (schema_of schema) last) ≡ row.now ∷ []) }
+    ensures form { result ≡ Err Formless → all_formed (desk_forms (schema_of schema)) row.now ≡ false }
+{
+    has_columns(row, 3)?;
+    if natural_in(row, 0)? != 1 || natural_in(row, 1)? != u64::from(schema.number()) {
+        return Err(Misread::Form);
+    }
+    maybe_stamp_in(row, 2)
+}
+
+/// The stamp in the one row of DESK, in a schema.
+pub fn stamp_in_rows(schema: Schema, rows: &[Row]) -> Result<Option<Stamp>, Misread>
+    ensures value { IfOk result (λ last. map desk_row_cells (desk_rows (schema_of schema) last) ≡ rows.now) }
+    ensures form { result ≡ Err Formless → is_desk_row (schema_of schema) rows.now ≡ false }
+{
+    match rows {
+        [row] => stamp_of_row(schema, row),
+        _ => Err(Misread::Form),
+    }
+}
+
+fn only_stamp(rows: &[Row]) -> Result<Option<Stamp>, Fault>
+    ensures value { IfOk result (λ last. map desk_row_cells (desk_rows third_schema last) ≡ rows.now) }
+    ensures fault { OnErr result (result ≡ Err Store) }
+{
+    Ok(stamp_in_rows(Schema::Third, rows)?)
+}
+
+/// The stamp of the last accepted command, where there is one (D_LAST).
+pub fn last_stamp<S: Alter>(tx: &mut Transaction<'_, S>) -> Result<Option<Stamp>, Fault>
+    ensures same_reference { tx.new.conn.ghost_name ≡ tx.old.conn.ghost_name }
+    ensures step { Reads S.Store tx.old tx.new result (λ last t. last ≡ t.last) }
+    ensures fault { OnErr result (result ≡ Err Store) }
+{
+    let rows = select(
+        tx,
+        "SELECT D_ID, D_SCHEMA, D_LAST FROM DESK ORDER BY D_ID",
+        &[],
+    )?;
+    only_stamp(&rows)
+}

@@ -1,0 +1,68 @@
+ghost use Rattle.std.specs.Prelude.{◌≡◌, ◌==◌, ◌&&◌, Err, OnErr, bytes_eq};
+ghost use Rattle.brk_money.specs.declared.fault.Fault.TheVariants.{Store};
+ghost use Rattle.brk_ref.specs.Records.{kept_of};
+ghost use Rattle.brk_changes.specs.Changes.{with_kept};
+ghost use Rattle.brk_tables_schema.specs.Cells.{kept_cells};
+ghost use Rattle.brk_tables_schema.specs.Desk.{KeptRows};
+ghost use Rattle.brk_tables_schema.specs.Formed.{kept_forms};
+ghost use Rattle.brk_tables_schema.specs.Statements.{Finds, Writes};
+
+use crate::calls::{run, select};
+use crate::cells::{has_columns, row_number_in, text_in, text_of};
+use crate::misread::Misread;
+use crate::record::{Record, first_row};
+use crate::values::{row_number_value, text_value};
+use brk_money::Fault;
+use brk_ref::{Kept, Key};
+use sqlite::{Alter, Row, Transaction};
+
+/// Adds an accepted row, whose key is new.
+pub fn add_kept<S: Alter>(tx: &mut Transaction<'_, S>, kept: &Kept) -> Result<(), Fault>
+    ensures same_reference { tx.new.conn.ghost_name ≡ tx.old.conn.ghost_name }
+    ensures step { Writes S.Store tx.old tx.new result (with_kept (kept_of kept.now)) }
+    ensures fault { OnErr result (result ≡ Err Store) }
+{
+    run(
+        tx,
+        "INSERT INTO KEPT (K_BATCH, K_N, K_ROW, K_LINE) VALUES (?1, ?2, ?3, ?4)",
+        &[
+            text_value(kept.key.batch.as_str()),
+            row_number_value(kept.key.row),
+            text_value(kept.row_text.as_str()),
+            text_value(kept.line.as_str()),
+        ],
+    )
+}
+
+impl Record for Kept {
+    ghost cells = { λ r. kept_cells (kept_of r) };
+
+    ghost forms = { kept_forms };
+
+    fn from_row(row: &Row) -> Result<Kept, Misread> {
+        has_columns(row, 4)?;
+        let key = Key {
+            batch: text_of(row, 0)?,
+            row: row_number_in(row, 1)?,
+        };
+        Ok(Kept {
+            key,
+            row_text: text_in(row, 2)?,
+            line: text_in(row, 3)?,
+        })
+    }
+}
+
+/// The row that is kept under a key.
+pub fn kept_by_key<S: Alter>(tx: &mut Transaction<'_, S>, key: &Key) -> Result<Option<Kept>, Fault>
+    ensures same_reference { tx.new.conn.ghost_name ≡ tx.old.conn.ghost_name }
+    ensures step { Finds S.Store tx.old tx.new result KeptRows kept_of (λ k. bytes_eq k.key.batch key.now.batch && (k.key.row == key.now.row)) }
+    ensures fault { OnErr result (result ≡ Err Store) }
+{
+    let rows = select(
+        tx,
+        "SELECT K_BATCH, K_N, K_ROW, K_LINE FROM KEPT WHERE K_BATCH = ?1 AND K_N = ?2 ORDER BY K_BATCH, K_N",
+        &[text_value(key.batch.as_str()), row_number_value(key.row)],
+    )?;
+    first_row(&rows)
+}

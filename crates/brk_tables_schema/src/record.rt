@@ -1,0 +1,65 @@
+//! Rows of a table as records.
+
+ghost use Rattle.std.specs.Prelude.{◌≡◌, Bool, Err, IfErr, IfOk, List, OnErr, false, map, option_map, slice_get};
+ghost use Rattle.std.specs.List.{list_all};
+ghost use Rattle.brk_money.specs.declared.fault.Fault.TheVariants.{Store};
+ghost use Rattle.brk_model.specs.Run.{MayFail};
+ghost use Rattle.sqlite_value.specs.declared.value.Value.{Value};
+ghost use Rattle.sqlite_value.specs.Order.{Row as Cells};
+ghost use Rattle.brk_tables_schema.specs.Formed.{all_formed};
+ghost use Rattle.brk_tables_schema.specs.declared.misread.Misread.TheVariants.{Form as Formless};
+
+use crate::misread::Misread;
+use brk_money::Fault;
+use sqlite::Row;
+use std::alloc::Global;
+
+/// What a row of a table is in types.
+pub trait Record: Drop {
+    /// The row that shows it.
+    ghost cells: { Self → Cells };
+
+    /// The forms of its columns.
+    ghost forms: { List (Value → Bool) };
+
+    /// The record that a row shows.
+    fn from_row(row: &Row) -> Result<Self, Misread>
+        ensures value { IfOk result (λ r. cells r ≡ row.now) }
+        ensures form { result ≡ Err Formless → all_formed forms row.now ≡ false };
+}
+
+/// The first of the rows, where there is one.
+pub fn first_row<T: Record>(rows: &[Row]) -> Result<Option<T>, Fault>
+    ensures value { IfOk result (λ o. option_map T.cells o ≡ slice_get rows.now 0) }
+    ensures fault { OnErr result (result ≡ Err Store) }
+{
+    match rows.first() {
+        Some(row) => Ok(Some(T::from_row(row)?)),
+        None => Ok(None),
+    }
+}
+
+/// All of the rows.
+pub fn all_rows<T: Record>(alloc: Global, rows: &[Row]) -> Result<Vec<T>, Fault>
+    ensures value { IfOk result (λ all. map T.cells all.items ≡ rows.now) }
+    ensures fault { IfErr result MayFail }
+{
+    match all_records(alloc, rows) {
+        Ok(all) => Ok(all),
+        Err(Misread::Form) => Err(Fault::Store),
+        Err(Misread::Memory) => Err(Fault::Memory),
+    }
+}
+
+/// All of the rows, where each shows a record.
+#[tactic(auto, using(crate::proofs::Unformed::not_all))]
+pub fn all_records<T: Record>(alloc: Global, rows: &[Row]) -> Result<Vec<T>, Misread>
+    ensures value { IfOk result (λ all. map T.cells all.items ≡ rows.now) }
+    ensures form { result ≡ Err Formless → list_all (all_formed T.forms) rows.now ≡ false }
+{
+    let mut all = Vec::new(alloc);
+    for row in rows {
+        all.push(T::from_row(row)?)?;
+    }
+    Ok(all)
+}

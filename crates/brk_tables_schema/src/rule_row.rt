@@ -1,0 +1,35 @@
+//! The row of SETTLE_RULE.
+
+ghost use Rattle.std.specs.Prelude.{◌≡◌, ◌∷◌, [], Err, IfOk, Some, false, map};
+ghost use Rattle.brk_tables_schema.specs.Cells.{rule_cells};
+ghost use Rattle.brk_tables_schema.specs.Desk.{rule_rows};
+ghost use Rattle.brk_tables_schema.specs.Formed.{all_formed, is_rule, rule_forms};
+ghost use Rattle.brk_tables_schema.specs.declared.misread.Misread.TheVariants.{Form as Formless};
+
+use crate::cells::{day_in, has_columns, natural_in};
+use crate::misread::Misread;
+use brk_money::Day;
+use sqlite::Row;
+
+fn day_of_row(row: &Row) -> Result<Day, Misread>
+    ensures value { IfOk result (λ day. map rule_cells (rule_rows (Some day)) ≡ row.now ∷ []) }
+    ensures form { result ≡ Err Formless → all_formed rule_forms row.now ≡ false }
+{
+    has_columns(row, 2)?;
+    if natural_in(row, 0)? != 1 {
+        return Err(Misread::Form);
+    }
+    day_in(row, 1)
+}
+
+/// The day in the one row of SETTLE_RULE, where there is one.
+pub fn day_in_rows(rows: &[Row]) -> Result<Option<Day>, Misread>
+    ensures value { IfOk result (λ day. map rule_cells (rule_rows day) ≡ rows.now) }
+    ensures form { result ≡ Err Formless → is_rule rows.now ≡ false }
+{
+    match rows {
+        [] => Ok(None),
+        [row] => Ok(Some(day_of_row(row)?)),
+        _ => Err(Misread::Form),
+    }
+}

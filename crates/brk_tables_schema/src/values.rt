@@ -1,0 +1,165 @@
+//! Typed values as parameters of a statement.
+
+ghost use Rattle.std.specs.Prelude.{◌≡◌, pos};
+ghost use Rattle.sqlite_value.specs.Value.{owned};
+ghost use Rattle.sqlite_value.specs.declared.value.Value.TheVariants.{Int, Text};
+ghost use Rattle.brk_money.specs.Kinds.{status_code, tax_status_number, type_code};
+ghost use Rattle.brk_changes.specs.Rows.{cash_type_word};
+ghost use Rattle.brk_tables_schema.specs.Cells.{flag, maybe};
+
+use brk_changes::{Amount, CashType};
+use brk_money::{
+    Cents, Day, Id, MoveId, Price, Qty, Rate, Stamp, Status, TaxRate, TaxStatus, TradeType,
+};
+use brk_ref::{ChargeAmount, RowNumber, Tier, Volume};
+use sqlite_value::value::ValueRef;
+
+pub fn number_value<'a>(number: i64) -> ValueRef<'a>
+    ensures { owned result ≡ Int number }
+{
+    ValueRef::Int(number)
+}
+
+pub fn id_value<'a>(id: Id) -> ValueRef<'a>
+    ensures { owned result ≡ Int (pos id) }
+{
+    ValueRef::Int(id.get() as i64)
+}
+
+pub fn move_id_value<'a>(id: MoveId) -> ValueRef<'a>
+    ensures { owned result ≡ Int (pos id) }
+{
+    ValueRef::Int(id.get() as i64)
+}
+
+/// An id, or null where there is none.
+pub fn maybe_id_value<'a>(id: Option<Id>) -> ValueRef<'a>
+    ensures { owned result ≡ maybe id }
+{
+    match id {
+        Some(id) => ValueRef::Int(id.get() as i64),
+        None => ValueRef::Null,
+    }
+}
+
+pub fn row_number_value<'a>(number: RowNumber) -> ValueRef<'a>
+    ensures { owned result ≡ Int (pos number) }
+{
+    ValueRef::Int(number.get() as i64)
+}
+
+pub fn tier_value<'a>(tier: Tier) -> ValueRef<'a>
+    ensures { owned result ≡ Int (pos tier) }
+{
+    ValueRef::Int(tier.get() as i64)
+}
+
+pub fn tax_status_value<'a>(tax_status: TaxStatus) -> ValueRef<'a>
+    ensures { owned result ≡ Int (pos (tax_status_number tax_status)) }
+{
+    ValueRef::Int(tax_status.number() as i64)
+}
+
+pub fn cents_value<'a>(cents: Cents) -> ValueRef<'a>
+    ensures { owned result ≡ Int cents }
+{
+    ValueRef::Int(cents.get())
+}
+
+pub fn stamp_value<'a>(stamp: Stamp) -> ValueRef<'a>
+    ensures { owned result ≡ Int (pos stamp) }
+{
+    ValueRef::Int(stamp.get())
+}
+
+pub fn price_value<'a>(price: Price) -> ValueRef<'a>
+    ensures { owned result ≡ Int (pos price) }
+{
+    ValueRef::Int(price.get() as i64)
+}
+
+pub fn qty_value<'a>(qty: Qty) -> ValueRef<'a>
+    ensures { owned result ≡ Int (pos qty) }
+{
+    ValueRef::Int(qty.get() as i64)
+}
+
+pub fn rate_value<'a>(rate: Rate) -> ValueRef<'a>
+    ensures { owned result ≡ Int (pos rate) }
+{
+    ValueRef::Int(rate.get() as i64)
+}
+
+pub fn tax_rate_value<'a>(rate: TaxRate) -> ValueRef<'a>
+    ensures { owned result ≡ Int (pos rate) }
+{
+    ValueRef::Int(rate.get() as i64)
+}
+
+pub fn amount_value<'a>(amount: Amount) -> ValueRef<'a>
+    ensures { owned result ≡ Int (pos amount) }
+{
+    ValueRef::Int(amount.get() as i64)
+}
+
+pub fn charge_amount_value<'a>(charge: ChargeAmount) -> ValueRef<'a>
+    ensures { owned result ≡ Int (pos charge) }
+{
+    ValueRef::Int(charge.get() as i64)
+}
+
+pub fn volume_value<'a>(volume: Volume) -> ValueRef<'a>
+    ensures { owned result ≡ Int (pos volume) }
+{
+    ValueRef::Int(volume.get() as i64)
+}
+
+pub fn type_value<'a>(kind: TradeType) -> ValueRef<'a>
+    ensures { owned result ≡ Text (type_code kind) }
+{
+    ValueRef::Text(kind.code().as_bytes())
+}
+
+pub fn text_value(text: &str) -> ValueRef<'_>
+    ensures { owned result ≡ Text text.now }
+{
+    ValueRef::Text(text.as_bytes())
+}
+
+pub fn flag_value<'a>(is: bool) -> ValueRef<'a>
+    ensures { owned result ≡ flag is }
+{
+    if is {
+        ValueRef::Int(1)
+    } else {
+        ValueRef::Int(0)
+    }
+}
+
+/// A price, or null where there is none.
+pub fn maybe_price_value<'a>(price: Option<Price>) -> ValueRef<'a>
+    ensures { owned result ≡ maybe price }
+{
+    match price {
+        Some(price) => ValueRef::Int(price.get() as i64),
+        None => ValueRef::Null,
+    }
+}
+
+pub fn status_value<'a>(status: Status) -> ValueRef<'a>
+    ensures { owned result ≡ Text (status_code status) }
+{
+    ValueRef::Text(status.code().as_bytes())
+}
+
+pub fn cash_type_value<'a>(cash_type: CashType) -> ValueRef<'a>
+    ensures { owned result ≡ Text (cash_type_word cash_type) }
+{
+    ValueRef::Text(cash_type.word().as_bytes())
+}
+
+pub fn day_value<'a>(day: Day) -> ValueRef<'a>
+    ensures { owned result ≡ Int (pos day) }
+{
+    ValueRef::Int(day.get() as i64)
+}

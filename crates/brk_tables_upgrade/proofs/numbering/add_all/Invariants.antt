@@ -1,0 +1,16 @@
+use Rattle.std.proofs.Common.{◌≡◌, ◌+◌, Ok, map, take}
+use Rattle.sqlite.specs.Held.{state}
+use Rattle.brk_money.specs.declared.fault.Fault.{Fault}
+use Rattle.brk_changes.specs.Rows.{cash_row_of}
+use Rattle.brk_sql.specs.Desk.{Turns}
+use Rattle.brk_sql.specs.Model.{IsStep}
+use Rattle.brk_tables_schema.specs.Desk.{desk}
+use Rattle.brk_tables_upgrade.specs.Moving.{with_cash_from}
+use Rattle.brk_tables_upgrade.proofs.numbering.add_all.Given as goal
+
+abbrev pub invariant-loop-row : goal.invariant-loop-row
+invariant-loop-row g l = record {
+  same : l.tx.conn.ghost_name ≡ l.fn.tx.conn.ghost_name;
+  next : l.number ≡ 1 + l.row-index;
+  step : IsStep {V = Unit {0}} {E = Fault} (state g.S.Store l.fn.tx.conn.now) (state g.S.Store l.tx.conn.now) (Ok tt) (λ _ a b. Turns desk (with_cash_from 1 (take l.row-index (map cash_row_of l.rows))) a.now b.now);
+}

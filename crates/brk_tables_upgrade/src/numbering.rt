@@ -1,0 +1,55 @@
+//! Cash rows of schema 1, inserted under numbers.
+
+ghost use Rattle.std.specs.Prelude.{◌≡◌, IfErr, map};
+ghost use Rattle.brk_model.specs.Run.{MayFail};
+ghost use Rattle.brk_changes.specs.Rows.{cash_row_of};
+ghost use Rattle.brk_tables_schema.specs.Statements.{Writes};
+ghost use Rattle.brk_tables_upgrade.specs.Moving.{with_cash_from, with_numbered};
+
+use crate::reading::account_of_trade;
+use brk_changes::{CashRow, MoveRow};
+use brk_money::{Fault, MoveId};
+use brk_tables_cash::add_move;
+use sqlite::{Alter, Transaction};
+
+// Inserts the cash row of a trade under a number, which has to be new. Fails with `Store` if the
+// trade does not exist.
+fn add_numbered<S: Alter>(
+    tx: &mut Transaction<'_, S>,
+    id: MoveId,
+    row: &CashRow,
+) -> Result<(), Fault>
+    ensures same_reference { tx.new.conn.ghost_name ≡ tx.old.conn.ghost_name }
+    ensures step { Writes S.Store tx.old tx.new result (with_numbered id (cash_row_of row.now)) }
+    ensures fault { IfErr result MayFail }
+{
+    let Some(account) = account_of_trade(tx, row.trade)? else {
+        return Err(Fault::Store);
+    };
+    let numbered = MoveRow {
+        id,
+        account,
+        trade: Some(row.trade),
+        stamp: row.stamp,
+        amount: row.amount,
+        name: row.name.clone()?,
+    };
+    add_move(tx, &numbered)
+}
+
+/// Inserts the cash rows of trades, numbered from 1 in their order. Fails with `Memory` or `Store`.
+pub fn add_all<S: Alter>(tx: &mut Transaction<'_, S>, rows: &[CashRow]) -> Result<(), Fault>
+    ensures same_reference { tx.new.conn.ghost_name ≡ tx.old.conn.ghost_name }
+    ensures step { Writes S.Store tx.old tx.new result (with_cash_from 1 (map cash_row_of rows.now)) }
+    ensures fault { IfErr result MayFail }
+{
+    let mut number: u64 = 1;
+    for row in rows {
+        let Some(id) = MoveId::new(number) else {
+            return Err(Fault::Store);
+        };
+        add_numbered(tx, id, row)?;
+        number = id.get() + 1;
+    }
+    Ok(())
+}

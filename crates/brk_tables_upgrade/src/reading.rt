@@ -1,0 +1,52 @@
+//! The reads of the upgrade: the cash rows of schema 1 by their stamps, and the account of each.
+
+ghost use Rattle.std.specs.Prelude.{◌≡◌, Err, IfErr, OnErr, map, option_map};
+ghost use Rattle.brk_money.specs.declared.fault.Fault.TheVariants.{Store};
+ghost use Rattle.brk_model.specs.Run.{MayFail};
+ghost use Rattle.brk_model.specs.Joins.{trade_in};
+ghost use Rattle.brk_changes.specs.Rows.{cash_row_of};
+ghost use Rattle.brk_tables_schema.specs.Statements.{Reads};
+ghost use Rattle.brk_tables_upgrade.specs.Moving.{cash_by_stamp};
+
+use brk_changes::CashRow;
+use brk_money::{Fault, Id};
+use brk_tables_schema::calls::select;
+use brk_tables_schema::record::{all_rows, first_row};
+use brk_tables_schema::values::id_value;
+use sqlite::{Alter, Transaction};
+use std::alloc::Global;
+
+/// Returns all rows of CASH_TRANSACTION, sorted by stamp, ascending, and then by trade. Fails with
+/// `Memory` or `Store`.
+pub fn cash_by_stamp<S: Alter>(
+    tx: &mut Transaction<'_, S>,
+    alloc: Global,
+) -> Result<Vec<CashRow>, Fault>
+    ensures same_reference { tx.new.conn.ghost_name ≡ tx.old.conn.ghost_name }
+    ensures step { Reads S.Store tx.old tx.new result (λ all t. map cash_row_of all.items ≡ cash_by_stamp t) }
+    ensures fault { IfErr result MayFail }
+{
+    let rows = select(
+        tx,
+        "SELECT CT_T_ID, CT_DTS, CT_AMT, CT_NAME FROM CASH_TRANSACTION ORDER BY CT_DTS, CT_T_ID",
+        &[],
+    )?;
+    all_rows(alloc, &rows)
+}
+
+/// Returns the account of a trade, or `None` if the trade does not exist.
+pub fn account_of_trade<S: Alter>(
+    tx: &mut Transaction<'_, S>,
+    trade: Id,
+) -> Result<Option<Id>, Fault>
+    ensures same_reference { tx.new.conn.ghost_name ≡ tx.old.conn.ghost_name }
+    ensures step { Reads S.Store tx.old tx.new result (λ account t. account ≡ option_map (λ r. r.account) (trade_in t trade)) }
+    ensures fault { OnErr result (result ≡ Err Store) }
+{
+    let rows = select(
+        tx,
+        "SELECT T_CA_ID FROM TRADE WHERE T_ID = ?1 ORDER BY T_ID",
+        &[id_value(trade)],
+    )?;
+    first_row(&rows)
+}

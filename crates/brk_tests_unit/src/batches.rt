@@ -1,0 +1,423 @@
+ghost use Rattle.std.specs.Prelude.{◌≡◌, ◌==◌, ℕ, Ok, Err, codes, length, if◌then◌else◌};
+ghost use Rattle.brk_money.specs.declared.refusal.Limit.TheVariants as limits;
+ghost use Rattle.brk_money.specs.declared.refusal.Refusal.TheVariants as refusals;
+ghost use Rattle.brk_model.specs.Commands.{Again, Booked, Done, Refused};
+ghost use Rattle.brk_tests_unit.specs.declared.batches.Asked.{Asked};
+ghost use Rattle.brk_tests_unit.specs.declared.batches.Asked.TheVariants as asks;
+
+use brk_batch_engine::{BatchFault, Clock, Counts, FaultKind, MOST_BYTES, RowAnswer, Rows, run};
+use brk_money::{Fault, Limit, Planned, Refusal, Stamp};
+use brk_ref::BatchName;
+use std::alloc::{AllocError, Global};
+use std::io;
+use std::io::{Read, Write};
+use std::test::Fail;
+
+// A clock that stands still.
+#[derive(Drop)]
+struct Fixed {
+    at: Stamp,
+}
+
+impl Clock for Fixed {
+    ghost gives = { λ old moment new. (moment ≡ old.at) × (new ≡ old) };
+
+    fn now(&mut self) -> Stamp {
+        self.at
+    }
+}
+
+// What a row asks of the desk below.
+#[derive(Clone, Copy, Debug, PartialEq, Eq)]
+enum Asked {
+    Put,
+    Repeat,
+    Refuse,
+    Break,
+}
+
+// A desk that keeps the last moment. It goes by the number of a row's fields.
+#[derive(Drop)]
+struct Last {
+    moment: u64,
+}
+
+impl Rows for Last {
+    type Desk = Last;
+
+    type Command = Asked;
+
+    type Reply = u64;
+
+    ghost Base = { ℕ };
+
+    ghost Asked = { Asked };
+
+    ghost honest = { λ _. Unit {0} };
+
+    ghost stands = { λ desk base. base ≡ desk.moment };
+
+    ghost leaves = { λ _ _ _. Unit {0} };
+
+    ghost leads = { λ _ _. Unit {0} };
+
+    ghost asked = { λ command. command };
+
+    ghost told = { λ moment. Booked moment };
+
+    ghost form = { λ fields.
+        if length fields == 3 then Ok asks.Put
+        else if length fields == 4 then Ok asks.Repeat
+        else if length fields == 5 then Ok asks.Refuse
+        else if length fields == 6 then Ok asks.Break
+        else if length fields == 7 then Err refusals.BadQty
+        else Err refusals.BadText };
+
+    ghost step = { λ base now asked key. elim asked [
+      | asks.Put ↦ (Done (Booked now), now)
+      | asks.Repeat ↦ (Again (codes "5,CNCL"), base)
+      | asks.Refuse ↦ (Refused (refusals.Range limits.Accounts), base)
+      | asks.Break ↦ (Again (codes ""), base)
+    ] };
+
+    fn parse(_alloc: Global, row: &[&[u8]]) -> Planned<Asked> {
+        match row.len() {
+            3 => Ok(Ok(Asked::Put)),
+            4 => Ok(Ok(Asked::Repeat)),
+            5 => Ok(Ok(Asked::Refuse)),
+            6 => Ok(Ok(Asked::Break)),
+            7 => Ok(Err(Refusal::BadQty)),
+            9 => Err(Fault::Memory),
+            _ => Ok(Err(Refusal::BadText)),
+        }
+    }
+
+    fn call(
+        desk: &mut Last,
+        alloc: Global,
+        now: Stamp,
+        command: &Asked,
+        _batch: &BatchName,
+        _n: u64,
+    ) -> Result<RowAnswer<u64>, Fault> {
+        match *command {
+            Asked::Put => {
+                desk.moment = now.get() as u64;
+                Ok(RowAnswer::Done(desk.moment))
+            }
+            Asked::Repeat => {
+                let line = String::from_str(alloc, "5,CNCL")?;
+                Ok(RowAnswer::Again(line))
+            }
+            Asked::Refuse => Ok(RowAnswer::Refused(Refusal::Range(Limit::Accounts))),
+            Asked::Break => Err(Fault::Store),
+        }
+    }
+
+    #[tactic(auto, unfolding(brk_model::specs::Rows::reply_fields))]
+    fn reply_line(alloc: Global, reply: &u64) -> Result<String, AllocError> {
+        format!(in alloc; "{reply}")
+    }
+
+    ghost stays = { λ _. tt };
+
+    ghost goes_on = { λ _ _ _ _ _. tt };
+}
+
+// Gives its text a byte at a time, and fails once, in place of the byte at `cut`.
+#[derive(Drop)]
+struct Flaky<'a> {
+    text: &'a [u8],
+    at: usize,
+    cut: usize,
+    kind: io::ErrorKind,
+}
+
+impl<'a> Read for Flaky<'a> {
+    fn read(&mut self, buf: &mut [u8]) -> io::Result<usize> {
+        if self.cut == self.at {
+            self.cut = usize::MAX;
+            return Err(io::Error::from(self.kind));
+        }
+        match (self.text.get(self.at), buf.first_mut()) {
+            (Some(byte), Some(place)) => {
+                *place = *byte;
+                self.at = self.at.saturating_add(1);
+                Ok(1)
+            }
+            _ => Ok(0),
+        }
+    }
+}
+
+// A header, then empty lines up to the last bytes that are read of an input, which are the tail. Where more are asked
+// for, it fails.
+#[derive(Drop)]
+struct Long {
+    at: u64,
+    tail: &'static [u8],
+}
+
+impl Long {
+    fn byte(&self, at: u64) -> u8 {
+        let header = b"batch,A\n";
+        if at < 8 {
+            return header[at as usize];
+        }
+        let left = MOST_BYTES.saturating_sub(at) as usize;
+        if left > self.tail.len() {
+            return b'\n';
+        }
+        match self.tail.get(self.tail.len() - left) {
+            Some(byte) => *byte,
+            None => b'\n',
+        }
+    }
+}
+
+impl Read for Long {
+    fn read(&mut self, buf: &mut [u8]) -> io::Result<usize> {
+        if self.at >= MOST_BYTES {
+            return Err(io::Error::from(io::ErrorKind::Other));
+        }
+        let mut at = self.at;
+        for place in buf.iter_mut() {
+            *place = self.byte(at);
+            at = at.saturating_add(1);
+        }
+        let n = buf.len().min(MOST_BYTES.saturating_sub(self.at) as usize);
+        self.at = self.at.saturating_add(n as u64);
+        Ok(n)
+    }
+}
+
+// Takes three bytes at a time, up to `most`, and then none, or fails.
+#[derive(Drop)]
+struct Choppy {
+    got: Vec<u8>,
+    most: usize,
+    error: Option<io::ErrorKind>,
+}
+
+impl Write for Choppy {
+    fn write(&mut self, buf: &[u8]) -> io::Result<usize> {
+        let room = self.most.saturating_sub(self.got.len());
+        if room == 0 {
+            return match self.error {
+                Some(kind) => Err(io::Error::from(kind)),
+                None => Ok(0),
+            };
+        }
+        let n = buf.len().min(3).min(room);
+        self.got.extend_from_slice(&buf[..n])?;
+        Ok(n)
+    }
+
+    fn flush(&mut self) -> io::Result<()> {
+        Ok(())
+    }
+}
+
+// Runs a batch over a new desk at moment 7, and tells how it ended and what was written.
+fn ran<R: Read + Drop>(
+    alloc: Global,
+    reader: R,
+) -> Result<(Result<Counts, BatchFault>, Vec<u8>), Fail> {
+    let mut out = Vec::new(alloc);
+    let mut clock = Fixed {
+        at: Stamp::new(7).ok_or("a stamp")?,
+    };
+    let mut desk = Last { moment: 0 };
+    let done = run::<R, Vec<u8>, Fixed, Last>(alloc, reader, &mut out, &mut clock, &mut desk);
+    Ok((done, out))
+}
+
+fn fault(rows: u64, kind: FaultKind) -> Result<Counts, BatchFault> {
+    Err(BatchFault { rows, kind })
+}
+
+const WHOLE: &[u8] =
+    b"\xef\xbb\xbfbatch,A\r\nput,1,\"a, b\"\r\n\r\nput,1,2,3\nrefuse,,,,\n\"\"\r\nqty,,,,,,\nend,5\r\nput,2,c\n";
+
+const LINES: &[u8] = b"1,ok,7\n2,again,5,CNCL\n3,no,14,accounts\n4,no,18\n5,no,8\nend,1,1,3\n";
+
+#[test]
+fn a_batch_is_answered_line_by_line(rt: HostRuntime) -> Result<(), Fail> {
+    let (done, out) = ran(rt.alloc(), WHOLE)?;
+    assert!(rt;
+        done == Ok(Counts {
+            ok: 1,
+            again: 1,
+            no: 3
+        })
+    );
+    assert!(rt; out.as_slice() == LINES);
+    let slow = Flaky {
+        text: WHOLE,
+        at: 0,
+        cut: usize::MAX,
+        kind: io::ErrorKind::Other,
+    };
+    let (done, out) = ran(rt.alloc(), slow)?;
+    assert!(rt; done.is_ok());
+    assert!(rt; out.as_slice() == LINES);
+    Ok(())
+}
+
+#[test]
+fn a_batch_of_no_rows_has_its_last_line(rt: HostRuntime) -> Result<(), Fail> {
+    let (done, out) = ran(rt.alloc(), b"batch,Z\nend,0".as_slice())?;
+    assert!(rt;
+        done == Ok(Counts {
+            ok: 0,
+            again: 0,
+            no: 0
+        })
+    );
+    assert!(rt; out.as_slice() == b"end,0,0,0\n".as_slice());
+    Ok(())
+}
+
+#[test]
+fn the_last_row_of_a_cut_input_does_not_act(rt: HostRuntime) -> Result<(), Fail> {
+    let cut = b"batch,C\nbroker,2,Cy\nbroker,3\nbroker,4,D".as_slice();
+    let (done, out) = ran(rt.alloc(), cut)?;
+    assert!(rt; done == fault(3, FaultKind::NoEnd));
+    assert!(rt; out.as_slice() == b"1,ok,7\n2,no,18\n3,no,18\n".as_slice());
+    let (done, out) = ran(rt.alloc(), b"batch,C\n".as_slice())?;
+    assert!(rt; done == fault(0, FaultKind::NoEnd));
+    assert!(rt; out.is_empty());
+    Ok(())
+}
+
+#[test]
+fn what_is_no_header_is_refused(rt: HostRuntime) -> Result<(), Fail> {
+    let bad: [&[u8]; 13] = [
+        b"",
+        b"\n\r\n",
+        b"\x00\xff\xfe no csv at all",
+        b"broker,2,Cy\nend,1\n",
+        b"batch\nend,0\n",
+        b"batch,\nend,0\n",
+        b"batch,A,B\nend,0\n",
+        b"batch,A,\nend,0\n",
+        b"batch,A B\nend,0\n",
+        b"batch,A/B\nend,0\n",
+        b"batch,\xc3\x84\nend,0\n",
+        b"Batch,A\nend,0\n",
+        b"batch,12345678901234567890123456789012345678901\nend,0\n",
+    ];
+    for text in bad {
+        let (done, out) = ran(rt.alloc(), text)?;
+        assert!(rt; done == fault(0, FaultKind::BadHeader));
+        assert!(rt; out.is_empty());
+    }
+    let good: [&[u8]; 2] = [
+        b"batch,aZ09.-_\nend,0\n",
+        b"batch,1234567890123456789012345678901234567890\nend,0\n",
+    ];
+    for text in good {
+        let (done, _) = ran(rt.alloc(), text)?;
+        assert!(rt; done.is_ok());
+    }
+    Ok(())
+}
+
+#[test]
+fn a_wrong_end_is_told_after_the_lines(rt: HostRuntime) -> Result<(), Fail> {
+    let bad: [&[u8]; 5] = [
+        b"batch,A\nput,1,2\nend,01\n",
+        b"batch,A\nput,1,2\nend,1,\n",
+        b"batch,A\nput,1,2\nend\n",
+        b"batch,A\nput,1,2\nend,2\n",
+        b"batch,A\nput,1,2\nend,",
+    ];
+    for text in bad {
+        let (done, out) = ran(rt.alloc(), text)?;
+        assert!(rt; done == fault(1, FaultKind::BadEnd));
+        assert!(rt; out.as_slice() == b"1,ok,7\n".as_slice());
+    }
+    Ok(())
+}
+
+#[test]
+fn a_read_that_fails_ends_it(rt: HostRuntime) -> Result<(), Fail> {
+    let text = b"batch,A\nput,1,2\nput,3,4\nend,2\n".as_slice();
+    let cuts: [(usize, u64, &[u8], io::ErrorKind); 5] = [
+        (0, 0, b"", io::ErrorKind::Other),
+        (5, 0, b"", io::ErrorKind::Interrupted),
+        (15, 0, b"", io::ErrorKind::Interrupted),
+        (24, 1, b"1,ok,7\n", io::ErrorKind::Interrupted),
+        (29, 1, b"1,ok,7\n", io::ErrorKind::Other),
+    ];
+    for (cut, rows, lines, kind) in cuts {
+        let reader = Flaky {
+            text,
+            at: 0,
+            cut,
+            kind,
+        };
+        let (done, out) = ran(rt.alloc(), reader)?;
+        assert!(rt; done == fault(rows, FaultKind::Read));
+        assert!(rt; out.as_slice() == lines);
+    }
+    Ok(())
+}
+
+#[test]
+fn a_write_that_fails_ends_it(rt: HostRuntime) -> Result<(), Fail> {
+    let cuts: [(usize, u64, Option<io::ErrorKind>); 6] = [
+        (0, 1, None),
+        (3, 1, Some(io::ErrorKind::Interrupted)),
+        (7, 2, None),
+        (30, 3, Some(io::ErrorKind::BrokenPipe)),
+        (50, 5, Some(io::ErrorKind::Other)),
+        (61, 5, None),
+    ];
+    for (most, rows, error) in cuts {
+        let mut out = Choppy {
+            got: Vec::new(rt.alloc()),
+            most,
+            error,
+        };
+        let mut clock = Fixed {
+            at: Stamp::new(7).ok_or("a stamp")?,
+        };
+        let mut desk = Last { moment: 0 };
+        let done = run::<&[u8], Choppy, Fixed, Last>(
+            rt.alloc(),
+            WHOLE,
+            &mut out,
+            &mut clock,
+            &mut desk,
+        );
+        assert!(rt; done == fault(rows, FaultKind::Write));
+        assert!(rt; Some(out.got.as_slice()) == LINES.get(..most));
+    }
+    Ok(())
+}
+
+#[test]
+fn a_fault_of_the_desk_ends_it(rt: HostRuntime) -> Result<(), Fail> {
+    let called = b"batch,A\nput,1,2\nbreak,,,,,\nput,3,4\nend,3\n".as_slice();
+    let (done, out) = ran(rt.alloc(), called)?;
+    assert!(rt; done == fault(1, FaultKind::Desk(Fault::Store)));
+    assert!(rt; out.as_slice() == b"1,ok,7\n".as_slice());
+    let parsed = b"batch,A\nput,1,2\nparse,,,,,,,,\nend,2\n".as_slice();
+    let (done, out) = ran(rt.alloc(), parsed)?;
+    assert!(rt; done == fault(1, FaultKind::Desk(Fault::Memory)));
+    assert!(rt; out.as_slice() == b"1,ok,7\n".as_slice());
+    Ok(())
+}
+
+#[test]
+fn only_the_first_bytes_are_read(rt: HostRuntime) -> Result<(), Fail> {
+    let whole = Long {
+        at: 0,
+        tail: b"put,1,2\nend,1",
+    };
+    let (done, out) = ran(rt.alloc(), whole)?;
+    assert!(rt; done.is_ok());
+    assert!(rt; out.as_slice() == b"1,ok,7\nend,1,0,0\n".as_slice());
+    Ok(())
+}

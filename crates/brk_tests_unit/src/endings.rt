@@ -1,0 +1,123 @@
+use brk_args::UsageFault;
+use brk_exit::brk_io::{BatchFault, FaultKind};
+use brk_exit::brk_report_lines::StatementFault;
+use brk_exit::{Ending, end_with};
+use brk_http_engine::{FaultKind as StreamFault, ServeFault};
+use brk_money::{Condition, Fault, Refusal};
+use std::alloc::Global;
+use std::io;
+use std::io::Write;
+use std::process::Abort;
+use std::test::Fail;
+
+fn batch(kind: FaultKind) -> Ending {
+    Ending::Batch(BatchFault { rows: 3, kind })
+}
+
+// Compares the status of an ending, and what is said of it.
+fn expect_ending(rt: &impl Abort, alloc: Global, ending: &Ending, status: u8, text: &str) {
+    let mut errors = Vec::new(alloc);
+    assert!(rt; end_with(ending, &mut errors) == status, "{text}");
+    assert!(rt; errors.as_slice() == text.as_bytes(), "{text}");
+}
+
+const BATCHES: [(FaultKind, u8, &str); 7] = [
+    (FaultKind::BadHeader, 1, "brk: batch: bad header\n"),
+    (FaultKind::NoEnd, 1, "brk: batch: no end\n"),
+    (FaultKind::BadEnd, 1, "brk: batch: bad end\n"),
+    (FaultKind::Read, 3, "brk: fault: read\n"),
+    (FaultKind::Write, 3, "brk: fault: write\n"),
+    (FaultKind::Desk(Fault::Store), 3, "brk: fault: store\n"),
+    (FaultKind::Desk(Fault::Memory), 3, "brk: fault: memory\n"),
+];
+
+#[test]
+fn tells_how_a_batch_ended(rt: HostRuntime) {
+    for (kind, status, text) in BATCHES {
+        expect_ending(&rt, rt.alloc(), &batch(kind), status, text);
+    }
+}
+
+#[test]
+fn tells_how_a_statement_ended(rt: HostRuntime) {
+    let alloc = rt.alloc();
+    let stranger = Ending::Statement(StatementFault::Refused(Refusal::NoAccount));
+    expect_ending(&rt, alloc, &stranger, 1, "brk: refused: 1\n");
+    let days = Ending::Statement(StatementFault::Refused(Refusal::BadText));
+    expect_ending(&rt, alloc, &days, 1, "brk: refused: 18\n");
+    let store = Ending::Statement(StatementFault::Desk(Fault::Store));
+    expect_ending(&rt, alloc, &store, 3, "brk: fault: store\n");
+    let writer = Ending::Statement(StatementFault::Write);
+    expect_ending(&rt, alloc, &writer, 3, "brk: fault: write\n");
+}
+
+const OPENS: [(Fault, u8, &str); 3] = [
+    (Fault::Memory, 3, "brk: fault: memory\n"),
+    (Fault::Store, 3, "brk: fault: store\n"),
+    (
+        Fault::Damaged(Condition::Summary),
+        1,
+        "brk: damaged: summary\n",
+    ),
+];
+
+#[test]
+fn tells_why_a_desk_is_not_opened(rt: HostRuntime) {
+    for (fault, status, text) in OPENS {
+        expect_ending(&rt, rt.alloc(), &Ending::Open(fault), status, text);
+    }
+}
+
+#[test]
+fn tells_what_words_ask_for_no_job(rt: HostRuntime) -> Result<(), Fail> {
+    let alloc = rt.alloc();
+    let words = Ending::Usage(UsageFault::Words(String::from_str(alloc, "error: no\n")?));
+    expect_ending(&rt, alloc, &words, 2, "error: no\n");
+    let help = Ending::Usage(UsageFault::Help(String::from_str(alloc, "help\n")?));
+    expect_ending(&rt, alloc, &help, 0, "");
+    let day = Ending::Usage(UsageFault::Day);
+    expect_ending(&rt, alloc, &day, 2, "brk: usage: day\n");
+    let later = Ending::Usage(UsageFault::NotYet);
+    expect_ending(&rt, alloc, &later, 2, "brk: usage: not yet\n");
+    let memory = Ending::Usage(UsageFault::Memory);
+    expect_ending(&rt, alloc, &memory, 3, "brk: fault: memory\n");
+    Ok(())
+}
+
+#[test]
+fn tells_the_other_endings(rt: HostRuntime) {
+    let unserved = ServeFault {
+        done: 2,
+        kind: StreamFault::Memory,
+    };
+    expect_ending(&rt, rt.alloc(), &Ending::Done, 0, "");
+    expect_ending(&rt, rt.alloc(), &Ending::Output, 3, "brk: fault: write\n");
+    expect_ending(&rt, rt.alloc(), &Ending::Net, 3, "brk: fault: net\n");
+    expect_ending(
+        &rt,
+        rt.alloc(),
+        &Ending::Serve(unserved),
+        3,
+        "brk: fault: memory\n",
+    );
+}
+
+// A stream that takes nothing.
+#[derive(Drop)]
+struct Closed;
+
+impl Write for Closed {
+    fn write(&mut self, _bytes: &[u8]) -> io::Result<usize> {
+        Ok(0)
+    }
+
+    fn flush(&mut self) -> io::Result<()> {
+        Ok(())
+    }
+}
+
+#[test]
+fn answers_its_status_to_a_closed_stream(rt: HostRuntime) {
+    assert_eq!(rt; end_with(&batch(FaultKind::NoEnd), &mut Closed), 1);
+    assert_eq!(rt; end_with(&Ending::Done, &mut Closed), 0);
+}

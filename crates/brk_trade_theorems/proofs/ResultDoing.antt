@@ -1,0 +1,398 @@
+-- The plan of a result does its command.
+use Rattle.std.proofs.Common.{◌≡◌, ◌<◌, ℕ, ◌+◌, Bool, true, false, cond, zero, suc, List, [], ◌∷◌, ◌++◌, refl, sym, subst, ◌∙◌, ap, length, map, arith, ℤ, pos, ◌+ℤ◌, Option, Some, None}
+use Rattle.std.specs.Prelude.{decimal, codes, is_none, is_some, nat_abs, option_map, option_to_list, unwrap_or, flat_map, Ok}
+use Rattle.std.specs.Option.{option_map_or}
+use Rattle.std.proofs.lemmas.Int.{ints}
+use Rattle.brk_lots.specs.Closing.{IsClosing}
+use Rattle.brk_lots.specs.Lots.{from_end, plain_lot, plain_touch, shares_of}
+use Rattle.brk_lots.specs.declared.closing.Closing.{Closing}
+use Rattle.brk_lots.specs.declared.lot.Lot.{Lot}
+use Rattle.brk_lots.specs.declared.lot.Touch.{Touch}
+use Rattle.brk_model.specs.Base.{Base, broker_of, completed, moment_of, trade_with}
+use Rattle.brk_model.specs.Commands as model
+use Rattle.brk_model.specs.Commands.{CompleteTrade, CompletedTrade}
+use Rattle.brk_model.specs.Derived as derived
+use Rattle.brk_model.specs.Derived.{balance_of, commissions_of, due_after, due_day, postings_of, shares_in, summary_of, trade_count_of}
+use Rattle.brk_model.specs.Lists.{is_zero}
+use Rattle.brk_model.specs.Records.{Trade}
+use Rattle.brk_model.specs.Results as results
+use Rattle.brk_model.specs.Results.{completed_trade, completion, result_deal, with_result}
+use Rattle.brk_model.specs.Shares as shares
+use Rattle.brk_model.specs.Shares.{lots, opened_shares, signed, touches}
+use Rattle.brk_model.specs.Sheets.{sheets}
+use Rattle.brk_model.specs.Step.{reply_to}
+use Rattle.brk_model.specs.Tables as tables
+use Rattle.brk_model.specs.Tables.{SummaryRow, Tables, TradeRow, trade_row}
+use Rattle.brk_model.specs.Tests.{first_refusal, next_stamp, refusal_of}
+use Rattle.brk_money.specs.Kinds.{side_of, type_name}
+use Rattle.brk_money.specs.Spelling.{Text}
+use Rattle.brk_money.specs.declared.side.Side.{Side}
+use Rattle.brk_money.specs.declared.side.Side.TheVariants.{Buy, Sell}
+use Rattle.brk_money.specs.declared.status.Status.TheVariants.{Completed}
+use Rattle.brk_changes.specs.Changes.{after_change, after_changes, with_balance, with_broker_numbers, with_completion, with_history, with_last, with_lot_change, with_move, with_settlement}
+use Rattle.brk_trade.specs.Outcomes.{deal_of, outcome_of, result_tests, summary_after, values_in}
+use Rattle.brk_plans.specs.Replies.{reply_of}
+use Rattle.brk_trade.specs.Results as planner
+use Rattle.brk_trade.specs.Results.{IsCompleted, cash_changes, changes_of, first_cash_type, opened_changes, sum_changes, summary_change, touched_changes, told_of, trade_changes}
+use Rattle.brk_changes.specs.Rows.{cash_type_word, move_row_of, trade_row_of}
+use Rattle.brk_changes.specs.declared.move_row.MoveRow.{MoveRow}
+use Rattle.brk_changes.specs.declared.change.Change.{Change}
+use Rattle.brk_changes.specs.declared.change.Change.TheVariants as change
+use Rattle.brk_trade.specs.declared.outcome.Outcome.{Outcome}
+use Rattle.brk_trade.specs.declared.result_found.ResultFound.{ResultFound}
+use Rattle.brk_plans.specs.declared.plan.Plan.{Plan}
+use Rattle.brk_plans.specs.declared.reply.Reply.TheVariants as reply
+use Rattle.brk_changes.specs.declared.summary_row.SummaryRow as summary
+use Rattle.brk_changes.specs.declared.trade_row.TradeRow as planned
+use Rattle.brk_book_theorems.specs.Books.{IsBooks}
+use Rattle.brk_trade_theorems.specs.Plans.{DoesCommand}
+use Rattle.brk_book_theorems.specs.Steps.{IsDone, base_then}
+use Rattle.brk_trade_theorems.specs.ResultPlans.{IsReadForResult, PassesFirst}
+use Rattle.brk_book_theorems.specs.Results.{cash_rows, completed_rows, opened_rows, result_rows, rows_of_result, summary_rows_moved, touched_rows}
+use Rattle.brk_book_theorems.specs.TradeReads.{position_in, row_of_summary, summary_in}
+use Rattle.brk_book_theorems.specs.Trading.{status_row}
+use Rattle.brk_trade_theorems.proofs.QuotedTicks.{after_more}
+use Rattle.brk_trade_theorems.proofs.ResultFinding.{TradeFound, amount_read, balance_read, broker_found, commission_read, commissions_read, held_found, account_found, next_found, passes_rate, passes_status, passes_summary, result_refusal, result_values, rule_found, security_found, summary_found, summary_read, tax_read, trade_found}
+use Rattle.brk_book_theorems.proofs.ResultKeeping.{Found, books_result, found_at, step_result, submitted}
+use Rattle.brk_book_theorems.proofs.ResultRows.{IsResult, moment_then}
+use Rattle.brk_book_theorems.proofs.ResultSums.{count_grows}
+use Rattle.brk_book_theorems.proofs.Summaries.{reads_summary_row}
+use Rattle.brk_book_theorems.proofs.Tested.{none_refuse}
+use Rattle.brk_trade_theorems.proofs.TradePlanning.{is_done, stamp_read}
+use Rattle.brk_trade_theorems.proofs.ResultRefusing.{at_market, deal_read, held_by_row, lots_met, lots_shares, trade_of}
+
+-- ---- the rows
+
+touched_made : (trade : ℕ) (touched : List Touch) (t : Tables) → after_changes (flat_map (touched_changes trade) touched) t ≡ touched_rows trade (map plain_touch touched) t
+touched_made trade [] t = refl
+touched_made trade (touch ∷ touched) t =
+    after_more (touched_changes trade touch) (flat_map (touched_changes trade) touched) t
+    ∙ ap (λ u. after_changes (flat_map (touched_changes trade) touched) (with_lot_change (record { lot = touch.lot; trade = trade; before = touch.before; after = touch.after }) u)) (left touch (is_zero touch.after))
+    ∙ touched_made trade touched _
+  where
+    left : (touch : Touch) (b : Bool) → after_change (cond b (change.RemoveLot touch.lot) (change.SetLot touch.lot touch.after)) t
+        ≡ cond b (after_change (change.RemoveLot touch.lot) t) (after_change (change.SetLot touch.lot touch.after) t)
+    left touch true = refl
+    left touch false = refl
+
+opened_made : (trade : planned.TradeRow) (ls : List Lot) (t : Tables) → after_changes (flat_map (opened_changes trade) ls) t ≡ opened_rows (trade_row_of trade) (map plain_lot ls) t
+opened_made trade [] t = refl
+opened_made trade (lot ∷ ls) t = after_more (opened_changes trade lot) (flat_map (opened_changes trade) ls) t ∙ opened_made trade ls _
+
+-- shares of some trade, either way, are not none
+moved_some : (side : Side) (n : ℕ) → 0 < n → is_zero (pos 0 +ℤ signed side n) ≡ false
+moved_some side zero h = absurd (omega (arith, h))
+moved_some Buy (suc n) h = ap is_zero (plain (pos (suc n)))
+  where
+    plain : (z : ℤ) → pos 0 +ℤ z ≡ z
+    plain z = omega (arith, ints)
+moved_some Sell (suc n) h = ap is_zero (plain (signed Sell (suc n)))
+  where
+    plain : (z : ℤ) → pos 0 +ℤ z ≡ z
+    plain z = omega (arith, ints)
+
+summary_made : (found : ResultFound) (row : Option SummaryRow) (before after : ℤ) (t : Tables) → found.summary ≡ option_map (λ r. r.qty) row
+    → (row ≡ None → is_zero before ≡ true) → ((r : SummaryRow) → row ≡ Some r → is_zero before ≡ false) → (row ≡ None → is_zero after ≡ false)
+    → after_change (summary_change found.summary found.trade after) t
+    ≡ summary_rows_moved before after (record { account = found.trade.account; symbol = found.trade.symbol; qty = after }) t
+summary_made found row before after t e none some new = by_row row refl e
+  where
+    S : summary.SummaryRow
+    S = record { account = found.trade.account; symbol = found.trade.symbol; qty = after }
+
+    F : Option ℤ → Tables
+    F o = after_change (summary_change o found.trade after) t
+
+    M : Bool → Bool → Tables
+    M a b = cond a (after_change (change.RemoveSummary found.trade.account found.trade.symbol) t)
+        (cond b (after_change (change.AddSummary S) t) (after_change (change.SetSummary S) t))
+
+    set : (q : ℤ) (b : Bool) → after_change (cond b (change.RemoveSummary found.trade.account found.trade.symbol) (change.SetSummary S)) t ≡ M b false
+    set q true = refl
+    set q false = refl
+
+    by_row : (o : Option SummaryRow) → row ≡ o → found.summary ≡ option_map (λ r. r.qty) row → F found.summary ≡ M (is_zero after) (is_zero before)
+    by_row None f e = ap F (e ∙ ap (option_map (λ r. r.qty)) f) ∙ sym (λ i. M (new f i) (none f i))
+    by_row (Some r) f e = ap F (e ∙ ap (option_map (λ r. r.qty)) f) ∙ set r.qty (is_zero after) ∙ sym (ap (M (is_zero after)) (some r f))
+
+-- ---- a completion
+
+-- a result that was planned, of the trade that it completes
+record Planned (base : Base) (price : ℕ) (last : Option ℕ) (now : ℕ) (t : Trade) (found : ResultFound) (closing : Closing) (stamp : ℕ) : Type 0 where
+  pub found_it : TradeFound base t found
+  pub front : List Trade
+  pub back : List Trade
+  pub result : IsResult base stamp price t front back
+  pub some_shares : 0 < found.trade.qty
+  pub values : values_in closing ≡ result_values base stamp price t
+  pub touched : map plain_touch closing.touched.items ≡ from_end t.is_lifo (touches (result_deal stamp price t) (shares_in (completed base) t.account t.symbol))
+  pub opened : map plain_lot (option_to_list closing.opened) ≡ lots (opened_shares (result_deal stamp price t) (shares_in (completed base) t.account t.symbol))
+  pub one : PassesFirst 1 found
+  pub rated : is_none found.rate ≡ false
+  pub two : PassesFirst 2 found
+  pub three : PassesFirst 3 found
+
+abbrev outcome_planned : ResultFound → ℕ → Closing → ℕ → Outcome
+outcome_planned found price closing stamp = outcome_of found price (values_in closing) stamp
+
+-- what it comes to is what the definitions say
+record Agrees (base : Base) (price : ℕ) (t : Trade) (found : ResultFound) (closing : Closing) (stamp : ℕ) : Type 0 where
+  pub commission : (outcome_planned found price closing stamp).commission ≡ (completed_trade base stamp price t).commission
+  pub tax : (outcome_planned found price closing stamp).tax ≡ (completed_trade base stamp price t).tax
+  pub amount : (outcome_planned found price closing stamp).amount ≡ derived.amount_of base.accounts (completed_trade base stamp price t)
+  pub due : (outcome_planned found price closing stamp).due_day ≡ due_day base.rule (completed_trade base stamp price t)
+  pub summary : (outcome_planned found price closing stamp).summary ≡ summary_of (completed (with_result base stamp price t)) t.account t.symbol
+  pub balance : (outcome_planned found price closing stamp).balance ≡ balance_of base.accounts (postings_of (with_result base stamp price t)) t.account
+  pub commissions : (outcome_planned found price closing stamp).commissions ≡ commissions_of base.accounts (completed (with_result base stamp price t)) (broker_of base t.account)
+  pub trades : pos (found.broker.trades + 1) ≡ pos (trade_count_of base.accounts (completed (with_result base stamp price t)) (broker_of base t.account))
+  pub broker : found.account.broker ≡ broker_of base t.account
+
+agrees : (base : Base) (price : ℕ) (last : Option ℕ) (now : ℕ) (t : Trade) (found : ResultFound) (closing : Closing) (stamp : ℕ) → Planned base price last now t found closing stamp
+    → Agrees base price t found closing stamp
+agrees base price last now t found closing stamp k =
+    let f = k.found_it in
+    record {
+      commission = commission_read base stamp price t found f k.one k.rated;
+      tax = ap (λ v. (outcome_of found price v stamp).tax) k.values ∙ tax_read base stamp price t found f k.three;
+      amount = ap (λ v. (outcome_of found price v stamp).amount) k.values ∙ amount_read base stamp price t found f k.three k.rated k.one;
+      due = λ i. due_after (rule_found base t found f k.three i) (sym (moment_then base stamp price t) i);
+      summary = summary_read base stamp price t k.front k.back found f k.result k.two;
+      balance = ap (λ v. (outcome_of found price v stamp).balance) k.values ∙ balance_read base stamp price t k.front k.back found f k.result k.three k.rated k.one;
+      commissions = commissions_read base stamp price t k.front k.back found f k.result k.three k.rated k.one;
+      trades = one_more found.broker.trades (trade_count_of base.accounts (completed base) (broker_of base t.account)) (broker_found base t found f k.three).0
+          ∙ ap pos (sym (count_grows base stamp price t k.front k.back k.result));
+      broker = ap (λ a. a.broker) (account_found base t found f k.three);
+    }
+  where
+    one_more : (m n : ℕ) → pos m ≡ pos n → pos (m + 1) ≡ pos (n + 1)
+    one_more m n e = let h : m ≡ n = cc in ap (λ n. pos (n + 1)) h
+
+-- ---- the reply
+
+told_read : (base : Base) (price : ℕ) (last : Option ℕ) (now : ℕ) (t : Trade) (found : ResultFound) (closing : Closing) (stamp : ℕ) → Planned base price last now t found closing stamp
+    → CompletedTrade stamp (completion base stamp price t) ≡ reply_of (reply.Completed (told_of (outcome_planned found price closing stamp)))
+unfolding completion completed_trade
+told_read base price last now t found closing stamp k =
+    let a = agrees base price last now t found closing stamp k in
+    sym (λ i. CompletedTrade stamp (record {
+      commission = a.commission i;
+      tax = a.tax i;
+      amount = a.amount i;
+      due_day = a.due i;
+      buy_value = (k.values i).buy_value;
+      sell_value = (k.values i).sell_value;
+      balance = a.balance i;
+    }))
+
+-- ---- the changes, one after another
+
+trade_made : (base : Base) (price : ℕ) (last : Option ℕ) (now : ℕ) (t : Trade) (found : ResultFound) (closing : Closing) (stamp : ℕ) → Planned base price last now t found closing stamp
+    → (x : Tables) → after_changes (trade_changes found.trade.id price (outcome_planned found price closing stamp)) x ≡ completed_rows (trade_row (completed_trade base stamp price t)) x
+unfolding completed_trade
+trade_made base price last now t found closing stamp k x =
+    let a = agrees base price last now t found closing stamp k in
+    let m : stamp ≡ moment_of (completed_trade base stamp price t) = sym (moment_then base stamp price t) in
+    λ i. with_history (status_row (k.found_it.row i).id Completed (m i)) (with_completion (k.found_it.row i).id (m i) price (a.commission i) (a.tax i) x)
+
+lots_made : (base : Base) (price : ℕ) (last : Option ℕ) (now : ℕ) (t : Trade) (found : ResultFound) (closing : Closing) (stamp : ℕ) → Planned base price last now t found closing stamp
+    → (x : Tables) → after_changes (flat_map (opened_changes found.trade) (option_to_list closing.opened)) (after_changes (flat_map (touched_changes found.trade.id) closing.touched.items) x)
+    ≡ opened_rows (trade_row (completed_trade base stamp price t)) (rows_of_result base stamp price t).opened (touched_rows t.id (rows_of_result base stamp price t).touched x)
+unfolding completed_trade
+lots_made base price last now t found closing stamp k x =
+    ap (after_changes (flat_map (opened_changes found.trade) (option_to_list closing.opened))) (touched_made found.trade.id closing.touched.items x)
+    ∙ opened_made found.trade (option_to_list closing.opened) (touched_rows found.trade.id (map plain_touch closing.touched.items) x)
+    ∙ (λ i. opened_rows (k.found_it.row i) (k.opened i) (touched_rows (k.found_it.row i).id (k.touched i) x))
+
+cash_type_read : (b : Bool) → cash_type_word (first_cash_type b) ≡ cond b (codes "Cash Account") (codes "Margin")
+cash_type_read true = refl
+cash_type_read false = refl
+
+-- the summary is a row where it is not 0
+summary_row_is : (base : Base) (price : ℕ) (last : Option ℕ) (now : ℕ) (t : Trade) (found : ResultFound) (closing : Closing) (stamp : ℕ) → Planned base price last now t found closing stamp
+    → (x : Tables) → after_change (summary_change found.summary found.trade (outcome_planned found price closing stamp).summary) x
+    ≡ summary_rows_moved (summary_of (completed base) t.account t.symbol) (summary_of (completed (with_result base stamp price t)) t.account t.symbol)
+    (record { account = t.account; symbol = t.symbol; qty = summary_of (completed (with_result base stamp price t)) t.account t.symbol }) x
+summary_row_is base price last now t found closing stamp k x =
+    let a = agrees base price last now t found closing stamp k in
+    let f = k.found_it in
+    let held : unwrap_or found.summary (pos 0) ≡ summary_of (completed base) t.account t.symbol = held_found base t found f k.two in
+    let row : summary_in (sheets base) t.account t.symbol ≡ row_of_summary t.account t.symbol (summary_of (completed base) t.account t.symbol) =
+    reads_summary_row base t.account t.symbol f.books (ap is_some f.owner.there) (ap is_some f.listed_is) in
+    summary_made found (summary_in (sheets base) t.account t.symbol) (summary_of (completed base) t.account t.symbol) (summary_after found) x (summary_found base t found f k.two)
+    (λ e. none_zero t.account t.symbol (summary_of (completed base) t.account t.symbol) (is_zero (summary_of (completed base) t.account t.symbol)) refl (sym row ∙ e))
+    (λ r e. some_left t.account t.symbol (summary_of (completed base) t.account t.symbol) (is_zero (summary_of (completed base) t.account t.symbol)) refl r (sym row ∙ e))
+    (λ e. ap (λ o. is_zero (unwrap_or o (pos 0) +ℤ signed (side_of found.trade.kind) found.trade.qty)) (summary_found base t found f k.two ∙ ap (option_map (λ r. r.qty)) e)
+    ∙ moved_some (side_of found.trade.kind) found.trade.qty k.some_shares)
+    ∙ (λ i. summary_rows_moved (summary_of (completed base) t.account t.symbol) (a.summary i) (record { account = (f.row i).account; symbol = (f.row i).symbol; qty = a.summary i }) x)
+  where
+    none_zero : (account : ℕ) (symbol : Text) (q : ℤ) (b : Bool) → is_zero q ≡ b → row_of_summary account symbol q ≡ None → is_zero q ≡ true
+    none_zero account symbol q true e h = e
+    none_zero account symbol q false e h =
+        let row : SummaryRow = record { account = account; symbol = symbol; qty = q } in
+        let k : Some row ≡ None = sym (ap (λ b. cond b None (Some row)) e) ∙ h in absurd (cc)
+
+    some_left : (account : ℕ) (symbol : Text) (q : ℤ) (b : Bool) → is_zero q ≡ b → (r : SummaryRow) → row_of_summary account symbol q ≡ Some r → is_zero q ≡ false
+    some_left account symbol q false e r h = e
+    some_left account symbol q true e r h =
+        let row : SummaryRow = record { account = account; symbol = symbol; qty = q } in
+        let k : None ≡ Some r = sym (ap (λ b. cond b None (Some row)) e) ∙ h in absurd (cc)
+
+sums_made : (base : Base) (price : ℕ) (last : Option ℕ) (now : ℕ) (t : Trade) (found : ResultFound) (closing : Closing) (stamp : ℕ) → Planned base price last now t found closing stamp
+    → (x : Tables) → after_changes (sum_changes found (outcome_planned found price closing stamp)) x
+    ≡ with_settlement (rows_of_result base stamp price t).settlement
+    (with_broker_numbers (rows_of_result base stamp price t).broker (rows_of_result base stamp price t).trades (rows_of_result base stamp price t).commissions
+    (summary_rows_moved (summary_of (completed base) t.account t.symbol) (summary_of (completed (with_result base stamp price t)) t.account t.symbol)
+    (record { account = t.account; symbol = t.symbol; qty = summary_of (completed (with_result base stamp price t)) t.account t.symbol }) x))
+unfolding completed_trade
+sums_made base price last now t found closing stamp k x =
+    let a = agrees base price last now t found closing stamp k in
+    let f = k.found_it in
+    λ i. with_settlement (record {
+      trade = (f.row i).id;
+      cash_type = (ap (λ (r : TradeRow). cash_type_word (first_cash_type r.is_cash)) f.row ∙ cash_type_read t.is_cash) i;
+      due_day = a.due i;
+      amount = a.amount i;
+    })
+    (with_broker_numbers (a.broker i) (a.trades i) (a.commissions i) (summary_row_is base price last now t found closing stamp k x i))
+
+cash_made : (base : Base) (price : ℕ) (last : Option ℕ) (now : ℕ) (t : Trade) (found : ResultFound) (closing : Closing) (stamp : ℕ) → Planned base price last now t found closing stamp
+    → (cash : Option MoveRow) → option_map move_row_of cash ≡ planner.cash_row found (outcome_planned found price closing stamp) → (x : Tables)
+    → after_changes (flat_map (cash_changes found.trade.account (outcome_planned found price closing stamp).balance) (option_to_list cash)) x
+    ≡ cash_rows t.is_cash (rows_of_result base stamp price t).cash t.account (rows_of_result base stamp price t).balance x
+unfolding completed_trade
+cash_made base price last now t found closing stamp k cash moved x = by_cash t.is_cash refl cash (moved ∙ told)
+  where
+    a : Agrees base price t found closing stamp
+    a = agrees base price last now t found closing stamp k
+
+    f : TradeFound base t found
+    f = k.found_it
+
+    row : tables.MoveRow
+    row = (rows_of_result base stamp price t).cash
+
+    moves : tables.MoveRow
+    moves = record {
+      id = length (postings_of base) + 1;
+      account = t.account;
+      trade = Some t.id;
+      stamp = moment_of (completed_trade base stamp price t);
+      amount = row.amount;
+      name = results.cash_text (codes " shares of ") base t;
+    }
+
+    name : t.is_cash ≡ true → row.name ≡ results.cash_text (codes " shares of ") base t
+    name e = ap (λ b. cond b (results.cash_text (codes " shares of ") base t) []) e
+
+    told : planner.cash_row found (outcome_planned found price closing stamp)
+        ≡ cond t.is_cash (Some moves) None
+    told = λ i. cond (f.row i).is_cash (Some (record {
+      id = next_found base t found f k.three i;
+      account = (f.row i).account;
+      trade = Some (f.row i).id;
+      stamp = sym (moment_then base stamp price t) i;
+      amount = a.amount i;
+      name = type_name (f.row i).kind ++ 32 ∷ decimal (f.row i).qty ++ codes " shares of " ++ security_found base t found f k.three i;
+    })) None
+
+    Made : Bool → Option MoveRow → Type 0
+    Made b cash = after_changes (flat_map (cash_changes found.trade.account (outcome_planned found price closing stamp).balance) (option_to_list cash)) x
+        ≡ cash_rows b row t.account (rows_of_result base stamp price t).balance x
+
+    unsome : (c d : tables.MoveRow) → Some c ≡ Some d → c ≡ d
+    unsome c d e = cc
+
+    by_cash : (b : Bool) → t.is_cash ≡ b → (cash : Option MoveRow)
+        → option_map move_row_of cash ≡ cond t.is_cash (Some moves) None
+        → Made t.is_cash cash
+    by_cash true e None h =
+        let j : None ≡ Some moves =
+        h ∙ ap (λ b. cond b (Some moves) None) e in
+        absurd (cc)
+    by_cash true e (Some c) h =
+        let j : Some (move_row_of c) ≡ Some moves =
+        h ∙ ap (λ b. cond b (Some moves) None) e in
+        let same : move_row_of c ≡ row = unsome (move_row_of c) moves j ∙ (λ i. record row { name = sym (name e) i }) in
+        (λ i. with_balance (f.row i).account (a.balance i) (with_move (same i) x)) ∙ sym (ap (λ b. cash_rows b row t.account (rows_of_result base stamp price t).balance x) e)
+    by_cash false e None h = sym (ap (λ b. cash_rows b row t.account (rows_of_result base stamp price t).balance x) e)
+    by_cash false e (Some c) h =
+        let j : Some (move_row_of c) ≡ None =
+        h ∙ ap (λ b. cond b (Some moves) None) e in
+        absurd (cc)
+
+-- all of them
+changes_made : (base : Base) (price : ℕ) (last : Option ℕ) (now : ℕ) (t : Trade) (found : ResultFound) (closing : Closing) (stamp : ℕ) → Planned base price last now t found closing stamp
+    → (cash : Option MoveRow) → option_map move_row_of cash ≡ planner.cash_row found (outcome_planned found price closing stamp) → (x : Tables)
+    → after_changes (changes_of found price closing (outcome_planned found price closing stamp) cash) x ≡ with_last stamp (result_rows (rows_of_result base stamp price t) x)
+unfolding completed_trade
+changes_made base price last now t found closing stamp k cash moved x =
+    let o : Outcome = outcome_planned found price closing stamp in
+    let T : List Change = trade_changes found.trade.id price o in
+    let L : List Change = flat_map (touched_changes found.trade.id) closing.touched.items in
+    let O : List Change = flat_map (opened_changes found.trade) (option_to_list closing.opened) in
+    let S : List Change = sum_changes found o in
+    let C : List Change = flat_map (cash_changes found.trade.account o.balance) (option_to_list cash) in
+    after_more ((((T ++ L) ++ O) ++ S) ++ C) (change.SetLast stamp ∷ []) x
+    ∙ ap (with_last stamp) (after_more (((T ++ L) ++ O) ++ S) C x
+    ∙ ap (after_changes C) (after_more ((T ++ L) ++ O) S x
+    ∙ ap (after_changes S) (after_more (T ++ L) O x ∙ ap (after_changes O) (after_more T L x)
+    ∙ ap (λ y. after_changes O (after_changes L y)) (trade_made base price last now t found closing stamp k x)
+    ∙ lots_made base price last now t found closing stamp k (completed_rows (trade_row (completed_trade base stamp price t)) x))
+    ∙ sums_made base price last now t found closing stamp k _)
+    ∙ cash_made base price last now t found closing stamp k cash moved _)
+
+-- ---- the plan
+
+-- an accepted result is done by its rows
+pub result_done : (base : Base) (id price now stamp : ℕ) (t : Trade) → IsBooks base → trade_with base id ≡ Some t → refusal_of base now (CompleteTrade id price) ≡ None
+    → stamp ≡ next_stamp base now → IsDone base now (CompleteTrade id price) stamp (CompletedTrade stamp (completion base stamp price t)) (result_rows (rows_of_result base stamp price t))
+unfolding reply_to
+result_done base id price now stamp t books e accepted next =
+    is_done base now (CompleteTrade id price) stamp (CompletedTrade stamp (completion base stamp price t)) (λ stamp. result_rows (rows_of_result base stamp price t)) books accepted next
+    (ap (λ o. option_map_or (λ t. CompletedTrade (next_stamp base now) (completion base (next_stamp base now) price t)) o (model.Booked (next_stamp base now))) e
+    ∙ (λ i. CompletedTrade (sym next i) (completion base (sym next i) price t)))
+    (step_result base now id price t e) (books_result base now id price)
+
+pub result_plan_does : (base : Base) (id price : ℕ) (found : Option ResultFound) (given : List Lot → Type 0) (last : Option ℕ) (now : ℕ) (plan : Plan) → IsReadForResult base id found given last now
+    → IsCompleted found price given last now plan → DoesCommand base now (CompleteTrade id price) plan
+result_plan_does base id price None given last now plan k p = absurd p
+result_plan_does base id price (Some found) given last now plan k p =
+    let t = trade_of base id (trade_row_of found.trade) k.trade_read in
+    let f : TradeFound base t.0 found = trade_found base id t.0 found k.books t.1 t.2 k.looked_up in
+    let next : p.stamp ≡ next_stamp base now = stamp_read base last now p.stamp k.last_read p.stamped in
+    let tests = none_refuse (result_tests found price (values_in p.closing) (Some p.stamp)) p.accepted in
+    let held = position_in (sheets base) found.trade.account found.trade.symbol in
+    let met = lots_met base id found given k.books k.trade_read (at_market found tests.0) (k.lots_read (passes_status found tests.0)) (held_by_row base t.0 found f (passes_rate found tests.0 tests.1.0)) in
+    let closes : IsClosing (deal_of found.trade price p.stamp) held p.closing = p.closes held met in
+    let deal : deal_of found.trade price p.stamp ≡ result_deal p.stamp price t.0 = deal_read t.0 found price p.stamp t.2 in
+    let same : shares_of held ≡ shares_in (completed base) t.0.account t.0.symbol = lots_shares base t.0 found f in
+    let values : values_in p.closing ≡ result_values base p.stamp price t.0 = λ i. record {
+      buy_value = (ap nat_abs closes.bought ∙ (λ i. shares.buy_value (deal i) (same i))) i;
+      sell_value = (ap nat_abs closes.sold ∙ (λ i. shares.sell_value (deal i) (same i))) i;
+    } in
+    let accepted : refusal_of base now (CompleteTrade id price) ≡ None =
+    sym (result_refusal base now id price t.0 found last f t.1 k.last_read k.moment)
+    ∙ (λ i. first_refusal (result_tests found price (result_values base (sym next i) price t.0) (p.stamped i)))
+    ∙ sym (ap (λ v. first_refusal (result_tests found price v (Some p.stamp))) values) ∙ p.accepted in
+    let stands : Found base now price t.0 = found_at base now id price t.0 k.books t.1 (submitted base now id price t.0 t.1 accepted) in
+    let made : Planned base price last now t.0 found p.closing p.stamp = record {
+      found_it = f;
+      front = stands.front;
+      back = stands.back;
+      result = subst (λ (s : ℕ). IsResult base s price t.0 stands.front stands.back) (sym next) stands.result;
+      some_shares = k.some_shares;
+      values = values;
+      touched = closes.touched ∙ (λ i. from_end (deal i).is_lifo (touches (deal i) (same i)));
+      opened = closes.opened ∙ (λ i. lots (opened_shares (deal i) (same i)));
+      one = passes_status found tests.0;
+      rated = tests.1.0;
+      two = passes_rate found tests.0 tests.1.0;
+      three = passes_summary found tests.0 tests.1.0 tests.1.1.0;
+    } in
+    let done = result_done base id price now p.stamp t.0 k.books t.1 accepted next in
+    record {
+      steps = done.steps ∙ ap (λ reply. Ok (reply, base_then base now (CompleteTrade id price))) (told_read base price last now t.0 found p.closing p.stamp made ∙ sym (ap reply_of p.told));
+      rows = done.rows ∙ sym (changes_made base price last now t.0 found p.closing p.stamp made p.changes.cash p.changes.moved (sheets base))
+          ∙ sym (ap (λ changes. after_changes changes (sheets base)) p.changes.changed);
+      kept = done.kept;
+    }

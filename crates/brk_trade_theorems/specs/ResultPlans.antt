@@ -1,0 +1,67 @@
+-- What is read from the tables before a result is planned.
+use Rattle.std.specs.Prelude.{◌≡◌, ◌≤◌, ◌<◌, ◌+◌, ℕ, ◌==◌, List, find, take, IfSome, Option, None, option_map, pos}
+use Rattle.brk_lots.specs.declared.lot.Lot.{Lot}
+use Rattle.brk_model.specs.Base.{Base}
+use Rattle.brk_model.specs.Joins.{account_in, security_in, trade_in}
+use Rattle.brk_model.specs.Sheets.{sheets}
+use Rattle.brk_model.specs.Tables.{AccountRow, Tables}
+use Rattle.brk_model.specs.Tests.{first_refusal}
+use Rattle.brk_money.specs.Moments.{last_stamp}
+use Rattle.brk_trade.specs.Outcomes.{first_tests}
+use Rattle.brk_changes.specs.Rows.{trade_row_of}
+use Rattle.brk_trade.specs.declared.result_found.ResultAccount.{ResultAccount}
+use Rattle.brk_trade.specs.declared.result_found.ResultFound.{ResultFound}
+use Rattle.brk_changes.specs.declared.trade_row.TradeRow.{TradeRow}
+use Rattle.brk_book_theorems.specs.Books.{IsBooks}
+use Rattle.brk_book_theorems.specs.OrderReads.{GivesLots, IfCustomer}
+use Rattle.brk_book_theorems.specs.Reads.{rates_of}
+use Rattle.brk_book_theorems.specs.TradeReads.{band_in, last_move, summary_in}
+
+-- ---- what was found
+
+-- the first tests of a result (its status, its band, its summary) find nothing wrong, so that more is looked up
+abbrev pub PassesFirst : ℕ → ResultFound → Type 0
+PassesFirst n found = first_refusal (take n (first_tests found)) ≡ None
+
+-- what an account's row says of the results of its trades
+abbrev pub result_account : AccountRow → ResultAccount
+result_account r = record { broker = r.broker; tax_status = r.tax_status; balance = r.balance }
+
+-- what was found for a trade is what stands in the tables; of what is not needed after an earlier refusal nothing is said
+pub record IsFoundForResult (t : Tables) (found : ResultFound) : Type 0 where
+  -- the rate of the band of the quantity, by the customer's tier and the security's exchange
+  pub rate : PassesFirst 1 found
+      → IfCustomer t found.trade.account (λ c. IfSome (security_in t found.trade.symbol) (λ s.
+      found.rate ≡ option_map (λ b. b.rate) (band_in t c.tier found.trade.kind s.exchange found.trade.qty)))
+  -- the number of the summary
+  pub summary : PassesFirst 2 found → found.summary ≡ option_map (λ r. r.qty) (summary_in t found.trade.account found.trade.symbol)
+  pub account : PassesFirst 3 found → IfSome (account_in t found.trade.account) (λ a. found.account ≡ result_account a)
+  -- the rates that the customer pays
+  pub rates : PassesFirst 3 found → IfSome (account_in t found.trade.account) (λ a. found.rates ≡ rates_of t a.customer)
+  -- the numbers of the account's broker
+  pub broker : PassesFirst 3 found
+      → IfSome (account_in t found.trade.account) (λ a. IfSome (find (λ r. r.id == a.broker) t.brokers) (λ b.
+      (pos found.broker.trades ≡ b.trades) × (found.broker.commissions ≡ b.commissions)))
+  pub security : PassesFirst 3 found → IfSome (security_in t found.trade.symbol) (λ s. found.security ≡ s.name)
+  -- the settlement day, and the number after that of the last cash row
+  pub rule : PassesFirst 3 found → found.rule ≡ t.rule
+  pub next : PassesFirst 3 found → found.next ≡ last_move t + 1
+
+-- ---- lots
+
+-- the lots that are given for a result are those of the account and the symbol of its trade from the trade's end
+abbrev pub AreLotsOfTrade : Tables → TradeRow → (List Lot → Type 0) → Type 0
+AreLotsOfTrade t trade given = GivesLots t trade.account trade.symbol trade.is_lifo given
+
+-- ---- a result
+
+-- what is known where a result is planned: the base is in order, its tables were looked up at a moment that there is, the lots that are given
+-- are those of a trade at the market, and the trade that was found is of some shares
+pub record IsReadForResult (base : Base) (id : ℕ) (found : Option ResultFound) (given : List Lot → Type 0) (last : Option ℕ) (now : ℕ) : Type 0 where
+  pub books : IsBooks base
+  pub trade_read : trade_in (sheets base) id ≡ option_map (λ f. trade_row_of f.trade) found
+  pub looked_up : IfSome found (IsFoundForResult (sheets base))
+  pub lots_read : IfSome found (λ f. PassesFirst 1 f → AreLotsOfTrade (sheets base) f.trade given)
+  pub some_shares : IfSome found (λ f. 0 < f.trade.qty)
+  pub last_read : last ≡ (sheets base).last
+  pub moment : now ≤ last_stamp

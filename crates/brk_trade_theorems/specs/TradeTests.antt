@@ -1,0 +1,26 @@
+-- What cancels and feeds are tested for, by what was read from the tables.
+use Rattle.std.specs.Prelude.{ℕ, true, not, List, [], ◌∷◌, Option, Some, None}
+use Rattle.std.specs.List.{list_any}
+use Rattle.brk_money.specs.Kinds.{same_status}
+use Rattle.brk_money.specs.declared.refusal.Refusal.TheVariants.{NoSecurity, NoTrade, WrongStatus, Range}
+use Rattle.brk_money.specs.declared.refusal.Limit.TheVariants as limit
+use Rattle.brk_money.specs.declared.status.Status.TheVariants.{Pending}
+use Rattle.brk_model.specs.Tables.{Tables, TradeRow}
+use Rattle.brk_model.specs.Commands.{Tick}
+use Rattle.brk_model.specs.Tests.{Test}
+use Rattle.brk_plans.specs.Reference.{clock_test}
+use Rattle.brk_book_theorems.specs.Ticks.{exceeds_volume, is_unknown}
+
+-- ---- a cancel
+
+-- what a cancel is tested for, by the row of its trade, the last stamp and the moment
+abbrev pub cancel_tests : Option TradeRow → Option ℕ → ℕ → List Test
+cancel_tests None last now = (true, NoTrade) ∷ clock_test last now ∷ []
+cancel_tests (Some r) last now = (not (same_status r.status Pending), WrongStatus r.status) ∷ clock_test last now ∷ []
+
+-- ---- a feed
+
+-- what a feed is tested for, by the last trades of its symbols, the last stamp and the moment
+abbrev pub feed_tests : Tables → List Tick → Option ℕ → ℕ → List Test
+feed_tests t ticks last now =
+    (list_any (is_unknown t) ticks, NoSecurity) ∷ (list_any (exceeds_volume t ticks) ticks, Range limit.Volume) ∷ clock_test last now ∷ []

@@ -1,0 +1,57 @@
+//! What is planned and estimated of an order by what was found in the tables is what the definitions say.
+
+ghost use Rattle.std.specs.Prelude.{◌≡◌, ◌∷◌, ◌++◌, [], ℕ, Err, List, None, Ok, Option, Some};
+ghost use Rattle.brk_trade.specs.Estimates.{AreTerms};
+ghost use Rattle.brk_plans.specs.Replies.{told};
+ghost use Rattle.brk_plans.specs.declared.estimate.Estimate.{Estimate};
+ghost use Rattle.brk_lots.specs.Sources.{Exactly};
+ghost use Rattle.brk_lots.specs.declared.lot.Lot.{Lot};
+ghost use Rattle.brk_model.specs.Ask.{ask};
+ghost use Rattle.brk_model.specs.Base.{Base};
+ghost use Rattle.brk_model.specs.Commands.{PlaceOrder};
+ghost use Rattle.brk_model.specs.Orders.{estimate};
+ghost use Rattle.brk_model.specs.Queries.{EstimateOf};
+ghost use Rattle.brk_model.specs.Rows.{estimate_fields};
+ghost use Rattle.brk_model.specs.Sheets.{sheets};
+ghost use Rattle.brk_model.specs.Step.{step};
+ghost use Rattle.brk_model.specs.Tests.{first_refusal, refusal_of};
+ghost use Rattle.brk_money.specs.declared.refusal.Refusal.{Refusal};
+ghost use Rattle.brk_orders.specs.Records.{order_of};
+ghost use Rattle.brk_orders.specs.declared.order.Order.{Order};
+ghost use Rattle.brk_trade.specs.Orders.{IsEstimated, IsOrdered, order_tests, terms_of, trades_test};
+ghost use Rattle.brk_plans.specs.Reference.{clock_test};
+ghost use Rattle.brk_plans.specs.Replies.{estimate_of};
+ghost use Rattle.brk_trade.specs.declared.order.OrderFound.{OrderFound};
+ghost use Rattle.brk_plans.specs.declared.plan.Plan.{Plan};
+ghost use Rattle.brk_book_theorems.specs.Books.{IsBooks};
+ghost use Rattle.brk_trade_theorems.specs.OrderPlans.{AreLots, IsFoundForEstimate, IsReadForPlan};
+ghost use Rattle.brk_trade_theorems.specs.Plans.{DoesCommand};
+
+/// What was found for an order that nothing refuses gives the terms that the base has for it.
+pub fn terms_follow_from_the_tables()
+    ensures { (base : Base) (order : Order) (found : OrderFound) → IsBooks base → IsFoundForEstimate (sheets base) order found
+        → first_refusal (order_tests found) ≡ None → AreTerms base (order_of order) (terms_of order found) }
+{}
+
+/// The first refusal by what was found is the first by the base, so that an order is refused as its command is; and the plan of an order
+/// does its command.
+pub fn order_plans_do_commands()
+    ensures first { (base : Base) (order : Order) (found : OrderFound) (last : Option ℕ) (now : ℕ) → IsReadForPlan base order found last now
+        → first_refusal (order_tests found ++ trades_test found.last_trade ∷ clock_test last now ∷ []) ≡ refusal_of base now (PlaceOrder (order_of order)) }
+    ensures refused { (base : Base) (order : Order) (found : OrderFound) (last : Option ℕ) (now : ℕ) (refusal : Refusal) → IsReadForPlan base order found last now
+        → first_refusal (order_tests found ++ trades_test found.last_trade ∷ clock_test last now ∷ []) ≡ Some refusal
+        → step base now (PlaceOrder (order_of order)) ≡ Err refusal }
+    ensures done { (base : Base) (order : Order) (found : OrderFound) (lots : List Lot) (last : Option ℕ) (now : ℕ) (plan : Plan) → IsReadForPlan base order found last now
+        → AreLots (sheets base) order (Exactly lots) → IsOrdered order found (Exactly lots) last now plan → DoesCommand base now (PlaceOrder (order_of order)) plan }
+{}
+
+/// An estimate is refused by what was found as by the base; else it is that of the definitions, and its fields are the view.
+pub fn estimate_plans_answer_queries()
+    ensures refused { (base : Base) (order : Order) (found : OrderFound) (refusal : Refusal) → IsBooks base → IsFoundForEstimate (sheets base) order found
+        → first_refusal (order_tests found) ≡ Some refusal → ask base (EstimateOf (order_of order)) ≡ Err refusal }
+    ensures told { (base : Base) (order : Order) (found : OrderFound) (lots : List Lot) (e : Estimate) → IsBooks base → IsFoundForEstimate (sheets base) order found
+        → AreLots (sheets base) order (Exactly lots) → IsEstimated order found (Exactly lots) e → e ≡ told (estimate base (order_of order)) }
+    ensures answered { (base : Base) (order : Order) (found : OrderFound) (lots : List Lot) (e : Estimate) → IsBooks base → IsFoundForEstimate (sheets base) order found
+        → AreLots (sheets base) order (Exactly lots) → IsEstimated order found (Exactly lots) e
+        → ask base (EstimateOf (order_of order)) ≡ Ok (estimate_fields (estimate_of e) ∷ []) }
+{}

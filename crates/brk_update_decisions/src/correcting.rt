@@ -1,0 +1,49 @@
+//! Corrections of words, decided on.
+
+ghost use Rattle.std.specs.Prelude.{IfErr};
+ghost use Rattle.brk_decisions.specs.Decisions.{Decides};
+ghost use Rattle.brk_model.specs.Run.{MayFail};
+ghost use Rattle.brk_orders.specs.Records.{update_of};
+ghost use Rattle.brk_store.specs.Holds.{IsRead};
+ghost use Rattle.brk_update_theorems.specs.Corrections.{IsFoundForUpdate};
+
+use crate::finding::{find_cash_names, find_cash_types, find_executors};
+use brk_money::{Fault, Planned, Stamp};
+use brk_orders::Update;
+use brk_store::Store;
+use brk_trade::{Corrected, Plan, plan_update};
+use sqlite::Alter;
+use std::alloc::Global;
+
+// The trades that are corrected, none where what the correction names is not there.
+fn find<S: Alter>(
+    alloc: Global,
+    store: &mut Store<S>,
+    update: &Update,
+) -> Result<Option<Corrected>, Fault>
+    ensures read { IsRead S.Store store.old store.new result (λ found t. IsFoundForUpdate t update.now found) }
+    ensures fault { IfErr result MayFail }
+{
+    match update {
+        Update::Executors(trades) => find_executors(alloc, store, trades),
+        Update::CashTypes { account, span } => find_cash_types(alloc, store, *account, *span),
+        Update::CashNames { symbol, span } => find_cash_names(alloc, store, symbol, *span),
+    }
+}
+
+/// Decides on a correction of words at a moment (Trade-Update): why it is refused, or its plan. Nothing is changed; the
+/// only faults are want of memory and the store's, which tables that are not those of a desk are too.
+pub fn decide_update<S: Alter>(
+    alloc: Global,
+    store: &mut Store<S>,
+    now: Stamp,
+    update: &Update,
+) -> Planned<Plan>
+    ensures read { IsRead S.Store store.old store.new result (Decides now (update_of update.now)) }
+    ensures fault { IfErr result MayFail }
+{
+    let _moment = now.get();
+    let last = store.last()?;
+    let found = find(alloc, store, update)?;
+    plan_update(alloc, update, found, last, now)
+}

@@ -1,0 +1,151 @@
+//! What the tables hold that decides on a correction of words.
+
+ghost use Rattle.std.specs.Prelude.{◌≡◌, IfErr, MatchOption, is_none, is_some, true};
+ghost use Rattle.std.specs.List.{list_any};
+ghost use Rattle.brk_changes.specs.Chosen as chosen;
+ghost use Rattle.brk_model.specs.Joins.{account_in, security_in, trade_in};
+ghost use Rattle.brk_model.specs.Run.{MayFail};
+ghost use Rattle.brk_store.specs.Holds.{IsRead};
+ghost use Rattle.brk_update_theorems.specs.Corrections.{ArePaid, AreSettled, AreTradesOf, IsFoundForUpdate, IsNamed};
+ghost use Rattle.brk_orders.specs.declared.update.Update.TheVariants as update;
+
+use crate::known::{known_cash_name, known_cash_type};
+use brk_money::{Fault, Id};
+use brk_orders::{Span, TradeIds};
+use brk_ref::{Name, Symbol};
+use brk_store::Store;
+use brk_trade::{Corrected, Paid, Settled, TradeRow};
+use sqlite::Alter;
+use std::alloc::Global;
+
+/// The trades with these ids, where there are such trades: none where one of them is missing.
+pub fn find_trades<S: Alter>(
+    alloc: Global,
+    store: &mut Store<S>,
+    ids: &[Id],
+) -> Result<Option<Vec<TradeRow>>, Fault>
+    ensures read { IsRead S.Store store.old store.new result (λ found t.
+        MatchOption found (list_any (λ id. is_none (trade_in t id)) ids.now ≡ true) (λ trades. AreTradesOf t ids.now trades.items)) }
+    ensures fault { IfErr result MayFail }
+{
+    let _last = store.last()?;
+    let mut trades = Vec::new(alloc);
+    for id in ids {
+        match store.trade(*id)? {
+            Some(trade) => trades.push(trade)?,
+            None => return Ok(None),
+        }
+    }
+    Ok(Some(trades))
+}
+
+// The trades of an account that are chosen, each with the word of its settlement.
+fn find_settled<S: Alter>(
+    alloc: Global,
+    store: &mut Store<S>,
+    account: Id,
+    span: Span,
+) -> Result<Vec<Settled>, Fault>
+    ensures read { IsRead S.Store store.old store.new result (λ settled t. AreSettled t (chosen.completed_of_account account span.first span.last t) settled.items) }
+    ensures fault { IfErr result MayFail }
+{
+    let trades = store.completed_of_account(alloc, account, span)?;
+    let mut settled = Vec::new(alloc);
+    for trade in &trades {
+        let cash_type = known_cash_type(store, trade.id)?;
+        settled.push(Settled {
+            trade: trade.id,
+            is_cash: trade.is_cash,
+            cash_type,
+        })?;
+    }
+    Ok(settled)
+}
+
+// The trades of a symbol that are chosen, each with the text of what it moved.
+fn find_paid<S: Alter>(
+    alloc: Global,
+    store: &mut Store<S>,
+    symbol: &Symbol,
+    span: Span,
+) -> Result<Vec<Paid>, Fault>
+    ensures read { IsRead S.Store store.old store.new result (λ paid t. ArePaid t (chosen.completed_cash_of_symbol symbol.now span.first span.last t) paid.items) }
+    ensures fault { IfErr result MayFail }
+{
+    let trades = store.completed_cash_of_symbol(alloc, symbol, span)?;
+    let mut paid = Vec::new(alloc);
+    for trade in &trades {
+        let name = known_cash_name(store, trade.id)?;
+        paid.push(Paid {
+            trade: trade.id,
+            kind: trade.kind,
+            qty: trade.qty,
+            name,
+        })?;
+    }
+    Ok(paid)
+}
+
+pub(crate) fn find_executors<S: Alter>(
+    alloc: Global,
+    store: &mut Store<S>,
+    trades: &TradeIds,
+) -> Result<Option<Corrected>, Fault>
+    ensures read { IsRead S.Store store.old store.new result (λ found t. IsFoundForUpdate t (update.Executors trades.now) found) }
+    ensures fault { IfErr result MayFail }
+{
+    match find_trades(alloc, store, trades.ids())? {
+        Some(trades) => Ok(Some(Corrected::Executors(trades))),
+        None => Ok(None),
+    }
+}
+
+fn is_account_there<S: Alter>(store: &mut Store<S>, account: Id) -> Result<bool, Fault>
+    ensures read { IsRead S.Store store.old store.new result (λ there t. there ≡ is_some (account_in t account)) }
+    ensures fault { IfErr result MayFail }
+{
+    Ok(store.account(account)?.is_some())
+}
+
+pub(crate) fn find_cash_types<S: Alter>(
+    alloc: Global,
+    store: &mut Store<S>,
+    account: Id,
+    span: Span,
+) -> Result<Option<Corrected>, Fault>
+    ensures read { IsRead S.Store store.old store.new result (λ found t. IsFoundForUpdate t (update.CashTypes account span) found) }
+    ensures fault { IfErr result MayFail }
+{
+    if !is_account_there(store, account)? {
+        return Ok(None);
+    }
+    let settled = find_settled(alloc, store, account, span)?;
+    Ok(Some(Corrected::CashTypes(settled)))
+}
+
+// The name of the security with a symbol, where there is such a security.
+fn name_of<S: Alter>(store: &mut Store<S>, symbol: &Symbol) -> Result<Option<Name>, Fault>
+    ensures read { IsRead S.Store store.old store.new result (λ name t. MatchOption name (is_none (security_in t symbol.now) ≡ true) (IsNamed t symbol.now)) }
+    ensures fault { IfErr result MayFail }
+{
+    match store.security(symbol)? {
+        Some(security) => Ok(Some(security.name)),
+        None => Ok(None),
+    }
+}
+
+pub(crate) fn find_cash_names<S: Alter>(
+    alloc: Global,
+    store: &mut Store<S>,
+    symbol: &Symbol,
+    span: Span,
+) -> Result<Option<Corrected>, Fault>
+    ensures read { IsRead S.Store store.old store.new result (λ found t. IsFoundForUpdate t (update.CashNames symbol.now span) found) }
+    ensures fault { IfErr result MayFail }
+{
+    let Some(name) = name_of(store, symbol)? else {
+        return Ok(None);
+    };
+    let paid = find_paid(alloc, store, symbol, span)?;
+    Ok(Some(Corrected::CashNames(name, paid)))
+}

@@ -1,0 +1,64 @@
+-- The rows that are chosen for a correction are those of the trades that the definitions choose.
+use Rattle.std.proofs.Common.{◌≡◌, ℕ, ◌==◌, ◌&&◌, Bool, true, false, List, refl, ap, ◌∙◌, map, filter, take, Option, Some, None}
+use Rattle.std.specs.Prelude.{bytes_eq}
+use Rattle.std.specs.Option.{option_map_or}
+use Rattle.std.specs.List.{AllByRecursion}
+use Rattle.brk_money.specs.Kinds.{same_status}
+use Rattle.brk_money.specs.Spelling.{Text}
+use Rattle.brk_money.specs.declared.status.Status.TheVariants.{Canceled, Completed}
+use Rattle.brk_model.specs.Base.{Base, completed, is_completed, last_mark, moment_of}
+use Rattle.brk_model.specs.Joins.{oldest_first_rows}
+use Rattle.brk_model.specs.Lists.{rising}
+use Rattle.brk_model.specs.LookupView.{is_between}
+use Rattle.brk_model.specs.Names.{NumberedFrom}
+use Rattle.brk_model.specs.Records.{Mark, Trade}
+use Rattle.brk_model.specs.Sheets.{sheets}
+use Rattle.brk_model.specs.Tables.{TradeRow, trade_row}
+use Rattle.brk_model.specs.Updates.{is_within, oldest_first}
+use Rattle.brk_changes.specs.Chosen.{completed_cash_of_symbol, completed_of_account, first_completed}
+use Rattle.brk_book_theorems.proofs.LotReading.{All-sort}
+use Rattle.brk_book_theorems.proofs.Same.{All-filter}
+use Rattle.brk_book_theorems.proofs.TradeReading.{trades_in_order}
+use Rattle.brk_update_theorems.proofs.Through.{All-both, All-passed, All-take, filter-both, filter-map, sort-map, take-map}
+
+-- the trades that are chosen
+abbrev pub chosen_trades : Base → (Trade → Bool) → ℕ → ℕ → List Trade
+chosen_trades base test first last = take 20 (oldest_first (filter (λ t. test t && is_within first last t) (completed base)))
+
+mark_completed : (o : Option Mark) → same_status (option_map_or (λ m. m.status) o Canceled) Completed ≡ option_map_or (λ m. same_status m.status Completed) o false
+mark_completed None = refl
+mark_completed (Some m) = refl
+
+-- a test of rows that is one of trades
+pub chosen_rows : (base : Base) (row_test : TradeRow → Bool) (test : Trade → Bool) (first last : ℕ) → NumberedFrom 1 base.trades → ((t : Trade) → row_test (trade_row t) ≡ test t)
+    → first_completed (λ r. row_test r && is_between first last r) (sheets base) ≡ map trade_row (chosen_trades base test first last)
+chosen_rows base row_test test first last n same =
+    let wanted : Trade → Bool = λ t. test t && is_within first last t in
+    ap (λ rows. take 20 (oldest_first_rows (filter (λ r. same_status r.status Completed && (row_test r && is_between first last r)) rows))) (trades_in_order base n)
+    ∙ ap (λ rows. take 20 (oldest_first_rows rows))
+    (filter-map (λ r. same_status r.status Completed && (row_test r && is_between first last r)) (λ t. is_completed t && wanted t) trade_row base.trades
+    (λ t i. mark_completed (last_mark t) i && (same t i && is_within first last t))
+    ∙ ap (map trade_row) (filter-both is_completed wanted base.trades))
+    ∙ ap (take 20)
+    (sort-map (λ t u. rising (moment_of t) (moment_of u) t.id u.id) (λ a b. rising a.stamp b.stamp a.id b.id) trade_row (filter wanted (completed base)) (λ a b. refl))
+    ∙ take-map trade_row 20 (oldest_first (filter wanted (completed base)))
+
+pub account_rows : (base : Base) (account first last : ℕ) → NumberedFrom 1 base.trades
+    → completed_of_account account first last (sheets base) ≡ map trade_row (chosen_trades base (λ t. t.account == account) first last)
+account_rows base account first last n = chosen_rows base (λ r. r.account == account) (λ t. t.account == account) first last n (λ t. refl)
+
+pub symbol_rows : (base : Base) (symbol : Text) (first last : ℕ) → NumberedFrom 1 base.trades
+    → completed_cash_of_symbol symbol first last (sheets base) ≡ map trade_row (chosen_trades base (λ t. t.is_cash && bytes_eq t.symbol symbol) first last)
+symbol_rows base symbol first last n =
+    chosen_rows base (λ r. r.is_cash && bytes_eq r.symbol symbol) (λ t. t.is_cash && bytes_eq t.symbol symbol) first last n (λ t. refl)
+
+-- what holds of each trade holds of those that are chosen, and each passes the test
+pub of_chosen : (P : Trade → Type 0) (base : Base) (test : Trade → Bool) (first last : ℕ) → AllByRecursion P base.trades
+    → AllByRecursion (λ t. P t × ((test t && is_within first last t) ≡ true)) (chosen_trades base test first last)
+of_chosen P base test first last h =
+    let wanted : Trade → Bool = λ t. test t && is_within first last t in
+    let Q : Trade → Type 0 = λ t. P t × (wanted t ≡ true) in
+    All-take Q 20 (oldest_first (filter wanted (completed base)))
+    (All-sort Q (λ t u. rising (moment_of t) (moment_of u) t.id u.id) (filter wanted (completed base))
+    (All-both P (λ t. wanted t ≡ true) (filter wanted (completed base))
+    (All-filter P wanted (completed base) (All-filter P is_completed base.trades h)) (All-passed wanted (completed base))))

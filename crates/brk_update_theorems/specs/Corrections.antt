@@ -1,0 +1,146 @@
+-- What is known where a correction of words is planned, and what it leaves as it is.
+use Rattle.std.specs.Prelude.{◌≡◌, ◌≤◌, ℕ, ◌==◌, true, false, is_none, List, [], find, map, Option, Some, option_map, MatchOption, Bool, string_bytes}
+use Rattle.std.specs.List.{list_any}
+use Rattle.brk_money.specs.Moments.{last_stamp}
+use Rattle.brk_money.specs.Spelling.{Text}
+use Rattle.brk_money.specs.declared.trade_type.TradeType.{TradeType}
+use Rattle.brk_model.specs.Base.{Base}
+use Rattle.brk_model.specs.Commands.{Command}
+use Rattle.brk_model.specs.Joins.{account_in, security_in, trade_in}
+use Rattle.brk_model.specs.Sheets.{sheets}
+use Rattle.brk_model.specs.LookupView.{is_cash_of}
+use Rattle.brk_model.specs.Tables.{MoveRow, SettlementRow, Tables, TradeRow}
+use Rattle.brk_model.specs.Tests.{next_stamp}
+use Rattle.brk_orders.specs.declared.update.Update as told
+use Rattle.brk_orders.specs.declared.update.Update.TheVariants as update
+use Rattle.brk_changes.specs.Changes.{with_last}
+use Rattle.brk_changes.specs.Chosen.{completed_cash_of_symbol, completed_of_account}
+use Rattle.brk_changes.specs.Rows.{cash_type_word, trade_row_of}
+use Rattle.brk_changes.specs.declared.trade_row.TradeRow as row
+use Rattle.brk_plans.specs.declared.corrected.Corrected.{Corrected}
+use Rattle.brk_plans.specs.declared.corrected.Corrected.TheVariants as corrected
+use Rattle.brk_plans.specs.declared.corrected.Paid.{Paid}
+use Rattle.brk_plans.specs.declared.corrected.Settled.{Settled}
+use Rattle.brk_book_theorems.specs.Books.{IsBooks}
+use Rattle.brk_book_theorems.specs.Steps.{base_then}
+
+-- ---- what is found
+
+-- what a trade settles for
+abbrev pub settlement_in : Tables → ℕ → Option SettlementRow
+settlement_in t trade = find (λ r. r.trade == trade) t.settlements
+
+-- what a trade moved
+abbrev pub cash_in : Tables → ℕ → Option MoveRow
+cash_in t trade = find (is_cash_of trade) t.moves
+
+-- the trades with some ids, each of them
+abbrev pub AreTradesOf : Tables → List ℕ → List row.TradeRow → Type 0
+AreTradesOf t ids trades = map (λ r. Some (trade_row_of r)) trades ≡ map (trade_in t) ids
+
+-- a trade, whether it is in cash, and the word of its settlement
+abbrev pub SettledRow : Type 0
+SettledRow = ℕ × Bool × Option Text
+
+-- as it was found
+abbrev pub settled_row : Settled → SettledRow
+settled_row s = (s.trade, s.is_cash, Some (cash_type_word s.cash_type))
+
+-- as the tables have it
+abbrev pub settled_in : Tables → TradeRow → SettledRow
+settled_in t r = (r.id, r.is_cash, option_map (λ s. s.cash_type) (settlement_in t r.id))
+
+-- a trade, its type and quantity, and the text of what it moved
+abbrev pub PaidRow : Type 0
+PaidRow = ℕ × TradeType × ℕ × Option Text
+
+-- as it was found
+abbrev pub paid_row : Paid → PaidRow
+paid_row p = (p.trade, p.kind, p.qty, Some (string_bytes p.name))
+
+-- as the tables have it
+abbrev pub paid_in : Tables → TradeRow → PaidRow
+paid_in t r = (r.id, r.kind, r.qty, option_map (λ c. c.name) (cash_in t r.id))
+
+-- these trades, each with the word of its settlement
+abbrev pub AreSettled : Tables → List TradeRow → List Settled → Type 0
+AreSettled t trades settled = map settled_row settled ≡ map (settled_in t) trades
+
+-- these trades, each with the text of what it moved
+abbrev pub ArePaid : Tables → List TradeRow → List Paid → Type 0
+ArePaid t trades paid = map paid_row paid ≡ map (paid_in t) trades
+
+-- a security's name
+abbrev pub IsNamed : Tables → Text → Text → Type 0
+IsNamed t symbol name = option_map (λ s. s.name) (security_in t symbol) ≡ Some name
+
+-- what an update of some kind finds
+abbrev pub IsCorrected : Tables → told.Update → Corrected → Type 0
+IsCorrected t (update.Executors ids) (corrected.Executors trades) = AreTradesOf t ids trades.items
+IsCorrected t (update.CashTypes account span) (corrected.CashTypes settled) =
+    (is_none (account_in t account) ≡ false) × AreSettled t (completed_of_account account span.first span.last t) settled.items
+IsCorrected t (update.CashNames symbol span) (corrected.CashNames name paid) =
+    IsNamed t symbol name × ArePaid t (completed_cash_of_symbol symbol span.first span.last t) paid.items
+IsCorrected t _ _ = ⊥
+
+-- what an update names is not there
+abbrev pub IsMissing : Tables → told.Update → Type 0
+IsMissing t (update.Executors ids) = list_any (λ id. is_none (trade_in t id)) ids ≡ true
+IsMissing t (update.CashTypes account span) = is_none (account_in t account) ≡ true
+IsMissing t (update.CashNames symbol span) = is_none (security_in t symbol) ≡ true
+
+-- what is found for an update: nothing where what it names is not there
+abbrev pub IsFoundForUpdate : Tables → told.Update → Option Corrected → Type 0
+IsFoundForUpdate t u found = MatchOption found (IsMissing t u) (IsCorrected t u)
+
+-- what is known where an update is planned: the base is in order, and what it names was read at a moment that there is
+pub record IsReadForUpdate (base : Base) (u : told.Update) (found : Option Corrected) (last : Option ℕ) (now : ℕ) : Type 0 where
+  pub books : IsBooks base
+  pub found_read : IsFoundForUpdate (sheets base) u found
+  pub last_read : last ≡ (sheets base).last
+  pub moment : now ≤ last_stamp
+
+-- ---- what stays
+
+-- the tables after a command
+abbrev pub sheets_then : Base → ℕ → Command → Tables
+sheets_then base now command = sheets (base_then base now command)
+
+-- a row of a trade without the name of its executor
+abbrev pub no_name : TradeRow → TradeRow
+no_name r = record r { executor = [] }
+
+-- rows of trades without the names of their executors
+abbrev pub nameless : List TradeRow → List TradeRow
+nameless rows = map no_name rows
+
+-- a settlement without its word
+abbrev pub no_word : SettlementRow → SettlementRow
+no_word r = record r { cash_type = [] }
+
+-- settlements without their words
+abbrev pub wordless : List SettlementRow → List SettlementRow
+wordless rows = map no_word rows
+
+-- a cash row without the text
+abbrev pub no_text : MoveRow → MoveRow
+no_text r = record r { name = [] }
+
+-- cash rows without the texts
+abbrev pub textless : List MoveRow → List MoveRow
+textless rows = map no_text rows
+
+-- a command changes names of executors and the last stamp, and nothing else
+pub record ChangesNamesAlone (base : Base) (now : ℕ) (command : Command) : Type 0 where
+  pub others : sheets_then base now command ≡ with_last (next_stamp base now) (record (sheets base) { trades = (sheets_then base now command).trades })
+  pub rows : nameless (sheets_then base now command).trades ≡ nameless (sheets base).trades
+
+-- a command changes words of settlements and the last stamp, and nothing else
+pub record ChangesWordsAlone (base : Base) (now : ℕ) (command : Command) : Type 0 where
+  pub others : sheets_then base now command ≡ with_last (next_stamp base now) (record (sheets base) { settlements = (sheets_then base now command).settlements })
+  pub rows : wordless (sheets_then base now command).settlements ≡ wordless (sheets base).settlements
+
+-- a command changes texts of what trades moved and the last stamp, and nothing else
+pub record ChangesTextsAlone (base : Base) (now : ℕ) (command : Command) : Type 0 where
+  pub others : sheets_then base now command ≡ with_last (next_stamp base now) (record (sheets base) { moves = (sheets_then base now command).moves })
+  pub rows : textless (sheets_then base now command).moves ≡ textless (sheets base).moves

@@ -1,0 +1,35 @@
+//! What is planned of corrections from what was read is what the definitions say.
+
+ghost use Rattle.std.specs.Prelude.{◌≡◌, ◌∷◌, ◌++◌, [], ℕ, Err, List, Option, Some};
+ghost use Rattle.brk_money.specs.Spelling.{Text};
+ghost use Rattle.brk_money.specs.declared.refusal.Refusal.{Refusal};
+ghost use Rattle.brk_model.specs.Base.{Base};
+ghost use Rattle.brk_model.specs.Commands.{ChangeCashNames, ChangeCashTypes, ChangeExecutors};
+ghost use Rattle.brk_model.specs.Step.{step};
+ghost use Rattle.brk_model.specs.Tests.{first_refusal, refusal_of};
+ghost use Rattle.brk_orders.specs.Records.{update_of};
+ghost use Rattle.brk_orders.specs.declared.update.Update.{Update};
+ghost use Rattle.brk_plans.specs.Reference.{clock_test};
+ghost use Rattle.brk_plans.specs.Update.{IsUpdate, update_tests};
+ghost use Rattle.brk_plans.specs.declared.corrected.Corrected.{Corrected};
+ghost use Rattle.brk_plans.specs.declared.plan.Plan.{Plan};
+ghost use Rattle.brk_trade_theorems.specs.Plans.{DoesCommand};
+ghost use Rattle.brk_update_theorems.specs.Corrections.{ChangesNamesAlone, ChangesTextsAlone, ChangesWordsAlone, IsReadForUpdate};
+
+/// A correction is refused by what was found of what it names as by the base; the plan of one that is not does the correction.
+pub fn corrections_do_commands()
+    ensures first { (base : Base) (update : Update) (found : Option Corrected) (last : Option ℕ) (now : ℕ) → IsReadForUpdate base update found last now
+        → first_refusal (update_tests update found ++ clock_test last now ∷ []) ≡ refusal_of base now (update_of update) }
+    ensures refused { (base : Base) (update : Update) (found : Option Corrected) (last : Option ℕ) (now : ℕ) (refusal : Refusal) → IsReadForUpdate base update found last now
+        → first_refusal (update_tests update found ++ clock_test last now ∷ []) ≡ Some refusal → step base now (update_of update) ≡ Err refusal }
+    ensures done { (base : Base) (update : Update) (found : Corrected) (last : Option ℕ) (now : ℕ) (plan : Plan) → IsReadForUpdate base update (Some found) last now
+        → IsUpdate found last now plan → DoesCommand base now (update_of update) plan }
+{}
+
+/// A correction that is accepted changes one column of one table, and the last stamp: the executors' names of trades, the words of settlements, or
+/// the texts of what trades moved. Every other row stays: no status, moment, lot, sum or balance changes.
+pub fn corrections_change_words_alone()
+    ensures executors { (base : Base) (now : ℕ) (ids : List ℕ) → ChangesNamesAlone base now (ChangeExecutors ids) }
+    ensures cash_types { (base : Base) (now account first last : ℕ) → ChangesWordsAlone base now (ChangeCashTypes account first last) }
+    ensures cash_names { (base : Base) (now : ℕ) (symbol : Text) (first last : ℕ) → ChangesTextsAlone base now (ChangeCashNames symbol first last) }
+{}
