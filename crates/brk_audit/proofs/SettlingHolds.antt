@@ -7,7 +7,7 @@ use Rattle.brk_money.specs.declared.fault.Condition.TheVariants as condition
 use Rattle.brk_model.specs.Derived.{due_after}
 use Rattle.brk_model.specs.Audit.{Holds}
 use Rattle.brk_model.specs.Tables.{MoveRow, Tables, TradeRow}
-use Rattle.brk_model.specs.Form.{fits_schema, has_form}
+use Rattle.brk_model.specs.Form.{lacks_later_rows, has_form}
 use Rattle.std.proofs.lemmas.Bool.{and_parts, eqb-true}
 use Rattle.brk_book_theorems.proofs.Same.{All-of, map-same}
 use Rattle.brk_audit_theorems.proofs.Parts.{KeyParts, key_parts}
@@ -49,7 +49,7 @@ no_moves : (rows : List MoveRow) → (length rows == 0) ≡ true → rows ≡ []
 no_moves [] e = refl
 no_moves (r ∷ rows) e = let l : length (r ∷ rows) ≡ 0 = eqb-true (length (r ∷ rows)) 0 e in absurd (omega (arith, l))
 
-fitting : (schema : Schema) (t : Tables) → fits_schema schema t ≡ true → schema.has_moves ≡ false → t.moves ≡ []
+fitting : (schema : Schema) (t : Tables) → lacks_later_rows schema t ≡ true → schema.has_moves ≡ false → t.moves ≡ []
 fitting schema t f n =
     no_moves t.moves (ap (λ b. b || (length t.moves == 0)) (sym n) ∙ (and_parts (schema.has_moves || (length t.moves == 0)) (schema.has_rule || is_none t.rule) f).0)
 

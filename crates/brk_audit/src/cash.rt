@@ -165,7 +165,7 @@ fn is_next(row: &MoveRow, number: u64, stamp: u64) -> bool
 }
 
 // Returns whether the rows are numbered from 1 without a gap, and their stamps do not decrease.
-fn are_in_turn(moves: &[MoveRow]) -> bool
+fn are_numbered_by_stamp(moves: &[MoveRow]) -> bool
     ensures { result ≡ is_in_turn 1 0 (map move_row_of moves.now) }
 {
     let mut stamp = 0;
@@ -194,7 +194,7 @@ pub(crate) fn has_cash_rows(alloc: Global, schema: Schema, sheets: &Sheets) -> R
     let mut rows = posted_rows(alloc, &sheets.moves)?;
     rows.sort_unstable_by_key(|row| row.trade.get());
     let no_others = sheets.cash.is_empty();
-    let in_turn = are_in_turn(&sheets.moves);
+    let in_turn = are_numbered_by_stamp(&sheets.moves);
     let posted = are_posted(&rows, &sheets.trades, &terms);
     Ok(all_three(no_others, in_turn, posted))
 }

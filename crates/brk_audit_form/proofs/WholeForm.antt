@@ -9,7 +9,7 @@ use Rattle.brk_money.specs.Moments.{last_day, last_stamp}
 use Rattle.brk_model.specs.Limits.{greatest_id}
 use Rattle.brk_model.specs.Lists.{all_distinct}
 use Rattle.brk_model.specs.Schemas.{Schema}
-use Rattle.brk_model.specs.Form.{has_form, has_keys, no_overlap, same_numbers, one_tax_id_each, customer_limits, cash_form, move_form, trades_moved, fits_schema}
+use Rattle.brk_model.specs.Form.{has_form, has_keys, no_overlap, same_numbers, one_tax_id_each, customer_limits, cash_form, move_form, trades_moved, lacks_later_rows}
 use Rattle.brk_ref.specs.Records.{customer_of, band_of}
 use Rattle.brk_changes.specs.Rows.{trade_row_of, cash_row_of, move_row_of}
 use Rattle.brk_changes.specs.Sheets.{tables_in_sheets}
@@ -57,7 +57,7 @@ plain_rests schema s =
     same_numbers (map (λ row. row.id) s.trades.items) (range_with_len 1 (length s.trades.items)) ∷
     nat_le (length (filter (λ r. is_none r.trade) s.moves.items)) greatest_id ∷
     option_map_or (λ day. nat_le day last_day) s.rule true ∷
-    fits_schema schema (tables_in_sheets s) ∷ []
+    lacks_later_rows schema (tables_in_sheets s) ∷ []
 
 forth : (schema : Schema) (s : Sheets) → plain_form schema s ≡ true → Hold (rests s) → has_form schema (tables_in_sheets s) ≡ true
 forth schema s plain h =

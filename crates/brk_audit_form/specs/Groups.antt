@@ -6,7 +6,7 @@ use Rattle.brk_money.specs.Moments.{last_day, last_stamp}
 use Rattle.brk_model.specs.Limits.{greatest_id}
 use Rattle.brk_model.specs.Schemas.{Schema}
 use Rattle.brk_model.specs.Keys.{kept_key, broker_key, customer_key, account_key, permission_key, security_key, last_trade_key, charge_key, band_key, tax_rate_key, customer_tax_key, trade_key, history_key, request_key, holding_key, summary_key, holding_history_key, settlement_key, cash_key, move_key}
-use Rattle.brk_model.specs.Form.{has_keys, no_overlap, same_numbers, rises, kept_form, broker_form, customer_form, account_form, permission_form, security_form, last_trade_form, charge_form, band_form, tax_rate_form, customer_tax_form, trade_form, history_form, request_form, holding_form, summary_form, holding_history_form, settlement_form, fits_schema}
+use Rattle.brk_model.specs.Form.{has_keys, no_overlap, same_numbers, rises, kept_form, broker_form, customer_form, account_form, permission_form, security_form, last_trade_form, charge_form, band_form, tax_rate_form, customer_tax_form, trade_form, history_form, request_form, holding_form, summary_form, holding_history_form, settlement_form, lacks_later_rows}
 use Rattle.brk_ref.specs.Records.{kept_of, broker_row_of, customer_of, account_row_of, permission_of, security_of, last_trade_of, charge_of, band_of, tax_of, customer_tax_of}
 use Rattle.brk_changes.specs.Rows.{trade_row_of, history_row_of, request_row_of, holding_row_of, summary_row_of, lot_change_of, settlement_row_of, cash_row_of, move_row_of}
 use Rattle.brk_changes.specs.Sheets.{tables_in_sheets}
@@ -71,4 +71,4 @@ abbrev pub plain_form : Schema → Sheets → Bool
 plain_form schema s =
     has_keys (tables_in_sheets s) && reference_forms schema s && option_map_or (λ last. nat_le last last_stamp) s.last true && trading_forms schema s
     && no_overlap (map band_of s.bands.items) && same_numbers (map (λ row. row.id) s.trades.items) (range_with_len 1 (length s.trades.items))
-    && nat_le (length (filter (λ r. is_none r.trade) s.moves.items)) greatest_id && option_map_or (λ day. nat_le day last_day) s.rule true && fits_schema schema (tables_in_sheets s)
+    && nat_le (length (filter (λ r. is_none r.trade) s.moves.items)) greatest_id && option_map_or (λ day. nat_le day last_day) s.rule true && lacks_later_rows schema (tables_in_sheets s)

@@ -4,7 +4,7 @@ ghost use Rattle.brk_money.specs.Moments.{last_day, last_stamp};
 ghost use Rattle.brk_money.specs.declared.fault.Condition.TheVariants.{Form};
 ghost use Rattle.brk_money.specs.declared.fault.Fault.TheVariants.{Memory};
 ghost use Rattle.brk_model.specs.Audit.{Holds};
-ghost use Rattle.brk_model.specs.Form.{fits_schema};
+ghost use Rattle.brk_model.specs.Form.{lacks_later_rows};
 ghost use Rattle.brk_changes.specs.Schemas.{schema_of};
 ghost use Rattle.brk_changes.specs.Sheets.{tables_in_sheets};
 ghost use Rattle.brk_audit_form.specs.Groups.{plain_form};
@@ -12,8 +12,8 @@ ghost use Rattle.brk_audit_form.specs.Groups.{plain_form};
 use crate::bands::are_apart;
 use crate::cash_names::{are_cash_rows, are_move_rows};
 use crate::customer_limits::are_within;
-use crate::numbers::{are_few, are_numbered};
-use crate::own_rows::has_own_rows;
+use crate::numbers::{are_numbered, are_within_movement_limit};
+use crate::own_rows::has_distinct_trades;
 use crate::tables::{has_keys, has_reference_forms, has_trading_forms};
 use crate::tax_ids::has_own_tax_ids;
 use brk_changes::{Schema, Sheets};
@@ -42,7 +42,7 @@ fn is_rule(rule: Option<Day>) -> bool
 
 // Returns whether the tables that a schema lacks have no rows.
 fn fits(schema: Schema, sheets: &Sheets) -> bool
-    ensures { result ≡ fits_schema (schema_of schema) (tables_in_sheets sheets.now) }
+    ensures { result ≡ lacks_later_rows (schema_of schema) (tables_in_sheets sheets.now) }
 {
     (schema.has_moves() || sheets.moves.is_empty()) && (schema.has_rule() || sheets.rule.is_none())
 }
@@ -63,7 +63,7 @@ fn has_plain_form(schema: Schema, sheets: &Sheets) -> bool
         && has_trading_forms(schema, sheets)
         && are_apart(schema, &sheets.bands)
         && are_numbered(&sheets.trades)
-        && are_few(&sheets.moves)
+        && are_within_movement_limit(&sheets.moves)
         && is_rule(sheets.rule)
         && fits(schema, sheets)
 }
@@ -95,5 +95,5 @@ pub fn has_form(alloc: Global, schema: Schema, sheets: &Sheets) -> Result<bool, 
     if !has_moves {
         return Ok(false);
     }
-    has_own_rows(alloc, &sheets.moves)
+    has_distinct_trades(alloc, &sheets.moves)
 }

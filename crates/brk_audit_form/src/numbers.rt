@@ -19,7 +19,7 @@ pub(crate) fn are_numbered(trades: &[TradeRow]) -> bool
 }
 
 /// Returns whether there are at most `Id::GREATEST` deposits and withdrawals.
-pub(crate) fn are_few(moves: &[MoveRow]) -> bool
+pub(crate) fn are_within_movement_limit(moves: &[MoveRow]) -> bool
     ensures { result ≡ nat_le (length (filter (λ r. is_none r.trade) moves.now)) greatest_id }
 {
     let mut count = 0u64;

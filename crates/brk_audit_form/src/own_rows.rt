@@ -27,7 +27,7 @@ fn is_new(seen: &mut BTreeSet<u64>, trade: Option<Id>) -> Result<bool, Fault>
 }
 
 /// Returns whether no trade has two rows of CASH_MOVE. Fails with `Memory` only.
-pub(crate) fn has_own_rows(alloc: Global, moves: &[MoveRow]) -> Result<bool, Fault>
+pub(crate) fn has_distinct_trades(alloc: Global, moves: &[MoveRow]) -> Result<bool, Fault>
     ensures told { IfOk result (λ own. own ≡ all_distinct (trades_moved (map move_row_of moves.now))) }
     ensures fault { IfErr result (λ fault. fault ≡ Memory) }
 {

@@ -10,6 +10,6 @@ pub mod Sorted
 pub mod Again
 pub mod AgainStatus
 pub mod Passed
-pub mod MovedBase
-pub mod MovedForm
-pub mod MovedRows
+pub mod UpgradedBase
+pub mod UpgradedForm
+pub mod UpgradedRows

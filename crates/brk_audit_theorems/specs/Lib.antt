@@ -1,3 +1,3 @@
 pub mod Passing
-pub mod Moving
+pub mod Upgrade
 pub mod Told

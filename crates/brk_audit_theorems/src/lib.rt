@@ -3,4 +3,4 @@
 #![tactic(auto)]
 
 pub mod adoption;
-pub mod moving;
+pub mod upgrade;

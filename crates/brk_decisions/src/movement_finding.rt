@@ -21,7 +21,7 @@ pub(crate) fn find_for_move<S: Alter>(
     ensures fault { IfErr result MayFail }
 {
     let balance = store.balance_of(movement.account)?;
-    let movements = store.movements()?;
+    let movements = store.movements_for_limit()?;
     let next = store.next_move()?;
     Ok(MoveFound {
         balance,

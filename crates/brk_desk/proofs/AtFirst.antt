@@ -6,7 +6,7 @@ use Rattle.sqlite_trees.specs.declared.store.Store.{Ghosts}
 use Rattle.sqlite.specs.Held.{Held}
 use Rattle.brk_model.specs.Adopted.{base_of}
 use Rattle.brk_model.specs.Base.{Base, empty_base}
-use Rattle.brk_model.specs.Moved.{moved_from}
+use Rattle.brk_model.specs.Upgraded.{upgraded_from}
 use Rattle.brk_model.specs.Run.{Call, Do, Outcome}
 use Rattle.brk_model.specs.Tables.{Tables, no_rows}
 use Rattle.brk_changes.specs.Schemas.{schema_of}
@@ -19,16 +19,16 @@ use Rattle.brk_invariant_theorems.proofs.SoundSteps.{empty_sound}
 use Rattle.brk_store.specs.Holds.{Holds}
 use Rattle.brk_commit.specs.Booked.{KeepsBase}
 use Rattle.brk_desk.specs.Stops.{MayStand}
-use Rattle.brk_desk.proofs.MovedRows.{are_moved}
+use Rattle.brk_desk.proofs.UpgradedRows.{are_upgraded}
 
 pub made_keeps : {S : Type 0} (g : Ghosts S) (store : Held S) → Holds g store no_rows → KeepsBase g store empty_base
 made_keeps g store holds = record { books = empty_books; sound = empty_sound; texts = ap has_texts empty_rows; rows = subst (Holds g store) (sym empty_rows) holds }
 
--- the rows of whichever schema that passed, moved to the third
-pub moved_keeps : {S : Type 0} (g : Ghosts S) (store : Held S) (schema : known.Schema) (rows : Tables) → Holds g store (moved_from (schema_of schema) rows) → IsTrue (has_texts rows)
+-- the rows of whichever schema that passed, upgraded to the third
+pub upgraded_keeps : {S : Type 0} (g : Ghosts S) (store : Held S) (schema : known.Schema) (rows : Tables) → Holds g store (upgraded_from (schema_of schema) rows) → IsTrue (has_texts rows)
     → Passes (schema_of schema) rows → KeepsBase g store (base_of rows)
-moved_keeps g store schema rows holds texts passes =
-    let k = are_moved schema rows passes texts in
+upgraded_keeps g store schema rows holds texts passes =
+    let k = are_upgraded schema rows passes texts in
     record { rows = subst (Holds g store) k.tables holds; books = k.books; sound = k.sound; texts = k.texts }
 
 -- the calls before one of them, and it

@@ -15,6 +15,6 @@ pub mod LotViews
 pub mod VolumeViews
 pub mod Reopened
 pub mod Made
-pub mod MovedRows
+pub mod UpgradedRows
 pub mod Defined
-pub mod Moving
+pub mod UpgradeRecovery

@@ -13,7 +13,7 @@ use Rattle.brk_commit.specs.Booked.{KeepsBase}
 use Rattle.brk_desk.specs.Keeping.{IsRun, KeepsPromise, Leads}
 use Rattle.brk_desk.specs.declared.call.Call.{Call}
 use Rattle.brk_desk.specs.declared.call.Outcome.{Outcome}
-use Rattle.brk_desk.proofs.AtFirst.{made_keeps, moved_keeps}
+use Rattle.brk_desk.proofs.AtFirst.{made_keeps, upgraded_keeps}
 
 leads : {S : Type 0} (g : Ghosts S) (old new : Held S) (calls : List (ℕ × Call)) (outcomes : List Outcome) → IsRun g old new calls outcomes
     → HasCleanDisk (state g new) → (base : Base) → KeepsBase g old base → Leads g new base calls outcomes
@@ -26,5 +26,5 @@ pub promise_kept : {S : Type 0} (g : Ghosts S) (old new : Held S) (calls : List 
 promise_kept g old new calls outcomes run = record {
   kept = λ clean base keeps. leads g old new calls outcomes run clean base keeps;
   made = λ clean holds. leads g old new calls outcomes run clean empty_base (made_keeps g old holds);
-  adopted = λ clean schema rows holds texts passes. leads g old new calls outcomes run clean (base_of rows) (moved_keeps g old schema rows holds texts passes);
+  adopted = λ clean schema rows holds texts passes. leads g old new calls outcomes run clean (base_of rows) (upgraded_keeps g old schema rows holds texts passes);
 }

@@ -10,7 +10,7 @@ use Rattle.brk_money.specs.declared.refusal.Refusal.{Refusal}
 use Rattle.brk_model.specs.Adopted.{base_of}
 use Rattle.brk_model.specs.Ask.{ask}
 use Rattle.brk_model.specs.Base.{Base, empty_base}
-use Rattle.brk_model.specs.Moved.{moved_from}
+use Rattle.brk_model.specs.Upgraded.{upgraded_from}
 use Rattle.brk_model.specs.Schemas.{third_schema}
 use Rattle.brk_model.specs.Sheets.{sheets}
 use Rattle.brk_model.specs.Queries.{Query}
@@ -76,11 +76,11 @@ pub record IsRun {S : Type 0} (g : Ghosts S) (old new : Held S) (calls : List (�
 abbrev pub Leads : {S : Type 0} → Ghosts S → Held S → Base → List (ℕ × Call) → List Outcome → Type 0
 Leads g new base calls outcomes = (after : Base) × KeepsBase g new after × Passes third_schema (sheets after) × RunAddsUp base (map call_of calls) (map outcome_of outcomes) after
 
--- the whole promise of a list of calls: over each base whose books were kept, from a store whose tables were just made, and from one with the rows of whichever schema that passed its audit, moved to the third
+-- the whole promise of a list of calls: over each base whose books were kept, from a store whose tables were just made, and from one with the rows of whichever schema that passed its audit, upgraded to the third
 pub record KeepsPromise {S : Type 0} (g : Ghosts S) (old new : Held S) (calls : List (ℕ × Call)) (outcomes : List Outcome) : Type 0 where
   pub kept : HasCleanDisk (state g new) → (base : Base) → KeepsBase g old base → Leads g new base calls outcomes
   pub made : HasCleanDisk (state g new) → Holds g old no_rows → Leads g new empty_base calls outcomes
-  pub adopted : HasCleanDisk (state g new) → (schema : known.Schema) (rows : Tables) → Holds g old (moved_from (schema_of schema) rows) → IsTrue (has_texts rows) → Passes (schema_of schema) rows
+  pub adopted : HasCleanDisk (state g new) → (schema : known.Schema) (rows : Tables) → Holds g old (upgraded_from (schema_of schema) rows) → IsTrue (has_texts rows) → Passes (schema_of schema) rows
       → Leads g new (base_of rows) calls outcomes
 
 -- an audit of the desk's store, which writes nothing: where books are kept it never finds a condition that fails

@@ -43,7 +43,7 @@ abbrev pub HasTakenOver : {S : Type 0} → Ghosts S → Held S → Held S → Ty
 HasTakenOver g conn store = (schema : known.Schema) × (rows : Tables) × Answered (schema_of schema) rows (state g conn).now None × StandsAlone g store (base_of rows)
 
 -- an adoption found no condition that fails, and at Ok the books of this base stand
-pub record IsMovedOver {S : Type 0} (g : Ghosts S) (store : Held S) (result : Result (Unit {0}) Fault) (base : Base) : Type 0 where
+pub record IsUpgradedOver {S : Type 0} (g : Ghosts S) (store : Held S) (result : Result (Unit {0}) Fault) (base : Base) : Type 0 where
   pub undamaged : OnAnswer result (λ failing. failing ≡ None)
   pub stands : OnOk result (StandsAlone g store base)
 

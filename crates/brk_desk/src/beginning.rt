@@ -10,7 +10,7 @@ ghost use Rattle.brk_commit.specs.Booked.{KeepsBase};
 ghost use Rattle.brk_desk.specs.Stops.{MayStand};
 ghost use Rattle.brk_model.specs.Adopted.{base_of};
 ghost use Rattle.brk_model.specs.Base.{Base, empty_base};
-ghost use Rattle.brk_model.specs.Moved.{moved_from};
+ghost use Rattle.brk_model.specs.Upgraded.{upgraded_from};
 ghost use Rattle.brk_model.specs.Run.{Call, Outcome};
 ghost use Rattle.brk_model.specs.Schemas.{third_schema};
 ghost use Rattle.brk_model.specs.Sheets.{sheets};
@@ -35,7 +35,7 @@ pub fn a_made_store_keeps_the_empty_base<S: Alter>()
 pub fn an_adopted_store_keeps_its_books<S: Alter>()
     ensures rows { (store : Held S) (rows : Tables) → Holds S.Store store rows → IsTrue (has_texts rows) → Passes third_schema rows
         → KeepsBase S.Store store (base_of rows) }
-    ensures moved { (store : Held S) (schema : Schema) (rows : Tables) → Holds S.Store store (moved_from (schema_of schema) rows) → IsTrue (has_texts rows)
+    ensures upgraded { (store : Held S) (schema : Schema) (rows : Tables) → Holds S.Store store (upgraded_from (schema_of schema) rows) → IsTrue (has_texts rows)
         → Passes (schema_of schema) rows → KeepsBase S.Store store (base_of rows) }
 {}
 

@@ -9,7 +9,7 @@ ghost use Rattle.brk_desk.specs.Answers.{outcome_of};
 ghost use Rattle.brk_desk.specs.Commands.{call_of};
 ghost use Rattle.brk_commit.specs.Booked.{IsCalled, base_after_call};
 ghost use Rattle.brk_desk.specs.Keeping.{IsRun};
-ghost use Rattle.brk_desk.specs.Reopening.{HasTakenOver, IsJustOpened, IsMovedOver, IsReopened, IsTakenOver, StandsAlone};
+ghost use Rattle.brk_desk.specs.Reopening.{HasTakenOver, IsJustOpened, IsUpgradedOver, IsReopened, IsTakenOver, StandsAlone};
 ghost use Rattle.brk_desk.specs.Stops.{MayStand};
 ghost use Rattle.brk_commit.specs.declared.answer.Answer as given;
 ghost use Rattle.brk_desk.specs.declared.call.Call as made;
@@ -40,16 +40,16 @@ use sqlite::Alter;
 /// `making`: after a crash in the creation of the tables, the adopted store represents the empty
 /// base, unless the state was possible before; of such a state nothing is said.
 ///
-/// `moving`: after a crash in an adoption of rows that pass the audit of their schema, an older one
+/// `upgrading`: after a crash in an adoption of rows that pass the audit of their schema, an older one
 /// included, a later adoption finds no damage. If it succeeds, the store represents the base that
 /// the same rows give.
 pub fn what_a_stop_leaves_is_adopted<S: Alter>()
     ensures made { (conn store : Held S) → IsCreated S.Store conn store (Ok tt) → HasCleanDisk (state S.Store store) → StandsAlone S.Store store empty_base }
     ensures adopted { (trees : Trees) (conn store : Held S) → IsJustOpened S.Store trees conn → IsDefinedIn S.Store conn → IsAdopted S.Store conn store (Ok tt)
         → HasCleanDisk (state S.Store store) → HasTakenOver S.Store conn store }
-    ensures moving { (trees : Trees) (first left conn store : Held S) (stopped result : Result (Unit {0}) faults.Fault) (schema : Schema) (rows : Tables)
+    ensures upgrading { (trees : Trees) (first left conn store : Held S) (stopped result : Result (Unit {0}) faults.Fault) (schema : Schema) (rows : Tables)
         → IsJustOpened S.Store trees first → Answered (schema_of schema) rows (state S.Store first).now None → IsAdopted S.Store first left stopped → HasCleanDisk (state S.Store left)
-        → IsReopened S.Store left conn → IsAdopted S.Store conn store result → HasCleanDisk (state S.Store store) → IsMovedOver S.Store store result (base_of rows) }
+        → IsReopened S.Store left conn → IsAdopted S.Store conn store result → HasCleanDisk (state S.Store store) → IsUpgradedOver S.Store store result (base_of rows) }
     ensures making { (first left conn store : Held S) (created result : Result (Unit {0}) faults.Fault) (trees : Trees) → IsCreated S.Store first left created
         → HasCleanDisk (state S.Store left) → (state S.Store left).may_leave trees → IsJustOpened S.Store trees conn → IsAdopted S.Store conn store result
         → HasCleanDisk (state S.Store store) → (state S.Store first).may_leave trees ⊎ IsTakenOver S.Store store result (λ base. base ≡ empty_base) }

@@ -6,7 +6,7 @@ use Rattle.sqlite_trees.specs.declared.store.Store.{Ghosts}
 use Rattle.sqlite.specs.Effect.{Database}
 use Rattle.sqlite.specs.Held.{Held, state}
 use Rattle.brk_store.specs.Audited.{IsAdopted}
-use Rattle.brk_store.proofs.Taking.{moved_books}
+use Rattle.brk_store.proofs.Taking.{upgraded_books}
 use Rattle.brk_files.specs.Opened.{StandsOnRows}
 
 pub stands_on_rows : {S : Type 0} (g : Ghosts S) → ((s : S) (db : Trees) → IsTrue (g.view s).is_open → g.recovers s db → db ≡ (g.view s).committed) → (conn store : Held S) → IsAdopted g conn store (Ok tt) → StandsOnRows g store
@@ -14,12 +14,12 @@ stands_on_rows g settled conn store adopted = record {
   found = conn;
   adopted = adopted;
   stands = λ clean on defined.
-      let it = adopted.moved clean on defined in
+      let it = adopted.upgraded clean on defined in
       let m = it.0 in (
         m.0,
         m.1,
         m.2,
-        moved_books g store (state g conn).now m,
+        upgraded_books g store (state g conn).now m,
         λ left may. ((state g store).now, m.3, settled store.store left on may ∙ ap (λ (db : Database). db.trees) it.1),
       );
 }

@@ -12,7 +12,7 @@ use Rattle.brk_store.specs.Audited.{Answered, HoldsBooks, IsAdopted, IsDefinedIn
 use Rattle.brk_store.specs.Holds.{AreTreesOf, LeavesOnly}
 
 -- The desk of what a file held. As far as its tables by the names and columns of a desk's are a desk's: its rows pass the audit of their schema, the books of
--- these rows are held, moved to the third schema where they were of an older one, and a stop leaves the tables of the books and nothing else.
+-- these rows are held, upgraded to the third schema where they were of an older one, and a stop leaves the tables of the books and nothing else.
 pub record StandsOnRows {S : Type 0} (g : Ghosts S) (store : Held S) : Type 0 where
   -- what was held when the file was opened
   pub found : Held S

@@ -183,8 +183,8 @@ abbrev pub trades_moved : List MoveRow → List ℕ
 trades_moved rows = flat_map (λ r. option_to_list r.trade) rows
 
 -- the tables that a schema lacks have no rows
-abbrev pub fits_schema : Schema → Tables → Bool
-fits_schema schema t = (schema.has_moves || (length t.moves == 0)) && (schema.has_rule || is_none t.rule)
+abbrev pub lacks_later_rows : Schema → Tables → Bool
+lacks_later_rows schema t = (schema.has_moves || (length t.moves == 0)) && (schema.has_rule || is_none t.rule)
 
 -- no two bands of a list share a quantity
 abbrev pub no_overlap : List Band → Bool
@@ -250,7 +250,7 @@ has_form schema t =
     && list_all (cash_form t) t.cash
     && list_all (move_form t) t.moves && all_distinct (trades_moved t.moves) && nat_le (length (filter (λ r. is_none r.trade) t.moves)) greatest_id
     && option_map_or (λ day. nat_le day last_day) t.rule true
-    && fits_schema schema t
+    && lacks_later_rows schema t
 
 -- the texts that may be any are UTF-8: K_ROW, K_LINE, T_EXEC_NAME, CT_NAME and CM_NAME. Rows in types cannot say otherwise, bytes of a database can
 abbrev pub has_texts : Tables → Bool

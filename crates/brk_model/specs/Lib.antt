@@ -41,4 +41,4 @@ pub mod Adopted
 pub mod Form
 pub mod Ways
 pub mod Audit
-pub mod Moved
+pub mod Upgraded

@@ -6,7 +6,7 @@ ghost use Rattle.brk_model.specs.Sheets.{sheets, sheets_at};
 ghost use Rattle.brk_model.specs.Adopted.{base_of};
 ghost use Rattle.brk_model.specs.Form.{has_form};
 ghost use Rattle.brk_model.specs.Schemas.{first_schema, second_schema, third_schema};
-ghost use Rattle.brk_model.specs.Moved.{moved};
+ghost use Rattle.brk_model.specs.Upgraded.{upgraded};
 ghost use Rattle.brk_model.specs.Ways.{has_status_rows};
 ghost use Rattle.brk_model.specs.Audit.{expected};
 ghost use Rattle.brk_model_examples.specs.Trading.{bought};
@@ -27,6 +27,6 @@ pub fn tables_of_older_schemas()
     ensures first_form { has_form first_schema first_tables ≡ true }
     ensures first_base { base_of first_tables ≡ base_of bought_tables }
     ensures second { sheets_at second_schema bought ≡ bought_tables }
-    ensures from_the_first { moved first_tables ≡ bought_tables }
-    ensures from_the_second { moved bought_tables ≡ bought_tables }
+    ensures from_the_first { upgraded first_tables ≡ bought_tables }
+    ensures from_the_second { upgraded bought_tables ≡ bought_tables }
 {}

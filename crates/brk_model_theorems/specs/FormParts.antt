@@ -7,7 +7,7 @@ use Rattle.brk_model.specs.Limits.{greatest_id}
 use Rattle.brk_model.specs.Lists.{all_distinct}
 use Rattle.brk_model.specs.Schemas.{Schema}
 use Rattle.brk_model.specs.Tables.{Tables}
-use Rattle.brk_model.specs.Form.{kept_form, broker_form, customer_form, customer_limits, account_form, permission_form, security_form, last_trade_form, charge_form, band_form, no_overlap, tax_rate_form, customer_tax_form, trade_form, same_numbers, history_form, request_form, holding_form, summary_form, holding_history_form, settlement_form, cash_form, move_form, trades_moved, fits_schema, has_keys, one_tax_id_each, rises}
+use Rattle.brk_model.specs.Form.{kept_form, broker_form, customer_form, customer_limits, account_form, permission_form, security_form, last_trade_form, charge_form, band_form, no_overlap, tax_rate_form, customer_tax_form, trade_form, same_numbers, history_form, request_form, holding_form, summary_form, holding_history_form, settlement_form, cash_form, move_form, trades_moved, lacks_later_rows, has_keys, one_tax_id_each, rises}
 use Rattle.brk_model.specs.Keys.{kept_key, broker_key, customer_key, account_key, permission_key, security_key, last_trade_key, charge_key, band_key, tax_rate_key, customer_tax_key, trade_key, history_key, request_key, holding_key, summary_key, holding_history_key, settlement_key, cash_key, move_key}
 
 -- what has form, by the limits of a schema
@@ -41,7 +41,7 @@ pub record FormParts (schema : Schema) (t : Tables) : Type 0 where
   pub own_moves : all_distinct (trades_moved t.moves) ≡ true
   pub counted : nat_le (length (filter (λ r. is_none r.trade) t.moves)) greatest_id ≡ true
   pub rule : option_map_or (λ day. nat_le day last_day) t.rule true ≡ true
-  pub fits : fits_schema schema t ≡ true
+  pub fits : lacks_later_rows schema t ≡ true
 
 -- what has keys: each table rises by its own
 pub record KeysRise (t : Tables) : Type 0 where

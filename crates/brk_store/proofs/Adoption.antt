@@ -19,7 +19,7 @@ use Rattle.brk_money.specs.declared.fault.Fault.TheVariants.{Store, Damaged}
 use Rattle.brk_model.specs.Adopted.{base_of}
 use Rattle.brk_model.specs.Base.{empty_base}
 use Rattle.brk_model.specs.Form.{has_texts}
-use Rattle.brk_model.specs.Moved.{moved_from}
+use Rattle.brk_model.specs.Upgraded.{upgraded_from}
 use Rattle.brk_model.specs.Run.{MayFail}
 use Rattle.brk_model.specs.Schemas.{third_schema}
 use Rattle.brk_model.specs.Sheets.{sheets}
@@ -31,49 +31,49 @@ use Rattle.brk_sql.specs.Model.{IsStep}
 use Rattle.brk_sql.proofs.Inside.{clean_before, step_then}
 use Rattle.brk_book_theorems.proofs.Steps.{empty_books, empty_rows}
 use Rattle.brk_audit_theorems.specs.Passing.{Passes}
-use Rattle.brk_audit_theorems.proofs.MovedRows.{first_narrower, moved_rows, rows_moved_from, second_narrower}
+use Rattle.brk_audit_theorems.proofs.UpgradedRows.{first_narrower, upgraded_rows, rows_upgraded_from, second_narrower}
 use Rattle.brk_audit_theorems.proofs.Passing.{passing_tables}
 use Rattle.brk_invariant_theorems.proofs.Adopted.{sound_passes}
 use Rattle.brk_invariant_theorems.proofs.SoundSteps.{empty_sound}
 use Rattle.brk_sql.specs.Desk.{IsCalm}
 use Rattle.brk_tables_schema.specs.Desk.{Which}
 use Rattle.brk_tables_schema.specs.Made.{HasRows, IsOf}
-use Rattle.brk_tables_upgrade.specs.Moving.{KeepsStrangers, Moves}
+use Rattle.brk_tables_upgrade.specs.Upgrade.{KeepsOtherTables, Upgrades}
 use Rattle.brk_tables_scan.specs.Schemas.{HasDesk, IsDefined, IsDefinedAs}
 use Rattle.brk_tables_scan.proofs.Defined.{desk_is_there}
-use Rattle.brk_store.specs.Audited.{AreMoved, Answered, Audited, AuditedBy, HasMoved, HasThirdIn, IsAdopted, IsAudited, IsDefinedIn, OnAnswer}
-use Rattle.brk_store.specs.Examined.{Tells}
+use Rattle.brk_store.specs.Audited.{AreUpgraded, Answered, Audited, AuditedBy, IsUpgraded, HasThirdIn, IsAdopted, IsAudited, IsDefinedIn, OnAnswer}
+use Rattle.brk_store.specs.AuditResult.{Tells}
 use Rattle.brk_store.specs.Holds.{Holds, IsSame}
 use Rattle.brk_store.specs.Kept.{kept_none}
-use Rattle.brk_store.specs.declared.examining.Examined.{Examined}
-use Rattle.brk_store.specs.declared.examining.Examined.TheVariants.{Passes as Succeeds, Fails}
+use Rattle.brk_store.specs.declared.examining.AuditResult.{AuditResult}
+use Rattle.brk_store.specs.declared.examining.AuditResult.TheVariants.{Passes as Succeeds, Fails}
 use Rattle.brk_store.proofs.Closing.{answer_with, on_fault}
 use Rattle.brk_store.proofs.Ending.{all, begun, kept_at, rolled_back, still_holds, through, whole}
 use Rattle.brk_store.proofs.Schemas.{one_desk, older_has_none, third_has_rule, third_rows, two_desks}
 use Rattle.brk_store.proofs.Telling.{Looked}
-use Rattle.brk_store.proofs.Texts.{moved_texts}
+use Rattle.brk_store.proofs.Texts.{upgraded_texts}
 
 -- ---- the rows that a move leaves
 
--- the rows were examined and moved
+-- the rows were examined and upgraded
 abbrev pub Made : known.Schema → Database → Database → Type 0
-Made schema a b = (IsDefined a → (t : Tables) × Answered (schema_of schema) t a None) × Moves (schema_of schema) a b
+Made schema a b = (IsDefined a → (t : Tables) × Answered (schema_of schema) t a None) × Upgrades (schema_of schema) a b
 
 -- what was made of rows that passed are the tables of their base
-as_tables : (schema : known.Schema) (t : Tables) → Passes (schema_of schema) t → moved_from (schema_of schema) t ≡ sheets (base_of t)
-as_tables schema t passes = let h = rows_moved_from (schema_of schema) t passes in h.0 ∙ h.1
+as_tables : (schema : known.Schema) (t : Tables) → Passes (schema_of schema) t → upgraded_from (schema_of schema) t ≡ sheets (base_of t)
+as_tables schema t passes = let h = rows_upgraded_from (schema_of schema) t passes in h.0 ∙ h.1
 
-made_moved : (schema : known.Schema) (a b : Database) → Made schema a b → IsDefined a → HasMoved a b
-made_moved schema a b made defined =
+made_upgraded : (schema : known.Schema) (a b : Database) → Made schema a b → IsDefined a → IsUpgraded a b
+made_upgraded schema a b made defined =
     let passing = made.0 defined in
     let has = passing.1.0 in
     let s = made.1 passing.0 has.0 has.1 has.2 in
     (schema, passing.0, passing.1, subst (λ u. HasRows u b) (as_tables schema passing.0 passing.1.2) (s.tree, s.rows), s.others)
 
 -- where nothing is written each table stands as it did
-strangers_stay : (In : Which → Type 0) (tree : Which → ℕ) (a b : Database) → b ≡ a → KeepsStrangers In tree a b
+strangers_stay : (In : Which → Type 0) (tree : Which → ℕ) (a b : Database) → b ≡ a → KeepsOtherTables In tree a b
 strangers_stay In tree a b same =
-    subst (λ d. KeepsStrangers In tree a d) (sym same) (record { more = []; tables = sym (append-nil a.schema.tables); rows = all_stay (λ k none calm. refl) a.schema.tables })
+    subst (λ d. KeepsOtherTables In tree a d) (sym same) (record { more = []; tables = sym (append-nil a.schema.tables); rows = all_stay (λ k none calm. refl) a.schema.tables })
   where
     all_stay : ((k : Table) → ((w : Which) → In w → k.tree ≢ tree w) → IsCalm a.schema k.tree → a.trees k.tree ≡ a.trees k.tree) → (ks : List Table)
         → AllByRecursion (λ k. ((w : Which) → In w → k.tree ≢ tree w) → IsCalm a.schema k.tree → a.trees k.tree ≡ a.trees k.tree) ks
@@ -81,13 +81,13 @@ strangers_stay In tree a b same =
     all_stay each (k ∷ ks) = (each k, all_stay each ks)
 
 -- they pass, and their texts can be read
-pub moved_pass : (schema : known.Schema) (t : Tables) → Passes (schema_of schema) t → Passes third_schema (sheets (base_of t))
-moved_pass First t p = let m = moved_rows (schema_of First) t first_narrower p in subst (Passes third_schema) m.tables m.passes
-moved_pass Second t p = let m = moved_rows (schema_of Second) t second_narrower p in subst (Passes third_schema) m.tables m.passes
-moved_pass Third t p = subst (Passes third_schema) (sym (passing_tables third_schema t p)) p
+pub upgraded_pass : (schema : known.Schema) (t : Tables) → Passes (schema_of schema) t → Passes third_schema (sheets (base_of t))
+upgraded_pass First t p = let m = upgraded_rows (schema_of First) t first_narrower p in subst (Passes third_schema) m.tables m.passes
+upgraded_pass Second t p = let m = upgraded_rows (schema_of Second) t second_narrower p in subst (Passes third_schema) m.tables m.passes
+upgraded_pass Third t p = subst (Passes third_schema) (sym (passing_tables third_schema t p)) p
 
-pub moved_read : (schema : known.Schema) (t : Tables) → Passes (schema_of schema) t → IsTrue (has_texts t) → IsTrue (has_texts (sheets (base_of t)))
-moved_read schema t p texts = subst (λ u. IsTrue (has_texts u)) (rows_moved_from (schema_of schema) t p).1 (moved_texts t texts)
+pub upgraded_read : (schema : known.Schema) (t : Tables) → Passes (schema_of schema) t → IsTrue (has_texts t) → IsTrue (has_texts (sheets (base_of t)))
+upgraded_read schema t p texts = subst (λ u. IsTrue (has_texts u)) (rows_upgraded_from (schema_of schema) t p).1 (upgraded_texts t texts)
 
 clean_or_not : (b : Bool) → (doubt b ≡ 0) ⊎ (¬ (doubt b ≡ 0))
 unfolding doubt
@@ -106,13 +106,13 @@ module _ {S : Type 0} (g : Ghosts S) (new : Held S) where
   abbrev pub Held_rows : Type 0
   Held_rows = (t : Tables) × Holds g new t × Passes third_schema t × IsTrue (has_texts t)
 
-  pub rows_held : (db : Database) → (HasCleanDisk (state g new) → IsTrue (state g new).is_open → HasMoved db (state g new).now) → Held_rows
-  rows_held db moved = go (clean_or_not (state g new).is_clean) (true_or_not (state g new).is_open)
+  pub rows_held : (db : Database) → (HasCleanDisk (state g new) → IsTrue (state g new).is_open → IsUpgraded db (state g new).now) → Held_rows
+  rows_held db upgraded = go (clean_or_not (state g new).is_clean) (true_or_not (state g new).is_open)
     where
       go : (HasCleanDisk (state g new)) ⊎ (¬ HasCleanDisk (state g new)) → (IsTrue (state g new).is_open) ⊎ (¬ IsTrue (state g new).is_open) → Held_rows
       go (inl clean) (inl on) =
-          let m = moved clean on in
-          (sheets (base_of m.1), (λ _ _. m.3), moved_pass m.0 m.1 m.2.2, moved_read m.0 m.1 m.2.2 m.2.1)
+          let m = upgraded clean on in
+          (sheets (base_of m.1), (λ _ _. m.3), upgraded_pass m.0 m.1 m.2.2, upgraded_read m.0 m.1 m.2.2 m.2.1)
       go (inl clean) (inr off) = (no_rows, (λ _ on. absurd (off on)), no_rows_pass, refl)
       go (inr never) o = (no_rows, (λ clean _. absurd (never clean)), no_rows_pass, refl)
 
@@ -123,7 +123,7 @@ unadopted g conn = record {
   told = λ clean defined. tt;
   opened = λ clean. tt;
   adopted = λ defined. tt;
-  moved = λ clean on defined. tt;
+  upgraded = λ clean on defined. tt;
   stays = λ clean defined. tt;
   same = λ clean on. record { was_open = on; now = refl; committed = refl };
   survives = λ defined. survives_weaker (state g conn) (state g conn) _ _ (λ _ db none. absurd none) (kept_none {g = g} conn).survives;
@@ -169,7 +169,7 @@ module _ {S : Type 0} (g : Ghosts S) (old first : Held S) (settled : IsTrue (sta
         survives = passed;
       }
 
-      crashes : IsDefinedIn g old → Survives (state g old) (state g end) (AreMoved (state g old).now)
+      crashes : IsDefinedIn g old → Survives (state g old) (state g end) (AreUpgraded (state g old).now)
       crashes defined = survives_weaker (state g old) (state g end) _ _ (λ _ db none. absurd none) passed
 
     none_adopted : (fault : Fault) → (HasCleanDisk (state g end) → IsDefinedIn g old → OnAnswer (Err fault) (Audited (state g old).now)) → (HasCleanDisk (state g end) → OnAnswer (Err fault) (λ _. IsTrue (state g old).is_open))
@@ -178,7 +178,7 @@ module _ {S : Type 0} (g : Ghosts S) (old first : Held S) (settled : IsTrue (sta
       told = told;
       opened = opened;
       adopted = λ defined. tt;
-      moved = λ clean on defined. tt;
+      upgraded = λ clean on defined. tt;
       stays = λ clean defined. tt;
       same = stayed;
       survives = crashes (Err fault) told opened;
@@ -189,18 +189,18 @@ module _ {S : Type 0} (g : Ghosts S) (old first : Held S) (settled : IsTrue (sta
     gave_up fault may = none_adopted fault (λ clean defined. on_fault fault (Audited (state g old).now) may) (λ clean. on_fault fault (λ _. IsTrue (state g old).is_open) may)
 
   -- the examination gave up
-  pub gives_up : (end : Held S) (fault : Fault) → MayFail fault → IsStep {V = Examined} {E = Fault} (state g (begun old)) (state g first) (Err fault) Looked
+  pub gives_up : (end : Held S) (fault : Fault) → MayFail fault → IsStep {V = AuditResult} {E = Fault} (state g (begun old)) (state g first) (Err fault) Looked
       → Survives (state g first) (state g end) (λ _. ⊥) → (HasCleanDisk (state g end) → IsRolledBack (state g first) (state g end)) → IsAdopted g old end (Err fault)
   gives_up end fault may step late back = gave_up first end (Err fault) Looked step late back fault may
 
-  module _ (told : Examined) (step : IsStep {V = Examined} {E = Fault} (state g (begun old)) (state g first) (Ok told) Looked) where
+  module _ (told : AuditResult) (step : IsStep {V = AuditResult} {E = Fault} (state g (begun old)) (state g first) (Ok told) Looked) where
     looked : (end : Held S) → Survives (state g first) (state g end) (λ _. ⊥) → HasCleanDisk (state g end) → Looked told (state g (begun old)) (state g first)
     looked end late clean = (step.made (clean_before (state g first) (state g end) (λ _. ⊥) late clean) refl).1
 
     clean_then : (end : Held S) → Survives (state g first) (state g end) (λ _. ⊥) → HasCleanDisk (state g end) → HasCleanDisk (state g old)
     clean_then end late = clean_before (state g old) (state g end) (λ _. ⊥) (through g old first end settled (Ok told) Looked step late)
 
-    told_at : (end : Held S) (one : Examined) → told ≡ one → Survives (state g first) (state g end) (λ _. ⊥) → HasCleanDisk (state g end) → IsDefinedIn g old → Tells one (state g old).now
+    told_at : (end : Held S) (one : AuditResult) → told ≡ one → Survives (state g first) (state g end) (λ _. ⊥) → HasCleanDisk (state g end) → IsDefinedIn g old → Tells one (state g old).now
     told_at end one is late clean defined = let l = looked end late clean in subst (λ e. Tells e (state g old).now) is (l.2 (defined (clean_then end late clean) l.0))
 
     -- a condition fails
@@ -215,7 +215,7 @@ module _ {S : Type 0} (g : Ghosts S) (old first : Held S) (settled : IsTrue (sta
       told = now_told;
       opened = was_open;
       adopted = λ defined. rows_held g end (state g old).now (λ clean on. there clean on defined);
-      moved = λ clean on defined. let k = same_at clean on in (there clean on defined, k.committed ∙ sym (settled k.was_open) ∙ sym k.now);
+      upgraded = λ clean on defined. let k = same_at clean on in (there clean on defined, k.committed ∙ sym (settled k.was_open) ∙ sym k.now);
       stays = λ clean defined. let p = told_at end (Succeeds Third) third late clean defined in inl (λ _ _. desk_is_there third_schema p.0 (state g old).now p.1.0);
       same = λ clean on. tt;
       survives = crashes first end (Ok told) Looked step late back (Ok tt) now_told was_open;
@@ -234,10 +234,10 @@ module _ {S : Type 0} (g : Ghosts S) (old first : Held S) (settled : IsTrue (sta
         same_at : HasCleanDisk (state g end) → IsTrue (state g end).is_open → IsSame (state g old) (state g end)
         same_at = stayed first end (Ok told) Looked step late back
 
-        there : HasCleanDisk (state g end) → IsTrue (state g end).is_open → IsDefinedIn g old → HasMoved (state g old).now (state g end).now
+        there : HasCleanDisk (state g end) → IsTrue (state g end).is_open → IsDefinedIn g old → IsUpgraded (state g old).now (state g end).now
         there clean on defined =
             let p = told_at end (Succeeds Third) third late clean defined in
-            let rows : HasRows (moved_from third_schema p.0) (state g end).now = subst (HasRows p.0) (sym (same_at clean on).now) (third_rows p.0 (state g old).now p.1.0) in (
+            let rows : HasRows (upgraded_from third_schema p.0) (state g end).now = subst (HasRows p.0) (sym (same_at clean on).now) (third_rows p.0 (state g old).now p.1.0) in (
               Third,
               p.0,
               p.1,
@@ -247,19 +247,19 @@ module _ {S : Type 0} (g : Ghosts S) (old first : Held S) (settled : IsTrue (sta
 
     module _ (schema : known.Schema) (is : told ≡ Succeeds schema) (older : (schema_of schema).has_rule ≡ false) (mid : Held S) where
       -- the move gave up
-      pub move_gives_up : (end : Held S) (fault : Fault) → MayFail fault → IsStep {V = Unit {0}} {E = Fault} (state g first) (state g mid) (Err fault) (λ _ a b. Moves (schema_of schema) a.now b.now)
+      pub move_gives_up : (end : Held S) (fault : Fault) → MayFail fault → IsStep {V = Unit {0}} {E = Fault} (state g first) (state g mid) (Err fault) (λ _ a b. Upgrades (schema_of schema) a.now b.now)
           → Survives (state g mid) (state g end) (λ _. ⊥) → (HasCleanDisk (state g end) → IsRolledBack (state g mid) (state g end)) → IsAdopted g old end (Err fault)
       move_gives_up end fault may move late back =
-          gave_up mid end (Err fault) (λ _ a b. Moves (schema_of schema) a.now b.now)
-          (step_then (state g (begun old)) (state g first) (state g mid) told (Err fault) Looked (λ _ a b. Moves (schema_of schema) a.now b.now) (λ _ a b. Moves (schema_of schema) a.now b.now)
-          (λ _ l m. subst (λ d. Moves (schema_of schema) d (state g mid).now) l.1 m) step move)
+          gave_up mid end (Err fault) (λ _ a b. Upgrades (schema_of schema) a.now b.now)
+          (step_then (state g (begun old)) (state g first) (state g mid) told (Err fault) Looked (λ _ a b. Upgrades (schema_of schema) a.now b.now) (λ _ a b. Upgrades (schema_of schema) a.now b.now)
+          (λ _ l m. subst (λ d. Upgrades (schema_of schema) d (state g mid).now) l.1 m) step move)
           late back fault may
 
-      module _ (move : IsStep {V = Unit {0}} {E = Fault} (state g first) (state g mid) (Ok tt) (λ _ a b. Moves (schema_of schema) a.now b.now)) (end : Held S) (late : Survives (state g mid) (state g end) (λ db. db ≡ (state g mid).now.trees)) where
+      module _ (move : IsStep {V = Unit {0}} {E = Fault} (state g first) (state g mid) (Ok tt) (λ _ a b. Upgrades (schema_of schema) a.now b.now)) (end : Held S) (late : Survives (state g mid) (state g end) (λ db. db ≡ (state g mid).now.trees)) where
         made : IsStep {V = Unit {0}} {E = Fault} (state g (begun old)) (state g mid) (Ok tt) (λ _ a b. Made schema a.now b.now)
         made =
-            step_then (state g (begun old)) (state g first) (state g mid) told (Ok tt) Looked (λ _ a b. Moves (schema_of schema) a.now b.now) (λ _ a b. Made schema a.now b.now)
-            (λ _ l m. ((λ defined. subst (λ e. Tells e (state g old).now) is (l.2 defined)), subst (λ d. Moves (schema_of schema) d (state g mid).now) l.1 m)) step move
+            step_then (state g (begun old)) (state g first) (state g mid) told (Ok tt) Looked (λ _ a b. Upgrades (schema_of schema) a.now b.now) (λ _ a b. Made schema a.now b.now)
+            (λ _ l m. ((λ defined. subst (λ e. Tells e (state g old).now) is (l.2 defined)), subst (λ d. Upgrades (schema_of schema) d (state g mid).now) l.1 m)) step move
 
         over : Survives (state g old) (state g end) (λ trees. (db : Database) × Made schema (state g old).now db × (trees ≡ db.trees))
         over = whole g old mid end settled (Made schema) made late
@@ -282,12 +282,12 @@ module _ {S : Type 0} (g : Ghosts S) (old first : Held S) (settled : IsTrue (sta
             let p = subst (λ e. Tells e (state g old).now) is (l.2 (defined before l.0)) in
             older_has_none schema older (sym (one_desk Third schema p.0 (state g old).now (third before l.0) p.1.0))
 
-        left : IsDefinedIn g old → Survives (state g old) (state g end) (AreMoved (state g old).now)
-        unfolding made_moved
+        left : IsDefinedIn g old → Survives (state g old) (state g end) (AreUpgraded (state g old).now)
+        unfolding made_upgraded
         left defined =
             survives_weaker (state g old) (state g end) _ _
             (λ clean trees h.
-            let m = made_moved schema (state g old).now h.0 h.1 (defined (clean_old clean) (was_open clean)) in
+            let m = made_upgraded schema (state g old).now h.0 h.1 (defined (clean_old clean) (was_open clean)) in
             (schema, m.1, older_has_none schema older, m.2, (h.0, m.3, h.2))) over
 
         nothing : (result : Result (Unit {0}) Fault) → (HasCleanDisk (state g end) → OnAnswer result (λ _. IsTrue (state g old).is_open)) → IsDefinedIn g old → HasThirdIn g old → IsAudited g old end result
@@ -304,7 +304,7 @@ module _ {S : Type 0} (g : Ghosts S) (old first : Held S) (settled : IsTrue (sta
           told = λ clean defined. let p = (ends clean).2.0 (defined (clean_old clean) (was_open clean)) in (schema, p);
           opened = was_open;
           adopted = λ defined. rows_held g end (state g old).now (λ clean on. there clean defined);
-          moved = λ clean on defined. (there clean defined, (ends clean).3);
+          upgraded = λ clean on defined. (there clean defined, (ends clean).3);
           stays = λ clean defined. inr (ends clean).1;
           same = λ clean on. tt;
           survives = left;
@@ -314,15 +314,15 @@ module _ {S : Type 0} (g : Ghosts S) (old first : Held S) (settled : IsTrue (sta
             ends : (clean : HasCleanDisk (state g end)) → IsTrue (state g old).is_open × IsTrue (state g end).is_open × Made schema (state g old).now (state g end).now × ((state g end).committed ≡ (state g end).now)
             ends = all g old mid end settled (Made schema) made late done
 
-            there : HasCleanDisk (state g end) → IsDefinedIn g old → HasMoved (state g old).now (state g end).now
-            there clean defined = made_moved schema (state g old).now (state g end).now (ends clean).2 (defined (clean_old clean) (was_open clean))
+            there : HasCleanDisk (state g end) → IsDefinedIn g old → IsUpgraded (state g old).now (state g end).now
+            there clean defined = made_upgraded schema (state g old).now (state g end).now (ends clean).2 (defined (clean_old clean) (was_open clean))
 
         pub commits_none : (e : Error) → (HasCleanDisk (state g end) → FailsToCommit (state g mid) (state g end) e) → IsAdopted g old end (Err Store)
         commits_none e fails = record {
           told = λ clean defined. tt;
           opened = λ clean. tt;
           adopted = λ defined. tt;
-          moved = λ clean on defined. tt;
+          upgraded = λ clean on defined. tt;
           stays = λ clean defined. tt;
           same = kept_at g old mid end settled (Made schema) made late e fails;
           survives = left;

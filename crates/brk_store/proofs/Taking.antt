@@ -20,7 +20,7 @@ use Rattle.brk_changes.specs.declared.schema.Schema as known
 use Rattle.brk_changes.specs.declared.schema.Schema.TheVariants.{First, Second, Third}
 use Rattle.brk_changes.specs.Schemas.{schema_of}
 use Rattle.brk_audit_theorems.specs.Passing.{Passes}
-use Rattle.brk_audit_theorems.proofs.MovedRows.{first_narrower, moved_rows, second_narrower}
+use Rattle.brk_audit_theorems.proofs.UpgradedRows.{first_narrower, upgraded_rows, second_narrower}
 use Rattle.brk_audit_theorems.proofs.Passing.{passing_books, passing_tables}
 use Rattle.brk_invariant_theorems.proofs.Adopted.{passing_sound, sound_passes}
 use Rattle.brk_tables_unique.proofs.OneTables.{one_schema}
@@ -28,9 +28,9 @@ use Rattle.brk_sql.proofs.Inside.{clean_before}
 use Rattle.brk_tables_schema.specs.Made.{HasRowsIn}
 use Rattle.brk_tables_scan.specs.Schemas.{HasDesk}
 use Rattle.brk_tables_scan.proofs.Defined.{desk_is_there}
-use Rattle.brk_store.specs.Audited.{Answered, Audited, AuditedBy, HasDeskOf, HasMoved, HasThirdIn, HoldsBooks, IsAdopted, IsAudited, IsDefinedIn, IsThirdDefinedIn, OnAnswer}
+use Rattle.brk_store.specs.Audited.{Answered, Audited, AuditedBy, HasDeskOf, IsUpgraded, HasThirdIn, HoldsBooks, IsAdopted, IsAudited, IsDefinedIn, IsThirdDefinedIn, OnAnswer}
 use Rattle.brk_store.specs.Holds.{Holds}
-use Rattle.brk_store.proofs.Adoption.{moved_pass, moved_read}
+use Rattle.brk_store.proofs.Adoption.{upgraded_pass, upgraded_read}
 use Rattle.brk_store.proofs.Answering.{one_failing}
 use Rattle.brk_store.proofs.Closing.{answer_with}
 use Rattle.brk_store.proofs.Schemas.{desk_of_rows, one_desk, rows_defined, rows_third}
@@ -149,16 +149,16 @@ pub adopted_books : {S : Type 0} (g : Ghosts S) (old new : Held S) → IsAdopted
 adopted_books g old new is defined = let a = is.adopted defined in (base_of a.0, passing_books_held g new a.0 a.1 a.2 a.3)
 
 -- the books that a move leaves are those of the rows that passed
-moved_base : (schema : known.Schema) (t : Tables) → Passes (schema_of schema) t → base_of (sheets (base_of t)) ≡ base_of t
-moved_base First t p = let m = moved_rows (schema_of First) t first_narrower p in sym (ap base_of m.tables) ∙ m.base
-moved_base Second t p = let m = moved_rows (schema_of Second) t second_narrower p in sym (ap base_of m.tables) ∙ m.base
-moved_base Third t p = ap base_of (passing_tables third_schema t p)
+upgraded_base : (schema : known.Schema) (t : Tables) → Passes (schema_of schema) t → base_of (sheets (base_of t)) ≡ base_of t
+upgraded_base First t p = let m = upgraded_rows (schema_of First) t first_narrower p in sym (ap base_of m.tables) ∙ m.base
+upgraded_base Second t p = let m = upgraded_rows (schema_of Second) t second_narrower p in sym (ap base_of m.tables) ∙ m.base
+upgraded_base Third t p = ap base_of (passing_tables third_schema t p)
 
-pub moved_books : {S : Type 0} (g : Ghosts S) (new : Held S) (db : Database) → (m : HasMoved db (state g new).now) → HoldsBooks g new (base_of m.1)
-moved_books g new db m =
-    subst (HoldsBooks g new) (moved_base m.0 m.1 m.2.2)
-    (passing_books_held g new (sheets (base_of m.1)) (λ _ _. m.3) (moved_pass m.0 m.1 m.2.2) (moved_read m.0 m.1 m.2.2 m.2.1))
+pub upgraded_books : {S : Type 0} (g : Ghosts S) (new : Held S) (db : Database) → (m : IsUpgraded db (state g new).now) → HoldsBooks g new (base_of m.1)
+upgraded_books g new db m =
+    subst (HoldsBooks g new) (upgraded_base m.0 m.1 m.2.2)
+    (passing_books_held g new (sheets (base_of m.1)) (λ _ _. m.3) (upgraded_pass m.0 m.1 m.2.2) (upgraded_read m.0 m.1 m.2.2 m.2.1))
 
 pub held_after : {S : Type 0} (g : Ghosts S) (old new : Held S) → IsAdopted g old new (Ok tt) → IsDefinedIn g old → HasCleanDisk (state g new) → IsTrue (state g new).is_open
     → (schema : known.Schema) × (rows : Tables) × Answered (schema_of schema) rows (state g old).now None × HoldsBooks g new (base_of rows)
-held_after g old new is defined clean on = let m = (is.moved clean on defined).0 in (m.0, m.1, m.2, moved_books g new (state g old).now m)
+held_after g old new is defined clean on = let m = (is.upgraded clean on defined).0 in (m.0, m.1, m.2, upgraded_books g new (state g old).now m)

@@ -13,9 +13,9 @@ use Rattle.brk_sql.specs.Model.{IsStep}
 use Rattle.brk_sql.proofs.Inside.{step_then, step_read}
 use Rattle.brk_tables_scan.specs.Schemas.{HasDesk, IsDefined}
 use Rattle.brk_store.specs.Audited.{Audited, AuditedBy, HasDeskOf}
-use Rattle.brk_store.specs.Examined.{Tells}
-use Rattle.brk_store.specs.declared.examining.Examined.{Examined}
-use Rattle.brk_store.specs.declared.examining.Examined.TheVariants.{Passes, Fails}
+use Rattle.brk_store.specs.AuditResult.{Tells}
+use Rattle.brk_store.specs.declared.examining.AuditResult.{AuditResult}
+use Rattle.brk_store.specs.declared.examining.AuditResult.TheVariants.{Passes, Fails}
 use Rattle.brk_store.proofs.Answering.{Asked, Tried}
 
 -- a test told that there is no desk of a schema
@@ -85,18 +85,18 @@ module _ (a b c d : State) (third second first : Bool) (one : IsStep {V = Bool} 
 
 -- ---- the rows
 
-abbrev pub Looked : Examined → State → State → Type 0
+abbrev pub Looked : AuditResult → State → State → Type 0
 Looked told a b = IsTrue a.is_open × (b.now ≡ a.now) × (IsDefined a.now → Tells told a.now)
 
-pub tells_none : (a b : State) → IsStep {V = Option known.Schema} {E = Fault} a b (Ok None) Found → IsStep {V = Examined} {E = Fault} a b (Ok (Fails condition.Schema)) Looked
+pub tells_none : (a b : State) → IsStep {V = Option known.Schema} {E = Fault} a b (Ok None) Found → IsStep {V = AuditResult} {E = Fault} a b (Ok (Fails condition.Schema)) Looked
 tells_none a b step =
     step_read a b None (Ok (Fails condition.Schema)) Found Looked
     (λ told e p. let same : Fails condition.Schema ≡ told = cc in subst (λ t. Looked t a b) same (p.0, p.1, p.2)) step
 
 module _ (a b c : State) (schema : known.Schema) (there : IsStep {V = Option known.Schema} {E = Fault} a b (Ok (Some schema)) Found) where
   -- the desk that is there, and what its conditions told
-  examined : (answer : Option Condition) (told : Examined) → ((db : Database) → HasDesk (schema_of schema) db → AuditedBy (schema_of schema) db answer → Tells told db)
-      → IsStep {V = Option Condition} {E = Fault} b c (Ok answer) (Tried schema) → IsStep {V = Examined} {E = Fault} a c (Ok told) Looked
+  examined : (answer : Option Condition) (told : AuditResult) → ((db : Database) → HasDesk (schema_of schema) db → AuditedBy (schema_of schema) db answer → Tells told db)
+      → IsStep {V = Option Condition} {E = Fault} b c (Ok answer) (Tried schema) → IsStep {V = AuditResult} {E = Fault} a c (Ok told) Looked
   examined answer told tells step =
       step_then a b c (Some schema) (Ok told) Found (λ seen x y. (told ≡ seen) × Tried schema answer x y) Looked
       (λ seen p q. subst (λ t. Looked t a c) q.0 (
@@ -109,8 +109,8 @@ module _ (a b c : State) (schema : known.Schema) (there : IsStep {V = Option kno
       there
       (step_read b c answer (Ok told) (Tried schema) (λ seen x y. (told ≡ seen) × Tried schema answer x y) (λ seen e p. (let same : told ≡ seen = cc in same, p)) step)
 
-  pub tells_passes : IsStep {V = Option Condition} {E = Fault} b c (Ok None) (Tried schema) → IsStep {V = Examined} {E = Fault} a c (Ok (Passes schema)) Looked
+  pub tells_passes : IsStep {V = Option Condition} {E = Fault} b c (Ok None) (Tried schema) → IsStep {V = AuditResult} {E = Fault} a c (Ok (Passes schema)) Looked
   tells_passes = examined None (Passes schema) (λ db desk h. h)
 
-  pub tells_fails : (failing : Condition) → IsStep {V = Option Condition} {E = Fault} b c (Ok (Some failing)) (Tried schema) → IsStep {V = Examined} {E = Fault} a c (Ok (Fails failing)) Looked
+  pub tells_fails : (failing : Condition) → IsStep {V = Option Condition} {E = Fault} b c (Ok (Some failing)) (Tried schema) → IsStep {V = AuditResult} {E = Fault} a c (Ok (Fails failing)) Looked
   tells_fails failing = examined (Some failing) (Fails failing) (λ db desk h. audited_of schema db failing desk h)

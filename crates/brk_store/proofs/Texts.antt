@@ -8,7 +8,7 @@ use Rattle.brk_book_theorems.proofs.LotReading.{All-sort}
 use Rattle.brk_model.specs.Adopted.{posting_of_cash, posting_of_move, postings_in}
 use Rattle.brk_model.specs.Derived.{Posting, in_turn}
 use Rattle.brk_model.specs.Form.{has_texts}
-use Rattle.brk_model.specs.Moved.{moved}
+use Rattle.brk_model.specs.Upgraded.{upgraded}
 use Rattle.brk_model.specs.Tables.{CashRow, MoveRow, Tables, numbered}
 use Rattle.brk_ref.specs.declared.key.Kept as kept
 use Rattle.brk_ref.specs.Records.{kept_of}
@@ -73,9 +73,9 @@ numbered_texts : (n : ℕ) (ps : List Posting) → AllByRecursion Readable ps �
 numbered_texts n [] h = refl
 numbered_texts n (p ∷ ps) h = and_both _ _ h.0 (numbered_texts (n + 1) ps h.1)
 
-pub moved_texts : (t : Tables) → IsTrue (has_texts t) → IsTrue (has_texts (moved t))
-unfolding moved
-moved_texts t h =
+pub upgraded_texts : (t : Tables) → IsTrue (has_texts t) → IsTrue (has_texts (upgraded t))
+unfolding upgraded
+upgraded_texts t h =
     let upper = and_parts _ (list_all (λ (r : MoveRow). is_utf8 r.name) t.moves) h in
     let lower = and_parts _ (list_all (λ (r : CashRow). is_utf8 r.name) t.cash) upper.0 in
     and_both _ _ (and_both _ _ lower.0 refl)

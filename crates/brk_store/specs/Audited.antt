@@ -20,7 +20,7 @@ use Rattle.brk_changes.specs.declared.schema.Schema as known
 use Rattle.brk_changes.specs.declared.schema.Schema.TheVariants.{Third}
 use Rattle.brk_changes.specs.Schemas.{schema_of}
 use Rattle.brk_tables_schema.specs.Made.{HasRows, HasRowsIn, IsOf}
-use Rattle.brk_tables_upgrade.specs.Moving.{KeepsStrangers}
+use Rattle.brk_tables_upgrade.specs.Upgrade.{KeepsOtherTables}
 use Rattle.brk_tables_scan.specs.Schemas.{HasDesk, IsDefined, IsDefinedAs}
 use Rattle.brk_book_theorems.specs.Books.{IsBooks}
 use Rattle.brk_audit_theorems.specs.Passing.{Passes}
@@ -96,13 +96,13 @@ pub record IsAudited {S : Type 0} (g : Ghosts S) (old new : Held S) (result : Re
 
 -- The rows of some schema passed, and another database has the tables of the base that they give, in the third. Each table that is not the desk's stands, with its
 -- rows unless a foreign key of its own acts on them.
-abbrev pub HasMoved : Database → Database → Type 0
-HasMoved db after =
-    (schema : known.Schema) × (t : Tables) × (passed : Answered (schema_of schema) t db None) × HasRows (sheets (base_of t)) after × KeepsStrangers (IsOf (schema_of schema)) passed.0.0 db after
+abbrev pub IsUpgraded : Database → Database → Type 0
+IsUpgraded db after =
+    (schema : known.Schema) × (t : Tables) × (passed : Answered (schema_of schema) t db None) × HasRows (sheets (base_of t)) after × KeepsOtherTables (IsOf (schema_of schema)) passed.0.0 db after
 
 -- the rows of an older schema passed, and these trees have the tables of the base that they give, in the third
-abbrev pub AreMoved : Database → Trees → Type 0
-AreMoved db trees = (schema : known.Schema) × (t : Tables) × (schema ≢ Third) × Answered (schema_of schema) t db None × AreTreesOf (sheets (base_of t)) trees
+abbrev pub AreUpgraded : Database → Trees → Type 0
+AreUpgraded db trees = (schema : known.Schema) × (t : Tables) × (schema ≢ Third) × Answered (schema_of schema) t db None × AreTreesOf (sheets (base_of t)) trees
 
 -- the adoption of what a connection holds: an audit by the conditions of the schema that is there, and at Ok a store that holds the rows in the third
 pub record IsAdopted {S : Type 0} (g : Ghosts S) (old new : Held S) (result : Result (Unit {0}) Fault) : Type 0 where
@@ -113,13 +113,13 @@ pub record IsAdopted {S : Type 0} (g : Ghosts S) (old new : Held S) (result : Re
   -- at Ok rows are held that pass
   pub adopted : IsDefinedIn g old → OnOk result ((t : Tables) × Holds g new t × Passes third_schema t × IsTrue (has_texts t))
   -- these are the tables of the base that the rows gave, and they are committed
-  pub moved : HasCleanDisk (state g new) → IsTrue (state g new).is_open → IsDefinedIn g old → OnOk result (HasMoved (state g old).now (state g new).now × ((state g new).committed ≡ (state g new).now))
-  -- a store whose rows were moved is open still
+  pub upgraded : HasCleanDisk (state g new) → IsTrue (state g new).is_open → IsDefinedIn g old → OnOk result (IsUpgraded (state g old).now (state g new).now × ((state g new).committed ≡ (state g new).now))
+  -- a store whose rows were upgraded is open still
   pub stays : HasCleanDisk (state g new) → IsDefinedIn g old → OnOk result (HasThirdIn g old ⊎ IsTrue (state g new).is_open)
   -- at a fault the whole database is as it was
   pub same : HasCleanDisk (state g new) → IsTrue (state g new).is_open → OnErr result (IsSame (state g old) (state g new))
   -- a crash leaves what it could leave before, or the tables of the base of rows of an older schema that passed
-  pub survives : IsDefinedIn g old → Survives (state g old) (state g new) (AreMoved (state g old).now)
+  pub survives : IsDefinedIn g old → Survives (state g old) (state g new) (AreUpgraded (state g old).now)
   -- of a desk of the third schema it is an audit, which writes nothing
   pub audited : IsDefinedIn g old → HasThirdIn g old → IsAudited g old new result
 

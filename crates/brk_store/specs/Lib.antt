@@ -1,5 +1,5 @@
 pub mod Audited
-pub mod Examined
+pub mod AuditResult
 pub mod Holds
 pub mod Kept
 pub mod Numbers

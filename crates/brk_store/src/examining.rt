@@ -6,8 +6,8 @@ ghost use Rattle.brk_money.specs.declared.fault.Fault.TheVariants as fault;
 ghost use Rattle.brk_model.specs.Run.{MayFail};
 ghost use Rattle.brk_sql.specs.Model.{Steps};
 ghost use Rattle.brk_store.specs.Audited.{HasDeskOf};
-ghost use Rattle.brk_store.specs.Examined.{Tells};
-ghost use Rattle.brk_store.specs.declared.examining.Examined.TheVariants as told;
+ghost use Rattle.brk_store.specs.AuditResult.{Tells};
+ghost use Rattle.brk_store.specs.declared.examining.AuditResult.TheVariants as told;
 ghost use Rattle.brk_tables_scan.specs.Schemas.{IsDefined};
 
 use crate::auditing::audit_desk_of;
@@ -19,7 +19,7 @@ use std::alloc::Global;
 
 /// The result of an audit.
 #[derive(Clone, Copy)]
-pub enum Examined {
+pub enum AuditResult {
     /// The database has a desk of this schema, and its rows pass.
     Passes(Schema),
     /// The first condition that fails.
@@ -45,20 +45,20 @@ fn schema_of_desk<S: Alter>(tx: &mut Transaction<'_, S>) -> Result<Option<Schema
 }
 
 /// Audits the rows of the desk in the database by the conditions of its own schema.
-pub(crate) fn examine<S: Alter>(
+pub(crate) fn audit_by_own_schema<S: Alter>(
     tx: &mut Transaction<'_, S>,
     alloc: Global,
-) -> Result<Examined, Fault>
+) -> Result<AuditResult, Fault>
     ensures same_reference { tx.new.conn.ghost_name ≡ tx.old.conn.ghost_name }
     ensures step { Steps S.Store tx.old tx.new result (λ examined a b. IsTrue a.is_open × (b.now ≡ a.now) × (IsDefined a.now → Tells examined a.now)) }
     ensures condition { IfOk result (λ examined. examined ≢ told.Fails NotEmpty) }
     ensures fault { IfErr result MayFail }
 {
     let Some(schema) = schema_of_desk(tx)? else {
-        return Ok(Examined::Fails(Condition::Schema));
+        return Ok(AuditResult::Fails(Condition::Schema));
     };
     match audit_desk_of(tx, alloc, schema)? {
-        None => Ok(Examined::Passes(schema)),
-        Some(condition) => Ok(Examined::Fails(condition)),
+        None => Ok(AuditResult::Passes(schema)),
+        Some(condition) => Ok(AuditResult::Fails(condition)),
     }
 }

@@ -12,7 +12,6 @@ mod examining;
 mod looking;
 mod lot_changes;
 mod moments;
-mod moving;
 mod numbers;
 pub mod pages;
 mod reading;
@@ -21,6 +20,7 @@ pub mod store;
 mod terms;
 mod trades;
 mod updates;
+mod upgrading;
 pub mod walks;
 
 pub use brk_tables_walks::{Stop, Visitor};

@@ -28,7 +28,7 @@ use Rattle.brk_tables_schema.proofs.Places.{the_desk}
 use Rattle.brk_tables_schema.proofs.Steps.{added}
 use Rattle.brk_tables_schema.proofs.Tests.{same_number, same_maybe}
 use Rattle.brk_tables_schema.proofs.Wide.{wide, wide_of, widened, narrowed}
-use Rattle.brk_tables_cash.specs.Moving.{Raises, without_cash}
+use Rattle.brk_tables_cash.specs.Upgrade.{SetsThirdSchema, without_cash}
 use Rattle.brk_tables_cash.proofs.Places.{cash_rows, moves, the_rule}
 use Rattle.brk_tables_cash.proofs.AddMove
 use Rattle.brk_tables_cash.proofs.AddRule
@@ -125,7 +125,7 @@ sets_cash_name old new trade name ran =
 
 -- ---- the number of the schema
 
-pub raises : (old new : State) → Ran SetSchema.statement (nat 3 ∷ nat 1 ∷ []) old new → Raises old.now new.now
+pub raises : (old new : State) → Ran SetSchema.statement (nat 3 ∷ nat 1 ∷ []) old new → SetsThirdSchema old.now new.now
 raises old new ran = λ schema t tree h.
     let turned = updates_as wide TheDesk the_desk SetSchema.statement (nat 3 ∷ nat 1 ∷ []) (read SetSchema.statement) SetSchema.terms SetSchema.project (λ (r : DeskRow). r.id == 1)
     (λ tree r x e. let a : column r 0 ≡ nat x.id = cc in rw (a, same_number x.id 1) (and_true _)) (λ r. refl) SetSchema.understood_as

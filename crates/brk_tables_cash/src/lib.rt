@@ -4,9 +4,9 @@
 #![tactic(auto)]
 
 pub mod moves;
-pub mod moving;
 pub mod rule;
+pub mod upgrade;
 
 pub use moves::{add_move, has_all_movements, last_move, move_by_trade, set_cash_name};
-pub use moving::{remove_cash_rows, set_schema};
 pub use rule::{one_day, set_one_day};
+pub use upgrade::{remove_cash_rows, set_schema};

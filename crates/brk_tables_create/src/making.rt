@@ -9,7 +9,7 @@ ghost use Rattle.brk_tables_schema.specs.Desk.{shape};
 ghost use Rattle.brk_tables_create.specs.Made.{MakesDesk, desk_row_text, later_than};
 ghost use Rattle.brk_tables_create.specs.Texts.{which_of};
 
-use crate::table::{IN_THIRD, SINCE_SECOND, SINCE_THIRD, Table};
+use crate::table::{ADDED_AFTER_FIRST, ADDED_AFTER_SECOND, IN_THIRD, Table};
 use brk_changes::Schema;
 use brk_money::Fault;
 use brk_tables_schema::calls::run;
@@ -67,8 +67,8 @@ pub fn make_later_tables<S: Alter>(tx: &mut Transaction<'_, S>, schema: Schema) 
     ensures fault { OnErr result (result ≡ Err Store) }
 {
     match schema {
-        Schema::First => make_each(tx, &SINCE_SECOND),
-        Schema::Second => make_each(tx, &SINCE_THIRD),
+        Schema::First => make_each(tx, &ADDED_AFTER_FIRST),
+        Schema::Second => make_each(tx, &ADDED_AFTER_SECOND),
         Schema::Third => make_each(tx, &[]),
     }
 }

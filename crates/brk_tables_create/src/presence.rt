@@ -8,7 +8,7 @@ ghost use Rattle.brk_sql.specs.Model.{Steps};
 ghost use Rattle.brk_tables_create.specs.Present.{has_table_of_desk, has_tables_of_schema, is_named};
 ghost use Rattle.brk_tables_create.specs.Texts.{which_of};
 
-use crate::table::{IN_FIRST, IN_SECOND, IN_THIRD, SINCE_SECOND, SINCE_THIRD, Table};
+use crate::table::{ADDED_AFTER_FIRST, ADDED_AFTER_SECOND, IN_FIRST, IN_SECOND, IN_THIRD, Table};
 use brk_changes::Schema;
 use brk_money::Fault;
 use brk_tables_schema::calls::is_understood;
@@ -83,8 +83,8 @@ fn has_just_of<S: Alter>(tx: &mut Transaction<'_, S>, schema: Schema) -> Result<
     ensures fault { OnErr result (result ≡ Err Store) }
 {
     match schema {
-        Schema::First => has_just(tx, &IN_FIRST, &SINCE_SECOND),
-        Schema::Second => has_just(tx, &IN_SECOND, &SINCE_THIRD),
+        Schema::First => has_just(tx, &IN_FIRST, &ADDED_AFTER_FIRST),
+        Schema::Second => has_just(tx, &IN_SECOND, &ADDED_AFTER_SECOND),
         Schema::Third => has_just(tx, &IN_THIRD, &[]),
     }
 }

@@ -49,7 +49,7 @@ fn is_row_of(schema: Schema, row: &Row) -> bool
 
 // Returns whether DESK has exactly one row, with the number of a schema.
 #[tactic(auto, using(crate::proofs::Firsts::says_one, crate::proofs::Firsts::first_of))]
-fn says(schema: Schema, rows: &[Row]) -> bool
+fn has_schema_row(schema: Schema, rows: &[Row]) -> bool
     ensures first { IsTrue result → Says (schema_of schema) rows.now }
     ensures other { result ≡ false → ¬ Says (schema_of schema) rows.now }
 {
@@ -69,5 +69,5 @@ pub fn has_desk<S: Alter>(tx: &mut Transaction<'_, S>, schema: Schema) -> Result
     if !has_tables(tx, schema)? {
         return Ok(false);
     }
-    Ok(says(schema, &desk_rows(tx)?))
+    Ok(has_schema_row(schema, &desk_rows(tx)?))
 }

@@ -3,5 +3,5 @@ pub mod AccountOfTrade
 pub mod Telling
 pub mod Sorting
 pub mod Numbered
-pub mod Raising
+pub mod LaterTables
 pub mod Turning

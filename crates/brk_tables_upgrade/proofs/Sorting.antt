@@ -15,7 +15,7 @@ use Rattle.brk_model.specs.Lists.{insert_by, sort_by, sort_by_key}
 use Rattle.brk_model.specs.Tables.{Tables, CashRow}
 use Rattle.brk_sql.specs.Rows.{Rises}
 use Rattle.brk_tables_schema.specs.Desk.{CashRows, order}
-use Rattle.brk_tables_upgrade.specs.Moving.{stamp_key}
+use Rattle.brk_tables_upgrade.specs.Upgrade.{stamp_key}
 
 abbrev earlier : CashRow → CashRow → Bool
 earlier x y = nat_lt x.stamp y.stamp

@@ -16,7 +16,7 @@ use Rattle.brk_tables_schema.specs.Desk.{CashRows, Trades, desk, order}
 use Rattle.brk_tables_schema.specs.Order.{by_key_values}
 use Rattle.brk_tables_schema.proofs.Order.{key_total, inserted}
 use Rattle.brk_tables_schema.proofs.Tests.{same_number}
-use Rattle.brk_tables_upgrade.specs.Moving.{stamp_key, cash_by_stamp}
+use Rattle.brk_tables_upgrade.specs.Upgrade.{stamp_key, cash_by_stamp}
 use Rattle.brk_tables_upgrade.proofs.AccountOfTrade
 use Rattle.brk_tables_upgrade.proofs.CashByStamp
 

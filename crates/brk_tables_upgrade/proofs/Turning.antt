@@ -13,8 +13,8 @@ use Rattle.brk_changes.specs.Changes.{with_move}
 use Rattle.brk_sql.specs.Desk.{HasTables, Tells, Turns}
 use Rattle.brk_sql.proofs.Strangers.{spares_then}
 use Rattle.brk_tables_schema.specs.Desk.{Which, desk}
-use Rattle.brk_tables_cash.specs.Moving.{without_cash}
-use Rattle.brk_tables_upgrade.specs.Moving.{cash_by_stamp, with_cash_from, with_cash_moved, with_numbered}
+use Rattle.brk_tables_cash.specs.Upgrade.{without_cash}
+use Rattle.brk_tables_upgrade.specs.Upgrade.{cash_by_stamp, with_cash_from, with_numbered_cash, with_numbered}
 use Rattle.brk_tables_upgrade.proofs.Numbered.{one_more}
 
 pub turns_none : (a : Database) → Turns desk (λ t. t) a a
@@ -61,5 +61,5 @@ all_added rows a b c still told turns = λ t tree h.
     let turned = subst (λ x. Turns desk (with_cash_from 1 rows) x c) still turns t tree h in
     (subst (λ rs. HasTables desk (with_cash_from 1 rs t) tree c) (told t tree h) turned.0, turned.1)
 
-pub all_moved : (a b c : Database) → Turns desk (λ t. with_cash_from 1 (cash_by_stamp t) t) a b → Turns desk without_cash b c → Turns desk with_cash_moved a c
+pub all_moved : (a b c : Database) → Turns desk (λ t. with_cash_from 1 (cash_by_stamp t) t) a b → Turns desk without_cash b c → Turns desk with_numbered_cash a c
 all_moved a b c p q = turns_then (λ t. with_cash_from 1 (cash_by_stamp t) t) without_cash a b c p q

@@ -2,8 +2,8 @@
 //! of the `sqlite` crate is returned as `Store`.
 #![tactic(auto)]
 
-pub mod moving;
 pub mod numbering;
 pub mod reading;
+pub mod upgrade;
 
-pub use moving::move_tables;
+pub use upgrade::upgrade_tables;

@@ -4,7 +4,7 @@ ghost use Rattle.std.specs.Prelude.{◌≡◌, IfErr, map};
 ghost use Rattle.brk_model.specs.Run.{MayFail};
 ghost use Rattle.brk_changes.specs.Rows.{cash_row_of};
 ghost use Rattle.brk_tables_schema.specs.Statements.{Writes};
-ghost use Rattle.brk_tables_upgrade.specs.Moving.{with_cash_from, with_numbered};
+ghost use Rattle.brk_tables_upgrade.specs.Upgrade.{with_cash_from, with_numbered};
 
 use crate::reading::account_of_trade;
 use brk_changes::{CashRow, MoveRow};

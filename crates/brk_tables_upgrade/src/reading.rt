@@ -6,7 +6,7 @@ ghost use Rattle.brk_model.specs.Run.{MayFail};
 ghost use Rattle.brk_model.specs.Joins.{trade_in};
 ghost use Rattle.brk_changes.specs.Rows.{cash_row_of};
 ghost use Rattle.brk_tables_schema.specs.Statements.{Reads};
-ghost use Rattle.brk_tables_upgrade.specs.Moving.{cash_by_stamp};
+ghost use Rattle.brk_tables_upgrade.specs.Upgrade.{cash_by_stamp};
 
 use brk_changes::CashRow;
 use brk_money::{Fault, Id};

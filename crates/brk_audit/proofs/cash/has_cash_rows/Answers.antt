@@ -34,7 +34,7 @@ returns-clause-told c =
     (form_told (schema_of c.args.schema) s c.requires.form) c.requires.status terms own c.deref-3.ensures.value c.deref-5.ensures.value in
     let left : map (λ p. p) (map posted_of c.deref-4.result.now) ≡ map (λ p. p) (map posted_of sorted) = ap (λ rs. map (λ p. p) (map posted_of rs)) c.deref-4.ensures.value in (
       (λ b. let h = c.all_three.ensures.0 b in
-          law.0 (record { no_others = none_left s.cash.items (sym s.cash.ok.0 ∙ eqb-true _ 0 (sym c.is_empty-no_others.ensures ∙ h.0)); turn = sym c.are_in_turn-in_turn.ensures ∙ h.1; posted = sym left ∙ c.are_posted-posted.ensures.0 h.2 })),
+          law.0 (record { no_others = none_left s.cash.items (sym s.cash.ok.0 ∙ eqb-true _ 0 (sym c.is_empty-no_others.ensures ∙ h.0)); turn = sym c.are_numbered_by_stamp-in_turn.ensures ∙ h.1; posted = sym left ∙ c.are_posted-posted.ensures.0 h.2 })),
       (λ k. let m = law.1 k in
-          c.all_three.ensures.1 (c.is_empty-no_others.ensures ∙ eq-eqb _ 0 (s.cash.ok.0 ∙ ap length m.no_others), c.are_in_turn-in_turn.ensures ∙ m.turn, c.are_posted-posted.ensures.1 (left ∙ m.posted))),
+          c.all_three.ensures.1 (c.is_empty-no_others.ensures ∙ eq-eqb _ 0 (s.cash.ok.0 ∙ ap length m.no_others), c.are_numbered_by_stamp-in_turn.ensures ∙ m.turn, c.are_posted-posted.ensures.1 (left ∙ m.posted))),
     )

@@ -88,5 +88,5 @@ returns-clause-told c =
     let third = sym c.in_ok-has_cash.ensures.told ∙ c.if-not-has_cash.false in
     let fourth = sym c.in_ok-has_moves.ensures.told ∙ c.if-not-has_moves.false in
     let same = ap (λ l. all_distinct (trades_moved (map move_row_of l))) c.deref-2.ensures.value in
-    each_told c.has_own_rows.result (has_form schema (tables_in_sheets s)) (all_distinct (trades_moved (map move_row_of c.deref-2.result.now))) c.has_own_rows.ensures.told
+    each_told c.has_distinct_trades.result (has_form schema (tables_in_sheets s)) (all_distinct (trades_moved (map move_row_of c.deref-2.result.now))) c.has_distinct_trades.ensures.told
     (same ∙ sym (λ i. plain i && first i && second i && third i && fourth i && owns s) ∙ form_told schema s)

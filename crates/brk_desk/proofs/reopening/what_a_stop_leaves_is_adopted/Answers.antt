@@ -1,4 +1,4 @@
-use Rattle.brk_desk.proofs.Moving.{moving_taken_over, takes_over}
+use Rattle.brk_desk.proofs.UpgradeRecovery.{upgrade_taken_over, takes_over}
 use Rattle.brk_desk.proofs.Reopened.{call_taken_over, made_stands, making_taken_over, run_taken_over}
 use Rattle.brk_desk.proofs.reopening.what_a_stop_leaves_is_adopted.Goals as goal
 
@@ -8,9 +8,9 @@ returns-clause-made g c = made_stands g.S.Store
 pub returns-clause-adopted : goal.returns-clause-adopted
 returns-clause-adopted g c = λ trees conn store opened defined adopted clean. takes_over g.S.Store g.met.S.Store.settled trees conn store opened adopted clean defined
 
-pub returns-clause-moving : goal.returns-clause-moving
-returns-clause-moving g c = λ trees first left conn store stopped result schema rows opened answered adopted clean again adopts after.
-    moving_taken_over g.S.Store g.met.S.Store.settled trees first left conn store stopped result opened schema rows answered adopted clean again adopts after
+pub returns-clause-upgrading : goal.returns-clause-upgrading
+returns-clause-upgrading g c = λ trees first left conn store stopped result schema rows opened answered adopted clean again adopts after.
+    upgrade_taken_over g.S.Store g.met.S.Store.settled trees first left conn store stopped result opened schema rows answered adopted clean again adopts after
 
 pub returns-clause-making : goal.returns-clause-making
 returns-clause-making g c = making_taken_over g.S.Store g.met.S.Store.settled

@@ -30,13 +30,13 @@ returns-clause-step g c =
     let rows = c.in_ok-desk_rows.field-0.items in
     let is : c.deref.result.now ≡ rows = c.deref.ensures.value in
     let made : List Row → State → State → Type 0 = λ rows a b. IsTrue a.is_open × (b.now ≡ a.now) × (IsTrue has ↔ HasTablesOf desk a.now.schema × LacksLater desk a.now.schema) × ShowsAll TheDesk rows a.now in
-    step_read old new c.in_ok-desk_rows.field-0 (Ok c.says.result) (λ v a b. made v.items a b) _
+    step_read old new c.in_ok-desk_rows.field-0 (Ok c.has_schema_row.result) (λ v a b. made v.items a b) _
     (λ w e p.
-    let f : c.says.result ≡ w = cc in (
+    let f : c.has_schema_row.result ≡ w = cc in (
       p.0,
       p.1,
       λ defined. subst (λ w. IsTrue w ↔ HasDesk desk old.now) f
-          (row_tells desk old.now defined (p.2.0 c.if-not-branch.false) c.says.result rows p.3 (subst (λ l. c.says.result ≡ true → Says desk l) is c.says.ensures.first) (subst (λ l. c.says.result ≡ false → Says desk l → ⊥) is c.says.ensures.other)),
+          (row_tells desk old.now defined (p.2.0 c.if-not-branch.false) c.has_schema_row.result rows p.3 (subst (λ l. c.has_schema_row.result ≡ true → Says desk l) is c.has_schema_row.ensures.first) (subst (λ l. c.has_schema_row.result ≡ false → Says desk l → ⊥) is c.has_schema_row.ensures.other)),
     ))
     (step_then old mid new has (Ok c.in_ok-desk_rows.field-0) (λ has a b. IsTrue a.is_open × (b.now ≡ a.now) × (IsTrue has ↔ HasTablesOf desk a.now.schema × LacksLater desk a.now.schema)) (λ rows a b. IsTrue a.is_open × (b.now ≡ a.now) × ShowsAll TheDesk rows.items a.now) (λ v a b. made v.items a b)
     (λ v p q. (p.0, q.1 ∙ p.1, p.2, subst (ShowsAll TheDesk v.items) p.1 q.2)) c.in_ok-has_tables.ensures.step c.in_ok-desk_rows.ensures.step)

@@ -8,7 +8,7 @@ use Rattle.brk_sql.specs.Desk.{Turns}
 use Rattle.brk_sql.specs.Model.{IsStep}
 use Rattle.brk_sql.proofs.Inside.{step_then}
 use Rattle.brk_tables_schema.specs.Desk.{desk}
-use Rattle.brk_tables_upgrade.specs.Moving.{with_cash_from, with_numbered}
+use Rattle.brk_tables_upgrade.specs.Upgrade.{with_cash_from, with_numbered}
 use Rattle.brk_tables_upgrade.proofs.Turning.{nothing_moved, one_added}
 use Rattle.brk_tables_upgrade.proofs.numbering.add_all.Goals as goal
 

@@ -5,7 +5,7 @@ use Rattle.brk_changes.specs.Rows.{cash_row_of}
 use Rattle.brk_sql.specs.Desk.{Turns}
 use Rattle.brk_sql.specs.Model.{IsStep}
 use Rattle.brk_tables_schema.specs.Desk.{desk}
-use Rattle.brk_tables_upgrade.specs.Moving.{with_cash_from}
+use Rattle.brk_tables_upgrade.specs.Upgrade.{with_cash_from}
 use Rattle.brk_tables_upgrade.proofs.numbering.add_all.Given as goal
 
 abbrev pub invariant-loop-row : goal.invariant-loop-row

@@ -9,7 +9,7 @@ use Rattle.brk_sql.specs.Desk.{Turns}
 use Rattle.brk_sql.specs.Model.{IsStep, Looks}
 use Rattle.brk_sql.proofs.Inside.{step_then}
 use Rattle.brk_tables_schema.specs.Desk.{desk}
-use Rattle.brk_tables_upgrade.specs.Moving.{with_numbered}
+use Rattle.brk_tables_upgrade.specs.Upgrade.{with_numbered}
 use Rattle.brk_tables_upgrade.proofs.Turning.{adds_numbered, numbered_row}
 use Rattle.brk_tables_upgrade.proofs.numbering.add_numbered.Goals as goal
 

@@ -5,7 +5,7 @@ use Rattle.brk_tables_schema.specs.Cells.{cash_cells}
 use Rattle.brk_tables_schema.specs.Desk.{desk}
 use Rattle.brk_tables_schema.proofs.TradingBack.{cash_back, cash_is_back}
 use Rattle.brk_changes.specs.Rows.{cash_row_of}
-use Rattle.brk_tables_upgrade.specs.Moving.{cash_by_stamp}
+use Rattle.brk_tables_upgrade.specs.Upgrade.{cash_by_stamp}
 use Rattle.brk_tables_upgrade.proofs.CashByStamp
 use Rattle.brk_tables_upgrade.proofs.CashByStamp.{plain}
 use Rattle.brk_tables_upgrade.proofs.Telling.{tells_cash}

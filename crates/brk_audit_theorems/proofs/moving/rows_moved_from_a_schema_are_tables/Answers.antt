@@ -1,9 +1,0 @@
-use Rattle.std.proofs.Common.{◌∙◌}
-use Rattle.brk_audit_theorems.proofs.MovedRows.{rows_moved_from}
-use Rattle.brk_audit_theorems.proofs.moving.rows_moved_from_a_schema_are_tables.Goals as goal
-
-pub returns : goal.returns
-returns c = record {
-  same = λ schema rows p. (rows_moved_from schema rows p).0;
-  tables = λ schema rows p. let h = rows_moved_from schema rows p in h.0 ∙ h.1;
-}

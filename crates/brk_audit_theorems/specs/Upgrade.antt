@@ -1,0 +1,19 @@
+-- Rows of an older schema, upgraded to the third.
+use Rattle.std.specs.Prelude.{◌≡◌, ◌≤◌}
+use Rattle.brk_model.specs.Schemas.{Schema, third_schema}
+use Rattle.brk_model.specs.Tables.{Tables}
+use Rattle.brk_model.specs.Sheets.{sheets}
+use Rattle.brk_model.specs.Adopted.{base_of}
+use Rattle.brk_model.specs.Upgraded.{upgraded}
+use Rattle.brk_audit_theorems.specs.Passing.{Passes}
+
+-- the limits of a schema are no greater than those of the third
+pub record IsNarrower (schema : Schema) : Type 0 where
+  pub qty : schema.greatest_qty ≤ third_schema.greatest_qty
+  pub summary : schema.greatest_summary ≤ third_schema.greatest_summary
+
+-- what the move makes of rows are the tables of the base that the rows gave; they still give it, and they pass
+pub record AreUpgradedRows (rows : Tables) : Type 0 where
+  pub tables : upgraded rows ≡ sheets (base_of rows)
+  pub base : base_of (upgraded rows) ≡ base_of rows
+  pub passes : Passes third_schema (upgraded rows)

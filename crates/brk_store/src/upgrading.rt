@@ -1,0 +1,65 @@
+//! The adoption of a database: its audit and, if its schema is older, its upgrade to schema 3.
+
+ghost use Rattle.std.specs.Prelude.{◌≡◌, ◌≢◌, IfErr, MatchResult, Ok, Err, false, true};
+ghost use Rattle.brk_money.specs.declared.fault.Condition.TheVariants.{NotEmpty};
+ghost use Rattle.brk_money.specs.declared.fault.Fault.TheVariants as fault;
+ghost use Rattle.brk_store.specs.Audited.{IsAdopted};
+
+use crate::Store;
+use crate::beginning::begin;
+use crate::examining::{AuditResult, audit_by_own_schema};
+use brk_money::Fault;
+use brk_tables_upgrade::upgrade_tables;
+use sqlite::{Alter, Connection};
+use std::alloc::Global;
+
+// Audits the rows of the desk in the database by the conditions of its own schema. If they pass and
+// the schema is older, upgrades them to schema 3 in the same transaction.
+fn adopt_desk<S: Alter>(conn: &mut Connection<S>, alloc: Global) -> Result<(), Fault>
+    requires { conn.old.in_transaction ≡ false }
+    ensures mode { conn.new.in_transaction ≡ false }
+    ensures adopted { IsAdopted S.Store conn.old conn.new result }
+    ensures condition { IfErr result (λ f. f ≢ fault.Damaged NotEmpty) }
+{
+    let mut tx = begin(conn);
+    let schema = match audit_by_own_schema(&mut tx, alloc)? {
+        AuditResult::Fails(condition) => return Err(Fault::Damaged(condition)),
+        AuditResult::Passes(schema) => schema,
+    };
+    // A desk of schema 3 needs no upgrade.
+    if schema.has_rule() {
+        return Ok(());
+    }
+    upgrade_tables(&mut tx, alloc, schema)?;
+    match tx.commit() {
+        Ok(()) => Ok(()),
+        Err(_) => Err(Fault::Store),
+    }
+}
+
+impl<S: Alter> Store<S> {
+    /// Audits the database of `conn` by the conditions of its own schema and, if its rows pass,
+    /// opens it as a store. A database of an older schema is upgraded to schema 3 in one
+    /// transaction; one of schema 3 is not written.
+    ///
+    /// Errors return the connection, with no transaction open that was not open before, and the
+    /// open database unchanged: `Damaged` with the first condition that fails; `Memory`; `Store`,
+    /// also if a transaction is open on `conn`, which is then returned unchanged.
+    ///
+    /// A crash exposes a state that was possible before the call or, if rows of an older schema
+    /// passed, the upgraded tables. After an error too, a crash may find the upgrade committed.
+    pub fn adopt(alloc: Global, mut conn: Connection<S>) -> Result<Store<S>, (Connection<S>, Fault)>
+        ensures adopted { MatchResult result (λ store. IsAdopted S.Store conn store (Ok tt)) (λ e. IsAdopted S.Store conn e.0 (Err e.1)) }
+        ensures condition { IfErr result (λ e. e.1 ≢ fault.Damaged NotEmpty) }
+        ensures ended { IfErr result (λ e. conn.in_transaction ≡ false → e.0.in_transaction ≡ false) }
+        ensures refused { conn.in_transaction ≡ true → result ≡ Err (conn, fault.Store) }
+    {
+        if !conn.is_autocommit() {
+            return Err((conn, Fault::Store));
+        }
+        match adopt_desk(&mut conn, alloc) {
+            Ok(()) => Ok(Store { conn }),
+            Err(fault) => Err((conn, fault)),
+        }
+    }
+}

@@ -1,0 +1,108 @@
+-- The tables that a schema lacks are made, the number is set, and the rows are turned.
+use Rattle.std.proofs.Common.{◌≡◌, ◌≢◌, ◌⊎◌, ◌∙◌, inl, inr, ℕ, List, [], ◌∷◌, ◌++◌, map, Bool, true, false, not, refl, sym, ap, subst}
+use Rattle.std.specs.List.{AllByRecursion}
+use Rattle.sqlite_rules.specs.Lists.{Has}
+use Rattle.sqlite_rules.proofs.ListLemmas.{all_has, all_from, has_kept, has_filtered}
+use Rattle.sqlite_schema.specs.declared.schema.Schema as database
+use Rattle.sqlite_schema.specs.declared.schema.Table.{Table}
+use Rattle.sqlite.specs.Effect.{Database}
+use Rattle.brk_model.specs.Schemas.{Schema}
+use Rattle.brk_model.specs.Tables.{Tables}
+use Rattle.brk_sql.specs.Desk.{HasTables, HasSome, IsCalm, MakesEach, SparesStrangers, Turns}
+use Rattle.brk_sql.proofs.Founded.{Among, OrIn, all_left}
+use Rattle.brk_sql.proofs.Grown.{Grown, grown_each, all_there}
+use Rattle.brk_tables_schema.specs.Desk.{Which, CashMoves, CashRows, all_tables, desk, desk_in, has_table, list_in, shape}
+use Rattle.brk_tables_schema.specs.Made.{IsOf, Lacks}
+use Rattle.brk_tables_schema.proofs.Which.{all_listed, split}
+use Rattle.brk_tables_create.specs.Made.{later_than}
+use Rattle.brk_tables_cash.specs.Upgrade.{SetsThirdSchema}
+use Rattle.brk_tables_upgrade.specs.Upgrade.{AddsLaterTables, KeepsOtherTables, Upgrades, HasUpgradedTables, with_numbered_cash}
+use Rattle.brk_tables_upgrade.proofs.Numbered.{upgraded_is}
+use Rattle.brk_model.specs.Upgraded.{upgraded, upgraded_from}
+
+-- ---- each table is of a schema, or of a later one
+
+module _ (desk : Schema) where
+  among_in : (ws : List Which) (In : Which → Type 0) (w : Which) → In w → Among (desk_in desk) ws In w
+  among_in [] In w there = there
+  among_in (v ∷ ws) In w there = among_in ws (OrIn (desk_in desk) v In) w (inr there)
+
+  among_has : (ws : List Which) (In : Which → Type 0) (w : Which) → Has ws w → Among (desk_in desk) ws In w
+  among_has [] In w listed = absurd listed
+  among_has (v ∷ ws) In w (inl e) = among_in ws (OrIn (desk_in desk) v In) w (inl e)
+  among_has (v ∷ ws) In w (inr later) = among_has ws (OrIn (desk_in desk) v In) w later
+
+  not_not : (b : Bool) → not b ≡ true → b ≡ false
+  not_not true h = absurd (let e = h in cc)
+  not_not false h = refl
+
+  lacked : (w : Which) → has_table desk w ≡ false → Has (later_than desk) w
+  lacked w off = has_kept (λ w. not (has_table desk w)) all_tables w (all_listed w) (ap not off)
+
+  each : (w : Which) → Among (desk_in desk) (later_than desk) (IsOf desk) w
+  each w = go (has_table desk w) refl
+    where
+      go : (b : Bool) → has_table desk w ≡ b → Among (desk_in desk) (later_than desk) (IsOf desk) w
+      go true of = among_in (later_than desk) (IsOf desk) w of
+      go false off = among_has (later_than desk) (IsOf desk) w (lacked w off)
+
+  pub raised : (a b c : Database) → MakesEach (map shape (later_than desk)) a b → SetsThirdSchema b c → AddsLaterTables desk a c
+  raised a b c made raises = λ t tree h lacks.
+      let none : AllByRecursion (λ w. list_in desk w t ≡ []) (later_than desk) =
+      all_from (λ w. list_in desk w t ≡ []) (later_than desk) (λ w listed. (lacks w (not_not (has_table desk w) (has_filtered (λ w. not (has_table desk w)) all_tables w listed).1)).1) in
+      let g = grown_each (desk_in desk) t split (later_than desk) (IsOf desk) tree a b h none made in
+      let up = raises desk t g.to (all_there (desk_in desk) t (Among (desk_in desk) (later_than desk) (IsOf desk)) g.to b each g.has) in
+      let away : (k : Table) → Has a.schema.tables k → ((w : Which) → IsOf desk w → k.tree ≢ tree w) → (w : Which) → k.tree ≢ g.to w =
+      λ k there other w same. elim (g.from w (each w)) [
+        | inl kept ↦ other w kept.0 (same ∙ kept.1)
+        | inr fresh ↦ all_has (λ k. k.tree ≢ g.to w) a.schema.tables k fresh there same
+      ] in
+      let spared : AllByRecursion (λ k. ((w : Which) → k.tree ≢ g.to w) → IsCalm b.schema k.tree → c.trees k.tree ≡ b.trees k.tree) a.schema.tables =
+      all_left _ a.schema.tables g.grows.more (subst (AllByRecursion (λ k. ((w : Which) → k.tree ≢ g.to w) → IsCalm b.schema k.tree → c.trees k.tree ≡ b.trees k.tree)) g.grows.tables up.1.rows) in
+      record {
+        tree = g.to;
+        rows = up.0;
+        others = record {
+          more = g.grows.more;
+          tables = ap (λ (s : database.Schema). s.tables) up.1.schema ∙ g.grows.tables;
+          rows = all_from _ a.schema.tables (λ k there other calm.
+              all_has (λ k. ((w : Which) → k.tree ≢ g.to w) → IsCalm b.schema k.tree → c.trees k.tree ≡ b.trees k.tree) a.schema.tables k spared there (away k there other) (g.grows.calm k.tree calm)
+              ∙ all_has (λ k. b.trees k.tree ≡ a.trees k.tree) a.schema.tables k g.grows.rows there);
+        };
+        apart = all_from _ a.schema.tables away;
+        calm = λ n calm. subst (λ s. IsCalm s n) (sym up.1.schema) (g.grows.calm n calm);
+      }
+
+  -- the rows are turned
+  pub stands_then : (before : Which → ℕ) (t : Tables) (f : Tables → Tables) (a c d : Database) → HasUpgradedTables desk before t a c → Turns (desk_in Rattle.brk_model.specs.Schemas.third_schema) f c d → HasUpgradedTables desk before (f t) a d
+  stands_then before t f a c d s turns =
+      let turned = turns t s.tree s.rows in
+      let spares = turned.1 in
+      let spared : AllByRecursion (λ k. ((w : Which) → k.tree ≢ s.tree w) → IsCalm c.schema k.tree → d.trees k.tree ≡ c.trees k.tree) a.schema.tables =
+      all_left _ a.schema.tables s.others.more (subst (AllByRecursion (λ k. ((w : Which) → k.tree ≢ s.tree w) → IsCalm c.schema k.tree → d.trees k.tree ≡ c.trees k.tree)) s.others.tables spares.rows) in
+      record {
+        tree = s.tree;
+        rows = turned.0;
+        others = record {
+          more = s.others.more;
+          tables = ap (λ (s : database.Schema). s.tables) spares.schema ∙ s.others.tables;
+          rows = all_from _ a.schema.tables (λ k there other calm.
+              all_has (λ k. ((w : Which) → k.tree ≢ s.tree w) → IsCalm c.schema k.tree → d.trees k.tree ≡ c.trees k.tree) a.schema.tables k spared there
+              (all_has (λ k. ((w : Which) → IsOf desk w → k.tree ≢ before w) → (w : Which) → k.tree ≢ s.tree w) a.schema.tables k s.apart there other) (s.calm k.tree calm)
+              ∙ all_has (λ k. ((w : Which) → IsOf desk w → k.tree ≢ before w) → IsCalm a.schema k.tree → c.trees k.tree ≡ a.trees k.tree) a.schema.tables k s.others.rows there other calm);
+        };
+        apart = s.apart;
+        calm = λ n calm. subst (λ s. IsCalm s n) (sym spares.schema) (s.calm n calm);
+      }
+
+  -- cash rows that are numbered stay
+  pub moves_not : (a c : Database) → desk.has_moves ≡ true → AddsLaterTables desk a c → Upgrades desk a c
+  moves_not a c numbered up = λ t tree h lacks.
+      let same : t ≡ upgraded_from desk t = rw numbered refl in
+      subst (λ u. HasUpgradedTables desk tree u a c) same (up t tree h lacks)
+
+  -- those that are not are upgraded
+  pub moves_cash : (a c d : Database) → desk.has_moves ≡ false → AddsLaterTables desk a c → Turns (desk_in Rattle.brk_model.specs.Schemas.third_schema) with_numbered_cash c d → Upgrades desk a d
+  moves_cash a c d off up turns = λ t tree h lacks.
+      let same : with_numbered_cash t ≡ upgraded_from desk t = rw off (upgraded_is t (h.rows CashRows refl).rising (lacks CashMoves off).1) in
+      subst (λ u. HasUpgradedTables desk tree u a d) same (stands_then tree t with_numbered_cash a c d (up t tree h lacks) turns)
