@@ -58,7 +58,7 @@ NAMES = {
     },
     'Tables': {'own': 'no_rows tables_upon tables_at tables_of MoveRow move_row numbered move_rows'},
     'Tests': {'Trade-Order': 'lacks_charge lacks_rate order_tests'},
-    'Audit': {'consistency conditions for Summary, Count and Commission; the others are our own': 'Holds'},
+    'Audit': {'consistency conditions for Summary, Count and Commission; the others are our own': 'ConditionHolds'},
 }
 
 DEFINITION = re.compile(r'(?:(?:abbrev|unfoldable|pub|record|data)\s+)+([^\s:({]+)')

@@ -1147,7 +1147,7 @@ pub struct {word}Sheets {{
 {types}}}
 
 #[tactic(auto, using(crate::proofs::Formless::first_fails, crate::proofs::Formless::last_fails))]
-fn decode_{field}(alloc: Global, {schema}raw: &{word}Rows) -> Result<{word}Sheets, Misread>
+fn decode_{field}(alloc: Global, {schema}raw: &{word}Rows) -> Result<{word}Sheets, DecodeError>
     ensures value {{ IfOk result (λ sheets. Is{word}{of_schema} sheets raw.now) }}
     ensures form {{ result ≡ Err Formless → formed_{field}{of_schema} raw.now ≡ false }}
 {{
@@ -1162,7 +1162,7 @@ def decoding_code():
     out = f"""//! The rows of all tables in types.
 
 ghost use Rattle.std.specs.Prelude.{{◌≡◌, Err, IfOk, false}};
-ghost use Rattle.brk_tables_schema.specs.declared.misread.Misread.TheVariants.{{Form as Formless}};
+ghost use Rattle.brk_tables_schema.specs.declared.decode_error.DecodeError.TheVariants.{{Form as Formless}};
 ghost use Rattle.brk_tables_scan.specs.Decoded.{{AreSheets, {', '.join(f'Is{group[0]}' for group in GROUPS)}, formed, {', '.join(f'formed_{group[1]}' for group in GROUPS)}}};
 ghost use Rattle.brk_changes.specs.Schemas.{{schema_of}};
 
@@ -1170,7 +1170,7 @@ use crate::raw::{{{', '.join(sorted([f'{group[0]}Rows' for group in GROUPS] + ['
 use brk_changes::{{{types('brk_changes', 'Schema', 'Sheets')}}};
 use brk_money::{{Day, Stamp}};
 use brk_ref::{{{types('brk_ref')}}};
-use brk_tables_schema::Misread;
+use brk_tables_schema::DecodeError;
 use brk_tables_schema::desk_row::stamp_in_rows;
 use brk_tables_schema::record::all_records;
 use brk_tables_schema::rule_row::day_in_rows;
@@ -1180,7 +1180,7 @@ use std::alloc::Global;
     schema = lambda word: 'schema, ' if word == 'First' else ''
     out += f"""
 /// All rows in types, where each column has its form.
-pub fn decode(alloc: Global, schema: Schema, raw: &RawSheets) -> Result<Sheets, Misread>
+pub fn decode(alloc: Global, schema: Schema, raw: &RawSheets) -> Result<Sheets, DecodeError>
     ensures value {{ IfOk result (λ sheets. AreSheets (schema_of schema) sheets raw.now) }}
     ensures form {{ result ≡ Err Formless → formed (schema_of schema) raw.now ≡ false }}
 {{

@@ -7,7 +7,7 @@ use Rattle.std.specs.List.Sorted.{IsNonDecreasingBy, IsPermutation}
 use Rattle.std.proofs.lemmas.List.{map-id}
 use Rattle.std.proofs.lemmas.List.Sorted.{IsPermutation-map}
 use Rattle.brk_money.specs.declared.fault.Condition.TheVariants as condition
-use Rattle.brk_model.specs.Audit.{Holds}
+use Rattle.brk_model.specs.Audit.{ConditionHolds}
 use Rattle.brk_model.specs.Form.{has_form}
 use Rattle.brk_model.specs.Schemas.{Schema}
 use Rattle.brk_model.specs.Tables.{Tables, TradeRow}
@@ -64,7 +64,7 @@ pub record AreTold (s : Sheets) (terms : BTreeMap ℕ AccountTerms) (own : List 
 
 pub moves_hold : (schema : Schema) (s : Sheets) (terms : BTreeMap ℕ AccountTerms) (own : List Posted) (ms : List move.MoveRow) (ts : List trade.TradeRow) → schema.has_moves ≡ true
     → has_form schema (tables_in_sheets s) ≡ true → HasStatuses s → HasTerms terms s.accounts.items → IsSortedOwn s own → ms ≡ s.moves.items → ts ≡ s.trades.items
-    → AreTold s terms own ms ts ↔ Holds schema condition.Cash (tables_in_sheets s)
+    → AreTold s terms own ms ts ↔ ConditionHolds schema condition.Cash (tables_in_sheets s)
 moves_hold schema s terms own ms ts n f w h o e g =
     let t : Tables = tables_in_sheets s in
     let law = cash_by_moves schema t own n f w o.permutation o.order in

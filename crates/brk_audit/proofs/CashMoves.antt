@@ -22,8 +22,8 @@ use Rattle.brk_model.specs.Keys.{number, by_key, cash_key, key_before, move_key,
 use Rattle.brk_model.specs.Adopted.{base_of, is_posted_by, movement_of_row, posting_of_cash, posting_of_move, postings_in, trade_of_row}
 use Rattle.brk_model.specs.Form.{has_form, trades_moved}
 use Rattle.brk_model.specs.Ways.{has_status_rows, trade_status}
-use Rattle.brk_model.specs.Audit.{Holds, expected}
-use Rattle.brk_book_theorems.specs.Books.{IsBooks, IsOtherwhen, MomentsApart, MovementsApart}
+use Rattle.brk_model.specs.Audit.{ConditionHolds, expected}
+use Rattle.brk_book_theorems.specs.Books.{BooksInvariant, IsOtherwhen, MomentsApart, MovementsApart}
 use Rattle.brk_book_theorems.proofs.Order.{All-insert}
 use Rattle.brk_book_theorems.proofs.LotReading.{All-sort}
 use Rattle.brk_book_theorems.proofs.Orders.{Ascends, Rises, SameSums, one_order, permuted, sum_append, sum_map, sum_sort}
@@ -131,7 +131,7 @@ moments_filter p (t ∷ ts) m =
     elim (p t) as (λ b. MomentsApart (cond b (t ∷ filter p ts) (filter p ts)))
     [ true ↦ (All-filter (λ u. (moment_of u == moment_of t) ≡ false) p ts m.0, moments_filter p ts m.1) | false ↦ moments_filter p ts m.1 ]
 
-postings_rise : (base : Base) → IsBooks base → Rises (λ p. p.stamp) (in_turn (postings_of base))
+postings_rise : (base : Base) → BooksInvariant base → Rises (λ p. p.stamp) (in_turn (postings_of base))
 postings_rise base books =
     turn_rises (postings_of base)
     (apart_trades base (completed base) (cash_trades (completed base)) base.movements
@@ -362,8 +362,8 @@ pub record AreMoves (t : Tables) (own : List Posted) : Type 0 where
   pub posted : own ≡ map (posted_by (tax_status_at t)) (filter is_done_in_cash t.trades)
 
 pub cash_by_moves : (schema : Schema) (t : Tables) (own : List Posted) → schema.has_moves ≡ true → has_form schema t ≡ true → has_status_rows t ≡ true
-    → IsPermutation (filter_map posted_in t.moves) own → Ascends (λ p. p.trade) own → (AreMoves t own → Holds schema condition.Cash t) × (Holds schema condition.Cash t → AreMoves t own)
-unfolding Holds
+    → IsPermutation (filter_map posted_in t.moves) own → Ascends (λ p. p.trade) own → (AreMoves t own → ConditionHolds schema condition.Cash t) × (ConditionHolds schema condition.Cash t → AreMoves t own)
+unfolding ConditionHolds
 cash_by_moves schema t own n f s p a =
     let W : List Posting = in_turn (postings_of (base_of t)) in
     let M : List Posting = map posting_of_move t.moves in

@@ -14,7 +14,7 @@ use Rattle.brk_lots.specs.declared.lot.Lot.{Lot}
 use Rattle.brk_lots.specs.Lots.{plain_lot}
 use Rattle.brk_lots.proofs.Ends.{walk_of}
 use Rattle.brk_lots.proofs.Plain.{lots_walk}
-use Rattle.brk_book_theorems.specs.Books.{IsBooks}
+use Rattle.brk_book_theorems.specs.Books.{BooksInvariant}
 use Rattle.brk_book_theorems.specs.TradeReads.{lots_in, position_in, row_lot}
 use Rattle.brk_book_theorems.proofs.LotOrder.{position_read, shares_read}
 use Rattle.brk_book_theorems.proofs.LotReading.{All-sort, all_pass}
@@ -67,7 +67,7 @@ rows_back r [] p = refl
 rows_back r (h ∷ hs) p = let k = is_at r h p.0 in λ i. record h { account = sym k.account i; symbol = sym k.symbol i } ∷ rows_back r hs p.1 i
 
 -- what a position's deals leave is what the tables have of it
-rows_there : (base : Base) → IsBooks base → (r : TradeRow) (run : List TradeRow) → map row_deal run ≡ deals_in (completed base) r.account r.symbol
+rows_there : (base : Base) → BooksInvariant base → (r : TradeRow) (run : List TradeRow) → map row_deal run ≡ deals_in (completed base) r.account r.symbol
     → run_rows r run ≡ lots_in (sheets base) r.account r.symbol
 unfolding shares_in
 rows_there base books r run e =
@@ -153,7 +153,7 @@ own_run r run later same apart =
 abbrev pub AreDealt : Base → List TradeRow → Type 0
 AreDealt base rs = AllByRecursion (λ r. map row_deal (filter (same_place r) rs) ≡ deals_in (completed base) r.account r.symbol) rs
 
-pub leave_sums : (base : Base) → IsBooks base → {rs : List TradeRow} {rows : List HoldingRow} → Leave rs rows → AreDealt base rs
+pub leave_sums : (base : Base) → BooksInvariant base → {rs : List TradeRow} {rows : List HoldingRow} → Leave rs rows → AreDealt base rs
     → (f : HoldingRow → ℕ) → sum_by f rows ≡ sum_by f (filter (at_any rs) (sheets base).holdings)
 leave_sums base books nothing d f = sym (ap (sum_by f) (filter-none (at_any []) (sheets base).holdings (All-of (sheets base).holdings (λ h. refl))))
 leave_sums base books (position r run later rows same apart l) d f =

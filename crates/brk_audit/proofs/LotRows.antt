@@ -31,7 +31,7 @@ use Rattle.brk_model.specs.Form.{has_account, has_security, is_id, is_price, is_
 use Rattle.brk_changes.specs.Rows.{trade_row_of}
 use Rattle.brk_changes.specs.declared.trade_row.TradeRow as trade
 use Rattle.brk_lots.proofs.Left.{same_is}
-use Rattle.brk_book_theorems.specs.Books.{IsBooks, MomentsApart}
+use Rattle.brk_book_theorems.specs.Books.{BooksInvariant, MomentsApart}
 use Rattle.brk_book_theorems.proofs.Bools.{numbers_back}
 use Rattle.brk_book_theorems.proofs.LotOrder.{Follows, InOrder, held_in_order, trades_held}
 use Rattle.brk_book_theorems.proofs.LotReading.{IdsApart, IdsRise, all_pass, filter-map, holdings_in_order, is_left, numbered_rise, rise_apart, rise_filter}
@@ -102,7 +102,7 @@ no_clash t (r ∷ rs) i m h = (ahead rs i.0 m.0 h.1, no_clash t rs i.1 m.1 h.1)
 pub clash_apart : (t : Tables) → IsFormed t → has_status_rows t ≡ true → IsDistinct clash (done_rows t)
 clash_apart t f s =
     let base : Base = base_of t in
-    let books : IsBooks base = adopted_books f.schema t f.form s in
+    let books : BooksInvariant base = adopted_books f.schema t f.form s in
     let rows : completed base ≡ map (trade_of_row t) (done_rows t) = completed_rows t s in
     no_clash t (done_rows t)
     (subst IdsApart rows (rise_apart (completed base) (rise_filter is_completed base.trades (numbered_rise 1 base.trades books.numbered))))
@@ -209,7 +209,7 @@ pub dealt : (t : Tables) → IsFormed t → has_status_rows t ≡ true → (rs :
     → map row_deal (filter (same_place r) rs) ≡ deals_in (completed (base_of t)) r.account r.symbol
 dealt t f s rs p o r =
     let base : Base = base_of t in
-    let books : IsBooks base = adopted_books f.schema t f.form s in
+    let books : BooksInvariant base = adopted_books f.schema t f.form s in
     let P : List Trade = of_position (completed base) r.account r.symbol in
     one_order (λ d. d.stamp) same_deal deals_decide (deals_in (completed base) r.account r.symbol) (map row_deal (filter (same_place r) rs))
     (deals_rise (trades_held base r.account r.symbol) (held_in_order base r.account r.symbol books))
@@ -273,7 +273,7 @@ pub lots_told : (schema : Schema) (t : Tables) → IsFormed t → has_status_row
     → Leave rs rows → IsPermutation rows held → Ascends (λ h. h.trade) held → held ≡ (expected schema t).holdings
 lots_told schema t f s rs rows held p o l q a =
     let base : Base = base_of t in
-    let books : IsBooks base = adopted_books f.schema t f.form s in
+    let books : BooksInvariant base = adopted_books f.schema t f.form s in
     let E : List HoldingRow = (sheets base).holdings in
     let done : List Trade = completed base in
     let listed : E ≡ filter is_left (map (holding_row done) done) = holdings_in_order base books.numbered in

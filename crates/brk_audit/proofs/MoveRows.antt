@@ -20,7 +20,7 @@ use Rattle.brk_model.specs.Audit.{expected}
 use Rattle.brk_model.specs.Ways.{has_status_rows}
 use Rattle.brk_lots.specs.Chains.{replay_rows}
 use Rattle.brk_lots.specs.Deals.{AreDeals, IsLater}
-use Rattle.brk_book_theorems.specs.Books.{IsBooks}
+use Rattle.brk_book_theorems.specs.Books.{BooksInvariant}
 use Rattle.brk_book_theorems.proofs.LotOrder.{Follows, InOrder, held_in_order, trades_held}
 use Rattle.brk_book_theorems.proofs.Order.{Sorted, key_one_way, key_splits, sorted_sort}
 use Rattle.brk_book_theorems.proofs.Same.{All-map, All-of}
@@ -112,7 +112,7 @@ deals_of_order (t ∷ ts) o = (behind ts o.0, deals_of_order ts o.1)
     behind [] h = tt
     behind (u ∷ us) h = (((λ e. eqb-false u.id t.id h.0.0 (sym e)), h.0.1), behind us h.1)
 
-pub trace_sums : (base : Base) → IsBooks base → {rs : List TradeRow} {rows : List HoldingHistoryRow} → Trace rs rows → AreDealt base rs
+pub trace_sums : (base : Base) → BooksInvariant base → {rs : List TradeRow} {rows : List HoldingHistoryRow} → Trace rs rows → AreDealt base rs
     → (f : HoldingHistoryRow → ℕ) → sum_by f rows ≡ sum_by (own base f) rs
 trace_sums base books untouched d f = refl
 trace_sums base books (moves r run later rows same apart l) d f =
@@ -167,7 +167,7 @@ pub moves_told : (schema : Schema) (t : Tables) → IsFormed t → has_status_ro
     → Trace rs rows → IsPermutation rows moved → Sorted (row_before holding_history_key) moved → (moved ≡ t.holding_history) ↔ (t.holding_history ≡ (expected schema t).holding_history)
 moves_told schema t f s rs rows moved p o l q a =
     let base : Base = base_of t in
-    let books : IsBooks base = adopted_books f.schema t f.form s in
+    let books : BooksInvariant base = adopted_books f.schema t f.form s in
     let done : List Trade = completed base in
     let E : List HoldingHistoryRow = (sheets base).holding_history in
     let climb : Climbs holding_history_key t.holding_history = (key_parts t (form_parts f.schema t f.form).keys).holding_history in

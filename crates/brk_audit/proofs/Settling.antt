@@ -16,7 +16,7 @@ use Rattle.brk_model.specs.Sheets.{sheets_of}
 use Rattle.brk_model.specs.Keys.{number, by_key, row_before, cash_key, move_key, request_key, settlement_key, trade_key}
 use Rattle.brk_model.specs.Adopted.{account_of_row, base_of, is_posted_by, posting_of_cash, posting_of_move, postings_in, trade_of_row}
 use Rattle.brk_model.specs.Ways.{has_status_rows, trade_status}
-use Rattle.brk_model.specs.Audit.{Holds, expected}
+use Rattle.brk_model.specs.Audit.{ConditionHolds, expected}
 use Rattle.brk_book_theorems.proofs.Same.{All-filter, All-map, find-each, map-same}
 use Rattle.brk_model.specs.Lists.{sort_by}
 use Rattle.brk_book_theorems.proofs.Order.{append_nil}
@@ -118,8 +118,8 @@ same_requests t [] = refl
 same_requests t (r ∷ rs) =
     λ i. record { trade = r.id; kind = r.kind; symbol = r.symbol; qty = r.qty; bid = r.bid; broker = same_broker t r.account i } ∷ same_requests t rs i
 
-pub requests_by_rows : (schema : Schema) (t : Tables) → Climbs trade_key t.trades → has_status_rows t ≡ true → (Holds schema condition.Requests t → HasRequests t) × (HasRequests t → Holds schema condition.Requests t)
-unfolding Holds
+pub requests_by_rows : (schema : Schema) (t : Tables) → Climbs trade_key t.trades → has_status_rows t ≡ true → (ConditionHolds schema condition.Requests t → HasRequests t) × (HasRequests t → ConditionHolds schema condition.Requests t)
+unfolding ConditionHolds
 requests_by_rows schema t c s =
     let e : (expected schema t).requests ≡ map (request_of (broker_at t)) (waiting_rows t) = wanted_requests schema t c s ∙ same_requests t (waiting_rows t) in
     ((λ h. h ∙ e), (λ h. h ∙ sym e))
@@ -175,8 +175,8 @@ same_settlements t (s ∷ ss) (r ∷ rs) f e d =
     λ i. g i ∷ more i
 
 pub settlements_by_rows : (schema : Schema) (t : Tables) → Climbs trade_key t.trades → Climbs settlement_key t.settlements → has_status_rows t ≡ true
-    → (Holds schema condition.Settlement t → HasSettlements t) × (HasSettlements t → Holds schema condition.Settlement t)
-unfolding Holds
+    → (ConditionHolds schema condition.Settlement t → HasSettlements t) × (HasSettlements t → ConditionHolds schema condition.Settlement t)
+unfolding ConditionHolds
 settlements_by_rows schema t c d s =
     let f : TradeRow → SettlementRow = λ r. settlement_row (accounts_in t) t.rule (trade_of_row t r) in
     let right : AllByRecursion (IsRight t) (done_rows t) = right_done t is_done s in
@@ -236,8 +236,8 @@ same_cash t (c ∷ cs) (r ∷ rs) n f e d =
     λ i. g i ∷ more i
 
 pub cash_by_rows : (schema : Schema) (t : Tables) → schema.has_moves ≡ false → t.moves ≡ [] → Climbs trade_key t.trades → Climbs cash_key t.cash → has_status_rows t ≡ true
-    → (Holds schema condition.Cash t → HasCash t) × (HasCash t → Holds schema condition.Cash t)
-unfolding Holds
+    → (ConditionHolds schema condition.Cash t → HasCash t) × (HasCash t → ConditionHolds schema condition.Cash t)
+unfolding ConditionHolds
 cash_by_rows schema t n m c d s =
     let f : TradeRow → CashRow = λ r. cash_row (accounts_in t) (trade_of_row t r) in
     let rows : List TradeRow = filter is_done_in_cash t.trades in

@@ -5,7 +5,7 @@ use Rattle.std.specs.BTreeMap.{BTreeMap}
 use Rattle.std.proofs.lemmas.List.{map-id}
 use Rattle.brk_money.specs.declared.fault.Condition.TheVariants as condition
 use Rattle.brk_model.specs.Derived.{due_after}
-use Rattle.brk_model.specs.Audit.{Holds}
+use Rattle.brk_model.specs.Audit.{ConditionHolds}
 use Rattle.brk_model.specs.Tables.{MoveRow, Tables, TradeRow}
 use Rattle.brk_model.specs.Form.{lacks_later_rows, has_form}
 use Rattle.std.proofs.lemmas.Bool.{and_parts, eqb-true}
@@ -33,7 +33,7 @@ keys_of s f = key_parts (tables_in_sheets s) (form_parts f.schema (tables_in_she
 
 pub settlements_hold : (schema : Schema) (s : Sheets) (terms : BTreeMap ℕ AccountTerms) (ss : List settlement.SettlementRow) (ts : List trade.TradeRow) → HasForm s → HasStatuses s
     → HasTerms terms s.accounts.items → ss ≡ s.settlements.items → ts ≡ s.trades.items
-    → (map due_in (map settlement_row_of ss) ≡ map (due_of s.rule (tax_status_by terms)) (filter is_done (map trade_row_of ts))) ↔ Holds schema condition.Settlement (tables_in_sheets s)
+    → (map due_in (map settlement_row_of ss) ≡ map (due_of s.rule (tax_status_by terms)) (filter is_done (map trade_row_of ts))) ↔ ConditionHolds schema condition.Settlement (tables_in_sheets s)
 settlements_hold schema s terms ss ts f w h e g =
     let t : Tables = tables_in_sheets s in
     let law = settlements_by_rows schema t (keys_of s f).trades (keys_of s f).settlements w in
@@ -56,7 +56,7 @@ fitting schema t f n =
 pub cash_holds : (schema : Schema) (s : Sheets) (terms : BTreeMap ℕ AccountTerms) (cs : List cash.CashRow) (ts : List trade.TradeRow) → schema.has_moves ≡ false
     → has_form schema (tables_in_sheets s) ≡ true → HasStatuses s
     → HasTerms terms s.accounts.items → cs ≡ s.cash.items → ts ≡ s.trades.items
-    → (map moved_in (map cash_row_of cs) ≡ map (moved_by (tax_status_by terms)) (filter is_done_in_cash (map trade_row_of ts))) ↔ Holds schema condition.Cash (tables_in_sheets s)
+    → (map moved_in (map cash_row_of cs) ≡ map (moved_by (tax_status_by terms)) (filter is_done_in_cash (map trade_row_of ts))) ↔ ConditionHolds schema condition.Cash (tables_in_sheets s)
 cash_holds schema s terms cs ts n f w h e g =
     let t : Tables = tables_in_sheets s in
     let formed : HasForm s = record { schema = schema; form = f } in
@@ -71,7 +71,7 @@ cash_holds schema s terms cs ts n f w h e g =
 
 pub requests_hold : (schema : Schema) (s : Sheets) (terms : BTreeMap ℕ AccountTerms) (qs : List request.RequestRow) (ts : List trade.TradeRow) → HasForm s → HasStatuses s
     → HasTerms terms s.accounts.items → qs ≡ s.requests.items → ts ≡ s.trades.items
-    → (map (λ q. q) (map request_row_of qs) ≡ map (request_of (broker_by terms)) (filter is_waiting (map trade_row_of ts))) ↔ Holds schema condition.Requests (tables_in_sheets s)
+    → (map (λ q. q) (map request_row_of qs) ≡ map (request_of (broker_by terms)) (filter is_waiting (map trade_row_of ts))) ↔ ConditionHolds schema condition.Requests (tables_in_sheets s)
 requests_hold schema s terms qs ts f w h e g =
     let t : Tables = tables_in_sheets s in
     let law = requests_by_rows schema t (keys_of s f).trades w in

@@ -12,7 +12,7 @@ use Rattle.brk_model.specs.Joins.{history_in}
 use Rattle.brk_model.specs.Keys.{number, key_before, history_key, trade_key}
 use Rattle.brk_model.specs.Form.{history_form}
 use Rattle.brk_model.specs.Ways.{completion_stamps, movement_stamps, has_status_rows, trade_status}
-use Rattle.brk_model.specs.Audit.{Holds}
+use Rattle.brk_model.specs.Audit.{ConditionHolds}
 use Rattle.brk_book_theorems.proofs.Same.{All-map}
 use Rattle.brk_book_theorems.proofs.LotReading.{all_pass}
 use Rattle.brk_audit_theorems.proofs.Climbs.{Climbs, list_all_true}
@@ -81,7 +81,7 @@ statuses_by_rows t f =
     ap (λ b. b && all_distinct (completion_stamps t ++ movement_stamps t)) (same_all t t.trades k.history ∙ sym (go_each t t.trades k.trades) ∙ ap (all_go t.trades) j)
 
 pub status_holds : (schema : Schema) (t : Tables) (go apart : Bool) → IsFormed t → go ≡ all_go t.trades t.history → apart ≡ all_distinct (stamps_of t.history ++ movement_stamps t)
-    → (go && apart ≡ true → Holds schema condition.Status t) × (Holds schema condition.Status t → go && apart ≡ true)
-unfolding Holds
+    → (go && apart ≡ true → ConditionHolds schema condition.Status t) × (ConditionHolds schema condition.Status t → go && apart ≡ true)
+unfolding ConditionHolds
 status_holds schema t go apart f g a =
     let e : has_status_rows t ≡ go && apart = statuses_by_rows t f ∙ (λ i. sym g i && sym a i) in ((λ h. e ∙ h), (λ h. sym e ∙ h))

@@ -7,7 +7,7 @@ use Rattle.brk_money.specs.Kinds.{status_code}
 use Rattle.brk_money.specs.declared.status.Status.{Status}
 use Rattle.brk_money.specs.declared.status.Status.TheVariants.{Completed, Submitted, Pending, Canceled}
 use Rattle.brk_model.specs.Lists.{sort_by, sort_by_key}
-use Rattle.brk_model.specs.Records.{Mark}
+use Rattle.brk_model.specs.Records.{StatusChange}
 use Rattle.brk_model.specs.Tables.{Tables, TradeRow, HistoryRow, history_rows}
 use Rattle.brk_model.specs.Joins.{history_in}
 use Rattle.brk_model.specs.Keys.{word, key_before, by_key, history_key}
@@ -29,7 +29,7 @@ false_true e = absurd (cc)
 abbrev at : ℕ → Status → ℕ → HistoryRow
 at id s x = record { trade = id; status = s; stamp = x }
 
-abbrev mark : Status → ℕ → Mark
+abbrev mark : Status → ℕ → StatusChange
 mark s x = record { stamp = x; status = s }
 
 -- ---- rows of one trade stand by the codes of their statuses
@@ -81,12 +81,12 @@ three_go r id Submitted _ v x y z w l m e = false_true w
 three_go r id _ _ _ x y z w l m e = false_true w
 
 -- what a trade's right statuses say of its marks
-record IsRightOf (r : TradeRow) (ms : List Mark) : Type 0 where
+record IsRightOf (r : TradeRow) (ms : List StatusChange) : Type 0 where
   way : is_way (map (λ m. m.status) ms) ≡ true
   rising : is_rising (map (λ m. m.stamp) ms) ≡ true
   last : is_last_of r ms ≡ true
 
-marks_go : (r : TradeRow) (id : ℕ) (ms : List Mark) → IsRightOf r ms → goes_way r (by_key history_key (map (λ m. at id m.status m.stamp) ms)) ≡ true
+marks_go : (r : TradeRow) (id : ℕ) (ms : List StatusChange) → IsRightOf r ms → goes_way r (by_key history_key (map (λ m. at id m.status m.stamp) ms)) ≡ true
 unfolding sort_by
 marks_go r id [] h = false_true h.way
 marks_go r id (m ∷ []) h = one_goes r id m.status m.stamp h.way h.last
@@ -101,16 +101,16 @@ marks_go r id (m ∷ n ∷ o ∷ p ∷ ms) h = absurd (no_more_ways m.status n.s
 before : (x y : ℕ) → nat_lt x y ≡ true → nat_lt y x ≡ false
 before x y e = let l : x < y = ltb-true x y e in le-ltb y x (omega arith)
 
-under : (m n : Mark) → nat_lt n.stamp m.stamp ≡ false → sort_by_key (λ m. m.stamp) (m ∷ n ∷ []) ≡ m ∷ n ∷ []
+under : (m n : StatusChange) → nat_lt n.stamp m.stamp ≡ false → sort_by_key (λ m. m.stamp) (m ∷ n ∷ []) ≡ m ∷ n ∷ []
 unfolding sort_by
 under m n e = rw e refl
 
-over : (m n : Mark) → nat_lt n.stamp m.stamp ≡ true → sort_by_key (λ m. m.stamp) (m ∷ n ∷ []) ≡ n ∷ m ∷ []
+over : (m n : StatusChange) → nat_lt n.stamp m.stamp ≡ true → sort_by_key (λ m. m.stamp) (m ∷ n ∷ []) ≡ n ∷ m ∷ []
 unfolding sort_by
 over m n e = rw e refl
 
 -- the first goes to the end
-over_both : (m n o : Mark) → nat_lt o.stamp n.stamp ≡ false → nat_lt n.stamp m.stamp ≡ true → nat_lt o.stamp m.stamp ≡ true
+over_both : (m n o : StatusChange) → nat_lt o.stamp n.stamp ≡ false → nat_lt n.stamp m.stamp ≡ true → nat_lt o.stamp m.stamp ≡ true
     → sort_by_key (λ m. m.stamp) (m ∷ n ∷ o ∷ []) ≡ n ∷ o ∷ m ∷ []
 unfolding sort_by
 over_both m n o e f g = rw e (rw f (rw g refl))
@@ -118,7 +118,7 @@ over_both m n o e f g = rw e (rw f (rw g refl))
 right_two : (r : TradeRow) (s u : Status) (x y : ℕ) → is_way (s ∷ u ∷ []) ≡ true → nat_lt x y ≡ true → is_last_of r (mark u y ∷ []) ≡ true → IsRightOf r (mark s x ∷ mark u y ∷ [])
 right_two r s u x y w l e = record { way = w; rising = and_from (nat_lt x y) true l refl; last = e }
 
-along : (r : TradeRow) (ms ns : List Mark) → ms ≡ ns → IsRightOf r ns → IsRightOf r ms
+along : (r : TradeRow) (ms ns : List StatusChange) → ms ≡ ns → IsRightOf r ns → IsRightOf r ms
 along r ms ns e h = record {
   way = ap (λ xs. is_way (map (λ m. m.status) xs)) e ∙ h.way;
   rising = ap (λ xs. is_rising (map (λ m. m.stamp) xs)) e ∙ h.rising;

@@ -16,7 +16,7 @@ use Rattle.brk_model.specs.Sheets.{sheets_of}
 use Rattle.brk_model.specs.Keys.{account_key, broker_key, by_key, number}
 use Rattle.brk_model.specs.Adopted.{account_of_row, base_of, movement_of_row, trade_of_row}
 use Rattle.brk_model.specs.Ways.{has_status_rows}
-use Rattle.brk_model.specs.Audit.{Holds, expected}
+use Rattle.brk_model.specs.Audit.{ConditionHolds, expected}
 use Rattle.brk_book_theorems.proofs.Postings.{balance_parts}
 use Rattle.brk_book_theorems.proofs.Same.{All-map, All-of, filter-same, find-each, map-same, total_by-same}
 use Rattle.brk_audit_theorems.proofs.Climbs.{Climbs, In, climbs_map, each_in, stays}
@@ -133,8 +133,8 @@ unfolding commissions_of
 commission_is t broker s =
     pos_sum (λ u. u.commission) (of_broker (base_of t).accounts (completed (base_of t)) broker) ∙ of_broker_sum t (λ u. pos u.commission) (λ r. pos r.commission) broker s (λ r. refl)
 
-pub counts_by_rows : (schema : Schema) (t : Tables) → Climbs broker_key t.brokers → has_status_rows t ≡ true → (Holds schema condition.Count t → CountsHold t) × (CountsHold t → Holds schema condition.Count t)
-unfolding Holds
+pub counts_by_rows : (schema : Schema) (t : Tables) → Climbs broker_key t.brokers → has_status_rows t ≡ true → (ConditionHolds schema condition.Count t → CountsHold t) × (CountsHold t → ConditionHolds schema condition.Count t)
+unfolding ConditionHolds
 counts_by_rows schema t c s =
     let n : BrokerRow → ℤ = λ b. pos (trade_count_of (base_of t).accounts (completed (base_of t)) b.id) in (
       (λ e. All-map t.brokers (λ b k. k ∙ count_is t b.id s) (each_same (λ b. b.trades) n t.brokers (e ∙ wanted_counts schema t c))),
@@ -145,8 +145,8 @@ same_number : (m n : ℕ) → pos m ≡ pos n → m ≡ n
 same_number m n e = cc
 
 pub commissions_by_rows : (schema : Schema) (t : Tables) → Climbs broker_key t.brokers → has_status_rows t ≡ true
-    → (Holds schema condition.Commission t → CommissionsHold t) × (CommissionsHold t → Holds schema condition.Commission t)
-unfolding Holds
+    → (ConditionHolds schema condition.Commission t → CommissionsHold t) × (CommissionsHold t → ConditionHolds schema condition.Commission t)
+unfolding ConditionHolds
 commissions_by_rows schema t c s =
     let n : BrokerRow → ℕ = λ b. commissions_of (base_of t).accounts (completed (base_of t)) b.id in (
       (λ e. All-map t.brokers (λ b k. ap pos k ∙ commission_is t b.id s) (each_same (λ b. b.commissions) n t.brokers (e ∙ wanted_commissions schema t c))),
@@ -181,8 +181,8 @@ both_all : {X : Type 0} (P Q : X → Type 0) (xs : List X) → AllByRecursion P 
 both_all P Q [] g h = tt
 both_all P Q (x ∷ xs) g h = ((g.0, h.0), both_all P Q xs g.1 h.1)
 
-pub balances_by_rows : (schema : Schema) (t : Tables) → Climbs account_key t.accounts → has_status_rows t ≡ true → (Holds schema condition.Balance t → BalancesHold t) × (BalancesHold t → Holds schema condition.Balance t)
-unfolding Holds
+pub balances_by_rows : (schema : Schema) (t : Tables) → Climbs account_key t.accounts → has_status_rows t ≡ true → (ConditionHolds schema condition.Balance t → BalancesHold t) × (BalancesHold t → ConditionHolds schema condition.Balance t)
+unfolding ConditionHolds
 balances_by_rows schema t c s =
     let n : AccountRow → ℤ = λ a. balance_of (base_of t).accounts (postings_of (base_of t)) a.id in
     let found : AllByRecursion (λ a. account_in t a.id ≡ Some a) t.accounts = account_found t.accounts c in

@@ -20,8 +20,8 @@ use Rattle.brk_model.specs.Sheets.{sheets_of}
 use Rattle.brk_model.specs.Tables.{Tables, AccountRow, SecurityRow, SummaryRow, summary_rows, tables_at}
 use Rattle.brk_model.specs.Adopted.{account_of_row, base_of, security_of_row, trade_of_row}
 use Rattle.brk_model.specs.Ways.{has_status_rows}
-use Rattle.brk_model.specs.Audit.{Holds, expected}
-use Rattle.brk_book_theorems.specs.Books.{IsBooks}
+use Rattle.brk_model.specs.Audit.{ConditionHolds, expected}
+use Rattle.brk_book_theorems.specs.Books.{BooksInvariant}
 use Rattle.brk_book_theorems.proofs.Reading.{find-map}
 use Rattle.brk_book_theorems.proofs.Same.{All-map, All-mapped, All-of, filter-none, find-each, find-none}
 use Rattle.brk_book_theorems.proofs.Summaries.{all_summaries, own_summary}
@@ -252,7 +252,7 @@ security_there t symbol e =
           ∙ ap (option_map (security_of_row t)) f.is,
     )
 
-wanted_told : (t : Tables) → IsBooks (base_of t) → has_status_rows t ≡ true → (account : ℕ) (symbol : Text) → has_account t account ≡ true → has_security t symbol ≡ true
+wanted_told : (t : Tables) → BooksInvariant (base_of t) → has_status_rows t ≡ true → (account : ℕ) (symbol : Text) → has_account t account ≡ true → has_security t symbol ≡ true
     → told_of_position (wanted t) account symbol ≡ sum_of_position t account symbol
 wanted_told t books s account symbol e f =
     let a = account_there t account e in
@@ -273,8 +273,8 @@ each_alike t xs ys c d n k e =
     All-map xs (λ h m. told_alike xs ys h c d m.1.0 m.0 (e h.account h.symbol m.1.1.0 m.1.1.1))
     (both_all (λ h. In h xs) (λ h. TellsShares h × IsKnown t h) xs (each_in xs) (both_all TellsShares (IsKnown t) xs n k))
 
-pub summaries_by_rows : (schema : Schema) (t : Tables) → IsFormed t → has_status_rows t ≡ true → (Holds schema condition.Summary t → SummariesHold t) × (SummariesHold t → Holds schema condition.Summary t)
-unfolding Holds
+pub summaries_by_rows : (schema : Schema) (t : Tables) → IsFormed t → has_status_rows t ≡ true → (ConditionHolds schema condition.Summary t → SummariesHold t) × (SummariesHold t → ConditionHolds schema condition.Summary t)
+unfolding ConditionHolds
 summaries_by_rows schema t f s =
     let p : FormParts f.schema t = form_parts f.schema t f.form in
     let k : KeyParts t = key_parts t p.keys in

@@ -4,7 +4,7 @@ ghost use Rattle.std.specs.List.{AllByRecursion, filter_map};
 ghost use Rattle.std.specs.Ordering.{nat_cmp};
 ghost use Rattle.brk_money.specs.declared.fault.Condition.TheVariants.{Balance};
 ghost use Rattle.brk_money.specs.declared.fault.Fault.TheVariants.{Memory};
-ghost use Rattle.brk_model.specs.Audit.{Holds};
+ghost use Rattle.brk_model.specs.Audit.{ConditionHolds};
 ghost use Rattle.brk_model.specs.Schemas.{Schema};
 ghost use Rattle.brk_changes.specs.Rows.{move_row_of, trade_row_of};
 ghost use Rattle.brk_changes.specs.Sheets.{tables_in_sheets};
@@ -123,7 +123,7 @@ fn are_balanced(sums: &BTreeMap<u64, i128>, rows: &[AccountRow]) -> bool
 pub(crate) fn has_balances(alloc: Global, sheets: &Sheets) -> Result<bool, Fault>
     requires form { HasForm sheets.now }
     requires status { HasStatuses sheets.now }
-    ensures told { IfOk result (λ holds. (schema : Schema) → IsTrue holds ↔ Holds schema Balance (tables_in_sheets sheets.now)) }
+    ensures told { IfOk result (λ holds. (schema : Schema) → IsTrue holds ↔ ConditionHolds schema Balance (tables_in_sheets sheets.now)) }
     ensures fault { IfErr result (λ fault. fault ≡ Memory) }
 {
     let terms = terms_of_accounts(alloc, &sheets.accounts)?;

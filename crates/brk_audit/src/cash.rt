@@ -3,7 +3,7 @@ ghost use Rattle.brk_audit.specs.Posted.{posted_of};
 ghost use Rattle.std.specs.Prelude.{◌≡◌, ◌↔◌, ◌==◌, ◌&&◌, map, filter, nat_le, option_map, IfErr, IfOk, IsTrue, MatchOption};
 ghost use Rattle.brk_money.specs.declared.fault.Condition.TheVariants.{Cash, Form};
 ghost use Rattle.brk_money.specs.declared.fault.Fault.TheVariants.{Memory};
-ghost use Rattle.brk_model.specs.Audit.{Holds};
+ghost use Rattle.brk_model.specs.Audit.{ConditionHolds};
 ghost use Rattle.brk_audit.specs.AccountTerms.{tax_status_by};
 ghost use Rattle.brk_audit.specs.Conditions.{HasStatuses};
 ghost use Rattle.brk_audit.specs.Settling.{Differs, Leaves, amount_at, is_done_in_cash, is_in_turn, moved_by, moved_in, posted_by, posted_in};
@@ -182,9 +182,9 @@ fn are_numbered_by_stamp(moves: &[MoveRow]) -> bool
 /// CASH_TRANSACTION. In later schemas they are in CASH_MOVE, numbered from 1 by ascending stamp,
 /// deposits and withdrawals among them, and CASH_TRANSACTION is empty.
 pub(crate) fn has_cash_rows(alloc: Global, schema: Schema, sheets: &Sheets) -> Result<bool, Fault>
-    requires form { Holds (schema_of schema) Form (tables_in_sheets sheets.now) }
+    requires form { ConditionHolds (schema_of schema) Form (tables_in_sheets sheets.now) }
     requires status { HasStatuses sheets.now }
-    ensures told { IfOk result (λ holds. IsTrue holds ↔ Holds (schema_of schema) Cash (tables_in_sheets sheets.now)) }
+    ensures told { IfOk result (λ holds. IsTrue holds ↔ ConditionHolds (schema_of schema) Cash (tables_in_sheets sheets.now)) }
     ensures fault { IfErr result (λ fault. fault ≡ Memory) }
 {
     let terms = terms_of_accounts(alloc, &sheets.accounts)?;

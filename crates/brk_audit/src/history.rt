@@ -8,7 +8,7 @@ ghost use Rattle.brk_changes.specs.Rows.{lot_change_of, trade_row_of};
 ghost use Rattle.brk_changes.specs.Sheets.{tables_in_sheets};
 ghost use Rattle.brk_lots.specs.Chains.{plain_row, replay_rows};
 ghost use Rattle.brk_lots.specs.Deals.{AreDeals};
-ghost use Rattle.brk_model.specs.Audit.{Holds};
+ghost use Rattle.brk_model.specs.Audit.{ConditionHolds};
 ghost use Rattle.brk_model.specs.Schemas.{Schema};
 ghost use Rattle.brk_model.specs.Keys.{holding_history_key, row_before};
 ghost use Rattle.brk_money.specs.declared.fault.Condition.TheVariants.{History};
@@ -98,7 +98,7 @@ fn are_same_rows(touches: &[DealTouch], rows: &[LotChange]) -> bool
 pub(crate) fn has_lot_history(alloc: Global, sheets: &Sheets) -> Result<bool, Fault>
     requires form { HasForm sheets.now }
     requires status { HasStatuses sheets.now }
-    ensures told { IfOk result (λ holds. (schema : Schema) → IsTrue holds ↔ Holds schema History (tables_in_sheets sheets.now)) }
+    ensures told { IfOk result (λ holds. (schema : Schema) → IsTrue holds ↔ ConditionHolds schema History (tables_in_sheets sheets.now)) }
     ensures fault { IfErr result (λ fault. fault ≡ Memory) }
 {
     let done = completed_by_position(alloc, &sheets.trades)?;

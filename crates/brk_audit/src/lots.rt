@@ -6,7 +6,7 @@ ghost use Rattle.brk_audit.specs.Positions.{Leave, clash, lot_row, place_before}
 ghost use Rattle.brk_changes.specs.Rows.{holding_row_of, trade_row_of};
 ghost use Rattle.brk_changes.specs.Sheets.{tables_in_sheets};
 ghost use Rattle.brk_lots.specs.Lots.{plain_lot};
-ghost use Rattle.brk_model.specs.Audit.{Holds};
+ghost use Rattle.brk_model.specs.Audit.{ConditionHolds};
 ghost use Rattle.brk_model.specs.Schemas.{Schema};
 ghost use Rattle.brk_money.specs.declared.fault.Condition.TheVariants.{Lots};
 ghost use Rattle.brk_money.specs.declared.fault.Fault.TheVariants.{Memory};
@@ -86,7 +86,7 @@ fn are_same_rows(rows: &[HoldingRow], others: &[HoldingRow]) -> bool
 pub(crate) fn has_lots(alloc: Global, sheets: &Sheets) -> Result<bool, Fault>
     requires form { HasForm sheets.now }
     requires status { HasStatuses sheets.now }
-    ensures told { IfOk result (λ holds. (schema : Schema) → IsTrue holds ↔ Holds schema Lots (tables_in_sheets sheets.now)) }
+    ensures told { IfOk result (λ holds. (schema : Schema) → IsTrue holds ↔ ConditionHolds schema Lots (tables_in_sheets sheets.now)) }
     ensures fault { IfErr result (λ fault. fault ≡ Memory) }
 {
     let done = completed_by_position(alloc, &sheets.trades)?;

@@ -3,7 +3,7 @@ ghost use Rattle.brk_money.specs.Kinds.{same_status, same_type};
 ghost use Rattle.brk_money.specs.declared.fault.Condition.TheVariants as condition;
 ghost use Rattle.brk_money.specs.declared.fault.Fault.TheVariants.{Memory};
 ghost use Rattle.brk_money.specs.declared.status.Status.TheVariants.{Pending};
-ghost use Rattle.brk_model.specs.Audit.{Holds};
+ghost use Rattle.brk_model.specs.Audit.{ConditionHolds};
 ghost use Rattle.brk_model.specs.Schemas.{Schema};
 ghost use Rattle.brk_audit.specs.AccountTerms.{broker_by};
 ghost use Rattle.brk_audit.specs.Completed.{is_waiting};
@@ -96,7 +96,7 @@ fn are_requested(
 pub(crate) fn has_requests(alloc: Global, sheets: &Sheets) -> Result<bool, Fault>
     requires form { HasForm sheets.now }
     requires status { HasStatuses sheets.now }
-    ensures told { IfOk result (λ holds. (schema : Schema) → IsTrue holds ↔ Holds schema condition.Requests (tables_in_sheets sheets.now)) }
+    ensures told { IfOk result (λ holds. (schema : Schema) → IsTrue holds ↔ ConditionHolds schema condition.Requests (tables_in_sheets sheets.now)) }
     ensures fault { IfErr result (λ fault. fault ≡ Memory) }
 {
     let terms = terms_of_accounts(alloc, &sheets.accounts)?;

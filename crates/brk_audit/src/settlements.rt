@@ -1,7 +1,7 @@
 ghost use Rattle.std.specs.Prelude.{◌≡◌, ◌↔◌, ◌+◌, map, filter, IfErr, IfOk, IsTrue, MatchOption};
 ghost use Rattle.brk_money.specs.declared.fault.Condition.TheVariants.{Settlement};
 ghost use Rattle.brk_money.specs.declared.fault.Fault.TheVariants.{Memory};
-ghost use Rattle.brk_model.specs.Audit.{Holds};
+ghost use Rattle.brk_model.specs.Audit.{ConditionHolds};
 ghost use Rattle.brk_model.specs.Schemas.{Schema};
 ghost use Rattle.brk_model.specs.Derived.{due_after};
 ghost use Rattle.brk_audit.specs.AccountTerms.{tax_status_by};
@@ -90,7 +90,7 @@ fn are_settled(
 pub(crate) fn has_settlements(alloc: Global, sheets: &Sheets) -> Result<bool, Fault>
     requires form { HasForm sheets.now }
     requires status { HasStatuses sheets.now }
-    ensures told { IfOk result (λ holds. (schema : Schema) → IsTrue holds ↔ Holds schema Settlement (tables_in_sheets sheets.now)) }
+    ensures told { IfOk result (λ holds. (schema : Schema) → IsTrue holds ↔ ConditionHolds schema Settlement (tables_in_sheets sheets.now)) }
     ensures fault { IfErr result (λ fault. fault ≡ Memory) }
 {
     let terms = terms_of_accounts(alloc, &sheets.accounts)?;

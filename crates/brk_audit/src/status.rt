@@ -6,7 +6,7 @@ ghost use Rattle.brk_money.specs.Kinds.{same_status};
 ghost use Rattle.brk_money.specs.declared.fault.Condition.TheVariants as condition;
 ghost use Rattle.brk_money.specs.declared.fault.Fault.TheVariants.{Memory};
 ghost use Rattle.brk_money.specs.declared.status.Status.TheVariants.{Completed};
-ghost use Rattle.brk_model.specs.Audit.{Holds};
+ghost use Rattle.brk_model.specs.Audit.{ConditionHolds};
 ghost use Rattle.brk_model.specs.Schemas.{Schema};
 ghost use Rattle.brk_model.specs.Lists.{all_distinct};
 ghost use Rattle.brk_audit.specs.Conditions.{HasForm};
@@ -168,7 +168,7 @@ fn are_apart(alloc: Global, history: &[HistoryRow], moves: &[MoveRow]) -> Result
 /// deposits or withdrawals have the same stamp.
 pub(crate) fn has_statuses(alloc: Global, sheets: &Sheets) -> Result<bool, Fault>
     requires form { HasForm sheets.now }
-    ensures told { IfOk result (λ holds. (schema : Schema) → IsTrue holds ↔ Holds schema condition.Status (tables_in_sheets sheets.now)) }
+    ensures told { IfOk result (λ holds. (schema : Schema) → IsTrue holds ↔ ConditionHolds schema condition.Status (tables_in_sheets sheets.now)) }
     ensures fault { IfErr result (λ fault. fault ≡ Memory) }
 {
     if !all_go(&sheets.trades, &sheets.history) {

@@ -2,7 +2,7 @@ ghost use Rattle.std.specs.Prelude.{◌≡◌, ◌↔◌, false, IfErr, IfOk, Is
 ghost use Rattle.std.specs.List.{AllByRecursion, filter_map};
 ghost use Rattle.brk_money.specs.declared.fault.Condition.TheVariants.{Summary};
 ghost use Rattle.brk_money.specs.declared.fault.Fault.TheVariants.{Memory};
-ghost use Rattle.brk_model.specs.Audit.{Holds};
+ghost use Rattle.brk_model.specs.Audit.{ConditionHolds};
 ghost use Rattle.brk_model.specs.Schemas.{Schema};
 ghost use Rattle.brk_model.specs.Lists.{is_zero};
 ghost use Rattle.brk_model.specs.Shares.{signed};
@@ -125,7 +125,7 @@ pub(crate) fn all_three(one: bool, other: bool, last: bool) -> bool
 pub(crate) fn has_summaries(alloc: Global, sheets: &Sheets) -> Result<bool, Fault>
     requires form { HasForm sheets.now }
     requires status { HasStatuses sheets.now }
-    ensures told { IfOk result (λ holds. (schema : Schema) → IsTrue holds ↔ Holds schema Summary (tables_in_sheets sheets.now)) }
+    ensures told { IfOk result (λ holds. (schema : Schema) → IsTrue holds ↔ ConditionHolds schema Summary (tables_in_sheets sheets.now)) }
     ensures fault { IfErr result (λ fault. fault ≡ Memory) }
 {
     let postings = postings_of(alloc, &sheets.trades)?;

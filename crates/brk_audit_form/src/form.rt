@@ -3,7 +3,7 @@ ghost use Rattle.std.specs.Option.{option_map_or};
 ghost use Rattle.brk_money.specs.Moments.{last_day, last_stamp};
 ghost use Rattle.brk_money.specs.declared.fault.Condition.TheVariants.{Form};
 ghost use Rattle.brk_money.specs.declared.fault.Fault.TheVariants.{Memory};
-ghost use Rattle.brk_model.specs.Audit.{Holds};
+ghost use Rattle.brk_model.specs.Audit.{ConditionHolds};
 ghost use Rattle.brk_model.specs.Form.{lacks_later_rows};
 ghost use Rattle.brk_changes.specs.Schemas.{schema_of};
 ghost use Rattle.brk_changes.specs.Sheets.{tables_in_sheets};
@@ -73,7 +73,7 @@ fn has_plain_form(schema: Schema, sheets: &Sheets) -> bool
 ///
 /// Fails with `Memory` only.
 pub fn has_form(alloc: Global, schema: Schema, sheets: &Sheets) -> Result<bool, Fault>
-    ensures told { IfOk result (λ holds. IsTrue holds ↔ Holds (schema_of schema) Form (tables_in_sheets sheets.now)) }
+    ensures told { IfOk result (λ holds. IsTrue holds ↔ ConditionHolds (schema_of schema) Form (tables_in_sheets sheets.now)) }
     ensures fault { IfErr result (λ fault. fault ≡ Memory) }
 {
     if !has_plain_form(schema, sheets) {

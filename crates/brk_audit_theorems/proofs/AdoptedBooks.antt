@@ -23,8 +23,8 @@ use Rattle.brk_model.specs.Forms.{is_name, is_exchange}
 use Rattle.brk_model.specs.Adopted.{account_of_row, base_of, movement_of_row, no_last_trade, security_of_row, security_of_rows, trade_of_row}
 use Rattle.brk_model.specs.Form.{account_form, band_form, has_account, has_broker, has_customer, has_form, has_security, has_trade, history_form, is_amount, is_cash_of_trade, is_id, is_move_id, is_movement, is_price, is_qty, is_stamp, is_tier, last_trade_form, move_form, no_overlap, price_form, same_numbers, trade_form}
 use Rattle.brk_model.specs.Ways.{completion_stamps, has_status_rows, movement_stamps, trade_status}
-use Rattle.brk_model.specs.Names.{KnowsAccount, KnowsBroker, KnowsCustomer, KnowsSecurity, NumberedFrom}
-use Rattle.brk_book_theorems.specs.Books.{AreMovementsInOrder, BandsApart, CompletesFirst, DistinctAccounts, DistinctSymbols, HasBounds, HasHolder, HasVolume, IsBooks, IsEarly, IsMadeBy, IsOtherwhen, MomentsApart, MovementsApart, PermissionsApart, WaitsFirst}
+use Rattle.brk_model.specs.Names.{AccountExists, BrokerExists, CustomerExists, SecurityExists, NumberedFrom}
+use Rattle.brk_book_theorems.specs.Books.{AreMovementsInOrder, BandsApart, CompletesFirst, DistinctAccounts, DistinctSymbols, HasBounds, HasHolder, HasVolume, BooksInvariant, IsEarly, IsMadeBy, IsOtherwhen, MomentsApart, MovementsApart, PermissionsApart, WaitsFirst}
 use Rattle.brk_book_theorems.proofs.Bools.{numbers_back}
 use Rattle.brk_book_theorems.proofs.Same.{All-map, All-mapped, All-of, any-none, find-All}
 use Rattle.brk_book_theorems.proofs.Reading.{find-map, is_some-map, some-is-any}
@@ -47,12 +47,12 @@ account_names : (t : Tables) (a : AccountRow) → account_form t a ≡ true → 
 account_names t a e =
     let k = parts6 (is_id a.id) (has_customer t a.customer) (has_broker t a.broker) (is_name a.name) (is_amount a.opening) (is_amount a.balance) e in (k.1, k.2)
 
-knows_broker : (t : Tables) (a : AccountRow) → account_form t a ≡ true → KnowsBroker (base_of t) (account_of_row a)
+knows_broker : (t : Tables) (a : AccountRow) → account_form t a ≡ true → BrokerExists (base_of t) (account_of_row a)
 unfolding base_of
 knows_broker t a e =
     found_mapped (λ b. b.id == a.broker) (λ b. record { id = b.id; name = b.name }) t.brokers ∙ some-is-any (λ b. b.id == a.broker) t.brokers ∙ (account_names t a e).1
 
-knows_customer : (t : Tables) (a : AccountRow) → account_form t a ≡ true → KnowsCustomer (base_of t) (account_of_row a)
+knows_customer : (t : Tables) (a : AccountRow) → account_form t a ≡ true → CustomerExists (base_of t) (account_of_row a)
 unfolding base_of
 knows_customer t a e = some-is-any (λ c. c.id == a.customer) t.customers ∙ (account_names t a e).0
 
@@ -61,7 +61,7 @@ trade_names schema t row e =
     let k = parts10 (is_id row.id) (is_stamp t row.stamp) (has_security t row.symbol) (is_qty schema row.qty) (is_price row.bid) (has_account t row.account) (price_form t row)
     (nat_le row.charge greatest_charge) (nat_le row.commission greatest_amount) (nat_le row.tax greatest_amount) e in (k.2, k.5)
 
-knows_account : (schema : Schema) (t : Tables) (row : TradeRow) → trade_form schema t row ≡ true → KnowsAccount (base_of t) (trade_of_row t row)
+knows_account : (schema : Schema) (t : Tables) (row : TradeRow) → trade_form schema t row ≡ true → AccountExists (base_of t) (trade_of_row t row)
 unfolding base_of
 knows_account schema t row e = found_mapped (λ a. a.id == row.account) account_of_row t.accounts ∙ (trade_names schema t row e).1
 
@@ -78,7 +78,7 @@ same_found : (t : Tables) (symbol : Text) (ss : List SecurityRow)
 same_found t symbol [] = refl
 same_found t symbol (s ∷ ss) = λ i. bytes_eq (symbol_of t s i) symbol || same_found t symbol ss i
 
-knows_security : (schema : Schema) (t : Tables) (row : TradeRow) → trade_form schema t row ≡ true → KnowsSecurity (base_of t) (trade_of_row t row)
+knows_security : (schema : Schema) (t : Tables) (row : TradeRow) → trade_form schema t row ≡ true → SecurityExists (base_of t) (trade_of_row t row)
 unfolding base_of
 knows_security schema t row e =
     some-is-any (λ s. bytes_eq s.symbol row.symbol) (map (security_of_row t) t.securities) ∙ same_found t row.symbol t.securities
@@ -340,7 +340,7 @@ adopted_movements t ds f h d =
 
 -- ---- together
 
-pub adopted_books : (schema : Schema) (t : Tables) → has_form schema t ≡ true → has_status_rows t ≡ true → IsBooks (base_of t)
+pub adopted_books : (schema : Schema) (t : Tables) → has_form schema t ≡ true → has_status_rows t ≡ true → BooksInvariant (base_of t)
 unfolding base_of has_status_rows
 adopted_books schema t f s =
     let p : FormParts schema t = form_parts schema t f in
@@ -353,8 +353,8 @@ adopted_books schema t f s =
     let done : AllByRecursion (IsDone t) (done_rows t) = done_all t ways in
     record {
       parties = record {
-        brokers = All-mapped (KnowsBroker (base_of t)) account_of_row t.accounts (All-map t.accounts (knows_broker t) accounts);
-        customers = All-mapped (KnowsCustomer (base_of t)) account_of_row t.accounts (All-map t.accounts (knows_customer t) accounts);
+        brokers = All-mapped (BrokerExists (base_of t)) account_of_row t.accounts (All-map t.accounts (knows_broker t) accounts);
+        customers = All-mapped (CustomerExists (base_of t)) account_of_row t.accounts (All-map t.accounts (knows_customer t) accounts);
         owners = distinct_accounts t.accounts k.accounts;
         permissions = permissions_apart t.permissions k.permissions;
       };
@@ -366,8 +366,8 @@ adopted_books schema t f s =
         apart = bands_apart t.bands p.apart;
       };
       trades = record {
-        accounts = All-mapped (KnowsAccount (base_of t)) (trade_of_row t) t.trades (All-map t.trades (knows_account schema t) trades);
-        securities = All-mapped (KnowsSecurity (base_of t)) (trade_of_row t) t.trades (All-map t.trades (knows_security schema t) trades);
+        accounts = All-mapped (AccountExists (base_of t)) (trade_of_row t) t.trades (All-map t.trades (knows_account schema t) trades);
+        securities = All-mapped (SecurityExists (base_of t)) (trade_of_row t) t.trades (All-map t.trades (knows_security schema t) trades);
         numbered = numbered t 1 t.trades p.numbers;
         ways = All-mapped WaitsFirst (trade_of_row t) t.trades (All-map t.trades (waits_first t) ways);
         completions = All-mapped CompletesFirst (trade_of_row t) t.trades (All-map t.trades (completes_first t) ways);

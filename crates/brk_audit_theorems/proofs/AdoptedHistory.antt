@@ -8,7 +8,7 @@ use Rattle.brk_money.specs.Kinds.{same_status}
 use Rattle.brk_money.specs.Moments.{last_day}
 use Rattle.brk_money.specs.declared.status.Status.TheVariants.{Completed}
 use Rattle.brk_model.specs.Lists.{sort_by_key}
-use Rattle.brk_model.specs.Records.{Mark}
+use Rattle.brk_model.specs.Records.{StatusChange}
 use Rattle.brk_model.specs.Derived.{due_after}
 use Rattle.brk_model.specs.Tables.{Tables, TradeRow, HistoryRow, history_rows}
 use Rattle.brk_model.specs.Joins.{history_in}
@@ -25,14 +25,14 @@ use Rattle.brk_audit_theorems.proofs.Marks.{filtered}
 use Rattle.brk_model_theorems.proofs.Conjunctions.{parts3}
 
 -- a status as a row of a trade's history, and back
-abbrev row_of : ℕ → Mark → HistoryRow
+abbrev row_of : ℕ → StatusChange → HistoryRow
 row_of id m = record { trade = id; status = m.status; stamp = m.stamp }
 
-abbrev mark_of : HistoryRow → Mark
+abbrev mark_of : HistoryRow → StatusChange
 mark_of h = record { stamp = h.stamp; status = h.status }
 
 -- putting in a status of a trade
-abbrev put : ℕ → Mark → List HistoryRow → List HistoryRow
+abbrev put : ℕ → StatusChange → List HistoryRow → List HistoryRow
 put id m rows = insert_row history_key (row_of id m) rows
 
 back : (id : ℕ) (h : HistoryRow) → h.trade ≡ id → row_of id (mark_of h) ≡ h
@@ -59,7 +59,7 @@ pub own_rows : (t : Tables) (r : TradeRow) (s : List HistoryRow) → Climbs hist
     → each (insert_row history_key) (history_rows (trade_of_row t r)) s ≡ each (insert_row history_key) (history_in t r.id) s
 own_rows t r s c =
     let hs : List HistoryRow = history_in t r.id in
-    let ms : List Mark = map mark_of hs in
+    let ms : List StatusChange = map mark_of hs in
     each_map (insert_row history_key) (row_of r.id) (sort_by_key (λ m. m.stamp) ms) s
     ∙ each_sort (put r.id) (λ x y. nat_lt x.stamp y.stamp) ms s
     (commute_all r.id hs (climbs_filter history_key (λ h. h.trade == r.id) t.history c) (of_trade t r.id))

@@ -20,7 +20,7 @@ use Rattle.brk_model.specs.Forms.{is_exchange, is_name, is_symbol}
 use Rattle.brk_model.specs.Adopted.{account_of_row, base_of, no_last_trade, security_of_row, security_of_rows, trade_of_row}
 use Rattle.brk_model.specs.Form.{has_form, has_security, history_form, is_price, is_stamp, last_trade_form, security_form}
 use Rattle.brk_model.specs.Ways.{completion_stamps, has_status_rows, movement_stamps, trade_status}
-use Rattle.brk_model.specs.Audit.{Holds, expected}
+use Rattle.brk_model.specs.Audit.{ConditionHolds, expected}
 use Rattle.brk_book_theorems.proofs.Same.{All-map, All-of}
 use Rattle.brk_book_theorems.proofs.Reading.{some-is-any}
 use Rattle.brk_audit_theorems.proofs.Climbs.{Climbs, In, climbs_map, each_in, list_all_true, same_rows, stays}
@@ -56,8 +56,8 @@ brokers_there accounts done bs c =
     ∙ stays broker_key (map (λ b. broker_row accounts done (record { id = b.id; name = b.name })) bs)
     (climbs_map broker_key broker_key (λ b. broker_row accounts done (record { id = b.id; name = b.name })) bs (λ b. refl) c)
 
-adopted_brokers : (schema : Schema) (t : Tables) → Climbs broker_key t.brokers → Holds schema condition.Count t → Holds schema condition.Commission t → (expected schema t).brokers ≡ t.brokers
-unfolding Holds base_of sheets_of tables_at
+adopted_brokers : (schema : Schema) (t : Tables) → Climbs broker_key t.brokers → ConditionHolds schema condition.Count t → ConditionHolds schema condition.Commission t → (expected schema t).brokers ≡ t.brokers
+unfolding ConditionHolds base_of sheets_of tables_at
 adopted_brokers schema t c e f =
     let accounts : List Account = (base_of t).accounts in
     let done : List Trade = completed (base_of t) in
@@ -85,8 +85,8 @@ accounts_there accounts posted rows c =
     ∙ stays account_key (map (λ a. account_row accounts posted (account_of_row a)) rows)
     (climbs_map account_key account_key (λ a. account_row accounts posted (account_of_row a)) rows (λ a. refl) c)
 
-adopted_accounts : (schema : Schema) (t : Tables) → Climbs account_key t.accounts → Holds schema condition.Balance t → (expected schema t).accounts ≡ t.accounts
-unfolding Holds base_of sheets_of tables_at with_balance
+adopted_accounts : (schema : Schema) (t : Tables) → Climbs account_key t.accounts → ConditionHolds schema condition.Balance t → (expected schema t).accounts ≡ t.accounts
+unfolding ConditionHolds base_of sheets_of tables_at with_balance
 adopted_accounts schema t c e =
     let accounts : List Account = (base_of t).accounts in
     let posted : List Posting = postings_of (base_of t) in
@@ -189,15 +189,15 @@ adopted_trades schema t c h =
 
 -- what the conditions after those of form and status say
 pub record Derives (schema : Schema) (t : Tables) : Type 0 where
-  pub requests : Holds schema condition.Requests t
-  pub lots : Holds schema condition.Lots t
-  pub history : Holds schema condition.History t
-  pub summary : Holds schema condition.Summary t
-  pub count : Holds schema condition.Count t
-  pub commission : Holds schema condition.Commission t
-  pub settlement : Holds schema condition.Settlement t
-  pub cash : Holds schema condition.Cash t
-  pub balance : Holds schema condition.Balance t
+  pub requests : ConditionHolds schema condition.Requests t
+  pub lots : ConditionHolds schema condition.Lots t
+  pub history : ConditionHolds schema condition.History t
+  pub summary : ConditionHolds schema condition.Summary t
+  pub count : ConditionHolds schema condition.Count t
+  pub commission : ConditionHolds schema condition.Commission t
+  pub settlement : ConditionHolds schema condition.Settlement t
+  pub cash : ConditionHolds schema condition.Cash t
+  pub balance : ConditionHolds schema condition.Balance t
 
 histories : (schema : Schema) (t : Tables) → KeyParts t → AllByRecursion (λ h. history_form t h ≡ true) t.history → (expected schema t).history ≡ t.history
 unfolding base_of sheets_of tables_at
@@ -226,7 +226,7 @@ same_rule schema t = refl
 
 derived : (schema : Schema) (t : Tables) → Derives schema t → ((expected schema t).requests ≡ t.requests) × ((expected schema t).holdings ≡ t.holdings) × ((expected schema t).summaries ≡ t.summaries)
     × ((expected schema t).holding_history ≡ t.holding_history) × ((expected schema t).settlements ≡ t.settlements) × ((expected schema t).cash ≡ t.cash) × ((expected schema t).moves ≡ t.moves)
-unfolding Holds
+unfolding ConditionHolds
 derived schema t d = (sym d.requests, sym d.lots, sym d.summary, sym d.history, sym d.settlement, sym d.cash.0, sym d.cash.1)
 
 pub adopted_tables : (schema : Schema) (t : Tables) → has_form schema t ≡ true → has_status_rows t ≡ true → Derives schema t → expected schema t ≡ t

@@ -8,7 +8,7 @@ use Rattle.std.proofs.lemmas.Bool.Decides.{nat_tests}
 use Rattle.std.proofs.lemmas.Slice.Eq.{bytes_eq-Decides}
 use Rattle.brk_money.specs.Spelling.{Text}
 use Rattle.brk_model.specs.Lists.{insert_by, sort_by, sort_by_key}
-use Rattle.brk_model.specs.Records.{Mark, Movement, Security, Trade}
+use Rattle.brk_model.specs.Records.{StatusChange, Movement, Security, Trade}
 use Rattle.brk_model.specs.Base.{Base, completed, is_completed, security_with}
 use Rattle.brk_model.specs.Derived.{Posting, cash_trades, in_turn, posting_of_movement, posting_of_trade, postings_of}
 use Rattle.brk_model.specs.Tables.{HistoryRow, account_row, broker_row, history_rows, last_trade_row, security_row, settlement_row, tables_at, trade_row}
@@ -17,7 +17,7 @@ use Rattle.brk_model.specs.Keys.{number, word, by_key, row_before, account_key, 
 use Rattle.brk_model.specs.Adopted.{account_of_row, base_of, is_posted_by, marks_in, movement_of_row, no_last_trade, posting_of_cash, posting_of_move, postings_in, security_of_row, security_of_rows, trade_of_row}
 use Rattle.brk_model.specs.Ways.{is_rising}
 use Rattle.brk_model.specs.Names.{NumberedFrom}
-use Rattle.brk_book_theorems.specs.Books.{DistinctSymbols, IsBooks}
+use Rattle.brk_book_theorems.specs.Books.{DistinctSymbols, BooksInvariant}
 use Rattle.brk_book_theorems.proofs.Order.{Sorted, Splits, by_key-filter, by_key-map, insert_commute, sort_sorted}
 use Rattle.brk_book_theorems.proofs.Same.{All-map, All-of, NonePass, filter-none, flat_map-append}
 use Rattle.brk_book_theorems.proofs.Places.{append_assoc, filter-all, filter-append}
@@ -28,35 +28,35 @@ use Rattle.brk_book_theorems.proofs.TermReading.{reads_last_trade}
 use Rattle.brk_book_theorems.proofs.TradeReading.{trades_in_order}
 use Rattle.brk_book_theorems.proofs.MoveReading.{movements_back, rows_posted, turn_filter}
 use Rattle.brk_book_theorems.proofs.Each.{AllCommute, Commute, each, each_map, each_sort}
-use Rattle.brk_audit_theorems.specs.Told.{HasItsWords, IsTold, StampsRise, sorted}
+use Rattle.brk_audit_theorems.specs.Told.{HasNoStrayTexts, HasValidHistories, StampsRise, sorted}
 use Rattle.brk_audit_theorems.proofs.Members.{map-map, map_back}
 
 -- ---- statuses
 
-later : Mark → Mark → Bool
+later : StatusChange → StatusChange → Bool
 later x y = nat_lt x.stamp y.stamp
 
-abbrev row_of : ℕ → Mark → HistoryRow
+abbrev row_of : ℕ → StatusChange → HistoryRow
 row_of id m = record { trade = id; status = m.status; stamp = m.stamp }
 
-abbrev mark_of : HistoryRow → Mark
+abbrev mark_of : HistoryRow → StatusChange
 mark_of h = record { stamp = h.stamp; status = h.status }
 
-splits : Splits {X = Mark} (λ x y. nat_lt x.stamp y.stamp)
+splits : Splits {X = StatusChange} (λ x y. nat_lt x.stamp y.stamp)
 splits x y z g h = numbers x.stamp y.stamp z.stamp g h
   where
     numbers : (a b c : ℕ) → nat_lt c a ≡ true → nat_lt c b ≡ false → nat_lt b a ≡ true
     numbers a b c g h = grind (arith, nat_tests)
 
 -- each before all after it
-abbrev Rise : List Mark → Type 0
+abbrev Rise : List StatusChange → Type 0
 Rise [] = ⊤
 Rise (m ∷ ms) = AllByRecursion (λ n. nat_lt m.stamp n.stamp ≡ true) ms × Rise ms
 
 through : (a b c : ℕ) → nat_lt a b ≡ true → nat_lt b c ≡ true → nat_lt a c ≡ true
 through a b c g h = grind (arith, nat_tests)
 
-rise_all : (ms : List Mark) → is_rising (map (λ m. m.stamp) ms) ≡ true → Rise ms
+rise_all : (ms : List StatusChange) → is_rising (map (λ m. m.stamp) ms) ≡ true → Rise ms
 rise_all [] e = tt
 rise_all (m ∷ []) e = (tt, tt)
 rise_all (m ∷ n ∷ ms) e =
@@ -67,32 +67,32 @@ rise_all (m ∷ n ∷ ms) e =
 back : (a b : ℕ) → nat_lt a b ≡ true → nat_lt b a ≡ false
 back a b h = grind (arith, nat_tests)
 
-rise_sorted : (ms : List Mark) → Rise ms → Sorted (λ x y. nat_lt x.stamp y.stamp) ms
+rise_sorted : (ms : List StatusChange) → Rise ms → Sorted (λ x y. nat_lt x.stamp y.stamp) ms
 rise_sorted [] r = tt
 rise_sorted (m ∷ ms) r = (All-map ms (λ n h. back m.stamp n.stamp h) r.0, rise_sorted ms r.1)
 
-abbrev put : Mark → List Mark → List Mark
+abbrev put : StatusChange → List StatusChange → List StatusChange
 put m ms = insert_by (λ x y. nat_lt x.stamp y.stamp) m ms
 
-two : (m n : Mark) → nat_lt m.stamp n.stamp ≡ true → Commute put m n
+two : (m n : StatusChange) → nat_lt m.stamp n.stamp ≡ true → Commute put m n
 two m n h s = insert_commute (λ x y. nat_lt x.stamp y.stamp) n m s splits (h ∙ sym (ap not (back m.stamp n.stamp h)))
 
-rows_commute_first : (id : ℕ) (m : Mark) (ms : List Mark) → AllByRecursion (λ n. nat_lt m.stamp n.stamp ≡ true) ms
+rows_commute_first : (id : ℕ) (m : StatusChange) (ms : List StatusChange) → AllByRecursion (λ n. nat_lt m.stamp n.stamp ≡ true) ms
     → AllByRecursion (Commute (λ h. put (mark_of h)) (row_of id m)) (map (row_of id) ms)
 rows_commute_first id m [] h = tt
 rows_commute_first id m (n ∷ ms) h = (two m n h.0, rows_commute_first id m ms h.1)
 
-rows_commute_all : (id : ℕ) (ms : List Mark) → Rise ms → AllCommute (λ h. put (mark_of h)) (map (row_of id) ms)
+rows_commute_all : (id : ℕ) (ms : List StatusChange) → Rise ms → AllCommute (λ h. put (mark_of h)) (map (row_of id) ms)
 rows_commute_all id [] r = tt
 rows_commute_all id (m ∷ ms) r = (rows_commute_first id m ms r.0, rows_commute_all id ms r.1)
 
-sort_each : (xs : List Mark) → sort_by_key (λ m. m.stamp) xs ≡ each put xs []
+sort_each : (xs : List StatusChange) → sort_by_key (λ m. m.stamp) xs ≡ each put xs []
 unfolding sort_by
 sort_each [] = refl
 sort_each (x ∷ xs) = ap (put x) (sort_each xs)
 
 -- the rows of a trade's statuses, by their key and then by their stamps, are its statuses
-statuses_again : (id : ℕ) (ms : List Mark) → Rise ms → sort_by_key (λ m. m.stamp) (map mark_of (by_key history_key (map (row_of id) ms))) ≡ ms
+statuses_again : (id : ℕ) (ms : List StatusChange) → Rise ms → sort_by_key (λ m. m.stamp) (map mark_of (by_key history_key (map (row_of id) ms))) ≡ ms
 statuses_again id ms r =
     let rows : List HistoryRow = map (row_of id) ms in
     sort_each (map mark_of (by_key history_key rows))
@@ -152,7 +152,7 @@ others_rows : (id : ℕ) (ts : List Trade) → NonePass (λ u. u.id == id) ts �
 others_rows id [] h = tt
 others_rows id (u ∷ ts) h = append (map (row_of u.id) u.marks) (flat_map history_rows ts) (of_one u.marks) (others_rows id ts h.1)
   where
-    of_one : (ms : List Mark) → NonePass (λ h. h.trade == id) (map (row_of u.id) ms)
+    of_one : (ms : List StatusChange) → NonePass (λ h. h.trade == id) (map (row_of u.id) ms)
     of_one [] = tt
     of_one (m ∷ ms) = (h.0, of_one ms)
 
@@ -160,7 +160,7 @@ others_rows id (u ∷ ts) h = append (map (row_of u.id) u.marks) (flat_map histo
     append [] bs f g = g
     append (a ∷ as') bs f g = (f.0, append as' bs f.1 g)
 
-own_pass : (id : ℕ) (ms : List Mark) → AllByRecursion (λ h. (h.trade == id) ≡ true) (map (row_of id) ms)
+own_pass : (id : ℕ) (ms : List StatusChange) → AllByRecursion (λ h. (h.trade == id) ≡ true) (map (row_of id) ms)
 own_pass id [] = tt
 own_pass id (m ∷ ms) = (eq-eqb id id refl, own_pass id ms)
 
@@ -236,7 +236,7 @@ posted_in base = ap (λ rows. rows ++ map posting_of_move (sheets base).moves) (
     none_left : (base : Base) → map (posting_of_cash (sheets base)) (sheets base).cash ≡ []
     none_left base = ap (map (posting_of_cash (sheets base))) (no_cash base)
 
-cash_type_again : (base : Base) (t : Trade) → IsRead base t → HasItsWords t → option_map_or (λ s. s.cash_type) (find (λ s. s.trade == t.id) (sheets base).settlements) [] ≡ t.cash_type
+cash_type_again : (base : Base) (t : Trade) → IsRead base t → HasNoStrayTexts t → option_map_or (λ s. s.cash_type) (find (λ s. s.trade == t.id) (sheets base).settlements) [] ≡ t.cash_type
 unfolding sheets_of tables_at
 cash_type_again base t r w =
     ap (λ o. option_map_or (λ s. s.cash_type) o [])
@@ -283,7 +283,7 @@ unfolding sort_by
 turn_one true p = refl
 turn_one false p = refl
 
-cash_name_again : (base : Base) (t : Trade) → IsRead base t → HasItsWords t → option_map_or (λ p. p.name) (find (is_posted_by t.id) (postings_in (sheets base))) [] ≡ t.cash_name
+cash_name_again : (base : Base) (t : Trade) → IsRead base t → HasNoStrayTexts t → option_map_or (λ p. p.name) (find (is_posted_by t.id) (postings_in (sheets base))) [] ≡ t.cash_name
 cash_name_again base t r w =
     let done : Bool = is_completed t && t.is_cash in
     ap (λ ps. option_map_or (λ p. p.name) (find (is_posted_by t.id) ps) []) (posted_in base)
@@ -295,19 +295,19 @@ cash_name_again base t r w =
     by_test true e = refl
     by_test false e = sym (w.moved e)
 
-trade_again : (base : Base) (t : Trade) → IsRead base t → StampsRise t → HasItsWords t → trade_of_row (sheets base) (trade_row t) ≡ t
+trade_again : (base : Base) (t : Trade) → IsRead base t → StampsRise t → HasNoStrayTexts t → trade_of_row (sheets base) (trade_row t) ≡ t
 trade_again base t r s w = λ i. record t {
   marks = marks_again base t r s i;
   cash_type = cash_type_again base t r w i;
   cash_name = cash_name_again base t r w i;
 }
 
-trades_again : (base : Base) → IsBooks base → IsTold base → map (trade_of_row (sheets base)) (sheets base).trades ≡ base.trades
+trades_again : (base : Base) → BooksInvariant base → HasValidHistories base → map (trade_of_row (sheets base)) (sheets base).trades ≡ base.trades
 trades_again base books told =
     ap (map (trade_of_row (sheets base))) (trades_in_order base books.numbered) ∙ map-map (trade_of_row (sheets base)) trade_row base.trades
     ∙ map_back (λ t. trade_of_row (sheets base) (trade_row t)) base.trades
     (All-map base.trades (λ t h. trade_again base t h.0 h.1.0 h.1.1)
-    (both_all (IsRead base) (λ t. StampsRise t × HasItsWords t) base.trades (reads base books.numbered) (both_all StampsRise HasItsWords base.trades told.stamps told.words)))
+    (both_all (IsRead base) (λ t. StampsRise t × HasNoStrayTexts t) base.trades (reads base books.numbered) (both_all StampsRise HasNoStrayTexts base.trades told.stamps told.words)))
 
 -- ---- securities
 
@@ -338,7 +338,7 @@ security_again base s e =
     ap (λ o. option_map_or (security_of_rows (security_row s)) o (security_of_rows (security_row s) (no_last_trade s.symbol)))
     (reads_last_trade base s.symbol ∙ ap (option_map last_trade_row) e)
 
-securities_again : (base : Base) → IsBooks base → map (security_of_row (sheets base)) (sheets base).securities ≡ by_key (λ s. word s.symbol ∷ []) base.securities
+securities_again : (base : Base) → BooksInvariant base → map (security_of_row (sheets base)) (sheets base).securities ≡ by_key (λ s. word s.symbol ∷ []) base.securities
 unfolding sheets_of tables_at
 securities_again base books =
     ap (map (security_of_row (sheets base))) (by_key-map (λ s. word s.symbol ∷ []) security_key security_row base.securities (λ s. refl))
@@ -378,10 +378,10 @@ risen (m ∷ n ∷ ms) e =
     not_before : (a b c : ℕ) → nat_lt a b ≡ true → nat_lt c b ≡ false → nat_lt c a ≡ false
     not_before a b c g h = grind (arith, nat_tests)
 
-pub movements_again : (base : Base) → IsTold base → map movement_of_row (filter (λ r. is_none r.trade) (sheets base).moves) ≡ base.movements
+pub movements_again : (base : Base) → HasValidHistories base → map movement_of_row (filter (λ r. is_none r.trade) (sheets base).moves) ≡ base.movements
 movements_again base told = movements_back base ∙ sort_sorted (λ x y. nat_lt x.stamp y.stamp) base.movements (risen base.movements told.movements)
 
-pub base_again : (base : Base) → IsBooks base → IsTold base → base_of (sheets base) ≡ sorted base
+pub base_again : (base : Base) → BooksInvariant base → HasValidHistories base → base_of (sheets base) ≡ sorted base
 unfolding base_of sheets_of tables_at
 base_again base books told = λ i. record (sorted base) {
   brokers = brokers_again base i;

@@ -8,21 +8,21 @@ use Rattle.brk_money.specs.Kinds.{same_status}
 use Rattle.brk_money.specs.declared.status.Status.{Status}
 use Rattle.brk_money.specs.declared.status.Status.TheVariants.{Completed, Active, Submitted, Pending, Canceled}
 use Rattle.brk_model.specs.Lists.{all_distinct, contains_number, insert_by, sort_by}
-use Rattle.brk_model.specs.Records.{Mark, Movement, Trade}
+use Rattle.brk_model.specs.Records.{StatusChange, Movement, Trade}
 use Rattle.brk_model.specs.Base.{Base, completed, is_completed, moment_of}
 use Rattle.brk_model.specs.Tables.{HistoryRow, TradeRow, history_rows, tables_at, trade_row}
 use Rattle.brk_model.specs.Sheets.{sheets, sheets_of}
 use Rattle.brk_model.specs.Keys.{by_key, row_before, history_key}
 use Rattle.brk_model.specs.Adopted.{movement_of_row}
 use Rattle.brk_model.specs.Ways.{completion_stamps, has_status_rows, movement_stamps, is_last_of, is_rising, is_way, trade_status}
-use Rattle.brk_book_theorems.specs.Books.{IsBooks, MomentsApart, MovementsApart}
+use Rattle.brk_book_theorems.specs.Books.{BooksInvariant, MomentsApart, MovementsApart}
 use Rattle.brk_book_theorems.proofs.Bools.{numbers_back}
 use Rattle.brk_book_theorems.proofs.Order.{by_key-filter}
 use Rattle.brk_book_theorems.proofs.LotReading.{All-sort}
 use Rattle.brk_book_theorems.proofs.Same.{All-of}
 use Rattle.brk_book_theorems.proofs.Places.{filter-append, map-append}
 use Rattle.brk_book_theorems.proofs.TradeReading.{trades_in_order}
-use Rattle.brk_audit_theorems.specs.Told.{GoesAWay, IsTold, StampsRise}
+use Rattle.brk_audit_theorems.specs.Told.{HasValidTransitions, HasValidHistories, StampsRise}
 use Rattle.brk_audit_theorems.proofs.Marks.{no_more_ways, three_ways}
 use Rattle.brk_audit_theorems.proofs.Again.{IsRead, both_all, marks_again, movements_again, reads}
 use Rattle.brk_audit_theorems.proofs.AdoptedBooks.{contains_both, of_mapped}
@@ -44,25 +44,25 @@ same_itself Submitted = refl
 same_itself Pending = refl
 same_itself Canceled = refl
 
-last_is : (row : TradeRow) (m : Mark) (ms : List Mark) (n : Mark) → last_or (Some m) ms ≡ Some n → row.status ≡ n.status → row.stamp ≡ n.stamp → is_last_of row (m ∷ ms) ≡ true
+last_is : (row : TradeRow) (m : StatusChange) (ms : List StatusChange) (n : StatusChange) → last_or (Some m) ms ≡ Some n → row.status ≡ n.status → row.stamp ≡ n.stamp → is_last_of row (m ∷ ms) ≡ true
 last_is row m [] n e s t =
     let j : m ≡ n = cc in
     and_from (same_status row.status m.status) (row.stamp == m.stamp) (ap (λ u. same_status u m.status) (s ∙ sym (ap (λ m. m.status) j)) ∙ same_itself m.status)
     (eq-eqb row.stamp m.stamp (t ∙ sym (ap (λ m. m.stamp) j)))
 last_is row m (o ∷ ms) n e s t = last_is row o ms n e s t
 
-pub some_last : (m : Mark) (ms : List Mark) → (n : Mark) × (last_or (Some m) ms ≡ Some n)
+pub some_last : (m : StatusChange) (ms : List StatusChange) → (n : StatusChange) × (last_or (Some m) ms ≡ Some n)
 some_last m [] = (m, refl)
 some_last m (o ∷ ms) = some_last o ms
 
-pub last_row : (t : Trade) (ms : List Mark) → t.marks ≡ ms → is_way (map (λ m. m.status) ms) ≡ true → is_last_of (trade_row t) ms ≡ true
+pub last_row : (t : Trade) (ms : List StatusChange) → t.marks ≡ ms → is_way (map (λ m. m.status) ms) ≡ true → is_last_of (trade_row t) ms ≡ true
 last_row t [] e w = w
 last_row t (m ∷ ms) e w =
     let l = some_last m ms in
     let k : last_or None t.marks ≡ Some l.0 = ap (last_or None) e ∙ l.1 in
     last_is (trade_row t) m ms l.0 l.1 (ap (λ o. option_map_or (λ m. m.status) o Canceled) k) (ap (λ o. option_map_or (λ m. m.stamp) o 0) k)
 
-each_right : (base : Base) (t : Trade) → IsRead base t → StampsRise t → GoesAWay t → trade_status (sheets base) (trade_row t) ≡ true
+each_right : (base : Base) (t : Trade) → IsRead base t → StampsRise t → HasValidTransitions t → trade_status (sheets base) (trade_row t) ≡ true
 each_right base t r s w =
     ap (λ ms. is_way (map (λ m. m.status) ms) && is_rising (map (λ m. m.stamp) ms) && is_last_of (trade_row t) ms) (marks_again base t r s)
     ∙ and_from (is_way (map (λ m. m.status) t.marks) && is_rising (map (λ m. m.stamp) t.marks)) (is_last_of (trade_row t) t.marks)
@@ -81,7 +81,7 @@ each_of P Q (x ∷ xs) f h = (f x h.0, each_of P Q xs f h.1)
 is_done : HistoryRow → Bool
 is_done h = same_status h.status Completed
 
-abbrev row_of : ℕ → Mark → HistoryRow
+abbrev row_of : ℕ → StatusChange → HistoryRow
 row_of id m = record { trade = id; status = m.status; stamp = m.stamp }
 
 pub first_of_two : (a b : Status) → is_way (a ∷ b ∷ []) ≡ true → same_status a Completed ≡ false
@@ -98,14 +98,14 @@ first_of_two Canceled b e = refl
 abbrev one_if : Bool → ℕ → List ℕ
 one_if b n = cond b (n ∷ []) []
 
-one_stamp : (id : ℕ) (m : Mark) → map (λ h. h.stamp) (filter (λ h. same_status h.status Completed) (row_of id m ∷ [])) ≡ one_if (same_status m.status Completed) m.stamp
+one_stamp : (id : ℕ) (m : StatusChange) → map (λ h. h.stamp) (filter (λ h. same_status h.status Completed) (row_of id m ∷ [])) ≡ one_if (same_status m.status Completed) m.stamp
 one_stamp id m = by_test (same_status m.status Completed)
   where
     by_test : (b : Bool) → map (λ h. h.stamp) (cond b (row_of id m ∷ []) []) ≡ one_if b m.stamp
     by_test true = refl
     by_test false = refl
 
-own_stamp : (id : ℕ) (ms : List Mark) → is_way (map (λ m. m.status) ms) ≡ true
+own_stamp : (id : ℕ) (ms : List StatusChange) → is_way (map (λ m. m.status) ms) ≡ true
     → map (λ h. h.stamp) (filter (λ h. same_status h.status Completed) (map (row_of id) ms))
     ≡ one_if (option_map_or (λ m. same_status m.status Completed) (last_or None ms) false) (option_map_or (λ m. m.stamp) (last_or None ms) 0)
 own_stamp id [] w = refl
@@ -122,7 +122,7 @@ own_stamp id (m ∷ n ∷ o ∷ []) w =
     ∙ one_stamp id o
 own_stamp id (m ∷ n ∷ o ∷ p ∷ ms) w = absurd (no_more_ways m.status n.status o.status p.status (map (λ m. m.status) ms) w)
 
-stamps_are : (ts : List Trade) → AllByRecursion GoesAWay ts
+stamps_are : (ts : List Trade) → AllByRecursion HasValidTransitions ts
     → map (λ h. h.stamp) (filter (λ h. same_status h.status Completed) (flat_map history_rows ts)) ≡ map moment_of (filter is_completed ts)
 stamps_are [] w = refl
 stamps_are (t ∷ ts) w =
@@ -194,7 +194,7 @@ apart_distinct [] a = refl
 apart_distinct (t ∷ ts) a =
     ap (λ b. not b && all_distinct (map moment_of ts)) (none_contained (moment_of t) ts a.0) ∙ apart_distinct ts a.1
 
-completions_apart : (base : Base) → IsBooks base → IsTold base → all_distinct (completion_stamps (sheets base)) ≡ true
+completions_apart : (base : Base) → BooksInvariant base → HasValidHistories base → all_distinct (completion_stamps (sheets base)) ≡ true
 unfolding sheets_of tables_at
 completions_apart base books told =
     let C : HistoryRow → Bool = λ h. same_status h.status Completed in
@@ -231,12 +231,12 @@ distinct_both (x ∷ xs) ys d e h =
     and_from (not (contains_number x (xs ++ ys))) (all_distinct (xs ++ ys))
     (ap not (contains_both x xs ys ∙ (λ i. not-true (contains_number x xs) k.0 i || h.0 i))) (distinct_both xs ys k.1 e h.1)
 
-movement_stamps_again : (base : Base) → IsTold base → movement_stamps (sheets base) ≡ map (λ m. m.stamp) base.movements
+movement_stamps_again : (base : Base) → HasValidHistories base → movement_stamps (sheets base) ≡ map (λ m. m.stamp) base.movements
 movement_stamps_again base told =
     sym (map-map (λ m. m.stamp) movement_of_row (filter (λ r. is_none r.trade) (sheets base).moves)) ∙ ap (map (λ m. m.stamp)) (movements_again base told)
 
 -- no completion has the stamp of a movement
-none_at_movement : (base : Base) → IsBooks base → IsTold base → AllByRecursion (λ n. contains_number n (map (λ m. m.stamp) base.movements) ≡ false) (completion_stamps (sheets base))
+none_at_movement : (base : Base) → BooksInvariant base → HasValidHistories base → AllByRecursion (λ n. contains_number n (map (λ m. m.stamp) base.movements) ≡ false) (completion_stamps (sheets base))
 unfolding sheets_of tables_at
 none_at_movement base books told =
     let C : HistoryRow → Bool = λ h. same_status h.status Completed in
@@ -249,19 +249,19 @@ none_at_movement base books told =
     (subst (AllByRecursion (λ n. contains_number n ys ≡ false)) (sym (stamps_are base.trades told.ways))
     (all_mapped (λ n. contains_number n ys ≡ false) moment_of (completed base) (none_across (completed base) base.movements books.movements.apart))))))
 
-stamps_apart : (base : Base) → IsBooks base → IsTold base → all_distinct (completion_stamps (sheets base) ++ movement_stamps (sheets base)) ≡ true
+stamps_apart : (base : Base) → BooksInvariant base → HasValidHistories base → all_distinct (completion_stamps (sheets base) ++ movement_stamps (sheets base)) ≡ true
 stamps_apart base books told =
     ap (λ ys. all_distinct (completion_stamps (sheets base) ++ ys)) (movement_stamps_again base told)
     ∙ distinct_both (completion_stamps (sheets base)) (map (λ m. m.stamp) base.movements) (completions_apart base books told)
     (movements_distinct (completed base) base.movements books.movements.apart) (none_at_movement base books told)
 
-pub status_again : (base : Base) → IsBooks base → IsTold base → has_status_rows (sheets base) ≡ true
+pub status_again : (base : Base) → BooksInvariant base → HasValidHistories base → has_status_rows (sheets base) ≡ true
 unfolding has_status_rows
 status_again base books told =
     and_from (list_all (trade_status (sheets base)) (sheets base).trades) (all_distinct (completion_stamps (sheets base) ++ movement_stamps (sheets base)))
     (all_list (trade_status (sheets base)) (sheets base).trades
     (subst (AllByRecursion (λ r. trade_status (sheets base) r ≡ true)) (sym (trades_in_order base books.numbered))
     (mapped (λ r. trade_status (sheets base) r ≡ true) trade_row base.trades
-    (each_of (λ t. IsRead base t × (StampsRise t × GoesAWay t)) (λ t. trade_status (sheets base) (trade_row t) ≡ true) base.trades (λ t h. each_right base t h.0 h.1.0 h.1.1)
-    (both_all (IsRead base) (λ t. StampsRise t × GoesAWay t) base.trades (reads base books.numbered) (both_all StampsRise GoesAWay base.trades told.stamps told.ways))))))
+    (each_of (λ t. IsRead base t × (StampsRise t × HasValidTransitions t)) (λ t. trade_status (sheets base) (trade_row t) ≡ true) base.trades (λ t h. each_right base t h.0 h.1.0 h.1.1)
+    (both_all (IsRead base) (λ t. StampsRise t × HasValidTransitions t) base.trades (reads base books.numbered) (both_all StampsRise HasValidTransitions base.trades told.stamps told.ways))))))
     (stamps_apart base books told)

@@ -7,7 +7,7 @@ use Rattle.std.proofs.lemmas.Bool.{and_parts, eqb-true}
 use Rattle.brk_money.specs.Kinds.{same_status}
 use Rattle.brk_money.specs.declared.status.Status.{Status}
 use Rattle.brk_money.specs.declared.status.Status.TheVariants.{Completed, Active, Submitted, Pending, Canceled}
-use Rattle.brk_model.specs.Records.{Mark}
+use Rattle.brk_model.specs.Records.{StatusChange}
 use Rattle.brk_model.specs.Base.{last_mark}
 use Rattle.brk_model.specs.Tables.{Tables, TradeRow, HistoryRow}
 use Rattle.brk_model.specs.Joins.{history_in}
@@ -114,7 +114,7 @@ no_more_ways Canceled Submitted c d ss e = false_true e
 no_more_ways Canceled Pending c d ss e = false_true e
 no_more_ways Canceled Canceled c d ss e = false_true e
 
-pending_is_one : (marks : List Mark) → is_way (map (λ m. m.status) marks) ≡ true → option_map_or (λ m. same_status m.status Pending) (last_or None marks) false ≡ true → IsOne marks
+pending_is_one : (marks : List StatusChange) → is_way (map (λ m. m.status) marks) ≡ true → option_map_or (λ m. same_status m.status Pending) (last_or None marks) false ≡ true → IsOne marks
 pending_is_one [] w h = false_true h
 pending_is_one (m ∷ []) w h = tt
 pending_is_one (m ∷ n ∷ []) w h = false_true (sym (two_ways m.status n.status w) ∙ h)
@@ -129,7 +129,7 @@ submitted_not_done Submitted e = refl
 submitted_not_done Pending e = refl
 submitted_not_done Canceled e = refl
 
-submitted_uncompleted : (marks : List Mark) → is_way (map (λ m. m.status) marks) ≡ true → option_map_or (λ m. same_status m.status Submitted) (last_or None marks) false ≡ true
+submitted_uncompleted : (marks : List StatusChange) → is_way (map (λ m. m.status) marks) ≡ true → option_map_or (λ m. same_status m.status Submitted) (last_or None marks) false ≡ true
     → AllByRecursion IsNoCompletion marks
 submitted_uncompleted [] w h = tt
 submitted_uncompleted (m ∷ []) w h = (submitted_not_done m.status h, tt)
@@ -154,14 +154,14 @@ completes_first t row e h = submitted_uncompleted (marks_in t row.id) (way_of t 
 
 -- ---- each status is of a row of the trade's history
 
-pub record IsOf (t : Tables) (id : ℕ) (m : Mark) : Type 0 where
+pub record IsOf (t : Tables) (id : ℕ) (m : StatusChange) : Type 0 where
   pub row : HistoryRow
   pub there : In row t.history
   pub trade : row.trade ≡ id
   pub status : row.status ≡ m.status
   pub stamp : row.stamp ≡ m.stamp
 
-mark_of : HistoryRow → Mark
+mark_of : HistoryRow → StatusChange
 mark_of h = record { stamp = h.stamp; status = h.status }
 
 pub filtered : {X : Type 0} (P : X → Type 0) (p : X → Bool) (xs : List X) → AllByRecursion P xs → AllByRecursion (λ x. P x × (p x ≡ true)) (filter p xs)
@@ -188,23 +188,23 @@ last_has P None [] x k h e = absurd (cc)
 last_has P (Some y) [] x k h e = let j : y ≡ x = cc in subst P j k
 last_has P o (y ∷ ys) x k h e = last_has P (Some y) ys x h.0 h.1 e
 
-pub last_is_row : (t : Tables) (row : TradeRow) (m : Mark) → last_mark (trade_of_row t row) ≡ Some m → IsOf t row.id m
+pub last_is_row : (t : Tables) (row : TradeRow) (m : StatusChange) → last_mark (trade_of_row t row) ≡ Some m → IsOf t row.id m
 last_is_row t row m e = last_has (IsOf t row.id) None (marks_in t row.id) m tt (marks_are_rows t row.id) e
 
 -- the last one, of a trade that has one
 pub record Lasts (t : Tables) (row : TradeRow) : Type 0 where
-  pub mark : Mark
+  pub mark : StatusChange
   pub is : last_mark (trade_of_row t row) ≡ Some mark
   pub status : same_status row.status mark.status ≡ true
   pub stamp : row.stamp ≡ mark.stamp
 
-record LastOf (row : TradeRow) (o : Option Mark) : Type 0 where
-  mark : Mark
+record LastOf (row : TradeRow) (o : Option StatusChange) : Type 0 where
+  mark : StatusChange
   is : o ≡ Some mark
   status : same_status row.status mark.status ≡ true
   stamp : row.stamp ≡ mark.stamp
 
-find_last : (row : TradeRow) (o : Option Mark) (marks : List Mark) → is_last_of row marks ≡ true → LastOf row (last_or o marks)
+find_last : (row : TradeRow) (o : Option StatusChange) (marks : List StatusChange) → is_last_of row marks ≡ true → LastOf row (last_or o marks)
 find_last row o [] e = false_true e
 find_last row o (m ∷ []) e = let p = and_parts (same_status row.status m.status) (row.stamp == m.stamp) e in
     record { mark = m; is = refl; status = p.0; stamp = eqb-true row.stamp m.stamp p.1 }

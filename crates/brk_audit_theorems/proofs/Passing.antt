@@ -7,8 +7,8 @@ use Rattle.brk_model.specs.Schemas.{Schema}
 use Rattle.brk_model.specs.Tables.{Tables}
 use Rattle.brk_model.specs.Adopted.{base_of}
 use Rattle.brk_model.specs.Sheets.{sheets_at}
-use Rattle.brk_model.specs.Audit.{Holds}
-use Rattle.brk_book_theorems.specs.Books.{IsBooks}
+use Rattle.brk_model.specs.Audit.{ConditionHolds}
+use Rattle.brk_book_theorems.specs.Books.{BooksInvariant}
 use Rattle.brk_audit_theorems.specs.Passing.{Passes}
 use Rattle.brk_audit_theorems.proofs.AdoptedBooks.{adopted_books}
 use Rattle.brk_audit_theorems.proofs.AdoptedTables.{Derives, adopted_tables}
@@ -20,8 +20,8 @@ first_rest A B c (inr h) = let e : None ≡ Some c = h.1 in absurd (cc)
 
 -- all conditions of rows that pass
 pub record AllHold (schema : Schema) (t : Tables) : Type 0 where
-  pub form : Holds schema condition.Form t
-  pub status : Holds schema condition.Status t
+  pub form : ConditionHolds schema condition.Form t
+  pub status : ConditionHolds schema condition.Status t
   pub derives : Derives schema t
 
 pub all_hold : (schema : Schema) (t : Tables) → Passes schema t → AllHold schema t
@@ -44,10 +44,10 @@ all_hold schema t p0 =
       derives = record { requests = p3.0; lots = p4.0; history = p5.0; summary = p6.0; count = p7.0; commission = p8.0; settlement = p9.0; cash = p10.0; balance = p11.0 };
     }
 
-pub passing_books : (schema : Schema) (t : Tables) → Passes schema t → IsBooks (base_of t)
-unfolding Holds
+pub passing_books : (schema : Schema) (t : Tables) → Passes schema t → BooksInvariant (base_of t)
+unfolding ConditionHolds
 passing_books schema t p = let h = all_hold schema t p in adopted_books schema t h.form h.status
 
 pub passing_tables : (schema : Schema) (t : Tables) → Passes schema t → sheets_at schema (base_of t) ≡ t
-unfolding Holds
+unfolding ConditionHolds
 passing_tables schema t p = let h = all_hold schema t p in adopted_tables schema t h.form h.status h.derives

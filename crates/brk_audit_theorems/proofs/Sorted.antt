@@ -15,7 +15,7 @@ use Rattle.brk_model.specs.Derived.{amount_of, balance_of, cash_trades, commissi
 use Rattle.brk_model.specs.Tables.{SummaryRow, account_row, broker_row, by_position, last_trade_row, numbered, security_row, settlement_row, summary_rows, tables_at}
 use Rattle.brk_model.specs.Sheets.{sheets, sheets_of}
 use Rattle.brk_model.specs.Keys.{KeyPart, number, word, row_before, by_key, insert_row, account_key, band_key, broker_key, charge_key, customer_key, customer_tax_key, kept_key, last_trade_key, move_key, permission_key, request_key, security_key, settlement_key, summary_key, tax_rate_key}
-use Rattle.brk_book_theorems.specs.Books.{DistinctAccounts, DistinctSymbols, IsBooks}
+use Rattle.brk_book_theorems.specs.Books.{DistinctAccounts, DistinctSymbols, BooksInvariant}
 use Rattle.brk_book_theorems.proofs.Order.{by_key-map, key_one_way, key_splits, rows_commute, sort_sorted, sorted_sort}
 use Rattle.brk_book_theorems.proofs.Same.{All-map, All-of, map-same}
 use Rattle.brk_book_theorems.proofs.Reading.{find-id}
@@ -174,7 +174,7 @@ same_summaries base done d e =
 
 -- ---- all tables
 
-pub sorted_tables : (base : Base) → IsBooks base → sheets (sorted base) ≡ sheets base
+pub sorted_tables : (base : Base) → BooksInvariant base → sheets (sorted base) ≡ sheets base
 unfolding sheets_of tables_at
 sorted_tables base books =
     let done : List Trade = completed base in

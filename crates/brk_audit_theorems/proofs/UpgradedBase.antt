@@ -16,7 +16,7 @@ use Rattle.brk_model.specs.Adopted.{base_of, is_posted_by, movement_of_row, post
 use Rattle.brk_model.specs.Form.{trades_moved}
 use Rattle.brk_model.specs.LookupView.{is_cash_of}
 use Rattle.brk_model.specs.Upgraded.{upgraded, upgraded_from}
-use Rattle.brk_book_theorems.specs.Books.{IsBooks}
+use Rattle.brk_book_theorems.specs.Books.{BooksInvariant}
 use Rattle.brk_book_theorems.proofs.LotReading.{IdsApart, numbered_rise, rise_apart, rise_filter}
 use Rattle.brk_book_theorems.proofs.MoveReading.{movements_back, postings_back, stamp_one_way, stamp_splits, turn_filter}
 use Rattle.brk_book_theorems.proofs.Order.{append_nil, by_key-map, sort_sorted, sorted_filter, sorted_sort}
@@ -58,19 +58,19 @@ posted_in_moves schema base e =
     ∙ postings_back 1 (in_turn (postings_of base))
 
 -- where they stand by their trades
-cash_in_order : (base : Base) → IsBooks base → by_key cash_key (map (cash_row base.accounts) (cash_trades (completed base))) ≡ map (cash_row base.accounts) (cash_trades (completed base))
+cash_in_order : (base : Base) → BooksInvariant base → by_key cash_key (map (cash_row base.accounts) (cash_trades (completed base))) ≡ map (cash_row base.accounts) (cash_trades (completed base))
 cash_in_order base books =
     by_key-map (λ t. number t.id ∷ []) cash_key (cash_row base.accounts) (cash_trades (completed base)) (λ t. refl)
     ∙ ap (map (cash_row base.accounts)) (sort_sorted (row_before (λ t. number t.id ∷ [])) (cash_trades (completed base))
     (sorted_filter (row_before (λ t. number t.id ∷ [])) (λ t. t.is_cash) (completed base)
     (sorted_filter (row_before (λ t. number t.id ∷ [])) is_completed base.trades (trades_stand 1 base.trades books.numbered))))
 
-cash_found : (base : Base) → IsBooks base → AllByRecursion (λ t. trade_with base t.id ≡ Some t) (cash_trades (completed base))
+cash_found : (base : Base) → BooksInvariant base → AllByRecursion (λ t. trade_with base t.id ≡ Some t) (cash_trades (completed base))
 cash_found base books =
     All-filter (λ t. trade_with base t.id ≡ Some t) (λ t. t.is_cash) (completed base)
     (All-filter (λ t. trade_with base t.id ≡ Some t) is_completed base.trades (found_each base.trades (rise_apart base.trades (numbered_rise 1 base.trades books.numbered))))
 
-posted_by_trades : (schema : Schema) (base : Base) → IsBooks base → schema.has_moves ≡ false
+posted_by_trades : (schema : Schema) (base : Base) → BooksInvariant base → schema.has_moves ≡ false
     → postings_in (sheets_at schema base) ≡ map (posting_of_trade base.accounts) (cash_trades (completed base))
 posted_by_trades schema base books e =
     let rows : Tables = sheets_at schema base in
@@ -138,7 +138,7 @@ found_alone ps id h =
 -- ---- one row to a trade
 
 -- a trade posts at most once
-pub posted_once : (base : Base) (id : ℕ) → IsBooks base → IsShort (filter (is_posted_by id) (in_turn (postings_of base)))
+pub posted_once : (base : Base) (id : ℕ) → BooksInvariant base → IsShort (filter (is_posted_by id) (in_turn (postings_of base)))
 posted_once base id books =
     subst IsShort (sym (turn_filter (is_posted_by id) (postings_of base) ∙ ap in_turn by_trades ∙ short_turn own short)) short
   where
@@ -209,7 +209,7 @@ rows_own (r ∷ rows) h = by_trade r.trade refl (rows_own rows (λ id. shorter (
         λ i. not (unseen r id rows (subst (λ b. IsShort (cond b (r ∷ filter (is_cash_of id) rows) (filter (is_cash_of id) rows))) own (h id)) i) && ih i
 
 -- so it is of the cash rows of a base
-pub moves_own : (base : Base) → IsBooks base → all_distinct (trades_moved (numbered 1 (in_turn (postings_of base)))) ≡ true
+pub moves_own : (base : Base) → BooksInvariant base → all_distinct (trades_moved (numbered 1 (in_turn (postings_of base)))) ≡ true
 moves_own base books = rows_own (numbered 1 (in_turn (postings_of base))) (λ id. short_rows id 1 (in_turn (postings_of base)) (posted_once base id books))
 
 -- ---- upgraded rows
@@ -224,7 +224,7 @@ movements_of_rows : (t : Tables) → (base_of t).movements ≡ map movement_of_r
 unfolding base_of
 movements_of_rows t = refl
 
-pub posted : (schema : Schema) (t : Tables) → IsBooks (base_of t) → sheets_at schema (base_of t) ≡ t → IsPosted t
+pub posted : (schema : Schema) (t : Tables) → BooksInvariant (base_of t) → sheets_at schema (base_of t) ≡ t → IsPosted t
 posted schema t books e = by_schema schema.has_moves refl
   where
     base : Base

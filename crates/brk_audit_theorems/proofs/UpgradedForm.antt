@@ -20,7 +20,7 @@ use Rattle.brk_model.specs.Form.{band_form, cash_form, has_account, has_broker, 
 use Rattle.brk_model.specs.Forms.{is_exchange}
 use Rattle.brk_model.specs.Upgraded.{upgraded}
 use Rattle.brk_model.specs.Names.{NumberedFrom}
-use Rattle.brk_book_theorems.specs.Books.{IsBooks}
+use Rattle.brk_book_theorems.specs.Books.{BooksInvariant}
 use Rattle.brk_book_theorems.proofs.LotReading.{All-sort}
 use Rattle.brk_book_theorems.proofs.MoveReading.{moves_counted}
 use Rattle.brk_book_theorems.proofs.Postings.{length_sort}
@@ -164,7 +164,7 @@ few_postings base numbers ids counted =
     few : (a b c d e f g h : ℕ) → a ≡ b → b ≡ c + g → c ≡ d → g ≡ h → d ≤ e → e ≤ f → 1 + f ≤ greatest_id + 1 → h ≤ greatest_id → 1 + a ≤ greatest_move_id + 1
     few a b c d e f g h p q r s t u v w = omega (arith, p, q, r, s, t, u, v, w)
 
-few_rows : (schema : Schema) (t : Tables) → FormParts schema t → IsBooks (base_of t) → IsPosted t → 1 + length (in_turn (postings_in t)) ≤ greatest_move_id + 1
+few_rows : (schema : Schema) (t : Tables) → FormParts schema t → BooksInvariant (base_of t) → IsPosted t → 1 + length (in_turn (postings_in t)) ≤ greatest_move_id + 1
 few_rows schema t p books posted =
     let counted = leb-true (length (filter (λ r. is_none r.trade) t.moves)) greatest_id p.counted in
     subst (λ ps. 1 + length ps ≤ greatest_move_id + 1) (sym posted.turned)
@@ -233,7 +233,7 @@ joined schema t w p rows own counted = record {
   fits = refl;
 }
 
-pub upgraded_form : (schema : Schema) (t : Tables) → IsNarrower schema → has_form schema t ≡ true → IsBooks (base_of t) → IsPosted t → upgraded t ≡ sheets (base_of t) → has_form third_schema (upgraded t) ≡ true
+pub upgraded_form : (schema : Schema) (t : Tables) → IsNarrower schema → has_form schema t ≡ true → BooksInvariant (base_of t) → IsPosted t → upgraded t ≡ sheets (base_of t) → has_form third_schema (upgraded t) ≡ true
 upgraded_form schema t w f books posted e =
     let p : FormParts schema t = form_parts schema t f in
     let all : List Posting = in_turn (postings_in t) in

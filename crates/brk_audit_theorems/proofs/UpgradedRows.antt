@@ -9,10 +9,10 @@ use Rattle.brk_model.specs.Schemas.{Schema, first_schema, second_schema, third_s
 use Rattle.brk_model.specs.Tables.{Tables}
 use Rattle.brk_model.specs.Sheets.{sheets, sheets_at}
 use Rattle.brk_model.specs.Adopted.{base_of, movement_of_row}
-use Rattle.brk_model.specs.Audit.{Holds}
+use Rattle.brk_model.specs.Audit.{ConditionHolds}
 use Rattle.brk_model.specs.Upgraded.{upgraded, upgraded_from}
 use Rattle.brk_model.specs.Ways.{completion_stamps, has_status_rows, movement_stamps, trade_status}
-use Rattle.brk_book_theorems.specs.Books.{IsBooks}
+use Rattle.brk_book_theorems.specs.Books.{BooksInvariant}
 use Rattle.brk_audit_theorems.specs.Upgrade.{AreUpgradedRows, IsNarrower}
 use Rattle.brk_audit_theorems.specs.Passing.{Passes}
 use Rattle.brk_audit_theorems.proofs.AdoptedBooks.{adopted_books}
@@ -41,14 +41,14 @@ unfolding has_status_rows
 status_upgraded t e h =
     (λ i. (same_statuses t).0 i && all_distinct ((same_statuses t).1 i ++ (stamps_of_base (upgraded t) ∙ ap (λ b. map (λ m. m.stamp) b.movements) e ∙ sym (stamps_of_base t)) i)) ∙ h
 
-form_and_status : (schema : Schema) (t : Tables) → Passes schema t → Holds schema condition.Form t × Holds schema condition.Status t
+form_and_status : (schema : Schema) (t : Tables) → Passes schema t → ConditionHolds schema condition.Form t × ConditionHolds schema condition.Status t
 form_and_status schema t p = let h = all_hold schema t p in (h.form, h.status)
 
 pub upgraded_rows : (schema : Schema) (t : Tables) → IsNarrower schema → Passes schema t → AreUpgradedRows t
-unfolding Holds
+unfolding ConditionHolds
 upgraded_rows schema t w p =
     let h = form_and_status schema t p in
-    let books : IsBooks (base_of t) = adopted_books schema t h.0 h.1 in
+    let books : BooksInvariant (base_of t) = adopted_books schema t h.0 h.1 in
     let e : sheets_at schema (base_of t) ≡ t = passing_tables schema t p in
     let all : IsPosted t = posted schema t books e in
     let tables : upgraded t ≡ sheets (base_of t) = upgraded_tables schema t e all in
@@ -61,10 +61,10 @@ upgraded_rows schema t w p =
 
 -- the same whatever schema they pass
 pub rows_upgraded_from : (schema : Schema) (t : Tables) → Passes schema t → (upgraded_from schema t ≡ upgraded t) × (upgraded t ≡ sheets (base_of t))
-unfolding Holds
+unfolding ConditionHolds
 rows_upgraded_from schema t p =
     let h = form_and_status schema t p in
-    let books : IsBooks (base_of t) = adopted_books schema t h.0 h.1 in
+    let books : BooksInvariant (base_of t) = adopted_books schema t h.0 h.1 in
     let e : sheets_at schema (base_of t) ≡ t = passing_tables schema t p in
     let all : IsPosted t = posted schema t books e in
     (upgraded_from_upgraded schema t e all, upgraded_tables schema t e all)

@@ -11,18 +11,18 @@ abbrev pub StampsRise : Trade → Type 0
 StampsRise t = is_rising (map (λ m. m.stamp) t.marks) ≡ true
 
 -- a trade's statuses go a way
-abbrev pub GoesAWay : Trade → Type 0
-GoesAWay t = is_way (map (λ m. m.status) t.marks) ≡ true
+abbrev pub HasValidTransitions : Trade → Type 0
+HasValidTransitions t = is_way (map (λ m. m.status) t.marks) ≡ true
 
 -- a trade has words just where it has the rows of a completion
-pub record HasItsWords (t : Trade) : Type 0 where
+pub record HasNoStrayTexts (t : Trade) : Type 0 where
   pub settled : is_completed t ≡ false → t.cash_type ≡ []
   pub moved : is_completed t && t.is_cash ≡ false → t.cash_name ≡ []
 
-pub record IsTold (base : Base) : Type 0 where
+pub record HasValidHistories (base : Base) : Type 0 where
   pub stamps : AllByRecursion StampsRise base.trades
-  pub ways : AllByRecursion GoesAWay base.trades
-  pub words : AllByRecursion HasItsWords base.trades
+  pub ways : AllByRecursion HasValidTransitions base.trades
+  pub words : AllByRecursion HasNoStrayTexts base.trades
   pub movements : is_rising (map (λ m. m.stamp) base.movements) ≡ true
 
 -- the keys of records that have rows of their own

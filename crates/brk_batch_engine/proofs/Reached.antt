@@ -9,8 +9,8 @@ use Rattle.brk_model.specs.Answers.{Fields, InTurn, RowStep, calls_of, formed_fr
 use Rattle.brk_model.specs.Commands.{Answer}
 use Rattle.brk_model.specs.Forms.{Read}
 use Rattle.brk_model.specs.Input.{IsEnd, IsName, header_of}
-use Rattle.brk_batch_engine.specs.Answers.{AnsweredBy, Keeps, StandsBy, scripted}
-use Rattle.brk_batch_engine.specs.Batch.{BatchGives, Comes, LeavesAt}
+use Rattle.brk_batch_engine.specs.Answers.{AnsweredBy, Keeps, RepresentsDurably, scripted}
+use Rattle.brk_batch_engine.specs.Batch.{BatchGives, BatchPost, LeavesAt}
 use Rattle.brk_io.specs.Span.{Outside, Span, with_base}
 use Rattle.brk_batch_engine.specs.Counts.{counted, counts_of}
 use Rattle.brk_io.specs.declared.batch_fault.BatchFault.{BatchFault}
@@ -138,13 +138,13 @@ alone_at form step gives leaves text span last (Err fault) alone = inl alone
 
 -- what holds by all steps, over all bases that they lead from and to, is what the batch comes to
 pub comes : {D S X C R : Type 0} (honest : D → Type 0) (stands : D → S → Type 0) (leaves : D → S → S → Type 0) (form : Fields → Read X) (step : RowStep S X) (gives : C → ℕ → C → Type 0)
-    (rem : R → Option Text) (first : D) (head : Head C R) (desk : D) (place : Place C R) (r : Reached honest (StandsBy stands leaves) form step gives rem first head desk place)
+    (rem : R → Option Text) (first : D) (head : Head C R) (desk : D) (place : Place C R) (r : Reached honest (RepresentsDurably stands leaves) form step gives rem first head desk place)
     (last : D) (text : Option Text) (outside : Outside C) (result : Result Counts BatchFault) → (honest last → honest desk) → Keeps honest stands desk last
     → ((T : Type 0) (other : RowStep T X) (base after : T) → InTurn other base (calls_of head.name r.answered.moments (formed_from form 1 r.rows)) r.answered.replies after
     → BatchGives form other gives text (with_base base after outside) result)
     → (honest last → (base after : S) → InTurn step base (calls_of head.name r.answered.moments (formed_from form 1 r.rows)) r.answered.replies after → stands desk after → leaves desk after after
     → LeavesAt form step gives leaves text (with_base base after outside) last result)
-    → Comes honest stands leaves form step gives text first last outside result
+    → BatchPost honest stands leaves form step gives text first last outside result
 comes {S = S} honest stands leaves form step gives rem first head desk place r last text outside result earlier keeps so stops = record {
   told = (
     r.answered.replies,
@@ -163,7 +163,7 @@ comes {S = S} honest stands leaves form step gives rem first head desk place r l
 pub comes_at_once : {D S X C : Type 0} (honest : D → Type 0) (stands : D → S → Type 0) (leaves : D → S → S → Type 0) (form : Fields → Read X) (step : RowStep S X) (gives : C → ℕ → C → Type 0)
     (desk : D) (text : Option Text) (outside : Outside C) (result : Result Counts BatchFault)
     → ((T : Type 0) (other : RowStep T X) (base : T) → BatchGives form other gives text (with_base base base outside) result)
-    → Comes honest stands leaves form step gives text desk desk outside result
+    → BatchPost honest stands leaves form step gives text desk desk outside result
 comes_at_once {S = S} honest stands leaves form step gives desk text outside result so = record {
   told = ([], so (List Answer) scripted []);
   kept = λ good base stood. (base, stood, so S step base);

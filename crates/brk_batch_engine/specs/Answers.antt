@@ -30,9 +30,9 @@ abbrev pub Keeps : {D S : Type 0} → (D → Type 0) → (D → S → Type 0) �
 Keeps {S = S} honest stands old new = honest new → (base : S) → stands old base → stands new base
 
 -- what is kept is that of this base, and where it is asked for a stop leaves that alone
-abbrev pub StandsBy : {D S : Type 0} → (D → S → Type 0) → (D → S → S → Type 0) → Bool → D → S → Type 0
-StandsBy stands leaves false desk base = stands desk base
-StandsBy stands leaves true desk base = stands desk base × leaves desk base base
+abbrev pub RepresentsDurably : {D S : Type 0} → (D → S → Type 0) → (D → S → S → Type 0) → Bool → D → S → Type 0
+RepresentsDurably stands leaves false desk base = stands desk base
+RepresentsDurably stands leaves true desk base = stands desk base × leaves desk base base
 
 -- a command with a key was not answered: a stop leaves each base that the desk stood for, or the one after the command
 abbrev pub MayAct : {D S X : Type 0} → (D → Type 0) → (D → S → Type 0) → (D → S → S → Type 0) → RowStep S X → D → D → ℕ → X → Key → Type 0

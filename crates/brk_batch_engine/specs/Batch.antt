@@ -101,8 +101,8 @@ abbrev pub TellsAnswers : {X C : Type 0} → (Fields → Read X) → (C → ℕ 
 TellsAnswers form gives text outside result = (script : List Answer) × BatchGives form scripted gives text (with_base script [] outside) result
 
 -- where the desk is honest, over each base that it stood for, the batch is answered by the steps, and the desk stands for the base after them
-abbrev pub KeepsBooks : {D S X C : Type 0} → (D → Type 0) → (D → S → Type 0) → (Fields → Read X) → RowStep S X → (C → ℕ → C → Type 0) → Option Text → D → D → Outside C → Result Counts BatchFault → Type 0
-KeepsBooks {S = S} honest stands form step gives text first last outside result =
+abbrev pub RefinesModel : {D S X C : Type 0} → (D → Type 0) → (D → S → Type 0) → (Fields → Read X) → RowStep S X → (C → ℕ → C → Type 0) → Option Text → D → D → Outside C → Result Counts BatchFault → Type 0
+RefinesModel {S = S} honest stands form step gives text first last outside result =
     honest last → (base : S) → stands first base → (after : S) × stands last after × BatchGives form step gives text (with_base base after outside) result
 
 -- the row after those that were answered had its moment and was not answered: a stop leaves the base before it, or the one after its command
@@ -126,14 +126,14 @@ LeavesAt form step gives leaves text span last (Ok counts) = leaves last span.af
 LeavesAt form step gives leaves text span last (Err fault) = leaves last span.after span.after ⊎ IsUnderWay form step gives leaves text span last fault
 
 -- where a stop before the batch leaves a base alone that the desk stood for, one after it leaves the base after its rows, and perhaps that after the row that was under way
-abbrev pub LeavesBooks : {D S X C : Type 0} → (D → Type 0) → (D → S → Type 0) → (D → S → S → Type 0) → (Fields → Read X) → RowStep S X → (C → ℕ → C → Type 0) → Option Text → D → D → Outside C → Result Counts BatchFault → Type 0
-LeavesBooks {S = S} honest stands leaves form step gives text first last outside result =
+abbrev pub CrashStates : {D S X C : Type 0} → (D → Type 0) → (D → S → Type 0) → (D → S → S → Type 0) → (Fields → Read X) → RowStep S X → (C → ℕ → C → Type 0) → Option Text → D → D → Outside C → Result Counts BatchFault → Type 0
+CrashStates {S = S} honest stands leaves form step gives text first last outside result =
     honest last → (base : S) → stands first base → leaves first base base → (after : S) × stands last after
     × BatchGives form step gives text (with_base base after outside) result × LeavesAt form step gives leaves text (with_base base after outside) last result
 
 -- what a run of a batch comes to, each way
-pub record Comes {D S X C : Type 0} (honest : D → Type 0) (stands : D → S → Type 0) (leaves : D → S → S → Type 0) (form : Fields → Read X) (step : RowStep S X) (gives : C → ℕ → C → Type 0)
+pub record BatchPost {D S X C : Type 0} (honest : D → Type 0) (stands : D → S → Type 0) (leaves : D → S → S → Type 0) (form : Fields → Read X) (step : RowStep S X) (gives : C → ℕ → C → Type 0)
     (text : Option Text) (first last : D) (outside : Outside C) (result : Result Counts BatchFault) : Type 0 where
   pub told : TellsAnswers form gives text outside result
-  pub kept : KeepsBooks honest stands form step gives text first last outside result
-  pub left : LeavesBooks honest stands leaves form step gives text first last outside result
+  pub kept : RefinesModel honest stands form step gives text first last outside result
+  pub left : CrashStates honest stands leaves form step gives text first last outside result

@@ -1,7 +1,7 @@
 ghost use Rattle.std.specs.Prelude.{◌≤◌, IfErr, IfOk, OnErr};
 ghost use Rattle.csv.specs.Records.{fields_of};
 ghost use Rattle.brk_model.specs.Run.{MayFail};
-ghost use Rattle.brk_batch_engine.specs.Answers.{AnsweredBy, Keeps, MayActBy, StandsBy, answer_of};
+ghost use Rattle.brk_batch_engine.specs.Answers.{AnsweredBy, Keeps, MayActBy, RepresentsDurably, answer_of};
 ghost use Rattle.brk_io.specs.Moments.{AskedOnce};
 
 use crate::records::fields_list;
@@ -36,7 +36,7 @@ pub fn answer_row<C: Clock, D: Rows>(
     requires last { n ≤ 67108864 }
     ensures leads { D.leads desk.old desk.new }
     ensures earlier { D.honest desk.new → D.honest desk.old }
-    ensures ok { IfOk result (λ answer. AnsweredBy D.honest (StandsBy D.stands D.leaves) D.step C.gives (D.form (fields_of row.now)) batch.now n
+    ensures ok { IfOk result (λ answer. AnsweredBy D.honest (RepresentsDurably D.stands D.leaves) D.step C.gives (D.form (fields_of row.now)) batch.now n
         (answer_of D.told answer) desk.old desk.new clock.old clock.new) }
     ensures kept { OnErr result (Keeps D.honest D.stands desk.old desk.new) }
     ensures stop { OnErr result (MayActBy D.honest D.stands D.leaves D.step C.gives (D.form (fields_of row.now)) batch.now n desk.old desk.new clock.old clock.new) }

@@ -6,7 +6,7 @@ ghost use Rattle.brk_model.specs.Forms.{Read};
 ghost use Rattle.brk_model.specs.Rows.{line_text};
 ghost use Rattle.brk_model.specs.Run.{MayFail};
 ghost use Rattle.brk_ref.specs.Fields.{Reads, texts};
-ghost use Rattle.brk_batch_engine.specs.Answers.{Acts, Keeps, MayAct, StandsBy, answer_of};
+ghost use Rattle.brk_batch_engine.specs.Answers.{Acts, Keeps, MayAct, RepresentsDurably, answer_of};
 
 use crate::answer::RowAnswer;
 use brk_money::{Fault, Planned, Stamp};
@@ -71,7 +71,7 @@ pub trait Rows {
         ensures leads { leads desk.old desk.new }
         ensures earlier { honest desk.new → honest desk.old }
         ensures ok { IfOk result (λ answer. (sure : Bool) →
-            Acts honest (StandsBy stands leaves sure) step desk.old desk.new now (asked command.now) (record { batch = batch.now; row = n }) (answer_of told answer)) }
+            Acts honest (RepresentsDurably stands leaves sure) step desk.old desk.new now (asked command.now) (record { batch = batch.now; row = n }) (answer_of told answer)) }
         ensures err { OnErr result (Keeps honest stands desk.old desk.new) }
         ensures stop { OnErr result (MayAct honest stands leaves step desk.old desk.new now (asked command.now) (record { batch = batch.now; row = n })) }
         ensures fault { IfErr result MayFail };

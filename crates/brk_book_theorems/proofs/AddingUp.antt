@@ -15,12 +15,12 @@ use Rattle.brk_model.specs.Base.{Base, account_with, completed, is_completed, se
 use Rattle.brk_model.specs.Derived.{balance_of, commissions_of, of_broker, postings_of, summary_of, trade_count_of}
 use Rattle.brk_model.specs.Keys.{account_key, broker_key, number, row_before, summary_key}
 use Rattle.brk_model.specs.Lists.{insert_by, is_zero, sort_by, total_by}
-use Rattle.brk_model.specs.Names.{KnowsAccount, KnowsSecurity}
+use Rattle.brk_model.specs.Names.{AccountExists, SecurityExists}
 use Rattle.brk_model.specs.Records.{Account, Broker}
 use Rattle.brk_model.specs.Sheets.{sheets, sheets_of}
 use Rattle.brk_model.specs.Tables.{AccountRow, BrokerRow, HoldingRow, SummaryRow, account_row, broker_row, holding_row, summary_rows, tables_at, trade_row}
-use Rattle.brk_book_theorems.specs.Books.{DistinctAccounts, IsBooks}
-use Rattle.brk_book_theorems.specs.Sums.{AddUp, IsBalance, IsBrokerSum, IsSummary, IsSummed, held_in, is_lot_of}
+use Rattle.brk_book_theorems.specs.Books.{DistinctAccounts, BooksInvariant}
+use Rattle.brk_book_theorems.specs.Sums.{SumsMatch, IsBalance, IsBrokerSum, IsSummary, IsSummed, held_in, is_lot_of}
 use Rattle.brk_book_theorems.specs.TradeReads.{lots_in, position_in, row_lot}
 use Rattle.brk_book_theorems.proofs.Bools.{numbers_back}
 use Rattle.brk_book_theorems.proofs.Holding.{total_is}
@@ -36,7 +36,7 @@ use Rattle.brk_book_theorems.proofs.Worth.{total-sorted}
 
 -- ---- brokers
 
-broker_adds : (base : Base) → IsBooks base → (b : Broker) → IsBrokerSum (sheets base) (broker_row base.accounts (completed base) b)
+broker_adds : (base : Base) → BooksInvariant base → (b : Broker) → IsBrokerSum (sheets base) (broker_row base.accounts (completed base) b)
 unfolding trade_count_of commissions_of
 broker_adds base books b = record {
   trades = ap pos (sym (ap length (broker_trades base b.id books) ∙ length-map trade_row (of_broker base.accounts (completed base) b.id)));
@@ -47,7 +47,7 @@ brokers_are : (base : Base) → (sheets base).brokers ≡ sort_by (row_before br
 unfolding tables_at sheets_of
 brokers_are base = refl
 
-brokers_add : (base : Base) → IsBooks base → AllByRecursion (IsBrokerSum (sheets base)) (sheets base).brokers
+brokers_add : (base : Base) → BooksInvariant base → AllByRecursion (IsBrokerSum (sheets base)) (sheets base).brokers
 brokers_add base books =
     let rows : List BrokerRow = map (broker_row base.accounts (completed base)) base.brokers in
     subst (AllByRecursion (IsBrokerSum (sheets base))) (sym (brokers_are base))
@@ -69,7 +69,7 @@ accounts_found (a ∷ accounts) d = (
     behind [] h k = tt
     behind (b ∷ bs) h k = (ap (λ x. cond x (Some a) (find (λ c. c.id == b.id) accounts)) (numbers_back a.id b.id ∙ h.0) ∙ k.0, behind bs h.1 k.1)
 
-balance_adds : (base : Base) → IsBooks base → (a : Account) → account_with base a.id ≡ Some a → IsBalance (sheets base) (account_row base.accounts (postings_of base) a)
+balance_adds : (base : Base) → BooksInvariant base → (a : Account) → account_with base a.id ≡ Some a → IsBalance (sheets base) (account_row base.accounts (postings_of base) a)
 unfolding balance_of
 balance_adds base books a e = λ i. option_map_or (λ a. a.opening) (e i) (pos 0) +ℤ sym (cash_moves base a.id) i
 
@@ -77,7 +77,7 @@ accounts_are : (base : Base) → (sheets base).accounts ≡ sort_by (row_before 
 unfolding tables_at sheets_of
 accounts_are base = refl
 
-balances_add : (base : Base) → IsBooks base → AllByRecursion (IsBalance (sheets base)) (sheets base).accounts
+balances_add : (base : Base) → BooksInvariant base → AllByRecursion (IsBalance (sheets base)) (sheets base).accounts
 balances_add base books =
     let rows : List AccountRow = map (account_row base.accounts (postings_of base)) base.accounts in
     subst (AllByRecursion (IsBalance (sheets base))) (sym (accounts_are base))
@@ -93,7 +93,7 @@ lots_held base account symbol =
     total-map (λ l. l.qty) row_lot (lots_in (sheets base) account symbol)
     ∙ total-sorted (λ r. number r.stamp ∷ number r.trade ∷ []) (λ h. h.qty) own
 
-pub held_is : (base : Base) (account : ℕ) (symbol : Text) → IsBooks base → held_in (sheets base) account symbol ≡ summary_of (completed base) account symbol
+pub held_is : (base : Base) (account : ℕ) (symbol : Text) → BooksInvariant base → held_in (sheets base) account symbol ≡ summary_of (completed base) account symbol
 held_is base account symbol books =
     sym (lots_held base account symbol) ∙ total_is base account symbol books
 
@@ -102,7 +102,7 @@ held_is base account symbol books =
 not_zero : (q : ℤ) → is_zero q ≡ false → q ≢ pos 0
 not_zero q e k = let h : true ≡ false = sym (ap is_zero k) ∙ e in absurd (cc)
 
-summary_adds : (base : Base) → IsBooks base → (account : ℕ) (symbol : Text) → AllByRecursion (IsSummary (sheets base)) (summary_rows (completed base) account symbol)
+summary_adds : (base : Base) → BooksInvariant base → (account : ℕ) (symbol : Text) → AllByRecursion (IsSummary (sheets base)) (summary_rows (completed base) account symbol)
 summary_adds base books account symbol = by_test (is_zero (summary_of (completed base) account symbol)) refl
   where
     row : SummaryRow
@@ -120,7 +120,7 @@ summaries_are : (base : Base) → (sheets base).summaries ≡ sort_by (row_befor
 unfolding tables_at sheets_of
 summaries_are base = refl
 
-summaries_add : (base : Base) → IsBooks base → AllByRecursion (IsSummary (sheets base)) (sheets base).summaries
+summaries_add : (base : Base) → BooksInvariant base → AllByRecursion (IsSummary (sheets base)) (sheets base).summaries
 summaries_add base books =
     let P : SummaryRow → Type 0 = IsSummary (sheets base) in
     subst (AllByRecursion P) (sym (summaries_are base))
@@ -204,15 +204,15 @@ of_itself h = and_both (h.account == h.account) (bytes_eq h.symbol h.symbol) (eq
 abbrev IsKnown : Base → HoldingRow → Type 0
 IsKnown base h = (is_some (account_with base h.account) ≡ true) × (is_some (security_with base h.symbol) ≡ true)
 
-lots_known : (base : Base) → IsBooks base → AllByRecursion (IsKnown base) (sheets base).holdings
+lots_known : (base : Base) → BooksInvariant base → AllByRecursion (IsKnown base) (sheets base).holdings
 lots_known base books =
     subst (AllByRecursion (IsKnown base)) (sym (holdings_in_order base books.numbered))
     (All-filter (IsKnown base) is_left (map (holding_row (completed base)) (completed base))
     (All-mapped (IsKnown base) (holding_row (completed base)) (completed base)
-    (All-filter (λ t. KnowsAccount base t × KnowsSecurity base t) is_completed base.trades
-    (All-both (KnowsAccount base) (KnowsSecurity base) base.trades books.accounts books.securities))))
+    (All-filter (λ t. AccountExists base t × SecurityExists base t) is_completed base.trades
+    (All-both (AccountExists base) (SecurityExists base) base.trades books.accounts books.securities))))
 
-nothing_held : (base : Base) (account : ℕ) (symbol : Text) → IsBooks base → held_in (sheets base) account symbol ≡ pos 0 → filter (is_lot_of account symbol) (sheets base).holdings ≡ []
+nothing_held : (base : Base) (account : ℕ) (symbol : Text) → BooksInvariant base → held_in (sheets base) account symbol ≡ pos 0 → filter (is_lot_of account symbol) (sheets base).holdings ≡ []
 nothing_held base account symbol books e =
     let position : position_in (sheets base) account symbol ≡ [] =
     no_lots (position_in (sheets base) account symbol) (position_read base account symbol books) (lots_held base account symbol ∙ e) in
@@ -223,7 +223,7 @@ zero_is (pos zero) e = refl
 zero_is (pos (suc n)) e = absurd (cc)
 zero_is (negsuc n) e = absurd (cc)
 
-lot_summed : (base : Base) → IsBooks base → (h : HoldingRow) → IsKnown base h × (filter (is_lot_of h.account h.symbol) (sheets base).holdings ≡ [] → ⊥) → IsSummed (sheets base) h
+lot_summed : (base : Base) → BooksInvariant base → (h : HoldingRow) → IsKnown base h × (filter (is_lot_of h.account h.symbol) (sheets base).holdings ≡ [] → ⊥) → IsSummed (sheets base) h
 lot_summed base books h k = by_test (is_zero (summary_of (completed base) h.account h.symbol)) refl
   where
     by_test : (b : Bool) → is_zero (summary_of (completed base) h.account h.symbol) ≡ b → IsSummed (sheets base) h
@@ -234,7 +234,7 @@ lot_summed base books h k = by_test (is_zero (summary_of (completed base) h.acco
         ap is_some (reads_summary_row base h.account h.symbol books k.0.0 k.0.1)
         ∙ ap (λ b. is_some (cond b None (Some (let row : SummaryRow = record { account = h.account; symbol = h.symbol; qty = summary_of (completed base) h.account h.symbol } in row)))) e
 
-all_summed : (base : Base) → IsBooks base → AllByRecursion (IsSummed (sheets base)) (sheets base).holdings
+all_summed : (base : Base) → BooksInvariant base → AllByRecursion (IsSummed (sheets base)) (sheets base).holdings
 all_summed base books =
     let rows : List HoldingRow = (sheets base).holdings in
     All-map rows (lot_summed base books)
@@ -243,7 +243,7 @@ all_summed base books =
 
 -- ---- all of it
 
-pub sums_add_up : (base : Base) → IsBooks base → AddUp (sheets base)
+pub sums_add_up : (base : Base) → BooksInvariant base → SumsMatch (sheets base)
 sums_add_up base books = record {
   brokers = brokers_add base books;
   balances = balances_add base books;

@@ -15,7 +15,7 @@ use Rattle.brk_model.specs.Keys.{KeyPart, row_before, by_key, band_key}
 use Rattle.brk_model.specs.Sheets.{sheets, sheets_of}
 use Rattle.brk_model.specs.Tables.{tables_at}
 use Rattle.brk_model.specs.Tests.{bands_meet}
-use Rattle.brk_book_theorems.specs.Books.{IsBooks, BandsApart}
+use Rattle.brk_book_theorems.specs.Books.{BooksInvariant, BandsApart}
 use Rattle.brk_book_theorems.specs.TradeReads.{band_in}
 use Rattle.brk_book_theorems.proofs.Same.{NonePass, All-map, any-none}
 use Rattle.brk_book_theorems.proofs.Reading.{any-sorted}
@@ -113,7 +113,7 @@ only_band tier kind exchange qty (b ∷ bs) h = (
     other c apart e false g = g
     other c apart e true g = absurd (not_both (bands_meet b c) (both_meet tier kind exchange qty b c e g) apart)
 
-pub reads_band : (base : Base) (tier : ℕ) (kind : TradeType) (exchange : Text) (qty : ℕ) → IsBooks base → band_in (sheets base) tier kind exchange qty ≡ band_with base tier kind exchange qty
+pub reads_band : (base : Base) (tier : ℕ) (kind : TradeType) (exchange : Text) (qty : ℕ) → BooksInvariant base → band_in (sheets base) tier kind exchange qty ≡ band_with base tier kind exchange qty
 unfolding tables_at sheets_of
 reads_band base tier kind exchange qty books =
     find-filter (λ r. (r.tier == tier) && same_type r.kind kind && bytes_eq r.exchange exchange) (λ r. nat_le r.from_qty qty && nat_le qty r.to_qty) (by_key band_key base.bands)

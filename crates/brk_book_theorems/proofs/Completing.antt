@@ -9,7 +9,7 @@ use Rattle.brk_model.specs.Records.{Trade}
 use Rattle.brk_model.specs.Base.{Base, completed}
 use Rattle.brk_model.specs.Derived.{deal_of, deals_in, of_position, shares_in}
 use Rattle.brk_model.specs.Shares.{Share, shares_after}
-use Rattle.brk_book_theorems.specs.Books.{IsBooks}
+use Rattle.brk_book_theorems.specs.Books.{BooksInvariant}
 use Rattle.brk_book_theorems.proofs.Bools.{numbers_back, same_text, texts_back}
 use Rattle.brk_book_theorems.proofs.NewKeys.{and_both, both}
 use Rattle.brk_book_theorems.proofs.Same.{NonePass, All-map}
@@ -18,7 +18,7 @@ use Rattle.brk_book_theorems.proofs.LotReading.{IdsApart, filter-both}
 
 -- a trade is completed among those that are, and after all of them
 pub record Completes (base : Base) (xs : List Trade) (t : Trade) (ys : List Trade) : Type 0 where
-  pub books : IsBooks base
+  pub books : BooksInvariant base
   pub split : completed base ≡ xs ++ ys
   pub last : IsLast t (completed base)
   pub fresh : NonePass (λ u. u.id == t.id) (completed base)

@@ -9,7 +9,7 @@ use Rattle.brk_money.specs.Moments.{last_stamp}
 use Rattle.brk_money.specs.declared.status.Status.{Status}
 use Rattle.brk_money.specs.declared.status.Status.TheVariants.{Completed, Active, Submitted, Pending, Canceled}
 use Rattle.brk_model.specs.Lists.{update_where}
-use Rattle.brk_model.specs.Records.{Mark, Trade}
+use Rattle.brk_model.specs.Records.{StatusChange, Trade}
 use Rattle.brk_model.specs.Base.{Base, completed, has_status, is_completed, marked, trade_with}
 use Rattle.brk_model.specs.Commands.{Tick}
 use Rattle.brk_model.specs.Feed.{is_triggered, triggers, with_tick, with_ticks}
@@ -66,7 +66,7 @@ waiting_mark Canceled e = refl
 pub moved_to_market : (stamp : ℕ) (t : Trade) → WaitsFirst t → has_status Pending t ≡ true → CompletesFirst (marked stamp Submitted t)
 moved_to_market stamp t w p s = All-append IsNoCompletion t.marks (record { stamp = stamp; status = Submitted } ∷ []) (one t.marks refl (w p)) (refl, tt)
   where
-    one : (marks : List Mark) → t.marks ≡ marks → IsOne marks → AllByRecursion IsNoCompletion t.marks
+    one : (marks : List StatusChange) → t.marks ≡ marks → IsOne marks → AllByRecursion IsNoCompletion t.marks
     one [] e o = absurd o
     one (m ∷ n ∷ ms) e o = absurd o
     one (m ∷ []) e o =
@@ -74,7 +74,7 @@ moved_to_market stamp t w p s = All-append IsNoCompletion t.marks (record { stam
         rw e (waiting_mark m.status q, tt)
 
 -- a new trade, with one status
-pub first_mark : (t : Trade) (m : Mark) → t.marks ≡ m ∷ [] → same_status m.status Completed ≡ false → CompletesFirst t
+pub first_mark : (t : Trade) (m : StatusChange) → t.marks ≡ m ∷ [] → same_status m.status Completed ≡ false → CompletesFirst t
 first_mark t m e s p = rw e (s, tt)
 
 -- ---- a cancel

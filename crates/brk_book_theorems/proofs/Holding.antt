@@ -16,7 +16,7 @@ use Rattle.brk_model.specs.Sheets.{sheets}
 use Rattle.brk_model.specs.Tables.{SummaryRow}
 use Rattle.brk_money.specs.Kinds.{side_of}
 use Rattle.brk_money.specs.Spelling.{Text}
-use Rattle.brk_book_theorems.specs.Books.{IsBooks}
+use Rattle.brk_book_theorems.specs.Books.{BooksInvariant}
 use Rattle.brk_book_theorems.specs.OrderReads.{GivesLots}
 use Rattle.brk_book_theorems.specs.TradeReads.{position_in, summary_held, summary_in}
 use Rattle.brk_book_theorems.proofs.LotOrder.{position_read, shares_read}
@@ -24,7 +24,7 @@ use Rattle.brk_book_theorems.proofs.SumReading.{total-map}
 use Rattle.brk_book_theorems.proofs.Summaries.{reads_held}
 use Rattle.brk_book_theorems.proofs.Worth.{total-insert}
 
-pub lots_given : (base : Base) (account : ℕ) (symbol : Text) (lifo : Bool) (given : List Lot → Type 0) → IsBooks base → GivesLots (sheets base) account symbol lifo given
+pub lots_given : (base : Base) (account : ℕ) (symbol : Text) (lifo : Bool) (given : List Lot → Type 0) → BooksInvariant base → GivesLots (sheets base) account symbol lifo given
     → AreGiven given lifo (position_in (sheets base) account symbol)
 lots_given base account symbol lifo given books k = (k, walk_of (position_in (sheets base) account symbol) (position_read base account symbol books))
 
@@ -42,12 +42,12 @@ deals_summed done account symbol =
     total-map (λ d. signed d.side d.qty) deal_of (sort_by_key moment_of (of_position done account symbol))
     ∙ total-sort (λ t. signed (side_of t.kind) t.qty) _ (of_position done account symbol)
 
-shares_spelled : (base : Base) (account : ℕ) (symbol : Text) → IsBooks base → shares_of (position_in (sheets base) account symbol) ≡ replay (deals_in (completed base) account symbol)
+shares_spelled : (base : Base) (account : ℕ) (symbol : Text) → BooksInvariant base → shares_of (position_in (sheets base) account symbol) ≡ replay (deals_in (completed base) account symbol)
 unfolding shares_in
 shares_spelled base account symbol books = shares_read base account symbol books
 
 -- the lots add up to the trades
-pub total_is : (base : Base) (account : ℕ) (symbol : Text) → IsBooks base → lots_total (position_in (sheets base) account symbol) ≡ summary_of (completed base) account symbol
+pub total_is : (base : Base) (account : ℕ) (symbol : Text) → BooksInvariant base → lots_total (position_in (sheets base) account symbol) ≡ summary_of (completed base) account symbol
 total_is base account symbol books =
     quantities_add_up (deals_in (completed base) account symbol) (position_in (sheets base) account symbol) (shares_spelled base account symbol books)
     ∙ deals_summed (completed base) account symbol
@@ -57,7 +57,7 @@ number_or : (o : Option SummaryRow) → unwrap_or (option_map (λ r. r.qty) o) (
 number_or None = refl
 number_or (Some r) = refl
 
-pub held_read : (base : Base) (account : ℕ) (symbol : Text) (held : Option ℤ) → IsBooks base → is_some (account_with base account) ≡ true → is_some (security_with base symbol) ≡ true
+pub held_read : (base : Base) (account : ℕ) (symbol : Text) (held : Option ℤ) → BooksInvariant base → is_some (account_with base account) ≡ true → is_some (security_with base symbol) ≡ true
     → held ≡ option_map (λ r. r.qty) (summary_in (sheets base) account symbol) → unwrap_or held (pos 0) ≡ summary_of (completed base) account symbol
 held_read base account symbol held books a s e =
     ap (λ o. unwrap_or o (pos 0)) e ∙ number_or (summary_in (sheets base) account symbol) ∙ reads_held base account symbol books a s

@@ -20,7 +20,7 @@ use Rattle.brk_lots.proofs.Counts.{all_shares}
 use Rattle.brk_lots.proofs.Ends.{all_back, all_end}
 use Rattle.brk_lots.proofs.History.{opened_qty}
 use Rattle.brk_lots.proofs.Plain.{lots_alike, lots_some}
-use Rattle.brk_book_theorems.specs.Books.{IsBooks}
+use Rattle.brk_book_theorems.specs.Books.{BooksInvariant}
 use Rattle.brk_book_theorems.specs.Results.{row_of_lot}
 use Rattle.brk_book_theorems.specs.TradeReads.{position_in}
 use Rattle.brk_book_theorems.proofs.Bools.{numbers_back}
@@ -47,7 +47,7 @@ qty_after done v = lot_qty (shares_in done v.account v.symbol) v.id
 abbrev pub touch_at : Base → Trade → Trade → Touch
 touch_at base t v = touch_by v.id (deal_of t) (shares_before base t)
 
-pub apart_done : (base : Base) → IsBooks base → IdsApart (completed base)
+pub apart_done : (base : Base) → BooksInvariant base → IdsApart (completed base)
 apart_done base books = rise_apart (completed base) (rise_filter is_completed base.trades (numbered_rise 1 base.trades books.numbered))
 
 pub fresh_held : (base : Base) (xs : List Trade) (t : Trade) (ys : List Trade) → Completes base xs t ys → AllByRecursion (λ u. (t.id == u.id) ≡ false) (trades_held base t.account t.symbol)
@@ -195,7 +195,7 @@ rows_in_order g ts s =
     ∙ ap (filter is_left) (by_key-map (λ t. number t.id ∷ []) holding_key (row_with g) ts (λ t. refl)
     ∙ ap (map (row_with g)) (sort_sorted (row_before (λ t. number t.id ∷ [])) ts s))
 
-pub done_in_order : (base : Base) → IsBooks base → Sorted (row_before (λ t. number t.id ∷ [])) (completed base)
+pub done_in_order : (base : Base) → BooksInvariant base → Sorted (row_before (λ t. number t.id ∷ [])) (completed base)
 done_in_order base books = sorted_filter (row_before (λ t. number t.id ∷ [])) is_completed base.trades (trades_stand 1 base.trades books.numbered)
 
 abbrev pub open_lots : Trade → List model.Lot → List HoldingRow → List HoldingRow

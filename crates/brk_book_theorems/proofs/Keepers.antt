@@ -12,8 +12,8 @@ use Rattle.brk_model.specs.Commands.{Command, Listing, Reply, AddBroker, AddCust
 use Rattle.brk_model.specs.Keyed.{keeping}
 use Rattle.brk_model.specs.Tests.{tests, next_stamp, bands_meet}
 use Rattle.brk_model.specs.Step.{listed, records_after}
-use Rattle.brk_model.specs.Names.{KnowsBroker, KnowsCustomer}
-use Rattle.brk_book_theorems.specs.Books.{IsBooks, HasVolume, HasBounds, DistinctAccounts, DistinctSymbols, PermissionsApart, BandsApart}
+use Rattle.brk_model.specs.Names.{BrokerExists, CustomerExists}
+use Rattle.brk_book_theorems.specs.Books.{BooksInvariant, HasVolume, HasBounds, DistinctAccounts, DistinctSymbols, PermissionsApart, BandsApart}
 use Rattle.brk_book_theorems.specs.Steps.{LeavesBooks}
 use Rattle.brk_book_theorems.proofs.Bools.{numbers_back, texts_back}
 use Rattle.brk_book_theorems.proofs.Same.{NonePass, All-map, All-append, any-none, find-more, find-none}
@@ -28,7 +28,7 @@ found_more p xs ys h = ap is_some (find-more p xs ys h) ∙ h
 
 -- ---- kinds that the order does not speak of
 
-pub books_last : (base : Base) (now : ℕ) → next_stamp base now ≤ last_stamp → IsBooks base → IsBooks (record base { last = Some (next_stamp base now) })
+pub books_last : (base : Base) (now : ℕ) → next_stamp base now ≤ last_stamp → BooksInvariant base → BooksInvariant (record base { last = Some (next_stamp base now) })
 books_last base now h k = record {
   parties = k.parties;
   market = k.market;
@@ -37,8 +37,8 @@ books_last base now h k = record {
   movements = movements_later base now k.movements;
 }
 
-pub books_terms : (base : Base) (charges : List Charge) (tax_rates : List TaxRate) (customer_taxes : List CustomerTax) (kept : List Kept) → IsBooks base
-    → IsBooks (record base { charges = charges; tax_rates = tax_rates; customer_taxes = customer_taxes; kept = kept })
+pub books_terms : (base : Base) (charges : List Charge) (tax_rates : List TaxRate) (customer_taxes : List CustomerTax) (kept : List Kept) → BooksInvariant base
+    → BooksInvariant (record base { charges = charges; tax_rates = tax_rates; customer_taxes = customer_taxes; kept = kept })
 books_terms base charges tax_rates customer_taxes kept k = record {
   parties = k.parties;
   market = k.market;
@@ -47,7 +47,7 @@ books_terms base charges tax_rates customer_taxes kept k = record {
   movements = k.movements;
 }
 
-pub books_kept : (base : Base) (key : Option Key) (command : Command) (reply : Reply) → IsBooks base → IsBooks (keeping key command reply base)
+pub books_kept : (base : Base) (key : Option Key) (command : Command) (reply : Reply) → BooksInvariant base → BooksInvariant (keeping key command reply base)
 books_kept base None command reply k = k
 books_kept base (Some key) command reply k =
     books_terms base base.charges base.tax_rates base.customer_taxes (keeping (Some key) command reply base).kept k
@@ -143,8 +143,8 @@ books_account base now a k e =
     let p = passed base now (AddAccount a) e in
     record {
       parties = record {
-        brokers = All-append (KnowsBroker base) base.accounts (a ∷ []) k.brokers (not_not (is_some (broker_with base a.broker)) p.1.0, tt);
-        customers = All-append (KnowsCustomer base) base.accounts (a ∷ []) k.customers (not_not (is_some (customer_with base a.customer)) p.0, tt);
+        brokers = All-append (BrokerExists base) base.accounts (a ∷ []) k.brokers (not_not (is_some (broker_with base a.broker)) p.1.0, tt);
+        customers = All-append (CustomerExists base) base.accounts (a ∷ []) k.customers (not_not (is_some (customer_with base a.customer)) p.0, tt);
         owners = owners_more base.accounts a (find-none (λ x. x.id == a.id) base.accounts p.1.1.0) k.owners;
         permissions = k.permissions;
       };

@@ -23,7 +23,7 @@ use Rattle.brk_model.specs.Records.{Trade}
 use Rattle.brk_model.specs.Shares.{Deal, Share, lot_qty, shares_after}
 use Rattle.brk_model.specs.Sheets.{sheets, sheets_of}
 use Rattle.brk_model.specs.Tables.{HoldingHistoryRow, HoldingRow, holding_row, is_moved, lot_history, lot_rows, tables_at, touch_of_row, trade_row}
-use Rattle.brk_book_theorems.specs.Books.{IsBooks}
+use Rattle.brk_book_theorems.specs.Books.{BooksInvariant}
 use Rattle.brk_book_theorems.specs.Lives.{IsLotLife, IsOpened, LotsLive, changes_in, left_in}
 use Rattle.brk_book_theorems.proofs.Histories.{Others, filter-flat_map, no_rows}
 use Rattle.brk_book_theorems.proofs.LotOrder.{Follows, InOrder, held_in_order, of_held, trades_held}
@@ -158,11 +158,11 @@ changes_rise base lot shares (u ∷ ts) o h =
           behind (shares_after left (deal_of v)) vs f.1 k.1,
         )
 
-done_found : (base : Base) → IsBooks base → AllByRecursion (λ t. trade_with base t.id ≡ Some t) (completed base)
+done_found : (base : Base) → BooksInvariant base → AllByRecursion (λ t. trade_with base t.id ≡ Some t) (completed base)
 done_found base books =
     All-filter (λ t. trade_with base t.id ≡ Some t) is_completed base.trades (found_each base.trades (rise_apart base.trades (numbered_rise 1 base.trades books.numbered)))
 
-history_rises : (base : Base) (t : Trade) → IsBooks base → Rise (touch_stamp (sheets base)) (lot_history (completed base) t)
+history_rises : (base : Base) (t : Trade) → BooksInvariant base → Rise (touch_stamp (sheets base)) (lot_history (completed base) t)
 history_rises base t books =
     rise_left (touch_stamp (sheets base)) is_moved (lot_rows t.id [] (deals_in (completed base) t.account t.symbol))
     (changes_rise base t.id [] (trades_held base t.account t.symbol) (held_in_order base t.account t.symbol books)
@@ -174,7 +174,7 @@ ids_after : (xs : List Trade) (t : Trade) (ys : List Trade) → IdsApart (xs ++ 
 ids_after [] t ys d = d.0
 ids_after (x ∷ xs) t ys d = ids_after xs t ys d.1
 
-done_apart : (base : Base) → IsBooks base → IdsApart (completed base)
+done_apart : (base : Base) → BooksInvariant base → IdsApart (completed base)
 done_apart base books = rise_apart (completed base) (rise_filter is_completed base.trades (numbered_rise 1 base.trades books.numbered))
 
 abbrev of_lot : ℕ → HoldingHistoryRow → Bool
@@ -240,7 +240,7 @@ left_or row (negsuc n) e = e
 abbrev opened : ℕ → HoldingRow → Bool
 opened lot h = h.trade == lot
 
-left_is : (base : Base) (lot : ℕ) (t : Trade) → IsBooks base → (f : FoundAt Trade (λ u. u.id == lot) t (completed base)) → left_in (sheets base) lot ≡ (holding_row (completed base) t).qty
+left_is : (base : Base) (lot : ℕ) (t : Trade) → BooksInvariant base → (f : FoundAt Trade (λ u. u.id == lot) t (completed base)) → left_in (sheets base) lot ≡ (holding_row (completed base) t).qty
 left_is base lot t books f =
     let done : List Trade = completed base in
     let row : Trade → HoldingRow = holding_row done in
@@ -256,7 +256,7 @@ left_is base lot t books f =
 
 -- ---- each lot
 
-of_done : (base : Base) (lot : ℕ) (t : Trade) → IsBooks base → find (λ u. u.id == lot) (completed base) ≡ Some t → IsLotLife (sheets base) lot
+of_done : (base : Base) (lot : ℕ) (t : Trade) → BooksInvariant base → find (λ u. u.id == lot) (completed base) ≡ Some t → IsLotLife (sheets base) lot
 unfolding shares_in
 of_done base lot t books e =
     let f : FoundAt Trade (λ u. u.id == lot) t (completed base) = find-at (λ u. u.id == lot) (completed base) t e in
@@ -271,7 +271,7 @@ of_done base lot t books e =
           (subst (λ q. IsLife (rows_of t.id deals []) q) (sym (left_is base lot t books f)) (lot_lives base t.account t.symbol t.id books));
     }
 
-of_none : (base : Base) (lot : ℕ) → IsBooks base → find (λ u. u.id == lot) (completed base) ≡ None → IsLotLife (sheets base) lot
+of_none : (base : Base) (lot : ℕ) → BooksInvariant base → find (λ u. u.id == lot) (completed base) ≡ None → IsLotLife (sheets base) lot
 of_none base lot books e =
     let none : NonePass (λ u. u.id == lot) (completed base) = find-none (λ u. u.id == lot) (completed base) (ap is_some e) in
     let rows : changes_in (sheets base) lot ≡ [] =
@@ -284,7 +284,7 @@ of_none base lot books e =
     (All-mapped (λ h. opened lot h ≡ false) (holding_row (completed base)) (completed base) none))) in
     record { opened = subst (IsOpened lot) (sym rows) tt; life = subst (λ rs. IsLife (map touch_of_row rs) (left_in (sheets base) lot)) (sym rows) (sym left) }
 
-pub lots_live_on : (base : Base) → IsBooks base → LotsLive (sheets base)
+pub lots_live_on : (base : Base) → BooksInvariant base → LotsLive (sheets base)
 lots_live_on base books lot = by_trade (find (λ u. u.id == lot) (completed base)) refl
   where
     by_trade : (o : Option Trade) → find (λ u. u.id == lot) (completed base) ≡ o → IsLotLife (sheets base) lot

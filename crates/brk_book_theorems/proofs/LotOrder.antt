@@ -20,7 +20,7 @@ use Rattle.brk_lots.specs.declared.lot.Lot.{Lot}
 use Rattle.brk_lots.proofs.Books.{sides_after}
 use Rattle.brk_lots.proofs.Counts.{OneSide, lot_counts}
 use Rattle.brk_lots.proofs.Runs.{count_of}
-use Rattle.brk_book_theorems.specs.Books.{IsBooks, MomentsApart}
+use Rattle.brk_book_theorems.specs.Books.{BooksInvariant, MomentsApart}
 use Rattle.brk_book_theorems.specs.TradeReads.{lot_shares, lots_in, position_in, row_lot}
 use Rattle.brk_book_theorems.proofs.Bools.{numbers_back, same_text}
 use Rattle.brk_book_theorems.proofs.Order.{All-insert}
@@ -88,7 +88,7 @@ moments_filter p (t ∷ ts) m =
 abbrev pub trades_held : Base → ℕ → Text → List Trade
 trades_held base account symbol = sort_by_key moment_of (of_position (completed base) account symbol)
 
-pub held_in_order : (base : Base) (account : ℕ) (symbol : Text) → IsBooks base → InOrder (trades_held base account symbol)
+pub held_in_order : (base : Base) (account : ℕ) (symbol : Text) → BooksInvariant base → InOrder (trades_held base account symbol)
 held_in_order base account symbol books =
     order_sort (of_position (completed base) account symbol)
     (all_differ (of_position (completed base) account symbol) (rise_apart _ (position_rise base account symbol books.numbered))
@@ -177,7 +177,7 @@ pub qty_here : (done : List Trade) (account : ℕ) (symbol : Text) (t : Trade) �
     → lot_qty (shares_in done t.account t.symbol) t.id ≡ lot_qty (shares_in done account symbol) t.id
 qty_here done account symbol t a s = λ i. lot_qty (shares_in done (eqb-true t.account account a i) (same_text t.symbol symbol s i)) t.id
 
-pub lots_read : (base : Base) (account : ℕ) (symbol : Text) → IsBooks base
+pub lots_read : (base : Base) (account : ℕ) (symbol : Text) → BooksInvariant base
     → position_in (sheets base) account symbol ≡ lots_left (shares_in (completed base) account symbol) (trades_held base account symbol)
 lots_read base account symbol books =
     let done : List Trade = completed base in
@@ -193,10 +193,10 @@ shares_held : (rows : List HoldingRow) → shares_of (map row_lot rows) ≡ flat
 shares_held [] = refl
 shares_held (r ∷ rows) = ap (λ shares. lot_shares r ++ shares) (shares_held rows)
 
-pub shares_read : (base : Base) (account : ℕ) (symbol : Text) → IsBooks base → shares_of (position_in (sheets base) account symbol) ≡ shares_in (completed base) account symbol
+pub shares_read : (base : Base) (account : ℕ) (symbol : Text) → BooksInvariant base → shares_of (position_in (sheets base) account symbol) ≡ shares_in (completed base) account symbol
 shares_read base account symbol books = shares_held (lots_in (sheets base) account symbol) ∙ reads_lots base account symbol books
 
-pub position_read : (base : Base) (account : ℕ) (symbol : Text) → IsBooks base → IsPosition (position_in (sheets base) account symbol)
+pub position_read : (base : Base) (account : ℕ) (symbol : Text) → BooksInvariant base → IsPosition (position_in (sheets base) account symbol)
 unfolding shares_in
 position_read base account symbol books =
     let s = sides_after Buy (deals_in (completed base) account symbol) [] tt in
@@ -210,14 +210,14 @@ left_all P shares (t ∷ ts) h =
     elim (is_some_left (lot_upon shares t)) as (λ b. AllByRecursion P (cond b (lot_upon shares t ∷ lots_left shares ts) (lots_left shares ts)))
     [ true ↦ (h.0, left_all P shares ts h.1) | false ↦ left_all P shares ts h.1 ]
 
-pub new_read : (base : Base) (account : ℕ) (symbol : Text) (id : ℕ) → IsBooks base → NonePass (λ t. t.id == id) (completed base) → IsNew id (position_in (sheets base) account symbol)
+pub new_read : (base : Base) (account : ℕ) (symbol : Text) (id : ℕ) → BooksInvariant base → NonePass (λ t. t.id == id) (completed base) → IsNew id (position_in (sheets base) account symbol)
 new_read base account symbol id books h =
     let S : List Share = shares_in (completed base) account symbol in
     let ts : List Trade = trades_held base account symbol in
     subst (IsNew id) (sym (lots_read base account symbol books))
     (left_all (λ l. l.trade ≢ id) S ts (All-map ts (λ t e. eqb-false t.id id e) (of_held (λ t. (t.id == id) ≡ false) base account symbol h)))
 
-pub older_read : (base : Base) (account : ℕ) (symbol : Text) (stamp : ℕ) → IsBooks base → AllByRecursion (λ t. moment_of t < stamp) (completed base)
+pub older_read : (base : Base) (account : ℕ) (symbol : Text) (stamp : ℕ) → BooksInvariant base → AllByRecursion (λ t. moment_of t < stamp) (completed base)
     → AreOlder stamp (position_in (sheets base) account symbol)
 older_read base account symbol stamp books h =
     let S : List Share = shares_in (completed base) account symbol in

@@ -17,7 +17,7 @@ use Rattle.brk_model.specs.Shares.{Share, lot_qty, opened_share, signed}
 use Rattle.brk_model.specs.Sheets.{sheets, sheets_of}
 use Rattle.brk_model.specs.Tables.{HoldingRow, tables_at, holding_row}
 use Rattle.brk_model.specs.Names.{NumberedFrom}
-use Rattle.brk_book_theorems.specs.Books.{IsBooks}
+use Rattle.brk_book_theorems.specs.Books.{BooksInvariant}
 use Rattle.brk_lots.specs.Lots.{side_of_qty}
 use Rattle.brk_book_theorems.specs.TradeReads.{lot_shares, lots_in}
 use Rattle.brk_book_theorems.proofs.Bools.{numbers_back, same_text}
@@ -219,7 +219,7 @@ rows_upon done account symbol (t ∷ ts) g h =
     let s : t.symbol ≡ symbol = same_text t.symbol symbol h.0 in
     λ i. lot_shares (record (holding_row done t) { qty = lot_qty (shares_in done (a i) (s i)) t.id }) ++ rows_upon done account symbol ts g.1 h.1 i
 
-pub reads_lots : (base : Base) (account : ℕ) (symbol : Text) → IsBooks base → flat_map lot_shares (lots_in (sheets base) account symbol) ≡ shares_in (completed base) account symbol
+pub reads_lots : (base : Base) (account : ℕ) (symbol : Text) → BooksInvariant base → flat_map lot_shares (lots_in (sheets base) account symbol) ≡ shares_in (completed base) account symbol
 unfolding shares_in
 reads_lots base account symbol books =
     let done : List Trade = completed base in

@@ -19,7 +19,7 @@ use Rattle.brk_model.specs.Step.{records_after}
 use Rattle.brk_model.specs.Tables.{Tables, account_row, numbered, settlement_row, tables_at}
 use Rattle.brk_model.specs.Tests.{next_stamp, refusal_of, tests}
 use Rattle.brk_changes.specs.Changes.{with_last, with_rule}
-use Rattle.brk_book_theorems.specs.Books.{AreMovementsInOrder, IsBooks}
+use Rattle.brk_book_theorems.specs.Books.{AreMovementsInOrder, BooksInvariant}
 use Rattle.brk_book_theorems.specs.Movements.{balance_with, row_of_movement, rows_of_movement}
 use Rattle.brk_book_theorems.specs.Steps.{ChangesRows, LeavesBooks}
 use Rattle.brk_book_theorems.proofs.Bools.{numbers_back}
@@ -51,7 +51,7 @@ others_stay base m id e =
     ∙ append_nil (posted_to (postings_of base) id))
 
 -- its row is the last one
-row_stands : (base : Base) (now : ℕ) (m : Movement) → IsBooks base → m.stamp ≡ next_stamp base now
+row_stands : (base : Base) (now : ℕ) (m : Movement) → BooksInvariant base → m.stamp ≡ next_stamp base now
     → (sheets (with_movement base m)).moves ≡ (rows_of_movement base m (sheets base)).moves
 unfolding tables_at sheets_of
 row_stands base now m books e =
@@ -65,7 +65,7 @@ unfolding tables_at sheets_of
 accounts_stand base m =
     accounts_posted base.accounts base.accounts (postings_of base) (postings_of (with_movement base m)) m.account (others_stay base m)
 
-movement_sheets : (base : Base) (now : ℕ) (m : Movement) → IsBooks base → m.stamp ≡ next_stamp base now
+movement_sheets : (base : Base) (now : ℕ) (m : Movement) → BooksInvariant base → m.stamp ≡ next_stamp base now
     → sheets (record (with_movement base m) { last = Some (next_stamp base now) }) ≡ with_last (next_stamp base now) (rows_of_movement base m (sheets base))
 unfolding tables_at sheets_of
 movement_sheets base now m books e = λ i. record (with_last (next_stamp base now) (sheets base)) {
@@ -98,7 +98,7 @@ pub unset : (rule : SettleRule) → is_some rule ≡ false → rule ≡ None
 unset None e = refl
 unset (Some day) e = absurd (cc)
 
-pub due_days_stay : (base : Base) (now day : ℕ) → IsBooks base → refusal_of base now (SetOneDay day) ≡ None
+pub due_days_stay : (base : Base) (now day : ℕ) → BooksInvariant base → refusal_of base now (SetOneDay day) ≡ None
     → AllByRecursion (λ t. due_day (Some day) t ≡ due_day base.rule t) (completed base)
 unfolding tests
 due_days_stay base now day books e =
@@ -114,8 +114,8 @@ step_one_day base now day books e =
 
 -- ---- the base after them
 
-books_movement : (base : Base) (now : ℕ) (command : Command) (m : Movement) → m.stamp ≡ next_stamp base now → is_some (account_with base m.account) ≡ true → IsBooks base
-    → refusal_of base now command ≡ None → IsBooks (record (with_movement base m) { last = Some (next_stamp base now) })
+books_movement : (base : Base) (now : ℕ) (command : Command) (m : Movement) → m.stamp ≡ next_stamp base now → is_some (account_with base m.account) ≡ true → BooksInvariant base
+    → refusal_of base now command ≡ None → BooksInvariant (record (with_movement base m) { last = Some (next_stamp base now) })
 books_movement base now command m s h k e = record {
   parties = k.parties;
   market = k.market;

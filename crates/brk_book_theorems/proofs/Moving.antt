@@ -8,7 +8,7 @@ use Rattle.brk_money.specs.Kinds.{same_status, status_code}
 use Rattle.brk_money.specs.declared.status.Status.{Status}
 use Rattle.brk_money.specs.declared.status.Status.TheVariants.{Completed, Active, Submitted, Pending, Canceled}
 use Rattle.brk_model.specs.Lists.{update_where}
-use Rattle.brk_model.specs.Records.{Account, Mark, Trade}
+use Rattle.brk_model.specs.Records.{Account, StatusChange, Trade}
 use Rattle.brk_model.specs.Base.{Base, has_status, is_completed, marked}
 use Rattle.brk_model.specs.Derived.{pending, shares_in, summary_of, balance_of, trade_count_of, commissions_of}
 use Rattle.brk_model.specs.Schemas.{third_schema}
@@ -77,7 +77,7 @@ history_of_others row (t ∷ ts) h =
     number_of m n j k e = cc
 
 -- so have the rows of a trade's one mark
-own_history : (stamp : ℕ) (status : Status) (t : Trade) (marks : List Mark) → t.marks ≡ marks → IsOne marks → has_status Pending t ≡ true → same_status status Pending ≡ false
+own_history : (stamp : ℕ) (status : Status) (t : Trade) (marks : List StatusChange) → t.marks ≡ marks → IsOne marks → has_status Pending t ≡ true → same_status status Pending ≡ false
     → NewKey history_key (status_row t.id status stamp) (history_rows t)
 own_history stamp status t [] e one p s = absurd one
 own_history stamp status t (m ∷ n ∷ marks) e one p s = absurd one

@@ -12,7 +12,7 @@ use Rattle.brk_model.specs.Records.{Permission, Security, Charge, Band, Customer
 use Rattle.brk_model.specs.Base.{Base, security_with}
 use Rattle.brk_model.specs.Tests.{bands_meet}
 use Rattle.brk_model.specs.Keys.{KeyPart, number, word, permission_key, charge_key, band_key, customer_tax_key}
-use Rattle.brk_model.specs.Names.{KnowsSecurity}
+use Rattle.brk_model.specs.Names.{SecurityExists}
 use Rattle.brk_book_theorems.specs.Books.{HasBounds}
 use Rattle.brk_book_theorems.proofs.Order.{NewKey}
 use Rattle.brk_book_theorems.proofs.Same.{NonePass, All-map}
@@ -115,11 +115,11 @@ band_new b (c ∷ bs) f g h = (
 )
 
 -- no trade names a symbol that is not listed
-pub unused : (base : Base) (symbol : Text) (ts : List Trade) → is_some (security_with base symbol) ≡ false → AllByRecursion (KnowsSecurity base) ts
+pub unused : (base : Base) (symbol : Text) (ts : List Trade) → is_some (security_with base symbol) ≡ false → AllByRecursion (SecurityExists base) ts
     → NonePass (λ t. bytes_eq t.symbol symbol) ts
 unused base symbol ts h k = All-map ts (λ t known. by_test t known (bytes_eq t.symbol symbol) refl) k
   where
-    by_test : (t : Trade) → KnowsSecurity base t → (b : Bool) → bytes_eq t.symbol symbol ≡ b → bytes_eq t.symbol symbol ≡ false
+    by_test : (t : Trade) → SecurityExists base t → (b : Bool) → bytes_eq t.symbol symbol ≡ b → bytes_eq t.symbol symbol ≡ false
     by_test t known false e = e
     by_test t known true e =
         let same : t.symbol ≡ symbol = (bytes_eq-Decides t.symbol symbol).0 e in

@@ -8,7 +8,7 @@ use Rattle.brk_money.specs.Kinds.{same_status}
 use Rattle.brk_money.specs.declared.status.Status.{Status}
 use Rattle.brk_money.specs.declared.status.Status.TheVariants.{Completed, Active, Submitted, Pending, Canceled}
 use Rattle.brk_model.specs.Lists.{update_where}
-use Rattle.brk_model.specs.Records.{Mark, Trade}
+use Rattle.brk_model.specs.Records.{StatusChange, Trade}
 use Rattle.brk_model.specs.Base.{has_status, is_completed, marked, last_mark}
 use Rattle.brk_model.specs.Names.{NumberedFrom}
 use Rattle.brk_book_theorems.specs.Books.{WaitsFirst}
@@ -27,7 +27,7 @@ pub status_of_marked : (stamp : ℕ) (status wanted : Status) (t : Trade) → ha
 status_of_marked stamp status wanted t = ap (λ o. option_map_or (λ m. same_status m.status wanted) o false) (last_of_marked stamp status t)
 
 -- a trade that waits is not completed
-waits_not_done : (o : Option Mark) → option_map_or (λ m. same_status m.status Pending) o false ≡ true → option_map_or (λ m. same_status m.status Completed) o false ≡ false
+waits_not_done : (o : Option StatusChange) → option_map_or (λ m. same_status m.status Pending) o false ≡ true → option_map_or (λ m. same_status m.status Completed) o false ≡ false
 waits_not_done None h = refl
 waits_not_done (Some m) h = by_status m.status h
   where

@@ -8,7 +8,7 @@ use Rattle.brk_model.specs.Base.{Base}
 use Rattle.brk_model.specs.Orders.{is_person, permitted}
 use Rattle.brk_model.specs.Records.{Customer, Executor, Permission}
 use Rattle.brk_model.specs.Sheets.{sheets}
-use Rattle.brk_book_theorems.specs.Books.{IsBooks, PermissionsApart}
+use Rattle.brk_book_theorems.specs.Books.{BooksInvariant, PermissionsApart}
 use Rattle.brk_book_theorems.specs.TradeReads.{permission_in}
 use Rattle.brk_book_theorems.proofs.Bools.{same_text, texts_back}
 use Rattle.brk_book_theorems.proofs.NewKeys.{and_both, both, not_both, same_bytes}
@@ -86,7 +86,7 @@ named_by_one account e (p ∷ ps) h = by_test (named_by_one account e ps h.1) (i
         ∙ sym (ap (λ b. list_any (names e) (cond b (p ∷ rest) rest)) (both (p.account == account) (bytes_eq p.tax_id e.tax_id) k).0)
     by_test ih false k = past ih (p.account == account) refl k
 
-pub reads_named : (base : Base) (account : ℕ) (c : Customer) (e : Executor) → IsBooks base
+pub reads_named : (base : Base) (account : ℕ) (c : Customer) (e : Executor) → BooksInvariant base
     → permitted c (permission_in (sheets base) account e.tax_id) e ≡ permitted c (filter (λ p. p.account == account) base.permissions) e
 reads_named base account c e books =
     ap (λ b. is_person e c.first_name c.last_name c.tax_id || b)

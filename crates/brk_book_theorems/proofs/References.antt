@@ -17,8 +17,8 @@ use Rattle.brk_model.specs.Sheets.{sheets, sheets_of}
 use Rattle.brk_model.specs.Commands.{AddBroker, AddCustomer, AddAccount}
 use Rattle.brk_model.specs.Step.{records_after, base_after}
 use Rattle.brk_changes.specs.Changes.{with_broker, with_customer, with_account, with_last}
-use Rattle.brk_model.specs.Names.{KnowsAccount, KnowsBroker}
-use Rattle.brk_book_theorems.specs.Books.{IsBooks}
+use Rattle.brk_model.specs.Names.{AccountExists, BrokerExists}
+use Rattle.brk_book_theorems.specs.Books.{BooksInvariant}
 use Rattle.brk_book_theorems.proofs.Order.{NewKey, by_key-append}
 use Rattle.brk_book_theorems.proofs.Same.{NonePass, All-append, All-map, All-of, All-mapped, All-filter, map-same, map-last, filter-same, filter-none, total_by-same, flat_map-append, flat_map-empty, find-more, find-new, find-none, find-each, find-All}
 
@@ -53,15 +53,15 @@ customer_rows base stamp c h =
 
 -- ---- a broker: no account is the broker's yet
 
-pub broker_found : (base : Base) (id : ℕ) (o : Option Account) → account_with base id ≡ o → is_some o ≡ true → AllByRecursion (KnowsBroker base) base.accounts
+pub broker_found : (base : Base) (id : ℕ) (o : Option Account) → account_with base id ≡ o → is_some o ≡ true → AllByRecursion (BrokerExists base) base.accounts
     → is_some (broker_with base (option_map_or (λ a. a.broker) o 0)) ≡ true
 broker_found base id None e h known = absurd (cc)
-broker_found base id (Some a) e h known = find-All (KnowsBroker base) (λ a. a.id == id) base.accounts a known e
+broker_found base id (Some a) e h known = find-All (BrokerExists base) (λ a. a.id == id) base.accounts a known e
 
-pub known_completed : (base : Base) → IsBooks base → AllByRecursion (KnowsAccount base) (completed base)
-known_completed base books = All-filter (KnowsAccount base) is_completed base.trades books.accounts
+pub known_completed : (base : Base) → BooksInvariant base → AllByRecursion (AccountExists base) (completed base)
+known_completed base books = All-filter (AccountExists base) is_completed base.trades books.accounts
 
-pub no_broker_trades : (base : Base) (id : ℕ) → IsBooks base → is_some (broker_with base id) ≡ false → of_broker base.accounts (completed base) id ≡ []
+pub no_broker_trades : (base : Base) (id : ℕ) → BooksInvariant base → is_some (broker_with base id) ≡ false → of_broker base.accounts (completed base) id ≡ []
 no_broker_trades base id books h =
     filter-none (λ t. broker_in base.accounts t.account == id) (completed base)
     (All-map (completed base)
@@ -72,7 +72,7 @@ no_broker_trades base id books h =
 first_broker_row : Broker → BrokerRow
 first_broker_row b = record { id = b.id; name = b.name; trades = pos 0; commissions = 0 }
 
-pub broker_rows : (base : Base) (stamp : ℕ) (b : Broker) → IsBooks base → is_some (broker_with base b.id) ≡ false
+pub broker_rows : (base : Base) (stamp : ℕ) (b : Broker) → BooksInvariant base → is_some (broker_with base b.id) ≡ false
     → sheets (base_after base stamp (AddBroker b)) ≡ with_last stamp (with_broker b (sheets base))
 unfolding tables_at sheets_of records_after shares_in summary_of balance_of trade_count_of commissions_of first_broker_row
 broker_rows base stamp b books h =
@@ -95,7 +95,7 @@ more base a = base.accounts ++ a ∷ []
 pub as_before : (base : Base) (a : Account) (id : ℕ) → is_some (account_with base id) ≡ true → find_account (more base a) id ≡ account_with base id
 as_before base a id h = find-more (λ b. b.id == id) base.accounts (a ∷ []) h
 
-pub no_trades_of : (base : Base) (id : ℕ) → IsBooks base → is_some (account_with base id) ≡ false → of_account (completed base) id ≡ []
+pub no_trades_of : (base : Base) (id : ℕ) → BooksInvariant base → is_some (account_with base id) ≡ false → of_account (completed base) id ≡ []
 no_trades_of base id books h =
     filter-none (λ t. t.account == id) (completed base)
     (All-map (completed base) (λ t k. other_id (account_with base) id t.account h k) (known_completed base books))
@@ -109,36 +109,36 @@ pub append_nil : {X : Type 0} (xs : List X) → xs ++ [] ≡ xs
 append_nil [] = refl
 append_nil (x ∷ xs) = ap (λ ys. x ∷ ys) (append_nil xs)
 
-pub amount_as_before : (base : Base) (a : Account) (t : Trade) → KnowsAccount base t → amount_of (more base a) t ≡ amount_of base.accounts t
+pub amount_as_before : (base : Base) (a : Account) (t : Trade) → AccountExists base t → amount_of (more base a) t ≡ amount_of base.accounts t
 amount_as_before base a t k = rw (as_before base a t.account k) refl
 
 -- what is posted stays
-pub postings_as_before : (base : Base) (a : Account) → IsBooks base
+pub postings_as_before : (base : Base) (a : Account) → BooksInvariant base
     → postings (more base a) (completed base) base.movements ≡ postings base.accounts (completed base) base.movements
 postings_as_before base a books =
     ap (λ ps. ps ++ map posting_of_movement base.movements)
     (map-same (posting_of_trade (more base a)) (posting_of_trade base.accounts) (cash_trades (completed base)) (All-map (cash_trades (completed base))
     (λ t k. λ i. record { account = t.account; trade = Some t.id; stamp = moment_of t; amount = amount_as_before base a t k i; name = t.cash_name })
-    (All-filter (KnowsAccount base) (λ t. t.is_cash) (completed base) (known_completed base books))))
+    (All-filter (AccountExists base) (λ t. t.is_cash) (completed base) (known_completed base books))))
 
-pub balance_as_before : (base : Base) (a : Account) (id : ℕ) → IsBooks base → is_some (account_with base id) ≡ true
+pub balance_as_before : (base : Base) (a : Account) (id : ℕ) → BooksInvariant base → is_some (account_with base id) ≡ true
     → balance_of (more base a) (postings (more base a) (completed base) base.movements) id ≡ balance_of base.accounts (postings base.accounts (completed base) base.movements) id
 unfolding balance_of
 balance_as_before base a id books h =
     λ i. option_map_or (λ a. a.opening) (as_before base a id h i) (pos 0) +ℤ total_by (λ p. p.amount) (posted_to (postings_as_before base a books i) id)
 
 -- nothing is posted to an account that is not there
-pub nothing_posted : (base : Base) (id : ℕ) → IsBooks base → is_some (account_with base id) ≡ false → posted_to (postings base.accounts (completed base) base.movements) id ≡ []
+pub nothing_posted : (base : Base) (id : ℕ) → BooksInvariant base → is_some (account_with base id) ≡ false → posted_to (postings base.accounts (completed base) base.movements) id ≡ []
 nothing_posted base id books h =
     filter-none (λ p. p.account == id) (postings base.accounts (completed base) base.movements)
     (All-append (λ p. (p.account == id) ≡ false) (map (posting_of_trade base.accounts) (cash_trades (completed base))) (map posting_of_movement base.movements)
     (All-mapped (λ p. (p.account == id) ≡ false) (posting_of_trade base.accounts) (cash_trades (completed base))
     (All-map (cash_trades (completed base)) (λ t k. other_id (account_with base) id t.account h k)
-    (All-filter (KnowsAccount base) (λ t. t.is_cash) (completed base) (known_completed base books))))
+    (All-filter (AccountExists base) (λ t. t.is_cash) (completed base) (known_completed base books))))
     (All-mapped (λ p. (p.account == id) ≡ false) posting_of_movement base.movements
     (All-map base.movements (λ m k. other_id (account_with base) id m.account h k) books.movements.holders)))
 
-pub new_balance : (base : Base) (a : Account) → IsBooks base → is_some (account_with base a.id) ≡ false
+pub new_balance : (base : Base) (a : Account) → BooksInvariant base → is_some (account_with base a.id) ≡ false
     → balance_of (more base a) (postings (more base a) (completed base) base.movements) a.id ≡ a.opening
 unfolding balance_of total_by
 new_balance base a books h =
@@ -151,7 +151,7 @@ new_balance base a books h =
 first_account_row : Account → AccountRow
 first_account_row a = record { id = a.id; customer = a.customer; broker = a.broker; name = a.name; tax_status = a.tax_status; opening = a.opening; balance = a.opening }
 
-pub account_rows : (base : Base) (stamp : ℕ) (a : Account) → IsBooks base → is_some (account_with base a.id) ≡ false
+pub account_rows : (base : Base) (stamp : ℕ) (a : Account) → BooksInvariant base → is_some (account_with base a.id) ≡ false
     → sheets (base_after base stamp (AddAccount a)) ≡ with_last stamp (with_account a (sheets base))
 unfolding tables_at sheets_of records_after shares_in summary_of balance_of trade_count_of commissions_of first_account_row
 account_rows base stamp a books h =
@@ -159,7 +159,7 @@ account_rows base stamp a books h =
     let after : List Account = more base a in
     let posted = postings base.accounts done base.movements in
     let posted_then = postings after done base.movements in
-    let known : AllByRecursion (KnowsAccount base) done = known_completed base books in
+    let known : AllByRecursion (AccountExists base) done = known_completed base books in
     let new : NonePass (λ x. x.id == a.id) base.accounts = find-none (λ x. x.id == a.id) base.accounts h in
     -- a broker's trades are the same
     let trades : (id : ℕ) → of_broker after done id ≡ of_broker base.accounts done id = λ id.
@@ -180,7 +180,7 @@ account_rows base stamp a books h =
     -- requests and settlements
     let requests = map-same (request_row after) (request_row base.accounts) (pending base.trades) (All-map (pending base.trades)
     (λ t k. λ i. record { trade = t.id; kind = t.kind; symbol = t.symbol; qty = t.qty; bid = t.bid; broker = option_map_or (λ a. a.broker) (as_before base a t.account k i) 0 })
-    (All-filter (KnowsAccount base) (has_status Pending) base.trades books.accounts)) in
+    (All-filter (AccountExists base) (has_status Pending) base.trades books.accounts)) in
     let settlements = map-same (settlement_row after base.rule) (settlement_row base.accounts base.rule) done (All-map done
     (λ t k. λ i. record { trade = t.id; cash_type = t.cash_type; due_day = due_day base.rule t; amount = amount_as_before base a t k i }) known) in
     -- no summary of the new account

@@ -15,8 +15,8 @@ use Rattle.brk_model.specs.Sheets.{sheets}
 use Rattle.brk_model.specs.Step.{records_after, with_result_of}
 use Rattle.brk_model.specs.Tests.{next_stamp, refusal_of, result_tests, tests}
 use Rattle.brk_lots.specs.Position.{IsNew}
-use Rattle.brk_model.specs.Names.{KnowsAccount, KnowsSecurity, NumberedFrom}
-use Rattle.brk_book_theorems.specs.Books.{CompletesFirst, IsBooks, IsEarly, IsNoCompletion, MomentsApart, WaitsFirst}
+use Rattle.brk_model.specs.Names.{AccountExists, SecurityExists, NumberedFrom}
+use Rattle.brk_book_theorems.specs.Books.{CompletesFirst, BooksInvariant, IsEarly, IsNoCompletion, MomentsApart, WaitsFirst}
 use Rattle.brk_book_theorems.specs.Steps.{ChangesRows, LeavesBooks}
 use Rattle.brk_book_theorems.specs.Results.{result_rows, rows_of_result}
 use Rattle.brk_book_theorems.specs.TradeReads.{position_in}
@@ -37,11 +37,11 @@ before_next None now t e = absurd e
 before_next (Some l) now t e = omega arith
 
 -- no trade was completed at the next stamp
-pub all_before : (base : Base) (now : ℕ) → IsBooks base → AllByRecursion (λ t. moment_of t < next_stamp base now) (completed base)
+pub all_before : (base : Base) (now : ℕ) → BooksInvariant base → AllByRecursion (λ t. moment_of t < next_stamp base now) (completed base)
 all_before base now books = All-map (completed base) (λ t e. before_next base.last now t e) books.early
 
 -- a trade that is not completed opened no lot
-pub new_of_waiting : (base : Base) (id account : ℕ) (symbol : Text) (t : Trade) → IsBooks base → trade_with base id ≡ Some t → is_completed t ≡ false
+pub new_of_waiting : (base : Base) (id account : ℕ) (symbol : Text) (t : Trade) → BooksInvariant base → trade_with base id ≡ Some t → is_completed t ≡ false
     → IsNew id (position_in (sheets base) account symbol)
 new_of_waiting base id account symbol t books e w =
     let f : FoundAt Trade (λ u. u.id == id) t base.trades = find-at (λ u. u.id == id) base.trades t e in
@@ -79,7 +79,7 @@ pub record Found (base : Base) (now price : ℕ) (t : Trade) : Type 0 where
   pub back : List Trade
   pub result : IsResult base (next_stamp base now) price t front back
 
-pub found_at : (base : Base) (now id price : ℕ) (t : Trade) → IsBooks base → trade_with base id ≡ Some t → has_status Submitted t ≡ true → Found base now price t
+pub found_at : (base : Base) (now id price : ℕ) (t : Trade) → BooksInvariant base → trade_with base id ≡ Some t → has_status Submitted t ≡ true → Found base now price t
 found_at base now id price t books e s =
     let f : FoundAt Trade (λ u. u.id == id) t base.trades = find-at (λ u. u.id == id) base.trades t e in
     record { front = f.before; back = f.after; result = record { books = books; stands = f.stands; submitted = s; later = all_before base now books; moved = movements_before base now books.movements } }
@@ -96,8 +96,8 @@ step_result base now id price t e books accepted =
     let stamp : ℕ = next_stamp base now in
     let s : has_status Submitted t ≡ true = submitted base now id price t e accepted in
     let f : Found base now price t = found_at base now id price t books e s in
-    let a : (a : Account) × (account_with base t.account ≡ Some a) = some_of (account_with base t.account) (find-All (KnowsAccount base) (λ u. u.id == id) base.trades t books.accounts e) in
-    let y : (y : Security) × (security_with base t.symbol ≡ Some y) = some_of (security_with base t.symbol) (find-All (KnowsSecurity base) (λ u. u.id == id) base.trades t books.securities e) in
+    let a : (a : Account) × (account_with base t.account ≡ Some a) = some_of (account_with base t.account) (find-All (AccountExists base) (λ u. u.id == id) base.trades t books.accounts e) in
+    let y : (y : Security) × (security_with base t.symbol ≡ Some y) = some_of (security_with base t.symbol) (find-All (SecurityExists base) (λ u. u.id == id) base.trades t books.securities e) in
     let marks : AllByRecursion IsNoCompletion t.marks = find-All CompletesFirst (λ u. u.id == id) base.trades t books.completions e s in
     whole (with_result_of base stamp id price) stamp _
     (ap (λ o. sheets (option_map_or (with_result base stamp price) o base)) e
@@ -129,19 +129,19 @@ same_id : (base : Base) (stamp price : ℕ) (t : Trade) → (completed_trade bas
 unfolding completed_trade
 same_id base stamp price t = refl
 
-same_account : (base : Base) (stamp price : ℕ) (t : Trade) → KnowsAccount base t → KnowsAccount base (completed_trade base stamp price t)
+same_account : (base : Base) (stamp price : ℕ) (t : Trade) → AccountExists base t → AccountExists base (completed_trade base stamp price t)
 unfolding completed_trade
 same_account base stamp price t h = h
 
-same_security : (base : Base) (stamp price : ℕ) (t : Trade) → KnowsSecurity base t → KnowsSecurity base (completed_trade base stamp price t)
+same_security : (base : Base) (stamp price : ℕ) (t : Trade) → SecurityExists base t → SecurityExists base (completed_trade base stamp price t)
 unfolding completed_trade
 same_security base stamp price t h = h
 
 no_later : (m n : ℕ) → m ≡ n → m ≤ n
 no_later m n e = omega (arith, e)
 
-books_then : (base : Base) (now id price : ℕ) (t : Trade) → IsBooks base → trade_with base id ≡ Some t → refusal_of base now (CompleteTrade id price) ≡ None
-    → IsBooks (record (with_result base (next_stamp base now) price t) { last = Some (next_stamp base now) })
+books_then : (base : Base) (now id price : ℕ) (t : Trade) → BooksInvariant base → trade_with base id ≡ Some t → refusal_of base now (CompleteTrade id price) ≡ None
+    → BooksInvariant (record (with_result base (next_stamp base now) price t) { last = Some (next_stamp base now) })
 books_then base now id price t k e accepted =
     let stamp : ℕ = next_stamp base now in
     let u : Trade = completed_trade base stamp price t in
@@ -158,8 +158,8 @@ books_then base now id price t k e accepted =
       parties = k.parties;
       market = k.market;
       trades = record {
-        accounts = All-updated (KnowsAccount base) (λ v. v.id == t.id) (completed_trade base stamp price) base.trades (λ v h. same_account base stamp price v h) k.accounts;
-        securities = All-updated (KnowsSecurity base) (λ v. v.id == t.id) (completed_trade base stamp price) base.trades (λ v h. same_security base stamp price v h) k.securities;
+        accounts = All-updated (AccountExists base) (λ v. v.id == t.id) (completed_trade base stamp price) base.trades (λ v h. same_account base stamp price v h) k.accounts;
+        securities = All-updated (SecurityExists base) (λ v. v.id == t.id) (completed_trade base stamp price) base.trades (λ v h. same_security base stamp price v h) k.securities;
         numbered = numbered_updated 1 (λ v. v.id == t.id) (completed_trade base stamp price) base.trades (λ v. same_id base stamp price v) k.numbered;
         ways = All-updated WaitsFirst (λ v. v.id == t.id) (completed_trade base stamp price) base.trades (λ v h. not_waiting base stamp price v) k.ways;
         completions = All-updated CompletesFirst (λ v. v.id == t.id) (completed_trade base stamp price) base.trades (λ v h. not_at_market base stamp price v) k.completions;
@@ -179,5 +179,5 @@ pub books_result : (base : Base) (now id price : ℕ) → LeavesBooks base now (
 unfolding records_after
 books_result base now id price k accepted =
     let named = result_named base now id price accepted in
-    subst (λ o. IsBooks (record (option_map_or (with_result base (next_stamp base now) price) o base) { last = Some (next_stamp base now) })) (sym named.1)
+    subst (λ o. BooksInvariant (record (option_map_or (with_result base (next_stamp base now) price) o base) { last = Some (next_stamp base now) })) (sym named.1)
     (books_then base now id price named.0 k named.1 accepted)

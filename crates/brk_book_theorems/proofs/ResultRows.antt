@@ -8,7 +8,7 @@ use Rattle.brk_money.specs.Kinds.{same_status, status_code}
 use Rattle.brk_money.specs.declared.status.Status.{Status}
 use Rattle.brk_money.specs.declared.status.Status.TheVariants.{Completed, Active, Submitted, Pending, Canceled}
 use Rattle.brk_model.specs.Lists.{is_zero, update_where}
-use Rattle.brk_model.specs.Records.{Account, Mark, Security, Trade}
+use Rattle.brk_model.specs.Records.{Account, StatusChange, Security, Trade}
 use Rattle.brk_model.specs.Base.{Base, account_with, broker_in, completed, has_status, is_completed, last_mark, moment_of, security_with}
 use Rattle.brk_model.specs.Derived.{Posting, balance_of, commissions_of, deal_of, in_turn, pending, posting_of_trade, postings, postings_of, trade_count_of}
 use Rattle.brk_model.specs.Results.{completed_trade, result_deal, with_result}
@@ -18,7 +18,7 @@ use Rattle.brk_model.specs.Tables.{BrokerRow, HistoryRow, MoveRow, SummaryRow, T
 use Rattle.brk_model.specs.Keys.{number, word, account_key, broker_key, by_key, history_key, holding_history_key, holding_key, insert_row, move_key, request_key, settlement_key, summary_key, trade_key}
 use Rattle.brk_model.specs.Sheets.{sheets, sheets_of}
 use Rattle.brk_model.specs.Names.{NumberedFrom}
-use Rattle.brk_book_theorems.specs.Books.{IsBooks, IsNoCompletion}
+use Rattle.brk_book_theorems.specs.Books.{BooksInvariant, IsNoCompletion}
 use Rattle.brk_book_theorems.specs.Results.{ResultRows, cash_rows, change_of_lot, completed_rows, left_of_lot, opened_rows, result_rows, rows_of_result, rows_upon, summary_rows_moved, touched_rows}
 use Rattle.brk_changes.specs.Changes.{with_broker_numbers, with_lot_change, with_settlement}
 use Rattle.brk_book_theorems.specs.Trading.{status_row}
@@ -36,7 +36,7 @@ use Rattle.brk_book_theorems.proofs.Sums.{accounts_after, brokers_after, cash_af
 
 -- ---- a trade at the market, and once it is completed
 
-at_market : (o : Option Mark) → option_map_or (λ m. same_status m.status Submitted) o false ≡ true
+at_market : (o : Option StatusChange) → option_map_or (λ m. same_status m.status Submitted) o false ≡ true
     → (option_map_or (λ m. same_status m.status Completed) o false ≡ false) × (option_map_or (λ m. same_status m.status Pending) o false ≡ false)
 at_market None h = (refl, refl)
 at_market (Some m) h = by_status m.status h
@@ -189,7 +189,7 @@ cash_is u c t = by_test u.is_cash
 
 -- what is known of a trade that is completed
 pub record IsResult (base : Base) (stamp price : ℕ) (t : Trade) (xs ys : List Trade) : Type 0 where
-  pub books : IsBooks base
+  pub books : BooksInvariant base
   pub stands : base.trades ≡ xs ++ t ∷ ys
   pub submitted : has_status Submitted t ≡ true
   pub later : AllByRecursion (λ u. moment_of u < stamp) (completed base)

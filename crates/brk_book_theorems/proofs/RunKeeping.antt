@@ -18,8 +18,8 @@ use Rattle.brk_model.specs.Run.{Answers, Ask, Call, Did, Do, Failed, IsSeen, NoV
 use Rattle.brk_model.specs.Step.{base_after, records_after, reply_to, step, unless}
 use Rattle.brk_model.specs.Tests.{next_stamp, refusal_of}
 use Rattle.brk_model.specs.Updates.{changed_cash_name, changed_cash_type, changed_executor, chosen_of_account, chosen_of_symbol}
-use Rattle.brk_model.specs.Names.{KnowsAccount, KnowsSecurity}
-use Rattle.brk_book_theorems.specs.Books.{CompletesFirst, IsBooks, IsEarly, IsOtherwhen, MomentsApart, MovementsApart, WaitsFirst}
+use Rattle.brk_model.specs.Names.{AccountExists, SecurityExists}
+use Rattle.brk_book_theorems.specs.Books.{CompletesFirst, BooksInvariant, IsEarly, IsOtherwhen, MomentsApart, MovementsApart, WaitsFirst}
 use Rattle.brk_book_theorems.specs.Steps.{LeavesBooks, base_then}
 use Rattle.brk_book_theorems.proofs.MovementOrder.{movements_later}
 use Rattle.brk_book_theorems.proofs.Completions.{later}
@@ -101,14 +101,14 @@ apart_changed p f ts s [] h = tt
 apart_changed p f ts s (m ∷ ms) h =
     (done_changed (IsOtherwhen m.stamp) p f ts s (λ v w same e. ap (λ (n : ℕ). n == m.stamp) (same_moment v w same) ∙ e) h.0, h.1, apart_changed p f ts s ms h.2)
 
-books_changed : (base : Base) (now : ℕ) (command : Command) (p : Trade → Bool) (f : Trade → Trade) → ((t : Trade) → IsSame t (f t)) → IsBooks base → refusal_of base now command ≡ None
-    → IsBooks (record (with_trades p f base) { last = Some (next_stamp base now) })
+books_changed : (base : Base) (now : ℕ) (command : Command) (p : Trade → Bool) (f : Trade → Trade) → ((t : Trade) → IsSame t (f t)) → BooksInvariant base → refusal_of base now command ≡ None
+    → BooksInvariant (record (with_trades p f base) { last = Some (next_stamp base now) })
 books_changed base now command p f s k e = record {
   parties = k.parties;
   market = k.market;
   trades = record {
-    accounts = All-updated (KnowsAccount base) p f base.trades (λ t h. subst (λ (a : ℕ). KnowsAccount base (record t { account = a })) (sym (s t).account) h) k.accounts;
-    securities = All-updated (KnowsSecurity base) p f base.trades (λ t h. subst (λ (a : Text). KnowsSecurity base (record t { symbol = a })) (sym (s t).symbol) h) k.securities;
+    accounts = All-updated (AccountExists base) p f base.trades (λ t h. subst (λ (a : ℕ). AccountExists base (record t { account = a })) (sym (s t).account) h) k.accounts;
+    securities = All-updated (SecurityExists base) p f base.trades (λ t h. subst (λ (a : Text). SecurityExists base (record t { symbol = a })) (sym (s t).symbol) h) k.securities;
     numbered = numbered_updated 1 p f base.trades (λ t. (s t).id) k.numbered;
     ways = All-updated WaitsFirst p f base.trades (λ t h. subst (λ ms. WaitsFirst (record t { marks = ms })) (sym (s t).marks) h) k.ways;
     completions = All-updated CompletesFirst p f base.trades (λ t h. subst (λ ms. CompletesFirst (record t { marks = ms })) (sym (s t).marks) h) k.completions;
@@ -219,8 +219,8 @@ run_keeps P kept step_keeps base (call ∷ calls) (outcome ∷ outcomes) after r
     answered (Ask query) (NoView refusal) k = seen query (Err refusal) k
     answered c (Failed fault) k = subst P (sym k.1) h
 
-pub run_books : (base : Base) (calls : List (ℕ × Call)) (outcomes : List Outcome) (after : Base) → IsBooks base → Run base calls outcomes after → IsBooks after
-run_books base calls outcomes after k r = run_keeps IsBooks (λ base key command reply k. books_kept base key command reply k) books_keep base calls outcomes after r k
+pub run_books : (base : Base) (calls : List (ℕ × Call)) (outcomes : List Outcome) (after : Base) → BooksInvariant base → Run base calls outcomes after → BooksInvariant after
+run_books base calls outcomes after k r = run_keeps BooksInvariant (λ base key command reply k. books_kept base key command reply k) books_keep base calls outcomes after r k
   where
-    books_keep : (base : Base) (now : ℕ) (command : Command) → IsBooks base → refusal_of base now command ≡ None → IsBooks (base_then base now command)
+    books_keep : (base : Base) (now : ℕ) (command : Command) → BooksInvariant base → refusal_of base now command ≡ None → BooksInvariant (base_then base now command)
     books_keep base now command k e = books_command base now command k e

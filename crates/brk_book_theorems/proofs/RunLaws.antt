@@ -30,7 +30,7 @@ use Rattle.brk_model.specs.Step.{records_after}
 use Rattle.brk_model.specs.Tables.{trade_row}
 use Rattle.brk_model.specs.Tests.{next_stamp, refusal_of, tests}
 use Rattle.brk_model.specs.Updates.{changed_cash_name, changed_cash_type, changed_executor, chosen_of_account, chosen_of_symbol}
-use Rattle.brk_book_theorems.specs.Books.{IsBooks}
+use Rattle.brk_book_theorems.specs.Books.{BooksInvariant}
 use Rattle.brk_book_theorems.specs.Steps.{base_then}
 use Rattle.brk_book_theorems.specs.Runs.{HasTax, IsTaxed, tax_upon}
 use Rattle.brk_book_theorems.specs.TradeReads.{position_in}
@@ -55,26 +55,26 @@ deals_of (t ∷ ts) o = (
   deals_of ts o.1,
 )
 
-pub deals_are : (base : Base) (account : ℕ) (symbol : Text) → IsBooks base → AreDeals (deals_in (completed base) account symbol)
+pub deals_are : (base : Base) (account : ℕ) (symbol : Text) → BooksInvariant base → AreDeals (deals_in (completed base) account symbol)
 deals_are base account symbol books = deals_of _ (held_in_order base account symbol books)
 
-pub shares_spelled : (base : Base) (account : ℕ) (symbol : Text) → IsBooks base → shares_of (position_in (sheets base) account symbol) ≡ replay (deals_in (completed base) account symbol)
+pub shares_spelled : (base : Base) (account : ℕ) (symbol : Text) → BooksInvariant base → shares_of (position_in (sheets base) account symbol) ≡ replay (deals_in (completed base) account symbol)
 unfolding shares_in
 shares_spelled base account symbol books = shares_read base account symbol books
 
-pub lots_spelled : (base : Base) (account : ℕ) (symbol : Text) → IsBooks base → map plain_lot (position_in (sheets base) account symbol) ≡ lots (shares_in (completed base) account symbol)
+pub lots_spelled : (base : Base) (account : ℕ) (symbol : Text) → BooksInvariant base → map plain_lot (position_in (sheets base) account symbol) ≡ lots (shares_in (completed base) account symbol)
 lots_spelled base account symbol books =
     sym (lots_walk (position_in (sheets base) account symbol) (walk_of (position_in (sheets base) account symbol) (position_read base account symbol books)))
     ∙ ap lots (shares_read base account symbol books)
 
-pub quantities_sum : (base : Base) (account : ℕ) (symbol : Text) → IsBooks base → lots_total (position_in (sheets base) account symbol) ≡ deals_total (deals_in (completed base) account symbol)
+pub quantities_sum : (base : Base) (account : ℕ) (symbol : Text) → BooksInvariant base → lots_total (position_in (sheets base) account symbol) ≡ deals_total (deals_in (completed base) account symbol)
 quantities_sum base account symbol books = quantities_add_up (deals_in (completed base) account symbol) (position_in (sheets base) account symbol) (shares_spelled base account symbol books)
 
-pub costs_sum : (base : Base) (account : ℕ) (symbol : Text) → IsBooks base
+pub costs_sum : (base : Base) (account : ℕ) (symbol : Text) → BooksInvariant base
     → lots_cost (position_in (sheets base) account symbol) ≡ gains (deals_in (completed base) account symbol) [] +ℤ spent (deals_in (completed base) account symbol)
 costs_sum base account symbol books = costs_add_up (deals_in (completed base) account symbol) (position_in (sheets base) account symbol) (shares_spelled base account symbol books)
 
-pub lot_lives : (base : Base) (account : ℕ) (symbol : Text) (lot : ℕ) → IsBooks base
+pub lot_lives : (base : Base) (account : ℕ) (symbol : Text) (lot : ℕ) → BooksInvariant base
     → IsLife (rows_of lot (deals_in (completed base) account symbol) []) (lot_qty (replay (deals_in (completed base) account symbol)) lot)
 lot_lives base account symbol lot books = lots_live (deals_in (completed base) account symbol) lot (deals_are base account symbol books)
 
@@ -163,7 +163,7 @@ same_id : (base : Base) (stamp price : ℕ) (t : Trade) → (completed_trade bas
 unfolding completed_trade
 same_id base stamp price t = refl
 
-taxed_result : (base : Base) (now id tax other price : ℕ) → IsBooks base → refusal_of base now (CompleteTrade other price) ≡ None → IsTaxed id tax base → IsTaxed id tax (base_then base now (CompleteTrade other price))
+taxed_result : (base : Base) (now id tax other price : ℕ) → BooksInvariant base → refusal_of base now (CompleteTrade other price) ≡ None → IsTaxed id tax base → IsTaxed id tax (base_then base now (CompleteTrade other price))
 unfolding records_after
 taxed_result base now id tax other price books e k =
     let stamp : ℕ = next_stamp base now in
@@ -174,7 +174,7 @@ taxed_result base now id tax other price books e k =
     (ap (λ o. (option_map_or (with_result base stamp price) o base).trades) t.1)
     (subst (λ (m : ℕ). AllByRecursion (λ u. (u.id == m) ≡ true → is_completed u ≡ false) base.trades) (sym same) (named_open base other t.0 books.numbered t.1 waits)) k
 
-taxed_cancel : (base : Base) (now id tax other : ℕ) → IsBooks base → refusal_of base now (CancelTrade other) ≡ None → IsTaxed id tax base → IsTaxed id tax (base_then base now (CancelTrade other))
+taxed_cancel : (base : Base) (now id tax other : ℕ) → BooksInvariant base → refusal_of base now (CancelTrade other) ≡ None → IsTaxed id tax base → IsTaxed id tax (base_then base now (CancelTrade other))
 unfolding records_after tests
 taxed_cancel base now id tax other books e k =
     passed_by base (base_then base now (CancelTrade other)) id tax (λ u. u.id == other) (marked (next_stamp base now) Canceled) (λ t. refl) refl
@@ -186,7 +186,7 @@ taxed_feed base now id tax ticks k =
     same_trades (with_ticks (next_stamp base now) base ticks) (base_then base now (FeedTicks ticks)) id tax refl (taxed_ticks base id tax (next_stamp base now) ticks k)
 
 -- every accepted command leaves it as it is
-taxed_command : (base : Base) (now id tax : ℕ) (command : Command) → IsBooks base → refusal_of base now command ≡ None → IsTaxed id tax base → IsTaxed id tax (base_then base now command)
+taxed_command : (base : Base) (now id tax : ℕ) (command : Command) → BooksInvariant base → refusal_of base now command ≡ None → IsTaxed id tax base → IsTaxed id tax (base_then base now command)
 unfolding records_after
 taxed_command base now id tax (AddBroker b) books e k = same_trades base (base_then base now (AddBroker b)) id tax refl k
 taxed_command base now id tax (AddCustomer c) books e k = same_trades base (base_then base now (AddCustomer c)) id tax refl k
@@ -215,10 +215,10 @@ pub taxed_kept : (base : Base) (key : Option Key) (command : Command) (reply : R
 taxed_kept base None command reply id tax k = k
 taxed_kept base (Some key) command reply id tax k = same_trades base (keeping (Some key) command reply base) id tax refl k
 
-pub run_taxes : (base : Base) (calls : List (ℕ × Call)) (outcomes : List Outcome) (after : Base) (id tax : ℕ) → IsBooks base → Run base calls outcomes after → IsTaxed id tax base → IsTaxed id tax after
+pub run_taxes : (base : Base) (calls : List (ℕ × Call)) (outcomes : List Outcome) (after : Base) (id tax : ℕ) → BooksInvariant base → Run base calls outcomes after → IsTaxed id tax base → IsTaxed id tax after
 run_taxes base calls outcomes after id tax books r k =
-    let both : IsBooks after × IsTaxed id tax after =
-    run_keeps (λ b. IsBooks b × IsTaxed id tax b) (λ b key command reply h. (books_kept b key command reply h.0, taxed_kept b key command reply id tax h.1))
+    let both : BooksInvariant after × IsTaxed id tax after =
+    run_keeps (λ b. BooksInvariant b × IsTaxed id tax b) (λ b key command reply h. (books_kept b key command reply h.0, taxed_kept b key command reply id tax h.1))
     (λ b now command h e. (books_command b now command h.0 e, taxed_command b now id tax command h.0 e h.1)) base calls outcomes after r (books, k) in
     both.1
 
@@ -227,7 +227,7 @@ tax_is : (base : Base) (stamp price : ℕ) (t : Trade) → (completed_trade base
 unfolding completed_trade
 tax_is base stamp price t = refl
 
-pub result_taxed : (base : Base) (now id price : ℕ) (t : Trade) → IsBooks base → trade_with base id ≡ Some t → refusal_of base now (CompleteTrade id price) ≡ None
+pub result_taxed : (base : Base) (now id price : ℕ) (t : Trade) → BooksInvariant base → trade_with base id ≡ Some t → refusal_of base now (CompleteTrade id price) ≡ None
     → IsTaxed id (tax_upon base now price t) (base_then base now (CompleteTrade id price))
 unfolding records_after
 result_taxed base now id price t books e accepted =

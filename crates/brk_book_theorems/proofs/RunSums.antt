@@ -13,7 +13,7 @@ use Rattle.brk_model.specs.Sheets.{sheets}
 use Rattle.brk_model.specs.Step.{base_after, reply_to, step, unless}
 use Rattle.brk_model.specs.Tests.{next_stamp, refusal_of}
 use Rattle.std.specs.Prelude.{bytes_eq}
-use Rattle.brk_book_theorems.specs.Books.{IsBooks}
+use Rattle.brk_book_theorems.specs.Books.{BooksInvariant}
 use Rattle.brk_book_theorems.specs.Steps.{base_then}
 use Rattle.brk_book_theorems.specs.Runs.{HasTax, IsTaxed, RunAddsUp, TaxStands, TaxesStand, tax_upon}
 use Rattle.brk_book_theorems.proofs.AddingUp.{sums_add_up}
@@ -51,7 +51,7 @@ done_is_accepted base now command key reply after e = by_kept (kept_of base key)
 
 -- ---- an accepted result
 
-pub taxed_by_call : (base mid : Base) (now id price : ℕ) (key : Option Key) (reply : Reply) → IsBooks base → keyed_step base now (CompleteTrade id price) key ≡ (Done reply, mid)
+pub taxed_by_call : (base mid : Base) (now id price : ℕ) (key : Option Key) (reply : Reply) → BooksInvariant base → keyed_step base now (CompleteTrade id price) key ≡ (Done reply, mid)
     → (t : Trade) × (trade_with base id ≡ Some t) × IsTaxed id (tax_upon base now price t) mid
 taxed_by_call base mid now id price key reply books e =
     let a = done_is_accepted base now (CompleteTrade id price) key reply mid e in
@@ -64,13 +64,13 @@ taxed_by_call base mid now id price key reply books e =
     )
 
 pub tax_stays : (base mid : Base) (now id price : ℕ) (key : Option Key) (reply : Reply) (calls : List (ℕ × Call)) (outcomes : List Outcome) (after : Base)
-    → IsBooks base → IsBooks mid → keyed_step base now (CompleteTrade id price) key ≡ (Done reply, mid) → Run mid calls outcomes after
+    → BooksInvariant base → BooksInvariant mid → keyed_step base now (CompleteTrade id price) key ≡ (Done reply, mid) → Run mid calls outcomes after
     → (t : Trade) × (trade_with base id ≡ Some t) × HasTax (sheets after) id (tax_upon base now price t)
 tax_stays base mid now id price key reply calls outcomes after books next e r =
     let k = taxed_by_call base mid now id price key reply books e in
     (k.0, k.1, taxed_row after id (tax_upon base now price k.0) (run_taxes mid calls outcomes after id (tax_upon base now price k.0) next r k.2))
 
-pub taxes_stand : (base : Base) (calls : List (ℕ × Call)) (outcomes : List Outcome) (after : Base) → IsBooks base → Run base calls outcomes after
+pub taxes_stand : (base : Base) (calls : List (ℕ × Call)) (outcomes : List Outcome) (after : Base) → BooksInvariant base → Run base calls outcomes after
     → TaxesStand (sheets after) base calls outcomes
 taxes_stand base [] [] after books r = tt
 taxes_stand base [] (outcome ∷ outcomes) after books r = tt
@@ -78,7 +78,7 @@ taxes_stand base (call ∷ calls) [] after books r = tt
 taxes_stand base (call ∷ calls) (outcome ∷ outcomes) after books r =
     (one call.1 outcome r.1, (r.0, r.1, taxes_stand r.0 calls outcomes after next r.2))
   where
-    next : IsBooks r.0
+    next : BooksInvariant r.0
     next = run_books base (call ∷ []) (outcome ∷ []) r.0 books (r.0, r.1, refl)
 
     one : (c : Call) (o : Outcome) → Answers base call.0 c o r.0 → TaxStands (sheets after) base call.0 c o
@@ -87,7 +87,7 @@ taxes_stand base (call ∷ calls) (outcome ∷ outcomes) after books r =
 
 -- ---- all of it
 
-pub run_adds_up : (base : Base) (calls : List (ℕ × Call)) (outcomes : List Outcome) (after : Base) → IsBooks base → Run base calls outcomes after → RunAddsUp base calls outcomes after
+pub run_adds_up : (base : Base) (calls : List (ℕ × Call)) (outcomes : List Outcome) (after : Base) → BooksInvariant base → Run base calls outcomes after → RunAddsUp base calls outcomes after
 run_adds_up base calls outcomes after books r =
-    let order : IsBooks after = run_books base calls outcomes after books r in
+    let order : BooksInvariant after = run_books base calls outcomes after books r in
     record { run = r; order = order; sums = sums_add_up after order; taxes = taxes_stand base calls outcomes after books r }

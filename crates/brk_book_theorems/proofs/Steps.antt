@@ -13,7 +13,7 @@ use Rattle.brk_model.specs.Derived.{shares_in, summary_of, balance_of, trade_cou
 use Rattle.brk_model.specs.Tables.{tables_at, no_rows}
 use Rattle.brk_model.specs.Sheets.{sheets, sheets_of}
 use Rattle.brk_changes.specs.Changes.{with_broker, with_customer, with_account, with_permission, with_charge, with_band, with_tax_rate, with_customer_tax}
-use Rattle.brk_book_theorems.specs.Books.{IsBooks}
+use Rattle.brk_book_theorems.specs.Books.{BooksInvariant}
 use Rattle.brk_book_theorems.specs.Steps.{ChangesRows, with_listing}
 use Rattle.brk_book_theorems.proofs.Same.{any-none, find-none}
 use Rattle.brk_book_theorems.proofs.References.{broker_rows, customer_rows, account_rows, new_number}
@@ -25,7 +25,7 @@ pub empty_rows : sheets empty_base ≡ no_rows
 unfolding empty_base tables_at sheets_of sort_by shares_in summary_of balance_of trade_count_of commissions_of
 empty_rows = refl
 
-pub empty_books : IsBooks empty_base
+pub empty_books : BooksInvariant empty_base
 unfolding empty_base
 empty_books = record {
   parties = record { brokers = tt; customers = tt; owners = tt; permissions = tt };

@@ -8,13 +8,13 @@ use Rattle.std.proofs.lemmas.List.Sums.{sum_by-cons}
 use Rattle.brk_money.specs.Kinds.{same_status}
 use Rattle.brk_money.specs.declared.status.Status.TheVariants.{Canceled, Completed}
 use Rattle.brk_model.specs.Lists.{total_by}
-use Rattle.brk_model.specs.Records.{Account, Broker, Mark, Trade}
+use Rattle.brk_model.specs.Records.{Account, Broker, StatusChange, Trade}
 use Rattle.brk_model.specs.Base.{Base, account_with, broker_in, broker_with, completed, is_completed, last_mark, trade_with}
 use Rattle.brk_model.specs.Derived.{Posting, balance_of, commissions_of, of_broker, posted_to, postings_of, trade_count_of}
 use Rattle.brk_model.specs.Joins.{account_in}
 use Rattle.brk_model.specs.Sheets.{sheets, sheets_of}
 use Rattle.brk_model.specs.Tables.{AccountRow, BrokerRow, account_row, broker_row, tables_at, trade_row}
-use Rattle.brk_book_theorems.specs.Books.{IsBooks}
+use Rattle.brk_book_theorems.specs.Books.{BooksInvariant}
 use Rattle.brk_book_theorems.specs.Sums.{cash_of_account, done_of_broker, is_of_broker}
 use Rattle.brk_book_theorems.proofs.Bools.{numbers_back}
 use Rattle.brk_book_theorems.proofs.Order.{by_key-filter}
@@ -42,7 +42,7 @@ length-map g (x ∷ xs) = let h = length-map g xs in omega (arith, h)
 
 -- ---- brokers
 
-done_told : (o : Option Mark) → same_status (option_map_or (λ m. m.status) o Canceled) Completed ≡ option_map_or (λ m. same_status m.status Completed) o false
+done_told : (o : Option StatusChange) → same_status (option_map_or (λ m. m.status) o Canceled) Completed ≡ option_map_or (λ m. same_status m.status Completed) o false
 done_told None = refl
 done_told (Some m) = refl
 
@@ -53,7 +53,7 @@ broker_or accounts posted (Some a) = refl
 broker_told : (base : Base) (account : ℕ) → option_map_or (λ r. r.broker) (account_in (sheets base) account) 0 ≡ broker_in base.accounts account
 broker_told base account = ap (λ o. option_map_or (λ r. r.broker) o 0) (reads_account base account) ∙ broker_or base.accounts (postings_of base) (account_with base account)
 
-pub broker_trades : (base : Base) (broker : ℕ) → IsBooks base → done_of_broker (sheets base) broker ≡ map trade_row (of_broker base.accounts (completed base) broker)
+pub broker_trades : (base : Base) (broker : ℕ) → BooksInvariant base → done_of_broker (sheets base) broker ≡ map trade_row (of_broker base.accounts (completed base) broker)
 broker_trades base broker books =
     ap (filter (is_of_broker (sheets base) broker)) (trades_in_order base books.numbered)
     ∙ filter-map (is_of_broker (sheets base) broker) trade_row base.trades
@@ -76,14 +76,14 @@ row_of base id r e = by_broker (broker_with base id) refl
 broker_id : (base : Base) (id : ℕ) (b : Broker) → broker_with base id ≡ Some b → b.id ≡ id
 broker_id base id b e = let f : FoundAt Broker (λ b. b.id == id) b base.brokers = find-at (λ b. b.id == id) base.brokers b e in eqb-true b.id id f.passes
 
-pub broker_counts : (base : Base) (id : ℕ) (r : BrokerRow) → IsBooks base → find (λ r. r.id == id) (sheets base).brokers ≡ Some r → r.trades ≡ pos (length (done_of_broker (sheets base) id))
+pub broker_counts : (base : Base) (id : ℕ) (r : BrokerRow) → BooksInvariant base → find (λ r. r.id == id) (sheets base).brokers ≡ Some r → r.trades ≡ pos (length (done_of_broker (sheets base) id))
 unfolding trade_count_of
 broker_counts base id r books e =
     let k = row_of base id r e in
     ap (λ r. r.trades) k.2 ∙ ap (λ (m : ℕ). pos (trade_count_of base.accounts (completed base) m)) (broker_id base id k.0 k.1)
     ∙ ap pos (sym (ap length (broker_trades base id books) ∙ length-map trade_row (of_broker base.accounts (completed base) id)))
 
-pub broker_sums : (base : Base) (id : ℕ) (r : BrokerRow) → IsBooks base → find (λ r. r.id == id) (sheets base).brokers ≡ Some r
+pub broker_sums : (base : Base) (id : ℕ) (r : BrokerRow) → BooksInvariant base → find (λ r. r.id == id) (sheets base).brokers ≡ Some r
     → r.commissions ≡ sum_by (λ t. t.commission) (done_of_broker (sheets base) id)
 unfolding commissions_of
 broker_sums base id r books e =
@@ -119,7 +119,7 @@ account_of_row base id r e = by_account (account_with base id) refl
         let k : Some r ≡ Some (account_row base.accounts (postings_of base) a) = sym e ∙ reads_account base id ∙ ap (option_map (account_row base.accounts (postings_of base))) f in
         let j : r ≡ account_row base.accounts (postings_of base) a = cc in (a, f, j)
 
-pub balance_sums : (base : Base) (id : ℕ) (r : AccountRow) → IsBooks base → account_in (sheets base) id ≡ Some r
+pub balance_sums : (base : Base) (id : ℕ) (r : AccountRow) → BooksInvariant base → account_in (sheets base) id ≡ Some r
     → r.balance ≡ r.opening +ℤ total_by (λ r. r.amount) (cash_of_account (sheets base) id)
 unfolding balance_of
 balance_sums base id r books e =

@@ -12,7 +12,7 @@ use Rattle.brk_model.specs.Derived.{summary_of}
 use Rattle.brk_model.specs.Keys.{number, word, by_key, insert_row, key_before, row_before, summary_key}
 use Rattle.brk_model.specs.Sheets.{sheets, sheets_of}
 use Rattle.brk_model.specs.Tables.{SummaryRow, summary_rows, tables_at}
-use Rattle.brk_book_theorems.specs.Books.{DistinctSymbols, IsBooks}
+use Rattle.brk_book_theorems.specs.Books.{DistinctSymbols, BooksInvariant}
 use Rattle.brk_book_theorems.specs.TradeReads.{row_of_summary, summary_held, summary_in}
 use Rattle.brk_book_theorems.proofs.Bools.{numbers_back, same_text, texts_back}
 use Rattle.brk_book_theorems.proofs.NewKeys.{and_both}
@@ -72,7 +72,7 @@ symbol_alone done account symbol ss s d e =
 abbrev pub all_summaries : Base → List Trade → List SummaryRow
 all_summaries base done = flat_map (λ a. summaries_in done base.securities a.id) base.accounts
 
-pub own_summary : (base : Base) (done : List Trade) (account : ℕ) (symbol : Text) (a : Account) (s : Security) → IsBooks base
+pub own_summary : (base : Base) (done : List Trade) (account : ℕ) (symbol : Text) (a : Account) (s : Security) → BooksInvariant base
     → account_with base account ≡ Some a → security_with base symbol ≡ Some s
     → filter (is_of account symbol) (all_summaries base done) ≡ summary_rows done account symbol
 own_summary base done account symbol a s books e f =
@@ -114,7 +114,7 @@ find_one q account symbol = by_test (is_zero q)
     by_test true = refl
     by_test false = ap (λ b. cond b (Some row) None) (of_itself account symbol q)
 
-pub reads_summary : (base : Base) (account : ℕ) (symbol : Text) (a : Account) (s : Security) → IsBooks base → account_with base account ≡ Some a → security_with base symbol ≡ Some s
+pub reads_summary : (base : Base) (account : ℕ) (symbol : Text) (a : Account) (s : Security) → BooksInvariant base → account_with base account ≡ Some a → security_with base symbol ≡ Some s
     → find (is_of account symbol) (sheets base).summaries
     ≡ cond (is_zero (summary_of (completed base) account symbol)) None (Some (record { account = account; symbol = symbol; qty = summary_of (completed base) account symbol }))
 unfolding tables_at sheets_of
@@ -126,7 +126,7 @@ reads_summary base account symbol a s books e f =
     ∙ sort_one (filter (is_of account symbol) rows) q account symbol (own_summary base (completed base) account symbol a s books e f))
     ∙ find_one q account symbol
 
-pub reads_summary_row : (base : Base) (account : ℕ) (symbol : Text) → IsBooks base → is_some (account_with base account) ≡ true → is_some (security_with base symbol) ≡ true
+pub reads_summary_row : (base : Base) (account : ℕ) (symbol : Text) → BooksInvariant base → is_some (account_with base account) ≡ true → is_some (security_with base symbol) ≡ true
     → summary_in (sheets base) account symbol ≡ row_of_summary account symbol (summary_of (completed base) account symbol)
 reads_summary_row base account symbol books e f =
     let a : (a : Account) × (account_with base account ≡ Some a) = some_of (account_with base account) e in
@@ -138,7 +138,7 @@ held_of account symbol (pos zero) = refl
 held_of account symbol (pos (suc n)) = refl
 held_of account symbol (negsuc n) = refl
 
-pub reads_held : (base : Base) (account : ℕ) (symbol : Text) → IsBooks base → is_some (account_with base account) ≡ true → is_some (security_with base symbol) ≡ true
+pub reads_held : (base : Base) (account : ℕ) (symbol : Text) → BooksInvariant base → is_some (account_with base account) ≡ true → is_some (security_with base symbol) ≡ true
     → summary_held (summary_in (sheets base) account symbol) ≡ summary_of (completed base) account symbol
 reads_held base account symbol books e f =
     ap summary_held (reads_summary_row base account symbol books e f) ∙ held_of account symbol (summary_of (completed base) account symbol)

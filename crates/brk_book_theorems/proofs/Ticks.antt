@@ -12,7 +12,7 @@ use Rattle.brk_model.specs.Commands.{Tick}
 use Rattle.brk_model.specs.Sheets.{sheets}
 use Rattle.brk_model.specs.Tables.{Tables, LastTradeRow, RequestRow}
 use Rattle.brk_changes.specs.Changes.{with_last_trade_set}
-use Rattle.brk_book_theorems.specs.Books.{IsBooks}
+use Rattle.brk_book_theorems.specs.Books.{BooksInvariant}
 use Rattle.brk_book_theorems.specs.TradeReads.{last_trade_in, requests_of}
 use Rattle.brk_book_theorems.specs.Trading.{hit_trades, is_hit, moved_rows, row_after, submitted_rows, tick_rows, with_price_of}
 use Rattle.brk_book_theorems.proofs.Bools.{numbers_back}
@@ -76,7 +76,7 @@ trades_of rs = map (λ r. r.trade) rs
 abbrev pub AreApart : List RequestRow → Type 0
 AreApart rs = all_distinct (trades_of rs) ≡ true
 
-pub base_apart : (base : Base) → IsBooks base → AreApart (sheets base).requests
+pub base_apart : (base : Base) → BooksInvariant base → AreApart (sheets base).requests
 base_apart = reads_apart
 
 -- the first of them is of another trade than the rest

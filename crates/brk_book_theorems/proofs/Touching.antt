@@ -17,7 +17,7 @@ use Rattle.brk_lots.proofs.Changes.{all_filter, firsts_walk}
 use Rattle.brk_lots.proofs.Counts.{OneSide, net_of}
 use Rattle.brk_lots.proofs.Deals.{all_after}
 use Rattle.brk_lots.proofs.Ends.{walk_of}
-use Rattle.brk_book_theorems.specs.Books.{IsBooks}
+use Rattle.brk_book_theorems.specs.Books.{BooksInvariant}
 use Rattle.brk_book_theorems.specs.TradeReads.{position_in}
 use Rattle.brk_book_theorems.proofs.LotOrder.{lot_upon, lots_left, lots_read, position_read, shares_read, trades_held}
 
@@ -98,7 +98,7 @@ touched_by base account symbol d (t ∷ ts) h = by_test (is_zero (lot_qty S t.id
     by_test true e ih = ih ∙ sym (ap (λ c. cond c (touch ∷ R) R) (zero_unchanged base account symbol d t.id h.0 e))
     by_test false e ih = ap (λ rows. cond (is_change touch) (touch ∷ rows) rows) ih
 
-pub touches_read : (base : Base) (account : ℕ) (symbol : Text) (d : Deal) → IsBooks base → AllByRecursion (λ t. (d.trade == t.id) ≡ false) (trades_held base account symbol)
+pub touches_read : (base : Base) (account : ℕ) (symbol : Text) (d : Deal) → BooksInvariant base → AllByRecursion (λ t. (d.trade == t.id) ≡ false) (trades_held base account symbol)
     → touches d (shares_in (completed base) account symbol) ≡ filter is_change (map (λ t. touch_by t.id d (shares_in (completed base) account symbol)) (trades_held base account symbol))
 unfolding touches
 touches_read base account symbol d books h =

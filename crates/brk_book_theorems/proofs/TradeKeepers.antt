@@ -13,7 +13,7 @@ use Rattle.brk_model.specs.Orders.{first_status, ordered_trade}
 use Rattle.brk_model.specs.Feed.{is_triggered, with_tick, with_ticks}
 use Rattle.brk_model.specs.Tests.{tests, next_stamp}
 use Rattle.brk_model.specs.Step.{records_after}
-use Rattle.brk_model.specs.Names.{KnowsAccount, KnowsSecurity}
+use Rattle.brk_model.specs.Names.{AccountExists, SecurityExists}
 use Rattle.brk_book_theorems.specs.Books.{AreMomentsInOrder, AreMovementsInOrder, ArePartiesInOrder, AreTradesInOrder, BandsApart, CompletesFirst, DistinctSymbols, HasBounds, HasVolume, WaitsFirst}
 use Rattle.brk_book_theorems.specs.Steps.{LeavesBooks}
 use Rattle.brk_book_theorems.proofs.Same.{All-append, All-map, any-none}
@@ -39,8 +39,8 @@ books_order base now o k e =
       parties = k.parties;
       market = k.market;
       trades = record {
-        accounts = All-append (KnowsAccount base) base.trades (t ∷ []) k.accounts (not_not (is_some (account_with base o.account)) p.0, tt);
-        securities = All-append (KnowsSecurity base) base.trades (t ∷ []) k.securities (not_not (is_some (security_with base o.symbol)) p.1.0, tt);
+        accounts = All-append (AccountExists base) base.trades (t ∷ []) k.accounts (not_not (is_some (account_with base o.account)) p.0, tt);
+        securities = All-append (SecurityExists base) base.trades (t ∷ []) k.securities (not_not (is_some (security_with base o.symbol)) p.1.0, tt);
         numbered = numbered_more 1 base.trades t (next_number (length base.trades)) k.numbered;
         ways = All-append WaitsFirst base.trades (t ∷ []) k.ways ((λ waits. tt), tt);
         completions = All-append CompletesFirst base.trades (t ∷ []) k.completions (first_mark t (record { stamp = next_stamp base now; status = first_status (kind_of o.order_type) }) refl (first_not_completed (kind_of o.order_type)), tt);
@@ -62,8 +62,8 @@ books_cancel base now id k e =
       parties = k.parties;
       market = k.market;
       trades = record {
-        accounts = All-updated (KnowsAccount base) (λ t. t.id == id) (marked stamp Canceled) base.trades (λ t h. h) k.accounts;
-        securities = All-updated (KnowsSecurity base) (λ t. t.id == id) (marked stamp Canceled) base.trades (λ t h. h) k.securities;
+        accounts = All-updated (AccountExists base) (λ t. t.id == id) (marked stamp Canceled) base.trades (λ t h. h) k.accounts;
+        securities = All-updated (SecurityExists base) (λ t. t.id == id) (marked stamp Canceled) base.trades (λ t h. h) k.securities;
         numbered = numbered_updated 1 (λ t. t.id == id) (marked stamp Canceled) base.trades (λ t. refl) k.numbered;
         ways = All-updated WaitsFirst (λ t. t.id == id) (marked stamp Canceled) base.trades (λ t h. moved_way stamp Canceled t refl) k.ways;
         completions = All-updated CompletesFirst (λ t. t.id == id) (marked stamp Canceled) base.trades (λ t h. moved_elsewhere stamp Canceled t refl) k.completions;
@@ -92,8 +92,8 @@ between_tick base stamp tick k =
       bands = k.bands;
       apart = k.apart;
       trades = record {
-        accounts = All-updated (KnowsAccount base) (is_triggered tick) (marked stamp Submitted) base.trades (λ t h. h) k.trades.accounts;
-        securities = All-updated (KnowsSecurity (with_tick stamp base tick)) (is_triggered tick) (marked stamp Submitted) base.trades (λ t h. h)
+        accounts = All-updated (AccountExists base) (is_triggered tick) (marked stamp Submitted) base.trades (λ t h. h) k.trades.accounts;
+        securities = All-updated (SecurityExists (with_tick stamp base tick)) (is_triggered tick) (marked stamp Submitted) base.trades (λ t h. h)
             (All-map base.trades (λ t h. known_after base stamp tick t.symbol h) k.trades.securities);
         numbered = r.numbered;
         ways = r.ways;

@@ -19,7 +19,7 @@ use Rattle.brk_model.specs.Keys.{number, key_before, row_before, permission_key,
 use Rattle.brk_model.specs.Sheets.{sheets, sheets_of}
 use Rattle.brk_model.specs.Ways.{is_rising}
 use Rattle.brk_model.specs.Names.{NumberedFrom}
-use Rattle.brk_book_theorems.specs.Books.{IsBooks}
+use Rattle.brk_book_theorems.specs.Books.{BooksInvariant}
 use Rattle.brk_book_theorems.specs.TradeReads.{last_number, permissions_of, volume_in}
 use Rattle.brk_book_theorems.specs.Trading.{hit_trades, is_hit}
 use Rattle.brk_book_theorems.proofs.Order.{Sorted, by_key-filter, by_key-map, sort_sorted, sorted_filter}
@@ -121,7 +121,7 @@ numbered_last m (t ∷ ts) k =
 from_none : (n : ℕ) → 0 + n ≡ n
 from_none n = omega arith
 
-pub reads_number : (base : Base) → IsBooks base → last_number (sheets base) ≡ length base.trades
+pub reads_number : (base : Base) → BooksInvariant base → last_number (sheets base) ≡ length base.trades
 reads_number base books =
     ap (λ rows. unwrap_or (option_map (λ r. r.id) (slice_get (reverse rows) 0)) 0) (trades_in_order base books.numbered) ∙ numbered_last 0 base.trades books.numbered ∙ from_none (length base.trades)
 
@@ -137,7 +137,7 @@ reads_permitted base account c e =
     ∙ any-sorted permission_key person (filter (λ p. p.account == account) base.permissions))
 
 -- a base that is in order
-pub triggered_found : (base : Base) (tick : Tick) → IsBooks base → hit_trades tick (sheets base) ≡ map (λ t. t.id) (filter (is_triggered tick) base.trades)
+pub triggered_found : (base : Base) (tick : Tick) → BooksInvariant base → hit_trades tick (sheets base) ≡ map (λ t. t.id) (filter (is_triggered tick) base.trades)
 triggered_found base tick books = reads_triggered base tick books.numbered
 
 -- ---- they rise
@@ -163,7 +163,7 @@ filtered_rise p n (t ∷ ts) k = by_test (p t) (filtered_rise p (n + 1) ts k.1)
         (All-mapped (λ i. nat_lt t.id i ≡ true) (λ t. t.id) (filter p ts) (All-filter (λ u. nat_lt t.id u.id ≡ true) p ts (ids_rise t.id (n + 1) ts (omega (arith, k.0)) k.1))) e
     by_test false e = e
 
-pub triggered_rise : (base : Base) (tick : Tick) → IsBooks base → is_rising (hit_trades tick (sheets base)) ≡ true
+pub triggered_rise : (base : Base) (tick : Tick) → BooksInvariant base → is_rising (hit_trades tick (sheets base)) ≡ true
 triggered_rise base tick books = ap is_rising (reads_triggered base tick books.numbered) ∙ filtered_rise (is_triggered tick) 1 base.trades books.numbered
 
 -- ---- no two requests are of one trade
@@ -186,6 +186,6 @@ filtered_apart accounts p n (t ∷ ts) k = by_test (p t) (filtered_apart account
     by_test true e = ap (λ b. not b && all_distinct (map (λ r. r.trade) rows)) others ∙ e
     by_test false e = e
 
-pub reads_apart : (base : Base) → IsBooks base → all_distinct (map (λ r. r.trade) (sheets base).requests) ≡ true
+pub reads_apart : (base : Base) → BooksInvariant base → all_distinct (map (λ r. r.trade) (sheets base).requests) ≡ true
 reads_apart base books =
     ap (λ rows. all_distinct (map (λ r. r.trade) rows)) (requests_in_order base books.numbered) ∙ filtered_apart base.accounts (has_status Pending) 1 base.trades books.numbered

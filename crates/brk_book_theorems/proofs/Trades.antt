@@ -18,7 +18,7 @@ use Rattle.brk_model.specs.Feed.{triggered_by, with_ticks}
 use Rattle.brk_model.specs.Tests.{tests, refusal_of, next_stamp, wrong_status}
 use Rattle.brk_model.specs.Step.{records_after}
 use Rattle.brk_changes.specs.Changes.{with_last}
-use Rattle.brk_book_theorems.specs.Books.{IsBooks}
+use Rattle.brk_book_theorems.specs.Books.{BooksInvariant}
 use Rattle.brk_book_theorems.specs.Steps.{ChangesRows}
 use Rattle.brk_book_theorems.specs.Trading.{cancel_rows, feed_rows, fed_trades, order_rows}
 use Rattle.brk_book_theorems.proofs.Same.{All-map, any-none}
@@ -41,7 +41,7 @@ unfolding records_after
 step_order base now o books e =
     whole (with_order base (next_stamp base now) o) (next_stamp base now) _ (ordered_rows base (next_stamp base now) o books.numbered)
 
-canceled : (base : Base) (stamp id : ℕ) (o : Option Trade) → IsBooks base → trade_with base id ≡ o
+canceled : (base : Base) (stamp id : ℕ) (o : Option Trade) → BooksInvariant base → trade_with base id ≡ o
     → AllByRecursion (λ t. t.0 ≡ false) (option_map_or (λ t. wrong_status (has_status Pending t) t ∷ []) o ((true, NoTrade) ∷ []))
     → sheets (with_trades (λ u. u.id == id) (marked stamp Canceled) base) ≡ cancel_rows stamp id (sheets base)
 canceled base stamp id None books e k = absurd (true_false k.0)
@@ -56,7 +56,7 @@ step_cancel base now id books e =
     whole (with_trades (λ t. t.id == id) (marked (next_stamp base now) Canceled) base) (next_stamp base now) _
     (canceled base (next_stamp base now) id (trade_with base id) books refl (passed base now (CancelTrade id) e))
 
-pub ready : (base : Base) → IsBooks base → Ready base
+pub ready : (base : Base) → BooksInvariant base → Ready base
 ready base books = record { symbols = books.symbols; numbered = books.numbered; ways = books.ways }
 
 -- the symbols of an accepted feed are known
@@ -71,6 +71,6 @@ unfolding records_after
 step_feed base now ticks books e =
     whole (with_ticks (next_stamp base now) base ticks) (next_stamp base now) _ (fed_rows base (next_stamp base now) ticks (ready base books) (known_ticks base now ticks e))
 
-pub step_triggered : (base : Base) (now : ℕ) (ticks : List Tick) → IsBooks base → refusal_of base now (FeedTicks ticks) ≡ None
+pub step_triggered : (base : Base) (now : ℕ) (ticks : List Tick) → BooksInvariant base → refusal_of base now (FeedTicks ticks) ≡ None
     → triggered_by (next_stamp base now) base ticks ≡ fed_trades (next_stamp base now) ticks (sheets base)
 step_triggered base now ticks books e = fed_triggered base (next_stamp base now) ticks (ready base books) (known_ticks base now ticks e)

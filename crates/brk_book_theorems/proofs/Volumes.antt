@@ -14,7 +14,7 @@ use Rattle.brk_model.specs.Base.{Base, security_with}
 use Rattle.brk_model.specs.Sheets.{sheets}
 use Rattle.brk_model.specs.Commands.{Tick}
 use Rattle.brk_model.specs.Feed.{ticked, with_tick, with_ticks}
-use Rattle.brk_book_theorems.specs.Books.{IsBooks, DistinctSymbols, HasVolume}
+use Rattle.brk_book_theorems.specs.Books.{BooksInvariant, DistinctSymbols, HasVolume}
 use Rattle.brk_book_theorems.specs.TradeReads.{volume_in}
 use Rattle.brk_book_theorems.specs.Trading.{feed_rows}
 use Rattle.brk_book_theorems.specs.Ticks.{exceeds_volume, qty_fed}
@@ -142,7 +142,7 @@ some_fed volume qty g h = more greatest_amount volume qty g h
 volume_found : (base : Base) (s : Security) → security_with base s.symbol ≡ Some s → volume_in (sheets base) s.symbol ≡ s.volume
 volume_found base s e = reads_volume base s.symbol ∙ ap (λ o. option_map_or (λ s. s.volume) o 0) e
 
-pub reads_exceeds : (base : Base) (stamp : ℕ) (ticks : List Tick) → IsBooks base → KnowsTicks base ticks
+pub reads_exceeds : (base : Base) (stamp : ℕ) (ticks : List Tick) → BooksInvariant base → KnowsTicks base ticks
     → list_any (exceeds_volume (sheets base) ticks) ticks ≡ list_any (λ s. nat_lt greatest_amount s.volume) (with_ticks stamp base ticks).securities
 reads_exceeds base stamp ticks books known =
     sym (exceeds_after base stamp ticks ∙ both_ways _ _ to_ticks to_securities)
@@ -202,7 +202,7 @@ volume_after base stamp (tick ∷ ticks) symbol s e =
     ∙ ap (option_map (λ s. cond (bytes_eq s.symbol tick.symbol) (ticked stamp tick s) s)) e)
     ∙ grown stamp tick ticks s
 
-pub volumes_grow : (base : Base) (stamp : ℕ) (ticks : List Tick) (symbol : Text) → IsBooks base → KnowsTicks base ticks → is_some (security_with base symbol) ≡ true
+pub volumes_grow : (base : Base) (stamp : ℕ) (ticks : List Tick) (symbol : Text) → BooksInvariant base → KnowsTicks base ticks → is_some (security_with base symbol) ≡ true
     → volume_in (feed_rows stamp ticks (sheets base)) symbol ≡ volume_in (sheets base) symbol + qty_fed symbol ticks
 volumes_grow base stamp ticks symbol books known there =
     let found = some_of (security_with base symbol) there in

@@ -16,7 +16,7 @@ use Rattle.brk_model.specs.Orders.{assets_of}
 use Rattle.brk_model.specs.PositionView.{asset_total}
 use Rattle.brk_model.specs.Sheets.{sheets, sheets_of}
 use Rattle.brk_model.specs.Tables.{AccountRow, SummaryRow, Tables, tables_at, account_row, last_trade_row, summary_rows}
-use Rattle.brk_book_theorems.specs.Books.{IsBooks, DistinctAccounts}
+use Rattle.brk_book_theorems.specs.Books.{BooksInvariant, DistinctAccounts}
 use Rattle.brk_book_theorems.proofs.Order.{by_key-filter}
 use Rattle.brk_book_theorems.proofs.Same.{NonePass, All-map, flat_map-append, flat_map-empty}
 use Rattle.brk_book_theorems.proofs.Places.{FoundAt, filter-append, find-at}
@@ -136,7 +136,7 @@ worth_of base id (s ∷ ss) h =
     ∙ (λ i. zero_worth (summary_of (completed base) id s.symbol) s.last_price (is_zero (summary_of (completed base) id s.symbol)) refl row refl (worth (sheets base))
     (ap (λ n. summary_of (completed base) id s.symbol *ℤ pos n) (price_found base s h.0)) i +ℤ worth_of base id ss h.1 i)
 
-summaries_read : (base : Base) (id : ℕ) (a : Account) → IsBooks base → account_with base id ≡ Some a
+summaries_read : (base : Base) (id : ℕ) (a : Account) → BooksInvariant base → account_with base id ≡ Some a
     → total_by (worth (sheets base)) (filter (λ r. r.account == id) (sheets base).summaries) ≡ holdings_of base.securities (completed base) id
 unfolding tables_at sheets_of holdings_of
 summaries_read base id a books e =
@@ -147,7 +147,7 @@ summaries_read base id a books e =
     ∙ ap (total_by (worth (sheets base))) (of_all done base.securities base.accounts id ∙ of_account_alone done base.securities base.accounts id a books.owners e)
     ∙ worth_of base id base.securities (each_found base.securities books.symbols)
 
-pub reads_assets : (base : Base) (id : ℕ) (r : AccountRow) → IsBooks base → account_in (sheets base) id ≡ Some r → r.balance +ℤ asset_total (sheets base) r ≡ assets_of base id
+pub reads_assets : (base : Base) (id : ℕ) (r : AccountRow) → BooksInvariant base → account_in (sheets base) id ≡ Some r → r.balance +ℤ asset_total (sheets base) r ≡ assets_of base id
 reads_assets base id r books e = by_account (account_with base id) refl
   where
     same_row : (x y : AccountRow) → Some x ≡ Some y → x ≡ y

@@ -5,7 +5,7 @@ use Rattle.brk_money.specs.Moments.{last_stamp}
 use Rattle.brk_money.specs.Kinds.{same_status}
 use Rattle.brk_money.specs.declared.status.Status.TheVariants.{Completed, Pending, Submitted}
 use Rattle.brk_model.specs.Limits.{greatest_amount}
-use Rattle.brk_model.specs.Records.{Account, Band, Broker, Customer, Mark, Movement, Permission, Security, Trade}
+use Rattle.brk_model.specs.Records.{Account, Band, Broker, Customer, StatusChange, Movement, Permission, Security, Trade}
 use Rattle.brk_model.specs.Base.{Base, completed, find_account, has_status, moment_of}
 use Rattle.brk_model.specs.Names.{NumberedFrom}
 use Rattle.brk_model.specs.Tests.{bands_meet}
@@ -30,7 +30,7 @@ abbrev pub HasVolume : Security → Type 0
 HasVolume s = s.volume ≤ greatest_amount
 
 -- one mark and no other
-abbrev pub IsOne : List Mark → Type 0
+abbrev pub IsOne : List StatusChange → Type 0
 IsOne [] = ⊥
 IsOne (m ∷ []) = ⊤
 IsOne (m ∷ n ∷ marks) = ⊥
@@ -40,7 +40,7 @@ abbrev pub WaitsFirst : Trade → Type 0
 WaitsFirst t = has_status Pending t ≡ true → IsOne t.marks
 
 -- a status that is no completion
-abbrev pub IsNoCompletion : Mark → Type 0
+abbrev pub IsNoCompletion : StatusChange → Type 0
 IsNoCompletion m = same_status m.status Completed ≡ false
 
 -- a trade at the market was never completed
@@ -149,7 +149,7 @@ pub record AreMomentsInOrder (last : Option ℕ) (done : List Trade) : Type 0 wh
   pub clock : IfSome last (λ last. last ≤ last_stamp)
 
 -- a base that is in order: each part speaks of its own lists alone, so that it stays where these do
-pub record IsBooks (base : Base) : Type 0 where
+pub record BooksInvariant (base : Base) : Type 0 where
   pub parties : ArePartiesInOrder base.brokers base.customers base.accounts base.permissions
   pub open parties use *
   pub market : IsMarketInOrder base.securities base.bands

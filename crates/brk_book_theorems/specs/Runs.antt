@@ -11,8 +11,8 @@ use Rattle.brk_model.specs.Run.{Answers, Call, Did, Do, Outcome, Run}
 use Rattle.brk_model.specs.Sheets.{sheets}
 use Rattle.brk_model.specs.Tables.{Tables, TradeRow}
 use Rattle.brk_model.specs.Tests.{next_stamp}
-use Rattle.brk_book_theorems.specs.Books.{IsBooks}
-use Rattle.brk_book_theorems.specs.Sums.{AddUp}
+use Rattle.brk_book_theorems.specs.Books.{BooksInvariant}
+use Rattle.brk_book_theorems.specs.Sums.{SumsMatch}
 
 -- a completed trade stands in the base with a tax
 pub record IsTaxed (id tax : ℕ) (base : Base) : Type 0 where
@@ -48,6 +48,6 @@ TaxesStand later base calls outcomes = ⊤
 -- result was taxed by the very shares that it closed
 pub record RunAddsUp (base : Base) (calls : List (ℕ × Call)) (outcomes : List Outcome) (after : Base) : Type 0 where
   pub run : Run base calls outcomes after
-  pub order : IsBooks after
-  pub sums : AddUp (sheets after)
+  pub order : BooksInvariant after
+  pub sums : SumsMatch (sheets after)
   pub taxes : TaxesStand (sheets after) base calls outcomes

@@ -9,7 +9,7 @@ use Rattle.brk_model.specs.Rows.{row_text, line_text}
 use Rattle.brk_model.specs.Tests.{next_stamp, refusal_of}
 use Rattle.brk_model.specs.Step.{base_after, listed, step}
 use Rattle.brk_changes.specs.Changes.{with_last, with_last_trade, with_security}
-use Rattle.brk_book_theorems.specs.Books.{IsBooks}
+use Rattle.brk_book_theorems.specs.Books.{BooksInvariant}
 
 -- the base after a command that is accepted at a moment
 abbrev pub base_then : Base → ℕ → Command → Base
@@ -17,12 +17,12 @@ base_then base now command = base_after base (next_stamp base now) command
 
 -- a command that is accepted leaves a base in order
 abbrev pub LeavesBooks : Base → ℕ → Command → Type 0
-LeavesBooks base now command = IsBooks base → refusal_of base now command ≡ None → IsBooks (base_then base now command)
+LeavesBooks base now command = BooksInvariant base → refusal_of base now command ≡ None → BooksInvariant (base_then base now command)
 
 -- a command that is accepted makes a change of the tables, and its stamp the last one
 abbrev pub ChangesRows : Base → ℕ → Command → (Tables → Tables) → Type 0
 ChangesRows base now command change =
-    IsBooks base → refusal_of base now command ≡ None → sheets (base_then base now command) ≡ with_last (next_stamp base now) (change (sheets base))
+    BooksInvariant base → refusal_of base now command ≡ None → sheets (base_then base now command) ≡ with_last (next_stamp base now) (change (sheets base))
 
 -- a security more, with its last trade
 abbrev pub with_listing : ℕ → Listing → Tables → Tables
@@ -37,4 +37,4 @@ kept_row key command reply = record { key = key; row_text = row_text command; li
 pub record IsDone (base : Base) (now : ℕ) (command : Command) (stamp : ℕ) (reply : Reply) (change : Tables → Tables) : Type 0 where
   pub steps : step base now command ≡ Ok (reply, base_then base now command)
   pub rows : sheets (base_then base now command) ≡ with_last stamp (change (sheets base))
-  pub kept : IsBooks (base_then base now command)
+  pub kept : BooksInvariant (base_then base now command)

@@ -53,7 +53,7 @@ abbrev pub IsSummed : Tables → HoldingRow → Type 0
 IsSummed t h = is_some (summary_in t h.account h.symbol) ≡ true
 
 -- the sums of some tables are those of their rows
-pub record AddUp (t : Tables) : Type 0 where
+pub record SumsMatch (t : Tables) : Type 0 where
   pub brokers : AllByRecursion (IsBrokerSum t) t.brokers
   pub balances : AllByRecursion (IsBalance t) t.accounts
   pub summaries : AllByRecursion (IsSummary t) t.summaries

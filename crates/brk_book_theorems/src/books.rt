@@ -5,16 +5,16 @@ ghost use Rattle.brk_model.specs.Base.{Base, empty_base};
 ghost use Rattle.brk_model.specs.Commands.{AddAccount, AddBand, AddBroker, AddCharge, AddCustomer, AddCustomerTax, AddPermission, AddSecurity, AddTaxRate, CancelTrade, Command, CompleteTrade, FeedTicks, Listing, Order, PlaceOrder, Reply, Tick, DepositCash, SetOneDay, WithdrawCash};
 ghost use Rattle.brk_model.specs.Keyed.{keeping};
 ghost use Rattle.brk_model.specs.Records.{Account, Band, Broker, Charge, Customer, CustomerTax, Key, Permission, TaxRate};
-ghost use Rattle.brk_book_theorems.specs.Books.{IsBooks};
+ghost use Rattle.brk_book_theorems.specs.Books.{BooksInvariant};
 ghost use Rattle.brk_book_theorems.specs.Steps.{LeavesBooks};
 
 /// The base that everything begins with is in order.
 pub fn the_empty_base_is_in_order()
-    ensures { IsBooks empty_base }
+    ensures { BooksInvariant empty_base }
 {}
 
 /// An accepted record leaves the base in order.
-pub fn records_keep_the_order()
+pub fn records_preserve_the_invariant()
     ensures broker { (base : Base) (now : ℕ) (b : Broker) → LeavesBooks base now (AddBroker b) }
     ensures customer { (base : Base) (now : ℕ) (c : Customer) → LeavesBooks base now (AddCustomer c) }
     ensures account { (base : Base) (now : ℕ) (a : Account) → LeavesBooks base now (AddAccount a) }
@@ -27,33 +27,33 @@ pub fn records_keep_the_order()
 {}
 
 /// So does an accepted order.
-pub fn orders_keep_the_order()
+pub fn orders_preserve_the_invariant()
     ensures { (base : Base) (now : ℕ) (o : Order) → LeavesBooks base now (PlaceOrder o) }
 {}
 
 /// So does an accepted cancel.
-pub fn cancels_keep_the_order()
+pub fn cancels_preserve_the_invariant()
     ensures { (base : Base) (now id : ℕ) → LeavesBooks base now (CancelTrade id) }
 {}
 
 /// So does an accepted feed.
-pub fn feeds_keep_the_order()
+pub fn feeds_preserve_the_invariant()
     ensures { (base : Base) (now : ℕ) (ticks : List Tick) → LeavesBooks base now (FeedTicks ticks) }
 {}
 
 /// So does an accepted result.
-pub fn results_keep_the_order()
+pub fn results_preserve_the_invariant()
     ensures { (base : Base) (now id price : ℕ) → LeavesBooks base now (CompleteTrade id price) }
 {}
 
 /// So does an accepted movement of cash: no movement has the stamp of another or of a completion. So does a settlement day that is set.
-pub fn movements_keep_the_order()
+pub fn movements_preserve_the_invariant()
     ensures deposit { (base : Base) (now account amount : ℕ) → LeavesBooks base now (DepositCash account amount) }
     ensures withdrawal { (base : Base) (now account amount : ℕ) → LeavesBooks base now (WithdrawCash account amount) }
     ensures one_day { (base : Base) (now day : ℕ) → LeavesBooks base now (SetOneDay day) }
 {}
 
 /// So does a row that is kept under its key.
-pub fn kept_rows_keep_the_order()
-    ensures { (base : Base) (key : Option Key) (command : Command) (reply : Reply) → IsBooks base → IsBooks (keeping key command reply base) }
+pub fn kept_rows_preserve_the_invariant()
+    ensures { (base : Base) (key : Option Key) (command : Command) (reply : Reply) → BooksInvariant base → BooksInvariant (keeping key command reply base) }
 {}

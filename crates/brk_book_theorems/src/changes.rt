@@ -16,7 +16,7 @@ ghost use Rattle.brk_model.specs.Sheets.{sheets};
 ghost use Rattle.brk_model.specs.Tables.{no_rows, trade_row};
 ghost use Rattle.brk_model.specs.Tests.{next_stamp, refusal_of};
 ghost use Rattle.brk_changes.specs.Changes.{with_account, with_band, with_broker, with_charge, with_customer, with_customer_tax, with_kept, with_permission, with_rule, with_tax_rate};
-ghost use Rattle.brk_book_theorems.specs.Books.{IsBooks};
+ghost use Rattle.brk_book_theorems.specs.Books.{BooksInvariant};
 ghost use Rattle.brk_book_theorems.specs.Steps.{ChangesRows, kept_row, with_listing};
 ghost use Rattle.brk_book_theorems.specs.Movements.{rows_of_movement};
 ghost use Rattle.brk_book_theorems.specs.Results.{result_rows, rows_of_result};
@@ -56,7 +56,7 @@ pub fn cancels_are_rows()
 /// the tables tell them by then; these trades are the ones that are told.
 pub fn feeds_are_rows()
     ensures rows { (base : Base) (now : ℕ) (ticks : List Tick) → ChangesRows base now (FeedTicks ticks) (feed_rows (next_stamp base now) ticks) }
-    ensures triggered { (base : Base) (now : ℕ) (ticks : List Tick) → IsBooks base → refusal_of base now (FeedTicks ticks) ≡ None
+    ensures triggered { (base : Base) (now : ℕ) (ticks : List Tick) → BooksInvariant base → refusal_of base now (FeedTicks ticks) ≡ None
         → triggered_by (next_stamp base now) base ticks ≡ fed_trades (next_stamp base now) ticks (sheets base) }
 {}
 
@@ -80,7 +80,7 @@ pub fn movements_are_rows()
 /// A settlement day that is set is its row alone: what was completed before keeps its due day.
 pub fn a_settlement_day_is_a_row()
     ensures row { (base : Base) (now day : ℕ) → ChangesRows base now (SetOneDay day) (with_rule day) }
-    ensures due_days { (base : Base) (now day : ℕ) → IsBooks base → refusal_of base now (SetOneDay day) ≡ None
+    ensures due_days { (base : Base) (now day : ℕ) → BooksInvariant base → refusal_of base now (SetOneDay day) ≡ None
         → AllByRecursion (λ t. due_day (Some day) t ≡ due_day base.rule t) (completed base) }
 {}
 

@@ -24,7 +24,7 @@ ghost use Rattle.brk_model.specs.Tables.{AccountRow, BrokerRow, Tables, account_
 ghost use Rattle.brk_model.specs.Ways.{is_rising};
 ghost use Rattle.brk_ref.specs.Records.{tax_of};
 ghost use Rattle.brk_ref.specs.declared.tax.Tax.{Tax};
-ghost use Rattle.brk_book_theorems.specs.Books.{IsBooks};
+ghost use Rattle.brk_book_theorems.specs.Books.{BooksInvariant};
 ghost use Rattle.brk_book_theorems.specs.Reads.{accounts_of, has_overlap, has_tax_id, rates_of, tax_rate_of};
 ghost use Rattle.brk_book_theorems.specs.Sums.{cash_of_account, done_of_broker};
 ghost use Rattle.brk_book_theorems.specs.TradeReads.{band_in, last_move, last_number, lot_shares, lots_in, permission_in, permissions_of, position_in, row_of_summary, summary_held, summary_in};
@@ -92,7 +92,7 @@ pub fn trades_are_found_by_id()
 
 /// The number of the last row is the number of trades.
 pub fn trades_are_counted()
-    ensures { (base : Base) → IsBooks base → last_number (sheets base) ≡ length base.trades }
+    ensures { (base : Base) → BooksInvariant base → last_number (sheets base) ≡ length base.trades }
 {}
 
 /// The number of the last cash row is how many there are, and so many of them as there are movements are without a trade.
@@ -103,18 +103,18 @@ pub fn cash_rows_are_counted()
 
 /// The requests of a symbol that a tick triggers are of the trades that it triggers, by rising number.
 pub fn triggered_requests_are_found()
-    ensures trades { (base : Base) (tick : Tick) → IsBooks base → hit_trades tick (sheets base) ≡ map (λ t. t.id) (filter (is_triggered tick) base.trades) }
-    ensures rising { (base : Base) (tick : Tick) → IsBooks base → is_rising (hit_trades tick (sheets base)) ≡ true }
+    ensures trades { (base : Base) (tick : Tick) → BooksInvariant base → hit_trades tick (sheets base) ≡ map (λ t. t.id) (filter (is_triggered tick) base.trades) }
+    ensures rising { (base : Base) (tick : Tick) → BooksInvariant base → is_rising (hit_trades tick (sheets base)) ≡ true }
 {}
 
 /// No two requests are of one trade.
 pub fn requests_are_of_different_trades()
-    ensures { (base : Base) → IsBooks base → all_distinct (map (λ r. r.trade) (sheets base).requests) ≡ true }
+    ensures { (base : Base) → BooksInvariant base → all_distinct (map (λ r. r.trade) (sheets base).requests) ≡ true }
 {}
 
 /// By the permission of an account for the executor's tax id alone an executor is permitted or not.
 pub fn one_permission_decides()
-    ensures { (base : Base) (account : ℕ) (c : Customer) (e : Executor) → IsBooks base
+    ensures { (base : Base) (account : ℕ) (c : Customer) (e : Executor) → BooksInvariant base
         → permitted c (permission_in (sheets base) account e.tax_id) e ≡ permitted c (filter (λ p. p.account == account) base.permissions) e }
 {}
 
@@ -126,47 +126,47 @@ pub fn permissions_of_an_account_are_found()
 
 /// Among the rows of its tier, its type and its exchange the band of a quantity is found.
 pub fn bands_are_found()
-    ensures { (base : Base) (tier : ℕ) (kind : TradeType) (exchange : Text) (qty : ℕ) → IsBooks base → band_in (sheets base) tier kind exchange qty ≡ band_with base tier kind exchange qty }
+    ensures { (base : Base) (tier : ℕ) (kind : TradeType) (exchange : Text) (qty : ℕ) → BooksInvariant base → band_in (sheets base) tier kind exchange qty ≡ band_with base tier kind exchange qty }
 {}
 
 /// What an account has is its balance and the worth of its summaries at the last prices.
 pub fn assets_are_found()
-    ensures { (base : Base) (id : ℕ) (r : AccountRow) → IsBooks base → account_in (sheets base) id ≡ Some r → r.balance +ℤ asset_total (sheets base) r ≡ assets_of base id }
+    ensures { (base : Base) (id : ℕ) (r : AccountRow) → BooksInvariant base → account_in (sheets base) id ≡ Some r → r.balance +ℤ asset_total (sheets base) r ≡ assets_of base id }
 {}
 
 /// The shares that an account holds of a symbol are those of its lots, the oldest first.
 pub fn lots_are_found()
-    ensures { (base : Base) (account : ℕ) (symbol : Text) → IsBooks base → flat_map lot_shares (lots_in (sheets base) account symbol) ≡ shares_in (completed base) account symbol }
+    ensures { (base : Base) (account : ℕ) (symbol : Text) → BooksInvariant base → flat_map lot_shares (lots_in (sheets base) account symbol) ≡ shares_in (completed base) account symbol }
 {}
 
 /// The lots of an account in a symbol, the oldest first, are those of a position, each opened before the next stamp, none of them by a trade
 /// that is not completed; their shares are those that the account holds.
 pub fn lots_are_a_position()
-    ensures position { (base : Base) (account : ℕ) (symbol : Text) → IsBooks base → IsPosition (position_in (sheets base) account symbol) }
-    ensures shares { (base : Base) (account : ℕ) (symbol : Text) → IsBooks base → shares_of (position_in (sheets base) account symbol) ≡ shares_in (completed base) account symbol }
-    ensures later { (base : Base) (now account : ℕ) (symbol : Text) → IsBooks base → AreOlder (next_stamp base now) (position_in (sheets base) account symbol) }
-    ensures fresh { (base : Base) (id account : ℕ) (symbol : Text) (t : Trade) → IsBooks base → trade_with base id ≡ Some t → is_completed t ≡ false
+    ensures position { (base : Base) (account : ℕ) (symbol : Text) → BooksInvariant base → IsPosition (position_in (sheets base) account symbol) }
+    ensures shares { (base : Base) (account : ℕ) (symbol : Text) → BooksInvariant base → shares_of (position_in (sheets base) account symbol) ≡ shares_in (completed base) account symbol }
+    ensures later { (base : Base) (now account : ℕ) (symbol : Text) → BooksInvariant base → AreOlder (next_stamp base now) (position_in (sheets base) account symbol) }
+    ensures fresh { (base : Base) (id account : ℕ) (symbol : Text) (t : Trade) → BooksInvariant base → trade_with base id ≡ Some t → is_completed t ≡ false
         → IsNew id (position_in (sheets base) account symbol) }
 {}
 
 /// The summary of a known account in a known symbol is its row's, and no row stands where it is 0.
 pub fn summaries_are_found()
-    ensures row { (base : Base) (account : ℕ) (symbol : Text) → IsBooks base → is_some (account_with base account) ≡ true → is_some (security_with base symbol) ≡ true
+    ensures row { (base : Base) (account : ℕ) (symbol : Text) → BooksInvariant base → is_some (account_with base account) ≡ true → is_some (security_with base symbol) ≡ true
         → summary_in (sheets base) account symbol ≡ row_of_summary account symbol (summary_of (completed base) account symbol) }
-    ensures number { (base : Base) (account : ℕ) (symbol : Text) → IsBooks base → is_some (account_with base account) ≡ true → is_some (security_with base symbol) ≡ true
+    ensures number { (base : Base) (account : ℕ) (symbol : Text) → BooksInvariant base → is_some (account_with base account) ≡ true → is_some (security_with base symbol) ≡ true
         → summary_held (summary_in (sheets base) account symbol) ≡ summary_of (completed base) account symbol }
 {}
 
 /// The balance of an account is its opening and what was posted to it.
 pub fn balances_are_sums()
-    ensures { (base : Base) (id : ℕ) (r : AccountRow) → IsBooks base → account_in (sheets base) id ≡ Some r
+    ensures { (base : Base) (id : ℕ) (r : AccountRow) → BooksInvariant base → account_in (sheets base) id ≡ Some r
         → r.balance ≡ r.opening +ℤ total_by (λ r. r.amount) (cash_of_account (sheets base) id) }
 {}
 
 /// The numbers of a broker are those of the completed trades of the broker's accounts: how many, and their commissions added up.
 pub fn brokers_are_sums()
-    ensures trades { (base : Base) (id : ℕ) (r : BrokerRow) → IsBooks base → find (λ r. r.id == id) (sheets base).brokers ≡ Some r
+    ensures trades { (base : Base) (id : ℕ) (r : BrokerRow) → BooksInvariant base → find (λ r. r.id == id) (sheets base).brokers ≡ Some r
         → r.trades ≡ pos (length (done_of_broker (sheets base) id)) }
-    ensures commissions { (base : Base) (id : ℕ) (r : BrokerRow) → IsBooks base → find (λ r. r.id == id) (sheets base).brokers ≡ Some r
+    ensures commissions { (base : Base) (id : ℕ) (r : BrokerRow) → BooksInvariant base → find (λ r. r.id == id) (sheets base).brokers ≡ Some r
         → r.commissions ≡ sum_by (λ t. t.commission) (done_of_broker (sheets base) id) }
 {}

@@ -15,34 +15,34 @@ ghost use Rattle.brk_model.specs.Run.{Call, Outcome, Run};
 ghost use Rattle.brk_model.specs.Shares.{lot_qty, lots, replay};
 ghost use Rattle.brk_model.specs.Sheets.{sheets};
 ghost use Rattle.brk_model.specs.Tests.{refusal_of};
-ghost use Rattle.brk_book_theorems.specs.Books.{IsBooks};
+ghost use Rattle.brk_book_theorems.specs.Books.{BooksInvariant};
 ghost use Rattle.brk_book_theorems.specs.Steps.{LeavesBooks, base_then};
 ghost use Rattle.brk_book_theorems.specs.Runs.{HasTax, IsTaxed, RunAddsUp, TaxesStand, tax_upon};
-ghost use Rattle.brk_book_theorems.specs.Sums.{AddUp};
+ghost use Rattle.brk_book_theorems.specs.Sums.{SumsMatch};
 ghost use Rattle.brk_book_theorems.specs.TradeReads.{position_in};
 
 /// Every accepted command leaves the base in order, and so does any run of calls.
-pub fn runs_keep_the_order()
+pub fn runs_preserve_the_invariant()
     ensures command { (base : Base) (now : ℕ) (command : Command) → LeavesBooks base now command }
     ensures run { (base : Base) (calls : List (ℕ × Call)) (outcomes : List Outcome) (after : Base)
-        → IsBooks base → Run base calls outcomes after → IsBooks after }
+        → BooksInvariant base → Run base calls outcomes after → BooksInvariant after }
     ensures first { (calls : List (ℕ × Call)) (outcomes : List Outcome) (after : Base)
-        → Run empty_base calls outcomes after → IsBooks after }
+        → Run empty_base calls outcomes after → BooksInvariant after }
 {}
 
 /// After any run the lots of an account in a symbol, the oldest first, are those of a position, and spell the single shares that its completed
 /// trades leave, one after another by their completion; so they are the lots of these shares.
-pub fn lots_spell_the_shares()
+pub fn lots_match_the_shares()
     ensures position { (base after : Base) (calls : List (ℕ × Call)) (outcomes : List Outcome) (account : ℕ) (symbol : Text)
-        → IsBooks base → Run base calls outcomes after → IsPosition (position_in (sheets after) account symbol) }
+        → BooksInvariant base → Run base calls outcomes after → IsPosition (position_in (sheets after) account symbol) }
     ensures shares { (base after : Base) (calls : List (ℕ × Call)) (outcomes : List Outcome) (account : ℕ) (symbol : Text)
-        → IsBooks base → Run base calls outcomes after
+        → BooksInvariant base → Run base calls outcomes after
         → shares_of (position_in (sheets after) account symbol) ≡ replay (deals_in (completed after) account symbol) }
     ensures lots { (base after : Base) (calls : List (ℕ × Call)) (outcomes : List Outcome) (account : ℕ) (symbol : Text)
-        → IsBooks base → Run base calls outcomes after
+        → BooksInvariant base → Run base calls outcomes after
         → map plain_lot (position_in (sheets after) account symbol) ≡ lots (shares_in (completed after) account symbol) }
     ensures lives { (base after : Base) (calls : List (ℕ × Call)) (outcomes : List Outcome) (account : ℕ) (symbol : Text) (lot : ℕ)
-        → IsBooks base → Run base calls outcomes after
+        → BooksInvariant base → Run base calls outcomes after
         → IsLife (rows_of lot (deals_in (completed after) account symbol) [])
         (lot_qty (replay (deals_in (completed after) account symbol)) lot) }
 {}
@@ -51,10 +51,10 @@ pub fn lots_spell_the_shares()
 /// purchases less the sales.
 pub fn lots_balance()
     ensures quantities { (base after : Base) (calls : List (ℕ × Call)) (outcomes : List Outcome) (account : ℕ) (symbol : Text)
-        → IsBooks base → Run base calls outcomes after
+        → BooksInvariant base → Run base calls outcomes after
         → lots_total (position_in (sheets after) account symbol) ≡ deals_total (deals_in (completed after) account symbol) }
     ensures costs { (base after : Base) (calls : List (ℕ × Call)) (outcomes : List Outcome) (account : ℕ) (symbol : Text)
-        → IsBooks base → Run base calls outcomes after
+        → BooksInvariant base → Run base calls outcomes after
         → lots_cost (position_in (sheets after) account symbol)
         ≡ gains (deals_in (completed after) account symbol) [] +ℤ spent (deals_in (completed after) account symbol) }
 {}
@@ -62,31 +62,31 @@ pub fn lots_balance()
 /// The tables of a base in order add up: the numbers of brokers, the balances and the summaries are sums of rows, and no lots are without a
 /// summary. So do the tables after any run.
 pub fn tables_add_up()
-    ensures base { (base : Base) → IsBooks base → AddUp (sheets base) }
+    ensures base { (base : Base) → BooksInvariant base → SumsMatch (sheets base) }
     ensures run { (base after : Base) (calls : List (ℕ × Call)) (outcomes : List Outcome)
-        → IsBooks base → Run base calls outcomes after → AddUp (sheets after) }
+        → BooksInvariant base → Run base calls outcomes after → SumsMatch (sheets after) }
 {}
 
 /// An accepted result, with or without a key, is taxed once, by the very shares that it closes and the rates of its moment, and stays so
 /// through any run: its trade's row tells it.
 pub fn results_are_taxed()
     ensures taxed { (base : Base) (now id price : ℕ) (t : Trade)
-        → IsBooks base → trade_with base id ≡ Some t → refusal_of base now (CompleteTrade id price) ≡ None
+        → BooksInvariant base → trade_with base id ≡ Some t → refusal_of base now (CompleteTrade id price) ≡ None
         → IsTaxed id (tax_upon base now price t) (base_then base now (CompleteTrade id price)) }
     ensures called { (base after : Base) (now id price : ℕ) (key : Option Key) (reply : Reply)
-        → IsBooks base → keyed_step base now (CompleteTrade id price) key ≡ (Done reply, after)
+        → BooksInvariant base → keyed_step base now (CompleteTrade id price) key ≡ (Done reply, after)
         → (t : Trade) × (trade_with base id ≡ Some t) × IsTaxed id (tax_upon base now price t) after }
     ensures stays { (base : Base) (calls : List (ℕ × Call)) (outcomes : List Outcome) (after : Base) (id tax : ℕ)
-        → IsBooks base → Run base calls outcomes after → IsTaxed id tax base → IsTaxed id tax after }
+        → BooksInvariant base → Run base calls outcomes after → IsTaxed id tax base → IsTaxed id tax after }
     ensures row { (base : Base) (id tax : ℕ) → IsTaxed id tax base → HasTax (sheets base) id tax }
     ensures run { (base after : Base) (calls : List (ℕ × Call)) (outcomes : List Outcome)
-        → IsBooks base → Run base calls outcomes after → TaxesStand (sheets after) base calls outcomes }
+        → BooksInvariant base → Run base calls outcomes after → TaxesStand (sheets after) base calls outcomes }
 {}
 
 /// So a run from a base in order adds up: it leaves a base in order whose tables add up, and each of its accepted results is taxed so.
 pub fn runs_add_up()
     ensures run { (base after : Base) (calls : List (ℕ × Call)) (outcomes : List Outcome)
-        → IsBooks base → Run base calls outcomes after → RunAddsUp base calls outcomes after }
+        → BooksInvariant base → Run base calls outcomes after → RunAddsUp base calls outcomes after }
     ensures first { (after : Base) (calls : List (ℕ × Call)) (outcomes : List Outcome)
         → Run empty_base calls outcomes after → RunAddsUp empty_base calls outcomes after }
 {}

@@ -26,18 +26,19 @@ use Rattle.brk_changes.specs.Changes.{after_changes}
 use Rattle.brk_plans.specs.declared.plan.Plan.{Plan}
 use Rattle.brk_sql.proofs.Inside.{clean_before}
 use Rattle.brk_plans.specs.Replies.{reply_of}
-use Rattle.brk_book_theorems.specs.Books.{IsBooks}
+use Rattle.brk_book_theorems.specs.Books.{BooksInvariant}
 use Rattle.brk_trade_theorems.specs.Plans.{DoesCommand}
 use Rattle.brk_book_theorems.specs.Steps.{base_then}
 use Rattle.brk_book_theorems.proofs.Keepers.{books_kept}
 use Rattle.brk_invariant_theorems.specs.InForm.{IsInForm, IsKeyInForm}
-use Rattle.brk_invariant_theorems.specs.Sound.{IsSound}
+use Rattle.brk_invariant_theorems.specs.Sound.{AuditInvariant}
 use Rattle.brk_invariant_theorems.proofs.SoundSteps.{keyed_sound}
-use Rattle.brk_store.specs.Holds.{AreTreesOf, Holds, IsApplied, IsRead}
+use Rattle.brk_store.specs.Holds.{AreTreesOf, Holds, ApplyPost, ReadPost}
 use Rattle.brk_decisions.specs.Decisions.{Decides}
 use Rattle.brk_decisions.proofs.Looking.{none_then, same_then}
 use Rattle.brk_commit.specs.Answers.{IsDone, answer_of}
-use Rattle.brk_commit.specs.Booked.{IsCalled, KeepsBase, MayCome, base_after_call}
+use Rattle.brk_commit.specs.Booked.{CallPost, MayBeCommitted, base_after_call}
+use Rattle.brk_store.specs.Audited.{Represents}
 use Rattle.brk_commit.specs.Keys.{IsSought, kept_in, with_key}
 use Rattle.brk_commit.specs.declared.answer.Answer as booked
 use Rattle.brk_commit.specs.declared.answer.Answer.TheVariants as given
@@ -51,7 +52,7 @@ Known now command key planned t = (None ≡ kept_in t key) × Decides now comman
 
 -- it is known after two reads
 pub known : {S E : Type 0} (g : Ghosts S) (old first mid : Held S) (now : ℕ) (command : Command) (key : Option Key) (planned : Result Plan Refusal) → IsSought g old first key (Ok None)
-    → IsRead {E = E} g first mid (Ok planned) (Decides now command) → IsSeen g old mid (Known now command key planned)
+    → ReadPost {E = E} g first mid (Ok planned) (Decides now command) → IsSeen g old mid (Known now command key planned)
 known g old first mid now command key planned sought decided =
     seen_both g old first mid (λ t. None ≡ kept_in t key) (Decides now command planned) (sought_none g old first key sought) (seen g first mid planned (Decides now command) decided)
 
@@ -70,11 +71,11 @@ never_done base command k (given.Refused refusal) e done = done
 
 module _ {S : Type 0} (g : Ghosts S) (old mid : Held S) (now : ℕ) (command : Command) (key : Option Key) (formed : IsInForm command × IfSome key IsKeyInForm) where
   -- the base after the command is sound
-  sound_after : (base : Base) → KeepsBase g old base → (after : Base) (answer : Answer) → keyed_step base now command key ≡ (answer, after) → IsSound after
-  sound_after base keeps after answer e = subst IsSound (ap (λ (x : Answer × Base). x.1) e) (keyed_sound base now command key keeps.sound keeps.books formed.0 formed.1)
+  sound_after : (base : Base) → Represents g old base → (after : Base) (answer : Answer) → keyed_step base now command key ≡ (answer, after) → AuditInvariant after
+  sound_after base keeps after answer e = subst AuditInvariant (ap (λ (x : Answer × Base). x.1) e) (keyed_sound base now command key keeps.sound keeps.books formed.0 formed.1)
 
   -- what was read is of no use
-  pub fails : (P : Tables → Type 0) → IsSeen g old mid P → (fault : Fault) → MayFail fault → IsCalled g old mid now command key (Err fault)
+  pub fails : (P : Tables → Type 0) → IsSeen g old mid P → (fault : Fault) → MayFail fault → CallPost g old mid now command key (Err fault)
   fails P seen fault may = record {
     answered = λ clean. tt;
     kept = λ base keeps. still_kept g old mid base (seen.kept (sheets base)) keeps;
@@ -89,7 +90,7 @@ module _ {S : Type 0} (g : Ghosts S) (old mid : Held S) (now : ℕ) (command : C
 
   -- its key is kept
   pub repeats : (k : Kept) (answer : booked.Answer) → ((base : Base) → repeated base command k ≡ (answer_of answer, base)) → IsSeen g old mid (λ t. Some k ≡ kept_in t key)
-      → IsCalled g old mid now command key (Ok answer)
+      → CallPost g old mid now command key (Ok answer)
   repeats k answer told seen = record {
     answered = λ clean base keeps. (
       base,
@@ -108,12 +109,12 @@ module _ {S : Type 0} (g : Ghosts S) (old mid : Held S) (now : ℕ) (command : C
 
   -- its key is kept, and the answer may find no memory
   pub repeats_or_fails : (k : Kept) (result : Result booked.Answer Fault) → IfOk result (λ answer. (base : Base) → repeated base command k ≡ (answer_of answer, base))
-      → OnErr result (result ≡ Err Memory) → IsSeen g old mid (λ t. Some k ≡ kept_in t key) → IsCalled g old mid now command key result
+      → OnErr result (result ≡ Err Memory) → IsSeen g old mid (λ t. Some k ≡ kept_in t key) → CallPost g old mid now command key result
   repeats_or_fails k (Ok answer) told none seen = repeats k answer told seen
   repeats_or_fails k (Err fault) none e seen = fails (λ t. Some k ≡ kept_in t key) seen fault (inl (same_fault fault Memory (Err fault) refl e))
 
   -- it is refused
-  pub refuses : (refusal : Refusal) → IsSeen g old mid (Known now command key (Err refusal)) → IsCalled g old mid now command key (Ok (given.Refused refusal))
+  pub refuses : (refusal : Refusal) → IsSeen g old mid (Known now command key (Err refusal)) → CallPost g old mid now command key (Ok (given.Refused refusal))
   refuses refusal seen = record {
     answered = λ clean base keeps.
         let known = seen.told clean (sheets base) keeps.rows in
@@ -135,11 +136,11 @@ module _ {S : Type 0} (g : Ghosts S) (old mid : Held S) (now : ℕ) (command : C
   -- it is planned, and is kept with its plan
   module _ (plan : Plan) (seen : IsSeen g old mid (Known now command key (Ok plan))) (end : Held S) (kept : Plan) (reply : kept.reply ≡ plan.reply)
       (rows : (t : Tables) → after_changes kept.changes.items t ≡ with_key key command (reply_of plan.reply) (after_changes plan.changes.items t)) where
-    clean_then : {r : Result (Unit {0}) Fault} → IsApplied g mid end r (after_changes kept.changes.items) → HasCleanDisk (state g end) → HasCleanDisk (state g mid)
+    clean_then : {r : Result (Unit {0}) Fault} → ApplyPost g mid end r (after_changes kept.changes.items) → HasCleanDisk (state g end) → HasCleanDisk (state g mid)
     clean_then applied = clean_before (state g mid) (state g end) _ applied.survives
 
     -- the changes lead to the tables after the command
-    lands : HasCleanDisk (state g mid) → (base : Base) → KeepsBase g old base → (after : Base) × (sheets after ≡ after_changes kept.changes.items (sheets base)) × IsBooks after
+    lands : HasCleanDisk (state g mid) → (base : Base) → Represents g old base → (after : Base) × (sheets after ≡ after_changes kept.changes.items (sheets base)) × BooksInvariant after
         × (keyed_step base now command key ≡ (answer_of (given.Done kept.reply), after)) × (has_texts (sheets after) ≡ true)
     lands clean base keeps =
         let known = seen.told clean (sheets base) keeps.rows in
@@ -157,20 +158,20 @@ module _ {S : Type 0} (g : Ghosts S) (old mid : Held S) (now : ℕ) (command : C
         )
 
     -- and so do the trees that a crash may leave
-    comes : HasCleanDisk (state g mid) → (base : Base) → KeepsBase g old base → (trees : Trees) → AreTreesOf (after_changes kept.changes.items (sheets base)) trees
+    comes : HasCleanDisk (state g mid) → (base : Base) → Represents g old base → (trees : Trees) → AreTreesOf (after_changes kept.changes.items (sheets base)) trees
         → AreTreesOf (sheets (base_after_call base now command key)) trees
     comes clean base keeps trees are =
         let l = lands clean base keeps in
         subst (λ t. AreTreesOf t trees) (sym l.1 ∙ ap (λ (x : Answer × Base). sheets x.1) (sym l.3)) are
 
-    texts_come : HasCleanDisk (state g mid) → (base : Base) → KeepsBase g old base → has_texts (sheets (base_after_call base now command key)) ≡ true
+    texts_come : HasCleanDisk (state g mid) → (base : Base) → Represents g old base → has_texts (sheets (base_after_call base now command key)) ≡ true
     texts_come clean base keeps =
         let l = lands clean base keeps in
         ap (λ (x : Answer × Base). has_texts (sheets x.1)) l.3 ∙ l.4
 
-    come : {r : Result (Unit {0}) Fault} → (applied : IsApplied g mid end r (after_changes kept.changes.items)) → Survives (state g old) (state g end) (MayCome g old now command key)
+    come : {r : Result (Unit {0}) Fault} → (applied : ApplyPost g mid end r (after_changes kept.changes.items)) → Survives (state g old) (state g end) (MayBeCommitted g old now command key)
     come applied =
-        none_then (state g old) (state g mid) (state g end) (MayCome g old now command key) seen.survives
+        none_then (state g old) (state g mid) (state g end) (MayBeCommitted g old now command key) seen.survives
         (survives_weaker (state g mid) (state g end) _ _ (λ clean trees may.
         let was = seen.same (clean_then applied clean) may.0 in (
           was.was_open,
@@ -179,7 +180,7 @@ module _ {S : Type 0} (g : Ghosts S) (old mid : Held S) (now : ℕ) (command : C
         )) applied.survives)
 
     -- the changes failed
-    pub books_none : (fault : Fault) → MayFail fault → IsApplied {V = Unit {0}} g mid end (Err fault) (after_changes kept.changes.items) → IsCalled g old end now command key (Err fault)
+    pub books_none : (fault : Fault) → MayFail fault → ApplyPost {V = Unit {0}} g mid end (Err fault) (after_changes kept.changes.items) → CallPost g old end now command key (Err fault)
     books_none fault may applied =
         let clean_mid = clean_before (state g mid) (state g end) _ applied.survives in
         record {
@@ -195,7 +196,7 @@ module _ {S : Type 0} (g : Ghosts S) (old mid : Held S) (now : ℕ) (command : C
         }
 
     -- they are made
-    pub books_it : (x : Unit {0}) → IsApplied {E = Fault} g mid end (Ok x) (after_changes kept.changes.items) → IsCalled g old end now command key (Ok (given.Done kept.reply))
+    pub books_it : (x : Unit {0}) → ApplyPost {E = Fault} g mid end (Ok x) (after_changes kept.changes.items) → CallPost g old end now command key (Ok (given.Done kept.reply))
     books_it x applied =
         let clean_mid = clean_before (state g mid) (state g end) _ applied.survives in
         record {

@@ -11,9 +11,9 @@ use Rattle.brk_model.specs.Tables.{Tables}
 use Rattle.brk_ref.specs.Records.{kept_of}
 use Rattle.brk_ref.specs.declared.key.Kept as row
 use Rattle.brk_sql.proofs.Inside.{clean_before}
-use Rattle.brk_store.specs.Holds.{Holds, IsRead, IsSame}
+use Rattle.brk_store.specs.Holds.{Holds, ReadPost, IsSame}
 use Rattle.brk_decisions.proofs.Looking.{none_then, same_then}
-use Rattle.brk_commit.specs.Booked.{KeepsBase}
+use Rattle.brk_store.specs.Audited.{Represents}
 use Rattle.brk_commit.specs.Keys.{IsSought, kept_in}
 
 -- a call that does nothing
@@ -22,7 +22,7 @@ still s = record { clean = omega arith; shield = λ x. x; counts = omega arith; 
 
 module _ {S : Type 0} (g : Ghosts S) where
   -- books are kept where the rows are
-  pub still_kept : (old new : Held S) (base : Base) → (Holds g old (sheets base) → Holds g new (sheets base)) → KeepsBase g old base → KeepsBase g new base
+  pub still_kept : (old new : Held S) (base : Base) → (Holds g old (sheets base) → Holds g new (sheets base)) → Represents g old base → Represents g new base
   still_kept old new base rows keeps = record { books = keeps.books; sound = keeps.sound; texts = keeps.texts; rows = rows keeps.rows }
 
   -- nothing was changed, and this is so of whatever rows the store holds
@@ -33,7 +33,7 @@ module _ {S : Type 0} (g : Ghosts S) where
     pub clean : HasCleanDisk (state g new) → HasCleanDisk (state g old)
     pub survives : Survives (state g old) (state g new) (λ _. ⊥)
 
-  pub seen : {V E : Type 0} (old new : Held S) (v : V) (P : V → Tables → Type 0) → IsRead {E = E} g old new (Ok v) P → IsSeen old new (P v)
+  pub seen : {V E : Type 0} (old new : Held S) (v : V) (P : V → Tables → Type 0) → ReadPost {E = E} g old new (Ok v) P → IsSeen old new (P v)
   seen old new v P read =
       record { told = read.told; kept = read.kept; same = read.same; clean = clean_before (state g old) (state g new) (λ _. ⊥) read.survives; survives = read.survives }
 

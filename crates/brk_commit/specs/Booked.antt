@@ -13,44 +13,40 @@ use Rattle.brk_model.specs.Records.{Key}
 use Rattle.brk_model.specs.Keyed.{keyed_step}
 use Rattle.brk_model.specs.Run.{MayFail}
 use Rattle.brk_invariant_theorems.specs.InForm.{IsInForm, IsKeyInForm}
-use Rattle.brk_store.specs.Audited.{HoldsBooks}
-use Rattle.brk_store.specs.Holds.{AreTreesOf, IsSame, LeavesOnly}
+use Rattle.brk_store.specs.Audited.{Represents}
+use Rattle.brk_store.specs.Holds.{AreTreesOf, IsSame, OnlyCrashState}
 use Rattle.brk_commit.specs.Answers.{BookedNothing, IsDone, answer_of}
 use Rattle.brk_commit.specs.declared.answer.Answer as booked
 
--- a store keeps the books of a base: it holds its tables, the base is in order and sound, so that they pass an audit, and their texts can be read
-abbrev pub KeepsBase : {S : Type 0} → Ghosts S → Held S → Base → Type 0
-KeepsBase g store base = HoldsBooks g store base
-
 -- over each base whose books were kept, the command is answered by its step under its key, and the books of the base after it are kept
-abbrev pub Steps : {S : Type 0} → Ghosts S → Held S → Held S → ℕ → Command → Option Key → booked.Answer → Type 0
-Steps g old new now command key answer =
-    (base : Base) → KeepsBase g old base → (after : Base) × KeepsBase g new after × (keyed_step base now command key ≡ (answer_of answer, after))
+abbrev pub RefinesStep : {S : Type 0} → Ghosts S → Held S → Held S → ℕ → Command → Option Key → booked.Answer → Type 0
+RefinesStep g old new now command key answer =
+    (base : Base) → Represents g old base → (after : Base) × Represents g new after × (keyed_step base now command key ≡ (answer_of answer, after))
 
 -- the books that were kept still are
 abbrev pub StillKeeps : {S : Type 0} → Ghosts S → Held S → Held S → Type 0
-StillKeeps g old new = (base : Base) → KeepsBase g old base → KeepsBase g new base
+StillKeeps g old new = (base : Base) → Represents g old base → Represents g new base
 
 -- the base after a command under its key
 abbrev pub base_after_call : Base → ℕ → Command → Option Key → Base
 base_after_call base now command key = (keyed_step base now command key).1
 
 -- these are the trees of the tables after the command, whose texts can be read, over each base whose books were kept in a store that was open
-abbrev pub MayCome : {S : Type 0} → Ghosts S → Held S → ℕ → Command → Option Key → Trees → Type 0
-MayCome g old now command key trees =
-    IsTrue (state g old).is_open × ((base : Base) → KeepsBase g old base → AreTreesOf (sheets (base_after_call base now command key)) trees)
-    × ((base : Base) → KeepsBase g old base → IsTrue (has_texts (sheets (base_after_call base now command key))))
+abbrev pub MayBeCommitted : {S : Type 0} → Ghosts S → Held S → ℕ → Command → Option Key → Trees → Type 0
+MayBeCommitted g old now command key trees =
+    IsTrue (state g old).is_open × ((base : Base) → Represents g old base → AreTreesOf (sheets (base_after_call base now command key)) trees)
+    × ((base : Base) → Represents g old base → IsTrue (has_texts (sheets (base_after_call base now command key))))
 
 -- a command at a moment is answered, or fails and changes nothing; all of it as far as the disk returns what was written
-pub record IsCalled {S : Type 0} (g : Ghosts S) (old new : Held S) (now : ℕ) (command : Command) (key : Option Key) (result : Result booked.Answer Fault) : Type 0 where
-  pub answered : HasCleanDisk (state g new) → IfOk result (Steps g old new now command key)
+pub record CallPost {S : Type 0} (g : Ghosts S) (old new : Held S) (now : ℕ) (command : Command) (key : Option Key) (result : Result booked.Answer Fault) : Type 0 where
+  pub answered : HasCleanDisk (state g new) → IfOk result (RefinesStep g old new now command key)
   pub kept : OnErr result (StillKeeps g old new)
   -- it fails for want of memory or for its store
   pub fault : IfErr result MayFail
   -- a crash leaves what it could leave before, or the tables after the command
-  pub survives : Survives (state g old) (state g new) (MayCome g old now command key)
+  pub survives : Survives (state g old) (state g new) (MayBeCommitted g old now command key)
   -- once the command is done it leaves those and nothing else
-  pub durable : HasCleanDisk (state g new) → IsDone result → (base : Base) → KeepsBase g old base → LeavesOnly g new (AreTreesOf (sheets (base_after_call base now command key)))
+  pub durable : HasCleanDisk (state g new) → IsDone result → (base : Base) → Represents g old base → OnlyCrashState g new (AreTreesOf (sheets (base_after_call base now command key)))
   -- its store was open, is open, and has committed what it holds
   pub opened : HasCleanDisk (state g new) → IsDone result → IsTrue (state g old).is_open × IsTrue (state g new).is_open × ((state g new).committed ≡ (state g new).now)
   -- where nothing was booked the whole database is as it was

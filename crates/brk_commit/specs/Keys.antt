@@ -10,7 +10,7 @@ use Rattle.brk_book_theorems.specs.Steps.{kept_row}
 use Rattle.brk_ref.specs.Records.{kept_of, key_of}
 use Rattle.brk_ref.specs.declared.key.Kept as row
 use Rattle.brk_ref.specs.declared.key.Key as given
-use Rattle.brk_store.specs.Holds.{IsRead}
+use Rattle.brk_store.specs.Holds.{ReadPost}
 use Rattle.brk_changes.specs.Changes.{with_kept}
 
 -- the key of a command, if it has one
@@ -30,4 +30,4 @@ with_key (Some key) command reply t = with_kept (kept_row key command reply) t
 -- what is kept under a key was read, if there is a key
 abbrev pub IsSought : {S : Type 0} → Ghosts S → Held S → Held S → Option Key → Result (Option row.Kept) Fault → Type 0
 IsSought g old new None result = (new ≡ old) × (result ≡ Ok None)
-IsSought g old new (Some key) result = IsRead g old new result (λ kept t. option_map kept_of kept ≡ kept_in t (Some key))
+IsSought g old new (Some key) result = ReadPost g old new result (λ kept t. option_map kept_of kept ≡ kept_in t (Some key))

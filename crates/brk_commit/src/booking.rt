@@ -4,7 +4,7 @@ ghost use Rattle.std.specs.Prelude.{IfSome};
 ghost use Rattle.std.specs.Option.{option_copied};
 ghost use Rattle.brk_commands.specs.Commands.{command_of};
 ghost use Rattle.brk_commit.specs.Keys.{key_for};
-ghost use Rattle.brk_commit.specs.Booked.{IsCalled};
+ghost use Rattle.brk_commit.specs.Booked.{CallPost};
 ghost use Rattle.brk_invariant_theorems.specs.InForm.{IsInForm, IsKeyInForm};
 
 use crate::answer::Answer;
@@ -46,7 +46,7 @@ pub fn book<S: Alter>(
     command: &Command,
     key: Option<&Key>,
 ) -> Result<Answer, Fault>
-    ensures called { IsCalled S.Store store.old store.new now (command_of command.now) (key_for (option_copied key.entry)) result }
+    ensures called { CallPost S.Store store.old store.new now (command_of command.now) (key_for (option_copied key.entry)) result }
 {
     are_in_form(command, key);
     if let Some(kept) = find_kept(store, key)? {

@@ -4,7 +4,7 @@ ghost use Rattle.std.specs.Prelude.{IfErr};
 ghost use Rattle.brk_commands.specs.Commands.{command_of};
 ghost use Rattle.brk_decisions.specs.Decisions.{Decides};
 ghost use Rattle.brk_model.specs.Run.{MayFail};
-ghost use Rattle.brk_store.specs.Holds.{IsRead};
+ghost use Rattle.brk_store.specs.Holds.{ReadPost};
 
 use brk_commands::Command;
 use brk_decisions::{
@@ -25,7 +25,7 @@ pub(crate) fn decide<S: Alter>(
     now: Stamp,
     command: &Command,
 ) -> Planned<Plan>
-    ensures read { IsRead S.Store store.old store.new result (Decides now (command_of command.now)) }
+    ensures read { ReadPost S.Store store.old store.new result (Decides now (command_of command.now)) }
     ensures fault { IfErr result MayFail }
 {
     match command {

@@ -16,10 +16,10 @@ use Rattle.brk_model.specs.Tests.{first_refusal}
 use Rattle.brk_plans.specs.Cancel.{IsCancel, cancel_tests}
 use Rattle.brk_plans.specs.Reference.{clock_test}
 use Rattle.brk_plans.specs.declared.plan.Plan.{Plan}
-use Rattle.brk_book_theorems.specs.Books.{IsBooks}
+use Rattle.brk_book_theorems.specs.Books.{BooksInvariant}
 use Rattle.brk_trade_theorems.specs.TradePlans.{IsReadForCancel}
 use Rattle.brk_trade_theorems.proofs.CancelPlanning.{cancel_plan_does, cancel_refused}
-use Rattle.brk_store.specs.Holds.{IsRead}
+use Rattle.brk_store.specs.Holds.{ReadPost}
 use Rattle.brk_decisions.specs.Decisions.{Decides}
 use Rattle.brk_decisions.proofs.Looking.{read_both}
 
@@ -28,14 +28,14 @@ abbrev pub Known : ℕ → Option Status → Option ℕ → Tables → Type 0
 Known id found last t = (last ≡ t.last) × (found ≡ option_map (λ r. r.status) (trade_in t id))
 
 -- they are known after two reads
-pub last_and_status : {S E F : Type 0} (g : Ghosts S) (old mid end : Held S) (id : ℕ) (found : Option Status) (last : Option ℕ) → IsRead {E = E} g old mid (Ok last) (λ last t. last ≡ t.last)
-    → IsRead {E = F} g mid end (Ok found) (λ found t. found ≡ option_map (λ r. r.status) (trade_in t id)) → IsRead {E = Fault} g old end (Ok found) (λ f. Known id f last)
+pub last_and_status : {S E F : Type 0} (g : Ghosts S) (old mid end : Held S) (id : ℕ) (found : Option Status) (last : Option ℕ) → ReadPost {E = E} g old mid (Ok last) (λ last t. last ≡ t.last)
+    → ReadPost {E = F} g mid end (Ok found) (λ found t. found ≡ option_map (λ r. r.status) (trade_in t id)) → ReadPost {E = Fault} g old end (Ok found) (λ f. Known id f last)
 last_and_status g old mid end id found last at_last at_found =
     read_both g old mid end {H = Fault} last found found (λ last t. last ≡ t.last) (λ found t. found ≡ option_map (λ r. r.status) (trade_in t id)) (λ f. Known id f last) (λ t e f. (e, f)) at_last at_found
 
 -- a cancel's plan does it, and its refusal is that of the command
 module _ (id : ℕ) (found : Option Status) (last : Option ℕ) (now : ℕ) (moment : now ≤ last_stamp) where
-  looked_up : (t : Tables) → Known id found last t → (base : Base) → IsBooks base → t ≡ sheets base → IsReadForCancel base id found last now
+  looked_up : (t : Tables) → Known id found last t → (base : Base) → BooksInvariant base → t ≡ sheets base → IsReadForCancel base id found last now
   looked_up t known base books e = record {
     books = books;
     status_read = known.1 ∙ ap (λ x. option_map (λ r. r.status) (trade_in x id)) e;

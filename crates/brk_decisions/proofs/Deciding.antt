@@ -6,23 +6,23 @@ use Rattle.sqlite.specs.Held.{Held, state}
 use Rattle.sqlite.specs.State.{HasCleanDisk}
 use Rattle.brk_money.specs.declared.fault.Fault.{Fault}
 use Rattle.brk_model.specs.Tables.{Tables}
-use Rattle.brk_store.specs.Holds.{Holds, IsRead}
+use Rattle.brk_store.specs.Holds.{Holds, ReadPost}
 use Rattle.brk_store.specs.Kept.{IsKept, clean_at}
 use Rattle.brk_store.proofs.Retelling.{retold}
 use Rattle.brk_decisions.proofs.Looking.{none_then, same_then}
 
 module _ {S : Type 0} (g : Ghosts S) (old mid : Held S) where
   -- an answer that follows from what was read; or no memory for it
-  pub decided : {V X E : Type 0} (v : V) (P : V → Tables → Type 0) (R : X → Tables → Type 0) (result : Result X Fault) → IsRead {E = E} g old mid (Ok v) P
-      → IfOk result (λ x. (t : Tables) → P v t → R x t) → IsRead g old mid result R
+  pub decided : {V X E : Type 0} (v : V) (P : V → Tables → Type 0) (R : X → Tables → Type 0) (result : Result X Fault) → ReadPost {E = E} g old mid (Ok v) P
+      → IfOk result (λ x. (t : Tables) → P v t → R x t) → ReadPost g old mid result R
   decided v P R (Ok x) read tell = retold g old mid v x P R tell read
   decided v P R (Err fault) read none =
       record { told = λ clean. tt; opened = λ clean. tt; kept = read.kept; same = read.same; survives = read.survives }
 
 module _ {S : Type 0} (g : Ghosts S) (old mid end : Held S) where
   -- an answer that follows from what was read, and from what was read on in a store that is kept
-  pub decided_on : {V X E : Type 0} (v : V) (P : V → Tables → Type 0) (R : X → Tables → Type 0) (result : Result X Fault) → IsRead {E = E} g old mid (Ok v) P → IsKept g mid end
-      → (HasCleanDisk (state g end) → IfOk result (λ x. (t : Tables) → Holds g mid t → P v t → R x t)) → IsRead g old end result R
+  pub decided_on : {V X E : Type 0} (v : V) (P : V → Tables → Type 0) (R : X → Tables → Type 0) (result : Result X Fault) → ReadPost {E = E} g old mid (Ok v) P → IsKept g mid end
+      → (HasCleanDisk (state g end) → IfOk result (λ x. (t : Tables) → Holds g mid t → P v t → R x t)) → ReadPost g old end result R
   decided_on {V} {X} v P R result read on tell = record {
     told = λ clean. answered (clean_at mid end on clean) result (tell clean);
     opened = λ clean. was_open (read.opened (clean_at mid end on clean)) result;
@@ -44,5 +44,5 @@ module _ {S : Type 0} (g : Ghosts S) (old mid end : Held S) (same : mid ≡ end)
   pub kept_at : IsKept g old mid → IsKept g old end
   kept_at k = subst (λ (h : Held S). IsKept g old h) same k
 
-  pub read_at : {V E : Type 0} (result : Result V E) (Told : V → Tables → Type 0) → IsRead g old mid result Told → IsRead g old end result Told
-  read_at result Told read = subst (λ (h : Held S). IsRead g old h result Told) same read
+  pub read_at : {V E : Type 0} (result : Result V E) (Told : V → Tables → Type 0) → ReadPost g old mid result Told → ReadPost g old end result Told
+  read_at result Told read = subst (λ (h : Held S). ReadPost g old h result Told) same read

@@ -17,14 +17,14 @@ use Rattle.brk_orders.specs.Records.{ticks_of}
 use Rattle.brk_orders.specs.declared.tick.Tick.{Tick}
 use Rattle.brk_ref.specs.Records.{last_trade_of}
 use Rattle.brk_ref.specs.declared.last_trade.LastTrade.{LastTrade}
-use Rattle.brk_plans.specs.Feed.{Held, IsFeed, feed_tests, held, held_of, is_of, lacks_quote, span_of}
+use Rattle.brk_plans.specs.Feed.{SymbolState, IsFeed, feed_tests, held, held_of, is_of, lacks_quote, span_of}
 use Rattle.brk_plans.specs.Reference.{clock_test}
 use Rattle.brk_changes.specs.Rows.{request_row_of}
 use Rattle.brk_changes.specs.declared.request_row.RequestRow as request
 use Rattle.brk_plans.specs.declared.plan.Plan.{Plan}
 use Rattle.brk_plans.specs.declared.quote.Quote.{Quote}
 use Rattle.brk_plans.specs.declared.span.Span.{Span}
-use Rattle.brk_book_theorems.specs.Books.{IsBooks}
+use Rattle.brk_book_theorems.specs.Books.{BooksInvariant}
 use Rattle.brk_trade_theorems.specs.TradePlans.{AreQuotes, IsQuote, IsReadForFeed}
 use Rattle.brk_book_theorems.specs.TradeReads.{last_trade_in, requests_of}
 use Rattle.brk_trade_theorems.proofs.FeedPlanning.{feed_plan_does, feed_refused}
@@ -38,7 +38,7 @@ abbrev pub IsQuoteOf : List Tick → Tick → Option Quote → Tables → Type 0
 IsQuoteOf all tick quote t = (option_map (λ q. last_trade_of q.last) quote ≡ last_trade_in t tick.symbol) × IfSome quote (λ q. IsQuote t tick all (held_of q))
 
 -- the last stamp, and by all ticks of a feed the quotes of the symbols of some
-abbrev pub Known : (all ticks : List Tick) → List Held → Option ℕ → Tables → Type 0
+abbrev pub Known : (all ticks : List Tick) → List SymbolState → Option ℕ → Tables → Type 0
 Known all ticks quotes last t = (last ≡ t.last) × AreQuotes t all ticks quotes
 
 -- what the selections of a tick's symbol brought, merged, is its quote
@@ -79,8 +79,8 @@ module _ (all ticks : List Tick) (tick : Tick) (quotes : List Quote) (last : Opt
       is_false false e = refl
 
 -- a feed's plan does it, and its refusal is that of the command
-module _ (ticks : List Tick) (quotes : List Held) (last : Option ℕ) (now : ℕ) (moment : now ≤ last_stamp) where
-  looked_up : (t : Tables) → Known ticks ticks quotes last t → (base : Base) → IsBooks base → t ≡ sheets base → IsReadForFeed base ticks quotes last now
+module _ (ticks : List Tick) (quotes : List SymbolState) (last : Option ℕ) (now : ℕ) (moment : now ≤ last_stamp) where
+  looked_up : (t : Tables) → Known ticks ticks quotes last t → (base : Base) → BooksInvariant base → t ≡ sheets base → IsReadForFeed base ticks quotes last now
   looked_up t known base books e = record {
     books = books;
     quotes_read = subst (λ x. AreQuotes x ticks ticks quotes) e known.1;

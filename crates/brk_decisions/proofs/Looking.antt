@@ -6,7 +6,7 @@ use Rattle.sqlite.specs.State.{State, Survives}
 use Rattle.sqlite.proofs.StateLemmas.{survives_then}
 use Rattle.brk_model.specs.Tables.{Tables}
 use Rattle.brk_sql.proofs.Inside.{clean_before}
-use Rattle.brk_store.specs.Holds.{IsRead, IsSame}
+use Rattle.brk_store.specs.Holds.{ReadPost, IsSame}
 
 pub same_then : (a b c : State) → IsSame a b → IsSame b c → IsSame a c
 same_then a b c f s = record { was_open = f.was_open; now = s.now ∙ f.now; committed = s.committed ∙ f.committed }
@@ -18,7 +18,7 @@ module _ {S : Type 0} (g : Ghosts S) where
   module _ (old mid end : Held S) where
     -- two reads are a read of both
     pub read_both : {V W X E F H : Type 0} (v : V) (w : W) (x : X) (P : V → Tables → Type 0) (Q : W → Tables → Type 0) (R : X → Tables → Type 0)
-        → ((t : Tables) → P v t → Q w t → R x t) → IsRead {E = E} g old mid (Ok v) P → IsRead {E = F} g mid end (Ok w) Q → IsRead {E = H} g old end (Ok x) R
+        → ((t : Tables) → P v t → Q w t → R x t) → ReadPost {E = E} g old mid (Ok v) P → ReadPost {E = F} g mid end (Ok w) Q → ReadPost {E = H} g old end (Ok x) R
     read_both v w x P Q R tell first second =
         let before = clean_before (state g mid) (state g end) (λ _. ⊥) second.survives in
         record {
@@ -31,7 +31,7 @@ module _ {S : Type 0} (g : Ghosts S) where
 
     -- where what comes after two reads fails, they changed nothing
     pub read_failed : {V W X E F H : Type 0} (v : V) (w : W) (e : H) (P : V → Tables → Type 0) (Q : W → Tables → Type 0) (R : X → Tables → Type 0)
-        → IsRead {E = E} g old mid (Ok v) P → IsRead {E = F} g mid end (Ok w) Q → IsRead {E = H} g old end (Err e) R
+        → ReadPost {E = E} g old mid (Ok v) P → ReadPost {E = F} g mid end (Ok w) Q → ReadPost {E = H} g old end (Err e) R
     read_failed v w e P Q R first second =
         let before = clean_before (state g mid) (state g end) (λ _. ⊥) second.survives in
         record {

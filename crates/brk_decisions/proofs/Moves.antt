@@ -18,10 +18,10 @@ use Rattle.brk_plans.specs.Movement.{IsMove, move_tests}
 use Rattle.brk_plans.specs.Reference.{clock_test}
 use Rattle.brk_plans.specs.declared.movement.MoveFound.{MoveFound}
 use Rattle.brk_plans.specs.declared.plan.Plan.{Plan}
-use Rattle.brk_book_theorems.specs.Books.{IsBooks}
+use Rattle.brk_book_theorems.specs.Books.{BooksInvariant}
 use Rattle.brk_trade_theorems.specs.MovePlans.{IsFoundForMove, IsReadForMove}
 use Rattle.brk_trade_theorems.proofs.MovePlanning.{move_plan_does, move_refused}
-use Rattle.brk_store.specs.Holds.{IsRead}
+use Rattle.brk_store.specs.Holds.{ReadPost}
 use Rattle.brk_decisions.specs.Decisions.{Decides}
 use Rattle.brk_decisions.proofs.Looking.{read_both}
 
@@ -38,14 +38,14 @@ abbrev pub Known : Movement → MoveFound → Option ℕ → Tables → Type 0
 Known m found last t = (last ≡ t.last) × IsFoundForMove t m found
 
 -- they are known after two reads
-pub last_and_found : {S E F : Type 0} (g : Ghosts S) (old mid end : Held S) (m : Movement) (found : MoveFound) (last : Option ℕ) → IsRead {E = E} g old mid (Ok last) (λ last t. last ≡ t.last)
-    → IsRead {E = F} g mid end (Ok found) (λ found t. IsFoundForMove t m found) → IsRead {E = Fault} g old end (Ok found) (λ f. Known m f last)
+pub last_and_found : {S E F : Type 0} (g : Ghosts S) (old mid end : Held S) (m : Movement) (found : MoveFound) (last : Option ℕ) → ReadPost {E = E} g old mid (Ok last) (λ last t. last ≡ t.last)
+    → ReadPost {E = F} g mid end (Ok found) (λ found t. IsFoundForMove t m found) → ReadPost {E = Fault} g old end (Ok found) (λ f. Known m f last)
 last_and_found g old mid end m found last at_last at_found =
     read_both g old mid end {H = Fault} last found found (λ last t. last ≡ t.last) (λ found t. IsFoundForMove t m found) (λ f. Known m f last) (λ t e f. (e, f)) at_last at_found
 
 -- a movement's plan does it, and its refusal is that of the command
 module _ (m : Movement) (found : MoveFound) (last : Option ℕ) (now : ℕ) (moment : now ≤ last_stamp) where
-  looked_up : (t : Tables) → Known m found last t → (base : Base) → IsBooks base → t ≡ sheets base → IsReadForMove base m found last now
+  looked_up : (t : Tables) → Known m found last t → (base : Base) → BooksInvariant base → t ≡ sheets base → IsReadForMove base m found last now
   looked_up t known base books e = record {
     books = books;
     looked_up = subst (λ x. IsFoundForMove x m found) e known.1;

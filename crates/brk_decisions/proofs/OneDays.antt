@@ -13,10 +13,10 @@ use Rattle.brk_model.specs.Tables.{Tables}
 use Rattle.brk_model.specs.Tests.{first_refusal}
 use Rattle.brk_plans.specs.OneDay.{IsOneDay, one_day_tests}
 use Rattle.brk_plans.specs.declared.plan.Plan.{Plan}
-use Rattle.brk_book_theorems.specs.Books.{IsBooks}
+use Rattle.brk_book_theorems.specs.Books.{BooksInvariant}
 use Rattle.brk_trade_theorems.specs.MovePlans.{IsReadForOneDay}
 use Rattle.brk_trade_theorems.proofs.MovePlanning.{one_day_plan_does, one_day_refused}
-use Rattle.brk_store.specs.Holds.{IsRead}
+use Rattle.brk_store.specs.Holds.{ReadPost}
 use Rattle.brk_decisions.specs.Decisions.{Decides}
 use Rattle.brk_decisions.proofs.Looking.{read_both}
 
@@ -25,14 +25,14 @@ abbrev pub Known : Option ℕ → Option ℕ → Tables → Type 0
 Known rule last t = (last ≡ t.last) × (rule ≡ t.rule)
 
 -- they are known after two reads
-pub last_and_rule : {S E F : Type 0} (g : Ghosts S) (old mid end : Held S) (rule last : Option ℕ) → IsRead {E = E} g old mid (Ok last) (λ last t. last ≡ t.last)
-    → IsRead {E = F} g mid end (Ok rule) (λ rule t. rule ≡ t.rule) → IsRead {E = Fault} g old end (Ok rule) (λ r. Known r last)
+pub last_and_rule : {S E F : Type 0} (g : Ghosts S) (old mid end : Held S) (rule last : Option ℕ) → ReadPost {E = E} g old mid (Ok last) (λ last t. last ≡ t.last)
+    → ReadPost {E = F} g mid end (Ok rule) (λ rule t. rule ≡ t.rule) → ReadPost {E = Fault} g old end (Ok rule) (λ r. Known r last)
 last_and_rule g old mid end rule last at_last at_rule =
     read_both g old mid end {H = Fault} last rule rule (λ last t. last ≡ t.last) (λ rule t. rule ≡ t.rule) (λ r. Known r last) (λ t e f. (e, f)) at_last at_rule
 
 -- a settlement day's plan sets it, and its refusal is that of the command
 module _ (day : ℕ) (rule last : Option ℕ) (now : ℕ) (moment : now ≤ last_stamp) where
-  looked_up : (t : Tables) → Known rule last t → (base : Base) → IsBooks base → t ≡ sheets base → IsReadForOneDay base rule last now
+  looked_up : (t : Tables) → Known rule last t → (base : Base) → BooksInvariant base → t ≡ sheets base → IsReadForOneDay base rule last now
   looked_up t known base books e = record {
     books = books;
     rule_read = known.1 ∙ ap (λ x. x.rule) e;

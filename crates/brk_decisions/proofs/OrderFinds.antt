@@ -24,7 +24,7 @@ use Rattle.brk_trade_theorems.specs.OrderPlans.{IsFoundForEstimate, order_accoun
 use Rattle.brk_book_theorems.specs.Reads.{rates_of}
 use Rattle.brk_book_theorems.specs.TradeReads.{band_in, permission_in}
 use Rattle.brk_decisions.specs.Finds.{AreAmounts, AreTested, IsCustomer, IsFoundOf, found_of, nothing, worth_in}
-use Rattle.brk_decisions.specs.declared.tested.Tested.{Tested}
+use Rattle.brk_decisions.specs.declared.tested.OrderFacts.{OrderFacts}
 use Rattle.brk_decisions.specs.declared.amounts.Amounts.{Amounts}
 
 not_none : {X : Type 0} (x : X) → Some x ≡ None → ⊥
@@ -49,7 +49,7 @@ module _ (t : Tables) (account : ℕ) (a : ref.AccountRow) (c : customer.Custome
   if_customer : (holds : Customer → Type 0) → holds (customer_of c) → IfCustomer t account holds
   if_customer holds h = if_account (λ a. IfSome (find (λ r. r.id == a.customer) t.customers) holds) (subst (λ x. IfSome x holds) (sym k) h)
 
-pub all_found : (t : Tables) (order : Order) (a : ref.AccountRow) (c : customer.Customer) (tested : Tested) (amounts : Amounts) → IsCustomer t a.account.customer c
+pub all_found : (t : Tables) (order : Order) (a : ref.AccountRow) (c : customer.Customer) (tested : OrderFacts) (amounts : Amounts) → IsCustomer t a.account.customer c
     → AreTested t order c tested → AreAmounts t a order amounts → IsFoundOf t order a (found_of a tested amounts)
 all_found t order a c tested amounts k x y there = record {
   account = ap (option_map order_account) there;

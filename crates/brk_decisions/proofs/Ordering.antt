@@ -19,10 +19,10 @@ use Rattle.brk_trade.specs.Orders.{IsEstimated, IsOrdered, order_tests, trades_t
 use Rattle.brk_plans.specs.Reference.{clock_test}
 use Rattle.brk_trade.specs.declared.order.OrderFound.{OrderFound}
 use Rattle.brk_plans.specs.declared.plan.Plan.{Plan}
-use Rattle.brk_book_theorems.specs.Books.{IsBooks}
+use Rattle.brk_book_theorems.specs.Books.{BooksInvariant}
 use Rattle.brk_trade_theorems.specs.OrderPlans.{AreLots, IsFoundForEstimate, IsFoundForOrder, IsReadForPlan}
 use Rattle.brk_trade_theorems.proofs.OrderDoing.{estimate_answered, estimate_refused, estimate_told, order_refused, plan_order_does}
-use Rattle.brk_store.specs.Holds.{IsRead}
+use Rattle.brk_store.specs.Holds.{ReadPost}
 use Rattle.brk_decisions.specs.Decisions.{Decides, Tells}
 use Rattle.brk_decisions.proofs.Looking.{read_both}
 
@@ -33,15 +33,15 @@ abbrev pub KnownForOrder : Order → Option ℕ → OrderFound → Tables → Ty
 KnownForOrder order last found t = (last ≡ t.last) × IsFoundForOrder t order found
 
 pub order_read : {S D E : Type 0} (g : Ghosts S) (old first mid : Held S) (order : Order) (last : Option ℕ) (found : OrderFound)
-    → IsRead {E = D} g old first (Ok last) (λ last t. last ≡ t.last) → IsRead {E = E} g first mid (Ok found) (λ f t. IsFoundForOrder t order f)
-    → IsRead {E = Fault} g old mid (Ok found) (KnownForOrder order last)
+    → ReadPost {E = D} g old first (Ok last) (λ last t. last ≡ t.last) → ReadPost {E = E} g first mid (Ok found) (λ f t. IsFoundForOrder t order f)
+    → ReadPost {E = Fault} g old mid (Ok found) (KnownForOrder order last)
 order_read g old first mid order last found one two =
     read_both g old first mid {H = Fault} last found found (λ last t. last ≡ t.last) (λ f t. IsFoundForOrder t order f) (KnownForOrder order last) (λ t e f. (e, f)) one two
 
 -- ---- an order
 
 module _ (order : Order) (found : OrderFound) (last : Option ℕ) (now : ℕ) (given : List Lot → Type 0) (moment : now ≤ last_stamp) where
-  looked_up : (t : Tables) → KnownForOrder order last found t → (base : Base) → IsBooks base → t ≡ sheets base → IsReadForPlan base order found last now
+  looked_up : (t : Tables) → KnownForOrder order last found t → (base : Base) → BooksInvariant base → t ≡ sheets base → IsReadForPlan base order found last now
   looked_up t known base books s = record {
     books = books;
     looked_up = subst (λ x. IsFoundForOrder x order found) s known.1;

@@ -12,30 +12,30 @@ use Rattle.brk_model.specs.Tables.{Tables}
 use Rattle.brk_model.specs.Tests.{first_refusal}
 use Rattle.brk_plans.specs.Reference.{IsPlanned, clock_test, tests_of}
 use Rattle.brk_plans.specs.declared.plan.Plan.{Plan}
-use Rattle.brk_plans.specs.declared.reference.Found.{Found}
+use Rattle.brk_plans.specs.declared.reference.ReferenceFacts.{ReferenceFacts}
 use Rattle.brk_plans.specs.declared.reference.Reference.{Reference}
-use Rattle.brk_book_theorems.specs.Books.{IsBooks}
+use Rattle.brk_book_theorems.specs.Books.{BooksInvariant}
 use Rattle.brk_plans.specs.Commands.{command_of}
 use Rattle.brk_trade_theorems.specs.Plans.{IsRead as IsLookedUp}
 use Rattle.brk_trade_theorems.specs.Found.{IsFound}
 use Rattle.brk_trade_theorems.proofs.Planning.{plan_does, refusal_does}
-use Rattle.brk_store.specs.Holds.{IsRead}
+use Rattle.brk_store.specs.Holds.{ReadPost}
 use Rattle.brk_decisions.specs.Decisions.{Decides}
 use Rattle.brk_decisions.proofs.Looking.{read_both}
 
 -- the last stamp, and what is found for a record
-abbrev pub Known : Reference → Found → Option ℕ → Tables → Type 0
+abbrev pub Known : Reference → ReferenceFacts → Option ℕ → Tables → Type 0
 Known r found last t = (last ≡ t.last) × IsFound t r found
 
 -- they are known after two reads
-pub last_and_found : {S E F : Type 0} (g : Ghosts S) (old mid end : Held S) (r : Reference) (found : Found) (last : Option ℕ) → IsRead {E = E} g old mid (Ok last) (λ last t. last ≡ t.last)
-    → IsRead {E = F} g mid end (Ok found) (λ found t. IsFound t r found) → IsRead {E = Fault} g old end (Ok found) (λ f. Known r f last)
+pub last_and_found : {S E F : Type 0} (g : Ghosts S) (old mid end : Held S) (r : Reference) (found : ReferenceFacts) (last : Option ℕ) → ReadPost {E = E} g old mid (Ok last) (λ last t. last ≡ t.last)
+    → ReadPost {E = F} g mid end (Ok found) (λ found t. IsFound t r found) → ReadPost {E = Fault} g old end (Ok found) (λ f. Known r f last)
 last_and_found g old mid end r found last at_last at_found =
     read_both g old mid end {H = Fault} last found found (λ last t. last ≡ t.last) (λ found t. IsFound t r found) (λ f. Known r f last) (λ t e f. (e, f)) at_last at_found
 
 -- a record's plan does its command, and its refusal is that of the command
-module _ (r : Reference) (found : Found) (last : Option ℕ) (now : ℕ) (moment : now ≤ last_stamp) where
-  looked_up : (t : Tables) → Known r found last t → (base : Base) → IsBooks base → t ≡ sheets base → IsLookedUp base r found last now
+module _ (r : Reference) (found : ReferenceFacts) (last : Option ℕ) (now : ℕ) (moment : now ≤ last_stamp) where
+  looked_up : (t : Tables) → Known r found last t → (base : Base) → BooksInvariant base → t ≡ sheets base → IsLookedUp base r found last now
   looked_up t known base books e = record {
     books = books;
     looked_up = subst (λ x. IsFound x r found) e known.1;

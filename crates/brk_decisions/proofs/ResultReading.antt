@@ -18,7 +18,7 @@ use Rattle.brk_book_theorems.specs.TradeReads.{band_in, summary_in}
 use Rattle.brk_decisions.specs.Finds.{IsCustomer}
 use Rattle.brk_decisions.specs.ResultFinds.{AreNumbers, AreParties, IsFoundAt, IsFoundOf, IsListedAs, IsPosting}
 use Rattle.brk_decisions.specs.declared.parties.Parties.{Parties}
-use Rattle.brk_decisions.specs.declared.result_finding.Listed.{Listed}
+use Rattle.brk_decisions.specs.declared.result_finding.SecurityFacts.{SecurityFacts}
 use Rattle.brk_decisions.specs.declared.result_finding.Posting.{Posting}
 
 -- what holds of what is there leads to what holds of it
@@ -45,7 +45,7 @@ parties_known t row customer rates broker k e n = record {
 }
 
 -- what was found of a trade, of its account, of its security, of how many shares the account holds of it, and of the day and the cash row of its result
-abbrev pub found_with : TradeRow → Parties → Listed → Option ℤ → Posting → ResultFound
+abbrev pub found_with : TradeRow → Parties → SecurityFacts → Option ℤ → Posting → ResultFound
 found_with trade parties listed summary posting = record {
   trade = trade;
   account = parties.account;
@@ -58,7 +58,7 @@ found_with trade parties listed summary posting = record {
   next = posting.next;
 }
 
-module _ (t : Tables) (trade : TradeRow) (parties : Parties) (listed : Listed) (held : Option ℤ) where
+module _ (t : Tables) (trade : TradeRow) (parties : Parties) (listed : SecurityFacts) (held : Option ℤ) where
   -- the account of the trade, where it is there
   abbrev pub OwnerKnown : Type 0
   OwnerKnown = IfSome (account_in t trade.account) (λ a. AreParties t a parties)

@@ -17,11 +17,11 @@ use Rattle.brk_money.specs.declared.refusal.Refusal.TheVariants.{NoTrade}
 use Rattle.brk_trade.specs.Results.{IsCompleted, IsRefused}
 use Rattle.brk_trade.specs.declared.result_found.ResultFound.{ResultFound}
 use Rattle.brk_plans.specs.declared.plan.Plan.{Plan}
-use Rattle.brk_book_theorems.specs.Books.{IsBooks}
+use Rattle.brk_book_theorems.specs.Books.{BooksInvariant}
 use Rattle.brk_trade_theorems.specs.ResultPlans.{IsFoundForResult, IsReadForResult}
 use Rattle.brk_trade_theorems.proofs.ResultDoing.{result_plan_does}
 use Rattle.brk_trade_theorems.proofs.ResultRefusing.{result_refused}
-use Rattle.brk_store.specs.Holds.{IsRead}
+use Rattle.brk_store.specs.Holds.{ReadPost}
 use Rattle.brk_decisions.specs.Decisions.{Decides}
 use Rattle.brk_decisions.specs.ResultFinds.{IsFoundAt, lots_met}
 use Rattle.brk_decisions.proofs.Looking.{read_both}
@@ -66,7 +66,7 @@ Known id last found t = (last ≡ t.last) × IsFoundAt t id found
 
 -- they are known after two reads
 pub last_and_found : {S E F : Type 0} (g : Ghosts S) (old mid end : Held S) (id : ℕ) (last : Option ℕ) (found : Option ResultFound)
-    → IsRead {E = E} g old mid (Ok last) (λ last t. last ≡ t.last) → IsRead {E = F} g mid end (Ok found) (λ found t. IsFoundAt t id found) → IsRead {E = Fault} g old end (Ok found) (Known id last)
+    → ReadPost {E = E} g old mid (Ok last) (λ last t. last ≡ t.last) → ReadPost {E = F} g mid end (Ok found) (λ found t. IsFoundAt t id found) → ReadPost {E = Fault} g old end (Ok found) (Known id last)
 last_and_found g old mid end id last found at_last at_found =
     read_both g old mid end {H = Fault} last found found (λ last t. last ≡ t.last) (λ found t. IsFoundAt t id found) (Known id last) (λ t e f. (e, f)) at_last at_found
 
@@ -76,7 +76,7 @@ HasShares found = IfSome found (λ f. 0 < f.trade.qty)
 
 -- a result's plan does it, and its refusal is that of the command
 module _ (id price : ℕ) (last : Option ℕ) (now : ℕ) (moment : now ≤ last_stamp) where
-  looked_up : (found : Option ResultFound) → HasShares found → (t : Tables) → Known id last found t → (base : Base) → IsBooks base → t ≡ sheets base
+  looked_up : (found : Option ResultFound) → HasShares found → (t : Tables) → Known id last found t → (base : Base) → BooksInvariant base → t ≡ sheets base
       → IsReadForResult base id found (lots_met (sheets base) found) last now
   looked_up None shares t known base books e = record {
     books = books;

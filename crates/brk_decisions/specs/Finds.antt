@@ -14,7 +14,7 @@ use Rattle.brk_trade_theorems.specs.OrderPlans.{IsFoundForEstimate}
 use Rattle.brk_book_theorems.specs.OrderReads.{charge_in, last_price_in}
 use Rattle.brk_book_theorems.specs.Reads.{rates_of}
 use Rattle.brk_book_theorems.specs.TradeReads.{band_in, permission_in, summary_in}
-use Rattle.brk_decisions.specs.declared.tested.Tested.{Tested}
+use Rattle.brk_decisions.specs.declared.tested.OrderFacts.{OrderFacts}
 use Rattle.brk_decisions.specs.declared.amounts.Amounts.{Amounts}
 
 -- the customer with an id
@@ -22,7 +22,7 @@ abbrev pub IsCustomer : Tables → ℕ → Customer → Type 0
 IsCustomer t id customer = find (λ r. r.id == id) t.customers ≡ Some (customer_of customer)
 
 -- what an order of a customer's account is tested for
-pub record AreTested (t : Tables) (order : Order) (customer : Customer) (tested : Tested) : Type 0 where
+pub record AreTested (t : Tables) (order : Order) (customer : Customer) (tested : OrderFacts) : Type 0 where
   pub last_price : tested.last_price ≡ last_price_in t order.symbol
   pub is_permitted : tested.is_permitted ≡ permitted (customer_of customer) (permission_in t order.account order.executor.tax_id) (executor_of order.executor)
   pub charge : tested.charge ≡ charge_in t (kind_of order.order_type) customer.tier
@@ -47,7 +47,7 @@ abbrev pub nothing : OrderFound
 nothing = record { account = None; last_price = None; is_permitted = false; charge = None; rate = None; rates = 0; assets = pos 0; summary = None; last_trade = None }
 
 -- what is found for an order of an account, but for the last trade
-abbrev pub found_of : AccountRow → Tested → Amounts → OrderFound
+abbrev pub found_of : AccountRow → OrderFacts → Amounts → OrderFound
 found_of account tested amounts = record {
   account = Some (record { broker = account.account.broker; tax_status = account.account.tax_status });
   last_price = tested.last_price;

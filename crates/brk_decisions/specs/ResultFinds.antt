@@ -17,7 +17,7 @@ use Rattle.brk_book_theorems.specs.Reads.{rates_of}
 use Rattle.brk_trade_theorems.specs.ResultPlans.{IsFoundForResult, result_account}
 use Rattle.brk_book_theorems.specs.TradeReads.{band_in, last_move, position_in}
 use Rattle.brk_decisions.specs.declared.parties.Parties.{Parties}
-use Rattle.brk_decisions.specs.declared.result_finding.Listed.{Listed}
+use Rattle.brk_decisions.specs.declared.result_finding.SecurityFacts.{SecurityFacts}
 use Rattle.brk_decisions.specs.declared.result_finding.Posting.{Posting}
 
 -- the account with an id
@@ -40,7 +40,7 @@ pub record AreParties (t : Tables) (row : AccountRow) (parties : Parties) : Type
   pub broker : AreNumbers t row.broker parties.broker
 
 -- what the row of its security tells of a trade, whose customer has a tier
-pub record IsListedAs (t : Tables) (trade : TradeRow) (tier : ℕ) (row : SecurityRow) (listed : Listed) : Type 0 where
+pub record IsListedAs (t : Tables) (trade : TradeRow) (tier : ℕ) (row : SecurityRow) (listed : SecurityFacts) : Type 0 where
   pub name : listed.name ≡ row.name
   pub rate : listed.rate ≡ option_map (λ b. b.rate) (band_in t tier trade.kind row.exchange trade.qty)
 

@@ -4,7 +4,7 @@ ghost use Rattle.std.specs.Prelude.{◌≡◌, ◌+ℤ◌, ◌*ℤ◌, IfErr, If
 ghost use Rattle.brk_book_theorems.specs.Reads.{rates_of};
 ghost use Rattle.brk_decisions.specs.Finds.{AreAmounts, worth_in, worth_of};
 ghost use Rattle.brk_model.specs.Run.{MayFail};
-ghost use Rattle.brk_store.specs.Holds.{IsRead};
+ghost use Rattle.brk_store.specs.Holds.{ReadPost};
 ghost use Rattle.brk_changes.specs.Rows.{summary_row_of};
 
 use crate::known::known_price;
@@ -35,7 +35,7 @@ pub(crate) fn find_rates<S: Alter>(
     store: &mut Store<S>,
     customer: Id,
 ) -> Result<TaxRate, Fault>
-    ensures read { IsRead S.Store store.old store.new result (λ rates t. rates ≡ rates_of t customer) }
+    ensures read { ReadPost S.Store store.old store.new result (λ rates t. rates ≡ rates_of t customer) }
     ensures fault { IfErr result MayFail }
 {
     match sum_rates(alloc, store, customer)? {
@@ -59,7 +59,7 @@ fn with_worth(amount: Wide, row: &SummaryRow, price: Price) -> Option<Wide>
 
 // An amount with the worth of a summary at the last price of its symbol.
 fn add_worth<S: Alter>(store: &mut Store<S>, amount: Wide, row: &SummaryRow) -> Result<Wide, Fault>
-    ensures read { IsRead S.Store store.old store.new result (λ sum t. sum ≡ amount +ℤ worth_in t (summary_row_of row.now)) }
+    ensures read { ReadPost S.Store store.old store.new result (λ sum t. sum ≡ amount +ℤ worth_in t (summary_row_of row.now)) }
     ensures fault { IfErr result MayFail }
 {
     let price = known_price(store, &row.symbol)?;
@@ -71,7 +71,7 @@ fn add_worth<S: Alter>(store: &mut Store<S>, amount: Wide, row: &SummaryRow) -> 
 
 /// The worth of what an account holds at the last prices, in cents. Shares that were sold short count below 0.
 pub fn sum_worth<S: Alter>(alloc: Global, store: &mut Store<S>, account: Id) -> Result<Wide, Fault>
-    ensures read { IsRead S.Store store.old store.new result (λ worth t. worth ≡ worth_of t account) }
+    ensures read { ReadPost S.Store store.old store.new result (λ worth t. worth ≡ worth_of t account) }
     ensures fault { IfErr result MayFail }
 {
     let mut total = Wide::new(0);
@@ -99,7 +99,7 @@ fn find_assets<S: Alter>(
     store: &mut Store<S>,
     account: &AccountRow,
 ) -> Result<Wide, Fault>
-    ensures read { IsRead S.Store store.old store.new result (λ assets t. assets ≡ account.now.balance +ℤ worth_of t account.now.account.id) }
+    ensures read { ReadPost S.Store store.old store.new result (λ assets t. assets ≡ account.now.balance +ℤ worth_of t account.now.account.id) }
     ensures fault { IfErr result MayFail }
 {
     let worth = sum_worth(alloc, store, account.account.id)?;
@@ -116,7 +116,7 @@ pub(crate) fn find_amounts<S: Alter>(
     account: &AccountRow,
     order: &Order,
 ) -> Result<Amounts, Fault>
-    ensures read { IsRead S.Store store.old store.new result (λ amounts t. AreAmounts t account.now order.now amounts) }
+    ensures read { ReadPost S.Store store.old store.new result (λ amounts t. AreAmounts t account.now order.now amounts) }
     ensures fault { IfErr result MayFail }
 {
     let rates = find_rates(alloc, store, account.account.customer)?;

@@ -5,7 +5,7 @@ ghost use Rattle.brk_decisions.specs.Decisions.{Decides};
 ghost use Rattle.brk_model.specs.Commands.{CancelTrade};
 ghost use Rattle.brk_model.specs.Joins.{trade_in};
 ghost use Rattle.brk_model.specs.Run.{MayFail};
-ghost use Rattle.brk_store.specs.Holds.{IsRead};
+ghost use Rattle.brk_store.specs.Holds.{ReadPost};
 
 use brk_money::{Fault, Id, Planned, Stamp, Status};
 use brk_store::Store;
@@ -15,7 +15,7 @@ use std::alloc::Global;
 
 // The status of a trade, where there is such a trade.
 fn status_of<S: Alter>(store: &mut Store<S>, trade: Id) -> Result<Option<Status>, Fault>
-    ensures read { IsRead S.Store store.old store.new result (λ status t. status ≡ option_map (λ r. r.status) (trade_in t trade)) }
+    ensures read { ReadPost S.Store store.old store.new result (λ status t. status ≡ option_map (λ r. r.status) (trade_in t trade)) }
     ensures fault { IfErr result MayFail }
 {
     match store.trade(trade)? {
@@ -32,7 +32,7 @@ pub fn decide_cancel<S: Alter>(
     now: Stamp,
     trade: Id,
 ) -> Planned<Plan>
-    ensures read { IsRead S.Store store.old store.new result (Decides now (CancelTrade trade)) }
+    ensures read { ReadPost S.Store store.old store.new result (Decides now (CancelTrade trade)) }
     ensures fault { IfErr result MayFail }
 {
     let _moment = now.get();

@@ -4,7 +4,7 @@ ghost use Rattle.std.specs.Prelude.{IfErr};
 ghost use Rattle.brk_decisions.specs.Decisions.{Tells};
 ghost use Rattle.brk_model.specs.Run.{MayFail};
 ghost use Rattle.brk_orders.specs.Records.{order_of};
-ghost use Rattle.brk_store.specs.Holds.{IsRead};
+ghost use Rattle.brk_store.specs.Holds.{ReadPost};
 
 use crate::order_finding::find_for_estimate;
 use brk_money::Planned;
@@ -21,7 +21,7 @@ pub fn decide_estimate<S: Alter>(
     store: &mut Store<S>,
     order: &Order,
 ) -> Planned<Estimate>
-    ensures read { IsRead S.Store store.old store.new result (Tells (order_of order.now)) }
+    ensures read { ReadPost S.Store store.old store.new result (Tells (order_of order.now)) }
     ensures fault { IfErr result MayFail }
 {
     let found = find_for_estimate(alloc, store, order)?;

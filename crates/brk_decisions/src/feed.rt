@@ -8,7 +8,7 @@ ghost use Rattle.brk_model.specs.Commands.{FeedTicks};
 ghost use Rattle.brk_model.specs.Run.{MayFail};
 ghost use Rattle.brk_orders.specs.Records.{ticks_of};
 ghost use Rattle.brk_ref.specs.Records.{last_trade_of};
-ghost use Rattle.brk_store.specs.Holds.{IsRead};
+ghost use Rattle.brk_store.specs.Holds.{ReadPost};
 ghost use Rattle.brk_plans.specs.Feed.{held, held_of};
 
 use brk_money::{Fault, Planned, Stamp, TradeType};
@@ -26,7 +26,7 @@ fn quote_of<S: Alter>(
     tick: &Tick,
     ticks: &[Tick],
 ) -> Result<Option<Quote>, Fault>
-    ensures read { IsRead S.Store store.old store.new result (λ quote t.
+    ensures read { ReadPost S.Store store.old store.new result (λ quote t.
         (option_map (λ q. last_trade_of q.last) quote ≡ last_trade_in t tick.now.symbol)
         × IfSome quote (λ q. IsQuote t tick.now ticks.now (held_of q))) }
     ensures fault { IfErr result MayFail }
@@ -53,7 +53,7 @@ fn read_market<S: Alter>(
     store: &mut Store<S>,
     ticks: &[Tick],
 ) -> Result<(Option<Stamp>, Vec<Quote>), Fault>
-    ensures read { IsRead S.Store store.old store.new result (λ market t. (market.0 ≡ t.last) × AreQuotes t ticks.now ticks.now (held market.1.items)) }
+    ensures read { ReadPost S.Store store.old store.new result (λ market t. (market.0 ≡ t.last) × AreQuotes t ticks.now ticks.now (held market.1.items)) }
     ensures fault { IfErr result MayFail }
 {
     let last = store.last()?;
@@ -76,7 +76,7 @@ pub fn decide_feed<S: Alter>(
     now: Stamp,
     feed: &Feed,
 ) -> Planned<Plan>
-    ensures read { IsRead S.Store store.old store.new result (Decides now (FeedTicks (ticks_of feed.now))) }
+    ensures read { ReadPost S.Store store.old store.new result (Decides now (FeedTicks (ticks_of feed.now))) }
     ensures fault { IfErr result MayFail }
 {
     let _moment = now.get();

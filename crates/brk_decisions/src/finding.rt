@@ -4,7 +4,7 @@ ghost use Rattle.std.specs.Prelude.{◌≡◌, IfErr};
 ghost use Rattle.brk_model.specs.Run.{MayFail};
 ghost use Rattle.brk_trade_theorems.specs.Found.{IsFound, IsFoundForAccount};
 ghost use Rattle.brk_book_theorems.specs.Reads.{accounts_of, has_account, has_broker, has_customer, has_security, has_tax_id, has_tax_rate};
-ghost use Rattle.brk_store.specs.Holds.{IsRead};
+ghost use Rattle.brk_store.specs.Holds.{ReadPost};
 
 use crate::terms::{
     find_for_band, find_for_charge, find_for_customer_tax, find_for_permission, is_security_there,
@@ -13,12 +13,12 @@ use crate::terms::{
 use brk_money::{Fault, Id};
 use brk_ref::{Account, Broker, Customer, Symbol, TaxId};
 use brk_store::Store;
-use brk_trade::{Found, Reference};
+use brk_trade::{Reference, ReferenceFacts};
 use sqlite::Alter;
 use std::alloc::Global;
 
 // What is found where there is nothing.
-pub(crate) const NOTHING: Found = Found {
+pub(crate) const NOTHING: ReferenceFacts = ReferenceFacts {
     same_id: false,
     same_tax_id: false,
     customer: false,
@@ -31,28 +31,28 @@ pub(crate) const NOTHING: Found = Found {
 };
 
 fn is_broker_there<S: Alter>(store: &mut Store<S>, id: Id) -> Result<bool, Fault>
-    ensures read { IsRead S.Store store.old store.new result (λ there t. there ≡ has_broker t id) }
+    ensures read { ReadPost S.Store store.old store.new result (λ there t. there ≡ has_broker t id) }
     ensures fault { IfErr result MayFail }
 {
     Ok(store.broker(id)?.is_some())
 }
 
 pub(crate) fn is_customer_there<S: Alter>(store: &mut Store<S>, id: Id) -> Result<bool, Fault>
-    ensures read { IsRead S.Store store.old store.new result (λ there t. there ≡ has_customer t id) }
+    ensures read { ReadPost S.Store store.old store.new result (λ there t. there ≡ has_customer t id) }
     ensures fault { IfErr result MayFail }
 {
     Ok(store.customer(id)?.is_some())
 }
 
 fn is_tax_id_there<S: Alter>(store: &mut Store<S>, tax_id: &TaxId) -> Result<bool, Fault>
-    ensures read { IsRead S.Store store.old store.new result (λ there t. there ≡ has_tax_id t tax_id.now) }
+    ensures read { ReadPost S.Store store.old store.new result (λ there t. there ≡ has_tax_id t tax_id.now) }
     ensures fault { IfErr result MayFail }
 {
     Ok(store.customer_by_tax_id(tax_id)?.is_some())
 }
 
 pub(crate) fn is_account_there<S: Alter>(store: &mut Store<S>, id: Id) -> Result<bool, Fault>
-    ensures read { IsRead S.Store store.old store.new result (λ there t. there ≡ has_account t id) }
+    ensures read { ReadPost S.Store store.old store.new result (λ there t. there ≡ has_account t id) }
     ensures fault { IfErr result MayFail }
 {
     Ok(store.account(id)?.is_some())
@@ -63,27 +63,30 @@ fn count_accounts<S: Alter>(
     store: &mut Store<S>,
     customer: Id,
 ) -> Result<usize, Fault>
-    ensures read { IsRead S.Store store.old store.new result (λ count t. count ≡ accounts_of t customer) }
+    ensures read { ReadPost S.Store store.old store.new result (λ count t. count ≡ accounts_of t customer) }
     ensures fault { IfErr result MayFail }
 {
     Ok(store.accounts_of(alloc, customer)?.len())
 }
 
-fn find_for_broker<S: Alter>(store: &mut Store<S>, broker: &Broker) -> Result<Found, Fault>
-    ensures read { IsRead S.Store store.old store.new result (λ found t. found.same_id ≡ has_broker t broker.now.id) }
+fn find_for_broker<S: Alter>(store: &mut Store<S>, broker: &Broker) -> Result<ReferenceFacts, Fault>
+    ensures read { ReadPost S.Store store.old store.new result (λ found t. found.same_id ≡ has_broker t broker.now.id) }
     ensures fault { IfErr result MayFail }
 {
     let same_id = is_broker_there(store, broker.id)?;
-    Ok(Found { same_id, ..NOTHING })
+    Ok(ReferenceFacts { same_id, ..NOTHING })
 }
 
-fn find_for_customer<S: Alter>(store: &mut Store<S>, customer: &Customer) -> Result<Found, Fault>
-    ensures read { IsRead S.Store store.old store.new result (λ found t. (found.same_id ≡ has_customer t customer.now.id) × (found.same_tax_id ≡ has_tax_id t customer.now.tax_id)) }
+fn find_for_customer<S: Alter>(
+    store: &mut Store<S>,
+    customer: &Customer,
+) -> Result<ReferenceFacts, Fault>
+    ensures read { ReadPost S.Store store.old store.new result (λ found t. (found.same_id ≡ has_customer t customer.now.id) × (found.same_tax_id ≡ has_tax_id t customer.now.tax_id)) }
     ensures fault { IfErr result MayFail }
 {
     let same_id = is_customer_there(store, customer.id)?;
     let same_tax_id = is_tax_id_there(store, &customer.tax_id)?;
-    Ok(Found {
+    Ok(ReferenceFacts {
         same_id,
         same_tax_id,
         ..NOTHING
@@ -94,15 +97,15 @@ fn find_for_account<S: Alter>(
     alloc: Global,
     store: &mut Store<S>,
     account: &Account,
-) -> Result<Found, Fault>
-    ensures read { IsRead S.Store store.old store.new result (λ found t. IsFoundForAccount t account.now.id account.now.customer account.now.broker found) }
+) -> Result<ReferenceFacts, Fault>
+    ensures read { ReadPost S.Store store.old store.new result (λ found t. IsFoundForAccount t account.now.id account.now.customer account.now.broker found) }
     ensures fault { IfErr result MayFail }
 {
     let same_id = is_account_there(store, account.id)?;
     let customer = is_customer_there(store, account.customer)?;
     let broker = is_broker_there(store, account.broker)?;
     let accounts = count_accounts(alloc, store, account.customer)?;
-    Ok(Found {
+    Ok(ReferenceFacts {
         same_id,
         customer,
         broker,
@@ -111,20 +114,23 @@ fn find_for_account<S: Alter>(
     })
 }
 
-fn find_for_security<S: Alter>(store: &mut Store<S>, symbol: &Symbol) -> Result<Found, Fault>
-    ensures read { IsRead S.Store store.old store.new result (λ found t. found.same_id ≡ has_security t symbol.now) }
+fn find_for_security<S: Alter>(
+    store: &mut Store<S>,
+    symbol: &Symbol,
+) -> Result<ReferenceFacts, Fault>
+    ensures read { ReadPost S.Store store.old store.new result (λ found t. found.same_id ≡ has_security t symbol.now) }
     ensures fault { IfErr result MayFail }
 {
     let same_id = is_security_there(store, symbol)?;
-    Ok(Found { same_id, ..NOTHING })
+    Ok(ReferenceFacts { same_id, ..NOTHING })
 }
 
-fn find_for_tax<S: Alter>(store: &mut Store<S>, id: Id) -> Result<Found, Fault>
-    ensures read { IsRead S.Store store.old store.new result (λ found t. found.same_id ≡ has_tax_rate t id) }
+fn find_for_tax<S: Alter>(store: &mut Store<S>, id: Id) -> Result<ReferenceFacts, Fault>
+    ensures read { ReadPost S.Store store.old store.new result (λ found t. found.same_id ≡ has_tax_rate t id) }
     ensures fault { IfErr result MayFail }
 {
     let same_id = is_tax_there(store, id)?;
-    Ok(Found { same_id, ..NOTHING })
+    Ok(ReferenceFacts { same_id, ..NOTHING })
 }
 
 /// What the tables hold that decides on a record.
@@ -132,8 +138,8 @@ pub(crate) fn find_for<S: Alter>(
     alloc: Global,
     store: &mut Store<S>,
     reference: &Reference,
-) -> Result<Found, Fault>
-    ensures read { IsRead S.Store store.old store.new result (λ found t. IsFound t reference.now found) }
+) -> Result<ReferenceFacts, Fault>
+    ensures read { ReadPost S.Store store.old store.new result (λ found t. IsFound t reference.now found) }
     ensures fault { IfErr result MayFail }
 {
     match reference {

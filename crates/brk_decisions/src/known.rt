@@ -5,7 +5,7 @@ ghost use Rattle.brk_decisions.specs.Finds.{IsCustomer};
 ghost use Rattle.brk_decisions.specs.ResultFinds.{AreNumbers, IsAccount, IsSecurity};
 ghost use Rattle.brk_model.specs.Joins.{price_in};
 ghost use Rattle.brk_model.specs.Run.{MayFail};
-ghost use Rattle.brk_store.specs.Holds.{IsRead};
+ghost use Rattle.brk_store.specs.Holds.{ReadPost};
 
 use crate::tested::find_price;
 use brk_money::{Fault, Id, Price};
@@ -16,7 +16,7 @@ use sqlite::Alter;
 
 // The customer with an id; an id of none is a fault of the store.
 pub(crate) fn known_customer<S: Alter>(store: &mut Store<S>, id: Id) -> Result<Customer, Fault>
-    ensures read { IsRead S.Store store.old store.new result (λ customer t. IsCustomer t id customer) }
+    ensures read { ReadPost S.Store store.old store.new result (λ customer t. IsCustomer t id customer) }
     ensures fault { IfErr result MayFail }
 {
     match store.customer(id)? {
@@ -27,7 +27,7 @@ pub(crate) fn known_customer<S: Alter>(store: &mut Store<S>, id: Id) -> Result<C
 
 // The account with an id; an id of none is a fault of the store.
 pub(crate) fn known_account<S: Alter>(store: &mut Store<S>, id: Id) -> Result<AccountRow, Fault>
-    ensures read { IsRead S.Store store.old store.new result (λ account t. IsAccount t id account) }
+    ensures read { ReadPost S.Store store.old store.new result (λ account t. IsAccount t id account) }
     ensures fault { IfErr result MayFail }
 {
     match store.account(id)? {
@@ -38,7 +38,7 @@ pub(crate) fn known_account<S: Alter>(store: &mut Store<S>, id: Id) -> Result<Ac
 
 // The numbers of the broker with an id; an id of none is a fault of the store.
 pub(crate) fn known_numbers<S: Alter>(store: &mut Store<S>, id: Id) -> Result<BrokerNumbers, Fault>
-    ensures read { IsRead S.Store store.old store.new result (λ numbers t. AreNumbers t id numbers) }
+    ensures read { ReadPost S.Store store.old store.new result (λ numbers t. AreNumbers t id numbers) }
     ensures fault { IfErr result MayFail }
 {
     match store.broker_numbers(id)? {
@@ -49,7 +49,7 @@ pub(crate) fn known_numbers<S: Alter>(store: &mut Store<S>, id: Id) -> Result<Br
 
 // The last price of a symbol; a symbol of none is a fault of the store.
 pub(crate) fn known_price<S: Alter>(store: &mut Store<S>, symbol: &Symbol) -> Result<Price, Fault>
-    ensures read { IsRead S.Store store.old store.new result (λ price t. price ≡ price_in t symbol.now) }
+    ensures read { ReadPost S.Store store.old store.new result (λ price t. price ≡ price_in t symbol.now) }
     ensures fault { IfErr result MayFail }
 {
     match find_price(store, symbol)? {
@@ -63,7 +63,7 @@ pub(crate) fn known_security<S: Alter>(
     store: &mut Store<S>,
     symbol: &Symbol,
 ) -> Result<Security, Fault>
-    ensures read { IsRead S.Store store.old store.new result (λ security t. IsSecurity t symbol.now security) }
+    ensures read { ReadPost S.Store store.old store.new result (λ security t. IsSecurity t symbol.now security) }
     ensures fault { IfErr result MayFail }
 {
     match store.security(symbol)? {

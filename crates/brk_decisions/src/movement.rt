@@ -4,7 +4,7 @@ ghost use Rattle.std.specs.Prelude.{IfErr};
 ghost use Rattle.brk_decisions.specs.Decisions.{Decides};
 ghost use Rattle.brk_model.specs.Run.{MayFail};
 ghost use Rattle.brk_orders.specs.Records.{movement_of};
-ghost use Rattle.brk_store.specs.Holds.{IsRead};
+ghost use Rattle.brk_store.specs.Holds.{ReadPost};
 
 use crate::movement_finding::find_for_move;
 use brk_money::{Planned, Stamp};
@@ -24,7 +24,7 @@ pub fn decide_move<S: Alter>(
     now: Stamp,
     movement: &Movement,
 ) -> Planned<Plan>
-    ensures read { IsRead S.Store store.old store.new result (Decides now (movement_of movement.now)) }
+    ensures read { ReadPost S.Store store.old store.new result (Decides now (movement_of movement.now)) }
     ensures fault { IfErr result MayFail }
 {
     let _moment = now.get();

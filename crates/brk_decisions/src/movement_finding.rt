@@ -3,7 +3,7 @@
 ghost use Rattle.std.specs.Prelude.{IfErr};
 ghost use Rattle.brk_trade_theorems.specs.MovePlans.{IsFoundForMove};
 ghost use Rattle.brk_model.specs.Run.{MayFail};
-ghost use Rattle.brk_store.specs.Holds.{IsRead};
+ghost use Rattle.brk_store.specs.Holds.{ReadPost};
 
 use brk_money::Fault;
 use brk_orders::Movement;
@@ -17,7 +17,7 @@ pub(crate) fn find_for_move<S: Alter>(
     store: &mut Store<S>,
     movement: &Movement,
 ) -> Result<MoveFound, Fault>
-    ensures read { IsRead S.Store store.old store.new result (λ found t. IsFoundForMove t movement.now found) }
+    ensures read { ReadPost S.Store store.old store.new result (λ found t. IsFoundForMove t movement.now found) }
     ensures fault { IfErr result MayFail }
 {
     let balance = store.balance_of(movement.account)?;

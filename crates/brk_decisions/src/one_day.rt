@@ -4,7 +4,7 @@ ghost use Rattle.std.specs.Prelude.{IfErr};
 ghost use Rattle.brk_decisions.specs.Decisions.{Decides};
 ghost use Rattle.brk_model.specs.Commands.{SetOneDay};
 ghost use Rattle.brk_model.specs.Run.{MayFail};
-ghost use Rattle.brk_store.specs.Holds.{IsRead};
+ghost use Rattle.brk_store.specs.Holds.{ReadPost};
 
 use brk_money::{Day, Planned, Stamp};
 use brk_store::Store;
@@ -22,7 +22,7 @@ pub fn decide_oneday<S: Alter>(
     now: Stamp,
     day: Day,
 ) -> Planned<Plan>
-    ensures read { IsRead S.Store store.old store.new result (Decides now (SetOneDay day)) }
+    ensures read { ReadPost S.Store store.old store.new result (Decides now (SetOneDay day)) }
     ensures fault { IfErr result MayFail }
 {
     let _moment = now.get();

@@ -5,7 +5,7 @@ ghost use Rattle.brk_decisions.specs.Decisions.{Decides};
 ghost use Rattle.brk_model.specs.Commands.{PlaceOrder};
 ghost use Rattle.brk_model.specs.Run.{MayFail};
 ghost use Rattle.brk_orders.specs.Records.{order_of};
-ghost use Rattle.brk_store.specs.Holds.{IsRead};
+ghost use Rattle.brk_store.specs.Holds.{ReadPost};
 
 use crate::order_finding::find_for_order;
 use brk_money::{Planned, Stamp};
@@ -23,7 +23,7 @@ pub fn decide_order<S: Alter>(
     now: Stamp,
     order: &Order,
 ) -> Planned<Plan>
-    ensures read { IsRead S.Store store.old store.new result (Decides now (PlaceOrder (order_of order.now))) }
+    ensures read { ReadPost S.Store store.old store.new result (Decides now (PlaceOrder (order_of order.now))) }
     ensures fault { IfErr result MayFail }
 {
     let _moment = now.get();

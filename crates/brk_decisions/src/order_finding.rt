@@ -4,11 +4,11 @@ ghost use Rattle.std.specs.Prelude.{◌≡◌, IfErr};
 ghost use Rattle.brk_trade_theorems.specs.OrderPlans.{IsFoundForEstimate, IsFoundForOrder};
 ghost use Rattle.brk_decisions.specs.Finds.{IsFoundOf, found_of, nothing};
 ghost use Rattle.brk_model.specs.Run.{MayFail};
-ghost use Rattle.brk_store.specs.Holds.{IsRead};
+ghost use Rattle.brk_store.specs.Holds.{ReadPost};
 
 use crate::amounts::{Amounts, find_amounts};
 use crate::known::known_customer;
-use crate::tested::{Tested, find_tested};
+use crate::tested::{OrderFacts, find_tested};
 use brk_money::{Fault, TaxRate, Wide};
 use brk_orders::Order;
 use brk_ref::AccountRow;
@@ -35,7 +35,7 @@ fn nothing() -> OrderFound
 }
 
 // What is found for an order of an account, but for the last trade.
-fn found_of(account: &AccountRow, tested: Tested, amounts: Amounts) -> OrderFound
+fn found_of(account: &AccountRow, tested: OrderFacts, amounts: Amounts) -> OrderFound
     ensures { result ≡ found_of account.now tested amounts }
 {
     OrderFound {
@@ -61,7 +61,7 @@ fn find_of_account<S: Alter>(
     order: &Order,
     account: &AccountRow,
 ) -> Result<OrderFound, Fault>
-    ensures read { IsRead S.Store store.old store.new result (λ found t. IsFoundOf t order.now account.now found) }
+    ensures read { ReadPost S.Store store.old store.new result (λ found t. IsFoundOf t order.now account.now found) }
     ensures fault { IfErr result MayFail }
 {
     let customer = known_customer(store, account.account.customer)?;
@@ -76,7 +76,7 @@ pub(crate) fn find_for_estimate<S: Alter>(
     store: &mut Store<S>,
     order: &Order,
 ) -> Result<OrderFound, Fault>
-    ensures read { IsRead S.Store store.old store.new result (λ found t. IsFoundForEstimate t order.now found) }
+    ensures read { ReadPost S.Store store.old store.new result (λ found t. IsFoundForEstimate t order.now found) }
     ensures fault { IfErr result MayFail }
 {
     match store.account(order.account)? {
@@ -94,7 +94,7 @@ pub(crate) fn find_for_order<S: Alter>(
     store: &mut Store<S>,
     order: &Order,
 ) -> Result<OrderFound, Fault>
-    ensures read { IsRead S.Store store.old store.new result (λ found t. IsFoundForOrder t order.now found) }
+    ensures read { ReadPost S.Store store.old store.new result (λ found t. IsFoundForOrder t order.now found) }
     ensures fault { IfErr result MayFail }
 {
     let found = find_for_estimate(alloc, store, order)?;

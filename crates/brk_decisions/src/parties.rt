@@ -4,7 +4,7 @@ ghost use Rattle.std.specs.Prelude.{IfErr, IfSome};
 ghost use Rattle.brk_decisions.specs.ResultFinds.{AreParties};
 ghost use Rattle.brk_model.specs.Joins.{account_in};
 ghost use Rattle.brk_model.specs.Run.{MayFail};
-ghost use Rattle.brk_store.specs.Holds.{IsRead};
+ghost use Rattle.brk_store.specs.Holds.{ReadPost};
 ghost use Rattle.brk_ref.specs.Records.{account_row_of};
 
 use crate::amounts::find_rates;
@@ -34,7 +34,7 @@ fn parties_of<S: Alter>(
     store: &mut Store<S>,
     row: &AccountRow,
 ) -> Result<Parties, Fault>
-    ensures read { IsRead S.Store store.old store.new result (λ parties t. AreParties t (account_row_of row.now) parties) }
+    ensures read { ReadPost S.Store store.old store.new result (λ parties t. AreParties t (account_row_of row.now) parties) }
     ensures fault { IfErr result MayFail }
 {
     let customer = known_customer(store, row.account.customer)?;
@@ -59,7 +59,7 @@ pub(crate) fn find_parties<S: Alter>(
     store: &mut Store<S>,
     account: Id,
 ) -> Result<Parties, Fault>
-    ensures read { IsRead S.Store store.old store.new result (λ parties t. IfSome (account_in t account) (λ a. AreParties t a parties)) }
+    ensures read { ReadPost S.Store store.old store.new result (λ parties t. IfSome (account_in t account) (λ a. AreParties t a parties)) }
     ensures fault { IfErr result MayFail }
 {
     let row = known_account(store, account)?;

@@ -4,7 +4,7 @@ ghost use Rattle.std.specs.Prelude.{IfErr};
 ghost use Rattle.brk_plans.specs.Commands.{command_of};
 ghost use Rattle.brk_decisions.specs.Decisions.{Decides};
 ghost use Rattle.brk_model.specs.Run.{MayFail};
-ghost use Rattle.brk_store.specs.Holds.{IsRead};
+ghost use Rattle.brk_store.specs.Holds.{ReadPost};
 
 use crate::finding::find_for;
 use brk_money::{Planned, Stamp};
@@ -21,7 +21,7 @@ pub fn decide_reference<S: Alter>(
     now: Stamp,
     reference: &Reference,
 ) -> Planned<Plan>
-    ensures read { IsRead S.Store store.old store.new result (Decides now (command_of reference.now)) }
+    ensures read { ReadPost S.Store store.old store.new result (Decides now (command_of reference.now)) }
     ensures fault { IfErr result MayFail }
 {
     let _moment = now.get();

@@ -8,7 +8,7 @@ ghost use Rattle.brk_decisions.specs.ResultFinds.{lots_met};
 ghost use Rattle.brk_model.specs.Commands.{CompleteTrade};
 ghost use Rattle.brk_model.specs.Run.{MayFail};
 ghost use Rattle.brk_model.specs.Tables.{Tables};
-ghost use Rattle.brk_store.specs.Holds.{Holds, IsRead};
+ghost use Rattle.brk_store.specs.Holds.{Holds, ReadPost};
 ghost use Rattle.brk_store.specs.Kept.{IsKept};
 ghost use Rattle.brk_trade.specs.Results.{IsCompleted, IsRefused};
 
@@ -58,7 +58,7 @@ pub fn decide_result<S: Alter>(
     now: Stamp,
     completion: &Completion,
 ) -> Planned<Plan>
-    ensures read { IsRead S.Store store.old store.new result (Decides now (CompleteTrade completion.now.trade completion.now.price)) }
+    ensures read { ReadPost S.Store store.old store.new result (Decides now (CompleteTrade completion.now.trade completion.now.price)) }
     ensures fault { IfErr result MayFail }
 {
     let _moment = now.get();

@@ -4,7 +4,7 @@ ghost use Rattle.std.specs.Prelude.{◌<◌, IfErr, IfOk, IfSome};
 ghost use Rattle.brk_decisions.specs.ResultFinds.{IsFoundAt, IsFoundOf, IsListedAs, IsPosting};
 ghost use Rattle.brk_model.specs.Joins.{security_in};
 ghost use Rattle.brk_model.specs.Run.{MayFail};
-ghost use Rattle.brk_store.specs.Holds.{IsRead};
+ghost use Rattle.brk_store.specs.Holds.{ReadPost};
 
 use crate::known::known_security;
 use crate::parties::find_parties;
@@ -19,7 +19,7 @@ use std::alloc::Global;
 
 /// What is told of a trade by its security.
 #[derive(Drop)]
-pub struct Listed {
+pub struct SecurityFacts {
     /// The name of the security.
     pub name: Name,
     /// The rate of the band that the trade's quantity is in, where there is one.
@@ -32,8 +32,8 @@ fn find_listed<S: Alter>(
     store: &mut Store<S>,
     trade: &TradeRow,
     tier: Tier,
-) -> Result<Listed, Fault>
-    ensures read { IsRead S.Store store.old store.new result (λ listed t. IfSome (security_in t trade.now.symbol) (λ s. IsListedAs t trade.now tier s listed)) }
+) -> Result<SecurityFacts, Fault>
+    ensures read { ReadPost S.Store store.old store.new result (λ listed t. IfSome (security_in t trade.now.symbol) (λ s. IsListedAs t trade.now tier s listed)) }
     ensures fault { IfErr result MayFail }
 {
     let security = known_security(store, &trade.symbol)?;
@@ -45,7 +45,7 @@ fn find_listed<S: Alter>(
         &security.exchange,
         trade.qty,
     )?;
-    Ok(Listed {
+    Ok(SecurityFacts {
         name: security.name,
         rate,
     })
@@ -63,7 +63,7 @@ pub struct Posting {
 // Reads the settlement day and the number of the next cash row. Fails with `Store` if no number is
 // left.
 fn find_posting<S: Alter>(store: &mut Store<S>) -> Result<Posting, Fault>
-    ensures read { IsRead S.Store store.old store.new result (λ posting t. IsPosting t posting) }
+    ensures read { ReadPost S.Store store.old store.new result (λ posting t. IsPosting t posting) }
     ensures fault { IfErr result MayFail }
 {
     let rule = store.one_day()?;
@@ -77,7 +77,7 @@ fn find_of_trade<S: Alter>(
     store: &mut Store<S>,
     trade: TradeRow,
 ) -> Result<ResultFound, Fault>
-    ensures read { IsRead S.Store store.old store.new result (λ found t. IsFoundOf t trade found) }
+    ensures read { ReadPost S.Store store.old store.new result (λ found t. IsFoundOf t trade found) }
     ensures some_shares { IfOk result (λ found. 0 < found.trade.qty) }
     ensures fault { IfErr result MayFail }
 {
@@ -106,7 +106,7 @@ pub(crate) fn find_for_result<S: Alter>(
     store: &mut Store<S>,
     trade: Id,
 ) -> Result<Option<ResultFound>, Fault>
-    ensures read { IsRead S.Store store.old store.new result (λ found t. IsFoundAt t trade found) }
+    ensures read { ReadPost S.Store store.old store.new result (λ found t. IsFoundAt t trade found) }
     ensures some_shares { IfOk result (λ found. IfSome found (λ f. 0 < f.trade.qty)) }
     ensures fault { IfErr result MayFail }
 {

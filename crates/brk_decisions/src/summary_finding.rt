@@ -3,7 +3,7 @@
 ghost use Rattle.std.specs.Prelude.{◌≡◌, IfErr, option_map};
 ghost use Rattle.brk_book_theorems.specs.TradeReads.{summary_in};
 ghost use Rattle.brk_model.specs.Run.{MayFail};
-ghost use Rattle.brk_store.specs.Holds.{IsRead};
+ghost use Rattle.brk_store.specs.Holds.{ReadPost};
 
 use brk_money::{Fault, Id};
 use brk_ref::Symbol;
@@ -37,7 +37,7 @@ pub(crate) fn find_summary<S: Alter>(
     account: Id,
     symbol: &Symbol,
 ) -> Result<Option<i64>, Fault>
-    ensures read { IsRead S.Store store.old store.new result (λ qty t. qty ≡ option_map (λ r. r.qty) (summary_in t account symbol.now)) }
+    ensures read { ReadPost S.Store store.old store.new result (λ qty t. qty ≡ option_map (λ r. r.qty) (summary_in t account symbol.now)) }
     ensures fault { IfErr result MayFail }
 {
     let summary = store.summary_of(account, symbol)?;

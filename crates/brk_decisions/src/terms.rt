@@ -6,13 +6,13 @@ ghost use Rattle.brk_book_theorems.specs.Reads.{has_account, has_charge, has_ove
 ghost use Rattle.brk_model.specs.Limits.{greatest_tax_rate};
 ghost use Rattle.brk_model.specs.Run.{MayFail};
 ghost use Rattle.brk_ref.specs.Records.{band_of, tax_of};
-ghost use Rattle.brk_store.specs.Holds.{IsRead};
+ghost use Rattle.brk_store.specs.Holds.{ReadPost};
 
 use crate::finding::{NOTHING, is_account_there, is_customer_there};
 use brk_money::{Fault, Id, TaxRate, TradeType};
 use brk_ref::{Band, Charge, CustomerTax, Permission, Symbol, Tax, TaxId, Tier, overlaps, tax_sum};
 use brk_store::Store;
-use brk_trade::Found;
+use brk_trade::ReferenceFacts;
 use sqlite::Alter;
 use std::alloc::Global;
 
@@ -21,7 +21,7 @@ fn is_permission_there<S: Alter>(
     account: Id,
     tax_id: &TaxId,
 ) -> Result<bool, Fault>
-    ensures read { IsRead S.Store store.old store.new result (λ there t. there ≡ has_permission t account tax_id.now) }
+    ensures read { ReadPost S.Store store.old store.new result (λ there t. there ≡ has_permission t account tax_id.now) }
     ensures fault { IfErr result MayFail }
 {
     Ok(store.permission(account, tax_id)?.is_some())
@@ -31,7 +31,7 @@ pub(crate) fn is_security_there<S: Alter>(
     store: &mut Store<S>,
     symbol: &Symbol,
 ) -> Result<bool, Fault>
-    ensures read { IsRead S.Store store.old store.new result (λ there t. there ≡ has_security t symbol.now) }
+    ensures read { ReadPost S.Store store.old store.new result (λ there t. there ≡ has_security t symbol.now) }
     ensures fault { IfErr result MayFail }
 {
     Ok(store.security(symbol)?.is_some())
@@ -42,7 +42,7 @@ pub(crate) fn is_charge_there<S: Alter>(
     kind: TradeType,
     tier: Tier,
 ) -> Result<bool, Fault>
-    ensures read { IsRead S.Store store.old store.new result (λ there t. there ≡ has_charge t kind tier) }
+    ensures read { ReadPost S.Store store.old store.new result (λ there t. there ≡ has_charge t kind tier) }
     ensures fault { IfErr result MayFail }
 {
     Ok(store.charge(kind, tier)?.is_some())
@@ -53,7 +53,7 @@ pub(crate) fn is_overlap_there<S: Alter>(
     store: &mut Store<S>,
     band: &Band,
 ) -> Result<bool, Fault>
-    ensures read { IsRead S.Store store.old store.new result (λ there t. there ≡ has_overlap t (band_of band.now)) }
+    ensures read { ReadPost S.Store store.old store.new result (λ there t. there ≡ has_overlap t (band_of band.now)) }
     ensures fault { IfErr result MayFail }
 {
     let bands = store.bands_for(alloc, band.tier, band.kind, &band.exchange)?;
@@ -61,14 +61,14 @@ pub(crate) fn is_overlap_there<S: Alter>(
 }
 
 pub(crate) fn is_tax_there<S: Alter>(store: &mut Store<S>, id: Id) -> Result<bool, Fault>
-    ensures read { IsRead S.Store store.old store.new result (λ there t. there ≡ has_tax_rate t id) }
+    ensures read { ReadPost S.Store store.old store.new result (λ there t. there ≡ has_tax_rate t id) }
     ensures fault { IfErr result MayFail }
 {
     Ok(store.tax_rate(id)?.is_some())
 }
 
 fn find_rate<S: Alter>(store: &mut Store<S>, tax: Id) -> Result<Option<TaxRate>, Fault>
-    ensures read { IsRead S.Store store.old store.new result (λ rate t. rate ≡ rate_of t tax) }
+    ensures read { ReadPost S.Store store.old store.new result (λ rate t. rate ≡ rate_of t tax) }
     ensures fault { IfErr result MayFail }
 {
     match store.tax_rate(tax)? {
@@ -78,7 +78,7 @@ fn find_rate<S: Alter>(store: &mut Store<S>, tax: Id) -> Result<Option<TaxRate>,
 }
 
 fn is_tax_paid<S: Alter>(store: &mut Store<S>, customer: Id, tax: Id) -> Result<bool, Fault>
-    ensures read { IsRead S.Store store.old store.new result (λ there t. there ≡ pays_tax t customer tax) }
+    ensures read { ReadPost S.Store store.old store.new result (λ there t. there ≡ pays_tax t customer tax) }
     ensures fault { IfErr result MayFail }
 {
     Ok(store.customer_tax(customer, tax)?.is_some())
@@ -86,7 +86,7 @@ fn is_tax_paid<S: Alter>(store: &mut Store<S>, customer: Id, tax: Id) -> Result<
 
 // The taxes that a customer pays.
 fn taxes_of<S: Alter>(alloc: Global, store: &mut Store<S>, customer: Id) -> Result<Vec<Tax>, Fault>
-    ensures read { IsRead S.Store store.old store.new result (λ taxes t.
+    ensures read { ReadPost S.Store store.old store.new result (λ taxes t.
         map (λ tax. Some (tax_of tax)) taxes.items ≡ map (λ r. tax_rate_of t r.tax) (filter (λ r. r.customer == customer) t.customer_taxes)) }
     ensures fault { IfErr result MayFail }
 {
@@ -107,7 +107,7 @@ pub(crate) fn sum_rates<S: Alter>(
     store: &mut Store<S>,
     customer: Id,
 ) -> Result<Option<TaxRate>, Fault>
-    ensures read { IsRead S.Store store.old store.new result (λ rates t. SomeIff rates (rates_of t customer ≤ greatest_tax_rate) (rates_of t customer)) }
+    ensures read { ReadPost S.Store store.old store.new result (λ rates t. SomeIff rates (rates_of t customer ≤ greatest_tax_rate) (rates_of t customer)) }
     ensures fault { IfErr result MayFail }
 {
     let taxes = taxes_of(alloc, store, customer)?;
@@ -117,14 +117,14 @@ pub(crate) fn sum_rates<S: Alter>(
 pub(crate) fn find_for_permission<S: Alter>(
     store: &mut Store<S>,
     permission: &Permission,
-) -> Result<Found, Fault>
-    ensures read { IsRead S.Store store.old store.new result (λ found t.
+) -> Result<ReferenceFacts, Fault>
+    ensures read { ReadPost S.Store store.old store.new result (λ found t.
         (found.account ≡ has_account t permission.now.account) × (found.same_id ≡ has_permission t permission.now.account permission.now.tax_id)) }
     ensures fault { IfErr result MayFail }
 {
     let account = is_account_there(store, permission.account)?;
     let same_id = is_permission_there(store, permission.account, &permission.tax_id)?;
-    Ok(Found {
+    Ok(ReferenceFacts {
         same_id,
         account,
         ..NOTHING
@@ -134,24 +134,24 @@ pub(crate) fn find_for_permission<S: Alter>(
 pub(crate) fn find_for_charge<S: Alter>(
     store: &mut Store<S>,
     charge: &Charge,
-) -> Result<Found, Fault>
-    ensures read { IsRead S.Store store.old store.new result (λ found t. found.same_id ≡ has_charge t charge.now.kind charge.now.tier) }
+) -> Result<ReferenceFacts, Fault>
+    ensures read { ReadPost S.Store store.old store.new result (λ found t. found.same_id ≡ has_charge t charge.now.kind charge.now.tier) }
     ensures fault { IfErr result MayFail }
 {
     let same_id = is_charge_there(store, charge.kind, charge.tier)?;
-    Ok(Found { same_id, ..NOTHING })
+    Ok(ReferenceFacts { same_id, ..NOTHING })
 }
 
 pub(crate) fn find_for_band<S: Alter>(
     alloc: Global,
     store: &mut Store<S>,
     band: &Band,
-) -> Result<Found, Fault>
-    ensures read { IsRead S.Store store.old store.new result (λ found t. found.overlaps ≡ has_overlap t (band_of band.now)) }
+) -> Result<ReferenceFacts, Fault>
+    ensures read { ReadPost S.Store store.old store.new result (λ found t. found.overlaps ≡ has_overlap t (band_of band.now)) }
     ensures fault { IfErr result MayFail }
 {
     let overlaps = is_overlap_there(alloc, store, band)?;
-    Ok(Found {
+    Ok(ReferenceFacts {
         overlaps,
         ..NOTHING
     })
@@ -161,15 +161,15 @@ pub(crate) fn find_for_customer_tax<S: Alter>(
     alloc: Global,
     store: &mut Store<S>,
     pays: &CustomerTax,
-) -> Result<Found, Fault>
-    ensures read { IsRead S.Store store.old store.new result (λ found t. IsFoundForTax t pays.now.customer pays.now.tax found) }
+) -> Result<ReferenceFacts, Fault>
+    ensures read { ReadPost S.Store store.old store.new result (λ found t. IsFoundForTax t pays.now.customer pays.now.tax found) }
     ensures fault { IfErr result MayFail }
 {
     let customer = is_customer_there(store, pays.customer)?;
     let rate = find_rate(store, pays.tax)?;
     let same_id = is_tax_paid(store, pays.customer, pays.tax)?;
     let rates = sum_rates(alloc, store, pays.customer)?;
-    Ok(Found {
+    Ok(ReferenceFacts {
         same_id,
         customer,
         rate,

@@ -9,7 +9,7 @@ ghost use Rattle.brk_model.specs.Joins.{security_in};
 ghost use Rattle.brk_model.specs.Orders.{permitted};
 ghost use Rattle.brk_model.specs.Run.{MayFail};
 ghost use Rattle.brk_ref.specs.Records.{customer_of, executor_of};
-ghost use Rattle.brk_store.specs.Holds.{IsRead};
+ghost use Rattle.brk_store.specs.Holds.{ReadPost};
 
 use brk_money::{Fault, Id, Price, Qty, Rate, TradeType};
 use brk_orders::Order;
@@ -20,7 +20,7 @@ use std::alloc::Global;
 
 /// What an order of an account that is there is tested for.
 #[derive(Clone, Copy)]
-pub struct Tested {
+pub struct OrderFacts {
     /// The last price of its security, where there is such a security.
     pub last_price: Option<Price>,
     /// Whether its executor may order for the account.
@@ -36,7 +36,7 @@ pub(crate) fn find_price<S: Alter>(
     store: &mut Store<S>,
     symbol: &Symbol,
 ) -> Result<Option<Price>, Fault>
-    ensures read { IsRead S.Store store.old store.new result (λ price t. price ≡ last_price_in t symbol.now) }
+    ensures read { ReadPost S.Store store.old store.new result (λ price t. price ≡ last_price_in t symbol.now) }
     ensures fault { IfErr result MayFail }
 {
     match store.last_trade(symbol)? {
@@ -52,7 +52,7 @@ fn find_permission<S: Alter>(
     customer: &Customer,
     executor: &Executor,
 ) -> Result<bool, Fault>
-    ensures read { IsRead S.Store store.old store.new result (λ is_permitted t.
+    ensures read { ReadPost S.Store store.old store.new result (λ is_permitted t.
         is_permitted ≡ permitted (customer_of customer.now) (permission_in t account executor.now.tax_id) (executor_of executor.now)) }
     ensures fault { IfErr result MayFail }
 {
@@ -66,7 +66,7 @@ fn find_charge<S: Alter>(
     kind: TradeType,
     tier: Tier,
 ) -> Result<Option<ChargeAmount>, Fault>
-    ensures read { IsRead S.Store store.old store.new result (λ charge t. charge ≡ charge_in t kind tier) }
+    ensures read { ReadPost S.Store store.old store.new result (λ charge t. charge ≡ charge_in t kind tier) }
     ensures fault { IfErr result MayFail }
 {
     match store.charge(kind, tier)? {
@@ -84,7 +84,7 @@ pub(crate) fn find_band_rate<S: Alter>(
     exchange: &Exchange,
     qty: Qty,
 ) -> Result<Option<Rate>, Fault>
-    ensures read { IsRead S.Store store.old store.new result (λ rate t. rate ≡ option_map (λ b. b.rate) (band_in t tier kind exchange.now qty)) }
+    ensures read { ReadPost S.Store store.old store.new result (λ rate t. rate ≡ option_map (λ b. b.rate) (band_in t tier kind exchange.now qty)) }
     ensures fault { IfErr result MayFail }
 {
     let bands = store.bands_for(alloc, tier, kind, exchange)?;
@@ -98,7 +98,7 @@ fn find_order_rate<S: Alter>(
     order: &Order,
     tier: Tier,
 ) -> Result<Option<Rate>, Fault>
-    ensures read { IsRead S.Store store.old store.new result (λ rate t.
+    ensures read { ReadPost S.Store store.old store.new result (λ rate t.
         IfSome (security_in t order.now.symbol) (λ s. rate ≡ option_map (λ b. b.rate) (band_in t tier (kind_of order.now.order_type) s.exchange order.now.qty))) }
     ensures fault { IfErr result MayFail }
 {
@@ -124,8 +124,8 @@ pub(crate) fn find_tested<S: Alter>(
     store: &mut Store<S>,
     order: &Order,
     customer: &Customer,
-) -> Result<Tested, Fault>
-    ensures read { IsRead S.Store store.old store.new result (λ tested t. AreTested t order.now customer.now tested) }
+) -> Result<OrderFacts, Fault>
+    ensures read { ReadPost S.Store store.old store.new result (λ tested t. AreTested t order.now customer.now tested) }
     ensures fault { IfErr result MayFail }
 {
     let tier = customer.tier;
@@ -133,7 +133,7 @@ pub(crate) fn find_tested<S: Alter>(
     let is_permitted = find_permission(store, order.account, customer, &order.executor)?;
     let charge = find_charge(store, order.order_type.kind(), tier)?;
     let rate = find_order_rate(alloc, store, order, tier)?;
-    Ok(Tested {
+    Ok(OrderFacts {
         last_price,
         is_permitted,
         charge,

@@ -17,16 +17,16 @@ use Rattle.brk_invariant_theorems.specs.Runs.{IsCallInForm}
 use Rattle.brk_invariant_theorems.proofs.SoundRuns.{Both, keyed_both, run_both}
 use Rattle.brk_invariant_theorems.proofs.SoundSteps.{empty_sound}
 use Rattle.brk_store.specs.Holds.{Holds}
-use Rattle.brk_commit.specs.Booked.{KeepsBase}
-use Rattle.brk_desk.specs.Stops.{MayStand}
+use Rattle.brk_store.specs.Audited.{Represents}
+use Rattle.brk_desk.specs.Stops.{MayBeRecovered}
 use Rattle.brk_desk.proofs.UpgradedRows.{are_upgraded}
 
-pub made_keeps : {S : Type 0} (g : Ghosts S) (store : Held S) → Holds g store no_rows → KeepsBase g store empty_base
+pub made_keeps : {S : Type 0} (g : Ghosts S) (store : Held S) → Holds g store no_rows → Represents g store empty_base
 made_keeps g store holds = record { books = empty_books; sound = empty_sound; texts = ap has_texts empty_rows; rows = subst (Holds g store) (sym empty_rows) holds }
 
 -- the rows of whichever schema that passed, upgraded to the third
 pub upgraded_keeps : {S : Type 0} (g : Ghosts S) (store : Held S) (schema : known.Schema) (rows : Tables) → Holds g store (upgraded_from (schema_of schema) rows) → IsTrue (has_texts rows)
-    → Passes (schema_of schema) rows → KeepsBase g store (base_of rows)
+    → Passes (schema_of schema) rows → Represents g store (base_of rows)
 upgraded_keeps g store schema rows holds texts passes =
     let k = are_upgraded schema rows passes texts in
     record { rows = subst (Holds g store) k.tables holds; books = k.books; sound = k.sound; texts = k.texts }
@@ -37,7 +37,7 @@ up_to [] call later all = (tt, all.0)
 up_to (c ∷ cs) call later all = let rest = up_to cs call later all.1 in ((all.0, rest.0), rest.1)
 
 -- whatever may stand is in order and sound
-pub stands : (base : Base) (calls : List (ℕ × Call)) (outcomes : List Outcome) (after : Base) → AllByRecursion IsCallInForm calls → Both base → MayStand base calls outcomes after → Both after
+pub stands : (base : Base) (calls : List (ℕ × Call)) (outcomes : List Outcome) (after : Base) → AllByRecursion IsCallInForm calls → Both base → MayBeRecovered base calls outcomes after → Both after
 stands base calls outcomes after formed both (inl ran) = run_both base calls outcomes after formed ran both
 stands base calls outcomes after formed both (inr way) =
     let parts = up_to way.earlier (way.now, Do way.command way.key) way.later (subst (AllByRecursion IsCallInForm) way.calls_are formed) in

@@ -19,8 +19,8 @@ use Rattle.brk_model.specs.Queries.{TradesOfAccount, TradesOfSymbol, TradesWith}
 use Rattle.brk_model.specs.Sheets.{sheets}
 use Rattle.brk_model.specs.Tables.{AccountRow, HistoryRow, SecurityRow, SettlementRow, Tables, TradeRow, security_row, tables_of, trade_row}
 use Rattle.brk_model.specs.Views.{view_of}
-use Rattle.brk_invariant_theorems.specs.Sound.{IsSound}
-use Rattle.brk_book_theorems.specs.Books.{IsBooks}
+use Rattle.brk_invariant_theorems.specs.Sound.{AuditInvariant}
+use Rattle.brk_book_theorems.specs.Books.{BooksInvariant}
 use Rattle.brk_book_theorems.proofs.Reading.{is_none-map}
 use Rattle.brk_book_theorems.proofs.TermReading.{reads_security}
 use Rattle.brk_book_theorems.proofs.TradeReading.{reads_trade}
@@ -47,7 +47,7 @@ AreFollowing trade settled moved came t =
 
 -- is what became of it
 pub follows : (trade : trade.TradeRow) (settled : Option settlement.SettlementRow) (moved : Option cash.MoveRow) (came : List history.HistoryRow) (t : Tables)
-    → AreFollowing trade.id settled moved came t → (base : Base) → IsBooks base → IsSound base → t ≡ sheets base → IsOfTrade t trade settled moved came
+    → AreFollowing trade.id settled moved came t → (base : Base) → BooksInvariant base → AuditInvariant base → t ≡ sheets base → IsOfTrade t trade settled moved came
 follows trade settled moved came t f base books sound s = record {
   settles = ap option_to_list (f.0 ∙ ap (λ (x : Tables). find (λ r. r.trade == trade.id) x.settlements) s) ∙ settlement_alone base trade.id books sound
       ∙ ap (λ (x : Tables). filter (λ r. r.trade == trade.id) x.settlements) (sym s);
@@ -66,7 +66,7 @@ IsLookupOf test found view =
 -- what was looked up shows the first twenty of the trades that pass a test
 seen_by : (test : TradeRow → Bool) (rows : List TradeRow) (found : List LookedUp) (view : View)
     → ((t : Tables) → map looked_up_records found ≡ map (lookup_records t) (take 20 (oldest_first_rows (filter test t.trades))) → fields_of view ≡ lookup_view t test)
-    → (t : Tables) → rows ≡ take 20 (oldest_first_rows (filter test t.trades)) → AreLookedUp rows found t → (base : Base) → IsBooks base → IsSound base → t ≡ sheets base
+    → (t : Tables) → rows ≡ take 20 (oldest_first_rows (filter test t.trades)) → AreLookedUp rows found t → (base : Base) → BooksInvariant base → AuditInvariant base → t ≡ sheets base
     → lookup_view (tables_of base) test ≡ fields_of view
 seen_by test rows found view is t e looked base books sound s =
     sym (is t (looked base books sound s ∙ ap (map (lookup_records t)) e) ∙ ap (λ (x : Tables). lookup_view x test) s ∙ same_lookup base test books sound)
@@ -170,7 +170,7 @@ one_by_one look (id ∷ ids) (r ∷ rows) e =
     ap (λ rs. r ∷ rs) (one_by_one look ids rows rest) ∙ ap (λ o. option_to_list o ++ flat_map (λ id. option_to_list (look id)) ids) first
 
 -- the oldest first, they are the first twenty of all trades of these ids
-oldest_named : (base : Base) (ids : List ℕ) (rows : List TradeRow) → IsBooks base → IsSound base → all_distinct ids ≡ true → length ids ≤ 20 → map Some rows ≡ map (trade_in (sheets base)) ids
+oldest_named : (base : Base) (ids : List ℕ) (rows : List TradeRow) → BooksInvariant base → AuditInvariant base → all_distinct ids ≡ true → length ids ≤ 20 → map Some rows ≡ map (trade_in (sheets base)) ids
     → oldest_first_rows rows ≡ take 20 (oldest_first_rows (filter (λ r. contains_number r.id ids) (sheets base).trades))
 oldest_named base ids rows books sound distinct few e =
     let many : length (oldest_first_rows rows) ≤ 20 =

@@ -15,8 +15,8 @@ use Rattle.brk_model.specs.Queries.{LotsTouched}
 use Rattle.brk_model.specs.Sheets.{sheets}
 use Rattle.brk_model.specs.Tables.{AccountRow, HoldingHistoryRow, Tables, TradeRow, tables_of}
 use Rattle.brk_model.specs.Views.{view_of}
-use Rattle.brk_invariant_theorems.specs.Sound.{IsSound}
-use Rattle.brk_book_theorems.specs.Books.{IsBooks}
+use Rattle.brk_invariant_theorems.specs.Sound.{AuditInvariant}
+use Rattle.brk_book_theorems.specs.Books.{BooksInvariant}
 use Rattle.brk_view.specs.Lots.{IsTouched, touch_before, touch_in, touches_of}
 use Rattle.brk_view.specs.Views.{fields_of}
 use Rattle.brk_view.specs.declared.lots.LotTouch.{LotTouch}
@@ -70,7 +70,7 @@ pieces f g lot [] = refl
 pieces f g lot (x ∷ xs) = ap (λ ys. map f (g (lot x)) ++ ys) (pieces f g lot xs) ∙ sym (map-append f (g (lot x)) (flat_map g (map lot xs)))
 
 -- they are those of all these lots
-by_lot : (base : Base) (trade : ℕ) → IsBooks base → IsSound base
+by_lot : (base : Base) (trade : ℕ) → BooksInvariant base → AuditInvariant base
     → flat_map (λ r. changes_with (sheets base) r.lot) (filter (λ r. r.trade == trade) (sheets base).holding_history) ≡ touches_of (sheets base) trade
 by_lot base trade books sound =
     let s : Tables = sheets base in
@@ -88,7 +88,7 @@ abbrev pub IsSince : ℕ → ℕ → Option trade.TradeRow → Tables → Type 0
 IsSince id first o t = option_to_list (option_map trade_row_of o) ≡ take 1 (oldest_first_rows (filter (λ r. nat_le first r.stamp) (trades_in t id)))
 
 seen : (id first : ℕ) (a : AccountRow) (lots : Option TouchedLots) (view : View) → ((t : Tables) (account first : ℕ) → IsTouched t account first lots → fields_of view ≡ lots_view t account first)
-    → (t : Tables) → Some a ≡ find (λ r. r.id == id) t.accounts → ((base : Base) → IsBooks base → IsSound base → t ≡ sheets base → IsTouched t id first lots) → Shows (LotsTouched id first) (Ok view) t
+    → (t : Tables) → Some a ≡ find (λ r. r.id == id) t.accounts → ((base : Base) → BooksInvariant base → AuditInvariant base → t ≡ sheets base → IsTouched t id first lots) → Shows (LotsTouched id first) (Ok view) t
 unfolding ask query_tests answer_of view_of
 seen id first a lots view is t e touched base books sound s =
     answered (is_none (account_with base id)) NoAccount (lots_view (tables_of base) id first) (account_there base id a t s e)

@@ -7,37 +7,37 @@ use Rattle.brk_io.proofs.Calls.{made_then}
 use Rattle.brk_io.specs.Calls.{AreMade}
 use Rattle.brk_desk.proofs.Promise.{promise_kept}
 use Rattle.brk_desk.proofs.Running.{runs_more, runs_none}
-use Rattle.brk_desk.specs.Keeping.{IsMade, IsRun}
-use Rattle.brk_desk.specs.Runs.{IsRunOf, WasRun}
+use Rattle.brk_desk.specs.Keeping.{OutcomePost, RunPost}
+use Rattle.brk_desk.specs.Runs.{IsRunOf, IsSomeRun}
 use Rattle.brk_desk.specs.declared.call.Call.{Call}
 use Rattle.brk_desk.specs.declared.call.Outcome.{Outcome}
 
 module _ {S : Type 0} (g : Ghosts S) where
   abbrev Made : Held S → ℕ → Call → Outcome → Held S → Type 0
-  Made old now call outcome new = IsMade g old new now call outcome
+  Made old now call outcome new = OutcomePost g old new now call outcome
 
   -- some calls more
-  runs_on : (a b c : Held S) (calls others : List (ℕ × Call)) (outcomes more : List Outcome) → IsRun g a b calls outcomes → AreMade Made b others more c → IsRun g a c (calls ++ others) (outcomes ++ more)
+  runs_on : (a b c : Held S) (calls others : List (ℕ × Call)) (outcomes more : List Outcome) → RunPost g a b calls outcomes → AreMade Made b others more c → RunPost g a c (calls ++ others) (outcomes ++ more)
   runs_on a b c calls [] outcomes [] ran same =
-      subst₂ (λ cs os. IsRun g a c cs os) (sym (append-nil calls)) (sym (append-nil outcomes)) (subst (λ d. IsRun g a d calls outcomes) (sym same) ran)
+      subst₂ (λ cs os. RunPost g a c cs os) (sym (append-nil calls)) (sym (append-nil outcomes)) (subst (λ d. RunPost g a d calls outcomes) (sym same) ran)
   runs_on a b c calls (x ∷ xs) outcomes (o ∷ os) ran (mid, is, made) =
-      subst₂ (λ cs ps. IsRun g a c cs ps) (append_assoc calls (x ∷ []) xs) (append_assoc outcomes (o ∷ []) os)
+      subst₂ (λ cs ps. RunPost g a c cs ps) (append_assoc calls (x ∷ []) xs) (append_assoc outcomes (o ∷ []) os)
       (runs_on a mid c (calls ++ x ∷ []) xs (outcomes ++ o ∷ []) os (runs_more g a b mid calls outcomes ran x.0 x.1 o is) made)
   runs_on a b c calls [] outcomes (o ∷ os) ran made = absurd made
   runs_on a b c calls (x ∷ xs) outcomes [] ran made = absurd made
 
   pub run_of : (old new : Held S) (calls : List (ℕ × Call)) (outcomes : List Outcome) → AreMade Made old calls outcomes new → IsRunOf g old new calls outcomes
   run_of old new calls outcomes made =
-      let ran : IsRun g old new calls outcomes = runs_on old old new [] calls [] outcomes (runs_none g old) made in
+      let ran : RunPost g old new calls outcomes = runs_on old old new [] calls [] outcomes (runs_none g old) made in
       record { made = made; ran = ran; promised = promise_kept g old new calls outcomes ran }
 
-  pub not_run : (old new : Held S) → new ≡ old → WasRun g old new
+  pub not_run : (old new : Held S) → new ≡ old → IsSomeRun g old new
   not_run old new same = record { calls = []; outcomes = []; run = run_of old new [] [] same }
 
-  pub one_run : (old new : Held S) (now : ℕ) (call : Call) (outcome : Outcome) → IsMade g old new now call outcome → WasRun g old new
+  pub one_run : (old new : Held S) (now : ℕ) (call : Call) (outcome : Outcome) → OutcomePost g old new now call outcome → IsSomeRun g old new
   one_run old new now call outcome is = record { calls = (now, call) ∷ []; outcomes = outcome ∷ []; run = run_of old new ((now, call) ∷ []) (outcome ∷ []) (new, is, refl) }
 
-  pub run_then : (first mid last : Held S) → WasRun g first mid → WasRun g mid last → WasRun g first last
+  pub run_then : (first mid last : Held S) → IsSomeRun g first mid → IsSomeRun g mid last → IsSomeRun g first last
   run_then first mid last one two = record {
     calls = one.calls ++ two.calls;
     outcomes = one.outcomes ++ two.outcomes;

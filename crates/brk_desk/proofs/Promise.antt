@@ -9,20 +9,20 @@ use Rattle.brk_book_theorems.proofs.RunSums.{run_adds_up}
 use Rattle.brk_invariant_theorems.proofs.Adopted.{sound_passes}
 use Rattle.brk_desk.specs.Answers.{outcome_of}
 use Rattle.brk_desk.specs.Commands.{call_of}
-use Rattle.brk_commit.specs.Booked.{KeepsBase}
-use Rattle.brk_desk.specs.Keeping.{IsRun, KeepsPromise, Leads}
+use Rattle.brk_store.specs.Audited.{Represents}
+use Rattle.brk_desk.specs.Keeping.{RunPost, RunGuarantee, ReachesAuditedState}
 use Rattle.brk_desk.specs.declared.call.Call.{Call}
 use Rattle.brk_desk.specs.declared.call.Outcome.{Outcome}
 use Rattle.brk_desk.proofs.AtFirst.{made_keeps, upgraded_keeps}
 
-leads : {S : Type 0} (g : Ghosts S) (old new : Held S) (calls : List (ℕ × Call)) (outcomes : List Outcome) → IsRun g old new calls outcomes
-    → HasCleanDisk (state g new) → (base : Base) → KeepsBase g old base → Leads g new base calls outcomes
+leads : {S : Type 0} (g : Ghosts S) (old new : Held S) (calls : List (ℕ × Call)) (outcomes : List Outcome) → RunPost g old new calls outcomes
+    → HasCleanDisk (state g new) → (base : Base) → Represents g old base → ReachesAuditedState g new base calls outcomes
 leads g old new calls outcomes run clean base keeps =
     let ran = run.ran clean base keeps in
     (ran.0, ran.1, sound_passes ran.0 ran.1.books ran.1.sound, run_adds_up base (map call_of calls) (map outcome_of outcomes) ran.0 keeps.books ran.2)
 
 pub promise_kept : {S : Type 0} (g : Ghosts S) (old new : Held S) (calls : List (ℕ × Call)) (outcomes : List Outcome)
-    → IsRun g old new calls outcomes → KeepsPromise g old new calls outcomes
+    → RunPost g old new calls outcomes → RunGuarantee g old new calls outcomes
 promise_kept g old new calls outcomes run = record {
   kept = λ clean base keeps. leads g old new calls outcomes run clean base keeps;
   made = λ clean holds. leads g old new calls outcomes run clean empty_base (made_keeps g old holds);

@@ -16,23 +16,23 @@ use Rattle.brk_sql.proofs.Inside.{clean_before}
 use Rattle.brk_book_theorems.proofs.Steps.{empty_books, empty_rows}
 use Rattle.brk_invariant_theorems.proofs.SoundRuns.{keyed_both}
 use Rattle.brk_invariant_theorems.proofs.SoundSteps.{empty_sound}
-use Rattle.brk_store.specs.Audited.{IsAdopted, IsAudited}
-use Rattle.brk_store.specs.Holds.{AreTreesOf, IsCreated, LeavesOnly}
+use Rattle.brk_store.specs.Audited.{AdoptPost, AuditPost, Represents}
+use Rattle.brk_store.specs.Holds.{AreTreesOf, CreatePost, OnlyCrashState}
 use Rattle.brk_store.proofs.Found.{found_again}
 use Rattle.brk_store.proofs.Taking.{sound_books_pass, third_audited}
 use Rattle.brk_desk.specs.Answers.{outcome_of}
 use Rattle.brk_desk.specs.Commands.{call_of}
-use Rattle.brk_commit.specs.Booked.{IsCalled, KeepsBase, MayCome, base_after_call}
-use Rattle.brk_desk.specs.Keeping.{IsRun}
-use Rattle.brk_desk.specs.Reopening.{CanBeKept, IsJustOpened, IsReopened, IsTakenOver, StandsAlone}
-use Rattle.brk_desk.specs.Stops.{MayStand}
+use Rattle.brk_commit.specs.Booked.{CallPost, MayBeCommitted, base_after_call}
+use Rattle.brk_desk.specs.Keeping.{RunPost}
+use Rattle.brk_desk.specs.Reopening.{IsConsistent, IsJustOpened, IsReopened, IsRecovered, IsDurable}
+use Rattle.brk_desk.specs.Stops.{MayBeRecovered}
 use Rattle.brk_commit.specs.declared.answer.Answer.{Answer}
 use Rattle.brk_desk.specs.declared.call.Call.{Call}
 use Rattle.brk_desk.specs.declared.call.Outcome.{Outcome}
 use Rattle.brk_desk.proofs.AtFirst.{made_keeps, stands}
 use Rattle.brk_commit.proofs.Seen.{still_kept}
 
-pub made_stands : {S : Type 0} (g : Ghosts S) (conn store : Held S) → IsCreated g conn store (Ok tt) → HasCleanDisk (state g store) → StandsAlone g store empty_base
+pub made_stands : {S : Type 0} (g : Ghosts S) (conn store : Held S) → CreatePost g conn store (Ok tt) → HasCleanDisk (state g store) → IsDurable g store empty_base
 made_stands g conn store created clean = record {
   keeps = made_keeps g store created.made;
   alone = λ trees may. subst (λ (t : Tables). AreTreesOf t trees) (sym empty_rows) (created.durable clean trees may);
@@ -40,12 +40,12 @@ made_stands g conn store created clean = record {
 
 -- ---- what can be kept
 
-pub kept_can_be : {S : Type 0} (g : Ghosts S) (store : Held S) (base : Base) → KeepsBase g store base → CanBeKept base
+pub kept_can_be : {S : Type 0} (g : Ghosts S) (store : Held S) (base : Base) → Represents g store base → IsConsistent base
 kept_can_be g store base keeps = record { books = keeps.books; sound = keeps.sound; texts = keeps.texts }
 
 -- what may come of a call can be kept too
 pub booked_can_be : {S : Type 0} (g : Ghosts S) (old new : Held S) (base : Base) (now : ℕ) (command : Command) (key : Option Key) (answer : Result Answer Fault) (trees : Trees)
-    → IsCalled g old new now command key answer → KeepsBase g old base → MayCome g old now command key trees → CanBeKept (base_after_call base now command key)
+    → CallPost g old new now command key answer → Represents g old base → MayBeCommitted g old now command key trees → IsConsistent (base_after_call base now command key)
 booked_can_be g old new base now command key answer trees called keeps come =
     let both = keyed_both base now command key (keeps.books, keeps.sound) called.in_form.0 called.in_form.1 in
     record { books = both.0; sound = both.1; texts = come.2 base keeps }
@@ -58,34 +58,34 @@ Settles {S} g = (s : S) (db : Trees) → IsTrue (g.view s).is_open → g.recover
 
 module _ {S : Type 0} (g : Ghosts S) (settled : Settles g) where
   -- a connection opened over the tables of sound books in order keeps them
-  opened_keeps : (trees : Trees) (conn : Held S) (base : Base) → CanBeKept base → AreTreesOf (sheets base) trees → IsJustOpened g trees conn → KeepsBase g conn base
+  opened_keeps : (trees : Trees) (conn : Held S) (base : Base) → IsConsistent base → AreTreesOf (sheets base) trees → IsJustOpened g trees conn → Represents g conn base
   opened_keeps trees conn base can are opened = record { books = can.books; sound = can.sound; texts = can.texts; rows = found_again g (sheets base) trees conn are opened.over }
 
   -- a connection that was just opened leaves its trees alone
-  pub leaves_alone : (trees : Trees) (conn : Held S) → IsJustOpened g trees conn → HasCleanDisk (state g conn) → LeavesOnly g conn (λ left. left ≡ trees)
+  pub leaves_alone : (trees : Trees) (conn : Held S) → IsJustOpened g trees conn → HasCleanDisk (state g conn) → OnlyCrashState g conn (λ left. left ≡ trees)
   leaves_alone trees conn opened clean left may =
       let o = opened.opens clean in
       settled conn.store left o.is_open may ∙ sym (ap (λ (db : Database). db.trees) o.clean) ∙ opened.over.same clean
 
   -- trees with the tables of the third schema: what is adopted over them is audited, and nothing is written
-  module _ (trees : Trees) (conn store : Held S) (result : Result (Unit {0}) Fault) (opened : IsJustOpened g trees conn) (audited : IsAudited g conn store result) (clean : HasCleanDisk (state g store)) where
+  module _ (trees : Trees) (conn store : Held S) (result : Result (Unit {0}) Fault) (opened : IsJustOpened g trees conn) (audited : AuditPost g conn store result) (clean : HasCleanDisk (state g store)) where
     clean_conn : HasCleanDisk (state g conn)
     clean_conn = clean_before (state g conn) (state g store) (λ _. ⊥) audited.survives clean
 
     -- and an audit leaves them too
-    stays_alone : LeavesOnly g store (λ left. left ≡ trees)
+    stays_alone : OnlyCrashState g store (λ left. left ≡ trees)
     stays_alone left may = elim (audited.survives.crash clean left may) [ inl was ↦ leaves_alone trees conn opened clean_conn left was | inr none ↦ absurd none ]
 
     -- the books of a base whose tables they are stand
-    pub audited_stands : (base : Base) → CanBeKept base → AreTreesOf (sheets base) trees → StandsAlone g store base
+    pub audited_stands : (base : Base) → IsConsistent base → AreTreesOf (sheets base) trees → IsDurable g store base
     audited_stands base can are = record {
       keeps = still_kept g conn store base (audited.kept (sheets base)) (opened_keeps trees conn base can are opened);
       alone = λ left m. subst (AreTreesOf (sheets base)) (sym (stays_alone left m)) are;
     }
 
   -- over the tables of sound books in order
-  pub taken_over : (trees : Trees) (conn store : Held S) (result : Result (Unit {0}) Fault) → IsJustOpened g trees conn → IsAdopted g conn store result → HasCleanDisk (state g store)
-      → (base : Base) → CanBeKept base → AreTreesOf (sheets base) trees → (May : Base → Type 0) → May base → IsTakenOver g store result May
+  pub taken_over : (trees : Trees) (conn store : Held S) (result : Result (Unit {0}) Fault) → IsJustOpened g trees conn → AdoptPost g conn store result → HasCleanDisk (state g store)
+      → (base : Base) → IsConsistent base → AreTreesOf (sheets base) trees → (May : Base → Type 0) → May base → IsRecovered g store result May
   taken_over trees conn store result opened adopted clean base can are May may = record {
     base = base;
     may = may;
@@ -93,16 +93,16 @@ module _ {S : Type 0} (g : Ghosts S) (settled : Settles g) where
     stands = audited_stands trees conn store result opened audited clean base can are;
   }
     where
-      held : KeepsBase g conn base
+      held : Represents g conn base
       held = opened_keeps trees conn base can are opened
 
-      audited : IsAudited g conn store result
+      audited : AuditPost g conn store result
       audited = third_audited g conn store result adopted (sheets base) held.rows
 
   -- a stop within the making of the tables
-  pub making_taken_over : (first left conn store : Held S) (made result : Result (Unit {0}) Fault) (trees : Trees) → IsCreated g first left made → HasCleanDisk (state g left)
-      → (state g left).may_leave trees → IsJustOpened g trees conn → IsAdopted g conn store result → HasCleanDisk (state g store)
-      → (state g first).may_leave trees ⊎ IsTakenOver g store result (λ base. base ≡ empty_base)
+  pub making_taken_over : (first left conn store : Held S) (made result : Result (Unit {0}) Fault) (trees : Trees) → CreatePost g first left made → HasCleanDisk (state g left)
+      → (state g left).may_leave trees → IsJustOpened g trees conn → AdoptPost g conn store result → HasCleanDisk (state g store)
+      → (state g first).may_leave trees ⊎ IsRecovered g store result (λ base. base ≡ empty_base)
   making_taken_over first left conn store made result trees created clean may opened adopted after =
       elim (created.survives.crash clean trees may) [
         | inl was ↦ inl was
@@ -110,11 +110,11 @@ module _ {S : Type 0} (g : Ghosts S) (settled : Settles g) where
             (subst (λ (t : Tables). AreTreesOf t trees) (sym empty_rows) none) (λ base. base ≡ empty_base) refl)
       ]
 
-  module _ (first left conn store : Held S) (base : Base) (result : Result (Unit {0}) Fault) (at : StandsAlone g first base) (clean : HasCleanDisk (state g left)) (again : IsReopened g left conn)
-      (adopted : IsAdopted g conn store result) (after : HasCleanDisk (state g store)) where
+  module _ (first left conn store : Held S) (base : Base) (result : Result (Unit {0}) Fault) (at : IsDurable g first base) (clean : HasCleanDisk (state g left)) (again : IsReopened g left conn)
+      (adopted : AdoptPost g conn store result) (after : HasCleanDisk (state g store)) where
     -- a stop within a call
-    pub call_taken_over : (now : ℕ) (command : Command) (key : Option Key) (answer : Result Answer Fault) → IsCalled g first left now command key answer
-        → IsTakenOver g store result (λ stood. (stood ≡ base) ⊎ (stood ≡ base_after_call base now command key))
+    pub call_taken_over : (now : ℕ) (command : Command) (key : Option Key) (answer : Result Answer Fault) → CallPost g first left now command key answer
+        → IsRecovered g store result (λ stood. (stood ≡ base) ⊎ (stood ≡ base_after_call base now command key))
     call_taken_over now command key answer called =
         elim (called.survives.crash clean again.0 again.1) [
           | inl was ↦ taken_over again.0 conn store result again.2 adopted after base (kept_can_be g first base at.keeps) (at.alone again.0 was) May (inl refl)
@@ -126,9 +126,9 @@ module _ {S : Type 0} (g : Ghosts S) (settled : Settles g) where
         May stood = (stood ≡ base) ⊎ (stood ≡ base_after_call base now command key)
 
     -- a stop within or behind a run
-    pub run_taken_over : (calls : List (ℕ × Call)) (outcomes : List Outcome) → IsRun g first left calls outcomes
-        → IsTakenOver g store result (MayStand base (map call_of calls) (map outcome_of outcomes))
+    pub run_taken_over : (calls : List (ℕ × Call)) (outcomes : List Outcome) → RunPost g first left calls outcomes
+        → IsRecovered g store result (MayBeRecovered base (map call_of calls) (map outcome_of outcomes))
     run_taken_over calls outcomes run =
         let l = run.leaves clean base at.keeps at.alone again.0 again.1 in
         let both = stands base (map call_of calls) (map outcome_of outcomes) l.0 run.in_form (at.keeps.books, at.keeps.sound) l.1 in
-        taken_over again.0 conn store result again.2 adopted after l.0 (record { books = both.0; sound = both.1; texts = l.3 }) l.2 (MayStand base (map call_of calls) (map outcome_of outcomes)) l.1
+        taken_over again.0 conn store result again.2 adopted after l.0 (record { books = both.0; sound = both.1; texts = l.3 }) l.2 (MayBeRecovered base (map call_of calls) (map outcome_of outcomes)) l.1

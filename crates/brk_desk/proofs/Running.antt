@@ -8,8 +8,8 @@ use Rattle.brk_model.specs.Commands as model_answer
 use Rattle.brk_model.specs.Keyed.{keyed_step}
 use Rattle.brk_model.specs.Sheets.{sheets}
 use Rattle.brk_invariant_theorems.specs.Runs.{IsCallInForm}
-use Rattle.brk_store.specs.Holds.{AreTreesOf, LeavesOnly}
-use Rattle.brk_desk.specs.Stops.{IsQuiet, MayStand}
+use Rattle.brk_store.specs.Holds.{AreTreesOf, OnlyCrashState}
+use Rattle.brk_desk.specs.Stops.{AcknowledgesNothing, MayBeRecovered}
 use Rattle.brk_commit.proofs.Seen.{still}
 use Rattle.brk_desk.proofs.Stopping.{may_be_there, quiet_leaves, stands_still}
 use Rattle.brk_commit.specs.declared.answer.Answer.TheVariants as given
@@ -29,8 +29,9 @@ use Rattle.brk_desk.specs.Answers.{outcome_for, outcome_of, outcome_seen}
 use Rattle.brk_commands.specs.Commands.{command_of}
 use Rattle.brk_commit.specs.Keys.{key_for}
 use Rattle.brk_desk.specs.Commands.{call_of}
-use Rattle.brk_commit.specs.Booked.{IsCalled, KeepsBase, base_after_call}
-use Rattle.brk_desk.specs.Keeping.{IsAsked, IsMade, IsRun}
+use Rattle.brk_commit.specs.Booked.{CallPost, base_after_call}
+use Rattle.brk_store.specs.Audited.{Represents}
+use Rattle.brk_desk.specs.Keeping.{AskPost, OutcomePost, RunPost}
 use Rattle.brk_commit.specs.declared.answer.Answer as desk
 use Rattle.brk_desk.specs.declared.call.Call.{Call}
 use Rattle.brk_desk.specs.declared.call.Call.TheVariants as call
@@ -55,17 +56,17 @@ as_many xs ys x y e = length-append xs (x ∷ []) ∙ ap (λ n. n + 1) e ∙ sym
 settles_then : (a b c : State) (P : Trees → Type 0) → Survives a b (λ _. Unit {0}) → Survives b c P → Survives a c (λ _. Unit {0})
 settles_then a b c P first next = survives_then a b c (λ _. Unit {0}) P (λ _. Unit {0}) (λ _ db may. tt) (λ _ db may. tt) first next
 
-mapped : (base after : Base) (calls : List (ℕ × Call)) (outcomes : List Outcome) (x : ℕ × Call) (o : Outcome) → MayStand base (map call_of calls ++ call_of x ∷ []) (map outcome_of outcomes ++ outcome_of o ∷ []) after
-    → MayStand base (map call_of (calls ++ x ∷ [])) (map outcome_of (outcomes ++ o ∷ [])) after
-mapped base after calls outcomes x o h = subst₂ (λ cs os. MayStand base cs os after) (sym (map-append call_of calls (x ∷ []))) (sym (map-append outcome_of outcomes (o ∷ []))) h
+mapped : (base after : Base) (calls : List (ℕ × Call)) (outcomes : List Outcome) (x : ℕ × Call) (o : Outcome) → MayBeRecovered base (map call_of calls ++ call_of x ∷ []) (map outcome_of outcomes ++ outcome_of o ∷ []) after
+    → MayBeRecovered base (map call_of (calls ++ x ∷ [])) (map outcome_of (outcomes ++ o ∷ [])) after
+mapped base after calls outcomes x o h = subst₂ (λ cs os. MayBeRecovered base cs os after) (sym (map-append call_of calls (x ∷ []))) (sym (map-append outcome_of outcomes (o ∷ []))) h
 
-quiet_view : (result : Result (Result View Refusal) Fault) → IsQuiet (outcome_of (outcome_seen result))
+quiet_view : (result : Result (Result View Refusal) Fault) → AcknowledgesNothing (outcome_of (outcome_seen result))
 quiet_view (Ok (Ok view)) = tt
 quiet_view (Ok (Err refusal)) = tt
 quiet_view (Err fault) = tt
 
 module _ {S : Type 0} (g : Ghosts S) where
-  pub runs_none : (store : Held S) → IsRun g store store [] []
+  pub runs_none : (store : Held S) → RunPost g store store [] []
   runs_none store = record {
     count = refl;
     ran = λ clean base keeps. (base, keeps, refl);
@@ -76,25 +77,25 @@ module _ {S : Type 0} (g : Ghosts S) where
   }
 
   -- what came of a query is its answer over each base whose books were kept
-  by_answer : (old new : Held S) (query : model.Query) (result : Result (Result View Refusal) Fault) (now : ℕ) (base : Base) → IsAsked g old new query result
-      → HasCleanDisk (state g new) → KeepsBase g old base → Answers base now (Ask query) (outcome_of (outcome_seen result)) base
+  by_answer : (old new : Held S) (query : model.Query) (result : Result (Result View Refusal) Fault) (now : ℕ) (base : Base) → AskPost g old new query result
+      → HasCleanDisk (state g new) → Represents g old base → Answers base now (Ask query) (outcome_of (outcome_seen result)) base
   by_answer old new query (Ok (Ok view)) now base asked clean keeps = (asked.answered clean base keeps, refl)
   by_answer old new query (Ok (Err refusal)) now base asked clean keeps = (asked.answered clean base keeps, refl)
   by_answer old new query (Err fault) now base asked clean keeps = (asked.fault, refl)
 
-  module _ (a b c : Held S) (calls : List (ℕ × Call)) (outcomes : List Outcome) (run : IsRun g a b calls outcomes) (now : ℕ) where
+  module _ (a b c : Held S) (calls : List (ℕ × Call)) (outcomes : List Outcome) (run : RunPost g a b calls outcomes) (now : ℕ) where
     -- what a crash leaves after one call more
     abbrev Left : (base : Base) → Outcome → Call → Trees → Type 0
-    Left base o made trees = (after : Base) × MayStand base (map call_of (calls ++ (now, made) ∷ [])) (map outcome_of (outcomes ++ o ∷ [])) after × AreTreesOf (sheets after) trees × IsTrue (has_texts (sheets after))
+    Left base o made trees = (after : Base) × MayBeRecovered base (map call_of (calls ++ (now, made) ∷ [])) (map outcome_of (outcomes ++ o ∷ [])) after × AreTreesOf (sheets after) trees × IsTrue (has_texts (sheets after))
 
     -- a call that acknowledges nothing leaves what could be left before
-    left_still : (made : Call) (o : Outcome) (base mid : Base) → Run base (map call_of calls) (map outcome_of outcomes) mid → Answers mid (call_of (now, made)).0 (call_of (now, made)).1 (outcome_of o) mid → IsQuiet (outcome_of o)
-        → (trees : Trees) → (after : Base) × MayStand base (map call_of calls) (map outcome_of outcomes) after × AreTreesOf (sheets after) trees × IsTrue (has_texts (sheets after)) → Left base o made trees
+    left_still : (made : Call) (o : Outcome) (base mid : Base) → Run base (map call_of calls) (map outcome_of outcomes) mid → Answers mid (call_of (now, made)).0 (call_of (now, made)).1 (outcome_of o) mid → AcknowledgesNothing (outcome_of o)
+        → (trees : Trees) → (after : Base) × MayBeRecovered base (map call_of calls) (map outcome_of outcomes) after × AreTreesOf (sheets after) trees × IsTrue (has_texts (sheets after)) → Left base o made trees
     left_still made o base mid ran told quiet trees l =
         (l.0, mapped base l.0 calls outcomes (now, made) o (stands_still base mid (map call_of calls) (map outcome_of outcomes) (call_of (now, made)) (outcome_of o) ran told quiet l.0 l.1), l.2, l.3)
 
-    left_quiet : (command : _) (key : _) (answer : desk.Answer) → IsQuiet (outcome_of (outcome_for (Ok answer))) → IsCalled g b c now (command_of command) (key_for key) (Ok answer) → HasCleanDisk (state g c)
-        → (base : Base) → KeepsBase g a base → LeavesOnly g a (AreTreesOf (sheets base)) → LeavesOnly g c (Left base (outcome_for (Ok answer)) (call.Do command key))
+    left_quiet : (command : _) (key : _) (answer : desk.Answer) → AcknowledgesNothing (outcome_of (outcome_for (Ok answer))) → CallPost g b c now (command_of command) (key_for key) (Ok answer) → HasCleanDisk (state g c)
+        → (base : Base) → Represents g a base → OnlyCrashState g a (AreTreesOf (sheets base)) → OnlyCrashState g c (Left base (outcome_for (Ok answer)) (call.Do command key))
     left_quiet command key answer quiet called clean base keeps only trees may =
         let r = run.ran (called.clean clean) base keeps in
         let s = called.answered clean r.0 r.1 in
@@ -110,8 +111,8 @@ module _ {S : Type 0} (g : Ghosts S) where
           )
         ]
 
-    left_answered : (command : _) (key : _) (answer : desk.Answer) → IsCalled g b c now (command_of command) (key_for key) (Ok answer) → HasCleanDisk (state g c) → (base : Base) → KeepsBase g a base
-        → LeavesOnly g a (AreTreesOf (sheets base)) → LeavesOnly g c (Left base (outcome_for (Ok answer)) (call.Do command key))
+    left_answered : (command : _) (key : _) (answer : desk.Answer) → CallPost g b c now (command_of command) (key_for key) (Ok answer) → HasCleanDisk (state g c) → (base : Base) → Represents g a base
+        → OnlyCrashState g a (AreTreesOf (sheets base)) → OnlyCrashState g c (Left base (outcome_for (Ok answer)) (call.Do command key))
     left_answered command key (given.Done reply) called clean base keeps only trees may =
         let r = run.ran (called.clean clean) base keeps in
         let s = called.answered clean r.0 r.1 in (
@@ -123,8 +124,8 @@ module _ {S : Type 0} (g : Ghosts S) where
     left_answered command key (given.Again line) called clean base keeps only trees may = left_quiet command key (given.Again line) tt called clean base keeps only trees may
     left_answered command key (given.Refused refusal) called clean base keeps only trees may = left_quiet command key (given.Refused refusal) tt called clean base keeps only trees may
 
-    by_result : (command : _) (key : _) (result : Result desk.Answer Fault) → IsCalled g b c now (command_of command) (key_for key) result
-        → IsRun g a c (calls ++ (now, call.Do command key) ∷ []) (outcomes ++ outcome_for result ∷ [])
+    by_result : (command : _) (key : _) (result : Result desk.Answer Fault) → CallPost g b c now (command_of command) (key_for key) result
+        → RunPost g a c (calls ++ (now, call.Do command key) ∷ []) (outcomes ++ outcome_for result ∷ [])
     by_result command key (Ok answer) called = record {
       count = as_many outcomes calls (outcome_for (Ok answer)) (now, call.Do command key) run.count;
       ran = λ clean base keeps.
@@ -158,8 +159,8 @@ module _ {S : Type 0} (g : Ghosts S) where
       in_form = formed_more calls (now, call.Do command key) run.in_form called.in_form;
     }
 
-    by_view : (query : _) (result : Result (Result View Refusal) Fault) → IsAsked g b c (query_of query) result
-        → IsRun g a c (calls ++ (now, call.Ask query) ∷ []) (outcomes ++ outcome_seen result ∷ [])
+    by_view : (query : _) (result : Result (Result View Refusal) Fault) → AskPost g b c (query_of query) result
+        → RunPost g a c (calls ++ (now, call.Ask query) ∷ []) (outcomes ++ outcome_seen result ∷ [])
     by_view query result asked = record {
       count = as_many outcomes calls (outcome_seen result) (now, call.Ask query) run.count;
       ran = λ clean base keeps.
@@ -178,8 +179,8 @@ module _ {S : Type 0} (g : Ghosts S) where
       in_form = formed_more calls (now, call.Ask query) run.in_form tt;
     }
 
-    pub runs_more : (made : Call) (outcome : Outcome) → IsMade g b c now made outcome → IsRun g a c (calls ++ (now, made) ∷ []) (outcomes ++ outcome ∷ [])
+    pub runs_more : (made : Call) (outcome : Outcome) → OutcomePost g b c now made outcome → RunPost g a c (calls ++ (now, made) ∷ []) (outcomes ++ outcome ∷ [])
     runs_more (call.Do command key) outcome it =
-        subst (λ o. IsRun g a c (calls ++ (now, call.Do command key) ∷ []) (outcomes ++ o ∷ [])) (sym it.1) (by_result command key it.0 it.2)
+        subst (λ o. RunPost g a c (calls ++ (now, call.Do command key) ∷ []) (outcomes ++ o ∷ [])) (sym it.1) (by_result command key it.0 it.2)
     runs_more (call.Ask query) outcome it =
-        subst (λ o. IsRun g a c (calls ++ (now, call.Ask query) ∷ []) (outcomes ++ o ∷ [])) (sym it.1) (by_view query it.0 it.2)
+        subst (λ o. RunPost g a c (calls ++ (now, call.Ask query) ∷ []) (outcomes ++ o ∷ [])) (sym it.1) (by_view query it.0 it.2)

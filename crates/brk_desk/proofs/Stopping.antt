@@ -10,7 +10,7 @@ use Rattle.brk_model.specs.Keyed.{acted, kept_of, keyed, keyed_step}
 use Rattle.brk_model.specs.Records.{Kept, Key}
 use Rattle.brk_model.specs.Run.{Answers, Ask, Call, Did, Do, Outcome, Failed, NoView, Run, Saw}
 use Rattle.brk_model.specs.Step.{step}
-use Rattle.brk_desk.specs.Stops.{IsQuiet, MayStand}
+use Rattle.brk_desk.specs.Stops.{AcknowledgesNothing, MayBeRecovered}
 
 pub run_then : (base mid after : Base) (calls : List (ℕ × Call)) (outcomes : List Outcome) (x : ℕ × Call) (o : Outcome) → Run base calls outcomes mid → Answers mid x.0 x.1 o after
     → Run base (calls ++ x ∷ []) (outcomes ++ o ∷ []) after
@@ -19,7 +19,7 @@ run_then base mid after (c ∷ cs) (p ∷ ps) x o r a = (r.0, r.1, run_then r.0 
 run_then base mid after [] (p ∷ ps) x o r a = absurd r
 run_then base mid after (c ∷ cs) [] x o r a = absurd r
 
-quiet_then : (rest : List Outcome) (o : Outcome) → AllByRecursion IsQuiet rest → IsQuiet o → AllByRecursion IsQuiet (rest ++ o ∷ [])
+quiet_then : (rest : List Outcome) (o : Outcome) → AllByRecursion AcknowledgesNothing rest → AcknowledgesNothing o → AllByRecursion AcknowledgesNothing (rest ++ o ∷ [])
 quiet_then [] o all q = (q, tt)
 quiet_then (p ∷ ps) o all q = (all.0, quiet_then ps o all.1 q)
 
@@ -43,21 +43,21 @@ run_once base [] (o ∷ os) a b p q = absurd p
 run_once base (c ∷ cs) [] a b p q = absurd p
 
 -- a command that books nothing leaves the base
-acted_quiet : (base : Base) (key : Option Key) (command : Command) (r : Result (Reply × Base) Refusal) (answer : Answer) (after : Base) → acted base key command r ≡ (answer, after) → IsQuiet (Did answer) → after ≡ base
-acted_quiet base key command (Ok booked) answer after e quiet = absurd (subst (λ (x : Answer × Base). IsQuiet (Did x.0)) (sym e) quiet)
+acted_quiet : (base : Base) (key : Option Key) (command : Command) (r : Result (Reply × Base) Refusal) (answer : Answer) (after : Base) → acted base key command r ≡ (answer, after) → AcknowledgesNothing (Did answer) → after ≡ base
+acted_quiet base key command (Ok booked) answer after e quiet = absurd (subst (λ (x : Answer × Base). AcknowledgesNothing (Did x.0)) (sym e) quiet)
 acted_quiet base key command (Err refusal) answer after e quiet = ap (λ (x : Answer × Base). x.1) (sym e)
 
-keyed_quiet : (base : Base) (now : ℕ) (command : Command) (key : Option Key) (k : Option Kept) (answer : Answer) (after : Base) → keyed base now command key k ≡ (answer, after) → IsQuiet (Did answer) → after ≡ base
+keyed_quiet : (base : Base) (now : ℕ) (command : Command) (key : Option Key) (k : Option Kept) (answer : Answer) (after : Base) → keyed base now command key k ≡ (answer, after) → AcknowledgesNothing (Did answer) → after ≡ base
 keyed_quiet base now command key (Some k) answer after e quiet = ap (λ (x : Answer × Base). x.1) (sym e)
 keyed_quiet base now command key None answer after e quiet = acted_quiet base key command (step base now command) answer after e quiet
 
-pub quiet_leaves : (base : Base) (now : ℕ) (command : Command) (key : Option Key) (answer : Answer) (after : Base) → keyed_step base now command key ≡ (answer, after) → IsQuiet (Did answer) → after ≡ base
+pub quiet_leaves : (base : Base) (now : ℕ) (command : Command) (key : Option Key) (answer : Answer) (after : Base) → keyed_step base now command key ≡ (answer, after) → AcknowledgesNothing (Did answer) → after ≡ base
 unfolding keyed_step
 quiet_leaves base now command key answer after e quiet = keyed_quiet base now command key (kept_of base key) answer after e quiet
 
 -- after a run to a base, a call that acknowledges nothing leaves what may stand
-pub stands_still : (base mid : Base) (calls : List (ℕ × Call)) (outcomes : List Outcome) (x : ℕ × Call) (o : Outcome) → Run base calls outcomes mid → Answers mid x.0 x.1 o mid → IsQuiet o
-    → (after : Base) → MayStand base calls outcomes after → MayStand base (calls ++ x ∷ []) (outcomes ++ o ∷ []) after
+pub stands_still : (base mid : Base) (calls : List (ℕ × Call)) (outcomes : List Outcome) (x : ℕ × Call) (o : Outcome) → Run base calls outcomes mid → Answers mid x.0 x.1 o mid → AcknowledgesNothing o
+    → (after : Base) → MayBeRecovered base calls outcomes after → MayBeRecovered base (calls ++ x ∷ []) (outcomes ++ o ∷ []) after
 stands_still base mid calls outcomes x o ran told quiet after (inl other) =
     inl (subst (Run base (calls ++ x ∷ []) (outcomes ++ o ∷ [])) (run_once base calls outcomes mid after ran other) (run_then base mid mid calls outcomes x o ran told))
 stands_still base mid calls outcomes x o ran told quiet after (inr w) = inr (record {
@@ -79,7 +79,7 @@ stands_still base mid calls outcomes x o ran told quiet after (inr w) = inr (rec
 
 -- a command that was answered with a fault may be there all the same
 pub may_be_there : (base mid : Base) (calls : List (ℕ × Call)) (outcomes : List Outcome) (now : ℕ) (command : Command) (key : Option Key) (fault : Fault) → Run base calls outcomes mid
-    → MayStand base (calls ++ (now, Do command key) ∷ []) (outcomes ++ Failed fault ∷ []) (keyed_step mid now command key).1
+    → MayBeRecovered base (calls ++ (now, Do command key) ∷ []) (outcomes ++ Failed fault ∷ []) (keyed_step mid now command key).1
 may_be_there base mid calls outcomes now command key fault ran = inr (record {
   earlier = calls;
   now = now;

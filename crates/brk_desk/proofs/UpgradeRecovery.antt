@@ -24,11 +24,11 @@ use Rattle.brk_sql.proofs.Inside.{clean_before}
 use Rattle.brk_tables_schema.specs.Made.{HasRows}
 use Rattle.brk_tables_scan.proofs.Defined.{desk_is_there}
 use Rattle.brk_tables_unique.proofs.OneTables.{one_schema}
-use Rattle.brk_store.specs.Audited.{Answered, Audited, IsAdopted, IsDefinedIn, OnAnswer}
+use Rattle.brk_store.specs.Audited.{Answered, Audited, AdoptPost, IsDefinedIn, OnAnswer}
 use Rattle.brk_store.specs.Holds.{AreTreesOf}
 use Rattle.brk_store.proofs.Schemas.{third_rows}
 use Rattle.brk_store.proofs.Taking.{one_answer}
-use Rattle.brk_desk.specs.Reopening.{CanBeKept, HasTakenOver, IsJustOpened, IsUpgradedOver, IsReopened, IsTakenOver, StandsAlone}
+use Rattle.brk_desk.specs.Reopening.{IsConsistent, HasTakenOver, IsJustOpened, IsUpgradedOver, IsReopened, IsRecovered, IsDurable}
 use Rattle.brk_desk.proofs.Defined.{defined_whole}
 use Rattle.brk_desk.proofs.UpgradedRows.{are_upgraded}
 use Rattle.brk_desk.proofs.Reopened.{Settles, audited_stands, leaves_alone, taken_over}
@@ -40,7 +40,7 @@ same_database db other sound found same =
     λ i. record { schema = schema i; trees = same i }
 
 -- the books of rows that passed can be kept
-rows_can_be : (schema : known.Schema) (rows : Tables) (db : Database) → Answered (schema_of schema) rows db None → CanBeKept (base_of rows)
+rows_can_be : (schema : known.Schema) (rows : Tables) (db : Database) → Answered (schema_of schema) rows db None → IsConsistent (base_of rows)
 rows_can_be schema rows db a = let k = are_upgraded schema rows a.2 a.1 in record { books = k.books; sound = k.sound; texts = k.texts }
 
 -- what is so of each answer is so of this one
@@ -53,12 +53,12 @@ each_answer (Err Store) P Q f p = tt
 module _ {S : Type 0} (g : Ghosts S) (settled : Settles g) where
   -- ---- an adoption that went well
 
-  module _ (trees : Trees) (conn store : Held S) (opened : IsJustOpened g trees conn) (adopted : IsAdopted g conn store (Ok tt)) (clean : HasCleanDisk (state g store)) (defined : IsDefinedIn g conn) where
+  module _ (trees : Trees) (conn store : Held S) (opened : IsJustOpened g trees conn) (adopted : AdoptPost g conn store (Ok tt)) (clean : HasCleanDisk (state g store)) (defined : IsDefinedIn g conn) where
     before : HasCleanDisk (state g conn)
     before = clean_before (state g conn) (state g store) _ (adopted.survives defined) clean
 
     -- of a desk of the third schema
-    third_stands : (rows : Tables) → Answered third_schema rows (state g conn).now None → StandsAlone g store (base_of rows)
+    third_stands : (rows : Tables) → Answered third_schema rows (state g conn).now None → IsDurable g store (base_of rows)
     third_stands rows a =
         let there : HasRows (sheets (base_of rows)) (state g conn).now =
         subst (λ (t : Tables). HasRows t (state g conn).now) (are_upgraded Third rows a.2 a.1).tables (third_rows rows (state g conn).now a.0) in
@@ -66,7 +66,7 @@ module _ {S : Type 0} (g : Ghosts S) (settled : Settles g) where
         (rows_can_be Third rows (state g conn).now a) ((state g conn).now, there, sym (opened.over.same before))
 
     -- of rows that were upgraded, which are committed
-    moved_stands : (schema : known.Schema) (rows : Tables) → Answered (schema_of schema) rows (state g conn).now None → IsTrue (state g store).is_open → StandsAlone g store (base_of rows)
+    moved_stands : (schema : known.Schema) (rows : Tables) → Answered (schema_of schema) rows (state g conn).now None → IsTrue (state g store).is_open → IsDurable g store (base_of rows)
     moved_stands schema rows a on =
         let m = adopted.upgraded clean on defined in
         let same : rows ≡ m.0.1 = (one_schema schema m.0.0 rows m.0.1 (state g conn).now a.0 m.0.2.0).1 in
@@ -77,12 +77,12 @@ module _ {S : Type 0} (g : Ghosts S) (settled : Settles g) where
           alone = λ left may. ((state g store).now, there, settled store.store left on may ∙ ap (λ (db : Database). db.trees) m.1);
         }
 
-    pub adopted_stands : (schema : known.Schema) (rows : Tables) → Answered (schema_of schema) rows (state g conn).now None → StandsAlone g store (base_of rows)
+    pub adopted_stands : (schema : known.Schema) (rows : Tables) → Answered (schema_of schema) rows (state g conn).now None → IsDurable g store (base_of rows)
     adopted_stands schema rows a = elim (adopted.stays clean defined) [
       | inl third ↦
           let told = (adopted.audited defined third).told clean (λ c on. defined c on Third) in
           let same : told.0 ≡ rows = (one_schema Third schema told.0 rows (state g conn).now told.1.0 a.0).1 in
-          subst (λ (t : Tables). StandsAlone g store (base_of t)) same (third_stands told.0 told.1)
+          subst (λ (t : Tables). IsDurable g store (base_of t)) same (third_stands told.0 told.1)
       | inr on ↦ moved_stands schema rows a on
     ]
 
@@ -92,8 +92,8 @@ module _ {S : Type 0} (g : Ghosts S) (settled : Settles g) where
   -- ---- a stop within an adoption
 
   module _ (trees : Trees) (first left conn store : Held S) (stopped result : Result (Unit {0}) Fault) (opened : IsJustOpened g trees first) (schema : known.Schema) (rows : Tables)
-      (answered : Answered (schema_of schema) rows (state g first).now None) (adopted : IsAdopted g first left stopped) (clean : HasCleanDisk (state g left)) (again : IsReopened g left conn)
-      (adopts : IsAdopted g conn store result) (after : HasCleanDisk (state g store)) where
+      (answered : Answered (schema_of schema) rows (state g first).now None) (adopted : AdoptPost g first left stopped) (clean : HasCleanDisk (state g left)) (again : IsReopened g left conn)
+      (adopts : AdoptPost g conn store result) (after : HasCleanDisk (state g store)) where
     was_clean : HasCleanDisk (state g first)
     was_clean = clean_before (state g first) (state g left) _ (adopted.survives (λ _ _. defined_whole (schema_of schema) rows (state g first).now answered.0)) clean
 
@@ -115,8 +115,8 @@ module _ {S : Type 0} (g : Ghosts S) (settled : Settles g) where
           (same_database (state g first).now (state g conn).now (opened.over.live was_clean (opened.opens was_clean).is_open).0 (again.2.over.live good (again.2.opens good).is_open).0
           (opened.over.same was_clean ∙ sym same ∙ sym (again.2.over.same good))) answered
 
-      stands_after : (r : Result (Unit {0}) Fault) → r ≡ result → OnOk r (StandsAlone g store (base_of rows))
-      stands_after (Ok x) e = adopted_stands again.0 conn store again.2 (subst (IsAdopted g conn store) (sym e) adopts) after defined schema rows there
+      stands_after : (r : Result (Unit {0}) Fault) → r ≡ result → OnOk r (IsDurable g store (base_of rows))
+      stands_after (Ok x) e = adopted_stands again.0 conn store again.2 (subst (AdoptPost g conn store) (sym e) adopts) after defined schema rows there
       stands_after (Err f) e = tt
 
       upgraded_again : IsUpgradedOver g store result (base_of rows)
@@ -128,11 +128,11 @@ module _ {S : Type 0} (g : Ghosts S) (settled : Settles g) where
     -- the upgraded rows are there
     upgraded_already : (base : Base) → base ≡ base_of rows → AreTreesOf (sheets base) again.0 → IsUpgradedOver g store result (base_of rows)
     upgraded_already base same are =
-        let t : IsTakenOver g store result (λ b. b ≡ base_of rows) =
+        let t : IsRecovered g store result (λ b. b ≡ base_of rows) =
         taken_over g settled again.0 conn store result again.2 adopts after (base_of rows) (rows_can_be schema rows (state g first).now answered) (subst (λ b. AreTreesOf (sheets b) again.0) same are) (λ b. b ≡ base_of rows) refl in
-        record { undamaged = t.undamaged; stands = whichever result (subst (StandsAlone g store) t.may t.stands) }
+        record { undamaged = t.undamaged; stands = whichever result (subst (IsDurable g store) t.may t.stands) }
       where
-        whichever : (r : Result (Unit {0}) Fault) → StandsAlone g store (base_of rows) → OnOk r (StandsAlone g store (base_of rows))
+        whichever : (r : Result (Unit {0}) Fault) → IsDurable g store (base_of rows) → OnOk r (IsDurable g store (base_of rows))
         whichever (Ok x) h = h
         whichever (Err f) h = tt
 

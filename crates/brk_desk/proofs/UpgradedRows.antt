@@ -22,8 +22,8 @@ use Rattle.brk_audit_theorems.proofs.AgainStatus.{all_list}
 use Rattle.brk_audit_theorems.proofs.Climbs.{list_all_true}
 use Rattle.brk_audit_theorems.proofs.UpgradedRows.{first_narrower, upgraded_rows, rows_upgraded_from, second_narrower}
 use Rattle.brk_audit_theorems.proofs.Passing.{passing_books}
-use Rattle.brk_book_theorems.specs.Books.{IsBooks}
-use Rattle.brk_invariant_theorems.specs.Sound.{IsSound}
+use Rattle.brk_book_theorems.specs.Books.{BooksInvariant}
+use Rattle.brk_invariant_theorems.specs.Sound.{AuditInvariant}
 use Rattle.brk_invariant_theorems.proofs.Adopted.{passing_sound}
 
 abbrev IsRead : Posting → Type 0
@@ -63,8 +63,8 @@ narrower Third = record { qty = omega arith; summary = omega arith }
 -- what is so of the base of rows that pass
 pub record AreUpgraded (schema : known.Schema) (rows : Tables) : Type 0 where
   pub tables : upgraded_from (schema_of schema) rows ≡ sheets (base_of rows)
-  pub books : IsBooks (base_of rows)
-  pub sound : IsSound (base_of rows)
+  pub books : BooksInvariant (base_of rows)
+  pub sound : AuditInvariant (base_of rows)
   pub texts : IsTrue (has_texts (sheets (base_of rows)))
 
 pub are_upgraded : (schema : known.Schema) (rows : Tables) → Passes (schema_of schema) rows → IsTrue (has_texts rows) → AreUpgraded schema rows
@@ -74,6 +74,6 @@ are_upgraded schema rows passes texts =
     record {
       tables = same.0 ∙ same.1;
       books = passing_books (schema_of schema) rows passes;
-      sound = subst IsSound over.base (passing_sound (upgraded rows) over.passes);
+      sound = subst AuditInvariant over.base (passing_sound (upgraded rows) over.passes);
       texts = subst (λ t. IsTrue (has_texts t)) same.1 (upgraded_read rows texts);
     }

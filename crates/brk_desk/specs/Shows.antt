@@ -7,8 +7,8 @@ use Rattle.brk_model.specs.Queries as model
 use Rattle.brk_model.specs.Queries.{Query}
 use Rattle.brk_model.specs.Sheets.{sheets}
 use Rattle.brk_model.specs.Tables.{Tables}
-use Rattle.brk_invariant_theorems.specs.Sound.{IsSound}
-use Rattle.brk_book_theorems.specs.Books.{IsBooks}
+use Rattle.brk_invariant_theorems.specs.Sound.{AuditInvariant}
+use Rattle.brk_book_theorems.specs.Books.{BooksInvariant}
 use Rattle.brk_view.specs.Views.{fields_of}
 use Rattle.brk_view.specs.declared.view.View.{View}
 
@@ -19,4 +19,4 @@ seen_of (Err refusal) = Err refusal
 
 -- where the rows are the tables of a sound base in order, a query has the view of the definitions, or is refused for the same reason
 abbrev pub Shows : Query → Result View Refusal → Tables → Type 0
-Shows query seen t = (base : Base) → IsBooks base → IsSound base → t ≡ sheets base → ask base query ≡ seen_of seen
+Shows query seen t = (base : Base) → BooksInvariant base → AuditInvariant base → t ≡ sheets base → ask base query ≡ seen_of seen

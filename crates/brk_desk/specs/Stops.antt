@@ -9,12 +9,12 @@ use Rattle.brk_model.specs.Records.{Key}
 use Rattle.brk_model.specs.Run.{Call, Do, Outcome, Did, Failed, Run}
 
 -- it acknowledges no change
-abbrev pub IsQuiet : Outcome → Type 0
-IsQuiet (Did (Done reply)) = ⊥
-IsQuiet _ = Unit {0}
+abbrev pub AcknowledgesNothing : Outcome → Type 0
+AcknowledgesNothing (Did (Done reply)) = ⊥
+AcknowledgesNothing _ = Unit {0}
 
 -- A command was answered with a fault, and after it no change was acknowledged. Its change is there all the same.
-pub record IsUnderWay (base : Base) (calls : List (ℕ × Call)) (outcomes : List Outcome) (after : Base) : Type 0 where
+pub record IsUnacknowledged (base : Base) (calls : List (ℕ × Call)) (outcomes : List Outcome) (after : Base) : Type 0 where
   -- the calls before it, itself, and those after it
   pub earlier : List (ℕ × Call)
   pub now : ℕ
@@ -28,9 +28,9 @@ pub record IsUnderWay (base : Base) (calls : List (ℕ × Call)) (outcomes : Lis
   pub outcomes_are : outcomes ≡ told ++ Failed fault ∷ rest
   pub before : Base
   pub ran : Run base earlier told before
-  pub quiet : AllByRecursion IsQuiet rest
+  pub quiet : AllByRecursion AcknowledgesNothing rest
   pub whole : after ≡ (keyed_step before now command key).1
 
 -- all that was acknowledged, and beyond it nothing, or one command that was answered with a fault since
-abbrev pub MayStand : Base → List (ℕ × Call) → List Outcome → Base → Type 0
-MayStand base calls outcomes after = Run base calls outcomes after ⊎ IsUnderWay base calls outcomes after
+abbrev pub MayBeRecovered : Base → List (ℕ × Call) → List Outcome → Base → Type 0
+MayBeRecovered base calls outcomes after = Run base calls outcomes after ⊎ IsUnacknowledged base calls outcomes after

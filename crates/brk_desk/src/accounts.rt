@@ -5,7 +5,7 @@ ghost use Rattle.brk_desk.specs.Shows.{Shows};
 ghost use Rattle.brk_model.specs.Queries.{PositionOf, PositionOfTaxId};
 ghost use Rattle.brk_model.specs.Run.{MayFail};
 ghost use Rattle.brk_ref.specs.Records.{account_row_of};
-ghost use Rattle.brk_store.specs.Holds.{IsRead};
+ghost use Rattle.brk_store.specs.Holds.{ReadPost};
 ghost use Rattle.brk_view.specs.Worths.{worth_in};
 
 use brk_decisions::sum_worth;
@@ -22,7 +22,7 @@ fn worth_of<S: Alter>(
     store: &mut Store<S>,
     row: &AccountRow,
 ) -> Result<AccountWorth, Fault>
-    ensures read { IsRead S.Store store.old store.new result (λ worth t. worth ≡ worth_in t (account_row_of row.now)) }
+    ensures read { ReadPost S.Store store.old store.new result (λ worth t. worth ≡ worth_in t (account_row_of row.now)) }
     ensures fault { IfErr result MayFail }
 {
     let assets = sum_worth(alloc, store, row.account.id)?;
@@ -39,7 +39,7 @@ fn worths_of<S: Alter>(
     store: &mut Store<S>,
     customer: Id,
 ) -> Result<Vec<AccountWorth>, Fault>
-    ensures read { IsRead S.Store store.old store.new result (λ worths t. worths.items ≡ map (worth_in t) (filter (λ a. a.customer == customer) t.accounts)) }
+    ensures read { ReadPost S.Store store.old store.new result (λ worths t. worths.items ≡ map (worth_in t) (filter (λ a. a.customer == customer) t.accounts)) }
     ensures fault { IfErr result MayFail }
 {
     let mut worths = Vec::new(alloc);
@@ -57,7 +57,7 @@ pub(crate) fn see_position<S: Alter>(
     store: &mut Store<S>,
     customer: Id,
 ) -> Planned<View>
-    ensures read { IsRead S.Store store.old store.new result (Shows (PositionOf customer)) }
+    ensures read { ReadPost S.Store store.old store.new result (Shows (PositionOf customer)) }
     ensures fault { IfErr result MayFail }
 {
     let Some(found) = store.customer(customer)? else {
@@ -74,7 +74,7 @@ pub(crate) fn see_position_by_tax_id<S: Alter>(
     store: &mut Store<S>,
     tax_id: &TaxId,
 ) -> Planned<View>
-    ensures read { IsRead S.Store store.old store.new result (Shows (PositionOfTaxId tax_id.now)) }
+    ensures read { ReadPost S.Store store.old store.new result (Shows (PositionOfTaxId tax_id.now)) }
     ensures fault { IfErr result MayFail }
 {
     let Some(found) = store.customer_by_tax_id(tax_id)? else {

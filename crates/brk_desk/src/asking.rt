@@ -1,4 +1,4 @@
-ghost use Rattle.brk_desk.specs.Keeping.{IsAsked};
+ghost use Rattle.brk_desk.specs.Keeping.{AskPost};
 ghost use Rattle.brk_view.specs.Queries.{query_of};
 
 use brk_money::Planned;
@@ -8,8 +8,12 @@ use sqlite::Alter;
 use std::alloc::Global;
 
 /// The view that a query is answered with, or why it is refused.
-pub(crate) fn look<S: Alter>(alloc: Global, store: &mut Store<S>, query: &Query) -> Planned<View>
-    ensures asked { IsAsked S.Store store.old store.new (query_of query.now) result }
+pub(crate) fn answer_query<S: Alter>(
+    alloc: Global,
+    store: &mut Store<S>,
+    query: &Query,
+) -> Planned<View>
+    ensures asked { AskPost S.Store store.old store.new (query_of query.now) result }
 {
-    crate::looking::look(alloc, store, query)
+    crate::looking::view_of_query(alloc, store, query)
 }

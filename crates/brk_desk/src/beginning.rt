@@ -6,8 +6,8 @@ ghost use Rattle.std.specs.List.{AllByRecursion};
 ghost use Rattle.sqlite.specs.Held.{Held};
 ghost use Rattle.sqlite_trees.specs.Tree.{Trees};
 ghost use Rattle.brk_audit_theorems.specs.Passing.{Passes};
-ghost use Rattle.brk_commit.specs.Booked.{KeepsBase};
-ghost use Rattle.brk_desk.specs.Stops.{MayStand};
+ghost use Rattle.brk_store.specs.Audited.{Represents};
+ghost use Rattle.brk_desk.specs.Stops.{MayBeRecovered};
 ghost use Rattle.brk_model.specs.Adopted.{base_of};
 ghost use Rattle.brk_model.specs.Base.{Base, empty_base};
 ghost use Rattle.brk_model.specs.Upgraded.{upgraded_from};
@@ -16,9 +16,9 @@ ghost use Rattle.brk_model.specs.Schemas.{third_schema};
 ghost use Rattle.brk_model.specs.Sheets.{sheets};
 ghost use Rattle.brk_model.specs.Tables.{Tables, no_rows};
 ghost use Rattle.brk_invariant_theorems.specs.Runs.{IsCallInForm};
-ghost use Rattle.brk_invariant_theorems.specs.Sound.{IsSound};
+ghost use Rattle.brk_invariant_theorems.specs.Sound.{AuditInvariant};
 ghost use Rattle.brk_store.specs.Holds.{AreTreesOf, Holds, IsOpenedOver};
-ghost use Rattle.brk_book_theorems.specs.Books.{IsBooks};
+ghost use Rattle.brk_book_theorems.specs.Books.{BooksInvariant};
 ghost use Rattle.brk_changes.specs.Schemas.{schema_of};
 ghost use Rattle.brk_changes.specs.declared.schema.Schema.{Schema};
 
@@ -26,7 +26,7 @@ use sqlite::Alter;
 
 /// A store whose tables were just made keeps the books of the empty base.
 pub fn a_made_store_keeps_the_empty_base<S: Alter>()
-    ensures { (store : Held S) → Holds S.Store store no_rows → KeepsBase S.Store store empty_base }
+    ensures { (store : Held S) → Holds S.Store store no_rows → Represents S.Store store empty_base }
 {}
 
 /// A store represents the base that its rows give, if these pass the audit of schema 3 and their
@@ -34,15 +34,15 @@ pub fn a_made_store_keeps_the_empty_base<S: Alter>()
 /// older rows give, if these pass the audit of their own schema and their texts are UTF-8.
 pub fn an_adopted_store_keeps_its_books<S: Alter>()
     ensures rows { (store : Held S) (rows : Tables) → Holds S.Store store rows → IsTrue (has_texts rows) → Passes third_schema rows
-        → KeepsBase S.Store store (base_of rows) }
+        → Represents S.Store store (base_of rows) }
     ensures upgraded { (store : Held S) (schema : Schema) (rows : Tables) → Holds S.Store store (upgraded_from (schema_of schema) rows) → IsTrue (has_texts rows)
-        → Passes (schema_of schema) rows → KeepsBase S.Store store (base_of rows) }
+        → Passes (schema_of schema) rows → Represents S.Store store (base_of rows) }
 {}
 
 /// A store that is opened over what a stop left of a run of calls in form keeps the books of a base that the run leads to, or
 /// of one with the command more that was under way.
-pub fn a_store_that_is_opened_again_keeps_what_stands<S: Alter>()
-    ensures { (base : Base) (calls : List (ℕ × Call)) (outcomes : List Outcome) (after : Base) (trees : Trees) (conn : Held S) → IsBooks base → IsSound base
-        → AllByRecursion IsCallInForm calls → MayStand base calls outcomes after → IsTrue (has_texts (sheets after))
-        → AreTreesOf (sheets after) trees → IsOpenedOver S.Store trees conn → KeepsBase S.Store conn after }
+pub fn reopening_restores_the_books<S: Alter>()
+    ensures { (base : Base) (calls : List (ℕ × Call)) (outcomes : List Outcome) (after : Base) (trees : Trees) (conn : Held S) → BooksInvariant base → AuditInvariant base
+        → AllByRecursion IsCallInForm calls → MayBeRecovered base calls outcomes after → IsTrue (has_texts (sheets after))
+        → AreTreesOf (sheets after) trees → IsOpenedOver S.Store trees conn → Represents S.Store conn after }
 {}

@@ -1,4 +1,4 @@
-use crate::asking::look;
+use crate::asking::answer_query;
 use crate::call::{Call, Outcome};
 use crate::head::{Head, find_head};
 use brk_changes::{HoldingRow, MoveRow};
@@ -7,7 +7,7 @@ use brk_commit::{Answer, book};
 use brk_lots::Lot;
 use brk_money::{Fault, Id, Planned, Stamp};
 use brk_ref::Key;
-use brk_store::{Stop, Store, Visitor};
+use brk_store::{Store, Visitor, WalkError};
 use brk_view::{Query, View};
 use sqlite::Alter;
 use std::alloc::Global;
@@ -40,8 +40,8 @@ impl<S: Alter> Desk<S> {
     ghost use Rattle.std.specs.Option.{option_copied};
     ghost use Rattle.brk_commands.specs.Commands.{command_of};
     ghost use Rattle.brk_commit.specs.Keys.{key_for};
-    ghost use Rattle.brk_commit.specs.Booked.{IsCalled};
-    ghost use Rattle.brk_desk.specs.Keeping.{IsAsked, IsDeskAudited, IsMade, IsRun, KeepsPromise};
+    ghost use Rattle.brk_commit.specs.Booked.{CallPost};
+    ghost use Rattle.brk_desk.specs.Keeping.{AskPost, DeskAuditPost, OutcomePost, RunPost, RunGuarantee};
     ghost use Rattle.brk_desk.specs.declared.call.Outcome as came;
     ghost use Rattle.brk_money.specs.declared.fault.Condition.TheVariants.{NotEmpty};
     ghost use Rattle.brk_money.specs.declared.fault.Fault.TheVariants.{Damaged, Memory};
@@ -52,8 +52,8 @@ impl<S: Alter> Desk<S> {
     ghost use Rattle.brk_model.specs.Run.{MayFail};
     ghost use Rattle.brk_model.specs.Statement.{lots_in};
     ghost use Rattle.brk_store.specs.Calling.{CalledAtLot};
-    ghost use Rattle.brk_store.specs.Holds.{IsRead};
-    ghost use Rattle.brk_store.specs.Walked.{CallsEach, IsWalked, cash_of};
+    ghost use Rattle.brk_store.specs.Holds.{ReadPost};
+    ghost use Rattle.brk_store.specs.Walked.{CallsEach, WalkPost, cash_of};
 
     /// A desk that keeps its books in a store, which `Store::create` made, `Store::adopt` found to pass or an earlier desk gave back.
     pub fn new(store: Store<S>) -> Desk<S>
@@ -79,7 +79,7 @@ impl<S: Alter> Desk<S> {
         command: &Command,
         key: Option<&Key>,
     ) -> Result<Answer, Fault>
-        ensures called { IsCalled S.Store self.old self.new now (command_of command.now) (key_for (option_copied key.entry)) result }
+        ensures called { CallPost S.Store self.old self.new now (command_of command.now) (key_for (option_copied key.entry)) result }
     {
         book(alloc, &mut self.store, now, command, key)
     }
@@ -87,9 +87,9 @@ impl<S: Alter> Desk<S> {
     /// Answers a query with its view of the books, or says why it is refused. Nothing is changed, whatever the answer;
     /// the only faults are want of memory and the store's.
     pub fn ask(&mut self, alloc: Global, query: &Query) -> Planned<View>
-        ensures asked { IsAsked S.Store self.old self.new (query_of query.now) result }
+        ensures asked { AskPost S.Store self.old self.new (query_of query.now) result }
     {
-        look(alloc, &mut self.store, query)
+        answer_query(alloc, &mut self.store, query)
     }
 
     /// Makes the calls in turn, each at its moment, and adds an outcome for each; a query, and a call that is refused
@@ -102,7 +102,7 @@ impl<S: Alter> Desk<S> {
         out: &mut Vec<Outcome>,
     ) -> Result<(), Fault>
         ensures ran { OnOk result ((outcomes : List came.Outcome) × (out.new.items ≡ out.old.items ++ outcomes)
-            × IsRun S.Store self.old self.new calls.now outcomes × KeepsPromise S.Store self.old self.new calls.now outcomes) }
+            × RunPost S.Store self.old self.new calls.now outcomes × RunGuarantee S.Store self.old self.new calls.now outcomes) }
         ensures fault { OnErr result (result ≡ Err Memory) }
         ensures unmade { OnErr result ((self.new ≡ self.old) × (out.new.items ≡ out.old.items)) }
     {
@@ -117,7 +117,7 @@ impl<S: Alter> Desk<S> {
 
     // What comes of a call.
     fn outcome(&mut self, alloc: Global, now: Stamp, call: &Call) -> Outcome
-        ensures made { IsMade S.Store self.old self.new now call.now result }
+        ensures made { OutcomePost S.Store self.old self.new now call.now result }
     {
         match call {
             Call::Do(command, key) => {
@@ -132,7 +132,7 @@ impl<S: Alter> Desk<S> {
     /// store's.
     #[tactic(auto, using(crate::proofs::Audits::audits))]
     pub fn audit(&mut self, alloc: Global) -> Result<(), Fault>
-        ensures audited { IsDeskAudited S.Store self.old self.new result }
+        ensures audited { DeskAuditPost S.Store self.old self.new result }
         ensures condition { IfErr result (λ fault. fault ≢ Damaged NotEmpty) }
     {
         self.store.audit(alloc)
@@ -140,7 +140,7 @@ impl<S: Alter> Desk<S> {
 
     /// What a statement of an account tells beside its rows, where there is such an account. Nothing is changed.
     pub fn head(&mut self, alloc: Global, account: Id) -> Result<Option<Head>, Fault>
-        ensures read { IsRead S.Store self.old self.new result (IsHead account) }
+        ensures read { ReadPost S.Store self.old self.new result (IsHead account) }
         ensures fault { IfErr result MayFail }
     {
         find_head(alloc, &mut self.store, account)
@@ -154,11 +154,11 @@ impl<S: Alter> Desk<S> {
         from: Stamp,
         to: Stamp,
         visitor: &mut V,
-    ) -> Result<(), Stop<E>>
+    ) -> Result<(), WalkError<E>>
         requires ready { V.ready visitor.old }
         ensures ready { V.ready visitor.new }
         ensures leads { V.leads visitor.old visitor.new }
-        ensures walked { IsWalked S.Store self.old self.new move_row_of (cash_of account from to) V.takes V.stops visitor.old visitor.new result }
+        ensures walked { WalkPost S.Store self.old self.new move_row_of (cash_of account from to) V.takes V.stops visitor.old visitor.new result }
     {
         self.store.visit_cash::<E, V>(account, from, to, visitor)
     }
@@ -169,11 +169,11 @@ impl<S: Alter> Desk<S> {
         &mut self,
         account: Id,
         visitor: &mut V,
-    ) -> Result<(), Stop<E>>
+    ) -> Result<(), WalkError<E>>
         requires ready { V.ready visitor.old }
         ensures ready { V.ready visitor.new }
         ensures leads { V.leads visitor.old visitor.new }
-        ensures walked { IsWalked S.Store self.old self.new holding_row_of (λ t. lots_in t account) V.takes V.stops visitor.old visitor.new result }
+        ensures walked { WalkPost S.Store self.old self.new holding_row_of (λ t. lots_in t account) V.takes V.stops visitor.old visitor.new result }
     {
         self.store.visit_lots::<E, V>(account, visitor)
     }

@@ -1,7 +1,7 @@
 ghost use Rattle.std.specs.Prelude.{IfErr};
 ghost use Rattle.brk_desk.specs.Heads.{IsHead};
 ghost use Rattle.brk_model.specs.Run.{MayFail};
-ghost use Rattle.brk_store.specs.Holds.{IsRead};
+ghost use Rattle.brk_store.specs.Holds.{ReadPost};
 
 use brk_decisions::sum_worth;
 use brk_money::{Cents, Fault, Id, Wide};
@@ -26,7 +26,7 @@ pub(crate) fn find_head<S: Alter>(
     store: &mut Store<S>,
     account: Id,
 ) -> Result<Option<Head>, Fault>
-    ensures read { IsRead S.Store store.old store.new result (IsHead account) }
+    ensures read { ReadPost S.Store store.old store.new result (IsHead account) }
     ensures fault { IfErr result MayFail }
 {
     let Some(row) = store.account(account)? else {

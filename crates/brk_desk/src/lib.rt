@@ -20,7 +20,7 @@ mod volumes;
 pub use brk_commands::{Command, line_text, parse_row, row_text};
 pub use brk_commit::Answer;
 pub use brk_store;
-pub use brk_store::{Stop, Visitor};
+pub use brk_store::{Visitor, WalkError};
 pub use brk_view::{Query, View, parse_query};
 pub use brk_view_text::view_fields;
 pub use call::{Call, Outcome};

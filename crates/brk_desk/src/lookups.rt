@@ -6,7 +6,7 @@ ghost use Rattle.brk_desk.specs.LookedUp.{AreLookedUp, IsLookedUp};
 ghost use Rattle.brk_desk.specs.Shows.{Shows};
 ghost use Rattle.brk_model.specs.Queries.{TradesOfAccount, TradesOfSymbol, TradesWith};
 ghost use Rattle.brk_model.specs.Run.{MayFail};
-ghost use Rattle.brk_store.specs.Holds.{IsRead};
+ghost use Rattle.brk_store.specs.Holds.{ReadPost};
 
 use brk_money::{Fault, Id, Planned, Refusal};
 use brk_orders::Span;
@@ -26,7 +26,7 @@ fn look_up<S: Alter>(
     store: &mut Store<S>,
     trade: TradeRow,
 ) -> Result<LookedUp, Fault>
-    ensures read { IsRead S.Store store.old store.new result (IsLookedUp (trade_row_of trade)) }
+    ensures read { ReadPost S.Store store.old store.new result (IsLookedUp (trade_row_of trade)) }
     ensures fault { IfErr result MayFail }
 {
     let settlement = store.settlement(trade.id)?;
@@ -41,7 +41,7 @@ fn look_up_all<S: Alter>(
     store: &mut Store<S>,
     trades: Vec<TradeRow>,
 ) -> Result<Vec<LookedUp>, Fault>
-    ensures read { IsRead S.Store store.old store.new result (λ found. AreLookedUp (map trade_row_of trades.items) found.items) }
+    ensures read { ReadPost S.Store store.old store.new result (λ found. AreLookedUp (map trade_row_of trades.items) found.items) }
     ensures fault { IfErr result MayFail }
 {
     let _last = store.last()?;
@@ -61,7 +61,7 @@ pub(crate) fn see_trades<S: Alter>(
     store: &mut Store<S>,
     trades: &NamedTrades,
 ) -> Planned<View>
-    ensures read { IsRead S.Store store.old store.new result (Shows (TradesWith trades.now.trades)) }
+    ensures read { ReadPost S.Store store.old store.new result (Shows (TradesWith trades.now.trades)) }
     ensures fault { IfErr result MayFail }
 {
     let Some(named) = find_trades(alloc, store, trades.trades.ids())? else {
@@ -79,7 +79,7 @@ pub(crate) fn see_account_trades<S: Alter>(
     account: Id,
     span: Span,
 ) -> Planned<View>
-    ensures read { IsRead S.Store store.old store.new result (Shows (TradesOfAccount account span.first span.last)) }
+    ensures read { ReadPost S.Store store.old store.new result (Shows (TradesOfAccount account span.first span.last)) }
     ensures fault { IfErr result MayFail }
 {
     let Some(_row) = store.account(account)? else {
@@ -97,7 +97,7 @@ pub(crate) fn see_symbol_trades<S: Alter>(
     symbol: &Symbol,
     span: Span,
 ) -> Planned<View>
-    ensures read { IsRead S.Store store.old store.new result (Shows (TradesOfSymbol symbol.now span.first span.last)) }
+    ensures read { ReadPost S.Store store.old store.new result (Shows (TradesOfSymbol symbol.now span.first span.last)) }
     ensures fault { IfErr result MayFail }
 {
     let Some(_row) = store.security(symbol)? else {

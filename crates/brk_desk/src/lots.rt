@@ -5,7 +5,7 @@ ghost use Rattle.brk_desk.specs.Shows.{Shows};
 ghost use Rattle.brk_desk.specs.Touched.{AreTouched, stamp_of};
 ghost use Rattle.brk_model.specs.Queries.{LotsTouched};
 ghost use Rattle.brk_model.specs.Run.{MayFail};
-ghost use Rattle.brk_store.specs.Holds.{IsRead};
+ghost use Rattle.brk_store.specs.Holds.{ReadPost};
 ghost use Rattle.brk_view.specs.Lots.{touch_in};
 
 use brk_money::{Fault, Id, Planned, Refusal, Stamp};
@@ -16,7 +16,7 @@ use std::alloc::Global;
 
 // When the trade that made a change came to its last status; a trade that is not there is a fault of the store.
 fn known_stamp<S: Alter>(store: &mut Store<S>, trade: Id) -> Result<Stamp, Fault>
-    ensures read { IsRead S.Store store.old store.new result (λ stamp t. stamp ≡ stamp_of t trade) }
+    ensures read { ReadPost S.Store store.old store.new result (λ stamp t. stamp ≡ stamp_of t trade) }
     ensures fault { IfErr result MayFail }
 {
     match store.trade(trade)? {
@@ -31,7 +31,7 @@ fn touches_of<S: Alter>(
     store: &mut Store<S>,
     lot: Id,
 ) -> Result<Vec<LotTouch>, Fault>
-    ensures read { IsRead S.Store store.old store.new result (λ touches t. touches.items ≡ map (touch_in t) (filter (λ r. r.lot == lot) t.holding_history)) }
+    ensures read { ReadPost S.Store store.old store.new result (λ touches t. touches.items ≡ map (touch_in t) (filter (λ r. r.lot == lot) t.holding_history)) }
     ensures fault { IfErr result MayFail }
 {
     let rows = store.changes_of(alloc, lot)?;
@@ -52,7 +52,7 @@ fn touched_lots<S: Alter>(
     store: &mut Store<S>,
     trade: Id,
 ) -> Result<TouchedLots, Fault>
-    ensures read { IsRead S.Store store.old store.new result (AreTouched trade) }
+    ensures read { ReadPost S.Store store.old store.new result (AreTouched trade) }
     ensures fault { IfErr result MayFail }
 {
     let mut rest = store.changes_by(alloc, trade)?;
@@ -74,7 +74,7 @@ pub(crate) fn see_lots<S: Alter>(
     account: Id,
     first: Stamp,
 ) -> Planned<View>
-    ensures read { IsRead S.Store store.old store.new result (Shows (LotsTouched account first)) }
+    ensures read { ReadPost S.Store store.old store.new result (Shows (LotsTouched account first)) }
     ensures fault { IfErr result MayFail }
 {
     let Some(_row) = store.account(account)? else {

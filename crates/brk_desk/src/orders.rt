@@ -5,7 +5,7 @@ ghost use Rattle.brk_desk.specs.Shows.{Shows};
 ghost use Rattle.brk_model.specs.Queries.{EstimateOf, SubmittedTrades};
 ghost use Rattle.brk_model.specs.Run.{MayFail};
 ghost use Rattle.brk_orders.specs.Records.{order_of};
-ghost use Rattle.brk_store.specs.Holds.{IsRead};
+ghost use Rattle.brk_store.specs.Holds.{ReadPost};
 
 use brk_decisions::decide_estimate;
 use brk_money::Planned;
@@ -17,7 +17,7 @@ use std::alloc::Global;
 
 // The trades that are at the market.
 pub(crate) fn see_submitted<S: Alter>(alloc: Global, store: &mut Store<S>) -> Planned<View>
-    ensures read { IsRead S.Store store.old store.new result (Shows SubmittedTrades) }
+    ensures read { ReadPost S.Store store.old store.new result (Shows SubmittedTrades) }
     ensures fault { IfErr result MayFail }
 {
     let rows = store.submitted_trades(alloc)?;
@@ -31,7 +31,7 @@ pub(crate) fn see_estimate<S: Alter>(
     store: &mut Store<S>,
     order: &Order,
 ) -> Planned<View>
-    ensures read { IsRead S.Store store.old store.new result (Shows (EstimateOf (order_of order.now))) }
+    ensures read { ReadPost S.Store store.old store.new result (Shows (EstimateOf (order_of order.now))) }
     ensures fault { IfErr result MayFail }
 {
     match decide_estimate(alloc, store, order)? {

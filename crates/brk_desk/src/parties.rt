@@ -5,7 +5,7 @@ ghost use Rattle.brk_desk.specs.Parties.{ArePartiesOf};
 ghost use Rattle.brk_model.specs.Run.{MayFail};
 ghost use Rattle.brk_model.specs.StatusView.{name_of_broker};
 ghost use Rattle.brk_ref.specs.Records.{account_row_of, customer_of};
-ghost use Rattle.brk_store.specs.Holds.{IsRead};
+ghost use Rattle.brk_store.specs.Holds.{ReadPost};
 
 use brk_money::{Fault, Id};
 use brk_ref::{AccountRow, Customer, Name};
@@ -15,7 +15,7 @@ use sqlite::Alter;
 
 // The customer with an id.
 fn known_customer<S: Alter>(store: &mut Store<S>, id: Id) -> Result<Customer, Fault>
-    ensures read { IsRead S.Store store.old store.new result (λ customer t. Some (customer_of customer) ≡ find (λ c. c.id == id) t.customers) }
+    ensures read { ReadPost S.Store store.old store.new result (λ customer t. Some (customer_of customer) ≡ find (λ c. c.id == id) t.customers) }
     ensures fault { IfErr result MayFail }
 {
     match store.customer(id)? {
@@ -26,7 +26,7 @@ fn known_customer<S: Alter>(store: &mut Store<S>, id: Id) -> Result<Customer, Fa
 
 // The name of the broker with an id.
 fn known_broker_name<S: Alter>(store: &mut Store<S>, id: Id) -> Result<Name, Fault>
-    ensures read { IsRead S.Store store.old store.new result (λ name t. name ≡ name_of_broker t id) }
+    ensures read { ReadPost S.Store store.old store.new result (λ name t. name ≡ name_of_broker t id) }
     ensures fault { IfErr result MayFail }
 {
     match store.broker(id)? {
@@ -41,7 +41,7 @@ pub(crate) fn with_parties<S: Alter>(
     row: &AccountRow,
     trades: Vec<TradeStatus>,
 ) -> Result<AccountStatus, Fault>
-    ensures read { IsRead S.Store store.old store.new result (ArePartiesOf (account_row_of row.now) trades) }
+    ensures read { ReadPost S.Store store.old store.new result (ArePartiesOf (account_row_of row.now) trades) }
     ensures fault { IfErr result MayFail }
 {
     let customer = known_customer(store, row.account.customer)?;

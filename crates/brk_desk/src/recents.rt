@@ -7,7 +7,7 @@ ghost use Rattle.brk_model.specs.Joins.{history_in};
 ghost use Rattle.brk_model.specs.PositionView.{last_ten};
 ghost use Rattle.brk_model.specs.Queries.{RecentOf};
 ghost use Rattle.brk_model.specs.Run.{MayFail};
-ghost use Rattle.brk_store.specs.Holds.{IsRead};
+ghost use Rattle.brk_store.specs.Holds.{ReadPost};
 
 use brk_money::{Fault, Id, Planned, Refusal};
 use brk_store::Store;
@@ -33,7 +33,7 @@ fn read_recent<S: Alter>(
     store: &mut Store<S>,
     account: Id,
 ) -> Result<(Vec<TradeRow>, Vec<HistoryRow>), Fault>
-    ensures read { IsRead S.Store store.old store.new result (λ found t.
+    ensures read { ReadPost S.Store store.old store.new result (λ found t.
         (map trade_row_of found.0.items ≡ last_ten t account)
         × (map history_row_of found.1.items ≡ flat_map (λ row. history_in t row.id) (last_ten t account))) }
     ensures fault { IfErr result MayFail }
@@ -53,7 +53,7 @@ pub(crate) fn see_recent<S: Alter>(
     store: &mut Store<S>,
     account: Id,
 ) -> Planned<View>
-    ensures read { IsRead S.Store store.old store.new result (Shows (RecentOf account)) }
+    ensures read { ReadPost S.Store store.old store.new result (Shows (RecentOf account)) }
     ensures fault { IfErr result MayFail }
 {
     let Some(found) = store.account(account)? else {

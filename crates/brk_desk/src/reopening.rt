@@ -7,10 +7,10 @@ ghost use Rattle.sqlite_trees.specs.Tree.{Trees};
 ghost use Rattle.brk_money.specs.declared.fault.Fault as faults;
 ghost use Rattle.brk_desk.specs.Answers.{outcome_of};
 ghost use Rattle.brk_desk.specs.Commands.{call_of};
-ghost use Rattle.brk_commit.specs.Booked.{IsCalled, base_after_call};
-ghost use Rattle.brk_desk.specs.Keeping.{IsRun};
-ghost use Rattle.brk_desk.specs.Reopening.{HasTakenOver, IsJustOpened, IsUpgradedOver, IsReopened, IsTakenOver, StandsAlone};
-ghost use Rattle.brk_desk.specs.Stops.{MayStand};
+ghost use Rattle.brk_commit.specs.Booked.{CallPost, base_after_call};
+ghost use Rattle.brk_desk.specs.Keeping.{RunPost};
+ghost use Rattle.brk_desk.specs.Reopening.{HasTakenOver, IsJustOpened, IsUpgradedOver, IsReopened, IsRecovered, IsDurable};
+ghost use Rattle.brk_desk.specs.Stops.{MayBeRecovered};
 ghost use Rattle.brk_commit.specs.declared.answer.Answer as given;
 ghost use Rattle.brk_desk.specs.declared.call.Call as made;
 ghost use Rattle.brk_desk.specs.declared.call.Outcome as came;
@@ -21,8 +21,8 @@ ghost use Rattle.brk_model.specs.Records.{Key};
 ghost use Rattle.brk_model.specs.Tables.{Tables};
 ghost use Rattle.brk_changes.specs.Schemas.{schema_of};
 ghost use Rattle.brk_changes.specs.declared.schema.Schema.{Schema};
-ghost use Rattle.brk_store.specs.Audited.{Answered, IsAdopted, IsDefinedIn};
-ghost use Rattle.brk_store.specs.Holds.{IsCreated};
+ghost use Rattle.brk_store.specs.Audited.{Answered, AdoptPost, IsDefinedIn};
+ghost use Rattle.brk_store.specs.Holds.{CreatePost};
 
 use sqlite::Alter;
 
@@ -43,22 +43,22 @@ use sqlite::Alter;
 /// `upgrading`: after a crash in an adoption of rows that pass the audit of their schema, an older one
 /// included, a later adoption finds no damage. If it succeeds, the store represents the base that
 /// the same rows give.
-pub fn what_a_stop_leaves_is_adopted<S: Alter>()
-    ensures made { (conn store : Held S) → IsCreated S.Store conn store (Ok tt) → HasCleanDisk (state S.Store store) → StandsAlone S.Store store empty_base }
-    ensures adopted { (trees : Trees) (conn store : Held S) → IsJustOpened S.Store trees conn → IsDefinedIn S.Store conn → IsAdopted S.Store conn store (Ok tt)
+pub fn every_crash_state_is_adopted<S: Alter>()
+    ensures made { (conn store : Held S) → CreatePost S.Store conn store (Ok tt) → HasCleanDisk (state S.Store store) → IsDurable S.Store store empty_base }
+    ensures adopted { (trees : Trees) (conn store : Held S) → IsJustOpened S.Store trees conn → IsDefinedIn S.Store conn → AdoptPost S.Store conn store (Ok tt)
         → HasCleanDisk (state S.Store store) → HasTakenOver S.Store conn store }
     ensures upgrading { (trees : Trees) (first left conn store : Held S) (stopped result : Result (Unit {0}) faults.Fault) (schema : Schema) (rows : Tables)
-        → IsJustOpened S.Store trees first → Answered (schema_of schema) rows (state S.Store first).now None → IsAdopted S.Store first left stopped → HasCleanDisk (state S.Store left)
-        → IsReopened S.Store left conn → IsAdopted S.Store conn store result → HasCleanDisk (state S.Store store) → IsUpgradedOver S.Store store result (base_of rows) }
-    ensures making { (first left conn store : Held S) (created result : Result (Unit {0}) faults.Fault) (trees : Trees) → IsCreated S.Store first left created
-        → HasCleanDisk (state S.Store left) → (state S.Store left).may_leave trees → IsJustOpened S.Store trees conn → IsAdopted S.Store conn store result
-        → HasCleanDisk (state S.Store store) → (state S.Store first).may_leave trees ⊎ IsTakenOver S.Store store result (λ base. base ≡ empty_base) }
+        → IsJustOpened S.Store trees first → Answered (schema_of schema) rows (state S.Store first).now None → AdoptPost S.Store first left stopped → HasCleanDisk (state S.Store left)
+        → IsReopened S.Store left conn → AdoptPost S.Store conn store result → HasCleanDisk (state S.Store store) → IsUpgradedOver S.Store store result (base_of rows) }
+    ensures making { (first left conn store : Held S) (created result : Result (Unit {0}) faults.Fault) (trees : Trees) → CreatePost S.Store first left created
+        → HasCleanDisk (state S.Store left) → (state S.Store left).may_leave trees → IsJustOpened S.Store trees conn → AdoptPost S.Store conn store result
+        → HasCleanDisk (state S.Store store) → (state S.Store first).may_leave trees ⊎ IsRecovered S.Store store result (λ base. base ≡ empty_base) }
     ensures call { (first left conn store : Held S) (base : Base) (result : Result (Unit {0}) faults.Fault) (now : ℕ) (command : Command) (key : Option Key)
-        (answer : Result given.Answer faults.Fault) → StandsAlone S.Store first base → IsCalled S.Store first left now command key answer → HasCleanDisk (state S.Store left)
-        → IsReopened S.Store left conn → IsAdopted S.Store conn store result → HasCleanDisk (state S.Store store)
-        → IsTakenOver S.Store store result (λ stood. (stood ≡ base) ⊎ (stood ≡ base_after_call base now command key)) }
+        (answer : Result given.Answer faults.Fault) → IsDurable S.Store first base → CallPost S.Store first left now command key answer → HasCleanDisk (state S.Store left)
+        → IsReopened S.Store left conn → AdoptPost S.Store conn store result → HasCleanDisk (state S.Store store)
+        → IsRecovered S.Store store result (λ stood. (stood ≡ base) ⊎ (stood ≡ base_after_call base now command key)) }
     ensures run { (first left conn store : Held S) (base : Base) (result : Result (Unit {0}) faults.Fault) (calls : List (ℕ × made.Call)) (outcomes : List came.Outcome)
-        → StandsAlone S.Store first base → IsRun S.Store first left calls outcomes → HasCleanDisk (state S.Store left) → IsReopened S.Store left conn
-        → IsAdopted S.Store conn store result → HasCleanDisk (state S.Store store)
-        → IsTakenOver S.Store store result (MayStand base (map call_of calls) (map outcome_of outcomes)) }
+        → IsDurable S.Store first base → RunPost S.Store first left calls outcomes → HasCleanDisk (state S.Store left) → IsReopened S.Store left conn
+        → AdoptPost S.Store conn store result → HasCleanDisk (state S.Store store)
+        → IsRecovered S.Store store result (MayBeRecovered base (map call_of calls) (map outcome_of outcomes)) }
 {}

@@ -7,7 +7,7 @@ ghost use Rattle.brk_model.specs.Joins.{recent_first, trades_in};
 ghost use Rattle.brk_model.specs.Queries.{StatusOf};
 ghost use Rattle.brk_model.specs.Run.{MayFail};
 ghost use Rattle.brk_model.specs.StatusView.{status_record};
-ghost use Rattle.brk_store.specs.Holds.{IsRead};
+ghost use Rattle.brk_store.specs.Holds.{ReadPost};
 ghost use Rattle.brk_view.specs.Status.{shown_trade};
 
 use crate::parties::with_parties;
@@ -20,7 +20,7 @@ use std::alloc::Global;
 
 // A trade with the security that it is in; one whose security is not there is a fault of the store.
 fn with_security<S: Alter>(store: &mut Store<S>, trade: TradeRow) -> Result<TradeStatus, Fault>
-    ensures read { IsRead S.Store store.old store.new result (λ status t. shown_trade status ≡ status_record t (trade_row_of trade)) }
+    ensures read { ReadPost S.Store store.old store.new result (λ status t. shown_trade status ≡ status_record t (trade_row_of trade)) }
     ensures fault { IfErr result MayFail }
 {
     match store.security(&trade.symbol)? {
@@ -35,7 +35,7 @@ fn read_statuses<S: Alter>(
     store: &mut Store<S>,
     account: Id,
 ) -> Result<Vec<TradeStatus>, Fault>
-    ensures read { IsRead S.Store store.old store.new result (λ statuses t. map shown_trade statuses.items ≡ map (status_record t) (take 50 (recent_first (trades_in t account)))) }
+    ensures read { ReadPost S.Store store.old store.new result (λ statuses t. map shown_trade statuses.items ≡ map (status_record t) (take 50 (recent_first (trades_in t account)))) }
     ensures fault { IfErr result MayFail }
 {
     let mut rest = store.last_fifty_of_account(alloc, account)?;
@@ -54,7 +54,7 @@ pub(crate) fn see_status<S: Alter>(
     store: &mut Store<S>,
     account: Id,
 ) -> Planned<View>
-    ensures read { IsRead S.Store store.old store.new result (Shows (StatusOf account)) }
+    ensures read { ReadPost S.Store store.old store.new result (Shows (StatusOf account)) }
     ensures fault { IfErr result MayFail }
 {
     let Some(row) = store.account(account)? else {

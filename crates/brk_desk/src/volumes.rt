@@ -8,7 +8,7 @@ ghost use Rattle.brk_model.specs.Queries.{VolumeOf};
 ghost use Rattle.brk_model.specs.Run.{MayFail};
 ghost use Rattle.brk_model.specs.VolumeView.{requests_in};
 ghost use Rattle.brk_ref.specs.Records.{broker_row_of};
-ghost use Rattle.brk_store.specs.Holds.{IsRead};
+ghost use Rattle.brk_store.specs.Holds.{ReadPost};
 ghost use Rattle.brk_view.specs.Volume as volume;
 
 use brk_changes::RequestRow;
@@ -25,7 +25,7 @@ fn is_in_sector<S: Alter>(
     symbol: &Symbol,
     sector: &Name,
 ) -> Result<bool, Fault>
-    ensures read { IsRead S.Store store.old store.new result (λ is t. is ≡ is_in t sector.now symbol.now) }
+    ensures read { ReadPost S.Store store.old store.new result (λ is t. is ≡ is_in t sector.now symbol.now) }
     ensures fault { IfErr result MayFail }
 {
     match store.security(symbol)? {
@@ -41,7 +41,7 @@ fn keep_in_sector<S: Alter>(
     row: RequestRow,
     found: &mut Vec<RequestRow>,
 ) -> Result<(), Fault>
-    ensures read { IsRead S.Store store.old store.new result (λ _ t. found.new.items ≡ with_request t sector.now row found.old.items) }
+    ensures read { ReadPost S.Store store.old store.new result (λ _ t. found.new.items ≡ with_request t sector.now row found.old.items) }
     ensures fault { IfErr result MayFail }
 {
     if !is_in_sector(store, &row.symbol, sector)? {
@@ -58,7 +58,7 @@ fn requests_of<S: Alter>(
     sector: &Name,
     broker: Id,
 ) -> Result<Vec<RequestRow>, Fault>
-    ensures read { IsRead S.Store store.old store.new result (λ found t. map request_row_of found.items ≡ requests_in t sector.now broker) }
+    ensures read { ReadPost S.Store store.old store.new result (λ found t. map request_row_of found.items ≡ requests_in t sector.now broker) }
     ensures fault { IfErr result MayFail }
 {
     let mut rest = store.requests_of_broker(alloc, broker)?;
@@ -78,7 +78,7 @@ fn add_volume<S: Alter>(
     row: &BrokerRow,
     found: &mut Vec<BrokerVolume>,
 ) -> Result<(), Fault>
-    ensures read { IsRead S.Store store.old store.new result (λ _ t. found.new.items ≡ found.old.items ++ volumes_in t sector.now (broker_row_of row.now ∷ [])) }
+    ensures read { ReadPost S.Store store.old store.new result (λ _ t. found.new.items ≡ found.old.items ++ volumes_in t sector.now (broker_row_of row.now ∷ [])) }
     ensures fault { IfErr result MayFail }
 {
     let requests = requests_of(alloc, store, sector, row.broker.id)?;
@@ -103,7 +103,7 @@ fn add_named<S: Alter>(
     name: &Name,
     found: &mut Vec<BrokerVolume>,
 ) -> Result<(), Fault>
-    ensures read { IsRead S.Store store.old store.new result (λ _ t. found.new.items ≡ found.old.items ++ volumes_in t sector.now (filter (λ b. bytes_eq b.name name.now) t.brokers)) }
+    ensures read { ReadPost S.Store store.old store.new result (λ _ t. found.new.items ≡ found.old.items ++ volumes_in t sector.now (filter (λ b. bytes_eq b.name name.now) t.brokers)) }
     ensures fault { IfErr result MayFail }
 {
     let rows = store.brokers_named(alloc, name)?;
@@ -120,7 +120,7 @@ fn volumes_of<S: Alter>(
     sector: &Name,
     names: &[Name],
 ) -> Result<Vec<BrokerVolume>, Fault>
-    ensures read { IsRead S.Store store.old store.new result (λ found t. found.items ≡ map (volume.broker_volume t sector.now) (flat_map (named_in t sector.now) names.now)) }
+    ensures read { ReadPost S.Store store.old store.new result (λ found t. found.items ≡ map (volume.broker_volume t sector.now) (flat_map (named_in t sector.now) names.now)) }
     ensures fault { IfErr result MayFail }
 {
     let _last = store.last()?;
@@ -138,7 +138,7 @@ pub(crate) fn see_volume<S: Alter>(
     sector: &Name,
     names: &BrokerNames,
 ) -> Planned<View>
-    ensures read { IsRead S.Store store.old store.new result (Shows (VolumeOf sector.now names.now)) }
+    ensures read { ReadPost S.Store store.old store.new result (Shows (VolumeOf sector.now names.now)) }
     ensures fault { IfErr result MayFail }
 {
     let names = names.names();

@@ -8,14 +8,14 @@ use Rattle.brk_model.specs.Sheets.{sheets}
 use Rattle.brk_model.specs.Tables.{Tables}
 use Rattle.brk_changes.specs.declared.schema.Schema as known
 use Rattle.brk_changes.specs.Schemas.{schema_of}
-use Rattle.brk_store.specs.Audited.{Answered, HoldsBooks, IsAdopted, IsDefinedIn}
-use Rattle.brk_store.specs.Holds.{AreTreesOf, LeavesOnly}
+use Rattle.brk_store.specs.Audited.{Answered, Represents, AdoptPost, IsDefinedIn}
+use Rattle.brk_store.specs.Holds.{AreTreesOf, OnlyCrashState}
 
 -- The desk of what a file held. As far as its tables by the names and columns of a desk's are a desk's: its rows pass the audit of their schema, the books of
 -- these rows are held, upgraded to the third schema where they were of an older one, and a stop leaves the tables of the books and nothing else.
 pub record StandsOnRows {S : Type 0} (g : Ghosts S) (store : Held S) : Type 0 where
   -- what was held when the file was opened
   pub found : Held S
-  pub adopted : IsAdopted g found store (Ok tt)
+  pub adopted : AdoptPost g found store (Ok tt)
   pub stands : HasCleanDisk (state g store) → IsTrue (state g store).is_open → IsDefinedIn g found
-      → (schema : known.Schema) × (rows : Tables) × Answered (schema_of schema) rows (state g found).now None × HoldsBooks g store (base_of rows) × LeavesOnly g store (AreTreesOf (sheets (base_of rows)))
+      → (schema : known.Schema) × (rows : Tables) × Answered (schema_of schema) rows (state g found).now None × Represents g store (base_of rows) × OnlyCrashState g store (AreTreesOf (sheets (base_of rows)))

@@ -6,7 +6,7 @@ use Rattle.sqlite.specs.Held.{Held}
 use Rattle.brk_desk.proofs.Made.{run_of}
 use Rattle.brk_desk.specs.Answers.{outcome_of}
 use Rattle.brk_desk.specs.Commands.{call_of}
-use Rattle.brk_desk.specs.Keeping.{IsMade}
+use Rattle.brk_desk.specs.Keeping.{OutcomePost}
 use Rattle.brk_desk.specs.Runs.{IsRunOf}
 use Rattle.brk_desk.specs.declared.call.Call.{Call}
 use Rattle.brk_desk.specs.declared.call.Outcome.{Outcome}
@@ -27,7 +27,7 @@ module _ {S : Type 0} (g : Ghosts S) where
 
   as_made : (old new : Held S) (calls : List (ℕ × run.Call)) (outcomes : List run.Outcome) → AreMade Acts old calls outcomes new
       → (made : List (ℕ × Call)) × (came : List Outcome) × (map call_of made ≡ calls) × (map outcome_of came ≡ outcomes)
-      × AreMade (λ old now call outcome new. IsMade g old new now call outcome) old made came new
+      × AreMade (λ old now call outcome new. OutcomePost g old new now call outcome) old made came new
   as_made old new [] [] same = ([], [], refl, refl, same)
   as_made old new (c ∷ cs) (o ∷ os) (mid, acted, more) =
       let r = as_made mid new cs os more in (

@@ -4,7 +4,7 @@ use Rattle.sqlite_trees.specs.declared.store.Store.{Ghosts}
 use Rattle.sqlite.specs.Held.{Held}
 use Rattle.brk_desk.specs.Answers.{outcome_of}
 use Rattle.brk_desk.specs.Commands.{call_of}
-use Rattle.brk_desk.specs.Keeping.{IsMade}
+use Rattle.brk_desk.specs.Keeping.{OutcomePost}
 use Rattle.brk_desk.specs.declared.call.Call as made
 use Rattle.brk_desk.specs.declared.call.Outcome as came
 use Rattle.brk_model.specs.Run.{Call, Outcome}
@@ -15,4 +15,4 @@ pub record DeskActs {S : Type 0} (g : Ghosts S) (old : Held S) (now : ℕ) (call
   pub came : came.Outcome
   pub call_is : call_of (now, made) ≡ (now, call)
   pub outcome_is : outcome_of came ≡ outcome
-  pub is_made : IsMade g old new now made came
+  pub is_made : OutcomePost g old new now made came

@@ -32,11 +32,11 @@ fn row_answer(answer: Answer) -> RowAnswer<Reply>
 }
 
 /// How a desk over a store of this kind answers the requests of a stream.
-pub struct AtDesk<S> {
+pub struct DeskService<S> {
     _store: PhantomData<S>,
 }
 
-impl<S: Alter> Service for AtDesk<S> {
+impl<S: Alter> Service for DeskService<S> {
     type Desk = Desk<S>;
 
     type Command = Command;

@@ -5,7 +5,7 @@ mod at_desk;
 mod listening;
 mod streams;
 
-pub use at_desk::AtDesk;
+pub use at_desk::DeskService;
 pub use brk_desk;
 pub use brk_http_engine::{FaultKind, ServeFault};
 pub use brk_io::Clock;

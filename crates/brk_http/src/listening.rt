@@ -1,4 +1,4 @@
-ghost use Rattle.brk_desk.specs.Runs.{WasRun};
+ghost use Rattle.brk_desk.specs.Runs.{IsSomeRun};
 
 use crate::streams::serve_stream;
 use brk_desk::Desk;
@@ -55,7 +55,7 @@ fn serve_one<C: Clock, S: Alter>(
     clock: &mut C,
     desk: &mut Desk<S>,
 ) -> Result<(), ListenFault>
-    ensures served { WasRun S.Store desk.old desk.new }
+    ensures served { IsSomeRun S.Store desk.old desk.new }
 {
     if limit_waiting(stream).is_err() {
         return Ok(());
@@ -79,7 +79,7 @@ pub fn serve_on<C: Clock, S: Alter>(
     desk: &mut Desk<S>,
 ) -> Result<(), ListenFault>
     // However it ends, and whatever the peers sent: calls of the desk were made in turn and nothing else.
-    ensures served { WasRun S.Store desk.old desk.new }
+    ensures served { IsSomeRun S.Store desk.old desk.new }
 {
     'streams: for _ in 0..streams {
         match listener.accept() {

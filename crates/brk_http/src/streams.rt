@@ -1,5 +1,5 @@
 ghost use Rattle.std.specs.Prelude.{ℕ, IfSome, List, map};
-ghost use Rattle.brk_commit.specs.Booked.{KeepsBase};
+ghost use Rattle.brk_store.specs.Audited.{Represents};
 ghost use Rattle.brk_desk.specs.Answers.{outcome_of};
 ghost use Rattle.brk_desk.specs.Commands.{call_of};
 ghost use Rattle.brk_desk.specs.Runs.{IsRunOf};
@@ -11,7 +11,7 @@ ghost use Rattle.brk_http_engine.specs.Promises.{KeepsBooks, TellsOutcomes};
 ghost use Rattle.sqlite.specs.Held.{state};
 ghost use Rattle.sqlite.specs.State.{HasCleanDisk};
 
-use crate::at_desk::AtDesk;
+use crate::at_desk::DeskService;
 use brk_desk::Desk;
 use brk_http_engine::{ServeFault, serve};
 use brk_io::Clock;
@@ -41,9 +41,9 @@ pub fn serve_stream<R: Read + Drop, W: Write, C: Clock, S: Alter>(
         (record { clock = clock.old; later = clock.new; old = W.contents writer.old; new = W.contents writer.new }) result) }
     // As far as the disk returns what was written, they are those of the abstract brokerage, from each base whose books the
     // desk kept, and it keeps those of the base after them.
-    ensures kept { IfSome (R.remaining reader) (λ input. KeepsBooks (λ desk. HasCleanDisk (state S.Store desk)) (λ desk. KeepsBase S.Store desk)
+    ensures kept { IfSome (R.remaining reader) (λ input. KeepsBooks (λ desk. HasCleanDisk (state S.Store desk)) (λ desk. Represents S.Store desk)
         known_forms Answers C.gives input desk.old desk.new
         (record { clock = clock.old; later = clock.new; old = W.contents writer.old; new = W.contents writer.new }) result) }
 {
-    serve::<R, W, C, AtDesk<S>>(alloc, reader, writer, clock, desk)
+    serve::<R, W, C, DeskService<S>>(alloc, reader, writer, clock, desk)
 }

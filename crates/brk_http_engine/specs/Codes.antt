@@ -19,8 +19,8 @@ use Rattle.brk_http_engine.specs.declared.routes.Route.{Route}
 use Rattle.brk_http_engine.specs.declared.routes.Route.TheVariants as route
 use Rattle.brk_http_engine.specs.declared.asking.Asking.{Asking}
 use Rattle.brk_http_engine.specs.declared.asking.Asking.TheVariants as asking
-use Rattle.brk_http_engine.specs.declared.acting.Told.{Told}
-use Rattle.brk_http_engine.specs.declared.acting.Told.TheVariants as told
+use Rattle.brk_http_engine.specs.declared.acting.ServiceAnswer.{ServiceAnswer}
+use Rattle.brk_http_engine.specs.declared.acting.ServiceAnswer.TheVariants as told
 
 -- the key of a row, if it has one
 abbrev pub key_for : Option ref.Key → Option records.Key
@@ -61,7 +61,7 @@ asked_is command query (asking.Row x key) = asked.Calls (run.Do (command x) (key
 asked_is command query (asking.View q) = asked.Calls (run.Ask (query q))
 
 -- what is told of a request
-abbrev pub response_of : {R V : Type 0} → (R → model.Reply) → (V → queries.View) → Told R V → Response
+abbrev pub response_of : {R V : Type 0} → (R → model.Reply) → (V → queries.View) → ServiceAnswer R V → Response
 response_of reply shown (told.Wrong problem) = Wrong problem
 response_of reply shown (told.NoRow refusal) = Came (run.Did (model.Refused refusal))
 response_of reply shown (told.NoView refusal) = Came (run.NoView refusal)

@@ -15,7 +15,7 @@ use std::alloc::Global;
 
 /// What is told of a request.
 #[derive(Debug, Drop)]
-pub enum Told<R, V> {
+pub enum ServiceAnswer<R, V> {
     Wrong(Problem),
     /// A row was refused.
     NoRow(Refusal),
@@ -34,15 +34,15 @@ fn act_on_row<D: Service>(
     now: Stamp,
     command: &D::Command,
     key: &Option<Key>,
-) -> Told<D::Reply, D::View>
+) -> ServiceAnswer<D::Reply, D::View>
     ensures { (outcome : Outcome) × (response_of D.told D.shown result ≡ Came outcome)
         × D.acts desk.old now (Do (D.command_of command.now) (key_for key.now)) outcome desk.new }
 {
     match D::call(desk, alloc, now, command, key.as_ref()) {
-        Ok(RowAnswer::Done(reply)) => Told::Done(reply),
-        Ok(RowAnswer::Again(line)) => Told::Again(line),
-        Ok(RowAnswer::Refused(refusal)) => Told::NoRow(refusal),
-        Err(fault) => Told::Failed(fault),
+        Ok(RowAnswer::Done(reply)) => ServiceAnswer::Done(reply),
+        Ok(RowAnswer::Again(line)) => ServiceAnswer::Again(line),
+        Ok(RowAnswer::Refused(refusal)) => ServiceAnswer::NoRow(refusal),
+        Err(fault) => ServiceAnswer::Failed(fault),
     }
 }
 
@@ -51,14 +51,14 @@ fn act_on_query<D: Service>(
     alloc: Global,
     desk: &mut D::Desk,
     query: &D::Query,
-) -> Told<D::Reply, D::View>
+) -> ServiceAnswer<D::Reply, D::View>
     ensures { (outcome : Outcome) × (response_of D.told D.shown result ≡ Came outcome)
         × D.acts desk.old 0 (Ask (D.query_of query.now)) outcome desk.new }
 {
     match D::ask(desk, alloc, query) {
-        Ok(Ok(view)) => Told::Saw(view),
-        Ok(Err(refusal)) => Told::NoView(refusal),
-        Err(fault) => Told::Failed(fault),
+        Ok(Ok(view)) => ServiceAnswer::Saw(view),
+        Ok(Err(refusal)) => ServiceAnswer::NoView(refusal),
+        Err(fault) => ServiceAnswer::Failed(fault),
     }
 }
 
@@ -68,14 +68,14 @@ pub fn act<C: Clock, D: Service>(
     clock: &mut C,
     desk: &mut D::Desk,
     asking: Asking<D::Command, D::Query>,
-) -> Told<D::Reply, D::View>
+) -> ServiceAnswer<D::Reply, D::View>
     ensures { (taken : List ℕ) × Moments C.gives clock.old taken clock.new
         × Responds D.acts (asked_is D.command_of D.query_of asking) desk.old taken (response_of D.told D.shown result) desk.new }
 {
     match asking {
-        Asking::Wrong(problem) => Told::Wrong(problem),
-        Asking::BadRow(refusal) => Told::NoRow(refusal),
-        Asking::BadQuery(refusal) => Told::NoView(refusal),
+        Asking::Wrong(problem) => ServiceAnswer::Wrong(problem),
+        Asking::BadRow(refusal) => ServiceAnswer::NoRow(refusal),
+        Asking::BadQuery(refusal) => ServiceAnswer::NoView(refusal),
         Asking::Row(command, key) => {
             let now = clock.now();
             act_on_row::<D>(alloc, desk, now, &command, &key)

@@ -8,7 +8,7 @@ ghost use Rattle.brk_http_model.specs.Routes.{parts_at};
 ghost use Rattle.brk_http_engine.specs.Lines.{first_lines, line_of};
 ghost use Rattle.brk_http_engine.specs.Codes.{list_of, response_of};
 
-use crate::acting::Told;
+use crate::acting::ServiceAnswer;
 use crate::bodies::{Word, told_error, told_records, told_texts};
 use crate::pieces::{owned, parts_at};
 use crate::service::Service;
@@ -52,35 +52,35 @@ fn fault_word(fault: Fault) -> &'static str
 }
 
 // The status of what is told.
-fn status_of<R, V>(told: &Told<R, V>) -> StatusCode
+fn status_of<R, V>(told: &ServiceAnswer<R, V>) -> StatusCode
     ensures { (reply : R → model.Reply) (shown : V → queries.View) → line_of result ≡ status_of (response_of reply shown told.now) }
 {
     match told {
-        Told::Wrong(problem) => problem_code(*problem),
-        Told::NoRow(_) => StatusCode::CONFLICT,
-        Told::NoView(_) => StatusCode::CONFLICT,
-        Told::Done(_) => StatusCode::OK,
-        Told::Again(_) => StatusCode::OK,
-        Told::Saw(_) => StatusCode::OK,
-        Told::Failed(_) => StatusCode::SERVICE_UNAVAILABLE,
+        ServiceAnswer::Wrong(problem) => problem_code(*problem),
+        ServiceAnswer::NoRow(_) => StatusCode::CONFLICT,
+        ServiceAnswer::NoView(_) => StatusCode::CONFLICT,
+        ServiceAnswer::Done(_) => StatusCode::OK,
+        ServiceAnswer::Again(_) => StatusCode::OK,
+        ServiceAnswer::Saw(_) => StatusCode::OK,
+        ServiceAnswer::Failed(_) => StatusCode::SERVICE_UNAVAILABLE,
     }
 }
 
-fn asks_for_post<R, V>(told: &Told<R, V>) -> bool
+fn asks_for_post<R, V>(told: &ServiceAnswer<R, V>) -> bool
     ensures { (reply : R → model.Reply) (shown : V → queries.View) → result ≡ asks_for_post (response_of reply shown told.now) }
 {
     match told {
-        Told::Wrong(Problem::NotAllowed) => true,
+        ServiceAnswer::Wrong(Problem::NotAllowed) => true,
         _ => false,
     }
 }
 
 /// Whether the desk failed.
-pub fn is_fault<R, V>(told: &Told<R, V>) -> bool
+pub fn is_fault<R, V>(told: &ServiceAnswer<R, V>) -> bool
     ensures { (reply : R → model.Reply) (shown : V → queries.View) → result ≡ is_fault (response_of reply shown told.now) }
 {
     match told {
-        Told::Failed(_) => true,
+        ServiceAnswer::Failed(_) => true,
         _ => false,
     }
 }
@@ -103,25 +103,30 @@ fn refusal_body(alloc: Global, refusal: Refusal) -> Result<String, AllocError>
     told_texts(alloc, Word::No, &fields)
 }
 
-fn body_of<D: Service>(alloc: Global, told: &Told<D::Reply, D::View>) -> Result<String, AllocError>
+fn body_of<D: Service>(
+    alloc: Global,
+    told: &ServiceAnswer<D::Reply, D::View>,
+) -> Result<String, AllocError>
     ensures { IfOk result (λ s. string_bytes s ≡ body_of (response_of D.told D.shown told.now)) }
 {
     match told {
-        Told::Wrong(problem) => told_error(alloc, problem_words(*problem)),
-        Told::NoRow(refusal) | Told::NoView(refusal) => refusal_body(alloc, *refusal),
-        Told::Done(reply) => {
+        ServiceAnswer::Wrong(problem) => told_error(alloc, problem_words(*problem)),
+        ServiceAnswer::NoRow(refusal) | ServiceAnswer::NoView(refusal) => refusal_body(
+            alloc, *refusal,
+        ),
+        ServiceAnswer::Done(reply) => {
             let fields = D::reply_fields(alloc, reply)?;
             told_texts(alloc, Word::Ok, &fields)
         }
-        Told::Again(line) => {
+        ServiceAnswer::Again(line) => {
             let fields = line_fields(alloc, line.as_str())?;
             told_texts(alloc, Word::Again, &fields)
         }
-        Told::Saw(view) => {
+        ServiceAnswer::Saw(view) => {
             let records = D::records(alloc, view)?;
             told_records(alloc, &records)
         }
-        Told::Failed(fault) => told_error(alloc, fault_word(*fault)),
+        ServiceAnswer::Failed(fault) => told_error(alloc, fault_word(*fault)),
     }
 }
 
@@ -210,7 +215,7 @@ fn reply_with(
 /// The whole of a reply.
 pub fn reply_text<D: Service>(
     alloc: Global,
-    told: &Told<D::Reply, D::View>,
+    told: &ServiceAnswer<D::Reply, D::View>,
     closes: bool,
 ) -> Result<String, AllocError>
     ensures { IfOk result (λ s. string_bytes s ≡ reply_text (response_of D.told D.shown told.now) closes) }

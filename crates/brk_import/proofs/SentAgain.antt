@@ -21,12 +21,11 @@ use Rattle.brk_model_theorems.specs.Laws.{IsBookedNext, IsCompleted}
 use Rattle.brk_model_theorems.proofs.StoppedLaws.{booked-completed, completed, next-goes-on, rows-go-on}
 use Rattle.brk_io.specs.Moments.{Moments}
 use Rattle.brk_io.specs.Span.{Outside, with_base}
-use Rattle.brk_store.specs.Audited.{IsAdopted, OnAnswer}
+use Rattle.brk_store.specs.Audited.{AdoptPost, OnAnswer, Represents}
 use Rattle.brk_store.specs.Holds.{AreTreesOf}
-use Rattle.brk_commit.specs.Booked.{KeepsBase}
-use Rattle.brk_desk.specs.Reopening.{CanBeKept, IsReopened, StandsAlone}
+use Rattle.brk_desk.specs.Reopening.{IsConsistent, IsReopened, IsDurable}
 use Rattle.brk_desk.proofs.Reopened.{Settles, kept_can_be, taken_over}
-use Rattle.brk_batch_engine.specs.Batch.{BatchGives, CameTo, Faulted, IsUnderWay, KeepsBooks, LeavesAt, LeavesBooks, Stopped}
+use Rattle.brk_batch_engine.specs.Batch.{BatchGives, CameTo, Faulted, IsUnderWay, RefinesModel, LeavesAt, CrashStates, Stopped}
 use Rattle.brk_import.specs.Leaving.{LeavesOneOf}
 use Rattle.brk_import.specs.SentAgain.{IsSentAgain}
 use Rattle.brk_io.specs.declared.batch_fault.BatchFault.{BatchFault}
@@ -67,7 +66,7 @@ module _ {S C : Type 0} (g : Ghosts S) (rests : Settles g) (form : Fields → Re
   record Found (trees : Trees) : Type 0 where
     pub after : Base
     pub stood : Base
-    pub can : CanBeKept stood
+    pub can : IsConsistent stood
     pub are : AreTreesOf (sheets stood) trees
     pub how : ((stood ≡ after) × First after) ⊎ Under after stood
 
@@ -134,7 +133,7 @@ module _ {S C : Type 0} (g : Ghosts S) (rests : Settles g) (form : Fields → Re
         (sym (w.stopped.counted ∙ ap (λ (l : List Answer). length l) w.told ∙ w.stopped.settled.each));
   }
 
-  module _ (left : Held S) (trees : Trees) (may : (state g left).may_leave trees) (after : Base) (keeps : KeepsBase g left after) (first : First after) where
+  module _ (left : Held S) (trees : Trees) (may : (state g left).may_leave trees) (after : Base) (keeps : Represents g left after) (first : First after) where
     found_alone : LeavesOneOf g left after after → Found trees
     found_alone only = record {
       after = after;
@@ -161,8 +160,8 @@ module _ {S C : Type 0} (g : Ghosts S) (rests : Settles g) (form : Fields → Re
     found_at (Err fault) (inl only) = found_alone only
     found_at (Err fault) (inr w) = found_under fault w
 
-  found : (first left : Held S) (result : Result Counts BatchFault) → StandsAlone g first base
-      → LeavesBooks (λ desk. HasCleanDisk (state g desk)) (λ desk. KeepsBase g desk) (LeavesOneOf g) form row_step gives (Some text) first left one result
+  found : (first left : Held S) (result : Result Counts BatchFault) → IsDurable g first base
+      → CrashStates (λ desk. HasCleanDisk (state g desk)) (λ desk. Represents g desk) (LeavesOneOf g) form row_step gives (Some text) first left one result
       → HasCleanDisk (state g left) → (trees : Trees) → (state g left).may_leave trees → Found trees
   found first left result at leaves clean trees may =
       let l = leaves clean base at.keeps (λ t m. inl (at.alone t m)) in
@@ -264,17 +263,17 @@ module _ {S C : Type 0} (g : Ghosts S) (rests : Settles g) (form : Fields → Re
 
   -- ---- both
 
-  pub sent_again : (first left conn store last : Held S) (two : Outside C) (ended : Result Counts BatchFault) (taken : Result (Unit {0}) Fault) (counts : Counts) → StandsAlone g first base
-      → LeavesBooks (λ desk. HasCleanDisk (state g desk)) (λ desk. KeepsBase g desk) (LeavesOneOf g) form row_step gives (Some text) first left one ended
-      → HasCleanDisk (state g left) → IsReopened g left conn → IsAdopted g conn store taken → HasCleanDisk (state g store)
+  pub sent_again : (first left conn store last : Held S) (two : Outside C) (ended : Result Counts BatchFault) (taken : Result (Unit {0}) Fault) (counts : Counts) → IsDurable g first base
+      → CrashStates (λ desk. HasCleanDisk (state g desk)) (λ desk. Represents g desk) (LeavesOneOf g) form row_step gives (Some text) first left one ended
+      → HasCleanDisk (state g left) → IsReopened g left conn → AdoptPost g conn store taken → HasCleanDisk (state g store)
       → OnAnswer taken (λ failing. failing ≡ None)
-      × (KeepsBooks (λ desk. HasCleanDisk (state g desk)) (λ desk. KeepsBase g desk) form row_step gives (Some text) store last two (Ok counts) → HasCleanDisk (state g last)
-      → (after : Base) × KeepsBase g last after × IsSentAgain form gives (Some text) base after one two)
+      × (RefinesModel (λ desk. HasCleanDisk (state g desk)) (λ desk. Represents g desk) form row_step gives (Some text) store last two (Ok counts) → HasCleanDisk (state g last)
+      → (after : Base) × Represents g last after × IsSentAgain form gives (Some text) base after one two)
   sent_again first left conn store last two ended taken counts at leaves clean again adopted next =
       let f = found first left ended at leaves clean again.0 again.1 in
       let t = taken_over g rests again.0 conn store taken again.2 adopted next f.stood f.can f.are (λ (b : Base). b ≡ f.stood) refl in (
         t.undamaged,
         λ keeps good.
-            let k = keeps good f.stood (subst (KeepsBase g store) t.may t.stands.keeps) in
+            let k = keeps good f.stood (subst (Represents g store) t.may t.stands.keeps) in
             (k.0, k.1, from_how f.after f.stood k.0 two (counts.ok + counts.again + counts.no) k.2.0 f.how),
       )

@@ -13,27 +13,28 @@ use Rattle.brk_model.specs.Records.{Key}
 use Rattle.brk_model.specs.Sheets.{sheets}
 use Rattle.brk_store.specs.Holds.{AreTreesOf}
 use Rattle.brk_commit.specs.Answers.{answer_of}
-use Rattle.brk_commit.specs.Booked.{IsCalled, KeepsBase}
+use Rattle.brk_commit.specs.Booked.{CallPost}
+use Rattle.brk_store.specs.Audited.{Represents}
 use Rattle.brk_commit.specs.Keys.{key_for}
 use Rattle.brk_commands.specs.Commands.{command_of}
 use Rattle.brk_commands.specs.declared.command.Command as commands
 use Rattle.brk_ref.specs.declared.key.Key as keys
 use Rattle.brk_desk.specs.Answers.{outcome_for}
-use Rattle.brk_desk.specs.Reopening.{CanBeKept}
-use Rattle.brk_desk.specs.Runs.{WasRun}
+use Rattle.brk_desk.specs.Reopening.{IsConsistent}
+use Rattle.brk_desk.specs.Runs.{IsSomeRun}
 use Rattle.brk_desk.specs.declared.call.Call.TheVariants as call
 use Rattle.brk_desk.proofs.Made.{one_run}
 use Rattle.brk_commit.specs.declared.answer.Answer.{Answer}
 use Rattle.brk_commit.specs.declared.answer.Answer.TheVariants as given
 use Rattle.brk_desk.proofs.Reopened.{booked_can_be}
 use Rattle.brk_desk.proofs.Stopping.{quiet_leaves}
-use Rattle.brk_batch_engine.specs.Answers.{Acts, MayAct, StandsBy}
+use Rattle.brk_batch_engine.specs.Answers.{Acts, MayAct, RepresentsDurably}
 use Rattle.brk_import.specs.Leaving.{LeavesOneOf}
 
 module _ {S : Type 0} (g : Ghosts S) (old new : Held S) (now : ℕ) (command : Command) where
   -- a call that booked nothing leaves what was left before
-  quiet_left : (key : Key) (answer : Answer) → ((base after : Base) → row_step base now command key ≡ (answer_of answer, after) → after ≡ base) → IsCalled g old new now command (Some key) (Ok answer)
-      → Acts (λ desk. HasCleanDisk (state g desk)) (StandsBy (λ desk. KeepsBase g desk) (LeavesOneOf g) true) row_step old new now command key (answer_of answer)
+  quiet_left : (key : Key) (answer : Answer) → ((base after : Base) → row_step base now command key ≡ (answer_of answer, after) → after ≡ base) → CallPost g old new now command (Some key) (Ok answer)
+      → Acts (λ desk. HasCleanDisk (state g desk)) (RepresentsDurably (λ desk. Represents g desk) (LeavesOneOf g) true) row_step old new now command key (answer_of answer)
   quiet_left key answer quiet called clean base sure =
       let told = called.answered clean base sure.0 in
       let same : told.0 ≡ base = quiet base told.0 told.2 in
@@ -49,12 +50,12 @@ module _ {S : Type 0} (g : Ghosts S) (old new : Held S) (now : ℕ) (command : C
         told.2,
       )
     where
-      either : (trees : Trees) (base : Base) → AreTreesOf (sheets base) trees ⊎ (AreTreesOf (sheets base) trees × CanBeKept base) → AreTreesOf (sheets base) trees
+      either : (trees : Trees) (base : Base) → AreTreesOf (sheets base) trees ⊎ (AreTreesOf (sheets base) trees × IsConsistent base) → AreTreesOf (sheets base) trees
       either trees base (inl are) = are
       either trees base (inr are) = are.0
 
-  answered_left : (key : Key) (answer : Answer) → IsCalled g old new now command (Some key) (Ok answer)
-      → Acts (λ desk. HasCleanDisk (state g desk)) (StandsBy (λ desk. KeepsBase g desk) (LeavesOneOf g) true) row_step old new now command key (answer_of answer)
+  answered_left : (key : Key) (answer : Answer) → CallPost g old new now command (Some key) (Ok answer)
+      → Acts (λ desk. HasCleanDisk (state g desk)) (RepresentsDurably (λ desk. Represents g desk) (LeavesOneOf g) true) row_step old new now command key (answer_of answer)
   answered_left key (given.Done reply) called = λ clean base sure.
       let told = called.answered clean base sure.0 in
       let step : (row_step base now command key).1 ≡ told.0 = ap (λ (x : model.Answer × Base). x.1) told.2 in (
@@ -65,21 +66,21 @@ module _ {S : Type 0} (g : Ghosts S) (old new : Held S) (now : ℕ) (command : C
   answered_left key (given.Again line) called = quiet_left key (given.Again line) (λ base after e. quiet_leaves base now command (Some key) (answer_of (given.Again line)) after e tt) called
   answered_left key (given.Refused refusal) called = quiet_left key (given.Refused refusal) (λ base after e. quiet_leaves base now command (Some key) (answer_of (given.Refused refusal)) after e tt) called
 
-  acts : (key : Key) (answer : Answer) → IsCalled g old new now command (Some key) (Ok answer) → (sure : Bool)
-      → Acts (λ desk. HasCleanDisk (state g desk)) (StandsBy (λ desk. KeepsBase g desk) (LeavesOneOf g) sure) row_step old new now command key (answer_of answer)
+  acts : (key : Key) (answer : Answer) → CallPost g old new now command (Some key) (Ok answer) → (sure : Bool)
+      → Acts (λ desk. HasCleanDisk (state g desk)) (RepresentsDurably (λ desk. Represents g desk) (LeavesOneOf g) sure) row_step old new now command key (answer_of answer)
   acts key answer called false = called.answered
   acts key answer called true = answered_left key answer called
 
   -- two keys that are the same answer the same
-  pub under : (key same : Key) (answer : Answer) → key ≡ same → IsCalled g old new now command (Some key) (Ok answer) → (sure : Bool)
-      → Acts (λ desk. HasCleanDisk (state g desk)) (StandsBy (λ desk. KeepsBase g desk) (LeavesOneOf g) sure) row_step old new now command same (answer_of answer)
-  under key same answer e called = acts same answer (subst (λ k. IsCalled g old new now command (Some k) (Ok answer)) e called)
+  pub under : (key same : Key) (answer : Answer) → key ≡ same → CallPost g old new now command (Some key) (Ok answer) → (sure : Bool)
+      → Acts (λ desk. HasCleanDisk (state g desk)) (RepresentsDurably (λ desk. Represents g desk) (LeavesOneOf g) sure) row_step old new now command same (answer_of answer)
+  under key same answer e called = acts same answer (subst (λ k. CallPost g old new now command (Some k) (Ok answer)) e called)
 
   -- it was not answered
-  pub may_act : (key same : Key) (fault : Fault) → key ≡ same → IsCalled g old new now command (Some key) (Err fault)
-      → MayAct (λ desk. HasCleanDisk (state g desk)) (λ desk. KeepsBase g desk) (LeavesOneOf g) row_step old new now command same
+  pub may_act : (key same : Key) (fault : Fault) → key ≡ same → CallPost g old new now command (Some key) (Err fault)
+      → MayAct (λ desk. HasCleanDisk (state g desk)) (λ desk. Represents g desk) (LeavesOneOf g) row_step old new now command same
   may_act key same fault e called clean base keeps alone trees may =
-      let same_called : IsCalled g old new now command (Some same) (Err fault) = subst (λ k. IsCalled g old new now command (Some k) (Err fault)) e called in
+      let same_called : CallPost g old new now command (Some same) (Err fault) = subst (λ k. CallPost g old new now command (Some k) (Err fault)) e called in
       elim (same_called.survives.crash clean trees may) [
         | inl earlier ↦ elim (alone trees earlier) [ inl are ↦ inl are | inr are ↦ inl are.0 ]
         | inr come ↦ inr (come.1 base keeps, booked_can_be g old new base now command (Some same) (Err fault) trees same_called keeps come)
@@ -87,5 +88,5 @@ module _ {S : Type 0} (g : Ghosts S) (old new : Held S) (now : ℕ) (command : C
 
 -- one call was made, and nothing else
 pub was_called : {S : Type 0} (g : Ghosts S) (old new : Held S) (now : ℕ) (command : commands.Command) (key : Option keys.Key) (result : Result Answer Fault)
-    → IsCalled g old new now (command_of command) (key_for key) result → WasRun g old new
+    → CallPost g old new now (command_of command) (key_for key) result → IsSomeRun g old new
 was_called g old new now command key result called = one_run g old new now (call.Do command key) (outcome_for result) (result, refl, called)

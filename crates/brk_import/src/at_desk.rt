@@ -7,8 +7,8 @@ ghost use Rattle.brk_model.specs.Commands as model;
 ghost use Rattle.brk_model.specs.Parse.{parse_by, readers};
 ghost use Rattle.brk_commands.specs.Commands.{command_of};
 ghost use Rattle.brk_plans.specs.Replies.{reply_of};
-ghost use Rattle.brk_commit.specs.Booked.{KeepsBase};
-ghost use Rattle.brk_desk.specs.Runs.{WasRun};
+ghost use Rattle.brk_store.specs.Audited.{Represents};
+ghost use Rattle.brk_desk.specs.Runs.{IsSomeRun};
 ghost use Rattle.brk_import.specs.Leaving.{LeavesOneOf, called_then, not_called};
 ghost use Rattle.sqlite.specs.Held.{state};
 ghost use Rattle.sqlite.specs.State.{HasCleanDisk};
@@ -35,11 +35,11 @@ fn row_key(batch: &BatchName, n: u64) -> Result<Key, Fault>
 }
 
 /// How a desk over a store of this kind answers the rows of a batch.
-pub struct AtDesk<S> {
+pub struct DeskRows<S> {
     _store: PhantomData<S>,
 }
 
-impl<S: Alter> Rows for AtDesk<S> {
+impl<S: Alter> Rows for DeskRows<S> {
     type Desk = Desk<S>;
 
     type Command = Command;
@@ -52,11 +52,11 @@ impl<S: Alter> Rows for AtDesk<S> {
 
     ghost honest = { λ desk. HasCleanDisk (state S.Store desk) };
 
-    ghost stands = { λ desk. KeepsBase S.Store desk };
+    ghost stands = { λ desk. Represents S.Store desk };
 
     ghost leaves = { LeavesOneOf S.Store };
 
-    ghost leads = { λ first last. WasRun S.Store first last };
+    ghost leads = { λ first last. IsSomeRun S.Store first last };
 
     ghost asked = { command_of };
 

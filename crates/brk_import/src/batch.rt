@@ -2,14 +2,14 @@ ghost use Rattle.std.specs.Prelude.{option_map};
 ghost use Rattle.brk_model.specs.Batch.{row_step};
 ghost use Rattle.brk_model.specs.Input.{text_of};
 ghost use Rattle.brk_model.specs.Parse.{parse_by, readers};
-ghost use Rattle.brk_commit.specs.Booked.{KeepsBase};
-ghost use Rattle.brk_batch_engine.specs.Batch.{KeepsBooks, LeavesBooks, TellsAnswers};
-ghost use Rattle.brk_desk.specs.Runs.{WasRun};
+ghost use Rattle.brk_store.specs.Audited.{Represents};
+ghost use Rattle.brk_batch_engine.specs.Batch.{RefinesModel, CrashStates, TellsAnswers};
+ghost use Rattle.brk_desk.specs.Runs.{IsSomeRun};
 ghost use Rattle.brk_import.specs.Leaving.{LeavesOneOf};
 ghost use Rattle.sqlite.specs.Held.{state};
 ghost use Rattle.sqlite.specs.State.{HasCleanDisk};
 
-use crate::at_desk::AtDesk;
+use crate::at_desk::DeskRows;
 use brk_batch_engine::{Counts, run};
 use brk_desk::Desk;
 use brk_io::{BatchFault, Clock};
@@ -33,20 +33,20 @@ pub fn run_batch<R: Read + Drop, W: Write, C: Clock, S: Alter>(
     desk: &mut Desk<S>,
 ) -> Result<Counts, BatchFault>
     // However it ends, calls of the desk were made in turn and nothing else: it keeps all that a run of them promises.
-    ensures ran { WasRun S.Store desk.old desk.new }
+    ensures ran { IsSomeRun S.Store desk.old desk.new }
     // Whatever the desk answers to the rows that are in form, the lines are those of its answers.
     ensures told { TellsAnswers (parse_by readers) C.gives (option_map text_of (R.remaining reader))
         (record { clock = clock.old; later = clock.new; old = W.contents writer.old; new = W.contents writer.new }) result }
     // As far as the disk returns what was written, the answers are those of the steps, from each base whose books the
     // desk kept, and it keeps those of the base after them.
-    ensures kept { KeepsBooks (λ desk. HasCleanDisk (state S.Store desk)) (λ desk. KeepsBase S.Store desk) (parse_by readers) row_step C.gives
+    ensures kept { RefinesModel (λ desk. HasCleanDisk (state S.Store desk)) (λ desk. Represents S.Store desk) (parse_by readers) row_step C.gives
         (option_map text_of (R.remaining reader)) desk.old desk.new
         (record { clock = clock.old; later = clock.new; old = W.contents writer.old; new = W.contents writer.new }) result }
     // Where a stop before the batch leaves the tables of such a base alone, one after it leaves those of the base after
     // them, and where the desk answered a row with a fault perhaps those after that row's command.
-    ensures left { LeavesBooks (λ desk. HasCleanDisk (state S.Store desk)) (λ desk. KeepsBase S.Store desk) (LeavesOneOf S.Store) (parse_by readers) row_step
+    ensures left { CrashStates (λ desk. HasCleanDisk (state S.Store desk)) (λ desk. Represents S.Store desk) (LeavesOneOf S.Store) (parse_by readers) row_step
         C.gives (option_map text_of (R.remaining reader)) desk.old desk.new
         (record { clock = clock.old; later = clock.new; old = W.contents writer.old; new = W.contents writer.new }) result }
 {
-    run::<R, W, C, AtDesk<S>>(alloc, reader, writer, clock, desk)
+    run::<R, W, C, DeskRows<S>>(alloc, reader, writer, clock, desk)
 }

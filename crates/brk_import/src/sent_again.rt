@@ -1,9 +1,8 @@
 //! A batch that was stopped and is sent again.
 
 ghost use Rattle.std.specs.Prelude.{◌≡◌, ℕ, List, None, Ok, Result, Some};
-ghost use Rattle.brk_commit.specs.Booked.{KeepsBase};
-ghost use Rattle.brk_desk.specs.Reopening.{IsReopened, StandsAlone};
-ghost use Rattle.brk_batch_engine.specs.Batch.{KeepsBooks, LeavesBooks};
+ghost use Rattle.brk_desk.specs.Reopening.{IsReopened, IsDurable};
+ghost use Rattle.brk_batch_engine.specs.Batch.{RefinesModel, CrashStates};
 ghost use Rattle.brk_import.specs.Leaving.{LeavesOneOf};
 ghost use Rattle.brk_import.specs.SentAgain.{IsSentAgain};
 ghost use Rattle.brk_io.specs.declared.batch_fault.BatchFault as faults;
@@ -14,7 +13,7 @@ ghost use Rattle.brk_model.specs.Input.{text_of};
 ghost use Rattle.brk_model.specs.Parse.{parse_by, readers};
 ghost use Rattle.brk_money.specs.declared.fault.Fault as money;
 ghost use Rattle.brk_io.specs.Span.{Outside};
-ghost use Rattle.brk_store.specs.Audited.{IsAdopted, OnAnswer};
+ghost use Rattle.brk_store.specs.Audited.{AdoptPost, OnAnswer, Represents};
 ghost use Rattle.sqlite.specs.Held.{Held, state};
 ghost use Rattle.sqlite.specs.State.{HasCleanDisk};
 
@@ -24,14 +23,14 @@ use sqlite::Alter;
 /// Whatever a stop leaves of a batch, where it is opened again and adopted, no audit finds it damaged. Where the same batch is then
 /// sent again and ends well, the two come to one undisturbed sending of it, if the first one refused none of the rows that it answered: so it does
 /// where a row was booked and not answered too.
-pub fn a_stopped_batch_is_sent_again<S: Alter, C: Clock>()
+pub fn an_interrupted_batch_can_be_retried<S: Alter, C: Clock>()
     ensures { (input : List ℕ) (base : Base) (first left conn store last : Held S) (one two : Outside C) (ended : Result counted.Counts faults.BatchFault)
-        (taken : Result (Unit {0}) money.Fault) (counts : counted.Counts) → StandsAlone S.Store first base
-        → LeavesBooks (λ desk. HasCleanDisk (state S.Store desk)) (λ desk. KeepsBase S.Store desk) (LeavesOneOf S.Store) (parse_by readers) row_step
+        (taken : Result (Unit {0}) money.Fault) (counts : counted.Counts) → IsDurable S.Store first base
+        → CrashStates (λ desk. HasCleanDisk (state S.Store desk)) (λ desk. Represents S.Store desk) (LeavesOneOf S.Store) (parse_by readers) row_step
         C.gives (Some (text_of input)) first left one ended
-        → HasCleanDisk (state S.Store left) → IsReopened S.Store left conn → IsAdopted S.Store conn store taken → HasCleanDisk (state S.Store store)
+        → HasCleanDisk (state S.Store left) → IsReopened S.Store left conn → AdoptPost S.Store conn store taken → HasCleanDisk (state S.Store store)
         → OnAnswer taken (λ failing. failing ≡ None)
-        × (KeepsBooks (λ desk. HasCleanDisk (state S.Store desk)) (λ desk. KeepsBase S.Store desk) (parse_by readers) row_step
+        × (RefinesModel (λ desk. HasCleanDisk (state S.Store desk)) (λ desk. Represents S.Store desk) (parse_by readers) row_step
         C.gives (Some (text_of input)) store last two (Ok counts) → HasCleanDisk (state S.Store last)
-        → (after : Base) × KeepsBase S.Store last after × IsSentAgain (parse_by readers) C.gives (Some (text_of input)) base after one two) }
+        → (after : Base) × Represents S.Store last after × IsSentAgain (parse_by readers) C.gives (Some (text_of input)) base after one two) }
 {}

@@ -6,7 +6,7 @@ use Rattle.std.specs.Option.{option_map_or}
 use Rattle.std.proofs.lemmas.Bool.{and_parts, and_from}
 use Rattle.brk_book_theorems.proofs.Order.{Sorted, sorted_sort, nat_splits, nat_one_way}
 use Rattle.brk_book_theorems.proofs.MoveReading.{turn_filter}
-use Rattle.brk_audit_theorems.proofs.MovedBase.{IsPosted, posted}
+use Rattle.brk_audit_theorems.proofs.UpgradedBase.{IsPosted, posted}
 use Rattle.std.proofs.lemmas.Bool.Decides.{nat_tests}
 use Rattle.brk_model.specs.Schemas.{third_schema}
 use Rattle.brk_model.specs.Lists.{all_distinct, sort_by_key}
@@ -16,14 +16,14 @@ use Rattle.brk_model.specs.Derived.{cash_trades, in_turn, posting_of_trade, post
 use Rattle.brk_model.specs.Tables.{Tables, TradeRow, cash_row, settlement_row, tables_at}
 use Rattle.brk_model.specs.Sheets.{sheets, sheets_of}
 use Rattle.brk_model.specs.Adopted.{base_of, marks_in, trade_of_row, is_posted_by, postings_in}
-use Rattle.brk_model.specs.Audit.{Holds}
+use Rattle.brk_model.specs.Audit.{ConditionHolds}
 use Rattle.brk_model.specs.Form.{has_form}
 use Rattle.brk_model.specs.Ways.{completion_stamps, has_status_rows, is_last_of, is_rising, is_way, trade_status, movement_stamps}
-use Rattle.brk_book_theorems.specs.Books.{IsBooks, MovementsApart}
+use Rattle.brk_book_theorems.specs.Books.{BooksInvariant, MovementsApart}
 use Rattle.brk_book_theorems.proofs.Same.{All-map, All-mapped}
 use Rattle.brk_book_theorems.proofs.Reading.{find-id, find-map}
 use Rattle.brk_audit_theorems.specs.Passing.{Passes}
-use Rattle.brk_audit_theorems.specs.Told.{GoesAWay, HasItsWords, IsTold, StampsRise}
+use Rattle.brk_audit_theorems.specs.Told.{HasValidTransitions, HasNoStrayTexts, HasValidHistories, StampsRise}
 use Rattle.brk_audit_theorems.proofs.Again.{IsRead, reads, found_first, posted_in, posting_again, turn_one}
 use Rattle.brk_audit_theorems.proofs.Climbs.{list_all_true}
 use Rattle.brk_model_theorems.proofs.Conjunctions.{parts3}
@@ -34,7 +34,7 @@ use Rattle.brk_book_theorems.proofs.Steps.{empty_books}
 use Rattle.brk_invariant_theorems.specs.Runs.{IsCallInForm}
 use Rattle.brk_invariant_theorems.proofs.SoundRuns.{run_both}
 use Rattle.brk_invariant_theorems.proofs.SoundSteps.{empty_sound}
-use Rattle.brk_invariant_theorems.specs.Sound.{IsSound}
+use Rattle.brk_invariant_theorems.specs.Sound.{AuditInvariant}
 use Rattle.brk_invariant_theorems.proofs.FormBack.{All-unmapped, sound_back}
 use Rattle.brk_invariant_theorems.proofs.FormRows.{form_of, sound_told}
 
@@ -55,7 +55,7 @@ no_name base t r e =
     ∙ ap (find (λ p. true)) (turn_filter (is_posted_by t.id) (postings_of base) ∙ ap in_turn (posting_again base t r) ∙ turn_one (is_completed t && t.is_cash) (posting_of_trade base.accounts t))
     ∙ ap (λ b. find (λ p. true) (cond b (posting_of_trade base.accounts t ∷ []) [])) e)
 
-words_of : (t : Tables) → Passes third_schema t → (r : TradeRow) → IsRead (base_of t) (trade_of_row t r) → HasItsWords (trade_of_row t r)
+words_of : (t : Tables) → Passes third_schema t → (r : TradeRow) → IsRead (base_of t) (trade_of_row t r) → HasNoStrayTexts (trade_of_row t r)
 words_of t p r k = record {
   settled = λ e. ap (λ T. option_map_or (λ s. s.cash_type) (find (λ s. s.trade == r.id) T.settlements) []) (sym (passing_tables third_schema t p)) ∙ no_type (base_of t) (trade_of_row t r) k e;
   moved = λ e. ap (λ T. option_map_or (λ p. p.name) (find (is_posted_by r.id) (postings_in T)) []) (sym (passing_tables third_schema t p)) ∙ no_name (base_of t) (trade_of_row t r) k e;
@@ -76,47 +76,47 @@ in_order ms e =
     subst (Sorted (λ x y. nat_lt x.stamp y.stamp)) e
     (sorted_sort (λ x y. nat_lt x.stamp y.stamp) ms (λ x y z g h. nat_splits x.stamp y.stamp z.stamp g h) (λ x y g. nat_one_way x.stamp y.stamp g))
 
-movements_told : (t : Tables) → IsBooks (base_of t) → IsPosted t → is_rising (map (λ m. m.stamp) (base_of t).movements) ≡ true
+movements_told : (t : Tables) → BooksInvariant (base_of t) → IsPosted t → is_rising (map (λ m. m.stamp) (base_of t).movements) ≡ true
 movements_told t books p = rising (completed (base_of t)) (base_of t).movements (in_order (base_of t).movements p.risen) books.movements.apart
 
-told_of : (t : Tables) → Passes third_schema t → has_status_rows t ≡ true → AllByRecursion (IsRead (base_of t)) (base_of t).trades → is_rising (map (λ m. m.stamp) (base_of t).movements) ≡ true → IsTold (base_of t)
+told_of : (t : Tables) → Passes third_schema t → has_status_rows t ≡ true → AllByRecursion (IsRead (base_of t)) (base_of t).trades → is_rising (map (λ m. m.stamp) (base_of t).movements) ≡ true → HasValidHistories (base_of t)
 unfolding base_of has_status_rows
 told_of t p s k rises =
     let status = All-map t.trades (λ r e. parts3 (is_way (map (λ m. m.status) (marks_in t r.id))) (is_rising (map (λ m. m.stamp) (marks_in t r.id))) (is_last_of r (marks_in t r.id)) e)
     (list_all_true (trade_status t) t.trades (and_parts (list_all (trade_status t) t.trades) (all_distinct (completion_stamps t ++ movement_stamps t)) s).0) in
     record {
       stamps = All-mapped StampsRise (trade_of_row t) t.trades (All-map t.trades (λ r e. e.1) status);
-      ways = All-mapped GoesAWay (trade_of_row t) t.trades (All-map t.trades (λ r e. e.0) status);
-      words = All-mapped HasItsWords (trade_of_row t) t.trades (All-map t.trades (λ r e. words_of t p r e) (All-unmapped (IsRead (base_of t)) (trade_of_row t) t.trades k));
+      ways = All-mapped HasValidTransitions (trade_of_row t) t.trades (All-map t.trades (λ r e. e.0) status);
+      words = All-mapped HasNoStrayTexts (trade_of_row t) t.trades (All-map t.trades (λ r e. words_of t p r e) (All-unmapped (IsRead (base_of t)) (trade_of_row t) t.trades k));
       movements = rises;
     }
 
-pub passing_told : (t : Tables) → Passes third_schema t → IsTold (base_of t)
-unfolding Holds
+pub passing_told : (t : Tables) → Passes third_schema t → HasValidHistories (base_of t)
+unfolding ConditionHolds
 passing_told t p =
     let books = passing_books third_schema t p in
     told_of t p (all_hold third_schema t p).status (reads (base_of t) books.numbered) (movements_told t books (posted third_schema t books (passing_tables third_schema t p)))
 
-pub passing_sound : (t : Tables) → Passes third_schema t → IsSound (base_of t)
-unfolding Holds
+pub passing_sound : (t : Tables) → Passes third_schema t → AuditInvariant (base_of t)
+unfolding ConditionHolds
 passing_sound t p = sound_back (base_of t) (passing_books third_schema t p) (passing_told t p) (ap (has_form third_schema) (passing_tables third_schema t p) ∙ (all_hold third_schema t p).form)
 
 -- ---- both ways
 
-pub sound_passes : (base : Base) → IsBooks base → IsSound base → Passes third_schema (sheets base)
+pub sound_passes : (base : Base) → BooksInvariant base → AuditInvariant base → Passes third_schema (sheets base)
 sound_passes base books k = tables_pass base books (sound_told base k) (form_of base books k)
 
-pub sound_exactly : (base : Base) → IsBooks base → IsSound base ↔ (IsTold base × (has_form third_schema (sheets base) ≡ true))
+pub sound_exactly : (base : Base) → BooksInvariant base → AuditInvariant base ↔ (HasValidHistories base × (has_form third_schema (sheets base) ≡ true))
 sound_exactly base books = ((λ k. (sound_told base k, form_of base books k)), (λ h. sound_back base books h.0 h.1))
 
 -- ---- whole runs
 
-pub run_passes : (base : Base) (calls : List (ℕ × Call)) (outcomes : List Outcome) (after : Base) → IsBooks base → IsSound base → AllByRecursion IsCallInForm calls → Run base calls outcomes after
+pub run_passes : (base : Base) (calls : List (ℕ × Call)) (outcomes : List Outcome) (after : Base) → BooksInvariant base → AuditInvariant base → AllByRecursion IsCallInForm calls → Run base calls outcomes after
     → Passes third_schema (sheets after)
 run_passes base calls outcomes after books k f r = let h = run_both base calls outcomes after f r (books, k) in sound_passes after h.0 h.1
 
-pub run_sound : (base : Base) (calls : List (ℕ × Call)) (outcomes : List Outcome) (after : Base) → IsBooks base → IsSound base → AllByRecursion IsCallInForm calls → Run base calls outcomes after
-    → IsSound after
+pub run_sound : (base : Base) (calls : List (ℕ × Call)) (outcomes : List Outcome) (after : Base) → BooksInvariant base → AuditInvariant base → AllByRecursion IsCallInForm calls → Run base calls outcomes after
+    → AuditInvariant after
 run_sound base calls outcomes after books k f r = (run_both base calls outcomes after f r (books, k)).1
 
 pub first_passes : (calls : List (ℕ × Call)) (outcomes : List Outcome) (after : Base) → AllByRecursion IsCallInForm calls → Run empty_base calls outcomes after → Passes third_schema (sheets after)

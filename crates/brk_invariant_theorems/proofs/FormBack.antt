@@ -10,7 +10,7 @@ use Rattle.brk_money.specs.Moments.{day_of, last_day}
 use Rattle.brk_money.specs.Kinds.{same_status, side_of}
 use Rattle.brk_money.specs.declared.status.Status.TheVariants.{Completed}
 use Rattle.brk_book_theorems.proofs.MoveReading.{moves_counted, rows_posted}
-use Rattle.brk_audit_theorems.proofs.MovedForm.{HasForm, move_posted}
+use Rattle.brk_audit_theorems.proofs.UpgradedForm.{HasForm, move_posted}
 use Rattle.brk_model.specs.Schemas.{third_schema}
 use Rattle.brk_model.specs.Limits.{greatest_amount, greatest_charge, greatest_summary, greatest_tax_rate, most_accounts, greatest_id}
 use Rattle.brk_model.specs.Lists.{insert_by, is_zero, sort_by, total_by}
@@ -25,7 +25,7 @@ use Rattle.brk_model.specs.Joins.{history_in, trade_in}
 use Rattle.brk_model.specs.Form.{account_form, broker_form, cash_form, charge_form, customer_form, customer_limits, customer_tax_form, has_account, has_broker, has_customer, has_form, has_security, has_trade, history_form, is_amount, is_cash_name, is_cash_type, is_id, is_price, is_qty, last_trade_form, one_tax_id_each, permission_form, price_form, security_form, settlement_form, summary_form, trade_form, is_movement, move_form}
 use Rattle.brk_model.specs.Forms.{is_acl, is_exchange, is_name, is_symbol, is_tax_id}
 use Rattle.brk_model.specs.Keys.{KeyPart, word, by_key, row_before, account_key, band_key, broker_key, cash_key, charge_key, customer_key, customer_tax_key, history_key, kept_key, last_trade_key, permission_key, security_key, settlement_key, summary_key, tax_rate_key, trade_key}
-use Rattle.brk_book_theorems.specs.Books.{IsBooks}
+use Rattle.brk_book_theorems.specs.Books.{BooksInvariant}
 use Rattle.brk_book_theorems.proofs.NewKeys.{same_bytes, unused}
 use Rattle.brk_book_theorems.proofs.Order.{NewKey, by_key-filter}
 use Rattle.brk_book_theorems.proofs.Same.{All-filter, All-map, any-none, filter-none, All-mapped}
@@ -35,7 +35,7 @@ use Rattle.brk_book_theorems.proofs.References.{no_broker_trades, no_trades_of, 
 use Rattle.brk_book_theorems.proofs.LotReading.{numbered_rise, rise_apart}
 use Rattle.brk_book_theorems.proofs.TradeReading.{reads_trade}
 use Rattle.brk_book_theorems.proofs.Tested.{All-back, All-front}
-use Rattle.brk_audit_theorems.specs.Told.{GoesAWay, HasItsWords, IsTold, StampsRise, broker_id}
+use Rattle.brk_audit_theorems.specs.Told.{HasValidTransitions, HasNoStrayTexts, HasValidHistories, StampsRise, broker_id}
 use Rattle.brk_audit_theorems.proofs.Again.{IsRead, both_all, reads}
 use Rattle.brk_audit_theorems.proofs.Climbs.{Climbs, list_all_true, not_itself, of_all}
 use Rattle.brk_audit_theorems.proofs.Members.{found_in}
@@ -43,7 +43,7 @@ use Rattle.brk_audit_theorems.proofs.Parts.{KeyParts, key_parts}
 use Rattle.brk_model_theorems.specs.FormParts.{FormParts}
 use Rattle.brk_model_theorems.proofs.FormParts.{form_parts}
 use Rattle.brk_model_theorems.proofs.Conjunctions.{parts3, parts4, parts5, parts6, parts10}
-use Rattle.brk_invariant_theorems.specs.Sound.{IsSound, IsSoundTrade, KeysApart, NamesCustomer, is_past, tax_id_key, is_named_by, movement_fields}
+use Rattle.brk_invariant_theorems.specs.Sound.{AuditInvariant, IsSoundTrade, KeysApart, NamesCustomer, is_past, tax_id_key, is_named_by, movement_fields}
 use Rattle.brk_invariant_theorems.proofs.OneTrade.{false_true}
 use Rattle.brk_model_theorems.proofs.Conjunctions.{and5, and6}
 use Rattle.brk_invariant_theorems.proofs.FormRows.{any_mark, found_trades, has_account_is, has_customer_is, has_rate_is, rates_same, row_of, same_name}
@@ -133,7 +133,7 @@ by_some false A f g = g refl
 sum_none : {X : Type 0} (f : X → ℕ) (xs : List X) (m : ℕ) → xs ≡ [] → sum_by f xs ≤ m
 sum_none f xs m e = subst (λ ys. sum_by f ys ≤ m) (sym e) (omega arith)
 
-commissions_back : (base : Base) (broker : ℕ) → IsBooks base → AllByRecursion (λ b. commissions_of base.accounts (completed base) b.id ≤ greatest_amount) base.brokers
+commissions_back : (base : Base) (broker : ℕ) → BooksInvariant base → AllByRecursion (λ b. commissions_of base.accounts (completed base) b.id ≤ greatest_amount) base.brokers
     → commissions_of base.accounts (completed base) broker ≤ greatest_amount
 unfolding commissions_of
 commissions_back base broker books h =
@@ -146,13 +146,13 @@ no_account : (base : Base) (o : Option Account) → is_some o ≡ false → opti
 no_account base None e = refl
 no_account base (Some a) e = false_true (sym e)
 
-no_balance : (base : Base) (account : ℕ) → IsBooks base → is_some (account_with base account) ≡ false → nat_abs (balance_of base.accounts (postings_of base) account) ≤ greatest_amount
+no_balance : (base : Base) (account : ℕ) → BooksInvariant base → is_some (account_with base account) ≡ false → nat_abs (balance_of base.accounts (postings_of base) account) ≤ greatest_amount
 unfolding balance_of total_by
 no_balance base account books e =
     subst (λ z. nat_abs (z +ℤ total_by (λ p. p.amount) (posted_to (postings_of base) account)) ≤ greatest_amount) (sym (no_account base (account_with base account) e))
     (subst (λ ps. nat_abs (pos 0 +ℤ total_by (λ p. p.amount) ps) ≤ greatest_amount) (sym (nothing_posted base account books e)) (omega arith))
 
-balances_back : (base : Base) (account : ℕ) → IsBooks base → AllByRecursion (λ a. nat_abs (balance_of base.accounts (postings_of base) a.id) ≤ greatest_amount) base.accounts
+balances_back : (base : Base) (account : ℕ) → BooksInvariant base → AllByRecursion (λ a. nat_abs (balance_of base.accounts (postings_of base) a.id) ≤ greatest_amount) base.accounts
     → nat_abs (balance_of base.accounts (postings_of base) account) ≤ greatest_amount
 balances_back base account books h =
     by_some (is_some (account_with base account)) _
@@ -163,7 +163,7 @@ balances_back base account books h =
 length_none : {X : Type 0} (xs : List X) (m : ℕ) → xs ≡ [] → length xs ≤ m
 length_none xs m e = subst (λ ys. length ys ≤ m) (sym e) (omega arith)
 
-owned_back : (base : Base) (customer : ℕ) → IsBooks base → AllByRecursion (λ c. length (filter (λ a. a.customer == c.id) base.accounts) ≤ most_accounts) base.customers
+owned_back : (base : Base) (customer : ℕ) → BooksInvariant base → AllByRecursion (λ c. length (filter (λ a. a.customer == c.id) base.accounts) ≤ most_accounts) base.customers
     → length (filter (λ a. a.customer == customer) base.accounts) ≤ most_accounts
 owned_back base customer books h =
     by_some (is_some (customer_with base customer)) _
@@ -202,7 +202,7 @@ no_summary_low : (done : List Trade) (account : ℕ) (symbol : Text) → of_posi
 unfolding summary_of total_by
 no_summary_low done account symbol e = subst (λ ts. nat_abs (total_by (λ t. signed (side_of t.kind) t.qty) ts) ≤ greatest_summary) (sym e) (omega arith)
 
-summaries_back : (base : Base) (account : ℕ) (symbol : Text) → IsBooks base
+summaries_back : (base : Base) (account : ℕ) (symbol : Text) → BooksInvariant base
     → AllByRecursion (λ a. AllByRecursion (λ s. nat_abs (summary_of (completed base) a.id s.symbol) ≤ greatest_summary) base.securities) base.accounts
     → nat_abs (summary_of (completed base) account symbol) ≤ greatest_summary
 summaries_back base account symbol books h =
@@ -225,8 +225,8 @@ record Read (base : Base) (t : Trade) : Type 0 where
   pub row : trade_form third_schema (sheets base) (trade_row t) ≡ true
   pub history : AllByRecursion (λ r. history_form (sheets base) r ≡ true) (history_rows t)
   pub stamps : StampsRise t
-  pub way : GoesAWay t
-  pub words : HasItsWords t
+  pub way : HasValidTransitions t
+  pub words : HasNoStrayTexts t
   pub found : trade_with base t.id ≡ Some t
   pub read : IsRead base t
   pub settled : is_completed t ≡ true → settlement_form (sheets base) (settlement_row base.accounts base.rule t) ≡ true
@@ -235,7 +235,7 @@ record Read (base : Base) (t : Trade) : Type 0 where
 row_of_trade : (base : Base) (t : Trade) → trade_with base t.id ≡ Some t → trade_in (sheets base) t.id ≡ Some (trade_row t)
 row_of_trade base t e = reads_trade base t.id ∙ ap (option_map trade_row) e
 
-trade_back : (base : Base) (t : Trade) → IsBooks base → IsTold base → Read base t → IsSoundTrade base t
+trade_back : (base : Base) (t : Trade) → BooksInvariant base → HasValidHistories base → Read base t → IsSoundTrade base t
 unfolding sheets_of tables_at
 trade_back base t books told h =
     let T : Tables = sheets base in
@@ -285,7 +285,7 @@ movements_formed base h =
     (All-unmapped (HasForm (sheets base)) posting_of_movement base.movements
     (All-back (HasForm (sheets base)) (map (posting_of_trade base.accounts) (cash_trades (completed base))) (map posting_of_movement base.movements) h))
 
-reads_back : (base : Base) → IsBooks base → IsTold base → FormParts third_schema (sheets base) → AllByRecursion (Read base) base.trades
+reads_back : (base : Base) → BooksInvariant base → HasValidHistories base → FormParts third_schema (sheets base) → AllByRecursion (Read base) base.trades
 unfolding sheets_of tables_at
 reads_back base books told f =
     let T : Tables = sheets base in
@@ -315,7 +315,7 @@ reads_back base books told f =
 
 -- ---- all of it
 
-pub sound_back : (base : Base) → IsBooks base → IsTold base → has_form third_schema (sheets base) ≡ true → IsSound base
+pub sound_back : (base : Base) → BooksInvariant base → HasValidHistories base → has_form third_schema (sheets base) ≡ true → AuditInvariant base
 unfolding sheets_of tables_at
 sound_back base books told form =
     let T : Tables = sheets base in

@@ -8,9 +8,9 @@ use Rattle.brk_money.specs.Kinds.{status_code}
 use Rattle.brk_money.specs.declared.status.Status.{Status}
 use Rattle.brk_money.specs.declared.status.Status.TheVariants.{Completed, Submitted, Pending, Canceled}
 use Rattle.brk_book_theorems.proofs.Postings.{numbered_stay}
-use Rattle.brk_audit_theorems.proofs.MovedForm.{numbered_rises}
+use Rattle.brk_audit_theorems.proofs.UpgradedForm.{numbered_rises}
 use Rattle.brk_model.specs.Lists.{is_zero, sort_by}
-use Rattle.brk_model.specs.Records.{Account, Mark, Security, Trade}
+use Rattle.brk_model.specs.Records.{Account, StatusChange, Security, Trade}
 use Rattle.brk_model.specs.Base.{Base, completed, has_status, is_completed, moment_of}
 use Rattle.brk_model.specs.Derived.{cash_trades, deal_of, deals_in, of_account, of_position, pending, summary_of, in_turn, postings_of}
 use Rattle.brk_model.specs.Shares.{Deal, Share, shares_after}
@@ -20,7 +20,7 @@ use Rattle.brk_model.specs.Form.{has_keys, rises}
 use Rattle.brk_model.specs.Keys.{KeyPart, number, word, kept_key, broker_key, customer_key, account_key, permission_key, security_key, last_trade_key, charge_key, band_key, tax_rate_key, customer_tax_key, trade_key, history_key, request_key, holding_key, summary_key, holding_history_key, settlement_key, cash_key, move_key}
 use Rattle.brk_model.specs.Ways.{is_way}
 use Rattle.brk_model_theorems.proofs.FormParts.{keys_whole}
-use Rattle.brk_book_theorems.specs.Books.{DistinctAccounts, DistinctSymbols, IsBooks}
+use Rattle.brk_book_theorems.specs.Books.{DistinctAccounts, DistinctSymbols, BooksInvariant}
 use Rattle.brk_book_theorems.proofs.NewKeys.{not_both, same_bytes}
 use Rattle.brk_book_theorems.proofs.Same.{All-filter, All-map, All-mapped, All-of}
 use Rattle.brk_book_theorems.proofs.LotReading.{IdsApart, numbered_rise, rise_apart}
@@ -28,7 +28,7 @@ use Rattle.brk_book_theorems.proofs.LotReading.{rise_filter}
 use Rattle.brk_audit_theorems.proofs.Marks.{no_more_ways, three_ways}
 use Rattle.brk_audit_theorems.proofs.Sorted.{All-block, All-rows}
 use Rattle.brk_audit_theorems.specs.Told.{account_id, broker_id}
-use Rattle.brk_invariant_theorems.specs.Sound.{IsSound, KeysApart}
+use Rattle.brk_invariant_theorems.specs.Sound.{AuditInvariant, KeysApart}
 use Rattle.brk_invariant_theorems.proofs.OneTrade.{false_true}
 use Rattle.brk_invariant_theorems.proofs.SortedRows.{OtherKeys, OthersApart, accounts_apart, apart_filter, apart_flat_map, apart_map, apart_rises, apart_sort, bands_apart, ids_apart, permissions_apart, symbols_apart}
 
@@ -46,7 +46,7 @@ second_number l k m n e = cc
 
 -- ---- histories
 
-abbrev row_of : ℕ → Mark → HistoryRow
+abbrev row_of : ℕ → StatusChange → HistoryRow
 row_of id m = record { trade = id; status = m.status; stamp = m.stamp }
 
 two_codes : (a b : Status) → is_way (a ∷ b ∷ []) ≡ true → bytes_eq (status_code b) (status_code a) ≡ false
@@ -55,11 +55,11 @@ two_codes Pending Canceled w = refl
 two_codes Pending Submitted w = refl
 two_codes a b w = false_true w
 
-other_code : (id : ℕ) (m n : Mark) → bytes_eq (status_code n.status) (status_code m.status) ≡ false → history_key (row_of id n) ≡ history_key (row_of id m) → ⊥
+other_code : (id : ℕ) (m n : StatusChange) → bytes_eq (status_code n.status) (status_code m.status) ≡ false → history_key (row_of id n) ≡ history_key (row_of id m) → ⊥
 other_code id m n h e =
     not_both (bytes_eq (status_code n.status) (status_code m.status)) (same_bytes (status_code n.status) (status_code m.status) (second_word id id (status_code n.status) (status_code m.status) e)) h
 
-marks_apart : (id : ℕ) (ms : List Mark) → is_way (map (λ m. m.status) ms) ≡ true → KeysApart history_key (map (row_of id) ms)
+marks_apart : (id : ℕ) (ms : List StatusChange) → is_way (map (λ m. m.status) ms) ≡ true → KeysApart history_key (map (row_of id) ms)
 marks_apart id [] w = tt
 marks_apart id (m ∷ []) w = (tt, tt)
 marks_apart id (m ∷ n ∷ []) w = ((other_code id m n (two_codes m.status n.status w), tt), (tt, tt))
@@ -157,7 +157,7 @@ lots_other done (t ∷ ts) d = (
 
 -- ---- all tables
 
-pub keys_of : (base : Base) → IsBooks base → IsSound base → has_keys (sheets base) ≡ true
+pub keys_of : (base : Base) → BooksInvariant base → AuditInvariant base → has_keys (sheets base) ≡ true
 unfolding sheets_of tables_at
 keys_of base books k =
     let done : List Trade = completed base in

@@ -10,12 +10,12 @@ use Rattle.brk_money.specs.Moments.{day_of, last_day, last_stamp}
 use Rattle.brk_money.specs.Kinds.{same_status}
 use Rattle.brk_money.specs.declared.status.Status.TheVariants.{Completed, Pending}
 use Rattle.brk_book_theorems.proofs.MoveReading.{moves_counted}
-use Rattle.brk_audit_theorems.proofs.MovedBase.{moves_own}
-use Rattle.brk_audit_theorems.proofs.MovedForm.{HasForm, few_postings, numbered_form}
+use Rattle.brk_audit_theorems.proofs.UpgradedBase.{moves_own}
+use Rattle.brk_audit_theorems.proofs.UpgradedForm.{HasForm, few_postings, numbered_form}
 use Rattle.brk_model.specs.Schemas.{third_schema}
 use Rattle.brk_model.specs.Limits.{greatest_amount, greatest_charge, greatest_summary, greatest_tax_rate, most_accounts, greatest_id}
 use Rattle.brk_model.specs.Lists.{all_distinct, is_zero, sort_by}
-use Rattle.brk_model.specs.Records.{Account, Customer, Mark, Permission, Security, Trade, Movement}
+use Rattle.brk_model.specs.Records.{Account, Customer, StatusChange, Permission, Security, Trade, Movement}
 use Rattle.brk_model.specs.Base.{Base, account_with, broker_in, broker_with, completed, customer_with, has_status, is_completed, last_mark, moment_of, price_of, rates_of, security_name, security_with, tax_rate_with, trade_with}
 use Rattle.brk_model.specs.Derived.{amount_of, balance_of, cash_trades, commissions_of, deal_of, due_day, of_account, of_position, pending, summary_of, in_turn, posting_of_movement, posting_of_trade, postings_of, due_after}
 use Rattle.brk_model.specs.Tables.{HistoryRow, Tables, account_row, broker_row, history_rows, holding_row, last_trade_row, lot_history, request_row, security_row, settlement_row, summary_rows, tables_at, trade_row, numbered}
@@ -26,10 +26,10 @@ use Rattle.brk_model.specs.Form.{account_form, band_form, broker_form, cash_form
 use Rattle.brk_model.specs.Forms.{is_acl, is_exchange, is_name, is_symbol, is_tax_id}
 use Rattle.brk_model.specs.Keys.{KeyPart, word, by_key, row_before, account_key, band_key, broker_key, cash_key, charge_key, customer_key, customer_tax_key, history_key, holding_history_key, holding_key, kept_key, last_trade_key, permission_key, request_key, security_key, settlement_key, summary_key, tax_rate_key, trade_key, move_key}
 use Rattle.brk_model.specs.Ways.{is_way}
-use Rattle.brk_model.specs.Names.{KnowsAccount, KnowsBroker, KnowsCustomer, KnowsSecurity, NumberedFrom}
+use Rattle.brk_model.specs.Names.{AccountExists, BrokerExists, CustomerExists, SecurityExists, NumberedFrom}
 use Rattle.brk_model_theorems.proofs.FormParts.{form_whole}
 use Rattle.brk_model_theorems.proofs.Conjunctions.{and10, and3, and4, and5, and6, parts3, parts4, parts5, parts6}
-use Rattle.brk_book_theorems.specs.Books.{IsBooks, HasVolume, HasHolder, IsMadeBy}
+use Rattle.brk_book_theorems.specs.Books.{BooksInvariant, HasVolume, HasHolder, IsMadeBy}
 use Rattle.brk_book_theorems.proofs.Bools.{numbers_back}
 use Rattle.brk_book_theorems.proofs.Postings.{numbered_stay}
 use Rattle.brk_book_theorems.proofs.Order.{by_key-filter}
@@ -39,13 +39,13 @@ use Rattle.brk_book_theorems.proofs.TermReading.{map-or, reads_last_trade, reads
 use Rattle.brk_book_theorems.proofs.TradeReading.{reads_trade, trades_in_order}
 use Rattle.brk_book_theorems.proofs.LotReading.{All-sort, IdsApart, numbered_rise, rise_apart}
 use Rattle.brk_book_theorems.proofs.References.{broker_found}
-use Rattle.brk_audit_theorems.specs.Told.{IsTold}
+use Rattle.brk_audit_theorems.specs.Told.{HasValidHistories}
 use Rattle.brk_audit_theorems.proofs.Again.{IsRead, base_again, both_all, reads}
 use Rattle.brk_audit_theorems.proofs.AgainStatus.{all_list, first_of_two, some_last}
 use Rattle.brk_audit_theorems.proofs.Marks.{filtered, last_has, no_more_ways, three_ways}
 use Rattle.brk_audit_theorems.proofs.Members.{All-flat_map}
 use Rattle.brk_audit_theorems.proofs.Sorted.{All-rows}
-use Rattle.brk_invariant_theorems.specs.Sound.{IsDueInTime, IsPastMark, IsSound, IsSoundTrade, NamesAccount, NamesCustomer, NamesTax, account_fields, is_past, permission_fields, security_fields, is_named_by, movement_fields}
+use Rattle.brk_invariant_theorems.specs.Sound.{IsDueInTime, IsPastMark, AuditInvariant, IsSoundTrade, NamesAccount, NamesCustomer, NamesTax, account_fields, is_past, permission_fields, security_fields, is_named_by, movement_fields}
 use Rattle.brk_invariant_theorems.proofs.OneTrade.{false_true, price_of_done}
 use Rattle.brk_invariant_theorems.proofs.SoundRecords.{sum-same}
 use Rattle.brk_invariant_theorems.proofs.SortedRows.{bands_sort, overlap_none, tax_ids_apart}
@@ -96,31 +96,31 @@ found_trades (t ∷ ts) d = (
 -- what is known of each trade
 record Known (base : Base) (t : Trade) : Type 0 where
   pub sound : IsSoundTrade base t
-  pub account : KnowsAccount base t
-  pub security : KnowsSecurity base t
+  pub account : AccountExists base t
+  pub security : SecurityExists base t
   pub found : trade_with base t.id ≡ Some t
   pub read : IsRead base t
 
-known_all : (base : Base) → IsBooks base → IsSound base → AllByRecursion (Known base) base.trades
+known_all : (base : Base) → BooksInvariant base → AuditInvariant base → AllByRecursion (Known base) base.trades
 known_all base books k =
     let rise = numbered_rise 1 base.trades books.numbered in
     All-map base.trades (λ t h. record { sound = h.0; account = h.1.0; security = h.1.1.0; found = h.1.1.1.0; read = h.1.1.1.1 })
     (both_all (IsSoundTrade base) _ base.trades k.trades
-    (both_all (KnowsAccount base) _ base.trades books.accounts
-    (both_all (KnowsSecurity base) _ base.trades books.securities
+    (both_all (AccountExists base) _ base.trades books.accounts
+    (both_all (SecurityExists base) _ base.trades books.securities
     (both_all (λ t. trade_with base t.id ≡ Some t) (IsRead base) base.trades (found_trades base.trades (rise_apart base.trades rise)) (reads base books.numbered)))))
 
 -- what is known of each completed one
 abbrev Done : Base → Trade → Type 0
 Done base t = Known base t × (is_completed t ≡ true)
 
-done_all : (base : Base) → IsBooks base → IsSound base → AllByRecursion (Done base) (completed base)
+done_all : (base : Base) → BooksInvariant base → AuditInvariant base → AllByRecursion (Done base) (completed base)
 done_all base books k = filtered (Known base) is_completed base.trades (known_all base books k)
 
 there : (base : Base) (t : Trade) → Known base t → has_trade (sheets base) t.id ≡ true
 there base t h = has_trade_is base t.id ∙ ap is_some h.found
 
-last_of : (t : Trade) (ms : List Mark) → t.marks ≡ ms → is_way (map (λ m. m.status) ms) ≡ true → (n : Mark) × (last_mark t ≡ Some n)
+last_of : (t : Trade) (ms : List StatusChange) → t.marks ≡ ms → is_way (map (λ m. m.status) ms) ≡ true → (n : StatusChange) × (last_mark t ≡ Some n)
 last_of t [] e w = false_true w
 last_of t (m ∷ ms) e w = let l = some_last m ms in (l.0, ap (last_or None) e ∙ l.1)
 
@@ -132,7 +132,7 @@ moment_past base t h =
 moment_due : (base : Base) (t : Trade) → IsSoundTrade base t → is_completed t ≡ true → nat_le (due_day base.rule t) last_day ≡ true
 moment_due base t h d =
     let l = last_of t t.marks refl h.way in
-    let m : Mark = l.0 in
+    let m : StatusChange = l.0 in
     let c : same_status m.status Completed ≡ true = sym (ap (λ o. option_map_or (λ m. same_status m.status Completed) o false) l.1) ∙ d in
     let due = last_has (IsDueInTime base.rule) None t.marks m tt h.due l.1 in
     ap (λ o. nat_le (due_after base.rule (option_map_or (λ m. m.stamp) o 0)) last_day) l.1
@@ -142,10 +142,10 @@ or_false : (b : Bool) → (b || false) ≡ b
 or_false true = refl
 or_false false = refl
 
-abbrev pub row_of : ℕ → Mark → HistoryRow
+abbrev pub row_of : ℕ → StatusChange → HistoryRow
 row_of id m = record { trade = id; status = m.status; stamp = m.stamp }
 
-pub any_mark : (id : ℕ) (ms : List Mark) → is_way (map (λ m. m.status) ms) ≡ true
+pub any_mark : (id : ℕ) (ms : List StatusChange) → is_way (map (λ m. m.status) ms) ≡ true
     → list_any (λ h. same_status h.status Completed) (map (row_of id) ms) ≡ option_map_or (λ m. same_status m.status Completed) (last_or None ms) false
 any_mark id [] w = refl
 any_mark id (m ∷ []) w = or_false (same_status m.status Completed)
@@ -178,12 +178,12 @@ numbers_whole n [] k = refl
 numbers_whole n (t ∷ ts) k =
     and_from (t.id == n) (same_numbers (map (λ row. row.id) (map trade_row ts)) (range_with_len (n + 1) (length (map trade_row ts)))) (eq-eqb t.id n k.0) (numbers_whole (n + 1) ts k.1)
 
-mark_whole : (base : Base) (t : Trade) (m : Mark) → Known base t → IsPastMark base.last m → IsDueInTime base.rule m → history_form (sheets base) (row_of t.id m) ≡ true
+mark_whole : (base : Base) (t : Trade) (m : StatusChange) → Known base t → IsPastMark base.last m → IsDueInTime base.rule m → history_form (sheets base) (row_of t.id m) ≡ true
 unfolding sheets_of tables_at
 mark_whole base t m h p d =
     and3 (has_trade (sheets base) t.id) (is_past base.last m.stamp) (not (same_status m.status Completed) || nat_le (due_after base.rule m.stamp) last_day) (there base t h) p d
 
-request_whole : (base : Base) (t : Trade) → IsBooks base → Known base t → request_form third_schema (sheets base) (request_row base.accounts t) ≡ true
+request_whole : (base : Base) (t : Trade) → BooksInvariant base → Known base t → request_form third_schema (sheets base) (request_row base.accounts t) ≡ true
 request_whole base t books h =
     let f = parts6 (is_id t.id) (is_qty third_schema t.qty) (is_price t.bid) (nat_le t.charge greatest_charge) (nat_le t.commission greatest_amount) (nat_le t.tax greatest_amount) h.sound.fields in
     and5 (has_trade (sheets base) t.id) (has_security (sheets base) t.symbol) (is_qty third_schema t.qty) (is_price t.bid) (has_broker (sheets base) (broker_in base.accounts t.account))
@@ -204,14 +204,14 @@ settlement_whole base t h =
     and3 (option_map_or (λ row. is_cash_type row.is_cash t.cash_type) (trade_in (sheets base) t.id) false) (nat_le (due_day base.rule t) last_day) (is_amount (amount_of base.accounts t))
     (ap (λ o. option_map_or (λ row. is_cash_type row.is_cash t.cash_type) o false) (row_in base t h.0) ∙ h.0.sound.cash_type h.1) (moment_due base t h.0.sound h.1) (h.0.sound.amount h.1)
 
-pub same_name : (base : Base) (symbol : Text) → IsBooks base → IsTold base → security_name (base_of (sheets base)) symbol ≡ security_name base symbol
+pub same_name : (base : Base) (symbol : Text) → BooksInvariant base → HasValidHistories base → security_name (base_of (sheets base)) symbol ≡ security_name base symbol
 same_name base symbol books told =
     ap (λ b. security_name b symbol) (base_again base books told)
     ∙ ap (λ o. option_map_or (λ s. s.name) o []) (find-key (λ s. word s.symbol ∷ []) (λ s. bytes_eq s.symbol symbol) (word symbol ∷ []) base.securities
     (λ s e. let i : s.symbol ≡ symbol = (bytes_eq-Decides s.symbol symbol).0 e in λ j. word (i j) ∷ []))
 
 -- what a completed cash trade posts has form
-posted_whole : (base : Base) (t : Trade) → IsBooks base → IsTold base → Done base t → t.is_cash ≡ true → HasForm (sheets base) (posting_of_trade base.accounts t)
+posted_whole : (base : Base) (t : Trade) → BooksInvariant base → HasValidHistories base → Done base t → t.is_cash ≡ true → HasForm (sheets base) (posting_of_trade base.accounts t)
 unfolding sheets_of tables_at
 posted_whole base t books told h c = record {
   account = has_account_is base t.account ∙ h.0.account;
@@ -232,7 +232,7 @@ moved_whole base m f h e =
     let k = and_parts (is_movement m.name m.amount) (is_amount m.amount) f in
     record { account = has_account_is base m.account ∙ h; name = k.0; stamp = made_past base.last m e; amount = k.1 }
 
-all_posted : (base : Base) → IsBooks base → IsSound base → IsTold base → AllByRecursion (Done base) (completed base) → AllByRecursion (HasForm (sheets base)) (postings_of base)
+all_posted : (base : Base) → BooksInvariant base → AuditInvariant base → HasValidHistories base → AllByRecursion (Done base) (completed base) → AllByRecursion (HasForm (sheets base)) (postings_of base)
 all_posted base books k told dones =
     let P = posting_of_trade base.accounts in
     All-append (HasForm (sheets base)) (map P (cash_trades (completed base))) (map posting_of_movement base.movements)
@@ -243,12 +243,12 @@ all_posted base books k told dones =
     (both_all (λ m. movement_fields m ≡ true) (λ m. HasHolder base.accounts m × IsMadeBy base.last m) base.movements k.cash.fields
     (both_all (HasHolder base.accounts) (IsMadeBy base.last) base.movements books.movements.holders books.movements.early))))
 
-ids_low : (base : Base) → IsSound base → AllByRecursion (λ u. u.id ≤ greatest_id) base.trades
+ids_low : (base : Base) → AuditInvariant base → AllByRecursion (λ u. u.id ≤ greatest_id) base.trades
 ids_low base k = All-map base.trades (λ t h.
     let f = parts6 (is_id t.id) (is_qty third_schema t.qty) (is_price t.bid) (nat_le t.charge greatest_charge) (nat_le t.commission greatest_amount) (nat_le t.tax greatest_amount) h.fields in
     leb-true t.id greatest_id (and_parts (nat_le 1 t.id) (nat_le t.id greatest_id) f.0).1) k.trades
 
-moves_whole : (base : Base) → IsBooks base → IsSound base → IsTold base → AllByRecursion (Done base) (completed base)
+moves_whole : (base : Base) → BooksInvariant base → AuditInvariant base → HasValidHistories base → AllByRecursion (Done base) (completed base)
     → AllByRecursion (λ r. move_form (sheets base) r ≡ true) (numbered 1 (in_turn (postings_of base)))
 moves_whole base books k told dones =
     numbered_form (sheets base) 1 (in_turn (postings_of base)) (omega arith) (few_postings base books.numbered (ids_low base k) k.cash.few)
@@ -264,7 +264,7 @@ mapped_form form key row xs h = rows_form form key (map row xs) (All-mapped (λ 
 
 -- ---- the records
 
-account_whole : (base : Base) (a : Account) → IsSound base → account_fields a ≡ true → KnowsCustomer base a → KnowsBroker base a
+account_whole : (base : Base) (a : Account) → AuditInvariant base → account_fields a ≡ true → CustomerExists base a → BrokerExists base a
     → account_form (sheets base) (account_row base.accounts (postings_of base) a) ≡ true
 account_whole base a k h c b =
     let f = parts3 (is_id a.id) (is_name a.name) (is_amount a.opening) h in
@@ -298,7 +298,7 @@ rates_same base customer =
     (All-of (filter (λ x. x.customer == customer) T.customer_taxes) (λ x. sym (map-or (find (λ r. r.id == x.tax) T.tax_rates))))
     ∙ reads_rates base customer
 
-limits_whole : (base : Base) (c : Customer) → IsSound base → customer_limits (sheets base) c ≡ true
+limits_whole : (base : Base) (c : Customer) → AuditInvariant base → customer_limits (sheets base) c ≡ true
 limits_whole base c k =
     and_from (nat_le (length (filter (λ a. a.customer == c.id) (sheets base).accounts)) most_accounts) (nat_le (rates_of (base_of (sheets base)) c.id) greatest_tax_rate)
     (ap (λ n. nat_le n most_accounts) (reads_count base c.id) ∙ le-leb _ most_accounts (k.owned c.id))
@@ -310,7 +310,7 @@ clock_whole (Some n) h = le-leb n last_stamp h
 
 -- ---- all tables
 
-pub sound_told : (base : Base) → IsSound base → IsTold base
+pub sound_told : (base : Base) → AuditInvariant base → HasValidHistories base
 sound_told base k = record {
   stamps = All-map base.trades (λ t h. h.stamps) k.trades;
   ways = All-map base.trades (λ t h. h.way) k.trades;
@@ -318,14 +318,14 @@ sound_told base k = record {
   movements = k.cash.risen;
 }
 
-pub form_of : (base : Base) → IsBooks base → IsSound base → has_form third_schema (sheets base) ≡ true
+pub form_of : (base : Base) → BooksInvariant base → AuditInvariant base → has_form third_schema (sheets base) ≡ true
 unfolding sheets_of tables_at
 form_of base books k =
     let T : Tables = sheets base in
     let done : List Trade = completed base in
     let known : AllByRecursion (Known base) base.trades = known_all base books k in
     let dones : AllByRecursion (Done base) done = done_all base books k in
-    let told : IsTold base = sound_told base k in
+    let told : HasValidHistories base = sound_told base k in
     let listed = listed_each base in
     form_whole third_schema T (record {
       clock = clock_whole base.last books.clock;
@@ -338,7 +338,7 @@ form_of base books k =
       limits = rows_form (customer_limits T) customer_key base.customers (All-of base.customers (λ c. limits_whole base c k));
       accounts = mapped_form (account_form T) account_key (account_row base.accounts (postings_of base)) base.accounts
           (All-map base.accounts (λ a h. account_whole base a k h.0 h.1.0 h.1.1)
-          (both_all (λ a. account_fields a ≡ true) (λ a. KnowsCustomer base a × KnowsBroker base a) base.accounts k.accounts (both_all (KnowsCustomer base) (KnowsBroker base) base.accounts books.customers books.brokers)));
+          (both_all (λ a. account_fields a ≡ true) (λ a. CustomerExists base a × BrokerExists base a) base.accounts k.accounts (both_all (CustomerExists base) (BrokerExists base) base.accounts books.customers books.brokers)));
       permissions = rows_form (permission_form T) permission_key base.permissions
           (All-map base.permissions (λ p h. permission_whole base p h.0 h.1) (both_all (λ p. permission_fields p ≡ true) (NamesAccount base.accounts) base.permissions k.permissions k.permitted));
       securities = mapped_form (security_form T) security_key security_row base.securities

@@ -11,7 +11,7 @@ use Rattle.brk_money.specs.declared.status.Status.TheVariants.{Completed, Active
 use Rattle.brk_model.specs.Schemas.{third_schema}
 use Rattle.brk_model.specs.Limits.{greatest_price, greatest_qty}
 use Rattle.brk_model.specs.Lists.{sort_by, update_where}
-use Rattle.brk_model.specs.Records.{Mark, Trade}
+use Rattle.brk_model.specs.Records.{StatusChange, Trade}
 use Rattle.brk_model.specs.Base.{Base, completed, has_status, is_completed, marked, moment_of, price_of}
 use Rattle.brk_model.specs.Derived.{deal_of, deals_in, of_account, of_position, shares_in}
 use Rattle.brk_model.specs.Form.{is_price, is_qty}
@@ -20,9 +20,9 @@ use Rattle.brk_model.specs.Ways.{is_rising, is_way}
 use Rattle.brk_book_theorems.proofs.Same.{All-filter, All-map, All-mapped, map-last}
 use Rattle.brk_book_theorems.proofs.Completing.{All-passing}
 use Rattle.brk_book_theorems.proofs.LotReading.{All-sort}
-use Rattle.brk_audit_theorems.specs.Told.{GoesAWay, StampsRise}
+use Rattle.brk_audit_theorems.specs.Told.{HasValidTransitions, StampsRise}
 use Rattle.brk_audit_theorems.proofs.Marks.{no_more_ways, same_statuses, three_ways, two_ways}
-use Rattle.brk_invariant_theorems.specs.Sound.{IsPastMark, IsSound, IsSoundBy, IsSoundTrade, is_past, is_priced}
+use Rattle.brk_invariant_theorems.specs.Sound.{IsPastMark, AuditInvariant, IsSoundBy, IsSoundTrade, is_past, is_priced}
 use Rattle.brk_invariant_theorems.proofs.Bounds.{IsCheap, replay_all}
 
 pub false_true : {A : Type 0} → false ≡ true → A
@@ -64,7 +64,7 @@ first_waits Submitted e = false_true e
 first_waits Pending e = refl
 first_waits Canceled e = false_true e
 
-done_way : (ms : List Mark) → is_way (map (λ m. m.status) ms) ≡ true → option_map_or (λ m. same_status m.status Submitted) (last_or None ms) false ≡ true
+done_way : (ms : List StatusChange) → is_way (map (λ m. m.status) ms) ≡ true → option_map_or (λ m. same_status m.status Submitted) (last_or None ms) false ≡ true
     → is_way (map (λ m. m.status) ms ++ Completed ∷ []) ≡ true
 done_way [] w h = false_true h
 done_way (m ∷ []) w h = ap (λ s. is_way (s ∷ Completed ∷ [])) (same_statuses m.status Submitted h)
@@ -75,7 +75,7 @@ done_way (m ∷ n ∷ []) w h =
 done_way (m ∷ n ∷ o ∷ []) w h = let k = three_ways m.status n.status o.status w in false_true (sym (ap (λ s. same_status s Submitted) k.2) ∙ h)
 done_way (m ∷ n ∷ o ∷ p ∷ ms) w h = absurd (no_more_ways m.status n.status o.status p.status (map (λ m. m.status) ms) w)
 
-open_way : (s : Status) (ms : List Mark) → is_way (Pending ∷ s ∷ []) ≡ true → is_way (map (λ m. m.status) ms) ≡ true
+open_way : (s : Status) (ms : List StatusChange) → is_way (Pending ∷ s ∷ []) ≡ true → is_way (map (λ m. m.status) ms) ≡ true
     → option_map_or (λ m. same_status m.status Pending) (last_or None ms) false ≡ true → is_way (map (λ m. m.status) ms ++ s ∷ []) ≡ true
 open_way s [] k w h = false_true h
 open_way s (m ∷ []) k w h = ap (λ u. is_way (u ∷ s ∷ [])) (same_statuses m.status Pending h) ∙ k
@@ -83,10 +83,10 @@ open_way s (m ∷ n ∷ []) k w h = false_true (sym (two_ways m.status n.status 
 open_way s (m ∷ n ∷ o ∷ []) k w h = let j = three_ways m.status n.status o.status w in false_true (sym (ap (λ s. same_status s Pending) j.2) ∙ h)
 open_way s (m ∷ n ∷ o ∷ p ∷ ms) k w h = absurd (no_more_ways m.status n.status o.status p.status (map (λ m. m.status) ms) w)
 
-pub completes_way : (stamp : ℕ) (t : Trade) → GoesAWay t → has_status Submitted t ≡ true → GoesAWay (marked stamp Completed t)
+pub completes_way : (stamp : ℕ) (t : Trade) → HasValidTransitions t → has_status Submitted t ≡ true → HasValidTransitions (marked stamp Completed t)
 completes_way stamp t w h = ap is_way (map-last (λ m. m.status) t.marks (record { stamp = stamp; status = Completed })) ∙ done_way t.marks w h
 
-pub leaves_way : (stamp : ℕ) (status : Status) (t : Trade) → is_way (Pending ∷ status ∷ []) ≡ true → GoesAWay t → has_status Pending t ≡ true → GoesAWay (marked stamp status t)
+pub leaves_way : (stamp : ℕ) (status : Status) (t : Trade) → is_way (Pending ∷ status ∷ []) ≡ true → HasValidTransitions t → has_status Pending t ≡ true → HasValidTransitions (marked stamp status t)
 leaves_way stamp status t k w h = ap is_way (map-last (λ m. m.status) t.marks (record { stamp = stamp; status = status })) ∙ open_way status t.marks k w h
 
 -- ---- prices and quantities
@@ -122,7 +122,7 @@ cheap_shares base account symbol h =
 pub trade_last : (base : Base) (now : ℕ) (t : Trade) → IsSoundTrade base t → IsSoundBy (Some (next_stamp base now)) base.rule base.accounts base.securities t
 trade_last base now t k = record { alone = k.alone; past = All-map t.marks (λ m e. past_then base.last now m.stamp e) k.past; due = k.due; cash_name = k.cash_name; amount = k.amount }
 
-pub sound_last : (base : Base) (now : ℕ) → IsSound base → IsSound (record base { last = Some (next_stamp base now) })
+pub sound_last : (base : Base) (now : ℕ) → AuditInvariant base → AuditInvariant (record base { last = Some (next_stamp base now) })
 sound_last base now k = record {
   keyed = k.keyed;
   parties = k.parties;

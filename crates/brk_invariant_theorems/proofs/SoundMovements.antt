@@ -9,7 +9,7 @@ use Rattle.brk_money.specs.Kinds.{same_status}
 use Rattle.brk_money.specs.Moments.{day_of, last_day}
 use Rattle.brk_money.specs.declared.status.Status.TheVariants.{Completed}
 use Rattle.brk_model.specs.Limits.{greatest_amount, greatest_id}
-use Rattle.brk_model.specs.Records.{Mark, Movement, SettleRule, Trade}
+use Rattle.brk_model.specs.Records.{StatusChange, Movement, SettleRule, Trade}
 use Rattle.brk_model.specs.Base.{Base, completed}
 use Rattle.brk_model.specs.Commands.{Command, DepositCash, WithdrawCash, SetOneDay}
 use Rattle.brk_model.specs.Derived.{balance_of, due_after, postings_of}
@@ -18,12 +18,12 @@ use Rattle.brk_model.specs.Movements.{deposit, withdrawal, with_movement, with_o
 use Rattle.brk_model.specs.Step.{records_after}
 use Rattle.brk_model.specs.Ways.{is_rising}
 use Rattle.brk_model.specs.Tests.{next_stamp, refusal_of, tests}
-use Rattle.brk_book_theorems.specs.Books.{IsBooks}
+use Rattle.brk_book_theorems.specs.Books.{BooksInvariant}
 use Rattle.brk_book_theorems.proofs.MovementOrder.{movements_before}
 use Rattle.brk_book_theorems.proofs.Movements.{others_stay, unset}
 use Rattle.brk_book_theorems.proofs.Same.{All-append, All-map, All-mapped, map-last}
 use Rattle.brk_book_theorems.proofs.Tested.{passed}
-use Rattle.brk_invariant_theorems.specs.Sound.{IsDueInTime, IsSound, IsSoundBy, IsSoundTrade, movement_fields}
+use Rattle.brk_invariant_theorems.specs.Sound.{IsDueInTime, AuditInvariant, IsSoundBy, IsSoundTrade, movement_fields}
 use Rattle.brk_invariant_theorems.specs.InForm.{IsInForm, is_moved_amount}
 use Rattle.brk_invariant_theorems.proofs.OneTrade.{rising_more, sound_last}
 use Rattle.brk_invariant_theorems.proofs.SoundRecords.{LeavesSound}
@@ -66,8 +66,8 @@ one_more ms m e = let k = grown ms in few (length ms) (length (ms ++ m ∷ [])) 
 abbrev Tested : Base → Movement → Type 0
 Tested base m = (nat_lt greatest_amount (nat_abs (balance_of base.accounts (postings_of (with_movement base m)) m.account)) ≡ false) × (nat_le greatest_id (length base.movements) ≡ false)
 
-sound_movement : (base : Base) (now : ℕ) (m : Movement) → m.stamp ≡ next_stamp base now → movement_fields m ≡ true → Tested base m → IsSound base → IsBooks base
-    → IsSound (record (with_movement base m) { last = Some (next_stamp base now) })
+sound_movement : (base : Base) (now : ℕ) (m : Movement) → m.stamp ≡ next_stamp base now → movement_fields m ≡ true → Tested base m → AuditInvariant base → BooksInvariant base
+    → AuditInvariant (record (with_movement base m) { last = Some (next_stamp base now) })
 sound_movement base now m s f tested k books =
     let l = sound_last base now k in
     record {
@@ -106,7 +106,7 @@ earlier : (n : ℕ) (b : Bool) → nat_le (n + 2) last_day ≡ true → nat_le (
 earlier n true h = le-leb (n + 1) last_day (let k = leb-true (n + 2) last_day h in omega (arith, k))
 earlier n false h = h
 
-due_earlier : (rule : SettleRule) (day : ℕ) (m : Mark) → rule ≡ None → IsDueInTime rule m → IsDueInTime (Some day) m
+due_earlier : (rule : SettleRule) (day : ℕ) (m : StatusChange) → rule ≡ None → IsDueInTime rule m → IsDueInTime (Some day) m
 due_earlier rule day m e h = by_status (same_status m.status Completed) refl (subst (λ r. IsDueInTime r m) e h)
   where
     by_status : (b : Bool) → same_status m.status Completed ≡ b → IsDueInTime None m → IsDueInTime (Some day) m

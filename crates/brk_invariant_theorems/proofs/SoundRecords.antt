@@ -20,8 +20,8 @@ use Rattle.brk_model.specs.Keyed.{keeping, kept_under}
 use Rattle.brk_model.specs.Rows.{row_text, line_text}
 use Rattle.brk_model.specs.Step.{listed, records_after}
 use Rattle.brk_model.specs.Tests.{next_stamp, refusal_of, tests}
-use Rattle.brk_model.specs.Names.{KnowsAccount, KnowsSecurity}
-use Rattle.brk_book_theorems.specs.Books.{IsBooks}
+use Rattle.brk_model.specs.Names.{AccountExists, SecurityExists}
+use Rattle.brk_book_theorems.specs.Books.{BooksInvariant}
 use Rattle.brk_book_theorems.specs.Steps.{base_then}
 use Rattle.brk_book_theorems.proofs.Order.{NewKey}
 use Rattle.brk_book_theorems.proofs.NewKeys.{charge_new, customer_tax_new, same_bytes, not_both}
@@ -34,13 +34,13 @@ use Rattle.brk_book_theorems.proofs.Steps.{in_order}
 use Rattle.brk_audit_theorems.proofs.Again.{both_all}
 use Rattle.brk_model_theorems.proofs.Conjunctions.{parts3, parts5}
 use Rattle.brk_audit_theorems.specs.Told.{broker_id}
-use Rattle.brk_invariant_theorems.specs.Sound.{IsSound, IsSoundBy, IsSoundTrade, KeysApart, NamesAccount, NamesCustomer, NamesTax, account_fields, broker_fields, is_named_by, is_past, permission_fields, security_fields, tax_id_key}
+use Rattle.brk_invariant_theorems.specs.Sound.{AuditInvariant, IsSoundBy, IsSoundTrade, KeysApart, NamesAccount, NamesCustomer, NamesTax, account_fields, broker_fields, is_named_by, is_past, permission_fields, security_fields, tax_id_key}
 use Rattle.brk_invariant_theorems.specs.InForm.{IsInForm, IsKeyInForm}
 use Rattle.brk_invariant_theorems.proofs.OneTrade.{past_itself, sound_last}
 
 -- an accepted command in form leaves a sound base sound
 abbrev pub LeavesSound : Base → ℕ → Command → Type 0
-LeavesSound base now command = IsSound base → IsBooks base → IsInForm command → refusal_of base now command ≡ None → IsSound (base_then base now command)
+LeavesSound base now command = AuditInvariant base → BooksInvariant base → IsInForm command → refusal_of base now command ≡ None → AuditInvariant (base_then base now command)
 
 -- ---- keys
 
@@ -318,7 +318,7 @@ sound_security base now x k books form e =
       };
       trades = All-map base.trades (λ t h. trade_listed c (base.securities ++ s ∷ []) t
           (ap (λ o. option_map_or (λ s. s.name) o []) (find-more (λ u. bytes_eq u.symbol t.symbol) base.securities (s ∷ []) h.1)) h.0)
-          (both_all (IsSoundTrade c) (KnowsSecurity base) base.trades l.trades books.securities);
+          (both_all (IsSoundTrade c) (SecurityExists base) base.trades l.trades books.securities);
       cash = l.cash;
       sums = l.sums;
     }
@@ -329,13 +329,13 @@ find_other : {X : Type 0} (p : X → Bool) (xs : List X) (x : X) → p x ≡ fal
 find_other p [] x e = ap (λ b. cond b (Some x) None) e
 find_other p (y ∷ xs) x e = ap (λ o. cond (p y) (Some y) o) (find_other p xs x e)
 
-other_balance : (base : Base) (a : Account) (id : ℕ) → IsBooks base → (a.id == id) ≡ false
+other_balance : (base : Base) (a : Account) (id : ℕ) → BooksInvariant base → (a.id == id) ≡ false
     → balance_of (more base a) (postings (more base a) (completed base) base.movements) id ≡ balance_of base.accounts (postings_of base) id
 unfolding balance_of
 other_balance base a id books e =
     λ i. option_map_or (λ a. a.opening) (find_other (λ b. b.id == id) base.accounts a e i) (pos 0) +ℤ total_by (λ p. p.amount) (posted_to (postings_as_before base a books i) id)
 
-balances_more : (base : Base) (a : Account) → IsBooks base → is_some (account_with base a.id) ≡ false → is_amount a.opening ≡ true
+balances_more : (base : Base) (a : Account) → BooksInvariant base → is_some (account_with base a.id) ≡ false → is_amount a.opening ≡ true
     → ((id : ℕ) → nat_abs (balance_of base.accounts (postings_of base) id) ≤ greatest_amount)
     → (id : ℕ) → nat_abs (balance_of (more base a) (postings (more base a) (completed base) base.movements) id) ≤ greatest_amount
 balances_more base a books new form k id = by_test (a.id == id) refl
@@ -348,12 +348,12 @@ balances_more base a books new form k id = by_test (a.id == id) refl
         subst Low (eqb-true a.id id e) (subst (λ z. nat_abs z ≤ greatest_amount) (sym (new_balance base a books new)) (leb-true (nat_abs a.opening) greatest_amount form))
     by_test false e = subst (λ z. nat_abs z ≤ greatest_amount) (sym (other_balance base a id books e)) (k id)
 
-same_broker : (base : Base) (a : Account) (id : ℕ) → IsBooks base → of_broker (more base a) (completed base) id ≡ of_broker base.accounts (completed base) id
+same_broker : (base : Base) (a : Account) (id : ℕ) → BooksInvariant base → of_broker (more base a) (completed base) id ≡ of_broker base.accounts (completed base) id
 same_broker base a id books =
     filter-same (λ t. broker_in (more base a) t.account == id) (λ t. broker_in base.accounts t.account == id) (completed base)
     (All-map (completed base) (λ t k. ap (λ o. option_map_or (λ a. a.broker) o 0 == id) (as_before base a t.account k)) (known_completed base books))
 
-same_commissions : (base : Base) (a : Account) (id : ℕ) → IsBooks base → commissions_of (more base a) (completed base) id ≡ commissions_of base.accounts (completed base) id
+same_commissions : (base : Base) (a : Account) (id : ℕ) → BooksInvariant base → commissions_of (more base a) (completed base) id ≡ commissions_of base.accounts (completed base) id
 unfolding commissions_of
 same_commissions base a id books = ap (sum_by (λ t. t.commission)) (same_broker base a id books)
 
@@ -380,7 +380,7 @@ owned_more accounts a h k customer = by_test (a.customer == customer) refl
         let p = apart in
         omega (arith, p, one, m)
 
-trade_owned : (base : Base) (a : Account) (t : Trade) → KnowsAccount base t → IsSoundTrade base t → IsSoundBy base.last base.rule (more base a) base.securities t
+trade_owned : (base : Base) (a : Account) (t : Trade) → AccountExists base t → IsSoundTrade base t → IsSoundBy base.last base.rule (more base a) base.securities t
 trade_owned base a t known k = record { alone = k.alone; past = k.past; due = k.due; cash_name = k.cash_name; amount = λ d. ap is_amount (amount_as_before base a t known) ∙ k.amount d }
 
 pub sound_account : (base : Base) (now : ℕ) (a : Account) → LeavesSound base now (AddAccount a)
@@ -404,7 +404,7 @@ sound_account base now a k books form e =
       };
       terms = l.terms;
       listed = l.listed;
-      trades = All-map base.trades (λ t h. trade_owned c a t h.1 h.0) (both_all (IsSoundTrade c) (KnowsAccount base) base.trades l.trades books.accounts);
+      trades = All-map base.trades (λ t h. trade_owned c a t h.1 h.0) (both_all (IsSoundTrade c) (AccountExists base) base.trades l.trades books.accounts);
       cash = l.cash;
       sums = record {
         summaries = l.summaries;
@@ -428,7 +428,7 @@ kept_new key row ks s h = All-map ks (λ k n e.
 none_is : (o : Option Kept) → o ≡ None → is_some o ≡ false
 none_is o e = ap is_some e
 
-pub sound_kept : (base : Base) (key : Key) (command : Command) (reply : Reply) → IsSound base → IsKeyInForm key → kept_under base key ≡ None → IsSound (keeping (Some key) command reply base)
+pub sound_kept : (base : Base) (key : Key) (command : Command) (reply : Reply) → AuditInvariant base → IsKeyInForm key → kept_under base key ≡ None → AuditInvariant (keeping (Some key) command reply base)
 sound_kept base key command reply k form e =
     let row : Kept = record { key = key; row_text = row_text command; line = line_text reply } in
     record {

@@ -21,7 +21,7 @@ use Rattle.brk_model.specs.Form.{band_form, is_cash_type, is_price, is_qty, is_t
 use Rattle.brk_model.specs.Forms.{is_exchange}
 use Rattle.brk_model.specs.Tests.{next_stamp, refusal_of}
 use Rattle.brk_model_theorems.proofs.Conjunctions.{and6, parts6}
-use Rattle.brk_book_theorems.specs.Books.{IsBooks}
+use Rattle.brk_book_theorems.specs.Books.{BooksInvariant}
 use Rattle.brk_book_theorems.proofs.NewKeys.{same_bytes}
 use Rattle.brk_book_theorems.proofs.Bools.{same_text}
 use Rattle.brk_book_theorems.proofs.Same.{All-append, All-map, find-All}
@@ -30,7 +30,7 @@ use Rattle.brk_book_theorems.proofs.Positions.{summary_other}
 use Rattle.brk_book_theorems.proofs.Sums.{margin_balance, other_account, other_broker}
 use Rattle.brk_book_theorems.proofs.ResultRows.{done_now, done_then, status_then, trades_then}
 use Rattle.brk_book_theorems.proofs.ResultKeeping.{Found, found_at, result_passed, submitted}
-use Rattle.brk_invariant_theorems.specs.Sound.{IsDueInTime, IsPastMark, IsSound, IsSoundTrade}
+use Rattle.brk_invariant_theorems.specs.Sound.{IsDueInTime, IsPastMark, AuditInvariant, IsSoundTrade}
 use Rattle.brk_invariant_theorems.proofs.Bounds.{amount_within, commission_low, tax_within}
 use Rattle.brk_invariant_theorems.proofs.OneTrade.{cheap_shares, completes_way, false_true, past_itself, past_then, price_low, qty_low, sound_last, stamps_more, trade_last}
 
@@ -103,7 +103,7 @@ first_type false = refl
 no_words : (b : Bool) (text : Text) → b ≡ false → cond b text [] ≡ []
 no_words b text e = ap (λ b. cond b text []) e
 
-completed_sound : (base : Base) (now id price : ℕ) (t : Trade) → IsSound base → IsBooks base → is_price price ≡ true → trade_with base id ≡ Some t
+completed_sound : (base : Base) (now id price : ℕ) (t : Trade) → AuditInvariant base → BooksInvariant base → is_price price ≡ true → trade_with base id ≡ Some t
     → refusal_of base now (CompleteTrade id price) ≡ None → IsSoundTrade base t
     → IsSoundTrade (record (with_result base (next_stamp base now) price t) { last = Some (next_stamp base now) }) (completed_trade base (next_stamp base now) price t)
 unfolding completed_trade
@@ -144,12 +144,12 @@ completed_sound base now id price t k books form e accepted h =
 
 -- ---- the base after it
 
-pub sound_then : (base : Base) (now id price : ℕ) (t : Trade) → IsSound base → IsBooks base → is_price price ≡ true → trade_with base id ≡ Some t
-    → refusal_of base now (CompleteTrade id price) ≡ None → IsSound (record (with_result base (next_stamp base now) price t) { last = Some (next_stamp base now) })
+pub sound_then : (base : Base) (now id price : ℕ) (t : Trade) → AuditInvariant base → BooksInvariant base → is_price price ≡ true → trade_with base id ≡ Some t
+    → refusal_of base now (CompleteTrade id price) ≡ None → AuditInvariant (record (with_result base (next_stamp base now) price t) { last = Some (next_stamp base now) })
 unfolding completed_trade
 sound_then base now id price t k books form e accepted =
     let stamp : ℕ = next_stamp base now in
-    let l : IsSound (record base { last = Some stamp }) = sound_last base now k in
+    let l : AuditInvariant (record base { last = Some stamp }) = sound_last base now k in
     let u : Trade = completed_trade base stamp price t in
     let after : Base = record (with_result base stamp price t) { last = Some stamp } in
     let f : Found base now price t = found_at base now id price t books e (submitted base now id price t e accepted) in

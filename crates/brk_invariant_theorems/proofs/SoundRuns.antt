@@ -9,20 +9,20 @@ use Rattle.brk_model.specs.Queries.{View, Query}
 use Rattle.brk_model.specs.Records.{Key}
 use Rattle.brk_model.specs.Keyed.{keyed_step}
 use Rattle.brk_model.specs.Run.{Answers, Call, Do, Ask, Outcome, Did, Saw, NoView, Failed, IsSeen, Run}
-use Rattle.brk_book_theorems.specs.Books.{IsBooks}
+use Rattle.brk_book_theorems.specs.Books.{BooksInvariant}
 use Rattle.brk_book_theorems.proofs.RunKeeping.{books_command, call_keeps}
 use Rattle.brk_book_theorems.proofs.Keepers.{books_kept}
-use Rattle.brk_invariant_theorems.specs.Sound.{IsSound}
+use Rattle.brk_invariant_theorems.specs.Sound.{AuditInvariant}
 use Rattle.brk_invariant_theorems.specs.InForm.{IsInForm, IsKeyInForm}
 use Rattle.brk_invariant_theorems.specs.Runs.{IsCallInForm}
 use Rattle.brk_invariant_theorems.proofs.SoundSteps.{keyed_sound}
 
 abbrev pub Both : Base → Type 0
-Both base = IsBooks base × IsSound base
+Both base = BooksInvariant base × AuditInvariant base
 
 pub keyed_both : (base : Base) (now : ℕ) (command : Command) (key : Option Key) → Both base → IsInForm command → IfSome key IsKeyInForm → Both (keyed_step base now command key).1
 keyed_both base now command key k form named = (
-  call_keeps IsBooks (λ base key command reply k. books_kept base key command reply k) (λ base now command k e. books_command base now command k e) base now command key k.0,
+  call_keeps BooksInvariant (λ base key command reply k. books_kept base key command reply k) (λ base now command k e. books_command base now command k e) base now command key k.0,
   keyed_sound base now command key k.1 k.0 form named,
 )
 

@@ -13,10 +13,10 @@ use Rattle.brk_model.specs.Keyed.{acted, kept_of, keyed, keyed_step}
 use Rattle.brk_model.specs.Step.{records_after, reply_to, step, unless}
 use Rattle.brk_model.specs.Tests.{next_stamp, refusal_of}
 use Rattle.std.specs.Option.{option_map_or}
-use Rattle.brk_book_theorems.specs.Books.{IsBooks}
+use Rattle.brk_book_theorems.specs.Books.{BooksInvariant}
 use Rattle.brk_book_theorems.specs.Steps.{base_then}
 use Rattle.brk_book_theorems.proofs.ResultKeeping.{result_named}
-use Rattle.brk_invariant_theorems.specs.Sound.{IsSound}
+use Rattle.brk_invariant_theorems.specs.Sound.{AuditInvariant}
 use Rattle.brk_invariant_theorems.specs.InForm.{IsInForm, IsKeyInForm}
 use Rattle.brk_invariant_theorems.proofs.SoundRecords.{LeavesSound, sound_account, sound_band, sound_broker, sound_charge, sound_customer, sound_customer_tax, sound_kept, sound_permission, sound_security, sound_tax_rate}
 use Rattle.brk_invariant_theorems.proofs.SoundResult.{sound_then}
@@ -27,7 +27,7 @@ pub sound_result : (base : Base) (now id price : ℕ) → LeavesSound base now (
 unfolding records_after
 sound_result base now id price k books form accepted =
     let named = result_named base now id price accepted in
-    subst (λ o. IsSound (record (option_map_or (with_result base (next_stamp base now) price) o base) { last = Some (next_stamp base now) })) (sym named.1)
+    subst (λ o. AuditInvariant (record (option_map_or (with_result base (next_stamp base now) price) o base) { last = Some (next_stamp base now) })) (sym named.1)
     (sound_then base now id price named.0 k books form named.1 accepted)
 
 pub leaves_sound : (base : Base) (now : ℕ) (command : Command) → LeavesSound base now command
@@ -68,9 +68,9 @@ step_leads P base now command reply after h e = by_refusal (refusal_of base now 
     by_refusal None f e = subst P (ap (base_in base) e) (h f)
     by_refusal (Some refusal) f e = absurd (cc)
 
-pub step_sound : (base : Base) (now : ℕ) (command : Command) (reply : Reply) (after : Base) → IsSound base → IsBooks base → IsInForm command
-    → step base now command ≡ Ok (reply, after) → IsSound after
-step_sound base now command reply after k books form e = step_leads IsSound base now command reply after (leaves_sound base now command k books form) e
+pub step_sound : (base : Base) (now : ℕ) (command : Command) (reply : Reply) (after : Base) → AuditInvariant base → BooksInvariant base → IsInForm command
+    → step base now command ≡ Ok (reply, after) → AuditInvariant after
+step_sound base now command reply after k books form e = step_leads AuditInvariant base now command reply after (leaves_sound base now command k books form) e
 
 -- ---- a call with a key
 
@@ -106,12 +106,12 @@ records_kept base stamp (WithdrawCash account amount) = refl
 records_kept base stamp (SetOneDay day) = refl
 
 -- where its key is free
-free_sound : (base : Base) (now : ℕ) (command : Command) (key : Option Key) → IsSound base → IsBooks base → IsInForm command → IfSome key IsKeyInForm → kept_of base key ≡ None
-    → IsSound (acted base key command (step base now command)).1
+free_sound : (base : Base) (now : ℕ) (command : Command) (key : Option Key) → AuditInvariant base → BooksInvariant base → IsInForm command → IfSome key IsKeyInForm → kept_of base key ≡ None
+    → AuditInvariant (acted base key command (step base now command)).1
 unfolding step
 free_sound base now command key k books form named free = by_refusal (refusal_of base now command) refl
   where
-    put : (key : Option Key) (reply : Reply) (after : Base) → IfSome key IsKeyInForm → kept_of after key ≡ None → IsSound after → IsSound (acted base key command (Ok (reply, after))).1
+    put : (key : Option Key) (reply : Reply) (after : Base) → IfSome key IsKeyInForm → kept_of after key ≡ None → AuditInvariant after → AuditInvariant (acted base key command (Ok (reply, after))).1
     put None reply after n f h = h
     put (Some key) reply after n f h = sound_kept after key command reply h n f
 
@@ -120,22 +120,22 @@ free_sound base now command key k books form named free = by_refusal (refusal_of
     same (Some key) f = ap (find (λ k. bytes_eq k.key.batch key.batch && (k.key.row == key.row))) (records_kept base (next_stamp base now) command) ∙ f
 
     by_refusal : (o : Option Refusal) → refusal_of base now command ≡ o
-        → IsSound (acted base key command (unless {A = Reply × Base} o (reply_to base (next_stamp base now) command, base_then base now command))).1
+        → AuditInvariant (acted base key command (unless {A = Reply × Base} o (reply_to base (next_stamp base now) command, base_then base now command))).1
     by_refusal None f = put key (reply_to base (next_stamp base now) command) (base_then base now command) named (same key free) (leaves_sound base now command k books form f)
     by_refusal (Some refusal) f = k
 
-pub keyed_sound : (base : Base) (now : ℕ) (command : Command) (key : Option Key) → IsSound base → IsBooks base → IsInForm command → IfSome key IsKeyInForm
-    → IsSound (keyed_step base now command key).1
+pub keyed_sound : (base : Base) (now : ℕ) (command : Command) (key : Option Key) → AuditInvariant base → BooksInvariant base → IsInForm command → IfSome key IsKeyInForm
+    → AuditInvariant (keyed_step base now command key).1
 unfolding keyed_step
 keyed_sound base now command key k books form named = by_kept (kept_of base key) refl
   where
-    by_kept : (o : Option Kept) → kept_of base key ≡ o → IsSound (keyed base now command key o).1
+    by_kept : (o : Option Kept) → kept_of base key ≡ o → AuditInvariant (keyed base now command key o).1
     by_kept None e = free_sound base now command key k books form named e
     by_kept (Some row) e = k
 
 -- ---- the empty base
 
-pub empty_sound : IsSound empty_base
+pub empty_sound : AuditInvariant empty_base
 unfolding empty_base summary_of balance_of commissions_of total_by
 empty_sound = record {
   keyed = record { kept = tt; kept_keys = tt };

@@ -17,7 +17,7 @@ use Rattle.brk_book_theorems.proofs.Postings.{balance_parts}
 use Rattle.brk_model.specs.Schemas.{third_schema}
 use Rattle.brk_model.specs.Limits.{greatest_amount, greatest_charge, greatest_summary, greatest_id}
 use Rattle.brk_model.specs.Lists.{contains_number, holds_text, rising, total_by, update_where}
-use Rattle.brk_model.specs.Records.{Account, Charge, Mark, Security, Trade, Movement}
+use Rattle.brk_model.specs.Records.{Account, Charge, StatusChange, Security, Trade, Movement}
 use Rattle.brk_model.specs.Base.{Base, broker_in, charge_with, completed, has_status, is_completed, last_price, marked, moment_of, opening_in, security_with, tier_of, trade_with}
 use Rattle.brk_model.specs.Derived.{amount_of, balance_of, commissions_of, summary_of, posted_to, posting_of_movement, postings, due_after}
 use Rattle.brk_model.specs.Commands.{Order, Tick, PlaceOrder, FeedTicks, CancelTrade, ChangeExecutors, ChangeCashTypes, ChangeCashNames}
@@ -46,7 +46,7 @@ use Rattle.brk_audit_theorems.proofs.Again.{both_all}
 use Rattle.brk_audit_theorems.proofs.Climbs.{In, each_in, of_all}
 use Rattle.brk_audit_theorems.proofs.Marks.{filtered}
 use Rattle.brk_model_theorems.proofs.Conjunctions.{parts5}
-use Rattle.brk_invariant_theorems.specs.Sound.{IsDueInTime, IsPastMark, IsSound, IsSoundTrade, is_past, security_fields}
+use Rattle.brk_invariant_theorems.specs.Sound.{IsDueInTime, IsPastMark, AuditInvariant, IsSoundTrade, is_past, security_fields}
 use Rattle.brk_invariant_theorems.specs.InForm.{IsInForm, IsTickInForm}
 use Rattle.brk_invariant_theorems.proofs.Bounds.{All-take}
 use Rattle.brk_invariant_theorems.proofs.OneTrade.{false_true, leaves_way, past_before, past_itself, price_low, qty_low, rising_more, sound_last, updated_all}
@@ -56,8 +56,8 @@ use Rattle.brk_invariant_theorems.proofs.SoundRecords.{LeavesSound, trade_listed
 
 -- ---- other trades and securities, and the same completed trades
 
-sound_moved : (c : Base) (ss : List Security) (ts : List Trade) → IsSound c → AllByRecursion (λ s. security_fields s ≡ true) ss → AllByRecursion (λ s. is_past c.last s.moment ≡ true) ss
-    → AllByRecursion (IsSoundTrade (record c { securities = ss; trades = ts })) ts → filter is_completed ts ≡ completed c → IsSound (record c { securities = ss; trades = ts })
+sound_moved : (c : Base) (ss : List Security) (ts : List Trade) → AuditInvariant c → AllByRecursion (λ s. security_fields s ≡ true) ss → AllByRecursion (λ s. is_past c.last s.moment ≡ true) ss
+    → AllByRecursion (IsSoundTrade (record c { securities = ss; trades = ts })) ts → filter is_completed ts ≡ completed c → AuditInvariant (record c { securities = ss; trades = ts })
 sound_moved c ss ts k f m h e =
     record {
       keyed = k.keyed;
@@ -108,7 +108,7 @@ first_way o = by_market (is_market (kind_of o.order_type))
 next_is_id : (n : ℕ) → nat_le greatest_id n ≡ false → is_id (n + 1) ≡ true
 next_is_id n e = grind (arith, nat_tests)
 
-ordered_sound : (base : Base) (stamp : ℕ) (o : Order) (ts : List Trade) → is_id (length base.trades + 1) ≡ true → IsSound base → IsInForm (PlaceOrder o) → is_some (security_with base o.symbol) ≡ true
+ordered_sound : (base : Base) (stamp : ℕ) (o : Order) (ts : List Trade) → is_id (length base.trades + 1) ≡ true → AuditInvariant base → IsInForm (PlaceOrder o) → is_some (security_with base o.symbol) ≡ true
     → IsSoundTrade (record base { trades = ts; last = Some stamp }) (ordered_trade base stamp o)
 unfolding estimate
 ordered_sound base stamp o ts number k form known =
@@ -138,7 +138,7 @@ sound_order base now o k books form e =
     let p = passed base now (PlaceOrder o) e in
     let stamp : ℕ = next_stamp base now in
     let c : Base = record base { last = Some stamp } in
-    let l : IsSound c = sound_last base now k in
+    let l : AuditInvariant c = sound_last base now k in
     let t : Trade = ordered_trade base stamp o in
     let ts : List Trade = base.trades ++ t ∷ [] in
     let known : is_some (security_with base o.symbol) ≡ true = not_not (is_some (security_with base o.symbol)) p.1.0 in
@@ -160,7 +160,7 @@ marked_sound b stamp status t w other k below h =
     let u : Trade = marked stamp status t in
     let was : is_completed t ≡ false = pending_not_completed t h in
     let now : is_completed u ≡ false = status_of_marked stamp status Completed t ∙ other in
-    let m : Mark = record { stamp = stamp; status = status } in
+    let m : StatusChange = record { stamp = stamp; status = status } in
     let price : Bool → Bool = λ b. cond b (option_map_or is_price t.price false) (is_none t.price) in
     record {
       alone = record {
@@ -202,7 +202,7 @@ unfolding records_after tests
 sound_cancel base now id k books form e =
     let stamp : ℕ = next_stamp base now in
     let c : Base = record base { last = Some stamp } in
-    let l : IsSound c = sound_last base now k in
+    let l : AuditInvariant c = sound_last base now k in
     let ts : List Trade = update_where (λ t. t.id == id) (marked stamp Canceled) base.trades in
     let waits = waiting_named base id (trade_with base id) books.numbered refl (passed base now (CancelTrade id) e) in
     let P : Trade → Type 0 = λ t. IsSoundTrade c t × (AllByRecursion (IsPastMark base.last) t.marks × ((t.id == id) ≡ true → has_status Pending t ≡ true)) in
@@ -253,8 +253,8 @@ ticked_fields stamp tick s form h =
     let f = parts5 (is_symbol s.symbol) (is_name s.name) (is_exchange s.exchange) (is_name s.sector) (is_price s.last_price) h in
     and5 (is_symbol s.symbol) (is_name s.name) (is_exchange s.exchange) (is_name s.sector) (is_price tick.price) f.0 f.1 f.2 f.3 form
 
-tick_sound : (b : Base) (stamp : ℕ) (tick : Tick) → IsTickInForm tick → IsSound (record b { last = Some stamp }) → AllByRecursion (Waits stamp) b.trades
-    → IsSound (record (with_tick stamp b tick) { last = Some stamp }) × AllByRecursion (Waits stamp) (with_tick stamp b tick).trades
+tick_sound : (b : Base) (stamp : ℕ) (tick : Tick) → IsTickInForm tick → AuditInvariant (record b { last = Some stamp }) → AllByRecursion (Waits stamp) b.trades
+    → AuditInvariant (record (with_tick stamp b tick) { last = Some stamp }) × AllByRecursion (Waits stamp) (with_tick stamp b tick).trades
 tick_sound b stamp tick form k waits =
     let c : Base = record b { last = Some stamp } in
     let q : Security → Bool = λ s. bytes_eq s.symbol tick.symbol in
@@ -275,8 +275,8 @@ tick_sound b stamp tick form k waits =
           (λ t i h w. false_true (sym (status_of_marked stamp Submitted Pending t) ∙ w)) (λ t h. h) waits,
     )
 
-ticks_sound : (b : Base) (stamp : ℕ) (ticks : List Tick) → AllByRecursion IsTickInForm ticks → IsSound (record b { last = Some stamp }) → AllByRecursion (Waits stamp) b.trades
-    → IsSound (record (with_ticks stamp b ticks) { last = Some stamp })
+ticks_sound : (b : Base) (stamp : ℕ) (ticks : List Tick) → AllByRecursion IsTickInForm ticks → AuditInvariant (record b { last = Some stamp }) → AllByRecursion (Waits stamp) b.trades
+    → AuditInvariant (record (with_ticks stamp b ticks) { last = Some stamp })
 unfolding with_ticks
 ticks_sound b stamp [] form k waits = k
 ticks_sound b stamp (tick ∷ ticks) form k waits = let h = tick_sound b stamp tick form.0 k waits in ticks_sound (with_tick stamp b tick) stamp ticks form.1 h.0 h.1
@@ -371,8 +371,8 @@ same_commissions accounts p x y z ts broker =
     ∙ sum-unseen (λ t. t.commission) p f (B (filter is_completed ts)) (λ t. refl)
 
 -- words may change where they stay of their form
-sound_reworded : (c : Base) (p : Trade → Bool) (x y z : Trade → Text) → IsSound c
-    → AllByRecursion (IsSoundTrade c) (update_where p (reworded x y z) c.trades) → IsSound (record c { trades = update_where p (reworded x y z) c.trades })
+sound_reworded : (c : Base) (p : Trade → Bool) (x y z : Trade → Text) → AuditInvariant c
+    → AllByRecursion (IsSoundTrade c) (update_where p (reworded x y z) c.trades) → AuditInvariant (record c { trades = update_where p (reworded x y z) c.trades })
 sound_reworded c p x y z k h =
     let ts : List Trade = update_where p (reworded x y z) c.trades in
     record {
@@ -393,7 +393,7 @@ pub sound_executors : (base : Base) (now : ℕ) (ids : List ℕ) → LeavesSound
 unfolding records_after
 sound_executors base now ids k books form e =
     let c : Base = record base { last = Some (next_stamp base now) } in
-    let l : IsSound c = sound_last base now k in
+    let l : AuditInvariant c = sound_last base now k in
     let p : Trade → Bool = λ t. contains_number t.id ids in
     let x : Trade → Text = λ t. changed_executor t.executor in
     let y : Trade → Text = λ t. t.cash_type in
@@ -465,7 +465,7 @@ pub sound_cash_types : (base : Base) (now account first last : ℕ) → LeavesSo
 unfolding records_after
 sound_cash_types base now account first last k books form e =
     let c : Base = record base { last = Some (next_stamp base now) } in
-    let l : IsSound c = sound_last base now k in
+    let l : AuditInvariant c = sound_last base now k in
     let p : Trade → Bool = λ t. contains_number t.id (chosen_of_account base account first last) in
     let x : Trade → Text = λ t. t.executor in
     let y : Trade → Text = changed_cash_type in
@@ -501,7 +501,7 @@ pub sound_cash_names : (base : Base) (now : ℕ) (symbol : Text) (first last : �
 unfolding records_after
 sound_cash_names base now symbol first last k books form e =
     let c : Base = record base { last = Some (next_stamp base now) } in
-    let l : IsSound c = sound_last base now k in
+    let l : AuditInvariant c = sound_last base now k in
     let p : Trade → Bool = λ t. contains_number t.id (chosen_of_symbol base symbol first last) in
     let x : Trade → Text = λ t. t.executor in
     let y : Trade → Text = λ t. t.cash_type in

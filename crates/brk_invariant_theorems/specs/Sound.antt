@@ -7,7 +7,7 @@ use Rattle.brk_money.specs.Moments.{last_day}
 use Rattle.brk_money.specs.Kinds.{same_status, type_name}
 use Rattle.brk_money.specs.declared.status.Status.TheVariants.{Completed}
 use Rattle.brk_model.specs.Limits.{greatest_amount, greatest_charge, greatest_id, greatest_summary, greatest_tax_rate, most_accounts}
-use Rattle.brk_model.specs.Records.{Account, Band, Broker, Charge, Customer, CustomerTax, Kept, Mark, Movement, Permission, Security, SettleRule, TaxRate, Trade}
+use Rattle.brk_model.specs.Records.{Account, Band, Broker, Charge, Customer, CustomerTax, Kept, StatusChange, Movement, Permission, Security, SettleRule, TaxRate, Trade}
 use Rattle.brk_model.specs.Base.{Base, completed, find_account, is_completed}
 use Rattle.brk_model.specs.Derived.{amount_of, balance_of, commissions_of, due_after, postings, summary_of}
 use Rattle.brk_model.specs.Schemas.{third_schema}
@@ -15,7 +15,7 @@ use Rattle.brk_model.specs.Forms.{is_acl, is_exchange, is_name, is_symbol, is_ta
 use Rattle.brk_model.specs.Form.{band_form, charge_form, customer_form, is_amount, is_cash_type, is_id, is_movement, is_price, is_qty, kept_form, tax_rate_form}
 use Rattle.brk_model.specs.Ways.{is_rising}
 use Rattle.brk_model.specs.Keys.{KeyPart, word, charge_key, customer_key, customer_tax_key, kept_key, tax_rate_key}
-use Rattle.brk_audit_theorems.specs.Told.{GoesAWay, HasItsWords, StampsRise, broker_id}
+use Rattle.brk_audit_theorems.specs.Told.{HasValidTransitions, HasNoStrayTexts, StampsRise, broker_id}
 
 -- no two records have one key
 abbrev pub KeysApart : {Row : Type 0} → (Row → List KeyPart) → List Row → Type 0
@@ -55,11 +55,11 @@ trade_fields t = is_id t.id && is_qty third_schema t.qty && is_price t.bid && na
 -- ---- trades
 
 -- a status that came no later than the last command
-abbrev pub IsPastMark : Option ℕ → Mark → Type 0
+abbrev pub IsPastMark : Option ℕ → StatusChange → Type 0
 IsPastMark last m = is_past last m.stamp ≡ true
 
 -- a completion leaves its due day within the calendar
-abbrev pub IsDueInTime : SettleRule → Mark → Type 0
+abbrev pub IsDueInTime : SettleRule → StatusChange → Type 0
 IsDueInTime rule m = (not (same_status m.status Completed) || nat_le (due_after rule m.stamp) last_day) ≡ true
 
 -- a price just where it is completed
@@ -80,10 +80,10 @@ pub record HasSoundRows (t : Trade) : Type 0 where
   pub fields : trade_fields t ≡ true
   -- its statuses are a way, and their stamps rise
   pub stamps : StampsRise t
-  pub way : GoesAWay t
+  pub way : HasValidTransitions t
   -- price and words stand just where their rows do, and each word is one of the two of its kind
   pub priced : is_priced t ≡ true
-  pub words : HasItsWords t
+  pub words : HasNoStrayTexts t
   pub cash_type : is_completed t ≡ true → is_cash_type t.is_cash t.cash_type ≡ true
 
 -- a trade whose rows pass, by the last stamp, the settlement day, the accounts and the securities
@@ -183,7 +183,7 @@ pub record AreSumsSound (accounts : List Account) (done : List Trade) (movements
   pub commissions : (broker : ℕ) → commissions_of accounts done broker ≤ greatest_amount
 
 -- a base whose tables have form: each part speaks of its own lists alone, so that it stays where these do
-pub record IsSound (base : Base) : Type 0 where
+pub record AuditInvariant (base : Base) : Type 0 where
   pub keyed : IsKeptSound base.kept
   pub open keyed use *
   pub parties : ArePartiesSound base.brokers base.customers base.accounts base.permissions

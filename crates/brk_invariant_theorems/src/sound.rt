@@ -20,44 +20,44 @@ ghost use Rattle.brk_model.specs.Schemas.{third_schema};
 ghost use Rattle.brk_model.specs.Sheets.{sheets};
 ghost use Rattle.brk_model.specs.Step.{step};
 ghost use Rattle.brk_model.specs.Tables.{Tables};
-ghost use Rattle.brk_book_theorems.specs.Books.{IsBooks};
+ghost use Rattle.brk_book_theorems.specs.Books.{BooksInvariant};
 ghost use Rattle.brk_audit_theorems.specs.Passing.{Passes};
-ghost use Rattle.brk_audit_theorems.specs.Told.{IsTold};
+ghost use Rattle.brk_audit_theorems.specs.Told.{HasValidHistories};
 ghost use Rattle.brk_invariant_theorems.specs.InForm.{IsInForm, IsKeyInForm};
 ghost use Rattle.brk_invariant_theorems.specs.Runs.{IsCallInForm, IsFormedCall};
-ghost use Rattle.brk_invariant_theorems.specs.Sound.{IsSound};
+ghost use Rattle.brk_invariant_theorems.specs.Sound.{AuditInvariant};
 
 /// The tables of sound books have form and tell their trades as they went, so that they pass an audit; and nothing less does.
 pub fn sound_tables_pass()
-    ensures form { (base : Base) → IsBooks base → IsSound base → IsTrue (has_form third_schema (sheets base)) }
-    ensures told { (base : Base) → IsSound base → IsTold base }
-    ensures passes { (base : Base) → IsBooks base → IsSound base → Passes third_schema (sheets base) }
-    ensures exact { (base : Base) → IsBooks base → IsSound base ↔ (IsTold base × IsTrue (has_form third_schema (sheets base))) }
+    ensures form { (base : Base) → BooksInvariant base → AuditInvariant base → IsTrue (has_form third_schema (sheets base)) }
+    ensures told { (base : Base) → AuditInvariant base → HasValidHistories base }
+    ensures passes { (base : Base) → BooksInvariant base → AuditInvariant base → Passes third_schema (sheets base) }
+    ensures exact { (base : Base) → BooksInvariant base → AuditInvariant base ↔ (HasValidHistories base × IsTrue (has_form third_schema (sheets base))) }
 {}
 
 /// The base of rows that pass an audit is sound.
 pub fn passing_rows_are_sound()
-    ensures { (rows : Tables) → Passes third_schema rows → IsSound (base_of rows) }
+    ensures { (rows : Tables) → Passes third_schema rows → AuditInvariant (base_of rows) }
 {}
 
 /// The base that everything begins with is sound.
 pub fn the_empty_base_is_sound()
-    ensures { IsSound empty_base }
+    ensures { AuditInvariant empty_base }
 {}
 
 /// Each accepted command in form leaves a sound base sound, and so does each call with a key in form.
 pub fn commands_keep_books_sound()
     ensures step { (base : Base) (now : ℕ) (command : Command) (reply : Reply) (after : Base)
-        → IsSound base → IsBooks base → IsInForm command → step base now command ≡ Ok (reply, after) → IsSound after }
+        → AuditInvariant base → BooksInvariant base → IsInForm command → step base now command ≡ Ok (reply, after) → AuditInvariant after }
     ensures keyed { (base : Base) (now : ℕ) (command : Command) (key : Option Key)
-        → IsSound base → IsBooks base → IsInForm command → IfSome key IsKeyInForm → IsSound (keyed_step base now command key).1 }
+        → AuditInvariant base → BooksInvariant base → IsInForm command → IfSome key IsKeyInForm → AuditInvariant (keyed_step base now command key).1 }
 {}
 
 /// A run of calls in form leads from sound books to sound ones, so that what it leaves passes an audit: from the empty base, and from the base
 /// of rows that passed one. Calls whose rows are read as themselves are in form.
 pub fn runs_end_in_tables_that_pass()
     ensures sound { (base : Base) (calls : List (ℕ × Call)) (outcomes : List Outcome) (after : Base)
-        → IsBooks base → IsSound base → AllByRecursion IsCallInForm calls → Run base calls outcomes after → IsSound after }
+        → BooksInvariant base → AuditInvariant base → AllByRecursion IsCallInForm calls → Run base calls outcomes after → AuditInvariant after }
     ensures first { (calls : List (ℕ × Call)) (outcomes : List Outcome) (after : Base)
         → AllByRecursion IsCallInForm calls → Run empty_base calls outcomes after → Passes third_schema (sheets after) }
     ensures adopted { (rows : Tables) (calls : List (ℕ × Call)) (outcomes : List Outcome) (after : Base)
@@ -76,5 +76,5 @@ pub fn rows_are_read_in_form()
 pub fn batches_keep_books_sound()
     ensures { (base : Base) (name : Text) (moments : List ℕ) (rows : List Fields) (answers : List Answer) (after : Base)
         → IsTrue (is_batch_name name) → length rows ≤ greatest_id → AreAnswered parse_row row_step name base moments rows answers after
-        → IsBooks base × IsSound base → IsBooks after × IsSound after }
+        → BooksInvariant base × AuditInvariant base → BooksInvariant after × AuditInvariant after }
 {}

@@ -4,8 +4,8 @@ use Rattle.brk_money.specs.declared.side.Side.{Side}
 use Rattle.brk_money.specs.declared.side.Side.TheVariants.{Buy, Sell}
 
 -- so many shares, held in all, are on the other side of a trade: bought ones for a sale, and those sold short for a purchase
-abbrev pub is_against : Side → ℤ → Bool
-is_against Buy (pos n) = false
-is_against Buy (negsuc n) = true
-is_against Sell (pos n) = nat_lt 0 n
-is_against Sell (negsuc n) = false
+abbrev pub closes_lots : Side → ℤ → Bool
+closes_lots Buy (pos n) = false
+closes_lots Buy (negsuc n) = true
+closes_lots Sell (pos n) = nat_lt 0 n
+closes_lots Sell (negsuc n) = false

@@ -13,9 +13,9 @@ abbrev pub IsHigher : Lot → Lot → Type 0
 IsHigher l m = (side_of_qty m.qty ≡ side_of_qty l.qty) × (l.stamp < m.stamp)
 
 -- none is 0, and each is of the side of the one before it, and later
-abbrev pub Climbs : List Lot → Type 0
-Climbs [] = ⊤
-Climbs (l ∷ ls) = (l.qty ≢ pos 0) × First (IsHigher l) ls × Climbs ls
+abbrev pub IsByOpening : List Lot → Type 0
+IsByOpening [] = ⊤
+IsByOpening (l ∷ ls) = (l.qty ≢ pos 0) × First (IsHigher l) ls × IsByOpening ls
 
 -- no two neighbours are of one trade
 abbrev pub Differ : List Lot → Type 0

@@ -6,7 +6,7 @@ use Rattle.brk_lots.specs.Position.{IsWalk}
 
 -- these are the lots that it had, and it was told the truth of them
 abbrev pub AsTold : Type 0 → (List Lot → Type 0) → List Lot → Type 0
-AsTold told rests ls = told × rests ls
+AsTold told remaining ls = told × remaining ls
 
 -- the lots of a position, the oldest first, are given from one of its ends
 abbrev pub AreGiven : (List Lot → Type 0) → Bool → List Lot → Type 0

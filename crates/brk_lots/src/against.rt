@@ -3,7 +3,7 @@
 ghost use Rattle.std.specs.Prelude.{◌≡◌, List, Bool, false, pos};
 ghost use Rattle.brk_model.specs.Shares as model;
 ghost use Rattle.brk_lots.specs.declared.lot.Lot.{Lot};
-ghost use Rattle.brk_lots.specs.Against.{is_against};
+ghost use Rattle.brk_lots.specs.Against.{closes_lots};
 ghost use Rattle.brk_lots.specs.Books.{lots_total};
 ghost use Rattle.brk_lots.specs.Closing.{IsClosing};
 ghost use Rattle.brk_lots.specs.Lots.{shares_of};
@@ -17,8 +17,8 @@ use std::alloc::Global;
 
 /// Whether so many shares, held in all (HS_QTY), are on the other side of a trade: bought ones for a sale, and those sold
 /// short for a purchase. Where they are not, the trade closes no lot.
-pub fn is_against(side: Side, held: i64) -> bool
-    ensures { result ≡ is_against side held }
+pub fn closes_lots(side: Side, held: i64) -> bool
+    ensures { result ≡ closes_lots side held }
 {
     match side {
         Side::Buy => held < 0,
@@ -28,7 +28,7 @@ pub fn is_against(side: Side, held: i64) -> bool
 
 /// What a trade does to a position that has nothing on its other side: it opens a lot of all its shares (Trade-Result). It
 /// takes no memory.
-pub fn open_whole(
+pub fn open_without_closing(
     alloc: Global,
     side: Side,
     qty: Qty,
@@ -36,7 +36,7 @@ pub fn open_whole(
     price: Price,
     stamp: Stamp,
 ) -> Closing
-    ensures closing { (ls : List Lot) (lifo : Bool) → IsWalk ls → IsNew trade ls → is_against side (lots_total ls) ≡ false →
+    ensures closing { (ls : List Lot) (lifo : Bool) → IsWalk ls → IsNew trade ls → closes_lots side (lots_total ls) ≡ false →
         IsClosing (record { trade = trade; side = side; qty = qty; price = price; stamp = stamp; is_lifo = lifo }) ls result }
     ensures bought { result.buy_value ≡ pos 0 }
     ensures sold { result.sell_value ≡ pos 0 }
@@ -52,7 +52,7 @@ pub fn open_whole(
 /// What the shares were bought for and sold for that an order would close of a position that has nothing on its other side:
 /// nothing.
 pub fn no_values() -> Values
-    ensures { (d : model.Deal) (ls : List Lot) → IsWalk ls → is_against d.side (lots_total ls) ≡ false → result ≡ values_of d (shares_of ls) }
+    ensures { (d : model.Deal) (ls : List Lot) → IsWalk ls → closes_lots d.side (lots_total ls) ≡ false → result ≡ values_of d (shares_of ls) }
 {
     Values {
         buy_value: Amount::new(0).unwrap(),

@@ -62,7 +62,7 @@ pub fn close<L: LotSource>(
 ) -> Result<Closing, Fault>
     ensures leads { L.leads source.old source.new }
     // Over the lots of a position from the trade's end it is what the trade does to the shares of that position.
-    ensures closing { IfOk result (λ closing. (ls : List Lot) (lifo : Bool) → AreGiven (AsTold (L.is_told source.new) (L.rests source.old)) lifo ls → IsNew trade ls →
+    ensures closing { IfOk result (λ closing. (ls : List Lot) (lifo : Bool) → AreGiven (AsTold (L.reads_faithfully source.new) (L.remaining source.old)) lifo ls → IsNew trade ls →
         IsClosing (record { trade = trade; side = side; qty = qty; price = price; stamp = stamp; is_lifo = lifo }) ls closing) }
     // Neither value is below 0, and neither is above that of the quantity at the greatest price.
     ensures bought { IfOk result (λ closing. (pos 0 ≤ℤ closing.buy_value) × (closing.buy_value ≤ℤ pos (qty * greatest_price))) }
@@ -71,7 +71,7 @@ pub fn close<L: LotSource>(
     // No fault of the source is passed over, and each is answered as it came.
     ensures faulted { IfOk result (λ closing. L.faulted source.new ≡ L.faulted source.old) }
     ensures fault { IfErr result (λ fault. (fault ≡ Fault.Memory) ⊎ ((before : L) × L.fails before fault source.new)) }
-    ensures rest { (ls : List Lot) → AsTold (L.is_told source.new) (L.rests source.old) ls → (n : ℕ) × L.rests source.new (drop n ls) }
+    ensures rest { (ls : List Lot) → AsTold (L.reads_faithfully source.new) (L.remaining source.old) ls → (n : ℕ) × L.remaining source.new (drop n ls) }
 {
     let mut touched = Vec::new(alloc);
     let taken = take_lots(source, side, qty, price, &mut touched)?;

@@ -17,16 +17,16 @@ pub struct PositionEnd<'a> {
 impl<'a> PositionEnd<'a> {
     pub(crate) fn new(lots: &'a [Lot], lifo: bool) -> PositionEnd<'a>
         requires { All (λ l. l.qty ≢ pos 0) lots.now }
-        ensures { ⟦<PositionEnd<'static> as LotSource>⟧.rests result (from_end lifo lots.now) }
+        ensures { ⟦<PositionEnd<'static> as LotSource>⟧.remaining result (from_end lifo lots.now) }
     {
         PositionEnd { lots, lifo }
     }
 }
 
 impl LotSource for PositionEnd<'_> {
-    ghost rests = { λ end ls. ls ≡ from_end end.lifo end.lots.now };
+    ghost remaining = { λ end ls. ls ≡ from_end end.lifo end.lots.now };
 
-    ghost is_told = { λ _. ⊤ };
+    ghost reads_faithfully = { λ _. ⊤ };
 
     ghost leads = { λ _ _. ⊤ };
 

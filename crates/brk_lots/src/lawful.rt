@@ -1,7 +1,7 @@
 ghost use Rattle.std.specs.Prelude.{◌≡◌, ◌≢◌, ◌<◌, IsTrue, IsPermutation, ◌↔◌};
 ghost use Rattle.std.specs.List.{All};
 ghost use Rattle.std.specs.List.Sorted.{IsNonDecreasingBy};
-ghost use Rattle.brk_lots.specs.Order.{Climbs, Differ, First, IsHigher};
+ghost use Rattle.brk_lots.specs.Order.{IsByOpening, Differ, First, IsHigher};
 ghost use Rattle.brk_lots.specs.Position.{IsPosition};
 
 use crate::lot::{Lot, is_same};
@@ -19,7 +19,7 @@ fn next_rises(lot: &Lot, rest: &[Lot]) -> bool
 
 // Whether lots have one side, none is of 0 shares, and their stamps rise.
 fn climbs(lots: &[Lot]) -> bool
-    ensures { IsTrue result ↔ Climbs lots.now }
+    ensures { IsTrue result ↔ IsByOpening lots.now }
 {
     for (i, lot) in lots.iter().enumerate() {
         if lot.qty == 0 || !next_rises(lot, &lots[i + 1..]) {

@@ -16,7 +16,7 @@ pub mod source;
 pub mod values;
 mod walk;
 
-pub use against::{is_against, no_values, open_whole};
+pub use against::{closes_lots, no_values, open_without_closing};
 pub use closing::{Closing, close};
 pub use deal::Deal;
 pub use end::PositionEnd;

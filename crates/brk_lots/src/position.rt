@@ -92,7 +92,7 @@ impl Position {
 
     /// The lots from the back for last in first out, else from the front. It takes no memory.
     pub fn from_end(&self, lifo: bool) -> PositionEnd<'_>
-        ensures rests { ⟦<PositionEnd<'static> as LotSource>⟧.rests result (from_end lifo self.now) }
+        ensures remaining { ⟦<PositionEnd<'static> as LotSource>⟧.remaining result (from_end lifo self.now) }
         ensures walk { IsWalk self.now }
     {
         PositionEnd::new(self.lots(), lifo)

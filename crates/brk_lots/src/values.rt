@@ -50,16 +50,16 @@ pub fn estimate_values<L: LotSource>(
     ensures leads { L.leads source.old source.new }
     // Over the lots of a position from the order's end: the values of the very shares that a trade at that price would close.
     ensures values { IfOk result (λ values. (ls : List Lot) (trade stamp : ℕ) (lifo : Bool) →
-        AreGiven (AsTold (L.is_told source.new) (L.rests source.old)) lifo ls →
+        AreGiven (AsTold (L.reads_faithfully source.new) (L.remaining source.old)) lifo ls →
         values ≡ values_of (record { trade = trade; side = side; qty = qty; price = price; stamp = stamp; is_lifo = lifo }) (shares_of ls)) }
     // It asks for at most one lot more than a trade that opened none of them would touch.
     ensures asked { IfOk result (λ values. (ls : List Lot) (trade stamp : ℕ) (lifo : Bool) →
-        AreGiven (AsTold (L.is_told source.new) (L.rests source.old)) lifo ls → IsNew trade ls →
+        AreGiven (AsTold (L.reads_faithfully source.new) (L.remaining source.old)) lifo ls → IsNew trade ls →
         L.asked source.new ≤ L.asked source.old + length (touches (record { trade = trade; side = side; qty = qty; price = price; stamp = stamp; is_lifo = lifo }) (shares_of ls)) + 1) }
     // No fault of the source is passed over, and each is answered as it came.
     ensures faulted { IfOk result (λ values. L.faulted source.new ≡ L.faulted source.old) }
     ensures fault { IfErr result (λ fault. (before : L) × L.fails before fault source.new) }
-    ensures rest { (ls : List Lot) → AsTold (L.is_told source.new) (L.rests source.old) ls → (n : ℕ) × L.rests source.new (drop n ls) }
+    ensures rest { (ls : List Lot) → AsTold (L.reads_faithfully source.new) (L.remaining source.old) ls → (n : ℕ) × L.remaining source.new (drop n ls) }
 {
     let taken = take_lots(source, side, qty, price, &mut NoRows)?;
     Ok(taken.values)

@@ -38,12 +38,12 @@ fn walk<L: LotSource, R: Rows>(
     ensures leads { L.leads source.old source.new }
     // The rows that it handed on, for each of which it asked once, are those of the lots.
     ensures taken { IfOk result (λ walked. (touched : List Touch) × R.holds rows.new touched × (L.asked source.new ≤ L.asked source.old + length touched + 1)
-        × ((ls : List Lot) → AsTold (L.is_told source.new) (L.rests source.old) ls → IsWalk ls → IsTaken side qty ls touched walked.left walked.cost)) }
+        × ((ls : List Lot) → AsTold (L.reads_faithfully source.new) (L.remaining source.old) ls → IsWalk ls → IsTaken side qty ls touched walked.left walked.cost)) }
     ensures left { IfOk result (λ walked. walked.left ≤ qty) }
     ensures limit { IfOk result (λ walked. walked.cost ≤ qty * greatest_price) }
     ensures faulted { OnOk result (L.faulted source.new ≡ L.faulted source.old) }
     ensures fault { IfErr result (λ fault. R.fails fault ⊎ ((before : L) × L.fails before fault source.new)) }
-    ensures rest { (ls : List Lot) → AsTold (L.is_told source.new) (L.rests source.old) ls → (n : ℕ) × L.rests source.new (drop n ls) }
+    ensures rest { (ls : List Lot) → AsTold (L.reads_faithfully source.new) (L.remaining source.old) ls → (n : ℕ) × L.remaining source.new (drop n ls) }
 {
     let mut left = qty.get();
     let mut cost: u64 = 0;
@@ -74,12 +74,12 @@ pub(crate) fn take_lots<L: LotSource, R: Rows>(
     ensures leads { L.leads source.old source.new }
     // The rows that it handed on, for each of which it asked once, are those of the lots.
     ensures taken { IfOk result (λ taken. (touched : List Touch) × R.holds rows.new touched × (L.asked source.new ≤ L.asked source.old + length touched + 1)
-        × ((ls : List Lot) → AsTold (L.is_told source.new) (L.rests source.old) ls → IsWalk ls → IsTraded side qty price ls touched taken.left taken.values)) }
+        × ((ls : List Lot) → AsTold (L.reads_faithfully source.new) (L.remaining source.old) ls → IsWalk ls → IsTraded side qty price ls touched taken.left taken.values)) }
     ensures bought { IfOk result (λ taken. taken.values.buy_value ≤ qty * greatest_price) }
     ensures sold { IfOk result (λ taken. taken.values.sell_value ≤ qty * greatest_price) }
     ensures faulted { OnOk result (L.faulted source.new ≡ L.faulted source.old) }
     ensures fault { IfErr result (λ fault. R.fails fault ⊎ ((before : L) × L.fails before fault source.new)) }
-    ensures rest { (ls : List Lot) → AsTold (L.is_told source.new) (L.rests source.old) ls → (n : ℕ) × L.rests source.new (drop n ls) }
+    ensures rest { (ls : List Lot) → AsTold (L.reads_faithfully source.new) (L.remaining source.old) ls → (n : ℕ) × L.remaining source.new (drop n ls) }
 {
     let walked = walk(source, side, qty, rows)?;
     let closed = qty.get() - walked.left;

@@ -3,7 +3,7 @@ use Rattle.std.specs.Prelude.{ℕ, Bool, false, ◌==◌, List, [], ◌++◌, ma
 use Rattle.std.specs.Option.{option_map_or}
 use Rattle.brk_money.specs.Spelling.{Text}
 use Rattle.brk_model.specs.Lists.{sort_by_key}
-use Rattle.brk_model.specs.Records.{Account, Security, Mark, Trade, Movement}
+use Rattle.brk_model.specs.Records.{Account, Security, StatusChange, Trade, Movement}
 use Rattle.brk_model.specs.Base.{Base}
 use Rattle.brk_model.specs.Derived.{Posting}
 use Rattle.brk_model.specs.Tables.{Tables, AccountRow, SecurityRow, LastTradeRow, TradeRow, CashRow, MoveRow}
@@ -14,7 +14,7 @@ abbrev pub account_of_row : AccountRow → Account
 account_of_row a = record { id = a.id; customer = a.customer; broker = a.broker; name = a.name; tax_status = a.tax_status; opening = a.opening }
 
 -- the statuses of a trade, by rising stamp
-abbrev pub marks_in : Tables → ℕ → List Mark
+abbrev pub marks_in : Tables → ℕ → List StatusChange
 marks_in tables trade = sort_by_key (λ m. m.stamp) (map (λ h. record { stamp = h.stamp; status = h.status }) (history_in tables trade))
 
 -- a cash row of a trade as a posting to the trade's account

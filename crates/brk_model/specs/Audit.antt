@@ -14,20 +14,20 @@ abbrev pub expected : Schema → Tables → Tables
 expected schema t = sheets_at schema (base_of t)
 
 -- what each condition says of tables of a schema whose rows are by rising key. The first two are said of a database and not of rows
-unfoldable pub Holds : Schema → Condition → Tables → Type 0
-Holds schema condition.NotEmpty t = ⊤
-Holds schema condition.Schema t = ⊤
-Holds schema condition.Form t = IsTrue (has_form schema t)
-Holds schema condition.Status t = IsTrue (has_status_rows t)
-Holds schema condition.Requests t = t.requests ≡ (expected schema t).requests
-Holds schema condition.Lots t = t.holdings ≡ (expected schema t).holdings
-Holds schema condition.History t = t.holding_history ≡ (expected schema t).holding_history
-Holds schema condition.Summary t = t.summaries ≡ (expected schema t).summaries
-Holds schema condition.Count t = map (λ b. b.trades) t.brokers ≡ map (λ b. b.trades) (expected schema t).brokers
-Holds schema condition.Commission t = map (λ b. b.commissions) t.brokers ≡ map (λ b. b.commissions) (expected schema t).brokers
-Holds schema condition.Settlement t = t.settlements ≡ (expected schema t).settlements
-Holds schema condition.Cash t = (t.cash ≡ (expected schema t).cash) × (t.moves ≡ (expected schema t).moves)
-Holds schema condition.Balance t = map (λ a. a.balance) t.accounts ≡ map (λ a. a.balance) (expected schema t).accounts
+unfoldable pub ConditionHolds : Schema → Condition → Tables → Type 0
+ConditionHolds schema condition.NotEmpty t = ⊤
+ConditionHolds schema condition.Schema t = ⊤
+ConditionHolds schema condition.Form t = IsTrue (has_form schema t)
+ConditionHolds schema condition.Status t = IsTrue (has_status_rows t)
+ConditionHolds schema condition.Requests t = t.requests ≡ (expected schema t).requests
+ConditionHolds schema condition.Lots t = t.holdings ≡ (expected schema t).holdings
+ConditionHolds schema condition.History t = t.holding_history ≡ (expected schema t).holding_history
+ConditionHolds schema condition.Summary t = t.summaries ≡ (expected schema t).summaries
+ConditionHolds schema condition.Count t = map (λ b. b.trades) t.brokers ≡ map (λ b. b.trades) (expected schema t).brokers
+ConditionHolds schema condition.Commission t = map (λ b. b.commissions) t.brokers ≡ map (λ b. b.commissions) (expected schema t).brokers
+ConditionHolds schema condition.Settlement t = t.settlements ≡ (expected schema t).settlements
+ConditionHolds schema condition.Cash t = (t.cash ≡ (expected schema t).cash) × (t.moves ≡ (expected schema t).moves)
+ConditionHolds schema condition.Balance t = map (λ a. a.balance) t.accounts ≡ map (λ a. a.balance) (expected schema t).accounts
 
 -- in the order of the tests
 abbrev pub row_conditions : List Condition
@@ -38,7 +38,7 @@ row_conditions =
 -- the answer is the first condition that fails, and none where all hold
 abbrev pub IsFirstFailing : Schema → List Condition → Tables → Option Condition → Type 0
 IsFirstFailing schema [] t answer = answer ≡ None
-IsFirstFailing schema (c ∷ cs) t answer = (Holds schema c t × IsFirstFailing schema cs t answer) ⊎ ((¬ Holds schema c t) × (answer ≡ Some c))
+IsFirstFailing schema (c ∷ cs) t answer = (ConditionHolds schema c t × IsFirstFailing schema cs t answer) ⊎ ((¬ ConditionHolds schema c t) × (answer ≡ Some c))
 
 -- the answer of an audit of tables of a schema, whose rows are by rising key
 abbrev pub IsAudit : Schema → Tables → Option Condition → Type 0

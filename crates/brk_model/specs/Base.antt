@@ -10,7 +10,7 @@ use Rattle.brk_money.specs.declared.status.Status.{Status}
 use Rattle.brk_money.specs.declared.status.Status.TheVariants.{Completed}
 use Rattle.brk_money.specs.declared.tax_status.TaxStatus.{TaxStatus}
 use Rattle.brk_money.specs.declared.tax_status.TaxStatus.TheVariants.{Untaxed, Withheld, Reported}
-use Rattle.brk_model.specs.Records.{Broker, Customer, Account, Permission, Security, Charge, Band, TaxRate, CustomerTax, Mark, Trade, Movement, SettleRule, Kept}
+use Rattle.brk_model.specs.Records.{Broker, Customer, Account, Permission, Security, Charge, Band, TaxRate, CustomerTax, StatusChange, Trade, Movement, SettleRule, Kept}
 use Rattle.brk_model.specs.Lists.{update_where}
 
 -- what is kept, list by list; last is the stamp of the last accepted command
@@ -129,7 +129,7 @@ abbrev pub is_taxed : Base → ℕ → Bool
 is_taxed base account = bears_tax (tax_status_in base.accounts account)
 
 -- the last status of a trade, with its stamp
-abbrev pub last_mark : Trade → Option Mark
+abbrev pub last_mark : Trade → Option StatusChange
 last_mark t = last_or None t.marks
 
 -- whether a trade's last status is this one

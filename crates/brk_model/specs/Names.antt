@@ -4,24 +4,24 @@ use Rattle.brk_model.specs.Records.{Account, Trade, Movement}
 use Rattle.brk_model.specs.Base.{Base, broker_with, customer_with, account_with, security_with}
 
 -- the broker of an account is there
-abbrev pub KnowsBroker : Base → Account → Type 0
-KnowsBroker base a = is_some (broker_with base a.broker) ≡ true
+abbrev pub BrokerExists : Base → Account → Type 0
+BrokerExists base a = is_some (broker_with base a.broker) ≡ true
 
 -- the customer of an account is there
-abbrev pub KnowsCustomer : Base → Account → Type 0
-KnowsCustomer base a = is_some (customer_with base a.customer) ≡ true
+abbrev pub CustomerExists : Base → Account → Type 0
+CustomerExists base a = is_some (customer_with base a.customer) ≡ true
 
 -- the account of a trade is there
-abbrev pub KnowsAccount : Base → Trade → Type 0
-KnowsAccount base t = is_some (account_with base t.account) ≡ true
+abbrev pub AccountExists : Base → Trade → Type 0
+AccountExists base t = is_some (account_with base t.account) ≡ true
 
 -- the security of a trade is there
-abbrev pub KnowsSecurity : Base → Trade → Type 0
-KnowsSecurity base t = is_some (security_with base t.symbol) ≡ true
+abbrev pub SecurityExists : Base → Trade → Type 0
+SecurityExists base t = is_some (security_with base t.symbol) ≡ true
 
 -- the account of a movement is there
-abbrev pub KnowsHolder : Base → Movement → Type 0
-KnowsHolder base m = is_some (account_with base m.account) ≡ true
+abbrev pub HolderExists : Base → Movement → Type 0
+HolderExists base m = is_some (account_with base m.account) ≡ true
 
 -- the ids of trades rise by 1 from a number on
 abbrev pub NumberedFrom : ℕ → List Trade → Type 0

@@ -72,7 +72,7 @@ pub record CustomerTax : Type 0 where
   pub tax : ℕ
 
 -- when a trade came to a status
-pub record Mark : Type 0 where
+pub record StatusChange : Type 0 where
   pub stamp : ℕ
   pub status : Status
 
@@ -92,7 +92,7 @@ pub record Trade : Type 0 where
   pub commission : ℕ
   pub tax : ℕ
   pub price : Option ℕ
-  pub marks : List Mark
+  pub marks : List StatusChange
   pub cash_type : Text
   pub cash_name : Text
 

@@ -5,7 +5,7 @@ use Rattle.brk_money.specs.Kinds.{same_status}
 use Rattle.brk_money.specs.declared.status.Status.{Status}
 use Rattle.brk_money.specs.declared.status.Status.TheVariants.{Completed, Submitted, Pending, Canceled}
 use Rattle.brk_model.specs.Lists.{all_distinct}
-use Rattle.brk_model.specs.Records.{Mark}
+use Rattle.brk_model.specs.Records.{StatusChange}
 use Rattle.brk_model.specs.Tables.{Tables, TradeRow}
 use Rattle.brk_model.specs.Adopted.{marks_in}
 
@@ -26,7 +26,7 @@ is_rising (m ∷ []) = true
 is_rising (m ∷ n ∷ ns) = nat_lt m n && is_rising (n ∷ ns)
 
 -- whether a row has the last of some statuses
-abbrev pub is_last_of : TradeRow → List Mark → Bool
+abbrev pub is_last_of : TradeRow → List StatusChange → Bool
 is_last_of row [] = false
 is_last_of row (m ∷ []) = same_status row.status m.status && (row.stamp == m.stamp)
 is_last_of row (m ∷ n ∷ marks) = is_last_of row (n ∷ marks)

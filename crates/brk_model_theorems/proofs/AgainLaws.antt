@@ -15,7 +15,7 @@ use Rattle.brk_model.specs.Input.{text_of, IsName, IsEnd, header_of, end_of}
 use Rattle.brk_model.specs.Lines.{lines_from, end_line, is_refused, count_refused}
 use Rattle.brk_model.specs.Batch.{Batch, Ending, EndedWell, BadHeader, NoEnd, BadEnd, AreSettled, BatchText, HasNoHeader, Ends, IsAnswered, row_step}
 use Rattle.brk_model.specs.Computed.{told_whole}
-use Rattle.brk_model_theorems.specs.Laws.{LeadsTo, WentThrough, again_of}
+use Rattle.brk_model_theorems.specs.Laws.{LeadsTo, IsCleanBatch, again_of}
 use Rattle.brk_model_theorems.proofs.KeptLaws.{Grows, grows-on, run-grows, still, remembers, answers-again}
 use Rattle.brk_model_theorems.proofs.RunLaws.{rows-run}
 use Rattle.brk_model_theorems.proofs.BatchLaws.{length-calls, All-back}
@@ -252,7 +252,7 @@ by_kind form base later moments others input answers first second one these none
     same : two.answers ≡ map again_of answers
     same = again.0 ∙ ap (map again_of) these
 
-pub comes-again : (form : Fields → Read Command) (base later : Base) (moments others : List ℕ) (input : Text) (answers : List Answer) (first second : Batch Base) → WentThrough form base moments input answers first
+pub comes-again : (form : Fields → Read Command) (base later : Base) (moments others : List ℕ) (input : Text) (answers : List Answer) (first second : Batch Base) → IsCleanBatch form base moments input answers first
     → LeadsTo first.base later → BatchText form row_step later others input second → second ≡ told_whole {B = Base} (map again_of answers, later)
 comes-again form base later moments others input answers first second went leads two =
     let one : IsAnswered form row_step base moments (Some (text_of input)) first = went.answered in

@@ -16,8 +16,8 @@ use Rattle.brk_model.specs.Tests.{next_stamp, tests, refusal_of}
 use Rattle.brk_model.specs.Step.{records_after, base_after}
 use Rattle.brk_model.specs.Run.{Call, Outcome, Run}
 use Rattle.brk_model_theorems.specs.Laws.{IsReached}
-use Rattle.brk_model.specs.Names.{KnowsHolder, NumberedFrom}
-use Rattle.brk_model_theorems.specs.Names.{KnowsParties, KnowsPermitted, KnowsTax, KnowsTrade, Names, IsNamed}
+use Rattle.brk_model.specs.Names.{HolderExists, NumberedFrom}
+use Rattle.brk_model_theorems.specs.Names.{KnowsParties, KnowsPermitted, KnowsTax, KnowsTrade, ReferencesResolve, IsNamed}
 use Rattle.brk_model_theorems.proofs.Reached.{IsKept, passed, reached, run-kept}
 
 -- ---- lists
@@ -75,7 +75,7 @@ pub record Grows (base after : Base) : Type 0 where
   pub securities : (symbol : Text) → is_some (security_with base symbol) ≡ true → is_some (security_with after symbol) ≡ true
 
 pub grown : (base after : Base) (accounts : List Account) (permissions : List Permission) (taxes : List CustomerTax) (trades : List Trade) (movements : List Movement) → Grows base after
-    → Names base accounts permissions taxes trades movements → Names after accounts permissions taxes trades movements
+    → ReferencesResolve base accounts permissions taxes trades movements → ReferencesResolve after accounts permissions taxes trades movements
 grown base after accounts permissions taxes trades movements g n = record {
   parties = All-map (λ a h. (g.customers a.customer h.0, g.brokers a.broker h.1)) accounts n.parties;
   permitted = All-map (λ p h. g.accounts p.account h) permissions n.permitted;
@@ -114,7 +114,7 @@ traded-update base test change l (t ∷ ts) h = (at (test t), traded-update base
     at false = h.0
 
 pub updated : (base : Base) (accounts : List Account) (permissions : List Permission) (taxes : List CustomerTax) (trades : List Trade) (movements : List Movement) (test : Trade → Bool) (change : Trade → Trade) → Leaves change
-    → Names base accounts permissions taxes trades movements → Names base accounts permissions taxes (update_where test change trades) movements
+    → ReferencesResolve base accounts permissions taxes trades movements → ReferencesResolve base accounts permissions taxes (update_where test change trades) movements
 updated base accounts permissions taxes trades movements test change l n = record {
   parties = n.parties;
   permitted = n.permitted;
@@ -171,7 +171,7 @@ movement-named : (base : Base) (m : Movement) → is_none (account_with base m.a
 movement-named base m k n =
     let g = grown base (with_movement base m) base.accounts base.permissions base.customer_taxes base.trades base.movements (record { brokers = λ id h. h; customers = λ id h. h; accounts = λ id h. h; rates = λ id h. h; securities = λ symbol h. h }) n in
     record {
-      held = All-last (KnowsHolder (with_movement base m)) base.movements m g.held (there (account_with base m.account) k);
+      held = All-last (HolderExists (with_movement base m)) base.movements m g.held (there (account_with base m.account) k);
       parties = g.parties;
       permitted = g.permitted;
       taxed = g.taxed;

@@ -10,7 +10,7 @@ use Rattle.brk_model.specs.Answers.{Fields, RowCall, InTurn, call_step, with_for
 use Rattle.brk_model.specs.Batch.{AreSettled, Batch, IsAnswered, row_step}
 use Rattle.brk_model.specs.Input.{Begins, IsEnd, end_of, header_of, text_of}
 use Rattle.brk_model.specs.Lines.{count_refused, is_refused}
-use Rattle.brk_model_theorems.specs.Laws.{LeadsTo, WentThrough, again_of}
+use Rattle.brk_model_theorems.specs.Laws.{LeadsTo, IsCleanBatch, again_of}
 use Rattle.brk_model_theorems.proofs.AgainLaws.{HasRecords, by_first, first-same, length-turned, name-same, none-first, others-same, right_end, settled-again}
 use Rattle.brk_model_theorems.proofs.BatchLaws.{All-front, length-calls, length-woven}
 use Rattle.brk_model_theorems.proofs.KeptLaws.{Grows, grows-on, run-grows}
@@ -273,7 +273,7 @@ prefix (row ∷ rows) (other ∷ others) rest end more only h e =
 
 -- whatever rows of a batch that went through are settled again change nothing
 pub rows-again : (form : Fields → Read Command) (base later last : Base) (moments others : List ℕ) (input : Text) (answers told : List Answer) (first : Batch Base) (name : Text) (rows : List Fields)
-    → WentThrough form base moments input answers first → LeadsTo first.base later → Begins (Some (text_of input)) (header_of name ∷ rows)
+    → IsCleanBatch form base moments input answers first → LeadsTo first.base later → Begins (Some (text_of input)) (header_of name ∷ rows)
     → AreSettled form row_step name later others rows told last → (told ≡ map again_of (take (length rows) answers)) × (last ≡ later)
 rows-again form base later last moments others input answers told first name rows went leads begins two =
     (again.0 ∙ ap (λ l. map again_of (take (length rows) l)) went.these, again.1)

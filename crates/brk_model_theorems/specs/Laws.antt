@@ -84,7 +84,7 @@ abbrev pub IsReached : Base → Type 0
 IsReached base = LeadsTo empty_base base
 
 -- a batch, by whatever tests of form, ended well and answered its rows so, and refused none
-pub record WentThrough (form : Fields → Read Command) (base : Base) (moments : List ℕ) (input : Text) (answers : List Answer) (batch : Batch Base) : Type 0 where
+pub record IsCleanBatch (form : Fields → Read Command) (base : Base) (moments : List ℕ) (input : Text) (answers : List Answer) (batch : Batch Base) : Type 0 where
   pub answered : IsAnswered form row_step base moments (Some (text_of input)) batch
   pub ended : batch.ending ≡ EndedWell
   pub these : answered.answers ≡ answers

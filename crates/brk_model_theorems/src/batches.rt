@@ -11,7 +11,7 @@ ghost use Rattle.brk_model.specs.Batch.{AreSettled, Batch, BatchText, IsBatch, r
 ghost use Rattle.brk_model.specs.Lines.{count_refused};
 ghost use Rattle.brk_model.specs.Computed.{batch, told_whole};
 ghost use Rattle.brk_model.specs.Run.{Did, Run};
-ghost use Rattle.brk_model_theorems.specs.Laws.{AreKeptAnswers, AreRemembered, IsBookedNext, IsCompleted, LeadsTo, StandsAfter, WentThrough, again_of, answers_left, call_of, calls_left, done_answers, done_calls};
+ghost use Rattle.brk_model_theorems.specs.Laws.{AreKeptAnswers, AreRemembered, IsBookedNext, IsCompleted, LeadsTo, StandsAfter, IsCleanBatch, again_of, answers_left, call_of, calls_left, done_answers, done_calls};
 
 /// The function that computes a batch gives its batch text, where there are moments enough, and takes the first of them.
 pub fn batch_is_computed()
@@ -26,8 +26,8 @@ pub fn rows_are_calls()
 {}
 
 /// A batch that went through, by whatever tests of form, sent again over the base that it led to or any later one, at any moments, changes nothing and is answered with its kept lines.
-pub fn a_batch_sent_again_changes_nothing()
-    ensures { (form : Fields → Read Command) (base later : Base) (moments others : List ℕ) (input : List ℕ) (answers : List Answer) (first second : Batch Base) → WentThrough form base moments input answers first
+pub fn a_retried_batch_changes_nothing()
+    ensures { (form : Fields → Read Command) (base later : Base) (moments others : List ℕ) (input : List ℕ) (answers : List Answer) (first second : Batch Base) → IsCleanBatch form base moments input answers first
         → LeadsTo first.base later → BatchText form row_step later others input second → second ≡ told_whole (map again_of answers, later) }
 {}
 
@@ -35,7 +35,7 @@ pub fn a_batch_sent_again_changes_nothing()
 /// their kept lines.
 pub fn rows_settled_again_change_nothing()
     ensures { (form : Fields → Read Command) (base later last : Base) (moments others : List ℕ) (input : List ℕ) (answers told : List Answer)
-        (first : Batch Base) (name : List ℕ) (rows : List Fields) → WentThrough form base moments input answers first
+        (first : Batch Base) (name : List ℕ) (rows : List Fields) → IsCleanBatch form base moments input answers first
         → LeadsTo first.base later → Begins (Some (text_of input)) (header_of name ∷ rows)
         → AreSettled form row_step name later others rows told last
         → (told ≡ map again_of (take (length rows) answers)) × (last ≡ later) }
@@ -50,7 +50,7 @@ pub fn kept_rows_change_nothing()
 
 /// Rows that are sent, and then some again, whatever was refused of either sending: both come to one run, of the rows that the first one accepted, at
 /// its moments, and then of those that were not kept by then, at the moments of the second. What the first one accepted is kept, so it is none of these.
-pub fn two_sendings_are_one_run()
+pub fn two_attempts_are_one_run()
     ensures run { (base mid last : Base) (first again : List (RowCall Command)) (answers told : List Answer) → InTurn row_step base first answers mid
         → InTurn row_step mid again told last
         → InTurn row_step base (done_calls first answers ++ calls_left mid again) (done_answers answers ++ answers_left mid again told) last }
@@ -60,7 +60,7 @@ pub fn two_sendings_are_one_run()
 
 /// Where some first rows of a batch were settled and none of them was refused, and then all of its rows are settled, this comes to one
 /// undisturbed sending, with the moments of the first one for those rows and those of the second one for the rest.
-pub fn a_batch_sent_again_is_completed()
+pub fn a_retried_batch_is_completed()
     ensures { (form : Fields → Read Command) (name : List ℕ) (base mid last : Base) (moments others : List ℕ) (front more : List Fields)
         (answers told : List Answer) → count_refused answers ≡ 0 → AreSettled form row_step name base moments front answers mid
         → AreSettled form row_step name mid others (front ++ more) told last

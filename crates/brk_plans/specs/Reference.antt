@@ -11,22 +11,22 @@ use Rattle.brk_ref.specs.declared.listing.Listing.{Listing}
 use Rattle.brk_changes.specs.declared.change.Change.{Change}
 use Rattle.brk_changes.specs.declared.change.Change.TheVariants as change
 use Rattle.brk_plans.specs.declared.plan.Plan.{Plan}
-use Rattle.brk_plans.specs.declared.reference.Found.{Found}
+use Rattle.brk_plans.specs.declared.reference.ReferenceFacts.{ReferenceFacts}
 use Rattle.brk_plans.specs.declared.reference.Reference.{Reference}
 use Rattle.brk_plans.specs.declared.reference.Reference.TheVariants as reference
 use Rattle.brk_plans.specs.declared.reply.Reply.TheVariants.{Booked}
 
 -- what is tested of an account
-abbrev pub account_tests : Found → List Test
+abbrev pub account_tests : ReferenceFacts → List Test
 account_tests found =
     (not found.customer, NoCustomer) ∷ (not found.broker, NoBroker) ∷ exists_if found.same_id ∷ (nat_le most_accounts found.accounts, Range limit.Accounts) ∷ []
 
 -- what is tested of a permission
-abbrev pub permission_tests : Found → List Test
+abbrev pub permission_tests : ReferenceFacts → List Test
 permission_tests found = (not found.account, NoAccount) ∷ exists_if found.same_id ∷ []
 
 -- what is tested of a band
-abbrev pub band_tests : Band → Found → List Test
+abbrev pub band_tests : Band → ReferenceFacts → List Test
 band_tests band found = (nat_lt band.to_qty band.from_qty, BadQty) ∷ (found.overlaps, Overlap) ∷ []
 
 -- whether the sum of a customer's rates, where it is no more than the whole, and another rate come to more than that
@@ -35,12 +35,12 @@ exceeds_whole None rate = true
 exceeds_whole (Some rates) rate = nat_lt greatest_tax_rate (rates + unwrap_or rate 0)
 
 -- what is tested of a tax that a customer is to pay
-abbrev pub customer_tax_tests : Found → List Test
+abbrev pub customer_tax_tests : ReferenceFacts → List Test
 customer_tax_tests found =
     (not found.customer, NoCustomer) ∷ (is_none found.rate, NoTax) ∷ exists_if found.same_id ∷ (exceeds_whole found.rates found.rate, TaxSum) ∷ []
 
 -- what is tested of a record, by what was found in the tables
-abbrev pub tests_of : Reference → Found → List Test
+abbrev pub tests_of : Reference → ReferenceFacts → List Test
 tests_of (reference.Broker broker) found = exists_if found.same_id ∷ []
 tests_of (reference.Customer customer) found = exists_if found.same_id ∷ exists_if found.same_tax_id ∷ []
 tests_of (reference.Account account) found = account_tests found
@@ -77,7 +77,7 @@ rows_added stamp (reference.Security listing) = change.AddSecurity listing.secur
 rows_added stamp other = row_added other ∷ []
 
 -- the plan of a record that is accepted: its rows are added, the last stamp is moved, and the stamp is told
-pub record IsPlanned (reference : Reference) (found : Found) (last : Option ℕ) (now : ℕ) (plan : Plan) : Type 0 where
+pub record IsPlanned (reference : Reference) (found : ReferenceFacts) (last : Option ℕ) (now : ℕ) (plan : Plan) : Type 0 where
   pub stamp : ℕ
   pub accepted : first_refusal (tests_of reference found ++ clock_test last now ∷ []) ≡ None
   pub stamped : stamp_after last now ≡ Some stamp

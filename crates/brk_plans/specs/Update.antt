@@ -15,10 +15,10 @@ use Rattle.brk_changes.specs.Rows.{cash_type_word}
 use Rattle.brk_changes.specs.declared.trade_row.TradeRow.{TradeRow}
 use Rattle.brk_orders.specs.declared.update.Update as told
 use Rattle.brk_orders.specs.declared.update.Update.TheVariants as update
-use Rattle.brk_plans.specs.declared.corrected.Corrected.{Corrected}
-use Rattle.brk_plans.specs.declared.corrected.Corrected.TheVariants as corrected
-use Rattle.brk_plans.specs.declared.corrected.Paid.{Paid}
-use Rattle.brk_plans.specs.declared.corrected.Settled.{Settled}
+use Rattle.brk_plans.specs.declared.corrected.TextUpdate.{TextUpdate}
+use Rattle.brk_plans.specs.declared.corrected.TextUpdate.TheVariants as corrected
+use Rattle.brk_plans.specs.declared.corrected.CashText.{CashText}
+use Rattle.brk_plans.specs.declared.corrected.SettlementText.{SettlementText}
 use Rattle.brk_plans.specs.declared.plan.Plan.{Plan}
 use Rattle.brk_plans.specs.declared.reply.Reply.TheVariants.{Changed}
 
@@ -37,7 +37,7 @@ text_anew kind qty security name =
     if holds_text (codes " shares of ") name then cash_text (codes " Shares of ") kind qty security else cash_text (codes " shares of ") kind qty security
 
 -- the text of what a trade of a security moved, changed
-abbrev pub changed_cash_name : Text → Paid → Text
+abbrev pub changed_cash_name : Text → CashText → Text
 changed_cash_name security p = text_anew p.kind p.qty security (string_bytes p.name)
 
 -- what is named has to be there
@@ -47,7 +47,7 @@ missing (update.CashTypes account span) = NoAccount
 missing (update.CashNames symbol span) = NoSecurity
 
 -- what is tested of a correction, by what was found of what it names
-abbrev pub update_tests : told.Update → Option Corrected → List Test
+abbrev pub update_tests : told.Update → Option TextUpdate → List Test
 update_tests u found = (is_none found, missing u) ∷ []
 
 -- the name of a trade's executor, changed
@@ -55,28 +55,28 @@ abbrev pub executor_set : TradeRow → Tables → Tables
 executor_set trade = with_executor trade.id (changed_executor (string_bytes trade.executor))
 
 -- how a trade is settled, changed
-abbrev pub cash_type_set : Settled → Tables → Tables
+abbrev pub cash_type_set : SettlementText → Tables → Tables
 cash_type_set s = with_cash_type s.trade (changed_cash_type s.is_cash (cash_type_word s.cash_type))
 
 -- the text of what a trade moved, changed
-abbrev pub cash_name_set : Text → Paid → Tables → Tables
+abbrev pub cash_name_set : Text → CashText → Tables → Tables
 cash_name_set security p = with_cash_name p.trade (changed_cash_name security p)
 
 -- what is made of the tables, trade by trade
-abbrev pub words_set : Corrected → List (Tables → Tables)
+abbrev pub words_set : TextUpdate → List (Tables → Tables)
 words_set (corrected.Executors trades) = map executor_set trades.items
 words_set (corrected.CashTypes settled) = map cash_type_set settled.items
 words_set (corrected.CashNames security paid) = map (cash_name_set security) paid.items
 
 -- how many trades are corrected
-abbrev pub count_of : Corrected → ℕ
+abbrev pub count_of : TextUpdate → ℕ
 count_of (corrected.Executors trades) = length trades.items
 count_of (corrected.CashTypes settled) = length settled.items
 count_of (corrected.CashNames security paid) = length paid.items
 
 -- the plan of a correction that is accepted: the words of each trade are changed, the last stamp is moved, and the number of trades is
 -- told with the stamp
-pub record IsUpdate (found : Corrected) (last : Option ℕ) (now : ℕ) (plan : Plan) : Type 0 where
+pub record IsUpdate (found : TextUpdate) (last : Option ℕ) (now : ℕ) (plan : Plan) : Type 0 where
   pub stamp : ℕ
   pub stamped : stamp_after last now ≡ Some stamp
   pub told : plan.reply ≡ Changed stamp (count_of found)

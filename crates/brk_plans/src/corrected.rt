@@ -4,7 +4,7 @@ use brk_ref::Name;
 
 /// What tells how a completed trade is settled (SE_CASH_TYPE).
 #[derive(Clone, Copy)]
-pub struct Settled {
+pub struct SettlementText {
     pub trade: Id,
     pub is_cash: bool,
     pub cash_type: CashType,
@@ -13,7 +13,7 @@ pub struct Settled {
 /// A completed cash trade whose text (CM_NAME) may be updated: the facts that make the text, and
 /// the stored text.
 #[derive(Drop)]
-pub struct Paid {
+pub struct CashText {
     pub trade: Id,
     pub kind: TradeType,
     pub qty: Qty,
@@ -22,11 +22,11 @@ pub struct Paid {
 
 /// The trades of which words are corrected, in their order, with what tells the words.
 #[derive(Drop)]
-pub enum Corrected {
+pub enum TextUpdate {
     /// Trades whose executors' names are corrected.
     Executors(Vec<TradeRow>),
     /// Trades whose settlements are corrected.
-    CashTypes(Vec<Settled>),
+    CashTypes(Vec<SettlementText>),
     /// Trades whose texts are corrected, of a security of this name.
-    CashNames(Name, Vec<Paid>),
+    CashNames(Name, Vec<CashText>),
 }

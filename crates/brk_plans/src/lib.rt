@@ -19,14 +19,14 @@ mod waiting;
 mod wording;
 
 pub use cancel::plan_cancel;
-pub use corrected::{Corrected, Paid, Settled};
+pub use corrected::{CashText, SettlementText, TextUpdate};
 pub use estimate::Estimate;
 pub use feed::{has_no_quote, plan_feed, triggers};
 pub use movement::{MoveFound, added, plan_move};
 pub use one_day::plan_oneday;
 pub use plan::Plan;
 pub use quote::{Quote, quote_with};
-pub use reference::{Found, Reference, plan_reference};
+pub use reference::{Reference, ReferenceFacts, plan_reference};
 pub use reply::{Completed, Ordered, Reply};
 pub use span::{Span, span_of};
 pub use update::plan_update;

@@ -32,7 +32,7 @@ pub enum Reference {
 
 /// What the tables hold that decides on a record. What a kind does not need is not looked at.
 #[derive(Clone, Copy, PartialEq, Eq)]
-pub struct Found {
+pub struct ReferenceFacts {
     /// Whether a record has its id: of a permission its account and tax id, of a security its symbol, of a charge its
     /// type and tier, of a customer's tax both ids.
     pub same_id: bool,
@@ -65,7 +65,7 @@ fn exists_if(found: bool) -> Option<Refusal>
 }
 
 // The first refusal that there is cause for.
-fn refusal_of(reference: &Reference, found: Found) -> Option<Refusal>
+fn refusal_of(reference: &Reference, found: ReferenceFacts) -> Option<Refusal>
     ensures { result ≡ first_refusal (tests_of reference.now found) }
 {
     match reference {
@@ -82,7 +82,7 @@ fn refusal_of(reference: &Reference, found: Found) -> Option<Refusal>
 }
 
 // The first cause to refuse an account.
-fn account_refusal(found: Found) -> Option<Refusal>
+fn account_refusal(found: ReferenceFacts) -> Option<Refusal>
     ensures { result ≡ first_refusal (account_tests found) }
 {
     if !found.customer {
@@ -101,7 +101,7 @@ fn account_refusal(found: Found) -> Option<Refusal>
 }
 
 // The first cause to refuse a permission.
-fn permission_refusal(found: Found) -> Option<Refusal>
+fn permission_refusal(found: ReferenceFacts) -> Option<Refusal>
     ensures { result ≡ first_refusal (permission_tests found) }
 {
     if !found.account {
@@ -111,7 +111,7 @@ fn permission_refusal(found: Found) -> Option<Refusal>
 }
 
 // The first cause to refuse a band.
-fn band_refusal(band: &Band, found: Found) -> Option<Refusal>
+fn band_refusal(band: &Band, found: ReferenceFacts) -> Option<Refusal>
     ensures { result ≡ first_refusal (band_tests band.now found) }
 {
     if band.to_qty.get() < band.from_qty.get() {
@@ -134,7 +134,7 @@ fn exceeds_whole(rates: Option<TaxRate>, rate: TaxRate) -> bool
 }
 
 // The first cause to refuse a tax that a customer is to pay.
-fn customer_tax_refusal(found: Found) -> Option<Refusal>
+fn customer_tax_refusal(found: ReferenceFacts) -> Option<Refusal>
     ensures { result ≡ first_refusal (customer_tax_tests found) }
 {
     if !found.customer {
@@ -202,7 +202,7 @@ fn changes_of(alloc: Global, reference: &Reference, stamp: Stamp) -> Result<Vec<
 pub fn plan_reference(
     alloc: Global,
     reference: &Reference,
-    found: Found,
+    found: ReferenceFacts,
     last: Option<Stamp>,
     now: Stamp,
 ) -> Planned<Plan>

@@ -6,7 +6,7 @@ ghost use Rattle.brk_plans.specs.Reference.{clock_test};
 ghost use Rattle.brk_plans.specs.Update as spec;
 ghost use Rattle.brk_plans.specs.Update.{IsUpdate, cash_name_set, cash_type_set, count_of, executor_set, update_tests, words_set};
 
-use crate::corrected::{Corrected, Paid, Settled};
+use crate::corrected::{CashText, SettlementText, TextUpdate};
 use crate::plan::Plan;
 use crate::reply::Reply;
 use crate::wording::{changed_cash_name, changed_cash_type, changed_executor};
@@ -40,7 +40,7 @@ fn set_executor(alloc: Global, trade: &TradeRow) -> Result<Change, Fault>
 }
 
 // The change of how a trade is settled.
-fn set_cash_type(settled: &Settled) -> Change
+fn set_cash_type(settled: &SettlementText) -> Change
     ensures { after_change result ≡ cash_type_set settled.now }
 {
     Change::SetCashType {
@@ -50,7 +50,7 @@ fn set_cash_type(settled: &Settled) -> Change
 }
 
 // The change of the text of what a trade moved.
-fn set_cash_name(alloc: Global, security: &Name, paid: &Paid) -> Result<Change, Fault>
+fn set_cash_name(alloc: Global, security: &Name, paid: &CashText) -> Result<Change, Fault>
     ensures change { IfOk result (λ change. after_change change ≡ cash_name_set security.now paid.now) }
     ensures fault { OnErr result (result ≡ Err Memory) }
 {
@@ -72,7 +72,7 @@ fn set_executors(alloc: Global, trades: &[TradeRow]) -> Result<Vec<Change>, Faul
     Ok(changes)
 }
 
-fn set_cash_types(alloc: Global, settled: &[Settled]) -> Result<Vec<Change>, Fault>
+fn set_cash_types(alloc: Global, settled: &[SettlementText]) -> Result<Vec<Change>, Fault>
     ensures changes { IfOk result (λ changes. map after_change changes.items ≡ map cash_type_set settled.now) }
     ensures fault { OnErr result (result ≡ Err Memory) }
 {
@@ -83,7 +83,7 @@ fn set_cash_types(alloc: Global, settled: &[Settled]) -> Result<Vec<Change>, Fau
     Ok(changes)
 }
 
-fn set_cash_names(alloc: Global, security: &Name, paid: &[Paid]) -> Result<Vec<Change>, Fault>
+fn set_cash_names(alloc: Global, security: &Name, paid: &[CashText]) -> Result<Vec<Change>, Fault>
     ensures changes { IfOk result (λ changes. map after_change changes.items ≡ map (cash_name_set security.now) paid.now) }
     ensures fault { OnErr result (result ≡ Err Memory) }
 {
@@ -95,25 +95,25 @@ fn set_cash_names(alloc: Global, security: &Name, paid: &[Paid]) -> Result<Vec<C
 }
 
 // The changes of the words of trades.
-fn set_words(alloc: Global, found: &Corrected) -> Result<Vec<Change>, Fault>
+fn set_words(alloc: Global, found: &TextUpdate) -> Result<Vec<Change>, Fault>
     ensures changes { IfOk result (λ changes. map after_change changes.items ≡ words_set found.now) }
     ensures fault { OnErr result (result ≡ Err Memory) }
 {
     match found {
-        Corrected::Executors(trades) => set_executors(alloc, trades),
-        Corrected::CashTypes(settled) => set_cash_types(alloc, settled),
-        Corrected::CashNames(security, paid) => set_cash_names(alloc, security, paid),
+        TextUpdate::Executors(trades) => set_executors(alloc, trades),
+        TextUpdate::CashTypes(settled) => set_cash_types(alloc, settled),
+        TextUpdate::CashNames(security, paid) => set_cash_names(alloc, security, paid),
     }
 }
 
 // How many trades are corrected.
-fn count(found: &Corrected) -> usize
+fn count(found: &TextUpdate) -> usize
     ensures { result ≡ count_of found.now }
 {
     match found {
-        Corrected::Executors(trades) => trades.len(),
-        Corrected::CashTypes(settled) => settled.len(),
-        Corrected::CashNames(_, paid) => paid.len(),
+        TextUpdate::Executors(trades) => trades.len(),
+        TextUpdate::CashTypes(settled) => settled.len(),
+        TextUpdate::CashNames(_, paid) => paid.len(),
     }
 }
 
@@ -124,7 +124,7 @@ fn count(found: &Corrected) -> usize
 pub fn plan_update(
     alloc: Global,
     update: &Update,
-    found: Option<Corrected>,
+    found: Option<TextUpdate>,
     last: Option<Stamp>,
     now: Stamp,
 ) -> Planned<Plan>

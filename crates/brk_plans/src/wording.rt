@@ -6,7 +6,7 @@ ghost use Rattle.brk_model.specs.Updates as definition;
 ghost use Rattle.brk_changes.specs.Rows.{cash_type_word};
 ghost use Rattle.brk_plans.specs.Update as spec;
 
-use crate::corrected::Paid;
+use crate::corrected::CashText;
 use brk_changes::CashType;
 use brk_money::Qty;
 use brk_ref::Name;
@@ -66,7 +66,12 @@ fn add_shares(text: &mut String, qty: Qty, words: &str) -> Result<(), AllocError
 }
 
 // The text of what a cash trade moved, with these words and the name of its security.
-fn cash_text(alloc: Global, paid: &Paid, words: &str, security: &Name) -> Result<String, AllocError>
+fn cash_text(
+    alloc: Global,
+    paid: &CashText,
+    words: &str,
+    security: &Name,
+) -> Result<String, AllocError>
     ensures { IfOk result (λ text. string_bytes text ≡ spec.cash_text words.now paid.now.kind paid.now.qty security.now) }
 {
     let mut text = String::from_str(alloc, paid.kind.name())?;
@@ -77,7 +82,11 @@ fn cash_text(alloc: Global, paid: &Paid, words: &str, security: &Name) -> Result
 
 /// The text of what a cash trade moved, written anew with the name of its security: with " Shares of " where the old one
 /// holds " shares of ", else with " shares of ".
-pub fn changed_cash_name(alloc: Global, paid: &Paid, security: &Name) -> Result<String, AllocError>
+pub fn changed_cash_name(
+    alloc: Global,
+    paid: &CashText,
+    security: &Name,
+) -> Result<String, AllocError>
     ensures { IfOk result (λ text. string_bytes text ≡ spec.changed_cash_name security.now paid.now) }
 {
     if holds(paid.name.as_str(), " shares of ") {

@@ -5,9 +5,9 @@ use Rattle.sqlite.specs.Held.{Held, state}
 use Rattle.sqlite.specs.State.{HasCleanDisk, State, Survives}
 use Rattle.sqlite.proofs.StateLemmas.{survives_then}
 use Rattle.brk_model.specs.Tables.{Tables}
-use Rattle.brk_store.specs.Holds.{IsRead}
-use Rattle.brk_store.specs.Walked.{IsWalked}
-use Rattle.brk_tables_walks.specs.declared.walking.Stop.{Stop}
+use Rattle.brk_store.specs.Holds.{ReadPost}
+use Rattle.brk_store.specs.Walked.{WalkPost}
+use Rattle.brk_tables_walks.specs.declared.walking.WalkError.{WalkError}
 use Rattle.brk_report.specs.Stated.{Keeps}
 
 clean_before : (a b : State) → Survives a b (λ _. ⊥) → HasCleanDisk b → HasCleanDisk a
@@ -21,11 +21,11 @@ module _ {S : Type 0} (g : Ghosts S) where
     survives = record { clean = omega arith; shield = λ x. x; counts = omega arith; limit = refl; closes = λ _ o. inl o; crash = λ _ db may. inl may };
   }
 
-  pub keeps_read : {V E : Type 0} (old new : Held S) (result : Result V E) (P : V → Tables → Type 0) → IsRead g old new result P → Keeps g old new
+  pub keeps_read : {V E : Type 0} (old new : Held S) (result : Result V E) (P : V → Tables → Type 0) → ReadPost g old new result P → Keeps g old new
   keeps_read old new result P read = record { kept = read.kept; same = read.same; survives = read.survives }
 
-  pub keeps_walked : {X M V E : Type 0} (old new : Held S) (of : X → M) (list : Tables → _) (takes : V → X → V → Type 0) (stops : V → X → E → V → Type 0) (before after : V) (result : Result (Unit {0}) (Stop E))
-      → IsWalked g old new of list takes stops before after result → Keeps g old new
+  pub keeps_walked : {X M V E : Type 0} (old new : Held S) (of : X → M) (list : Tables → _) (takes : V → X → V → Type 0) (stops : V → X → E → V → Type 0) (before after : V) (result : Result (Unit {0}) (WalkError E))
+      → WalkPost g old new of list takes stops before after result → Keeps g old new
   keeps_walked old new of list takes stops before after result walked = record { kept = walked.kept; same = walked.same; survives = walked.survives }
 
   pub keeps_then : (old mid new : Held S) → Keeps g old mid → Keeps g mid new → Keeps g old new

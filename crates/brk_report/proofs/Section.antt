@@ -11,9 +11,9 @@ use Rattle.brk_model.specs.Lists.{total_by}
 use Rattle.brk_model.specs.Statement.{lines_text}
 use Rattle.brk_model.specs.Tables.{Tables}
 use Rattle.brk_store.specs.Holds.{Holds}
-use Rattle.brk_store.specs.Walked.{IsWalked}
-use Rattle.brk_tables_walks.specs.declared.walking.Stop.{Stop}
-use Rattle.brk_tables_walks.specs.declared.walking.Stop.TheVariants.{Failed, Cause}
+use Rattle.brk_store.specs.Walked.{WalkPost}
+use Rattle.brk_tables_walks.specs.declared.walking.WalkError.{WalkError}
+use Rattle.brk_tables_walks.specs.declared.walking.WalkError.TheVariants.{Failed, Cause}
 use Rattle.brk_report_lines.specs.Written.{BreaksIn, BreaksOff, ended}
 use Rattle.brk_report_lines.specs.declared.fault.LinesFault.{LinesFault}
 use Rattle.brk_report_lines.specs.declared.fault.LinesFault.TheVariants.{Desk, Write}
@@ -31,7 +31,7 @@ weaker lines a b (Desk f) h = (h.0, (h.1.0, h.1.1 ∷ h.1.2, h.1.3, h.1.4))
 weaker lines a b Write h = h
 
 module _ {S X M V : Type 0} (g : Ghosts S) (old new : Held S) (of : X → M) (list : Tables → List M) (takes : V → X → V → Type 0) (stops : V → X → LinesFault → V → Type 0) (before after : V)
-    (t : Tables) (clean : HasCleanDisk (state g new)) (holds : Holds g old t) (result : Result (Unit {0}) (Stop LinesFault)) (walked : IsWalked g old new of list takes stops before after result) where
+    (t : Tables) (clean : HasCleanDisk (state g new)) (holds : Holds g old t) (result : Result (Unit {0}) (WalkError LinesFault)) (walked : WalkPost g old new of list takes stops before after result) where
   -- ---- lines
 
   module _ (line : M → Text) (contents : V → Option Text) (count : V → ℕ) (writes : (p : V) (x : X) (q : V) → takes p x q → Appends (contents p) (contents q) (ended (line (of x))) × (count q ≡ count p + 1))
@@ -50,7 +50,7 @@ module _ {S X M V : Type 0} (g : Ghosts S) (old new : Held S) (of : X → M) (li
         let same : map of h.0 ≡ list t = h.2 t holds in
         (subst (λ ms. Appends (contents before) (contents after) (lines_text (map line ms))) same f.0, omega (arith, f.1, none, ap length same))
 
-    pub written_first : (stop : Stop LinesFault) → result ≡ Err stop → BreaksOff (map line (list t)) (contents before) (contents after) (fault_of stop)
+    pub written_first : (stop : WalkError LinesFault) → result ≡ Err stop → BreaksOff (map line (list t)) (contents before) (contents after) (fault_of stop)
     written_first (Failed fault) e =
         let h = rw e at (walked.early clean) in
         let b = h.1.2 t holds in

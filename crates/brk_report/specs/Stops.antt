@@ -1,9 +1,9 @@
 -- Why a walk ended, as a statement tells it.
-use Rattle.brk_tables_walks.specs.declared.walking.Stop.{Stop}
-use Rattle.brk_tables_walks.specs.declared.walking.Stop.TheVariants.{Failed, Cause}
+use Rattle.brk_tables_walks.specs.declared.walking.WalkError.{WalkError}
+use Rattle.brk_tables_walks.specs.declared.walking.WalkError.TheVariants.{Failed, Cause}
 use Rattle.brk_report_lines.specs.declared.fault.LinesFault.{LinesFault}
 use Rattle.brk_report_lines.specs.declared.fault.LinesFault.TheVariants.{Desk}
 
-abbrev pub fault_of : Stop LinesFault → LinesFault
+abbrev pub fault_of : WalkError LinesFault → LinesFault
 fault_of (Failed fault) = Desk fault
 fault_of (Cause fault) = fault

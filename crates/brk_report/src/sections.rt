@@ -6,7 +6,7 @@ ghost use Rattle.brk_report.specs.Stated.{IsTotal, Keeps, OverRows, WritesCash, 
 ghost use Rattle.brk_report.specs.Stops.{fault_of};
 
 use crate::visitors::{CashLines, Lines, Moved, Sum};
-use brk_desk::{Desk, Stop};
+use brk_desk::{Desk, WalkError};
 use brk_money::{Cents, Day, Id, Stamp, Wide};
 use brk_report_lines::{LinesFault, first_stamp, last_stamp, stamp_before};
 use sqlite::Alter;
@@ -14,12 +14,12 @@ use std::alloc::Global;
 use std::io::Write;
 
 // Why a walk of a statement ended.
-fn broken(stop: Stop<LinesFault>) -> LinesFault
+fn broken(stop: WalkError<LinesFault>) -> LinesFault
     ensures { result ≡ fault_of stop }
 {
     match stop {
-        Stop::Failed(fault) => LinesFault::Desk(fault),
-        Stop::Cause(fault) => fault,
+        WalkError::Failed(fault) => LinesFault::Desk(fault),
+        WalkError::Cause(fault) => fault,
     }
 }
 

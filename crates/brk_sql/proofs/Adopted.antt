@@ -16,7 +16,7 @@ use Rattle.sqlite_sql.specs.Term.{Term, eval_all}
 use Rattle.sqlite_sql.specs.Query.{Query, page}
 use Rattle.sqlite_rules.proofs.ListLemmas.{all_has}
 use Rattle.sqlite.specs.Table.{Table}
-use Rattle.brk_sql.specs.Rows.{cells, same_rowid, Rises, Holds, climbs_from}
+use Rattle.brk_sql.specs.Rows.{cells, same_rowid, Rises, TreeHolds, climbs_from}
 use Rattle.brk_sql.proofs.Decode.{filter_true}
 use Rattle.brk_sql.proofs.Order.{map_on}
 use Rattle.brk_sql.proofs.Pick.{Picks, Keyed, Apart, keyed_permuted, apart_permuted, int_is, sorted_by}
@@ -112,7 +112,7 @@ module _ {X : Type 0} (table : Table) (encode : X → Row) (cmp : X → X → Or
   picked_are = decoded ∙ p.is ∙ unpaged _ ∙ map_on _ _ p.picked (λ r h. shows r)
 
   -- where the rowids are known
-  pub adopted : Keyed rows → Apart rows → Holds table encode cmp xs rows
+  pub adopted : Keyed rows → Apart rows → TreeHolds table encode cmp xs rows
   adopted keyed apart = record {
     keyed = keyed;
     apart = apart;
@@ -121,7 +121,7 @@ module _ {X : Type 0} (table : Table) (encode : X → Row) (cmp : X → X → Or
   }
 
   -- where the key is the rowid, the same read is enough
-  pub adopted_by_rowid : (key : X → ℤ) → ((r : Row) (x : X) → cells table r ≡ encode x → rowid r ≡ Int (key x)) → ((x y : X) → cmp x y ≡ int_cmp (key x) (key y)) → Holds table encode cmp xs rows
+  pub adopted_by_rowid : (key : X → ℤ) → ((r : Row) (x : X) → cells table r ≡ encode x → rowid r ≡ Int (key x)) → ((x y : X) → cmp x y ≡ int_cmp (key x) (key y)) → TreeHolds table encode cmp xs rows
   adopted_by_rowid key keyed is =
       let ids = rowids p.picked xs (sym picked_are) in
       let both = rowids_climb p.picked (map key xs) ids (ids_rise xs rising) in
@@ -189,7 +189,7 @@ module _ {W T : Type 0} (desk : Desk W T) (w : W) (total : IsTotalOrder (desk.or
   pub adopted_in_order : (query : Query) (params : Row) (project : List Term) (order : List (Term × Key)) (read : List Row) (p : Picks query params [] project order rows read) → ((rs : List Row) → page query params rs ≡ rs)
       → ((r : Row) → eval_all project (params ∷ r ∷ []) ≡ cells (desk.shape w tree) r)
       → ((a b : Row) (x y : desk.Item w) → cells (desk.shape w tree) a ≡ desk.encode w x → cells (desk.shape w tree) b ≡ desk.encode w y → sorted_by params order a b ≡ desk.order w x y)
-      → (xs : List (desk.Item w)) → map (desk.encode w) xs ≡ read → Holds (desk.shape w tree) (desk.encode w) (desk.order w) xs rows
+      → (xs : List (desk.Item w)) → map (desk.encode w) xs ≡ read → TreeHolds (desk.shape w tree) (desk.encode w) (desk.order w) xs rows
   adopted_in_order query params project order read p unpaged shows sorts xs decoded =
       let all : IsPermutation rows p.picked = subst (λ l. IsPermutation l p.picked) (filter_true rows) p.same in
       let are : map (cells (desk.shape w tree)) p.picked ≡ map (desk.encode w) xs = sym (decoded ∙ p.is ∙ unpaged _ ∙ map_on _ _ p.picked (λ r k. shows r)) in

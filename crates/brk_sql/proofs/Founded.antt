@@ -150,7 +150,7 @@ module _ {W T : Type 0} (desk : Desk W T) where
       apart = λ v w. p.apart v w (all v) (all w);
       calm = λ w. p.calm w (all w);
       sound = sound;
-      rows = λ w. subst (λ xs. Rattle.brk_sql.specs.Rows.Holds (desk.shape w (p.tree w)) (desk.encode w) (desk.order w) xs (new.trees (p.tree w))) (sym (none w)) (none_held (desk.shape w (p.tree w)) (desk.encode w) (desk.order w) _ (p.empty w (all w)));
+      rows = λ w. subst (λ xs. Rattle.brk_sql.specs.Rows.TreeHolds (desk.shape w (p.tree w)) (desk.encode w) (desk.order w) xs (new.trees (p.tree w))) (sym (none w)) (none_held (desk.shape w (p.tree w)) (desk.encode w) (desk.order w) _ (p.empty w (all w)));
     };
     fresh = λ w. p.fresh w (all w);
     others = record { more = p.more; tables = p.tables; rows = p.rows };

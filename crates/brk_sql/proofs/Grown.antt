@@ -5,7 +5,7 @@ use Rattle.sqlite_schema.specs.declared.schema.Table.{Table}
 use Rattle.sqlite.specs.Effect.{Database}
 use Rattle.sqlite_rules.specs.Lists.{Has}
 use Rattle.sqlite_rules.proofs.ListLemmas.{all_has, all_from}
-use Rattle.brk_sql.specs.Rows.{Holds}
+use Rattle.brk_sql.specs.Rows.{TreeHolds}
 use Rattle.brk_sql.specs.Desk.{Desk, Stands, Makes, MakesEach, IsCalm, HasTables, HasSome, KeepsOthers}
 use Rattle.brk_sql.proofs.Created.{all_at}
 use Rattle.brk_sql.proofs.Founded.{all_left, still_calm, new_calm, OrIn, Among}
@@ -102,12 +102,12 @@ module _ {W T : Type 0} (desk : Desk W T) (t : T) where
         calmed v (inr ne) (inr k) = still_calm old new m (tree v) (h.calm v k)
 
         held : (v : W) (s : (v ≡ w) ⊎ (v ≢ w)) → (v ≡ w) ⊎ In v
-            → Holds (desk.shape v (chosen s m.tree (tree v))) (desk.encode v) (desk.order v) (desk.list v t) (new.trees (chosen s m.tree (tree v)))
+            → TreeHolds (desk.shape v (chosen s m.tree (tree v))) (desk.encode v) (desk.order v) (desk.list v t) (new.trees (chosen s m.tree (tree v)))
         held v (inl e) k =
-            subst (λ u. Holds (desk.shape u m.tree) (desk.encode u) (desk.order u) (desk.list u t) (new.trees m.tree)) (sym e)
-            (subst (λ xs. Holds (desk.shape w m.tree) (desk.encode w) (desk.order w) xs (new.trees m.tree)) (sym none) (none_held (desk.shape w m.tree) (desk.encode w) (desk.order w) (new.trees m.tree) m.empty))
+            subst (λ u. TreeHolds (desk.shape u m.tree) (desk.encode u) (desk.order u) (desk.list u t) (new.trees m.tree)) (sym e)
+            (subst (λ xs. TreeHolds (desk.shape w m.tree) (desk.encode w) (desk.order w) xs (new.trees m.tree)) (sym none) (none_held (desk.shape w m.tree) (desk.encode w) (desk.order w) (new.trees m.tree) m.empty))
         held v (inr ne) (inl e) = absurd (ne e)
-        held v (inr ne) (inr k) = subst (Holds (desk.shape v (tree v)) (desk.encode v) (desk.order v) (desk.list v t)) (sym (same_tree v k)) (h.rows v k)
+        held v (inr ne) (inr k) = subst (TreeHolds (desk.shape v (tree v)) (desk.encode v) (desk.order v) (desk.list v t)) (sym (same_tree v k)) (h.rows v k)
 
         came : (v : W) (s : (v ≡ w) ⊎ (v ≢ w)) → (v ≡ w) ⊎ In v → (In v × (chosen s m.tree (tree v) ≡ tree v)) ⊎ AllByRecursion (λ k. k.tree ≢ chosen s m.tree (tree v)) old.schema.tables
         came v (inl e) k = inr m.apart

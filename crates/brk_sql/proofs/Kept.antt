@@ -19,13 +19,13 @@ use Rattle.sqlite_keyed.specs.Lists.{insert_sorted, update_where, delete_where, 
 use Rattle.sqlite_keyed.proofs.ListLemmas.{ascending-filter, IsPermutation-filter, all_weaker}
 use Rattle.sqlite_keyed.proofs.SortLemmas.{sorted_unique, sorted_is-sort_by}
 use Rattle.sqlite.specs.Table.{Table}
-use Rattle.brk_sql.specs.Rows.{cells, Rises, Holds}
+use Rattle.brk_sql.specs.Rows.{cells, Rises, TreeHolds}
 use Rattle.brk_sql.proofs.Order.{unmapped, filtered, mapped, ordered, encoded, has_permuted, IsPermutation-insert_sorted, rises-insert_sorted, rises-update_where, all_pushed}
 use Rattle.brk_sql.proofs.Pick.{Picks, passes, sorted_by, put_is, apart_put, apart_filter, apart_map, apart_permuted, keyed_map, keyed_filter, keyed_permuted}
 
 module _ {X : Type 0} (table : Table) (encode : X → Row) (cmp : X → X → Ordering) where
   -- the records in the order of the tree
-  pub opened : (xs : List X) (rows : List Row) → Holds table encode cmp xs rows → (zs : List X) × IsPermutation xs zs × (map (cells table) rows ≡ map encode zs)
+  pub opened : (xs : List X) (rows : List Row) → TreeHolds table encode cmp xs rows → (zs : List X) × IsPermutation xs zs × (map (cells table) rows ≡ map encode zs)
   opened xs rows h = unmapped encode xs (map (cells table) rows) h.shown
 
   closed : (xs zs : List X) (rows those : List Row) → IsPermutation xs zs → map (cells table) rows ≡ map encode zs → IsPermutation rows those → IsPermutation (map encode xs) (map (cells table) those)
@@ -33,13 +33,13 @@ module _ {X : Type 0} (table : Table) (encode : X → Row) (cmp : X → X → Or
       IsPermutation-trans _ _ _ (subst (IsPermutation (map encode xs)) (sym e) (IsPermutation-map encode xs zs p)) (IsPermutation-map (cells table) rows those q)
 
   -- an empty tree
-  pub none_held : (rows : List Row) → rows ≡ [] → Holds table encode cmp [] rows
+  pub none_held : (rows : List Row) → rows ≡ [] → TreeHolds table encode cmp [] rows
   unfolding IsDistinct
-  none_held rows e = subst (Holds table encode cmp []) (sym e) (record { keyed = tt; apart = tt; rising = tt; shown = IsPermutation-refl [] })
+  none_held rows e = subst (TreeHolds table encode cmp []) (sym e) (record { keyed = tt; apart = tt; rising = tt; shown = IsPermutation-refl [] })
 
   -- DELETE
-  pub held_without : (p : Row → Bool) (q : X → Bool) → ((r : Row) (x : X) → cells table r ≡ encode x → p r ≡ q x) → (xs : List X) (rows : List Row) → Holds table encode cmp xs rows
-      → Holds table encode cmp (delete_where q xs) (filter (λ r. not (p r)) rows)
+  pub held_without : (p : Row → Bool) (q : X → Bool) → ((r : Row) (x : X) → cells table r ≡ encode x → p r ≡ q x) → (xs : List X) (rows : List Row) → TreeHolds table encode cmp xs rows
+      → TreeHolds table encode cmp (delete_where q xs) (filter (λ r. not (p r)) rows)
   held_without p q same xs rows h =
       let o = opened xs rows h in
       record {
@@ -53,8 +53,8 @@ module _ {X : Type 0} (table : Table) (encode : X → Row) (cmp : X → X → Or
   pub held_changed : (p : Row → Bool) (f : Row → Row) (q : X → Bool) (to : X → X) → ((r : Row) → rowid (f r) ≡ rowid r) → ((x y : X) → cmp (to x) y ≡ cmp x y) → ((x y : X) → cmp x (to y) ≡ cmp x y)
       → ((r : Row) (x : X) → cells table r ≡ encode x → p r ≡ q x)
       → ((r : Row) (x : X) → cells table r ≡ encode x → cells table (f r) ≡ encode (to x))
-      → (xs : List X) (rows those : List Row) → IsPermutation (map (λ r. if p r then f r else r) rows) those → Holds table encode cmp xs rows
-      → Holds table encode cmp (update_where q to xs) those
+      → (xs : List X) (rows those : List Row) → IsPermutation (map (λ r. if p r then f r else r) rows) those → TreeHolds table encode cmp xs rows
+      → TreeHolds table encode cmp (update_where q to xs) those
   held_changed p f q to keeps left right same shows xs rows those perm h =
       let o = opened xs rows h in
       let g = λ (r : Row). if p r then f r else r in
@@ -74,7 +74,7 @@ module _ {X : Type 0} (table : Table) (encode : X → Row) (cmp : X → X → Or
 
   -- INSERT of a record whose key no record has
   pub held_with : IsTotalOrder cmp → (new : Row) (x : X) → cells table new ≡ encode x → IsTrue (is_int (rowid new)) → (xs : List X) (rows : List Row) → is_taken rows new ≡ false
-      → AllByRecursion (λ y. is_eq (cmp x y) ≡ false) xs → Holds table encode cmp xs rows → Holds table encode cmp (insert_sorted cmp x xs) (put_row new rows)
+      → AllByRecursion (λ y. is_eq (cmp x y) ≡ false) xs → TreeHolds table encode cmp xs rows → TreeHolds table encode cmp (insert_sorted cmp x xs) (put_row new rows)
   held_with total new x e whole xs rows free absent h =
       let o = opened xs rows h in
       let perm = put_is new rows free in
@@ -86,13 +86,13 @@ module _ {X : Type 0} (table : Table) (encode : X → Row) (cmp : X → X → Or
       }
 
   -- each record is that of a row
-  pub row_of : (xs : List X) (rows : List Row) → Holds table encode cmp xs rows → (x : X) → Has xs x → (r : Row) × Has rows r × (cells table r ≡ encode x)
+  pub row_of : (xs : List X) (rows : List Row) → TreeHolds table encode cmp xs rows → (x : X) → Has xs x → (r : Row) × Has rows r × (cells table r ≡ encode x)
   row_of xs rows h x there =
       let o = opened xs rows h in
       let r = encoded encode (cells table) o.0 rows x (sym o.2) (has_permuted o.0 xs x (IsPermutation-sym _ _ o.1) there) in
       (r.0, r.1, sym r.2)
 
-  pub record_of : (xs : List X) (rows : List Row) → Holds table encode cmp xs rows → (r : Row) → Has rows r → (x : X) × Has xs x × (cells table r ≡ encode x)
+  pub record_of : (xs : List X) (rows : List Row) → TreeHolds table encode cmp xs rows → (r : Row) → Has rows r → (x : X) × Has xs x × (cells table r ≡ encode x)
   record_of xs rows h r there =
       let o = opened xs rows h in
       let x = encoded (cells table) encode rows o.0 r o.2 there in
@@ -100,7 +100,7 @@ module _ {X : Type 0} (table : Table) (encode : X → Row) (cmp : X → X → Or
 
   -- ---- SELECT .. WHERE .. ORDER BY .. LIMIT
 
-  module _ (xs : List X) (rows : List Row) (h : Holds table encode cmp xs rows) (query : Query) (params : Row) (terms project : List Term) (order : List (Term × Key)) (read : List Row) (p : Picks query params terms project order rows read)
+  module _ (xs : List X) (rows : List Row) (h : TreeHolds table encode cmp xs rows) (query : Query) (params : Row) (terms project : List Term) (order : List (Term × Key)) (read : List Row) (p : Picks query params terms project order rows read)
       (q : X → Bool) (same : (r : Row) (x : X) → cells table r ≡ encode x → passes params terms r ≡ q x)
       (show : X → Row) (shows : (r : Row) (x : X) → cells table r ≡ encode x → eval_all project (params ∷ r ∷ []) ≡ show x)
       (C : X → X → Ordering) (sorts : (a b : Row) (x y : X) → cells table a ≡ encode x → cells table b ≡ encode y → sorted_by params order a b ≡ C x y) where

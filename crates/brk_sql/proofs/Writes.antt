@@ -33,7 +33,7 @@ use Rattle.sqlite_keyed.specs.Lists.{insert_sorted, update_where, delete_where}
 use Rattle.sqlite.specs.Effect.{Database, IsDatabase, value_rows}
 use Rattle.sqlite.specs.Rows.{stamped}
 use Rattle.sqlite.specs.State.{State, Executes}
-use Rattle.brk_sql.specs.Rows.{cells, same_rowid, Holds}
+use Rattle.brk_sql.specs.Rows.{cells, same_rowid, TreeHolds}
 use Rattle.brk_sql.specs.Desk.{Desk, Stands, IsCalm, HasTables, SparesStrangers, Turns}
 use Rattle.brk_sql.proofs.Effects.{inserted, took, altered}
 use Rattle.brk_sql.proofs.Kept.{held_with, held_without, held_changed, row_of, record_of}
@@ -66,7 +66,7 @@ pub record Place {W T : Type 0} (desk : Desk W T) (w : W) : Type 0 where
 
 -- ---- a record whose key came in is new
 
-module _ {X : Type 0} (table : Table) (encode : X → Row) (cmp : X → X → Ordering) (xs : List X) (rows : List Row) (h : Holds table encode cmp xs rows) (new : Row) (x : X) (e : cells table new ≡ encode x) (free : is_taken rows new ≡ false) where
+module _ {X : Type 0} (table : Table) (encode : X → Row) (cmp : X → X → Ordering) (xs : List X) (rows : List Row) (h : TreeHolds table encode cmp xs rows) (new : Row) (x : X) (e : cells table new ≡ encode x) (free : is_taken rows new ≡ false) where
   untaken : (rows : List Row) → is_taken rows new ≡ false → (r : Row) → Has rows r → same_rowid new r ≡ false
   untaken [] free r there = absurd there
   untaken (s ∷ rows) free r there = go (same_rowid s new) refl free there (λ off later. untaken rows off r later)
@@ -108,7 +108,7 @@ module _ {W T : Type 0} (desk : Desk W T) (w : W) (place : Place desk w) where
   Leaves tree old new k = k.tree ≢ tree w → IsCalm old.schema k.tree → new.trees k.tree ≡ old.trees k.tree
 
   pub framed : (t : T) (xs : List Item) (tree : W → ℕ) (old new : Database) → HasTables desk t tree old → new.schema ≡ old.schema → ((k : Table) → Has old.schema.tables k → Leaves tree old new k)
-      → Holds (shape (tree w)) (desk.encode w) (desk.order w) xs (new.trees (tree w)) → IsDatabase new → HasTables desk (place.put xs t) tree new × SparesStrangers tree old new
+      → TreeHolds (shape (tree w)) (desk.encode w) (desk.order w) xs (new.trees (tree w)) → IsDatabase new → HasTables desk (place.put xs t) tree new × SparesStrangers tree old new
   framed t xs tree old new h schema leaves this sound =
       let u = place.put xs t in
       let back = sym schema in (
@@ -119,10 +119,10 @@ module _ {W T : Type 0} (desk : Desk W T) (w : W) (place : Place desk w) where
           calm = λ v. subst (λ s. IsCalm s (tree v)) back (h.calm v);
           sound = sound;
           rows = λ v. elim (place.split v) [
-            | inl same ↦ subst (λ v. Holds (desk.shape v (tree v)) (desk.encode v) (desk.order v) (desk.list v u) (new.trees (tree v))) (sym same)
-                (subst (λ ys. Holds (shape (tree w)) (desk.encode w) (desk.order w) ys (new.trees (tree w))) (sym (place.put_this xs t)) this)
-            | inr other ↦ subst (λ ys. Holds (desk.shape v (tree v)) (desk.encode v) (desk.order v) ys (new.trees (tree v))) (sym (place.put_others v other xs t))
-                (subst (Holds (desk.shape v (tree v)) (desk.encode v) (desk.order v) (desk.list v t)) (sym (others v other)) (h.rows v))
+            | inl same ↦ subst (λ v. TreeHolds (desk.shape v (tree v)) (desk.encode v) (desk.order v) (desk.list v u) (new.trees (tree v))) (sym same)
+                (subst (λ ys. TreeHolds (shape (tree w)) (desk.encode w) (desk.order w) ys (new.trees (tree w))) (sym (place.put_this xs t)) this)
+            | inr other ↦ subst (λ ys. TreeHolds (desk.shape v (tree v)) (desk.encode v) (desk.order v) ys (new.trees (tree v))) (sym (place.put_others v other xs t))
+                (subst (TreeHolds (desk.shape v (tree v)) (desk.encode v) (desk.order v) (desk.list v t)) (sym (others v other)) (h.rows v))
           ];
         },
         record { schema = schema; rows = all_from _ old.schema.tables (λ k there apart calm. leaves k there (apart w) calm) },
@@ -171,7 +171,7 @@ module _ {W T : Type 0} (desk : Desk W T) (w : W) (place : Place desk w) where
         let left : without_all (db table.tree) (ids_of it.1.0) ≡ filter (λ r. not (passes params terms r)) rows =
         ap₂ without_all (ap db at) named ∙ remains (passes params terms) rows k.picked held.keyed held.apart k.same in
         framed t _ tree old.now new.now h it.0 (step_leaves t tree old.now new.now h e refl it.1.2)
-        (subst (Holds table (desk.encode w) (desk.order w) (delete_where q (desk.list w t))) (sym (step.0 ∙ left)) (held_without table (desk.encode w) (desk.order w) (passes params terms) q (same (tree w)) (desk.list w t) rows held)) it.2
+        (subst (TreeHolds table (desk.encode w) (desk.order w) (delete_where q (desk.list w t))) (sym (step.0 ∙ left)) (held_without table (desk.encode w) (desk.order w) (passes params terms) q (same (tree w)) (desk.list w t) rows held)) it.2
 
     -- ---- UPDATE of columns that are no key
 
@@ -209,7 +209,7 @@ module _ {W T : Type 0} (desk : Desk W T) (w : W) (place : Place desk w) where
         IsPermutation-trans _ _ _ (IsPermutation-sym _ _ (changed_is test write rows))
         (IsPermutation-trans _ _ _ (IsPermutation-append _ _ _ _ (IsPermutation-map write (filter test rows) k.picked k.same) (IsPermutation-refl (filter (λ r. not (test r)) rows))) (put_all_is (map write k.picked) _ fresh)) in
         framed t _ tree old.now new.now h it.0 (step_leaves t tree old.now new.now h e refl it.1.2)
-        (subst (Holds table (desk.encode w) (desk.order w) (update_where q to (desk.list w t))) (sym those)
+        (subst (TreeHolds table (desk.encode w) (desk.order w) (update_where q to (desk.list w t))) (sym those)
         (held_changed table (desk.encode w) (desk.order w) test write q to keeps before after (same (tree w)) (shows (tree w)) (desk.list w t) rows _ perm held)) it.2
 
   -- ---- INSERT .. VALUES leaves the other tables, whosever they are
@@ -253,7 +253,7 @@ module _ {W T : Type 0} (desk : Desk W T) (w : W) (place : Place desk w) where
       ] in
       framed t _ tree old.now new.now h it.0
       (λ k there apart calm. all_has (λ k. k.tree ≢ table.tree → new.now.trees k.tree ≡ db k.tree) old.now.schema.tables k a.tables there (λ same. apart (same ∙ at)))
-      (subst (Holds table (desk.encode w) (desk.order w) (insert_sorted (desk.order w) x (desk.list w t))) (sym those)
+      (subst (TreeHolds table (desk.encode w) (desk.order w) (insert_sorted (desk.order w) x (desk.list w t))) (sym those)
       (held_with table (desk.encode w) (desk.order w) place.total comer x (shows (tree w) rows) whole (desk.list w t) rows free absent held)) it.2
     where
       not_not : (b : Bool) → not b ≡ true → b ≡ false

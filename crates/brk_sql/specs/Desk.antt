@@ -21,7 +21,7 @@ use Rattle.sqlite_resolve.specs.declared.compiled.Compiled.{Compiled}
 use Rattle.sqlite_resolve.specs.declared.error.CompileError.TheVariants.{NoSuchTable}
 use Rattle.sqlite.specs.Listing.{understood}
 use Rattle.sqlite.specs.Steps.{column_names}
-use Rattle.brk_sql.specs.Rows.{Holds}
+use Rattle.brk_sql.specs.Rows.{TreeHolds}
 
 -- ---- what a table is made of
 
@@ -126,7 +126,7 @@ pub record HasTables {W T : Type 0} (desk : Desk W T) (t : T) (tree : W → ℕ)
   pub calm : (w : W) → IsCalm db.schema (tree w)
   -- the trees list the schema and obey it, so that whoever opens them again finds it
   pub sound : IsDatabase db
-  pub rows : (w : W) → Holds (desk.shape w (tree w)) (desk.encode w) (desk.order w) (desk.list w t) (db.trees (tree w))
+  pub rows : (w : W) → TreeHolds (desk.shape w (tree w)) (desk.encode w) (desk.order w) (desk.list w t) (db.trees (tree w))
 
 -- The database has those of the tables that are In, as HasTables says of all of them.
 pub record HasSome {W T : Type 0} (desk : Desk W T) (In : W → Type 0) (t : T) (tree : W → ℕ) (db : Database) : Type 0 where
@@ -135,7 +135,7 @@ pub record HasSome {W T : Type 0} (desk : Desk W T) (In : W → Type 0) (t : T) 
   pub apart : (v w : W) → In v → In w → tree v ≡ tree w → v ≡ w
   pub calm : (w : W) → In w → IsCalm db.schema (tree w)
   pub sound : IsDatabase db
-  pub rows : (w : W) → In w → Holds (desk.shape w (tree w)) (desk.encode w) (desk.order w) (desk.list w t) (db.trees (tree w))
+  pub rows : (w : W) → In w → TreeHolds (desk.shape w (tree w)) (desk.encode w) (desk.order w) (desk.list w t) (db.trees (tree w))
 
 -- The schema stays, and so do the rows of each table in none of these trees, unless a foreign key of its own acts on them.
 pub record SparesStrangers {W : Type 0} (tree : W → ℕ) (old new : Database) : Type 0 where

@@ -41,7 +41,7 @@ use Rattle.brk_tables_schema.specs.Made.{HasRows, IsOf}
 use Rattle.brk_tables_upgrade.specs.Upgrade.{KeepsOtherTables, Upgrades}
 use Rattle.brk_tables_scan.specs.Schemas.{HasDesk, IsDefined, IsDefinedAs}
 use Rattle.brk_tables_scan.proofs.Defined.{desk_is_there}
-use Rattle.brk_store.specs.Audited.{AreUpgraded, Answered, Audited, AuditedBy, IsUpgraded, HasThirdIn, IsAdopted, IsAudited, IsDefinedIn, OnAnswer}
+use Rattle.brk_store.specs.Audited.{AreUpgraded, Answered, Audited, AuditedBy, IsUpgraded, HasThirdIn, AdoptPost, AuditPost, IsDefinedIn, OnAnswer}
 use Rattle.brk_store.specs.AuditResult.{Tells}
 use Rattle.brk_store.specs.Holds.{Holds, IsSame}
 use Rattle.brk_store.specs.Kept.{kept_none}
@@ -118,7 +118,7 @@ module _ {S : Type 0} (g : Ghosts S) (new : Held S) where
 
 -- ---- a connection on which a transaction is open is refused
 
-pub unadopted : {S : Type 0} (g : Ghosts S) (conn : Held S) → IsAdopted g conn conn (Err Store)
+pub unadopted : {S : Type 0} (g : Ghosts S) (conn : Held S) → AdoptPost g conn conn (Err Store)
 unadopted g conn = record {
   told = λ clean defined. tt;
   opened = λ clean. tt;
@@ -157,7 +157,7 @@ module _ {S : Type 0} (g : Ghosts S) (old first : Held S) (settled : IsTrue (sta
     stayed = rolled_back g old mid end settled out Q (λ _. ⊥) step back late
 
     module _ (result : Result (Unit {0}) Fault) (told : HasCleanDisk (state g end) → IsDefinedIn g old → OnAnswer result (Audited (state g old).now)) (opened : HasCleanDisk (state g end) → OnAnswer result (λ _. IsTrue (state g old).is_open)) where
-      as_audit : IsDefinedIn g old → HasThirdIn g old → IsAudited g old end result
+      as_audit : IsDefinedIn g old → HasThirdIn g old → AuditPost g old end result
       as_audit defined third = record {
         told = λ clean _.
             let before = clean_before (state g old) (state g end) (λ _. ⊥) passed clean in
@@ -173,7 +173,7 @@ module _ {S : Type 0} (g : Ghosts S) (old first : Held S) (settled : IsTrue (sta
       crashes defined = survives_weaker (state g old) (state g end) _ _ (λ _ db none. absurd none) passed
 
     none_adopted : (fault : Fault) → (HasCleanDisk (state g end) → IsDefinedIn g old → OnAnswer (Err fault) (Audited (state g old).now)) → (HasCleanDisk (state g end) → OnAnswer (Err fault) (λ _. IsTrue (state g old).is_open))
-        → IsAdopted g old end (Err fault)
+        → AdoptPost g old end (Err fault)
     none_adopted fault told opened = record {
       told = told;
       opened = opened;
@@ -185,12 +185,12 @@ module _ {S : Type 0} (g : Ghosts S) (old first : Held S) (settled : IsTrue (sta
       audited = as_audit (Err fault) told opened;
     }
 
-    gave_up : (fault : Fault) → MayFail fault → IsAdopted g old end (Err fault)
+    gave_up : (fault : Fault) → MayFail fault → AdoptPost g old end (Err fault)
     gave_up fault may = none_adopted fault (λ clean defined. on_fault fault (Audited (state g old).now) may) (λ clean. on_fault fault (λ _. IsTrue (state g old).is_open) may)
 
   -- the examination gave up
   pub gives_up : (end : Held S) (fault : Fault) → MayFail fault → IsStep {V = AuditResult} {E = Fault} (state g (begun old)) (state g first) (Err fault) Looked
-      → Survives (state g first) (state g end) (λ _. ⊥) → (HasCleanDisk (state g end) → IsRolledBack (state g first) (state g end)) → IsAdopted g old end (Err fault)
+      → Survives (state g first) (state g end) (λ _. ⊥) → (HasCleanDisk (state g end) → IsRolledBack (state g first) (state g end)) → AdoptPost g old end (Err fault)
   gives_up end fault may step late back = gave_up first end (Err fault) Looked step late back fault may
 
   module _ (told : AuditResult) (step : IsStep {V = AuditResult} {E = Fault} (state g (begun old)) (state g first) (Ok told) Looked) where
@@ -204,13 +204,13 @@ module _ {S : Type 0} (g : Ghosts S) (old first : Held S) (settled : IsTrue (sta
     told_at end one is late clean defined = let l = looked end late clean in subst (λ e. Tells e (state g old).now) is (l.2 (defined (clean_then end late clean) l.0))
 
     -- a condition fails
-    pub fails : (end : Held S) (failing : Condition) → told ≡ Fails failing → Survives (state g first) (state g end) (λ _. ⊥) → (HasCleanDisk (state g end) → IsRolledBack (state g first) (state g end)) → IsAdopted g old end (Err (Damaged failing))
+    pub fails : (end : Held S) (failing : Condition) → told ≡ Fails failing → Survives (state g first) (state g end) (λ _. ⊥) → (HasCleanDisk (state g end) → IsRolledBack (state g first) (state g end)) → AdoptPost g old end (Err (Damaged failing))
     fails end failing is late back =
         none_adopted first end (Ok told) Looked step late back (Damaged failing) (told_at end (Fails failing) is late) (λ clean. (looked end late clean).0)
 
     -- a desk of the third schema passes, and is left as it is
     pub passes : (end : Held S) (schema : known.Schema) → told ≡ Succeeds schema → (schema_of schema).has_rule ≡ true → Survives (state g first) (state g end) (λ _. ⊥) → (HasCleanDisk (state g end) → IsRolledBack (state g first) (state g end))
-        → IsAdopted g old end (Ok tt)
+        → AdoptPost g old end (Ok tt)
     passes end schema is rule late back = record {
       told = now_told;
       opened = was_open;
@@ -248,7 +248,7 @@ module _ {S : Type 0} (g : Ghosts S) (old first : Held S) (settled : IsTrue (sta
     module _ (schema : known.Schema) (is : told ≡ Succeeds schema) (older : (schema_of schema).has_rule ≡ false) (mid : Held S) where
       -- the move gave up
       pub move_gives_up : (end : Held S) (fault : Fault) → MayFail fault → IsStep {V = Unit {0}} {E = Fault} (state g first) (state g mid) (Err fault) (λ _ a b. Upgrades (schema_of schema) a.now b.now)
-          → Survives (state g mid) (state g end) (λ _. ⊥) → (HasCleanDisk (state g end) → IsRolledBack (state g mid) (state g end)) → IsAdopted g old end (Err fault)
+          → Survives (state g mid) (state g end) (λ _. ⊥) → (HasCleanDisk (state g end) → IsRolledBack (state g mid) (state g end)) → AdoptPost g old end (Err fault)
       move_gives_up end fault may move late back =
           gave_up mid end (Err fault) (λ _ a b. Upgrades (schema_of schema) a.now b.now)
           (step_then (state g (begun old)) (state g first) (state g mid) told (Err fault) Looked (λ _ a b. Upgrades (schema_of schema) a.now b.now) (λ _ a b. Upgrades (schema_of schema) a.now b.now)
@@ -290,7 +290,7 @@ module _ {S : Type 0} (g : Ghosts S) (old first : Held S) (settled : IsTrue (sta
             let m = made_upgraded schema (state g old).now h.0 h.1 (defined (clean_old clean) (was_open clean)) in
             (schema, m.1, older_has_none schema older, m.2, (h.0, m.3, h.2))) over
 
-        nothing : (result : Result (Unit {0}) Fault) → (HasCleanDisk (state g end) → OnAnswer result (λ _. IsTrue (state g old).is_open)) → IsDefinedIn g old → HasThirdIn g old → IsAudited g old end result
+        nothing : (result : Result (Unit {0}) Fault) → (HasCleanDisk (state g end) → OnAnswer result (λ _. IsTrue (state g old).is_open)) → IsDefinedIn g old → HasThirdIn g old → AuditPost g old end result
         nothing result opened defined third = record {
           told = λ clean known. absurd (never defined third clean);
           opened = opened;
@@ -299,7 +299,7 @@ module _ {S : Type 0} (g : Ghosts S) (old first : Held S) (settled : IsTrue (sta
           survives = survives_weaker (state g old) (state g end) _ _ (λ clean trees h. never defined third clean) over;
         }
 
-        pub commits : (HasCleanDisk (state g end) → IsTrue (state g mid).in_transaction × Shows (state g mid) (state g end) (state g mid).now (state g mid).now false × KeepsCounts (state g mid) (state g end) × ((state g end).marks ≡ [])) → IsAdopted g old end (Ok tt)
+        pub commits : (HasCleanDisk (state g end) → IsTrue (state g mid).in_transaction × Shows (state g mid) (state g end) (state g mid).now (state g mid).now false × KeepsCounts (state g mid) (state g end) × ((state g end).marks ≡ [])) → AdoptPost g old end (Ok tt)
         commits done = record {
           told = λ clean defined. let p = (ends clean).2.0 (defined (clean_old clean) (was_open clean)) in (schema, p);
           opened = was_open;
@@ -317,7 +317,7 @@ module _ {S : Type 0} (g : Ghosts S) (old first : Held S) (settled : IsTrue (sta
             there : HasCleanDisk (state g end) → IsDefinedIn g old → IsUpgraded (state g old).now (state g end).now
             there clean defined = made_upgraded schema (state g old).now (state g end).now (ends clean).2 (defined (clean_old clean) (was_open clean))
 
-        pub commits_none : (e : Error) → (HasCleanDisk (state g end) → FailsToCommit (state g mid) (state g end) e) → IsAdopted g old end (Err Store)
+        pub commits_none : (e : Error) → (HasCleanDisk (state g end) → FailsToCommit (state g mid) (state g end) e) → AdoptPost g old end (Err Store)
         commits_none e fails = record {
           told = λ clean defined. tt;
           opened = λ clean. tt;

@@ -7,7 +7,7 @@ use Rattle.sqlite.specs.State.{State}
 use Rattle.brk_money.specs.declared.fault.Condition.{Condition}
 use Rattle.brk_money.specs.declared.fault.Condition.TheVariants as condition
 use Rattle.brk_money.specs.declared.fault.Fault.{Fault}
-use Rattle.brk_model.specs.Audit.{Holds, IsAudit, IsFirstFailing, row_conditions}
+use Rattle.brk_model.specs.Audit.{ConditionHolds, IsAudit, IsFirstFailing, row_conditions}
 use Rattle.brk_model.specs.Form.{has_form, has_texts}
 use Rattle.brk_model.specs.Schemas.{Schema, third_schema}
 use Rattle.brk_model.specs.Tables.{Tables}
@@ -54,7 +54,7 @@ one_failing schema (c ∷ cs) t a b (inr h) (inr k) = h.1 ∙ sym k.1
 
 -- rows that have not their form fail it
 form_fails : (schema : Schema) (t : Tables) → has_form schema t && has_texts t ≡ false → IsTrue (has_texts t) → IsAudit schema t (Some condition.Form)
-unfolding Holds
+unfolding ConditionHolds
 form_fails schema t h texts =
     inr ((λ (form : IsTrue (has_form schema t)). let e : has_form schema t && has_texts t ≡ true = rw (form, texts) refl in let f : true ≡ false = sym e ∙ h in absurd (cc)), refl)
 

@@ -10,7 +10,7 @@ use Rattle.brk_model.specs.Run.{MayFail}
 use Rattle.brk_model.specs.Schemas.{third_schema}
 use Rattle.brk_sql.specs.Model.{IsStep}
 use Rattle.brk_sql.proofs.Inside.{clean_before}
-use Rattle.brk_store.specs.Audited.{AuditedBy, IsAudited, IsThirdDefinedIn, OnAnswer}
+use Rattle.brk_store.specs.Audited.{AuditedBy, AuditPost, IsThirdDefinedIn, OnAnswer}
 use Rattle.brk_store.specs.Holds.{IsSame}
 use Rattle.brk_store.proofs.Answering.{Told}
 use Rattle.brk_store.proofs.Ending.{begun, rolled_back, still_holds, through}
@@ -42,9 +42,9 @@ module _ {S : Type 0} (g : Ghosts S) (old conn first mid end : Held S) (conn_is 
   told_then : HasCleanDisk (state g end) → IfOk out (λ answer. IsTrue (state g mid).in_transaction × Told answer (state g (begun conn)) (state g mid))
   told_then clean = in_transaction.made (clean_before (state g mid) (state g end) (λ _. ⊥) late clean) refl
 
-  audited : (result : Result (Unit {0}) Fault) → ((P : Option Condition → Type 0) → IfOk out P → OnAnswer result P) → IsAudited g old end result
+  audited : (result : Result (Unit {0}) Fault) → ((P : Option Condition → Type 0) → IfOk out P → OnAnswer result P) → AuditPost g old end result
   audited result answers =
-      subst (λ h. IsAudited g h end result) conn_is
+      subst (λ h. AuditPost g h end result) conn_is
       (record {
         told = λ clean defined. answers (AuditedBy third_schema (state g conn).now) (of_told (clean_before (state g conn) (state g end) (λ _. ⊥) whole clean) defined out (told_then clean));
         opened = λ clean. answers (λ _. IsTrue (state g conn).is_open) (of_open out (told_then clean));
@@ -68,20 +68,20 @@ module _ {S : Type 0} (g : Ghosts S) (old conn first mid end : Held S) where
   -- they pass
   pub audit_passes : (answer : Option Condition) → conn ≡ old → first ≡ begun conn → (IsTrue (state g conn).is_open → (state g conn).now ≡ (state g conn).committed)
       → IsStep {V = Option Condition} {E = Fault} (state g first) (state g mid) (Ok answer) Told → answer ≡ None
-      → Survives (state g mid) (state g end) (λ _. ⊥) → (HasCleanDisk (state g end) → IsRolledBack (state g mid) (state g end)) → IsAudited g old end (Ok tt)
+      → Survives (state g mid) (state g end) (λ _. ⊥) → (HasCleanDisk (state g end) → IsRolledBack (state g mid) (state g end)) → AuditPost g old end (Ok tt)
   audit_passes answer conn_is first_is settled step is late back =
       audited g old conn first mid end conn_is first_is settled (Ok answer) step late back (Ok tt) (λ P h. subst P is h)
 
   -- a condition fails
   pub audit_fails : (answer : Option Condition) (failing : Condition) → conn ≡ old → first ≡ begun conn → (IsTrue (state g conn).is_open → (state g conn).now ≡ (state g conn).committed)
       → IsStep {V = Option Condition} {E = Fault} (state g first) (state g mid) (Ok answer) Told → answer ≡ Some failing
-      → Survives (state g mid) (state g end) (λ _. ⊥) → (HasCleanDisk (state g end) → IsRolledBack (state g mid) (state g end)) → IsAudited g old end (Err (Damaged failing))
+      → Survives (state g mid) (state g end) (λ _. ⊥) → (HasCleanDisk (state g end) → IsRolledBack (state g mid) (state g end)) → AuditPost g old end (Err (Damaged failing))
   audit_fails answer failing conn_is first_is settled step is late back =
       audited g old conn first mid end conn_is first_is settled (Ok answer) step late back (Err (Damaged failing)) (λ P h. subst P is h)
 
   -- nothing was told
   pub audit_gives_up : (fault : Fault) → conn ≡ old → first ≡ begun conn → (IsTrue (state g conn).is_open → (state g conn).now ≡ (state g conn).committed)
       → IsStep {V = Option Condition} {E = Fault} (state g first) (state g mid) (Err fault) Told → MayFail fault
-      → Survives (state g mid) (state g end) (λ _. ⊥) → (HasCleanDisk (state g end) → IsRolledBack (state g mid) (state g end)) → IsAudited g old end (Err fault)
+      → Survives (state g mid) (state g end) (λ _. ⊥) → (HasCleanDisk (state g end) → IsRolledBack (state g mid) (state g end)) → AuditPost g old end (Err fault)
   audit_gives_up fault conn_is first_is settled step may late back =
       audited g old conn first mid end conn_is first_is settled (Err fault) step late back (Err fault) (λ P h. on_fault fault P may)

@@ -19,7 +19,7 @@ use Rattle.brk_tables_schema.specs.Desk.{desk}
 use Rattle.brk_tables_schema.specs.Made.{HasRows}
 use Rattle.brk_tables_create.specs.Made.{MakesDesk}
 use Rattle.brk_tables_create.specs.Present.{has_table_of_desk}
-use Rattle.brk_store.specs.Holds.{Holds, IsSame, IsRead, IsApplied, IsCreated}
+use Rattle.brk_store.specs.Holds.{Holds, IsSame, ReadPost, ApplyPost, CreatePost}
 
 abbrev pub begun : {S : Type 0} → Held S → Held S
 begun old = record old { in_transaction = true }
@@ -46,7 +46,7 @@ module _ {S : Type 0} (g : Ghosts S) (old mid end : Held S) (settled : IsTrue (s
 
   -- a read, whose transaction is dropped
   pub is_read : {V E : Type 0} (out : Result V E) (P : V → Tables → Type 0) → IsStep (state g (begun old)) (state g mid) out (λ v. Looks desk (P v)) → Survives (state g mid) (state g end) (λ _. ⊥)
-      → (HasCleanDisk (state g end) → IsRolledBack (state g mid) (state g end)) → IsRead g old end out P
+      → (HasCleanDisk (state g end) → IsRolledBack (state g mid) (state g end)) → ReadPost g old end out P
   is_read {V} {E} out P step late back =
       let whole = through out (λ v. Looks desk (P v)) step late in
       let kept = rolled_back out (λ v. Looks desk (P v)) (λ _. ⊥) step back late in
@@ -69,9 +69,9 @@ module _ {S : Type 0} (g : Ghosts S) (old mid end : Held S) (settled : IsTrue (s
 -- a read in a transaction that was begun over a store's connection
 pub is_read_of : {S V E : Type 0} (g : Ghosts S) (old conn first mid end : Held S) (out : Result V E) (P : V → Tables → Type 0) → conn ≡ old → first ≡ begun conn
     → (IsTrue (state g conn).is_open → (state g conn).now ≡ (state g conn).committed) → IsStep (state g first) (state g mid) out (λ v. Looks desk (P v))
-    → Survives (state g mid) (state g end) (λ _. ⊥) → (HasCleanDisk (state g end) → IsRolledBack (state g mid) (state g end)) → IsRead g old end out P
+    → Survives (state g mid) (state g end) (λ _. ⊥) → (HasCleanDisk (state g end) → IsRolledBack (state g mid) (state g end)) → ReadPost g old end out P
 is_read_of g old conn first mid end out P same first_is settled step late back =
-    subst (λ h. IsRead g h end out P) same
+    subst (λ h. ReadPost g h end out P) same
     (is_read g conn mid end settled out P (subst (λ h. IsStep (state g h) (state g mid) out (λ v. Looks desk (P v))) first_is step) late back)
 
 -- ---- a look before the changes, which shows that the store is open
@@ -112,7 +112,7 @@ module _ {S : Type 0} (g : Ghosts S) (old mid end : Held S) (settled : IsTrue (s
     leaves_now law clean db may = let it = all clean in law db it.1 may ∙ ap (λ (d : Database). d.trees) it.3
 
     pub applies : ((db : Trees) → IsTrue (state g end).is_open → (state g end).may_leave db → db ≡ (state g end).committed.trees) → (after : Tables → Tables) → ((a b : Database) → made a b → Turns desk after a b)
-        → IsApplied {V = Unit {0}} {E = Fault} g old end (Ok tt) after
+        → ApplyPost {V = Unit {0}} {E = Fault} g old end (Ok tt) after
     applies law after turns = record {
       made = λ t holds clean o.
           let it = all clean in
@@ -130,7 +130,7 @@ module _ {S : Type 0} (g : Ghosts S) (old mid end : Held S) (settled : IsTrue (s
     }
 
     pub creates : ((db : Trees) → IsTrue (state g end).is_open → (state g end).may_leave db → db ≡ (state g end).committed.trees) → ((a b : Database) → made a b → (has_table_of_desk a.schema ≡ false) × MakesDesk a b)
-        → IsCreated g old end (Ok tt)
+        → CreatePost g old end (Ok tt)
     creates law tells = record {
       made = λ clean o. (tells _ _ (all clean).2).1.rows;
       opened = λ clean. let it = all clean in (it.0, it.1, it.3);
@@ -144,7 +144,7 @@ module _ {S : Type 0} (g : Ghosts S) (old mid end : Held S) (settled : IsTrue (s
 
   module _ (e : Error) (fails : HasCleanDisk (state g end) → FailsToCommit (state g mid) (state g end) e) where
     -- it was open where the changes began
-    pub applies_none : (HasCleanDisk (state g mid) → IsTrue (state g old).is_open) → (fault : Fault) (after : Tables → Tables) → ((a b : Database) → made a b → Turns desk after a b) → IsApplied {V = Unit {0}} {E = Fault} g old end (Err fault) after
+    pub applies_none : (HasCleanDisk (state g mid) → IsTrue (state g old).is_open) → (fault : Fault) (after : Tables → Tables) → ((a b : Database) → made a b → Turns desk after a b) → ApplyPost {V = Unit {0}} {E = Fault} g old end (Err fault) after
     applies_none was_open fault after turns = record {
       made = tt;
       opened = λ clean. tt;
@@ -156,7 +156,7 @@ module _ {S : Type 0} (g : Ghosts S) (old mid end : Held S) (settled : IsTrue (s
       durable = λ clean. tt;
     }
 
-    pub commits_none : ((a b : Database) → made a b → (has_table_of_desk a.schema ≡ false) × MakesDesk a b) → IsCreated g old end (Err Store)
+    pub commits_none : ((a b : Database) → made a b → (has_table_of_desk a.schema ≡ false) × MakesDesk a b) → CreatePost g old end (Err Store)
     commits_none tells = record {
       made = tt;
       opened = λ clean. tt;

@@ -6,13 +6,13 @@ use Rattle.sqlite.specs.State.{HasCleanDisk}
 use Rattle.brk_model.specs.Tables.{Tables}
 use Rattle.brk_sql.proofs.Inside.{clean_before}
 use Rattle.brk_tables_schema.specs.Made.{HasRows}
-use Rattle.brk_store.specs.Holds.{Holds, IsRead}
+use Rattle.brk_store.specs.Holds.{Holds, ReadPost}
 use Rattle.brk_store.specs.Kept.{IsKept, clean_at, kept_read, kept_then}
 
 module _ {S : Type 0} (g : Ghosts S) where
   -- what was read tells this too, of rows that a database has
   pub retold_of : (old end : Held S) {V X E H : Type 0} (v : V) (x : X) (P : V → Tables → Type 0) (R : X → Tables → Type 0)
-      → ((t : Tables) → HasRows t (state g old).now → P v t → R x t) → IsRead {E = E} g old end (Ok v) P → IsRead {E = H} g old end (Ok x) R
+      → ((t : Tables) → HasRows t (state g old).now → P v t → R x t) → ReadPost {E = E} g old end (Ok v) P → ReadPost {E = H} g old end (Ok x) R
   retold_of old end v x P R tell read = record {
     told = λ clean t holds. tell t (holds (clean_before (state g old) (state g end) (λ _. ⊥) read.survives clean) (read.opened clean)) (read.told clean t holds);
     opened = read.opened;
@@ -23,11 +23,11 @@ module _ {S : Type 0} (g : Ghosts S) where
 
   -- what was read tells this too
   pub retold : (old end : Held S) {V X E H : Type 0} (v : V) (x : X) (P : V → Tables → Type 0) (R : X → Tables → Type 0)
-      → ((t : Tables) → P v t → R x t) → IsRead {E = E} g old end (Ok v) P → IsRead {E = H} g old end (Ok x) R
+      → ((t : Tables) → P v t → R x t) → ReadPost {E = E} g old end (Ok v) P → ReadPost {E = H} g old end (Ok x) R
   retold old end v x P R tell = retold_of old end v x P R (λ t has. tell t)
 
   -- a read after another tells of the rows that stood before both
-  pub read_after : (old mid end : Held S) {V W E F : Type 0} (v : V) (r : Result W F) (P : V → Tables → Type 0) (Q : W → Tables → Type 0) → IsRead {E = E} g old mid (Ok v) P → IsRead g mid end r Q → IsRead g old end r Q
+  pub read_after : (old mid end : Held S) {V W E F : Type 0} (v : V) (r : Result W F) (P : V → Tables → Type 0) (Q : W → Tables → Type 0) → ReadPost {E = E} g old mid (Ok v) P → ReadPost g mid end r Q → ReadPost g old end r Q
   read_after old mid end {V} {W} {E} {F} v r P Q first next = record {
     told = λ clean. tells r (next.told clean);
     opened = λ clean. opens r (first.opened (before clean)) (next.opened clean);

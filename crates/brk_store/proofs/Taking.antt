@@ -28,7 +28,7 @@ use Rattle.brk_sql.proofs.Inside.{clean_before}
 use Rattle.brk_tables_schema.specs.Made.{HasRowsIn}
 use Rattle.brk_tables_scan.specs.Schemas.{HasDesk}
 use Rattle.brk_tables_scan.proofs.Defined.{desk_is_there}
-use Rattle.brk_store.specs.Audited.{Answered, Audited, AuditedBy, HasDeskOf, IsUpgraded, HasThirdIn, HoldsBooks, IsAdopted, IsAudited, IsDefinedIn, IsThirdDefinedIn, OnAnswer}
+use Rattle.brk_store.specs.Audited.{Answered, Audited, AuditedBy, HasDeskOf, IsUpgraded, HasThirdIn, Represents, AdoptPost, AuditPost, IsDefinedIn, IsThirdDefinedIn, OnAnswer}
 use Rattle.brk_store.specs.Holds.{Holds}
 use Rattle.brk_store.proofs.Adoption.{upgraded_pass, upgraded_read}
 use Rattle.brk_store.proofs.Answering.{one_failing}
@@ -114,14 +114,14 @@ pub third_in : {S : Type 0} (g : Ghosts S) (held : Held S) (t : Tables) → Hold
 third_in g held t holds clean on = desk_of_rows t (state g held).now (holds clean on)
 
 module _ {S : Type 0} (g : Ghosts S) (old new : Held S) (result : Result (Unit {0}) Fault) where
-  module _ (audited : IsAudited g old new result) where
+  module _ (audited : AuditPost g old new result) where
     pub tells_of_rows : (t : Tables) → Holds g old t → IsTrue (has_texts t) → HasCleanDisk (state g new) → OnAnswer result (IsAudit third_schema t)
     tells_of_rows t holds texts clean =
         answer_with result (AuditedBy third_schema (state g old).now) (λ _. IsTrue (state g old).is_open) (IsAudit third_schema t)
         (λ answer h on. rows_answer Third (state g old).now t answer (rows_third t (state g old).now (holds (clean_before (state g old) (state g new) (λ _. ⊥) audited.survives clean) on)) texts h)
         (audited.told clean (third_defined_in g old t holds)) (audited.opened clean)
 
-    pub sound_books_pass : (base : Base) → HoldsBooks g old base → HasCleanDisk (state g new) → OnAnswer result (λ answer. answer ≡ None)
+    pub sound_books_pass : (base : Base) → Represents g old base → HasCleanDisk (state g new) → OnAnswer result (λ answer. answer ≡ None)
     sound_books_pass base holds clean =
         answer_with result (IsAudit third_schema (sheets base)) (λ _. IsTrue true) (λ answer. answer ≡ None)
         (λ answer h _. one_failing third_schema row_conditions (sheets base) answer None h (sound_passes base holds.books holds.sound))
@@ -135,17 +135,17 @@ module _ {S : Type 0} (g : Ghosts S) (old new : Held S) (result : Result (Unit {
         everything (Err Store) = tt
 
   -- the adoption of what holds rows of the third schema is an audit
-  pub third_audited : IsAdopted g old new result → (t : Tables) → Holds g old t → IsAudited g old new result
+  pub third_audited : AdoptPost g old new result → (t : Tables) → Holds g old t → AuditPost g old new result
   third_audited adopted t holds = adopted.audited (defined_in g old t holds) (third_in g old t holds)
 
 -- ---- adopted
 
-pub passing_books_held : {S : Type 0} (g : Ghosts S) (store : Held S) (t : Tables) → Holds g store t → Passes third_schema t → IsTrue (has_texts t) → HoldsBooks g store (base_of t)
+pub passing_books_held : {S : Type 0} (g : Ghosts S) (store : Held S) (t : Tables) → Holds g store t → Passes third_schema t → IsTrue (has_texts t) → Represents g store (base_of t)
 passing_books_held g store t holds passes texts =
     let e = passing_tables third_schema t passes in
     record { rows = subst (Holds g store) (sym e) holds; books = passing_books third_schema t passes; sound = passing_sound t passes; texts = subst (λ u. IsTrue (has_texts u)) (sym e) texts }
 
-pub adopted_books : {S : Type 0} (g : Ghosts S) (old new : Held S) → IsAdopted g old new (Ok tt) → IsDefinedIn g old → (base : Base) × HoldsBooks g new base
+pub adopted_books : {S : Type 0} (g : Ghosts S) (old new : Held S) → AdoptPost g old new (Ok tt) → IsDefinedIn g old → (base : Base) × Represents g new base
 adopted_books g old new is defined = let a = is.adopted defined in (base_of a.0, passing_books_held g new a.0 a.1 a.2 a.3)
 
 -- the books that a move leaves are those of the rows that passed
@@ -154,11 +154,11 @@ upgraded_base First t p = let m = upgraded_rows (schema_of First) t first_narrow
 upgraded_base Second t p = let m = upgraded_rows (schema_of Second) t second_narrower p in sym (ap base_of m.tables) ∙ m.base
 upgraded_base Third t p = ap base_of (passing_tables third_schema t p)
 
-pub upgraded_books : {S : Type 0} (g : Ghosts S) (new : Held S) (db : Database) → (m : IsUpgraded db (state g new).now) → HoldsBooks g new (base_of m.1)
+pub upgraded_books : {S : Type 0} (g : Ghosts S) (new : Held S) (db : Database) → (m : IsUpgraded db (state g new).now) → Represents g new (base_of m.1)
 upgraded_books g new db m =
-    subst (HoldsBooks g new) (upgraded_base m.0 m.1 m.2.2)
+    subst (Represents g new) (upgraded_base m.0 m.1 m.2.2)
     (passing_books_held g new (sheets (base_of m.1)) (λ _ _. m.3) (upgraded_pass m.0 m.1 m.2.2) (upgraded_read m.0 m.1 m.2.2 m.2.1))
 
-pub held_after : {S : Type 0} (g : Ghosts S) (old new : Held S) → IsAdopted g old new (Ok tt) → IsDefinedIn g old → HasCleanDisk (state g new) → IsTrue (state g new).is_open
-    → (schema : known.Schema) × (rows : Tables) × Answered (schema_of schema) rows (state g old).now None × HoldsBooks g new (base_of rows)
+pub held_after : {S : Type 0} (g : Ghosts S) (old new : Held S) → AdoptPost g old new (Ok tt) → IsDefinedIn g old → HasCleanDisk (state g new) → IsTrue (state g new).is_open
+    → (schema : known.Schema) × (rows : Tables) × Answered (schema_of schema) rows (state g old).now None × Represents g new (base_of rows)
 held_after g old new is defined clean on = let m = (is.upgraded clean on defined).0 in (m.0, m.1, m.2, upgraded_books g new (state g old).now m)

@@ -28,8 +28,8 @@ use Rattle.brk_book_theorems.proofs.LotReading.{All-sort}
 use Rattle.brk_book_theorems.proofs.Order.{by_key-filter, key_total}
 use Rattle.brk_tables_walks.specs.Lists.{cash_between, lots_by_symbol, stamp_key, symbol_key}
 use Rattle.brk_tables_walks.specs.Walks.{Walks}
-use Rattle.brk_tables_walks.specs.declared.walking.Stop.{Stop}
-use Rattle.brk_store.specs.Walked.{IsWalked, cash_of}
+use Rattle.brk_tables_walks.specs.declared.walking.WalkError.{WalkError}
+use Rattle.brk_store.specs.Walked.{WalkPost, cash_of}
 use Rattle.brk_store.proofs.Walking.{is_walked}
 
 -- ---- rows that stand by a number need no more of it in their order
@@ -158,12 +158,12 @@ moves_climb t db has = climbs (λ (r : MoveRow). r.id) (order CashMoves) (λ x y
 
 -- ---- walks of a store
 
-pub lots_walked : {S V E : Type 0} (g : Ghosts S) (old new : Held S) (account : ℕ) (takes : V → holding.HoldingRow → V → Type 0) (stops : V → holding.HoldingRow → E → V → Type 0) (before after : V) (result : Result (Unit {0}) (Stop E))
-    → Walks g old new holding_row_of (lots_by_symbol account) takes stops before after result → IsWalked g old new holding_row_of (λ t. lots_in t account) takes stops before after result
+pub lots_walked : {S V E : Type 0} (g : Ghosts S) (old new : Held S) (account : ℕ) (takes : V → holding.HoldingRow → V → Type 0) (stops : V → holding.HoldingRow → E → V → Type 0) (before after : V) (result : Result (Unit {0}) (WalkError E))
+    → Walks g old new holding_row_of (lots_by_symbol account) takes stops before after result → WalkPost g old new holding_row_of (λ t. lots_in t account) takes stops before after result
 lots_walked g old new account takes stops before after result w =
     is_walked g old new holding_row_of (lots_by_symbol account) (λ t. lots_in t account) takes stops before after (λ t has. lots_same account t (holdings_climb t (state g old).now has)) result w
 
-pub cash_walked : {S V E : Type 0} (g : Ghosts S) (old new : Held S) (account from to : ℕ) (takes : V → row.MoveRow → V → Type 0) (stops : V → row.MoveRow → E → V → Type 0) (before after : V) (result : Result (Unit {0}) (Stop E))
-    → Walks g old new move_row_of (cash_between account from to) takes stops before after result → IsWalked g old new move_row_of (cash_of account from to) takes stops before after result
+pub cash_walked : {S V E : Type 0} (g : Ghosts S) (old new : Held S) (account from to : ℕ) (takes : V → row.MoveRow → V → Type 0) (stops : V → row.MoveRow → E → V → Type 0) (before after : V) (result : Result (Unit {0}) (WalkError E))
+    → Walks g old new move_row_of (cash_between account from to) takes stops before after result → WalkPost g old new move_row_of (cash_of account from to) takes stops before after result
 cash_walked g old new account from to takes stops before after result w =
     is_walked g old new move_row_of (cash_between account from to) (cash_of account from to) takes stops before after (λ t has. cash_same account from to t (moves_climb t (state g old).now has)) result w

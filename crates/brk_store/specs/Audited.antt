@@ -22,9 +22,9 @@ use Rattle.brk_changes.specs.Schemas.{schema_of}
 use Rattle.brk_tables_schema.specs.Made.{HasRows, HasRowsIn, IsOf}
 use Rattle.brk_tables_upgrade.specs.Upgrade.{KeepsOtherTables}
 use Rattle.brk_tables_scan.specs.Schemas.{HasDesk, IsDefined, IsDefinedAs}
-use Rattle.brk_book_theorems.specs.Books.{IsBooks}
+use Rattle.brk_book_theorems.specs.Books.{BooksInvariant}
 use Rattle.brk_audit_theorems.specs.Passing.{Passes}
-use Rattle.brk_invariant_theorems.specs.Sound.{IsSound}
+use Rattle.brk_invariant_theorems.specs.Sound.{AuditInvariant}
 use Rattle.brk_store.specs.Holds.{AreTreesOf, Holds, IsSame}
 
 -- ---- what is answered
@@ -80,7 +80,7 @@ HasThirdIn g held = HasCleanDisk (state g held) → IsTrue (state g held).is_ope
 -- ---- an audit
 
 -- an audit by the third schema of what a connection or a store holds, which writes nothing
-pub record IsAudited {S : Type 0} (g : Ghosts S) (old new : Held S) (result : Result (Unit {0}) Fault) : Type 0 where
+pub record AuditPost {S : Type 0} (g : Ghosts S) (old new : Held S) (result : Result (Unit {0}) Fault) : Type 0 where
   -- it tells whether the rows pass, and else the first condition that fails
   pub told : HasCleanDisk (state g new) → IsThirdDefinedIn g old → OnAnswer result (AuditedBy third_schema (state g old).now)
   -- only of a database that is open
@@ -105,7 +105,7 @@ abbrev pub AreUpgraded : Database → Trees → Type 0
 AreUpgraded db trees = (schema : known.Schema) × (t : Tables) × (schema ≢ Third) × Answered (schema_of schema) t db None × AreTreesOf (sheets (base_of t)) trees
 
 -- the adoption of what a connection holds: an audit by the conditions of the schema that is there, and at Ok a store that holds the rows in the third
-pub record IsAdopted {S : Type 0} (g : Ghosts S) (old new : Held S) (result : Result (Unit {0}) Fault) : Type 0 where
+pub record AdoptPost {S : Type 0} (g : Ghosts S) (old new : Held S) (result : Result (Unit {0}) Fault) : Type 0 where
   -- it tells whether the rows pass, and else the first condition that fails
   pub told : HasCleanDisk (state g new) → IsDefinedIn g old → OnAnswer result (Audited (state g old).now)
   -- only of a database that is open
@@ -121,11 +121,11 @@ pub record IsAdopted {S : Type 0} (g : Ghosts S) (old new : Held S) (result : Re
   -- a crash leaves what it could leave before, or the tables of the base of rows of an older schema that passed
   pub survives : IsDefinedIn g old → Survives (state g old) (state g new) (AreUpgraded (state g old).now)
   -- of a desk of the third schema it is an audit, which writes nothing
-  pub audited : IsDefinedIn g old → HasThirdIn g old → IsAudited g old new result
+  pub audited : IsDefinedIn g old → HasThirdIn g old → AuditPost g old new result
 
 -- the store holds the tables of sound books in order, whose texts can be read
-pub record HoldsBooks {S : Type 0} (g : Ghosts S) (store : Held S) (base : Base) : Type 0 where
+pub record Represents {S : Type 0} (g : Ghosts S) (store : Held S) (base : Base) : Type 0 where
   pub rows : Holds g store (sheets base)
-  pub books : IsBooks base
-  pub sound : IsSound base
+  pub books : BooksInvariant base
+  pub sound : AuditInvariant base
   pub texts : IsTrue (has_texts (sheets base))

@@ -23,8 +23,8 @@ abbrev pub AreTreesOf : Tables → Trees → Type 0
 AreTreesOf t trees = (db : Database) × HasRows t db × (trees ≡ db.trees)
 
 -- all that a crash leaves are these trees
-abbrev pub LeavesOnly : {S : Type 0} → Ghosts S → Held S → (Trees → Type 0) → Type 0
-LeavesOnly g store P = (trees : Trees) → (state g store).may_leave trees → P trees
+abbrev pub OnlyCrashState : {S : Type 0} → Ghosts S → Held S → (Trees → Type 0) → Type 0
+OnlyCrashState g store P = (trees : Trees) → (state g store).may_leave trees → P trees
 
 -- the whole database is as it was, which was open
 pub record IsSame (old new : State) : Type 0 where
@@ -33,7 +33,7 @@ pub record IsSame (old new : State) : Type 0 where
   pub committed : new.committed ≡ old.committed
 
 -- a call that reads
-pub record IsRead {S V E : Type 0} (g : Ghosts S) (old new : Held S) (result : Result V E) (Told : V → Tables → Type 0) : Type 0 where
+pub record ReadPost {S V E : Type 0} (g : Ghosts S) (old new : Held S) (result : Result V E) (Told : V → Tables → Type 0) : Type 0 where
   -- the answer is so of whatever rows the store holds
   pub told : HasCleanDisk (state g new) → IfOk result (λ answer. (t : Tables) → Holds g old t → Told answer t)
   -- only a store that is open answers
@@ -46,7 +46,7 @@ pub record IsRead {S V E : Type 0} (g : Ghosts S) (old new : Held S) (result : R
   pub survives : Survives (state g old) (state g new) (λ _. ⊥)
 
 -- a call that changes the rows, wholly or not at all
-pub record IsApplied {S V E : Type 0} (g : Ghosts S) (old new : Held S) (result : Result V E) (after : Tables → Tables) : Type 0 where
+pub record ApplyPost {S V E : Type 0} (g : Ghosts S) (old new : Held S) (result : Result V E) (after : Tables → Tables) : Type 0 where
   -- at Ok the rows are the changed ones, and committed
   pub made : OnOk result ((t : Tables) → Holds g old t → Holds g new (after t))
   pub opened : HasCleanDisk (state g new) → OnOk result (IsTrue (state g old).is_open × IsTrue (state g new).is_open × ((state g new).committed ≡ (state g new).now))
@@ -58,10 +58,10 @@ pub record IsApplied {S V E : Type 0} (g : Ghosts S) (old new : Held S) (result 
   -- a crash leaves what it could leave before, or the changed rows, and these only where the store was open
   pub survives : Survives (state g old) (state g new) (λ trees. IsTrue (state g old).is_open × ((t : Tables) → HasRows t (state g old).now → AreTreesOf (after t) trees))
   -- at Ok it leaves the changed rows and nothing else
-  pub durable : HasCleanDisk (state g new) → OnOk result ((t : Tables) → Holds g old t → LeavesOnly g new (AreTreesOf (after t)))
+  pub durable : HasCleanDisk (state g new) → OnOk result ((t : Tables) → Holds g old t → OnlyCrashState g new (AreTreesOf (after t)))
 
 -- the making of the tables, wholly or not at all
-pub record IsCreated {S : Type 0} (g : Ghosts S) (old new : Held S) (result : Result (Unit {0}) Fault) : Type 0 where
+pub record CreatePost {S : Type 0} (g : Ghosts S) (old new : Held S) (result : Result (Unit {0}) Fault) : Type 0 where
   -- at Ok the tables are there without rows, and committed, and none of them was there
   pub made : OnOk result (Holds g new no_rows)
   pub opened : HasCleanDisk (state g new) → OnOk result (IsTrue (state g old).is_open × IsTrue (state g new).is_open × ((state g new).committed ≡ (state g new).now))
@@ -75,7 +75,7 @@ pub record IsCreated {S : Type 0} (g : Ghosts S) (old new : Held S) (result : Re
   -- a crash leaves what it could leave before, or the tables without rows
   pub survives : Survives (state g old) (state g new) (AreTreesOf no_rows)
   -- at Ok it leaves the tables without rows and nothing else
-  pub durable : HasCleanDisk (state g new) → OnOk result (LeavesOnly g new (AreTreesOf no_rows))
+  pub durable : HasCleanDisk (state g new) → OnOk result (OnlyCrashState g new (AreTreesOf no_rows))
 
 -- a connection that was opened over these trees, under the schema that they list
 pub record IsOpenedOver {S : Type 0} (g : Ghosts S) (trees : Trees) (conn : Held S) : Type 0 where

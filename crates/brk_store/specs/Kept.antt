@@ -7,7 +7,7 @@ use Rattle.sqlite.specs.State.{HasCleanDisk, Survives}
 use Rattle.sqlite.proofs.StateLemmas.{survives_then}
 use Rattle.brk_model.specs.Tables.{Tables}
 use Rattle.brk_sql.proofs.Inside.{clean_before}
-use Rattle.brk_store.specs.Holds.{Holds, IsRead, IsSame}
+use Rattle.brk_store.specs.Holds.{Holds, ReadPost, IsSame}
 
 -- what reads may make of a store: it holds what it held, the whole database is as it was, and a crash leaves what it left
 pub record IsKept {S : Type 0} (g : Ghosts S) (old new : Held S) : Type 0 where
@@ -29,7 +29,7 @@ module _ {S : Type 0} {g : Ghosts S} where
     survives = survives_then (state g p) (state g q) (state g r) (λ _. ⊥) (λ _. ⊥) (λ _. ⊥) (λ _ db none. none) (λ _ db none. none) a.survives b.survives;
   }
 
-  pub kept_read : {V E : Type 0} (old new : Held S) (result : _) (Told : _) → IsRead {V = V} {E = E} g old new result Told → IsKept g old new
+  pub kept_read : {V E : Type 0} (old new : Held S) (result : _) (Told : _) → ReadPost {V = V} {E = E} g old new result Told → IsKept g old new
   kept_read old new result Told r = record { kept = r.kept; same = r.same; survives = r.survives }
 
 pub kept_none : {S : Type 0} {g : Ghosts S} (old : Held S) → IsKept g old old

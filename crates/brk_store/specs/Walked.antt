@@ -7,8 +7,8 @@ use Rattle.brk_money.specs.declared.fault.Fault.{Fault}
 use Rattle.brk_model.specs.Statement.{cash_in}
 use Rattle.brk_model.specs.Tables.{Tables, MoveRow}
 use Rattle.brk_tables_walks.specs.Walks.{BreaksOff, Takes}
-use Rattle.brk_tables_walks.specs.declared.walking.Stop.{Stop}
-use Rattle.brk_tables_walks.specs.declared.walking.Stop.TheVariants.{Failed, Cause}
+use Rattle.brk_tables_walks.specs.declared.walking.WalkError.{WalkError}
+use Rattle.brk_tables_walks.specs.declared.walking.WalkError.TheVariants.{Failed, Cause}
 use Rattle.brk_store.specs.Holds.{Holds, IsSame}
 
 -- the cash rows of an account from one stamp to another, both included, by rising stamp
@@ -24,8 +24,8 @@ abbrev pub AreFirst : {S M : Type 0} → Ghosts S → Held S → (Tables → Lis
 AreFirst {S} {M} g store list first = (t : Tables) → Holds g store t → (rest : List M) × (first ++ rest ≡ list t)
 
 -- a walk hands the records of a list to a visitor, one at a time and in order, until it stops at one
-pub record IsWalked {S X M V E : Type 0} (g : Ghosts S) (old new : Held S) (of : X → M) (list : Tables → List M) (takes : V → X → V → Type 0) (stops : V → X → E → V → Type 0)
-    (before after : V) (result : Result (Unit {0}) (Stop E)) : Type 0 where
+pub record WalkPost {S X M V E : Type 0} (g : Ghosts S) (old new : Held S) (of : X → M) (list : Tables → List M) (takes : V → X → V → Type 0) (stops : V → X → E → V → Type 0)
+    (before after : V) (result : Result (Unit {0}) (WalkError E)) : Type 0 where
   -- at Ok it has taken each of them
   pub all : HasCleanDisk (state g new) → OnOk result (Takes (AreAll g old list) of takes before after)
   -- else the first of them, and at its own cause it stopped at the next
@@ -40,7 +40,7 @@ pub record IsWalked {S X M V E : Type 0} (g : Ghosts S) (old new : Held S) (of :
   pub survives : Survives (state g old) (state g new) (λ _. ⊥)
 
 -- the answer of a walk that calls a closure: its own error as it came, and a fault made one of its errors
-abbrev pub AnswersAs : {E : Type 0} → (Fault → E → Type 0) → Result (Unit {0}) (Stop E) → Result (Unit {0}) E → Type 0
+abbrev pub AnswersAs : {E : Type 0} → (Fault → E → Type 0) → Result (Unit {0}) (WalkError E) → Result (Unit {0}) E → Type 0
 AnswersAs {E} gives (Ok u) result = result ≡ Ok tt
 AnswersAs {E} gives (Err (Cause e)) result = result ≡ Err e
 AnswersAs {E} gives (Err (Failed fault)) result = (e : E) × (result ≡ Err e) × gives fault e
@@ -48,4 +48,4 @@ AnswersAs {E} gives (Err (Failed fault)) result = (e : E) × (result ≡ Err e) 
 -- a walk calls a closure at each record of a list, in order, until it gives an error, which is the answer
 abbrev pub CallsEach : {S X M F E : Type 0} → Ghosts S → Held S → Held S → (X → M) → (Tables → List M) → (F → X → Result (Unit {0}) E → F → Type 0) → (Fault → E → Type 0) → F → Result (Unit {0}) E → Type 0
 CallsEach {S} {X} {M} {F} {E} g old new of list called gives call result =
-    (last : F) × (outcome : Result (Unit {0}) (Stop E)) × IsWalked g old new of list (λ p x q. called p x (Ok tt) q) (λ p x e q. called p x (Err e) q) call last outcome × AnswersAs gives outcome result
+    (last : F) × (outcome : Result (Unit {0}) (WalkError E)) × WalkPost g old new of list (λ p x q. called p x (Ok tt) q) (λ p x e q. called p x (Err e) q) call last outcome × AnswersAs gives outcome result

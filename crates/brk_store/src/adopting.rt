@@ -15,7 +15,7 @@ ghost use Rattle.brk_model.specs.Tables.{Tables};
 ghost use Rattle.brk_changes.specs.declared.schema.Schema.{Schema};
 ghost use Rattle.brk_changes.specs.Schemas.{schema_of};
 ghost use Rattle.brk_audit_theorems.specs.Passing.{Passes};
-ghost use Rattle.brk_store.specs.Audited.{Answered, Audited, AuditedBy, HasThirdIn, HoldsBooks, IsAdopted, IsAudited, IsDefinedIn, OnAnswer};
+ghost use Rattle.brk_store.specs.Audited.{Answered, Audited, AuditedBy, HasThirdIn, Represents, AdoptPost, AuditPost, IsDefinedIn, OnAnswer};
 ghost use Rattle.brk_store.specs.Holds.{Holds};
 
 use sqlite::Alter;
@@ -36,22 +36,22 @@ pub fn a_desk_is_defined<S: Alter>()
 /// An audit of a store that holds rows tells what is so of these rows; of the rows of sound books in order, that they pass.
 pub fn an_audit_tells_of_the_rows<S: Alter>()
     ensures rows { (old new : Held S) (result : Result (Unit {0}) Fault) (t : Tables)
-        → IsAudited S.Store old new result → Holds S.Store old t → IsTrue (has_texts t) → HasCleanDisk (state S.Store new) → OnAnswer result (IsAudit third_schema t) }
+        → AuditPost S.Store old new result → Holds S.Store old t → IsTrue (has_texts t) → HasCleanDisk (state S.Store new) → OnAnswer result (IsAudit third_schema t) }
     ensures books { (old new : Held S) (result : Result (Unit {0}) Fault) (base : Base)
-        → IsAudited S.Store old new result → HoldsBooks S.Store old base → HasCleanDisk (state S.Store new) → OnAnswer result (λ answer. answer ≡ None) }
+        → AuditPost S.Store old new result → Represents S.Store old base → HasCleanDisk (state S.Store new) → OnAnswer result (λ answer. answer ≡ None) }
 {}
 
 /// The adoption of what holds rows of the third schema is an audit: it writes nothing.
 pub fn an_adoption_of_rows_is_an_audit<S: Alter>()
     ensures { (old new : Held S) (result : Result (Unit {0}) Fault) (t : Tables)
-        → IsAdopted S.Store old new result → Holds S.Store old t → IsAudited S.Store old new result }
+        → AdoptPost S.Store old new result → Holds S.Store old t → AuditPost S.Store old new result }
 {}
 
 /// A store whose rows pass holds the tables of a base in order and sound, of the base that the rows give; so does one that was adopted: of
 /// the base that the rows gave that were found, in whichever schema.
 pub fn an_adopted_store_holds_its_books<S: Alter>()
-    ensures rows { (store : Held S) (t : Tables) → Holds S.Store store t → Passes third_schema t → IsTrue (has_texts t) → HoldsBooks S.Store store (base_of t) }
-    ensures adopted { (old new : Held S) → IsAdopted S.Store old new (Ok tt) → IsDefinedIn S.Store old → (base : Base) × HoldsBooks S.Store new base }
-    ensures found { (old new : Held S) → IsAdopted S.Store old new (Ok tt) → IsDefinedIn S.Store old → HasCleanDisk (state S.Store new) → IsTrue (state S.Store new).is_open
-        → (schema : Schema) × (rows : Tables) × Answered (schema_of schema) rows (state S.Store old).now None × HoldsBooks S.Store new (base_of rows) }
+    ensures rows { (store : Held S) (t : Tables) → Holds S.Store store t → Passes third_schema t → IsTrue (has_texts t) → Represents S.Store store (base_of t) }
+    ensures adopted { (old new : Held S) → AdoptPost S.Store old new (Ok tt) → IsDefinedIn S.Store old → (base : Base) × Represents S.Store new base }
+    ensures found { (old new : Held S) → AdoptPost S.Store old new (Ok tt) → IsDefinedIn S.Store old → HasCleanDisk (state S.Store new) → IsTrue (state S.Store new).is_open
+        → (schema : Schema) × (rows : Tables) × Answered (schema_of schema) rows (state S.Store old).now None × Represents S.Store new (base_of rows) }
 {}

@@ -7,7 +7,7 @@ ghost use Rattle.brk_model.specs.Run.{MayFail};
 ghost use Rattle.brk_model.specs.Schemas.{third_schema};
 ghost use Rattle.brk_changes.specs.Schemas.{schema_of};
 ghost use Rattle.brk_sql.specs.Model.{Steps};
-ghost use Rattle.brk_store.specs.Audited.{AuditedBy, IsAudited};
+ghost use Rattle.brk_store.specs.Audited.{AuditedBy, AuditPost};
 ghost use Rattle.brk_tables_scan.specs.Schemas.{HasDesk, IsDefinedAs};
 
 use crate::Store;
@@ -58,7 +58,7 @@ fn first_failing<S: Alter>(
 fn audit_desk<S: Alter>(conn: &mut Connection<S>, alloc: Global) -> Result<(), Fault>
     requires { conn.old.in_transaction ≡ false }
     ensures mode { conn.new.in_transaction ≡ false }
-    ensures audited { IsAudited S.Store conn.old conn.new result }
+    ensures audited { AuditPost S.Store conn.old conn.new result }
     ensures condition { IfErr result (λ f. f ≢ fault.Damaged NotEmpty) }
 {
     let mut tx = begin(conn);
@@ -73,7 +73,7 @@ impl<S: Alter> Store<S> {
     ///
     /// Fails with `Damaged` and the first condition that fails, or with `Memory` or `Store`.
     pub fn audit(&mut self, alloc: Global) -> Result<(), Fault>
-        ensures audited { IsAudited S.Store self.old self.new result }
+        ensures audited { AuditPost S.Store self.old self.new result }
         ensures condition { IfErr result (λ f. f ≢ fault.Damaged NotEmpty) }
     {
         audit_desk(&mut self.conn, alloc)

@@ -4,7 +4,7 @@ ghost use Rattle.std.specs.Prelude.{◌==◌, IfErr, bytes_eq};
 ghost use Rattle.brk_changes.specs.Rows.{request_row_of};
 ghost use Rattle.brk_model.specs.Run.{MayFail};
 ghost use Rattle.brk_ref.specs.Records.{broker_row_of};
-ghost use Rattle.brk_store.specs.Holds.{IsRead};
+ghost use Rattle.brk_store.specs.Holds.{ReadPost};
 ghost use Rattle.brk_tables_schema.specs.Desk.{Brokers, Requests};
 ghost use Rattle.brk_tables_schema.specs.Statements.{Listed};
 
@@ -20,7 +20,7 @@ use std::alloc::Global;
 impl<S: Alter> Store<S> {
     /// The brokers with a name, by rising id.
     pub fn brokers_named(&mut self, alloc: Global, name: &Name) -> Result<Vec<BrokerRow>, Fault>
-        ensures read { IsRead S.Store self.old self.new result (Listed Brokers broker_row_of (λ r. bytes_eq r.name name.now)) }
+        ensures read { ReadPost S.Store self.old self.new result (Listed Brokers broker_row_of (λ r. bytes_eq r.name name.now)) }
         ensures fault { IfErr result MayFail }
     {
         let mut tx = begin(&mut self.conn);
@@ -33,7 +33,7 @@ impl<S: Alter> Store<S> {
         alloc: Global,
         broker: Id,
     ) -> Result<Vec<RequestRow>, Fault>
-        ensures read { IsRead S.Store self.old self.new result (Listed Requests request_row_of (λ r. r.broker == broker)) }
+        ensures read { ReadPost S.Store self.old self.new result (Listed Requests request_row_of (λ r. r.broker == broker)) }
         ensures fault { IfErr result MayFail }
     {
         let mut tx = begin(&mut self.conn);

@@ -7,7 +7,7 @@ ghost use Rattle.brk_model.specs.Limits.{greatest_id};
 ghost use Rattle.brk_model.specs.LookupView.{is_cash_of};
 ghost use Rattle.brk_changes.specs.Rows.{move_row_of};
 ghost use Rattle.brk_book_theorems.specs.TradeReads.{last_move};
-ghost use Rattle.brk_store.specs.Holds.{IsRead};
+ghost use Rattle.brk_store.specs.Holds.{ReadPost};
 ghost use Rattle.brk_tables_schema.specs.Desk.{CashMoves};
 ghost use Rattle.brk_tables_schema.specs.Statements.{Found};
 
@@ -25,7 +25,7 @@ impl<S: Alter> Store<S> {
     /// Returns the settlement day, the first day whose completions settle after one day, or `None`
     /// if none is set. Fails with `Store` only.
     pub fn one_day(&mut self) -> Result<Option<Day>, Fault>
-        ensures read { IsRead S.Store self.old self.new result (λ day t. day ≡ t.rule) }
+        ensures read { ReadPost S.Store self.old self.new result (λ day t. day ≡ t.rule) }
         ensures fault { OnErr result (result ≡ Err fault.Store) }
     {
         let mut tx = begin(&mut self.conn);
@@ -34,7 +34,7 @@ impl<S: Alter> Store<S> {
 
     /// Returns the cash row of a trade, or `None` if it has none. Fails with `Store` only.
     pub fn cash_row(&mut self, trade: Id) -> Result<Option<MoveRow>, Fault>
-        ensures read { IsRead S.Store self.old self.new result (Found CashMoves move_row_of (is_cash_of trade)) }
+        ensures read { ReadPost S.Store self.old self.new result (Found CashMoves move_row_of (is_cash_of trade)) }
         ensures fault { OnErr result (result ≡ Err fault.Store) }
     {
         let mut tx = begin(&mut self.conn);
@@ -43,7 +43,7 @@ impl<S: Alter> Store<S> {
 
     // Returns the cash row with the greatest number, if there is one.
     fn last_cash_row(&mut self) -> Result<Option<MoveRow>, Fault>
-        ensures read { IsRead S.Store self.old self.new result (λ o t. option_map move_row_of o ≡ slice_get (reverse t.moves) 0) }
+        ensures read { ReadPost S.Store self.old self.new result (λ o t. option_map move_row_of o ≡ slice_get (reverse t.moves) 0) }
         ensures fault { OnErr result (result ≡ Err fault.Store) }
     {
         let mut tx = begin(&mut self.conn);
@@ -53,7 +53,7 @@ impl<S: Alter> Store<S> {
     // Returns whether there are at least `ALL_MOVEMENTS` deposits and withdrawals. The database
     // goes over all cash rows.
     fn has_all_movements(&mut self) -> Result<bool, Fault>
-        ensures read { IsRead S.Store self.old self.new result (λ all t. all ≡ nat_le greatest_id (length (filter (λ r. is_none r.trade) t.moves))) }
+        ensures read { ReadPost S.Store self.old self.new result (λ all t. all ≡ nat_le greatest_id (length (filter (λ r. is_none r.trade) t.moves))) }
         ensures fault { OnErr result (result ≡ Err fault.Store) }
     {
         let mut tx = begin(&mut self.conn);
@@ -63,7 +63,7 @@ impl<S: Alter> Store<S> {
     /// Returns the number of the next cash row: one more than the greatest, or 1 if there is none.
     /// Fails with `Store` only, also if no number is left.
     pub fn next_move(&mut self) -> Result<MoveId, Fault>
-        ensures read { IsRead S.Store self.old self.new result (λ next t. next ≡ last_move t + 1) }
+        ensures read { ReadPost S.Store self.old self.new result (λ next t. next ≡ last_move t + 1) }
         ensures fault { OnErr result (result ≡ Err fault.Store) }
     {
         let number = match self.last_cash_row()? {
@@ -80,7 +80,7 @@ impl<S: Alter> Store<S> {
     /// number below it, which need not be their number. Counts them only if the number of the next
     /// cash row allows that many. Fails with `Store` only.
     pub fn movements_for_limit(&mut self) -> Result<u64, Fault>
-        ensures read { IsRead S.Store self.old self.new result (λ count t. nat_le greatest_id count ≡ nat_le greatest_id (length (filter (λ r. is_none r.trade) t.moves))) }
+        ensures read { ReadPost S.Store self.old self.new result (λ count t. nat_le greatest_id count ≡ nat_le greatest_id (length (filter (λ r. is_none r.trade) t.moves))) }
         ensures fault { OnErr result (result ≡ Err fault.Store) }
     {
         let next = self.next_move()?;

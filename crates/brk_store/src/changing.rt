@@ -8,7 +8,7 @@ ghost use Rattle.brk_sql.specs.Desk.{Turns};
 ghost use Rattle.brk_sql.specs.Model.{IsStep};
 ghost use Rattle.brk_tables_schema.specs.Desk.{desk};
 ghost use Rattle.brk_changes.specs.Changes.{after_change, after_changes};
-ghost use Rattle.brk_store.specs.Holds.{IsApplied, IsCreated};
+ghost use Rattle.brk_store.specs.Holds.{ApplyPost, CreatePost};
 
 use brk_changes::Change;
 use brk_money::{Condition, Fault};
@@ -101,7 +101,7 @@ fn make_all<S: Alter>(tx: &mut Transaction<'_, S>, changes: &[Change]) -> Result
 pub(crate) fn apply_all<S: Alter>(conn: &mut Connection<S>, changes: &[Change]) -> Result<(), Fault>
     requires { conn.old.in_transaction ≡ false }
     ensures mode { conn.new.in_transaction ≡ false }
-    ensures applied { IsApplied S.Store conn.old conn.new result (after_changes changes.now) }
+    ensures applied { ApplyPost S.Store conn.old conn.new result (after_changes changes.now) }
     ensures fault { OnErr result (result ≡ Err fault.Store) }
 {
     let _settled = conn.is_autocommit();
@@ -119,7 +119,7 @@ pub(crate) fn apply_all<S: Alter>(conn: &mut Connection<S>, changes: &[Change]) 
 pub(crate) fn make_desk<S: Alter>(conn: &mut Connection<S>) -> Result<(), Fault>
     requires { conn.old.in_transaction ≡ false }
     ensures mode { conn.new.in_transaction ≡ false }
-    ensures created { IsCreated S.Store conn.old conn.new result }
+    ensures created { CreatePost S.Store conn.old conn.new result }
     ensures fault { IfErr result (λ f. (f ≡ fault.Store) ⊎ (f ≡ fault.Damaged NotEmpty)) }
 {
     let _settled = conn.is_autocommit();

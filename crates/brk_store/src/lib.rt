@@ -23,6 +23,6 @@ mod updates;
 mod upgrading;
 pub mod walks;
 
-pub use brk_tables_walks::{Stop, Visitor};
+pub use brk_tables_walks::{Visitor, WalkError};
 pub use pages::{LotPages, Page, Pages};
 pub use store::Store;

@@ -4,7 +4,7 @@ ghost use Rattle.std.specs.Prelude.{◌≡◌, ◌==◌, IfErr, map, take};
 ghost use Rattle.brk_changes.specs.Rows.{history_row_of, trade_row_of};
 ghost use Rattle.brk_model.specs.Joins.{recent_first, trades_in};
 ghost use Rattle.brk_model.specs.Run.{MayFail};
-ghost use Rattle.brk_store.specs.Holds.{IsRead};
+ghost use Rattle.brk_store.specs.Holds.{ReadPost};
 ghost use Rattle.brk_tables_schema.specs.Desk.{TradeHistory};
 ghost use Rattle.brk_tables_schema.specs.Statements.{Listed};
 
@@ -23,7 +23,7 @@ impl<S: Alter> Store<S> {
         alloc: Global,
         account: Id,
     ) -> Result<Vec<TradeRow>, Fault>
-        ensures read { IsRead S.Store self.old self.new result (λ all t. map trade_row_of all.items ≡ take 10 (recent_first (trades_in t account))) }
+        ensures read { ReadPost S.Store self.old self.new result (λ all t. map trade_row_of all.items ≡ take 10 (recent_first (trades_in t account))) }
         ensures fault { IfErr result MayFail }
     {
         let mut tx = begin(&mut self.conn);
@@ -36,7 +36,7 @@ impl<S: Alter> Store<S> {
         alloc: Global,
         account: Id,
     ) -> Result<Vec<TradeRow>, Fault>
-        ensures read { IsRead S.Store self.old self.new result (λ all t. map trade_row_of all.items ≡ take 50 (recent_first (trades_in t account))) }
+        ensures read { ReadPost S.Store self.old self.new result (λ all t. map trade_row_of all.items ≡ take 50 (recent_first (trades_in t account))) }
         ensures fault { IfErr result MayFail }
     {
         let mut tx = begin(&mut self.conn);
@@ -45,7 +45,7 @@ impl<S: Alter> Store<S> {
 
     /// When a trade came to its statuses, by the codes of these.
     pub fn history_of(&mut self, alloc: Global, trade: Id) -> Result<Vec<HistoryRow>, Fault>
-        ensures read { IsRead S.Store self.old self.new result (Listed TradeHistory history_row_of (λ r. r.trade == trade)) }
+        ensures read { ReadPost S.Store self.old self.new result (Listed TradeHistory history_row_of (λ r. r.trade == trade)) }
         ensures fault { IfErr result MayFail }
     {
         let mut tx = begin(&mut self.conn);

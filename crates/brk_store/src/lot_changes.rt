@@ -3,7 +3,7 @@
 ghost use Rattle.std.specs.Prelude.{◌==◌, IfErr};
 ghost use Rattle.brk_changes.specs.Rows.{lot_change_of};
 ghost use Rattle.brk_model.specs.Run.{MayFail};
-ghost use Rattle.brk_store.specs.Holds.{IsRead};
+ghost use Rattle.brk_store.specs.Holds.{ReadPost};
 ghost use Rattle.brk_tables_schema.specs.Desk.{HoldingHistory};
 ghost use Rattle.brk_tables_schema.specs.Statements.{Listed};
 
@@ -18,7 +18,7 @@ use std::alloc::Global;
 impl<S: Alter> Store<S> {
     /// What a trade made of the lots that it touched.
     pub fn changes_by(&mut self, alloc: Global, trade: Id) -> Result<Vec<LotChange>, Fault>
-        ensures read { IsRead S.Store self.old self.new result (Listed HoldingHistory lot_change_of (λ r. r.trade == trade)) }
+        ensures read { ReadPost S.Store self.old self.new result (Listed HoldingHistory lot_change_of (λ r. r.trade == trade)) }
         ensures fault { IfErr result MayFail }
     {
         let mut tx = begin(&mut self.conn);
@@ -27,7 +27,7 @@ impl<S: Alter> Store<S> {
 
     /// What trades made of the lot that a trade opened.
     pub fn changes_of(&mut self, alloc: Global, lot: Id) -> Result<Vec<LotChange>, Fault>
-        ensures read { IsRead S.Store self.old self.new result (Listed HoldingHistory lot_change_of (λ r. r.lot == lot)) }
+        ensures read { ReadPost S.Store self.old self.new result (Listed HoldingHistory lot_change_of (λ r. r.lot == lot)) }
         ensures fault { IfErr result MayFail }
     {
         let mut tx = begin(&mut self.conn);

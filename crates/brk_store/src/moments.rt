@@ -7,7 +7,7 @@ ghost use Rattle.brk_changes.specs.Rows.{trade_row_of};
 ghost use Rattle.brk_model.specs.Joins.{oldest_first_rows, trades_in};
 ghost use Rattle.brk_model.specs.LookupView.{is_between};
 ghost use Rattle.brk_model.specs.Run.{MayFail};
-ghost use Rattle.brk_store.specs.Holds.{IsRead};
+ghost use Rattle.brk_store.specs.Holds.{ReadPost};
 
 use crate::Store;
 use crate::beginning::begin;
@@ -27,7 +27,7 @@ impl<S: Alter> Store<S> {
         account: Id,
         span: Span,
     ) -> Result<Vec<TradeRow>, Fault>
-        ensures read { IsRead S.Store self.old self.new result (λ all t. map trade_row_of all.items ≡ take 20 (oldest_first_rows (filter (λ r. (r.account == account) && is_between span.first span.last r) t.trades))) }
+        ensures read { ReadPost S.Store self.old self.new result (λ all t. map trade_row_of all.items ≡ take 20 (oldest_first_rows (filter (λ r. (r.account == account) && is_between span.first span.last r) t.trades))) }
         ensures fault { IfErr result MayFail }
     {
         let mut tx = begin(&mut self.conn);
@@ -41,7 +41,7 @@ impl<S: Alter> Store<S> {
         symbol: &Symbol,
         span: Span,
     ) -> Result<Vec<TradeRow>, Fault>
-        ensures read { IsRead S.Store self.old self.new result (λ all t. map trade_row_of all.items ≡ take 20 (oldest_first_rows (filter (λ r. bytes_eq r.symbol symbol.now && is_between span.first span.last r) t.trades))) }
+        ensures read { ReadPost S.Store self.old self.new result (λ all t. map trade_row_of all.items ≡ take 20 (oldest_first_rows (filter (λ r. bytes_eq r.symbol symbol.now && is_between span.first span.last r) t.trades))) }
         ensures fault { IfErr result MayFail }
     {
         let mut tx = begin(&mut self.conn);
@@ -50,7 +50,7 @@ impl<S: Alter> Store<S> {
 
     /// The oldest trade of an account at or after a stamp.
     pub fn first_since(&mut self, account: Id, first: Stamp) -> Result<Option<TradeRow>, Fault>
-        ensures read { IsRead S.Store self.old self.new result (λ o t. option_to_list (option_map trade_row_of o) ≡ take 1 (oldest_first_rows (filter (λ r. nat_le first r.stamp) (trades_in t account)))) }
+        ensures read { ReadPost S.Store self.old self.new result (λ o t. option_to_list (option_map trade_row_of o) ≡ take 1 (oldest_first_rows (filter (λ r. nat_le first r.stamp) (trades_in t account)))) }
         ensures fault { OnErr result (result ≡ Err fault.Store) }
     {
         let mut tx = begin(&mut self.conn);

@@ -2,7 +2,7 @@
 
 ghost use Rattle.std.specs.Prelude.{IfSome, pos, ◌≡◌, ◌==◌, Err, OnErr, find, option_map};
 ghost use Rattle.brk_money.specs.declared.fault.Fault.TheVariants as fault;
-ghost use Rattle.brk_store.specs.Holds.{IsRead};
+ghost use Rattle.brk_store.specs.Holds.{ReadPost};
 ghost use Rattle.brk_store.specs.Numbers.{AreNumbers};
 
 use crate::Store;
@@ -34,7 +34,7 @@ fn numbers_in(row: &BrokerRow) -> Option<BrokerNumbers>
 impl<S: Alter> Store<S> {
     /// The numbers of a broker, where there is such a broker. Numbers beyond their limits are a fault.
     pub fn broker_numbers(&mut self, broker: Id) -> Result<Option<BrokerNumbers>, Fault>
-        ensures read { IsRead S.Store self.old self.new result (λ numbers t. AreNumbers numbers (find (λ r. r.id == broker) t.brokers)) }
+        ensures read { ReadPost S.Store self.old self.new result (λ numbers t. AreNumbers numbers (find (λ r. r.id == broker) t.brokers)) }
         ensures fault { OnErr result (result ≡ Err fault.Store) }
     {
         let Some(row) = self.broker(broker)? else {
@@ -48,7 +48,7 @@ impl<S: Alter> Store<S> {
 
     /// The balance of an account in cents (CA_BAL), where there is such an account.
     pub fn balance_of(&mut self, account: Id) -> Result<Option<Cents>, Fault>
-        ensures read { IsRead S.Store self.old self.new result (λ balance t. balance ≡ option_map (λ r. r.balance) (find (λ r. r.id == account) t.accounts)) }
+        ensures read { ReadPost S.Store self.old self.new result (λ balance t. balance ≡ option_map (λ r. r.balance) (find (λ r. r.id == account) t.accounts)) }
         ensures fault { OnErr result (result ≡ Err fault.Store) }
     {
         match self.account(account)? {

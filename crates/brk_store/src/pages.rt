@@ -6,7 +6,7 @@ ghost use Rattle.brk_model.specs.Run.{MayFail};
 ghost use Rattle.brk_changes.specs.Rows.{holding_row_of};
 ghost use Rattle.brk_tables_trading.specs.Pages.{on_page, page_size};
 ghost use Rattle.brk_book_theorems.specs.OrderReads.{lot_in};
-ghost use Rattle.brk_store.specs.Holds.{IsRead};
+ghost use Rattle.brk_store.specs.Holds.{ReadPost};
 ghost use Rattle.brk_store.specs.Pages.{rows_from};
 
 use crate::Store;
@@ -74,7 +74,7 @@ fn read_page<S: Alter>(
     lifo: bool,
     skipped: u32,
 ) -> Result<Vec<HoldingRow>, Fault>
-    ensures read { IsRead S.Store store.old store.new result (λ all t. map holding_row_of all.items ≡ on_page skipped (rows_from lifo account symbol.now t)) }
+    ensures read { ReadPost S.Store store.old store.new result (λ all t. map holding_row_of all.items ≡ on_page skipped (rows_from lifo account symbol.now t)) }
     ensures fault { IfErr result MayFail }
 {
     if lifo {
@@ -100,7 +100,7 @@ fn known_page<S: Alter>(
     lifo: bool,
     skipped: u32,
 ) -> Result<Vec<HoldingRow>, Fault>
-    ensures read { IsRead S.Store store.old store.new result (λ all t. map holding_row_of all.items ≡ on_page skipped (rows_from lifo account symbol.now t)) }
+    ensures read { ReadPost S.Store store.old store.new result (λ all t. map holding_row_of all.items ≡ on_page skipped (rows_from lifo account symbol.now t)) }
     ensures few { IfOk result (λ all. length all.items ≤ page_size) }
     ensures some_shares { IfOk result (λ all. All (λ r. r.qty ≢ pos 0) all.items) }
     ensures fault { IfErr result MayFail }
@@ -144,7 +144,7 @@ impl<S: Alter> Store<S> {
     ) -> LotPages<'a, S>
         ensures same_reference { (lent result).ghost_name ≡ self.entry.ghost_name }
         ensures same { (lent result).now ≡ self.old }
-        ensures rests { (t : Tables) → Holds S.Store self.old t → ⟦<Pages<'static, S, Page> as LotSource>⟧.rests result (from_end lifo (position_in t account symbol.now)) }
+        ensures remaining { (t : Tables) → Holds S.Store self.old t → ⟦<Pages<'static, S, Page> as LotSource>⟧.remaining result (from_end lifo (position_in t account symbol.now)) }
         ensures asked { ⟦<Pages<'static, S, Page> as LotSource>⟧.asked result ≡ 0 }
         ensures unread { read_by result ≡ 0 }
     {
@@ -233,9 +233,9 @@ impl<S: Alter> LotSource for Pages<'_, S, Page> {
     ghost use Rattle.brk_store.specs.Kept.{IsKept, clean_at, kept_none, kept_then};
     ghost use Rattle.brk_store.specs.Resting.{Rests};
 
-    ghost rests = { λ p ls. Rests S.Store p ls };
+    ghost remaining = { λ p ls. Rests S.Store p ls };
 
-    ghost is_told = { λ p. HasCleanDisk (state S.Store p.store.now) };
+    ghost reads_faithfully = { λ p. HasCleanDisk (state S.Store p.store.now) };
 
     ghost leads = { λ p q. (q.store.ghost_name ≡ p.store.ghost_name) × IsKept S.Store p.store.now q.store.now };
 

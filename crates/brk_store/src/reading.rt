@@ -4,7 +4,7 @@ ghost use Rattle.std.specs.Prelude.{◌≡◌, ◌==◌, ◌&&◌, Err, IfErr, O
 ghost use Rattle.brk_money.specs.declared.fault.Fault.TheVariants as fault;
 ghost use Rattle.brk_model.specs.Run.{MayFail};
 ghost use Rattle.brk_ref.specs.Records.{account_row_of, broker_row_of, customer_of, kept_of};
-ghost use Rattle.brk_store.specs.Holds.{IsRead};
+ghost use Rattle.brk_store.specs.Holds.{ReadPost};
 ghost use Rattle.brk_tables_schema.specs.Desk.{Accounts, Brokers, Customers, KeptRows};
 ghost use Rattle.brk_tables_schema.specs.Statements.{Found, Listed};
 
@@ -19,7 +19,7 @@ use std::alloc::Global;
 impl<S: Alter> Store<S> {
     /// The stamp of the last accepted command.
     pub fn last(&mut self) -> Result<Option<Stamp>, Fault>
-        ensures read { IsRead S.Store self.old self.new result (λ last t. last ≡ t.last) }
+        ensures read { ReadPost S.Store self.old self.new result (λ last t. last ≡ t.last) }
         ensures fault { OnErr result (result ≡ Err fault.Store) }
     {
         let mut tx = begin(&mut self.conn);
@@ -28,7 +28,7 @@ impl<S: Alter> Store<S> {
 
     /// The broker with an id.
     pub fn broker(&mut self, id: Id) -> Result<Option<BrokerRow>, Fault>
-        ensures read { IsRead S.Store self.old self.new result (Found Brokers broker_row_of (λ r. r.id == id)) }
+        ensures read { ReadPost S.Store self.old self.new result (Found Brokers broker_row_of (λ r. r.id == id)) }
         ensures fault { OnErr result (result ≡ Err fault.Store) }
     {
         let mut tx = begin(&mut self.conn);
@@ -37,7 +37,7 @@ impl<S: Alter> Store<S> {
 
     /// The customer with an id.
     pub fn customer(&mut self, id: Id) -> Result<Option<Customer>, Fault>
-        ensures read { IsRead S.Store self.old self.new result (Found Customers customer_of (λ r. r.id == id)) }
+        ensures read { ReadPost S.Store self.old self.new result (Found Customers customer_of (λ r. r.id == id)) }
         ensures fault { OnErr result (result ≡ Err fault.Store) }
     {
         let mut tx = begin(&mut self.conn);
@@ -46,7 +46,7 @@ impl<S: Alter> Store<S> {
 
     /// The customer with a tax id.
     pub fn customer_by_tax_id(&mut self, tax_id: &TaxId) -> Result<Option<Customer>, Fault>
-        ensures read { IsRead S.Store self.old self.new result (Found Customers customer_of (λ r. bytes_eq r.tax_id tax_id.now)) }
+        ensures read { ReadPost S.Store self.old self.new result (Found Customers customer_of (λ r. bytes_eq r.tax_id tax_id.now)) }
         ensures fault { OnErr result (result ≡ Err fault.Store) }
     {
         let mut tx = begin(&mut self.conn);
@@ -55,7 +55,7 @@ impl<S: Alter> Store<S> {
 
     /// The account with an id.
     pub fn account(&mut self, id: Id) -> Result<Option<AccountRow>, Fault>
-        ensures read { IsRead S.Store self.old self.new result (Found Accounts account_row_of (λ r. r.id == id)) }
+        ensures read { ReadPost S.Store self.old self.new result (Found Accounts account_row_of (λ r. r.id == id)) }
         ensures fault { OnErr result (result ≡ Err fault.Store) }
     {
         let mut tx = begin(&mut self.conn);
@@ -64,7 +64,7 @@ impl<S: Alter> Store<S> {
 
     /// The accounts of a customer, by rising id.
     pub fn accounts_of(&mut self, alloc: Global, customer: Id) -> Result<Vec<AccountRow>, Fault>
-        ensures read { IsRead S.Store self.old self.new result (Listed Accounts account_row_of (λ r. r.customer == customer)) }
+        ensures read { ReadPost S.Store self.old self.new result (Listed Accounts account_row_of (λ r. r.customer == customer)) }
         ensures fault { IfErr result MayFail }
     {
         let mut tx = begin(&mut self.conn);
@@ -73,7 +73,7 @@ impl<S: Alter> Store<S> {
 
     /// The row that is kept under a key.
     pub fn kept(&mut self, key: &Key) -> Result<Option<Kept>, Fault>
-        ensures read { IsRead S.Store self.old self.new result (Found KeptRows kept_of (λ k. bytes_eq k.key.batch key.now.batch && (k.key.row == key.now.row))) }
+        ensures read { ReadPost S.Store self.old self.new result (Found KeptRows kept_of (λ k. bytes_eq k.key.batch key.now.batch && (k.key.row == key.now.row))) }
         ensures fault { OnErr result (result ≡ Err fault.Store) }
     {
         let mut tx = begin(&mut self.conn);

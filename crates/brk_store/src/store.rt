@@ -34,14 +34,14 @@ impl<S: Alter> Store<S> {
     ghost use Rattle.brk_money.specs.declared.fault.Condition.TheVariants.{NotEmpty};
     ghost use Rattle.brk_money.specs.declared.fault.Fault.TheVariants as fault;
     ghost use Rattle.brk_changes.specs.Changes.{after_changes};
-    ghost use Rattle.brk_store.specs.Holds.{IsApplied, IsCreated};
+    ghost use Rattle.brk_store.specs.Holds.{ApplyPost, CreatePost};
 
     /// Makes the tables of a desk in a database that has none of them, whatever others it has, which keep their rows, or
     /// answers `Damaged(NotEmpty)` where it has one of them. At a fault the database is as it was, and the connection
     /// comes back, with no transaction that it did not have. A connection on which one is open is refused with `Store`,
     /// and comes back as it is.
     pub fn create(mut conn: Connection<S>) -> Result<Store<S>, (Connection<S>, Fault)>
-        ensures created { MatchResult result (λ store. IsCreated S.Store conn store (Ok tt)) (λ e. IsCreated S.Store conn e.0 (Err e.1)) }
+        ensures created { MatchResult result (λ store. CreatePost S.Store conn store (Ok tt)) (λ e. CreatePost S.Store conn e.0 (Err e.1)) }
         ensures fault { IfErr result (λ e. (e.1 ≡ fault.Store) ⊎ (e.1 ≡ fault.Damaged NotEmpty)) }
         ensures ended { IfErr result (λ e. conn.in_transaction ≡ false → e.0.in_transaction ≡ false) }
         ensures refused { conn.in_transaction ≡ true → result ≡ Err (conn, fault.Store) }
@@ -57,7 +57,7 @@ impl<S: Alter> Store<S> {
 
     /// Makes the changes in turn, all of them in one transaction, or none at a fault.
     pub fn apply(&mut self, changes: &[Change]) -> Result<(), Fault>
-        ensures applied { IsApplied S.Store self.old self.new result (after_changes changes.now) }
+        ensures applied { ApplyPost S.Store self.old self.new result (after_changes changes.now) }
         ensures fault { OnErr result (result ≡ Err fault.Store) }
     {
         apply_all(&mut self.conn, changes)

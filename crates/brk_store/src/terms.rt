@@ -5,7 +5,7 @@ ghost use Rattle.brk_money.specs.declared.fault.Fault.TheVariants as fault;
 ghost use Rattle.brk_model.specs.Run.{MayFail};
 ghost use Rattle.brk_money.specs.Kinds.{same_type};
 ghost use Rattle.brk_ref.specs.Records.{band_of, charge_of, customer_tax_of, permission_of, security_of, tax_of};
-ghost use Rattle.brk_store.specs.Holds.{IsRead};
+ghost use Rattle.brk_store.specs.Holds.{ReadPost};
 ghost use Rattle.brk_tables_schema.specs.Desk.{Bands, Charges, CustomerTaxes, Permissions, Securities, TaxRates};
 ghost use Rattle.brk_tables_schema.specs.Statements.{Found, Listed};
 
@@ -22,7 +22,7 @@ use std::alloc::Global;
 impl<S: Alter> Store<S> {
     /// The permission of an account for a tax id.
     pub fn permission(&mut self, account: Id, tax_id: &TaxId) -> Result<Option<Permission>, Fault>
-        ensures read { IsRead S.Store self.old self.new result (Found Permissions permission_of (λ r. (r.account == account) && bytes_eq r.tax_id tax_id.now)) }
+        ensures read { ReadPost S.Store self.old self.new result (Found Permissions permission_of (λ r. (r.account == account) && bytes_eq r.tax_id tax_id.now)) }
         ensures fault { OnErr result (result ≡ Err fault.Store) }
     {
         let mut tx = begin(&mut self.conn);
@@ -31,7 +31,7 @@ impl<S: Alter> Store<S> {
 
     /// The security with a symbol.
     pub fn security(&mut self, symbol: &Symbol) -> Result<Option<Security>, Fault>
-        ensures read { IsRead S.Store self.old self.new result (Found Securities security_of (λ r. bytes_eq r.symbol symbol.now)) }
+        ensures read { ReadPost S.Store self.old self.new result (Found Securities security_of (λ r. bytes_eq r.symbol symbol.now)) }
         ensures fault { OnErr result (result ≡ Err fault.Store) }
     {
         let mut tx = begin(&mut self.conn);
@@ -40,7 +40,7 @@ impl<S: Alter> Store<S> {
 
     /// The charge of a type and a tier.
     pub fn charge(&mut self, kind: TradeType, tier: Tier) -> Result<Option<Charge>, Fault>
-        ensures read { IsRead S.Store self.old self.new result (Found Charges charge_of (λ r. same_type r.kind kind && (r.tier == tier))) }
+        ensures read { ReadPost S.Store self.old self.new result (Found Charges charge_of (λ r. same_type r.kind kind && (r.tier == tier))) }
         ensures fault { OnErr result (result ≡ Err fault.Store) }
     {
         let mut tx = begin(&mut self.conn);
@@ -55,7 +55,7 @@ impl<S: Alter> Store<S> {
         kind: TradeType,
         exchange: &Exchange,
     ) -> Result<Vec<Band>, Fault>
-        ensures read { IsRead S.Store self.old self.new result (Listed Bands band_of (λ r. (r.tier == tier) && same_type r.kind kind && bytes_eq r.exchange exchange.now)) }
+        ensures read { ReadPost S.Store self.old self.new result (Listed Bands band_of (λ r. (r.tier == tier) && same_type r.kind kind && bytes_eq r.exchange exchange.now)) }
         ensures fault { IfErr result MayFail }
     {
         let mut tx = begin(&mut self.conn);
@@ -64,7 +64,7 @@ impl<S: Alter> Store<S> {
 
     /// The tax with an id.
     pub fn tax_rate(&mut self, id: Id) -> Result<Option<Tax>, Fault>
-        ensures read { IsRead S.Store self.old self.new result (Found TaxRates tax_of (λ r. r.id == id)) }
+        ensures read { ReadPost S.Store self.old self.new result (Found TaxRates tax_of (λ r. r.id == id)) }
         ensures fault { OnErr result (result ≡ Err fault.Store) }
     {
         let mut tx = begin(&mut self.conn);
@@ -73,7 +73,7 @@ impl<S: Alter> Store<S> {
 
     /// The row of a customer and a tax, where the customer pays it.
     pub fn customer_tax(&mut self, customer: Id, tax: Id) -> Result<Option<CustomerTax>, Fault>
-        ensures read { IsRead S.Store self.old self.new result (Found CustomerTaxes customer_tax_of (λ r. (r.customer == customer) && (r.tax == tax))) }
+        ensures read { ReadPost S.Store self.old self.new result (Found CustomerTaxes customer_tax_of (λ r. (r.customer == customer) && (r.tax == tax))) }
         ensures fault { OnErr result (result ≡ Err fault.Store) }
     {
         let mut tx = begin(&mut self.conn);
@@ -86,7 +86,7 @@ impl<S: Alter> Store<S> {
         alloc: Global,
         customer: Id,
     ) -> Result<Vec<CustomerTax>, Fault>
-        ensures read { IsRead S.Store self.old self.new result (Listed CustomerTaxes customer_tax_of (λ r. r.customer == customer)) }
+        ensures read { ReadPost S.Store self.old self.new result (Listed CustomerTaxes customer_tax_of (λ r. r.customer == customer)) }
         ensures fault { IfErr result MayFail }
     {
         let mut tx = begin(&mut self.conn);

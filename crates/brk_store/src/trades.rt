@@ -7,7 +7,7 @@ ghost use Rattle.brk_money.specs.Kinds.{same_status, same_type};
 ghost use Rattle.brk_money.specs.declared.status.Status.TheVariants.{Submitted};
 ghost use Rattle.brk_ref.specs.Records.{last_trade_of};
 ghost use Rattle.brk_changes.specs.Rows.{holding_row_of, request_row_of, summary_row_of, trade_row_of};
-ghost use Rattle.brk_store.specs.Holds.{IsRead};
+ghost use Rattle.brk_store.specs.Holds.{ReadPost};
 ghost use Rattle.brk_tables_schema.specs.Desk.{LastTrades, Requests, Summaries, Trades};
 ghost use Rattle.brk_tables_schema.specs.Statements.{Found, Listed};
 ghost use Rattle.brk_tables_trading.specs.Pages.{lots_held, on_page};
@@ -24,7 +24,7 @@ use std::alloc::Global;
 impl<S: Alter> Store<S> {
     /// The trade with an id.
     pub fn trade(&mut self, id: Id) -> Result<Option<TradeRow>, Fault>
-        ensures read { IsRead S.Store self.old self.new result (Found Trades trade_row_of (λ r. r.id == id)) }
+        ensures read { ReadPost S.Store self.old self.new result (Found Trades trade_row_of (λ r. r.id == id)) }
         ensures fault { OnErr result (result ≡ Err fault.Store) }
     {
         let mut tx = begin(&mut self.conn);
@@ -33,7 +33,7 @@ impl<S: Alter> Store<S> {
 
     /// The greatest id of a trade, where there is a trade.
     pub fn last_trade_id(&mut self) -> Result<Option<Id>, Fault>
-        ensures read { IsRead S.Store self.old self.new result (λ o t. o ≡ option_map (λ r. r.id) (slice_get (reverse t.trades) 0)) }
+        ensures read { ReadPost S.Store self.old self.new result (λ o t. o ≡ option_map (λ r. r.id) (slice_get (reverse t.trades) 0)) }
         ensures fault { OnErr result (result ≡ Err fault.Store) }
     {
         let mut tx = begin(&mut self.conn);
@@ -42,7 +42,7 @@ impl<S: Alter> Store<S> {
 
     /// The trades that are at the market, by rising id.
     pub fn submitted_trades(&mut self, alloc: Global) -> Result<Vec<TradeRow>, Fault>
-        ensures read { IsRead S.Store self.old self.new result (Listed Trades trade_row_of (λ r. same_status r.status Submitted)) }
+        ensures read { ReadPost S.Store self.old self.new result (Listed Trades trade_row_of (λ r. same_status r.status Submitted)) }
         ensures fault { IfErr result MayFail }
     {
         let mut tx = begin(&mut self.conn);
@@ -57,7 +57,7 @@ impl<S: Alter> Store<S> {
         kind: TradeType,
         price: Price,
     ) -> Result<Vec<RequestRow>, Fault>
-        ensures read { IsRead S.Store self.old self.new result (Listed Requests request_row_of (λ r. bytes_eq r.symbol symbol.now && (same_type r.kind kind && nat_le price r.bid))) }
+        ensures read { ReadPost S.Store self.old self.new result (Listed Requests request_row_of (λ r. bytes_eq r.symbol symbol.now && (same_type r.kind kind && nat_le price r.bid))) }
         ensures fault { IfErr result MayFail }
     {
         let mut tx = begin(&mut self.conn);
@@ -72,7 +72,7 @@ impl<S: Alter> Store<S> {
         kind: TradeType,
         price: Price,
     ) -> Result<Vec<RequestRow>, Fault>
-        ensures read { IsRead S.Store self.old self.new result (Listed Requests request_row_of (λ r. bytes_eq r.symbol symbol.now && (same_type r.kind kind && nat_le r.bid price))) }
+        ensures read { ReadPost S.Store self.old self.new result (Listed Requests request_row_of (λ r. bytes_eq r.symbol symbol.now && (same_type r.kind kind && nat_le r.bid price))) }
         ensures fault { IfErr result MayFail }
     {
         let mut tx = begin(&mut self.conn);
@@ -81,7 +81,7 @@ impl<S: Alter> Store<S> {
 
     /// The last trade of the security with a symbol.
     pub fn last_trade(&mut self, symbol: &Symbol) -> Result<Option<LastTrade>, Fault>
-        ensures read { IsRead S.Store self.old self.new result (Found LastTrades last_trade_of (λ r. bytes_eq r.symbol symbol.now)) }
+        ensures read { ReadPost S.Store self.old self.new result (Found LastTrades last_trade_of (λ r. bytes_eq r.symbol symbol.now)) }
         ensures fault { OnErr result (result ≡ Err fault.Store) }
     {
         let mut tx = begin(&mut self.conn);
@@ -97,7 +97,7 @@ impl<S: Alter> Store<S> {
         symbol: &Symbol,
         skipped: u32,
     ) -> Result<Vec<HoldingRow>, Fault>
-        ensures read { IsRead S.Store self.old self.new result (λ all t. map holding_row_of all.items ≡ on_page skipped (lots_held account symbol.now t)) }
+        ensures read { ReadPost S.Store self.old self.new result (λ all t. map holding_row_of all.items ≡ on_page skipped (lots_held account symbol.now t)) }
         ensures fault { IfErr result MayFail }
     {
         let mut tx = begin(&mut self.conn);
@@ -112,7 +112,7 @@ impl<S: Alter> Store<S> {
         symbol: &Symbol,
         skipped: u32,
     ) -> Result<Vec<HoldingRow>, Fault>
-        ensures read { IsRead S.Store self.old self.new result (λ all t. map holding_row_of all.items ≡ on_page skipped (reverse (lots_held account symbol.now t))) }
+        ensures read { ReadPost S.Store self.old self.new result (λ all t. map holding_row_of all.items ≡ on_page skipped (reverse (lots_held account symbol.now t))) }
         ensures fault { IfErr result MayFail }
     {
         let mut tx = begin(&mut self.conn);
@@ -121,7 +121,7 @@ impl<S: Alter> Store<S> {
 
     /// How many shares an account holds of each security, by rising symbol.
     pub fn summaries_of(&mut self, alloc: Global, account: Id) -> Result<Vec<SummaryRow>, Fault>
-        ensures read { IsRead S.Store self.old self.new result (Listed Summaries summary_row_of (λ r. r.account == account)) }
+        ensures read { ReadPost S.Store self.old self.new result (Listed Summaries summary_row_of (λ r. r.account == account)) }
         ensures fault { IfErr result MayFail }
     {
         let mut tx = begin(&mut self.conn);
@@ -130,7 +130,7 @@ impl<S: Alter> Store<S> {
 
     /// How many shares an account holds of a security, where it holds some.
     pub fn summary_of(&mut self, account: Id, symbol: &Symbol) -> Result<Option<SummaryRow>, Fault>
-        ensures read { IsRead S.Store self.old self.new result (Found Summaries summary_row_of (λ r. (r.account == account) && bytes_eq r.symbol symbol.now)) }
+        ensures read { ReadPost S.Store self.old self.new result (Found Summaries summary_row_of (λ r. (r.account == account) && bytes_eq r.symbol symbol.now)) }
         ensures fault { OnErr result (result ≡ Err fault.Store) }
     {
         let mut tx = begin(&mut self.conn);

@@ -5,7 +5,7 @@ ghost use Rattle.brk_money.specs.declared.fault.Fault.TheVariants as fault;
 ghost use Rattle.brk_model.specs.Run.{MayFail};
 ghost use Rattle.brk_changes.specs.Chosen as chosen;
 ghost use Rattle.brk_changes.specs.Rows.{settlement_row_of, trade_row_of};
-ghost use Rattle.brk_store.specs.Holds.{IsRead};
+ghost use Rattle.brk_store.specs.Holds.{ReadPost};
 ghost use Rattle.brk_tables_schema.specs.Desk.{Settlements};
 ghost use Rattle.brk_tables_schema.specs.Statements.{Found};
 
@@ -27,7 +27,7 @@ impl<S: Alter> Store<S> {
         account: Id,
         span: Span,
     ) -> Result<Vec<TradeRow>, Fault>
-        ensures read { IsRead S.Store self.old self.new result (λ all t. map trade_row_of all.items ≡ chosen.completed_of_account account span.first span.last t) }
+        ensures read { ReadPost S.Store self.old self.new result (λ all t. map trade_row_of all.items ≡ chosen.completed_of_account account span.first span.last t) }
         ensures fault { IfErr result MayFail }
     {
         let mut tx = begin(&mut self.conn);
@@ -41,7 +41,7 @@ impl<S: Alter> Store<S> {
         symbol: &Symbol,
         span: Span,
     ) -> Result<Vec<TradeRow>, Fault>
-        ensures read { IsRead S.Store self.old self.new result (λ all t. map trade_row_of all.items ≡ chosen.completed_cash_of_symbol symbol.now span.first span.last t) }
+        ensures read { ReadPost S.Store self.old self.new result (λ all t. map trade_row_of all.items ≡ chosen.completed_cash_of_symbol symbol.now span.first span.last t) }
         ensures fault { IfErr result MayFail }
     {
         let mut tx = begin(&mut self.conn);
@@ -50,7 +50,7 @@ impl<S: Alter> Store<S> {
 
     /// What a trade settles for, where it is completed.
     pub fn settlement(&mut self, trade: Id) -> Result<Option<SettlementRow>, Fault>
-        ensures read { IsRead S.Store self.old self.new result (Found Settlements settlement_row_of (λ r. r.trade == trade)) }
+        ensures read { ReadPost S.Store self.old self.new result (Found Settlements settlement_row_of (λ r. r.trade == trade)) }
         ensures fault { OnErr result (result ≡ Err fault.Store) }
     {
         let mut tx = begin(&mut self.conn);

@@ -3,7 +3,7 @@
 ghost use Rattle.std.specs.Prelude.{◌≡◌, ◌≢◌, IfErr, MatchResult, Ok, Err, false, true};
 ghost use Rattle.brk_money.specs.declared.fault.Condition.TheVariants.{NotEmpty};
 ghost use Rattle.brk_money.specs.declared.fault.Fault.TheVariants as fault;
-ghost use Rattle.brk_store.specs.Audited.{IsAdopted};
+ghost use Rattle.brk_store.specs.Audited.{AdoptPost};
 
 use crate::Store;
 use crate::beginning::begin;
@@ -18,7 +18,7 @@ use std::alloc::Global;
 fn adopt_desk<S: Alter>(conn: &mut Connection<S>, alloc: Global) -> Result<(), Fault>
     requires { conn.old.in_transaction ≡ false }
     ensures mode { conn.new.in_transaction ≡ false }
-    ensures adopted { IsAdopted S.Store conn.old conn.new result }
+    ensures adopted { AdoptPost S.Store conn.old conn.new result }
     ensures condition { IfErr result (λ f. f ≢ fault.Damaged NotEmpty) }
 {
     let mut tx = begin(conn);
@@ -49,7 +49,7 @@ impl<S: Alter> Store<S> {
     /// A crash exposes a state that was possible before the call or, if rows of an older schema
     /// passed, the upgraded tables. After an error too, a crash may find the upgrade committed.
     pub fn adopt(alloc: Global, mut conn: Connection<S>) -> Result<Store<S>, (Connection<S>, Fault)>
-        ensures adopted { MatchResult result (λ store. IsAdopted S.Store conn store (Ok tt)) (λ e. IsAdopted S.Store conn e.0 (Err e.1)) }
+        ensures adopted { MatchResult result (λ store. AdoptPost S.Store conn store (Ok tt)) (λ e. AdoptPost S.Store conn e.0 (Err e.1)) }
         ensures condition { IfErr result (λ e. e.1 ≢ fault.Damaged NotEmpty) }
         ensures ended { IfErr result (λ e. conn.in_transaction ≡ false → e.0.in_transaction ≡ false) }
         ensures refused { conn.in_transaction ≡ true → result ≡ Err (conn, fault.Store) }

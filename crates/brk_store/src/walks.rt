@@ -4,14 +4,14 @@ ghost use Rattle.std.specs.Fn.{CalledAt};
 ghost use Rattle.brk_changes.specs.Rows.{holding_row_of, move_row_of};
 ghost use Rattle.brk_model.specs.Statement.{lots_in};
 ghost use Rattle.brk_store.specs.Calling.{CalledAtLot};
-ghost use Rattle.brk_store.specs.Walked.{CallsEach, IsWalked, cash_of};
+ghost use Rattle.brk_store.specs.Walked.{CallsEach, WalkPost, cash_of};
 
 use crate::Store;
 use crate::calling::{Calls, LotCalls};
 use brk_changes::{HoldingRow, MoveRow};
 use brk_lots::Lot;
 use brk_money::{Fault, Id, Stamp};
-use brk_tables_walks::{Stop, Visitor};
+use brk_tables_walks::{Visitor, WalkError};
 use sqlite::Alter;
 
 impl<S: Alter> Store<S> {
@@ -23,11 +23,11 @@ impl<S: Alter> Store<S> {
         from: Stamp,
         to: Stamp,
         visitor: &mut V,
-    ) -> Result<(), Stop<E>>
+    ) -> Result<(), WalkError<E>>
         requires ready { V.ready visitor.old }
         ensures ready { V.ready visitor.new }
         ensures leads { V.leads visitor.old visitor.new }
-        ensures walked { IsWalked S.Store self.old self.new move_row_of (cash_of account from to) V.takes V.stops visitor.old visitor.new result }
+        ensures walked { WalkPost S.Store self.old self.new move_row_of (cash_of account from to) V.takes V.stops visitor.old visitor.new result }
     {
         brk_tables_walks::walk_cash_between::<S, E, V>(&mut self.conn, account, from, to, visitor)
     }
@@ -37,11 +37,11 @@ impl<S: Alter> Store<S> {
         &mut self,
         account: Id,
         visitor: &mut V,
-    ) -> Result<(), Stop<E>>
+    ) -> Result<(), WalkError<E>>
         requires ready { V.ready visitor.old }
         ensures ready { V.ready visitor.new }
         ensures leads { V.leads visitor.old visitor.new }
-        ensures walked { IsWalked S.Store self.old self.new holding_row_of (λ t. lots_in t account) V.takes V.stops visitor.old visitor.new result }
+        ensures walked { WalkPost S.Store self.old self.new holding_row_of (λ t. lots_in t account) V.takes V.stops visitor.old visitor.new result }
     {
         brk_tables_walks::walk_lots::<S, E, V>(&mut self.conn, account, visitor)
     }
@@ -61,8 +61,8 @@ impl<S: Alter> Store<S> {
         let mut calls = Calls { call };
         match self.visit_cash::<E, Calls<F>>(account, from, to, &mut calls) {
             Ok(()) => Ok(()),
-            Err(Stop::Failed(fault)) => Err(E::from(fault)),
-            Err(Stop::Cause(cause)) => Err(cause),
+            Err(WalkError::Failed(fault)) => Err(E::from(fault)),
+            Err(WalkError::Cause(cause)) => Err(cause),
         }
     }
 
@@ -79,8 +79,8 @@ impl<S: Alter> Store<S> {
         let mut calls = LotCalls { call };
         match self.visit_lots::<E, LotCalls<F>>(account, &mut calls) {
             Ok(()) => Ok(()),
-            Err(Stop::Failed(fault)) => Err(E::from(fault)),
-            Err(Stop::Cause(cause)) => Err(cause),
+            Err(WalkError::Failed(fault)) => Err(E::from(fault)),
+            Err(WalkError::Cause(cause)) => Err(cause),
         }
     }
 }

@@ -11,7 +11,7 @@ use Rattle.brk_model.specs.Tables.{Tables}
 use Rattle.brk_model.specs.Form.{has_form, has_texts}
 use Rattle.brk_changes.specs.declared.sheets.Sheets.{Sheets}
 use Rattle.brk_changes.specs.Sheets.{tables_in_sheets}
-use Rattle.brk_sql.specs.Rows.{cells, Holds}
+use Rattle.brk_sql.specs.Rows.{cells, TreeHolds}
 use Rattle.brk_sql.specs.Desk.{Stands}
 use Rattle.brk_sql.specs.Model.{Steps}
 use Rattle.brk_tables_schema.specs.Desk.{Which, Item, shape, encode, order, has_table}
@@ -23,9 +23,9 @@ pub record AreRowsOf (w : Which) (rows : List Row) (db : Database) (tree : ℕ) 
   -- each row of the tree, as often as it is there
   pub all : IsPermutation (map (cells (shape w tree)) (db.trees tree)) rows
   -- records that the table holds show these rows
-  pub told : (xs : List (Item w)) → Holds (shape w tree) (encode w) (order w) xs (db.trees tree) → rows ≡ map (encode w) xs
+  pub told : (xs : List (Item w)) → TreeHolds (shape w tree) (encode w) (order w) xs (db.trees tree) → rows ≡ map (encode w) xs
   -- and records that show these rows are those that it holds
-  pub held : (xs : List (Item w)) → IsDatabase db → IsKeyed (db.trees tree) → map (encode w) xs ≡ rows → Holds (shape w tree) (encode w) (order w) xs (db.trees tree)
+  pub held : (xs : List (Item w)) → IsDatabase db → IsKeyed (db.trees tree) → map (encode w) xs ≡ rows → TreeHolds (shape w tree) (encode w) (order w) xs (db.trees tree)
 
 -- the rows are those of this table, wherever it stands as its shape says
 abbrev pub ShowsAll : Which → List Row → Database → Type 0

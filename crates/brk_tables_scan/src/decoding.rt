@@ -1,7 +1,7 @@
 //! The rows of all tables in types.
 
 ghost use Rattle.std.specs.Prelude.{◌≡◌, Err, IfOk, false};
-ghost use Rattle.brk_tables_schema.specs.declared.misread.Misread.TheVariants.{Form as Formless};
+ghost use Rattle.brk_tables_schema.specs.declared.decode_error.DecodeError.TheVariants.{Form as Formless};
 ghost use Rattle.brk_tables_scan.specs.Decoded.{AreSheets, IsFirst, IsAccount, IsRate, IsTrade, IsLast, IsLater, formed, formed_first, formed_accounts, formed_rates, formed_trades, formed_last, formed_later};
 ghost use Rattle.brk_changes.specs.Schemas.{schema_of};
 
@@ -15,7 +15,7 @@ use brk_ref::{
     AccountRow, Band, BrokerRow, Charge, Customer, CustomerTax, Kept, LastTrade, Permission,
     Security, Tax,
 };
-use brk_tables_schema::Misread;
+use brk_tables_schema::DecodeError;
 use brk_tables_schema::desk_row::stamp_in_rows;
 use brk_tables_schema::record::all_records;
 use brk_tables_schema::rule_row::day_in_rows;
@@ -30,7 +30,7 @@ pub struct FirstSheets {
 }
 
 #[tactic(auto, using(crate::proofs::Formless::first_fails, crate::proofs::Formless::last_fails))]
-fn decode_first(alloc: Global, schema: Schema, raw: &FirstRows) -> Result<FirstSheets, Misread>
+fn decode_first(alloc: Global, schema: Schema, raw: &FirstRows) -> Result<FirstSheets, DecodeError>
     ensures value { IfOk result (λ sheets. IsFirst (schema_of schema) sheets raw.now) }
     ensures form { result ≡ Err Formless → formed_first (schema_of schema) raw.now ≡ false }
 {
@@ -51,7 +51,7 @@ pub struct AccountSheets {
 }
 
 #[tactic(auto, using(crate::proofs::Formless::first_fails, crate::proofs::Formless::last_fails))]
-fn decode_accounts(alloc: Global, raw: &AccountRows) -> Result<AccountSheets, Misread>
+fn decode_accounts(alloc: Global, raw: &AccountRows) -> Result<AccountSheets, DecodeError>
     ensures value { IfOk result (λ sheets. IsAccount sheets raw.now) }
     ensures form { result ≡ Err Formless → formed_accounts raw.now ≡ false }
 {
@@ -72,7 +72,7 @@ pub struct RateSheets {
 }
 
 #[tactic(auto, using(crate::proofs::Formless::first_fails, crate::proofs::Formless::last_fails))]
-fn decode_rates(alloc: Global, raw: &RateRows) -> Result<RateSheets, Misread>
+fn decode_rates(alloc: Global, raw: &RateRows) -> Result<RateSheets, DecodeError>
     ensures value { IfOk result (λ sheets. IsRate sheets raw.now) }
     ensures form { result ≡ Err Formless → formed_rates raw.now ≡ false }
 {
@@ -93,7 +93,7 @@ pub struct TradeSheets {
 }
 
 #[tactic(auto, using(crate::proofs::Formless::first_fails, crate::proofs::Formless::last_fails))]
-fn decode_trades(alloc: Global, raw: &TradeRows) -> Result<TradeSheets, Misread>
+fn decode_trades(alloc: Global, raw: &TradeRows) -> Result<TradeSheets, DecodeError>
     ensures value { IfOk result (λ sheets. IsTrade sheets raw.now) }
     ensures form { result ≡ Err Formless → formed_trades raw.now ≡ false }
 {
@@ -114,7 +114,7 @@ pub struct LastSheets {
 }
 
 #[tactic(auto, using(crate::proofs::Formless::first_fails, crate::proofs::Formless::last_fails))]
-fn decode_last(alloc: Global, raw: &LastRows) -> Result<LastSheets, Misread>
+fn decode_last(alloc: Global, raw: &LastRows) -> Result<LastSheets, DecodeError>
     ensures value { IfOk result (λ sheets. IsLast sheets raw.now) }
     ensures form { result ≡ Err Formless → formed_last raw.now ≡ false }
 {
@@ -133,7 +133,7 @@ pub struct LaterSheets {
 }
 
 #[tactic(auto, using(crate::proofs::Formless::first_fails, crate::proofs::Formless::last_fails))]
-fn decode_later(alloc: Global, raw: &LaterRows) -> Result<LaterSheets, Misread>
+fn decode_later(alloc: Global, raw: &LaterRows) -> Result<LaterSheets, DecodeError>
     ensures value { IfOk result (λ sheets. IsLater sheets raw.now) }
     ensures form { result ≡ Err Formless → formed_later raw.now ≡ false }
 {
@@ -144,7 +144,7 @@ fn decode_later(alloc: Global, raw: &LaterRows) -> Result<LaterSheets, Misread>
 }
 
 /// All rows in types, where each column has its form.
-pub fn decode(alloc: Global, schema: Schema, raw: &RawSheets) -> Result<Sheets, Misread>
+pub fn decode(alloc: Global, schema: Schema, raw: &RawSheets) -> Result<Sheets, DecodeError>
     ensures value { IfOk result (λ sheets. AreSheets (schema_of schema) sheets raw.now) }
     ensures form { result ≡ Err Formless → formed (schema_of schema) raw.now ≡ false }
 {

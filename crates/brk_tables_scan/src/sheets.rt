@@ -9,7 +9,7 @@ use crate::decoding::decode;
 use crate::raw::read_raw;
 use brk_changes::{Schema, Sheets};
 use brk_money::Fault;
-use brk_tables_schema::Misread;
+use brk_tables_schema::DecodeError;
 use sqlite::{Alter, Transaction};
 use std::alloc::Global;
 
@@ -29,7 +29,7 @@ pub fn read_sheets<S: Alter>(
     let raw = read_raw(tx, alloc, schema)?;
     match decode(alloc, schema, &raw) {
         Ok(sheets) => Ok(Some(sheets)),
-        Err(Misread::Form) => Ok(None),
-        Err(Misread::Memory) => Err(Fault::Memory),
+        Err(DecodeError::Form) => Ok(None),
+        Err(DecodeError::Memory) => Err(Fault::Memory),
     }
 }

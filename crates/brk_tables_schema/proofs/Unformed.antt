@@ -9,8 +9,8 @@ use Rattle.std.proofs.lemmas.List.Folds.{list_all_at}
 use Rattle.sqlite_value.specs.declared.value.Value.{Value}
 use Rattle.sqlite_value.specs.declared.value.Value.TheVariants.{Null, Int, Real, Text as Words, Blob}
 use Rattle.sqlite_value.specs.Order.{Row, column}
-use Rattle.brk_tables_schema.specs.declared.misread.Misread.{Misread}
-use Rattle.brk_tables_schema.specs.declared.misread.Misread.TheVariants.{Form}
+use Rattle.brk_tables_schema.specs.declared.decode_error.DecodeError.{DecodeError}
+use Rattle.brk_tables_schema.specs.declared.decode_error.DecodeError.TheVariants.{Form}
 use Rattle.brk_tables_schema.specs.Formed.{natural_cell, maybe_cell, words_cell, number_cell, all_formed}
 
 -- a form that nothing has
@@ -85,6 +85,6 @@ pub not_all : {X : Type 0} (p : X → Bool) → (xs : List X) (i : ℕ) (d : X) 
 not_all = list_all_at
 
 -- an error that is handed on
-pub handed_on : {X Y : Type 0} (inner : Result X Misread) (outer : Result Y Misread) (misread : Misread) → IsErrAnd outer (λ out. out ≡ misread) → inner ≡ Err misread → outer ≡ Err Form → inner ≡ Err Form
-handed_on inner (Err out) misread gives was is = let e : out ≡ Form = cc in was ∙ ap Err (sym gives ∙ e)
-handed_on inner (Ok y) misread gives was is = absurd gives
+pub handed_on : {X Y : Type 0} (inner : Result X DecodeError) (outer : Result Y DecodeError) (decode_error : DecodeError) → IsErrAnd outer (λ out. out ≡ decode_error) → inner ≡ Err decode_error → outer ≡ Err Form → inner ≡ Err Form
+handed_on inner (Err out) decode_error gives was is = let e : out ≡ Form = cc in was ∙ ap Err (sym gives ∙ e)
+handed_on inner (Ok y) decode_error gives was is = absurd gives

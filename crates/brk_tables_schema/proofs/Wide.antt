@@ -3,7 +3,7 @@ use Rattle.std.proofs.Common.{◌≡◌, ◌≢◌, ℕ, List, refl, sym, subst}
 use Rattle.sqlite.specs.Effect.{Database}
 use Rattle.brk_model.specs.Schemas.{Schema}
 use Rattle.brk_model.specs.Tables.{Tables}
-use Rattle.brk_sql.specs.Rows.{Holds}
+use Rattle.brk_sql.specs.Rows.{TreeHolds}
 use Rattle.brk_sql.specs.Desk.{Desk, HasTables}
 use Rattle.brk_tables_schema.specs.Cells.{DeskRow, RuleRow}
 use Rattle.brk_tables_schema.specs.Desk.{Which, TheDesk, SettleRules, Item, shape, placed, encode, order, list, list_in, desk_in, desk_rows, rule_rows}
@@ -38,7 +38,7 @@ module _ (schema : Schema) (tree : Which → ℕ) (db : Database) where
     apart = h.apart;
     calm = h.calm;
     sound = h.sound;
-    rows = λ w. subst (λ xs. Holds (shape w (tree w)) (encode w) (order w) xs (db.trees (tree w))) (same_lists w t) (h.rows w);
+    rows = λ w. subst (λ xs. TreeHolds (shape w (tree w)) (encode w) (order w) xs (db.trees (tree w))) (same_lists w t) (h.rows w);
   }
 
   -- the other lists are the same
@@ -50,7 +50,7 @@ module _ (schema : Schema) (tree : Which → ℕ) (db : Database) where
     apart = h.apart;
     calm = h.calm;
     sound = h.sound;
-    rows = λ w. subst (λ xs. Holds (shape w (tree w)) (encode w) (order w) xs (db.trees (tree w))) (back w) (h.rows w);
+    rows = λ w. subst (λ xs. TreeHolds (shape w (tree w)) (encode w) (order w) xs (db.trees (tree w))) (back w) (h.rows w);
   }
     where
       back : (w : Which) → wide_list w (record { rows = rows; rules = rules; tables = t }) ≡ list_in schema w u

@@ -1,4 +1,4 @@
-//! The columns of a row as typed values. One that breaks its form is `Misread::Form`.
+//! The columns of a row as typed values. One that breaks its form is `DecodeError::Form`.
 
 ghost use Rattle.std.specs.Prelude.{◌≡◌, ◌≢◌, ◌<◌, ◌^◌, Err, IfOk, MatchOption, OnOk, bytes_eq, length, nat_lt, pos, string_bytes, true, false};
 ghost use Rattle.sqlite_value.specs.declared.value.Value.TheVariants.{Int, Text};
@@ -8,9 +8,9 @@ ghost use Rattle.brk_changes.specs.Rows.{cash_type_word};
 ghost use Rattle.brk_model.specs.Form.{is_id, is_price};
 ghost use Rattle.brk_tables_schema.specs.Cells.{flag, maybe};
 ghost use Rattle.brk_tables_schema.specs.Formed.{cents_cell, charge_cell, day_cell, flag_cell, id_cell, is_cash_word, is_status, is_tax_status, last_cell, maybe_cell, move_id_cell, natural_cell, number_cell, price_cell, qty_cell, rate_cell, stamp_cell, status_cell, sum_cell, tax_cell, tax_status_cell, text_cell, tier_cell, type_cell, words_cell};
-ghost use Rattle.brk_tables_schema.specs.declared.misread.Misread.TheVariants.{Form as Formless};
+ghost use Rattle.brk_tables_schema.specs.declared.decode_error.DecodeError.TheVariants.{Form as Formless};
 
-use crate::misread::{Misread, misread_by};
+use crate::decode_error::{DecodeError, decode_error_by};
 use brk_changes::{Amount, CashType};
 use brk_money::{
     Cents, Day, Id, MoveId, Price, Qty, Rate, Stamp, Status, TaxRate, TaxStatus, TradeType,
@@ -21,41 +21,41 @@ use sqlite::types::FromSql;
 use sqlite_value::value::ValueRef;
 
 /// A row with so many columns.
-pub fn has_columns(row: &Row, count: usize) -> Result<(), Misread>
+pub fn has_columns(row: &Row, count: usize) -> Result<(), DecodeError>
     ensures columns { OnOk result (length row.now ≡ count) }
     ensures form { result ≡ Err Formless → length row.now ≢ count }
 {
     if row.column_count() == count {
         Ok(())
     } else {
-        Err(Misread::Form)
+        Err(DecodeError::Form)
     }
 }
 
 // A column as the database reads it.
-fn value_in<T: FromSql>(row: &Row, at: usize) -> Result<T, Misread>
+fn value_in<T: FromSql>(row: &Row, at: usize) -> Result<T, DecodeError>
     ensures value { IfOk result (T.FromSql.reads_as (column row.now at)) }
     ensures form { result ≡ Err Formless → at < length row.now → ¬ T.FromSql.is_readable (column row.now at) }
 {
     match row.get(at) {
         Ok(value) => Ok(value),
-        Err(error) => Err(misread_by(error)),
+        Err(error) => Err(decode_error_by(error)),
     }
 }
 
 // The bytes of a text.
-fn bytes_in(row: &Row, at: usize) -> Result<&[u8], Misread>
+fn bytes_in(row: &Row, at: usize) -> Result<&[u8], DecodeError>
     ensures value { IfOk result (λ bytes. column row.now at ≡ Text bytes.now) }
     ensures form { result ≡ Err Formless → at < length row.now → words_cell (λ _. true) (column row.now at) ≡ false }
 {
     match row.get_ref(at) {
         Ok(ValueRef::Text(bytes)) => Ok(bytes),
-        _ => Err(Misread::Form),
+        _ => Err(DecodeError::Form),
     }
 }
 
 /// A whole number.
-pub fn number_in(row: &Row, at: usize) -> Result<i64, Misread>
+pub fn number_in(row: &Row, at: usize) -> Result<i64, DecodeError>
     ensures value { IfOk result (λ number. column row.now at ≡ Int number) }
     ensures form { result ≡ Err Formless → at < length row.now → number_cell (column row.now at) ≡ false }
 {
@@ -63,7 +63,7 @@ pub fn number_in(row: &Row, at: usize) -> Result<i64, Misread>
 }
 
 /// A whole number that is not below 0.
-pub fn natural_in(row: &Row, at: usize) -> Result<u64, Misread>
+pub fn natural_in(row: &Row, at: usize) -> Result<u64, DecodeError>
     ensures value { IfOk result (λ number. column row.now at ≡ Int (pos number)) }
     ensures form { result ≡ Err Formless → at < length row.now → natural_cell (λ _. true) (column row.now at) ≡ false }
 {
@@ -71,7 +71,7 @@ pub fn natural_in(row: &Row, at: usize) -> Result<u64, Misread>
 }
 
 /// A whole number that is not below 0 and fits 32 bits.
-pub fn small_in(row: &Row, at: usize) -> Result<u32, Misread>
+pub fn small_in(row: &Row, at: usize) -> Result<u32, DecodeError>
     ensures value { IfOk result (λ number. column row.now at ≡ Int (pos number)) }
     ensures form { result ≡ Err Formless → at < length row.now → natural_cell (λ n. nat_lt n (2 ^ 32)) (column row.now at) ≡ false }
 {
@@ -80,7 +80,7 @@ pub fn small_in(row: &Row, at: usize) -> Result<u32, Misread>
 
 /// Any text of UTF-8.
 #[tactic(auto, using(crate::proofs::Unformed::no_text))]
-pub fn text_in(row: &Row, at: usize) -> Result<String, Misread>
+pub fn text_in(row: &Row, at: usize) -> Result<String, DecodeError>
     ensures value { IfOk result (λ text. column row.now at ≡ Text (string_bytes text)) }
     ensures form { result ≡ Err Formless → at < length row.now → text_cell (column row.now at) ≡ false }
 {
@@ -89,36 +89,36 @@ pub fn text_in(row: &Row, at: usize) -> Result<String, Misread>
 
 /// A text of a form.
 #[tactic(auto, using(crate::proofs::Unformed::no_formed_text))]
-pub fn text_of<F: Form>(row: &Row, at: usize) -> Result<FormedText<F>, Misread>
+pub fn text_of<F: Form>(row: &Row, at: usize) -> Result<FormedText<F>, DecodeError>
     ensures value { IfOk result (λ text. column row.now at ≡ Text text) }
     ensures form { result ≡ Err Formless → at < length row.now → words_cell F.form (column row.now at) ≡ false }
 {
-    FormedText::new(text_in(row, at)?).ok_or(Misread::Form)
+    FormedText::new(text_in(row, at)?).ok_or(DecodeError::Form)
 }
 
-pub fn row_number_in(row: &Row, at: usize) -> Result<RowNumber, Misread>
+pub fn row_number_in(row: &Row, at: usize) -> Result<RowNumber, DecodeError>
     ensures value { IfOk result (λ number. column row.now at ≡ Int (pos number)) }
     ensures form { result ≡ Err Formless → at < length row.now → id_cell (column row.now at) ≡ false }
 {
-    RowNumber::new(natural_in(row, at)?).ok_or(Misread::Form)
+    RowNumber::new(natural_in(row, at)?).ok_or(DecodeError::Form)
 }
 
-pub fn id_in(row: &Row, at: usize) -> Result<Id, Misread>
+pub fn id_in(row: &Row, at: usize) -> Result<Id, DecodeError>
     ensures value { IfOk result (λ id. column row.now at ≡ Int (pos id)) }
     ensures form { result ≡ Err Formless → at < length row.now → id_cell (column row.now at) ≡ false }
 {
-    Id::new(natural_in(row, at)?).ok_or(Misread::Form)
+    Id::new(natural_in(row, at)?).ok_or(DecodeError::Form)
 }
 
-pub fn move_id_in(row: &Row, at: usize) -> Result<MoveId, Misread>
+pub fn move_id_in(row: &Row, at: usize) -> Result<MoveId, DecodeError>
     ensures value { IfOk result (λ id. column row.now at ≡ Int (pos id)) }
     ensures form { result ≡ Err Formless → at < length row.now → move_id_cell (column row.now at) ≡ false }
 {
-    MoveId::new(natural_in(row, at)?).ok_or(Misread::Form)
+    MoveId::new(natural_in(row, at)?).ok_or(DecodeError::Form)
 }
 
 /// An id, or none where the column is null.
-pub fn maybe_id_in(row: &Row, at: usize) -> Result<Option<Id>, Misread>
+pub fn maybe_id_in(row: &Row, at: usize) -> Result<Option<Id>, DecodeError>
     ensures value { IfOk result (λ id. column row.now at ≡ maybe id) }
     ensures form { result ≡ Err Formless → at < length row.now → maybe_cell is_id (column row.now at) ≡ false }
 {
@@ -126,88 +126,88 @@ pub fn maybe_id_in(row: &Row, at: usize) -> Result<Option<Id>, Misread>
     let Some(number) = number else {
         return Ok(None);
     };
-    Ok(Some(Id::new(number).ok_or(Misread::Form)?))
+    Ok(Some(Id::new(number).ok_or(DecodeError::Form)?))
 }
 
-pub fn tier_in(row: &Row, at: usize) -> Result<Tier, Misread>
+pub fn tier_in(row: &Row, at: usize) -> Result<Tier, DecodeError>
     ensures value { IfOk result (λ tier. column row.now at ≡ Int (pos tier)) }
     ensures form { result ≡ Err Formless → at < length row.now → tier_cell (column row.now at) ≡ false }
 {
-    Tier::new(natural_in(row, at)?).ok_or(Misread::Form)
+    Tier::new(natural_in(row, at)?).ok_or(DecodeError::Form)
 }
 
-pub fn amount_in(row: &Row, at: usize) -> Result<Amount, Misread>
+pub fn amount_in(row: &Row, at: usize) -> Result<Amount, DecodeError>
     ensures value { IfOk result (λ amount. column row.now at ≡ Int (pos amount)) }
     ensures form { result ≡ Err Formless → at < length row.now → sum_cell (column row.now at) ≡ false }
 {
-    Amount::new(natural_in(row, at)?).ok_or(Misread::Form)
+    Amount::new(natural_in(row, at)?).ok_or(DecodeError::Form)
 }
 
-pub fn volume_in(row: &Row, at: usize) -> Result<Volume, Misread>
+pub fn volume_in(row: &Row, at: usize) -> Result<Volume, DecodeError>
     ensures value { IfOk result (λ volume. column row.now at ≡ Int (pos volume)) }
     ensures form { result ≡ Err Formless → at < length row.now → sum_cell (column row.now at) ≡ false }
 {
-    Volume::new(natural_in(row, at)?).ok_or(Misread::Form)
+    Volume::new(natural_in(row, at)?).ok_or(DecodeError::Form)
 }
 
-pub fn qty_in(row: &Row, at: usize) -> Result<Qty, Misread>
+pub fn qty_in(row: &Row, at: usize) -> Result<Qty, DecodeError>
     ensures value { IfOk result (λ qty. column row.now at ≡ Int (pos qty)) }
     ensures form { result ≡ Err Formless → at < length row.now → qty_cell (column row.now at) ≡ false }
 {
-    Qty::new(small_in(row, at)?).ok_or(Misread::Form)
+    Qty::new(small_in(row, at)?).ok_or(DecodeError::Form)
 }
 
-pub fn price_in(row: &Row, at: usize) -> Result<Price, Misread>
+pub fn price_in(row: &Row, at: usize) -> Result<Price, DecodeError>
     ensures value { IfOk result (λ price. column row.now at ≡ Int (pos price)) }
     ensures form { result ≡ Err Formless → at < length row.now → price_cell (column row.now at) ≡ false }
 {
-    Price::new(small_in(row, at)?).ok_or(Misread::Form)
+    Price::new(small_in(row, at)?).ok_or(DecodeError::Form)
 }
 
-pub fn rate_in(row: &Row, at: usize) -> Result<Rate, Misread>
+pub fn rate_in(row: &Row, at: usize) -> Result<Rate, DecodeError>
     ensures value { IfOk result (λ rate. column row.now at ≡ Int (pos rate)) }
     ensures form { result ≡ Err Formless → at < length row.now → rate_cell (column row.now at) ≡ false }
 {
-    Rate::new(small_in(row, at)?).ok_or(Misread::Form)
+    Rate::new(small_in(row, at)?).ok_or(DecodeError::Form)
 }
 
-pub fn tax_rate_in(row: &Row, at: usize) -> Result<TaxRate, Misread>
+pub fn tax_rate_in(row: &Row, at: usize) -> Result<TaxRate, DecodeError>
     ensures value { IfOk result (λ rate. column row.now at ≡ Int (pos rate)) }
     ensures form { result ≡ Err Formless → at < length row.now → tax_cell (column row.now at) ≡ false }
 {
-    TaxRate::new(small_in(row, at)?).ok_or(Misread::Form)
+    TaxRate::new(small_in(row, at)?).ok_or(DecodeError::Form)
 }
 
-pub fn charge_amount_in(row: &Row, at: usize) -> Result<ChargeAmount, Misread>
+pub fn charge_amount_in(row: &Row, at: usize) -> Result<ChargeAmount, DecodeError>
     ensures value { IfOk result (λ amount. column row.now at ≡ Int (pos amount)) }
     ensures form { result ≡ Err Formless → at < length row.now → charge_cell (column row.now at) ≡ false }
 {
-    ChargeAmount::new(small_in(row, at)?).ok_or(Misread::Form)
+    ChargeAmount::new(small_in(row, at)?).ok_or(DecodeError::Form)
 }
 
-pub fn cents_in(row: &Row, at: usize) -> Result<Cents, Misread>
+pub fn cents_in(row: &Row, at: usize) -> Result<Cents, DecodeError>
     ensures value { IfOk result (λ cents. column row.now at ≡ Int cents) }
     ensures form { result ≡ Err Formless → at < length row.now → cents_cell (column row.now at) ≡ false }
 {
-    Cents::new(number_in(row, at)?).ok_or(Misread::Form)
+    Cents::new(number_in(row, at)?).ok_or(DecodeError::Form)
 }
 
-pub fn stamp_in(row: &Row, at: usize) -> Result<Stamp, Misread>
+pub fn stamp_in(row: &Row, at: usize) -> Result<Stamp, DecodeError>
     ensures value { IfOk result (λ stamp. column row.now at ≡ Int (pos stamp)) }
     ensures form { result ≡ Err Formless → at < length row.now → stamp_cell (column row.now at) ≡ false }
 {
-    Stamp::new(number_in(row, at)?).ok_or(Misread::Form)
+    Stamp::new(number_in(row, at)?).ok_or(DecodeError::Form)
 }
 
-pub fn day_in(row: &Row, at: usize) -> Result<Day, Misread>
+pub fn day_in(row: &Row, at: usize) -> Result<Day, DecodeError>
     ensures value { IfOk result (λ day. column row.now at ≡ Int (pos day)) }
     ensures form { result ≡ Err Formless → at < length row.now → day_cell (column row.now at) ≡ false }
 {
-    Day::new(value_in(row, at)?).ok_or(Misread::Form)
+    Day::new(value_in(row, at)?).ok_or(DecodeError::Form)
 }
 
 /// A stamp, or none where the column is null.
-pub fn maybe_stamp_in(row: &Row, at: usize) -> Result<Option<Stamp>, Misread>
+pub fn maybe_stamp_in(row: &Row, at: usize) -> Result<Option<Stamp>, DecodeError>
     ensures value { IfOk result (λ stamp. column row.now at ≡ maybe stamp) }
     ensures form { result ≡ Err Formless → at < length row.now → last_cell (column row.now at) ≡ false }
 {
@@ -215,11 +215,11 @@ pub fn maybe_stamp_in(row: &Row, at: usize) -> Result<Option<Stamp>, Misread>
     let Some(millis) = millis else {
         return Ok(None);
     };
-    Ok(Some(Stamp::new(millis).ok_or(Misread::Form)?))
+    Ok(Some(Stamp::new(millis).ok_or(DecodeError::Form)?))
 }
 
 /// A price, or none where the column is null.
-pub fn maybe_price_in(row: &Row, at: usize) -> Result<Option<Price>, Misread>
+pub fn maybe_price_in(row: &Row, at: usize) -> Result<Option<Price>, DecodeError>
     ensures value { IfOk result (λ price. column row.now at ≡ maybe price) }
     ensures form { result ≡ Err Formless → at < length row.now → maybe_cell is_price (column row.now at) ≡ false }
 {
@@ -227,34 +227,34 @@ pub fn maybe_price_in(row: &Row, at: usize) -> Result<Option<Price>, Misread>
     let Some(cents) = cents else {
         return Ok(None);
     };
-    Ok(Some(Price::new(cents).ok_or(Misread::Form)?))
+    Ok(Some(Price::new(cents).ok_or(DecodeError::Form)?))
 }
 
-pub fn tax_status_in(row: &Row, at: usize) -> Result<TaxStatus, Misread>
+pub fn tax_status_in(row: &Row, at: usize) -> Result<TaxStatus, DecodeError>
     ensures value { IfOk result (λ tax_status. column row.now at ≡ Int (pos (tax_status_number tax_status))) }
     ensures form { result ≡ Err Formless → at < length row.now → tax_status_cell (column row.now at) ≡ false }
 {
-    TaxStatus::from_number(natural_in(row, at)?).ok_or(Misread::Form)
+    TaxStatus::from_number(natural_in(row, at)?).ok_or(DecodeError::Form)
 }
 
 /// 1 as true and 0 as false.
-pub fn flag_in(row: &Row, at: usize) -> Result<bool, Misread>
+pub fn flag_in(row: &Row, at: usize) -> Result<bool, DecodeError>
     ensures value { IfOk result (λ is. column row.now at ≡ flag is) }
     ensures form { result ≡ Err Formless → at < length row.now → flag_cell (column row.now at) ≡ false }
 {
     match natural_in(row, at)? {
         0 => Ok(false),
         1 => Ok(true),
-        _ => Err(Misread::Form),
+        _ => Err(DecodeError::Form),
     }
 }
 
 /// The type of trade whose code the column is.
-pub fn type_in(row: &Row, at: usize) -> Result<TradeType, Misread>
+pub fn type_in(row: &Row, at: usize) -> Result<TradeType, DecodeError>
     ensures value { IfOk result (λ kind. column row.now at ≡ Text (type_code kind)) }
     ensures form { result ≡ Err Formless → at < length row.now → type_cell (column row.now at) ≡ false }
 {
-    parse_type(bytes_in(row, at)?).ok_or(Misread::Form)
+    parse_type(bytes_in(row, at)?).ok_or(DecodeError::Form)
 }
 
 // Whether the bytes are the code of a status.
@@ -287,11 +287,11 @@ fn parse_status(bytes: &[u8]) -> Option<Status>
 }
 
 /// The status whose code the column is.
-pub fn status_in(row: &Row, at: usize) -> Result<Status, Misread>
+pub fn status_in(row: &Row, at: usize) -> Result<Status, DecodeError>
     ensures value { IfOk result (λ status. column row.now at ≡ Text (status_code status)) }
     ensures form { result ≡ Err Formless → at < length row.now → status_cell (column row.now at) ≡ false }
 {
-    parse_status(bytes_in(row, at)?).ok_or(Misread::Form)
+    parse_status(bytes_in(row, at)?).ok_or(DecodeError::Form)
 }
 
 // Whether the bytes are the word of a way to settle.
@@ -321,9 +321,9 @@ fn parse_cash_type(bytes: &[u8]) -> Option<CashType>
 }
 
 /// How a trade is settled, by its word in the column.
-pub fn cash_type_in(row: &Row, at: usize) -> Result<CashType, Misread>
+pub fn cash_type_in(row: &Row, at: usize) -> Result<CashType, DecodeError>
     ensures value { IfOk result (λ kind. column row.now at ≡ Text (cash_type_word kind)) }
     ensures form { result ≡ Err Formless → at < length row.now → words_cell is_cash_word (column row.now at) ≡ false }
 {
-    parse_cash_type(bytes_in(row, at)?).ok_or(Misread::Form)
+    parse_cash_type(bytes_in(row, at)?).ok_or(DecodeError::Form)
 }

@@ -7,12 +7,12 @@ ghost use Rattle.brk_changes.specs.Schemas.{schema_of};
 ghost use Rattle.brk_tables_schema.specs.Cells.{desk_row_cells};
 ghost use Rattle.brk_tables_schema.specs.Desk.{desk_rows};
 ghost use Rattle.brk_tables_schema.specs.Formed.{all_formed, desk_forms, is_desk_row};
-ghost use Rattle.brk_tables_schema.specs.declared.misread.Misread.TheVariants.{Form as Formless};
+ghost use Rattle.brk_tables_schema.specs.declared.decode_error.DecodeError.TheVariants.{Form as Formless};
 ghost use Rattle.brk_tables_schema.specs.Statements.{Reads, Writes};
 
 use crate::calls::{run, select};
 use crate::cells::{has_columns, maybe_stamp_in, natural_in};
-use crate::misread::Misread;
+use crate::decode_error::DecodeError;
 use crate::values::{number_value, stamp_value};
 use brk_changes::Schema;
 use brk_money::{Fault, Stamp};
@@ -31,25 +31,25 @@ pub fn set_last_stamp<S: Alter>(tx: &mut Transaction<'_, S>, stamp: Stamp) -> Re
     )
 }
 
-fn stamp_of_row(schema: Schema, row: &Row) -> Result<Option<Stamp>, Misread>
+fn stamp_of_row(schema: Schema, row: &Row) -> Result<Option<Stamp>, DecodeError>
     ensures value { IfOk result (λ last. map desk_row_cells (desk_rows (schema_of schema) last) ≡ row.now ∷ []) }
     ensures form { result ≡ Err Formless → all_formed (desk_forms (schema_of schema)) row.now ≡ false }
 {
     has_columns(row, 3)?;
     if natural_in(row, 0)? != 1 || natural_in(row, 1)? != u64::from(schema.number()) {
-        return Err(Misread::Form);
+        return Err(DecodeError::Form);
     }
     maybe_stamp_in(row, 2)
 }
 
 /// The stamp in the one row of DESK, in a schema.
-pub fn stamp_in_rows(schema: Schema, rows: &[Row]) -> Result<Option<Stamp>, Misread>
+pub fn stamp_in_rows(schema: Schema, rows: &[Row]) -> Result<Option<Stamp>, DecodeError>
     ensures value { IfOk result (λ last. map desk_row_cells (desk_rows (schema_of schema) last) ≡ rows.now) }
     ensures form { result ≡ Err Formless → is_desk_row (schema_of schema) rows.now ≡ false }
 {
     match rows {
         [row] => stamp_of_row(schema, row),
-        _ => Err(Misread::Form),
+        _ => Err(DecodeError::Form),
     }
 }
 

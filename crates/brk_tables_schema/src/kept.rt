@@ -9,7 +9,7 @@ ghost use Rattle.brk_tables_schema.specs.Statements.{Finds, Writes};
 
 use crate::calls::{run, select};
 use crate::cells::{has_columns, row_number_in, text_in, text_of};
-use crate::misread::Misread;
+use crate::decode_error::DecodeError;
 use crate::record::{Record, first_row};
 use crate::values::{row_number_value, text_value};
 use brk_money::Fault;
@@ -39,7 +39,7 @@ impl Record for Kept {
 
     ghost forms = { kept_forms };
 
-    fn from_row(row: &Row) -> Result<Kept, Misread> {
+    fn from_row(row: &Row) -> Result<Kept, DecodeError> {
         has_columns(row, 4)?;
         let key = Key {
             batch: text_of(row, 0)?,

@@ -5,15 +5,15 @@
 
 pub mod calls;
 pub mod cells;
+pub mod decode_error;
 pub mod desk_row;
 pub mod kept;
-pub mod misread;
 pub mod record;
 mod reference_records;
 pub mod rule_row;
 mod trading_records;
 pub mod values;
 
+pub use decode_error::DecodeError;
 pub use desk_row::{last_stamp, set_last_stamp};
 pub use kept::{add_kept, kept_by_key};
-pub use misread::Misread;

@@ -7,9 +7,9 @@ ghost use Rattle.brk_model.specs.Run.{MayFail};
 ghost use Rattle.sqlite_value.specs.declared.value.Value.{Value};
 ghost use Rattle.sqlite_value.specs.Order.{Row as Cells};
 ghost use Rattle.brk_tables_schema.specs.Formed.{all_formed};
-ghost use Rattle.brk_tables_schema.specs.declared.misread.Misread.TheVariants.{Form as Formless};
+ghost use Rattle.brk_tables_schema.specs.declared.decode_error.DecodeError.TheVariants.{Form as Formless};
 
-use crate::misread::Misread;
+use crate::decode_error::DecodeError;
 use brk_money::Fault;
 use sqlite::Row;
 use std::alloc::Global;
@@ -23,7 +23,7 @@ pub trait Record: Drop {
     ghost forms: { List (Value → Bool) };
 
     /// The record that a row shows.
-    fn from_row(row: &Row) -> Result<Self, Misread>
+    fn from_row(row: &Row) -> Result<Self, DecodeError>
         ensures value { IfOk result (λ r. cells r ≡ row.now) }
         ensures form { result ≡ Err Formless → all_formed forms row.now ≡ false };
 }
@@ -46,14 +46,14 @@ pub fn all_rows<T: Record>(alloc: Global, rows: &[Row]) -> Result<Vec<T>, Fault>
 {
     match all_records(alloc, rows) {
         Ok(all) => Ok(all),
-        Err(Misread::Form) => Err(Fault::Store),
-        Err(Misread::Memory) => Err(Fault::Memory),
+        Err(DecodeError::Form) => Err(Fault::Store),
+        Err(DecodeError::Memory) => Err(Fault::Memory),
     }
 }
 
 /// All of the rows, where each shows a record.
 #[tactic(auto, using(crate::proofs::Unformed::not_all))]
-pub fn all_records<T: Record>(alloc: Global, rows: &[Row]) -> Result<Vec<T>, Misread>
+pub fn all_records<T: Record>(alloc: Global, rows: &[Row]) -> Result<Vec<T>, DecodeError>
     ensures value { IfOk result (λ all. map T.cells all.items ≡ rows.now) }
     ensures form { result ≡ Err Formless → list_all (all_formed T.forms) rows.now ≡ false }
 {

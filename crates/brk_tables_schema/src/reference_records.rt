@@ -8,7 +8,7 @@ use crate::cells::{
     cents_in, charge_amount_in, has_columns, id_in, natural_in, number_in, qty_in, rate_in,
     tax_rate_in, tax_status_in, text_of, tier_in, type_in,
 };
-use crate::misread::Misread;
+use crate::decode_error::DecodeError;
 use crate::record::Record;
 use brk_ref::{
     Account, AccountRow, Band, Broker, BrokerRow, Charge, Customer, CustomerTax, Permission,
@@ -21,7 +21,7 @@ impl Record for AccountRow {
 
     ghost forms = { account_forms };
 
-    fn from_row(row: &Row) -> Result<AccountRow, Misread> {
+    fn from_row(row: &Row) -> Result<AccountRow, DecodeError> {
         has_columns(row, 7)?;
         Ok(AccountRow {
             account: Account {
@@ -42,7 +42,7 @@ impl Record for Band {
 
     ghost forms = { band_forms };
 
-    fn from_row(row: &Row) -> Result<Band, Misread> {
+    fn from_row(row: &Row) -> Result<Band, DecodeError> {
         has_columns(row, 6)?;
         Ok(Band {
             tier: tier_in(row, 0)?,
@@ -60,7 +60,7 @@ impl Record for BrokerRow {
 
     ghost forms = { broker_forms };
 
-    fn from_row(row: &Row) -> Result<BrokerRow, Misread> {
+    fn from_row(row: &Row) -> Result<BrokerRow, DecodeError> {
         has_columns(row, 4)?;
         Ok(BrokerRow {
             broker: Broker {
@@ -78,7 +78,7 @@ impl Record for Charge {
 
     ghost forms = { charge_forms };
 
-    fn from_row(row: &Row) -> Result<Charge, Misread> {
+    fn from_row(row: &Row) -> Result<Charge, DecodeError> {
         has_columns(row, 3)?;
         Ok(Charge {
             kind: type_in(row, 0)?,
@@ -93,7 +93,7 @@ impl Record for Customer {
 
     ghost forms = { customer_forms };
 
-    fn from_row(row: &Row) -> Result<Customer, Misread> {
+    fn from_row(row: &Row) -> Result<Customer, DecodeError> {
         has_columns(row, 5)?;
         Ok(Customer {
             id: id_in(row, 0)?,
@@ -110,7 +110,7 @@ impl Record for Permission {
 
     ghost forms = { permission_forms };
 
-    fn from_row(row: &Row) -> Result<Permission, Misread> {
+    fn from_row(row: &Row) -> Result<Permission, DecodeError> {
         has_columns(row, 5)?;
         Ok(Permission {
             account: id_in(row, 0)?,
@@ -127,7 +127,7 @@ impl Record for Security {
 
     ghost forms = { security_forms };
 
-    fn from_row(row: &Row) -> Result<Security, Misread> {
+    fn from_row(row: &Row) -> Result<Security, DecodeError> {
         has_columns(row, 4)?;
         Ok(Security {
             symbol: text_of(row, 0)?,
@@ -143,7 +143,7 @@ impl Record for Tax {
 
     ghost forms = { tax_rate_forms };
 
-    fn from_row(row: &Row) -> Result<Tax, Misread> {
+    fn from_row(row: &Row) -> Result<Tax, DecodeError> {
         has_columns(row, 3)?;
         Ok(Tax {
             id: id_in(row, 0)?,
@@ -158,7 +158,7 @@ impl Record for CustomerTax {
 
     ghost forms = { customer_tax_forms };
 
-    fn from_row(row: &Row) -> Result<CustomerTax, Misread> {
+    fn from_row(row: &Row) -> Result<CustomerTax, DecodeError> {
         has_columns(row, 2)?;
         Ok(CustomerTax {
             customer: id_in(row, 0)?,

@@ -4,32 +4,32 @@ ghost use Rattle.std.specs.Prelude.{◌≡◌, ◌∷◌, [], Err, IfOk, Some, f
 ghost use Rattle.brk_tables_schema.specs.Cells.{rule_cells};
 ghost use Rattle.brk_tables_schema.specs.Desk.{rule_rows};
 ghost use Rattle.brk_tables_schema.specs.Formed.{all_formed, is_rule, rule_forms};
-ghost use Rattle.brk_tables_schema.specs.declared.misread.Misread.TheVariants.{Form as Formless};
+ghost use Rattle.brk_tables_schema.specs.declared.decode_error.DecodeError.TheVariants.{Form as Formless};
 
 use crate::cells::{day_in, has_columns, natural_in};
-use crate::misread::Misread;
+use crate::decode_error::DecodeError;
 use brk_money::Day;
 use sqlite::Row;
 
-fn day_of_row(row: &Row) -> Result<Day, Misread>
+fn day_of_row(row: &Row) -> Result<Day, DecodeError>
     ensures value { IfOk result (λ day. map rule_cells (rule_rows (Some day)) ≡ row.now ∷ []) }
     ensures form { result ≡ Err Formless → all_formed rule_forms row.now ≡ false }
 {
     has_columns(row, 2)?;
     if natural_in(row, 0)? != 1 {
-        return Err(Misread::Form);
+        return Err(DecodeError::Form);
     }
     day_in(row, 1)
 }
 
 /// The day in the one row of SETTLE_RULE, where there is one.
-pub fn day_in_rows(rows: &[Row]) -> Result<Option<Day>, Misread>
+pub fn day_in_rows(rows: &[Row]) -> Result<Option<Day>, DecodeError>
     ensures value { IfOk result (λ day. map rule_cells (rule_rows day) ≡ rows.now) }
     ensures form { result ≡ Err Formless → is_rule rows.now ≡ false }
 {
     match rows {
         [] => Ok(None),
         [row] => Ok(Some(day_of_row(row)?)),
-        _ => Err(Misread::Form),
+        _ => Err(DecodeError::Form),
     }
 }

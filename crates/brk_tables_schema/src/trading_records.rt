@@ -11,7 +11,7 @@ use crate::cells::{
     maybe_id_in, maybe_price_in, move_id_in, number_in, price_in, qty_in, stamp_in, status_in,
     text_in, text_of, type_in, volume_in,
 };
-use crate::misread::Misread;
+use crate::decode_error::DecodeError;
 use crate::record::Record;
 use brk_changes::{
     CashRow, HistoryRow, HoldingRow, LotChange, MoveRow, RequestRow, SettlementRow, SummaryRow,
@@ -26,7 +26,7 @@ impl Record for HoldingRow {
 
     ghost forms = { holding_forms };
 
-    fn from_row(row: &Row) -> Result<HoldingRow, Misread> {
+    fn from_row(row: &Row) -> Result<HoldingRow, DecodeError> {
         has_columns(row, 6)?;
         Ok(HoldingRow {
             trade: id_in(row, 0)?,
@@ -44,7 +44,7 @@ impl Record for SummaryRow {
 
     ghost forms = { summary_forms };
 
-    fn from_row(row: &Row) -> Result<SummaryRow, Misread> {
+    fn from_row(row: &Row) -> Result<SummaryRow, DecodeError> {
         has_columns(row, 3)?;
         Ok(SummaryRow {
             account: id_in(row, 0)?,
@@ -59,7 +59,7 @@ impl Record for LastTrade {
 
     ghost forms = { last_trade_forms };
 
-    fn from_row(row: &Row) -> Result<LastTrade, Misread> {
+    fn from_row(row: &Row) -> Result<LastTrade, DecodeError> {
         has_columns(row, 4)?;
         Ok(LastTrade {
             symbol: text_of(row, 0)?,
@@ -75,7 +75,7 @@ impl Record for RequestRow {
 
     ghost forms = { request_forms };
 
-    fn from_row(row: &Row) -> Result<RequestRow, Misread> {
+    fn from_row(row: &Row) -> Result<RequestRow, DecodeError> {
         has_columns(row, 6)?;
         Ok(RequestRow {
             trade: id_in(row, 0)?,
@@ -93,7 +93,7 @@ impl Record for TradeRow {
 
     ghost forms = { trade_forms };
 
-    fn from_row(row: &Row) -> Result<TradeRow, Misread> {
+    fn from_row(row: &Row) -> Result<TradeRow, DecodeError> {
         has_columns(row, 15)?;
         Ok(TradeRow {
             id: id_in(row, 0)?,
@@ -120,7 +120,7 @@ impl Record for HistoryRow {
 
     ghost forms = { history_forms };
 
-    fn from_row(row: &Row) -> Result<HistoryRow, Misread> {
+    fn from_row(row: &Row) -> Result<HistoryRow, DecodeError> {
         has_columns(row, 3)?;
         Ok(HistoryRow {
             trade: id_in(row, 0)?,
@@ -135,7 +135,7 @@ impl Record for LotChange {
 
     ghost forms = { holding_history_forms };
 
-    fn from_row(row: &Row) -> Result<LotChange, Misread> {
+    fn from_row(row: &Row) -> Result<LotChange, DecodeError> {
         has_columns(row, 4)?;
         Ok(LotChange {
             lot: id_in(row, 0)?,
@@ -151,7 +151,7 @@ impl Record for SettlementRow {
 
     ghost forms = { settlement_forms };
 
-    fn from_row(row: &Row) -> Result<SettlementRow, Misread> {
+    fn from_row(row: &Row) -> Result<SettlementRow, DecodeError> {
         has_columns(row, 4)?;
         Ok(SettlementRow {
             trade: id_in(row, 0)?,
@@ -167,7 +167,7 @@ impl Record for CashRow {
 
     ghost forms = { cash_forms };
 
-    fn from_row(row: &Row) -> Result<CashRow, Misread> {
+    fn from_row(row: &Row) -> Result<CashRow, DecodeError> {
         has_columns(row, 4)?;
         Ok(CashRow {
             trade: id_in(row, 0)?,
@@ -183,7 +183,7 @@ impl Record for MoveRow {
 
     ghost forms = { move_forms };
 
-    fn from_row(row: &Row) -> Result<MoveRow, Misread> {
+    fn from_row(row: &Row) -> Result<MoveRow, DecodeError> {
         has_columns(row, 6)?;
         Ok(MoveRow {
             id: move_id_in(row, 0)?,
@@ -201,7 +201,7 @@ impl Record for Id {
 
     ghost forms = { id_cell ∷ [] };
 
-    fn from_row(row: &Row) -> Result<Id, Misread> {
+    fn from_row(row: &Row) -> Result<Id, DecodeError> {
         has_columns(row, 1)?;
         id_in(row, 0)
     }

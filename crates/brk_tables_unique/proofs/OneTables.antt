@@ -18,7 +18,7 @@ use Rattle.brk_changes.specs.declared.schema.Schema as known
 use Rattle.brk_changes.specs.declared.schema.Schema.TheVariants.{First, Second, Third}
 use Rattle.brk_changes.specs.Schemas.{schema_of}
 use Rattle.brk_sql.specs.Desk.{HasTables, Stands}
-use Rattle.brk_sql.specs.Rows.{Holds, Rises, cells}
+use Rattle.brk_sql.specs.Rows.{TreeHolds, Rises, cells}
 use Rattle.brk_sql.proofs.Order.{has_permuted}
 use Rattle.brk_tables_schema.specs.Cells.{DeskRow, RuleRow}
 use Rattle.brk_tables_schema.specs.Desk.{Item, Which, encode, key, order, placed, shape, TheDesk, KeptRows, Brokers, Customers, Accounts, Permissions, Securities, LastTrades, Charges, Bands, TaxRates, CustomerTaxes, Trades, TradeHistory, Requests, Holdings, Summaries, HoldingHistory, Settlements, CashRows, CashMoves, SettleRules, list_in, has_table, rule_rows}
@@ -88,7 +88,7 @@ module _ {X : Type 0} (cmp : X → X → Ordering) (total : IsTotalOrder cmp) wh
 
 -- ---- one table
 
-held_alike : (w : Which) (table : Table) (xs ys : List (Item w)) (rows : List Row) → Holds table (encode w) (order w) xs rows → Holds table (encode w) (order w) ys rows → xs ≡ ys
+held_alike : (w : Which) (table : Table) (xs ys : List (Item w)) (rows : List Row) → TreeHolds table (encode w) (order w) xs rows → TreeHolds table (encode w) (order w) ys rows → xs ≡ ys
 held_alike w table xs ys rows h k =
     let cellsOf : List Row = map (cells table) rows in
     let p : IsPermutation (map (encode w) xs) (map (encode w) ys) =
@@ -108,11 +108,11 @@ tree_alike w db m n at by h k =
     sym (placed w m) ∙ ap (λ (t : Table). t.tree) f ∙ placed w n
 
 -- a table of a desk, in whichever schemas, shows one list
-alike : (w : Which) (s r : Schema) (t u : Tables) (db : Database) (m n at by : ℕ) → Stands db.schema (shape w m) at → Stands db.schema (shape w n) by → Holds (shape w m) (encode w) (order w) (list_in s w t) (db.trees m)
-    → Holds (shape w n) (encode w) (order w) (list_in r w u) (db.trees n) → list_in s w t ≡ list_in r w u
+alike : (w : Which) (s r : Schema) (t u : Tables) (db : Database) (m n at by : ℕ) → Stands db.schema (shape w m) at → Stands db.schema (shape w n) by → TreeHolds (shape w m) (encode w) (order w) (list_in s w t) (db.trees m)
+    → TreeHolds (shape w n) (encode w) (order w) (list_in r w u) (db.trees n) → list_in s w t ≡ list_in r w u
 alike w s r t u db m n at by h k some more =
     let e : m ≡ n = tree_alike w db m n at by h k in
-    held_alike w (shape w m) (list_in s w t) (list_in r w u) (db.trees m) some (subst (λ (q : ℕ). Holds (shape w q) (encode w) (order w) (list_in r w u) (db.trees q)) (sym e) more)
+    held_alike w (shape w m) (list_in s w t) (list_in r w u) (db.trees m) some (subst (λ (q : ℕ). TreeHolds (shape w q) (encode w) (order w) (list_in r w u) (db.trees q)) (sym e) more)
 
 last_of : List DeskRow → Option ℕ
 last_of [] = None

@@ -10,8 +10,8 @@ use Rattle.brk_sql.specs.Desk.{Tells}
 use Rattle.brk_sql.proofs.Decode.{all_are}
 use Rattle.brk_sql.proofs.Order.{map_twice}
 use Rattle.brk_tables_schema.specs.Desk.{desk}
-use Rattle.brk_tables_walks.specs.declared.walking.Stop.{Stop}
-use Rattle.brk_tables_walks.specs.declared.walking.Stop.TheVariants.{Failed, Cause}
+use Rattle.brk_tables_walks.specs.declared.walking.WalkError.{WalkError}
+use Rattle.brk_tables_walks.specs.declared.walking.WalkError.TheVariants.{Failed, Cause}
 use Rattle.brk_tables_walks.specs.Walk.{TakesAll, EndsEarly}
 use Rattle.brk_tables_walks.specs.Walks.{AreAll, AreFirst, BreaksOff, Takes, Walks}
 
@@ -25,7 +25,7 @@ module _ {X M : Type 0} (of : X → M) (cells : M → Row) (back : Row → M) (i
   first_are xs tail ms e =
       ap (λ l. l ++ map back tail) (sym (map_back cells back is_back (map of xs)) ∙ ap (map back) (map_twice cells of xs)) ∙ sym (map_parts back (map (λ x. cells (of x)) xs) tail) ∙ ap (map back) e ∙ map_back cells back is_back ms
 
-  module _ {S V E : Type 0} (g : Ghosts S) (old new : Held S) (list : Tables → List M) (takes : V → X → V → Type 0) (stops : V → X → E → V → Type 0) (before after : V) (result : Result (Unit {0}) (Stop E))
+  module _ {S V E : Type 0} (g : Ghosts S) (old new : Held S) (list : Tables → List M) (takes : V → X → V → Type 0) (stops : V → X → E → V → Type 0) (before after : V) (result : Result (Unit {0}) (WalkError E))
       (sql : List ℕ) (params : Row)
       (tells : (rows : List Row) → Shown sql params (state g old) (state g old) rows → Tells desk (λ t. rows ≡ map cells (list t)) (state g old).now)
       (starts : (rows : List Row) → IsTrue (state g old).is_open → Begins sql params (state g old) rows → Tells desk (λ t. (tail : List Row) × (rows ++ tail ≡ map cells (list t))) (state g old).now) where
@@ -33,7 +33,7 @@ module _ {X M : Type 0} (of : X → M) (cells : M → Row) (back : Row → M) (i
     are_first xs (inl none) = inl (ap (map of) none)
     are_first xs (inr h) = inr (h.0, λ t has. let it = starts _ h.0 h.1 t has.0 has.1 in (map back it.0, first_are xs it.0 (list t) it.1))
 
-    breaks_off : (stop : Stop E) → EndsEarly (λ x. cells (of x)) takes stops sql params (state g old) before after stop → BreaksOff (AreFirst (state g old) list) of takes stops before after stop
+    breaks_off : (stop : WalkError E) → EndsEarly (λ x. cells (of x)) takes stops sql params (state g old) before after stop → BreaksOff (AreFirst (state g old) list) of takes stops before after stop
     breaks_off (Cause e) h = (h.records, h.next, h.at, h.taken, h.stopped, are_first (h.records ++ h.next ∷ []) (inr (h.is_open, h.begins)))
     breaks_off (Failed fault) h = (h.0, (h.1.records, h.1.taken, are_first h.1.records h.1.begins))
 
@@ -53,10 +53,10 @@ module _ {X M : Type 0} (of : X → M) (cells : M → Row) (back : Row → M) (i
       survives = survives;
     }
       where
-        done : (r : Result (Unit {0}) (Stop E)) → OnOk r (TakesAll (λ x. cells (of x)) takes sql params (state g old) before after) → OnOk r (Takes (AreAll (state g old) list) of takes before after)
+        done : (r : Result (Unit {0}) (WalkError E)) → OnOk r (TakesAll (λ x. cells (of x)) takes sql params (state g old) before after) → OnOk r (Takes (AreAll (state g old) list) of takes before after)
         done (Ok x) h = (h.records, h.taken, (h.is_open, (λ t has. all_are cells back is_back of h.records _ _ (list t) refl refl (tells _ h.shown t has.0 has.1))))
         done (Err e) h = tt
 
-        broken : (r : Result (Unit {0}) (Stop E)) → IfErr r (EndsEarly (λ x. cells (of x)) takes stops sql params (state g old) before after) → IfErr r (BreaksOff (AreFirst (state g old) list) of takes stops before after)
+        broken : (r : Result (Unit {0}) (WalkError E)) → IfErr r (EndsEarly (λ x. cells (of x)) takes stops sql params (state g old) before after) → IfErr r (BreaksOff (AreFirst (state g old) list) of takes stops before after)
         broken (Ok x) h = tt
         broken (Err stop) h = breaks_off stop h

@@ -7,8 +7,8 @@ use Rattle.sqlite_value.specs.Order.{Row}
 use Rattle.sqlite.specs.Listing.{understood}
 use Rattle.sqlite.specs.State.{State, Shown, Begins}
 use Rattle.brk_model.specs.Run.{MayFail}
-use Rattle.brk_tables_walks.specs.declared.walking.Stop.{Stop}
-use Rattle.brk_tables_walks.specs.declared.walking.Stop.TheVariants.{Failed, Cause}
+use Rattle.brk_tables_walks.specs.declared.walking.WalkError.{WalkError}
+use Rattle.brk_tables_walks.specs.declared.walking.WalkError.TheVariants.{Failed, Cause}
 
 -- whatever the schema is, it shows rows and changes none
 abbrev pub IsQuery : List ℕ → Type 0
@@ -39,6 +39,6 @@ module _ {V X : Type 0} (cells : X → Row) (takes : V → X → V → Type 0) w
     pub stopped : stops at next e new
 
   -- it ended before the last: for want of memory, at the store, or where the visitor stopped
-  abbrev pub EndsEarly : {E : Type 0} → (V → X → E → V → Type 0) → List ℕ → Row → State → V → V → Stop E → Type 0
+  abbrev pub EndsEarly : {E : Type 0} → (V → X → E → V → Type 0) → List ℕ → Row → State → V → V → WalkError E → Type 0
   EndsEarly stops sql params db old new (Failed fault) = MayFail fault × TakesFirst sql params db old new
   EndsEarly stops sql params db old new (Cause e) = StopsAt stops sql params db old e new

@@ -7,15 +7,15 @@ use Rattle.sqlite.specs.State.{State, HasCleanDisk, Survives}
 use Rattle.brk_model.specs.Run.{MayFail}
 use Rattle.brk_model.specs.Tables.{Tables}
 use Rattle.brk_tables_schema.specs.Made.{HasRows}
-use Rattle.brk_tables_walks.specs.declared.walking.Stop.{Stop}
-use Rattle.brk_tables_walks.specs.declared.walking.Stop.TheVariants.{Failed, Cause}
+use Rattle.brk_tables_walks.specs.declared.walking.WalkError.{WalkError}
+use Rattle.brk_tables_walks.specs.declared.walking.WalkError.TheVariants.{Failed, Cause}
 
 -- a visitor took some records, one after another, of which this is so
 abbrev pub Takes : {X M V : Type 0} → (List M → Type 0) → (X → M) → (V → X → V → Type 0) → V → V → Type 0
 Takes {X} So of takes before after = (taken : List X) × FoldsTo takes before taken after × So (map of taken)
 
 -- the walk failed behind the records that were taken, or the visitor stopped at a further one
-abbrev pub BreaksOff : {X M V E : Type 0} → (List M → Type 0) → (X → M) → (V → X → V → Type 0) → (V → X → E → V → Type 0) → V → V → Stop E → Type 0
+abbrev pub BreaksOff : {X M V E : Type 0} → (List M → Type 0) → (X → M) → (V → X → V → Type 0) → (V → X → E → V → Type 0) → V → V → WalkError E → Type 0
 BreaksOff {X} Begins of takes stops before after (Failed fault) = MayFail fault × Takes Begins of takes before after
 BreaksOff {X} {M} {V} Begins of takes stops before after (Cause e) =
     (taken : List X) × (next : X) × (at : V) × FoldsTo takes before taken at × stops at next e after × Begins (map of (taken ++ next ∷ []))
@@ -30,7 +30,7 @@ AreFirst {M} db list first = (first ≡ []) ⊎ (IsTrue db.is_open × ((t : Tabl
 
 -- a walk over the records of a list, which changes nothing
 pub record Walks {S X M V E : Type 0} (g : Ghosts S) (old new : Held S) (of : X → M) (list : Tables → List M) (takes : V → X → V → Type 0) (stops : V → X → E → V → Type 0)
-    (before after : V) (result : Result (Unit {0}) (Stop E)) : Type 0 where
+    (before after : V) (result : Result (Unit {0}) (WalkError E)) : Type 0 where
   -- at Ok the visitor has taken each record of the list, in order
   pub all : HasCleanDisk (state g new) → OnOk result (Takes (AreAll (state g old) list) of takes before after)
   -- else the first of them

@@ -6,7 +6,7 @@ ghost use Rattle.brk_tables_walks.specs.Lists.{cash_between};
 ghost use Rattle.brk_tables_walks.specs.Walks.{Walks};
 
 use crate::visitor::Visitor;
-use crate::walking::{Stop, walk};
+use crate::walking::{WalkError, walk};
 use brk_changes::MoveRow;
 use brk_money::{Id, Stamp};
 use brk_tables_schema::values::{id_value, stamp_value};
@@ -19,7 +19,7 @@ pub fn walk_cash_between<S: Alter, E, V: Visitor<MoveRow, E>>(
     from: Stamp,
     to: Stamp,
     visitor: &mut V,
-) -> Result<(), Stop<E>>
+) -> Result<(), WalkError<E>>
     requires mode { conn.old.in_transaction ≡ false }
     requires ready { V.ready visitor.old }
     ensures mode { conn.new.in_transaction ≡ false }

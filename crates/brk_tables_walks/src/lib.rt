@@ -9,4 +9,4 @@ pub mod walking;
 pub use cash::walk_cash_between;
 pub use lots::walk_lots;
 pub use visitor::Visitor;
-pub use walking::{Stop, walk};
+pub use walking::{WalkError, walk};

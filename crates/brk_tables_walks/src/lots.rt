@@ -6,7 +6,7 @@ ghost use Rattle.brk_tables_walks.specs.Lists.{lots_by_symbol};
 ghost use Rattle.brk_tables_walks.specs.Walks.{Walks};
 
 use crate::visitor::Visitor;
-use crate::walking::{Stop, walk};
+use crate::walking::{WalkError, walk};
 use brk_changes::HoldingRow;
 use brk_money::Id;
 use brk_tables_schema::values::id_value;
@@ -17,7 +17,7 @@ pub fn walk_lots<S: Alter, E, V: Visitor<HoldingRow, E>>(
     conn: &mut Connection<S>,
     account: Id,
     visitor: &mut V,
-) -> Result<(), Stop<E>>
+) -> Result<(), WalkError<E>>
     requires mode { conn.old.in_transaction ≡ false }
     requires ready { V.ready visitor.old }
     ensures mode { conn.new.in_transaction ≡ false }

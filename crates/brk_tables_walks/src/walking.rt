@@ -7,14 +7,14 @@ ghost use Rattle.brk_tables_walks.specs.Walk.{EndsEarly, IsQuery, TakesAll};
 
 use crate::visitor::Visitor;
 use brk_money::Fault;
-use brk_tables_schema::misread::Misread;
+use brk_tables_schema::decode_error::DecodeError;
 use brk_tables_schema::record::Record;
 use sqlite::{Alter, Connection, Row};
 use sqlite_value::value::ValueRef;
 
 /// Why a walk ended early.
 #[derive(Debug, Drop)]
-pub enum Stop<E> {
+pub enum WalkError<E> {
     /// Want of memory, the database, or its disk.
     Failed(Fault),
     /// The visitor's own cause.
@@ -28,8 +28,8 @@ fn record_in<R: Record>(row: &Row) -> Result<R, Fault>
 {
     match R::from_row(row) {
         Ok(record) => Ok(record),
-        Err(Misread::Form) => Err(Fault::Store),
-        Err(Misread::Memory) => Err(Fault::Memory),
+        Err(DecodeError::Form) => Err(Fault::Store),
+        Err(DecodeError::Memory) => Err(Fault::Memory),
     }
 }
 
@@ -39,7 +39,7 @@ pub fn walk<S: Alter, R: Record, E, V: Visitor<R, E>>(
     sql: &str,
     params: &[ValueRef<'_>],
     visitor: &mut V,
-) -> Result<(), Stop<E>>
+) -> Result<(), WalkError<E>>
     requires query { IsQuery sql.now }
     requires ready { V.ready visitor.old }
     ensures ready { V.ready visitor.new }
@@ -55,22 +55,22 @@ pub fn walk<S: Alter, R: Record, E, V: Visitor<R, E>>(
 {
     let mut rows = match conn.query(sql, params) {
         Ok(rows) => rows,
-        Err(_) => return Err(Stop::Failed(Fault::Store)),
+        Err(_) => return Err(WalkError::Failed(Fault::Store)),
     };
     'rows: for _ in 0..u64::MAX {
         let row = match rows.next() {
             Ok(Some(row)) => row,
             Ok(None) => return Ok(()),
-            Err(_) => return Err(Stop::Failed(Fault::Store)),
+            Err(_) => return Err(WalkError::Failed(Fault::Store)),
         };
         let item = match record_in::<R>(row) {
             Ok(item) => item,
-            Err(fault) => return Err(Stop::Failed(fault)),
+            Err(fault) => return Err(WalkError::Failed(fault)),
         };
         match visitor.visit(&item) {
             Ok(()) => (),
-            Err(cause) => return Err(Stop::Cause(cause)),
+            Err(cause) => return Err(WalkError::Cause(cause)),
         }
     }
-    Err(Stop::Failed(Fault::Store))
+    Err(WalkError::Failed(Fault::Store))
 }

@@ -15,7 +15,7 @@ use Rattle.brk_money.specs.Moments.{last_day}
 use Rattle.brk_money.specs.declared.refusal.Limit.TheVariants as limit
 use Rattle.brk_money.specs.declared.refusal.Refusal.TheVariants.{WrongStatus, NoRate, Range, ClockEnd}
 use Rattle.brk_money.specs.declared.status.Status.TheVariants.{Submitted}
-use Rattle.brk_trade.specs.declared.outcome.Outcome.{Outcome}
+use Rattle.brk_trade.specs.declared.outcome.ResultNumbers.{ResultNumbers}
 use Rattle.brk_trade.specs.declared.result_found.ResultFound.{ResultFound}
 use Rattle.brk_changes.specs.declared.trade_row.TradeRow.{TradeRow}
 
@@ -85,7 +85,7 @@ abbrev pub values_in : Closing → Values
 values_in closing = record { buy_value = nat_abs closing.buy_value; sell_value = nat_abs closing.sell_value }
 
 -- what a completion comes to
-abbrev pub outcome_of : ResultFound → ℕ → Values → ℕ → Outcome
+abbrev pub outcome_of : ResultFound → ℕ → Values → ℕ → ResultNumbers
 outcome_of found price values stamp = record {
   stamp = stamp;
   due_day = due_after found.rule stamp;

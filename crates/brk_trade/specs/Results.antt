@@ -3,7 +3,7 @@ use Rattle.std.specs.Prelude.{◌≡◌, ℕ, ◌+◌, ◌≤◌, IfSome, Bool, 
 use Rattle.brk_lots.specs.Values.{values_of}
 use Rattle.brk_lots.specs.Closing.{IsClosing}
 use Rattle.brk_lots.specs.Lots.{shares_of}
-use Rattle.brk_lots.specs.Against.{is_against}
+use Rattle.brk_lots.specs.Against.{closes_lots}
 use Rattle.brk_lots.specs.Books.{lots_total}
 use Rattle.brk_lots.specs.Position.{IsNew}
 use Rattle.brk_lots.specs.Sources.{AreGiven}
@@ -27,7 +27,7 @@ use Rattle.brk_changes.specs.declared.cash_type.CashType.TheVariants as cash_typ
 use Rattle.brk_changes.specs.declared.change.Change.{Change}
 use Rattle.brk_changes.specs.declared.change.Change.TheVariants as change
 use Rattle.brk_changes.specs.declared.move_row.MoveRow.{MoveRow}
-use Rattle.brk_trade.specs.declared.outcome.Outcome.{Outcome}
+use Rattle.brk_trade.specs.declared.outcome.ResultNumbers.{ResultNumbers}
 use Rattle.brk_trade.specs.declared.result_found.ResultFound.{ResultFound}
 use Rattle.brk_plans.specs.declared.plan.Plan.{Plan}
 use Rattle.brk_plans.specs.declared.reply.Completed.{Completed}
@@ -72,7 +72,7 @@ abbrev pub cash_name : TradeRow → Text → Text
 cash_name t security = type_name t.kind ++ 32 ∷ decimal t.qty ++ codes " shares of " ++ security
 
 -- the cash row of a trade with the next number, if it is a cash trade
-abbrev pub cash_row : ResultFound → Outcome → Option tables.MoveRow
+abbrev pub cash_row : ResultFound → ResultNumbers → Option tables.MoveRow
 cash_row found outcome =
     if found.trade.is_cash
     then Some (record {
@@ -90,7 +90,7 @@ abbrev pub cash_changes : ℕ → ℤ → MoveRow → List Change
 cash_changes account balance row = change.AddMove row ∷ change.SetBalance account balance ∷ []
 
 -- the changes of a completed trade's own row and of its status
-abbrev pub trade_changes : ℕ → ℕ → Outcome → List Change
+abbrev pub trade_changes : ℕ → ℕ → ResultNumbers → List Change
 trade_changes trade price outcome =
     change.CompleteTrade trade outcome.stamp price outcome.commission outcome.tax
     ∷ change.AddHistory (record { trade = trade; status = status.Completed; stamp = outcome.stamp }) ∷ []
@@ -100,18 +100,18 @@ abbrev pub broker_change : ResultFound → ℕ → Change
 broker_change found commissions = change.SetBrokerNumbers found.account.broker (pos (found.broker.trades + 1)) commissions
 
 -- the change that adds a settlement
-abbrev pub settlement_change : TradeRow → Outcome → Change
+abbrev pub settlement_change : TradeRow → ResultNumbers → Change
 settlement_change t outcome =
     change.AddSettlement (record { trade = t.id; cash_type = first_cash_type t.is_cash; due_day = outcome.due_day; amount = outcome.amount })
 
 -- the changes of the account's summary, of the broker's numbers and of the settlement
-abbrev pub sum_changes : ResultFound → Outcome → List Change
+abbrev pub sum_changes : ResultFound → ResultNumbers → List Change
 sum_changes found outcome =
     summary_change found.summary found.trade outcome.summary ∷ broker_change found outcome.commissions ∷ settlement_change found.trade outcome ∷ []
 
 -- the changes that complete a trade: its own; the lots that it touches and the one that it opens; what follows of sums; what it
 -- moves, if it is a cash trade; and the last stamp
-abbrev pub changes_of : ResultFound → ℕ → Closing → Outcome → Option MoveRow → List Change
+abbrev pub changes_of : ResultFound → ℕ → Closing → ResultNumbers → Option MoveRow → List Change
 changes_of found price closing outcome cash =
     trade_changes found.trade.id price outcome
     ++ flat_map (touched_changes found.trade.id) closing.touched.items
@@ -121,13 +121,13 @@ changes_of found price closing outcome cash =
     ++ change.SetLast outcome.stamp ∷ []
 
 -- the changes that complete a trade, by the lots that are closed and what it comes to
-pub record AreChanges (found : ResultFound) (price : ℕ) (closing : Closing) (outcome : Outcome) (changes : List Change) : Type 0 where
+pub record AreChanges (found : ResultFound) (price : ℕ) (closing : Closing) (outcome : ResultNumbers) (changes : List Change) : Type 0 where
   pub cash : Option MoveRow
   pub moved : option_map move_row_of cash ≡ cash_row found outcome
   pub changed : changes ≡ changes_of found price closing outcome cash
 
 -- what is told of a completion
-abbrev pub told_of : Outcome → Completed
+abbrev pub told_of : ResultNumbers → Completed
 told_of outcome = record {
   stamp = outcome.stamp;
   commission = outcome.commission;
@@ -149,7 +149,7 @@ AreMet given found ls = AreGiven given found.trade.is_lifo ls × IsNew found.tra
 
 -- nothing that the account holds is on the other side of the trade
 abbrev pub MeetsNone : ResultFound → Type 0
-MeetsNone found = is_against (side_of found.trade.kind) (held_by found) ≡ false
+MeetsNone found = closes_lots (side_of found.trade.kind) (held_by found) ≡ false
 
 -- the plan of a result that is accepted, by the lots of the account and symbol from the trade's end: what `closing` closes and
 -- opens of them, and what follows from its values

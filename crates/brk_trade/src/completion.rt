@@ -6,7 +6,7 @@ ghost use Rattle.brk_trade.specs.Results as spec;
 ghost use Rattle.brk_trade.specs.Results.{AreChanges};
 ghost use Rattle.brk_changes.specs.Rows.{move_row_of};
 
-use crate::outcome::Outcome;
+use crate::outcome::ResultNumbers;
 use crate::result_found::ResultFound;
 use brk_changes::{
     Amount, CashType, Change, HistoryRow, HoldingRow, LotChange, MoveRow, SettlementRow,
@@ -21,7 +21,7 @@ use std::alloc::{AllocError, Global};
 fn complete_trade(
     trade: Id,
     price: Price,
-    outcome: &Outcome,
+    outcome: &ResultNumbers,
     changes: &mut Vec<Change>,
 ) -> Result<(), Fault>
     ensures changes { OnOk result (changes.new.items ≡ changes.old.items ++ spec.trade_changes trade price outcome.now) }
@@ -115,7 +115,7 @@ fn open_lot(trade: &TradeRow, opened: Option<Lot>, changes: &mut Vec<Change>) ->
 }
 
 // The change of the account's summary, which was there or not.
-fn summary_change(found: &ResultFound, outcome: &Outcome) -> Result<Change, Fault>
+fn summary_change(found: &ResultFound, outcome: &ResultNumbers) -> Result<Change, Fault>
     ensures change { IfOk result (λ change. change ≡ spec.summary_change found.now.summary found.now.trade outcome.now.summary) }
     ensures fault { OnErr result (result ≡ Err Memory) }
 {
@@ -162,7 +162,7 @@ fn broker_change(found: &ResultFound, commissions: Amount) -> Change
 }
 
 // The change that adds the settlement.
-fn settlement_change(trade: &TradeRow, outcome: &Outcome) -> Change
+fn settlement_change(trade: &TradeRow, outcome: &ResultNumbers) -> Change
     ensures { result ≡ spec.settlement_change trade.now outcome.now }
 {
     Change::AddSettlement(SettlementRow {
@@ -174,7 +174,11 @@ fn settlement_change(trade: &TradeRow, outcome: &Outcome) -> Change
 }
 
 // Adds the changes of the account's summary, the broker's numbers and the settlement.
-fn settle(found: &ResultFound, outcome: &Outcome, changes: &mut Vec<Change>) -> Result<(), Fault>
+fn settle(
+    found: &ResultFound,
+    outcome: &ResultNumbers,
+    changes: &mut Vec<Change>,
+) -> Result<(), Fault>
     ensures changes { OnOk result (changes.new.items ≡ changes.old.items ++ spec.sum_changes found.now outcome.now) }
     ensures fault { OnErr result (result ≡ Err Memory) }
 {
@@ -206,7 +210,7 @@ fn cash_name(alloc: Global, trade: &TradeRow, security: &Name) -> Result<String,
 fn cash_row(
     alloc: Global,
     found: &ResultFound,
-    outcome: &Outcome,
+    outcome: &ResultNumbers,
 ) -> Result<Option<MoveRow>, AllocError>
     ensures { IfOk result (λ cash. option_map move_row_of cash ≡ spec.cash_row found.now outcome.now) }
 {
@@ -226,7 +230,7 @@ fn cash_row(
 // Adds the changes of what a cash trade moves, if it is one.
 fn move_cash(
     account: Id,
-    outcome: &Outcome,
+    outcome: &ResultNumbers,
     cash: Option<MoveRow>,
     changes: &mut Vec<Change>,
 ) -> Result<(), Fault>
@@ -250,7 +254,7 @@ fn changes_of(
     found: &ResultFound,
     price: Price,
     closing: &Closing,
-    outcome: &Outcome,
+    outcome: &ResultNumbers,
     cash: Option<MoveRow>,
 ) -> Result<Vec<Change>, Fault>
     ensures changes { IfOk result (λ changes. changes.items ≡ spec.changes_of found.now price closing.now outcome.now cash) }
@@ -273,7 +277,7 @@ pub(crate) fn completion_changes(
     found: &ResultFound,
     price: Price,
     closing: &Closing,
-    outcome: &Outcome,
+    outcome: &ResultNumbers,
 ) -> Result<Vec<Change>, Fault>
     ensures changes { IfOk result (λ changes. AreChanges found.now price closing.now outcome.now changes.items) }
     ensures fault { OnErr result (result ≡ Err Memory) }

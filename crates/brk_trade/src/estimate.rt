@@ -6,14 +6,14 @@ ghost use Rattle.brk_model.specs.Derived.{shares_in};
 ghost use Rattle.brk_model.specs.Orders as spec_orders;
 ghost use Rattle.brk_lots.specs.declared.lot.Lot.{Lot};
 ghost use Rattle.brk_lots.specs.Lots.{shares_of};
-ghost use Rattle.brk_lots.specs.Against.{is_against};
+ghost use Rattle.brk_lots.specs.Against.{closes_lots};
 ghost use Rattle.brk_lots.specs.Books.{lots_total};
 ghost use Rattle.brk_lots.specs.Sources.{AreGiven, AsTold};
 ghost use Rattle.brk_lots.specs.Values.{values_of};
 ghost use Rattle.brk_trade.specs.Estimates.{AreTerms, AsksFew, commission_by, deal_by, tax_at};
 ghost use Rattle.brk_plans.specs.Replies.{told};
 
-use brk_lots::{LotSource, Values, estimate_values, is_against, no_values};
+use brk_lots::{LotSource, Values, closes_lots, estimate_values, no_values};
 use brk_money::{
     Amount, Cents, Fault, Price, Qty, Rate, Side, TaxRate, TaxStatus, Wide, commission, tax,
 };
@@ -73,15 +73,15 @@ pub fn tax_on(values: Values, status: TaxStatus, rates: TaxRate) -> Amount
 fn values_upon<L: LotSource>(source: &mut L, terms: &Terms) -> Result<Values, Fault>
     ensures leads { L.leads source.old source.new }
     ensures values { IfOk result (λ values. (ls : List Lot) (trade stamp : ℕ) (lifo : Bool) →
-        AreGiven (AsTold (L.is_told source.new) (L.rests source.old)) lifo ls → terms.now.held ≡ lots_total ls →
+        AreGiven (AsTold (L.reads_faithfully source.new) (L.remaining source.old)) lifo ls → terms.now.held ≡ lots_total ls →
         values ≡ values_of (deal_by terms.now trade stamp lifo) (shares_of ls)) }
-    ensures asked { IfOk result (λ values. AsksFew terms.now (AsTold (L.is_told source.new) (L.rests source.old)) (L.asked source.old) (L.asked source.new)) }
-    ensures unmet { is_against terms.now.side terms.now.held ≡ false → source.new ≡ source.old }
+    ensures asked { IfOk result (λ values. AsksFew terms.now (AsTold (L.reads_faithfully source.new) (L.remaining source.old)) (L.asked source.old) (L.asked source.new)) }
+    ensures unmet { closes_lots terms.now.side terms.now.held ≡ false → source.new ≡ source.old }
     ensures faulted { IfOk result (λ values. L.faulted source.new ≡ L.faulted source.old) }
     ensures fault { IfErr result (λ fault. (before : L) × L.fails before fault source.new) }
-    ensures rest { (ls : List Lot) → AsTold (L.is_told source.new) (L.rests source.old) ls → (n : ℕ) × L.rests source.new (drop n ls) }
+    ensures rest { (ls : List Lot) → AsTold (L.reads_faithfully source.new) (L.remaining source.old) ls → (n : ℕ) × L.remaining source.new (drop n ls) }
 {
-    if is_against(terms.side, terms.held) {
+    if closes_lots(terms.side, terms.held) {
         estimate_values(source, terms.side, terms.qty, terms.price)
     } else {
         Ok(no_values())
@@ -95,16 +95,16 @@ pub fn estimate_order<L: LotSource>(source: &mut L, terms: &Terms) -> Result<Est
     ensures leads { L.leads source.old source.new }
     // Of what a base has, upon the shares that it has, the estimate is that of the definitions.
     ensures estimate { IfOk result (λ estimate. (base : Base) (o : Order) (ls : List Lot) →
-        AreTerms base o terms.now → shares_in (completed base) o.account o.symbol ≡ shares_of ls → AreGiven (AsTold (L.is_told source.new) (L.rests source.old)) o.is_lifo ls →
+        AreTerms base o terms.now → shares_in (completed base) o.account o.symbol ≡ shares_of ls → AreGiven (AsTold (L.reads_faithfully source.new) (L.remaining source.old)) o.is_lifo ls →
         terms.now.held ≡ lots_total ls → estimate ≡ told (spec_orders.estimate base o)) }
     ensures commission { IfOk result (λ estimate. estimate.commission ≡ commission_by terms.now) }
     // It asks for at most one lot more than a trade that opened none of them would touch, and for none where it would close none.
-    ensures asked { IfOk result (λ estimate. AsksFew terms.now (AsTold (L.is_told source.new) (L.rests source.old)) (L.asked source.old) (L.asked source.new)) }
-    ensures unmet { is_against terms.now.side terms.now.held ≡ false → source.new ≡ source.old }
+    ensures asked { IfOk result (λ estimate. AsksFew terms.now (AsTold (L.reads_faithfully source.new) (L.remaining source.old)) (L.asked source.old) (L.asked source.new)) }
+    ensures unmet { closes_lots terms.now.side terms.now.held ≡ false → source.new ≡ source.old }
     // No fault of the source is passed over, and each is answered as it came.
     ensures faulted { IfOk result (λ estimate. L.faulted source.new ≡ L.faulted source.old) }
     ensures fault { IfErr result (λ fault. (before : L) × L.fails before fault source.new) }
-    ensures rest { (ls : List Lot) → AsTold (L.is_told source.new) (L.rests source.old) ls → (n : ℕ) × L.rests source.new (drop n ls) }
+    ensures rest { (ls : List Lot) → AsTold (L.reads_faithfully source.new) (L.remaining source.old) ls → (n : ℕ) × L.remaining source.new (drop n ls) }
 {
     let values = values_upon(source, terms)?;
     Ok(Estimate {

@@ -15,12 +15,12 @@ pub use brk_changes::{
     RequestRow, SettlementRow, SummaryRow, TradeCount, TradeRow, is_submitted,
 };
 pub use brk_plans::{
-    Completed, Corrected, Estimate, Found, MoveFound, Ordered, Paid, Plan, Quote, Reference, Reply,
-    Settled, Span, has_no_quote, plan_cancel, plan_feed, plan_move, plan_oneday, plan_reference,
-    plan_update, quote_with, span_of, triggers,
+    CashText, Completed, Estimate, MoveFound, Ordered, Plan, Quote, Reference, ReferenceFacts,
+    Reply, SettlementText, Span, TextUpdate, has_no_quote, plan_cancel, plan_feed, plan_move,
+    plan_oneday, plan_reference, plan_update, quote_with, span_of, triggers,
 };
 pub use estimate::{Terms, estimate_order, tax_on};
 pub use order::{OrderAccount, OrderFound, plan_estimate, plan_order};
-pub use outcome::Outcome;
+pub use outcome::ResultNumbers;
 pub use result::plan_result;
 pub use result_found::{ResultAccount, ResultFound};

@@ -1,6 +1,6 @@
 ghost use Rattle.std.specs.Prelude.{◌≡◌, ◌⊎◌, ◌++◌, ◌∷◌, [], ℕ, List, drop, IfOk, IfErr, OnOk, OnErr, MatchResult, MatchOption, Some, None, false, string_bytes};
 ghost use Rattle.brk_lots.specs.declared.lot.Lot.{Lot};
-ghost use Rattle.brk_lots.specs.Against.{is_against};
+ghost use Rattle.brk_lots.specs.Against.{closes_lots};
 ghost use Rattle.brk_lots.specs.Sources.{AsTold};
 ghost use Rattle.brk_model.specs.Orders as model;
 ghost use Rattle.brk_model.specs.Tests.{first_refusal};
@@ -120,16 +120,16 @@ pub fn plan_estimate<L: LotSource>(
 ) -> Planned<Estimate>
     ensures leads { L.leads source.old source.new }
     ensures planned { IfOk result (λ planned. MatchResult planned
-        (IsEstimated order.now found.now (AsTold (L.is_told source.new) (L.rests source.old)))
+        (IsEstimated order.now found.now (AsTold (L.reads_faithfully source.new) (L.remaining source.old)))
         (λ refusal. first_refusal (order_tests found.now) ≡ Some refusal)) }
     ensures refused { IfOk result (λ planned. OnErr planned (source.new ≡ source.old)) }
-    ensures asked { IfOk result (λ planned. OnOk planned (AsksFew (terms_of order.now found.now) (AsTold (L.is_told source.new) (L.rests source.old)) (L.asked source.old) (L.asked source.new))) }
+    ensures asked { IfOk result (λ planned. OnOk planned (AsksFew (terms_of order.now found.now) (AsTold (L.reads_faithfully source.new) (L.remaining source.old)) (L.asked source.old) (L.asked source.new))) }
     // It asks for none where none of the shares that are held are on the order's other side.
-    ensures unmet { is_against (terms_of order.now found.now).side (terms_of order.now found.now).held ≡ false → source.new ≡ source.old }
+    ensures unmet { closes_lots (terms_of order.now found.now).side (terms_of order.now found.now).held ≡ false → source.new ≡ source.old }
     // No fault of the source is passed over, and each is answered as it came.
     ensures faulted { IfOk result (λ planned. L.faulted source.new ≡ L.faulted source.old) }
     ensures fault { IfErr result (λ fault. (before : L) × L.fails before fault source.new) }
-    ensures rest { (ls : List Lot) → AsTold (L.is_told source.new) (L.rests source.old) ls → (n : ℕ) × L.rests source.new (drop n ls) }
+    ensures rest { (ls : List Lot) → AsTold (L.reads_faithfully source.new) (L.remaining source.old) ls → (n : ℕ) × L.remaining source.new (drop n ls) }
 {
     let placement = match placement_of(order, found) {
         Ok(placement) => placement,
@@ -301,16 +301,16 @@ pub fn plan_order<L: LotSource>(
 ) -> Planned<Plan>
     ensures leads { L.leads source.old source.new }
     ensures planned { IfOk result (λ planned. MatchResult planned
-        (IsOrdered order.now found.now (AsTold (L.is_told source.new) (L.rests source.old)) last now)
+        (IsOrdered order.now found.now (AsTold (L.reads_faithfully source.new) (L.remaining source.old)) last now)
         (λ refusal. first_refusal (order_tests found.now ++ trades_test found.now.last_trade ∷ clock_test last now ∷ []) ≡ Some refusal)) }
     ensures refused { IfOk result (λ planned. OnErr planned (source.new ≡ source.old)) }
-    ensures asked { IfOk result (λ planned. OnOk planned (AsksFew (terms_of order.now found.now) (AsTold (L.is_told source.new) (L.rests source.old)) (L.asked source.old) (L.asked source.new))) }
+    ensures asked { IfOk result (λ planned. OnOk planned (AsksFew (terms_of order.now found.now) (AsTold (L.reads_faithfully source.new) (L.remaining source.old)) (L.asked source.old) (L.asked source.new))) }
     // It asks for none where none of the shares that are held are on the order's other side.
-    ensures unmet { is_against (terms_of order.now found.now).side (terms_of order.now found.now).held ≡ false → source.new ≡ source.old }
+    ensures unmet { closes_lots (terms_of order.now found.now).side (terms_of order.now found.now).held ≡ false → source.new ≡ source.old }
     // No fault of the source is passed over, and each is answered as it came.
     ensures faulted { IfOk result (λ planned. L.faulted source.new ≡ L.faulted source.old) }
     ensures fault { IfErr result (λ fault. (fault ≡ Fault.Memory) ⊎ ((before : L) × L.fails before fault source.new)) }
-    ensures rest { (ls : List Lot) → AsTold (L.is_told source.new) (L.rests source.old) ls → (n : ℕ) × L.rests source.new (drop n ls) }
+    ensures rest { (ls : List Lot) → AsTold (L.reads_faithfully source.new) (L.remaining source.old) ls → (n : ℕ) × L.remaining source.new (drop n ls) }
 {
     let placement = match placement_of(order, found) {
         Ok(placement) => placement,

@@ -20,7 +20,7 @@ const GREATEST_SUMMARY: u128 = 9_999_999_999;
 
 /// What the completion of a trade comes to, in cents (Trade-Result).
 #[derive(Clone, Copy, PartialEq, Eq)]
-pub struct Outcome {
+pub struct ResultNumbers {
     pub stamp: Stamp,
     /// The day on which the trade settles.
     pub due_day: Day,
@@ -97,7 +97,7 @@ pub(crate) fn complete(
     known: &RateAndSummary,
     closing: &Closing,
     stamp: Option<Stamp>,
-) -> Result<Outcome, Refusal>
+) -> Result<ResultNumbers, Refusal>
     requires bought { (pos 0 ≤ℤ closing.now.buy_value) × (closing.now.buy_value ≤ℤ pos (found.now.trade.qty * greatest_price)) }
     requires sold { (pos 0 ≤ℤ closing.now.sell_value) × (closing.now.sell_value ≤ℤ pos (found.now.trade.qty * greatest_price)) }
     requires rate { found.now.rate ≡ Some known.now.rate }
@@ -124,7 +124,7 @@ pub(crate) fn complete(
     let Some(due_day) = due_day(found.rule, stamp) else {
         return Err(Refusal::ClockEnd);
     };
-    Ok(Outcome {
+    Ok(ResultNumbers {
         stamp,
         due_day,
         commission,

@@ -9,15 +9,15 @@ ghost use Rattle.brk_trade.specs.Outcomes.{deal_of};
 ghost use Rattle.brk_trade.specs.Results.{AreMet, AsksFew, IsCompleted, IsRefused, MeetsNone, moment_of, told_of};
 
 use crate::completion::completion_changes;
-use crate::outcome::{Outcome, complete, rate_and_summary};
+use crate::outcome::{ResultNumbers, complete, rate_and_summary};
 use crate::result_found::ResultFound;
-use brk_lots::{Closing, LotSource, close, is_against, open_whole};
+use brk_lots::{Closing, LotSource, close, closes_lots, open_without_closing};
 use brk_money::{Fault, Planned, Price, Refusal, Stamp, stamp_after};
 use brk_plans::{Completed, Plan, Reply};
 use std::alloc::Global;
 
 // What is told of a completion.
-fn told(outcome: &Outcome) -> Completed
+fn told(outcome: &ResultNumbers) -> Completed
     ensures { result ≡ told_of outcome.now }
 {
     Completed {
@@ -42,7 +42,7 @@ fn close_met<L: LotSource>(
     stamp: Stamp,
 ) -> Result<Closing, Fault>
     ensures leads { L.leads source.old source.new }
-    ensures closing { IfOk result (λ closing. (ls : List Lot) → AreMet (AsTold (L.is_told source.new) (L.rests source.old)) found.now ls →
+    ensures closing { IfOk result (λ closing. (ls : List Lot) → AreMet (AsTold (L.reads_faithfully source.new) (L.remaining source.old)) found.now ls →
         IsClosing (deal_of found.now.trade price stamp) ls closing) }
     ensures bought { IfOk result (λ closing. (pos 0 ≤ℤ closing.buy_value) × (closing.buy_value ≤ℤ pos (found.now.trade.qty * greatest_price))) }
     ensures sold { IfOk result (λ closing. (pos 0 ≤ℤ closing.sell_value) × (closing.sell_value ≤ℤ pos (found.now.trade.qty * greatest_price))) }
@@ -50,14 +50,14 @@ fn close_met<L: LotSource>(
     ensures unmet { MeetsNone found.now → source.new ≡ source.old }
     ensures faulted { IfOk result (λ closing. L.faulted source.new ≡ L.faulted source.old) }
     ensures fault { IfErr result (λ fault. (fault ≡ Fault.Memory) ⊎ ((before : L) × L.fails before fault source.new)) }
-    ensures rest { (ls : List Lot) → AsTold (L.is_told source.new) (L.rests source.old) ls → (n : ℕ) × L.rests source.new (drop n ls) }
+    ensures rest { (ls : List Lot) → AsTold (L.reads_faithfully source.new) (L.remaining source.old) ls → (n : ℕ) × L.remaining source.new (drop n ls) }
 {
     let trade = &found.trade;
     let side = trade.kind.side();
-    if is_against(side, found.summary.unwrap_or(0)) {
+    if closes_lots(side, found.summary.unwrap_or(0)) {
         close(alloc, source, side, trade.qty, trade.id, price, stamp)
     } else {
-        Ok(open_whole(alloc, side, trade.qty, trade.id, price, stamp))
+        Ok(open_without_closing(alloc, side, trade.qty, trade.id, price, stamp))
     }
 }
 
@@ -80,15 +80,15 @@ pub fn plan_result<L: LotSource>(
 ) -> Planned<Plan>
     ensures leads { L.leads source.old source.new }
     ensures planned { IfOk result (λ planned. MatchResult planned
-        (IsCompleted (option_map (λ f. f.now) found.entry) price (AsTold (L.is_told source.new) (L.rests source.old)) last now)
-        (IsRefused (option_map (λ f. f.now) found.entry) price (AsTold (L.is_told source.new) (L.rests source.old)) last now)) }
-    ensures asked { IfOk result (λ planned. AsksFew (option_map (λ f. f.now) found.entry) price (moment_of (moments.stamp_after last now) now) (AsTold (L.is_told source.new) (L.rests source.old)) (L.asked source.old) (L.asked source.new)) }
+        (IsCompleted (option_map (λ f. f.now) found.entry) price (AsTold (L.reads_faithfully source.new) (L.remaining source.old)) last now)
+        (IsRefused (option_map (λ f. f.now) found.entry) price (AsTold (L.reads_faithfully source.new) (L.remaining source.old)) last now)) }
+    ensures asked { IfOk result (λ planned. AsksFew (option_map (λ f. f.now) found.entry) price (moment_of (moments.stamp_after last now) now) (AsTold (L.reads_faithfully source.new) (L.remaining source.old)) (L.asked source.old) (L.asked source.new)) }
     // It asks for none where nothing that the account holds is on the trade's other side.
     ensures unmet { IfSome (option_map (λ f. f.now) found.entry) (λ f. MeetsNone f → source.new ≡ source.old) }
     // No fault of the source is passed over, and each is answered as it came.
     ensures faulted { IfOk result (λ planned. L.faulted source.new ≡ L.faulted source.old) }
     ensures fault { IfErr result (λ fault. (fault ≡ Fault.Memory) ⊎ ((before : L) × L.fails before fault source.new)) }
-    ensures rest { (ls : List Lot) → AsTold (L.is_told source.new) (L.rests source.old) ls → (n : ℕ) × L.rests source.new (drop n ls) }
+    ensures rest { (ls : List Lot) → AsTold (L.reads_faithfully source.new) (L.remaining source.old) ls → (n : ℕ) × L.remaining source.new (drop n ls) }
 {
     let Some(found) = found else {
         return Ok(Err(Refusal::NoTrade));

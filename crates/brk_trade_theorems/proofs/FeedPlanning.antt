@@ -16,7 +16,7 @@ use Rattle.brk_orders.specs.Records.{ticks_of}
 use Rattle.brk_orders.specs.declared.tick.Tick.{Tick}
 use Rattle.brk_changes.specs.Changes.{after_changes}
 use Rattle.brk_plans.specs.Feed as planner
-use Rattle.brk_plans.specs.Feed.{Held, IsFeed, changes_of_ticks, exceeds, ids_of_ticks, is_of, lacks_quote, quotes_after, tells}
+use Rattle.brk_plans.specs.Feed.{SymbolState, IsFeed, changes_of_ticks, exceeds, ids_of_ticks, is_of, lacks_quote, quotes_after, tells}
 use Rattle.brk_plans.specs.Reference.{clock_test}
 use Rattle.brk_plans.specs.Replies.{reply_of}
 use Rattle.brk_changes.specs.declared.change.Change.TheVariants.{SetLast}
@@ -42,7 +42,7 @@ use Rattle.brk_trade_theorems.proofs.QuotedVolumes.{quotes_exceed}
 -- ---- what is tested
 
 -- a symbol that has a last trade has a quote, and no other has
-same_known : (t : Tables) (ticks : List Tick) (quotes : List Held) (tick : Tick) → AllByRecursion (IsHeld t ticks) quotes → QuotesApart quotes → IsQuoted t quotes tick
+same_known : (t : Tables) (ticks : List Tick) (quotes : List SymbolState) (tick : Tick) → AllByRecursion (IsHeld t ticks) quotes → QuotesApart quotes → IsQuoted t quotes tick
     → list_any (is_of tick.symbol) quotes ≡ is_some (last_trade_in t tick.symbol)
 same_known t ticks quotes tick k d h = both_ways (list_any (is_of tick.symbol) quotes) (is_some (last_trade_in t tick.symbol)) there h
   where
@@ -51,7 +51,7 @@ same_known t ticks quotes tick k d h = both_ways (list_any (is_of tick.symbol) q
         let q = quote_of t ticks tick.symbol quotes k d e in
         ap is_some (sym (ap (last_trade_in t) q.same) ∙ q.read.last_trade)
 
-same_unknown : (t : Tables) (ticks : List Tick) (quotes : List Held) → AllByRecursion (IsHeld t ticks) quotes → QuotesApart quotes → AllByRecursion (IsQuoted t quotes) ticks
+same_unknown : (t : Tables) (ticks : List Tick) (quotes : List SymbolState) → AllByRecursion (IsHeld t ticks) quotes → QuotesApart quotes → AllByRecursion (IsQuoted t quotes) ticks
     → list_any (lacks_quote quotes) ticks ≡ list_any (is_unknown t) (ticks_of ticks)
 same_unknown t ticks quotes k d quoted = each ticks quoted
   where
@@ -60,13 +60,13 @@ same_unknown t ticks quotes k d quoted = each ticks quoted
     each (u ∷ us) h = λ i. not (same_known t ticks quotes u k d h.0 i) || each us h.1 i
 
 -- quotes that were read of a base in order are held
-held_quotes : (base : Base) (ticks : List Tick) (quotes : List Held) (last : Option ℕ) (now : ℕ) → IsReadForFeed base ticks quotes last now → AllByRecursion (IsHeld (sheets base) ticks) quotes
+held_quotes : (base : Base) (ticks : List Tick) (quotes : List SymbolState) (last : Option ℕ) (now : ℕ) → IsReadForFeed base ticks quotes last now → AllByRecursion (IsHeld (sheets base) ticks) quotes
 held_quotes base ticks quotes last now k = All-map quotes (λ quote q. is_held base ticks quote k.books q) k.quotes_read.read
 
-known_quotes : (ticks : List Tick) (quotes : List Held) → list_any (lacks_quote quotes) ticks ≡ false → HaveQuotes quotes ticks
+known_quotes : (ticks : List Tick) (quotes : List SymbolState) → list_any (lacks_quote quotes) ticks ≡ false → HaveQuotes quotes ticks
 known_quotes ticks quotes e = All-map ticks (λ tick n. not_not (list_any (is_of tick.symbol) quotes) n) (any-none (lacks_quote quotes) ticks e)
 
-read_tests : (base : Base) (stamp : ℕ) (ticks : List Tick) (quotes : List Held) (last : Option ℕ) (now : ℕ) → IsReadForFeed base ticks quotes last now
+read_tests : (base : Base) (stamp : ℕ) (ticks : List Tick) (quotes : List SymbolState) (last : Option ℕ) (now : ℕ) → IsReadForFeed base ticks quotes last now
     → first_refusal (planner.feed_tests stamp ticks quotes ++ clock_test last now ∷ []) ≡ first_refusal (feed_tests (sheets base) (ticks_of ticks) (sheets base).last now)
 read_tests base stamp ticks quotes last now k = by_unknown (list_any (lacks_quote quotes) ticks) refl
   where
@@ -83,12 +83,12 @@ read_tests base stamp ticks quotes last now k = by_unknown (list_any (lacks_quot
         let volumes = quotes_exceed base stamp ticks quotes k.books (held_quotes base ticks quotes last now k) k.quotes_read.apart (known_quotes ticks quotes e) in
         λ i. first_refusal ((same i, NoSecurity) ∷ (volumes i, Range limit.Volume) ∷ clock_test (k.last_read i) now ∷ [])
 
-pub feed_read : (base : Base) (stamp : ℕ) (ticks : List Tick) (quotes : List Held) (last : Option ℕ) (now : ℕ) → IsReadForFeed base ticks quotes last now
+pub feed_read : (base : Base) (stamp : ℕ) (ticks : List Tick) (quotes : List SymbolState) (last : Option ℕ) (now : ℕ) → IsReadForFeed base ticks quotes last now
     → first_refusal (planner.feed_tests stamp ticks quotes ++ clock_test last now ∷ []) ≡ refusal_of base now (FeedTicks (ticks_of ticks))
 feed_read base stamp ticks quotes last now k =
     read_tests base stamp ticks quotes last now k ∙ feed_refusal base now (ticks_of ticks) k.books k.moment
 
-pub feed_refused : (base : Base) (stamp : ℕ) (ticks : List Tick) (quotes : List Held) (last : Option ℕ) (now : ℕ) (refusal : Refusal) → IsReadForFeed base ticks quotes last now
+pub feed_refused : (base : Base) (stamp : ℕ) (ticks : List Tick) (quotes : List SymbolState) (last : Option ℕ) (now : ℕ) (refusal : Refusal) → IsReadForFeed base ticks quotes last now
     → first_refusal (planner.feed_tests stamp ticks quotes ++ clock_test last now ∷ []) ≡ Some refusal → step base now (FeedTicks (ticks_of ticks)) ≡ Err refusal
 feed_refused base stamp ticks quotes last now refusal k e =
     refused_step base now (FeedTicks (ticks_of ticks)) refusal (sym (feed_read base stamp ticks quotes last now k) ∙ e)
@@ -109,7 +109,7 @@ told_reply stamp ids (reply.Completed completed) k = absurd k
 told_reply stamp ids (reply.Changed at count) k = absurd k
 told_reply stamp ids (reply.Moved at number balance) k = absurd k
 
-pub feed_plan_does : (base : Base) (ticks : List Tick) (quotes : List Held) (last : Option ℕ) (now : ℕ) (plan : Plan) → IsReadForFeed base ticks quotes last now
+pub feed_plan_does : (base : Base) (ticks : List Tick) (quotes : List SymbolState) (last : Option ℕ) (now : ℕ) (plan : Plan) → IsReadForFeed base ticks quotes last now
     → IsFeed ticks quotes last now plan → DoesCommand base now (FeedTicks (ticks_of ticks)) plan
 feed_plan_does base ticks quotes last now plan k p =
     let t : Tables = sheets base in

@@ -34,7 +34,7 @@ use Rattle.brk_plans.specs.Reference.{clock_test}
 use Rattle.brk_plans.specs.Replies.{reply_of}
 use Rattle.brk_plans.specs.declared.movement.MoveFound.{MoveFound}
 use Rattle.brk_plans.specs.declared.plan.Plan.{Plan}
-use Rattle.brk_book_theorems.specs.Books.{IsBooks}
+use Rattle.brk_book_theorems.specs.Books.{BooksInvariant}
 use Rattle.brk_book_theorems.specs.Movements.{balance_with, row_of_movement, rows_of_movement}
 use Rattle.brk_book_theorems.specs.Steps.{ChangesRows, IsDone, LeavesBooks, base_then}
 use Rattle.brk_book_theorems.proofs.MoveReading.{moves_counted, reads_last_move}
@@ -175,7 +175,7 @@ unfolding tables_at sheets_of
 rule_is base = refl
 
 -- where no stamp is left, it does not matter whether the day is too early
-early_read : (base : Base) (day : ℕ) (last : Option ℕ) (now : ℕ) (o : Option ℕ) → IsBooks base → last ≡ (sheets base).last → now ≤ last_stamp → stamp_after last now ≡ o
+early_read : (base : Base) (day : ℕ) (last : Option ℕ) (now : ℕ) (o : Option ℕ) → BooksInvariant base → last ≡ (sheets base).last → now ≤ last_stamp → stamp_after last now ≡ o
     → first_refusal ((is_none o, ClockEnd) ∷ (option_map_or (λ stamp. nat_le day (day_of stamp)) o false, TooEarly) ∷ [])
     ≡ first_refusal ((nat_lt last_stamp (next_stamp base now), ClockEnd) ∷ (nat_le day (day_of (next_stamp base now)), TooEarly) ∷ [])
 early_read base day last now None books l h e =

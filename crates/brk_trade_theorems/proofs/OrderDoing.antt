@@ -38,7 +38,7 @@ use Rattle.brk_trade.specs.declared.order.OrderFound.{OrderFound}
 use Rattle.brk_plans.specs.declared.plan.Plan.{Plan}
 use Rattle.brk_changes.specs.declared.request_row.RequestRow.{RequestRow}
 use Rattle.brk_changes.specs.declared.trade_row.TradeRow.{TradeRow}
-use Rattle.brk_book_theorems.specs.Books.{IsBooks}
+use Rattle.brk_book_theorems.specs.Books.{BooksInvariant}
 use Rattle.brk_trade_theorems.specs.OrderPlans.{AreLots, IsFoundForEstimate, IsFoundForOrder, IsReadForPlan}
 use Rattle.brk_trade_theorems.specs.Plans.{DoesCommand}
 use Rattle.brk_book_theorems.specs.Steps.{IsDone, base_then}
@@ -56,7 +56,7 @@ use Rattle.brk_book_theorems.proofs.Trades.{step_order}
 
 -- ---- the refusal
 
-number_read : (base : Base) (order : Order) (found : OrderFound) → IsBooks base → IsFoundForOrder (sheets base) order found → first_refusal (order_tests found) ≡ None
+number_read : (base : Base) (order : Order) (found : OrderFound) → BooksInvariant base → IsFoundForOrder (sheets base) order found → first_refusal (order_tests found) ≡ None
     → unwrap_or found.last_trade 0 ≡ length base.trades
 number_read base order found books k e = ap (λ o. unwrap_or o 0) (k.last_trade e) ∙ reads_number base books
 
@@ -83,7 +83,7 @@ found_refuses_none found last now e =
 
 -- ---- the estimate
 
-pub estimate_told : (base : Base) (order : Order) (found : OrderFound) (given : List Lot → Type 0) (e : Estimate) → IsBooks base → IsFoundForEstimate (sheets base) order found
+pub estimate_told : (base : Base) (order : Order) (found : OrderFound) (given : List Lot → Type 0) (e : Estimate) → BooksInvariant base → IsFoundForEstimate (sheets base) order found
     → AreLots (sheets base) order given → IsEstimated order found given e → e ≡ told (estimate base (order_of order))
 estimate_told base order found given e books k l h =
     h.estimated base (order_of order) (position_in (sheets base) order.account order.symbol) (terms_read base order found books k h.accepted)
@@ -92,13 +92,13 @@ estimate_told base order found given e books k l h =
 told_back : (e : model.Estimate) → estimate_of (told e) ≡ e
 told_back e = refl
 
-pub estimate_refused : (base : Base) (order : Order) (found : OrderFound) (refusal : Refusal) → IsBooks base → IsFoundForEstimate (sheets base) order found
+pub estimate_refused : (base : Base) (order : Order) (found : OrderFound) (refusal : Refusal) → BooksInvariant base → IsFoundForEstimate (sheets base) order found
     → first_refusal (order_tests found) ≡ Some refusal → ask base (EstimateOf (order_of order)) ≡ Err refusal
 unfolding ask query_tests
 estimate_refused base order found refusal books k e =
     ap (λ o. unless o (answer_of base (EstimateOf (order_of order)))) (sym (tests_read base order found [] [] books k (λ n. refl)) ∙ e)
 
-pub estimate_answered : (base : Base) (order : Order) (found : OrderFound) (given : List Lot → Type 0) (e : Estimate) → IsBooks base → IsFoundForEstimate (sheets base) order found
+pub estimate_answered : (base : Base) (order : Order) (found : OrderFound) (given : List Lot → Type 0) (e : Estimate) → BooksInvariant base → IsFoundForEstimate (sheets base) order found
     → AreLots (sheets base) order given → IsEstimated order found given e → ask base (EstimateOf (order_of order)) ≡ Ok (estimate_fields (estimate_of e) ∷ [])
 unfolding ask query_tests answer_of
 estimate_answered base order found given e books k l h =

@@ -23,9 +23,9 @@ use Rattle.brk_orders.specs.declared.order.Order.{Order}
 use Rattle.brk_ref.specs.Records.{executor_of}
 use Rattle.brk_trade.specs.Orders.{order_tests, terms_of}
 use Rattle.brk_trade.specs.declared.order.OrderFound.{OrderFound}
-use Rattle.brk_model.specs.Names.{KnowsCustomer}
+use Rattle.brk_model.specs.Names.{CustomerExists}
 use Rattle.brk_lots.specs.Books.{lots_total}
-use Rattle.brk_book_theorems.specs.Books.{IsBooks}
+use Rattle.brk_book_theorems.specs.Books.{BooksInvariant}
 use Rattle.brk_book_theorems.specs.OrderReads.{IfCustomer, charge_in}
 use Rattle.brk_trade_theorems.specs.OrderPlans.{IsFoundForEstimate, Passes, order_account}
 use Rattle.brk_book_theorems.specs.Reads.{rates_of}
@@ -50,11 +50,11 @@ pub record OwnerFound (base : Base) (account : ℕ) : Type 0 where
   pub customer_row : find (λ r. r.id == a.customer) (sheets base).customers ≡ Some c
   pub customer_is : customer_with base (customer_of base account) ≡ Some c
 
-pub owner_found : (base : Base) (account : ℕ) → IsBooks base → is_some (account_with base account) ≡ true → OwnerFound base account
+pub owner_found : (base : Base) (account : ℕ) → BooksInvariant base → is_some (account_with base account) ≡ true → OwnerFound base account
 owner_found base account books h =
     let found = some_of (account_with base account) h in
     let a : Account = found.0 in
-    let of_account = some_of (customer_with base a.customer) (find-All (KnowsCustomer base) (λ x. x.id == account) base.accounts a books.customers found.1) in
+    let of_account = some_of (customer_with base a.customer) (find-All (CustomerExists base) (λ x. x.id == account) base.accounts a books.customers found.1) in
     record {
       a = a;
       c = of_account.0;
@@ -99,7 +99,7 @@ security_read base order found k p =
     ap is_none (k.last_price p ∙ ap (option_map (λ r. r.price)) (reads_last_trade base order.symbol))
     ∙ is_none-map (λ r. r.price) (option_map last_trade_row (security_with base order.symbol)) ∙ is_none-map last_trade_row (security_with base order.symbol)
 
-permission_read : (base : Base) (order : Order) (found : OrderFound) → IsBooks base → IsFoundForEstimate (sheets base) order found → OwnerFound base order.account
+permission_read : (base : Base) (order : Order) (found : OrderFound) → BooksInvariant base → IsFoundForEstimate (sheets base) order found → OwnerFound base order.account
     → Passes 2 found → found.is_permitted ≡ is_permitted base order.account (executor_of order.executor)
 permission_read base order found books k f p =
     of_customer base order.account (λ c. found.is_permitted ≡ permitted c (permission_in (sheets base) order.account order.executor.tax_id) (executor_of order.executor)) f (k.is_permitted p)
@@ -112,7 +112,7 @@ charge_read base order found k f p =
     of_customer base order.account (λ c. found.charge ≡ charge_in (sheets base) (kind_of order.order_type) c.tier) f (k.charge p)
     ∙ ap (option_map (λ c. c.amount)) (reads_charge base (kind_of order.order_type) f.c.tier ∙ ap (charge_with base (kind_of order.order_type)) (sym (tier_found base order.account f)))
 
-rate_read : (base : Base) (order : Order) (found : OrderFound) → IsBooks base → IsFoundForEstimate (sheets base) order found → OwnerFound base order.account
+rate_read : (base : Base) (order : Order) (found : OrderFound) → BooksInvariant base → IsFoundForEstimate (sheets base) order found → OwnerFound base order.account
     → is_some (security_with base order.symbol) ≡ true → Passes 4 found
     → found.rate ≡ option_map (λ b. b.rate) (band_with base (tier_of base order.account) (kind_of order.order_type) (exchange_of base order.symbol) order.qty)
 rate_read base order found books k f s p =
@@ -141,7 +141,7 @@ pub all_passed : (found : OrderFound) → is_none found.account ≡ false → is
 all_passed found a s p c r = rw (a, s, p, c, r) refl
 
 -- from the permission on, of an account and a security that are there
-owned_read : (base : Base) (order : Order) (found : OrderFound) (xs ys : List Test) → IsBooks base → IsFoundForEstimate (sheets base) order found
+owned_read : (base : Base) (order : Order) (found : OrderFound) (xs ys : List Test) → BooksInvariant base → IsFoundForEstimate (sheets base) order found
     → (first_refusal (order_tests found) ≡ None → first_refusal xs ≡ first_refusal ys) → is_none found.account ≡ false → is_none found.last_price ≡ false
     → OwnerFound base order.account → is_some (security_with base order.symbol) ≡ true
     → Alike ((not found.is_permitted, NotPermitted) ∷ (is_none found.charge, NoCharge) ∷ (is_none found.rate, NoRate) ∷ xs)
@@ -157,7 +157,7 @@ owned_read base order found xs ys books k later a s f l =
     (λ r. record { first = later (all_passed found a s p c r) })))
 
 -- an order and what else it is tested for are refused by what was found as by the base
-pub tests_read : (base : Base) (order : Order) (found : OrderFound) (xs ys : List Test) → IsBooks base → IsFoundForEstimate (sheets base) order found
+pub tests_read : (base : Base) (order : Order) (found : OrderFound) (xs ys : List Test) → BooksInvariant base → IsFoundForEstimate (sheets base) order found
     → (first_refusal (order_tests found) ≡ None → first_refusal xs ≡ first_refusal ys) → first_refusal (order_tests found ++ xs) ≡ first_refusal (model.order_tests base (order_of order) ++ ys)
 tests_read base order found xs ys books k later =
     let alike : Alike (order_tests found ++ xs) (model.order_tests base (order_of order) ++ ys) =
@@ -193,7 +193,7 @@ rates_read base order found k f e =
     of_account base order.account (λ a. found.rates ≡ rates_of (sheets base) a.customer) f (k.rates e)
     ∙ reads_rates base f.a.customer ∙ ap (base_spec.rates_of base) (sym (ap (λ x. option_map_or (λ a. a.customer) x 0) f.there))
 
-all_assets : (base : Base) (order : Order) (found : OrderFound) → IsBooks base → IsFoundForEstimate (sheets base) order found → OwnerFound base order.account → first_refusal (order_tests found) ≡ None
+all_assets : (base : Base) (order : Order) (found : OrderFound) → BooksInvariant base → IsFoundForEstimate (sheets base) order found → OwnerFound base order.account → first_refusal (order_tests found) ≡ None
     → found.assets ≡ assets_of base order.account
 all_assets base order found books k f e =
     of_account base order.account (λ a. found.assets ≡ a.balance +ℤ asset_total (sheets base) a) f (k.assets e)
@@ -210,7 +210,7 @@ broker_or : (accounts : List Account) (posted : List Posting) (a : Option Accoun
 broker_or accounts posted None = refl
 broker_or accounts posted (Some a) = refl
 
-pub all_found : (base : Base) (order : Order) (found : OrderFound) → IsBooks base → IsFoundForEstimate (sheets base) order found → first_refusal (order_tests found) ≡ None
+pub all_found : (base : Base) (order : Order) (found : OrderFound) → BooksInvariant base → IsFoundForEstimate (sheets base) order found → first_refusal (order_tests found) ≡ None
     → AllFound base order found
 all_found base order found books k e =
     let p = none_refuse (order_tests found) e in
@@ -237,6 +237,6 @@ all_found base order found books k e =
       held = held_read base order.account order.symbol found.summary books (ap is_some f.there) listed (k.summary e) ∙ sym (total_is base order.account order.symbol books);
     }
 
-pub terms_read : (base : Base) (order : Order) (found : OrderFound) → IsBooks base → IsFoundForEstimate (sheets base) order found → first_refusal (order_tests found) ≡ None
+pub terms_read : (base : Base) (order : Order) (found : OrderFound) → BooksInvariant base → IsFoundForEstimate (sheets base) order found → first_refusal (order_tests found) ≡ None
     → AreTerms base (order_of order) (terms_of order found)
 terms_read base order found books k e = (all_found base order found books k e).terms

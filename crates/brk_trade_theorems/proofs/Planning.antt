@@ -17,11 +17,11 @@ use Rattle.brk_changes.specs.Changes.{after_changes}
 use Rattle.brk_plans.specs.Reference.{IsPlanned, clock_test, exceeds_whole, rows_added, tests_of}
 use Rattle.brk_changes.specs.declared.change.Change.TheVariants as change
 use Rattle.brk_plans.specs.declared.plan.Plan.{Plan}
-use Rattle.brk_plans.specs.declared.reference.Found.{Found}
+use Rattle.brk_plans.specs.declared.reference.ReferenceFacts.{ReferenceFacts}
 use Rattle.brk_plans.specs.declared.reference.Reference.{Reference}
 use Rattle.brk_plans.specs.declared.reference.Reference.TheVariants as reference
 use Rattle.brk_ref.specs.Records.{broker_of, customer_of, account_of, permission_of, listing_of, charge_of, band_of, tax_of, customer_tax_of}
-use Rattle.brk_book_theorems.specs.Books.{IsBooks}
+use Rattle.brk_book_theorems.specs.Books.{BooksInvariant}
 use Rattle.brk_book_theorems.specs.Reads.{rates_of}
 use Rattle.brk_plans.specs.Replies.{reply_of}
 use Rattle.brk_plans.specs.Commands.{command_of}
@@ -33,7 +33,7 @@ use Rattle.brk_book_theorems.proofs.Stamps.{stamp_left, stamp_is, moved_past}
 use Rattle.brk_book_theorems.proofs.Steps.{step_broker, step_customer, step_account, step_permission, step_security, step_charge, step_band, step_tax_rate, step_customer_tax}
 use Rattle.brk_book_theorems.proofs.Keepers.{books_broker, books_customer, books_account, books_permission, books_security, books_charge, books_band, books_tax_rate, books_customer_tax}
 
-pub clock_read : (base : Base) (last : Option ℕ) (now : ℕ) → IsBooks base → last ≡ (sheets base).last → now ≤ last_stamp
+pub clock_read : (base : Base) (last : Option ℕ) (now : ℕ) → BooksInvariant base → last ≡ (sheets base).last → now ≤ last_stamp
     → is_none (stamp_after last now) ≡ nat_lt last_stamp (next_stamp base now)
 clock_read base last now books l h = ap (λ o. is_none (stamp_after o now)) (l ∙ reads_last base) ∙ stamp_left base.last now books.clock h
 
@@ -45,7 +45,7 @@ exceeds_read None sum rate h = above sum (unwrap_or rate 0) h
     above m n h = grind (arith, nat_tests)
 exceeds_read (Some r) sum rate h = ap (λ n. nat_lt greatest_tax_rate (n + unwrap_or rate 0)) h.1
 
-pub refusal_read : (base : Base) (r : Reference) (found : Found) (last : Option ℕ) (now : ℕ) → IsRead base r found last now
+pub refusal_read : (base : Base) (r : Reference) (found : ReferenceFacts) (last : Option ℕ) (now : ℕ) → IsRead base r found last now
     → first_refusal (tests_of r found ++ clock_test last now ∷ []) ≡ refusal_of base now (command_of r)
 unfolding refusal_of tests
 refusal_read base (reference.Broker b) found last now k =
@@ -97,7 +97,7 @@ refusal_read base (reference.CustomerTax x) found last now k =
     λ i. first_refusal ((not (customer i), NoCustomer) ∷ (none i, NoTax) ∷ exists_if (same i) ∷ (sum i, TaxSum) ∷ (clock i, ClockEnd) ∷ [])
 
 -- the rows and the books after the command of a record
-reference_rows : (base : Base) (now : ℕ) (r : Reference) → IsBooks base → refusal_of base now (command_of r) ≡ None
+reference_rows : (base : Base) (now : ℕ) (r : Reference) → BooksInvariant base → refusal_of base now (command_of r) ≡ None
     → sheets (base_then base now (command_of r)) ≡ after_changes (rows_added (next_stamp base now) r ++ change.SetLast (next_stamp base now) ∷ []) (sheets base)
 reference_rows base now (reference.Broker b) books e = step_broker base now (broker_of b) books e
 reference_rows base now (reference.Customer c) books e = step_customer base now (customer_of c) books e
@@ -132,7 +132,7 @@ reference_reply base stamp (reference.Band b) = refl
 reference_reply base stamp (reference.TaxRate r) = refl
 reference_reply base stamp (reference.CustomerTax x) = refl
 
-pub plan_does : (base : Base) (r : Reference) (found : Found) (last : Option ℕ) (now : ℕ) (plan : Plan) → IsRead base r found last now → IsPlanned r found last now plan
+pub plan_does : (base : Base) (r : Reference) (found : ReferenceFacts) (last : Option ℕ) (now : ℕ) (plan : Plan) → IsRead base r found last now → IsPlanned r found last now plan
     → DoesCommand base now (command_of r) plan
 unfolding step
 plan_does base r found last now plan k p =
@@ -148,7 +148,7 @@ plan_does base r found last now plan k p =
       kept = reference_books base now r k.books e;
     }
 
-pub refusal_does : (base : Base) (r : Reference) (found : Found) (last : Option ℕ) (now : ℕ) (refusal : Refusal) → IsRead base r found last now
+pub refusal_does : (base : Base) (r : Reference) (found : ReferenceFacts) (last : Option ℕ) (now : ℕ) (refusal : Refusal) → IsRead base r found last now
     → first_refusal (tests_of r found ++ clock_test last now ∷ []) ≡ Some refusal → step base now (command_of r) ≡ Err refusal
 unfolding step
 refusal_does base r found last now refusal k e =

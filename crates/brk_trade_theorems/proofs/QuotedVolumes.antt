@@ -14,8 +14,8 @@ use Rattle.brk_model.specs.Tables.{Tables, last_trade_row}
 use Rattle.brk_orders.specs.Records.{tick_of, ticks_of}
 use Rattle.brk_orders.specs.declared.tick.Tick.{Tick}
 use Rattle.brk_ref.specs.Records.{last_trade_of}
-use Rattle.brk_plans.specs.Feed.{Held, exceeds, is_of, quote_after, quotes_after, quotes_after_tick}
-use Rattle.brk_book_theorems.specs.Books.{IsBooks, DistinctSymbols, HasVolume}
+use Rattle.brk_plans.specs.Feed.{SymbolState, exceeds, is_of, quote_after, quotes_after, quotes_after_tick}
+use Rattle.brk_book_theorems.specs.Books.{BooksInvariant, DistinctSymbols, HasVolume}
 use Rattle.brk_book_theorems.specs.TradeReads.{volume_in}
 use Rattle.brk_trade_theorems.specs.TradePlans.{QuotesApart}
 use Rattle.brk_book_theorems.specs.Ticks.{exceeds_volume, qty_fed}
@@ -30,10 +30,10 @@ use Rattle.brk_trade_theorems.proofs.QuotedTicks.{HaveQuotes}
 
 -- ---- a market of the quotes' securities alone, which is a base in order
 
-abbrev security_of : Held → Security
+abbrev security_of : SymbolState → Security
 security_of quote = record { symbol = quote.last.symbol; name = []; exchange = []; sector = []; last_price = quote.last.price; volume = quote.last.volume; moment = quote.last.stamp }
 
-abbrev market : List Held → Base
+abbrev market : List SymbolState → Base
 market quotes = record {
   brokers = [];
   customers = [];
@@ -51,11 +51,11 @@ market quotes = record {
   last = None;
 }
 
-distinct : (quotes : List Held) → QuotesApart quotes → DistinctSymbols (map security_of quotes)
+distinct : (quotes : List SymbolState) → QuotesApart quotes → DistinctSymbols (map security_of quotes)
 distinct [] d = tt
 distinct (quote ∷ quotes) d = (All-mapped (λ u. bytes_eq u.symbol quote.last.symbol ≡ false) security_of quotes d.0, distinct quotes d.1)
 
-market_books : (quotes : List Held) → QuotesApart quotes → AllByRecursion (λ quote. quote.last.volume ≤ greatest_amount) quotes → IsBooks (market quotes)
+market_books : (quotes : List SymbolState) → QuotesApart quotes → AllByRecursion (λ quote. quote.last.volume ≤ greatest_amount) quotes → BooksInvariant (market quotes)
 market_books quotes d v = record {
   parties = record { brokers = tt; customers = tt; owners = tt; permissions = tt };
   market = record { symbols = distinct quotes d; volumes = All-mapped HasVolume security_of quotes v; bands = tt; apart = tt };
@@ -65,30 +65,30 @@ market_books quotes d v = record {
 }
 
 -- its securities move with the quotes
-market_tick : (stamp : ℕ) (tick : Tick) (quotes : List Held) → with_tick stamp (market quotes) (tick_of tick) ≡ market (quotes_after_tick stamp quotes tick)
+market_tick : (stamp : ℕ) (tick : Tick) (quotes : List SymbolState) → with_tick stamp (market quotes) (tick_of tick) ≡ market (quotes_after_tick stamp quotes tick)
 market_tick stamp tick quotes = λ i. record (market quotes) { securities = moved quotes i }
   where
-    by_test : (quote : Held) (b : Bool) → cond b (ticked stamp (tick_of tick) (security_of quote)) (security_of quote) ≡ security_of (cond b (quote_after stamp tick quote) quote)
+    by_test : (quote : SymbolState) (b : Bool) → cond b (ticked stamp (tick_of tick) (security_of quote)) (security_of quote) ≡ security_of (cond b (quote_after stamp tick quote) quote)
     by_test quote true = refl
     by_test quote false = refl
 
-    moved : (quotes : List Held)
+    moved : (quotes : List SymbolState)
         → update_where (λ s. bytes_eq s.symbol tick.symbol) (ticked stamp (tick_of tick)) (map security_of quotes) ≡ map security_of (quotes_after_tick stamp quotes tick)
     moved [] = refl
     moved (quote ∷ quotes) = λ i. by_test quote (is_of tick.symbol quote) i ∷ moved quotes i
 
-market_ticks : (stamp : ℕ) (ticks : List Tick) (quotes : List Held) → with_ticks stamp (market quotes) (ticks_of ticks) ≡ market (quotes_after stamp ticks quotes)
+market_ticks : (stamp : ℕ) (ticks : List Tick) (quotes : List SymbolState) → with_ticks stamp (market quotes) (ticks_of ticks) ≡ market (quotes_after stamp ticks quotes)
 unfolding with_ticks
 market_ticks stamp [] quotes = refl
 market_ticks stamp (tick ∷ ticks) quotes =
     ap (λ base. with_ticks stamp base (ticks_of ticks)) (market_tick stamp tick quotes) ∙ market_ticks stamp ticks (quotes_after_tick stamp quotes tick)
 
-market_exceeds : (quotes : List Held) → list_any exceeds quotes ≡ list_any (λ s. nat_lt greatest_amount s.volume) (map security_of quotes)
+market_exceeds : (quotes : List SymbolState) → list_any exceeds quotes ≡ list_any (λ s. nat_lt greatest_amount s.volume) (map security_of quotes)
 market_exceeds [] = refl
 market_exceeds (quote ∷ quotes) = ap (λ b. exceeds quote || b) (market_exceeds quotes)
 
 -- it knows the symbols that have quotes
-market_knows : (quotes : List Held) (ticks : List Tick) → HaveQuotes quotes ticks → KnowsTicks (market quotes) (ticks_of ticks)
+market_knows : (quotes : List SymbolState) (ticks : List Tick) → HaveQuotes quotes ticks → KnowsTicks (market quotes) (ticks_of ticks)
 market_knows quotes ticks known = All-mapped (λ u. is_some (security_with (market quotes) u.symbol) ≡ true) tick_of ticks (All-map ticks (λ tick h. there tick.symbol ∙ h) known)
   where
     there : (symbol : Text) → is_some (security_with (market quotes) symbol) ≡ list_any (is_of symbol) quotes
@@ -96,7 +96,7 @@ market_knows quotes ticks known = All-mapped (λ u. is_some (security_with (mark
         ap is_some (find-map (λ s. bytes_eq s.symbol symbol) security_of quotes) ∙ is_some-map security_of (find (is_of symbol) quotes) ∙ some-is-any (is_of symbol) quotes
 
 -- their volumes are those that the tables have
-market_volume : (t : Tables) (ticks : List Tick) (symbol : Text) (quotes : List Held) → AllByRecursion (IsHeld t ticks) quotes → QuotesApart quotes → list_any (is_of symbol) quotes ≡ true
+market_volume : (t : Tables) (ticks : List Tick) (symbol : Text) (quotes : List SymbolState) → AllByRecursion (IsHeld t ticks) quotes → QuotesApart quotes → list_any (is_of symbol) quotes ≡ true
     → volume_in (sheets (market quotes)) symbol ≡ volume_in t symbol
 market_volume t ticks symbol quotes k d e =
     let q = quote_of t ticks symbol quotes k d e in
@@ -112,10 +112,10 @@ any-each p q (x ∷ xs) h = λ i. h.0 i || any-each p q xs h.1 i
 -- ---- quotes of a base that is in order
 
 -- their volumes are within the limit
-pub quotes_within : (base : Base) (ticks : List Tick) (quotes : List Held) → IsBooks base → AllByRecursion (IsHeld (sheets base) ticks) quotes → AllByRecursion (λ quote. quote.last.volume ≤ greatest_amount) quotes
+pub quotes_within : (base : Base) (ticks : List Tick) (quotes : List SymbolState) → BooksInvariant base → AllByRecursion (IsHeld (sheets base) ticks) quotes → AllByRecursion (λ quote. quote.last.volume ≤ greatest_amount) quotes
 quotes_within base ticks quotes books k = All-map quotes (λ quote q. by_security quote (security_with base quote.last.symbol) refl (sym (reads_last_trade base quote.last.symbol) ∙ q.last_trade)) k
   where
-    by_security : (quote : Held) (o : Option Security) → security_with base quote.last.symbol ≡ o
+    by_security : (quote : SymbolState) (o : Option Security) → security_with base quote.last.symbol ≡ o
         → option_map last_trade_row (security_with base quote.last.symbol) ≡ Some (last_trade_of quote.last) → quote.last.volume ≤ greatest_amount
     by_security quote None e f = let g : None ≡ Some (last_trade_of quote.last) = sym (ap (option_map last_trade_row) e) ∙ f in absurd (cc)
     by_security quote (Some s) e f =
@@ -123,7 +123,7 @@ quotes_within base ticks quotes books k = All-map quotes (λ quote q. by_securit
         subst (λ n. n ≤ greatest_amount) (ap (λ o. option_map_or (λ r. r.volume) o 0) g)
         (find-All HasVolume (λ u. bytes_eq u.symbol quote.last.symbol) base.securities s books.volumes e)
 
-pub quotes_exceed : (base : Base) (stamp : ℕ) (ticks : List Tick) (quotes : List Held) → IsBooks base → AllByRecursion (IsHeld (sheets base) ticks) quotes → QuotesApart quotes
+pub quotes_exceed : (base : Base) (stamp : ℕ) (ticks : List Tick) (quotes : List SymbolState) → BooksInvariant base → AllByRecursion (IsHeld (sheets base) ticks) quotes → QuotesApart quotes
     → HaveQuotes quotes ticks → list_any exceeds (quotes_after stamp ticks quotes) ≡ list_any (exceeds_volume (sheets base) (ticks_of ticks)) (ticks_of ticks)
 quotes_exceed base stamp ticks quotes books k d known =
     market_exceeds (quotes_after stamp ticks quotes)

@@ -10,12 +10,12 @@ use Rattle.brk_model.specs.Sheets.{sheets}
 use Rattle.brk_model.specs.Tables.{Tables, LastTradeRow, RequestRow}
 use Rattle.brk_orders.specs.declared.tick.Tick.{Tick}
 use Rattle.brk_ref.specs.Records.{last_trade_of}
-use Rattle.brk_plans.specs.Feed.{Held, held, held_of, is_of, span_of}
+use Rattle.brk_plans.specs.Feed.{SymbolState, held, held_of, is_of, span_of}
 use Rattle.brk_changes.specs.Rows.{request_row_of}
 use Rattle.brk_changes.specs.declared.request_row.RequestRow as request
 use Rattle.brk_plans.specs.declared.quote.Quote.{Quote}
 use Rattle.brk_plans.specs.declared.span.Span.{Span}
-use Rattle.brk_book_theorems.specs.Books.{IsBooks}
+use Rattle.brk_book_theorems.specs.Books.{BooksInvariant}
 use Rattle.brk_book_theorems.specs.TradeReads.{last_trade_in, requests_of, volume_in}
 use Rattle.brk_trade_theorems.specs.TradePlans.{AreQuotes, IsQuote, IsQuoteOfOne, IsQuoted, QuotesApart}
 use Rattle.brk_book_theorems.proofs.Bools.{same_text, texts_back}
@@ -46,14 +46,14 @@ any-at_last p (y ∷ xs) x e = ap (λ b. p y || b) (any-at_last p xs x e) ∙ or
 -- ---- the quote of a symbol
 
 -- what is held of a symbol: the last trade, and in their order the requests that may be triggered within a span in which the prices of ticks lie
-pub record IsHeld (t : Tables) (ticks : List Tick) (quote : Held) : Type 0 where
+pub record IsHeld (t : Tables) (ticks : List Tick) (quote : SymbolState) : Type 0 where
   pub last_trade : last_trade_in t quote.last.symbol ≡ Some (last_trade_of quote.last)
   pub span : Span
   pub spans : Spans span quote.last.symbol ticks
   pub requests : map request_row_of quote.requests ≡ filter (may span) (requests_of t quote.last.symbol)
 
 -- a quote that was read of a base in order is held
-pub is_held : (base : Base) (ticks : List Tick) (quote : Held) → IsBooks base → IsQuoteOfOne (sheets base) ticks quote → IsHeld (sheets base) ticks quote
+pub is_held : (base : Base) (ticks : List Tick) (quote : SymbolState) → BooksInvariant base → IsQuoteOfOne (sheets base) ticks quote → IsHeld (sheets base) ticks quote
 is_held base ticks quote books k =
     let t = sheets base in
     let is = k.is in
@@ -69,22 +69,22 @@ is_held base ticks quote books k =
     }
 
 -- the one quote of a symbol, and it is what stands in the tables of it
-pub record QuoteOf (t : Tables) (ticks : List Tick) (symbol : Text) (quotes : List Held) : Type 0 where
-  pub quote : Held
+pub record QuoteOf (t : Tables) (ticks : List Tick) (symbol : Text) (quotes : List SymbolState) : Type 0 where
+  pub quote : SymbolState
   pub found : find (is_of symbol) quotes ≡ Some quote
   pub alone : filter (is_of symbol) quotes ≡ quote ∷ []
   pub read : IsHeld t ticks quote
   pub same : quote.last.symbol ≡ symbol
 
-none_after : (before : List Held) (quote : Held) (after : List Held) → QuotesApart (before ++ quote ∷ after) → NonePass (is_of quote.last.symbol) after
+none_after : (before : List SymbolState) (quote : SymbolState) (after : List SymbolState) → QuotesApart (before ++ quote ∷ after) → NonePass (is_of quote.last.symbol) after
 none_after [] quote after d = d.0
 none_after (q ∷ before) quote after d = none_after before quote after d.1
 
-pub quote_of : (t : Tables) (ticks : List Tick) (symbol : Text) (quotes : List Held) → AllByRecursion (IsHeld t ticks) quotes → QuotesApart quotes → list_any (is_of symbol) quotes ≡ true
+pub quote_of : (t : Tables) (ticks : List Tick) (symbol : Text) (quotes : List SymbolState) → AllByRecursion (IsHeld t ticks) quotes → QuotesApart quotes → list_any (is_of symbol) quotes ≡ true
     → QuoteOf t ticks symbol quotes
 quote_of t ticks symbol quotes r d e =
     let found = some_of (find (is_of symbol) quotes) (some-is-any (is_of symbol) quotes ∙ e) in
-    let f : FoundAt Held (is_of symbol) found.0 quotes = find-at (is_of symbol) quotes found.0 found.1 in
+    let f : FoundAt SymbolState (is_of symbol) found.0 quotes = find-at (is_of symbol) quotes found.0 found.1 in
     let same : found.0.last.symbol ≡ symbol = same_text found.0.last.symbol symbol f.passes in
     let others : NonePass (is_of symbol) f.after =
     subst (λ s. NonePass (is_of s) f.after) same (none_after f.before found.0 f.after (subst QuotesApart f.stands d)) in
@@ -98,7 +98,7 @@ quote_of t ticks symbol quotes r d e =
     }
 
 -- its volume is that of its symbol
-pub quote_volume : (t : Tables) (ticks : List Tick) (quote : Held) → IsHeld t ticks quote → volume_in t quote.last.symbol ≡ quote.last.volume
+pub quote_volume : (t : Tables) (ticks : List Tick) (quote : SymbolState) → IsHeld t ticks quote → volume_in t quote.last.symbol ≡ quote.last.volume
 quote_volume t ticks quote k = ap (λ o. option_map_or (λ r. r.volume) o 0) k.last_trade
 
 -- ---- quotes are read one by one
@@ -119,7 +119,7 @@ not_listed t all ticks tick quotes k e =
     none : false ≡ true → ⊥
     none h = absurd (cc)
 
-apart_last : (quotes : List Held) (quote : Held) → QuotesApart quotes → NonePass (is_of quote.last.symbol) quotes → QuotesApart (quotes ++ quote ∷ [])
+apart_last : (quotes : List SymbolState) (quote : SymbolState) → QuotesApart quotes → NonePass (is_of quote.last.symbol) quotes → QuotesApart (quotes ++ quote ∷ [])
 apart_last [] quote d h = (tt, tt)
 apart_last (q ∷ quotes) quote d h = (
   All-append (λ other. is_of q.last.symbol other ≡ false) quotes (quote ∷ []) d.0 (texts_back quote.last.symbol q.last.symbol ∙ h.0, tt),
@@ -127,20 +127,20 @@ apart_last (q ∷ quotes) quote d h = (
 )
 
 -- whose last trade was read
-listed : (t : Tables) (symbol : Text) (quote : Held) → last_trade_in t symbol ≡ Some (last_trade_of quote.last) → is_of symbol quote ≡ true
+listed : (t : Tables) (symbol : Text) (quote : SymbolState) → last_trade_in t symbol ≡ Some (last_trade_of quote.last) → is_of symbol quote ≡ true
 listed t symbol quote l =
     let f : FoundAt LastTradeRow (λ row. bytes_eq row.symbol symbol) (last_trade_of quote.last) t.last_trades =
     find-at (λ row. bytes_eq row.symbol symbol) t.last_trades (last_trade_of quote.last) l in
     f.passes
 
 -- what was read for a tick is its quote
-pub read_quote : (t : Tables) (all : List Tick) (tick : Tick) (quote : Held) → last_trade_in t tick.symbol ≡ Some (last_trade_of quote.last)
+pub read_quote : (t : Tables) (all : List Tick) (tick : Tick) (quote : SymbolState) → last_trade_in t tick.symbol ≡ Some (last_trade_of quote.last)
     → IsPermutation (filter (may (span_of tick all)) (requests_of t tick.symbol)) (map request_row_of quote.requests) → IsNonDecreasingBy (λ (r : request.RequestRow). r.trade) quote.requests
     → IsQuote t tick all quote
 read_quote t all tick quote l p o = record { symbol = same_text quote.last.symbol tick.symbol (listed t tick.symbol quote l); last_trade = l; requests = p; order = o }
 
 -- a quote more, of a symbol that had none
-one_more : (t : Tables) (all ticks : List Tick) (tick : Tick) (quotes : List Held) (quote : Held) → AreQuotes t all ticks quotes → list_any (is_of tick.symbol) quotes ≡ false
+one_more : (t : Tables) (all ticks : List Tick) (tick : Tick) (quotes : List SymbolState) (quote : SymbolState) → AreQuotes t all ticks quotes → list_any (is_of tick.symbol) quotes ≡ false
     → Contains all tick → IsQuote t tick all quote → AreQuotes t all (ticks ++ tick ∷ []) (quotes ++ quote ∷ [])
 one_more t all ticks tick quotes quote k e m r =
     let none : NonePass (is_of quote.last.symbol) quotes = subst (λ s. NonePass (is_of s) quotes) (sym r.symbol) (any-none (is_of tick.symbol) quotes e) in

@@ -38,13 +38,13 @@ use Rattle.brk_changes.specs.Rows.{cash_type_word, move_row_of, trade_row_of}
 use Rattle.brk_changes.specs.declared.move_row.MoveRow.{MoveRow}
 use Rattle.brk_changes.specs.declared.change.Change.{Change}
 use Rattle.brk_changes.specs.declared.change.Change.TheVariants as change
-use Rattle.brk_trade.specs.declared.outcome.Outcome.{Outcome}
+use Rattle.brk_trade.specs.declared.outcome.ResultNumbers.{ResultNumbers}
 use Rattle.brk_trade.specs.declared.result_found.ResultFound.{ResultFound}
 use Rattle.brk_plans.specs.declared.plan.Plan.{Plan}
 use Rattle.brk_plans.specs.declared.reply.Reply.TheVariants as reply
 use Rattle.brk_changes.specs.declared.summary_row.SummaryRow as summary
 use Rattle.brk_changes.specs.declared.trade_row.TradeRow as planned
-use Rattle.brk_book_theorems.specs.Books.{IsBooks}
+use Rattle.brk_book_theorems.specs.Books.{BooksInvariant}
 use Rattle.brk_trade_theorems.specs.Plans.{DoesCommand}
 use Rattle.brk_book_theorems.specs.Steps.{IsDone, base_then}
 use Rattle.brk_trade_theorems.specs.ResultPlans.{IsReadForResult, PassesFirst}
@@ -132,7 +132,7 @@ record Planned (base : Base) (price : ℕ) (last : Option ℕ) (now : ℕ) (t : 
   pub two : PassesFirst 2 found
   pub three : PassesFirst 3 found
 
-abbrev outcome_planned : ResultFound → ℕ → Closing → ℕ → Outcome
+abbrev outcome_planned : ResultFound → ℕ → Closing → ℕ → ResultNumbers
 outcome_planned found price closing stamp = outcome_of found price (values_in closing) stamp
 
 -- what it comes to is what the definitions say
@@ -326,7 +326,7 @@ changes_made : (base : Base) (price : ℕ) (last : Option ℕ) (now : ℕ) (t : 
     → after_changes (changes_of found price closing (outcome_planned found price closing stamp) cash) x ≡ with_last stamp (result_rows (rows_of_result base stamp price t) x)
 unfolding completed_trade
 changes_made base price last now t found closing stamp k cash moved x =
-    let o : Outcome = outcome_planned found price closing stamp in
+    let o : ResultNumbers = outcome_planned found price closing stamp in
     let T : List Change = trade_changes found.trade.id price o in
     let L : List Change = flat_map (touched_changes found.trade.id) closing.touched.items in
     let O : List Change = flat_map (opened_changes found.trade) (option_to_list closing.opened) in
@@ -344,7 +344,7 @@ changes_made base price last now t found closing stamp k cash moved x =
 -- ---- the plan
 
 -- an accepted result is done by its rows
-pub result_done : (base : Base) (id price now stamp : ℕ) (t : Trade) → IsBooks base → trade_with base id ≡ Some t → refusal_of base now (CompleteTrade id price) ≡ None
+pub result_done : (base : Base) (id price now stamp : ℕ) (t : Trade) → BooksInvariant base → trade_with base id ≡ Some t → refusal_of base now (CompleteTrade id price) ≡ None
     → stamp ≡ next_stamp base now → IsDone base now (CompleteTrade id price) stamp (CompletedTrade stamp (completion base stamp price t)) (result_rows (rows_of_result base stamp price t))
 unfolding reply_to
 result_done base id price now stamp t books e accepted next =

@@ -12,7 +12,7 @@ use Rattle.brk_model.specs.Derived as derived
 use Rattle.brk_model.specs.Derived.{balance_of, commissions_of, due_after, postings_of, proceeds, shares_in, summary_of, trade_count_of}
 use Rattle.brk_model.specs.Joins.{account_in, security_in}
 use Rattle.brk_model.specs.Limits.{greatest_amount, greatest_summary}
-use Rattle.brk_model.specs.Records.{Account, Band, Broker, Mark, Security, Trade}
+use Rattle.brk_model.specs.Records.{Account, Band, Broker, StatusChange, Security, Trade}
 use Rattle.brk_model.specs.Results.{completed_trade, result_deal, with_result}
 use Rattle.brk_model.specs.Shares.{gain, signed}
 use Rattle.brk_model.specs.Sheets.{sheets, sheets_of}
@@ -30,8 +30,8 @@ use Rattle.brk_trade.specs.Outcomes.{amount_of, balance_after, commission_at, co
 use Rattle.brk_changes.specs.Rows.{trade_row_of}
 use Rattle.brk_trade.specs.declared.result_found.ResultAccount.{ResultAccount}
 use Rattle.brk_trade.specs.declared.result_found.ResultFound.{ResultFound}
-use Rattle.brk_model.specs.Names.{KnowsAccount, KnowsBroker, KnowsSecurity}
-use Rattle.brk_book_theorems.specs.Books.{IsBooks}
+use Rattle.brk_model.specs.Names.{AccountExists, BrokerExists, SecurityExists}
+use Rattle.brk_book_theorems.specs.Books.{BooksInvariant}
 use Rattle.brk_book_theorems.specs.OrderReads.{IfCustomer}
 use Rattle.brk_book_theorems.specs.Reads.{rates_of}
 use Rattle.brk_trade_theorems.specs.ResultPlans.{IsFoundForResult, PassesFirst, result_account}
@@ -55,22 +55,22 @@ use Rattle.brk_trade_theorems.proofs.TradePlanning.{stamp_read}
 
 -- its row, and that what it names is there
 pub record TradeFound (base : Base) (t : Trade) (found : ResultFound) : Type 0 where
-  pub books : IsBooks base
+  pub books : BooksInvariant base
   pub row : trade_row_of found.trade ≡ trade_row t
   pub read : IsFoundForResult (sheets base) found
   pub owner : OwnerFound base t.account
   pub listed : Security
   pub listed_is : security_with base t.symbol ≡ Some listed
 
-pub trade_found : (base : Base) (id : ℕ) (t : Trade) (found : ResultFound) → IsBooks base → trade_with base id ≡ Some t → trade_row_of found.trade ≡ trade_row t
+pub trade_found : (base : Base) (id : ℕ) (t : Trade) (found : ResultFound) → BooksInvariant base → trade_with base id ≡ Some t → trade_row_of found.trade ≡ trade_row t
     → IsFoundForResult (sheets base) found → TradeFound base t found
 trade_found base id t found books e row read =
-    let s = some_of (security_with base t.symbol) (find-All (KnowsSecurity base) (λ u. u.id == id) base.trades t books.securities e) in
+    let s = some_of (security_with base t.symbol) (find-All (SecurityExists base) (λ u. u.id == id) base.trades t books.securities e) in
     record {
       books = books;
       row = row;
       read = read;
-      owner = owner_found base t.account books (find-All (KnowsAccount base) (λ u. u.id == id) base.trades t books.accounts e);
+      owner = owner_found base t.account books (find-All (AccountExists base) (λ u. u.id == id) base.trades t books.accounts e);
       listed = s.0;
       listed_is = s.1;
     }
@@ -139,7 +139,7 @@ pub broker_found : (base : Base) (t : Trade) (found : ResultFound) → TradeFoun
     × (found.broker.commissions ≡ commissions_of base.accounts (completed base) (broker_of base t.account))
 broker_found base t found k p =
     let a : Account = k.owner.a in
-    let named = some_of (broker_with base a.broker) (find-All (KnowsBroker base) (λ x. x.id == t.account) base.accounts a k.books.brokers k.owner.there) in
+    let named = some_of (broker_with base a.broker) (find-All (BrokerExists base) (λ x. x.id == t.account) base.accounts a k.books.brokers k.owner.there) in
     let b : Broker = named.0 in
     let g : FoundAt Broker (λ b. b.id == a.broker) b base.brokers = find-at (λ b. b.id == a.broker) base.brokers b named.1 in
     let same : b.id ≡ broker_of base t.account = eqb-true b.id a.broker g.passes ∙ sym (ap (λ x. option_map_or (λ a. a.broker) x 0) k.owner.there) in
@@ -234,7 +234,7 @@ commissions_read base stamp price t xs ys found k r p h q =
 
 -- ---- the refusal
 
-pub mark_status : (o : Option Mark) → same_status (option_map_or (λ m. m.status) o Canceled) Submitted ≡ option_map_or (λ m. same_status m.status Submitted) o false
+pub mark_status : (o : Option StatusChange) → same_status (option_map_or (λ m. m.status) o Canceled) Submitted ≡ option_map_or (λ m. same_status m.status Submitted) o false
 mark_status None = refl
 mark_status (Some m) = refl
 
@@ -242,7 +242,7 @@ status_read : (t : Trade) (found : ResultFound) → trade_row_of found.trade ≡
 status_read t found row = ap (λ (r : TradeRow). not (same_status r.status Submitted)) row ∙ ap not (mark_status (last_mark t))
 
 -- a stamp that is left, and the day of settlement
-due_read : (base : Base) (last : Option ℕ) (now : ℕ) (o : Option ℕ) → IsBooks base → last ≡ (sheets base).last → now ≤ last_stamp → stamp_after last now ≡ o
+due_read : (base : Base) (last : Option ℕ) (now : ℕ) (o : Option ℕ) → BooksInvariant base → last ≡ (sheets base).last → now ≤ last_stamp → stamp_after last now ≡ o
     → first_refusal (due_test base.rule o ∷ []) ≡ first_refusal ((nat_lt last_day (due_after base.rule (next_stamp base now)), ClockEnd) ∷ (nat_lt last_stamp (next_stamp base now), ClockEnd) ∷ (false, TooEarly) ∷ [])
 due_read base last now None books l h e =
     let late : true ≡ nat_lt last_stamp (next_stamp base now) = sym (ap is_none e) ∙ clock_read base last now books l h in

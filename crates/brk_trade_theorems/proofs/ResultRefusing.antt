@@ -25,7 +25,7 @@ use Rattle.brk_trade.specs.Results.{AreMet, IsRefused, held_by}
 use Rattle.brk_trade.proofs.Results.{first_refuses}
 use Rattle.brk_changes.specs.Rows.{trade_row_of}
 use Rattle.brk_trade.specs.declared.result_found.ResultFound.{ResultFound}
-use Rattle.brk_book_theorems.specs.Books.{IsBooks}
+use Rattle.brk_book_theorems.specs.Books.{BooksInvariant}
 use Rattle.brk_trade_theorems.specs.ResultPlans.{AreLotsOfTrade, IsReadForResult, PassesFirst}
 use Rattle.brk_book_theorems.specs.TradeReads.{position_in}
 use Rattle.brk_book_theorems.proofs.Holding.{lots_given, total_is}
@@ -55,7 +55,7 @@ lots_shares base t found f =
     shares_read base found.trade.account found.trade.symbol f.books ∙ ap (λ (r : TradeRow). shares_in (completed base) r.account r.symbol) f.row
 
 -- a trade at the market meets those of a position, from one of its ends, none of which it opened
-pub lots_met : (base : Base) (id : ℕ) (found : ResultFound) (given : List Lot → Type 0) → IsBooks base → trade_in (sheets base) id ≡ Some (trade_row_of found.trade)
+pub lots_met : (base : Base) (id : ℕ) (found : ResultFound) (given : List Lot → Type 0) → BooksInvariant base → trade_in (sheets base) id ≡ Some (trade_row_of found.trade)
     → same_status found.trade.status Submitted ≡ true → AreLotsOfTrade (sheets base) found.trade given → held_by found ≡ summary_of (completed base) found.trade.account found.trade.symbol
     → AreMet given found (position_in (sheets base) found.trade.account found.trade.symbol)
 lots_met base id found given books e s k h =

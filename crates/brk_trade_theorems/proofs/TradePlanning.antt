@@ -10,7 +10,7 @@ use Rattle.brk_money.specs.declared.refusal.Refusal.TheVariants.{NoTrade, NoSecu
 use Rattle.brk_money.specs.declared.refusal.Limit.TheVariants as limit
 use Rattle.brk_money.specs.declared.status.Status.TheVariants.{Pending, Canceled}
 use Rattle.brk_model.specs.Limits.{greatest_amount}
-use Rattle.brk_model.specs.Records.{Mark, Trade}
+use Rattle.brk_model.specs.Records.{StatusChange, Trade}
 use Rattle.brk_model.specs.Base.{Base, has_status, last_mark, security_with, trade_with}
 use Rattle.brk_model.specs.Tables.{Tables, last_trade_row, status_of, trade_row}
 use Rattle.brk_model.specs.Joins.{trade_in}
@@ -22,7 +22,7 @@ use Rattle.brk_model.specs.Step.{reply_to, step, unless}
 use Rattle.brk_changes.specs.Changes.{with_last}
 use Rattle.brk_plans.specs.Reference.{clock_test}
 use Rattle.brk_plans.proofs.Refusals.{first_joined, first_of}
-use Rattle.brk_book_theorems.specs.Books.{IsBooks}
+use Rattle.brk_book_theorems.specs.Books.{BooksInvariant}
 use Rattle.brk_book_theorems.specs.Steps.{base_then, ChangesRows, IsDone, LeavesBooks}
 use Rattle.brk_book_theorems.specs.Trading.{cancel_rows, feed_rows, fed_trades}
 use Rattle.brk_trade_theorems.specs.TradeTests.{cancel_tests, feed_tests}
@@ -50,7 +50,7 @@ pub stamp_read : (base : Base) (last : Option ℕ) (now stamp : ℕ) → last �
 stamp_read base last now stamp l e = stamp_is last now stamp e ∙ ap (λ o. moved_past o now) (l ∙ reads_last base)
 
 -- an accepted command is done by a change that leads to its rows
-pub is_done : (base : Base) (now : ℕ) (command : Command) (stamp : ℕ) (reply : Reply) (change : ℕ → Tables → Tables) → IsBooks base → refusal_of base now command ≡ None
+pub is_done : (base : Base) (now : ℕ) (command : Command) (stamp : ℕ) (reply : Reply) (change : ℕ → Tables → Tables) → BooksInvariant base → refusal_of base now command ≡ None
     → stamp ≡ next_stamp base now → reply_to base (next_stamp base now) command ≡ reply → ChangesRows base now command (change (next_stamp base now)) → LeavesBooks base now command
     → IsDone base now command stamp reply (change stamp)
 unfolding step
@@ -75,7 +75,7 @@ never_early ts b =
 
 -- ---- a cancel
 
-mark_status : (o : Option Mark) → same_status (option_map_or (λ m. m.status) o Canceled) Pending ≡ option_map_or (λ m. same_status m.status Pending) o false
+mark_status : (o : Option StatusChange) → same_status (option_map_or (λ m. m.status) o Canceled) Pending ≡ option_map_or (λ m. same_status m.status Pending) o false
 mark_status None = refl
 mark_status (Some m) = refl
 
@@ -84,7 +84,7 @@ same_tests : (o : Option Trade) (last : Option ℕ) (now : ℕ)
 same_tests None last now = refl
 same_tests (Some t) last now = ap (λ b. (not b, WrongStatus (status_of t)) ∷ clock_test last now ∷ []) (mark_status (last_mark t))
 
-pub cancel_refusal : (base : Base) (now id : ℕ) → IsBooks base → now ≤ last_stamp
+pub cancel_refusal : (base : Base) (now id : ℕ) → BooksInvariant base → now ≤ last_stamp
     → first_refusal (cancel_tests (trade_in (sheets base) id) (sheets base).last now) ≡ refusal_of base now (CancelTrade id)
 unfolding refusal_of tests
 cancel_refusal base now id books h =
@@ -94,7 +94,7 @@ cancel_refusal base now id books h =
     ∙ ap (λ b. first_refusal (option_map_or (λ t. wrong_status (has_status Pending t) t ∷ []) (trade_with base id) ((true, NoTrade) ∷ []) ++ (b, ClockEnd) ∷ [])) clock
     ∙ never_early (option_map_or (λ t. wrong_status (has_status Pending t) t ∷ []) (trade_with base id) ((true, NoTrade) ∷ [])) (nat_lt last_stamp (next_stamp base now))
 
-pub cancel_done : (base : Base) (now id stamp : ℕ) → IsBooks base → now ≤ last_stamp
+pub cancel_done : (base : Base) (now id stamp : ℕ) → BooksInvariant base → now ≤ last_stamp
     → first_refusal (cancel_tests (trade_in (sheets base) id) (sheets base).last now) ≡ None → stamp_after (sheets base).last now ≡ Some stamp
     → IsDone base now (CancelTrade id) stamp (CanceledTrade stamp) (cancel_rows stamp id)
 unfolding reply_to
@@ -105,7 +105,7 @@ cancel_done base now id stamp books h e s =
 
 -- ---- a feed
 
-pub feed_refusal : (base : Base) (now : ℕ) (ticks : List Tick) → IsBooks base → now ≤ last_stamp
+pub feed_refusal : (base : Base) (now : ℕ) (ticks : List Tick) → BooksInvariant base → now ≤ last_stamp
     → first_refusal (feed_tests (sheets base) ticks (sheets base).last now) ≡ refusal_of base now (FeedTicks ticks)
 unfolding refusal_of tests
 feed_refusal base now ticks books h = by_unknown (list_any unknown ticks) refl
@@ -133,7 +133,7 @@ feed_refusal base now ticks books h = by_unknown (list_any unknown ticks) refl
         let volumes = reads_exceeds base (next_stamp base now) ticks books known in
         λ i. first_refusal ((same i, NoSecurity) ∷ (volumes i, Range limit.Volume) ∷ (clock i, ClockEnd) ∷ [])
 
-pub feed_done : (base : Base) (now : ℕ) (ticks : List Tick) (stamp : ℕ) → IsBooks base → now ≤ last_stamp
+pub feed_done : (base : Base) (now : ℕ) (ticks : List Tick) (stamp : ℕ) → BooksInvariant base → now ≤ last_stamp
     → first_refusal (feed_tests (sheets base) ticks (sheets base).last now) ≡ None → stamp_after (sheets base).last now ≡ Some stamp
     → IsDone base now (FeedTicks ticks) stamp (Ticked stamp (fed_trades stamp ticks (sheets base))) (feed_rows stamp ticks)
 unfolding reply_to

@@ -22,7 +22,7 @@ use Rattle.brk_model.specs.Tables.{RequestRow, Tables, request_row}
 use Rattle.brk_orders.specs.declared.tick.Tick.{Tick}
 use Rattle.brk_plans.specs.Feed.{span_of, widened, widened_by}
 use Rattle.brk_plans.specs.declared.span.Span.{Span}
-use Rattle.brk_book_theorems.specs.Books.{IsBooks}
+use Rattle.brk_book_theorems.specs.Books.{BooksInvariant}
 use Rattle.brk_trade_theorems.specs.TradePlans.{may_trigger}
 use Rattle.brk_book_theorems.specs.TradeReads.{requests_of}
 use Rattle.brk_book_theorems.proofs.LotReading.{IdsRise, numbered_rise, rise_filter}
@@ -270,13 +270,13 @@ rises_filter p (r ∷ rs) k =
     elim (p r) as (λ b. Rises (λ (s : RequestRow). s.trade) (cond b (r ∷ filter p rs) (filter p rs)))
     [ true ↦ (All-filter (λ (s : RequestRow). r.trade < s.trade) p rs k.0, rises_filter p rs k.1) | false ↦ rises_filter p rs k.1 ]
 
-requests_rise : (base : Base) → IsBooks base → Rises (λ (r : RequestRow). r.trade) (sheets base).requests
+requests_rise : (base : Base) → BooksInvariant base → Rises (λ (r : RequestRow). r.trade) (sheets base).requests
 requests_rise base books =
     subst (Rises (λ (r : RequestRow). r.trade)) (sym (requests_in_order base books.numbered))
     (rows_rise base.accounts (pending base.trades) (rise_filter (has_status Pending) base.trades (numbered_rise 1 base.trades books.numbered)))
 
 -- by rising trade they are the requests of a base in its order
-pub in_order : (base : Base) (symbol : Text) (span : Span) (found : List RequestRow) → IsBooks base
+pub in_order : (base : Base) (symbol : Text) (span : Span) (found : List RequestRow) → BooksInvariant base
     → IsPermutation (filter (may span) (requests_of (sheets base) symbol)) found → Ascends (λ r. r.trade) found → found ≡ filter (may span) (requests_of (sheets base) symbol)
 in_order base symbol span found books p a =
     let all = filter (may span) (requests_of (sheets base) symbol) in

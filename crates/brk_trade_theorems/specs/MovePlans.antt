@@ -8,7 +8,7 @@ use Rattle.brk_model.specs.Sheets.{sheets}
 use Rattle.brk_model.specs.Tables.{Tables}
 use Rattle.brk_orders.specs.declared.movement.Movement.{Movement}
 use Rattle.brk_plans.specs.declared.movement.MoveFound.{MoveFound}
-use Rattle.brk_book_theorems.specs.Books.{IsBooks}
+use Rattle.brk_book_theorems.specs.Books.{BooksInvariant}
 use Rattle.brk_book_theorems.specs.TradeReads.{last_move}
 
 -- ---- a movement
@@ -23,7 +23,7 @@ pub record IsFoundForMove (t : Tables) (m : Movement) (found : MoveFound) : Type
 
 -- what is known where a movement is planned: the base is in order, and its tables were looked up at a moment that there is
 pub record IsReadForMove (base : Base) (m : Movement) (found : MoveFound) (last : Option ℕ) (now : ℕ) : Type 0 where
-  pub books : IsBooks base
+  pub books : BooksInvariant base
   pub looked_up : IsFoundForMove (sheets base) m found
   pub last_read : last ≡ (sheets base).last
   pub moment : now ≤ last_stamp
@@ -33,7 +33,7 @@ pub record IsReadForMove (base : Base) (m : Movement) (found : MoveFound) (last 
 -- what is known where a settlement day is planned: the base is in order, and the day that is set, where there is one, was read at a moment that
 -- there is
 pub record IsReadForOneDay (base : Base) (rule : Option ℕ) (last : Option ℕ) (now : ℕ) : Type 0 where
-  pub books : IsBooks base
+  pub books : BooksInvariant base
   pub rule_read : rule ≡ (sheets base).rule
   pub last_read : last ≡ (sheets base).last
   pub moment : now ≤ last_stamp

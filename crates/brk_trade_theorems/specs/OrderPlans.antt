@@ -15,7 +15,7 @@ use Rattle.brk_ref.specs.Records.{executor_of}
 use Rattle.brk_trade.specs.Orders.{order_tests}
 use Rattle.brk_trade.specs.declared.order.OrderAccount.{OrderAccount}
 use Rattle.brk_trade.specs.declared.order.OrderFound.{OrderFound}
-use Rattle.brk_book_theorems.specs.Books.{IsBooks}
+use Rattle.brk_book_theorems.specs.Books.{BooksInvariant}
 use Rattle.brk_book_theorems.specs.Reads.{rates_of}
 use Rattle.brk_book_theorems.specs.TradeReads.{band_in, permission_in, summary_in}
 use Rattle.brk_book_theorems.specs.OrderReads.{GivesLots, IfCustomer, charge_in, last_price_in, last_trade_in}
@@ -65,7 +65,7 @@ AreLots t order given = GivesLots t order.account order.symbol order.is_lifo giv
 
 -- what is known where an order is planned: the base is in order, and its tables were looked up at a moment that there is
 pub record IsReadForPlan (base : Base) (order : Order) (found : OrderFound) (last : Option ℕ) (now : ℕ) : Type 0 where
-  pub books : IsBooks base
+  pub books : BooksInvariant base
   pub looked_up : IsFoundForOrder (sheets base) order found
   pub last_read : last ≡ (sheets base).last
   pub moment : now ≤ last_stamp

@@ -12,7 +12,7 @@ use Rattle.brk_changes.specs.Rows.{trade_row_of}
 use Rattle.brk_trade.specs.declared.result_found.ResultAccount.{ResultAccount}
 use Rattle.brk_trade.specs.declared.result_found.ResultFound.{ResultFound}
 use Rattle.brk_changes.specs.declared.trade_row.TradeRow.{TradeRow}
-use Rattle.brk_book_theorems.specs.Books.{IsBooks}
+use Rattle.brk_book_theorems.specs.Books.{BooksInvariant}
 use Rattle.brk_book_theorems.specs.OrderReads.{GivesLots, IfCustomer}
 use Rattle.brk_book_theorems.specs.Reads.{rates_of}
 use Rattle.brk_book_theorems.specs.TradeReads.{band_in, last_move, summary_in}
@@ -58,7 +58,7 @@ AreLotsOfTrade t trade given = GivesLots t trade.account trade.symbol trade.is_l
 -- what is known where a result is planned: the base is in order, its tables were looked up at a moment that there is, the lots that are given
 -- are those of a trade at the market, and the trade that was found is of some shares
 pub record IsReadForResult (base : Base) (id : ℕ) (found : Option ResultFound) (given : List Lot → Type 0) (last : Option ℕ) (now : ℕ) : Type 0 where
-  pub books : IsBooks base
+  pub books : BooksInvariant base
   pub trade_read : trade_in (sheets base) id ≡ option_map (λ f. trade_row_of f.trade) found
   pub looked_up : IfSome found (IsFoundForResult (sheets base))
   pub lots_read : IfSome found (λ f. PassesFirst 1 f → AreLotsOfTrade (sheets base) f.trade given)

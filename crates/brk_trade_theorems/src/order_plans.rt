@@ -23,13 +23,13 @@ ghost use Rattle.brk_plans.specs.Reference.{clock_test};
 ghost use Rattle.brk_plans.specs.Replies.{estimate_of};
 ghost use Rattle.brk_trade.specs.declared.order.OrderFound.{OrderFound};
 ghost use Rattle.brk_plans.specs.declared.plan.Plan.{Plan};
-ghost use Rattle.brk_book_theorems.specs.Books.{IsBooks};
+ghost use Rattle.brk_book_theorems.specs.Books.{BooksInvariant};
 ghost use Rattle.brk_trade_theorems.specs.OrderPlans.{AreLots, IsFoundForEstimate, IsReadForPlan};
 ghost use Rattle.brk_trade_theorems.specs.Plans.{DoesCommand};
 
 /// What was found for an order that nothing refuses gives the terms that the base has for it.
 pub fn terms_follow_from_the_tables()
-    ensures { (base : Base) (order : Order) (found : OrderFound) → IsBooks base → IsFoundForEstimate (sheets base) order found
+    ensures { (base : Base) (order : Order) (found : OrderFound) → BooksInvariant base → IsFoundForEstimate (sheets base) order found
         → first_refusal (order_tests found) ≡ None → AreTerms base (order_of order) (terms_of order found) }
 {}
 
@@ -47,11 +47,11 @@ pub fn order_plans_do_commands()
 
 /// An estimate is refused by what was found as by the base; else it is that of the definitions, and its fields are the view.
 pub fn estimate_plans_answer_queries()
-    ensures refused { (base : Base) (order : Order) (found : OrderFound) (refusal : Refusal) → IsBooks base → IsFoundForEstimate (sheets base) order found
+    ensures refused { (base : Base) (order : Order) (found : OrderFound) (refusal : Refusal) → BooksInvariant base → IsFoundForEstimate (sheets base) order found
         → first_refusal (order_tests found) ≡ Some refusal → ask base (EstimateOf (order_of order)) ≡ Err refusal }
-    ensures told { (base : Base) (order : Order) (found : OrderFound) (lots : List Lot) (e : Estimate) → IsBooks base → IsFoundForEstimate (sheets base) order found
+    ensures told { (base : Base) (order : Order) (found : OrderFound) (lots : List Lot) (e : Estimate) → BooksInvariant base → IsFoundForEstimate (sheets base) order found
         → AreLots (sheets base) order (Exactly lots) → IsEstimated order found (Exactly lots) e → e ≡ told (estimate base (order_of order)) }
-    ensures answered { (base : Base) (order : Order) (found : OrderFound) (lots : List Lot) (e : Estimate) → IsBooks base → IsFoundForEstimate (sheets base) order found
+    ensures answered { (base : Base) (order : Order) (found : OrderFound) (lots : List Lot) (e : Estimate) → BooksInvariant base → IsFoundForEstimate (sheets base) order found
         → AreLots (sheets base) order (Exactly lots) → IsEstimated order found (Exactly lots) e
         → ask base (EstimateOf (order_of order)) ≡ Ok (estimate_fields (estimate_of e) ∷ []) }
 {}

@@ -7,21 +7,21 @@ ghost use Rattle.brk_model.specs.Step.{step};
 ghost use Rattle.brk_model.specs.Tests.{first_refusal, refusal_of};
 ghost use Rattle.brk_plans.specs.Reference.{IsPlanned, clock_test, tests_of};
 ghost use Rattle.brk_plans.specs.declared.plan.Plan.{Plan};
-ghost use Rattle.brk_plans.specs.declared.reference.Found.{Found};
+ghost use Rattle.brk_plans.specs.declared.reference.ReferenceFacts.{ReferenceFacts};
 ghost use Rattle.brk_plans.specs.declared.reference.Reference.{Reference};
 ghost use Rattle.brk_plans.specs.Commands.{command_of};
 ghost use Rattle.brk_trade_theorems.specs.Plans.{DoesCommand, IsRead};
 
 /// The first refusal by what was found in the tables is the first by the base, so that a record is refused as its command is.
 pub fn refusals_follow_from_the_tables()
-    ensures first { (base : Base) (reference : Reference) (found : Found) (last : Option ℕ) (now : ℕ) → IsRead base reference found last now
+    ensures first { (base : Base) (reference : Reference) (found : ReferenceFacts) (last : Option ℕ) (now : ℕ) → IsRead base reference found last now
         → first_refusal (tests_of reference found ++ clock_test last now ∷ []) ≡ refusal_of base now (command_of reference) }
-    ensures refused { (base : Base) (reference : Reference) (found : Found) (last : Option ℕ) (now : ℕ) (refusal : Refusal) → IsRead base reference found last now
+    ensures refused { (base : Base) (reference : Reference) (found : ReferenceFacts) (last : Option ℕ) (now : ℕ) (refusal : Refusal) → IsRead base reference found last now
         → first_refusal (tests_of reference found ++ clock_test last now ∷ []) ≡ Some refusal → step base now (command_of reference) ≡ Err refusal }
 {}
 
 /// The plan of a record does its command.
 pub fn plans_do_commands()
-    ensures { (base : Base) (reference : Reference) (found : Found) (last : Option ℕ) (now : ℕ) (plan : Plan) → IsRead base reference found last now
+    ensures { (base : Base) (reference : Reference) (found : ReferenceFacts) (last : Option ℕ) (now : ℕ) (plan : Plan) → IsRead base reference found last now
         → IsPlanned reference found last now plan → DoesCommand base now (command_of reference) plan }
 {}

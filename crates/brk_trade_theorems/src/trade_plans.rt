@@ -14,7 +14,7 @@ ghost use Rattle.brk_model.specs.Tests.{first_refusal, refusal_of};
 ghost use Rattle.brk_orders.specs.Records.{ticks_of};
 ghost use Rattle.brk_orders.specs.declared.tick.Tick.{Tick};
 ghost use Rattle.brk_plans.specs.Cancel.{IsCancel, cancel_tests};
-ghost use Rattle.brk_plans.specs.Feed.{Held, IsFeed, feed_tests, held, held_of, is_of};
+ghost use Rattle.brk_plans.specs.Feed.{SymbolState, IsFeed, feed_tests, held, held_of, is_of};
 ghost use Rattle.brk_plans.specs.Reference.{clock_test};
 ghost use Rattle.brk_trade.specs.Results.{IsCompleted, IsRefused};
 ghost use Rattle.brk_trade.specs.declared.result_found.ResultFound.{ResultFound};
@@ -37,11 +37,11 @@ pub fn cancel_plans_do_commands()
 
 /// A feed is refused by the quotes of its ticks as by the base, at whatever stamp they are tried; the plan of one that is not does the feed.
 pub fn feed_plans_do_commands()
-    ensures first { (base : Base) (stamp : ℕ) (ticks : List Tick) (quotes : List Held) (last : Option ℕ) (now : ℕ) → IsReadForFeed base ticks quotes last now
+    ensures first { (base : Base) (stamp : ℕ) (ticks : List Tick) (quotes : List SymbolState) (last : Option ℕ) (now : ℕ) → IsReadForFeed base ticks quotes last now
         → first_refusal (feed_tests stamp ticks quotes ++ clock_test last now ∷ []) ≡ refusal_of base now (FeedTicks (ticks_of ticks)) }
-    ensures refused { (base : Base) (stamp : ℕ) (ticks : List Tick) (quotes : List Held) (last : Option ℕ) (now : ℕ) (refusal : Refusal) → IsReadForFeed base ticks quotes last now
+    ensures refused { (base : Base) (stamp : ℕ) (ticks : List Tick) (quotes : List SymbolState) (last : Option ℕ) (now : ℕ) (refusal : Refusal) → IsReadForFeed base ticks quotes last now
         → first_refusal (feed_tests stamp ticks quotes ++ clock_test last now ∷ []) ≡ Some refusal → step base now (FeedTicks (ticks_of ticks)) ≡ Err refusal }
-    ensures done { (base : Base) (ticks : List Tick) (quotes : List Held) (last : Option ℕ) (now : ℕ) (plan : Plan) → IsReadForFeed base ticks quotes last now
+    ensures done { (base : Base) (ticks : List Tick) (quotes : List SymbolState) (last : Option ℕ) (now : ℕ) (plan : Plan) → IsReadForFeed base ticks quotes last now
         → IsFeed ticks quotes last now plan → DoesCommand base now (FeedTicks (ticks_of ticks)) plan }
 {}
 

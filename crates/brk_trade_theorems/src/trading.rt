@@ -11,7 +11,7 @@ ghost use Rattle.brk_model.specs.Joins.{trade_in};
 ghost use Rattle.brk_model.specs.Sheets.{sheets};
 ghost use Rattle.brk_model.specs.Step.{step};
 ghost use Rattle.brk_model.specs.Tests.{first_refusal, refusal_of};
-ghost use Rattle.brk_book_theorems.specs.Books.{IsBooks};
+ghost use Rattle.brk_book_theorems.specs.Books.{BooksInvariant};
 ghost use Rattle.brk_book_theorems.specs.Steps.{IsDone};
 ghost use Rattle.brk_book_theorems.specs.TradeReads.{volume_in};
 ghost use Rattle.brk_trade_theorems.specs.TradeTests.{cancel_tests, feed_tests};
@@ -25,9 +25,9 @@ pub fn refused_commands_step_to_refusals()
 
 /// A cancel is refused by the row of its trade as by the base; where it is not, its rows do it.
 pub fn cancels_follow_from_the_tables()
-    ensures first { (base : Base) (now id : ℕ) → IsBooks base → now ≤ last_stamp
+    ensures first { (base : Base) (now id : ℕ) → BooksInvariant base → now ≤ last_stamp
         → first_refusal (cancel_tests (trade_in (sheets base) id) (sheets base).last now) ≡ refusal_of base now (CancelTrade id) }
-    ensures done { (base : Base) (now id stamp : ℕ) → IsBooks base → now ≤ last_stamp
+    ensures done { (base : Base) (now id stamp : ℕ) → BooksInvariant base → now ≤ last_stamp
         → first_refusal (cancel_tests (trade_in (sheets base) id) (sheets base).last now) ≡ None → stamp_after (sheets base).last now ≡ Some stamp
         → IsDone base now (CancelTrade id) stamp (CanceledTrade stamp) (cancel_rows stamp id) }
 {}
@@ -35,16 +35,16 @@ pub fn cancels_follow_from_the_tables()
 /// A feed is refused by the last trades of its symbols as by the base; where it is not, its rows do it, and the trades that it triggers are
 /// told as the tables give them.
 pub fn feeds_follow_from_the_tables()
-    ensures first { (base : Base) (now : ℕ) (ticks : List Tick) → IsBooks base → now ≤ last_stamp
+    ensures first { (base : Base) (now : ℕ) (ticks : List Tick) → BooksInvariant base → now ≤ last_stamp
         → first_refusal (feed_tests (sheets base) ticks (sheets base).last now) ≡ refusal_of base now (FeedTicks ticks) }
-    ensures done { (base : Base) (now : ℕ) (ticks : List Tick) (stamp : ℕ) → IsBooks base → now ≤ last_stamp
+    ensures done { (base : Base) (now : ℕ) (ticks : List Tick) (stamp : ℕ) → BooksInvariant base → now ≤ last_stamp
         → first_refusal (feed_tests (sheets base) ticks (sheets base).last now) ≡ None → stamp_after (sheets base).last now ≡ Some stamp
         → IsDone base now (FeedTicks ticks) stamp (Ticked stamp (fed_trades stamp ticks (sheets base))) (feed_rows stamp ticks) }
 {}
 
 /// A feed whose symbols are known lets the volume of a symbol grow by what its ticks trade of it.
 pub fn feeds_let_volumes_grow()
-    ensures { (base : Base) (stamp : ℕ) (ticks : List Tick) (symbol : Text) → IsBooks base
+    ensures { (base : Base) (stamp : ℕ) (ticks : List Tick) (symbol : Text) → BooksInvariant base
         → AllByRecursion (λ tick. is_some (security_with base tick.symbol) ≡ true) ticks → is_some (security_with base symbol) ≡ true
         → volume_in (feed_rows stamp ticks (sheets base)) symbol ≡ volume_in (sheets base) symbol + qty_fed symbol ticks }
 {}

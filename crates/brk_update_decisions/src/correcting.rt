@@ -4,14 +4,14 @@ ghost use Rattle.std.specs.Prelude.{IfErr};
 ghost use Rattle.brk_decisions.specs.Decisions.{Decides};
 ghost use Rattle.brk_model.specs.Run.{MayFail};
 ghost use Rattle.brk_orders.specs.Records.{update_of};
-ghost use Rattle.brk_store.specs.Holds.{IsRead};
+ghost use Rattle.brk_store.specs.Holds.{ReadPost};
 ghost use Rattle.brk_update_theorems.specs.Corrections.{IsFoundForUpdate};
 
 use crate::finding::{find_cash_names, find_cash_types, find_executors};
 use brk_money::{Fault, Planned, Stamp};
 use brk_orders::Update;
 use brk_store::Store;
-use brk_trade::{Corrected, Plan, plan_update};
+use brk_trade::{Plan, TextUpdate, plan_update};
 use sqlite::Alter;
 use std::alloc::Global;
 
@@ -20,8 +20,8 @@ fn find<S: Alter>(
     alloc: Global,
     store: &mut Store<S>,
     update: &Update,
-) -> Result<Option<Corrected>, Fault>
-    ensures read { IsRead S.Store store.old store.new result (λ found t. IsFoundForUpdate t update.now found) }
+) -> Result<Option<TextUpdate>, Fault>
+    ensures read { ReadPost S.Store store.old store.new result (λ found t. IsFoundForUpdate t update.now found) }
     ensures fault { IfErr result MayFail }
 {
     match update {
@@ -39,7 +39,7 @@ pub fn decide_update<S: Alter>(
     now: Stamp,
     update: &Update,
 ) -> Planned<Plan>
-    ensures read { IsRead S.Store store.old store.new result (Decides now (update_of update.now)) }
+    ensures read { ReadPost S.Store store.old store.new result (Decides now (update_of update.now)) }
     ensures fault { IfErr result MayFail }
 {
     let _moment = now.get();

@@ -5,7 +5,7 @@ ghost use Rattle.std.specs.List.{list_any};
 ghost use Rattle.brk_changes.specs.Chosen as chosen;
 ghost use Rattle.brk_model.specs.Joins.{account_in, security_in, trade_in};
 ghost use Rattle.brk_model.specs.Run.{MayFail};
-ghost use Rattle.brk_store.specs.Holds.{IsRead};
+ghost use Rattle.brk_store.specs.Holds.{ReadPost};
 ghost use Rattle.brk_update_theorems.specs.Corrections.{ArePaid, AreSettled, AreTradesOf, IsFoundForUpdate, IsNamed};
 ghost use Rattle.brk_orders.specs.declared.update.Update.TheVariants as update;
 
@@ -14,7 +14,7 @@ use brk_money::{Fault, Id};
 use brk_orders::{Span, TradeIds};
 use brk_ref::{Name, Symbol};
 use brk_store::Store;
-use brk_trade::{Corrected, Paid, Settled, TradeRow};
+use brk_trade::{CashText, SettlementText, TextUpdate, TradeRow};
 use sqlite::Alter;
 use std::alloc::Global;
 
@@ -24,7 +24,7 @@ pub fn find_trades<S: Alter>(
     store: &mut Store<S>,
     ids: &[Id],
 ) -> Result<Option<Vec<TradeRow>>, Fault>
-    ensures read { IsRead S.Store store.old store.new result (λ found t.
+    ensures read { ReadPost S.Store store.old store.new result (λ found t.
         MatchOption found (list_any (λ id. is_none (trade_in t id)) ids.now ≡ true) (λ trades. AreTradesOf t ids.now trades.items)) }
     ensures fault { IfErr result MayFail }
 {
@@ -45,15 +45,15 @@ fn find_settled<S: Alter>(
     store: &mut Store<S>,
     account: Id,
     span: Span,
-) -> Result<Vec<Settled>, Fault>
-    ensures read { IsRead S.Store store.old store.new result (λ settled t. AreSettled t (chosen.completed_of_account account span.first span.last t) settled.items) }
+) -> Result<Vec<SettlementText>, Fault>
+    ensures read { ReadPost S.Store store.old store.new result (λ settled t. AreSettled t (chosen.completed_of_account account span.first span.last t) settled.items) }
     ensures fault { IfErr result MayFail }
 {
     let trades = store.completed_of_account(alloc, account, span)?;
     let mut settled = Vec::new(alloc);
     for trade in &trades {
         let cash_type = known_cash_type(store, trade.id)?;
-        settled.push(Settled {
+        settled.push(SettlementText {
             trade: trade.id,
             is_cash: trade.is_cash,
             cash_type,
@@ -68,15 +68,15 @@ fn find_paid<S: Alter>(
     store: &mut Store<S>,
     symbol: &Symbol,
     span: Span,
-) -> Result<Vec<Paid>, Fault>
-    ensures read { IsRead S.Store store.old store.new result (λ paid t. ArePaid t (chosen.completed_cash_of_symbol symbol.now span.first span.last t) paid.items) }
+) -> Result<Vec<CashText>, Fault>
+    ensures read { ReadPost S.Store store.old store.new result (λ paid t. ArePaid t (chosen.completed_cash_of_symbol symbol.now span.first span.last t) paid.items) }
     ensures fault { IfErr result MayFail }
 {
     let trades = store.completed_cash_of_symbol(alloc, symbol, span)?;
     let mut paid = Vec::new(alloc);
     for trade in &trades {
         let name = known_cash_name(store, trade.id)?;
-        paid.push(Paid {
+        paid.push(CashText {
             trade: trade.id,
             kind: trade.kind,
             qty: trade.qty,
@@ -90,18 +90,18 @@ pub(crate) fn find_executors<S: Alter>(
     alloc: Global,
     store: &mut Store<S>,
     trades: &TradeIds,
-) -> Result<Option<Corrected>, Fault>
-    ensures read { IsRead S.Store store.old store.new result (λ found t. IsFoundForUpdate t (update.Executors trades.now) found) }
+) -> Result<Option<TextUpdate>, Fault>
+    ensures read { ReadPost S.Store store.old store.new result (λ found t. IsFoundForUpdate t (update.Executors trades.now) found) }
     ensures fault { IfErr result MayFail }
 {
     match find_trades(alloc, store, trades.ids())? {
-        Some(trades) => Ok(Some(Corrected::Executors(trades))),
+        Some(trades) => Ok(Some(TextUpdate::Executors(trades))),
         None => Ok(None),
     }
 }
 
 fn is_account_there<S: Alter>(store: &mut Store<S>, account: Id) -> Result<bool, Fault>
-    ensures read { IsRead S.Store store.old store.new result (λ there t. there ≡ is_some (account_in t account)) }
+    ensures read { ReadPost S.Store store.old store.new result (λ there t. there ≡ is_some (account_in t account)) }
     ensures fault { IfErr result MayFail }
 {
     Ok(store.account(account)?.is_some())
@@ -112,20 +112,20 @@ pub(crate) fn find_cash_types<S: Alter>(
     store: &mut Store<S>,
     account: Id,
     span: Span,
-) -> Result<Option<Corrected>, Fault>
-    ensures read { IsRead S.Store store.old store.new result (λ found t. IsFoundForUpdate t (update.CashTypes account span) found) }
+) -> Result<Option<TextUpdate>, Fault>
+    ensures read { ReadPost S.Store store.old store.new result (λ found t. IsFoundForUpdate t (update.CashTypes account span) found) }
     ensures fault { IfErr result MayFail }
 {
     if !is_account_there(store, account)? {
         return Ok(None);
     }
     let settled = find_settled(alloc, store, account, span)?;
-    Ok(Some(Corrected::CashTypes(settled)))
+    Ok(Some(TextUpdate::CashTypes(settled)))
 }
 
 // The name of the security with a symbol, where there is such a security.
 fn name_of<S: Alter>(store: &mut Store<S>, symbol: &Symbol) -> Result<Option<Name>, Fault>
-    ensures read { IsRead S.Store store.old store.new result (λ name t. MatchOption name (is_none (security_in t symbol.now) ≡ true) (IsNamed t symbol.now)) }
+    ensures read { ReadPost S.Store store.old store.new result (λ name t. MatchOption name (is_none (security_in t symbol.now) ≡ true) (IsNamed t symbol.now)) }
     ensures fault { IfErr result MayFail }
 {
     match store.security(symbol)? {
@@ -139,13 +139,13 @@ pub(crate) fn find_cash_names<S: Alter>(
     store: &mut Store<S>,
     symbol: &Symbol,
     span: Span,
-) -> Result<Option<Corrected>, Fault>
-    ensures read { IsRead S.Store store.old store.new result (λ found t. IsFoundForUpdate t (update.CashNames symbol.now span) found) }
+) -> Result<Option<TextUpdate>, Fault>
+    ensures read { ReadPost S.Store store.old store.new result (λ found t. IsFoundForUpdate t (update.CashNames symbol.now span) found) }
     ensures fault { IfErr result MayFail }
 {
     let Some(name) = name_of(store, symbol)? else {
         return Ok(None);
     };
     let paid = find_paid(alloc, store, symbol, span)?;
-    Ok(Some(Corrected::CashNames(name, paid)))
+    Ok(Some(TextUpdate::CashNames(name, paid)))
 }

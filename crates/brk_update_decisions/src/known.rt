@@ -3,7 +3,7 @@
 ghost use Rattle.std.specs.Prelude.{◌≡◌, IfErr, Some, option_map, string_bytes};
 ghost use Rattle.brk_changes.specs.Rows.{cash_type_word};
 ghost use Rattle.brk_model.specs.Run.{MayFail};
-ghost use Rattle.brk_store.specs.Holds.{IsRead};
+ghost use Rattle.brk_store.specs.Holds.{ReadPost};
 ghost use Rattle.brk_update_theorems.specs.Corrections.{cash_in, settlement_in};
 
 use brk_money::{Fault, Id};
@@ -13,7 +13,7 @@ use sqlite::Alter;
 
 // How a trade is settled; a trade that is not is a fault of the store.
 pub(crate) fn known_cash_type<S: Alter>(store: &mut Store<S>, trade: Id) -> Result<CashType, Fault>
-    ensures read { IsRead S.Store store.old store.new result (λ cash_type t. Some (cash_type_word cash_type) ≡ option_map (λ s. s.cash_type) (settlement_in t trade)) }
+    ensures read { ReadPost S.Store store.old store.new result (λ cash_type t. Some (cash_type_word cash_type) ≡ option_map (λ s. s.cash_type) (settlement_in t trade)) }
     ensures fault { IfErr result MayFail }
 {
     match store.settlement(trade)? {
@@ -24,7 +24,7 @@ pub(crate) fn known_cash_type<S: Alter>(store: &mut Store<S>, trade: Id) -> Resu
 
 // The text of what a trade moved; a trade that moved nothing is a fault of the store.
 pub(crate) fn known_cash_name<S: Alter>(store: &mut Store<S>, trade: Id) -> Result<String, Fault>
-    ensures read { IsRead S.Store store.old store.new result (λ name t. Some (string_bytes name) ≡ option_map (λ c. c.name) (cash_in t trade)) }
+    ensures read { ReadPost S.Store store.old store.new result (λ name t. Some (string_bytes name) ≡ option_map (λ c. c.name) (cash_in t trade)) }
     ensures fault { IfErr result MayFail }
 {
     match store.cash_row(trade)? {

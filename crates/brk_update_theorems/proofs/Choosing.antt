@@ -11,7 +11,7 @@ use Rattle.brk_model.specs.Joins.{oldest_first_rows}
 use Rattle.brk_model.specs.Lists.{rising}
 use Rattle.brk_model.specs.LookupView.{is_between}
 use Rattle.brk_model.specs.Names.{NumberedFrom}
-use Rattle.brk_model.specs.Records.{Mark, Trade}
+use Rattle.brk_model.specs.Records.{StatusChange, Trade}
 use Rattle.brk_model.specs.Sheets.{sheets}
 use Rattle.brk_model.specs.Tables.{TradeRow, trade_row}
 use Rattle.brk_model.specs.Updates.{is_within, oldest_first}
@@ -25,7 +25,7 @@ use Rattle.brk_update_theorems.proofs.Through.{All-both, All-passed, All-take, f
 abbrev pub chosen_trades : Base → (Trade → Bool) → ℕ → ℕ → List Trade
 chosen_trades base test first last = take 20 (oldest_first (filter (λ t. test t && is_within first last t) (completed base)))
 
-mark_completed : (o : Option Mark) → same_status (option_map_or (λ m. m.status) o Canceled) Completed ≡ option_map_or (λ m. same_status m.status Completed) o false
+mark_completed : (o : Option StatusChange) → same_status (option_map_or (λ m. m.status) o Canceled) Completed ≡ option_map_or (λ m. same_status m.status Completed) o false
 mark_completed None = refl
 mark_completed (Some m) = refl
 

@@ -34,12 +34,12 @@ use Rattle.brk_plans.specs.Reference.{clock_test}
 use Rattle.brk_plans.specs.Replies.{reply_of}
 use Rattle.brk_plans.specs.Update as planner
 use Rattle.brk_plans.specs.Update.{IsUpdate, cash_name_set, cash_type_set, count_of, executor_set, missing, update_tests, words_set}
-use Rattle.brk_plans.specs.declared.corrected.Corrected.{Corrected}
-use Rattle.brk_plans.specs.declared.corrected.Corrected.TheVariants as corrected
-use Rattle.brk_plans.specs.declared.corrected.Paid.{Paid}
-use Rattle.brk_plans.specs.declared.corrected.Settled.{Settled}
+use Rattle.brk_plans.specs.declared.corrected.TextUpdate.{TextUpdate}
+use Rattle.brk_plans.specs.declared.corrected.TextUpdate.TheVariants as corrected
+use Rattle.brk_plans.specs.declared.corrected.CashText.{CashText}
+use Rattle.brk_plans.specs.declared.corrected.SettlementText.{SettlementText}
 use Rattle.brk_plans.specs.declared.plan.Plan.{Plan}
-use Rattle.brk_book_theorems.specs.Books.{IsBooks}
+use Rattle.brk_book_theorems.specs.Books.{BooksInvariant}
 use Rattle.brk_trade_theorems.specs.Plans.{DoesCommand}
 use Rattle.brk_book_theorems.specs.Steps.{base_then}
 use Rattle.brk_book_theorems.proofs.Bools.{same_text}
@@ -110,7 +110,7 @@ found_each t (c ∷ rows) (id ∷ ids) e =
         by_test more true i = let k : Some x ≡ Some r = rw i at e in let j : x ≡ r = cc in ap (λ (y : TradeRow). y.id) (sym j) ∙ eqb-true x.id id i
         by_test more false i = more (rw i at e)
 
-pub executors_set : (base : Base) (ids : List ℕ) (rows : List row.TradeRow) → IsBooks base → AreTradesOf (sheets base) ids rows
+pub executors_set : (base : Base) (ids : List ℕ) (rows : List row.TradeRow) → BooksInvariant base → AreTradesOf (sheets base) ids rows
     → sheets (with_executors ids base) ≡ fold (λ t c. executor_set c t) (sheets base) rows
 unfolding tables_at sheets_of
 executors_set base ids rows books read =
@@ -154,7 +154,7 @@ cash_types_rows base ids =
     ap (λ ts. sheets (record base { trades = ts })) (map-same _ (reworded (λ t. t.executor) (word_then p) (λ t. t.cash_name)) base.trades (All-of base.trades (resettled p)))
     ∙ tables_reworded (λ t. t.executor) (word_then p) (λ t. t.cash_name) base
 
-cash_types_along : (t : Tables) (cs : List Settled) → fold (λ t c. cash_type_set c t) t cs
+cash_types_along : (t : Tables) (cs : List SettlementText) → fold (λ t c. cash_type_set c t) t cs
     ≡ record t { settlements = fold (λ rows c. update_where (λ r. r.trade == c.trade) (λ r. record r { cash_type = planner.changed_cash_type c.is_cash (cash_type_word c.cash_type) }) rows) t.settlements cs }
 cash_types_along t [] = refl
 cash_types_along t (c ∷ cs) = cash_types_along (cash_type_set c t) cs
@@ -175,7 +175,7 @@ found_of view told id (c ∷ cs) (u ∷ us) P own e h =
 same_row : (base : Base) (t u : Trade) → t.id ≡ u.id → trade_in (sheets base) t.id ≡ Some (trade_row t) → trade_in (sheets base) u.id ≡ Some (trade_row u) → trade_row u ≡ trade_row t
 same_row base t u same own other = some_is _ _ (sym other ∙ ap (trade_in (sheets base)) (sym same) ∙ own)
 
-pub cash_types_set : (base : Base) (account first last : ℕ) (cs : List Settled) → IsBooks base → AreSettled (sheets base) (completed_of_account account first last (sheets base)) cs
+pub cash_types_set : (base : Base) (account first last : ℕ) (cs : List SettlementText) → BooksInvariant base → AreSettled (sheets base) (completed_of_account account first last (sheets base)) cs
     → sheets (with_cash_types (chosen_of_account base account first last) base) ≡ fold (λ t c. cash_type_set c t) (sheets base) cs
 unfolding tables_at sheets_of
 cash_types_set base account first last cs books read =
@@ -187,7 +187,7 @@ cash_types_set base account first last cs books read =
     cash_types_rows base ids
     ∙ sym (cash_types_along (sheets base) cs
     ∙ ap (λ settlements. record (sheets base) { settlements = settlements })
-    (all_set (λ (r : SettlementRow). r.trade) (λ w (r : SettlementRow). record r { cash_type = w }) (λ (c : Settled). c.trade) (λ (c : Settled). planner.changed_cash_type c.is_cash (cash_type_word c.cash_type))
+    (all_set (λ (r : SettlementRow). r.trade) (λ w (r : SettlementRow). record r { cash_type = w }) (λ (c : SettlementText). c.trade) (λ (c : SettlementText). planner.changed_cash_type c.is_cash (cash_type_word c.cash_type))
     (settlement_row base.accounts base.rule) changed_cash_type (λ w r. refl) (λ v w r. refl) (λ t. refl) settlement_key (λ w r. refl) cs (completed base)
     (All-map (completed base) (λ t own. All-map cs (λ c f same.
     let at : t.id ≡ f.0.id = eqb-true t.id c.trade same ∙ ap (λ (r : SettledRow). r.0) f.1 in
@@ -230,7 +230,7 @@ cash_names_rows base ids =
     ap (λ ts. sheets (record base { trades = ts })) (map-same _ (reworded (λ t. t.executor) (λ t. t.cash_type) (text_then base p)) base.trades (All-of base.trades (repaid base p)))
     ∙ tables_reworded (λ t. t.executor) (λ t. t.cash_type) (text_then base p) base
 
-cash_names_along : (security : Text) (t : Tables) (cs : List Paid) → fold (λ t c. cash_name_set security c t) t cs
+cash_names_along : (security : Text) (t : Tables) (cs : List CashText) → fold (λ t c. cash_name_set security c t) t cs
     ≡ record t { moves = fold (λ rows c. update_where (is_cash_of c.trade) (λ r. record r { name = planner.changed_cash_name security c }) rows) t.moves cs }
 cash_names_along security t [] = refl
 cash_names_along security t (c ∷ cs) = cash_names_along security (cash_name_set security c t) cs
@@ -247,7 +247,7 @@ and_last true true c e = refl
 and_last true false c e = absurd (cc)
 and_last false b c e = absurd (cc)
 
-pub cash_names_set : (base : Base) (symbol : Text) (first last : ℕ) (name : Text) (cs : List Paid) → IsBooks base → IsNamed (sheets base) symbol name
+pub cash_names_set : (base : Base) (symbol : Text) (first last : ℕ) (name : Text) (cs : List CashText) → BooksInvariant base → IsNamed (sheets base) symbol name
     → ArePaid (sheets base) (completed_cash_of_symbol symbol first last (sheets base)) cs
     → sheets (with_cash_names (chosen_of_symbol base symbol first last) base) ≡ fold (λ t c. cash_name_set name c t) (sheets base) cs
 unfolding tables_at sheets_of
@@ -261,10 +261,10 @@ cash_names_set base symbol first last name cs books is_named read =
     cash_names_rows base ids
     ∙ sym (cash_names_along name (sheets base) cs
     ∙ ap (λ moves. record (sheets base) { moves = moves })
-    (each_text (λ (c : Paid). c.trade) (λ (c : Paid). planner.changed_cash_name name c) (sheets base).moves cs
-    ∙ rows_through (all_named (λ (c : Paid). c.trade) (λ (c : Paid). planner.changed_cash_name name c) cs) (postings_of base)
+    (each_text (λ (c : CashText). c.trade) (λ (c : CashText). planner.changed_cash_name name c) (sheets base).moves cs
+    ∙ rows_through (all_named (λ (c : CashText). c.trade) (λ (c : CashText). planner.changed_cash_name name c) cs) (postings_of base)
     ∙ ap (λ ps. by_key move_key (numbered 1 (in_turn ps)))
-    (texts_named (λ (c : Paid). c.trade) (λ (c : Paid). planner.changed_cash_name name c) (changed_cash_name base) base.accounts (completed base) base.movements cs
+    (texts_named (λ (c : CashText). c.trade) (λ (c : CashText). planner.changed_cash_name name c) (changed_cash_name base) base.accounts (completed base) base.movements cs
     (All-map (cash_trades (completed base)) (λ t own. All-map cs (λ c f same.
     let at : t.id ≡ f.0.id = eqb-true t.id c.trade same ∙ ap (λ (r : PaidRow). r.0) f.1 in
     let one : trade_row f.0 ≡ trade_row t = same_row base t f.0 at own.0 f.2.0 in
@@ -297,7 +297,7 @@ is_lacking (update.Executors ids) t = list_any (λ id. is_none (trade_in t id)) 
 is_lacking (update.CashTypes account span) t = is_none (account_in t account)
 is_lacking (update.CashNames symbol span) t = is_none (security_in t symbol)
 
-lacking_is : (t : Tables) (u : told.Update) (found : Option Corrected) → IsFoundForUpdate t u found → is_none found ≡ is_lacking u t
+lacking_is : (t : Tables) (u : told.Update) (found : Option TextUpdate) → IsFoundForUpdate t u found → is_none found ≡ is_lacking u t
 unfolding is_lacking
 lacking_is t (update.Executors ids) None k = sym k
 lacking_is t (update.CashTypes account span) None k = sym k
@@ -323,18 +323,18 @@ tested base (update.CashTypes account span) now =
 tested base (update.CashNames symbol span) now =
     ap (λ b. first_refusal ((b, NoSecurity) ∷ (nat_lt last_stamp (next_stamp base now), ClockEnd) ∷ [])) (ap is_none (reads_security base symbol) ∙ is_none-map security_row (security_with base symbol))
 
-pub update_read : (base : Base) (u : told.Update) (found : Option Corrected) (last : Option ℕ) (now : ℕ) → IsReadForUpdate base u found last now
+pub update_read : (base : Base) (u : told.Update) (found : Option TextUpdate) (last : Option ℕ) (now : ℕ) → IsReadForUpdate base u found last now
     → first_refusal (update_tests u found ++ clock_test last now ∷ []) ≡ refusal_of base now (update_of u)
 update_read base u found last now k =
     (λ i. first_refusal ((lacking_is (sheets base) u found k.found_read i, missing u) ∷ (clock_read base last now k.books k.last_read k.moment i, ClockEnd) ∷ [])) ∙ tested base u now
 
-pub update_refused : (base : Base) (u : told.Update) (found : Option Corrected) (last : Option ℕ) (now : ℕ) (refusal : Refusal) → IsReadForUpdate base u found last now
+pub update_refused : (base : Base) (u : told.Update) (found : Option TextUpdate) (last : Option ℕ) (now : ℕ) (refusal : Refusal) → IsReadForUpdate base u found last now
     → first_refusal (update_tests u found ++ clock_test last now ∷ []) ≡ Some refusal → step base now (update_of u) ≡ Err refusal
 update_refused base u found last now refusal k e = refused_step base now (update_of u) refusal (sym (update_read base u found last now k) ∙ e)
 
 -- ---- what it does
 
-words_changed : (base : Base) (stamp : ℕ) (u : told.Update) (found : Corrected) → IsBooks base → IsCorrected (sheets base) u found
+words_changed : (base : Base) (stamp : ℕ) (u : told.Update) (found : TextUpdate) → BooksInvariant base → IsCorrected (sheets base) u found
     → sheets (records_after base stamp (update_of u)) ≡ fold (λ t f. f t) (sheets base) (words_set found)
 unfolding records_after
 words_changed base stamp (update.Executors ids) (corrected.Executors trades) books k =
@@ -354,7 +354,7 @@ counted : {X R : Type 0} (row : X → R) (told : TradeRow → R) (xs : List X) (
 counted row told xs us e =
     sym (length-map xs row) ∙ ap length e ∙ length-map (map trade_row us) told ∙ length-map us trade_row ∙ sym (length-map us (λ (t : Trade). t.id))
 
-count_is : (base : Base) (stamp : ℕ) (u : told.Update) (found : Corrected) → IsBooks base → IsCorrected (sheets base) u found → reply_to base stamp (update_of u) ≡ Changed stamp (count_of found)
+count_is : (base : Base) (stamp : ℕ) (u : told.Update) (found : TextUpdate) → BooksInvariant base → IsCorrected (sheets base) u found → reply_to base stamp (update_of u) ≡ Changed stamp (count_of found)
 unfolding reply_to
 count_is base stamp (update.Executors ids) (corrected.Executors trades) books k =
     ap (Changed stamp) (ap length (sym (found_each (sheets base) trades.items ids k).1) ∙ length-map trades.items (λ (c : row.TradeRow). c.id))
@@ -378,7 +378,7 @@ some_left : (o : Option ℕ) (stamp : ℕ) → o ≡ Some stamp → is_none o �
 some_left None stamp e = absurd (cc)
 some_left (Some s) stamp e = refl
 
-pub update_does : (base : Base) (u : told.Update) (found : Corrected) (last : Option ℕ) (now : ℕ) (plan : Plan) → IsReadForUpdate base u (Some found) last now
+pub update_does : (base : Base) (u : told.Update) (found : TextUpdate) (last : Option ℕ) (now : ℕ) (plan : Plan) → IsReadForUpdate base u (Some found) last now
     → IsUpdate found last now plan → DoesCommand base now (update_of u) plan
 unfolding step
 update_does base u found last now plan k p =

@@ -17,11 +17,11 @@ use Rattle.brk_changes.specs.Changes.{with_last}
 use Rattle.brk_changes.specs.Chosen.{completed_cash_of_symbol, completed_of_account}
 use Rattle.brk_changes.specs.Rows.{cash_type_word, trade_row_of}
 use Rattle.brk_changes.specs.declared.trade_row.TradeRow as row
-use Rattle.brk_plans.specs.declared.corrected.Corrected.{Corrected}
-use Rattle.brk_plans.specs.declared.corrected.Corrected.TheVariants as corrected
-use Rattle.brk_plans.specs.declared.corrected.Paid.{Paid}
-use Rattle.brk_plans.specs.declared.corrected.Settled.{Settled}
-use Rattle.brk_book_theorems.specs.Books.{IsBooks}
+use Rattle.brk_plans.specs.declared.corrected.TextUpdate.{TextUpdate}
+use Rattle.brk_plans.specs.declared.corrected.TextUpdate.TheVariants as corrected
+use Rattle.brk_plans.specs.declared.corrected.CashText.{CashText}
+use Rattle.brk_plans.specs.declared.corrected.SettlementText.{SettlementText}
+use Rattle.brk_book_theorems.specs.Books.{BooksInvariant}
 use Rattle.brk_book_theorems.specs.Steps.{base_then}
 
 -- ---- what is found
@@ -43,7 +43,7 @@ abbrev pub SettledRow : Type 0
 SettledRow = ℕ × Bool × Option Text
 
 -- as it was found
-abbrev pub settled_row : Settled → SettledRow
+abbrev pub settled_row : SettlementText → SettledRow
 settled_row s = (s.trade, s.is_cash, Some (cash_type_word s.cash_type))
 
 -- as the tables have it
@@ -55,7 +55,7 @@ abbrev pub PaidRow : Type 0
 PaidRow = ℕ × TradeType × ℕ × Option Text
 
 -- as it was found
-abbrev pub paid_row : Paid → PaidRow
+abbrev pub paid_row : CashText → PaidRow
 paid_row p = (p.trade, p.kind, p.qty, Some (string_bytes p.name))
 
 -- as the tables have it
@@ -63,11 +63,11 @@ abbrev pub paid_in : Tables → TradeRow → PaidRow
 paid_in t r = (r.id, r.kind, r.qty, option_map (λ c. c.name) (cash_in t r.id))
 
 -- these trades, each with the word of its settlement
-abbrev pub AreSettled : Tables → List TradeRow → List Settled → Type 0
+abbrev pub AreSettled : Tables → List TradeRow → List SettlementText → Type 0
 AreSettled t trades settled = map settled_row settled ≡ map (settled_in t) trades
 
 -- these trades, each with the text of what it moved
-abbrev pub ArePaid : Tables → List TradeRow → List Paid → Type 0
+abbrev pub ArePaid : Tables → List TradeRow → List CashText → Type 0
 ArePaid t trades paid = map paid_row paid ≡ map (paid_in t) trades
 
 -- a security's name
@@ -75,7 +75,7 @@ abbrev pub IsNamed : Tables → Text → Text → Type 0
 IsNamed t symbol name = option_map (λ s. s.name) (security_in t symbol) ≡ Some name
 
 -- what an update of some kind finds
-abbrev pub IsCorrected : Tables → told.Update → Corrected → Type 0
+abbrev pub IsCorrected : Tables → told.Update → TextUpdate → Type 0
 IsCorrected t (update.Executors ids) (corrected.Executors trades) = AreTradesOf t ids trades.items
 IsCorrected t (update.CashTypes account span) (corrected.CashTypes settled) =
     (is_none (account_in t account) ≡ false) × AreSettled t (completed_of_account account span.first span.last t) settled.items
@@ -90,12 +90,12 @@ IsMissing t (update.CashTypes account span) = is_none (account_in t account) ≡
 IsMissing t (update.CashNames symbol span) = is_none (security_in t symbol) ≡ true
 
 -- what is found for an update: nothing where what it names is not there
-abbrev pub IsFoundForUpdate : Tables → told.Update → Option Corrected → Type 0
+abbrev pub IsFoundForUpdate : Tables → told.Update → Option TextUpdate → Type 0
 IsFoundForUpdate t u found = MatchOption found (IsMissing t u) (IsCorrected t u)
 
 -- what is known where an update is planned: the base is in order, and what it names was read at a moment that there is
-pub record IsReadForUpdate (base : Base) (u : told.Update) (found : Option Corrected) (last : Option ℕ) (now : ℕ) : Type 0 where
-  pub books : IsBooks base
+pub record IsReadForUpdate (base : Base) (u : told.Update) (found : Option TextUpdate) (last : Option ℕ) (now : ℕ) : Type 0 where
+  pub books : BooksInvariant base
   pub found_read : IsFoundForUpdate (sheets base) u found
   pub last_read : last ≡ (sheets base).last
   pub moment : now ≤ last_stamp

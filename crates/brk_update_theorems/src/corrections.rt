@@ -11,18 +11,18 @@ ghost use Rattle.brk_orders.specs.Records.{update_of};
 ghost use Rattle.brk_orders.specs.declared.update.Update.{Update};
 ghost use Rattle.brk_plans.specs.Reference.{clock_test};
 ghost use Rattle.brk_plans.specs.Update.{IsUpdate, update_tests};
-ghost use Rattle.brk_plans.specs.declared.corrected.Corrected.{Corrected};
+ghost use Rattle.brk_plans.specs.declared.corrected.TextUpdate.{TextUpdate};
 ghost use Rattle.brk_plans.specs.declared.plan.Plan.{Plan};
 ghost use Rattle.brk_trade_theorems.specs.Plans.{DoesCommand};
 ghost use Rattle.brk_update_theorems.specs.Corrections.{ChangesNamesAlone, ChangesTextsAlone, ChangesWordsAlone, IsReadForUpdate};
 
 /// A correction is refused by what was found of what it names as by the base; the plan of one that is not does the correction.
 pub fn corrections_do_commands()
-    ensures first { (base : Base) (update : Update) (found : Option Corrected) (last : Option ℕ) (now : ℕ) → IsReadForUpdate base update found last now
+    ensures first { (base : Base) (update : Update) (found : Option TextUpdate) (last : Option ℕ) (now : ℕ) → IsReadForUpdate base update found last now
         → first_refusal (update_tests update found ++ clock_test last now ∷ []) ≡ refusal_of base now (update_of update) }
-    ensures refused { (base : Base) (update : Update) (found : Option Corrected) (last : Option ℕ) (now : ℕ) (refusal : Refusal) → IsReadForUpdate base update found last now
+    ensures refused { (base : Base) (update : Update) (found : Option TextUpdate) (last : Option ℕ) (now : ℕ) (refusal : Refusal) → IsReadForUpdate base update found last now
         → first_refusal (update_tests update found ++ clock_test last now ∷ []) ≡ Some refusal → step base now (update_of update) ≡ Err refusal }
-    ensures done { (base : Base) (update : Update) (found : Corrected) (last : Option ℕ) (now : ℕ) (plan : Plan) → IsReadForUpdate base update (Some found) last now
+    ensures done { (base : Base) (update : Update) (found : TextUpdate) (last : Option ℕ) (now : ℕ) (plan : Plan) → IsReadForUpdate base update (Some found) last now
         → IsUpdate found last now plan → DoesCommand base now (update_of update) plan }
 {}
 

@@ -12,8 +12,8 @@ use Rattle.brk_model.specs.Sheets.{sheets}
 use Rattle.brk_model.specs.StatusView.{submitted_view}
 use Rattle.brk_model.specs.Tables.{TradeRow, tables_of}
 use Rattle.brk_model.specs.Views.{view_of}
-use Rattle.brk_invariant_theorems.specs.Sound.{IsSound}
-use Rattle.brk_book_theorems.specs.Books.{IsBooks}
+use Rattle.brk_invariant_theorems.specs.Sound.{AuditInvariant}
+use Rattle.brk_book_theorems.specs.Books.{BooksInvariant}
 use Rattle.brk_view_theorems.proofs.LookupRows.{same_lookup}
 use Rattle.brk_view_theorems.proofs.RecentRows.{same_recent}
 use Rattle.brk_view_theorems.proofs.StatusRows.{same_status_view}
@@ -22,13 +22,13 @@ use Rattle.brk_view_theorems.proofs.Trades.{same_trades}
 use Rattle.brk_view_theorems.proofs.VolumeRows.{same_volumes}
 use Rattle.brk_view_theorems.proofs.Worths.{same_position}
 
-pub same_submitted : (base : Base) → IsBooks base → submitted_view (sheets base) ≡ submitted_view (tables_of base)
+pub same_submitted : (base : Base) → BooksInvariant base → submitted_view (sheets base) ≡ submitted_view (tables_of base)
 unfolding submitted_view
 same_submitted base books =
     ap (λ (rows : List TradeRow). map (λ t. decimal t.id ∷ type_code t.kind ∷ t.symbol ∷ decimal t.qty ∷ price_text t.bid ∷ []) (sort_by (λ a b. nat_lt a.id b.id) (filter (λ t. same_status t.status Submitted) rows)))
     (same_trades base books)
 
-pub same_view_of : (base : Base) (query : Query) → IsBooks base → IsSound base → view_of (sheets base) query ≡ view_of (tables_of base) query
+pub same_view_of : (base : Base) (query : Query) → BooksInvariant base → AuditInvariant base → view_of (sheets base) query ≡ view_of (tables_of base) query
 unfolding view_of
 same_view_of base (PositionOf customer) books sound = ap Some (same_position base (λ c. c.id == customer) books)
 same_view_of base (PositionOfTaxId tax_id) books sound = ap Some (same_position base (λ c. bytes_eq c.tax_id tax_id) books)

@@ -15,12 +15,12 @@ use Rattle.brk_model.specs.Records.{Movement, Trade}
 use Rattle.brk_model.specs.Sheets.{sheets, sheets_of}
 use Rattle.brk_model.specs.Tables.{MoveRow, TradeRow, numbered, tables_at}
 use Rattle.brk_audit_theorems.proofs.Again.{found_first}
-use Rattle.brk_audit_theorems.proofs.MovedBase.{IsShort, posted_once, short_rows}
+use Rattle.brk_audit_theorems.proofs.UpgradedBase.{IsShort, posted_once, short_rows}
 use Rattle.brk_audit_theorems.proofs.Climbs.{Climbs}
 use Rattle.brk_audit_theorems.proofs.Parts.{KeyParts, key_parts}
-use Rattle.brk_invariant_theorems.specs.Sound.{IsSound}
+use Rattle.brk_invariant_theorems.specs.Sound.{AuditInvariant}
 use Rattle.brk_invariant_theorems.proofs.FormKeys.{keys_of}
-use Rattle.brk_book_theorems.specs.Books.{IsBooks}
+use Rattle.brk_book_theorems.specs.Books.{BooksInvariant}
 use Rattle.brk_book_theorems.proofs.Bools.{numbers_back}
 use Rattle.brk_book_theorems.proofs.LotReading.{numbered_rise, rise_apart, rise_filter}
 use Rattle.brk_book_theorems.proofs.MoveReading.{postings_back, turn_filter}
@@ -31,10 +31,10 @@ use Rattle.brk_view_theorems.proofs.Gathering.{Excludes, same_pieces, sort_gathe
 use Rattle.brk_view_theorems.proofs.OneRow.{found_is_all}
 use Rattle.brk_view_theorems.proofs.Sorting.{AllApart, same_rows}
 
-parts : (base : Base) → IsBooks base → IsSound base → KeyParts (sheets base)
+parts : (base : Base) → BooksInvariant base → AuditInvariant base → KeyParts (sheets base)
 parts base books sound = key_parts (sheets base) (keys_of base books sound)
 
-pub settlement_alone : (base : Base) (id : ℕ) → IsBooks base → IsSound base
+pub settlement_alone : (base : Base) (id : ℕ) → BooksInvariant base → AuditInvariant base
     → option_to_list (find (λ s. s.trade == id) (sheets base).settlements) ≡ filter (λ s. s.trade == id) (sheets base).settlements
 settlement_alone base id books sound =
     found_is_all settlement_key (λ s. s.trade == id) (number id ∷ []) (sheets base).settlements (λ s e. ap (λ n. number n ∷ []) (eqb-true s.trade id e)) (parts base books sound).settlements
@@ -48,21 +48,21 @@ found_of_short {X = X} p xs h = ap option_to_list (found_first p xs) ∙ first_o
     first_of_short (y ∷ []) h = refl
     first_of_short (y ∷ z ∷ ys) h = absurd h
 
-pub cash_alone : (base : Base) (id : ℕ) → IsBooks base → IsSound base → option_to_list (find (is_cash_of id) (sheets base).moves) ≡ filter (is_cash_of id) (sheets base).moves
+pub cash_alone : (base : Base) (id : ℕ) → BooksInvariant base → AuditInvariant base → option_to_list (find (is_cash_of id) (sheets base).moves) ≡ filter (is_cash_of id) (sheets base).moves
 unfolding sheets_of tables_at
 cash_alone base id books sound =
     found_of_short (is_cash_of id) (sheets base).moves
     (subst (λ rows. IsShort (filter (is_cash_of id) rows)) (sym (numbered_stay 1 (in_turn (postings_of base)))) (short_rows id 1 (in_turn (postings_of base)) (posted_once base id books)))
 
-pub account_alone : (base : Base) (id : ℕ) → IsBooks base → IsSound base → option_to_list (find (λ a. a.id == id) (sheets base).accounts) ≡ filter (λ a. a.id == id) (sheets base).accounts
+pub account_alone : (base : Base) (id : ℕ) → BooksInvariant base → AuditInvariant base → option_to_list (find (λ a. a.id == id) (sheets base).accounts) ≡ filter (λ a. a.id == id) (sheets base).accounts
 account_alone base id books sound =
     found_is_all account_key (λ a. a.id == id) (number id ∷ []) (sheets base).accounts (λ a e. ap (λ n. number n ∷ []) (eqb-true a.id id e)) (parts base books sound).accounts
 
-pub customer_alone : (base : Base) (id : ℕ) → IsBooks base → IsSound base → option_to_list (find (λ c. c.id == id) (sheets base).customers) ≡ filter (λ c. c.id == id) (sheets base).customers
+pub customer_alone : (base : Base) (id : ℕ) → BooksInvariant base → AuditInvariant base → option_to_list (find (λ c. c.id == id) (sheets base).customers) ≡ filter (λ c. c.id == id) (sheets base).customers
 customer_alone base id books sound =
     found_is_all customer_key (λ c. c.id == id) (number id ∷ []) (sheets base).customers (λ c e. ap (λ n. number n ∷ []) (eqb-true c.id id e)) (parts base books sound).customers
 
-trade_alone : (base : Base) (id : ℕ) → IsBooks base → IsSound base → option_to_list (find (λ t. t.id == id) (sheets base).trades) ≡ filter (λ t. t.id == id) (sheets base).trades
+trade_alone : (base : Base) (id : ℕ) → BooksInvariant base → AuditInvariant base → option_to_list (find (λ t. t.id == id) (sheets base).trades) ≡ filter (λ t. t.id == id) (sheets base).trades
 trade_alone base id books sound =
     found_is_all trade_key (λ t. t.id == id) (number id ∷ []) (sheets base).trades (λ t e. ap (λ n. number n ∷ []) (eqb-true t.id id e)) (parts base books sound).trades
 
@@ -104,7 +104,7 @@ ids_exclude (id ∷ ids) e = ((λ t h. ap (λ n. list_any (λ j. n == j) ids) (e
     both true b h = cc
     both false b h = (refl, h)
 
-pub trades_by_id : (base : Base) (ids : List ℕ) → IsBooks base → IsSound base → all_distinct ids ≡ true
+pub trades_by_id : (base : Base) (ids : List ℕ) → BooksInvariant base → AuditInvariant base → all_distinct ids ≡ true
     → oldest_first_rows (flat_map (λ id. option_to_list (find (λ t. t.id == id) (sheets base).trades)) ids) ≡ oldest_first_rows (filter (λ t. contains_number t.id ids) (sheets base).trades)
 trades_by_id base ids books sound e =
     ap oldest_first_rows (same_pieces (λ id. option_to_list (find (λ t. t.id == id) (sheets base).trades)) (λ id. filter (has_id id) (sheets base).trades) ids (λ id. trade_alone base id books sound))

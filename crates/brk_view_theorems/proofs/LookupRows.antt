@@ -13,8 +13,8 @@ use Rattle.brk_model.specs.Lists.{sort_by}
 use Rattle.brk_model.specs.LookupView.{cash_record, is_cash_of, lookup_records, lookup_view, settlement_record, trade_record}
 use Rattle.brk_model.specs.Sheets.{sheets, sheets_of}
 use Rattle.brk_model.specs.Tables.{HistoryRow, TradeRow, tables_at, tables_of}
-use Rattle.brk_invariant_theorems.specs.Sound.{IsSound}
-use Rattle.brk_book_theorems.specs.Books.{IsBooks}
+use Rattle.brk_invariant_theorems.specs.Sound.{AuditInvariant}
+use Rattle.brk_book_theorems.specs.Books.{BooksInvariant}
 use Rattle.brk_book_theorems.proofs.Order.{Splits}
 use Rattle.brk_book_theorems.proofs.Postings.{numbered_stay}
 use Rattle.brk_book_theorems.proofs.Same.{flat_map-same}
@@ -65,7 +65,7 @@ same_records base r rise i =
     trade_record r ∷ map settlement_record (same_settlements base r.id i) ++ map cash_record (same_cash base r.id i)
     ++ map (λ h. codes "history" ∷ decimal h.stamp ∷ status_code h.status ∷ []) (same_history base r.id rise i)
 
-pub same_lookup : (base : Base) (test : TradeRow → Bool) → IsBooks base → IsSound base → lookup_view (sheets base) test ≡ lookup_view (tables_of base) test
+pub same_lookup : (base : Base) (test : TradeRow → Bool) → BooksInvariant base → AuditInvariant base → lookup_view (sheets base) test ≡ lookup_view (tables_of base) test
 unfolding lookup_view
 same_lookup base test books sound =
     let rows : List TradeRow = take 20 (oldest_first_rows (filter test (tables_of base).trades)) in

@@ -11,8 +11,8 @@ use Rattle.brk_model.specs.Lists.{rising, sort_by}
 use Rattle.brk_model.specs.PositionView.{last_ten, recent_view}
 use Rattle.brk_model.specs.Sheets.{sheets}
 use Rattle.brk_model.specs.Tables.{HistoryRow, TradeRow, tables_of}
-use Rattle.brk_invariant_theorems.specs.Sound.{IsSound}
-use Rattle.brk_book_theorems.specs.Books.{IsBooks}
+use Rattle.brk_invariant_theorems.specs.Sound.{AuditInvariant}
+use Rattle.brk_book_theorems.specs.Books.{BooksInvariant}
 use Rattle.brk_book_theorems.proofs.Order.{Splits}
 use Rattle.brk_view_theorems.proofs.Sorting.{AllApart, All-sort, sort_pieces}
 use Rattle.brk_view_theorems.proofs.Trades.{AllRise, All-each, All-filter, All-take, Earlier, history_by_code, same_trades, statuses_rise}
@@ -41,13 +41,13 @@ apart (h ∷ rows) e = (one_apart h rows e.0, apart rows e.1)
 
 -- ---- the view
 
-same_last : (base : Base) (account : ℕ) → IsBooks base → last_ten (sheets base) account ≡ last_ten (tables_of base) account
+same_last : (base : Base) (account : ℕ) → BooksInvariant base → last_ten (sheets base) account ≡ last_ten (tables_of base) account
 same_last base account books = ap (λ rows. take 10 (recent_first (filter (λ (r : TradeRow). r.account == account) rows))) (same_trades base books)
 
 abbrev history_records : List HistoryRow → List (List (List ℕ))
 history_records rows = map (λ h. codes "history" ∷ decimal h.trade ∷ status_name h.status ∷ decimal h.stamp ∷ []) rows
 
-pub same_recent : (base : Base) (account : ℕ) → IsBooks base → IsSound base → recent_view (sheets base) account ≡ recent_view (tables_of base) account
+pub same_recent : (base : Base) (account : ℕ) → BooksInvariant base → AuditInvariant base → recent_view (sheets base) account ≡ recent_view (tables_of base) account
 unfolding recent_view
 same_recent base account books sound =
     let rows : List TradeRow = last_ten (tables_of base) account in

@@ -12,7 +12,7 @@ use Rattle.brk_model.specs.Rows.{price_text}
 use Rattle.brk_model.specs.Sheets.{sheets, sheets_of}
 use Rattle.brk_model.specs.StatusView.{name_of_broker, status_head, status_record, status_view}
 use Rattle.brk_model.specs.Tables.{AccountRow, BrokerRow, TradeRow, tables_of}
-use Rattle.brk_book_theorems.specs.Books.{IsBooks}
+use Rattle.brk_book_theorems.specs.Books.{BooksInvariant}
 use Rattle.brk_book_theorems.proofs.Bools.{same_text}
 use Rattle.brk_book_theorems.proofs.Reading.{find-id, find-key}
 use Rattle.brk_view_theorems.proofs.OneRow.{rows_of_key}
@@ -43,7 +43,7 @@ same_record base t i =
     decimal t.id ∷ decimal t.stamp ∷ status_name t.status ∷ type_name t.kind ∷ t.symbol ∷ decimal t.qty ∷ t.executor ∷ price_text t.charge
     ∷ option_map_or (λ s. s.name) (same_security base t.symbol i) [] ∷ option_map_or (λ s. s.exchange) (same_security base t.symbol i) [] ∷ []
 
-pub same_status_view : (base : Base) (account : ℕ) → IsBooks base → status_view (sheets base) account ≡ status_view (tables_of base) account
+pub same_status_view : (base : Base) (account : ℕ) → BooksInvariant base → status_view (sheets base) account ≡ status_view (tables_of base) account
 unfolding status_view
 same_status_view base account books i =
     flat_map (λ a. same_head base a i) (same_accounts base account i)

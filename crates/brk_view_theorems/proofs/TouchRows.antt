@@ -14,9 +14,9 @@ use Rattle.brk_model.specs.Sheets.{sheets, sheets_of}
 use Rattle.brk_model.specs.Tables.{HoldingHistoryRow, TradeRow, tables_of}
 use Rattle.brk_audit_theorems.proofs.Climbs.{Climbs}
 use Rattle.brk_audit_theorems.proofs.Parts.{key_parts}
-use Rattle.brk_invariant_theorems.specs.Sound.{IsSound}
+use Rattle.brk_invariant_theorems.specs.Sound.{AuditInvariant}
 use Rattle.brk_invariant_theorems.proofs.FormKeys.{keys_of}
-use Rattle.brk_book_theorems.specs.Books.{IsBooks}
+use Rattle.brk_book_theorems.specs.Books.{BooksInvariant}
 use Rattle.brk_book_theorems.proofs.Bools.{numbers_back}
 use Rattle.brk_book_theorems.proofs.Reading.{any-sorted}
 use Rattle.brk_book_theorems.proofs.Same.{All-map}
@@ -31,13 +31,13 @@ same_touched : (base : Base) (trade lot : ℕ) → is_touched_by (sheets base) t
 unfolding sheets_of
 same_touched base trade lot = any-sorted holding_history_key (λ row. (row.trade == trade) && (row.lot == lot)) (tables_of base).holding_history
 
-same_stamp : (base : Base) (row : HoldingHistoryRow) → IsBooks base → touch_stamp (sheets base) row ≡ touch_stamp (tables_of base) row
+same_stamp : (base : Base) (row : HoldingHistoryRow) → BooksInvariant base → touch_stamp (sheets base) row ≡ touch_stamp (tables_of base) row
 same_stamp base row books = ap (λ (ts : List TradeRow). option_map_or (λ t. t.stamp) (find (λ t. t.id == row.trade) ts) 0) (same_trades base books)
 
 -- ---- in their order
 
 -- the changes of the lots that a trade touched, in their order
-same_changes : (base : Base) (trade : ℕ) → IsBooks base → IsSound base
+same_changes : (base : Base) (trade : ℕ) → BooksInvariant base → AuditInvariant base
     → sort_by (earlier_touch base) (filter (λ row. is_touched_by (tables_of base) trade row.lot) (sheets base).holding_history)
     ≡ sort_by (earlier_touch base) (filter (λ row. is_touched_by (tables_of base) trade row.lot) (tables_of base).holding_history)
 unfolding sheets_of
@@ -46,7 +46,7 @@ same_changes base trade books sound =
     sort_back (earlier_touch base) holding_history_key p (tables_of base).holding_history (touches_split base)
     (apart_filter (earlier_touch base) p (sheets base).holding_history (touches_apart base books sound))
 
-same_view : (base : Base) (t : TradeRow) → IsBooks base → IsSound base → touched_view (sheets base) t ≡ touched_view (tables_of base) t
+same_view : (base : Base) (t : TradeRow) → BooksInvariant base → AuditInvariant base → touched_view (sheets base) t ≡ touched_view (tables_of base) t
 same_view base t books sound =
     ap (λ (rows : List HoldingHistoryRow). (decimal t.id ∷ []) ∷ map (λ row. decimal row.lot ∷ decimal row.trade ∷ signed_decimal row.before ∷ signed_decimal row.after ∷ []) (take 20 rows))
     (same_order (λ a b. rising (touch_stamp (sheets base) a) (touch_stamp (sheets base) b) a.lot b.lot) (earlier_touch base) (filter (λ row. is_touched_by (sheets base) t.id row.lot) (sheets base).holding_history)
@@ -54,7 +54,7 @@ same_view base t books sound =
     ∙ ap (sort_by (earlier_touch base)) (same_rows (λ row. is_touched_by (sheets base) t.id row.lot) (λ row. is_touched_by (tables_of base) t.id row.lot) (sheets base).holding_history (λ row. same_touched base t.id row.lot))
     ∙ same_changes base t.id books sound)
 
-pub same_lots : (base : Base) (account first : ℕ) → IsBooks base → IsSound base → lots_view (sheets base) account first ≡ lots_view (tables_of base) account first
+pub same_lots : (base : Base) (account first : ℕ) → BooksInvariant base → AuditInvariant base → lots_view (sheets base) account first ≡ lots_view (tables_of base) account first
 unfolding lots_view
 same_lots base account first books sound i =
     flat_map (λ t. same_view base t books sound i)
@@ -174,7 +174,7 @@ of_touched trade lot (r ∷ rows) = by_test (of_touched trade lot rows) (r.trade
     by_test ih false = ih
 
 -- the changes of each lot that a trade touched, lot after lot, are those of all these lots as they stand
-pub touched_by_lot : (base : Base) (trade : ℕ) → IsBooks base → IsSound base
+pub touched_by_lot : (base : Base) (trade : ℕ) → BooksInvariant base → AuditInvariant base
     → flat_map (λ lot. filter (λ r. r.lot == lot) (sheets base).holding_history) (map (λ r. r.lot) (filter (λ r. r.trade == trade) (sheets base).holding_history))
     ≡ filter (λ r. is_touched_by (sheets base) trade r.lot) (sheets base).holding_history
 touched_by_lot base trade books sound =

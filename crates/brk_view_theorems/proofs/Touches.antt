@@ -16,9 +16,9 @@ use Rattle.brk_model.specs.Tables.{HoldingHistoryRow, lot_history, tables_of, tr
 use Rattle.brk_audit_theorems.proofs.Climbs.{Climbs}
 use Rattle.brk_audit_theorems.proofs.Members.{All-flat_map}
 use Rattle.brk_audit_theorems.proofs.Parts.{key_parts}
-use Rattle.brk_invariant_theorems.specs.Sound.{IsSound}
+use Rattle.brk_invariant_theorems.specs.Sound.{AuditInvariant}
 use Rattle.brk_invariant_theorems.proofs.FormKeys.{All-history, keys_of}
-use Rattle.brk_book_theorems.specs.Books.{IsBooks, MomentsApart}
+use Rattle.brk_book_theorems.specs.Books.{BooksInvariant, MomentsApart}
 use Rattle.brk_book_theorems.proofs.LotReading.{IdsApart, numbered_rise, rise_apart}
 use Rattle.brk_book_theorems.proofs.Order.{Splits}
 use Rattle.brk_book_theorems.proofs.Reading.{find-map}
@@ -94,7 +94,7 @@ moments_differ (t ∷ ts) m n d e f h = by_tests (moments_differ ts m n d.1) (t.
 abbrev pub stamp_at : Base → ℕ → ℕ
 stamp_at base id = option_map_or (λ t. t.stamp) (trade_in (tables_of base) id) 0
 
-stamp_is : (base : Base) (id : ℕ) → IsBooks base → IsAmong (completed base) id → stamp_at base id ≡ moment_in (completed base) id
+stamp_is : (base : Base) (id : ℕ) → BooksInvariant base → IsAmong (completed base) id → stamp_at base id ≡ moment_in (completed base) id
 unfolding tables_at
 stamp_is base id books e =
     ap (λ o. option_map_or (λ t. t.stamp) o 0) (find-map (λ r. r.id == id) trade_row base.trades) ∙ of_row (with_id id base.trades)
@@ -104,7 +104,7 @@ stamp_is base id books e =
     of_row None = refl
     of_row (Some t) = refl
 
-stamps_differ : (base : Base) (m n : ℕ) → IsBooks base → IsAmong (completed base) m → IsAmong (completed base) n → (m == n) ≡ false → (stamp_at base m == stamp_at base n) ≡ false
+stamps_differ : (base : Base) (m n : ℕ) → BooksInvariant base → IsAmong (completed base) m → IsAmong (completed base) n → (m == n) ≡ false → (stamp_at base m == stamp_at base n) ≡ false
 stamps_differ base m n books e f h =
     (λ i. stamp_is base m books e i == stamp_is base n books f i) ∙ moments_differ (completed base) m n books.moments e f h
 
@@ -150,7 +150,7 @@ lots_apart a b l k h = grind (arith, nat_tests)
 other_trade : (l m k n : ℕ) → nat_lt l k || (not (nat_lt k l) && (nat_lt m n || (not (nat_lt n m) && false))) ≡ true → (l == k) ≡ true → (m == n) ≡ false
 other_trade l m k n g h = grind (arith, nat_tests)
 
-pair_apart : (base : Base) (x y : HoldingHistoryRow) → IsBooks base → IsAmong (completed base) x.trade → IsAmong (completed base) y.trade
+pair_apart : (base : Base) (x y : HoldingHistoryRow) → BooksInvariant base → IsAmong (completed base) x.trade → IsAmong (completed base) y.trade
     → nat_lt x.lot y.lot || (not (nat_lt y.lot x.lot) && (nat_lt x.trade y.trade || (not (nat_lt y.trade x.trade) && false))) ≡ true
     → earlier_touch base x y ≡ not (earlier_touch base y x)
 pair_apart base x y books e f g = by_test (x.lot == y.lot) refl
@@ -160,7 +160,7 @@ pair_apart base x y books e f g = by_test (x.lot == y.lot) refl
     by_test true h =
         stamps_apart (stamp_at base x.trade) (stamp_at base y.trade) x.lot y.lot (stamps_differ base x.trade y.trade books e f (other_trade x.lot x.trade y.lot y.trade g h))
 
-apart_of : (base : Base) (rows : List HoldingHistoryRow) → IsBooks base → AllByRecursion (λ r. IsAmong (completed base) r.trade) rows → Climbs holding_history_key rows → AllApart (earlier_touch base) rows
+apart_of : (base : Base) (rows : List HoldingHistoryRow) → BooksInvariant base → AllByRecursion (λ r. IsAmong (completed base) r.trade) rows → Climbs holding_history_key rows → AllApart (earlier_touch base) rows
 apart_of base [] books h c = tt
 apart_of base (x ∷ rows) books h c = (others rows h.1 c.0, apart_of base rows books h.1 c.1)
   where
@@ -171,6 +171,6 @@ apart_of base (x ∷ rows) books h c = (others rows h.1 c.0, apart_of base rows 
     others (y ∷ ys) k d = (pair_apart base x y books h.0 k.0 d.0, others ys k.1 d.1)
 
 -- no two changes of one lot came at one moment
-pub touches_apart : (base : Base) → IsBooks base → IsSound base → AllApart (earlier_touch base) (sheets base).holding_history
+pub touches_apart : (base : Base) → BooksInvariant base → AuditInvariant base → AllApart (earlier_touch base) (sheets base).holding_history
 touches_apart base books sound =
     apart_of base (sheets base).holding_history books (each_made base) (key_parts (sheets base) (keys_of base books sound)).holding_history

@@ -6,17 +6,17 @@ use Rattle.std.proofs.lemmas.Bool.Decides.{nat_tests}
 use Rattle.brk_model.specs.Base.{Base}
 use Rattle.brk_model.specs.Joins.{history_in}
 use Rattle.brk_model.specs.Keys.{by_key, history_key}
-use Rattle.brk_model.specs.Records.{Mark, Trade}
+use Rattle.brk_model.specs.Records.{StatusChange, Trade}
 use Rattle.brk_model.specs.Sheets.{sheets, sheets_of}
 use Rattle.brk_model.specs.Tables.{HistoryRow, TradeRow, tables_of, trade_row, tables_at}
 use Rattle.brk_model.specs.Ways.{is_rising}
 use Rattle.brk_audit_theorems.proofs.Again.{IsRead, reads}
-use Rattle.brk_invariant_theorems.specs.Sound.{IsSound, IsSoundTrade}
-use Rattle.brk_book_theorems.specs.Books.{IsBooks}
+use Rattle.brk_invariant_theorems.specs.Sound.{AuditInvariant, IsSoundTrade}
+use Rattle.brk_book_theorems.specs.Books.{BooksInvariant}
 use Rattle.brk_book_theorems.proofs.Order.{by_key-filter}
 use Rattle.brk_book_theorems.proofs.TradeReading.{trades_in_order}
 
-pub same_trades : (base : Base) → IsBooks base → (sheets base).trades ≡ (tables_of base).trades
+pub same_trades : (base : Base) → BooksInvariant base → (sheets base).trades ≡ (tables_of base).trades
 unfolding tables_at
 same_trades base books = trades_in_order base books.numbered
 
@@ -43,7 +43,7 @@ earlier_through : (a b : ℕ) (others : List HistoryRow) → nat_lt a b ≡ true
 earlier_through a b [] f h = tt
 earlier_through a b (k ∷ others) f h = (through a b k.stamp f h.0, earlier_through a b others f h.1)
 
-rows_rise : (id : ℕ) (marks : List Mark) → is_rising (map (λ m. m.stamp) marks) ≡ true → AllRise (map (λ m. record { trade = id; status = m.status; stamp = m.stamp }) marks)
+rows_rise : (id : ℕ) (marks : List StatusChange) → is_rising (map (λ m. m.stamp) marks) ≡ true → AllRise (map (λ m. record { trade = id; status = m.status; stamp = m.stamp }) marks)
 rows_rise id [] e = tt
 rows_rise id (m ∷ []) e = (tt, tt)
 rows_rise id (m ∷ n ∷ marks) e =
@@ -57,7 +57,7 @@ own_rows base [] h k = tt
 own_rows base (t ∷ ts) h k = (subst AllRise (sym h.0.history) (rows_rise t.id t.marks k.0.stamps), own_rows base ts h.1 k.1)
 
 -- the statuses of each trade rise
-pub statuses_rise : (base : Base) → IsBooks base → IsSound base → AllByRecursion (λ (r : TradeRow). AllRise (history_in (tables_of base) r.id)) (tables_of base).trades
+pub statuses_rise : (base : Base) → BooksInvariant base → AuditInvariant base → AllByRecursion (λ (r : TradeRow). AllRise (history_in (tables_of base) r.id)) (tables_of base).trades
 unfolding tables_at
 statuses_rise base books sound = own_rows base base.trades (reads base books.numbered) sound.trades
 

@@ -15,9 +15,9 @@ use Rattle.brk_model.specs.Tables.{BrokerRow, RequestRow, Tables, tables_of, tab
 use Rattle.brk_model.specs.VolumeView.{by_volume, requests_in, volume_in, volume_view}
 use Rattle.brk_audit_theorems.proofs.Climbs.{Climbs, not_itself}
 use Rattle.brk_audit_theorems.proofs.Parts.{key_parts}
-use Rattle.brk_invariant_theorems.specs.Sound.{IsSound}
+use Rattle.brk_invariant_theorems.specs.Sound.{AuditInvariant}
 use Rattle.brk_invariant_theorems.proofs.FormKeys.{keys_of}
-use Rattle.brk_book_theorems.specs.Books.{IsBooks}
+use Rattle.brk_book_theorems.specs.Books.{BooksInvariant}
 use Rattle.brk_book_theorems.proofs.Bools.{same_text}
 use Rattle.brk_book_theorems.proofs.Order.{Splits, key_one_way, key_splits, key_total}
 use Rattle.brk_book_theorems.proofs.TradeReading.{requests_in_order}
@@ -27,11 +27,11 @@ use Rattle.brk_view_theorems.proofs.StatusRows.{same_security}
 
 -- ---- one broker
 
-same_requests : (base : Base) → IsBooks base → (sheets base).requests ≡ (tables_of base).requests
+same_requests : (base : Base) → BooksInvariant base → (sheets base).requests ≡ (tables_of base).requests
 unfolding tables_at
 same_requests base books = requests_in_order base books.numbered
 
-same_in : (base : Base) (sector : Text) (broker : ℕ) → IsBooks base → requests_in (sheets base) sector broker ≡ requests_in (tables_of base) sector broker
+same_in : (base : Base) (sector : Text) (broker : ℕ) → BooksInvariant base → requests_in (sheets base) sector broker ≡ requests_in (tables_of base) sector broker
 same_in base sector broker books i =
     filter (λ (r : RequestRow). (r.broker == broker) && option_map_or (λ s. bytes_eq s.sector sector) (same_security base r.symbol i) false) (same_requests base books i)
 
@@ -127,7 +127,7 @@ apart t sector (b ∷ rows) c = (others rows c.0, apart t sector rows c.1)
     others [] h = tt
     others (d ∷ ds) h = (one d h.0, others ds h.1)
 
-brokers_apart : (base : Base) (t : Tables) (sector : Text) → IsBooks base → IsSound base → AllApart (by_volume t sector) (sheets base).brokers
+brokers_apart : (base : Base) (t : Tables) (sector : Text) → BooksInvariant base → AuditInvariant base → AllApart (by_volume t sector) (sheets base).brokers
 brokers_apart base t sector books sound = apart t sector (sheets base).brokers (key_parts (sheets base) (keys_of base books sound)).brokers
 
 -- ---- the view
@@ -136,15 +136,15 @@ brokers_apart base t sector books sound = apart t sector (sheets base).brokers (
 abbrev is_shown : Tables → Text → List Text → BrokerRow → Bool
 is_shown t sector names b = list_any (bytes_eq b.name) names && nat_lt 0 (length (requests_in t sector b.id))
 
-same_shown : (base : Base) (sector : Text) (names : List Text) (b : BrokerRow) → IsBooks base → is_shown (sheets base) sector names b ≡ is_shown (tables_of base) sector names b
+same_shown : (base : Base) (sector : Text) (names : List Text) (b : BrokerRow) → BooksInvariant base → is_shown (sheets base) sector names b ≡ is_shown (tables_of base) sector names b
 same_shown base sector names b books i = list_any (bytes_eq b.name) names && nat_lt 0 (length (same_in base sector b.id books i))
 
-same_by : (base : Base) (sector : Text) (a b : BrokerRow) → IsBooks base → by_volume (sheets base) sector a b ≡ by_volume (tables_of base) sector a b
+same_by : (base : Base) (sector : Text) (a b : BrokerRow) → BooksInvariant base → by_volume (sheets base) sector a b ≡ by_volume (tables_of base) sector a b
 same_by base sector a b books i =
     let volume : ℕ → ℕ = λ broker. sum_by (λ (r : RequestRow). r.qty * r.bid) (same_in base sector broker books i) in
     nat_lt (volume b.id) (volume a.id) || ((volume b.id == volume a.id) && (text_before a.name b.name || (bytes_eq a.name b.name && nat_lt a.id b.id)))
 
-same_brokers : (base : Base) (sector : Text) (names : List Text) → IsBooks base → IsSound base
+same_brokers : (base : Base) (sector : Text) (names : List Text) → BooksInvariant base → AuditInvariant base
     → sort_by (by_volume (tables_of base) sector) (filter (is_shown (tables_of base) sector names) (sheets base).brokers)
     ≡ sort_by (by_volume (tables_of base) sector) (filter (is_shown (tables_of base) sector names) (tables_of base).brokers)
 unfolding sheets_of
@@ -152,7 +152,7 @@ same_brokers base sector names books sound =
     sort_back (by_volume (tables_of base) sector) broker_key (is_shown (tables_of base) sector names) (tables_of base).brokers (splits (tables_of base) sector)
     (apart_filter (by_volume (tables_of base) sector) (is_shown (tables_of base) sector names) (sheets base).brokers (brokers_apart base (tables_of base) sector books sound))
 
-pub same_volumes : (base : Base) (sector : Text) (names : List Text) → IsBooks base → IsSound base → volume_view (sheets base) sector names ≡ volume_view (tables_of base) sector names
+pub same_volumes : (base : Base) (sector : Text) (names : List Text) → BooksInvariant base → AuditInvariant base → volume_view (sheets base) sector names ≡ volume_view (tables_of base) sector names
 unfolding volume_view
 same_volumes base sector names books sound =
     let s : Tables = sheets base in
@@ -234,7 +234,7 @@ names_exclude [] e = tt
 names_exclude (name ∷ names) e = ((λ b h. no_name name names b (other_names name names e) h), names_exclude names (tail_distinct name names e))
 
 -- the brokers of each name that have something to trade, name after name, stand in the order of the view as all of these do
-pub brokers_by_name : (base : Base) (sector : Text) (names : List Text) → IsBooks base → IsSound base → distinct_texts names ≡ names
+pub brokers_by_name : (base : Base) (sector : Text) (names : List Text) → BooksInvariant base → AuditInvariant base → distinct_texts names ≡ names
     → sort_by (by_volume (sheets base) sector)
     (flat_map (λ name. filter (λ b. nat_lt 0 (length (requests_in (sheets base) sector b.id))) (filter (λ b. bytes_eq b.name name) (sheets base).brokers)) names)
     ≡ sort_by (by_volume (sheets base) sector) (filter (λ b. list_any (bytes_eq b.name) names && nat_lt 0 (length (requests_in (sheets base) sector b.id))) (sheets base).brokers)

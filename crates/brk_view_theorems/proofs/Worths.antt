@@ -15,7 +15,7 @@ use Rattle.brk_model.specs.PositionView.{asset_total, by_worth, position_view}
 use Rattle.brk_model.specs.Records.{Account, Customer}
 use Rattle.brk_model.specs.Sheets.{sheets, sheets_of}
 use Rattle.brk_model.specs.Tables.{AccountRow, SummaryRow, Tables, account_row, last_trade_row, tables_of, tables_at}
-use Rattle.brk_book_theorems.specs.Books.{DistinctAccounts, IsBooks}
+use Rattle.brk_book_theorems.specs.Books.{DistinctAccounts, BooksInvariant}
 use Rattle.brk_book_theorems.proofs.Order.{Splits, by_key-filter}
 use Rattle.brk_book_theorems.proofs.Reading.{any-sorted, find-map}
 use Rattle.brk_book_theorems.proofs.TermReading.{reads_last_trade}
@@ -69,7 +69,7 @@ apart base t (a ∷ accounts) d = (from_one accounts d.0, apart base t accounts 
 abbrev owned_by : (Customer → Bool) → List Customer → AccountRow → Bool
 owned_by test customers a = list_any (λ c. test c && (c.id == a.customer)) customers
 
-pub same_position : (base : Base) (test : Customer → Bool) → IsBooks base → position_view (sheets base) test ≡ position_view (tables_of base) test
+pub same_position : (base : Base) (test : Customer → Bool) → BooksInvariant base → position_view (sheets base) test ≡ position_view (tables_of base) test
 unfolding position_view sheets_of tables_at
 same_position base test books =
     let t : Tables = tables_of base in

@@ -7,38 +7,38 @@ ghost use Rattle.brk_model.specs.Lists.{all_distinct, contains_number};
 ghost use Rattle.brk_model.specs.LookupView.{is_cash_of, is_touched_by, lookup_view, lots_view};
 ghost use Rattle.brk_model.specs.Sheets.{sheets};
 ghost use Rattle.brk_model.specs.Tables.{TradeRow, tables_of};
-ghost use Rattle.brk_invariant_theorems.specs.Sound.{IsSound};
-ghost use Rattle.brk_book_theorems.specs.Books.{IsBooks};
+ghost use Rattle.brk_invariant_theorems.specs.Sound.{AuditInvariant};
+ghost use Rattle.brk_book_theorems.specs.Books.{BooksInvariant};
 
 /// Trades that pass a test, with what became of them, are the same in the tables of a base in order and as a store reads them.
 #[tactic(auto, using(crate::proofs::LookupRows::same_lookup))]
 pub fn lookups_are_as_read()
-    ensures { (base : Base) (test : TradeRow → Bool) → IsBooks base → IsSound base → lookup_view (sheets base) test ≡ lookup_view (tables_of base) test }
+    ensures { (base : Base) (test : TradeRow → Bool) → BooksInvariant base → AuditInvariant base → lookup_view (sheets base) test ≡ lookup_view (tables_of base) test }
 {}
 
 /// What became of the lots that a trade touched is the same in both.
 #[tactic(auto, using(crate::proofs::TouchRows::same_lots))]
 pub fn lots_are_as_read()
-    ensures { (base : Base) (account first : ℕ) → IsBooks base → IsSound base → lots_view (sheets base) account first ≡ lots_view (tables_of base) account first }
+    ensures { (base : Base) (account first : ℕ) → BooksInvariant base → AuditInvariant base → lots_view (sheets base) account first ≡ lots_view (tables_of base) account first }
 {}
 
 /// What a store finds by a key is all that there is of it.
 #[tactic(auto, using(crate::proofs::FoundRows::settlement_alone, crate::proofs::FoundRows::cash_alone, crate::proofs::FoundRows::account_alone, crate::proofs::FoundRows::customer_alone))]
 pub fn rows_are_found_alone()
-    ensures settlements { (base : Base) (trade : ℕ) → IsBooks base → IsSound base
+    ensures settlements { (base : Base) (trade : ℕ) → BooksInvariant base → AuditInvariant base
         → option_to_list (find (λ s. s.trade == trade) (sheets base).settlements) ≡ filter (λ s. s.trade == trade) (sheets base).settlements }
-    ensures cash { (base : Base) (trade : ℕ) → IsBooks base → IsSound base
+    ensures cash { (base : Base) (trade : ℕ) → BooksInvariant base → AuditInvariant base
         → option_to_list (find (is_cash_of trade) (sheets base).moves) ≡ filter (is_cash_of trade) (sheets base).moves }
-    ensures accounts { (base : Base) (id : ℕ) → IsBooks base → IsSound base
+    ensures accounts { (base : Base) (id : ℕ) → BooksInvariant base → AuditInvariant base
         → option_to_list (find (λ a. a.id == id) (sheets base).accounts) ≡ filter (λ a. a.id == id) (sheets base).accounts }
-    ensures customers { (base : Base) (id : ℕ) → IsBooks base → IsSound base
+    ensures customers { (base : Base) (id : ℕ) → BooksInvariant base → AuditInvariant base
         → option_to_list (find (λ c. c.id == id) (sheets base).customers) ≡ filter (λ c. c.id == id) (sheets base).customers }
 {}
 
 /// Trades that are found by one id after another are, the oldest first, all trades with these ids.
 #[tactic(auto, using(crate::proofs::FoundRows::trades_by_id))]
 pub fn trades_are_found_by_ids()
-    ensures { (base : Base) (ids : List ℕ) → IsBooks base → IsSound base → all_distinct ids ≡ true
+    ensures { (base : Base) (ids : List ℕ) → BooksInvariant base → AuditInvariant base → all_distinct ids ≡ true
         → oldest_first_rows (flat_map (λ id. option_to_list (find (λ t. t.id == id) (sheets base).trades)) ids)
         ≡ oldest_first_rows (filter (λ t. contains_number t.id ids) (sheets base).trades) }
 {}
@@ -46,7 +46,7 @@ pub fn trades_are_found_by_ids()
 /// The changes of each lot that a trade touched, lot after lot, are those of all these lots as a store reads them.
 #[tactic(auto, using(crate::proofs::TouchRows::touched_by_lot))]
 pub fn changes_are_read_by_lot()
-    ensures { (base : Base) (trade : ℕ) → IsBooks base → IsSound base
+    ensures { (base : Base) (trade : ℕ) → BooksInvariant base → AuditInvariant base
         → flat_map (λ lot. filter (λ r. r.lot == lot) (sheets base).holding_history) (map (λ r. r.lot) (filter (λ r. r.trade == trade) (sheets base).holding_history))
         ≡ filter (λ r. is_touched_by (sheets base) trade r.lot) (sheets base).holding_history }
 {}

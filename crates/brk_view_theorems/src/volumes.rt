@@ -8,19 +8,19 @@ ghost use Rattle.brk_model.specs.Lists.{distinct_texts, sort_by};
 ghost use Rattle.brk_model.specs.Sheets.{sheets};
 ghost use Rattle.brk_model.specs.Tables.{tables_of};
 ghost use Rattle.brk_model.specs.VolumeView.{by_volume, requests_in, volume_view};
-ghost use Rattle.brk_invariant_theorems.specs.Sound.{IsSound};
-ghost use Rattle.brk_book_theorems.specs.Books.{IsBooks};
+ghost use Rattle.brk_invariant_theorems.specs.Sound.{AuditInvariant};
+ghost use Rattle.brk_book_theorems.specs.Books.{BooksInvariant};
 
 /// What brokers have to trade is the same in the tables of a base in order and as a store reads them.
 #[tactic(auto, using(crate::proofs::VolumeRows::same_volumes))]
 pub fn volumes_are_as_read()
-    ensures { (base : Base) (sector : Text) (names : List Text) → IsBooks base → IsSound base → volume_view (sheets base) sector names ≡ volume_view (tables_of base) sector names }
+    ensures { (base : Base) (sector : Text) (names : List Text) → BooksInvariant base → AuditInvariant base → volume_view (sheets base) sector names ≡ volume_view (tables_of base) sector names }
 {}
 
 /// The brokers of each name that have something to trade, name after name, stand in the order of the view as all of them do.
 #[tactic(auto, using(crate::proofs::VolumeRows::brokers_by_name))]
 pub fn brokers_are_read_by_name()
-    ensures { (base : Base) (sector : Text) (names : List Text) → IsBooks base → IsSound base → distinct_texts names ≡ names
+    ensures { (base : Base) (sector : Text) (names : List Text) → BooksInvariant base → AuditInvariant base → distinct_texts names ≡ names
         → sort_by (by_volume (sheets base) sector)
         (flat_map (λ name. filter (λ b. nat_lt 0 (length (requests_in (sheets base) sector b.id))) (filter (λ b. bytes_eq b.name name) (sheets base).brokers)) names)
         ≡ sort_by (by_volume (sheets base) sector)

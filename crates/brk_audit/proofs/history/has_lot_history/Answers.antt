@@ -5,7 +5,7 @@ use Rattle.std.proofs.lemmas.List.Sorted.{IsPermutation-map}
 use Rattle.brk_changes.specs.Rows.{lot_change_of}
 use Rattle.brk_changes.specs.Sheets.{tables_in_sheets}
 use Rattle.brk_lots.specs.Chains.{plain_row}
-use Rattle.brk_model.specs.Audit.{Holds, expected}
+use Rattle.brk_model.specs.Audit.{ConditionHolds, expected}
 use Rattle.brk_model.specs.Keys.{holding_history_key, row_before}
 use Rattle.brk_model.specs.Tables.{Tables}
 use Rattle.brk_invariant_theorems.proofs.FormBack.{All-unmapped}
@@ -32,7 +32,7 @@ moves_made-requires-clause-priced c =
     All-unmapped (λ r. IsSome r.price) seen c.deref-2.result.now (all_moved (λ r. IsSome r.price) (done_rows t) (map seen c.deref-2.result.now) p (priced_rows t c.requires.form c.requires.status))
 
 pub returns-clause-told : goal.returns-clause-told
-unfolding Holds
+unfolding ConditionHolds
 returns-clause-told c = λ schema.
     let t : Tables = tables_in_sheets c.args.sheets.now in
     let done = c.deref-2.result.now in

@@ -5,7 +5,7 @@ use Rattle.std.proofs.lemmas.List.Sorted.{IsNonDecreasingBy-from_sort_by_key, Is
 use Rattle.brk_changes.specs.Rows.{holding_row_of, trade_row_of}
 use Rattle.brk_changes.specs.Sheets.{tables_in_sheets}
 use Rattle.brk_changes.specs.declared.holding_row.HoldingRow as code
-use Rattle.brk_model.specs.Audit.{Holds, expected}
+use Rattle.brk_model.specs.Audit.{ConditionHolds, expected}
 use Rattle.brk_model.specs.Tables.{HoldingRow, Tables}
 use Rattle.brk_invariant_theorems.proofs.FormBack.{All-unmapped}
 use Rattle.brk_book_theorems.proofs.Order.{Sorted}
@@ -30,7 +30,7 @@ lots_left-requires-clause-priced c =
     All-unmapped (λ r. IsSome r.price) seen c.deref-2.result.now (all_moved (λ r. IsSome r.price) (done_rows t) (map seen c.deref-2.result.now) p (priced_rows t c.requires.form c.requires.status))
 
 pub returns-clause-told : goal.returns-clause-told
-unfolding Holds
+unfolding ConditionHolds
 returns-clause-told c = λ schema.
     let t : Tables = tables_in_sheets c.args.sheets.now in
     let done = c.deref-2.result.now in

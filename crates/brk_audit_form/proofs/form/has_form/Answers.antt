@@ -1,7 +1,7 @@
 use Rattle.std.proofs.Common.{false, sym, ◌∙◌, ap, map}
 use Rattle.std.specs.Prelude.{Bool, ◌&&◌}
 use Rattle.std.specs.List.{list_all}
-use Rattle.brk_model.specs.Audit.{Holds}
+use Rattle.brk_model.specs.Audit.{ConditionHolds}
 use Rattle.brk_model.specs.Form.{has_form, one_tax_id_each, customer_limits, cash_form, move_form, trades_moved}
 use Rattle.brk_model.specs.Lists.{all_distinct}
 use Rattle.brk_ref.specs.Records.{customer_of}
@@ -28,7 +28,7 @@ abbrev owns : Sheets → Bool
 owns s = all_distinct (trades_moved (map move_row_of s.moves.items))
 
 pub returns-then-not-has_plain_form-clause-told : goal.returns-then-not-has_plain_form-clause-told
-unfolding Holds
+unfolding ConditionHolds
 returns-then-not-has_plain_form-clause-told c =
     let s = c.args.sheets.now in
     let schema = schema_of c.args.schema in
@@ -36,7 +36,7 @@ returns-then-not-has_plain_form-clause-told c =
     (sym (ap (λ b. b && own s && limits s && cash s && moves s && owns s) (sym c.has_plain_form.ensures ∙ c.if-not-has_plain_form.true)) ∙ form_told schema s)
 
 pub returns-then-not-has_own-clause-told : goal.returns-then-not-has_own-clause-told
-unfolding Holds
+unfolding ConditionHolds
 returns-then-not-has_own-clause-told c =
     let s = c.args.sheets.now in
     let schema = schema_of c.args.schema in
@@ -45,7 +45,7 @@ returns-then-not-has_own-clause-told c =
     told false (has_form schema (tables_in_sheets s)) (sym (λ i. plain i && first i && limits s && cash s && moves s && owns s) ∙ form_told schema s)
 
 pub returns-then-not-has_limits-clause-told : goal.returns-then-not-has_limits-clause-told
-unfolding Holds
+unfolding ConditionHolds
 returns-then-not-has_limits-clause-told c =
     let s = c.args.sheets.now in
     let schema = schema_of c.args.schema in
@@ -55,7 +55,7 @@ returns-then-not-has_limits-clause-told c =
     told false (has_form schema (tables_in_sheets s)) (sym (λ i. plain i && first i && second i && cash s && moves s && owns s) ∙ form_told schema s)
 
 pub returns-then-not-has_cash-clause-told : goal.returns-then-not-has_cash-clause-told
-unfolding Holds
+unfolding ConditionHolds
 returns-then-not-has_cash-clause-told c =
     let s = c.args.sheets.now in
     let schema = schema_of c.args.schema in
@@ -66,7 +66,7 @@ returns-then-not-has_cash-clause-told c =
     told false (has_form schema (tables_in_sheets s)) (sym (λ i. plain i && first i && second i && third i && moves s && owns s) ∙ form_told schema s)
 
 pub returns-then-not-has_moves-clause-told : goal.returns-then-not-has_moves-clause-told
-unfolding Holds
+unfolding ConditionHolds
 returns-then-not-has_moves-clause-told c =
     let s = c.args.sheets.now in
     let schema = schema_of c.args.schema in
@@ -78,7 +78,7 @@ returns-then-not-has_moves-clause-told c =
     told false (has_form schema (tables_in_sheets s)) (sym (λ i. plain i && first i && second i && third i && fourth i && owns s) ∙ form_told schema s)
 
 pub returns-clause-told : goal.returns-clause-told
-unfolding Holds
+unfolding ConditionHolds
 returns-clause-told c =
     let s = c.args.sheets.now in
     let schema = schema_of c.args.schema in

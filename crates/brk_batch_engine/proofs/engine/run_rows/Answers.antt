@@ -1,7 +1,7 @@
 use Rattle.std.proofs.Common.{[], ◌∷◌, ◌+◌, inl, refl, arith}
 use Rattle.std.proofs.KnownBytes.{Appends-nil}
 use Rattle.brk_model.specs.Input.{header_of}
-use Rattle.brk_batch_engine.specs.Answers.{StandsBy}
+use Rattle.brk_batch_engine.specs.Answers.{RepresentsDurably}
 use Rattle.brk_batch_engine.proofs.Endings.{answer_failed, answer_left, end_failed, ended_well, no_rows, nothing_read, read_failed, row_cut_off, tell_failed, turns_over, untouched}
 use Rattle.brk_batch_engine.proofs.Progress.{told_more}
 use Rattle.brk_batch_engine.proofs.Reached.{comes, comes_at_once, progress_of, reached_more, reached_start}
@@ -18,7 +18,7 @@ returns-then-not-has_first-clause-comes g c = λ text h.
 
 pub loop-settled-init : goal.loop-settled-init
 loop-settled-init g c =
-    let start = reached_start g.D.Rows.honest (StandsBy g.D.Rows.stands g.D.Rows.leaves) g.D.Rows.form g.D.Rows.step g.C.Clock.gives g.R.Read.remaining c.args.desk.now
+    let start = reached_start g.D.Rows.honest (RepresentsDurably g.D.Rows.stands g.D.Rows.leaves) g.D.Rows.form g.D.Rows.step g.C.Clock.gives g.R.Read.remaining c.args.desk.now
     (record { name = c.args.name.now; clock = c.args.clock.now; old = g.W.Write.contents c.args.writer.now; reader = c.args.records.now }) _ _ c.requires.named
     (λ text before h. rw c.if-not-has_first.false at (c.in-Ok.ensures.found text before h)) in
     record { setup = c.in-Ok.ensures.setup; leads = g.met.D.Rows.stays c.args.desk.now; reached = start.0; written = rw start.1 (Appends-nil _) }

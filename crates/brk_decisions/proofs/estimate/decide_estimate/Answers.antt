@@ -18,4 +18,4 @@ returns-clause-read g c =
     (decided_on g.S.Store old mid end found (λ f t. IsFoundForEstimate t order f) (Tells (order_of order)) c.plan_estimate.result
     c.in_ok-found.ensures.read
     (rw c.lot_pages-lots.ensures.same at c.plan_estimate.ensures.leads.1)
-    (λ clean. estimate_decided order found _ (Holds g.S.Store mid) (λ t h. (clean, c.lot_pages-lots.ensures.rests t h)) c.plan_estimate.result c.plan_estimate.ensures.planned))
+    (λ clean. estimate_decided order found _ (Holds g.S.Store mid) (λ t h. (clean, c.lot_pages-lots.ensures.remaining t h)) c.plan_estimate.result c.plan_estimate.ensures.planned))

@@ -8,7 +8,7 @@ use Rattle.brk_plans.specs.Feed.{held, lacks_quote}
 use Rattle.brk_plans.specs.declared.quote.Quote.{Quote}
 use Rattle.brk_trade_theorems.specs.TradePlans.{AreQuotes}
 use Rattle.brk_trade_theorems.proofs.Quotes.{no_quotes}
-use Rattle.brk_store.specs.Holds.{IsRead}
+use Rattle.brk_store.specs.Holds.{ReadPost}
 use Rattle.brk_decisions.proofs.Feeds.{IsQuoteOf, Known, one_quoted, one_not_listed, one_read}
 use Rattle.brk_store.proofs.Retelling.{retold}
 use Rattle.brk_decisions.proofs.Looking.{read_both, read_failed}
@@ -33,7 +33,7 @@ loop-tick-preserved g c =
     let last = c.in_ok-last.last in
     let before = c.loop-tick.quotes.items in
     let lacks : lacks_quote (held before) tick ≡ c.has_no_quote.result = sym (ap (λ quotes. lacks_quote (held quotes) tick) c.deref.ensures.value) ∙ sym c.has_no_quote.ensures in
-    let after : IsRead {V = Unit {0}} {E = Fault} g.S.Store c.args.store.now c.if-has_no_quote.store (Ok tt) (λ _. Known ticks (take i ticks ++ tick ∷ []) (held c.if-has_no_quote.quotes.items) last) =
+    let after : ReadPost {V = Unit {0}} {E = Fault} g.S.Store c.args.store.now c.if-has_no_quote.store (Ok tt) (λ _. Known ticks (take i ticks ++ tick ∷ []) (held c.if-has_no_quote.quotes.items) last) =
     elim c.if-has_no_quote.branch [
       | then-has_no_quote+in_ok-quote+in-Some+in_ok-push w ↦
           rw (w.store-is, w.quotes-is, w.in_ok-push.ensures.items)
@@ -54,7 +54,7 @@ loop-tick-preserved g c =
           (one_quoted ticks (take i ticks) tick before last (lacks ∙ w.if-has_no_quote.false))
           c.loop-tick.invariant)
     ] in
-    subst (λ us. IsRead {V = Unit {0}} {E = Fault} g.S.Store c.args.store.now c.if-has_no_quote.store (Ok tt) (λ _. Known ticks us (held c.if-has_no_quote.quotes.items) last))
+    subst (λ us. ReadPost {V = Unit {0}} {E = Fault} g.S.Store c.args.store.now c.if-has_no_quote.store (Ok tt) (λ _. Known ticks us (held c.if-has_no_quote.quotes.items) last))
     (one_more ticks i tick c.loop-tick-test.true c.tick-item.is) after
 
 pub returns-clause-read : goal.returns-clause-read

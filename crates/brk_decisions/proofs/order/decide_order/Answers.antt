@@ -19,4 +19,4 @@ returns-clause-read g c =
     (decided_on g.S.Store old mid end found (KnownForOrder order last) (Decides c.args.now (PlaceOrder (order_of order))) c.plan_order.result
     (order_read g.S.Store old c.last.new.self mid order last found c.in_ok-last.ensures.read c.in_ok-found.ensures.read)
     (rw c.lot_pages-lots.ensures.same at c.plan_order.ensures.leads.1)
-    (λ clean. order_decided order found last c.args.now _ c.get-moment.ensures.high (Holds g.S.Store mid) (λ t h. (clean, c.lot_pages-lots.ensures.rests t h)) c.plan_order.result c.plan_order.ensures.planned))
+    (λ clean. order_decided order found last c.args.now _ c.get-moment.ensures.high (Holds g.S.Store mid) (λ t h. (clean, c.lot_pages-lots.ensures.remaining t h)) c.plan_order.result c.plan_order.ensures.planned))

@@ -16,7 +16,7 @@ returns-in-Some-clause-planned g c clean =
     let was : HasCleanDisk (state g.S.Store c.plan_result.new.source.store.now) = search rules in
     rw c.in-Some.is
     (result_over (Some c.in-Some.found) c.args.price _ c.args.last c.args.now (Holds g.S.Store c.args.store.now)
-    (λ t holds ls e. (was, rw e (c.lot_pages-lots.ensures.rests t holds))) c.plan_result.result c.plan_result.ensures.planned)
+    (λ t holds ls e. (was, rw e (c.lot_pages-lots.ensures.remaining t holds))) c.plan_result.result c.plan_result.ensures.planned)
 
 pub returns-in-None-clause-kept : goal.returns-in-None-clause-kept
 returns-in-None-clause-kept g c = kept_none c.args.store.now

@@ -6,7 +6,7 @@ use Rattle.brk_model.specs.Records.{Band}
 use Rattle.brk_model.specs.Tables.{SecurityRow, Tables}
 use Rattle.brk_book_theorems.specs.TradeReads.{band_in}
 use Rattle.brk_decisions.specs.ResultFinds.{IsListedAs, IsSecurity}
-use Rattle.brk_decisions.specs.declared.result_finding.Listed.{Listed}
+use Rattle.brk_decisions.specs.declared.result_finding.SecurityFacts.{SecurityFacts}
 use Rattle.brk_decisions.proofs.Looking.{read_both}
 use Rattle.brk_decisions.proofs.result_finding.find_listed.Goals as goal
 
@@ -15,7 +15,7 @@ returns-clause-read g c =
     let trade = c.args.trade.now in
     let security = c.in_ok-security.security in
     let rate = c.in_ok-rate.rate in
-    let listed : Listed = record { name = security.name; rate = rate } in
+    let listed : SecurityFacts = record { name = security.name; rate = rate } in
     read_both g.S.Store c.args.store.now c.known_security.new.store c.find_band_rate.new.store {H = Fault} security rate listed
     (λ security (t : Tables). IsSecurity t trade.symbol security)
     (λ rate (t : Tables). rate ≡ option_map (λ (b : Band). b.rate) (band_in t c.args.tier trade.kind security.exchange trade.qty))

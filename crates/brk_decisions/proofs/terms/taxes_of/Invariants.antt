@@ -2,10 +2,10 @@ use Rattle.std.proofs.Common.{◌≡◌, ◌==◌, Ok, Some, filter, map, take}
 use Rattle.brk_money.specs.declared.fault.Fault.{Fault}
 use Rattle.brk_ref.specs.Records.{customer_tax_of, tax_of}
 use Rattle.brk_book_theorems.specs.Reads.{tax_rate_of}
-use Rattle.brk_store.specs.Holds.{IsRead}
+use Rattle.brk_store.specs.Holds.{ReadPost}
 use Rattle.brk_decisions.proofs.terms.taxes_of.Given as goal
 
 abbrev pub invariant-loop-row : goal.invariant-loop-row
-invariant-loop-row g l = IsRead {V = Unit {0}} {E = Fault} g.S.Store l.fn.store l.store (Ok tt)
+invariant-loop-row g l = ReadPost {V = Unit {0}} {E = Fault} g.S.Store l.fn.store l.store (Ok tt)
     (λ _ t. (map customer_tax_of l.row-items ≡ filter (λ r. r.customer == l.fn.customer) t.customer_taxes)
     × (map (λ tax. Some (tax_of tax)) l.taxes.items ≡ map (λ r. tax_rate_of t r.tax) (take l.row-index l.row-items)))

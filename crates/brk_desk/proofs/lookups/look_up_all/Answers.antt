@@ -7,8 +7,8 @@ use Rattle.brk_model.specs.LookupView.{lookup_records}
 use Rattle.brk_model.specs.Sheets.{sheets}
 use Rattle.brk_model.specs.Tables.{Tables}
 use Rattle.brk_store.proofs.Retelling.{retold}
-use Rattle.brk_invariant_theorems.specs.Sound.{IsSound}
-use Rattle.brk_book_theorems.specs.Books.{IsBooks}
+use Rattle.brk_invariant_theorems.specs.Sound.{AuditInvariant}
+use Rattle.brk_book_theorems.specs.Books.{BooksInvariant}
 use Rattle.brk_decisions.proofs.Looking.{read_both}
 use Rattle.brk_view.specs.Lookup.{looked_up_records}
 use Rattle.brk_view.specs.declared.lookups.LookedUp.{LookedUp}
@@ -19,7 +19,7 @@ use Rattle.brk_desk.proofs.lookups.look_up_all.Goals as goal
 -- trades that are left, and those after them that were looked up, are all of some
 abbrev AreAll : List TradeRow → List TradeRow → List LookedUp → Tables → Type 0
 AreAll trades rest found t =
-    (base : Base) → IsBooks base → IsSound base → t ≡ sheets base → map (λ r. lookup_records t (trade_row_of r)) rest ++ map looked_up_records (reverse found) ≡ map (λ r. lookup_records t (trade_row_of r)) trades
+    (base : Base) → BooksInvariant base → AuditInvariant base → t ≡ sheets base → map (λ r. lookup_records t (trade_row_of r)) rest ++ map looked_up_records (reverse found) ≡ map (λ r. lookup_records t (trade_row_of r)) trades
 
 pub loop-trade-init : goal.loop-trade-init
 loop-trade-init g c =

@@ -1,7 +1,7 @@
 use Rattle.std.proofs.Common.{◌≡◌, sym, ◌∙◌}
 use Rattle.std.specs.List.Sorted.{IsPermutation}
 use Rattle.std.proofs.lemmas.List.Sorted.{IsPermutation-trans, IsPermutation-sym, sum_by-IsPermutation}
-use Rattle.brk_lots.specs.Order.{Climbs}
+use Rattle.brk_lots.specs.Order.{IsByOpening}
 use Rattle.brk_lots.proofs.Order.{Distinct, climbs_of, distinct_of, position_of, ascends_of, differ_of, distinct_by, distinct_moved, one_order}
 use Rattle.brk_lots.proofs.lawful.is_position.Goals as goal
 
@@ -14,7 +14,7 @@ returns-clause-lots c =
     let lots = c.args.lots.now in
     let moved = c.sort_by_trade.new.lots in
     let back = c.sort_by_stamp.new.lots in
-    let climbs : Climbs lots = c.climbs.ensures.0 c.if-not-climbs.false in
+    let climbs : IsByOpening lots = c.climbs.ensures.0 c.if-not-climbs.false in
     let same : IsPermutation lots back = IsPermutation-trans lots moved back c.sort_by_trade.ensures.permutation c.sort_by_stamp.ensures.permutation in
     one_order lots back climbs (ascends_of (λ l. l.stamp) back c.sort_by_stamp.ensures.order) (λ f. sum_by-IsPermutation f lots back same)
 
@@ -22,7 +22,7 @@ pub returns-clause-lawful : goal.returns-clause-lawful
 returns-clause-lawful c =
     let lots = c.args.lots.now in
     let moved = c.sort_by_trade.new.lots in
-    let climbs : Climbs lots = c.climbs.ensures.0 c.if-not-climbs.false in (
+    let climbs : IsByOpening lots = c.climbs.ensures.0 c.if-not-climbs.false in (
       λ t.
           let there : Distinct moved = distinct_by moved (ascends_of (λ l. l.trade) moved c.sort_by_trade.ensures.order) (c.differ-distinct.ensures.0 t) in
           position_of lots climbs (distinct_moved moved lots (IsPermutation-sym lots moved c.sort_by_trade.ensures.permutation) there),

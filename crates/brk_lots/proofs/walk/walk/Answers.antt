@@ -74,7 +74,7 @@ loop-left-preserved g c =
       given = λ told all h.
           let n = i.given (earlier told) all h in
           let m = (rw c.in-Some.is at c.in_ok-lot.ensures.given) told (drop n.0 all) n.1 in
-          (n.0 + 1, subst (λ (l : List Lot). g.L.LotSource.rests after l) (drop_next n.0 all lot m.0 m.1) m.2);
+          (n.0 + 1, subst (λ (l : List Lot). g.L.LotSource.remaining after l) (drop_next n.0 all lot m.0 m.1) m.2);
     }
 
 pub returns-in_err-add-clause-rest : goal.returns-in_err-add-clause-rest
@@ -82,14 +82,14 @@ returns-in_err-add-clause-rest g c ls given =
     let after = c.next.new.self in
     let n = c.loop-left.invariant.given (g.met.L.LotSource.told_before c.loop-left.source after c.next.ensures.leads given.0) ls given.1 in
     let m = (rw c.in-Some.is at c.in_ok-lot.ensures.given) given.0 (drop n.0 ls) n.1 in
-    (n.0 + 1, subst (λ (l : List Lot). g.L.LotSource.rests after l) (drop_next n.0 ls c.in-Some.lot m.0 m.1) m.2)
+    (n.0 + 1, subst (λ (l : List Lot). g.L.LotSource.remaining after l) (drop_next n.0 ls c.in-Some.lot m.0 m.1) m.2)
 
 pub returns-then-is_same-clause-rest : goal.returns-then-is_same-clause-rest
 returns-then-is_same-clause-rest g c ls given =
     let after = c.next.new.self in
     let n = c.loop-left.invariant.given (g.met.L.LotSource.told_before c.loop-left.source after c.next.ensures.leads given.0) ls given.1 in
     let m = (rw c.in-Some.is at c.in_ok-lot.ensures.given) given.0 (drop n.0 ls) n.1 in
-    (n.0 + 1, subst (λ (l : List Lot). g.L.LotSource.rests after l) (drop_next n.0 ls c.in-Some.lot m.0 m.1) m.2)
+    (n.0 + 1, subst (λ (l : List Lot). g.L.LotSource.remaining after l) (drop_next n.0 ls c.in-Some.lot m.0 m.1) m.2)
 
 pub returns-after-loop-left-clause-taken : goal.returns-after-loop-left-clause-taken
 returns-after-loop-left-clause-taken g c =

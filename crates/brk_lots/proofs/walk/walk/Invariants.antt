@@ -12,15 +12,15 @@ invariant-loop-left g l =
     record {
       leads : g.L.LotSource.leads l.fn.source l.source;
       taken : (touched : List Touch) × g.R.Rows.holds l.rows touched × (g.L.LotSource.asked l.source ≤ g.L.LotSource.asked l.fn.source + length touched)
-          × (g.L.LotSource.is_told l.source → (all : List Lot) → g.L.LotSource.rests l.fn.source all → IsWalk all
-          → (rest : List Lot) × g.L.LotSource.rests l.source rest × IsWalk rest
+          × (g.L.LotSource.reads_faithfully l.source → (all : List Lot) → g.L.LotSource.remaining l.fn.source all → IsWalk all
+          → (rest : List Lot) × g.L.LotSource.remaining l.source rest × IsWalk rest
           × (l.left + met l.side l.fn.qty all ≡ l.fn.qty + met l.side l.left rest)
           × (touched ++ rows_taken (met l.side l.left rest) rest ≡ rows_taken (met l.side l.fn.qty all) all)
           × (l.cost + paid (met l.side l.left rest) rest ≡ paid (met l.side l.fn.qty all) all));
       short : l.left ≤ l.fn.qty;
       bound : l.cost + l.left * greatest_price ≤ l.fn.qty * greatest_price;
       faulted : g.L.LotSource.faulted l.source ≡ g.L.LotSource.faulted l.fn.source;
-      given : g.L.LotSource.is_told l.source → (all : List Lot) → g.L.LotSource.rests l.fn.source all → (n : ℕ) × g.L.LotSource.rests l.source (drop n all);
+      given : g.L.LotSource.reads_faithfully l.source → (all : List Lot) → g.L.LotSource.remaining l.fn.source all → (n : ℕ) × g.L.LotSource.remaining l.source (drop n all);
     }
 
 abbrev pub decreases-loop-left : goal.decreases-loop-left

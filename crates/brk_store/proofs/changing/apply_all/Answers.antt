@@ -4,7 +4,7 @@ use Rattle.brk_money.specs.declared.fault.Fault.TheVariants.{Store}
 use Rattle.brk_sql.specs.Desk.{Turns}
 use Rattle.brk_tables_schema.specs.Desk.{desk}
 use Rattle.brk_changes.specs.Changes.{after_changes}
-use Rattle.brk_store.specs.Holds.{IsApplied}
+use Rattle.brk_store.specs.Holds.{ApplyPost}
 use Rattle.brk_store.proofs.Ending.{after_look, applies, applies_none, open_at_look}
 use Rattle.brk_store.proofs.changing.apply_all.Goals as goal
 
@@ -16,7 +16,7 @@ returns-in-Ok-clause-applied g c =
     let end = c.commit.new.self.0 in
     let after = after_changes c.args.changes.now in
     let step = after_look g.S.Store old first mid c.in_ok-_last._last (λ last t. last ≡ t.last) (rw c.transaction-tx.ensures.begun at c.in_ok-_last.ensures.step) (Ok tt) after c.in_ok-make_all.ensures.step in
-    subst (λ h. IsApplied {V = Unit {0}} {E = Fault} g.S.Store old h (Ok tt) after) (search rules)
+    subst (λ h. ApplyPost {V = Unit {0}} {E = Fault} g.S.Store old h (Ok tt) after) (search rules)
     (applies g.S.Store old mid end (c.is_autocommit-settled.ensures.settled (search rules)) (Turns desk after) step c.in-Ok.ensures.survives c.in-Ok.ensures.ok (λ db o may. g.met.S.Store.settled end.store db o may) after (λ a b h. h))
 
 pub returns-in-Err-clause-applied : goal.returns-in-Err-clause-applied
@@ -29,5 +29,5 @@ returns-in-Err-clause-applied g c =
     let look = rw c.transaction-tx.ensures.begun at c.in_ok-_last.ensures.step in
     let step = after_look g.S.Store old first mid c.in_ok-_last._last (λ last t. last ≡ t.last) look (Ok tt) after c.in_ok-make_all.ensures.step in
     let open_then = open_at_look g.S.Store old first mid c.in_ok-_last._last (λ last t. last ≡ t.last) look (Ok tt) after c.in_ok-make_all.ensures.step in
-    subst (λ h. IsApplied {V = Unit {0}} {E = Fault} g.S.Store old h (Err Store) after) (search rules)
+    subst (λ h. ApplyPost {V = Unit {0}} {E = Fault} g.S.Store old h (Err Store) after) (search rules)
     (applies_none g.S.Store old mid end (c.is_autocommit-settled.ensures.settled (search rules)) (Turns desk after) step c.in-Err.ensures.survives c.in-Err.field-0 c.in-Err.ensures.err open_then Store after (λ a b h. h))

@@ -5,7 +5,7 @@ use Rattle.brk_money.specs.declared.fault.Fault.TheVariants.{Store}
 use Rattle.brk_sql.proofs.Inside.{step_then}
 use Rattle.brk_tables_create.specs.Made.{MakesDesk}
 use Rattle.brk_tables_create.specs.Present.{has_table_of_desk}
-use Rattle.brk_store.specs.Holds.{IsCreated}
+use Rattle.brk_store.specs.Holds.{CreatePost}
 use Rattle.brk_store.proofs.Ending.{begun, creates, commits_none}
 use Rattle.brk_store.proofs.changing.make_desk.Goals as goal
 
@@ -21,7 +21,7 @@ returns-in-Ok-clause-created g c =
     let end = c.commit.new.self.0 in
     let step = step_then (state g.S.Store (begun old)) (state g.S.Store test) (state g.S.Store mid) c.in_ok-has_some_table.field-0 (Ok tt) (λ has a b. (b.now ≡ a.now) × (has ≡ has_table_of_desk a.now.schema)) (λ _ a b. MakesDesk a.now b.now) (λ _ a b. Made a.now b.now)
     (λ _ p q. (sym p.1 ∙ c.if-branch.false, subst (λ d. MakesDesk d (state g.S.Store mid).now) p.0 q)) (rw c.transaction-tx.ensures.begun at c.in_ok-has_some_table.ensures.step) c.in_ok-make_tables.ensures.step in
-    subst (λ h. IsCreated g.S.Store old h (Ok tt)) (search rules)
+    subst (λ h. CreatePost g.S.Store old h (Ok tt)) (search rules)
     (creates g.S.Store old mid end (c.is_autocommit-settled.ensures.settled (search rules)) Made step c.in-Ok.ensures.survives c.in-Ok.ensures.ok (λ db o may. g.met.S.Store.settled end.store db o may) (λ a b h. h))
 
 pub returns-in-Err-clause-created : goal.returns-in-Err-clause-created
@@ -32,5 +32,5 @@ returns-in-Err-clause-created g c =
     let end = c.commit.new.self.0 in
     let step = step_then (state g.S.Store (begun old)) (state g.S.Store test) (state g.S.Store mid) c.in_ok-has_some_table.field-0 (Ok tt) (λ has a b. (b.now ≡ a.now) × (has ≡ has_table_of_desk a.now.schema)) (λ _ a b. MakesDesk a.now b.now) (λ _ a b. Made a.now b.now)
     (λ _ p q. (sym p.1 ∙ c.if-branch.false, subst (λ d. MakesDesk d (state g.S.Store mid).now) p.0 q)) (rw c.transaction-tx.ensures.begun at c.in_ok-has_some_table.ensures.step) c.in_ok-make_tables.ensures.step in
-    subst (λ h. IsCreated g.S.Store old h (Err Store)) (search rules)
+    subst (λ h. CreatePost g.S.Store old h (Err Store)) (search rules)
     (commits_none g.S.Store old mid end (c.is_autocommit-settled.ensures.settled (search rules)) Made step c.in-Err.ensures.survives c.in-Err.field-0 c.in-Err.ensures.err (λ a b h. h))

@@ -1,14 +1,14 @@
 use Rattle.std.proofs.Common.{◌≡◌, ◌∙◌, ap, false, of_z, rules, subst, sym, to_z, w64, ℤ}
 use Rattle.std.specs.Int.RustNames.{FitsSigned}
 use Rattle.std.proofs.lemmas.Int.{to_z-of_z}
-use Rattle.brk_lots.specs.Against.{is_against}
+use Rattle.brk_lots.specs.Against.{closes_lots}
 use Rattle.brk_trade.specs.Estimates.{deal_by}
 use Rattle.brk_trade.proofs.estimate.values_upon.Goals as goal
 
-pub returns-else-is_against-clause-values : goal.returns-else-is_against-clause-values
-returns-else-is_against-clause-values g c ls trade stamp lifo given held =
+pub returns-else-closes_lots-clause-values : goal.returns-else-closes_lots-clause-values
+returns-else-closes_lots-clause-values g c ls trade stamp lifo given held =
     let terms = c.args.terms.now in
     let fits : FitsSigned w64 terms.held = search rules in
     let same : to_z w64 (of_z w64 terms.held) ≡ terms.held = to_z-of_z w64 terms.held fits in
-    let none : is_against terms.side terms.held ≡ false = sym (ap (λ (z : ℤ). is_against terms.side z) same) ∙ sym c.is_against.ensures ∙ c.if-is_against.false in
-    c.no_values.ensures (deal_by terms trade stamp lifo) ls given.1 (subst (λ (z : ℤ). is_against terms.side z ≡ false) held none)
+    let none : closes_lots terms.side terms.held ≡ false = sym (ap (λ (z : ℤ). closes_lots terms.side z) same) ∙ sym c.closes_lots.ensures ∙ c.if-closes_lots.false in
+    c.no_values.ensures (deal_by terms trade stamp lifo) ls given.1 (subst (λ (z : ℤ). closes_lots terms.side z ≡ false) held none)

@@ -8,7 +8,7 @@ use Rattle.brk_model.specs.Tests.{first_refusal}
 use Rattle.brk_money.specs.Moments.{stamp_after}
 use Rattle.brk_trade.specs.Outcomes.{deal_of, first_tests, last_tests, result_tests, values_in}
 use Rattle.brk_trade.specs.Results.{AreChanges, AreMet, IsCompletion, moment_of, told_of}
-use Rattle.brk_trade.specs.declared.outcome.Outcome.{Outcome}
+use Rattle.brk_trade.specs.declared.outcome.ResultNumbers.{ResultNumbers}
 use Rattle.brk_plans.specs.declared.plan.Plan.{Plan}
 use Rattle.brk_plans.specs.declared.reply.Reply.TheVariants.{Completed}
 use Rattle.brk_trade.proofs.Results.{first_after, first_refuses, refused_by_values, touched_count}
@@ -22,7 +22,7 @@ returns-in-Err-complete-clause-planned g c =
     let moved : c.match-moved.moved ≡ stamp_after c.args.last c.args.now = elim c.match-moved.branch [ in-Some-moved w ↦ search rules | in-None w ↦ search rules ] in
     let told = rw moved at c.in-Err-complete.ensures in
     let refusal = c.in-Err-complete.refusal in
-    let late : (ls : List Lot) (stamp : ℕ) → AreMet (AsTold (g.L.LotSource.is_told c.close_met.new.source) (g.L.LotSource.rests c.args.source.now)) found ls
+    let late : (ls : List Lot) (stamp : ℕ) → AreMet (AsTold (g.L.LotSource.reads_faithfully c.close_met.new.source) (g.L.LotSource.remaining c.args.source.now)) found ls
     → first_refusal (result_tests found c.args.price (values_of (deal_of found.trade c.args.price stamp) (shares_of ls)) (stamp_after c.args.last c.args.now)) ≡ Some refusal = λ ls stamp met.
     let closes : IsClosing (deal_of found.trade c.args.price c.match-moved.at) ls closing = c.in_ok-closing.ensures.closing ls met in
     refused_by_values found c.args.price ls c.match-moved.at stamp closing (stamp_after c.args.last c.args.now) refusal closes c.in-Ok.ensures.0 told in
@@ -50,9 +50,9 @@ returns-clause-planned g c =
     let stamped : stamp_after c.args.last c.args.now ≡ Some outcome.stamp = sym moved ∙ done.1 in
     let stamp : c.match-moved.at ≡ outcome.stamp = at ∙ ap (λ o. moment_of o c.args.now) stamped in
     let tested = rw done.1 at done.0 in
-    let changed : Outcome → Type 0 = λ o. AreChanges found price closing o c.in_ok-changes.changes.items in
+    let changed : ResultNumbers → Type 0 = λ o. AreChanges found price closing o c.in_ok-changes.changes.items in
     let plan : Plan = record { changes = c.in_ok-changes.changes; reply = Completed c.told.result } in
-    let completed : IsCompletion found price (AsTold (g.L.LotSource.is_told c.close_met.new.source) (g.L.LotSource.rests c.args.source.now)) c.args.last c.args.now plan = record {
+    let completed : IsCompletion found price (AsTold (g.L.LotSource.reads_faithfully c.close_met.new.source) (g.L.LotSource.remaining c.args.source.now)) c.args.last c.args.now plan = record {
       stamp = outcome.stamp;
       closing = closing;
       stamped = stamped;

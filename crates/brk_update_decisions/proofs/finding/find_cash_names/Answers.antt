@@ -6,8 +6,8 @@ use Rattle.brk_model.specs.Joins.{security_in}
 use Rattle.brk_model.specs.Tables.{Tables}
 use Rattle.brk_changes.specs.Chosen.{completed_cash_of_symbol}
 use Rattle.brk_orders.specs.declared.update.Update.TheVariants as update
-use Rattle.brk_plans.specs.declared.corrected.Corrected.{Corrected}
-use Rattle.brk_plans.specs.declared.corrected.Corrected.TheVariants.{CashNames}
+use Rattle.brk_plans.specs.declared.corrected.TextUpdate.{TextUpdate}
+use Rattle.brk_plans.specs.declared.corrected.TextUpdate.TheVariants.{CashNames}
 use Rattle.brk_decisions.proofs.Looking.{read_both}
 use Rattle.brk_store.proofs.Retelling.{retold}
 use Rattle.brk_update_theorems.specs.Corrections.{ArePaid, IsFoundForUpdate, IsNamed}
@@ -19,7 +19,7 @@ IsNameOf symbol name t = MatchOption name (is_none (security_in t symbol) ≡ tr
 
 pub returns-in_default-clause-read : goal.returns-in_default-clause-read
 returns-in_default-clause-read g c =
-    retold g.S.Store c.args.store.now c.name_of.new.store {V = Option Text} {X = Option Corrected} None None
+    retold g.S.Store c.args.store.now c.name_of.new.store {V = Option Text} {X = Option TextUpdate} None None
     (IsNameOf c.args.symbol.now)
     (λ found (t : Tables). IsFoundForUpdate t (update.CashNames c.args.symbol.now c.args.span) found)
     (λ t e. e)
@@ -29,7 +29,7 @@ pub returns-clause-read : goal.returns-clause-read
 returns-clause-read g c =
     let span = c.args.span in
     let paid = c.in_ok-paid.paid in
-    read_both g.S.Store c.args.store.now c.name_of.new.store c.find_paid.new.store {X = Option Corrected} {H = Fault} (Some c.in-Some.name) paid (Some (CashNames c.in-Some.name paid))
+    read_both g.S.Store c.args.store.now c.name_of.new.store c.find_paid.new.store {X = Option TextUpdate} {H = Fault} (Some c.in-Some.name) paid (Some (CashNames c.in-Some.name paid))
     (IsNameOf c.args.symbol.now)
     (λ paid (t : Tables). ArePaid t (completed_cash_of_symbol c.args.symbol.now span.first span.last t) paid.items)
     (λ found (t : Tables). IsFoundForUpdate t (update.CashNames c.args.symbol.now span) found)

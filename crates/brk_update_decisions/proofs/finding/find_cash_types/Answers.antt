@@ -5,8 +5,8 @@ use Rattle.brk_model.specs.Joins.{account_in}
 use Rattle.brk_model.specs.Tables.{Tables}
 use Rattle.brk_changes.specs.Chosen.{completed_of_account}
 use Rattle.brk_orders.specs.declared.update.Update.TheVariants as update
-use Rattle.brk_plans.specs.declared.corrected.Corrected.{Corrected}
-use Rattle.brk_plans.specs.declared.corrected.Corrected.TheVariants.{CashTypes}
+use Rattle.brk_plans.specs.declared.corrected.TextUpdate.{TextUpdate}
+use Rattle.brk_plans.specs.declared.corrected.TextUpdate.TheVariants.{CashTypes}
 use Rattle.brk_decisions.proofs.Looking.{read_both}
 use Rattle.brk_store.proofs.Retelling.{retold}
 use Rattle.brk_update_theorems.specs.Corrections.{AreSettled, IsFoundForUpdate}
@@ -16,7 +16,7 @@ use Rattle.brk_update_decisions.proofs.finding.find_cash_types.Goals as goal
 pub returns-then-not-branch-clause-read : goal.returns-then-not-branch-clause-read
 returns-then-not-branch-clause-read g c =
     let there = c.in_ok-is_account_there.field-0 in
-    retold g.S.Store c.args.store.now c.is_account_there.new.store {X = Option Corrected} there None
+    retold g.S.Store c.args.store.now c.is_account_there.new.store {X = Option TextUpdate} there None
     (λ there (t : Tables). there ≡ is_some (account_in t c.args.account))
     (λ found (t : Tables). IsFoundForUpdate t (update.CashTypes c.args.account c.args.span) found)
     (λ t e. missing_if (account_in t c.args.account) there e c.if-not-branch.true)
@@ -27,7 +27,7 @@ returns-clause-read g c =
     let span = c.args.span in
     let there = c.in_ok-is_account_there.field-0 in
     let settled = c.in_ok-settled.settled in
-    read_both g.S.Store c.args.store.now c.is_account_there.new.store c.find_settled.new.store {X = Option Corrected} {H = Fault} there settled (Some (CashTypes settled))
+    read_both g.S.Store c.args.store.now c.is_account_there.new.store c.find_settled.new.store {X = Option TextUpdate} {H = Fault} there settled (Some (CashTypes settled))
     (λ there (t : Tables). there ≡ is_some (account_in t c.args.account))
     (λ settled (t : Tables). AreSettled t (completed_of_account c.args.account span.first span.last t) settled.items)
     (λ found (t : Tables). IsFoundForUpdate t (update.CashTypes c.args.account span) found)

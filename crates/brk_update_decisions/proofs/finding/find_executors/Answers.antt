@@ -8,14 +8,14 @@ use Rattle.brk_changes.specs.declared.trade_row.TradeRow.{TradeRow}
 use Rattle.brk_orders.specs.declared.update.Update.TheVariants as update
 use Rattle.brk_store.proofs.Retelling.{retold}
 use Rattle.brk_update_theorems.specs.Corrections.{AreTradesOf, IsFoundForUpdate}
-use Rattle.brk_plans.specs.declared.corrected.Corrected.{Corrected}
-use Rattle.brk_plans.specs.declared.corrected.Corrected.TheVariants.{Executors}
+use Rattle.brk_plans.specs.declared.corrected.TextUpdate.{TextUpdate}
+use Rattle.brk_plans.specs.declared.corrected.TextUpdate.TheVariants.{Executors}
 use Rattle.brk_update_decisions.proofs.finding.find_executors.Goals as goal
 
 pub returns-in-Some-clause-read : goal.returns-in-Some-clause-read
 returns-in-Some-clause-read g c =
     let ids = c.args.trades.now in
-    retold g.S.Store c.args.store.now c.find_trades.new.store {V = Option (Vec TradeRow)} {X = Option Corrected} (Some c.in-Some.trades) (Some (Executors c.in-Some.trades))
+    retold g.S.Store c.args.store.now c.find_trades.new.store {V = Option (Vec TradeRow)} {X = Option TextUpdate} (Some c.in-Some.trades) (Some (Executors c.in-Some.trades))
     (λ found (t : Tables). MatchOption found (list_any (λ id. is_none (trade_in t id)) ids ≡ true) (λ trades. AreTradesOf t ids trades.items))
     (λ found (t : Tables). IsFoundForUpdate t (update.Executors c.args.trades.now) found)
     (λ t e. e)
@@ -24,7 +24,7 @@ returns-in-Some-clause-read g c =
 pub returns-in-None-clause-read : goal.returns-in-None-clause-read
 returns-in-None-clause-read g c =
     let ids = c.args.trades.now in
-    retold g.S.Store c.args.store.now c.find_trades.new.store {V = Option (Vec TradeRow)} {X = Option Corrected} None None
+    retold g.S.Store c.args.store.now c.find_trades.new.store {V = Option (Vec TradeRow)} {X = Option TextUpdate} None None
     (λ found (t : Tables). MatchOption found (list_any (λ id. is_none (trade_in t id)) ids ≡ true) (λ trades. AreTradesOf t ids trades.items))
     (λ found (t : Tables). IsFoundForUpdate t (update.Executors c.args.trades.now) found)
     (λ t e. e)

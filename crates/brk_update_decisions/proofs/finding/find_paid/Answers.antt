@@ -7,7 +7,7 @@ use Rattle.brk_model.specs.Tables.{Tables}
 use Rattle.brk_changes.specs.Chosen.{completed_cash_of_symbol}
 use Rattle.brk_changes.specs.Rows.{trade_row_of}
 use Rattle.brk_changes.specs.declared.trade_row.TradeRow.{TradeRow}
-use Rattle.brk_plans.specs.declared.corrected.Paid.{Paid}
+use Rattle.brk_plans.specs.declared.corrected.CashText.{CashText}
 use Rattle.brk_decisions.proofs.Looking.{read_both}
 use Rattle.brk_store.proofs.Retelling.{retold}
 use Rattle.brk_update_theorems.specs.Corrections.{ArePaid, paid_in, paid_row, cash_in}
@@ -15,7 +15,7 @@ use Rattle.brk_update_decisions.proofs.Found.{one_more, twice}
 use Rattle.brk_update_decisions.proofs.finding.find_paid.Goals as goal
 
 -- what was read is of the first of the trades that are chosen
-abbrev FirstPaid : Text → (first last : ℕ) → List TradeRow → List Paid → ℕ → Tables → Type 0
+abbrev FirstPaid : Text → (first last : ℕ) → List TradeRow → List CashText → ℕ → Tables → Type 0
 FirstPaid symbol first last rows paid i t =
     (map trade_row_of rows ≡ completed_cash_of_symbol symbol first last t) × (map paid_row paid ≡ map (λ r. paid_in t (trade_row_of r)) (take i rows))
 

@@ -5,7 +5,7 @@ use Rattle.brk_model.specs.Tables.{Tables}
 use Rattle.brk_changes.specs.Chosen.{completed_of_account}
 use Rattle.brk_changes.specs.Rows.{cash_type_word, trade_row_of}
 use Rattle.brk_changes.specs.declared.trade_row.TradeRow.{TradeRow}
-use Rattle.brk_plans.specs.declared.corrected.Settled.{Settled}
+use Rattle.brk_plans.specs.declared.corrected.SettlementText.{SettlementText}
 use Rattle.brk_decisions.proofs.Looking.{read_both}
 use Rattle.brk_store.proofs.Retelling.{retold}
 use Rattle.brk_update_theorems.specs.Corrections.{AreSettled, settled_in, settled_row, settlement_in}
@@ -13,7 +13,7 @@ use Rattle.brk_update_decisions.proofs.Found.{one_more, twice}
 use Rattle.brk_update_decisions.proofs.finding.find_settled.Goals as goal
 
 -- what was read is of the first of the trades that are chosen
-abbrev FirstSettled : (account first last : ℕ) → List TradeRow → List Settled → ℕ → Tables → Type 0
+abbrev FirstSettled : (account first last : ℕ) → List TradeRow → List SettlementText → ℕ → Tables → Type 0
 FirstSettled account first last rows settled i t =
     (map trade_row_of rows ≡ completed_of_account account first last t) × (map settled_row settled ≡ map (λ r. settled_in t (trade_row_of r)) (take i rows))
 

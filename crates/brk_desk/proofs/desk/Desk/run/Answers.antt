@@ -2,7 +2,7 @@ use Rattle.std.proofs.Common.{◌≡◌, ◌∙◌, ◌<◌, ◌+◌, ◌++◌, 
 use Rattle.std.specs.Result.{IsOk, is_ok}
 use Rattle.std.specs.Vec.{vec_capacity}
 use Rattle.std.proofs.lemmas.List.{append-nil, append_assoc, take_all, take_more}
-use Rattle.brk_desk.specs.Keeping.{IsRun}
+use Rattle.brk_desk.specs.Keeping.{RunPost}
 use Rattle.brk_desk.proofs.Promise.{promise_kept}
 use Rattle.brk_desk.proofs.Running.{runs_more, runs_none}
 use Rattle.brk_desk.proofs.desk.Desk.run.Goals as goal
@@ -25,7 +25,7 @@ loop-made-preserved g c =
       ran = (
         ran.0 ++ outcome ∷ [],
         pushed ∙ ap (λ items. items ++ outcome ∷ []) ran.1 ∙ append_assoc c.args.out.now.items ran.0 (outcome ∷ []),
-        subst (λ done. IsRun g.S.Store c.args.self.now c.outcome-outcome.new.self done (ran.0 ++ outcome ∷ [])) taken made,
+        subst (λ done. RunPost g.S.Store c.args.self.now c.outcome-outcome.new.self done (ran.0 ++ outcome ∷ [])) taken made,
       );
       room = (let r = c.loop-made.invariant.room in let u = c.push.ensures.upper_bound in let k = c.push.ensures.capacity in omega arith);
     }
@@ -40,6 +40,6 @@ pub returns-clause-ran : goal.returns-clause-ran
 returns-clause-ran g c =
     let calls = c.args.calls.now in
     let ran = c.loop-made.invariant.ran in
-    let whole : IsRun g.S.Store c.args.self.now c.loop-made.self calls ran.0 =
-    subst (λ done. IsRun g.S.Store c.args.self.now c.loop-made.self done ran.0) (take_all c.loop-made.made-index calls c.loop-made-test.false) ran.2 in
+    let whole : RunPost g.S.Store c.args.self.now c.loop-made.self calls ran.0 =
+    subst (λ done. RunPost g.S.Store c.args.self.now c.loop-made.self done ran.0) (take_all c.loop-made.made-index calls c.loop-made-test.false) ran.2 in
     (ran.0, ran.1, whole, promise_kept g.S.Store c.args.self.now c.loop-made.self calls ran.0 whole)

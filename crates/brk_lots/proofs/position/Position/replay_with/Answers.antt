@@ -19,7 +19,7 @@ apply-requires c =
     let h = rw e at c.loop-deal.invariant.older in
     let p : IsPosition c.loop-deal.position = rw (← c.position.view_is) c.position.invariant.1 in
     let o = old_lots (plain_deal d) c.loop-deal.position p h.0 in
-    let k : IsClosing (plain_deal d) c.loop-deal.position c.in_ok-closing.closing = c.in_ok-closing.ensures.closing c.loop-deal.position d.lifo ((tt, c.from_end-end.ensures.rests), c.from_end-end.ensures.walk) o.0 in
+    let k : IsClosing (plain_deal d) c.loop-deal.position c.in_ok-closing.closing = c.in_ok-closing.ensures.closing c.loop-deal.position d.lifo ((tt, c.from_end-end.ensures.remaining), c.from_end-end.ensures.walk) o.0 in
     (plain_deal d, record { closes = k; fresh = o.0; later = o.1 })
 
 pub loop-deal-preserved : goal.loop-deal-preserved
@@ -33,7 +33,7 @@ loop-deal-preserved c =
     let s = rw e at c.loop-deal.invariant.shares in
     let p : IsPosition c.loop-deal.position = rw (← c.position.view_is) c.position.invariant.1 in
     let o = old_lots (plain_deal d) c.loop-deal.position p h.0 in
-    let k : IsClosing (plain_deal d) c.loop-deal.position c.in_ok-closing.closing = c.in_ok-closing.ensures.closing c.loop-deal.position d.lifo ((tt, c.from_end-end.ensures.rests), c.from_end-end.ensures.walk) o.0 in
+    let k : IsClosing (plain_deal d) c.loop-deal.position c.in_ok-closing.closing = c.in_ok-closing.ensures.closing c.loop-deal.position d.lifo ((tt, c.from_end-end.ensures.remaining), c.from_end-end.ensures.walk) o.0 in
     let t : shares_of c.apply.new.self ≡ shares_after (shares_of c.loop-deal.position) (plain_deal d) = c.in_ok-apply.ensures.shares (plain_deal d) (record { closes = k; fresh = o.0; later = o.1 }) in
     let d' = plain_deal d in
     let us = shares_of c.loop-deal.position in

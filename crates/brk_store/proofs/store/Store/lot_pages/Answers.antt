@@ -5,8 +5,8 @@ use Rattle.brk_store.specs.Pages.{left_of, rows_from}
 use Rattle.brk_store.proofs.Turning.{map_end}
 use Rattle.brk_store.proofs.store.Store.lot_pages.Goals as goal
 
-pub returns-clause-rests : goal.returns-clause-rests
-returns-clause-rests g c t holds =
+pub returns-clause-remaining : goal.returns-clause-remaining
+returns-clause-remaining g c t holds =
     let account = c.args.account in
     let symbol = c.args.symbol.now in
     let none : c.new.result.items ≡ [] = search rules in

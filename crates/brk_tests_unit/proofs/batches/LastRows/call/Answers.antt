@@ -1,12 +1,12 @@
 use Rattle.std.proofs.Common.{◌≡◌, ℕ, Bool, true, false, rules, refl, ap, of_z, to_z, w64}
 use Rattle.std.specs.Prelude.{nat_abs}
 use Rattle.brk_model.specs.Commands.{Answer, Booked, Done}
-use Rattle.brk_batch_engine.specs.Answers.{StandsBy}
+use Rattle.brk_batch_engine.specs.Answers.{RepresentsDurably}
 use Rattle.brk_tests_unit.specs.declared.batches.Last.{Last}
 use Rattle.brk_tests_unit.proofs.batches.LastRows.call.Goals as goal
 
 -- nothing is asked of a stop
-stands_by : (sure : Bool) (desk : Last) → StandsBy (λ (d : Last) (b : ℕ). b ≡ d.moment) (λ _ _ _. Unit {0}) sure desk desk.moment
+stands_by : (sure : Bool) (desk : Last) → RepresentsDurably (λ (d : Last) (b : ℕ). b ≡ d.moment) (λ _ _ _. Unit {0}) sure desk desk.moment
 stands_by false desk = refl
 stands_by true desk = (refl, tt)
 

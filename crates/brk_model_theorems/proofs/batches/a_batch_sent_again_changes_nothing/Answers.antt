@@ -1,5 +1,0 @@
-use Rattle.brk_model_theorems.proofs.AgainLaws.{comes-again}
-use Rattle.brk_model_theorems.proofs.batches.a_batch_sent_again_changes_nothing.Goals as goal
-
-pub returns : goal.returns
-returns c = λ form base later moments others input answers first second. comes-again form base later moments others input answers first second
