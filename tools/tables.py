@@ -414,7 +414,7 @@ plain = no_returning statement (read statement) select refl refl refl
 
 
 def shapes():
-    out = """-- Written by tools/tables.py: what the tables are made of, each at any tree.
+    out = """-- Written by tools/tables.py: the shape of each table, with its rows in any tree.
 use Rattle.std.specs.Prelude.{ℕ, List, [], ◌∷◌, codes, Some, None}
 use Rattle.sqlite_schema.specs.declared.schema.Table.{Table}
 use Rattle.brk_sql.specs.Desk.{text, whole, perhaps, refers, table_of}
@@ -448,26 +448,26 @@ use Rattle.brk_money.specs.Kinds.{{type_code, status_code, tax_status_number}}
 use Rattle.brk_model.specs.Records.{{{RECORDS}}}
 use Rattle.brk_model.specs.Tables.{{{ROWS}}}
 
--- the row of DESK: D_ID, D_SCHEMA, D_LAST
+-- The row of DESK: D_ID, D_SCHEMA, D_LAST.
 pub record DeskRow : Type 0 where
   pub id : ℕ
   pub schema : ℕ
   pub last : Option ℕ
 
--- a row of SETTLE_RULE: SR_ID, SR_DAY
+-- A row of SETTLE_RULE: SR_ID, SR_DAY.
 pub record RuleRow : Type 0 where
   pub id : ℕ
   pub day : ℕ
 
--- a number that is not below 0
+-- The cell of a natural number.
 abbrev pub nat : ℕ → Value
 nat n = Int (pos n)
 
--- such a number, or null
+-- The cell of a natural number, or null.
 abbrev pub maybe : Option ℕ → Value
 maybe = or_null (λ n. Int (pos n))
 
--- 1 for true and 0 for false
+-- The cell of a truth value: 1 for true, 0 for false.
 abbrev pub flag : Bool → Value
 flag b = Int (pos (if b then 1 else 0))
 """
@@ -481,7 +481,7 @@ abbrev pub {t}_cells : {row} → Row
 
 def desk():
     both = lambda f: '\n'.join(f(d) for d in DATA)
-    out = f"""-- Written by tools/tables.py: the tables of a desk, and the list of rows that each of them holds.
+    out = f"""-- Written by tools/tables.py: the tables of a desk, and the list of rows that each holds.
 use Rattle.std.specs.Prelude.{{◌≡◌, ℕ, Bool, true, List, [], ◌∷◌, Option, Some, None, map, filter, refl}}
 use Rattle.std.specs.declared.cmp.Ordering.{{Ordering}}
 use Rattle.sqlite_value.specs.Order.{{Row}}
@@ -495,18 +495,18 @@ use Rattle.brk_tables_schema.specs.Shapes.{{{', '.join(d[0] for d in DATA)}}}
 use Rattle.brk_tables_schema.specs.Cells.{{DeskRow, RuleRow, {', '.join(d[0] + '_cells' for d in DATA)}}}
 use Rattle.brk_tables_schema.specs.Order.{{by_key_values}}
 
--- the tables by name
+-- A table, by its name.
 pub data Which : Type 0 where
 {both(lambda d: f'  {d[2]} : Which')}
 
--- the one row of DESK, in a schema
+-- The single row of DESK, in a schema.
 abbrev pub desk_rows : Schema → Option ℕ → List DeskRow
 desk_rows schema last = record {{ id = 1; schema = schema.number; last = last }} ∷ []
 
 abbrev pub desk_key : DeskRow → List KeyPart
 desk_key r = number r.id ∷ []
 
--- the one row of SETTLE_RULE, or none
+-- The single row of SETTLE_RULE, or none.
 abbrev pub rule_rows : Option ℕ → List RuleRow
 rule_rows None = []
 rule_rows (Some day) = record {{ id = 1; day = day }} ∷ []
@@ -514,19 +514,19 @@ rule_rows (Some day) = record {{ id = 1; day = day }} ∷ []
 abbrev pub rule_key : RuleRow → List KeyPart
 rule_key r = number r.id ∷ []
 
--- whether a schema has a table
+-- True if the schema has the table.
 abbrev pub has_table : Schema → Which → Bool
 {chr(10).join(f'has_table schema {d[2]} = schema.{LATER[d[0]]}' for d in DATA if d[0] in LATER)}
 has_table schema w = true
 
--- what each is made of
+-- The shape of a table, with its rows in the tree `n`.
 abbrev pub shape : Which → ℕ → Table
 {both(lambda d: f'shape {d[2]} = {d[0]}')}
 
 abbrev pub placed : (w : Which) (tree : ℕ) → (shape w tree).tree ≡ tree
 {both(lambda d: f'placed {d[2]} tree = refl')}
 
--- what a row of it is
+-- The type of the rows of a table.
 abbrev pub Item : Which → Type 0
 {both(lambda d: f'Item {d[2]} = {d[3]}')}
 
@@ -536,45 +536,45 @@ abbrev pub encode : (w : Which) → Item w → Row
 abbrev pub key : (w : Which) → Item w → List KeyPart
 {both(lambda d: f'key {d[2]} = {d[4]}')}
 
--- by rising key
+-- The order of the rows of a table: by key, ascending.
 abbrev pub order : (w : Which) → Item w → Item w → Ordering
 order w = by_key_values (key w)
 
--- the rows that it holds in a schema
+-- The rows that a table holds in a schema.
 abbrev pub list_in : Schema → (w : Which) → Tables → List (Item w)
 {both(lambda d: f'list_in schema {d[2]} t = {d[5]}')}
 
--- the rows that it holds, in the schema that a desk keeps
+-- The rows that a table holds in the third schema, which an open desk has.
 abbrev pub list : (w : Which) → Tables → List (Item w)
 list = list_in third_schema
 
--- the tables of a desk in a schema, which may lack some
+-- The tables of a desk in a schema, which may lack some of them.
 abbrev pub desk_in : Schema → Desk Which Tables
 desk_in schema = record {{ shape = shape; placed = placed; Item = Item; encode = encode; order = order; list = list_in schema }}
 
--- all of them
+-- The tables of a desk in the third schema.
 abbrev pub desk : Desk Which Tables
 desk = desk_in third_schema
 
 abbrev pub all_tables : List Which
 all_tables = {lst(d[2] for d in DATA)}
 
--- the tables of a schema, and those that it lacks
+-- The list of the tables of a schema, and of those that it lacks.
 abbrev pub tables_in : Schema → List Which
 tables_in schema = filter (has_table schema) all_tables
 
--- the name of a table
+-- The name of a table.
 abbrev pub name_of : Which → List ℕ
 name_of w = (shape w 0).name
 
--- their names
+-- The names of all tables.
 abbrev pub names : List (List ℕ)
 names = map name_of all_tables
 """
     save(f'{SPECS}/Desk.antt', out)
 
 def splits():
-    out = f"""-- Written by tools/tables.py: whether a table is a certain one.
+    out = f"""-- Written by tools/tables.py: equality of tables is decidable.
 use Rattle.std.proofs.Common.{{◌≡◌, ◌≢◌, ◌⊎◌, refl, inl, inr}}
 use Rattle.sqlite_rules.specs.Lists.{{Has}}
 use Rattle.brk_tables_schema.specs.Desk.{{Which, {', '.join(d[2] for d in DATA)}, all_tables}}
@@ -586,11 +586,11 @@ is_{d[0]} {d[2]} = inl refl
 is_{d[0]} v = inr (λ e. absurd (let f = e in cc))
 """
     out += f"""
--- whether a table is another
+-- Two tables are equal or not.
 pub split : (w v : Which) → (v ≡ w) ⊎ (v ≢ w)
 {chr(10).join(f'split {d[2]} v = is_{d[0]} v' for d in DATA)}
 
--- each is listed
+-- The list of all tables contains each table.
 pub all_listed : (w : Which) → Has all_tables w
 {chr(10).join(f'all_listed {d[2]} = {"inr (" * i}inl refl{")" * i}' for i, d in enumerate(DATA))}
 """
@@ -617,7 +617,7 @@ def create_text(d):
     return f'CREATE TABLE {sql} ({", ".join(parts)}) STRICT'
 
 def making():
-    out = f"""-- Written by tools/tables.py: which table each text makes.
+    out = f"""-- Written by tools/tables.py: the table that each text creates.
 use Rattle.std.proofs.Common.{{◌≡◌, ℕ, List, [], ◌∷◌, codes, Ok, refl, inl, inr}}
 use Rattle.sqlite.specs.State.{{State, Executes}}
 use Rattle.sqlite_tied.specs.Compute.{{everything}}
@@ -631,7 +631,7 @@ use Rattle.brk_tables_schema.specs.Desk.{{Which, {', '.join(d[2] for d in DATA)}
 use Rattle.brk_tables_schema.proofs.Wide.{{Wide, wide, wide_list}}
 use Rattle.brk_tables_create.specs.Texts.{{create_text}}
 
--- the tables without rows, that of DESK too
+-- The tables without rows, DESK included.
 abbrev pub bare : Wide
 bare = record {{ rows = []; rules = []; tables = no_rows }}
 """
@@ -649,11 +649,11 @@ pub makes_of : (w : Which) (old new : State) (count : ℕ) → Executes (create_
 {chr(10).join(f'makes_of {d[2]} = makes_{d[0]}' for d in DATA)}
 """
     out += f"""
--- each table is one of those that are made
+-- Each table is one of those that are created.
 pub all_made : (w : Which) → Among wide all_tables (λ _. ⊥) w
 {chr(10).join(f'all_made {d[2]} = {"inr (" * (len(DATA) - 1 - i)}inl refl{")" * (len(DATA) - 1 - i)}' for i, d in enumerate(DATA))}
 
--- none of them has rows yet
+-- None of them has a row yet.
 pub none_held : (w : Which) → wide_list w bare ≡ []
 {chr(10).join(f'none_held {d[2]} = refl' for d in DATA)}
 """
@@ -665,7 +665,7 @@ def since():
     return [(word, [d for d in DATA if order.get(LATER.get(d[0]), 1) >= number]) for number, word in [(2, 'second'), (3, 'third')]]
 
 def texts():
-    out = f"""-- Written by tools/tables.py: the tables as the code names them, and their texts.
+    out = f"""-- Written by tools/tables.py: the tables as the code names them, and their SQL texts.
 use Rattle.std.specs.Prelude.{{ℕ, List, ◌++◌, codes}}
 use Rattle.brk_tables_schema.specs.Desk.{{Which, {', '.join(d[2] for d in DATA)}, name_of}}
 use Rattle.brk_tables_create.specs.declared.table.Table.{{Table}}
@@ -674,11 +674,11 @@ use Rattle.brk_tables_create.specs.declared.table.Table.TheVariants as table
 abbrev pub which_of : Table → Which
 {chr(10).join(f'which_of table.{d[2]} = {d[2]}' for d in DATA)}
 
--- what makes a table
+-- The text of the statement that creates a table.
 abbrev pub create_text : Which → List ℕ
 {chr(10).join(f'create_text {d[2]} = codes "{create_text(d)}"' for d in DATA)}
 
--- a statement on it, which is only looked at
+-- The text of a statement on a table, which is prepared and never run.
 abbrev pub probe_text : Which → List ℕ
 probe_text w = codes "DELETE FROM " ++ name_of w
 """
@@ -694,7 +694,7 @@ probe_text w = codes "DELETE FROM " ++ name_of w
         }}
     }}
 """
-    out = f"""//! Written by tools/tables.py: the tables of a desk, and their texts.
+    out = f"""//! Written by tools/tables.py: the tables of a desk, and their SQL texts.
 
 ghost use Rattle.std.specs.Prelude.{{◌≡◌}};
 ghost use Rattle.brk_tables_create.specs.Texts.{{create_text, probe_text, which_of}};
@@ -705,7 +705,7 @@ pub enum Table {{
 {chr(10).join(f'    /// {d[1]}{chr(10)}    {d[2]},' for d in DATA)}
 }}
 
-impl Table {{{function('create_text', 'The text that makes it.', 'create_text', create_text)}{function('probe_text', 'A statement on it, which is only looked at, and never run.', 'probe_text', lambda d: f'DELETE FROM {d[1]}')}}}
+impl Table {{{function('create_text', 'Returns the text of the statement that creates the table.', 'create_text', create_text)}{function('probe_text', 'Returns the text of a statement on the table, which is prepared and never run.', 'probe_text', lambda d: f'DELETE FROM {d[1]}')}}}
 """
     for name, what, tables in by_schema():
         out += f"""
@@ -715,7 +715,7 @@ pub const {name.upper()}: [Table; {len(tables)}] = [{', '.join(f'Table::{d[2]}' 
     save('crates/brk_tables_create/src/table.rt', out)
 
 def probing():
-    out = f"""-- Written by tools/tables.py: what a statement that is looked at, and not run, tells of a table.
+    out = f"""-- Written by tools/tables.py: what preparing a statement on a table shows of it.
 use Rattle.std.proofs.Common.{{◌≡◌, ℕ, List, codes, Bool, refl}}
 use Rattle.sqlite_schema.specs.declared.schema.Schema.{{Schema}}
 use Rattle.sqlite.specs.Listing.{{listing_schema}}
@@ -748,17 +748,17 @@ def by_schema():
     lacking = lambda tables: [d for d in DATA if d not in tables]
     return [
         ('in_first', 'the tables of the first schema', lacking(added['second'])),
-        ('in_second', 'those of the second', lacking(added['third'])),
-        ('in_third', 'those of the third', DATA),
-        ('since_second', 'those that the second and the third add', added['second']),
-        ('since_third', 'those that the third adds', added['third']),
+        ('in_second', 'the tables of the second schema', lacking(added['third'])),
+        ('in_third', 'the tables of the third schema', DATA),
+        ('added_after_first', 'the tables that the second and the third schema add', added['second']),
+        ('added_after_second', 'the tables that the third schema adds', added['third']),
     ]
 
 def star_text(d):
     return f'SELECT * FROM {d[1]}'
 
 def stars():
-    out = f"""-- Written by tools/tables.py: what a statement that shows all columns of a table, and is not run, tells of them.
+    out = f"""-- Written by tools/tables.py: what preparing a statement that shows all columns of a table tells of them.
 use Rattle.std.proofs.Common.{{◌≡◌, ℕ, List, codes, map, Some, Ok, refl, slice_get}}
 use Rattle.sqlite_schema.specs.declared.schema.Schema.{{Schema}}
 use Rattle.sqlite_schema.specs.declared.schema.Table.{{Table}}
@@ -781,7 +781,7 @@ unfolding everything listing_schema
 
 def column_names():
     names = lambda d: ', '.join(f'"{c}"' for c, _, _, _ in d[7])
-    out = f"""//! Written by tools/tables.py: for each table of a schema a statement that shows all of its columns, and their names in their order.
+    out = f"""//! Written by tools/tables.py: for each table a statement that shows all of its columns, and their names in order.
 """
     for name, what, tables in by_schema()[:3]:
         out += f"""
@@ -792,7 +792,7 @@ pub(crate) const {name.upper()}: [(&str, &[&str]); {len(tables)}] = [
     save('crates/brk_tables_scan/src/column_names.rt', out)
 
 def listed():
-    out = f"""-- Written by tools/tables.py: the name of a table and the names of its columns are no matter of its tree.
+    out = f"""-- Written by tools/tables.py: the names of a table and of its columns do not depend on its tree.
 use Rattle.std.proofs.Common.{{◌≡◌, ℕ, refl}}
 use Rattle.brk_tables_schema.specs.Desk.{{Which, {', '.join(d[2] for d in DATA)}, shape}}
 use Rattle.brk_tables_scan.specs.Schemas.{{names_of}}
@@ -1009,7 +1009,7 @@ def rows_name(d):
 def read_whole(d):
     """The function that reads one whole table"""
     columns, keys = ', '.join(c[0] for c in d[7]), ', '.join(key_columns(d))
-    head = 'fn' if d[0] in LATER else f'/// All rows of {d[1]}.\npub fn'
+    head = 'fn' if d[0] in LATER else f'/// Returns all rows of {d[1]}.\npub fn'
     return f"""
 {head} {rows_name(d)}<S: Alter>(tx: &mut Transaction<'_, S>) -> Result<Vec<Row>, Fault>
     {SAME_REFERENCE}
@@ -1027,7 +1027,7 @@ def read_whole(d):
 def read_later_table(d):
     """The function that reads a table which not every schema has"""
     return f"""
-/// All rows of {d[1]}, or none if `schema` lacks the table.
+/// Returns all rows of {d[1]}, or no rows if `schema` lacks the table.
 pub fn {rows_name(d)}_in<S: Alter>(
     tx: &mut Transaction<'_, S>,
     alloc: Global,
@@ -1046,7 +1046,7 @@ pub fn {rows_name(d)}_in<S: Alter>(
 
 def rows_code():
     """The reads of whole tables in code"""
-    out = f"""//! All rows of each table, by rising key, as the database shows them.
+    out = f"""//! All rows of each table, sorted by key, ascending, as the database shows them.
 
 ghost use Rattle.std.specs.Prelude.{{◌≡◌, Err, OnErr}};
 ghost use Rattle.brk_money.specs.declared.fault.Fault.TheVariants.{{Store}};
@@ -1094,7 +1094,7 @@ fn read_{field}<S: Alter>{takes} -> Result<{word}Rows, Fault>
 def raw_code():
     """The reads of the groups in code"""
     reads = sorted(f'{rows_name(d)}_in' if d[0] in LATER else rows_name(d) for d in DATA)
-    out = f"""//! The rows of all tables as the database shows them, read before any of them is looked at.
+    out = f"""//! The rows of all tables as the database shows them. All are read before the first is decoded.
 
 ghost use Rattle.std.specs.Prelude.{{◌≡◌, Err, OnErr}};
 ghost use Rattle.brk_money.specs.declared.fault.Fault.TheVariants.{{Store}};
@@ -1118,7 +1118,7 @@ pub struct RawSheets {{
     out += ''.join(read_group(word, field, tables) for word, field, _, tables in groups())
     call = lambda word: '(tx, alloc, schema)?' if word == 'Later' else '(tx)?'
     out += f"""
-/// Reads the rows of all tables of `schema`. Those of a table that it lacks are none.
+/// Reads the rows of all tables of `schema`. A table that it lacks has no rows.
 pub fn read_raw<S: Alter>(
     tx: &mut Transaction<'_, S>,
     alloc: Global,
@@ -1159,7 +1159,7 @@ fn decode_{field}(alloc: Global, {schema}raw: &{word}Rows) -> Result<{word}Sheet
 def decoding_code():
     """The decoding of all rows in code"""
     types = lambda crate, *more: ', '.join(sorted([record_type(d) for d in records_of(crate)] + list(more)))
-    out = f"""//! The rows of all tables in types.
+    out = f"""//! The typed rows of all tables.
 
 ghost use Rattle.std.specs.Prelude.{{◌≡◌, Err, IfOk, false}};
 ghost use Rattle.brk_tables_schema.specs.declared.decode_error.DecodeError.TheVariants.{{Form as Formless}};
@@ -1179,7 +1179,8 @@ use std::alloc::Global;
     out += ''.join(decode_group(word, field, tables) for word, field, _, tables in groups())
     schema = lambda word: 'schema, ' if word == 'First' else ''
     out += f"""
-/// All rows in types, where each column has its form.
+/// Returns the typed rows of all tables. Fails with `Form` if a column is malformed, or with
+/// `Memory`.
 pub fn decode(alloc: Global, schema: Schema, raw: &RawSheets) -> Result<Sheets, DecodeError>
     ensures value {{ IfOk result (λ sheets. AreSheets (schema_of schema) sheets raw.now) }}
     ensures form {{ result ≡ Err Formless → formed (schema_of schema) raw.now ≡ false }}
@@ -1202,7 +1203,7 @@ use Rattle.brk_changes.specs.Rows.{{{names('brk_changes')}}}"""
 
 def raw_spec():
     """What the reads of all tables show"""
-    out = f"""-- What the reads of all tables show.
+    out = f"""-- The raw rows of all tables, as their reads show them.
 use Rattle.std.specs.Prelude.{{◌≡◌, List, IsTrue}}
 use Rattle.sqlite_value.specs.Order.{{Row}}
 use Rattle.sqlite.specs.State.{{State}}
@@ -1212,11 +1213,11 @@ use Rattle.brk_tables_scan.specs.Whole.{{ShowsAll, ShowsIf}}
 {declared('raw', 'Rows')}
 use Rattle.brk_tables_scan.specs.declared.raw.RawSheets.{{RawSheets}}
 
--- nothing changed, and the database is open
+-- Nothing changed, and the database is open.
 abbrev pub Stays : State → State → Type 0
 Stays old new = IsTrue old.is_open × (new.now ≡ old.now)
 
--- the rows of four tables
+-- The reads show the rows of these tables, whole, and change nothing.
 pub record ShowsFour (first second third fourth : Which) (a b c d : List Row) (old new : State) : Type 0 where
   pub stays : Stays old new
   pub one : ShowsAll first a old.now
@@ -1230,16 +1231,16 @@ abbrev pub Shows{word} : {word}Rows → State → State → Type 0
 Shows{word} raw = ShowsFour {' '.join(d[2] for d in tables)} {' '.join(f'raw.{raw_field(d)}.items' for d in tables)}
 """
     out += f"""
--- the rows of the tables that later schemas add, where a schema has them
+-- The reads show the rows of the tables that later schemas add, if `schema` has them.
 pub record ShowsLater (desk : Schema) (raw : LaterRows) (old new : State) : Type 0 where
   pub same : new.now ≡ old.now
 {chr(10).join(f'  pub {raw_field(d)} : ShowsIf desk {d[2]} raw.{raw_field(d)}.items old.now' for d in groups()[-1][3])}
 
--- the rows of each table
+-- The reads show the rows of each table of `schema`.
 abbrev pub raw_rows : RawSheets → Which → List Row
 {chr(10).join(f'raw_rows raw {d[2]} = raw.{field}.{raw_field(d)}.items' for _, field, _, tables in groups() for d in tables)}
 
--- each table of a schema is shown whole, none of another, and nothing changed
+-- The reads show each table of `schema` whole and no other table, and change nothing.
 abbrev pub ShowsDesk : Schema → RawSheets → State → State → Type 0
 ShowsDesk desk raw old new = Stays old new × ((w : Which) → ShowsIf desk w (raw_rows raw w) old.now)
 """
@@ -1254,7 +1255,7 @@ def decoded_group(word, field, tables):
     form = lambda d: VALUES[d[0]][3] if d[0] in VALUES else f'list_all (all_formed {d[0]}_forms) raw.{raw_field(d)}.items'
     fields = '\n'.join(f'  pub {raw_field(d)} : map {shown(d)} {of(d)} ≡ raw.{raw_field(d)}.items' for d in tables)
     return f"""
--- they are the rows of these tables in types
+-- The raw rows encode the rows of these tables.
 pub record Is{word} {'(schema : Schema) ' if first else ''}(sheets : {word}Sheets) (raw : {word}Rows) : Type 0 where
 {fields}
 
@@ -1265,7 +1266,7 @@ formed_{field} {'desk ' if first else ''}raw = {' && '.join(form(d) for d in tab
 def decoded_spec():
     """What the rows of all tables are in types"""
     forms = ', '.join(VALUES[d[0]][3].split()[0] if d[0] in VALUES else f'{d[0]}_forms' for d in DATA)
-    out = f"""-- What the rows of all tables are in types, and whether they have their forms.
+    out = f"""-- The typed rows of all tables, and the test that each raw row is well-formed.
 use Rattle.std.specs.Prelude.{{◌≡◌, Bool, ◌&&◌, map}}
 use Rattle.std.specs.List.{{list_all}}
 use Rattle.brk_model.specs.Schemas.{{Schema}}
@@ -1283,11 +1284,11 @@ use Rattle.brk_tables_scan.specs.declared.raw.RawSheets.{{RawSheets}}
     out += ''.join(decoded_group(word, field, tables) for word, field, _, tables in groups())
     desk = lambda word: 'desk ' if word == 'First' else ''
     out += f"""
--- each column of each row has its form
+-- True if each column of each row is well-formed.
 abbrev pub formed : Schema → RawSheets → Bool
 formed desk raw = {' && '.join(f'formed_{field} {desk(word)}raw.{field}' for word, field, _ in GROUPS)}
 
--- the sheets are the rows of all tables in types
+-- The sheets are the typed rows of all tables.
 abbrev pub AreSheets : Schema → Sheets → RawSheets → Type 0
 AreSheets desk sheets raw = (w : Which) → map (encode w) (list_in desk w (tables_in_sheets sheets)) ≡ raw_rows raw w
 """
@@ -1300,7 +1301,7 @@ def sheeted():
     sheets = ' '.join(f'({v} : {word}Sheets)' for word, _, v in GROUPS)
     are = ' '.join(f'(is_{v} : Is{word} {desk(word)}{v} raw.{field})' for word, field, v in GROUPS)
     twice = lambda d, v: '' if d[0] in VALUES else f'map_twice {d[0]}_cells {record_meaning(d)} {v}.{sheet_field(d)}.items ∙ '
-    out = f"""-- The rows of all tables in types are the sheets.
+    out = f"""-- The typed rows of all tables are the sheets.
 use Rattle.std.proofs.Common.{{◌∙◌}}
 use Rattle.brk_sql.proofs.Order.{{map_twice}}
 use Rattle.brk_model.specs.Schemas.{{Schema}}
@@ -1324,13 +1325,13 @@ module _ {sheets} (desk : Schema) (raw : RawSheets) {are} where
 def sheets_spec():
     """What the sheets are in the model"""
     rows = lambda d: f's.{sheet_field(d)}' if d[0] in VALUES else f'map {record_meaning(d)} s.{sheet_field(d)}.items'
-    out = f"""-- What the rows of a desk's tables are in the abstract brokerage.
+    out = f"""-- The tables of the model that the rows of a desk's tables stand for.
 use Rattle.std.specs.Prelude.{{map}}
 use Rattle.brk_model.specs.Tables.{{Tables}}
 {meanings()}
 use Rattle.brk_changes.specs.declared.sheets.Sheets.{{Sheets}}
 
--- the tables that the rows in types are
+-- The tables of the model with these typed rows.
 abbrev pub tables_in_sheets : Sheets → Tables
 tables_in_sheets s = record {{
 {chr(10).join(f'  {sheet_field(d)} = {rows(d)};' for d in DATA)}
@@ -1349,7 +1350,7 @@ def sheets_code():
 use brk_money::{{Day, Stamp}};
 use brk_ref::{{{', '.join(sorted(record_type(d) for d in records_of('brk_ref')))}}};
 
-/// The rows of a desk's tables, each list by rising key.
+/// The rows of all tables of a desk, each list sorted by key, ascending.
 #[derive(Drop)]
 pub struct Sheets {{
 {fields}}}

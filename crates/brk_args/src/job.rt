@@ -1,27 +1,28 @@
 use brk_money::{Day, Id, Stamp};
 use std::alloc::AllocError;
 
-/// What the words of the command line ask for.
+/// The job that the command-line arguments give.
 #[derive(Drop)]
 pub enum Job {
-    /// A batch from standard input, over the file at a path or a database in memory, at a moment or at those that the
-    /// machine's clock tells.
+    /// A batch from standard input, on the file at `db` or a database in memory. Its timestamps are
+    /// `at`, or readings of the machine's clock.
     Batch {
         db: Option<String>,
         at: Option<Stamp>,
     },
-    /// The statement of an account from a day to another, of the file at a path.
+    /// The statement of an account from `from` to `to`, of the file at `db`.
     Statement {
         db: String,
         account: Id,
         from: Day,
         to: Day,
     },
-    /// The audit of the file at a path.
+    /// The audit of the file at `db`.
     Audit {
         db: String,
     },
-    /// This many streams, one after the other, at a port of this machine, over the same as a batch.
+    /// The given number of streams, in sequence, at a port of this machine, with `db` and `at` as
+    /// for a batch.
     Serve {
         port: u16,
         db: Option<String>,
@@ -30,18 +31,18 @@ pub enum Job {
     },
 }
 
-/// Why no job was read, or not done.
+/// The reason why the arguments give no job.
 #[derive(Drop)]
 pub enum UsageFault {
-    /// The words are wrong; with the text that says why.
+    /// The arguments are wrong, for the reason in this text.
     Words(String),
-    /// Help was asked for, or the version; with its text.
+    /// Help or the version was requested, which is this text.
     Help(String),
-    /// A word stands for a day, and is none.
+    /// An argument must be a day, and is not.
     Day,
-    /// What is asked for is not there yet.
+    /// The requested job does not exist yet.
     NotYet,
-    /// Memory was refused.
+    /// Out of memory.
     Memory,
 }
 

@@ -1,4 +1,4 @@
-//! The words of the command line, and the job that they ask for.
+//! The command-line arguments, and the job that they give.
 #![tactic(auto)]
 
 pub mod job;

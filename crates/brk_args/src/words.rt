@@ -6,14 +6,14 @@ use std::alloc::{AllocError, Global};
 
 const VERSION: &str = "0.1.0";
 
-// A file that is made where it is missing or empty.
+// Returns the argument of a file that is created if it is missing or empty.
 fn made_file<'a>(alloc: Global) -> Arg<'a> {
     Arg::new(alloc, "db").long("db").value_name("FILE").help(
         "The file that keeps the desk, made where it is missing or empty; without it the desk is forgotten",
     )
 }
 
-// A file that has to be there.
+// Returns the argument of a file that must exist.
 fn kept_file<'a>(alloc: Global) -> Arg<'a> {
     Arg::new(alloc, "db")
         .long("db")
@@ -40,7 +40,7 @@ fn day<'a>(alloc: Global, name: &'static str, help: &'static str) -> Arg<'a> {
         .required(true)
 }
 
-// The words of `brk batch`.
+// Returns the arguments of `brk batch`.
 fn batch<'a>(alloc: Global) -> Result<Command<'a>, AllocError> {
     Command::new(alloc, "batch")
         .about("Reads a batch from standard input and writes a line for each row")
@@ -48,7 +48,7 @@ fn batch<'a>(alloc: Global) -> Result<Command<'a>, AllocError> {
         .arg(moment(alloc))
 }
 
-// The words of `brk statement`.
+// Returns the arguments of `brk statement`.
 fn statement<'a>(alloc: Global) -> Result<Command<'a>, AllocError> {
     let account = Arg::new(alloc, "account")
         .long("account")
@@ -66,14 +66,14 @@ fn statement<'a>(alloc: Global) -> Result<Command<'a>, AllocError> {
         .arg(day(alloc, "to", "The last day"))
 }
 
-// The words of `brk audit`.
+// Returns the arguments of `brk audit`.
 fn audit<'a>(alloc: Global) -> Result<Command<'a>, AllocError> {
     Command::new(alloc, "audit")
         .about("Tests that the tables of a desk follow from one another, and prints ok")
         .arg(kept_file(alloc))
 }
 
-// The words of `brk serve`.
+// Returns the arguments of `brk serve`.
 fn serve<'a>(alloc: Global) -> Result<Command<'a>, AllocError> {
     let port = Arg::new(alloc, "port")
         .long("port")
@@ -95,7 +95,7 @@ fn serve<'a>(alloc: Global) -> Result<Command<'a>, AllocError> {
         .arg(streams)
 }
 
-// The words that `brk` takes.
+// Returns the arguments of `brk`.
 fn grammar<'a>(alloc: Global) -> Result<Command<'a>, AllocError> {
     let batch = batch(alloc)?;
     let statement = statement(alloc)?;
@@ -113,7 +113,7 @@ fn grammar<'a>(alloc: Global) -> Result<Command<'a>, AllocError> {
         .subcommand(serve)
 }
 
-// A text that was given.
+// Returns the text that was given for `name`, or an empty text.
 fn text_of(alloc: Global, matches: &ArgMatches<'_>, name: &str) -> Result<String, AllocError> {
     String::from_str(alloc, matches.get_str(name).unwrap_or(""))
 }
@@ -155,7 +155,7 @@ fn serve_of(alloc: Global, matches: &ArgMatches<'_>) -> Result<Job, UsageFault> 
     })
 }
 
-// The job that the matched words ask for.
+// Returns the job that the matched arguments give.
 fn job_of(alloc: Global, name: &str, matches: &ArgMatches<'_>) -> Result<Job, UsageFault> {
     if name == "statement" {
         return statement_of(alloc, matches);
@@ -173,7 +173,7 @@ fn job_of(alloc: Global, name: &str, matches: &ArgMatches<'_>) -> Result<Job, Us
     })
 }
 
-// What an error of the words is told as.
+// Returns the usage fault of an argument error.
 fn fault_of(alloc: Global, error: &Error) -> UsageFault {
     let kind = error.kind();
     if kind == ErrorKind::OutOfMemory {
@@ -189,7 +189,7 @@ fn fault_of(alloc: Global, error: &Error) -> UsageFault {
     }
 }
 
-/// What is told of a word that is no text.
+/// Returns the fault of an argument that is not UTF-8.
 pub fn no_text(alloc: Global) -> UsageFault {
     match String::from_str(alloc, "error: a word that is no UTF-8\n") {
         Ok(text) => UsageFault::Words(text),
@@ -197,7 +197,8 @@ pub fn no_text(alloc: Global) -> UsageFault {
     }
 }
 
-/// Reads the words of the command line, the program's own name first. Of help that was asked for it answers the text.
+/// Parses the command-line arguments, the program's own name first, and returns their job. Fails
+/// with `Help` and its text if help was requested.
 pub fn read_words(words: Vec<String>) -> Result<Job, UsageFault> {
     let alloc = *words.allocator();
     let command = grammar(alloc)?;

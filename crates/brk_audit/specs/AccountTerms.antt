@@ -1,4 +1,4 @@
--- The terms of accounts, by a map from their ids.
+-- The terms of accounts (broker and tax status), in a map from their ids.
 use Rattle.std.specs.Prelude.{ℕ}
 use Rattle.std.specs.Option.{option_map_or}
 use Rattle.std.specs.Ordering.{nat_cmp}
@@ -8,14 +8,14 @@ use Rattle.brk_money.specs.declared.tax_status.TaxStatus.TheVariants.{Untaxed}
 use Rattle.brk_ref.specs.declared.account.AccountRow.{AccountRow}
 use Rattle.brk_audit.specs.declared.account_terms.AccountTerms.{AccountTerms}
 
--- the terms of a row
+-- The terms of the account's row.
 abbrev pub terms_of : AccountRow → AccountTerms
 terms_of a = record { broker = a.account.broker; tax_status = a.account.tax_status }
 
--- the broker that a map has of an account, 0 where it has none
+-- The broker of the account in the map, or 0 if the map has no such account.
 abbrev pub broker_by : BTreeMap ℕ AccountTerms → ℕ → ℕ
 broker_by terms account = option_map_or (λ x. x.broker) (get nat_cmp terms account) 0
 
--- the tax status that it has
+-- The tax status of the account in the map, or untaxed if the map has no such account.
 abbrev pub tax_status_by : BTreeMap ℕ AccountTerms → ℕ → TaxStatus
 tax_status_by terms account = option_map_or (λ x. x.tax_status) (get nat_cmp terms account) Untaxed

@@ -1,4 +1,4 @@
--- What the conditions before take for granted.
+-- The conditions that the later checks of an audit assume.
 use Rattle.std.specs.Prelude.{IsTrue}
 use Rattle.brk_model.specs.Form.{has_form}
 use Rattle.brk_model.specs.Schemas.{Schema}
@@ -7,15 +7,16 @@ use Rattle.brk_model.specs.Ways.{has_status_rows}
 use Rattle.brk_changes.specs.Sheets.{tables_in_sheets}
 use Rattle.brk_changes.specs.declared.sheets.Sheets.{Sheets}
 
--- each row has its form, by the limits of some schema
+-- Each row is well-formed by the limits of some schema.
 pub record IsFormed (t : Tables) : Type 0 where
   pub schema : Schema
   pub form : IsTrue (has_form schema t)
 
--- the same of rows in types
+-- The typed rows are well-formed by the limits of some schema.
 abbrev pub HasForm : Sheets → Type 0
 HasForm s = IsFormed (tables_in_sheets s)
 
--- each trade's statuses are a way
+-- Each trade's history is a valid status sequence, and no two completions or movements have the
+-- same stamp.
 abbrev pub HasStatuses : Sheets → Type 0
 HasStatuses s = IsTrue (has_status_rows (tables_in_sheets s))

@@ -1,4 +1,4 @@
--- Sums of shares at positions: an account and a symbol.
+-- Sums of shares by position: an account and a symbol.
 use Rattle.std.specs.Prelude.{◌≡◌, ℕ, ◌==◌, true, false, ◌&&◌, List, Option, Some, None, if◌then◌else◌, filter, ℤ, bytes_eq}
 use Rattle.std.specs.Borrow.{Bor}
 use Rattle.std.specs.List.{AllByRecursion}
@@ -14,37 +14,38 @@ use Rattle.brk_model.specs.Tables.{Tables, SummaryRow, TradeRow}
 use Rattle.brk_audit.specs.Completed.{is_done}
 use Rattle.brk_audit.specs.declared.tally.Posting.{Posting}
 
--- the shares that the completed trades of a position leave
+-- The number of shares that the completed trades of the position leave, negative if sold short.
 abbrev pub sum_of_position : Tables → ℕ → Text → ℤ
 sum_of_position t account symbol =
     total_by (λ r. signed (side_of r.kind) r.qty) (filter (λ r. is_done r && ((r.account == account) && bytes_eq r.symbol symbol)) t.trades)
 
--- the shares that summaries tell of it
+-- The number of shares of the position in the summaries.
 abbrev pub told_of_position : List SummaryRow → ℕ → Text → ℤ
 told_of_position rows account symbol = total_by (λ h. h.qty) (filter (λ h. (h.account == account) && bytes_eq h.symbol symbol) rows)
 
--- a summary is of some shares
+-- The quantity of the summary is not 0.
 abbrev pub TellsShares : SummaryRow → Type 0
 TellsShares h = is_zero h.qty ≡ false
 
--- the summaries tell the shares of each position, and those of none twice
+-- The summaries of each position of an existing account and security sum to its shares, and none of
+-- them is 0.
 pub record SummariesHold (t : Tables) : Type 0 where
   pub sums : (account : ℕ) (symbol : Text) → has_account t account ≡ true → has_security t symbol ≡ true
       → sum_of_position t account symbol ≡ told_of_position t.summaries account symbol
   pub told : AllByRecursion TellsShares t.summaries
 
--- the order of positions, as the keys of a map
+-- The order of positions, as the keys of a map.
 abbrev pub position_cmp : ℕ × Bor (List ℕ) → ℕ × Bor (List ℕ) → Ordering
 position_cmp x y = ordering_then (nat_cmp x.0 y.0) (slice_cmp nat_cmp x.1.now y.1.now)
 
--- a posting at a position, whose symbol is borrowed, as its values
+-- A posting at a position, as plain values: its symbol is borrowed.
 abbrev pub plain : Posting (ℕ × Bor (List ℕ)) → Posting (ℕ × Text)
 plain p = record { key = (p.key.0, p.key.1.now); amount = p.amount }
 
--- the shares of a completed trade, at its position
+-- The posting of a completed trade's shares at its position, or `None` if it is not completed.
 abbrev pub shares_posting : TradeRow → Option (Posting (ℕ × Text))
 shares_posting r = if is_done r then Some (record { key = (r.account, r.symbol); amount = signed (side_of r.kind) r.qty }) else None
 
--- the shares that a summary tells
+-- The posting of a summary's quantity at its position.
 abbrev pub told_posting : SummaryRow → Posting (ℕ × Text)
 told_posting h = record { key = (h.account, h.symbol); amount = h.qty }

@@ -7,45 +7,48 @@ use Rattle.brk_model.specs.Shares.{Deal, Lot, lots, replay}
 use Rattle.brk_model.specs.Tables.{HoldingHistoryRow, HoldingRow, TradeRow}
 use Rattle.brk_lots.specs.Chains.{replay_rows}
 
--- a completed trade as it met its position
+-- The deal of a completed trade.
 abbrev pub row_deal : TradeRow → Deal
 row_deal r = record { trade = r.id; side = side_of r.kind; qty = r.qty; price = unwrap_or r.price 0; stamp = r.stamp; is_lifo = r.is_lifo }
 
--- two trades of one position
+-- True if the two trades belong to one position.
 abbrev pub same_place : TradeRow → TradeRow → Bool
 same_place r s = (r.account == s.account) && bytes_eq r.symbol s.symbol
 
--- the position, and then the moment
+-- The sort key of a trade: its position, then its stamp.
 abbrev pub place_key : TradeRow → List KeyPart
 place_key r = number r.account ∷ word r.symbol ∷ number r.stamp ∷ []
 
+-- True if the trade `r` is before the trade `s` by this key.
 abbrev pub place_before : TradeRow → TradeRow → Bool
 place_before r s = row_before place_key r s
 
--- two trades of one number or of one moment
+-- True if the two trades have one number or one stamp.
 abbrev pub clash : TradeRow → TradeRow → Bool
 clash r s = (r.id == s.id) || (r.stamp == s.stamp)
 
--- what holds of the first, if there is one
+-- The first element, if there is one, satisfies `P`.
 abbrev pub Heads : {X : Type 0} → (X → Type 0) → List X → Type 0
 Heads P [] = ⊤
 Heads P (x ∷ xs) = P x
 
--- the row of a lot of a trade's position
+-- The row of a lot of the trade's position.
 abbrev pub lot_row : TradeRow → Lot → HoldingRow
 lot_row r l = record { trade = l.trade; account = r.account; symbol = r.symbol; stamp = l.stamp; price = l.price; qty = l.qty }
 
--- the lots that the trades of a position leave
+-- The rows of the lots that the trades `run` of a position leave, in the order of the trades.
 abbrev pub run_rows : TradeRow → List TradeRow → List HoldingRow
 run_rows r run = map (lot_row r) (lots (replay (map row_deal run)))
 
--- the lots that trades leave, where those of a position stand together
+-- The rows are the lots that the trades leave, position by position. Trades of one position are
+-- adjacent.
 pub data Leave : List TradeRow → List HoldingRow → Type 0 where
   nothing : Leave [] []
   position : (r : TradeRow) (run later : List TradeRow) (rows : List HoldingRow) → AllByRecursion (λ s. same_place r s ≡ true) run → AllByRecursion (λ s. same_place r s ≡ false) later
       → Leave later rows → Leave (r ∷ run ++ later) (run_rows r (r ∷ run) ++ rows)
 
--- what trades did to lots, where those of a position stand together
+-- The rows are the lot changes of the trades, position by position. Trades of one position are
+-- adjacent.
 pub data Trace : List TradeRow → List HoldingHistoryRow → Type 0 where
   untouched : Trace [] []
   moves : (r : TradeRow) (run later : List TradeRow) (rows : List HoldingHistoryRow) → AllByRecursion (λ s. same_place r s ≡ true) run → AllByRecursion (λ s. same_place r s ≡ false) later

@@ -1,4 +1,4 @@
--- Sums over the completed trades of rows.
+-- Sums over the completed trades and the movements of the tables.
 use Rattle.std.specs.Prelude.{ℕ, ◌==◌, ◌&&◌, Option, Some, None, if◌then◌else◌, is_none, filter, ℤ, pos}
 use Rattle.brk_money.specs.declared.tax_status.TaxStatus.{TaxStatus}
 use Rattle.brk_model.specs.Lists.{total_by}
@@ -7,30 +7,30 @@ use Rattle.brk_audit.specs.Completed.{is_done}
 use Rattle.brk_audit.specs.Settling.{amount_at, broker_at, is_done_in_cash}
 use Rattle.brk_audit.specs.declared.tally.Posting.{Posting}
 
--- of an amount, over the completed trades of a broker's accounts
+-- The sum of `amount` over the completed trades of the broker's accounts.
 abbrev pub sum_of_broker : Tables → (TradeRow → ℤ) → ℕ → ℤ
 sum_of_broker t amount broker = total_by amount (filter (λ r. is_done r && (broker_at t r.account == broker)) t.trades)
 
--- of an amount, over the completed cash trades of an account
+-- The sum of `amount` over the completed cash trades of the account.
 abbrev pub sum_of_account : Tables → (TradeRow → ℤ) → ℕ → ℤ
 sum_of_account t amount account = total_by amount (filter (λ r. is_done_in_cash r && (r.account == account)) t.trades)
 
--- one for each completed trade, at the broker of its account
+-- The posting of 1 at the broker of a completed trade's account.
 abbrev pub count_posting : (ℕ → ℕ) → TradeRow → Option (Posting ℕ)
 count_posting brokers r = if is_done r then Some (record { key = brokers r.account; amount = pos 1 }) else None
 
--- the commission of each completed trade, at the broker of its account
+-- The posting of a completed trade's commission at the broker of its account.
 abbrev pub commission_posting : (ℕ → ℕ) → TradeRow → Option (Posting ℕ)
 commission_posting brokers r = if is_done r then Some (record { key = brokers r.account; amount = pos r.commission }) else None
 
--- the amount of each completed cash trade, at its account
+-- The posting of a completed cash trade's settlement amount at its account.
 abbrev pub cash_posting : (ℕ → TaxStatus) → TradeRow → Option (Posting ℕ)
 cash_posting statuses r = if is_done_in_cash r then Some (record { key = r.account; amount = amount_at (statuses r.account) r }) else None
 
--- what the movements of an account moved
+-- The sum of the movements of the account.
 abbrev pub sum_of_movements : Tables → ℕ → ℤ
 sum_of_movements t account = total_by (λ r. r.amount) (filter (λ r. is_none r.trade && (r.account == account)) t.moves)
 
--- the amount of each movement, at its account
+-- The posting of a movement's amount at its account.
 abbrev pub movement_posting : MoveRow → Option (Posting ℕ)
 movement_posting r = if is_none r.trade then Some (record { key = r.account; amount = r.amount }) else None

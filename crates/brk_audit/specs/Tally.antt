@@ -1,4 +1,4 @@
--- Sums of amounts at keys.
+-- Sums of amounts by key.
 use Rattle.std.specs.Prelude.{List, filter, ℤ, pos, unwrap_or}
 use Rattle.std.specs.declared.cmp.Ordering.{Ordering}
 use Rattle.std.specs.Ordering.{is_eq}
@@ -6,10 +6,10 @@ use Rattle.std.specs.BTreeMap.{BTreeMap, get}
 use Rattle.brk_model.specs.Lists.{total_by}
 use Rattle.brk_audit.specs.declared.tally.Posting.{Posting}
 
--- the sum that a map has at a key, 0 where it has none
+-- The sum of the key in the map, or 0 if the map has none.
 abbrev pub at_key : {K : Type 0} → (K → K → Ordering) → BTreeMap K ℤ → K → ℤ
 at_key cmp sums q = unwrap_or (get cmp sums q) (pos 0)
 
--- the sum of the amounts at a key
+-- The sum of the amounts of the postings at the key.
 abbrev pub total_at : {K : Type 0} → (K → K → Ordering) → List (Posting K) → K → ℤ
 total_at cmp postings q = total_by (λ p. p.amount) (filter (λ p. is_eq (cmp p.key q)) postings)

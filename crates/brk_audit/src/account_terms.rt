@@ -1,4 +1,4 @@
-//! What trades are told of their accounts.
+//! The terms of accounts that decide on trades.
 
 ghost use Rattle.std.specs.Prelude.{◌≡◌, ℕ, ◌==◌, IfErr, IfOk, find, option_map};
 ghost use Rattle.std.specs.Ordering.{nat_cmp};
@@ -11,14 +11,14 @@ use brk_ref::AccountRow;
 use std::alloc::Global;
 use std::collections::BTreeMap;
 
-/// An account's broker and tax status.
+/// The broker and the tax status of an account.
 #[derive(Clone, Copy)]
 pub(crate) struct AccountTerms {
     pub broker: Id,
     pub tax_status: TaxStatus,
 }
 
-/// The terms of each account by its id.
+/// Returns the terms of each account by its id. Fails with `Memory` only.
 pub(crate) fn terms_of_accounts(
     alloc: Global,
     accounts: &[AccountRow],
@@ -40,7 +40,7 @@ pub(crate) fn terms_of_accounts(
     Ok(terms)
 }
 
-/// The broker of an account; 0 where there is no such account.
+/// Returns the broker of the account, or 0 if it is not in the map.
 pub(crate) fn broker_of(terms: &BTreeMap<u64, AccountTerms>, account: Id) -> u64
     ensures { result ≡ broker_by terms.now account }
 {
@@ -51,7 +51,7 @@ pub(crate) fn broker_of(terms: &BTreeMap<u64, AccountTerms>, account: Id) -> u64
     }
 }
 
-/// The tax status of an account; untaxed where there is no such account.
+/// Returns the tax status of the account, or untaxed if it is not in the map.
 pub(crate) fn tax_status_of(terms: &BTreeMap<u64, AccountTerms>, account: Id) -> TaxStatus
     ensures { result ≡ tax_status_by terms.now account }
 {

@@ -1,4 +1,4 @@
-//! What completed trades settle for.
+//! The settlement amounts of completed trades.
 
 ghost use Rattle.std.specs.Prelude.{◌≡◌, ◌*◌, ◌≤◌, pos, ◌-ℤ◌, if◌then◌else◌, unwrap_or};
 ghost use Rattle.brk_model.specs.Base.{takes_tax_off};
@@ -10,7 +10,7 @@ ghost use Rattle.brk_audit.specs.Settling.{amount_at};
 use brk_changes::TradeRow;
 use brk_money::{Amount, Price, Side, TaxStatus};
 
-// The part of the tax that is taken off what is settled.
+// Returns the part of the tax that is withheld from the settlement, in cents.
 fn withheld(tax: Amount, tax_status: TaxStatus) -> u64
     ensures value { result ≡ (if takes_tax_off tax_status then tax else 0) }
     ensures high { result ≤ greatest_amount }
@@ -21,7 +21,7 @@ fn withheld(tax: Amount, tax_status: TaxStatus) -> u64
     }
 }
 
-// The price in cents, 0 where there is none.
+// Returns the price in cents, or 0 if there is none.
 fn cents_of(price: Option<Price>) -> u64
     ensures value { result ≡ unwrap_or price 0 }
     ensures high { result ≤ greatest_price }
@@ -32,7 +32,7 @@ fn cents_of(price: Option<Price>) -> u64
     }
 }
 
-// What so many shares are worth at a price.
+// Returns the value of the shares at a price, in cents.
 fn worth(qty: u32, cents: u64) -> u64
     requires qty { qty ≤ greatest_qty }
     requires cents { cents ≤ greatest_price }
@@ -42,7 +42,8 @@ fn worth(qty: u32, cents: u64) -> u64
     u64::from(qty) * cents
 }
 
-// What shares of this value bring, less what is taken off; a purchase costs them.
+// Returns the proceeds of shares of this value less what is taken off, in cents. A purchase costs
+// the value.
 fn settled(side: Side, value: u64, taken_off: u64) -> i64
     requires value { value ≤ greatest_qty * greatest_price }
     requires taken_off { taken_off ≤ 3 * greatest_amount }
@@ -55,7 +56,8 @@ fn settled(side: Side, value: u64, taken_off: u64) -> i64
     brought - taken_off as i64
 }
 
-/// What a completed trade settles for in cents, at its account's tax status.
+/// Returns the settlement amount of a completed trade at its account's tax status, in cents;
+/// negative if the account pays.
 pub(crate) fn amount_of_row(trade: &TradeRow, tax_status: TaxStatus) -> i64
     ensures { result ≡ amount_at tax_status (trade_row_of trade.now) }
 {

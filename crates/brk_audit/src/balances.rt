@@ -23,7 +23,8 @@ use brk_ref::AccountRow;
 use std::alloc::Global;
 use std::collections::BTreeMap;
 
-// What a trade moves on its account.
+// Returns the posting of the trade's settlement amount at its account, or `None` if it is not a
+// completed cash trade.
 fn posting_of(terms: &BTreeMap<u64, AccountTerms>, trade: &TradeRow) -> Option<Posting<u64>>
     ensures { result ≡ cash_posting (tax_status_by terms.now) (trade_row_of trade.now) }
 {
@@ -35,7 +36,7 @@ fn posting_of(terms: &BTreeMap<u64, AccountTerms>, trade: &TradeRow) -> Option<P
     Some(Posting { key, amount })
 }
 
-// The postings of all trades.
+// Returns the postings of all trades.
 fn postings_of(
     alloc: Global,
     terms: &BTreeMap<u64, AccountTerms>,
@@ -51,8 +52,8 @@ fn postings_of(
     Ok(all)
 }
 
-// Returns what a deposit or a withdrawal moves on its account, or `None` if the row belongs to a
-// trade.
+// Returns the posting of a deposit or a withdrawal at its account, or `None` if the row belongs to
+// a trade.
 fn movement_of(row: &MoveRow) -> Option<Posting<u64>>
     ensures { result ≡ movement_posting (move_row_of row.now) }
 {
@@ -64,7 +65,7 @@ fn movement_of(row: &MoveRow) -> Option<Posting<u64>>
     Some(Posting { key, amount })
 }
 
-// Adds what the deposits and withdrawals moved.
+// Appends the postings of the deposits and withdrawals.
 fn add_movements(all: &mut Vec<Posting<u64>>, moves: &[MoveRow]) -> Result<(), Fault>
     ensures all { OnOk result (all.new.items ≡ all.old.items ++ filter_map (λ r. movement_posting (move_row_of r)) moves.now) }
     ensures fault { OnErr result (result ≡ Err Memory) }
@@ -77,7 +78,7 @@ fn add_movements(all: &mut Vec<Posting<u64>>, moves: &[MoveRow]) -> Result<(), F
     Ok(())
 }
 
-// What an amount is above another one.
+// Returns the balance less the opening balance.
 fn difference(balance: i64, opening: i64) -> i128
     ensures { opening +ℤ result ≡ balance }
 {
@@ -90,7 +91,7 @@ fn is_same(one: i128, other: i128) -> bool
     one == other
 }
 
-// Whether an amount is another one and what was moved.
+// Returns whether the balance is the opening balance plus the amount that was moved.
 fn is_after(balance: i64, opening: i64, moved: i128) -> bool
     ensures { IsTrue result ↔ (balance ≡ opening +ℤ moved) }
 {
@@ -98,7 +99,7 @@ fn is_after(balance: i64, opening: i64, moved: i128) -> bool
     is_same(left, moved)
 }
 
-// Whether a balance is its account's opening and what was moved.
+// Returns whether the balance is the opening balance of its account plus its postings.
 fn is_balanced(sums: &BTreeMap<u64, i128>, row: &AccountRow) -> bool
     ensures { IsTrue result ↔ (row.now.balance ≡ row.now.account.opening +ℤ at_key nat_cmp sums.now row.now.account.id) }
 {
@@ -106,7 +107,7 @@ fn is_balanced(sums: &BTreeMap<u64, i128>, row: &AccountRow) -> bool
     is_after(row.balance.get(), row.account.opening.get(), moved)
 }
 
-// The same of each row.
+// Returns whether each balance is the opening balance of its account plus its postings.
 fn are_balanced(sums: &BTreeMap<u64, i128>, rows: &[AccountRow]) -> bool
     ensures { IsTrue result ↔ AllByRecursion (λ row. row.balance ≡ row.account.opening +ℤ at_key nat_cmp sums.now row.account.id) rows.now }
 {
@@ -118,8 +119,8 @@ fn are_balanced(sums: &BTreeMap<u64, i128>, rows: &[AccountRow]) -> bool
     true
 }
 
-/// Returns whether each balance is the opening of its account plus what its cash trades, deposits
-/// and withdrawals moved.
+/// Returns whether each balance is the opening balance of its account plus its cash trades,
+/// deposits and withdrawals. Fails with `Memory` only.
 pub(crate) fn has_balances(alloc: Global, sheets: &Sheets) -> Result<bool, Fault>
     requires form { HasForm sheets.now }
     requires status { HasStatuses sheets.now }

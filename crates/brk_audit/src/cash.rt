@@ -20,7 +20,7 @@ use brk_money::{Cents, Fault, Id, Stamp, TaxStatus};
 use std::alloc::Global;
 use std::collections::BTreeMap;
 
-// Whether a cash row has the numbers of a completed trade at its account's tax status.
+// Returns whether the cash row has the figures of the completed trade at its account's tax status.
 fn is_cash_row_of(cash: &CashRow, trade: &TradeRow, tax_status: TaxStatus) -> bool
     ensures { IsTrue result ↔ ((cash.now.trade ≡ trade.now.id) × (cash.now.stamp ≡ trade.now.stamp) × (cash.now.amount ≡ amount_at tax_status (trade_row_of trade.now))) }
 {
@@ -29,14 +29,15 @@ fn is_cash_row_of(cash: &CashRow, trade: &TradeRow, tax_status: TaxStatus) -> bo
         && cash.amount.get() == amount_of_row(trade, tax_status)
 }
 
-// Whether a trade is completed and in cash.
+// Returns whether the trade is a completed cash trade.
 fn moves_cash(trade: &TradeRow) -> bool
     ensures { result ≡ is_done_in_cash (trade_row_of trade.now) }
 {
     is_completed(trade.status) && trade.is_cash
 }
 
-// The cash rows that are left after a trade, whose own is the first of these if it moves cash; none where it isn't.
+// Returns the cash rows after that of `trade`, or all rows if it moves no cash. Returns `None` if
+// the first row is not that of `trade`.
 fn left_after<'a>(
     cash: &'a [CashRow],
     trade: &TradeRow,
@@ -59,7 +60,8 @@ fn left_after<'a>(
     }
 }
 
-// Whether the cash rows are those of the completed cash trades, both in the order of the trades.
+// Returns whether the cash rows are exactly those of the completed cash trades, in the order of the
+// trades.
 fn are_moved(cash: &[CashRow], trades: &[TradeRow], terms: &BTreeMap<u64, AccountTerms>) -> bool
     ensures { IsTrue result ↔ (map moved_in (map cash_row_of cash.now) ≡ map (moved_by (tax_status_by terms.now)) (filter is_done_in_cash (map trade_row_of trades.now))) }
 {
@@ -73,7 +75,7 @@ fn are_moved(cash: &[CashRow], trades: &[TradeRow], terms: &BTreeMap<u64, Accoun
     rest.is_empty()
 }
 
-// The numbers of a trade's cash row.
+// The figures of a trade's cash row.
 #[derive(Clone, Copy, Drop)]
 struct Posted {
     account: Id,

@@ -22,7 +22,7 @@ use brk_ref::BrokerRow;
 use std::alloc::Global;
 use std::collections::BTreeMap;
 
-// What a trade adds to the commissions of a broker.
+// Returns the posting of the trade's commission at the broker, or `None` if it is not completed.
 fn posting_of(terms: &BTreeMap<u64, AccountTerms>, trade: &TradeRow) -> Option<Posting<u64>>
     ensures { result ≡ commission_posting (broker_by terms.now) (trade_row_of trade.now) }
 {
@@ -34,7 +34,7 @@ fn posting_of(terms: &BTreeMap<u64, AccountTerms>, trade: &TradeRow) -> Option<P
     Some(Posting { key, amount })
 }
 
-// The postings of all trades.
+// Returns the postings of all trades.
 fn postings_of(
     alloc: Global,
     terms: &BTreeMap<u64, AccountTerms>,
@@ -50,7 +50,7 @@ fn postings_of(
     Ok(all)
 }
 
-// Whether a broker's row has the sum of its commissions.
+// Returns whether the broker's row has the sum of its commissions.
 fn is_sum(sums: &BTreeMap<u64, i128>, row: &BrokerRow) -> bool
     ensures { IsTrue result ↔ (pos row.now.commissions ≡ at_key nat_cmp sums.now row.now.broker.id) }
 {
@@ -58,7 +58,7 @@ fn is_sum(sums: &BTreeMap<u64, i128>, row: &BrokerRow) -> bool
     i128::from(row.commissions) == sum
 }
 
-// The same of each row.
+// Returns whether each broker's row has the sum of its commissions.
 fn are_sums(sums: &BTreeMap<u64, i128>, rows: &[BrokerRow]) -> bool
     ensures { IsTrue result ↔ AllByRecursion (λ row. pos row.commissions ≡ at_key nat_cmp sums.now row.broker.id) rows.now }
 {
@@ -70,7 +70,8 @@ fn are_sums(sums: &BTreeMap<u64, i128>, rows: &[BrokerRow]) -> bool
     true
 }
 
-/// Whether each broker's commissions are the sum over the completed trades of the broker's accounts.
+/// Returns whether each broker's commission total is the sum over the completed trades of the
+/// broker's accounts. Fails with `Memory` only.
 pub(crate) fn has_commissions(alloc: Global, sheets: &Sheets) -> Result<bool, Fault>
     requires form { HasForm sheets.now }
     requires status { HasStatuses sheets.now }

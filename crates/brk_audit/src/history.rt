@@ -21,7 +21,7 @@ use brk_money::Fault;
 use std::alloc::Global;
 use std::cmp::Ordering;
 
-// Adds what the trades of a position did to its lots.
+// Appends the lot changes of the trades of a position.
 fn add_moves(alloc: Global, rows: &mut Vec<DealTouch>, run: &[&TradeRow]) -> Result<(), Fault>
     requires priced { AllByRecursion (λ row. IsSome row.now.price) run.now }
     requires deals { AreDeals (map (λ row. row_deal (trade_row_of row.now)) run.now) }
@@ -33,7 +33,7 @@ fn add_moves(alloc: Global, rows: &mut Vec<DealTouch>, run: &[&TradeRow]) -> Res
     Ok(())
 }
 
-// What completed trades did to lots, position by position.
+// Returns the lot changes of the completed trades, position by position.
 fn moves_made(alloc: Global, done: &[&TradeRow]) -> Result<Vec<DealTouch>, Fault>
     requires order { IsSortedBy (λ one other. place_before (trade_row_of one.now) (trade_row_of other.now)) done.now }
     requires apart { IsDistinct clash (map (λ row. trade_row_of row.now) done.now) }
@@ -52,7 +52,7 @@ fn moves_made(alloc: Global, done: &[&TradeRow]) -> Result<Vec<DealTouch>, Fault
     Ok(rows)
 }
 
-// By lot and trade.
+// Compares two changes by lot, then by trade.
 fn compare(one: &DealTouch, other: &DealTouch) -> Ordering
     ensures { is_lt result ≡ row_before holding_history_key (plain_row one.now) (plain_row other.now) }
 {
@@ -61,7 +61,7 @@ fn compare(one: &DealTouch, other: &DealTouch) -> Ordering
     lots.then(trades)
 }
 
-// Sorts rows by lot and trade.
+// Sorts the changes by lot, then by trade.
 fn sort_by_lot(rows: &mut Vec<DealTouch>)
     ensures permutation { IsPermutation rows.old.items rows.new.items }
     ensures order { IsSortedBy (λ one other. row_before holding_history_key (plain_row one) (plain_row other)) rows.new.items }
@@ -69,7 +69,7 @@ fn sort_by_lot(rows: &mut Vec<DealTouch>)
     rows.sort_unstable_by(|one, other| compare(one, other));
 }
 
-// Whether a row is that of a touched lot.
+// Returns whether the row equals the lot change.
 fn is_same_row(touch: &DealTouch, row: &LotChange) -> bool
     ensures { IsTrue result ↔ (plain_row touch.now ≡ lot_change_of row.now) }
 {
@@ -79,7 +79,7 @@ fn is_same_row(touch: &DealTouch, row: &LotChange) -> bool
         && touch.touch.after == row.after
 }
 
-// Whether rows are those of touched lots.
+// Returns whether the rows equal the lot changes.
 fn are_same_rows(touches: &[DealTouch], rows: &[LotChange]) -> bool
     ensures { IsTrue result ↔ (map plain_row touches.now ≡ map lot_change_of rows.now) }
 {
@@ -94,7 +94,8 @@ fn are_same_rows(touches: &[DealTouch], rows: &[LotChange]) -> bool
     true
 }
 
-/// Whether the history of lots is that of the completed trades.
+/// Returns whether the history of the lots is exactly that of the completed trades. Fails with
+/// `Memory` only.
 pub(crate) fn has_lot_history(alloc: Global, sheets: &Sheets) -> Result<bool, Fault>
     requires form { HasForm sheets.now }
     requires status { HasStatuses sheets.now }

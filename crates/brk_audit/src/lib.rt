@@ -1,4 +1,5 @@
-//! The audit of a desk's rows: whether each of them has its form, and whether the tables that follow from others are what those give.
+//! The audit of a desk's rows: each row is well-formed, and the derived tables equal those that
+//! follow from the others.
 #![tactic(auto)]
 
 pub mod account_terms;

@@ -16,7 +16,7 @@ use brk_money::{Fault, Status};
 use std::alloc::Global;
 use std::cmp::Ordering;
 
-// The completed trades, in the order of their rows.
+// Returns the completed trades, in the order of their rows.
 fn completed(alloc: Global, trades: &[TradeRow]) -> Result<Vec<&TradeRow>, Fault>
     ensures done { IfOk result (λ done. map (λ row. trade_row_of row.now) done.items ≡ filter is_done (map trade_row_of trades.now)) }
     ensures fault { IfErr result (λ fault. fault ≡ Memory) }
@@ -30,7 +30,7 @@ fn completed(alloc: Global, trades: &[TradeRow]) -> Result<Vec<&TradeRow>, Fault
     Ok(done)
 }
 
-// By account, symbol and moment.
+// Compares two trades by account, then by symbol, then by stamp.
 fn compare(one: &TradeRow, other: &TradeRow) -> Ordering
     ensures { is_lt result ≡ place_before (trade_row_of one.now) (trade_row_of other.now) }
 {
@@ -44,7 +44,7 @@ fn compare(one: &TradeRow, other: &TradeRow) -> Ordering
     accounts.then(symbols.then(moments))
 }
 
-// Sorts trades by position, and those of a position by moment.
+// Sorts trades by position, and those of a position by stamp.
 fn sort_by_position(done: &mut Vec<&TradeRow>)
     ensures permutation { IsPermutation done.old.items done.new.items }
     ensures order { IsSortedBy (λ one other. place_before (trade_row_of one.now) (trade_row_of other.now)) done.new.items }
@@ -52,7 +52,8 @@ fn sort_by_position(done: &mut Vec<&TradeRow>)
     done.sort_unstable_by(|one, other| compare(one, other));
 }
 
-/// The completed trades by position, and those of a position by moment.
+/// Returns the completed trades sorted by position, and those of a position sorted by stamp. Fails
+/// with `Memory` only.
 pub(crate) fn completed_by_position(
     alloc: Global,
     trades: &[TradeRow],
@@ -66,14 +67,14 @@ pub(crate) fn completed_by_position(
     Ok(done)
 }
 
-// Whether two trades are of one position.
+// Returns whether the two trades belong to one position.
 fn is_beside(one: &TradeRow, other: &TradeRow) -> bool
     ensures { result ≡ same_place (trade_row_of one.now) (trade_row_of other.now) }
 {
     one.account == other.account && one.symbol.as_str() == other.symbol.as_str()
 }
 
-/// How many of some trades from the first on are of a trade's position.
+/// Returns the number of trades at the beginning of `done` that belong to the trade's position.
 pub(crate) fn position_len(trade: &TradeRow, done: &[&TradeRow]) -> usize
     ensures within { result ≤ length done.now }
     ensures same { AllByRecursion (λ other. same_place (trade_row_of trade.now) (trade_row_of other.now) ≡ true) (take result done.now) }
@@ -87,7 +88,7 @@ pub(crate) fn position_len(trade: &TradeRow, done: &[&TradeRow]) -> usize
     done.len()
 }
 
-/// A completed trade as it met its position.
+/// Returns the deal of a completed trade.
 pub(crate) fn deal_of(row: &TradeRow) -> Deal
     requires { IsSome row.now.price }
     ensures { plain_deal result ≡ row_deal (trade_row_of row.now) }
@@ -102,7 +103,7 @@ pub(crate) fn deal_of(row: &TradeRow) -> Deal
     }
 }
 
-/// The deals of completed trades.
+/// Returns the deals of completed trades. Fails with `Memory` only.
 pub(crate) fn deals_of(alloc: Global, run: &[&TradeRow]) -> Result<Vec<Deal>, Fault>
     requires { AllByRecursion (λ row. IsSome row.now.price) run.now }
     ensures deals { IfOk result (λ deals. map plain_deal deals.items ≡ map (λ row. row_deal (trade_row_of row.now)) run.now) }
@@ -115,7 +116,7 @@ pub(crate) fn deals_of(alloc: Global, run: &[&TradeRow]) -> Result<Vec<Deal>, Fa
     Ok(deals)
 }
 
-/// The position that its trades leave.
+/// Returns the position after its trades. Fails with `Memory` only.
 pub(crate) fn position_after(alloc: Global, run: &[&TradeRow]) -> Result<Position, Fault>
     requires priced { AllByRecursion (λ row. IsSome row.now.price) run.now }
     requires deals { AreDeals (map (λ row. row_deal (trade_row_of row.now)) run.now) }

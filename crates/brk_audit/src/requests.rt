@@ -18,14 +18,14 @@ use brk_money::{Fault, Status, TradeType};
 use std::alloc::Global;
 use std::collections::BTreeMap;
 
-// Whether two types of trade are one.
+// Returns whether the two types of trade are equal.
 fn is_kind(kind: TradeType, other: TradeType) -> bool
     ensures { result ≡ same_type kind other }
 {
     kind == other
 }
 
-// Whether a request asks what its trade's order asked.
+// Returns whether the request has the symbol, the quantity and the bid of the trade.
 fn asks_same(request: &RequestRow, trade: &TradeRow) -> bool
     ensures { IsTrue result ↔ ((request.now.symbol ≡ trade.now.symbol) × (request.now.qty ≡ trade.now.qty) × (request.now.bid ≡ trade.now.bid)) }
 {
@@ -34,7 +34,7 @@ fn asks_same(request: &RequestRow, trade: &TradeRow) -> bool
         && request.bid == trade.bid
 }
 
-// Whether a request is that of a trade, of whose account this is the broker.
+// Returns whether the request is that of the trade with this broker.
 fn is_request_of(request: &RequestRow, trade: &TradeRow, broker: u64) -> bool
     ensures { IsTrue result ↔ (request_row_of request.now ≡ request_of (λ account. broker) (trade_row_of trade.now)) }
 {
@@ -44,14 +44,15 @@ fn is_request_of(request: &RequestRow, trade: &TradeRow, broker: u64) -> bool
         && request.broker.get() == broker
 }
 
-// Whether a trade of this status waits for its price.
+// Returns whether a trade of this status is pending.
 fn is_pending(status: Status) -> bool
     ensures { result ≡ same_status status Pending }
 {
     status == Status::Pending
 }
 
-// The requests that are left after a trade, whose own is the first of these if it waits; none where it isn't.
+// Returns the requests after that of `trade`, or all requests if it is not pending. Returns `None`
+// if the first request is not that of `trade`.
 fn left_after<'a>(
     requests: &'a [RequestRow],
     trade: &TradeRow,
@@ -74,7 +75,7 @@ fn left_after<'a>(
     }
 }
 
-// Whether the requests are those of the trades that wait, both in the order of the trades.
+// Returns whether the requests are exactly those of the pending trades, in the order of the trades.
 fn are_requested(
     requests: &[RequestRow],
     trades: &[TradeRow],
@@ -92,7 +93,7 @@ fn are_requested(
     rest.is_empty()
 }
 
-/// Whether the requests are the pending trades.
+/// Returns whether the requests are exactly those of the pending trades. Fails with `Memory` only.
 pub(crate) fn has_requests(alloc: Global, sheets: &Sheets) -> Result<bool, Fault>
     requires form { HasForm sheets.now }
     requires status { HasStatuses sheets.now }

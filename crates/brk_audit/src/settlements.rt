@@ -28,7 +28,8 @@ fn is_due(day: Day, rule: Option<Day>, stamp: Stamp) -> bool
     day.get() == completed.get() + i32::from(settlement_days(rule, completed))
 }
 
-// Whether a settlement has the numbers of a completed trade at its account's tax status.
+// Returns whether the settlement has the figures of the completed trade at its account's tax
+// status.
 fn is_settlement_of(
     settlement: &SettlementRow,
     trade: &TradeRow,
@@ -43,7 +44,8 @@ fn is_settlement_of(
         && settlement.amount.get() == amount_of_row(trade, tax_status)
 }
 
-// The settlements that are left after a trade, whose own is the first of these if it is completed; none where it isn't.
+// Returns the settlements after that of `trade`, or all settlements if it is not completed. Returns
+// `None` if the first settlement is not that of `trade`.
 fn left_after<'a>(
     settlements: &'a [SettlementRow],
     trade: &TradeRow,
@@ -67,7 +69,8 @@ fn left_after<'a>(
     }
 }
 
-// Whether the settlements are those of the completed trades, both in the order of the trades.
+// Returns whether the settlements are exactly those of the completed trades, in the order of the
+// trades.
 fn are_settled(
     settlements: &[SettlementRow],
     trades: &[TradeRow],
@@ -86,7 +89,8 @@ fn are_settled(
     rest.is_empty()
 }
 
-/// Whether the settlements are those of the completed trades.
+/// Returns whether the settlements are exactly those of the completed trades. Fails with `Memory`
+/// only.
 pub(crate) fn has_settlements(alloc: Global, sheets: &Sheets) -> Result<bool, Fault>
     requires form { HasForm sheets.now }
     requires status { HasStatuses sheets.now }

@@ -19,7 +19,7 @@ use brk_money::{Fault, Id, Stamp, Status};
 use std::alloc::Global;
 use std::collections::BTreeSet;
 
-/// Whether a trade of this status is completed.
+/// Returns whether a trade of this status is completed.
 pub(crate) fn is_completed(status: Status) -> bool
     ensures { result ≡ same_status status Completed }
 {
@@ -33,28 +33,29 @@ pub(crate) fn millis(stamp: Stamp) -> u64
     stamp.get().unsigned_abs()
 }
 
-// Whether a stamp is before another.
+// Returns whether the first stamp is before the second.
 fn is_before(first: Stamp, second: Stamp) -> bool
     ensures { result ≡ nat_lt first second }
 {
     first.get() < second.get()
 }
 
-// Whether a trade can start with a status.
+// Returns whether a trade can begin with the status.
 fn is_first(status: Status) -> bool
     ensures { result ≡ spec.is_first status }
 {
     matches!(status, Status::Submitted | Status::Pending)
 }
 
-// Whether a trade's row has the status of a row of its history, and its stamp.
+// Returns whether the trade's row has the status and the stamp of the history row.
 fn is_at(trade: &TradeRow, row: HistoryRow) -> bool
     ensures { result ≡ spec.is_at (trade_row_of trade.now) (history_row_of row) }
 {
     trade.status == row.status && trade.stamp == row.stamp
 }
 
-// Whether two rows, by the codes of their statuses, are a way.
+// Returns whether the two history rows, sorted by the codes of their statuses, are a valid status
+// sequence, and the trade's row has the last of them.
 fn goes_two(trade: &TradeRow, a: HistoryRow, b: HistoryRow) -> bool
     ensures { result ≡ spec.goes_two (trade_row_of trade.now) (history_row_of a) (history_row_of b) }
 {
@@ -67,7 +68,8 @@ fn goes_two(trade: &TradeRow, a: HistoryRow, b: HistoryRow) -> bool
     }
 }
 
-// Whether three rows, by the codes of their statuses, are a way.
+// Returns whether the three history rows, sorted by the codes of their statuses, are a valid status
+// sequence, and the trade's row has the last of them.
 fn goes_three(trade: &TradeRow, a: HistoryRow, b: HistoryRow, c: HistoryRow) -> bool
     ensures { result ≡ spec.goes_three (trade_row_of trade.now) (history_row_of a) (history_row_of b) (history_row_of c) }
 {
@@ -79,7 +81,8 @@ fn goes_three(trade: &TradeRow, a: HistoryRow, b: HistoryRow, c: HistoryRow) -> 
     }
 }
 
-// Whether a trade's rows of the history, by the codes of their statuses, are a way.
+// Returns whether the history rows of a trade, sorted by the codes of their statuses, are a valid
+// status sequence, and the trade's row has the last of them.
 fn goes_way(trade: &TradeRow, rows: &[HistoryRow]) -> bool
     ensures { result ≡ spec.goes_way (trade_row_of trade.now) (map history_row_of rows.now) }
 {
@@ -91,7 +94,7 @@ fn goes_way(trade: &TradeRow, rows: &[HistoryRow]) -> bool
     }
 }
 
-// How many rows from the first on are those of a trade.
+// Returns the number of rows at the beginning of `history` that belong to the trade.
 fn leading_rows(history: &[HistoryRow], trade: Id) -> usize
     ensures { result ≡ prefix_len (λ h. h.trade == trade) history.now }
 {
@@ -103,7 +106,8 @@ fn leading_rows(history: &[HistoryRow], trade: Id) -> usize
     history.len()
 }
 
-// Whether each trade's rows are a way, where they stand one trade after another.
+// Returns whether the history rows of each trade are a valid status sequence. The rows are in the
+// order of the trades.
 fn all_go(trades: &[TradeRow], history: &[HistoryRow]) -> bool
     ensures { result ≡ spec.all_go (map trade_row_of trades.now) (map history_row_of history.now) }
 {
@@ -118,7 +122,8 @@ fn all_go(trades: &[TradeRow], history: &[HistoryRow]) -> bool
     true
 }
 
-// Whether no completion was seen at the stamp of this one, if the row tells one; it is seen from then on.
+// Adds the stamp of a completion to `seen`. Returns false if the stamp was seen before, otherwise
+// true; a row of another status adds nothing.
 fn is_new(seen: &mut BTreeSet<u64>, row: &HistoryRow) -> Result<bool, Fault>
     ensures new { IfOk result (λ new. new ≡ not (same_status row.now.status Completed && contains nat_cmp seen.old row.now.stamp)) }
     ensures seen { OnOk result ((q : ℕ) → contains nat_cmp seen.new q ≡ contains nat_cmp seen.old q || (same_status row.now.status Completed && (row.now.stamp == q))) }

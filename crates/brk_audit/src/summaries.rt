@@ -19,7 +19,7 @@ use brk_money::{Fault, Side};
 use std::alloc::Global;
 use std::collections::BTreeMap;
 
-// The shares that a trade adds: a sale takes them away.
+// Returns the shares that a trade adds to its position, negative for a sale.
 fn shares_of(side: Side, qty: u32) -> i64
     ensures { result ≡ signed side qty }
 {
@@ -29,7 +29,7 @@ fn shares_of(side: Side, qty: u32) -> i64
     }
 }
 
-// What a completed trade adds to its position.
+// Returns the posting of the trade's shares at its position, or `None` if it is not completed.
 fn posting_of(trade: &TradeRow) -> Option<Posting<(u64, &str)>>
     ensures { option_map plain result ≡ shares_posting (trade_row_of trade.now) }
 {
@@ -41,7 +41,7 @@ fn posting_of(trade: &TradeRow) -> Option<Posting<(u64, &str)>>
     Some(Posting { key, amount })
 }
 
-// What the trades add to their positions.
+// Returns the postings of all trades.
 fn postings_of<'a>(
     alloc: Global,
     trades: &'a [TradeRow],
@@ -58,7 +58,7 @@ fn postings_of<'a>(
     Ok(all)
 }
 
-// What a summary tells of its position.
+// Returns the posting of the summary's quantity at its position.
 fn told_by(row: &SummaryRow) -> Posting<(u64, &str)>
     ensures { plain result ≡ told_posting (summary_row_of row.now) }
 {
@@ -67,7 +67,7 @@ fn told_by(row: &SummaryRow) -> Posting<(u64, &str)>
     Posting { key, amount }
 }
 
-// What the summaries tell of their positions.
+// Returns the postings of all summaries.
 fn told_of<'a>(alloc: Global, rows: &'a [SummaryRow]) -> Result<Vec<Posting<(u64, &'a str)>>, Fault>
     ensures all { IfOk result (λ all. map plain all.items ≡ map (λ r. told_posting (summary_row_of r)) rows.now) }
     ensures fault { IfErr result (λ fault. fault ≡ Memory) }
@@ -79,7 +79,7 @@ fn told_of<'a>(alloc: Global, rows: &'a [SummaryRow]) -> Result<Vec<Posting<(u64
     Ok(all)
 }
 
-// Whether two tallies are one at each of some keys.
+// Returns whether the two tallies are equal at each key of the postings.
 fn agree<K: Ord + Copy>(
     sums: &BTreeMap<K, i128>,
     told: &BTreeMap<K, i128>,
@@ -95,14 +95,14 @@ fn agree<K: Ord + Copy>(
     true
 }
 
-// Whether a summary tells of shares.
+// Returns whether the quantity of a summary is not 0.
 fn tells_shares(qty: i64) -> bool
     ensures { IsTrue result ↔ (is_zero qty ≡ false) }
 {
     qty != 0
 }
 
-// Whether each summary tells of shares.
+// Returns whether no summary is 0.
 fn tell_shares(rows: &[SummaryRow]) -> bool
     ensures { IsTrue result ↔ AllByRecursion (λ r. is_zero r.qty ≡ false) rows.now }
 {
@@ -121,7 +121,8 @@ pub(crate) fn all_three(one: bool, other: bool, last: bool) -> bool
     one && other && last
 }
 
-/// Whether each summary is the sum of the shares that the completed trades leave, and none is missing.
+/// Returns whether the summaries are exactly the sums, other than 0, of the shares that the
+/// completed trades leave. Fails with `Memory` only.
 pub(crate) fn has_summaries(alloc: Global, sheets: &Sheets) -> Result<bool, Fault>
     requires form { HasForm sheets.now }
     requires status { HasStatuses sheets.now }

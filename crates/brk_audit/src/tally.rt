@@ -1,4 +1,4 @@
-//! Sums at keys, in one walk over amounts and `n log n` steps.
+//! Sums of amounts by key: one pass over the amounts, in `n log n` steps.
 
 ghost use Rattle.std.specs.Prelude.{◌≡◌, ◌+◌, ◌<◌, ◌≤◌, ◌^◌, ℤ, pos, ◌+ℤ◌, nat_abs, cond, IfErr, IfOk, OnErr, OnOk, Err};
 ghost use Rattle.std.specs.Ordering.{is_eq};
@@ -16,7 +16,7 @@ pub(crate) struct Posting<K> {
     pub amount: i64,
 }
 
-// The sum with one more amount.
+// Returns the sum plus one more amount.
 fn plus(sum: i128, amount: i64) -> i128
     requires room { nat_abs sum + 2 ^ 63 < 2 ^ 127 }
     ensures sum { result ≡ sum +ℤ amount }
@@ -25,7 +25,7 @@ fn plus(sum: i128, amount: i64) -> i128
     sum + i128::from(amount)
 }
 
-// Adds a posting's amount at its key.
+// Adds the posting's amount at its key.
 fn post<K: Ord + Copy>(tally: &mut BTreeMap<K, i128>, posting: &Posting<K>) -> Result<(), Fault>
     requires room { nat_abs (at_key K.cmp tally.old posting.now.key) + 2 ^ 63 < 2 ^ 127 }
     ensures more { OnOk result ((q : K) → at_key K.cmp tally.new q ≡ at_key K.cmp tally.old q +ℤ cond (is_eq (K.cmp posting.now.key q)) posting.now.amount (pos 0)) }
@@ -39,7 +39,7 @@ fn post<K: Ord + Copy>(tally: &mut BTreeMap<K, i128>, posting: &Posting<K>) -> R
     Ok(())
 }
 
-/// The sum of the amounts at each key.
+/// Returns the sum of the amounts at each key. Fails with `Memory` only.
 pub(crate) fn tally<K: Ord + Copy>(
     alloc: Global,
     postings: &[Posting<K>],
@@ -54,7 +54,7 @@ pub(crate) fn tally<K: Ord + Copy>(
     Ok(tally)
 }
 
-/// The sum at a key, 0 where nothing was added.
+/// Returns the sum at the key, or 0 if nothing was added there.
 pub(crate) fn sum_at<K: Ord + Copy>(tally: &BTreeMap<K, i128>, key: K) -> i128
     ensures { result ≡ at_key K.cmp tally.now key }
 {

@@ -1,18 +1,18 @@
--- What the limits of a customer are said of.
+-- The sums that the limits of a customer apply to.
 use Rattle.std.specs.Prelude.{ℕ, ◌==◌, filter, find, unwrap_or, sum_by}
 use Rattle.std.specs.Ordering.{nat_cmp}
 use Rattle.std.specs.BTreeMap.{BTreeMap, get}
 use Rattle.std.specs.Option.{option_map_or}
 use Rattle.brk_model.specs.Tables.{Tables}
 
--- the sum at a number, 0 where there is none
+-- The sum at the number, or 0 if there is none.
 abbrev pub sum_at : BTreeMap ℕ ℕ → ℕ → ℕ
 sum_at sums q = unwrap_or (get nat_cmp sums q) 0
 
--- the rate of a tax, 0 where there is no such tax
+-- The rate of the tax, or 0 if the tax does not exist.
 abbrev pub rate_in : Tables → ℕ → ℕ
 rate_in t tax = option_map_or (λ r. r.rate) (find (λ r. r.id == tax) t.tax_rates) 0
 
--- the sum of the tax rates that a customer pays
+-- The sum of the tax rates that the customer pays.
 abbrev pub rates_in : Tables → ℕ → ℕ
 rates_in t customer = sum_by (λ x. rate_in t x.tax) (filter (λ x. x.customer == customer) t.customer_taxes)

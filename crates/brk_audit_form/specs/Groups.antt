@@ -1,4 +1,4 @@
--- The tests of form by groups of tables, over the rows in types.
+-- The format checks of typed rows, by groups of tables.
 use Rattle.std.specs.Prelude.{Bool, true, ◌&&◌, filter, is_none, length, map, nat_le}
 use Rattle.std.specs.List.{list_all, range_with_len}
 use Rattle.std.specs.Option.{option_map_or}
@@ -12,7 +12,7 @@ use Rattle.brk_changes.specs.Rows.{trade_row_of, history_row_of, request_row_of,
 use Rattle.brk_changes.specs.Sheets.{tables_in_sheets}
 use Rattle.brk_changes.specs.declared.sheets.Sheets.{Sheets}
 
--- the tables of records are by strictly rising key
+-- True if each table of reference data is sorted by key, and no key occurs twice.
 abbrev pub reference_keys : Sheets → Bool
 reference_keys s =
     rises (λ r. kept_key (kept_of r)) s.kept.items
@@ -27,7 +27,7 @@ reference_keys s =
     && rises (λ r. tax_rate_key (tax_of r)) s.tax_rates.items
     && rises (λ r. customer_tax_key (customer_tax_of r)) s.customer_taxes.items
 
--- and those of trades
+-- True if each table of trades is sorted by key, and no key occurs twice.
 abbrev pub trading_keys : Sheets → Bool
 trading_keys s =
     rises (λ r. trade_key (trade_row_of r)) s.trades.items
@@ -40,7 +40,7 @@ trading_keys s =
     && rises (λ r. cash_key (cash_row_of r)) s.cash.items
     && rises (λ r. move_key (move_row_of r)) s.moves.items
 
--- the rows of records have their forms
+-- True if the rows of reference data are well-formed.
 abbrev pub reference_forms : Schema → Sheets → Bool
 reference_forms schema s =
     list_all (λ r. kept_form (kept_of r)) s.kept.items
@@ -55,7 +55,7 @@ reference_forms schema s =
     && list_all (λ r. tax_rate_form (tax_of r)) s.tax_rates.items
     && list_all (λ r. customer_tax_form (tables_in_sheets s) (customer_tax_of r)) s.customer_taxes.items
 
--- and those of trades, but for the cash rows
+-- True if the rows of trades are well-formed; cash rows are not checked.
 abbrev pub trading_forms : Schema → Sheets → Bool
 trading_forms schema s =
     list_all (λ r. trade_form schema (tables_in_sheets s) (trade_row_of r)) s.trades.items
@@ -66,7 +66,7 @@ trading_forms schema s =
     && list_all (λ r. holding_history_form (tables_in_sheets s) (lot_change_of r)) s.holding_history.items
     && list_all (λ r. settlement_form (tables_in_sheets s) (settlement_row_of r)) s.settlements.items
 
--- what is tested without memory
+-- The checks that do not allocate.
 abbrev pub plain_form : Schema → Sheets → Bool
 plain_form schema s =
     has_keys (tables_in_sheets s) && reference_forms schema s && option_map_or (λ last. nat_le last last_stamp) s.last true && trading_forms schema s

@@ -1,4 +1,4 @@
--- How two keys compare.
+-- The order of keys.
 use Rattle.std.specs.Prelude.{List, [], ◌∷◌}
 use Rattle.std.specs.declared.cmp.Ordering.{Ordering}
 use Rattle.std.specs.declared.cmp.Ordering.TheVariants.{Less, Equal, Greater}
@@ -6,14 +6,14 @@ use Rattle.std.specs.Ordering.{nat_cmp, ordering_then}
 use Rattle.std.specs.Cmp.Lexicographic.{slice_cmp}
 use Rattle.brk_model.specs.Keys.{KeyPart, number, word}
 
--- two parts of a key; a number goes before a text
+-- The order of two parts of a key. A number is before a text.
 abbrev pub part_cmp : KeyPart → KeyPart → Ordering
 part_cmp (number m) (number n) = nat_cmp m n
 part_cmp (word s) (word t) = slice_cmp nat_cmp s t
 part_cmp (number m) (word t) = Less
 part_cmp (word s) (number n) = Greater
 
--- two keys, by the first part that differs
+-- The order of two keys: that of the first parts that differ.
 abbrev pub key_cmp : List KeyPart → List KeyPart → Ordering
 key_cmp [] [] = Equal
 key_cmp [] (k ∷ ks) = Less

@@ -1,4 +1,4 @@
--- What a cash row is called, by the rows.
+-- The text of a trade's cash row, from the rows.
 use Rattle.std.specs.Prelude.{[], ◌∷◌, ◌++◌, decimal}
 use Rattle.std.specs.Option.{option_map_or}
 use Rattle.brk_money.specs.Spelling.{Text}
@@ -6,10 +6,11 @@ use Rattle.brk_money.specs.Kinds.{type_name}
 use Rattle.brk_model.specs.Tables.{Tables, TradeRow}
 use Rattle.brk_model.specs.Joins.{security_in}
 
--- the name of a security, no text where there is no such security
+-- The name of the security, or the empty text if it does not exist.
 abbrev pub name_in : Tables → Text → Text
 name_in t symbol = option_map_or (λ s. s.name) (security_in t symbol) []
 
--- what a trade's cash row is called, with these words in the middle
+-- The cash text of a trade, with the words `words` between its quantity and the name of its
+-- security.
 abbrev pub cash_text_in : Tables → Text → TradeRow → Text
 cash_text_in t words row = type_name row.kind ++ 32 ∷ decimal row.qty ++ words ++ name_in t row.symbol

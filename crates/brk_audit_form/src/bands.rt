@@ -8,8 +8,8 @@ ghost use Rattle.brk_ref.specs.Records.{band_of};
 use brk_changes::Schema;
 use brk_ref::{Band, share_quantity};
 
-/// Whether no two bands share a quantity. As they rise by key and the bounds of each are in order, it is enough that no
-/// neighbours do.
+/// Returns whether no two bands share a quantity. It compares neighbours only: the bands are sorted
+/// by key, and the bounds of each are sorted too.
 pub(crate) fn are_apart(schema: Schema, bands: &[Band]) -> bool
     requires keys { IsTrue (form.rises band_key (map band_of bands.now)) }
     requires bounds { IsTrue (list_all (form.band_form (schema_of schema)) (map band_of bands.now)) }

@@ -17,7 +17,7 @@ use brk_money::{Cents, Fault, Id, Qty};
 use brk_ref::Symbol;
 use std::alloc::{AllocError, Global};
 
-// The name of a security, and no text where there is no such security.
+// Returns the name of the security, or the empty text if it does not exist.
 fn security_name<'a>(sheets: &'a Sheets, symbol: &Symbol) -> &'a str
     requires { HasKeys sheets.now }
     ensures { result.now ≡ name_in (tables_in_sheets sheets.now) symbol.now }
@@ -28,14 +28,15 @@ fn security_name<'a>(sheets: &'a Sheets, symbol: &Symbol) -> &'a str
     }
 }
 
-// Adds how many shares were traded.
+// Appends a space, the quantity and `words`.
 fn add_shares(name: &mut String, qty: Qty, words: &str) -> Result<(), AllocError>
     ensures { OnOk result (string_bytes name.new ≡ string_bytes name.old ++ (32 ∷ decimal qty ++ words.now)) }
 {
     write!(name, " {}{}", qty.get(), words)
 }
 
-// What a trade's cash row is called, with these words in the middle.
+// Returns the cash text of the trade, with `words` between its quantity and the name of its
+// security.
 fn cash_name(alloc: Global, trade: &TradeRow, words: &str, security: &str) -> Result<String, Fault>
     ensures name { IfOk result (λ name. string_bytes name ≡ type_name trade.now.kind ++ 32 ∷ decimal trade.now.qty ++ words.now ++ security.now) }
     ensures fault { IfErr result (λ fault. fault ≡ Memory) }
@@ -46,7 +47,7 @@ fn cash_name(alloc: Global, trade: &TradeRow, words: &str, security: &str) -> Re
     Ok(name)
 }
 
-// Whether a name is one of the two of its trade.
+// Returns whether the name is one of the two texts of the trade's cash row.
 fn is_name_of(alloc: Global, sheets: &Sheets, trade: &TradeRow, name: &str) -> Result<bool, Fault>
     requires { HasKeys sheets.now }
     ensures told { IfOk result (λ holds. holds ≡ form.is_cash_name (tables_in_sheets sheets.now) name.now (trade_row_of trade.now)) }
@@ -121,7 +122,7 @@ fn is_move_row(alloc: Global, sheets: &Sheets, row: &MoveRow) -> Result<bool, Fa
     )
 }
 
-/// Whether each row of CASH_TRANSACTION has its form: its name is one of the two of its trade.
+/// Returns whether each row of CASH_TRANSACTION is well-formed. Fails with `Memory` only.
 pub(crate) fn are_cash_rows(alloc: Global, sheets: &Sheets) -> Result<bool, Fault>
     requires { HasKeys sheets.now }
     ensures told { IfOk result (λ holds. holds ≡ list_all (form.cash_form (tables_in_sheets sheets.now)) (map cash_row_of sheets.now.cash.items)) }

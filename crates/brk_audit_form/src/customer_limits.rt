@@ -14,10 +14,10 @@ use brk_ref::{AccountRow, Customer};
 use std::alloc::Global;
 use std::collections::BTreeMap;
 
-// The most accounts that a customer may have.
+// The greatest number of accounts of a customer.
 const MOST_ACCOUNTS: u128 = 10;
 
-// Adds to the sum of a customer.
+// Adds to the sum of the customer.
 fn add(sums: &mut BTreeMap<u64, u128>, customer: Id, more: u32) -> Result<(), Fault>
     requires room { sum_at sums.old customer + 2 ^ 32 < 2 ^ 128 }
     ensures more { OnOk result ((q : ℕ) → sum_at sums.new q ≡ sum_at sums.old q + cond (customer == q) more 0) }
@@ -29,7 +29,7 @@ fn add(sums: &mut BTreeMap<u64, u128>, customer: Id, more: u32) -> Result<(), Fa
     Ok(())
 }
 
-// How many accounts each customer has.
+// Returns the number of accounts of each customer.
 fn count_accounts(alloc: Global, accounts: &[AccountRow]) -> Result<BTreeMap<u64, u128>, Fault>
     ensures counts { IfOk result (λ counts. (q : ℕ) → sum_at counts q ≡ length (filter (λ a. a.account.customer == q) accounts.now)) }
     ensures fault { IfErr result (λ fault. fault ≡ Memory) }
@@ -41,7 +41,7 @@ fn count_accounts(alloc: Global, accounts: &[AccountRow]) -> Result<BTreeMap<u64
     Ok(counts)
 }
 
-// The rate of a tax, and 0 where there is no such tax.
+// Returns the rate of the tax, or 0 if it does not exist.
 fn rate_of(sheets: &Sheets, tax: Id) -> u32
     requires { HasKeys sheets.now }
     ensures rate { result ≡ rate_in (tables_in_sheets sheets.now) tax }
@@ -53,7 +53,7 @@ fn rate_of(sheets: &Sheets, tax: Id) -> u32
     }
 }
 
-// The sum of the tax rates that each customer pays.
+// Returns the sum of the tax rates that each customer pays.
 fn sum_rates(alloc: Global, sheets: &Sheets) -> Result<BTreeMap<u64, u128>, Fault>
     requires { HasKeys sheets.now }
     ensures sums { IfOk result (λ sums. (q : ℕ) → sum_at sums q ≡ rates_in (tables_in_sheets sheets.now) q) }
@@ -67,7 +67,7 @@ fn sum_rates(alloc: Global, sheets: &Sheets) -> Result<BTreeMap<u64, u128>, Faul
     Ok(sums)
 }
 
-// Whether a customer is within both limits.
+// Returns whether the customer is within both limits.
 fn is_within(counts: &BTreeMap<u64, u128>, sums: &BTreeMap<u64, u128>, customer: &Customer) -> bool
     ensures { result ≡ (nat_le (sum_at counts.now customer.now.id) limits.most_accounts && nat_le (sum_at sums.now customer.now.id) limits.greatest_tax_rate) }
 {
@@ -77,7 +77,7 @@ fn is_within(counts: &BTreeMap<u64, u128>, sums: &BTreeMap<u64, u128>, customer:
     count <= MOST_ACCOUNTS && sum <= u128::from(TaxRate::GREATEST)
 }
 
-// Whether each customer is within both limits.
+// Returns whether each customer is within both limits.
 fn all_within(
     counts: &BTreeMap<u64, u128>,
     sums: &BTreeMap<u64, u128>,
@@ -90,7 +90,8 @@ fn all_within(
         .all(|customer| is_within(counts, sums, customer))
 }
 
-/// Whether each customer has at most ten accounts, and pays no more tax than the whole.
+/// Returns whether each customer has at most ten accounts, and pays at most the greatest tax rate
+/// in all. Fails with `Memory` only.
 pub(crate) fn are_within(alloc: Global, sheets: &Sheets) -> Result<bool, Fault>
     requires { HasKeys sheets.now }
     ensures told { IfOk result (λ holds. holds ≡ list_all (form.customer_limits (tables_in_sheets sheets.now)) (tables_in_sheets sheets.now).customers) }

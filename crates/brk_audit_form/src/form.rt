@@ -20,7 +20,7 @@ use brk_changes::{Schema, Sheets};
 use brk_money::{Day, Fault, Stamp};
 use std::alloc::Global;
 
-// Whether the last stamp is within the calendar.
+// Returns whether the last stamp, if there is one, is within the calendar.
 fn is_last(last: Option<Stamp>) -> bool
     ensures { result ≡ option_map_or (λ last. nat_le last last_stamp) last true }
 {
@@ -47,9 +47,9 @@ fn fits(schema: Schema, sheets: &Sheets) -> bool
     (schema.has_moves() || sheets.moves.is_empty()) && (schema.has_rule() || sheets.rule.is_none())
 }
 
-// Runs the tests that do not allocate: the keys, the forms of the rows but for the cash rows, the
-// bands, the numbers of the trades, the number of movements, the settlement day, and the tables
-// that the schema lacks.
+// Runs the checks that do not allocate: the keys, the forms of the rows except the cash rows, the
+// bands, the numbers of the trades, the number of movements, the last stamp, the settlement day,
+// and the tables that the schema lacks.
 fn has_plain_form(schema: Schema, sheets: &Sheets) -> bool
     ensures { result ≡ plain_form (schema_of schema) sheets.now }
 {

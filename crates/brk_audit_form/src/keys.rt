@@ -13,26 +13,26 @@ use std::cmp::Ordering;
 pub(crate) trait Keyed {
     ghost key: { Self → List KeyPart };
 
-    /// How the row's key compares with that of another.
+    /// Compares the key of the row with that of another.
     fn compare(&self, other: &Self) -> Ordering
         ensures { result ≡ key_cmp (key self.now) (key other.now) };
 }
 
-/// How two ids compare.
+/// Compares two ids.
 pub(crate) fn compare_ids(one: Id, other: Id) -> Ordering
     ensures { result ≡ nat_cmp one other }
 {
     one.get().cmp(&other.get())
 }
 
-/// How two texts compare, by their bytes.
+/// Compares two texts by their bytes.
 pub(crate) fn compare_texts<F: Form>(one: &Text<F>, other: &Text<F>) -> Ordering
     ensures { result ≡ slice_cmp nat_cmp one.now other.now }
 {
     one.as_str().cmp(other.as_str())
 }
 
-/// Whether the rows are by strictly rising key.
+/// Returns whether the rows are sorted by key, and no key occurs twice.
 pub(crate) fn rises<R: Keyed>(rows: &[R]) -> bool
     ensures { result ≡ form.rises R.key rows.now }
 {

@@ -1,4 +1,5 @@
-//! The form of a desk's rows: their keys, the limits of their columns, what they name, and the words that they may have.
+//! The audit condition `Form` of a desk's rows: their keys, the limits of their columns, their
+//! references, and their texts.
 #![tactic(auto)]
 
 mod bands;

@@ -8,7 +8,7 @@ use brk_changes::{Schema, Sheets};
 use brk_money::{Amount, Cents, Id, MoveId, Price, Qty, Stamp};
 use brk_ref::{ChargeAmount, Form, Text, Tier};
 
-/// Whether an id is within its limits.
+/// Returns whether the id is within its limits.
 pub(crate) fn is_id(id: Id) -> bool
     ensures { result ≡ form.is_id id }
 {
@@ -29,42 +29,42 @@ pub(crate) fn is_qty(schema: Schema, qty: Qty) -> bool
     1 <= qty.get() && qty.get() <= schema.greatest_qty()
 }
 
-/// Whether a price is within its limits.
+/// Returns whether the price is within its limits.
 pub(crate) fn is_price(price: Price) -> bool
     ensures { result ≡ form.is_price price }
 {
     1 <= price.get() && price.get() <= Price::GREATEST
 }
 
-/// Whether a tier is within its limits.
+/// Returns whether the tier is within its limits.
 pub(crate) fn is_tier(tier: Tier) -> bool
     ensures { result ≡ form.is_tier tier }
 {
     1 <= tier.get() && tier.get() <= 3
 }
 
-/// Whether an amount of cents is within its limits, either way.
+/// Returns whether the signed amount is within its limits, in cents.
 pub(crate) fn is_balance(cents: Cents) -> bool
     ensures { result ≡ form.is_amount cents }
 {
     cents.get().unsigned_abs() <= Cents::GREATEST
 }
 
-/// Whether an amount that is never below 0 is within its limit.
+/// Returns whether the unsigned amount is within its limit, in cents.
 pub(crate) fn is_amount(amount: Amount) -> bool
     ensures { result ≡ nat_le amount limits.greatest_amount }
 {
     amount.get() <= Amount::GREATEST
 }
 
-/// Whether a charge is within its limit.
+/// Returns whether the charge is within its limit.
 pub(crate) fn is_charge(charge: ChargeAmount) -> bool
     ensures { result ≡ nat_le charge limits.greatest_charge }
 {
     charge.get() <= ChargeAmount::GREATEST
 }
 
-/// Whether a stamp is not after the last one.
+/// Returns whether the stamp is at most the last stamp; false if there is no last stamp.
 pub(crate) fn is_stamp(sheets: &Sheets, stamp: Stamp) -> bool
     ensures { result ≡ form.is_stamp (tables_in_sheets sheets.now) stamp }
 {
@@ -74,7 +74,7 @@ pub(crate) fn is_stamp(sheets: &Sheets, stamp: Stamp) -> bool
     stamp.get() <= last.get()
 }
 
-/// Whether a text has its form.
+/// Returns whether the text is well-formed.
 pub(crate) fn is_text<F: Form>(text: &Text<F>) -> bool
     ensures { result ≡ F.form text.now }
 {

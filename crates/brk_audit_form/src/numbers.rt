@@ -6,7 +6,7 @@ ghost use Rattle.brk_model.specs.Limits.{greatest_id};
 use brk_changes::{MoveRow, TradeRow};
 use brk_money::Id;
 
-/// Whether the trades are numbered from 1 without a gap.
+/// Returns whether the trades are numbered from 1 without a gap.
 pub(crate) fn are_numbered(trades: &[TradeRow]) -> bool
     ensures { result ≡ form.same_numbers (map (λ row. row.id) trades.now) (range_with_len 1 (length trades.now)) }
 {

@@ -15,7 +15,7 @@ use brk_changes::{Sheets, TradeRow};
 use brk_money::{Id, Status};
 use brk_ref::{Security, Symbol, Tax};
 
-/// Whether a broker is there.
+/// Returns whether the broker exists.
 pub(crate) fn has_broker(sheets: &Sheets, id: Id) -> bool
     requires { HasKeys sheets.now }
     ensures { result ≡ form.has_broker (tables_in_sheets sheets.now) id }
@@ -27,7 +27,7 @@ pub(crate) fn has_broker(sheets: &Sheets, id: Id) -> bool
         .is_ok()
 }
 
-/// Whether a customer is there.
+/// Returns whether the customer exists.
 pub(crate) fn has_customer(sheets: &Sheets, id: Id) -> bool
     requires { HasKeys sheets.now }
     ensures { result ≡ form.has_customer (tables_in_sheets sheets.now) id }
@@ -39,7 +39,7 @@ pub(crate) fn has_customer(sheets: &Sheets, id: Id) -> bool
         .is_ok()
 }
 
-/// Whether an account is there.
+/// Returns whether the account exists.
 pub(crate) fn has_account(sheets: &Sheets, id: Id) -> bool
     requires { HasKeys sheets.now }
     ensures { result ≡ form.has_account (tables_in_sheets sheets.now) id }
@@ -51,7 +51,7 @@ pub(crate) fn has_account(sheets: &Sheets, id: Id) -> bool
         .is_ok()
 }
 
-/// Whether a trade is there.
+/// Returns whether the trade exists.
 pub(crate) fn has_trade(sheets: &Sheets, id: Id) -> bool
     requires { HasKeys sheets.now }
     ensures { result ≡ form.has_trade (tables_in_sheets sheets.now) id }
@@ -63,7 +63,7 @@ pub(crate) fn has_trade(sheets: &Sheets, id: Id) -> bool
         .is_ok()
 }
 
-/// Whether a tax is there.
+/// Returns whether the tax rate exists.
 pub(crate) fn has_tax(sheets: &Sheets, id: Id) -> bool
     requires { HasKeys sheets.now }
     ensures { result ≡ list_any (λ r. r.id == id) (tables_in_sheets sheets.now).tax_rates }
@@ -75,7 +75,7 @@ pub(crate) fn has_tax(sheets: &Sheets, id: Id) -> bool
         .is_ok()
 }
 
-/// Whether a security is there.
+/// Returns whether the security exists.
 pub(crate) fn has_security(sheets: &Sheets, symbol: &Symbol) -> bool
     requires { HasKeys sheets.now }
     ensures { result ≡ form.has_security (tables_in_sheets sheets.now) symbol.now }
@@ -86,7 +86,7 @@ pub(crate) fn has_security(sheets: &Sheets, symbol: &Symbol) -> bool
         .is_ok()
 }
 
-/// Whether a security's last trade is there.
+/// Returns whether the security has a last trade.
 pub(crate) fn has_last_trade(sheets: &Sheets, symbol: &Symbol) -> bool
     requires { HasKeys sheets.now }
     ensures { result ≡ list_any (λ l. bytes_eq l.symbol symbol.now) (tables_in_sheets sheets.now).last_trades }
@@ -97,7 +97,7 @@ pub(crate) fn has_last_trade(sheets: &Sheets, symbol: &Symbol) -> bool
         .is_ok()
 }
 
-/// Whether a trade is completed, by its history.
+/// Returns whether the trade has a completion in its history.
 pub(crate) fn has_completion(sheets: &Sheets, id: Id) -> bool
     requires { HasKeys sheets.now }
     ensures { result ≡ list_any (λ h. same_status h.status Completed) (joins.history_in (tables_in_sheets sheets.now) id) }
@@ -109,7 +109,7 @@ pub(crate) fn has_completion(sheets: &Sheets, id: Id) -> bool
         .is_ok()
 }
 
-/// The row of a trade.
+/// Returns the row of the trade, or `None` if it does not exist.
 pub(crate) fn find_trade(sheets: &Sheets, id: Id) -> Option<&TradeRow>
     requires { HasKeys sheets.now }
     ensures { option_map trade_row_of (option_copied result) ≡ joins.trade_in (tables_in_sheets sheets.now) id }
@@ -124,7 +124,7 @@ pub(crate) fn find_trade(sheets: &Sheets, id: Id) -> Option<&TradeRow>
     }
 }
 
-/// The row of a security.
+/// Returns the row of the security, or `None` if it does not exist.
 pub(crate) fn find_security<'a>(sheets: &'a Sheets, symbol: &Symbol) -> Option<&'a Security>
     requires { HasKeys sheets.now }
     ensures { option_map security_of (option_copied result) ≡ joins.security_in (tables_in_sheets sheets.now) symbol.now }
@@ -138,7 +138,7 @@ pub(crate) fn find_security<'a>(sheets: &'a Sheets, symbol: &Symbol) -> Option<&
     }
 }
 
-/// The row of a tax.
+/// Returns the row of the tax rate, or `None` if it does not exist.
 pub(crate) fn find_tax(sheets: &Sheets, id: Id) -> Option<&Tax>
     requires { HasKeys sheets.now }
     ensures { option_map tax_of (option_copied result) ≡ find (λ r. r.id == id) (tables_in_sheets sheets.now).tax_rates }

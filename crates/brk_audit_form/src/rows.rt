@@ -19,7 +19,7 @@ pub(crate) trait Formed {
         ensures { result ≡ form (schema_of schema) (tables_in_sheets sheets.now) self.now };
 }
 
-/// Whether each row has its form.
+/// Returns whether each row is well-formed.
 pub(crate) fn are_formed<R: Formed>(schema: Schema, sheets: &Sheets, rows: &[R]) -> bool
     requires { HasKeys sheets.now }
     ensures { result ≡ list_all (R.form (schema_of schema) (tables_in_sheets sheets.now)) rows.now }

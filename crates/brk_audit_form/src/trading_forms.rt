@@ -19,7 +19,7 @@ use brk_changes::{
 };
 use brk_money::{Day, Stamp, Status};
 
-// Whether a trade has a price just where it is completed.
+// Returns whether the trade has a well-formed price if it is completed, and no price otherwise.
 fn has_its_price(sheets: &Sheets, row: &TradeRow) -> bool
     requires { HasKeys sheets.now }
     ensures { result ≡ form.price_form (tables_in_sheets sheets.now) (of.trade_row_of row.now) }
@@ -30,14 +30,14 @@ fn has_its_price(sheets: &Sheets, row: &TradeRow) -> bool
     }
 }
 
-// Whether a completion settles within the calendar.
+// Returns whether a completion has its settlement day within the calendar; true for other statuses.
 fn settles(rule: Option<Day>, status: Status, stamp: Stamp) -> bool
     ensures { result ≡ (not (same_status status Completed) || nat_le (derived.due_after rule stamp) last_day) }
 {
     status != Status::Completed || due_after(rule, stamp).is_some()
 }
 
-// Whether the word is one of its kind of trade.
+// Returns whether the settlement text is one of the two of its kind of trade.
 fn is_word_of(is_cash: bool, word: CashType) -> bool
     ensures { result ≡ form.is_cash_type is_cash (of.cash_type_word word) }
 {

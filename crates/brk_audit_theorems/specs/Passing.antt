@@ -4,6 +4,6 @@ use Rattle.brk_model.specs.Schemas.{Schema}
 use Rattle.brk_model.specs.Tables.{Tables}
 use Rattle.brk_model.specs.Audit.{IsAudit}
 
--- no condition of a schema fails of the rows
+-- The rows pass the audit: they satisfy every condition of the schema.
 abbrev pub Passes : Schema → Tables → Type 0
 Passes schema rows = IsAudit schema rows None

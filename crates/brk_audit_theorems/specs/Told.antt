@@ -1,4 +1,5 @@
--- What holds of the trades and the movements of a base beside its order: statuses and movements came one after another, and words stand where their rows do.
+-- Valid histories: statuses and movements of a base in ascending order of their stamps, valid
+-- status sequences, and no stray texts.
 use Rattle.std.specs.Prelude.{◌≡◌, ◌&&◌, true, false, List, [], ◌∷◌, map}
 use Rattle.std.specs.List.{AllByRecursion}
 use Rattle.brk_model.specs.Records.{Account, Broker, Security, Trade}
@@ -6,38 +7,41 @@ use Rattle.brk_model.specs.Keys.{KeyPart, number, word, by_key, band_key, charge
 use Rattle.brk_model.specs.Base.{Base, is_completed}
 use Rattle.brk_model.specs.Ways.{is_rising, is_way}
 
--- the stamps of a trade's statuses rise
+-- The stamps of the trade's statuses are in ascending order.
 abbrev pub StampsRise : Trade → Type 0
 StampsRise t = is_rising (map (λ m. m.stamp) t.marks) ≡ true
 
--- a trade's statuses go a way
+-- The statuses of the trade are a valid status sequence.
 abbrev pub HasValidTransitions : Trade → Type 0
 HasValidTransitions t = is_way (map (λ m. m.status) t.marks) ≡ true
 
--- a trade has words just where it has the rows of a completion
+-- The trade has no settlement text if it is not completed, and no cash text if it is not a
+-- completed cash trade.
 pub record HasNoStrayTexts (t : Trade) : Type 0 where
   pub settled : is_completed t ≡ false → t.cash_type ≡ []
   pub moved : is_completed t && t.is_cash ≡ false → t.cash_name ≡ []
 
+-- The trades have valid histories and no stray texts, and the movements are in ascending order of
+-- their stamps.
 pub record HasValidHistories (base : Base) : Type 0 where
   pub stamps : AllByRecursion StampsRise base.trades
   pub ways : AllByRecursion HasValidTransitions base.trades
   pub words : AllByRecursion HasNoStrayTexts base.trades
   pub movements : is_rising (map (λ m. m.stamp) base.movements) ≡ true
 
--- the keys of records that have rows of their own
+-- The key of a broker.
 abbrev pub broker_id : Broker → List KeyPart
 broker_id b = number b.id ∷ []
 
--- likewise
+-- The key of an account.
 abbrev pub account_id : Account → List KeyPart
 account_id a = number a.id ∷ []
 
--- likewise
+-- The key of a security.
 abbrev pub symbol_key : Security → List KeyPart
 symbol_key s = word s.symbol ∷ []
 
--- the same base with its reference records by rising key; trades stay in their order
+-- The base with its reference records and stored replies sorted by key. Trades keep their order.
 abbrev pub sorted : Base → Base
 sorted b = record b {
   brokers = by_key broker_id b.brokers;

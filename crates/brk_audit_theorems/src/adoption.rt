@@ -1,4 +1,4 @@
-//! Rows that pass every condition are the tables of a base in order.
+//! Theorems: rows that pass every condition are the tables of a consistent base, and back.
 
 ghost use Rattle.std.specs.Prelude.{◌≡◌, IsTrue};
 ghost use Rattle.brk_model.specs.Base.{Base};
@@ -12,16 +12,18 @@ ghost use Rattle.brk_book_theorems.specs.Books.{BooksInvariant};
 ghost use Rattle.brk_audit_theorems.specs.Passing.{Passes};
 ghost use Rattle.brk_audit_theorems.specs.Told.{HasValidHistories, sorted};
 
-/// Rows that pass every condition of a schema are the tables, in that schema, of the base that they give, which is in order; for its order
-/// form and statuses are enough.
+/// Proves that the base of rows that pass every condition of a schema is consistent, and that the
+/// rows are its tables in that schema. For its consistency the conditions on form and on statuses
+/// suffice.
 pub fn passing_rows_are_tables()
     ensures order { (schema : Schema) (rows : Tables) → IsTrue (has_form schema rows) → IsTrue (has_status_rows rows) → BooksInvariant (base_of rows) }
     ensures books { (schema : Schema) (rows : Tables) → Passes schema rows → BooksInvariant (base_of rows) }
     ensures tables { (schema : Schema) (rows : Tables) → Passes schema rows → sheets_at schema (base_of rows) ≡ rows }
 {}
 
-/// The tables of a base in order, whose trades were told as they are, give that base again with its reference records by rising key, and its
-/// tables are the same, and their statuses are right. So all conditions hold but that of form; where they have form, they pass.
+/// Proves that the tables of a consistent base with valid histories describe this base with its
+/// reference records sorted by key, whose tables are equal to them. Their statuses are right. If
+/// they are well-formed, they pass the audit.
 pub fn tables_of_books_pass()
     ensures base { (base : Base) → BooksInvariant base → HasValidHistories base → base_of (sheets base) ≡ sorted base }
     ensures tables { (base : Base) → BooksInvariant base → HasValidHistories base → sheets (base_of (sheets base)) ≡ sheets base }

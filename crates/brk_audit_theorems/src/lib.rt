@@ -1,5 +1,6 @@
-//! Laws of adopted files and audits: rows that pass every condition are the tables of a base in order, and the tables of a base in order
-//! pass every condition. There is no code to call.
+//! Theorems about audits and adopted files: rows that pass every condition are the tables of a
+//! consistent base. The well-formed tables of a consistent base with valid histories pass every
+//! condition. Proof-only: there is no code to call.
 #![tactic(auto)]
 
 pub mod adoption;

@@ -1,4 +1,4 @@
--- What a run of a batch does, by how it ends.
+-- The effect of a run of a batch, by how it ends.
 use Rattle.std.specs.Prelude.{◌≡◌, ◌+◌, ◌<◌, ◌⊎◌, ◌∷◌, ◌++◌, [], List, ℕ, Option, Result, Ok, Err, take, length}
 use Rattle.std.specs.Io.KnownBytes.{Appends}
 use Rattle.brk_money.specs.Spelling.{Text}
@@ -20,7 +20,8 @@ use Rattle.brk_io.specs.declared.batch_fault.FaultKind.{FaultKind}
 use Rattle.brk_io.specs.declared.batch_fault.FaultKind.TheVariants as kinds
 use Rattle.brk_batch_engine.specs.declared.counts.Counts.{Counts}
 
--- the batch came to this ending: what was written is its batch text, at the moments that the clock gave
+-- The batch ended with `ending` after `count` decided rows. The writer got exactly its batch text,
+-- for the timestamps that the clock returned.
 pub record CameTo {S X C : Type 0} (form : Fields → Read X) (step : RowStep S X) (gives : C → ℕ → C → Type 0)
     (text : Option Text) (span : Span S C) (ending : model.Ending) (count : ℕ) : Type 0 where
   pub moments : List ℕ
@@ -29,15 +30,17 @@ pub record CameTo {S X C : Type 0} (form : Fields → Read X) (step : RowStep S 
   pub answered : model.IsAnswered form step span.base moments text (record { text = lines; base = span.after; ending = ending; rows = count })
   pub written : Appends span.old span.new lines
 
--- after the header there are these rows, and then the right end record
+-- The text begins with the header, these rows and the correct end record. It holds if the text is
+-- unknown.
 abbrev pub EndsRight : Option Text → Text → List Fields → Type 0
 EndsRight text name rows = Begins text (header_of name ∷ (rows ++ (end_of (length rows) ∷ [])))
 
--- each row that acted had a record after it
+-- If there are rows, the text has one more record after the last of them.
 abbrev pub HasNext : Option Text → Text → List Fields → Type 0
 HasNext text name rows = 0 < length rows → (next : Fields) × Begins text (header_of name ∷ (rows ++ (next ∷ [])))
 
--- how far a batch came that a fault ends: these rows were answered, and what is settled is told, the refusal of a cut row too
+-- The progress of a batch that a fault ended. The rows `rows` have the answers `answers`. The list
+-- `told` holds the `count` answers that were decided.
 pub record Stopped {S X C : Type 0} (form : Fields → Read X) (step : RowStep S X) (gives : C → ℕ → C → Type 0)
     (text : Option Text) (span : Span S C) (count : ℕ) : Type 0 where
   pub name : Text
@@ -52,26 +55,29 @@ pub record Stopped {S X C : Type 0} (form : Fields → Read X) (step : RowStep S
   pub next : HasNext text name rows
   pub counted : count ≡ length told
 
--- the writer got all the lines, or all but the last
+-- The writer got all lines of `told`, or all but the last.
 abbrev pub WroteLines : Option Text → Option Text → List Answer → Type 0
 WroteLines old new told =
     Appends old new (lines_from 1 told)
     ⊎ ((front : List Answer) × (last : Answer) × (told ≡ front ++ (last ∷ [])) × Appends old new (lines_from 1 front))
 
--- the writer got all the lines but the last, and a part of that one
+-- The writer got all lines of `told` but the last, and the first `k` bytes of that one, for some
+-- `k`.
 abbrev pub WroteMost : Option Text → Option Text → List Answer → Type 0
 WroteMost old new told =
     (front : List Answer) × (last : Answer) × (k : ℕ) × (told ≡ front ++ (last ∷ [])) × Appends old new (lines_from 1 front ++ take k (answer_line (length told) last))
 
--- the writer got all the lines, and a part of the end line
+-- The writer got all lines of `told`, and the first `k` bytes of the end line, for some `k`.
 abbrev pub WroteToEnd : Option Text → Option Text → List Answer → Type 0
 WroteToEnd old new told = (k : ℕ) × Appends old new (lines_from 1 told ++ take k (end_line told))
 
--- the rows that were settled are those that were answered, and perhaps one that has no record after it
+-- The decided answers `told` are `answers`, or the text ends here and they are those that
+-- `EndsAfter` specifies, with the refusal of a last row that has no record after it.
 abbrev pub EndsThere : Option Text → Text → List Fields → List Answer → List Answer → Type 0
 EndsThere text name rows answers told = (told ≡ answers) ⊎ model.EndsAfter text name rows answers told
 
--- how each fault comes, and what is settled and written then
+-- The batch failed with this fault after `count` decided rows. The fault determines which rows were
+-- decided and which lines were written.
 abbrev pub Faulted : {S X C : Type 0} → (Fields → Read X) → RowStep S X → (C → ℕ → C → Type 0) → Option Text → Span S C → ℕ → FaultKind → Type 0
 Faulted form step gives text span count kinds.BadHeader =
     IsUntouched span × model.IsUnanswered span.base [] text (record { text = []; base = span.after; ending = model.BadHeader; rows = count })
@@ -90,22 +96,26 @@ Faulted form step gives text span count (kinds.Desk fault) =
     ⊎ ((s : Stopped form step gives text span count) × (span.later ≡ s.mid) × (fault ≡ Memory)
     × EndsThere text s.name s.rows s.answers s.told × WroteLines span.old span.new s.told))
 
--- what a run of a batch gives
+-- The result of the batch is as specified: the counts of all answers of a complete batch, or a
+-- fault with the effect that `Faulted` specifies.
 abbrev pub BatchGives : {S X C : Type 0} → (Fields → Read X) → RowStep S X → (C → ℕ → C → Type 0) → Option Text → Span S C → Result Counts BatchFault → Type 0
 BatchGives form step gives text span (Ok counts) =
     (c : CameTo form step gives text span model.EndedWell (counts.ok + counts.again + counts.no)) × (counts ≡ counts_of c.answered.answers)
 BatchGives form step gives text span (Err fault) = Faulted form step gives text span fault.rows fault.kind
 
--- whatever the desk answered, the batch is answered with just these answers
+-- Some list of answers of the desk gives exactly this result and output. It needs no disk
+-- assumption, and says nothing of the desk's state.
 abbrev pub TellsAnswers : {X C : Type 0} → (Fields → Read X) → (C → ℕ → C → Type 0) → Option Text → Outside C → Result Counts BatchFault → Type 0
 TellsAnswers form gives text outside result = (script : List Answer) × BatchGives form scripted gives text (with_base script [] outside) result
 
--- where the desk is honest, over each base that it stood for, the batch is answered by the steps, and the desk stands for the base after them
+-- The batch refines the model: under the disk assumption (`honest`), for every base that the desk
+-- represented, the batch is answered by `step`, and the desk represents the base after it.
 abbrev pub RefinesModel : {D S X C : Type 0} → (D → Type 0) → (D → S → Type 0) → (Fields → Read X) → RowStep S X → (C → ℕ → C → Type 0) → Option Text → D → D → Outside C → Result Counts BatchFault → Type 0
 RefinesModel {S = S} honest stands form step gives text first last outside result =
     honest last → (base : S) → stands first base → (after : S) × stands last after × BatchGives form step gives text (with_base base after outside) result
 
--- the row after those that were answered had its moment and was not answered: a stop leaves the base before it, or the one after its command
+-- The row after the decided rows was executed at a clock reading, and its call failed. A crash
+-- exposes the base before it, or the one after its command.
 pub record IsUnderWay {D S X C : Type 0} (form : Fields → Read X) (step : RowStep S X) (gives : C → ℕ → C → Type 0) (leaves : D → S → S → Type 0)
     (text : Option Text) (span : Span S C) (last : D) (fault : BatchFault) : Type 0 where
   pub cause : Fault
@@ -120,18 +130,22 @@ pub record IsUnderWay {D S X C : Type 0} (form : Fields → Read X) (step : RowS
   pub given : gives stopped.mid moment span.later
   pub may : leaves last span.after (step span.after moment command (record { batch = stopped.name; row = fault.rows + 1 })).1
 
--- what a stop leaves after a batch: the base after it alone, or a row was under way
+-- A crash after the batch exposes only the base after it. After a fault it may also expose the base
+-- after the row that was under way.
 abbrev pub LeavesAt : {D S X C : Type 0} → (Fields → Read X) → RowStep S X → (C → ℕ → C → Type 0) → (D → S → S → Type 0) → Option Text → Span S C → D → Result Counts BatchFault → Type 0
 LeavesAt form step gives leaves text span last (Ok counts) = leaves last span.after span.after
 LeavesAt form step gives leaves text span last (Err fault) = leaves last span.after span.after ⊎ IsUnderWay form step gives leaves text span last fault
 
--- where a stop before the batch leaves a base alone that the desk stood for, one after it leaves the base after its rows, and perhaps that after the row that was under way
+-- Crash safety, under the disk assumption (`honest`): if a crash before the batch exposes only a
+-- base that the desk represented, a crash after it exposes the base after the decided rows, which
+-- the desk represents. After a fault it may also expose the base after the row that was under way.
 abbrev pub CrashStates : {D S X C : Type 0} → (D → Type 0) → (D → S → Type 0) → (D → S → S → Type 0) → (Fields → Read X) → RowStep S X → (C → ℕ → C → Type 0) → Option Text → D → D → Outside C → Result Counts BatchFault → Type 0
 CrashStates {S = S} honest stands leaves form step gives text first last outside result =
     honest last → (base : S) → stands first base → leaves first base base → (after : S) × stands last after
     × BatchGives form step gives text (with_base base after outside) result × LeavesAt form step gives leaves text (with_base base after outside) last result
 
--- what a run of a batch comes to, each way
+-- The postcondition of a run of a batch: its answers, its refinement of the model, and its crash
+-- safety.
 pub record BatchPost {D S X C : Type 0} (honest : D → Type 0) (stands : D → S → Type 0) (leaves : D → S → S → Type 0) (form : Fields → Read X) (step : RowStep S X) (gives : C → ℕ → C → Type 0)
     (text : Option Text) (first last : D) (outside : Outside C) (result : Result Counts BatchFault) : Type 0 where
   pub told : TellsAnswers form gives text outside result

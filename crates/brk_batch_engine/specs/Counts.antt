@@ -1,4 +1,4 @@
--- How many rows were answered with each word.
+-- The number of rows by kind of answer.
 use Rattle.std.specs.Prelude.{◌+◌, ◌∷◌, ◌++◌, [], List, codes, if◌then◌else◌}
 use Rattle.std.specs.Fmt.{decimal}
 use Rattle.brk_money.specs.Spelling.{Text}
@@ -7,11 +7,11 @@ use Rattle.brk_model.specs.Lines.{count_again, count_done, count_refused, is_aga
 use Rattle.brk_model.specs.Rows.{line_of}
 use Rattle.brk_batch_engine.specs.declared.counts.Counts.{Counts}
 
--- the counts of all the answers
+-- The counts of a list of answers.
 abbrev pub counts_of : List Answer → Counts
 counts_of answers = record { ok = count_done answers; again = count_again answers; no = count_refused answers }
 
--- the counts with one answer more
+-- The counts with one more answer.
 abbrev pub counted : Counts → Answer → Counts
 counted counts answer = record {
   ok = counts.ok + (if is_done answer then 1 else 0);
@@ -19,6 +19,6 @@ counted counts answer = record {
   no = counts.no + (if is_refused answer then 1 else 0);
 }
 
--- the line that ends a batch with these counts
+-- The last line of a complete batch with these counts.
 abbrev pub counts_line : Counts → Text
 counts_line counts = line_of (codes "end" ∷ decimal counts.ok ∷ decimal counts.again ∷ decimal counts.no ∷ []) ++ 10 ∷ []

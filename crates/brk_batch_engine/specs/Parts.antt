@@ -1,4 +1,4 @@
--- What is known of one step of a batch that failed.
+-- The output of one step of a batch that failed, by its fault.
 use Rattle.std.specs.Prelude.{◌≡◌, [], ℕ, Option, take}
 use Rattle.std.specs.Io.KnownBytes.{Appends}
 use Rattle.brk_money.specs.Spelling.{Text}
@@ -11,7 +11,8 @@ use Rattle.brk_io.specs.declared.batch_fault.FaultKind.{FaultKind}
 use Rattle.brk_io.specs.declared.batch_fault.FaultKind.TheVariants as kinds
 use Rattle.brk_batch_engine.specs.declared.counts.Counts.{Counts}
 
--- what is written of a line that was not written whole
+-- Writing the line `text` failed with this fault. `Write`: the writer has its first `k` bytes, for
+-- some `k`. `Desk`: memory ran out, and nothing was written. No other fault is possible.
 abbrev pub Part : Option Text → Option Text → Text → FaultKind → Type 0
 Part old new text kinds.Write = (k : ℕ) × Appends old new (take k text)
 Part old new text (kinds.Desk fault) = (fault ≡ Memory) × Appends old new []
@@ -20,7 +21,9 @@ Part old new text kinds.BadHeader = ⊥
 Part old new text kinds.NoEnd = ⊥
 Part old new text kinds.BadEnd = ⊥
 
--- the same of the end line, which is begun where the end record is right
+-- The end record `row` after `n` rows failed with this fault. `BadEnd`: the record is wrong and
+-- nothing was written. `Write`: it is correct, and the writer has the first `k` bytes of the end
+-- line, for some `k`. `Desk`: memory ran out, and nothing was written.
 abbrev pub EndPart : Option Text → Option Text → Fields → ℕ → Counts → FaultKind → Type 0
 EndPart old new row n counts kinds.BadEnd = (row ≡ end_of n → ⊥) × Appends old new []
 EndPart old new row n counts kinds.Write = (row ≡ end_of n) × ((k : ℕ) × Appends old new (take k (counts_line counts)))
@@ -29,7 +32,9 @@ EndPart old new row n counts kinds.Read = ⊥
 EndPart old new row n counts kinds.BadHeader = ⊥
 EndPart old new row n counts kinds.NoEnd = ⊥
 
--- the same of the line of a row that has no record after it, which is written where the fault is that there is no end
+-- A row without a record after it ended the batch with this fault. `NoEnd`: its line `text` was
+-- written. `Write`: the writer has the first `k` bytes of it, for some `k`. `Desk`: memory ran out,
+-- and nothing was written.
 abbrev pub CutPart : Option Text → Option Text → Text → FaultKind → Type 0
 CutPart old new text kinds.NoEnd = Appends old new text
 CutPart old new text kinds.Write = (k : ℕ) × Appends old new (take k text)
@@ -38,7 +43,8 @@ CutPart old new text kinds.Read = ⊥
 CutPart old new text kinds.BadHeader = ⊥
 CutPart old new text kinds.BadEnd = ⊥
 
--- why a header was not read
+-- Reading the header failed with this fault. `BadHeader`: the text has no header. `Desk`: memory
+-- ran out. `Read` says nothing of the text.
 abbrev pub HeaderPart : Option Text → FaultKind → Type 0
 HeaderPart text kinds.BadHeader = HasNoHeader text
 HeaderPart text kinds.Read = Unit {0}

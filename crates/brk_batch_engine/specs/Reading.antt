@@ -8,11 +8,13 @@ use Rattle.csv.specs.declared.parser.State.TheVariants as st
 use Rattle.brk_money.specs.Spelling.{Text}
 use Rattle.brk_model.specs.Answers.{Fields}
 
--- a reader reads the records of a batch: as they stand, of any number of fields, and with no header row
+-- The reader reads records as a batch needs them: untrimmed, in the default CSV format, of any
+-- number of fields, starting with the next record.
 abbrev pub ReadsBatch : {R : Type 0} → Reader R → Type 0
 ReadsBatch reader = (reader_trim reader ≡ trim.None) × Ready reader × (reader_config reader ≡ default_config) × (is_flexible reader ≡ true)
 
--- the text begins with these records, and a reader in this state has these bytes left of it, where they are known
+-- The text begins with the records `front`, and a reader in `state` has the bytes `left` of it to
+-- read. If the text is unknown, it holds of every state.
 abbrev pub Stands : Option Text → List Fields → State → Option Text → Type 0
 Stands None front state left = Unit {0}
 Stands (Some text) front state None = ⊥

@@ -15,15 +15,19 @@ use std::alloc::Global;
 /// The answer to a row.
 #[derive(Debug, Drop)]
 pub enum RowAnswer<R> {
-    /// It was done, with this reply.
+    /// The row was executed, with this reply.
     Done(R),
-    /// It had been done before, with these fields.
+    /// The row was accepted before, with this stored reply.
     Again(String),
-    /// It was refused, and nothing was changed.
+    /// The row was refused.
     Refused(Refusal),
 }
 
-/// Answers row n of a batch. The clock is asked only where the row is in form.
+/// Returns the answer to row `n` of `batch`. The clock is read once if the row is well-formed,
+/// otherwise not.
+///
+/// Fails with `Memory` or `Store`; the clock was then read at most once. The desk then represents
+/// the state before, but after a crash the row may be committed.
 pub fn answer_row<C: Clock, D: Rows>(
     alloc: Global,
     desk: &mut D::Desk,

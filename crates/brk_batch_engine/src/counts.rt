@@ -5,12 +5,12 @@ ghost use Rattle.brk_batch_engine.specs.Counts.{counted};
 
 use crate::answer::RowAnswer;
 
-/// How many rows of a batch were answered with each word.
+/// The number of answered rows of a batch, by kind of answer.
 #[derive(Clone, Copy, Debug, PartialEq, Eq)]
 pub struct Counts {
-    /// Rows that were done.
+    /// Rows that were executed.
     pub ok: u64,
-    /// Rows that had been done before.
+    /// Rows that were accepted before.
     pub again: u64,
     /// Rows that were refused.
     pub no: u64,
@@ -24,7 +24,7 @@ impl Counts {
         no: 0,
     };
 
-    // The counts with one row more.
+    // Returns the counts with one more answer.
     pub(crate) fn with<R>(self, answer: &RowAnswer<R>) -> Counts
         requires ok { self.ok + 1 < 2 ^ 64 }
         requires again { self.again + 1 < 2 ^ 64 }

@@ -25,7 +25,7 @@ use std::alloc::Global;
 use std::io::{Read, Take, Write};
 use std::mem;
 
-// Writes the line of row n.
+// Writes the line of row `n`.
 fn tell<W: Write, D: Rows>(
     alloc: Global,
     writer: &mut W,
@@ -44,7 +44,7 @@ fn tell<W: Write, D: Rows>(
     }
 }
 
-// Refuses row n, which has no record after it.
+// Writes the refusal of row `n`, which has no record after it, and returns the fault.
 fn cut_off<W: Write, D: Rows>(alloc: Global, writer: &mut W, n: u64) -> FaultKind
     ensures { CutPart (W.contents writer.old) (W.contents writer.new) (answer_line n (Refused BadText)) result }
 {
@@ -54,7 +54,7 @@ fn cut_off<W: Write, D: Rows>(alloc: Global, writer: &mut W, n: u64) -> FaultKin
     }
 }
 
-// Ends a batch of n rows with the record that ends it.
+// Checks the end record of a batch of `n` rows and writes the last line.
 fn finish<W: Write>(
     alloc: Global,
     writer: &mut W,
@@ -78,7 +78,7 @@ fn finish<W: Write>(
     }
 }
 
-// Reads the header, for the name of the batch.
+// Reads the header and returns the name of the batch.
 fn read_header<R: Read>(alloc: Global, records: &mut Reader<R>) -> Result<BatchName, FaultKind>
     requires { ReadsBatch records.old }
     ensures setup { OnOk result (ReadsBatch records.new) }
@@ -99,8 +99,8 @@ fn read_header<R: Read>(alloc: Global, records: &mut Reader<R>) -> Result<BatchN
     }
 }
 
-// Answers the rows after the header of a batch of this name. A record takes a byte at least, so that there are no more
-// rows than bytes.
+// Executes the rows after the header of the batch `name`, and writes their lines. A record takes at
+// least one byte, so there are not more rows than bytes.
 fn run_rows<R: Read, W: Write, C: Clock, D: Rows>(
     alloc: Global,
     records: &mut Reader<R>,
@@ -174,7 +174,11 @@ fn run_rows<R: Read, W: Write, C: Clock, D: Rows>(
     })
 }
 
-/// Reads a batch, runs its rows and writes their lines.
+/// Reads a batch, executes its rows and writes their lines. Returns the counts of the answers after
+/// the last line.
+///
+/// A fault reports the number of decided rows, whose changes remain. After a fault of the desk, a
+/// crash may still find the next row committed.
 pub fn run<R: Read + Drop, W: Write, C: Clock, D: Rows>(
     alloc: Global,
     reader: R,

@@ -1,5 +1,7 @@
-//! Batches of rows as CSV, answered line by line over any desk: the records of an input are read in turn, each row is handed to the
-//! desk once the record after it was read, and its line is written before the next row acts.
+//! Executes a batch of CSV rows on any desk, and answers each row with a line.
+//!
+//! The records of the input are read in order. A row is executed after the next record has been
+//! read, and its line is written before the next row is executed.
 #![tactic(auto)]
 
 mod answer;

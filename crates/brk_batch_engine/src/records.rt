@@ -16,10 +16,11 @@ use itoa::Buffer;
 use std::alloc::{AllocError, Global};
 use std::io::{Read, Take};
 
-/// The most bytes that are read of an input. What is cut there is a cut input.
+/// The largest number of bytes that is read of an input. A longer input is cut there.
 pub const MOST_BYTES: u64 = 67_108_864;
 
-/// The records of the first bytes of an input: comma-separated, of any number of fields, with no header row.
+/// Opens the records of the first `MOST_BYTES` bytes of an input: comma-separated, of any number of
+/// fields, with no header row.
 pub fn open_records<R: Read + Drop>(alloc: Global, reader: R) -> Reader<Take<R>>
     ensures setup { ReadsBatch result }
     ensures start { Stands (option_map text_of (R.remaining reader)) [] (reader_state result) (source_of (take_remaining R.remaining) result) }
@@ -30,7 +31,9 @@ pub fn open_records<R: Read + Drop>(alloc: Global, reader: R) -> Reader<Take<R>>
         .from_reader(alloc, reader.take(MOST_BYTES))
 }
 
-/// Reads the next record, if there is one.
+/// Reads the next record into `row`. Returns `false` if there is none.
+///
+/// Fails with `Read` or `Desk(Memory)`.
 pub fn read_record<R: Read>(
     records: &mut Reader<R>,
     row: &mut ByteRecord,
@@ -56,7 +59,7 @@ pub fn read_record<R: Read>(
     }
 }
 
-/// The fields of a record in turn.
+/// Returns the fields of a record, in order.
 pub fn fields_list(alloc: Global, row: &ByteRecord) -> Result<Vec<&[u8]>, AllocError>
     ensures { IfOk result (λ all. texts all.items ≡ fields_of row.now) }
 {
@@ -67,7 +70,7 @@ pub fn fields_list(alloc: Global, row: &ByteRecord) -> Result<Vec<&[u8]>, AllocE
     Ok(all)
 }
 
-// Whether the field at a place is this text.
+// Returns true if the field at index `i` exists and equals `text`.
 fn field_is(row: &ByteRecord, i: usize, text: &[u8]) -> bool
     ensures { IsTrue result ↔ (field_at (fields_of row.now) i ≡ Some text.now) }
 {
@@ -77,7 +80,7 @@ fn field_is(row: &ByteRecord, i: usize, text: &[u8]) -> bool
     }
 }
 
-// Whether a record has just these two fields.
+// Returns true if a record has exactly these two fields.
 #[tactic(auto, using(crate::proofs::Reading::pair_found, crate::proofs::Reading::pair_fields))]
 fn is_pair(row: &ByteRecord, first: &[u8], second: &[u8]) -> bool
     ensures { IsTrue result ↔ (fields_of row.now ≡ first.now ∷ second.now ∷ []) }
@@ -91,14 +94,14 @@ fn is_pair(row: &ByteRecord, first: &[u8], second: &[u8]) -> bool
     field_is(row, 1, second)
 }
 
-/// Whether a record ends a batch, rightly or not.
+/// Returns true if a record is an end record, correct or not.
 pub fn is_end(row: &ByteRecord) -> bool
     ensures { IsTrue result ↔ IsEnd (fields_of row.now) }
 {
     field_is(row, 0, b"end")
 }
 
-/// Whether a record is the right end after n rows.
+/// Returns true if a record is the correct end record after `n` rows.
 pub fn is_end_of(row: &ByteRecord, n: u64) -> bool
     ensures { IsTrue result ↔ (fields_of row.now ≡ end_of n) }
 {
@@ -106,7 +109,8 @@ pub fn is_end_of(row: &ByteRecord, n: u64) -> bool
     is_pair(row, b"end", buffer.format(n).as_bytes())
 }
 
-/// The name that a header gives its batch, if the record is a header.
+/// Returns the name of the batch if the record is a header, otherwise `None`. Fails with `Memory`
+/// only.
 #[tactic(auto, using(crate::proofs::Reading::header_name_is))]
 pub fn header_name(alloc: Global, row: &ByteRecord) -> Result<Option<BatchName>, Fault>
     ensures header { IfOk result (λ found. MatchOption found

@@ -13,51 +13,57 @@ use brk_money::{Fault, Planned, Stamp};
 use brk_ref::BatchName;
 use std::alloc::{AllocError, Global};
 
-/// How a desk answers the rows of a batch.
+/// The operations of a desk that the rows of a batch need.
 pub trait Rows {
-    /// What answers them.
+    /// The desk that executes the rows.
     type Desk;
 
-    /// A row in form.
+    /// A command: a well-formed row.
     type Command: Drop;
 
-    /// What is told of a row that was done.
+    /// The reply to a row that was executed.
     type Reply: Drop;
 
-    /// What is kept between the rows, as the definitions see it.
+    /// The abstract state that the desk represents.
     ghost Base: { Type 0 };
 
-    /// What a row in form asks for.
+    /// The abstract command of a well-formed row.
     ghost Asked: { Type 0 };
 
-    /// The premise under which anything is said of what is kept.
+    /// The disk assumption, under which the contracts speak of the desk's state.
     ghost honest: { Self.Desk → Type 0 };
 
-    /// What is kept is that of this base.
+    /// The desk represents this base.
     ghost stands: { Self.Desk → Base → Type 0 };
 
-    /// What a stop leaves is that of one of these two bases.
+    /// After a crash the state is one of these two bases.
     ghost leaves: { Self.Desk → Base → Base → Type 0 };
 
-    /// What its calls may make of a desk, whatever they answer.
+    /// Calls may turn the first desk into the second, whatever they return.
     ghost leads: { Self.Desk → Self.Desk → Type 0 };
 
+    /// The abstract command of a command.
     ghost asked: { Self.Command → Asked };
 
+    /// The abstract reply of a reply.
     ghost told: { Self.Reply → Reply };
 
-    /// What the fields of a row ask for, or the refusal of their form.
+    /// The abstract command of a row's fields, or the refusal of a malformed row.
     ghost form: { Fields → Read Asked };
 
-    /// The answer to a command with a key at a moment, and the base after it.
+    /// The answer to a command with a key at a timestamp, and the base after it.
     ghost step: { RowStep Base Asked };
 
-    /// Reads the fields of a row.
+    /// Parses the fields of a row: returns a command, or the refusal of a malformed row. Fails with
+    /// `Memory` only.
     fn parse(alloc: Global, row: &[&[u8]]) -> Planned<Self::Command>
         ensures read { IfOk result (λ read. Reads asked read (form (texts row.now))) }
         ensures fault { OnErr result (result ≡ Err Memory) };
 
-    /// Runs a command, row n of a batch, at a moment.
+    /// Executes a command, row `n` of `batch`, at the clock reading `now`, and returns its answer.
+    ///
+    /// Fails with `Memory` or `Store`. The desk then represents the state before, but after a crash
+    /// the command may be committed.
     fn call(
         desk: &mut Self::Desk,
         alloc: Global,
@@ -76,13 +82,13 @@ pub trait Rows {
         ensures stop { OnErr result (MayAct honest stands leaves step desk.old desk.new now (asked command.now) (record { batch = batch.now; row = n })) }
         ensures fault { IfErr result MayFail };
 
-    /// The fields of a reply, joined by commas.
+    /// Returns the fields of a reply, joined by commas.
     fn reply_line(alloc: Global, reply: &Self::Reply) -> Result<String, AllocError>
         ensures { IfOk result (λ line. string_bytes line ≡ line_text (told reply.now)) };
 
-    /// No call leads nowhere else.
+    /// `leads` is reflexive.
     ghost stays: { (first : Self.Desk) → leads first first };
 
-    /// A call after another leads on.
+    /// `leads` is transitive.
     ghost goes_on: { (first mid last : Self.Desk) → leads first mid → leads mid last → leads first last };
 }

@@ -1,4 +1,4 @@
--- What holds of the base of a brokerage that began empty and was moved by accepted commands: what the rows of the next command rest on.
+-- The books invariant: what holds of every base that accepted commands reach from the empty base.
 use Rattle.std.specs.Prelude.{◌≡◌, ◌≤◌, ⊤, ℕ, ◌==◌, ◌&&◌, true, false, List, [], ◌∷◌, Option, Some, None, nat_le, IfSome, bytes_eq, find, is_some}
 use Rattle.std.specs.List.{AllByRecursion}
 use Rattle.brk_money.specs.Moments.{last_stamp}
@@ -10,145 +10,151 @@ use Rattle.brk_model.specs.Base.{Base, completed, find_account, has_status, mome
 use Rattle.brk_model.specs.Names.{NumberedFrom}
 use Rattle.brk_model.specs.Tests.{bands_meet}
 
--- no two accounts have one id
+-- No two accounts have one id.
 abbrev pub DistinctAccounts : List Account → Type 0
 DistinctAccounts [] = ⊤
 DistinctAccounts (a ∷ rest) = AllByRecursion (λ b. (b.id == a.id) ≡ false) rest × DistinctAccounts rest
 
--- no account has two permissions for one tax id
+-- No account has two permissions for one tax id.
 abbrev pub PermissionsApart : List Permission → Type 0
 PermissionsApart [] = ⊤
 PermissionsApart (p ∷ ps) = AllByRecursion (λ q. ((q.account == p.account) && bytes_eq q.tax_id p.tax_id) ≡ false) ps × PermissionsApart ps
 
--- no two securities have one symbol
+-- No two securities have one symbol.
 abbrev pub DistinctSymbols : List Security → Type 0
 DistinctSymbols [] = ⊤
 DistinctSymbols (s ∷ ss) = AllByRecursion (λ u. bytes_eq u.symbol s.symbol ≡ false) ss × DistinctSymbols ss
 
--- the volume of a security is within its limit
+-- The volume of the security is within the limit.
 abbrev pub HasVolume : Security → Type 0
 HasVolume s = s.volume ≤ greatest_amount
 
--- one mark and no other
+-- The list holds exactly one status change.
 abbrev pub IsOne : List StatusChange → Type 0
 IsOne [] = ⊥
 IsOne (m ∷ []) = ⊤
 IsOne (m ∷ n ∷ marks) = ⊥
 
--- a trade that waits for a price came to no other status before
+-- A pending trade has exactly one status change.
 abbrev pub WaitsFirst : Trade → Type 0
 WaitsFirst t = has_status Pending t ≡ true → IsOne t.marks
 
--- a status that is no completion
+-- The status change is not a completion.
 abbrev pub IsNoCompletion : StatusChange → Type 0
 IsNoCompletion m = same_status m.status Completed ≡ false
 
--- a trade at the market was never completed
+-- A submitted trade was never completed.
 abbrev pub CompletesFirst : Trade → Type 0
 CompletesFirst t = has_status Submitted t ≡ true → AllByRecursion IsNoCompletion t.marks
 
--- a trade came to its last status no later than at the last stamp
+-- The stamp of the trade's last status is at most the last stamp; it fails if there is no last
+-- stamp.
 abbrev pub IsEarly : Option ℕ → Trade → Type 0
 IsEarly None t = ⊥
 IsEarly (Some last) t = moment_of t ≤ last
 
--- no two trades came to their last status at one moment
+-- No two trades have the same stamp of their last status.
 abbrev pub MomentsApart : List Trade → Type 0
 MomentsApart [] = ⊤
 MomentsApart (t ∷ ts) = AllByRecursion (λ u. (moment_of u == moment_of t) ≡ false) ts × MomentsApart ts
 
--- the account of a movement is there
+-- The account of the movement exists.
 abbrev pub HasHolder : List Account → Movement → Type 0
 HasHolder accounts m = is_some (find_account accounts m.account) ≡ true
 
--- a movement was made no later than at the last stamp
+-- The stamp of the movement is at most the last stamp; it fails if there is no last stamp.
 abbrev pub IsMadeBy : Option ℕ → Movement → Type 0
 IsMadeBy None m = ⊥
 IsMadeBy (Some last) m = m.stamp ≤ last
 
--- a trade was not completed at a stamp
+-- The stamp of the trade's last status is not `stamp`.
 abbrev pub IsOtherwhen : ℕ → Trade → Type 0
 IsOtherwhen stamp t = (moment_of t == stamp) ≡ false
 
--- no movement was made at the stamp of another or of a completion
+-- No movement has the stamp of another movement, or of the last status of a trade of `done`.
 abbrev pub MovementsApart : List Trade → List Movement → Type 0
 MovementsApart done [] = ⊤
 MovementsApart done (m ∷ ms) = AllByRecursion (IsOtherwhen m.stamp) done × AllByRecursion (λ n. (n.stamp == m.stamp) ≡ false) ms × MovementsApart done ms
 
--- movements are in order, beside some completed trades
+-- The movements are consistent with the accounts, the last stamp and the completed trades `done`.
 pub record AreMovementsInOrder (all_accounts : List Account) (last : Option ℕ) (done : List Trade) (all_movements : List Movement) : Type 0 where
-  -- their accounts are there
+  -- The account of each movement exists.
   pub holders : AllByRecursion (HasHolder all_accounts) all_movements
-  -- none was made after the last stamp, so that the next cash row is the last one
+  -- None has a stamp after the last stamp, so the next cash row is the last one.
   pub early : AllByRecursion (IsMadeBy last) all_movements
-  -- each has a stamp of its own, so that cash rows stand in one order
+  -- Each has a stamp of its own, so the order of the cash rows is unique.
   pub apart : MovementsApart done all_movements
 
--- the bounds of a band are in order
+-- The lower bound of the band is at most its upper bound.
 abbrev pub HasBounds : Band → Type 0
 HasBounds b = nat_le b.from_qty b.to_qty ≡ true
 
--- no two bands of a tier, a type and an exchange share a quantity
+-- No two bands of a tier, a type and an exchange share a quantity.
 abbrev pub BandsApart : List Band → Type 0
 BandsApart [] = ⊤
 BandsApart (b ∷ bs) = AllByRecursion (λ c. bands_meet b c ≡ false) bs × BandsApart bs
 
--- what an account names is there
+-- The broker of the account exists.
 abbrev pub HasBroker : List Broker → Account → Type 0
 HasBroker brokers a = is_some (find (λ b. b.id == a.broker) brokers) ≡ true
 
+-- The customer of the account exists.
 abbrev pub HasCustomer : List Customer → Account → Type 0
 HasCustomer customers a = is_some (find (λ c. c.id == a.customer) customers) ≡ true
 
--- what a trade names is there
+-- The account of the trade exists.
 abbrev pub HasAccount : List Account → Trade → Type 0
 HasAccount accounts t = is_some (find (λ a. a.id == t.account) accounts) ≡ true
 
+-- The security of the trade exists.
 abbrev pub HasSecurity : List Security → Trade → Type 0
 HasSecurity securities t = is_some (find (λ s. bytes_eq s.symbol t.symbol) securities) ≡ true
 
--- accounts and permissions are in order
+-- The accounts and their permissions are consistent.
 pub record ArePartiesInOrder (all_brokers : List Broker) (all_customers : List Customer) (all_accounts : List Account) (all_permissions : List Permission) : Type 0 where
-  -- what accounts name is there
+  -- The broker and the customer of each account exist.
   pub brokers : AllByRecursion (HasBroker all_brokers) all_accounts
   pub customers : AllByRecursion (HasCustomer all_customers) all_accounts
-  -- an id is of one account, so that its summaries are its own
+  -- No two accounts have one id, so each summary belongs to one account.
   pub owners : DistinctAccounts all_accounts
-  -- a tax id is of one permission of an account, so that this one alone permits whoever has it
+  -- An account has at most one permission for a tax id, so this one alone decides on its executor.
   pub permissions : PermissionsApart all_permissions
 
--- securities and bands are in order
+-- The securities and the bands are consistent.
 pub record IsMarketInOrder (all_securities : List Security) (all_bands : List Band) : Type 0 where
-  -- a symbol is of one security, so that a tick changes one last trade
+  -- No two securities have one symbol, so a tick changes one last trade.
   pub symbols : DistinctSymbols all_securities
-  -- what was traded of it is within the limit, so that a feed is tested by the symbols of its ticks
+  -- The volume of each is within the limit, so a feed is checked by the symbols of its ticks.
   pub volumes : AllByRecursion HasVolume all_securities
-  -- the bounds of bands are in order, and a quantity is of one band
+  -- The lower bound of each band is at most its upper bound.
   pub bands : AllByRecursion HasBounds all_bands
+  -- A quantity is in at most one band of a tier, a type and an exchange.
   pub apart : BandsApart all_bands
 
--- trades are in order
+-- The trades are consistent with the accounts and the securities.
 pub record AreTradesInOrder (all_accounts : List Account) (all_securities : List Security) (all_trades : List Trade) : Type 0 where
-  -- what trades name is there
+  -- The account and the security of each trade exist.
   pub accounts : AllByRecursion (HasAccount all_accounts) all_trades
   pub securities : AllByRecursion (HasSecurity all_securities) all_trades
-  -- trades are numbered in the order of their acceptance, from 1, so that the next number is new
+  -- Trades are numbered from 1, in the order of their acceptance, so the next number is new.
   pub numbered : NumberedFrom 1 all_trades
-  -- a trade that waits has one status in its history, so that the next one is new
+  -- A pending trade has one status change in its history, so the next one is new.
   pub ways : AllByRecursion WaitsFirst all_trades
-  -- a trade at the market was never completed, so that its completion is new in its history
+  -- A submitted trade was never completed, so its completion is new in its history.
   pub completions : AllByRecursion CompletesFirst all_trades
 
--- moments are in order: those of completed trades, and the last stamp
+-- The stamps of the completed trades `done` and the last stamp are consistent.
 pub record AreMomentsInOrder (last : Option ℕ) (done : List Trade) : Type 0 where
-  -- no trade was completed after the last stamp, so that the next completion is the last one of its position
+  -- No trade was completed after the last stamp, so the next completion is the last of its
+  -- position.
   pub early : AllByRecursion (IsEarly last) done
-  -- no two were at one moment, so that the lots of a position stand in one order
+  -- No two trades were completed at one stamp, so the order of a position's lots is unique.
   pub moments : MomentsApart done
-  -- the last stamp is one that there is
+  -- The last stamp, if there is one, is within the range of stamps.
   pub clock : IfSome last (λ last. last ≤ last_stamp)
 
--- a base that is in order: each part speaks of its own lists alone, so that it stays where these do
+-- The books invariant: the base is consistent. Each part concerns its own lists only, so it is
+-- preserved if these do not change.
 pub record BooksInvariant (base : Base) : Type 0 where
   pub parties : ArePartiesInOrder base.brokers base.customers base.accounts base.permissions
   pub open parties use *

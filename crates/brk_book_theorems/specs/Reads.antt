@@ -1,4 +1,4 @@
--- What is looked up in tables before a record is added.
+-- Lookups in tables before a record is added.
 use Rattle.std.specs.Prelude.{ℕ, ◌==◌, ◌&&◌, Bool, List, length, filter, find, sum_by, is_some, Option, option_map, unwrap_or, bytes_eq}
 use Rattle.std.specs.List.{list_any}
 use Rattle.brk_money.specs.Spelling.{Text}
@@ -8,62 +8,62 @@ use Rattle.brk_model.specs.Records.{Band, TaxRate}
 use Rattle.brk_model.specs.Tables.{Tables}
 use Rattle.brk_model.specs.Tests.{bands_meet}
 
--- whether a broker has an id
+-- True if a broker has the id.
 abbrev pub has_broker : Tables → ℕ → Bool
 has_broker t id = is_some (find (λ r. r.id == id) t.brokers)
 
--- whether a customer has an id
+-- True if a customer has the id.
 abbrev pub has_customer : Tables → ℕ → Bool
 has_customer t id = is_some (find (λ r. r.id == id) t.customers)
 
--- whether a customer has a tax id
+-- True if a customer has the tax id.
 abbrev pub has_tax_id : Tables → Text → Bool
 has_tax_id t tax_id = is_some (find (λ r. bytes_eq r.tax_id tax_id) t.customers)
 
--- whether an account has an id
+-- True if an account has the id.
 abbrev pub has_account : Tables → ℕ → Bool
 has_account t id = is_some (find (λ r. r.id == id) t.accounts)
 
--- how many accounts a customer has
+-- The number of accounts of the customer.
 abbrev pub accounts_of : Tables → ℕ → ℕ
 accounts_of t customer = length (filter (λ r. r.customer == customer) t.accounts)
 
--- whether an account has a permission for a tax id
+-- True if the account has a permission for the tax id.
 abbrev pub has_permission : Tables → ℕ → Text → Bool
 has_permission t account tax_id = is_some (find (λ r. (r.account == account) && bytes_eq r.tax_id tax_id) t.permissions)
 
--- whether a security has a symbol
+-- True if a security has the symbol.
 abbrev pub has_security : Tables → Text → Bool
 has_security t symbol = is_some (find (λ r. bytes_eq r.symbol symbol) t.securities)
 
--- whether a type and a tier have a charge
+-- True if there is a charge for the type and the tier.
 abbrev pub has_charge : Tables → TradeType → ℕ → Bool
 has_charge t kind tier = is_some (find (λ r. same_type r.kind kind && (r.tier == tier)) t.charges)
 
--- the bands of a tier, a type and an exchange
+-- The bands of the tier, the type and the exchange.
 abbrev pub bands_of : Tables → ℕ → TradeType → Text → List Band
 bands_of t tier kind exchange = filter (λ r. (r.tier == tier) && same_type r.kind kind && bytes_eq r.exchange exchange) t.bands
 
--- whether one of them shares a quantity with a band
+-- True if a band of its tier, type and exchange shares a quantity with the band `b`.
 abbrev pub has_overlap : Tables → Band → Bool
 has_overlap t b = list_any (bands_meet b) (bands_of t b.tier b.kind b.exchange)
 
--- the tax rate that has an id
+-- The tax rate with the id, or `None` if there is none.
 abbrev pub tax_rate_of : Tables → ℕ → Option TaxRate
 tax_rate_of t id = find (λ r. r.id == id) t.tax_rates
 
--- whether a tax rate has an id
+-- True if a tax rate has the id.
 abbrev pub has_tax_rate : Tables → ℕ → Bool
 has_tax_rate t id = is_some (tax_rate_of t id)
 
--- its rate, where it is there
+-- The rate of the tax rate with the id `tax`, or `None` if there is none.
 abbrev pub rate_of : Tables → ℕ → Option ℕ
 rate_of t tax = option_map (λ r. r.rate) (tax_rate_of t tax)
 
--- whether a customer pays a tax
+-- True if the customer pays the tax.
 abbrev pub pays_tax : Tables → ℕ → ℕ → Bool
 pays_tax t customer tax = is_some (find (λ r. (r.customer == customer) && (r.tax == tax)) t.customer_taxes)
 
--- the sum of the rates that a customer pays
+-- The sum of the rates that the customer pays; a tax rate that does not exist counts 0.
 abbrev pub rates_of : Tables → ℕ → ℕ
 rates_of t customer = sum_by (λ r. unwrap_or (rate_of t r.tax) 0) (filter (λ r. r.customer == customer) t.customer_taxes)

@@ -1,4 +1,4 @@
--- What a result makes of the tables, planned from their rows.
+-- The effect of a result on the tables.
 use Rattle.std.specs.Prelude.{ℕ, ◌+◌, Bool, if◌then◌else◌, List, fold, length, unwrap_or, ℤ, pos}
 use Rattle.brk_money.specs.declared.status.Status.TheVariants.{Completed}
 use Rattle.brk_model.specs.Lists.{is_zero}
@@ -12,72 +12,77 @@ use Rattle.brk_lots.specs.Lots.{from_end}
 use Rattle.brk_changes.specs.Changes.{with_balance, with_broker_numbers, with_move, with_completion, with_history, with_lot, with_lot_change, with_lot_set, with_settlement, with_summary, with_summary_set, without_lot, without_summary}
 use Rattle.brk_book_theorems.specs.Trading.{status_row}
 
--- what a result comes to, as its rows tell it
+-- The rows and the figures of a result, which determine its effect on the tables.
 pub record ResultRows : Type 0 where
-  -- the row of the trade, once it is completed
+  -- The row of the trade, once it is completed.
   pub trade : TradeRow
-  -- the lots that it closes from, one after another, and the one that it opens, if it opens one
+  -- The lots that it closes from, in order, and the lot that it opens, if it opens one.
   pub touched : List Touch
   pub opened : List Lot
-  -- the summary of its position before and after it
+  -- The summary of its position before and after it.
   pub before : ℤ
   pub after : ℤ
-  -- what it settles for, and what a cash trade posts
+  -- The settlement, and the cash row that a cash trade posts.
   pub settlement : SettlementRow
   pub cash : MoveRow
-  -- the balance of the account after it
+  -- The balance of the account after it.
   pub balance : ℤ
-  -- the broker of the account, with the numbers after it
+  -- The broker of the account, with the broker totals after it.
   pub broker : ℕ
   pub trades : ℤ
   pub commissions : ℕ
 
 -- ---- the trade
 
--- a trade is completed, which its history tells
+-- The tables with the trade completed, and its completion added to its history.
 abbrev pub completed_rows : TradeRow → Tables → Tables
 completed_rows r t = with_history (status_row r.id Completed r.stamp) (with_completion r.id r.stamp (unwrap_or r.price 0) r.commission r.tax t)
 
 -- ---- its lots
 
--- what a trade made of a lot
+-- The history row of a lot that the trade closes from.
 abbrev pub change_of_lot : ℕ → Touch → HoldingHistoryRow
 change_of_lot trade touch = record { lot = touch.lot; trade = trade; before = touch.before; after = touch.after }
 
--- what is left of a lot, which is no lot where nothing is
+-- The tables with the lot's quantity reduced to what the touch leaves, or without the lot if that
+-- is 0.
 abbrev pub left_of_lot : Touch → Tables → Tables
 left_of_lot touch t = if is_zero touch.after then without_lot touch.lot t else with_lot_set touch.lot touch.after t
 
--- the lots that a trade closes from, one after another
+-- The tables after the trade closed from the touched lots, in order.
 abbrev pub touched_rows : ℕ → List Touch → Tables → Tables
 touched_rows trade touched t = fold (λ t touch. with_lot_change (change_of_lot trade touch) (left_of_lot touch t)) t touched
 
--- the row of a lot that a trade opens
+-- The row of a lot that the trade opens.
 abbrev pub row_of_lot : TradeRow → Lot → HoldingRow
 row_of_lot r lot = record { trade = lot.trade; account = r.account; symbol = r.symbol; stamp = lot.stamp; price = lot.price; qty = lot.qty }
 
--- what a trade made of the lot that it opens
+-- The history row of a lot that a trade opens, from 0 to its quantity.
 abbrev pub opening_of_lot : Lot → HoldingHistoryRow
 opening_of_lot lot = record { lot = lot.trade; trade = lot.trade; before = pos 0; after = lot.qty }
 
--- the lot that a trade opens, if it opens one
+-- The tables with the lot that the trade opens added, if it opens one, and its history row.
 abbrev pub opened_rows : TradeRow → List Lot → Tables → Tables
 opened_rows r opened t = fold (λ t lot. with_lot_change (opening_of_lot lot) (with_lot (row_of_lot r lot) t)) t opened
 
--- ---- its summary, which is no row where it is 0
+-- ---- its summary, which has no row if it is 0
 
+-- The tables with a summary moved from `before` to `after`: its row is deleted if `after` is 0,
+-- added if `before` is 0, and set otherwise.
 abbrev pub summary_rows_moved : (before after : ℤ) → SummaryRow → Tables → Tables
 summary_rows_moved before after row t =
     if is_zero after then without_summary row.account row.symbol t else if is_zero before then with_summary row t else with_summary_set row t
 
 -- ---- its cash
 
--- a cash trade posts its amount, and with it moves the balance of its account
+-- The tables with the cash row added and the balance of the account set, if the trade is a cash
+-- trade; otherwise unchanged.
 abbrev pub cash_rows : (is_cash : Bool) → MoveRow → (account : ℕ) → (balance : ℤ) → Tables → Tables
 cash_rows is_cash cash account balance t = if is_cash then with_balance account balance (with_move cash t) else t
 
--- ---- all of it
+-- ---- the whole result
 
+-- The tables after the result.
 abbrev pub result_rows : ResultRows → Tables → Tables
 result_rows c t =
     cash_rows c.trade.is_cash c.cash c.trade.account c.balance
@@ -86,7 +91,8 @@ result_rows c t =
     (summary_rows_moved c.before c.after (record { account = c.trade.account; symbol = c.trade.symbol; qty = c.after })
     (opened_rows c.trade c.opened (touched_rows c.trade.id c.touched (completed_rows c.trade t))))))
 
--- what a result comes to, by the base, by the completed trades after it, and by its deal and its trade
+-- The rows and the figures of a result, computed from the base, the completed trades `after` it,
+-- its deal and its completed trade.
 abbrev pub rows_upon : Base → (after : List Trade) → Deal → Trade → ResultRows
 rows_upon base after d t = record {
   trade = trade_row t;
@@ -102,7 +108,7 @@ rows_upon base after d t = record {
   commissions = commissions_of base.accounts after (broker_of base t.account);
 }
 
--- what the result of a trade comes to
+-- The rows and the figures of the result of the trade `t` at a stamp and a price.
 abbrev pub rows_of_result : Base → ℕ → ℕ → Trade → ResultRows
 rows_of_result base stamp price t =
     rows_upon base (completed (with_result base stamp price t)) (result_deal stamp price t) (completed_trade base stamp price t)

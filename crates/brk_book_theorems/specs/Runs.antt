@@ -1,4 +1,4 @@
--- What is said of whole runs of calls.
+-- Properties of whole runs of calls.
 use Rattle.std.specs.Prelude.{◌≡◌, ⊤, ℕ, true, List, ◌∷◌, Some}
 use Rattle.brk_model.specs.Base.{Base, completed, is_completed, trade_with}
 use Rattle.brk_model.specs.Commands.{CompleteTrade, Done}
@@ -14,38 +14,42 @@ use Rattle.brk_model.specs.Tests.{next_stamp}
 use Rattle.brk_book_theorems.specs.Books.{BooksInvariant}
 use Rattle.brk_book_theorems.specs.Sums.{SumsMatch}
 
--- a completed trade stands in the base with a tax
+-- The base has a completed trade with this id, and its tax is `tax`.
 pub record IsTaxed (id tax : ℕ) (base : Base) : Type 0 where
   pub trade : Trade
   pub found : trade_with base id ≡ Some trade
   pub completed : is_completed trade ≡ true
   pub taxed : trade.tax ≡ tax
 
--- the row of a trade tells a tax
+-- The row of the trade with this id has the tax `tax`.
 pub record HasTax (t : Tables) (id tax : ℕ) : Type 0 where
   pub row : TradeRow
   pub found : trade_in t id ≡ Some row
   pub taxed : row.tax ≡ tax
 
--- the tax on a trade that is completed at a moment: by the very shares that it closes then, and the rates of its moment
+-- The tax on the trade if it is completed at the clock reading `now` and this price: of exactly the
+-- shares that it then closes, at the rates of the base.
 abbrev pub tax_upon : Base → ℕ → ℕ → Trade → ℕ
 tax_upon base now price t = tax_of base t.account (result_deal (next_stamp base now) price t) (shares_in (completed base) t.account t.symbol)
 
--- where a call is an accepted result, with or without a key, its trade's row tells in some later tables the tax that it was completed with
+-- If the call is an accepted result, with or without a key, its trade's row in the tables `later`
+-- has the tax of its completion. Vacuous for other calls and outcomes.
 abbrev pub TaxStands : Tables → Base → ℕ → Call → Outcome → Type 0
 TaxStands later base now (Do (CompleteTrade id price) key) (Did (Done reply)) =
     (t : Trade) × (trade_with base id ≡ Some t) × HasTax later id (tax_upon base now price t)
 TaxStands later base now call outcome = ⊤
 
--- so it is with each call of a run
+-- The trade of each accepted result of a run from `base` has in the tables `later` the tax of its
+-- completion (`TaxStands`).
 abbrev pub TaxesStand : Tables → Base → List (ℕ × Call) → List Outcome → Type 0
 TaxesStand later base (call ∷ calls) (outcome ∷ outcomes) =
     TaxStands later base call.0 call.1 outcome
     × ((mid : Base) × Answers base call.0 call.1 outcome mid × TaxesStand later mid calls outcomes)
 TaxesStand later base calls outcomes = ⊤
 
--- calls may have these outcomes and lead to that base, which is in order: the sums of its tables are those of their rows, and each accepted
--- result was taxed by the very shares that it closed
+-- The calls can have these outcomes and lead to `after`, which is consistent. The sums in its
+-- tables equal those of their rows. Each accepted result was taxed on exactly the shares that it
+-- closed.
 pub record RunAddsUp (base : Base) (calls : List (ℕ × Call)) (outcomes : List Outcome) (after : Base) : Type 0 where
   pub run : Run base calls outcomes after
   pub order : BooksInvariant after

@@ -1,4 +1,4 @@
--- The sums that tables hold: the numbers of brokers, balances and summaries, each by the rows that it counts.
+-- The sums in the tables: broker totals, balances and summaries, each of the rows that it counts.
 use Rattle.std.specs.Prelude.{◌≡◌, ◌≢◌, ℕ, ◌==◌, ◌&&◌, Bool, true, false, List, filter, is_some, length, sum_by, ℤ, pos, ◌+ℤ◌, bytes_eq}
 use Rattle.std.specs.List.{AllByRecursion}
 use Rattle.std.specs.Option.{option_map_or}
@@ -12,54 +12,56 @@ use Rattle.brk_model.specs.Tables.{AccountRow, BrokerRow, MoveRow, HoldingRow, S
 use Rattle.brk_book_theorems.specs.Lives.{LotsLive}
 use Rattle.brk_book_theorems.specs.TradeReads.{position_in, summary_in}
 
--- what was posted to an account
+-- The cash rows of the account.
 abbrev pub cash_of_account : Tables → ℕ → List MoveRow
 cash_of_account t account = filter (λ r. r.account == account) t.moves
 
--- whether a trade is completed, and of an account of a broker
+-- True if the trade is completed and the broker of its account is `broker`.
 abbrev pub is_of_broker : Tables → ℕ → TradeRow → Bool
 is_of_broker t broker r = same_status r.status Completed && (option_map_or (λ a. a.broker) (account_in t r.account) 0 == broker)
 
--- the completed trades of a broker's accounts
+-- The completed trades of the broker's accounts.
 abbrev pub done_of_broker : Tables → ℕ → List TradeRow
 done_of_broker t broker = filter (is_of_broker t broker) t.trades
 
--- whether a lot is of an account in a symbol
+-- True if the lot belongs to the account and the symbol.
 abbrev pub is_lot_of : ℕ → Text → HoldingRow → Bool
 is_lot_of account symbol h = (h.account == account) && bytes_eq h.symbol symbol
 
--- what an account holds of a symbol: its lots added up
+-- The holding of the account in the symbol: the sum of its lots.
 abbrev pub held_in : Tables → ℕ → Text → ℤ
 held_in t account symbol = total_by (λ h. h.qty) (filter (is_lot_of account symbol) t.holdings)
 
 -- ---- all rows of a kind
 
--- a broker's numbers are those of the completed trades of the broker's accounts: how many, and their commissions added up
+-- The broker totals equal the number of the completed trades of the broker's accounts, and the sum
+-- of their commissions.
 pub record IsBrokerSum (t : Tables) (b : BrokerRow) : Type 0 where
   pub trades : b.trades ≡ pos (length (done_of_broker t b.id))
   pub commissions : b.commissions ≡ sum_by (λ r. r.commission) (done_of_broker t b.id)
 
--- a balance is the opening and what was posted to its account
+-- The balance equals the opening balance plus the cash rows of its account.
 abbrev pub IsBalance : Tables → AccountRow → Type 0
 IsBalance t a = a.balance ≡ a.opening +ℤ total_by (λ c. c.amount) (cash_of_account t a.id)
 
--- a summary is the sum of the lots of its account in its symbol, and not 0
+-- The summary equals the sum of the lots of its account in its symbol, and is not 0.
 pub record IsSummary (t : Tables) (s : SummaryRow) : Type 0 where
   pub sum : s.qty ≡ held_in t s.account s.symbol
   pub some : s.qty ≢ pos 0
 
--- a lot is summed up: its account has a summary in its symbol
+-- The account of the lot has a summary in the symbol of the lot.
 abbrev pub IsSummed : Tables → HoldingRow → Type 0
 IsSummed t h = is_some (summary_in t h.account h.symbol) ≡ true
 
--- the sums of some tables are those of their rows
+-- The sums in the tables equal those of their rows.
 pub record SumsMatch (t : Tables) : Type 0 where
   pub brokers : AllByRecursion (IsBrokerSum t) t.brokers
   pub balances : AllByRecursion (IsBalance t) t.accounts
   pub summaries : AllByRecursion (IsSummary t) t.summaries
-  -- no lots are without a summary
+  -- Each lot has a summary.
   pub summed : AllByRecursion (IsSummed t) t.holdings
-  -- the lots of an account in a symbol are those of a position: none is 0, and all have one side
+  -- The lots of an account in a symbol form a position: none is 0, and all have one side.
   pub positions : (account : ℕ) (symbol : Text) → IsPosition (position_in t account symbol)
-  -- what trades made of each lot is a chain: from 0 to what its own trade opened, and then ever nearer to 0, to what is left
+  -- The changes of each lot form a chain: from 0 to the quantity that its own trade opened, then
+  -- ever nearer to 0, down to the quantity left.
   pub lives : LotsLive t

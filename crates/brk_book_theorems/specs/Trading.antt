@@ -1,4 +1,4 @@
--- What orders, cancels and feeds make of the tables, planned from their rows.
+-- The effect of orders, cancels and feeds on the tables.
 use Rattle.std.specs.Prelude.{ℕ, ◌+◌, Bool, ◌&&◌, if◌then◌else◌, List, [], ◌∷◌, ◌++◌, map, filter, find, fold, bytes_eq}
 use Rattle.std.specs.Option.{option_map_or}
 use Rattle.brk_money.specs.declared.status.Status.{Status}
@@ -8,66 +8,68 @@ use Rattle.brk_model.specs.Commands.{Tick}
 use Rattle.brk_model.specs.Feed.{triggers}
 use Rattle.brk_changes.specs.Changes.{with_trade, with_history, with_request, without_request, with_last_trade_set, with_status}
 
--- the status of a trade, as its history tells it
+-- The history row of a status of the trade.
 abbrev pub status_row : ℕ → Status → ℕ → HistoryRow
 status_row trade status stamp = record { trade = trade; status = status; stamp = stamp }
 
 -- ---- an order
 
--- the request of a trade that waits, with the broker of its account
+-- The request of a pending trade with the broker of its account.
 abbrev pub request_of : TradeRow → ℕ → RequestRow
 request_of r broker = record { trade = r.id; kind = r.kind; symbol = r.symbol; qty = r.qty; bid = r.bid; broker = broker }
 
--- a request more of a trade that waits, and none of one that does not
+-- The tables with the request added if the trade is pending (`waits`), and unchanged otherwise.
 abbrev pub requested_if : (waits : Bool) → RequestRow → Tables → Tables
 requested_if waits r t = if waits then with_request r t else t
 
--- an order is a trade more with its first status, and where it waits a request more
+-- The tables with the trade and its first status added, and its request if it is pending (`waits`).
 abbrev pub order_rows : TradeRow → (waits : Bool) → (broker : ℕ) → Tables → Tables
 order_rows r waits broker t = requested_if waits (request_of r broker) (with_history (status_row r.id r.status r.stamp) (with_trade r t))
 
--- ---- a trade that waits no more
+-- ---- a trade that is no longer pending
 
--- a trade that waited comes to another status, which its history tells, and has no request any more
+-- The tables with the trade's status set, its history row added and its request deleted.
 abbrev pub moved_rows : ℕ → Status → ℕ → Tables → Tables
 moved_rows id status stamp t = without_request id (with_history (status_row id status stamp) (with_status id status stamp t))
 
--- a cancel
+-- The tables after a cancel of the trade.
 abbrev pub cancel_rows : ℕ → ℕ → Tables → Tables
 cancel_rows stamp id t = moved_rows id Canceled stamp t
 
 -- ---- a feed
 
--- the last trade of a symbol after a tick of it: its price, and a volume grown by its quantity
+-- The last trade of a symbol after a tick of it: its price, and the volume plus its quantity.
 abbrev pub row_after : ℕ → Tick → LastTradeRow → LastTradeRow
 row_after stamp tick l = record l { stamp = stamp; price = tick.price; volume = l.volume + tick.qty }
 
--- a tick sets the last trade of its symbol, where there is one
+-- The tables with the last trade of the tick's symbol set, and unchanged if it has none.
 abbrev pub with_price_of : ℕ → Tick → Tables → Tables
 with_price_of stamp tick t =
     option_map_or (λ l. with_last_trade_set (row_after stamp tick l) t) (find (λ l. bytes_eq l.symbol tick.symbol) t.last_trades) t
 
--- whether a tick triggers a request: it is of the tick's symbol, and the price triggers its bid
+-- True if the tick triggers the request: it is of the symbol of the request, and its price triggers
+-- the bid.
 abbrev pub is_hit : Tick → RequestRow → Bool
 is_hit tick r = bytes_eq r.symbol tick.symbol && triggers r.kind r.bid tick.price
 
--- the trades whose requests a tick triggers, by rising trade as requests stand
+-- The trades whose requests the tick triggers, in the order of the requests.
 abbrev pub hit_trades : Tick → Tables → List ℕ
 hit_trades tick t = map (λ r. r.trade) (filter (is_hit tick) t.requests)
 
--- some waiting trades are submitted, one after another
+-- The tables with the given trades submitted, in order.
 abbrev pub submitted_rows : ℕ → List ℕ → Tables → Tables
 submitted_rows stamp trades t = fold (λ t id. moved_rows id Submitted stamp t) t trades
 
--- a tick sets the last trade of its symbol, and submits the trades that it triggers
+-- The tables after the tick, which sets the last trade of its symbol and submits the trades that it
+-- triggers.
 abbrev pub tick_rows : ℕ → Tick → Tables → Tables
 tick_rows stamp tick t = submitted_rows stamp (hit_trades tick t) (with_price_of stamp tick t)
 
--- ticks one after another, each upon the tables as those before it changed them
+-- The tables after the ticks, each applied to the tables after the ticks before it.
 abbrev pub feed_rows : ℕ → List Tick → Tables → Tables
 feed_rows stamp ticks t = fold (λ t tick. tick_rows stamp tick t) t ticks
 
--- the trades that ticks trigger, tick by tick
+-- The trades that the ticks trigger, tick by tick.
 abbrev pub fed_trades : ℕ → List Tick → Tables → List ℕ
 fed_trades stamp [] t = []
 fed_trades stamp (tick ∷ ticks) t = hit_trades tick t ++ fed_trades stamp ticks (tick_rows stamp tick t)

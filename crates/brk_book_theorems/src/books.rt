@@ -1,4 +1,4 @@
-//! The base stays in order.
+//! Theorems: commands preserve the books invariant.
 
 ghost use Rattle.std.specs.Prelude.{ℕ, List, Option};
 ghost use Rattle.brk_model.specs.Base.{Base, empty_base};
@@ -8,12 +8,12 @@ ghost use Rattle.brk_model.specs.Records.{Account, Band, Broker, Charge, Custome
 ghost use Rattle.brk_book_theorems.specs.Books.{BooksInvariant};
 ghost use Rattle.brk_book_theorems.specs.Steps.{LeavesBooks};
 
-/// The base that everything begins with is in order.
+/// Proves that the empty base is consistent.
 pub fn the_empty_base_is_in_order()
     ensures { BooksInvariant empty_base }
 {}
 
-/// An accepted record leaves the base in order.
+/// Proves that an accepted record preserves the books invariant.
 pub fn records_preserve_the_invariant()
     ensures broker { (base : Base) (now : ℕ) (b : Broker) → LeavesBooks base now (AddBroker b) }
     ensures customer { (base : Base) (now : ℕ) (c : Customer) → LeavesBooks base now (AddCustomer c) }
@@ -26,34 +26,34 @@ pub fn records_preserve_the_invariant()
     ensures customer_tax { (base : Base) (now : ℕ) (x : CustomerTax) → LeavesBooks base now (AddCustomerTax x) }
 {}
 
-/// So does an accepted order.
+/// Proves that an accepted order preserves the books invariant.
 pub fn orders_preserve_the_invariant()
     ensures { (base : Base) (now : ℕ) (o : Order) → LeavesBooks base now (PlaceOrder o) }
 {}
 
-/// So does an accepted cancel.
+/// Proves that an accepted cancel preserves the books invariant.
 pub fn cancels_preserve_the_invariant()
     ensures { (base : Base) (now id : ℕ) → LeavesBooks base now (CancelTrade id) }
 {}
 
-/// So does an accepted feed.
+/// Proves that an accepted feed preserves the books invariant.
 pub fn feeds_preserve_the_invariant()
     ensures { (base : Base) (now : ℕ) (ticks : List Tick) → LeavesBooks base now (FeedTicks ticks) }
 {}
 
-/// So does an accepted result.
+/// Proves that an accepted result preserves the books invariant.
 pub fn results_preserve_the_invariant()
     ensures { (base : Base) (now id price : ℕ) → LeavesBooks base now (CompleteTrade id price) }
 {}
 
-/// So does an accepted movement of cash: no movement has the stamp of another or of a completion. So does a settlement day that is set.
+/// Proves that an accepted deposit, withdrawal or settlement day preserves the books invariant.
 pub fn movements_preserve_the_invariant()
     ensures deposit { (base : Base) (now account amount : ℕ) → LeavesBooks base now (DepositCash account amount) }
     ensures withdrawal { (base : Base) (now account amount : ℕ) → LeavesBooks base now (WithdrawCash account amount) }
     ensures one_day { (base : Base) (now day : ℕ) → LeavesBooks base now (SetOneDay day) }
 {}
 
-/// So does a row that is kept under its key.
+/// Proves that storing a reply under its key preserves the books invariant.
 pub fn kept_rows_preserve_the_invariant()
     ensures { (base : Base) (key : Option Key) (command : Command) (reply : Reply) → BooksInvariant base → BooksInvariant (keeping key command reply base) }
 {}

@@ -1,5 +1,6 @@
-//! Laws of books: how the tables of a base follow each command, what is read from them, and what holds after any run of calls.
-//! They know no plan. There is no code to call.
+//! Theorems about the books: the effect of each command on the tables of a base, the lookups in
+//! these tables, and what holds after any run of calls. They mention no plan. Proof-only: there is
+//! no code to call.
 #![tactic(auto)]
 
 pub mod books;

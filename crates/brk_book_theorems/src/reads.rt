@@ -1,4 +1,4 @@
-//! What is found in the tables is what the definitions find in the base.
+//! Theorems: lookups in the tables of a base return the values that the model finds in the base.
 
 ghost use Rattle.std.specs.Prelude.{◌&&◌, ◌+ℤ◌, ◌≡◌, ◌==◌, ℕ, List, Some, bytes_eq, false, filter, find, flat_map, is_none, is_some, length, map, option_map, pos, sum_by, true};
 ghost use Rattle.std.specs.List.{list_any};
@@ -30,7 +30,7 @@ ghost use Rattle.brk_book_theorems.specs.Sums.{cash_of_account, done_of_broker};
 ghost use Rattle.brk_book_theorems.specs.TradeReads.{band_in, last_move, last_number, lot_shares, lots_in, permission_in, permissions_of, position_in, row_of_summary, summary_held, summary_in};
 ghost use Rattle.brk_book_theorems.specs.Trading.{hit_trades};
 
-/// The row that has an id is that of the record that has it.
+/// Proves that the row with an id is the row of the record with this id.
 pub fn rows_are_found_by_id()
     ensures broker { (base : Base) (id : ℕ) → find (λ r. r.id == id) (sheets base).brokers ≡ option_map (broker_row base.accounts (completed base)) (broker_with base id) }
     ensures customer { (base : Base) (id : ℕ) → find (λ r. r.id == id) (sheets base).customers ≡ customer_with base id }
@@ -38,7 +38,8 @@ pub fn rows_are_found_by_id()
     ensures tax_rate { (base : Base) (id : ℕ) → find (λ r. r.id == id) (sheets base).tax_rates ≡ tax_rate_with base id }
 {}
 
-/// So is the row that has a symbol, a type and a tier, an account and a tax id, or a customer and a tax.
+/// Proves that the row with a key is the row of the record with this key: a symbol, a type and a
+/// tier, an account and a tax id, or a customer and a tax.
 pub fn rows_are_found_by_key()
     ensures permission { (base : Base) (account : ℕ) (tax_id : Text)
         → find (λ r. (r.account == account) && bytes_eq r.tax_id tax_id) (sheets base).permissions ≡ find (λ p. (p.account == account) && bytes_eq p.tax_id tax_id) base.permissions }
@@ -49,98 +50,108 @@ pub fn rows_are_found_by_key()
         → find (λ r. (r.customer == customer) && (r.tax == tax)) (sheets base).customer_taxes ≡ find (λ x. (x.customer == customer) && (x.tax == tax)) base.customer_taxes }
 {}
 
-/// Among the rows of its tier, its type and its exchange a band meets another where it meets one at all.
+/// Proves that a band shares a quantity with a band of the base if and only if it does with a row
+/// of its tier, its type and its exchange.
 pub fn overlaps_are_found()
     ensures { (base : Base) (b : Band) → has_overlap (sheets base) b ≡ list_any (bands_meet b) base.bands }
 {}
 
-/// The taxes that were found for a customer's rows, one for each, have rates that add up to those of the rows.
+/// Proves that the rates of a list with the tax rate of each tax that a customer pays sum to the
+/// customer's rates in the tables.
 pub fn found_taxes_add_up()
     ensures { (t : Tables) (customer : ℕ) (taxes : List Tax) → map (λ tax. Some (tax_of tax)) taxes ≡ map (λ r. tax_rate_of t r.tax) (filter (λ r. r.customer == customer) t.customer_taxes)
         → sum_by (λ tax. tax.rate) taxes ≡ rates_of t customer }
 {}
 
-/// The rates of a customer's rows add up to those that the customer pays.
+/// Proves that the rates of a customer in the tables sum to those that the customer pays.
 pub fn rates_add_up()
     ensures { (base : Base) (customer : ℕ) → rates_of (sheets base) customer ≡ base_spec.rates_of base customer }
 {}
 
-/// A customer's row has a tax id where a customer has it.
+/// Proves that a customer row has a tax id if and only if a customer has it.
 pub fn tax_ids_are_found()
     ensures { (base : Base) (tax_id : Text) → has_tax_id (sheets base) tax_id ≡ list_any (λ c. bytes_eq c.tax_id tax_id) base.customers }
 {}
 
-/// As many rows are of a customer as the customer has accounts.
+/// Proves that a customer has as many account rows as accounts.
 pub fn accounts_are_counted()
     ensures { (base : Base) (customer : ℕ) → accounts_of (sheets base) customer ≡ length (filter (λ a. a.customer == customer) base.accounts) }
 {}
 
-/// The last stamp is that of the base.
+/// Proves that the last stamp in the tables is that of the base.
 pub fn the_last_stamp_is_read()
     ensures { (base : Base) → (sheets base).last ≡ base.last }
 {}
 
-/// The row that is kept under a key is found.
+/// Proves that the row that is stored under a key is found.
 pub fn kept_rows_are_found()
     ensures { (base : Base) (key : Key) → find (λ k. bytes_eq k.key.batch key.batch && (k.key.row == key.row)) (sheets base).kept ≡ kept_under base key }
 {}
 
-/// The row of a trade's number is that of the trade as it stands.
+/// Proves that the row of a trade's number is the row of the trade.
 pub fn trades_are_found_by_id()
     ensures { (base : Base) (id : ℕ) → trade_in (sheets base) id ≡ option_map trade_row (trade_with base id) }
 {}
 
-/// The number of the last row is the number of trades.
+/// Proves that the number of the last trade row equals the number of trades.
 pub fn trades_are_counted()
     ensures { (base : Base) → BooksInvariant base → last_number (sheets base) ≡ length base.trades }
 {}
 
-/// The number of the last cash row is how many there are, and so many of them as there are movements are without a trade.
+/// Proves that the number of the last cash row equals the number of postings, and that as many cash
+/// rows are without a trade as there are movements.
 pub fn cash_rows_are_counted()
     ensures rows { (base : Base) → last_move (sheets base) ≡ length (postings_of base) }
     ensures movements { (base : Base) → length (filter (λ r. is_none r.trade) (sheets base).moves) ≡ length base.movements }
 {}
 
-/// The requests of a symbol that a tick triggers are of the trades that it triggers, by rising number.
+/// Proves that the requests that a tick triggers are those of the trades that it triggers, in
+/// ascending order of their numbers.
 pub fn triggered_requests_are_found()
     ensures trades { (base : Base) (tick : Tick) → BooksInvariant base → hit_trades tick (sheets base) ≡ map (λ t. t.id) (filter (is_triggered tick) base.trades) }
     ensures rising { (base : Base) (tick : Tick) → BooksInvariant base → is_rising (hit_trades tick (sheets base)) ≡ true }
 {}
 
-/// No two requests are of one trade.
+/// Proves that no two requests belong to one trade.
 pub fn requests_are_of_different_trades()
     ensures { (base : Base) → BooksInvariant base → all_distinct (map (λ r. r.trade) (sheets base).requests) ≡ true }
 {}
 
-/// By the permission of an account for the executor's tax id alone an executor is permitted or not.
+/// Proves that the account's permission for the executor's tax id alone decides if the executor is
+/// permitted.
 pub fn one_permission_decides()
     ensures { (base : Base) (account : ℕ) (c : Customer) (e : Executor) → BooksInvariant base
         → permitted c (permission_in (sheets base) account e.tax_id) e ≡ permitted c (filter (λ p. p.account == account) base.permissions) e }
 {}
 
-/// By the permissions of an account an executor is permitted or not, in whatever order they stand.
+/// Proves that the permissions of an account in the tables decide on an executor as those of the
+/// base do.
 pub fn permissions_of_an_account_are_found()
     ensures { (base : Base) (account : ℕ) (c : Customer) (e : Executor)
         → permitted c (permissions_of (sheets base) account) e ≡ permitted c (filter (λ p. p.account == account) base.permissions) e }
 {}
 
-/// Among the rows of its tier, its type and its exchange the band of a quantity is found.
+/// Proves that the band of a quantity is found among the rows of its tier, its type and its
+/// exchange.
 pub fn bands_are_found()
     ensures { (base : Base) (tier : ℕ) (kind : TradeType) (exchange : Text) (qty : ℕ) → BooksInvariant base → band_in (sheets base) tier kind exchange qty ≡ band_with base tier kind exchange qty }
 {}
 
-/// What an account has is its balance and the worth of its summaries at the last prices.
+/// Proves that the assets of an account equal its balance plus the market value of its summaries at
+/// last prices.
 pub fn assets_are_found()
     ensures { (base : Base) (id : ℕ) (r : AccountRow) → BooksInvariant base → account_in (sheets base) id ≡ Some r → r.balance +ℤ asset_total (sheets base) r ≡ assets_of base id }
 {}
 
-/// The shares that an account holds of a symbol are those of its lots, the oldest first.
+/// Proves that the shares that an account holds of a symbol are those of its lots, the oldest
+/// first.
 pub fn lots_are_found()
     ensures { (base : Base) (account : ℕ) (symbol : Text) → BooksInvariant base → flat_map lot_shares (lots_in (sheets base) account symbol) ≡ shares_in (completed base) account symbol }
 {}
 
-/// The lots of an account in a symbol, the oldest first, are those of a position, each opened before the next stamp, none of them by a trade
-/// that is not completed; their shares are those that the account holds.
+/// Proves that the lots of an account in a symbol, the oldest first, form a position whose shares
+/// are those that the account holds. Each was opened before the next stamp, and none by a trade
+/// that is not completed.
 pub fn lots_are_a_position()
     ensures position { (base : Base) (account : ℕ) (symbol : Text) → BooksInvariant base → IsPosition (position_in (sheets base) account symbol) }
     ensures shares { (base : Base) (account : ℕ) (symbol : Text) → BooksInvariant base → shares_of (position_in (sheets base) account symbol) ≡ shares_in (completed base) account symbol }
@@ -149,7 +160,8 @@ pub fn lots_are_a_position()
         → IsNew id (position_in (sheets base) account symbol) }
 {}
 
-/// The summary of a known account in a known symbol is its row's, and no row stands where it is 0.
+/// Proves that the row of the summary of a known account in a known symbol holds its quantity, and
+/// that there is no row if it is 0.
 pub fn summaries_are_found()
     ensures row { (base : Base) (account : ℕ) (symbol : Text) → BooksInvariant base → is_some (account_with base account) ≡ true → is_some (security_with base symbol) ≡ true
         → summary_in (sheets base) account symbol ≡ row_of_summary account symbol (summary_of (completed base) account symbol) }
@@ -157,13 +169,14 @@ pub fn summaries_are_found()
         → summary_held (summary_in (sheets base) account symbol) ≡ summary_of (completed base) account symbol }
 {}
 
-/// The balance of an account is its opening and what was posted to it.
+/// Proves that the balance of an account equals its opening balance plus its cash rows.
 pub fn balances_are_sums()
     ensures { (base : Base) (id : ℕ) (r : AccountRow) → BooksInvariant base → account_in (sheets base) id ≡ Some r
         → r.balance ≡ r.opening +ℤ total_by (λ r. r.amount) (cash_of_account (sheets base) id) }
 {}
 
-/// The numbers of a broker are those of the completed trades of the broker's accounts: how many, and their commissions added up.
+/// Proves that the broker totals equal the number of the completed trades of the broker's accounts
+/// and the sum of their commissions.
 pub fn brokers_are_sums()
     ensures trades { (base : Base) (id : ℕ) (r : BrokerRow) → BooksInvariant base → find (λ r. r.id == id) (sheets base).brokers ≡ Some r
         → r.trades ≡ pos (length (done_of_broker (sheets base) id)) }

@@ -1,4 +1,5 @@
-//! What holds of any base in order, and after any run of calls from one. The base that everything begins with is in order.
+//! Theorems about consistent bases and about any run of calls from one. The empty base is
+//! consistent.
 
 ghost use Rattle.std.specs.Prelude.{◌+ℤ◌, ◌≡◌, [], ℕ, List, None, Option, Some, map};
 ghost use Rattle.brk_lots.specs.Books.{deals_total, gains, lots_cost, lots_total, spent};
@@ -21,7 +22,8 @@ ghost use Rattle.brk_book_theorems.specs.Runs.{HasTax, IsTaxed, RunAddsUp, Taxes
 ghost use Rattle.brk_book_theorems.specs.Sums.{SumsMatch};
 ghost use Rattle.brk_book_theorems.specs.TradeReads.{position_in};
 
-/// Every accepted command leaves the base in order, and so does any run of calls.
+/// Proves that every accepted command preserves the books invariant, and so does any run of calls.
+/// After a run from the empty base it holds.
 pub fn runs_preserve_the_invariant()
     ensures command { (base : Base) (now : ℕ) (command : Command) → LeavesBooks base now command }
     ensures run { (base : Base) (calls : List (ℕ × Call)) (outcomes : List Outcome) (after : Base)
@@ -30,8 +32,9 @@ pub fn runs_preserve_the_invariant()
         → Run empty_base calls outcomes after → BooksInvariant after }
 {}
 
-/// After any run the lots of an account in a symbol, the oldest first, are those of a position, and spell the single shares that its completed
-/// trades leave, one after another by their completion; so they are the lots of these shares.
+/// Proves that after any run the lots of an account in a symbol form a position, the oldest first.
+/// Their shares are those that the completed trades leave, replayed in the order of their
+/// completion, so they are the lots of these shares. The changes of each lot form a chain.
 pub fn lots_match_the_shares()
     ensures position { (base after : Base) (calls : List (ℕ × Call)) (outcomes : List Outcome) (account : ℕ) (symbol : Text)
         → BooksInvariant base → Run base calls outcomes after → IsPosition (position_in (sheets after) account symbol) }
@@ -47,8 +50,8 @@ pub fn lots_match_the_shares()
         (lot_qty (replay (deals_in (completed after) account symbol)) lot) }
 {}
 
-/// After any run the lots of an account in a symbol add up to what was bought less what was sold, and cost the gains of its trades and the
-/// purchases less the sales.
+/// Proves that after any run the quantities of the lots of an account in a symbol sum to purchases
+/// - sales. Their cost is purchases - sales + realised gains.
 pub fn lots_balance()
     ensures quantities { (base after : Base) (calls : List (ℕ × Call)) (outcomes : List Outcome) (account : ℕ) (symbol : Text)
         → BooksInvariant base → Run base calls outcomes after
@@ -59,16 +62,16 @@ pub fn lots_balance()
         ≡ gains (deals_in (completed after) account symbol) [] +ℤ spent (deals_in (completed after) account symbol) }
 {}
 
-/// The tables of a base in order add up: the numbers of brokers, the balances and the summaries are sums of rows, and no lots are without a
-/// summary. So do the tables after any run.
+/// Proves that the sums in the tables of a consistent base equal those of their rows, and that this
+/// holds after any run.
 pub fn tables_add_up()
     ensures base { (base : Base) → BooksInvariant base → SumsMatch (sheets base) }
     ensures run { (base after : Base) (calls : List (ℕ × Call)) (outcomes : List Outcome)
         → BooksInvariant base → Run base calls outcomes after → SumsMatch (sheets after) }
 {}
 
-/// An accepted result, with or without a key, is taxed once, by the very shares that it closes and the rates of its moment, and stays so
-/// through any run: its trade's row tells it.
+/// Proves that an accepted result, with or without a key, is taxed on exactly the shares that it
+/// closes, at the rates before it. Any run preserves the tax, and the row of the trade has it.
 pub fn results_are_taxed()
     ensures taxed { (base : Base) (now id price : ℕ) (t : Trade)
         → BooksInvariant base → trade_with base id ≡ Some t → refusal_of base now (CompleteTrade id price) ≡ None
@@ -83,7 +86,9 @@ pub fn results_are_taxed()
         → BooksInvariant base → Run base calls outcomes after → TaxesStand (sheets after) base calls outcomes }
 {}
 
-/// So a run from a base in order adds up: it leaves a base in order whose tables add up, and each of its accepted results is taxed so.
+/// Proves that a run from a consistent base, or from the empty one, leads to a consistent base. The
+/// sums in its tables match their rows, and each accepted result was taxed on exactly the shares
+/// that it closed.
 pub fn runs_add_up()
     ensures run { (base after : Base) (calls : List (ℕ × Call)) (outcomes : List Outcome)
         → BooksInvariant base → Run base calls outcomes after → RunAddsUp base calls outcomes after }

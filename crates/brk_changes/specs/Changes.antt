@@ -1,4 +1,4 @@
--- What a change of one row makes of the tables, whose rows stand by rising key.
+-- The effect of each row change on the tables, whose rows are sorted by key.
 use Rattle.std.specs.Prelude.{ℕ, ℤ, ◌==◌, ◌&&◌, not, filter, bytes_eq, pos, List, fold, Some, string_bytes}
 use Rattle.brk_money.specs.Spelling.{Text}
 use Rattle.brk_money.specs.declared.status.Status.{Status}
@@ -13,15 +13,15 @@ use Rattle.brk_changes.specs.Rows.{trade_row_of, history_row_of, request_row_of,
 use Rattle.brk_changes.specs.declared.change.Change.{Change}
 use Rattle.brk_changes.specs.declared.change.Change.TheVariants.{AddBroker, AddCustomer, AddAccount, AddPermission, AddSecurity, AddLastTrade, AddCharge, AddBand, AddTaxRate, AddCustomerTax, AddTrade, SetStatus, AddHistory, AddRequest, RemoveRequest, SetLastTrade, CompleteTrade, AddLot, SetLot, RemoveLot, AddLotChange, AddSummary, SetSummary, RemoveSummary, AddSettlement, AddMove, SetBalance, SetBrokerNumbers, SetExecutor, SetCashType, SetCashName, SetRule, Keep, SetLast}
 
--- a broker more, without trades and commissions
+-- The tables with `b` inserted, without trades and commissions.
 abbrev pub with_broker : Broker → Tables → Tables
 with_broker b t = record t { brokers = insert_row broker_key (record { id = b.id; name = b.name; trades = pos 0; commissions = 0 }) t.brokers }
 
--- a customer more
+-- The tables with the customer `c` inserted.
 abbrev pub with_customer : Customer → Tables → Tables
 with_customer c t = record t { customers = insert_row customer_key c t.customers }
 
--- an account more, whose balance is its opening
+-- The tables with the account `a` inserted, whose balance is its opening balance.
 abbrev pub with_account : Account → Tables → Tables
 with_account a t = record t {
   accounts = insert_row account_key
@@ -29,137 +29,140 @@ with_account a t = record t {
       t.accounts;
 }
 
--- a permission more
+-- The tables with the permission `p` inserted.
 abbrev pub with_permission : Permission → Tables → Tables
 with_permission p t = record t { permissions = insert_row permission_key p t.permissions }
 
--- a security more
+-- The tables with the security `s` inserted.
 abbrev pub with_security : SecurityRow → Tables → Tables
 with_security s t = record t { securities = insert_row security_key s t.securities }
 
--- the last trade of a security more
+-- The tables with the last trade `l` of a security inserted.
 abbrev pub with_last_trade : LastTradeRow → Tables → Tables
 with_last_trade l t = record t { last_trades = insert_row last_trade_key l t.last_trades }
 
--- a charge more
+-- The tables with the charge `c` inserted.
 abbrev pub with_charge : Charge → Tables → Tables
 with_charge c t = record t { charges = insert_row charge_key c t.charges }
 
--- a band more
+-- The tables with the commission band `b` inserted.
 abbrev pub with_band : Band → Tables → Tables
 with_band b t = record t { bands = insert_row band_key b t.bands }
 
--- a tax rate more
+-- The tables with the tax rate `r` inserted.
 abbrev pub with_tax_rate : TaxRate → Tables → Tables
 with_tax_rate r t = record t { tax_rates = insert_row tax_rate_key r t.tax_rates }
 
--- a tax more that a customer pays
+-- The tables with the tax `x` of a customer inserted.
 abbrev pub with_customer_tax : CustomerTax → Tables → Tables
 with_customer_tax x t = record t { customer_taxes = insert_row customer_tax_key x t.customer_taxes }
 
--- a trade more
+-- The tables with the trade `r` inserted.
 abbrev pub with_trade : TradeRow → Tables → Tables
 with_trade r t = record t { trades = insert_row trade_key r t.trades }
 
--- another status of a trade, and the moment at which it came to it
+-- The tables with another status and stamp of the trade `id`.
 abbrev pub with_status : ℕ → Status → ℕ → Tables → Tables
 with_status id status stamp t = record t { trades = update_where (λ r. r.id == id) (λ r. record r { status = status; stamp = stamp }) t.trades }
 
--- a status more that a trade came to
+-- The tables with the status change `r` of a trade inserted.
 abbrev pub with_history : HistoryRow → Tables → Tables
 with_history r t = record t { history = insert_row history_key r t.history }
 
--- a request more
+-- The tables with the request `r` inserted.
 abbrev pub with_request : RequestRow → Tables → Tables
 with_request r t = record t { requests = insert_row request_key r t.requests }
 
--- without the request of a trade
+-- The tables without the request of the trade.
 abbrev pub without_request : ℕ → Tables → Tables
 without_request trade t = record t { requests = filter (λ r. not (r.trade == trade)) t.requests }
 
--- another last trade of a security, which had one
+-- The tables with the row of the security `l.symbol` in LAST_TRADE replaced by `l`. They are
+-- unchanged if it has none.
 abbrev pub with_last_trade_set : LastTradeRow → Tables → Tables
 with_last_trade_set l t =
     record t { last_trades = update_where (λ r. bytes_eq r.symbol l.symbol) (λ r. record r { stamp = l.stamp; price = l.price; volume = l.volume }) t.last_trades }
 
--- a trade completed, with what its completion records in its row
+-- The tables with the trade `id` completed: its status, stamp, price, commission and tax are set.
 abbrev pub with_completion : (id stamp price commission tax : ℕ) → Tables → Tables
 with_completion id stamp price commission tax t = record t {
   trades = update_where (λ r. r.id == id)
       (λ r. record r { status = Completed; stamp = stamp; price = Some price; commission = commission; tax = tax }) t.trades;
 }
 
--- a lot more
+-- The tables with the lot `r` inserted.
 abbrev pub with_lot : HoldingRow → Tables → Tables
 with_lot r t = record t { holdings = insert_row holding_key r t.holdings }
 
--- another quantity of the lot that a trade opened
+-- The tables with another quantity of the lot that the trade opened.
 abbrev pub with_lot_set : ℕ → ℤ → Tables → Tables
 with_lot_set trade qty t = record t { holdings = update_where (λ r. r.trade == trade) (λ r. record r { qty = qty }) t.holdings }
 
--- without the lot that a trade opened
+-- The tables without the lot that the trade opened.
 abbrev pub without_lot : ℕ → Tables → Tables
 without_lot trade t = record t { holdings = filter (λ r. not (r.trade == trade)) t.holdings }
 
--- a change of a lot more
+-- The tables with the lot change `r` inserted.
 abbrev pub with_lot_change : HoldingHistoryRow → Tables → Tables
 with_lot_change r t = record t { holding_history = insert_row holding_history_key r t.holding_history }
 
--- a summary more
+-- The tables with the summary `r` inserted.
 abbrev pub with_summary : SummaryRow → Tables → Tables
 with_summary r t = record t { summaries = insert_row summary_key r t.summaries }
 
--- another summary of an account in a security, which had one
+-- The tables with another quantity in the summary of the account and security of `s`. They are
+-- unchanged if there is none.
 abbrev pub with_summary_set : SummaryRow → Tables → Tables
 with_summary_set s t =
     record t { summaries = update_where (λ r. (r.account == s.account) && bytes_eq r.symbol s.symbol) (λ r. record r { qty = s.qty }) t.summaries }
 
--- without the summary of an account in a security
+-- The tables without the summary of the account and security.
 abbrev pub without_summary : ℕ → Text → Tables → Tables
 without_summary account symbol t = record t { summaries = filter (λ r. not ((r.account == account) && bytes_eq r.symbol symbol)) t.summaries }
 
--- a settlement more
+-- The tables with the settlement `r` inserted.
 abbrev pub with_settlement : SettlementRow → Tables → Tables
 with_settlement r t = record t { settlements = insert_row settlement_key r t.settlements }
 
--- a cash row more
+-- The tables with the cash row `r` inserted.
 abbrev pub with_move : MoveRow → Tables → Tables
 with_move r t = record t { moves = insert_row move_key r t.moves }
 
--- another balance of an account
+-- The tables with another balance of the account.
 abbrev pub with_balance : ℕ → ℤ → Tables → Tables
 with_balance account balance t = record t { accounts = update_where (λ r. r.id == account) (λ r. record r { balance = balance }) t.accounts }
 
--- another number of a broker's completed trades, and another sum of their commissions
+-- The tables with other totals of the broker: its completed trades and their commissions.
 abbrev pub with_broker_numbers : ℕ → ℤ → ℕ → Tables → Tables
 with_broker_numbers broker trades commissions t =
     record t { brokers = update_where (λ r. r.id == broker) (λ r. record r { trades = trades; commissions = commissions }) t.brokers }
 
--- another name of a trade's executor
+-- The tables with another executor name of the trade.
 abbrev pub with_executor : ℕ → Text → Tables → Tables
 with_executor trade name t = record t { trades = update_where (λ r. r.id == trade) (λ r. record r { executor = name }) t.trades }
 
--- another word for how a trade is settled
+-- The tables with another cash type of the trade's settlement.
 abbrev pub with_cash_type : ℕ → Text → Tables → Tables
 with_cash_type trade word t = record t { settlements = update_where (λ r. r.trade == trade) (λ r. record r { cash_type = word }) t.settlements }
 
--- another text of what a trade moved
+-- The tables with another text of the trade's cash row.
 abbrev pub with_cash_name : ℕ → Text → Tables → Tables
 with_cash_name trade name t = record t { moves = update_where (is_cash_of trade) (λ r. record r { name = name }) t.moves }
 
--- a first day whose completions settle after one day
+-- The tables with `day` as the settlement day: the first day whose completions settle after one
+-- day.
 abbrev pub with_rule : ℕ → Tables → Tables
 with_rule day t = record t { rule = Some day }
 
--- a kept row more
+-- The tables with the stored reply `k` inserted.
 abbrev pub with_kept : Kept → Tables → Tables
 with_kept k t = record t { kept = insert_row kept_key k t.kept }
 
--- another last stamp
+-- The tables with another stamp of the last accepted command.
 abbrev pub with_last : ℕ → Tables → Tables
 with_last stamp t = record t { last = Some stamp }
 
--- the tables after a change
+-- The tables after one row change.
 abbrev pub after_change : Change → Tables → Tables
 after_change (AddBroker broker) = with_broker (broker_of broker)
 after_change (AddCustomer customer) = with_customer (customer_of customer)
@@ -196,6 +199,6 @@ after_change (SetRule day) = with_rule day
 after_change (Keep kept) = with_kept (kept_of kept)
 after_change (SetLast stamp) = with_last stamp
 
--- the tables after some changes, one after another
+-- The tables after a list of row changes, applied in order.
 abbrev pub after_changes : List Change → Tables → Tables
 after_changes changes t = fold (λ t change. after_change change t) t changes

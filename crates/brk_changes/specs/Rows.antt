@@ -1,4 +1,4 @@
--- What the rows of trades are in the abstract brokerage.
+-- The abstract value of each typed row of trades, holdings, settlements and cash.
 use Rattle.std.specs.Prelude.{List, [], ◌∷◌, codes, string_bytes}
 use Rattle.brk_money.specs.Spelling.{Text}
 use Rattle.brk_model.specs.Keys.{KeyPart, number, by_key}
@@ -15,6 +15,7 @@ use Rattle.brk_changes.specs.declared.move_row.MoveRow as move
 use Rattle.brk_changes.specs.declared.cash_type.CashType.{CashType}
 use Rattle.brk_changes.specs.declared.cash_type.CashType.TheVariants.{CashAccount, Cash, Margin, MarginAccount}
 
+-- The abstract TRADE row of a trade's row.
 abbrev pub trade_row_of : trade.TradeRow → TradeRow
 trade_row_of r = record {
   id = r.id;
@@ -34,41 +35,49 @@ trade_row_of r = record {
   is_lifo = r.is_lifo;
 }
 
+-- The abstract TRADE_HISTORY row of a status change.
 abbrev pub history_row_of : history.HistoryRow → HistoryRow
 history_row_of r = record { trade = r.trade; status = r.status; stamp = r.stamp }
 
+-- The abstract TRADE_REQUEST row of a request.
 abbrev pub request_row_of : request.RequestRow → RequestRow
 request_row_of r = record { trade = r.trade; kind = r.kind; symbol = r.symbol; qty = r.qty; bid = r.bid; broker = r.broker }
 
+-- The abstract HOLDING row of a lot.
 abbrev pub holding_row_of : holding.HoldingRow → HoldingRow
 holding_row_of r = record { trade = r.trade; account = r.account; symbol = r.symbol; stamp = r.stamp; price = r.price; qty = r.qty }
 
+-- The abstract HOLDING_SUMMARY row of a summary.
 abbrev pub summary_row_of : summary.SummaryRow → SummaryRow
 summary_row_of r = record { account = r.account; symbol = r.symbol; qty = r.qty }
 
+-- The abstract HOLDING_HISTORY row of a lot change.
 abbrev pub lot_change_of : lot_change.LotChange → HoldingHistoryRow
 lot_change_of r = record { lot = r.lot; trade = r.trade; before = r.before; after = r.after }
 
--- SE_CASH_TYPE
+-- The text of a cash type in the column SE_CASH_TYPE.
 abbrev pub cash_type_word : CashType → Text
 cash_type_word CashAccount = codes "Cash Account"
 cash_type_word Cash = codes "Cash"
 cash_type_word Margin = codes "Margin"
 cash_type_word MarginAccount = codes "Margin Account"
 
+-- The abstract SETTLEMENT row of a settlement.
 abbrev pub settlement_row_of : settlement.SettlementRow → SettlementRow
 settlement_row_of r = record { trade = r.trade; cash_type = cash_type_word r.cash_type; due_day = r.due_day; amount = r.amount }
 
+-- The abstract CASH_TRANSACTION row of a cash row of schema 1.
 abbrev pub cash_row_of : cash.CashRow → CashRow
 cash_row_of r = record { trade = r.trade; stamp = r.stamp; amount = r.amount; name = string_bytes r.name }
 
+-- The abstract CASH_MOVE row of a cash row.
 abbrev pub move_row_of : move.MoveRow → MoveRow
 move_row_of r = record { id = r.id; account = r.account; trade = r.trade; stamp = r.stamp; amount = r.amount; name = string_bytes r.name }
 
--- the moment of opening, and then the trade
+-- The age of a lot: the stamp at which it was opened, then the trade that opened it.
 abbrev pub age_key : HoldingRow → List KeyPart
 age_key r = number r.stamp ∷ number r.trade ∷ []
 
--- lots, the oldest first
+-- The lots in order of age, the oldest first.
 abbrev pub oldest_lots_first : List HoldingRow → List HoldingRow
 oldest_lots_first = by_key age_key

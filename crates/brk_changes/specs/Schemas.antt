@@ -1,8 +1,9 @@
--- The schema that each of the three values stands for.
+-- The abstract schema of each schema value.
 use Rattle.brk_model.specs.Schemas.{Schema, first_schema, second_schema, third_schema}
 use Rattle.brk_changes.specs.declared.schema.Schema as declared
 use Rattle.brk_changes.specs.declared.schema.Schema.TheVariants.{First, Second, Third}
 
+-- The abstract schema of a schema value.
 abbrev pub schema_of : declared.Schema → Schema
 schema_of First = first_schema
 schema_of Second = second_schema

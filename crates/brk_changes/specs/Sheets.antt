@@ -1,11 +1,11 @@
--- What the rows of a desk's tables are in the abstract brokerage.
+-- The tables of the model that the rows of a desk's tables stand for.
 use Rattle.std.specs.Prelude.{map}
 use Rattle.brk_model.specs.Tables.{Tables}
 use Rattle.brk_ref.specs.Records.{kept_of, broker_row_of, customer_of, account_row_of, permission_of, security_of, last_trade_of, charge_of, band_of, tax_of, customer_tax_of}
 use Rattle.brk_changes.specs.Rows.{trade_row_of, history_row_of, request_row_of, holding_row_of, summary_row_of, lot_change_of, settlement_row_of, cash_row_of, move_row_of}
 use Rattle.brk_changes.specs.declared.sheets.Sheets.{Sheets}
 
--- the tables that the rows in types are
+-- The tables of the model with these typed rows.
 abbrev pub tables_in_sheets : Sheets → Tables
 tables_in_sheets s = record {
   last = s.last;

@@ -1,21 +1,21 @@
 ghost use Rattle.std.specs.Prelude.{◌≡◌};
 ghost use Rattle.brk_changes.specs.Rows.{cash_type_word};
 
-/// How a trade is settled (SE_CASH_TYPE): each of the two ways has two words.
+/// How a trade is settled (SE_CASH_TYPE): in cash or on margin, each with two texts.
 #[derive(Clone, Copy, PartialEq, Eq)]
 pub enum CashType {
-    /// In cash, as a completion says it.
+    /// In cash, as a completion records it.
     CashAccount,
-    /// In cash, in the other word.
+    /// In cash, by the other text.
     Cash,
-    /// On margin, as a completion says it.
+    /// On margin, as a completion records it.
     Margin,
-    /// On margin, in the other word.
+    /// On margin, by the other text.
     MarginAccount,
 }
 
 impl CashType {
-    /// The word that stands for it in tables and replies.
+    /// Returns its text in tables and replies.
     pub fn word(self) -> &'static str
         ensures { result.now ≡ cash_type_word self }
     {

@@ -13,46 +13,46 @@ use brk_ref::{
     Symbol, Tax,
 };
 
-/// The change of one row.
+/// A change of one row.
 #[derive(Drop)]
 pub enum Change {
-    /// A broker, with no trades and no commissions yet.
+    /// Inserts a broker, with no trades and no commissions yet.
     AddBroker(Broker),
-    /// A customer.
+    /// Inserts a customer.
     AddCustomer(Customer),
-    /// An account, whose balance is its opening.
+    /// Inserts an account, whose balance is its opening balance.
     AddAccount(Account),
-    /// A permission of an account.
+    /// Inserts a permission of an account.
     AddPermission(Permission),
-    /// A security.
+    /// Inserts a security.
     AddSecurity(Security),
-    /// The last trade of a security on the market.
+    /// Inserts the last trade of a security on the market.
     AddLastTrade(LastTrade),
-    /// The charge of a type and a tier.
+    /// Inserts the charge of a type and a tier.
     AddCharge(Charge),
-    /// A band of commission.
+    /// Inserts a commission band.
     AddBand(Band),
-    /// A tax with its rate.
+    /// Inserts a tax with its rate.
     AddTaxRate(Tax),
-    /// A tax that a customer pays.
+    /// Inserts a tax that a customer pays.
     AddCustomerTax(CustomerTax),
-    /// A trade.
+    /// Inserts a trade.
     AddTrade(TradeRow),
-    /// Another status of a trade, and the moment at which it came to it.
+    /// Sets the status of a trade and the stamp at which the trade reached it.
     SetStatus {
         trade: Id,
         status: Status,
         stamp: Stamp,
     },
-    /// A status that a trade came to.
+    /// Inserts a status that a trade reached.
     AddHistory(HistoryRow),
-    /// The request of a trade that waits for its price.
+    /// Inserts the request of a pending trade.
     AddRequest(RequestRow),
-    /// The request of a trade, taken away.
+    /// Deletes the request of a trade.
     RemoveRequest(Id),
-    /// Another last trade of a security, which had one.
+    /// Sets the last trade of a security that has one.
     SetLastTrade(LastTrade),
-    /// A trade that was completed, with what its completion records in its row.
+    /// Sets in a trade's row the values of its completion.
     CompleteTrade {
         trade: Id,
         stamp: Stamp,
@@ -60,61 +60,60 @@ pub enum Change {
         commission: Amount,
         tax: Amount,
     },
-    /// A lot that a trade opened.
+    /// Inserts the lot that a trade opened.
     AddLot(HoldingRow),
-    /// Another quantity of the lot that a trade opened.
+    /// Sets the quantity of the lot that a trade opened.
     SetLot {
         trade: Id,
         qty: i64,
     },
-    /// The lot that a trade opened, taken away.
+    /// Deletes the lot that a trade opened.
     RemoveLot(Id),
-    /// What a trade made of a lot.
+    /// Inserts the change of a lot by a trade.
     AddLotChange(LotChange),
-    /// How many shares of a security an account holds, where it held none.
+    /// Inserts the number of shares of a security that an account holds, which had no such row.
     AddSummary(SummaryRow),
-    /// Another number of shares of a security that an account holds.
+    /// Sets the number of shares of a security that an account holds.
     SetSummary(SummaryRow),
-    /// The number of shares of a security that an account holds no more, taken away.
+    /// Deletes the number of shares of a security that an account held.
     RemoveSummary {
         account: Id,
         symbol: Symbol,
     },
-    /// What a completed trade settles for.
+    /// Inserts the settlement of a completed trade.
     AddSettlement(SettlementRow),
-    /// A cash row of a cash trade, a deposit or a withdrawal (CASH_MOVE).
+    /// Inserts a cash row of a cash trade, a deposit or a withdrawal (CASH_MOVE).
     AddMove(MoveRow),
-    /// Another balance of an account.
+    /// Sets the balance of an account.
     SetBalance {
         account: Id,
         balance: Cents,
     },
-    /// Another number of a broker's completed trades, and another sum of their commissions.
+    /// Sets a broker's totals: the number of its completed trades and the sum of their commissions.
     SetBrokerNumbers {
         broker: Id,
         trades: i64,
         commissions: Amount,
     },
-    /// Another name of a trade's executor (T_EXEC_NAME).
+    /// Sets the name of a trade's executor (T_EXEC_NAME).
     SetExecutor {
         trade: Id,
         executor: String,
     },
-    /// Another word for how a trade is settled (SE_CASH_TYPE).
+    /// Sets the text for how a trade is settled (SE_CASH_TYPE).
     SetCashType {
         trade: Id,
         cash_type: CashType,
     },
-    /// Another text of a trade's cash row (CM_NAME).
+    /// Sets the text of a trade's cash row (CM_NAME).
     SetCashName {
         trade: Id,
         name: String,
     },
-    /// The settlement day, if none was set: the first day whose completions settle after one day
-    /// (SR_DAY).
+    /// Sets the settlement day, the first day whose completions settle after one day (SR_DAY).
     SetRule(Day),
-    /// An accepted row under its key.
+    /// Inserts an accepted row under its key, with the stored reply.
     Keep(Kept),
-    /// The stamp of the last accepted command (D_LAST).
+    /// Sets the stamp of the last accepted command (D_LAST).
     SetLast(Stamp),
 }

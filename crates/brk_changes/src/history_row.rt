@@ -1,6 +1,6 @@
 use brk_money::{Id, Stamp, Status};
 
-/// When a trade came to a status (a row of TRADE_HISTORY).
+/// A status that a trade reached, with the stamp at which it did (a row of TRADE_HISTORY).
 #[derive(Clone, Copy)]
 pub struct HistoryRow {
     pub trade: Id,

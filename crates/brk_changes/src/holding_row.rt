@@ -1,8 +1,10 @@
 use brk_money::{Id, Price, Stamp};
 use brk_ref::Symbol;
 
-/// What is left of the shares that a trade opened: its lot (a row of HOLDING). The quantity is below 0 where they were
-/// sold short; the price is the trade's, and the stamp that of its completion.
+/// A lot: the remaining shares that a trade opened (a row of HOLDING).
+///
+/// The quantity is below 0 if the shares were sold short. The price is the trade's, and the stamp
+/// is that of its completion.
 #[derive(Drop)]
 pub struct HoldingRow {
     pub trade: Id,

@@ -1,7 +1,7 @@
 use brk_money::Id;
 
-/// What a trade made of a lot: its quantity before and after (a row of HOLDING_HISTORY), below 0 where its shares were
-/// sold short.
+/// The change of a lot by a trade: its quantity before and after, below 0 if its shares were sold
+/// short (a row of HOLDING_HISTORY).
 #[derive(Clone, Copy)]
 pub struct LotChange {
     /// The trade that opened the lot.

@@ -1,7 +1,7 @@
 use brk_money::{Id, Price, Qty, TradeType};
 use brk_ref::Symbol;
 
-/// A trade that waits for its price (a row of TRADE_REQUEST).
+/// The request of a pending trade (a row of TRADE_REQUEST).
 #[derive(Drop)]
 pub struct RequestRow {
     pub trade: Id,

@@ -28,7 +28,7 @@ impl Schema {
         }
     }
 
-    /// Returns whether cash rows are numbered and may have no trade (CASH_MOVE).
+    /// Returns true if cash rows are numbered and may have no trade (CASH_MOVE).
     pub fn has_moves(self) -> bool
         ensures { result ≡ (schema_of self).has_moves }
     {
@@ -38,7 +38,7 @@ impl Schema {
         }
     }
 
-    /// Returns whether a settlement day can be set (SETTLE_RULE).
+    /// Returns true if a settlement day can be set (SETTLE_RULE).
     pub fn has_rule(self) -> bool
         ensures { result ≡ (schema_of self).has_rule }
     {

@@ -1,7 +1,8 @@
 use crate::cash_type::CashType;
 use brk_money::{Cents, Day, Id};
 
-/// What a completed trade settles for, and when (a row of SETTLEMENT). The amount is below 0 where the account pays.
+/// The amount that a completed trade settles for, and the day (a row of SETTLEMENT). The amount is
+/// below 0 if the account pays.
 #[derive(Clone, Copy)]
 pub struct SettlementRow {
     pub trade: Id,

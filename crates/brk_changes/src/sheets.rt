@@ -13,7 +13,7 @@ use brk_ref::{
     Security, Tax,
 };
 
-/// The rows of a desk's tables, each list by rising key.
+/// The rows of all tables of a desk, each list sorted by key, ascending.
 #[derive(Drop)]
 pub struct Sheets {
     /// The stamp of the last accepted command.

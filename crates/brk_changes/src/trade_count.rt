@@ -3,7 +3,7 @@ ghost use Rattle.brk_changes.specs.declared.trade_count.TheConstants.TradeCount;
 
 use std::marker::Model;
 
-/// How many trades of a broker's accounts are completed (B_NUM_TRADES), 0 to 10^12.
+/// The number of completed trades of a broker's accounts (B_NUM_TRADES), 0 to 10^12.
 #[derive(Clone, Copy, PartialEq, Eq)]
 pub struct TradeCount(u64);
 
@@ -18,10 +18,10 @@ impl Model for TradeCount {
 }
 
 impl TradeCount {
-    /// The greatest count: no more trades have an id.
+    /// The greatest count: there are no more trade ids.
     pub const GREATEST: u64 = 1_000_000_000_000;
 
-    /// So many trades, where they are within the limit.
+    /// Returns the count `trades`, or `None` if it exceeds `GREATEST`.
     pub fn new(trades: u64) -> Option<TradeCount>
         ensures { SomeIff result (trades ≤ TradeCount.GREATEST) trades }
     {
@@ -32,6 +32,7 @@ impl TradeCount {
         }
     }
 
+    /// Returns the number of trades.
     pub fn get(self) -> u64
         ensures value { result ≡ self }
         ensures high { self ≤ TradeCount.GREATEST }

@@ -5,7 +5,7 @@ ghost use Rattle.brk_money.specs.declared.status.Status.TheVariants.{Submitted};
 use brk_money::{Amount, Id, Price, Qty, Stamp, Status, TradeType};
 use brk_ref::{ChargeAmount, Symbol};
 
-/// A trade as it stands (a row of TRADE). It has a price once it is completed.
+/// A trade in its current status (a row of TRADE). It has a price once it is completed.
 #[derive(Drop)]
 pub struct TradeRow {
     pub id: Id,
@@ -25,7 +25,7 @@ pub struct TradeRow {
     pub is_lifo: bool,
 }
 
-/// Whether a trade was sent to the market, and nothing came of it yet.
+/// Returns true if the status of the trade is submitted.
 pub fn is_submitted(trade: &TradeRow) -> bool
     ensures { result ≡ same_status trade.now.status Submitted }
 {

@@ -1,7 +1,7 @@
 use brk_exit::Ending;
 use brk_files as file;
 
-/// Audits the desk in the file at a path, and prints `ok` where its tables follow from one another.
+/// Audits the desk in the file at `path`, and prints `ok` if its tables pass.
 pub fn run(rt: &HostRuntime, path: &str) -> Ending {
     let closed = match file::open(rt, path) {
         Ok(store) => file::close(store),

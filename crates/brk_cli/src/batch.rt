@@ -7,7 +7,7 @@ use brk_money::{Fault, Stamp};
 use brk_store::Store;
 use sqlite::{Alter, Connection};
 
-// Runs a batch from standard input over a desk, with its lines on standard output.
+// Executes a batch from standard input on a desk, with its lines on standard output.
 fn book<S: Alter>(rt: &HostRuntime, at: Option<Stamp>, desk: &mut Desk<S>) -> Ending {
     let mut clock = Moments::new(rt, at);
     let mut lines = rt.stdout();
@@ -17,7 +17,7 @@ fn book<S: Alter>(rt: &HostRuntime, at: Option<Stamp>, desk: &mut Desk<S>) -> En
     }
 }
 
-// Over a new database in memory.
+// Executes a batch on a new database in memory.
 fn run_in_memory(rt: &HostRuntime, at: Option<Stamp>) -> Ending {
     let Ok(conn) = Connection::open_in_memory(rt.alloc()) else {
         return Ending::Open(Fault::Store);
@@ -28,7 +28,7 @@ fn run_in_memory(rt: &HostRuntime, at: Option<Stamp>) -> Ending {
     }
 }
 
-// Over the file at a path, which is closed at the end.
+// Executes a batch on the file at `path`, which is closed at the end.
 fn run_on_file(rt: &HostRuntime, path: &str, at: Option<Stamp>) -> Ending {
     let store = match file::open_or_make(rt, path) {
         Ok(store) => store,
@@ -40,8 +40,8 @@ fn run_on_file(rt: &HostRuntime, path: &str, at: Option<Stamp>) -> Ending {
     after_close(ending, closed)
 }
 
-/// Runs a batch from standard input, over the file at a path or a new database in memory, with its lines on standard
-/// output.
+/// Executes a batch from standard input, on the file at `db` or a new database in memory, with its
+/// lines on standard output.
 pub fn run(rt: &HostRuntime, db: Option<String>, at: Option<Stamp>) -> Ending {
     match db {
         Some(path) => run_on_file(rt, path.as_str(), at),

@@ -14,7 +14,7 @@ use std::env;
 use std::io::ErrorKind;
 use std::process::ExitCode;
 
-// The words of the command line.
+// Returns the command-line arguments.
 fn given_words(rt: &HostRuntime) -> Result<Vec<String>, UsageFault> {
     match env::args(rt) {
         Ok(words) => {
@@ -28,7 +28,7 @@ fn given_words(rt: &HostRuntime) -> Result<Vec<String>, UsageFault> {
     }
 }
 
-// Does what the words of the command line ask for.
+// Executes the job of the command-line arguments.
 fn run(rt: &HostRuntime) -> Ending {
     match given_words(rt).and_then(read_words) {
         Ok(Job::Batch { db, at }) => batch::run(rt, db, at),
@@ -54,7 +54,7 @@ fn run(rt: &HostRuntime) -> Ending {
     }
 }
 
-// Prints help that was asked for.
+// Prints the help that was requested.
 fn show(rt: &HostRuntime, text: String) -> Ending {
     match rt.print(text.as_str()) {
         Ok(()) => Ending::Usage(UsageFault::Help(text)),

@@ -6,13 +6,14 @@ use std::time::{SystemTime, UNIX_EPOCH};
 /// The program's clock.
 #[derive(Drop)]
 pub enum Moments<'a, R> {
-    /// It stands still.
+    /// A clock that always returns this timestamp.
     At(Stamp),
-    /// It is the machine's.
+    /// The machine's clock.
     Machine(&'a R),
 }
 
-// What the machine's clock tells, within the limits of stamps; 0 where it cannot be read.
+// Returns the reading of the machine's clock in milliseconds, within the limits of stamps, or 0 if
+// it cannot be read.
 fn millis<R: rt::Clock>(clock: &R) -> i64 {
     let Ok(now) = SystemTime::now(clock) else {
         return 0;
@@ -24,7 +25,7 @@ fn millis<R: rt::Clock>(clock: &R) -> i64 {
 }
 
 impl<'a, R: rt::Clock> Moments<'a, R> {
-    /// A clock that tells this moment alone, or the machine's.
+    /// Creates a clock that always returns `at`, or the machine's clock.
     pub fn new(clock: &'a R, at: Option<Stamp>) -> Moments<'a, R> {
         match at {
             Some(stamp) => Moments::At(stamp),

@@ -1,4 +1,4 @@
-//! A desk that is served to programs on the same machine.
+//! Serves a desk to programs on the same machine.
 
 use crate::moment::Moments;
 use brk_desk::Desk;
@@ -10,7 +10,7 @@ use brk_store::Store;
 use sqlite::{Alter, Connection};
 use std::net::TcpListener;
 
-// Listens on a port of this machine alone.
+// Serves streams on a port that only this machine can reach.
 fn listen<S: Alter>(
     rt: &HostRuntime,
     port: u16,
@@ -29,7 +29,7 @@ fn listen<S: Alter>(
     }
 }
 
-// Over a new database in memory, which all streams share.
+// Serves a new database in memory, which all streams share.
 fn run_in_memory(rt: &HostRuntime, port: u16, at: Option<Stamp>, streams: u32) -> Ending {
     let Ok(conn) = Connection::open_in_memory(rt.alloc()) else {
         return Ending::Open(Fault::Store);
@@ -40,7 +40,7 @@ fn run_in_memory(rt: &HostRuntime, port: u16, at: Option<Stamp>, streams: u32) -
     }
 }
 
-// Over the file at a path, which is closed at the end.
+// Serves the file at `path`, which is closed at the end.
 fn run_on_file(rt: &HostRuntime, port: u16, path: &str, at: Option<Stamp>, streams: u32) -> Ending {
     let store = match file::open_or_make(rt, path) {
         Ok(store) => store,
@@ -52,7 +52,7 @@ fn run_on_file(rt: &HostRuntime, port: u16, path: &str, at: Option<Stamp>, strea
     after_close(ending, closed)
 }
 
-/// Serves so many streams on a port, over the file at a path or a new database in memory.
+/// Serves `streams` streams on a port, on the file at `db` or a new database in memory.
 pub fn run(
     rt: &HostRuntime,
     port: u16,

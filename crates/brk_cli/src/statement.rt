@@ -20,8 +20,8 @@ fn print<S: Alter>(
     }
 }
 
-/// Prints the statement of an account from a day to another, both included, of the desk in the file at a path, which is
-/// closed at the end.
+/// Prints the statement of an account from `from` to `to`, both included, of the desk in the file
+/// at `path`. The file is closed at the end.
 pub fn run(rt: &HostRuntime, path: &str, account: Id, from: Day, to: Day) -> Ending {
     let store = match file::open(rt, path) {
         Ok(store) => store,

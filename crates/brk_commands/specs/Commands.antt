@@ -1,10 +1,11 @@
--- What commands are in the abstract brokerage.
+-- The command of the model that a command represents.
 use Rattle.brk_model.specs.Commands.{Command, PlaceOrder, FeedTicks, CancelTrade, SetOneDay}
 use Rattle.brk_plans.specs.Commands as books
 use Rattle.brk_orders.specs.Records.{movement_of, order_of, result_of, ticks_of, update_of}
 use Rattle.brk_commands.specs.declared.command.Command as told
 use Rattle.brk_commands.specs.declared.command.Command.TheVariants as command
 
+-- The command of the model that a command represents.
 abbrev pub command_of : told.Command → Command
 command_of (command.Add reference) = books.command_of reference
 command_of (command.Order order) = PlaceOrder (order_of order)

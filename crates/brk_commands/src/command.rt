@@ -2,23 +2,23 @@ use brk_money::{Day, Id};
 use brk_orders::{Completion, Feed, Movement, Order, Update};
 use brk_plans::Reference;
 
-/// What the desk is told. A command is in form.
+/// A command to the desk. It is well-formed by construction.
 #[derive(Drop)]
 pub enum Command {
-    /// A record of reference data is added.
+    /// Adds a reference record.
     Add(Reference),
-    /// An order is placed (Trade-Order).
+    /// Places an order (Trade-Order).
     Order(Order),
-    /// Trades on the market are told of (Market-Feed).
+    /// Reports trades on the market (Market-Feed).
     Feed(Feed),
-    /// The trade with this id is to be canceled.
+    /// Cancels the trade with this id.
     Cancel(Id),
-    /// A submitted trade is completed (Trade-Result).
+    /// Completes a submitted trade (Trade-Result).
     Complete(Completion),
-    /// Words of trades are corrected (Trade-Update).
+    /// Updates a text column of trades (Trade-Update).
     Update(Update),
-    /// Cash is deposited or withdrawn.
+    /// Deposits or withdraws cash.
     Move(Movement),
-    /// The settlement day is set: the first day whose completions settle after one day.
+    /// Sets the settlement day: the first day whose completions settle after one day.
     OneDay(Day),
 }

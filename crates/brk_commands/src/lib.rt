@@ -1,4 +1,5 @@
-//! The texts of commands: what the fields of a row tell, the row that is kept of a command, and the line of its reply.
+//! The texts of commands: parsing the fields of a row, the row that is stored under a key, and the
+//! line of a reply.
 #![tactic(auto)]
 
 pub mod command;

@@ -22,7 +22,7 @@ fn stamp_text(alloc: Global, stamp: Stamp) -> Result<String, AllocError>
     String::from_str(alloc, digits.format(stamp.get().unsigned_abs()))
 }
 
-// Adds the seven numbers of an order.
+// Appends the seven numbers of an estimate.
 fn add_estimate(line: &mut String, estimate: &Estimate) -> Result<(), AllocError>
     ensures { OnOk result (string_bytes line.new ≡ string_bytes line.old ++ more_fields 44 (model.estimate_fields (estimate_of estimate.now))) }
 {
@@ -39,7 +39,7 @@ fn add_estimate(line: &mut String, estimate: &Estimate) -> Result<(), AllocError
     )
 }
 
-// The stamp of an order, its trade and the status of that.
+// Returns the stamp, the trade and the status of an order.
 fn placed_text(alloc: Global, ordered: &Ordered) -> Result<String, AllocError>
     ensures { IfOk result (λ line. string_bytes line ≡ model.line_of (decimal ordered.now.stamp ∷ decimal ordered.now.trade ∷ status_code ordered.now.status ∷ [])) }
 {
@@ -59,7 +59,7 @@ fn ordered_text(alloc: Global, ordered: &Ordered) -> Result<String, AllocError>
     Ok(line)
 }
 
-// Adds the field of a trade.
+// Appends the field of a trade.
 fn add_trade(line: &mut String, trade: Id) -> Result<(), AllocError>
     ensures { OnOk result (string_bytes line.new ≡ string_bytes line.old ++ (44 ∷ decimal trade)) }
 {
@@ -82,7 +82,7 @@ fn canceled_text(alloc: Global, stamp: Stamp) -> Result<String, AllocError>
     format!(in alloc; "{},CNCL", stamp.get().unsigned_abs())
 }
 
-/// The text of a day, YYYY-MM-DD.
+/// Returns the text of a day, YYYY-MM-DD. Fails with `Memory` only.
 pub fn day_text(alloc: Global, day: Day) -> Result<String, Fault>
     ensures text { IfOk result (λ text. string_bytes text ≡ spelling.day_text day) }
     ensures fault { OnErr result (result ≡ Err Memory) }
@@ -94,7 +94,7 @@ pub fn day_text(alloc: Global, day: Day) -> Result<String, Fault>
     Ok(text)
 }
 
-// Adds the commission, the tax and what settles.
+// Appends the commission, the tax and the settlement amount.
 fn add_dues(line: &mut String, completed: &Completed) -> Result<(), AllocError>
     ensures { OnOk result (string_bytes line.new ≡ string_bytes line.old ++ more_fields 44 (take 3 (model.completion_fields (completion_of completed.now)))) }
 {
@@ -107,14 +107,14 @@ fn add_dues(line: &mut String, completed: &Completed) -> Result<(), AllocError>
     )
 }
 
-// Adds the field of a day.
+// Appends the field of a day.
 fn add_day(line: &mut String, day: &str) -> Result<(), AllocError>
     ensures { OnOk result (string_bytes line.new ≡ string_bytes line.old ++ more_fields 44 (day.now ∷ [])) }
 {
     write!(line, ",{day}")
 }
 
-// Adds the values of the shares that were closed, and the balance.
+// Appends the buy value and the sell value of the closed shares, and the balance.
 fn add_values(line: &mut String, completed: &Completed) -> Result<(), AllocError>
     ensures { OnOk result (string_bytes line.new ≡ string_bytes line.old ++ more_fields 44 (drop 4 (model.completion_fields (completion_of completed.now)))) }
 {
@@ -161,7 +161,8 @@ fn moved_text(
     )
 }
 
-/// The fields that are told of a reply, joined by commas: the stamp first. No field holds a comma.
+/// Returns the line of a reply: its fields, the stamp first, joined by commas. Fails with `Memory`
+/// only.
 pub fn line_text(alloc: Global, reply: &Reply) -> Result<String, Fault>
     ensures line { IfOk result (λ line. string_bytes line ≡ model.line_text (reply_of reply.now)) }
     ensures fault { OnErr result (result ≡ Err Memory) }

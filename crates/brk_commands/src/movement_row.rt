@@ -1,4 +1,4 @@
-//! The texts of deposits, withdrawals and the settlement day that are stored with their keys.
+//! The rows of deposits, withdrawals and the settlement day, as they are stored under keys.
 #![tactic(auto, unfolding(brk_model::specs::Rows::row_fields))]
 
 ghost use Rattle.std.specs.Prelude.{◌≡◌, ◌∷◌, [], IfOk, OnErr, Err, codes, string_bytes};

@@ -1,4 +1,4 @@
-//! The texts of orders, feeds, cancels and results that are kept with their keys.
+//! The rows of orders, feeds, cancels and results, as they are stored under keys.
 #![tactic(auto, unfolding(brk_model::specs::Rows::row_fields))]
 
 ghost use Rattle.std.specs.Prelude.{◌≡◌, ◌∷◌, ◌++◌, [], IfOk, OnOk, codes, drop, string_bytes, take};
@@ -14,21 +14,21 @@ use brk_money::{Id, OrderType, Wide};
 use brk_orders::{Completion, Order, Tick};
 use std::alloc::{AllocError, Global};
 
-/// The word of a trade's cash account or margin.
+/// Returns the word for a trade's account: `cash` or `margin`.
 pub fn cash_word(is_cash: bool) -> &'static str
     ensures { result.now ≡ model.cash_word is_cash }
 {
     if is_cash { "cash" } else { "margin" }
 }
 
-/// The word of the end from which lots are closed.
+/// Returns the word for the end from which lots are closed: `lifo` or `fifo`.
 pub fn end_word(is_lifo: bool) -> &'static str
     ensures { result.now ≡ model.end_word is_lifo }
 {
     if is_lifo { "lifo" } else { "fifo" }
 }
 
-// The kind of an order, and what is asked for, before the price.
+// Returns the kind of an order and its first four fields: account, type, symbol and quantity.
 fn asked_text(alloc: Global, order: &Order) -> Result<String, AllocError>
     ensures { IfOk result (λ row. string_bytes row ≡ join_with_byte 31 (codes "order" ∷ take 4 (model.order_fields (order_of order.now)))) }
 {
@@ -41,7 +41,7 @@ fn asked_text(alloc: Global, order: &Order) -> Result<String, AllocError>
     )
 }
 
-// Adds the price that an order asks for; an empty field where it asks for none.
+// Appends the price that an order asks for, or an empty field if it asks for none.
 fn add_price(row: &mut String, order_type: OrderType) -> Result<(), AllocError>
     ensures { OnOk result (string_bytes row.new ≡ string_bytes row.old ++ more_fields 31 (option_map_or model.price_text (price_asked order_type) [] ∷ [])) }
 {
@@ -51,7 +51,8 @@ fn add_price(row: &mut String, order_type: OrderType) -> Result<(), AllocError>
     }
 }
 
-// Adds how an order is paid and closed, and who places it.
+// Appends the last five fields of an order: its account type, the end of its lots, and its
+// executor.
 fn add_manner(row: &mut String, order: &Order) -> Result<(), AllocError>
     ensures { OnOk result (string_bytes row.new ≡ string_bytes row.old ++ more_fields 31 (drop 5 (model.order_fields (order_of order.now)))) }
 {
@@ -66,7 +67,8 @@ fn add_manner(row: &mut String, order: &Order) -> Result<(), AllocError>
     )
 }
 
-/// The row of an order, with an empty PRICE where it asks for none.
+/// Returns the row of an order, its fields joined by byte 31. PRICE is empty if the order asks for
+/// none.
 pub fn order_text(alloc: Global, order: &Order) -> Result<String, AllocError>
     ensures { IfOk result (λ row. string_bytes row ≡ model.row_text (PlaceOrder (order_of order.now))) }
 {
@@ -76,7 +78,7 @@ pub fn order_text(alloc: Global, order: &Order) -> Result<String, AllocError>
     Ok(row)
 }
 
-// Adds the fields of a tick.
+// Appends the fields of a tick.
 fn add_tick(row: &mut String, tick: &Tick) -> Result<(), AllocError>
     ensures { OnOk result (string_bytes row.new ≡ string_bytes row.old ++ more_fields 31 (model.tick_fields (tick_of tick.now))) }
 {
@@ -89,7 +91,7 @@ fn add_tick(row: &mut String, tick: &Tick) -> Result<(), AllocError>
     )
 }
 
-/// The row of a feed of these ticks.
+/// Returns the row of a feed of these ticks, its fields joined by byte 31.
 pub fn feed_text(alloc: Global, ticks: &[Tick]) -> Result<String, AllocError>
     ensures { IfOk result (λ row. string_bytes row ≡ model.row_text (FeedTicks (ticks_of ticks.now))) }
 {
@@ -100,14 +102,14 @@ pub fn feed_text(alloc: Global, ticks: &[Tick]) -> Result<String, AllocError>
     Ok(row)
 }
 
-/// The row that cancels a trade.
+/// Returns the row that cancels a trade, its fields joined by byte 31.
 pub fn cancel_text(alloc: Global, trade: Id) -> Result<String, AllocError>
     ensures { IfOk result (λ row. string_bytes row ≡ model.row_text (CancelTrade trade)) }
 {
     format!(in alloc; "cancel\x1f{}", trade.get())
 }
 
-/// The row that completes a trade.
+/// Returns the row that completes a trade, its fields joined by byte 31.
 pub fn result_text(alloc: Global, completion: &Completion) -> Result<String, AllocError>
     ensures { IfOk result (λ row. string_bytes row ≡ model.row_text (result_of completion.now)) }
 {

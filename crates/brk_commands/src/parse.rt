@@ -103,7 +103,7 @@ fn parse_customer_tax(fields: &[&[u8]]) -> Result<Command, Refusal>
     }
 }
 
-// The command of one of the kinds of what is agreed, or of a kind after them.
+// Parses a command on terms (permission, security, charge, band, tax), or of a later kind.
 fn parse_term(alloc: Global, kind: &[u8], fields: &[&[u8]]) -> Planned<Command>
     ensures read { IfOk result (λ read. Reads command_of read (parse_by (term_readers ++ order_readers ++ result_readers ++ update_readers ++ movement_readers) (kind.now ∷ texts fields.now))) }
     ensures fault { OnErr result (result ≡ Err Memory) }
@@ -129,7 +129,7 @@ fn parse_term(alloc: Global, kind: &[u8], fields: &[&[u8]]) -> Planned<Command>
     parse_trading(alloc, kind, fields)
 }
 
-// The command of a kind that the fields after it are.
+// Parses a command of a kind from the fields after it.
 fn parse_kind(alloc: Global, kind: &[u8], fields: &[&[u8]]) -> Planned<Command>
     ensures read { IfOk result (λ read. Reads command_of read (parse_by readers (kind.now ∷ texts fields.now))) }
     ensures fault { OnErr result (result ≡ Err Memory) }
@@ -146,8 +146,8 @@ fn parse_kind(alloc: Global, kind: &[u8], fields: &[&[u8]]) -> Planned<Command>
     parse_term(alloc, kind, fields)
 }
 
-/// The command that the fields of a row are, the kind first, or the refusal of their form. An unknown kind is
-/// `BadText`.
+/// Parses the command of a row from its fields, the kind first, or returns the refusal of their
+/// form. Refuses an unknown kind with `BadText`. Fails with `Memory` only.
 pub fn parse_row(alloc: Global, fields: &[&[u8]]) -> Planned<Command>
     ensures read { IfOk result (λ read. Reads command_of read (parse_by readers (texts fields.now))) }
     ensures fault { OnErr result (result ≡ Err Memory) }

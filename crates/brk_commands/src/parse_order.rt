@@ -49,7 +49,7 @@ fn parse_result(fields: &[&[u8]]) -> Result<Command, Refusal>
     }
 }
 
-// The command of one of the kinds of orders, of what comes of them, or of a kind after them.
+// Parses an order, a feed, a cancel or a result, or a command of a later kind.
 pub(crate) fn parse_trading(alloc: Global, kind: &[u8], fields: &[&[u8]]) -> Planned<Command>
     ensures read { IfOk result (λ read. Reads command_of read (parse_by (order_readers ++ result_readers ++ update_readers ++ movement_readers) (kind.now ∷ texts fields.now))) }
     ensures fault { OnErr result (result ≡ Err Memory) }

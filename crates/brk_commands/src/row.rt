@@ -1,4 +1,4 @@
-//! The texts of commands that are kept with their keys.
+//! The rows of commands, as they are stored under keys.
 #![tactic(auto, unfolding(brk_model::specs::Rows::row_fields))]
 
 ghost use Rattle.std.specs.Prelude.{◌≡◌, IfOk, OnErr, Err, string_bytes};
@@ -120,7 +120,7 @@ fn customer_tax_text(alloc: Global, pays: &CustomerTax) -> Result<String, AllocE
     format!(in alloc; "custtax\x1f{}\x1f{}", pays.customer.get(), pays.tax.get())
 }
 
-/// The row of a record that is added.
+/// Returns the row of a reference record, its fields joined by byte 31.
 pub fn reference_text(alloc: Global, reference: &Reference) -> Result<String, AllocError>
     ensures { IfOk result (λ row. string_bytes row ≡ model.row_text (books.command_of reference.now)) }
 {
@@ -137,8 +137,8 @@ pub fn reference_text(alloc: Global, reference: &Reference) -> Result<String, Al
     }
 }
 
-/// The fields of a command's row, the kind first, joined by byte 31: the text that is kept with a key. No field holds
-/// that byte.
+/// Returns the row of a command, as it is stored under a key: its fields, the kind first, joined by
+/// byte 31. Fails with `Memory` only.
 pub fn row_text(alloc: Global, command: &Command) -> Result<String, Fault>
     ensures row { IfOk result (λ row. string_bytes row ≡ model.row_text (command_of command.now)) }
     ensures fault { OnErr result (result ≡ Err Memory) }

@@ -1,4 +1,4 @@
-//! The texts of corrections that are kept with their keys.
+//! The rows of text updates, as they are stored under keys.
 #![tactic(auto, unfolding(brk_model::specs::Rows::row_fields))]
 
 ghost use Rattle.std.specs.Prelude.{◌≡◌, ◌∷◌, ◌++◌, IfOk, OnOk, decimal, string_bytes};
@@ -11,7 +11,7 @@ use brk_orders::{Span, Update};
 use brk_ref::Symbol;
 use std::alloc::{AllocError, Global};
 
-// Adds the field of a trade.
+// Appends the field of a trade.
 fn add_trade(row: &mut String, trade: Id) -> Result<(), AllocError>
     ensures { OnOk result (string_bytes row.new ≡ string_bytes row.old ++ 31 ∷ decimal trade) }
 {
@@ -50,7 +50,7 @@ fn uptext_text(alloc: Global, symbol: &Symbol, span: Span) -> Result<String, All
     )
 }
 
-/// The row of a correction.
+/// Returns the row of a text update, its fields joined by byte 31.
 pub fn update_text(alloc: Global, update: &Update) -> Result<String, AllocError>
     ensures { IfOk result (λ row. string_bytes row ≡ model.row_text (update_of update.now)) }
 {

@@ -4,10 +4,10 @@ use brk_trade::Reply;
 /// The answer to a command.
 #[derive(Drop)]
 pub enum Answer {
-    /// It was accepted and booked.
+    /// The command was accepted and is committed.
     Done(Reply),
-    /// It was accepted before, under the same key; with the line that was told then.
+    /// The command was accepted before under the same key; with the stored reply.
     Again(String),
-    /// It was refused, and nothing was changed.
+    /// The command was refused, and nothing was changed.
     Refused(Refusal),
 }

@@ -1,4 +1,4 @@
-//! Commands that are decided on and booked.
+//! Execution of a command: it is decided on and committed with its key.
 
 ghost use Rattle.std.specs.Prelude.{IfSome};
 ghost use Rattle.std.specs.Option.{option_copied};
@@ -18,7 +18,7 @@ use brk_store::Store;
 use sqlite::Alter;
 use std::alloc::Global;
 
-// The fields of a command and of its key are in form.
+// States that a command and its key are well-formed. Proof-only: does nothing at run time.
 fn are_in_form(command: &Command, key: Option<&Key>)
     ensures command { IsInForm (command_of command.now) }
     ensures key { IfSome (key_for (option_copied key.entry)) IsKeyInForm }
@@ -37,8 +37,11 @@ fn are_in_form(command: &Command, key: Option<&Key>)
 /// (another command).
 ///
 /// Fails with `Memory` or `Store` only. A refusal, a stored reply or a fault changes nothing in the
-/// open store and records no key. After a fault, a crash may still find the command committed:
-/// retry under the same key.
+/// open store and records no key.
+///
+/// A crash exposes a state that was possible before the call, or the tables after the command;
+/// after `Done` only the latter. After a fault too, a crash may find the command committed: retry
+/// under the same key.
 pub fn book<S: Alter>(
     alloc: Global,
     store: &mut Store<S>,

@@ -1,4 +1,4 @@
-//! Commands that are decided on, each kind by its own function.
+//! Decisions on commands, each kind by its own function.
 
 ghost use Rattle.std.specs.Prelude.{IfErr};
 ghost use Rattle.brk_commands.specs.Commands.{command_of};
@@ -18,7 +18,8 @@ use brk_update_decisions::decide_update;
 use sqlite::Alter;
 use std::alloc::Global;
 
-// Decides on a command at a moment: why it is refused, or its plan.
+// Decides on a command at the clock reading `now`: returns its plan, or the refusal. Fails with
+// `Memory` or `Store` only.
 pub(crate) fn decide<S: Alter>(
     alloc: Global,
     store: &mut Store<S>,

@@ -1,4 +1,4 @@
-//! Commands that are kept under their keys, and what they are answered when they come again.
+//! Accepted commands and their replies, stored under keys and returned to retries.
 
 ghost use Rattle.std.specs.Prelude.{◌≡◌, IfOk, IfErr, OnErr, Err};
 ghost use Rattle.std.specs.Option.{option_copied};
@@ -24,7 +24,8 @@ use brk_trade::{Change, Plan};
 use sqlite::Alter;
 use std::alloc::Global;
 
-// What is kept under a key, where there is one.
+// Returns the row stored under a key, or `None` if there is no key or no row. Fails with `Memory`
+// or `Store` only.
 pub(crate) fn find_kept<S: Alter>(
     store: &mut Store<S>,
     key: Option<&Key>,
@@ -38,7 +39,8 @@ pub(crate) fn find_kept<S: Alter>(
     }
 }
 
-// The answer to a command whose key is kept already.
+// Returns the answer to a command whose key was accepted before: the stored reply if the command is
+// the same, otherwise refusal 19. Fails with `Memory` only.
 pub(crate) fn repeat(alloc: Global, command: &Command, kept: Kept) -> Result<Answer, Fault>
     ensures answer { IfOk result (λ answer. (base : Base) → repeated base (command_of command.now) (kept_of kept) ≡ (answer_of answer, base)) }
     ensures fault { OnErr result (result ≡ Err Memory) }
@@ -51,7 +53,8 @@ pub(crate) fn repeat(alloc: Global, command: &Command, kept: Kept) -> Result<Ans
     }
 }
 
-// The plan of a command with the row that keeps it under its key, where it has one.
+// Adds to the plan of a command the row that stores it under its key, if it has one. Fails with
+// `Memory` only.
 pub(crate) fn keep(
     alloc: Global,
     plan: Plan,

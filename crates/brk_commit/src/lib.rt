@@ -1,4 +1,5 @@
-//! One command booked as it is decided on, once under each key, in one transaction.
+//! Execution of one command in one transaction: it is decided on, committed if it is accepted, and
+//! accepted at most once under each key.
 #![tactic(auto)]
 
 pub mod answer;

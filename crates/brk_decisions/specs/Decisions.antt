@@ -1,4 +1,4 @@
--- What it is to decide on a command.
+-- The specification of a decision on a command, and of an estimate.
 use Rattle.std.specs.Prelude.{◌≡◌, ℕ, [], ◌∷◌, Result, Ok, Err, MatchResult}
 use Rattle.brk_money.specs.declared.refusal.Refusal.{Refusal}
 use Rattle.brk_model.specs.Base.{Base}
@@ -17,13 +17,14 @@ use Rattle.brk_plans.specs.declared.plan.Plan.{Plan}
 use Rattle.brk_book_theorems.specs.Books.{BooksInvariant}
 use Rattle.brk_trade_theorems.specs.Plans.{DoesCommand}
 
--- where the rows are the tables of a base in order, a command at a moment is decided on as its step is: its plan does it, or it is refused for the same reason
+-- The decision refines the step of the model: it returns a plan that does the command, or the
+-- refusal that the step returns. Vacuous if the rows are not the tables of a consistent base.
 abbrev pub Decides : ℕ → Command → Result Plan Refusal → Tables → Type 0
 Decides now command planned t =
     (base : Base) → BooksInvariant base → t ≡ sheets base → MatchResult planned (DoesCommand base now command) (λ refusal. step base now command ≡ Err refusal)
 
--- where the rows are the tables of a base in order, an order is estimated at what the definitions say, which is the answer to the query for it; or the
--- query is refused for the same reason
+-- The estimate equals that of the model, which is the view of its query, or the query is refused
+-- with this refusal. Vacuous if the rows are not the tables of a consistent base.
 abbrev pub Tells : Order → Result Estimate Refusal → Tables → Type 0
 Tells order planned t =
     (base : Base) → BooksInvariant base → t ≡ sheets base

@@ -1,4 +1,4 @@
--- What is found in the tables for an order.
+-- The facts in the tables that decide on an order.
 use Rattle.std.specs.Prelude.{◌≡◌, ℕ, ◌==◌, ◌+ℤ◌, ◌*ℤ◌, ℤ, pos, false, filter, find, Some, None, IfSome, option_map}
 use Rattle.brk_model.specs.Joins.{account_in, price_in, security_in}
 use Rattle.brk_model.specs.Lists.{total_by}
@@ -17,36 +17,37 @@ use Rattle.brk_book_theorems.specs.TradeReads.{band_in, permission_in, summary_i
 use Rattle.brk_decisions.specs.declared.tested.OrderFacts.{OrderFacts}
 use Rattle.brk_decisions.specs.declared.amounts.Amounts.{Amounts}
 
--- the customer with an id
+-- The customer with this id exists and is `customer`.
 abbrev pub IsCustomer : Tables → ℕ → Customer → Type 0
 IsCustomer t id customer = find (λ r. r.id == id) t.customers ≡ Some (customer_of customer)
 
--- what an order of a customer's account is tested for
+-- The facts are those of the tables for an order of the customer's account. The rate is specified
+-- only if the order's security exists.
 pub record AreTested (t : Tables) (order : Order) (customer : Customer) (tested : OrderFacts) : Type 0 where
   pub last_price : tested.last_price ≡ last_price_in t order.symbol
   pub is_permitted : tested.is_permitted ≡ permitted (customer_of customer) (permission_in t order.account order.executor.tax_id) (executor_of order.executor)
   pub charge : tested.charge ≡ charge_in t (kind_of order.order_type) customer.tier
   pub rate : IfSome (security_in t order.symbol) (λ s. tested.rate ≡ option_map (λ b. b.rate) (band_in t customer.tier (kind_of order.order_type) s.exchange order.qty))
 
--- the worth of a summary at the last price of its symbol
+-- The market value of a summary, at the last price of its symbol.
 abbrev pub worth_in : Tables → SummaryRow → ℤ
 worth_in t row = row.qty *ℤ pos (price_in t row.symbol)
 
--- the worth of what an account holds
+-- The market value of the account's summaries.
 abbrev pub worth_of : Tables → ℕ → ℤ
 worth_of t account = total_by (worth_in t) (filter (λ row. row.account == account) t.summaries)
 
--- the amounts that an order of an account is estimated by
+-- The amounts are those of the tables for the estimate of an order of the account.
 pub record AreAmounts (t : Tables) (account : AccountRow) (order : Order) (amounts : Amounts) : Type 0 where
   pub rates : amounts.rates ≡ rates_of t account.account.customer
   pub assets : amounts.assets ≡ account.balance +ℤ worth_of t account.account.id
   pub summary : amounts.summary ≡ option_map (λ r. r.qty) (summary_in t order.account order.symbol)
 
--- what is found for an order of no account
+-- The facts for an order whose account does not exist.
 abbrev pub nothing : OrderFound
 nothing = record { account = None; last_price = None; is_permitted = false; charge = None; rate = None; rates = 0; assets = pos 0; summary = None; last_trade = None }
 
--- what is found for an order of an account, but for the last trade
+-- The facts for an order of the account, except the last trade.
 abbrev pub found_of : AccountRow → OrderFacts → Amounts → OrderFound
 found_of account tested amounts = record {
   account = Some (record { broker = account.account.broker; tax_status = account.account.tax_status });
@@ -60,6 +61,7 @@ found_of account tested amounts = record {
   last_trade = None;
 }
 
--- what is found of an account's row, where this is the row of the order's account
+-- If the row is that of the order's account, the facts are those of the tables for the order's
+-- estimate.
 abbrev pub IsFoundOf : Tables → Order → AccountRow → OrderFound → Type 0
 IsFoundOf t order account found = Some (account_row_of account) ≡ account_in t order.account → IsFoundForEstimate t order found

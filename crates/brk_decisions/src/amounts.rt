@@ -1,4 +1,4 @@
-//! The amounts that an account's orders are estimated by.
+//! The amounts that the estimate of an order needs.
 
 ghost use Rattle.std.specs.Prelude.{◌≡◌, ◌+ℤ◌, ◌*ℤ◌, IfErr, IfSome, pos};
 ghost use Rattle.brk_book_theorems.specs.Reads.{rates_of};
@@ -18,18 +18,20 @@ use brk_trade::SummaryRow;
 use sqlite::Alter;
 use std::alloc::Global;
 
-/// The amounts that an order of an account is estimated by.
+/// The amounts that the estimate of an order of an account needs.
 #[derive(Clone, Copy)]
 pub struct Amounts {
     /// The sum of the tax rates that its customer pays.
     pub rates: TaxRate,
-    /// Its balance and the worth of what it holds, in cents.
+    /// Its balance plus the market value of its holdings, in cents.
     pub assets: Wide,
-    /// How many shares of the order's symbol it holds in all (HS_QTY), where it holds some.
+    /// The number of shares of the order's symbol that it holds in all (HS_QTY), or `None` if there
+    /// is no row.
     pub summary: Option<i64>,
 }
 
-// The rates that a customer pays; a sum beyond the whole is a fault of the store.
+// Returns the sum of the tax rates that a customer pays. Fails with `Memory` or `Store` only; with
+// `Store` also if the sum exceeds the greatest rate.
 pub(crate) fn find_rates<S: Alter>(
     alloc: Global,
     store: &mut Store<S>,
@@ -44,7 +46,7 @@ pub(crate) fn find_rates<S: Alter>(
     }
 }
 
-// An amount with the worth of a summary at a price.
+// Returns an amount plus the market value of a summary at a price, or `None` if it overflows.
 fn with_worth(amount: Wide, row: &SummaryRow, price: Price) -> Option<Wide>
     ensures { IfSome result (λ sum. sum ≡ amount +ℤ row.now.qty *ℤ pos price) }
 {
@@ -57,7 +59,7 @@ fn with_worth(amount: Wide, row: &SummaryRow, price: Price) -> Option<Wide>
     }
 }
 
-// An amount with the worth of a summary at the last price of its symbol.
+// Returns an amount plus the market value of a summary at the last price of its symbol.
 fn add_worth<S: Alter>(store: &mut Store<S>, amount: Wide, row: &SummaryRow) -> Result<Wide, Fault>
     ensures read { ReadPost S.Store store.old store.new result (λ sum t. sum ≡ amount +ℤ worth_in t (summary_row_of row.now)) }
     ensures fault { IfErr result MayFail }
@@ -69,7 +71,8 @@ fn add_worth<S: Alter>(store: &mut Store<S>, amount: Wide, row: &SummaryRow) -> 
     }
 }
 
-/// The worth of what an account holds at the last prices, in cents. Shares that were sold short count below 0.
+/// Returns the market value of an account's holdings at last prices, in cents. Shares sold short
+/// count below 0. Fails with `Memory` or `Store` only.
 pub fn sum_worth<S: Alter>(alloc: Global, store: &mut Store<S>, account: Id) -> Result<Wide, Fault>
     ensures read { ReadPost S.Store store.old store.new result (λ worth t. worth ≡ worth_of t account) }
     ensures fault { IfErr result MayFail }
@@ -83,7 +86,7 @@ pub fn sum_worth<S: Alter>(alloc: Global, store: &mut Store<S>, account: Id) -> 
     Ok(total)
 }
 
-// A balance with the worth of what is held.
+// Returns a balance plus a market value, or `None` if it overflows.
 fn with_balance(balance: Cents, worth: Wide) -> Option<Wide>
     ensures { IfSome result (λ assets. assets ≡ balance +ℤ worth) }
 {
@@ -93,7 +96,7 @@ fn with_balance(balance: Cents, worth: Wide) -> Option<Wide>
     }
 }
 
-// An account's balance and the worth of what it holds.
+// Returns an account's balance plus the market value of its holdings, in cents.
 fn find_assets<S: Alter>(
     alloc: Global,
     store: &mut Store<S>,
@@ -109,7 +112,8 @@ fn find_assets<S: Alter>(
     }
 }
 
-// The amounts that an order of an account is estimated by.
+// Reads the amounts that the estimate of an order of an account needs. Fails with `Memory` or
+// `Store` only.
 pub(crate) fn find_amounts<S: Alter>(
     alloc: Global,
     store: &mut Store<S>,

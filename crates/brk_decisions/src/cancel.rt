@@ -1,4 +1,4 @@
-//! Cancels of trades, decided on.
+//! Decisions on cancels of trades.
 
 ghost use Rattle.std.specs.Prelude.{◌≡◌, IfErr, option_map};
 ghost use Rattle.brk_decisions.specs.Decisions.{Decides};
@@ -13,7 +13,7 @@ use brk_trade::{Plan, plan_cancel};
 use sqlite::Alter;
 use std::alloc::Global;
 
-// The status of a trade, where there is such a trade.
+// Returns the status of a trade, or `None` if the trade does not exist.
 fn status_of<S: Alter>(store: &mut Store<S>, trade: Id) -> Result<Option<Status>, Fault>
     ensures read { ReadPost S.Store store.old store.new result (λ status t. status ≡ option_map (λ r. r.status) (trade_in t trade)) }
     ensures fault { IfErr result MayFail }
@@ -24,8 +24,10 @@ fn status_of<S: Alter>(store: &mut Store<S>, trade: Id) -> Result<Option<Status>
     }
 }
 
-/// Decides on the cancel of a trade at a moment: why it is refused, or its plan. Nothing is changed; the only faults are
-/// want of memory and the store's.
+/// Decides on the cancel of a trade at the clock reading `now`: returns its plan, or the refusal.
+/// Changes nothing.
+///
+/// Fails with `Memory` or `Store` only.
 pub fn decide_cancel<S: Alter>(
     alloc: Global,
     store: &mut Store<S>,

@@ -1,4 +1,4 @@
-//! Estimates of orders, decided on.
+//! Decisions on estimates of orders.
 
 ghost use Rattle.std.specs.Prelude.{IfErr};
 ghost use Rattle.brk_decisions.specs.Decisions.{Tells};
@@ -14,8 +14,10 @@ use brk_trade::{Estimate, plan_estimate};
 use sqlite::Alter;
 use std::alloc::Global;
 
-/// Tells what an order is estimated at (Trade-Order), or why it is refused. Nothing is changed; the only faults are want
-/// of memory and the store's, which tables that are not those of a desk are too.
+/// Returns the estimate of an order (Trade-Order), or the refusal. Changes nothing.
+///
+/// Fails with `Memory` or `Store` only; with `Store` also if a row that another row names does not
+/// exist.
 pub fn decide_estimate<S: Alter>(
     alloc: Global,
     store: &mut Store<S>,

@@ -1,4 +1,4 @@
-//! Feeds of the market, decided on.
+//! Decisions on market feeds.
 
 ghost use Rattle.std.specs.Prelude.{◌≡◌, IfErr, IfSome, option_map};
 ghost use Rattle.brk_trade_theorems.specs.TradePlans.{AreQuotes, IsQuote};
@@ -18,8 +18,9 @@ use brk_trade::{Plan, Quote, has_no_quote, plan_feed, quote_with, span_of};
 use sqlite::Alter;
 use std::alloc::Global;
 
-// The quote of a tick's symbol, where it has a last trade: of the requests that wait, those that some price of the feed's
-// ticks may trigger, by a selection for each type.
+// Returns the quote of a tick's symbol, or `None` if the symbol has no last trade. The quote has
+// the pending requests that some price of the feed's ticks may trigger, read by one selection for
+// each type.
 fn quote_of<S: Alter>(
     alloc: Global,
     store: &mut Store<S>,
@@ -47,7 +48,7 @@ fn quote_of<S: Alter>(
     Ok(Some(quote))
 }
 
-// The last stamp, and the quotes of the symbols of ticks, one for each symbol that has a last trade.
+// Returns the last stamp, and one quote for each symbol of the ticks that has a last trade.
 fn read_market<S: Alter>(
     alloc: Global,
     store: &mut Store<S>,
@@ -68,8 +69,9 @@ fn read_market<S: Alter>(
     Ok((last, quotes))
 }
 
-/// Decides on a feed at a moment: why it is refused, or its plan. Nothing is changed; the only faults are want of memory
-/// and the store's.
+/// Decides on a feed at the clock reading `now`: returns its plan, or the refusal. Changes nothing.
+///
+/// Fails with `Memory` or `Store` only.
 pub fn decide_feed<S: Alter>(
     alloc: Global,
     store: &mut Store<S>,

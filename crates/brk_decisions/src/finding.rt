@@ -1,4 +1,4 @@
-//! What the tables hold that decides on a record.
+//! Reads of the facts that decide on a reference record.
 
 ghost use Rattle.std.specs.Prelude.{◌≡◌, IfErr};
 ghost use Rattle.brk_model.specs.Run.{MayFail};
@@ -17,7 +17,7 @@ use brk_trade::{Reference, ReferenceFacts};
 use sqlite::Alter;
 use std::alloc::Global;
 
-// What is found where there is nothing.
+// The facts if nothing is found.
 pub(crate) const NOTHING: ReferenceFacts = ReferenceFacts {
     same_id: false,
     same_tax_id: false,
@@ -30,6 +30,7 @@ pub(crate) const NOTHING: ReferenceFacts = ReferenceFacts {
     rates: None,
 };
 
+// Returns true if the broker exists.
 fn is_broker_there<S: Alter>(store: &mut Store<S>, id: Id) -> Result<bool, Fault>
     ensures read { ReadPost S.Store store.old store.new result (λ there t. there ≡ has_broker t id) }
     ensures fault { IfErr result MayFail }
@@ -37,6 +38,7 @@ fn is_broker_there<S: Alter>(store: &mut Store<S>, id: Id) -> Result<bool, Fault
     Ok(store.broker(id)?.is_some())
 }
 
+// Returns true if the customer exists.
 pub(crate) fn is_customer_there<S: Alter>(store: &mut Store<S>, id: Id) -> Result<bool, Fault>
     ensures read { ReadPost S.Store store.old store.new result (λ there t. there ≡ has_customer t id) }
     ensures fault { IfErr result MayFail }
@@ -44,6 +46,7 @@ pub(crate) fn is_customer_there<S: Alter>(store: &mut Store<S>, id: Id) -> Resul
     Ok(store.customer(id)?.is_some())
 }
 
+// Returns true if a customer has the tax id.
 fn is_tax_id_there<S: Alter>(store: &mut Store<S>, tax_id: &TaxId) -> Result<bool, Fault>
     ensures read { ReadPost S.Store store.old store.new result (λ there t. there ≡ has_tax_id t tax_id.now) }
     ensures fault { IfErr result MayFail }
@@ -51,6 +54,7 @@ fn is_tax_id_there<S: Alter>(store: &mut Store<S>, tax_id: &TaxId) -> Result<boo
     Ok(store.customer_by_tax_id(tax_id)?.is_some())
 }
 
+// Returns true if the account exists.
 pub(crate) fn is_account_there<S: Alter>(store: &mut Store<S>, id: Id) -> Result<bool, Fault>
     ensures read { ReadPost S.Store store.old store.new result (λ there t. there ≡ has_account t id) }
     ensures fault { IfErr result MayFail }
@@ -58,6 +62,7 @@ pub(crate) fn is_account_there<S: Alter>(store: &mut Store<S>, id: Id) -> Result
     Ok(store.account(id)?.is_some())
 }
 
+// Returns the number of accounts of a customer.
 fn count_accounts<S: Alter>(
     alloc: Global,
     store: &mut Store<S>,
@@ -69,6 +74,7 @@ fn count_accounts<S: Alter>(
     Ok(store.accounts_of(alloc, customer)?.len())
 }
 
+// Reads the facts that decide on a broker.
 fn find_for_broker<S: Alter>(store: &mut Store<S>, broker: &Broker) -> Result<ReferenceFacts, Fault>
     ensures read { ReadPost S.Store store.old store.new result (λ found t. found.same_id ≡ has_broker t broker.now.id) }
     ensures fault { IfErr result MayFail }
@@ -77,6 +83,7 @@ fn find_for_broker<S: Alter>(store: &mut Store<S>, broker: &Broker) -> Result<Re
     Ok(ReferenceFacts { same_id, ..NOTHING })
 }
 
+// Reads the facts that decide on a customer.
 fn find_for_customer<S: Alter>(
     store: &mut Store<S>,
     customer: &Customer,
@@ -93,6 +100,7 @@ fn find_for_customer<S: Alter>(
     })
 }
 
+// Reads the facts that decide on an account.
 fn find_for_account<S: Alter>(
     alloc: Global,
     store: &mut Store<S>,
@@ -114,6 +122,7 @@ fn find_for_account<S: Alter>(
     })
 }
 
+// Reads the facts that decide on a security.
 fn find_for_security<S: Alter>(
     store: &mut Store<S>,
     symbol: &Symbol,
@@ -125,6 +134,7 @@ fn find_for_security<S: Alter>(
     Ok(ReferenceFacts { same_id, ..NOTHING })
 }
 
+// Reads the facts that decide on a tax rate.
 fn find_for_tax<S: Alter>(store: &mut Store<S>, id: Id) -> Result<ReferenceFacts, Fault>
     ensures read { ReadPost S.Store store.old store.new result (λ found t. found.same_id ≡ has_tax_rate t id) }
     ensures fault { IfErr result MayFail }
@@ -133,7 +143,7 @@ fn find_for_tax<S: Alter>(store: &mut Store<S>, id: Id) -> Result<ReferenceFacts
     Ok(ReferenceFacts { same_id, ..NOTHING })
 }
 
-/// What the tables hold that decides on a record.
+/// Reads the facts that decide on a reference record. Fails with `Memory` or `Store` only.
 pub(crate) fn find_for<S: Alter>(
     alloc: Global,
     store: &mut Store<S>,

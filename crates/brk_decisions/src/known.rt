@@ -1,4 +1,4 @@
-//! What a row names, which has to be there: where it is not, that is a fault of the store.
+//! Reads of rows that another row names. If the row does not exist, the fault is `Store`.
 
 ghost use Rattle.std.specs.Prelude.{◌≡◌, IfErr};
 ghost use Rattle.brk_decisions.specs.Finds.{IsCustomer};
@@ -14,7 +14,7 @@ use brk_store::Store;
 use brk_trade::BrokerNumbers;
 use sqlite::Alter;
 
-// The customer with an id; an id of none is a fault of the store.
+// Returns the customer with an id. Fails with `Store` if there is none.
 pub(crate) fn known_customer<S: Alter>(store: &mut Store<S>, id: Id) -> Result<Customer, Fault>
     ensures read { ReadPost S.Store store.old store.new result (λ customer t. IsCustomer t id customer) }
     ensures fault { IfErr result MayFail }
@@ -25,7 +25,7 @@ pub(crate) fn known_customer<S: Alter>(store: &mut Store<S>, id: Id) -> Result<C
     }
 }
 
-// The account with an id; an id of none is a fault of the store.
+// Returns the account with an id. Fails with `Store` if there is none.
 pub(crate) fn known_account<S: Alter>(store: &mut Store<S>, id: Id) -> Result<AccountRow, Fault>
     ensures read { ReadPost S.Store store.old store.new result (λ account t. IsAccount t id account) }
     ensures fault { IfErr result MayFail }
@@ -36,7 +36,7 @@ pub(crate) fn known_account<S: Alter>(store: &mut Store<S>, id: Id) -> Result<Ac
     }
 }
 
-// The numbers of the broker with an id; an id of none is a fault of the store.
+// Returns the totals of the broker with an id. Fails with `Store` if there is none.
 pub(crate) fn known_numbers<S: Alter>(store: &mut Store<S>, id: Id) -> Result<BrokerNumbers, Fault>
     ensures read { ReadPost S.Store store.old store.new result (λ numbers t. AreNumbers t id numbers) }
     ensures fault { IfErr result MayFail }
@@ -47,7 +47,7 @@ pub(crate) fn known_numbers<S: Alter>(store: &mut Store<S>, id: Id) -> Result<Br
     }
 }
 
-// The last price of a symbol; a symbol of none is a fault of the store.
+// Returns the last price of a symbol. Fails with `Store` if there is none.
 pub(crate) fn known_price<S: Alter>(store: &mut Store<S>, symbol: &Symbol) -> Result<Price, Fault>
     ensures read { ReadPost S.Store store.old store.new result (λ price t. price ≡ price_in t symbol.now) }
     ensures fault { IfErr result MayFail }
@@ -58,7 +58,7 @@ pub(crate) fn known_price<S: Alter>(store: &mut Store<S>, symbol: &Symbol) -> Re
     }
 }
 
-// The security with a symbol; a symbol of none is a fault of the store.
+// Returns the security with a symbol. Fails with `Store` if there is none.
 pub(crate) fn known_security<S: Alter>(
     store: &mut Store<S>,
     symbol: &Symbol,

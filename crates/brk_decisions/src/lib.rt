@@ -1,4 +1,4 @@
-//! What is decided on a command: the tables are read, and the command is refused or planned.
+//! Decisions on commands: each reads the tables and returns a plan or a refusal.
 #![tactic(auto)]
 
 pub mod amounts;

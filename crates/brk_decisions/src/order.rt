@@ -1,4 +1,4 @@
-//! Orders, decided on.
+//! Decisions on orders.
 
 ghost use Rattle.std.specs.Prelude.{IfErr};
 ghost use Rattle.brk_decisions.specs.Decisions.{Decides};
@@ -15,8 +15,11 @@ use brk_trade::{Plan, plan_order};
 use sqlite::Alter;
 use std::alloc::Global;
 
-/// Decides on an order at a moment (Trade-Order): why it is refused, or its plan. Nothing is changed; the only faults
-/// are want of memory and the store's, which tables that are not those of a desk are too.
+/// Decides on an order at the clock reading `now` (Trade-Order): returns its plan, or the refusal.
+/// Changes nothing.
+///
+/// Fails with `Memory` or `Store` only; with `Store` also if a row that another row names does not
+/// exist.
 pub fn decide_order<S: Alter>(
     alloc: Global,
     store: &mut Store<S>,

@@ -1,4 +1,4 @@
-//! What the tables hold that decides on an order.
+//! Reads of the facts that decide on an order.
 
 ghost use Rattle.std.specs.Prelude.{◌≡◌, IfErr};
 ghost use Rattle.brk_trade_theorems.specs.OrderPlans.{IsFoundForEstimate, IsFoundForOrder};
@@ -17,7 +17,7 @@ use brk_trade::{OrderAccount, OrderFound};
 use sqlite::Alter;
 use std::alloc::Global;
 
-// What is found where there is no account.
+// Returns the facts for an order whose account does not exist.
 fn nothing() -> OrderFound
     ensures { result ≡ nothing }
 {
@@ -34,7 +34,7 @@ fn nothing() -> OrderFound
     }
 }
 
-// What is found for an order of an account, but for the last trade.
+// Returns the facts for an order of the account, except the last trade.
 fn found_of(account: &AccountRow, tested: OrderFacts, amounts: Amounts) -> OrderFound
     ensures { result ≡ found_of account.now tested amounts }
 {
@@ -54,7 +54,7 @@ fn found_of(account: &AccountRow, tested: OrderFacts, amounts: Amounts) -> Order
     }
 }
 
-// What decides on the estimate of an order of an account.
+// Reads the facts that decide on the estimate of an order of an account.
 fn find_of_account<S: Alter>(
     alloc: Global,
     store: &mut Store<S>,
@@ -70,7 +70,7 @@ fn find_of_account<S: Alter>(
     Ok(found_of(account, tested, amounts))
 }
 
-/// What the tables hold that decides on the estimate of an order.
+/// Reads the facts that decide on the estimate of an order. Fails with `Memory` or `Store` only.
 pub(crate) fn find_for_estimate<S: Alter>(
     alloc: Global,
     store: &mut Store<S>,
@@ -88,7 +88,7 @@ pub(crate) fn find_for_estimate<S: Alter>(
     }
 }
 
-/// What the tables hold that decides on an order.
+/// Reads the facts that decide on an order. Fails with `Memory` or `Store` only.
 pub(crate) fn find_for_order<S: Alter>(
     alloc: Global,
     store: &mut Store<S>,

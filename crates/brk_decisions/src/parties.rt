@@ -1,4 +1,4 @@
-//! The account of a trade, with what its customer and its broker tell of its results.
+//! The facts of a trade's account, its customer and its broker that decide on a result.
 
 ghost use Rattle.std.specs.Prelude.{IfErr, IfSome};
 ghost use Rattle.brk_decisions.specs.ResultFinds.{AreParties};
@@ -16,11 +16,11 @@ use brk_trade::{BrokerNumbers, ResultAccount};
 use sqlite::Alter;
 use std::alloc::Global;
 
-/// The account of a trade, with what its customer and its broker tell of its results.
+/// The facts of a trade's account, its customer and its broker that decide on a result.
 #[derive(Clone, Copy)]
 pub struct Parties {
     pub account: ResultAccount,
-    /// The numbers of the account's broker.
+    /// The totals of the account's broker.
     pub broker: BrokerNumbers,
     /// The tier of the account's customer.
     pub tier: Tier,
@@ -28,7 +28,7 @@ pub struct Parties {
     pub rates: TaxRate,
 }
 
-// An account with what its customer and its broker tell of the results of its trades.
+// Reads the facts of an account, its customer and its broker.
 fn parties_of<S: Alter>(
     alloc: Global,
     store: &mut Store<S>,
@@ -53,7 +53,8 @@ fn parties_of<S: Alter>(
     })
 }
 
-/// The account with an id, with what its customer and its broker tell of the results of its trades.
+/// Reads the facts of the account with an id, its customer and its broker. Fails with `Memory` or
+/// `Store` only; with `Store` also if one of them does not exist.
 pub(crate) fn find_parties<S: Alter>(
     alloc: Global,
     store: &mut Store<S>,

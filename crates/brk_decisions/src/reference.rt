@@ -1,4 +1,4 @@
-//! Records of reference data, decided on.
+//! Decisions on reference records.
 
 ghost use Rattle.std.specs.Prelude.{IfErr};
 ghost use Rattle.brk_plans.specs.Commands.{command_of};
@@ -13,8 +13,10 @@ use brk_trade::{Plan, Reference, plan_reference};
 use sqlite::Alter;
 use std::alloc::Global;
 
-/// Decides on a record of reference data at a moment: why it is refused, or its plan. Nothing is changed; the only
-/// faults are want of memory and the store's.
+/// Decides on a reference record at the clock reading `now`: returns its plan, or the refusal.
+/// Changes nothing.
+///
+/// Fails with `Memory` or `Store` only.
 pub fn decide_reference<S: Alter>(
     alloc: Global,
     store: &mut Store<S>,

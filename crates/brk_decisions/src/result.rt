@@ -1,4 +1,4 @@
-//! Results of trades, decided on.
+//! Decisions on results of trades.
 
 ghost use Rattle.std.specs.Prelude.{IfErr, IfOk, MatchResult};
 ghost use Rattle.sqlite.specs.Held.{state};
@@ -21,7 +21,8 @@ use brk_trade::{Plan, ResultFound, plan_result};
 use sqlite::Alter;
 use std::alloc::Global;
 
-// Plans a result by what was found for it, and by the lots that its trade meets, as far as they are asked for.
+// Plans a result from the facts that were found and the lots of its trade's position, which are
+// read only as far as they are asked for.
 fn plan_found<S: Alter>(
     alloc: Global,
     store: &mut Store<S>,
@@ -50,8 +51,11 @@ fn plan_found<S: Alter>(
     }
 }
 
-/// Decides on a result at a moment (Trade-Result): why it is refused, or its plan. Nothing is changed; the only faults
-/// are want of memory and the store's, which tables that are not those of a desk are too.
+/// Decides on a result at the clock reading `now` (Trade-Result): returns its plan, or the refusal.
+/// Changes nothing.
+///
+/// Fails with `Memory` or `Store` only; with `Store` also if a row that another row names does not
+/// exist.
 pub fn decide_result<S: Alter>(
     alloc: Global,
     store: &mut Store<S>,

@@ -1,4 +1,4 @@
-//! What the tables hold that decides on a result.
+//! Reads of the facts that decide on a result.
 
 ghost use Rattle.std.specs.Prelude.{◌<◌, IfErr, IfOk, IfSome};
 ghost use Rattle.brk_decisions.specs.ResultFinds.{IsFoundAt, IsFoundOf, IsListedAs, IsPosting};
@@ -17,16 +17,16 @@ use brk_trade::{ResultFound, TradeRow};
 use sqlite::Alter;
 use std::alloc::Global;
 
-/// What is told of a trade by its security.
+/// The facts of a trade's security that decide on a result.
 #[derive(Drop)]
 pub struct SecurityFacts {
     /// The name of the security.
     pub name: Name,
-    /// The rate of the band that the trade's quantity is in, where there is one.
+    /// The rate of the band of the trade's quantity, or `None` if there is none.
     pub rate: Option<Rate>,
 }
 
-// What is told by its security of a trade whose customer has a tier.
+// Reads the facts of a trade's security, for a customer's tier.
 fn find_listed<S: Alter>(
     alloc: Global,
     store: &mut Store<S>,
@@ -71,7 +71,7 @@ fn find_posting<S: Alter>(store: &mut Store<S>) -> Result<Posting, Fault>
     Ok(Posting { rule, next })
 }
 
-// What is found for a result of a trade that is there.
+// Reads the facts that decide on a result of a trade that exists.
 fn find_of_trade<S: Alter>(
     alloc: Global,
     store: &mut Store<S>,
@@ -99,8 +99,9 @@ fn find_of_trade<S: Alter>(
     })
 }
 
-/// What the tables hold that decides on a result of a trade; none where there is no such trade. An account, a customer, a
-/// broker or a security of the trade that is not there is a fault of the store.
+/// Reads the facts that decide on a result of a trade, or returns `None` if the trade does not
+/// exist. Fails with `Memory` or `Store` only; with `Store` also if its account, customer, broker
+/// or security does not exist, or if no number is left for a cash row.
 pub(crate) fn find_for_result<S: Alter>(
     alloc: Global,
     store: &mut Store<S>,

@@ -1,4 +1,4 @@
-//! How many shares of a security an account holds in all.
+//! The number of shares of a security that an account holds in all.
 
 ghost use Rattle.std.specs.Prelude.{◌≡◌, IfErr, option_map};
 ghost use Rattle.brk_book_theorems.specs.TradeReads.{summary_in};
@@ -11,14 +11,14 @@ use brk_store::Store;
 use brk_trade::SummaryRow;
 use sqlite::Alter;
 
-// The number of shares in a summary.
+// Returns the number of shares of a summary.
 fn qty_of(summary: &SummaryRow) -> i64
     ensures { result ≡ summary.now.qty }
 {
     summary.qty
 }
 
-// The number of shares in a summary, where there is one.
+// Returns the number of shares of a summary, or `None` if there is none.
 fn shares_in(summary: Option<SummaryRow>) -> Option<i64>
     ensures { result ≡ option_map (λ r. r.qty) summary }
 {
@@ -31,7 +31,8 @@ fn shares_in(summary: Option<SummaryRow>) -> Option<i64>
     }
 }
 
-// How many shares of a security an account holds in all, where it holds some.
+// Returns the number of shares of a security that an account holds in all, or `None` if there is no
+// row.
 pub(crate) fn find_summary<S: Alter>(
     store: &mut Store<S>,
     account: Id,

@@ -1,4 +1,4 @@
-//! What the tables hold that decides on what is agreed: permissions, securities, charges, bands and taxes.
+//! Reads of the facts that decide on terms: permissions, securities, charges, bands and taxes.
 
 ghost use Rattle.std.specs.Prelude.{◌≡◌, ◌==◌, ◌≤◌, IfErr, SomeIff, Some, filter, map};
 ghost use Rattle.brk_trade_theorems.specs.Found.{IsFoundForTax};
@@ -16,6 +16,7 @@ use brk_trade::ReferenceFacts;
 use sqlite::Alter;
 use std::alloc::Global;
 
+// Returns true if the account has a permission for the tax id.
 fn is_permission_there<S: Alter>(
     store: &mut Store<S>,
     account: Id,
@@ -27,6 +28,7 @@ fn is_permission_there<S: Alter>(
     Ok(store.permission(account, tax_id)?.is_some())
 }
 
+// Returns true if the security exists.
 pub(crate) fn is_security_there<S: Alter>(
     store: &mut Store<S>,
     symbol: &Symbol,
@@ -37,6 +39,7 @@ pub(crate) fn is_security_there<S: Alter>(
     Ok(store.security(symbol)?.is_some())
 }
 
+// Returns true if the charge exists.
 pub(crate) fn is_charge_there<S: Alter>(
     store: &mut Store<S>,
     kind: TradeType,
@@ -48,6 +51,7 @@ pub(crate) fn is_charge_there<S: Alter>(
     Ok(store.charge(kind, tier)?.is_some())
 }
 
+// Returns true if a band shares a quantity with the given band.
 pub(crate) fn is_overlap_there<S: Alter>(
     alloc: Global,
     store: &mut Store<S>,
@@ -60,6 +64,7 @@ pub(crate) fn is_overlap_there<S: Alter>(
     Ok(overlaps(&bands, band))
 }
 
+// Returns true if the tax exists.
 pub(crate) fn is_tax_there<S: Alter>(store: &mut Store<S>, id: Id) -> Result<bool, Fault>
     ensures read { ReadPost S.Store store.old store.new result (λ there t. there ≡ has_tax_rate t id) }
     ensures fault { IfErr result MayFail }
@@ -67,6 +72,7 @@ pub(crate) fn is_tax_there<S: Alter>(store: &mut Store<S>, id: Id) -> Result<boo
     Ok(store.tax_rate(id)?.is_some())
 }
 
+// Returns the rate of a tax, or `None` if the tax does not exist.
 fn find_rate<S: Alter>(store: &mut Store<S>, tax: Id) -> Result<Option<TaxRate>, Fault>
     ensures read { ReadPost S.Store store.old store.new result (λ rate t. rate ≡ rate_of t tax) }
     ensures fault { IfErr result MayFail }
@@ -77,6 +83,7 @@ fn find_rate<S: Alter>(store: &mut Store<S>, tax: Id) -> Result<Option<TaxRate>,
     }
 }
 
+// Returns true if the customer pays the tax.
 fn is_tax_paid<S: Alter>(store: &mut Store<S>, customer: Id, tax: Id) -> Result<bool, Fault>
     ensures read { ReadPost S.Store store.old store.new result (λ there t. there ≡ pays_tax t customer tax) }
     ensures fault { IfErr result MayFail }
@@ -84,7 +91,7 @@ fn is_tax_paid<S: Alter>(store: &mut Store<S>, customer: Id, tax: Id) -> Result<
     Ok(store.customer_tax(customer, tax)?.is_some())
 }
 
-// The taxes that a customer pays.
+// Returns the taxes that a customer pays. Fails with `Store` also if one of them does not exist.
 fn taxes_of<S: Alter>(alloc: Global, store: &mut Store<S>, customer: Id) -> Result<Vec<Tax>, Fault>
     ensures read { ReadPost S.Store store.old store.new result (λ taxes t.
         map (λ tax. Some (tax_of tax)) taxes.items ≡ map (λ r. tax_rate_of t r.tax) (filter (λ r. r.customer == customer) t.customer_taxes)) }
@@ -101,7 +108,7 @@ fn taxes_of<S: Alter>(alloc: Global, store: &mut Store<S>, customer: Id) -> Resu
     Ok(taxes)
 }
 
-// The sum of the rates that a customer pays.
+// Returns the sum of the tax rates that a customer pays, or `None` if it exceeds the greatest rate.
 pub(crate) fn sum_rates<S: Alter>(
     alloc: Global,
     store: &mut Store<S>,
@@ -114,6 +121,7 @@ pub(crate) fn sum_rates<S: Alter>(
     Ok(tax_sum(&taxes))
 }
 
+// Reads the facts that decide on a permission.
 pub(crate) fn find_for_permission<S: Alter>(
     store: &mut Store<S>,
     permission: &Permission,
@@ -131,6 +139,7 @@ pub(crate) fn find_for_permission<S: Alter>(
     })
 }
 
+// Reads the facts that decide on a charge.
 pub(crate) fn find_for_charge<S: Alter>(
     store: &mut Store<S>,
     charge: &Charge,
@@ -142,6 +151,7 @@ pub(crate) fn find_for_charge<S: Alter>(
     Ok(ReferenceFacts { same_id, ..NOTHING })
 }
 
+// Reads the facts that decide on a band.
 pub(crate) fn find_for_band<S: Alter>(
     alloc: Global,
     store: &mut Store<S>,
@@ -157,6 +167,7 @@ pub(crate) fn find_for_band<S: Alter>(
     })
 }
 
+// Reads the facts that decide on a customer's tax.
 pub(crate) fn find_for_customer_tax<S: Alter>(
     alloc: Global,
     store: &mut Store<S>,

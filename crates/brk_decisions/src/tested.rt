@@ -1,4 +1,4 @@
-//! What an order of an account that is there is tested for.
+//! Reads of the facts that test an order of an account that exists.
 
 ghost use Rattle.std.specs.Prelude.{◌≡◌, IfErr, IfSome, option_map};
 ghost use Rattle.brk_money.specs.OrderTypes.{kind_of};
@@ -18,20 +18,20 @@ use brk_store::Store;
 use sqlite::Alter;
 use std::alloc::Global;
 
-/// What an order of an account that is there is tested for.
+/// The facts that test an order of an account that exists.
 #[derive(Clone, Copy)]
 pub struct OrderFacts {
-    /// The last price of its security, where there is such a security.
+    /// The last price of its security, or `None` if the security does not exist.
     pub last_price: Option<Price>,
-    /// Whether its executor may order for the account.
+    /// True if its executor may order for the account.
     pub is_permitted: bool,
-    /// The charge of its type and the customer's tier, where there is one.
+    /// The charge of its type and the customer's tier, or `None` if there is none.
     pub charge: Option<ChargeAmount>,
-    /// The rate of the band that its quantity is in, where there is one.
+    /// The rate of the band of its quantity, or `None` if there is none.
     pub rate: Option<Rate>,
 }
 
-// The last price of a symbol.
+// Returns the last price of a symbol, or `None` if there is none.
 pub(crate) fn find_price<S: Alter>(
     store: &mut Store<S>,
     symbol: &Symbol,
@@ -45,7 +45,7 @@ pub(crate) fn find_price<S: Alter>(
     }
 }
 
-// Whether an executor may order for an account of a customer.
+// Returns true if an executor may order for an account of a customer.
 fn find_permission<S: Alter>(
     store: &mut Store<S>,
     account: Id,
@@ -60,7 +60,7 @@ fn find_permission<S: Alter>(
     Ok(permitted(customer, permission.as_slice(), executor))
 }
 
-// The charge of a type and a tier.
+// Returns the charge of a type and a tier, or `None` if there is none.
 fn find_charge<S: Alter>(
     store: &mut Store<S>,
     kind: TradeType,
@@ -75,7 +75,7 @@ fn find_charge<S: Alter>(
     }
 }
 
-// The rate of a quantity for a tier, a type and an exchange.
+// Returns the rate of a quantity for a tier, a type and an exchange, or `None` if there is none.
 pub(crate) fn find_band_rate<S: Alter>(
     alloc: Global,
     store: &mut Store<S>,
@@ -91,7 +91,8 @@ pub(crate) fn find_band_rate<S: Alter>(
     Ok(band_for(&bands, qty))
 }
 
-// The rate of an order of a tier, where its security is listed.
+// Returns the rate of an order for a tier, or `None` if there is none or its security does not
+// exist.
 fn find_order_rate<S: Alter>(
     alloc: Global,
     store: &mut Store<S>,
@@ -118,7 +119,7 @@ fn find_order_rate<S: Alter>(
     }
 }
 
-// What an order of an account is tested for.
+// Reads the facts that test an order of an account that exists.
 pub(crate) fn find_tested<S: Alter>(
     alloc: Global,
     store: &mut Store<S>,

@@ -1,4 +1,4 @@
--- What calls are in the abstract brokerage.
+-- The call of the model that a call represents.
 use Rattle.std.specs.Prelude.{ℕ}
 use Rattle.brk_commit.specs.Keys.{key_for}
 use Rattle.brk_commands.specs.Commands.{command_of}
@@ -7,7 +7,7 @@ use Rattle.brk_view.specs.Queries.{query_of}
 use Rattle.brk_desk.specs.declared.call.Call.{Call}
 use Rattle.brk_desk.specs.declared.call.Call.TheVariants as call
 
--- a call at its moment
+-- The call of the model that a call represents, with its clock reading.
 abbrev pub call_of : ℕ × Call → ℕ × run.Call
 call_of (now, call.Do command key) = (now, run.Do (command_of command) (key_for key))
 call_of (now, call.Ask query) = (now, run.Ask (query_of query))

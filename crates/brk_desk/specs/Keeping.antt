@@ -1,4 +1,4 @@
--- The books behind a desk, and what its calls do to them.
+-- The postconditions of a desk's calls: a query, a run and an audit.
 use Rattle.brk_model.specs.Form.{has_texts}
 use Rattle.std.specs.Prelude.{◌≡◌, ℕ, List, None, map, length, Result, IfOk, IfErr, IsTrue}
 use Rattle.std.specs.List.{AllByRecursion}
@@ -37,53 +37,65 @@ use Rattle.brk_desk.specs.declared.call.Call.{Call}
 use Rattle.brk_desk.specs.declared.call.Call.TheVariants as call
 use Rattle.brk_desk.specs.declared.call.Outcome.{Outcome}
 
--- a query is answered with its view of each base whose books were kept, or fails; nothing is changed, whatever the answer; all of it as far as the disk returns what was written
+-- The postcondition of a query, which changes nothing: the result equals that of the model for
+-- every base that the store represented, or is a fault.
 pub record AskPost {S : Type 0} (g : Ghosts S) (old new : Held S) (query : Query) (result : Result (Result View Refusal) Fault) : Type 0 where
+  -- At `Ok` the result equals that of the model. Says nothing if the disk assumption fails.
   pub answered : HasCleanDisk (state g new) → IfOk result (λ seen. (base : Base) → Represents g old base → ask base query ≡ seen_of seen)
+  -- The store represents every base that it represented, whatever the result.
   pub kept : StillKeeps g old new
-  -- it fails for want of memory or for its store
+  -- The error is `Memory` or `Store`.
   pub fault : IfErr result MayFail
-  -- a crash leaves what it could leave before
+  -- A crash exposes only states that were possible before the call.
   pub survives : Survives (state g old) (state g new) (λ _. ⊥)
-  -- the whole database is as it was
+  -- The database was open and is unchanged, if it is open after the call.
   pub same : HasCleanDisk (state g new) → IsTrue (state g new).is_open → IsSame (state g old) (state g new)
-  -- a disk that returned what was written had done so before
+  -- If the disk assumption holds after the call, it held before.
   pub clean : HasCleanDisk (state g new) → HasCleanDisk (state g old)
 
--- a call at a moment has this outcome
+-- The call at the clock reading `now` satisfies its postcondition with the result that this outcome
+-- carries.
 abbrev pub OutcomePost : {S : Type 0} → Ghosts S → Held S → Held S → ℕ → Call → Outcome → Type 0
 OutcomePost g old new now (call.Do command key) outcome =
     (result : Result desk.Answer Fault) × (outcome ≡ outcome_for result) × CallPost g old new now (command_of command) (key_for key) result
 OutcomePost g old new now (call.Ask query) outcome =
     (result : Result (Result View Refusal) Fault) × (outcome ≡ outcome_seen result) × AskPost g old new (query_of query) result
 
--- calls at their moments have these outcomes, one each: over each base whose books were kept those of a run, and the books of the base that it leads to are kept
+-- The postcondition of a run, with one outcome for each call. For every base that the store
+-- represented, the calls and outcomes are a run of the model, and the store represents the base
+-- after it.
 pub record RunPost {S : Type 0} (g : Ghosts S) (old new : Held S) (calls : List (ℕ × Call)) (outcomes : List Outcome) : Type 0 where
   pub count : length outcomes ≡ length calls
   pub ran : HasCleanDisk (state g new) → (base : Base) → Represents g old base
       → (after : Base) × Represents g new after × Run base (map call_of calls) (map outcome_of outcomes) after
-  -- no fault of the disk is forgotten, and nothing else shuts the store
+  -- No fault of the disk is lost from the count, and only such a fault closes the store.
   pub survives : Survives (state g old) (state g new) (λ _. Unit {0})
-  -- where a crash before the calls leaves the tables of that base alone, one after them leaves those of a base with all that was acknowledged, and at most one command more, that was answered with a fault since
+  -- Crash safety: if a crash before the calls exposes only the tables of `base`, a crash after them
+  -- exposes the tables of a base that `MayBeRecovered` allows. This base has every acknowledged
+  -- command, and at most one more that returned a fault, with no change acknowledged after it.
   pub leaves : HasCleanDisk (state g new) → (base : Base) → Represents g old base → OnlyCrashState g old (AreTreesOf (sheets base))
       → OnlyCrashState g new (λ trees. (after : Base) × MayBeRecovered base (map call_of calls) (map outcome_of outcomes) after × AreTreesOf (sheets after) trees × IsTrue (has_texts (sheets after)))
+  -- If the disk assumption holds after the calls, it held before.
   pub clean : HasCleanDisk (state g new) → HasCleanDisk (state g old)
-  -- the commands and their keys are in form
+  -- The commands and their keys are well-formed.
   pub in_form : AllByRecursion IsCallInForm (map call_of calls)
 
--- calls at their moments lead from a base whose books were kept to one whose books are kept, with these outcomes: its tables pass an audit
--- and add up, and each accepted result was taxed by the very shares that it closed
+-- The calls lead from `base` to a base that the store represents. The tables of this base pass an
+-- audit and add up, and each accepted result was taxed on exactly the shares that it closed.
 abbrev pub ReachesAuditedState : {S : Type 0} → Ghosts S → Held S → Base → List (ℕ × Call) → List Outcome → Type 0
 ReachesAuditedState g new base calls outcomes = (after : Base) × Represents g new after × Passes third_schema (sheets after) × RunAddsUp base (map call_of calls) (map outcome_of outcomes) after
 
--- the whole promise of a list of calls: over each base whose books were kept, from a store whose tables were just made, and from one with the rows of whichever schema that passed its audit, upgraded to the third
+-- The guarantee of a run: the calls reach an audited state. They start from any base that the store
+-- represented; from the empty base, if the tables had no rows; or from the base of rows of any
+-- schema that passed its audit and were upgraded to schema 3.
 pub record RunGuarantee {S : Type 0} (g : Ghosts S) (old new : Held S) (calls : List (ℕ × Call)) (outcomes : List Outcome) : Type 0 where
   pub kept : HasCleanDisk (state g new) → (base : Base) → Represents g old base → ReachesAuditedState g new base calls outcomes
   pub made : HasCleanDisk (state g new) → Holds g old no_rows → ReachesAuditedState g new empty_base calls outcomes
   pub adopted : HasCleanDisk (state g new) → (schema : known.Schema) (rows : Tables) → Holds g old (upgraded_from (schema_of schema) rows) → IsTrue (has_texts rows) → Passes (schema_of schema) rows
       → ReachesAuditedState g new (base_of rows) calls outcomes
 
--- an audit of the desk's store, which writes nothing: where books are kept it never finds a condition that fails
+-- The postcondition of an audit of the desk's store, which writes nothing. It never returns
+-- `Damaged` if the store represents a base.
 pub record DeskAuditPost {S : Type 0} (g : Ghosts S) (old new : Held S) (result : Result (Unit {0}) Fault) : Type 0 where
   pub audited : AuditPost g old new result
   pub passes : HasCleanDisk (state g new) → (base : Base) → Represents g old base → OnAnswer result (λ failing. failing ≡ None)

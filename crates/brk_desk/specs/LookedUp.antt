@@ -1,4 +1,4 @@
--- Trades that were read with what became of them.
+-- Trades that were read with their settlements, cash rows and histories.
 use Rattle.std.specs.Prelude.{◌≡◌, List, map}
 use Rattle.brk_model.specs.Base.{Base}
 use Rattle.brk_model.specs.LookupView.{lookup_records}
@@ -9,10 +9,12 @@ use Rattle.brk_book_theorems.specs.Books.{BooksInvariant}
 use Rattle.brk_view.specs.Lookup.{looked_up_records}
 use Rattle.brk_view.specs.declared.lookups.LookedUp.{LookedUp}
 
--- where the rows are the tables of a sound base in order, a trade with what became of it is shown as the definitions show it
+-- The records of the trade that was looked up equal those of the model. Vacuous if the rows are not
+-- the tables of a base that satisfies the books invariant and the audit invariant.
 abbrev pub IsLookedUp : TradeRow → LookedUp → Tables → Type 0
 IsLookedUp row found t = (base : Base) → BooksInvariant base → AuditInvariant base → t ≡ sheets base → looked_up_records found ≡ lookup_records t row
 
--- and so are trades one after another
+-- The records of each trade that was looked up equal those of the model, in order. Vacuous if the
+-- rows are not the tables of a base that satisfies the books invariant and the audit invariant.
 abbrev pub AreLookedUp : List TradeRow → List LookedUp → Tables → Type 0
 AreLookedUp rows found t = (base : Base) → BooksInvariant base → AuditInvariant base → t ≡ sheets base → map looked_up_records found ≡ map (lookup_records t) rows

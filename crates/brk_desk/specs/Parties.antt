@@ -1,4 +1,4 @@
--- Whose account it is, as it was read.
+-- The parties of an account, as they were read.
 use Rattle.std.specs.Prelude.{◌≡◌, ◌==◌, Some, find}
 use Rattle.std.specs.Global.{Vec}
 use Rattle.brk_model.specs.Records.{Customer}
@@ -7,7 +7,7 @@ use Rattle.brk_model.specs.Tables.{AccountRow, Tables}
 use Rattle.brk_view.specs.declared.statuses.AccountStatus.{AccountStatus}
 use Rattle.brk_view.specs.declared.statuses.TradeStatus.{TradeStatus}
 
--- these trades with the names of the account's customer and of its broker
+-- The status has these trades, the names of the account's customer, and the name of its broker.
 abbrev pub ArePartiesOf : AccountRow → Vec TradeStatus → AccountStatus → Tables → Type 0
 ArePartiesOf a trades status t =
     (c : Customer) × (Some c ≡ find (λ c. c.id == a.customer) t.customers) × (status.last_name ≡ c.last_name) × (status.first_name ≡ c.first_name)

@@ -1,4 +1,4 @@
--- What became of a desk of which an engine made calls.
+-- Runs of a desk: sequences of its calls, and nothing else.
 use Rattle.std.specs.Prelude.{ℕ, List}
 use Rattle.sqlite_trees.specs.declared.store.Store.{Ghosts}
 use Rattle.sqlite.specs.Held.{Held}
@@ -7,13 +7,14 @@ use Rattle.brk_desk.specs.Keeping.{OutcomePost, RunPost, RunGuarantee}
 use Rattle.brk_desk.specs.declared.call.Call.{Call}
 use Rattle.brk_desk.specs.declared.call.Outcome.{Outcome}
 
--- these calls of a desk were made in turn, with these outcomes, and nothing else: it is a run of them, and keeps the whole promise of one
+-- Exactly these calls of the desk were made, in order, with these outcomes. They are a run and give
+-- the guarantee of a run.
 pub record IsRunOf {S : Type 0} (g : Ghosts S) (old new : Held S) (calls : List (ℕ × Call)) (outcomes : List Outcome) : Type 0 where
   pub made : AreMade (λ old now call outcome new. OutcomePost g old new now call outcome) old calls outcomes new
   pub ran : RunPost g old new calls outcomes
   pub promised : RunGuarantee g old new calls outcomes
 
--- some calls of a desk were made, and nothing else
+-- Some calls of the desk were made, in order, and nothing else.
 pub record IsSomeRun {S : Type 0} (g : Ghosts S) (old new : Held S) : Type 0 where
   pub calls : List (ℕ × Call)
   pub outcomes : List Outcome

@@ -1,4 +1,4 @@
--- What a query is answered with.
+-- The specification of the result of a query.
 use Rattle.std.specs.Prelude.{◌≡◌, Result, Ok, Err}
 use Rattle.brk_money.specs.declared.refusal.Refusal.{Refusal}
 use Rattle.brk_model.specs.Ask.{ask}
@@ -12,11 +12,13 @@ use Rattle.brk_book_theorems.specs.Books.{BooksInvariant}
 use Rattle.brk_view.specs.Views.{fields_of}
 use Rattle.brk_view.specs.declared.view.View.{View}
 
--- what a query is answered with: its view as records of texts, or the refusal
+-- The result of the model that the result of a query represents: the view as records of texts, or
+-- the refusal.
 abbrev pub seen_of : Result View Refusal → Result model.View Refusal
 seen_of (Ok view) = Ok (fields_of view)
 seen_of (Err refusal) = Err refusal
 
--- where the rows are the tables of a sound base in order, a query has the view of the definitions, or is refused for the same reason
+-- The result equals that of the model: the view or the refusal of the query. Vacuous if the rows
+-- are not the tables of a base that satisfies the books invariant and the audit invariant.
 abbrev pub Shows : Query → Result View Refusal → Tables → Type 0
 Shows query seen t = (base : Base) → BooksInvariant base → AuditInvariant base → t ≡ sheets base → ask base query ≡ seen_of seen

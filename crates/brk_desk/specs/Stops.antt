@@ -1,4 +1,4 @@
--- What a stop may leave of a run of calls.
+-- The bases that a crash may expose after a run of calls.
 use Rattle.std.specs.Prelude.{◌≡◌, ◌⊎◌, ℕ, List, ◌∷◌, ◌++◌}
 use Rattle.std.specs.List.{AllByRecursion}
 use Rattle.brk_money.specs.declared.fault.Fault.{Fault}
@@ -8,14 +8,16 @@ use Rattle.brk_model.specs.Keyed.{keyed_step}
 use Rattle.brk_model.specs.Records.{Key}
 use Rattle.brk_model.specs.Run.{Call, Do, Outcome, Did, Failed, Run}
 
--- it acknowledges no change
+-- The outcome acknowledges no change: it is not `Done`.
 abbrev pub AcknowledgesNothing : Outcome → Type 0
 AcknowledgesNothing (Did (Done reply)) = ⊥
 AcknowledgesNothing _ = Unit {0}
 
--- A command was answered with a fault, and after it no change was acknowledged. Its change is there all the same.
+-- The base `after` has the change of a command that returned a fault, with no change acknowledged
+-- after it.
 pub record IsUnacknowledged (base : Base) (calls : List (ℕ × Call)) (outcomes : List Outcome) (after : Base) : Type 0 where
-  -- the calls before it, itself, and those after it
+  -- The calls before the command, the command with its clock reading and its key, and the calls
+  -- after it.
   pub earlier : List (ℕ × Call)
   pub now : ℕ
   pub command : Command
@@ -31,6 +33,7 @@ pub record IsUnacknowledged (base : Base) (calls : List (ℕ × Call)) (outcomes
   pub quiet : AllByRecursion AcknowledgesNothing rest
   pub whole : after ≡ (keyed_step before now command key).1
 
--- all that was acknowledged, and beyond it nothing, or one command that was answered with a fault since
+-- A crash after the calls may expose the tables of `after`: it has every acknowledged command, and
+-- at most one more that returned a fault, with no change acknowledged after it.
 abbrev pub MayBeRecovered : Base → List (ℕ × Call) → List Outcome → Base → Type 0
 MayBeRecovered base calls outcomes after = Run base calls outcomes after ⊎ IsUnacknowledged base calls outcomes after

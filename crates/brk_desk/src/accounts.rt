@@ -1,4 +1,4 @@
-//! What the accounts of a customer are worth.
+//! The views of a customer's accounts.
 
 ghost use Rattle.std.specs.Prelude.{◌≡◌, ◌==◌, IfErr, filter, map};
 ghost use Rattle.brk_desk.specs.Shows.{Shows};
@@ -16,7 +16,7 @@ use brk_view::{AccountWorth, View, position};
 use sqlite::Alter;
 use std::alloc::Global;
 
-// What an account is worth.
+// Returns the balance and the market value of an account.
 fn worth_of<S: Alter>(
     alloc: Global,
     store: &mut Store<S>,
@@ -33,7 +33,7 @@ fn worth_of<S: Alter>(
     })
 }
 
-// What the accounts of a customer are worth, by rising id.
+// Returns the balances and market values of a customer's accounts, sorted by id, ascending.
 fn worths_of<S: Alter>(
     alloc: Global,
     store: &mut Store<S>,
@@ -51,7 +51,7 @@ fn worths_of<S: Alter>(
     Ok(worths)
 }
 
-// The accounts of a customer.
+// Returns the view of a customer's accounts, or refuses with `NoCustomer`.
 pub(crate) fn see_position<S: Alter>(
     alloc: Global,
     store: &mut Store<S>,
@@ -68,7 +68,7 @@ pub(crate) fn see_position<S: Alter>(
     Ok(Ok(view))
 }
 
-// The accounts of the customer with a tax id.
+// Returns the view of the accounts of the customer with a tax id, or refuses with `NoCustomer`.
 pub(crate) fn see_position_by_tax_id<S: Alter>(
     alloc: Global,
     store: &mut Store<S>,

@@ -7,7 +7,7 @@ use brk_view::{Query, View};
 use sqlite::Alter;
 use std::alloc::Global;
 
-/// The view that a query is answered with, or why it is refused.
+/// Returns the view of a query, or the refusal. Fails with `Memory` or `Store` only.
 pub(crate) fn answer_query<S: Alter>(
     alloc: Global,
     store: &mut Store<S>,

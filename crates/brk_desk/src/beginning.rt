@@ -1,4 +1,4 @@
-//! What a desk begins with, and what it finds when it is opened again.
+//! Theorems: the base that a store represents when a desk begins, and when it is reopened.
 
 ghost use Rattle.brk_model.specs.Form.{has_texts};
 ghost use Rattle.std.specs.Prelude.{ℕ, IsTrue, List};
@@ -24,14 +24,14 @@ ghost use Rattle.brk_changes.specs.declared.schema.Schema.{Schema};
 
 use sqlite::Alter;
 
-/// A store whose tables were just made keeps the books of the empty base.
+/// Proves that a store with newly created tables represents the empty base.
 pub fn a_made_store_keeps_the_empty_base<S: Alter>()
     ensures { (store : Held S) → Holds S.Store store no_rows → Represents S.Store store empty_base }
 {}
 
-/// A store represents the base that its rows give, if these pass the audit of schema 3 and their
-/// texts are UTF-8. A store with the upgraded rows of an older schema represents the base that the
-/// older rows give, if these pass the audit of their own schema and their texts are UTF-8.
+/// Proves that a store represents the base that its rows give, if these pass the audit of schema 3
+/// and their texts are UTF-8. A store with the upgraded rows of an older schema represents the base
+/// that the older rows give, if these pass the audit of their own schema and their texts are UTF-8.
 pub fn an_adopted_store_keeps_its_books<S: Alter>()
     ensures rows { (store : Held S) (rows : Tables) → Holds S.Store store rows → IsTrue (has_texts rows) → Passes third_schema rows
         → Represents S.Store store (base_of rows) }
@@ -39,8 +39,8 @@ pub fn an_adopted_store_keeps_its_books<S: Alter>()
         → Passes (schema_of schema) rows → Represents S.Store store (base_of rows) }
 {}
 
-/// A store that is opened over what a stop left of a run of calls in form keeps the books of a base that the run leads to, or
-/// of one with the command more that was under way.
+/// Proves that a store represents the base over whose tables it was opened, if a crash after a run
+/// may expose this base (`MayBeRecovered`). The calls of the run have to be well-formed.
 pub fn reopening_restores_the_books<S: Alter>()
     ensures { (base : Base) (calls : List (ℕ × Call)) (outcomes : List Outcome) (after : Base) (trees : Trees) (conn : Held S) → BooksInvariant base → AuditInvariant base
         → AllByRecursion IsCallInForm calls → MayBeRecovered base calls outcomes after → IsTrue (has_texts (sheets after))

@@ -7,30 +7,31 @@ use brk_money::{Fault, Planned, Refusal};
 use brk_ref::Key;
 use brk_view::{Query, View};
 
-/// One call of a run.
+/// A call of a run.
 #[derive(Drop)]
 pub enum Call {
-    /// A command is decided on, and booked where it is accepted; under a key it acts once.
+    /// A command. It is booked if it is accepted, and accepted at most once under its key.
     Do(Command, Option<Key>),
-    /// A query is answered, and changes nothing.
+    /// A query, which changes nothing.
     Ask(Query),
 }
 
-/// What came of a call.
+/// The outcome of a call.
 #[derive(Drop)]
 pub enum Outcome {
     /// The command was answered.
     Did(Answer),
-    /// The query was answered with this view.
+    /// The view of the query.
     Saw(View),
     /// The query was refused.
     NoView(Refusal),
-    /// It failed, and nothing was changed.
+    /// The call failed. The open store is unchanged, but a crash may still find a command
+    /// committed.
     Failed(Fault),
 }
 
 impl Outcome {
-    // What came of a command.
+    // Returns the outcome of a command.
     pub(crate) fn of_command(answered: Result<Answer, Fault>) -> Outcome
         ensures { result ≡ outcome_for answered }
     {
@@ -40,7 +41,7 @@ impl Outcome {
         }
     }
 
-    // What came of a query.
+    // Returns the outcome of a query.
     pub(crate) fn of_query(seen: Planned<View>) -> Outcome
         ensures { result ≡ outcome_seen seen }
     {

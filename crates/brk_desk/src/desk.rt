@@ -13,8 +13,8 @@ use sqlite::Alter;
 use std::alloc::Global;
 use std::marker::Model;
 
-/// A desk over a store: it decides on commands, books those that it accepts, and answers queries. Contracts see it as
-/// what its store holds.
+/// A desk over a store: it executes commands and answers queries. Contracts see a desk as the state
+/// of its store.
 pub struct Desk<S: Alter> {
     store: Store<S>,
 }
@@ -55,7 +55,8 @@ impl<S: Alter> Desk<S> {
     ghost use Rattle.brk_store.specs.Holds.{ReadPost};
     ghost use Rattle.brk_store.specs.Walked.{CallsEach, WalkPost, cash_of};
 
-    /// A desk that keeps its books in a store, which `Store::create` made, `Store::adopt` found to pass or an earlier desk gave back.
+    /// Creates a desk over a store that `Store::create` created, `Store::adopt` opened or an
+    /// earlier desk returned. The store is unchanged.
     pub fn new(store: Store<S>) -> Desk<S>
         ensures same { result ≡ store }
     {
@@ -70,8 +71,11 @@ impl<S: Alter> Desk<S> {
     /// refusal 19 (another command).
     ///
     /// Fails with `Memory` or `Store` only. A refusal, a stored reply or a fault changes nothing in
-    /// the open store and records no key. After a fault, a crash may still find the command
-    /// committed: retry under the same key.
+    /// the open store and records no key.
+    ///
+    /// A crash exposes a state that was possible before the call, or the tables after the command;
+    /// after `Done` only the latter. After a fault too, a crash may find the command committed:
+    /// retry under the same key.
     pub fn call(
         &mut self,
         alloc: Global,
@@ -84,17 +88,27 @@ impl<S: Alter> Desk<S> {
         book(alloc, &mut self.store, now, command, key)
     }
 
-    /// Answers a query with its view of the books, or says why it is refused. Nothing is changed, whatever the answer;
-    /// the only faults are want of memory and the store's.
+    /// Returns the view of a query, or the refusal.
+    ///
+    /// Fails with `Memory` or `Store` only. The open database is unchanged, whatever the result.
+    ///
+    /// A crash exposes only states that were possible before the call.
     pub fn ask(&mut self, alloc: Global, query: &Query) -> Planned<View>
         ensures asked { AskPost S.Store self.old self.new (query_of query.now) result }
     {
         answer_query(alloc, &mut self.store, query)
     }
 
-    /// Makes the calls in turn, each at its moment, and adds an outcome for each; a query, and a call that is refused
-    /// or fails, changes nothing, and the next one is made. The room for all outcomes is made before the first call: the
-    /// only fault is want of memory for them, and then no call was made.
+    /// Executes the calls in order, each at its clock reading, and appends one outcome for each to
+    /// `out`. A query, a refusal, a stored reply or a fault changes no row of the desk's tables,
+    /// and the next call is executed.
+    ///
+    /// Fails with `Memory` only. The desk and the outcomes in `out` are then unchanged: no call was
+    /// executed.
+    ///
+    /// If a crash before the run exposes one state only, a crash after it exposes that state with
+    /// every acknowledged command applied, and at most one more command: one that returned a fault,
+    /// with no change acknowledged after it.
     pub fn run(
         &mut self,
         alloc: Global,
@@ -115,7 +129,7 @@ impl<S: Alter> Desk<S> {
         Ok(())
     }
 
-    // What comes of a call.
+    // Executes a call and returns its outcome.
     fn outcome(&mut self, alloc: Global, now: Stamp, call: &Call) -> Outcome
         ensures made { OutcomePost S.Store self.old self.new now call.now result }
     {
@@ -127,9 +141,16 @@ impl<S: Alter> Desk<S> {
         }
     }
 
-    /// Audits what the store holds: at `Ok` its rows pass, and else the fault `Damaged` has the first condition that fails. Nothing
-    /// is changed, whatever the answer; where books are kept it never finds damage, and the only faults are want of memory and the
-    /// store's.
+    /// Audits the database by the conditions of schema 3. Returns `Ok` only if its rows pass.
+    /// Writes nothing.
+    ///
+    /// Fails with `Damaged` and the first condition that fails, or with `Memory` or `Store`. A desk
+    /// that represents a base never returns `Damaged`. The rows and the open database are
+    /// unchanged, whatever the result.
+    ///
+    /// A crash exposes only states that were possible before the call.
+    ///
+    /// The result is specified only of a database that is defined (`Store::adopt`).
     #[tactic(auto, using(crate::proofs::Audits::audits))]
     pub fn audit(&mut self, alloc: Global) -> Result<(), Fault>
         ensures audited { DeskAuditPost S.Store self.old self.new result }
@@ -138,7 +159,12 @@ impl<S: Alter> Desk<S> {
         self.store.audit(alloc)
     }
 
-    /// What a statement of an account tells beside its rows, where there is such an account. Nothing is changed.
+    /// Returns the figures of an account's statement that are not rows, or `None` if the account
+    /// does not exist.
+    ///
+    /// Fails with `Memory` or `Store` only. The open database is unchanged, whatever the result.
+    ///
+    /// A crash exposes only states that were possible before the call.
     pub fn head(&mut self, alloc: Global, account: Id) -> Result<Option<Head>, Fault>
         ensures read { ReadPost S.Store self.old self.new result (IsHead account) }
         ensures fault { IfErr result MayFail }
@@ -146,8 +172,14 @@ impl<S: Alter> Desk<S> {
         find_head(alloc, &mut self.store, account)
     }
 
-    /// Hands the cash rows of an account from one stamp to another, both included, to a visitor, by stamp, until it stops at
-    /// one. Nothing is changed.
+    /// Passes the cash rows of an account with stamps from `from` to `to`, both included, to a
+    /// visitor, sorted by stamp, ascending. Returns `Ok` only after the visitor has taken the last
+    /// row.
+    ///
+    /// Fails with `Cause` and the visitor's error, or with `Failed` and the fault `Memory` or
+    /// `Store` after a prefix of the rows. The open database is unchanged, whatever the result.
+    ///
+    /// A crash exposes only states that were possible before the call.
     pub fn visit_cash<E, V: Visitor<MoveRow, E>>(
         &mut self,
         account: Id,
@@ -163,8 +195,13 @@ impl<S: Alter> Desk<S> {
         self.store.visit_cash::<E, V>(account, from, to, visitor)
     }
 
-    /// Hands the lots of an account to a visitor, by symbol and then by the moment of opening, until it stops at one. Nothing
-    /// is changed.
+    /// Passes the lots of an account to a visitor, sorted by symbol, then by opening stamp. Returns
+    /// `Ok` only after the visitor has taken the last lot.
+    ///
+    /// Fails with `Cause` and the visitor's error, or with `Failed` and the fault `Memory` or
+    /// `Store` after a prefix of the lots. The open database is unchanged, whatever the result.
+    ///
+    /// A crash exposes only states that were possible before the call.
     pub fn visit_lots<E, V: Visitor<HoldingRow, E>>(
         &mut self,
         account: Id,
@@ -178,8 +215,13 @@ impl<S: Alter> Desk<S> {
         self.store.visit_lots::<E, V>(account, visitor)
     }
 
-    /// Calls a closure at each cash row of an account from one stamp to another, both included, by stamp. Its first error ends
-    /// the walk and is the answer. Nothing is changed.
+    /// Calls a closure with each cash row of an account with a stamp from `from` to `to`, both
+    /// included, sorted by stamp, ascending. Returns `Ok` only after the last row.
+    ///
+    /// Fails with the closure's first error, or with a fault (`Memory` or `Store`) as an error of
+    /// type `E`, after a prefix of the rows. The open database is unchanged, whatever the result.
+    ///
+    /// A crash exposes only states that were possible before the call.
     pub fn walk_cash<E: From<Fault>, F: FnMut(&MoveRow) -> Result<(), E> + Drop>(
         &mut self,
         account: Id,
@@ -193,8 +235,13 @@ impl<S: Alter> Desk<S> {
         self.store.walk_cash::<E, F>(account, from, to, call)
     }
 
-    /// Calls a closure at each lot of an account, with its symbol, by symbol and then by the moment of opening. Its first error
-    /// ends the walk and is the answer. Nothing is changed.
+    /// Calls a closure with each lot of an account and its symbol, sorted by symbol, then by
+    /// opening stamp. Returns `Ok` only after the last lot.
+    ///
+    /// Fails with the closure's first error, or with a fault (`Memory` or `Store`) as an error of
+    /// type `E`, after a prefix of the lots. The open database is unchanged, whatever the result.
+    ///
+    /// A crash exposes only states that were possible before the call.
     pub fn walk_lots<E: From<Fault>, F: FnMut(&str, &Lot) -> Result<(), E> + Drop>(
         &mut self,
         account: Id,
@@ -206,7 +253,7 @@ impl<S: Alter> Desk<S> {
         self.store.walk_lots::<E, F>(account, call)
     }
 
-    /// The store, with the books of the calls that were accepted.
+    /// Returns the store of the desk, unchanged.
     pub fn into_store(self) -> Store<S>
         ensures same { result ≡ self }
     {

@@ -10,17 +10,18 @@ use brk_store::Store;
 use sqlite::Alter;
 use std::alloc::Global;
 
-/// What a statement tells of an account beside its rows.
+/// The figures of an account's statement that are not rows.
 #[derive(Drop)]
 pub struct Head {
     pub name: Name,
-    /// The balance that it began with.
+    /// The opening balance, in cents.
     pub opening: Cents,
-    /// The worth of what it holds at the last prices, in cents.
+    /// The market value of its holdings at last prices, in cents.
     pub holdings: Wide,
 }
 
-/// The head of an account, where there is such an account.
+/// Returns the head of an account, or `None` if the account does not exist. Fails with `Memory` or
+/// `Store` only.
 pub(crate) fn find_head<S: Alter>(
     alloc: Global,
     store: &mut Store<S>,

@@ -1,4 +1,5 @@
-//! The desk: commands booked, with or without keys, and queries answered; one call, or a list of them.
+//! The desk: executes commands, with or without keys, and answers queries; one call, or a list of
+//! them.
 #![tactic(auto)]
 
 mod accounts;

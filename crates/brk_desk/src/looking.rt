@@ -17,8 +17,10 @@ use brk_view::{Query, View};
 use sqlite::Alter;
 use std::alloc::Global;
 
-/// The view that a query is answered with, or why it is refused. Nothing is changed; the only faults are want of memory and
-/// the store's, which tables that are not those of a desk are too.
+/// Returns the view of a query, or the refusal. Changes nothing.
+///
+/// Fails with `Memory` or `Store` only; with `Store` also if a row that another row names does not
+/// exist.
 pub fn view_of_query<S: Alter>(alloc: Global, store: &mut Store<S>, query: &Query) -> Planned<View>
     ensures read { ReadPost S.Store store.old store.new result (Shows (query_of query.now)) }
     ensures fault { IfErr result MayFail }

@@ -1,4 +1,4 @@
-//! Trades looked up, with what became of them.
+//! Views of trades that are looked up, with their settlements, cash rows and histories.
 
 ghost use Rattle.std.specs.Prelude.{IfErr, map};
 ghost use Rattle.brk_changes.specs.Rows.{trade_row_of};
@@ -20,7 +20,7 @@ use brk_view::{
 use sqlite::Alter;
 use std::alloc::Global;
 
-// A trade with what became of it.
+// Returns a trade with its settlement, cash row and history.
 fn look_up<S: Alter>(
     alloc: Global,
     store: &mut Store<S>,
@@ -35,7 +35,7 @@ fn look_up<S: Alter>(
     looked_up(alloc, trade, settlement, cash, &history)
 }
 
-// Trades in their order, each with what became of it.
+// Returns trades, in their order, each with its settlement, cash row and history.
 fn look_up_all<S: Alter>(
     alloc: Global,
     store: &mut Store<S>,
@@ -55,7 +55,7 @@ fn look_up_all<S: Alter>(
     Ok(found)
 }
 
-// Trades that are named by their ids.
+// Returns the view of trades by their ids, or refuses with `NoTrade`.
 pub(crate) fn see_trades<S: Alter>(
     alloc: Global,
     store: &mut Store<S>,
@@ -72,7 +72,8 @@ pub(crate) fn see_trades<S: Alter>(
     Ok(Ok(lookup_ids(found)))
 }
 
-// The first trades of an account between two stamps.
+// Returns the view of the first trades of an account between two stamps, or refuses with
+// `NoAccount`.
 pub(crate) fn see_account_trades<S: Alter>(
     alloc: Global,
     store: &mut Store<S>,
@@ -90,7 +91,8 @@ pub(crate) fn see_account_trades<S: Alter>(
     Ok(Ok(lookup_account(found)))
 }
 
-// The first trades of a security between two stamps.
+// Returns the view of the first trades of a symbol between two stamps, or refuses with
+// `NoSecurity`.
 pub(crate) fn see_symbol_trades<S: Alter>(
     alloc: Global,
     store: &mut Store<S>,

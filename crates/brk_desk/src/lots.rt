@@ -1,4 +1,4 @@
-//! What became of the lots that a trade touched.
+//! The view of the changes of the lots that a trade touched.
 
 ghost use Rattle.std.specs.Prelude.{◌≡◌, ◌==◌, IfErr, filter, map};
 ghost use Rattle.brk_desk.specs.Shows.{Shows};
@@ -14,7 +14,7 @@ use brk_view::{LotTouch, TouchedLots, View, keep_first, lookup_lots};
 use sqlite::Alter;
 use std::alloc::Global;
 
-// When the trade that made a change came to its last status; a trade that is not there is a fault of the store.
+// Returns the stamp of a trade's last status. Fails with `Store` if the trade does not exist.
 fn known_stamp<S: Alter>(store: &mut Store<S>, trade: Id) -> Result<Stamp, Fault>
     ensures read { ReadPost S.Store store.old store.new result (λ stamp t. stamp ≡ stamp_of t trade) }
     ensures fault { IfErr result MayFail }
@@ -25,7 +25,7 @@ fn known_stamp<S: Alter>(store: &mut Store<S>, trade: Id) -> Result<Stamp, Fault
     }
 }
 
-// The changes of a lot, with the moments of the trades that made them.
+// Returns the changes of a lot, each with the stamp of the trade that made it.
 fn touches_of<S: Alter>(
     alloc: Global,
     store: &mut Store<S>,
@@ -46,7 +46,8 @@ fn touches_of<S: Alter>(
     Ok(touches)
 }
 
-// The first changes of the lots that a trade touched, gathered from the last lot on.
+// Returns the first changes of the lots that a trade touched. They are gathered lot by lot, the
+// last lot first.
 fn touched_lots<S: Alter>(
     alloc: Global,
     store: &mut Store<S>,
@@ -67,7 +68,8 @@ fn touched_lots<S: Alter>(
     })
 }
 
-// What became of the lots that the oldest trade of an account at or after a stamp touched.
+// Returns the view of the changes of the lots that the oldest trade of an account at or after a
+// stamp touched, or refuses with `NoAccount`.
 pub(crate) fn see_lots<S: Alter>(
     alloc: Global,
     store: &mut Store<S>,

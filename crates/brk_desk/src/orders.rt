@@ -1,4 +1,4 @@
-//! What waits at the market, and what an order would come to.
+//! The views of submitted trades and of an order's estimate.
 
 ghost use Rattle.std.specs.Prelude.{IfErr};
 ghost use Rattle.brk_desk.specs.Shows.{Shows};
@@ -15,7 +15,7 @@ use brk_view::{View, submitted};
 use sqlite::Alter;
 use std::alloc::Global;
 
-// The trades that are at the market.
+// Returns the view of the submitted trades.
 pub(crate) fn see_submitted<S: Alter>(alloc: Global, store: &mut Store<S>) -> Planned<View>
     ensures read { ReadPost S.Store store.old store.new result (Shows SubmittedTrades) }
     ensures fault { IfErr result MayFail }
@@ -25,7 +25,7 @@ pub(crate) fn see_submitted<S: Alter>(alloc: Global, store: &mut Store<S>) -> Pl
     Ok(Ok(view))
 }
 
-// What an order would come to, or why it would be refused.
+// Returns the view of an order's estimate, or the refusal.
 pub(crate) fn see_estimate<S: Alter>(
     alloc: Global,
     store: &mut Store<S>,

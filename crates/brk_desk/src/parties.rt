@@ -1,4 +1,5 @@
-//! Whose account it is: its customer and its broker, which have to be there. Where one is not, that is a fault of the store.
+//! The parties of an account: its customer and its broker. If one of them does not exist, the fault
+//! is `Store`.
 
 ghost use Rattle.std.specs.Prelude.{◌≡◌, ◌==◌, IfErr, Some, find};
 ghost use Rattle.brk_desk.specs.Parties.{ArePartiesOf};
@@ -13,7 +14,7 @@ use brk_store::Store;
 use brk_view::{AccountStatus, TradeStatus};
 use sqlite::Alter;
 
-// The customer with an id.
+// Returns the customer with an id. Fails with `Store` if there is none.
 fn known_customer<S: Alter>(store: &mut Store<S>, id: Id) -> Result<Customer, Fault>
     ensures read { ReadPost S.Store store.old store.new result (λ customer t. Some (customer_of customer) ≡ find (λ c. c.id == id) t.customers) }
     ensures fault { IfErr result MayFail }
@@ -24,7 +25,7 @@ fn known_customer<S: Alter>(store: &mut Store<S>, id: Id) -> Result<Customer, Fa
     }
 }
 
-// The name of the broker with an id.
+// Returns the name of the broker with an id. Fails with `Store` if there is none.
 fn known_broker_name<S: Alter>(store: &mut Store<S>, id: Id) -> Result<Name, Fault>
     ensures read { ReadPost S.Store store.old store.new result (λ name t. name ≡ name_of_broker t id) }
     ensures fault { IfErr result MayFail }
@@ -35,7 +36,7 @@ fn known_broker_name<S: Alter>(store: &mut Store<S>, id: Id) -> Result<Name, Fau
     }
 }
 
-// The last trades of an account, with the names of its customer and of its broker.
+// Returns the trades of an account with the names of its customer and its broker.
 pub(crate) fn with_parties<S: Alter>(
     store: &mut Store<S>,
     row: &AccountRow,

@@ -1,4 +1,4 @@
-//! What an account did last.
+//! The view of an account's last trades and their statuses.
 
 ghost use Rattle.std.specs.Prelude.{◌≡◌, ◌++◌, IfErr, OnOk, flat_map, map};
 ghost use Rattle.brk_changes.specs.Rows.{history_row_of, trade_row_of};
@@ -16,7 +16,7 @@ use brk_view::{View, recent};
 use sqlite::Alter;
 use std::alloc::Global;
 
-// Adds some statuses to others.
+// Appends statuses to others.
 fn add_all(history: &mut Vec<HistoryRow>, rows: &[HistoryRow]) -> Result<(), Fault>
     ensures added { OnOk result (history.new.items ≡ history.old.items ++ rows.now) }
     ensures fault { IfErr result MayFail }
@@ -27,7 +27,7 @@ fn add_all(history: &mut Vec<HistoryRow>, rows: &[HistoryRow]) -> Result<(), Fau
     Ok(())
 }
 
-// The last trades of an account, the most recent first, and all rows of their history.
+// Returns the last trades of an account, the most recent first, and all rows of their history.
 fn read_recent<S: Alter>(
     alloc: Global,
     store: &mut Store<S>,
@@ -47,7 +47,7 @@ fn read_recent<S: Alter>(
     Ok((trades, history))
 }
 
-// What an account did last.
+// Returns the view of an account's last trades and their statuses, or refuses with `NoAccount`.
 pub(crate) fn see_recent<S: Alter>(
     alloc: Global,
     store: &mut Store<S>,

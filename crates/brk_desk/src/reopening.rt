@@ -1,4 +1,4 @@
-//! What a stop leaves is adopted again.
+//! Theorem: every state that a crash exposes is adopted without damage.
 
 ghost use Rattle.std.specs.Prelude.{◌≡◌, ◌⊎◌, ℕ, List, None, Ok, Option, Result, map};
 ghost use Rattle.sqlite.specs.Held.{Held, state};
@@ -26,23 +26,24 @@ ghost use Rattle.brk_store.specs.Holds.{CreatePost};
 
 use sqlite::Alter;
 
-/// Recovery never reports damage: if a state that a crash exposed is opened and adopted, the
-/// adoption does not fail with `Damaged`; it may fail with `Memory` or `Store`. All of it under the
-/// disk assumption, that every read so far returned what was written.
+/// Proves that recovery never reports damage: if a state that a crash exposed is opened and
+/// adopted, the adoption does not fail with `Damaged`. It may fail with `Memory` or `Store`. All of
+/// it is under the disk assumption, that every read so far returned what was written.
 ///
-/// `made`, `adopted`: once tables were created, or a database of any schema was adopted, the store
-/// represents the empty base, or the base that the rows give, and a crash exposes its tables only.
+/// `made`, `adopted`: once tables were created, or a database of any schema, defined
+/// (`IsDefinedIn`) and just opened, was adopted, the store represents the empty base, or the base
+/// that the rows give. A crash then exposes its tables only.
 ///
 /// `call`, `run`: after a crash in a call or in a run of such a store, the adopted store represents
-/// an acknowledged base, or the base with one command more, and a crash exposes its tables only. So
-/// this holds for any number of crashes.
+/// an acknowledged base, or the base with one command more. A crash then exposes its tables only,
+/// so this holds for any number of crashes.
 ///
 /// `making`: after a crash in the creation of the tables, the adopted store represents the empty
 /// base, unless the state was possible before; of such a state nothing is said.
 ///
-/// `upgrading`: after a crash in an adoption of rows that pass the audit of their schema, an older one
-/// included, a later adoption finds no damage. If it succeeds, the store represents the base that
-/// the same rows give.
+/// `upgrading`: after a crash in an adoption of rows that pass the audit of their schema, an older
+/// one included, a later adoption finds no damage. If it succeeds, the store represents the base
+/// that the same rows give.
 pub fn every_crash_state_is_adopted<S: Alter>()
     ensures made { (conn store : Held S) → CreatePost S.Store conn store (Ok tt) → HasCleanDisk (state S.Store store) → IsDurable S.Store store empty_base }
     ensures adopted { (trees : Trees) (conn store : Held S) → IsJustOpened S.Store trees conn → IsDefinedIn S.Store conn → AdoptPost S.Store conn store (Ok tt)

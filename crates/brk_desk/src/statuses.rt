@@ -1,4 +1,4 @@
-//! Whose account it is, and its last trades.
+//! The view of an account's parties and its last trades.
 
 ghost use Rattle.std.specs.Prelude.{◌≡◌, IfErr, map, take};
 ghost use Rattle.brk_changes.specs.Rows.{trade_row_of};
@@ -18,7 +18,7 @@ use brk_view::{TradeStatus, View, status};
 use sqlite::Alter;
 use std::alloc::Global;
 
-// A trade with the security that it is in; one whose security is not there is a fault of the store.
+// Returns a trade with its security. Fails with `Store` if the security does not exist.
 fn with_security<S: Alter>(store: &mut Store<S>, trade: TradeRow) -> Result<TradeStatus, Fault>
     ensures read { ReadPost S.Store store.old store.new result (λ status t. shown_trade status ≡ status_record t (trade_row_of trade)) }
     ensures fault { IfErr result MayFail }
@@ -29,7 +29,7 @@ fn with_security<S: Alter>(store: &mut Store<S>, trade: TradeRow) -> Result<Trad
     }
 }
 
-// The last trades of an account, each with its security, the most recent first.
+// Returns the last trades of an account, each with its security, the most recent first.
 fn read_statuses<S: Alter>(
     alloc: Global,
     store: &mut Store<S>,
@@ -48,7 +48,7 @@ fn read_statuses<S: Alter>(
     Ok(statuses)
 }
 
-// Whose account it is, and its last trades.
+// Returns the view of an account's parties and its last trades, or refuses with `NoAccount`.
 pub(crate) fn see_status<S: Alter>(
     alloc: Global,
     store: &mut Store<S>,

@@ -1,4 +1,4 @@
-//! What brokers have to trade in a sector.
+//! The view of the brokers' volumes in a sector.
 
 ghost use Rattle.std.specs.Prelude.{◌≡◌, ◌++◌, ◌∷◌, [], IfErr, bytes_eq, filter, flat_map, map};
 ghost use Rattle.brk_changes.specs.Rows.{request_row_of};
@@ -19,7 +19,7 @@ use brk_view::{BrokerNames, BrokerVolume, View, broker_volume, request_volume};
 use sqlite::Alter;
 use std::alloc::Global;
 
-// Whether a security is in a sector; one that is not there is in none.
+// Returns true if the security of a symbol exists and is in a sector.
 fn is_in_sector<S: Alter>(
     store: &mut Store<S>,
     symbol: &Symbol,
@@ -34,7 +34,7 @@ fn is_in_sector<S: Alter>(
     }
 }
 
-// Adds a request to some, where its security is in a sector.
+// Appends a request to others if its security is in a sector.
 fn keep_in_sector<S: Alter>(
     store: &mut Store<S>,
     sector: &Name,
@@ -51,7 +51,7 @@ fn keep_in_sector<S: Alter>(
     Ok(())
 }
 
-// The requests of a broker in a sector, by rising trade.
+// Returns the requests of a broker in a sector, sorted by trade, ascending.
 fn requests_of<S: Alter>(
     alloc: Global,
     store: &mut Store<S>,
@@ -70,7 +70,7 @@ fn requests_of<S: Alter>(
     Ok(found)
 }
 
-// Adds what a broker has to trade in a sector, where it has something.
+// Appends the volume of a broker in a sector, if the broker has a request in it.
 fn add_volume<S: Alter>(
     alloc: Global,
     store: &mut Store<S>,
@@ -95,7 +95,7 @@ fn add_volume<S: Alter>(
     Ok(())
 }
 
-// Adds what the brokers with a name have to trade in a sector.
+// Appends the volumes in a sector of the brokers with a name.
 fn add_named<S: Alter>(
     alloc: Global,
     store: &mut Store<S>,
@@ -113,7 +113,7 @@ fn add_named<S: Alter>(
     Ok(())
 }
 
-// What the brokers with some names have to trade in a sector, name after name.
+// Returns the volumes in a sector of the brokers with these names, name by name.
 fn volumes_of<S: Alter>(
     alloc: Global,
     store: &mut Store<S>,
@@ -131,7 +131,7 @@ fn volumes_of<S: Alter>(
     Ok(found)
 }
 
-// What the brokers with some names have to trade in a sector.
+// Returns the view of the volumes in a sector of the brokers with these names.
 pub(crate) fn see_volume<S: Alter>(
     alloc: Global,
     store: &mut Store<S>,

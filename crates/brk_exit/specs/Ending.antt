@@ -1,4 +1,4 @@
--- The exit status of each ending, and its line.
+-- The exit status and the error line of each ending.
 use Rattle.std.specs.Prelude.{ℕ, List, [], ◌∷◌, ◌++◌, Result, Err, codes, decimal, string_bytes}
 use Rattle.brk_money.specs.declared.fault.Fault.{Fault}
 use Rattle.brk_money.specs.declared.fault.Fault.TheVariants as fault
@@ -15,13 +15,15 @@ use Rattle.brk_args.specs.declared.job.UsageFault.{UsageFault}
 use Rattle.brk_args.specs.declared.job.UsageFault.TheVariants as usage
 use Rattle.brk_exit.specs.Lines.{fault_line}
 
--- 1 for tables that are no desk's, 3 for what memory or a device refused
+-- The exit status of a fault: 1 if the tables are not a desk's, 3 if memory ran out or the store
+-- failed.
 abbrev pub fault_status : Fault → ℕ
 fault_status (fault.Damaged condition) = 1
 fault_status fault.Memory = 3
 fault_status fault.Store = 3
 
--- 1 for a batch that is not whole
+-- The exit status of a batch that ended early: 1 if its header or its end is wrong, otherwise that
+-- of its fault.
 abbrev pub batch_status : FaultKind → ℕ
 batch_status kind.BadHeader = 1
 batch_status kind.NoEnd = 1
@@ -30,13 +32,15 @@ batch_status kind.Read = 3
 batch_status kind.Write = 3
 batch_status (kind.Desk fault) = fault_status fault
 
--- 1 for a statement that is refused
+-- The exit status of a statement that was not written: 1 if it is refused, otherwise that of its
+-- fault.
 abbrev pub statement_status : StatementFault → ℕ
 statement_status (statement.Refused refusal) = 1
 statement_status (statement.Desk fault) = fault_status fault
 statement_status statement.Write = 3
 
--- 0 for what was done and for help, 2 for wrong words
+-- The exit status of an ending: 0 if the job is done and for help, 2 if the arguments are wrong,
+-- otherwise that of its fault.
 abbrev pub status_of : Ending → ℕ
 status_of ending.Done = 0
 status_of (ending.Open fault) = fault_status fault
@@ -51,12 +55,13 @@ status_of (ending.Usage usage.Day) = 2
 status_of (ending.Usage usage.NotYet) = 2
 status_of (ending.Usage usage.Memory) = 3
 
--- a close that failed is told where nothing else was
+-- The ending after the database is closed: a fault of the close is reported only if the job was
+-- done.
 abbrev pub after_close : Ending → Result (Unit {0}) Fault → Ending
 after_close ending.Done (Err fault) = ending.Open fault
 after_close ending closed = ending
 
--- the line of a batch that ended early
+-- The line of a batch that ended early.
 abbrev pub batch_line : FaultKind → List ℕ
 batch_line kind.BadHeader = codes "brk: batch: bad header\n"
 batch_line kind.NoEnd = codes "brk: batch: no end\n"
@@ -65,19 +70,19 @@ batch_line kind.Read = codes "brk: fault: read\n"
 batch_line kind.Write = codes "brk: fault: write\n"
 batch_line (kind.Desk fault) = fault_line fault
 
--- the line of a stream that ended early
+-- The line of a stream that ended early.
 abbrev pub stream_line : StreamFault → List ℕ
 stream_line stream.Read = codes "brk: fault: read\n"
 stream_line stream.Write = codes "brk: fault: write\n"
 stream_line stream.Memory = codes "brk: fault: memory\n"
 
--- the line of a statement that is refused, or ended early
+-- The line of a statement that is refused or ended early.
 abbrev pub statement_line : StatementFault → List ℕ
 statement_line (statement.Refused refusal) = codes "brk: refused: " ++ (decimal (refusal_number refusal) ++ (10 ∷ []))
 statement_line (statement.Desk fault) = fault_line fault
 statement_line statement.Write = codes "brk: fault: write\n"
 
--- the line of words that are wrong, or what there is to say of them
+-- The line of arguments that are wrong. Help has none.
 abbrev pub usage_line : UsageFault → List ℕ
 usage_line (usage.Words text) = string_bytes text
 usage_line (usage.Help text) = []
@@ -85,7 +90,7 @@ usage_line usage.Day = codes "brk: usage: day\n"
 usage_line usage.NotYet = codes "brk: usage: not yet\n"
 usage_line usage.Memory = codes "brk: fault: memory\n"
 
--- what is written to standard error
+-- The text that is written to standard error.
 abbrev pub line_of : Ending → List ℕ
 line_of ending.Done = []
 line_of (ending.Open fault) = fault_line fault

@@ -6,14 +6,15 @@ use Rattle.brk_money.specs.Kinds.{condition_word}
 use Rattle.brk_money.specs.declared.fault.Fault.{Fault}
 use Rattle.brk_money.specs.declared.fault.Fault.TheVariants as fault
 
--- its two parts and a line feed
+-- The bytes of a line: its two parts and a line feed.
 abbrev pub told : Bor (List ℕ) × Bor (List ℕ) → List ℕ
 told line = line.0.now ++ (line.1.now ++ (10 ∷ []))
 
--- known bytes grew by the front of these, or by all of them
+-- The writer got the first bytes of `line`, or all of them.
 abbrev pub WritesFront : Option (List ℕ) → Option (List ℕ) → List ℕ → Type 0
 WritesFront old new line = (front : List ℕ) × (left : List ℕ) × Appends old new front × (line ≡ front ++ left)
 
+-- The line of a fault of a desk.
 abbrev pub fault_line : Fault → List ℕ
 fault_line fault.Memory = codes "brk: fault: memory\n"
 fault_line fault.Store = codes "brk: fault: store\n"

@@ -12,24 +12,24 @@ use brk_report_lines::StatementFault;
 use itoa::Buffer;
 use std::io::Write;
 
-/// How the program ends.
+/// The outcome of the program.
 #[derive(Drop)]
 pub enum Ending {
-    /// All was done, also where rows were refused.
+    /// The job is done, even if rows were refused.
     Done,
-    /// The database could not be opened as a desk's, or not be closed.
+    /// The database could not be opened as a desk's, or could not be closed.
     Open(Fault),
     /// The batch ended early.
     Batch(BatchFault),
     /// The statement is refused, or ended early.
     Statement(StatementFault),
-    /// A stream of requests ended for want of memory.
+    /// A stream of requests ended because memory ran out.
     Serve(ServeFault),
-    /// No stream could be taken: the port is in use, or the machine gives no more.
+    /// No stream could be accepted: the port is in use, or the machine gives no more.
     Net,
-    /// What was asked for could not be printed.
+    /// The requested output could not be printed.
     Output,
-    /// The words of the command line ask for no job.
+    /// The command-line arguments give no job.
     Usage(UsageFault),
 }
 
@@ -56,7 +56,8 @@ fn stream_line(kind: StreamFault) -> Line<'static>
     }
 }
 
-// The exit status of a fault: 1 for tables that are no desk's, 3 for what memory or a device refused.
+// Returns the exit status of a fault: 1 if the tables are not a desk's, 3 if memory ran out or the
+// store failed.
 fn fault_status(fault: Fault) -> u8
     ensures { result ≡ spec.fault_status fault }
 {
@@ -103,8 +104,8 @@ fn status(ending: &Ending) -> u8
     }
 }
 
-/// How the program ends once the database was closed: the first fault is told, so that of the close only where there was
-/// no other.
+/// Returns the outcome after the database was closed. A fault of the close is reported only if
+/// there is no other.
 pub fn after_close(ending: Ending, closed: Result<(), Fault>) -> Ending
     ensures { result ≡ spec.after_close ending closed }
 {
@@ -141,7 +142,7 @@ fn tell_usage<W: Write>(fault: &UsageFault, errors: &mut W) -> Result<(), NotWri
     }
 }
 
-// Writes the line of an ending, or its front where the writer fails.
+// Writes the line of an ending, or its first bytes if the writer fails.
 fn tell<W: Write>(ending: &Ending, errors: &mut W) -> Result<(), NotWritten>
     ensures ok { OnOk result (Appends (W.contents errors.old) (W.contents errors.new) (spec.line_of ending.now)) }
     ensures err { OnErr result (line.WritesFront (W.contents errors.old) (W.contents errors.new) (spec.line_of ending.now)) }
@@ -158,8 +159,8 @@ fn tell<W: Write>(ending: &Ending, errors: &mut W) -> Result<(), NotWritten>
     }
 }
 
-/// Writes what there is to say of an ending to the errors' stream, and answers the exit status, also where that write
-/// fails. Of help and of what was done it writes nothing.
+/// Writes the line of an ending to `errors` and returns the exit status, even if the write fails.
+/// Help and a job that is done have no line.
 pub fn end_with<W: Write>(ending: &Ending, errors: &mut W) -> u8
     ensures status { result ≡ spec.status_of ending.now }
     ensures line { line.WritesFront (W.contents errors.old) (W.contents errors.new) (spec.line_of ending.now) }

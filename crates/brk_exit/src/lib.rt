@@ -1,4 +1,4 @@
-//! How the program ends: its exit status, and what it says of it.
+//! The exit status of the program, and its error line.
 #![tactic(auto)]
 
 pub mod ending;

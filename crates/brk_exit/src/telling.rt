@@ -6,10 +6,10 @@ use brk_io::{NotWritten, write_out};
 use brk_money::Fault;
 use std::io::Write;
 
-/// The line of a fault: what it is about after the program's name, and what is wrong.
+/// An error line in two parts: the program's name with the subject, and the cause.
 pub type Line<'a> = (&'a str, &'a str);
 
-/// The line of a fault of a desk.
+/// Returns the line of a fault of a desk.
 pub fn fault_line(fault: Fault) -> Line<'static>
     ensures { spec.told result ≡ spec.fault_line fault }
 {
@@ -20,7 +20,7 @@ pub fn fault_line(fault: Fault) -> Line<'static>
     }
 }
 
-/// Writes a line, or its front where the writer fails.
+/// Writes a line, or its first bytes if the writer fails.
 pub fn write_line<W: Write>(writer: &mut W, line: Line<'_>) -> Result<(), NotWritten>
     ensures ok { OnOk result (Appends (W.contents writer.old) (W.contents writer.new) (spec.told line.entry)) }
     ensures err { OnErr result (spec.WritesFront (W.contents writer.old) (W.contents writer.new) (spec.told line.entry)) }

@@ -1,4 +1,4 @@
--- A desk that was opened.
+-- A desk that was opened from a file.
 use Rattle.std.specs.Prelude.{None, Ok, IsTrue}
 use Rattle.sqlite_trees.specs.declared.store.Store.{Ghosts}
 use Rattle.sqlite.specs.Held.{Held, state}
@@ -11,10 +11,12 @@ use Rattle.brk_changes.specs.Schemas.{schema_of}
 use Rattle.brk_store.specs.Audited.{Answered, Represents, AdoptPost, IsDefinedIn}
 use Rattle.brk_store.specs.Holds.{AreTreesOf, OnlyCrashState}
 
--- The desk of what a file held. As far as its tables by the names and columns of a desk's are a desk's: its rows pass the audit of their schema, the books of
--- these rows are held, upgraded to the third schema where they were of an older one, and a stop leaves the tables of the books and nothing else.
+-- The store is the desk of the rows that a file held. If the database found is defined, the rows
+-- pass the audit of their schema, and the store represents their base, in schema 3. A crash then
+-- exposes only the tables of this base. Says nothing of these if the disk assumption fails, or once
+-- the store is closed.
 pub record StandsOnRows {S : Type 0} (g : Ghosts S) (store : Held S) : Type 0 where
-  -- what was held when the file was opened
+  -- The state of the connection when the file was opened.
   pub found : Held S
   pub adopted : AdoptPost g found store (Ok tt)
   pub stands : HasCleanDisk (state g store) → IsTrue (state g store).is_open → IsDefinedIn g found

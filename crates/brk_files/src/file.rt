@@ -11,10 +11,11 @@ use std::alloc::Global;
 use std::fs;
 use std::io::ErrorKind;
 
-/// A desk's database in a file, which its connection holds for this program alone.
+/// A desk's database in a file, which its connection locks for this program alone.
 pub type FileDesk = Store<FileStore<File>>;
 
-/// Closes a desk's file, which then holds all that was committed; until then a part of it may lie in the log beside it.
+/// Closes a desk's file. Until then a part of what was committed may be in the log beside the file.
+/// Fails with `Store` only. No contract specifies the file that is left.
 pub fn close(store: FileDesk) -> Result<(), Fault> {
     shut(store.into_conn())
 }
@@ -77,7 +78,7 @@ pub fn open_or_make(rt: &HostRuntime, path: &str) -> Result<FileDesk, Fault>
     }
 }
 
-// Is no file at a path, or an empty one? To open such a one would make a database.
+// Returns true if no file or an empty one is at the path. Opening it would create a database.
 fn is_missing(rt: &HostRuntime, path: &str) -> bool {
     match fs::metadata(rt, path) {
         Ok(found) => found.is_file() && found.len() == 0,

@@ -1,4 +1,4 @@
--- What one call of a desk does.
+-- The effect of one call of a desk.
 use Rattle.std.specs.Prelude.{◌≡◌, ℕ}
 use Rattle.sqlite_trees.specs.declared.store.Store.{Ghosts}
 use Rattle.sqlite.specs.Held.{Held}
@@ -9,7 +9,8 @@ use Rattle.brk_desk.specs.declared.call.Call as made
 use Rattle.brk_desk.specs.declared.call.Outcome as came
 use Rattle.brk_model.specs.Run.{Call, Outcome}
 
--- a call at a moment was made of a desk, and had this outcome
+-- A call of the desk at the timestamp `now` had this outcome, with the effect that `OutcomePost`
+-- specifies.
 pub record DeskActs {S : Type 0} (g : Ghosts S) (old : Held S) (now : ℕ) (call : Call) (outcome : Outcome) (new : Held S) : Type 0 where
   pub made : made.Call
   pub came : came.Outcome

@@ -20,7 +20,7 @@ use sqlite::Alter;
 use std::alloc::{AllocError, Global};
 use std::marker::PhantomData;
 
-// What a desk answers to a row, as a stream tells it.
+// Returns the desk's answer to a row as an answer of the HTTP engine.
 fn row_answer(answer: Answer) -> RowAnswer<Reply>
     ensures { row_outcome reply_of (Ok result) ≡ Did (answer_of answer) }
 {
@@ -31,7 +31,7 @@ fn row_answer(answer: Answer) -> RowAnswer<Reply>
     }
 }
 
-/// How a desk over a store of this kind answers the requests of a stream.
+/// A desk as the HTTP engine uses it.
 pub struct DeskService<S> {
     _store: PhantomData<S>,
 }

@@ -1,4 +1,5 @@
-//! Streams of HTTP requests over a desk: rows with or without keys, and queries, answered in JSON one after the other; and the streams of a listener, served in turn.
+//! Serves HTTP requests to a desk: rows with or without keys, and queries, with replies in JSON.
+//! The streams of a listener are served in sequence.
 #![tactic(auto)]
 
 mod at_desk;

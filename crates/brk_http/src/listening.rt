@@ -11,30 +11,32 @@ use std::io::{ErrorKind, Read};
 use std::net::{Shutdown, TcpListener, TcpStream};
 use std::time::Duration;
 
-/// Why no more streams are served.
+/// The cause that ended serving early.
 #[derive(Clone, Copy, Debug, PartialEq, Eq)]
 pub enum ListenFault {
-    /// A stream ended for want of memory.
+    /// A stream ended because memory ran out.
     Stream(ServeFault),
-    /// No stream could be taken: the machine gives no more.
+    /// No stream could be accepted.
     Net,
 }
 
-/// A peer that neither sends nor takes a byte for so many seconds has its stream ended.
+/// The seconds after which a stream is ended if its peer neither sends nor accepts a byte.
 pub const PATIENCE: u64 = 30;
 
-// After the last reply a peer has so many milliseconds for each of so many pieces that are read and thrown away.
+// The milliseconds that a peer has, after the last reply, for each piece that is read and dropped.
+// At most `MOST_PIECES` pieces are read.
 const LAST_PATIENCE: u64 = 250;
 
 const MOST_PIECES: u32 = 128;
 
-// A read or a write that waits longer is an error.
+// Sets the time limits of the stream: a read or a write that waits longer is an error.
 fn limit_waiting(stream: &TcpStream) -> io::Result<()> {
     stream.set_read_timeout(Some(Duration::from_secs(PATIENCE)))?;
     stream.set_write_timeout(Some(Duration::from_secs(PATIENCE)))
 }
 
-// Says that no reply follows, and reads what still comes, so that the kernel does not throw the last reply away.
+// Signals that no reply follows, and reads the bytes that still arrive, so that the kernel does not
+// drop the last reply.
 fn let_go(stream: &TcpStream) -> io::Result<()> {
     stream.shutdown(Shutdown::Write)?;
     stream.set_read_timeout(Some(Duration::from_millis(LAST_PATIENCE)))?;
@@ -48,7 +50,7 @@ fn let_go(stream: &TcpStream) -> io::Result<()> {
     Ok(())
 }
 
-// Serves one stream. A peer that fails is no fault of the desk.
+// Serves one stream. A failure of its peer is not a fault.
 fn serve_one<C: Clock, S: Alter>(
     alloc: Global,
     stream: &TcpStream,
@@ -69,8 +71,10 @@ fn serve_one<C: Clock, S: Alter>(
     Ok(())
 }
 
-/// Serves so many streams of a listener, one after the other. A stream that its peer breaks off, or that nobody uses for half a
-/// minute, is one of them. The first want of memory, and a listener that takes no more streams, end it.
+/// Serves `streams` streams of a listener, in sequence. A stream that its peer breaks off, or that
+/// is idle for 30 seconds, counts as one.
+///
+/// Fails with `Stream` if memory ran out, and with `Net` if the listener accepts no more streams.
 pub fn serve_on<C: Clock, S: Alter>(
     alloc: Global,
     listener: &TcpListener,
@@ -78,7 +82,7 @@ pub fn serve_on<C: Clock, S: Alter>(
     clock: &mut C,
     desk: &mut Desk<S>,
 ) -> Result<(), ListenFault>
-    // However it ends, and whatever the peers sent: calls of the desk were made in turn and nothing else.
+    // For any result and any bytes of the peers, the desk changed only by a sequence of its calls.
     ensures served { IsSomeRun S.Store desk.old desk.new }
 {
     'streams: for _ in 0..streams {

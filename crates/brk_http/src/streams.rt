@@ -19,14 +19,20 @@ use sqlite::Alter;
 use std::alloc::Global;
 use std::io::{Read, Write};
 
-/// Answers the requests of a stream, one after the other, each before the next one is read, and says how many there were:
-/// 1,000 at most.
+/// Serves the requests of a stream, at most 1,000, and returns their number. The reply to one is
+/// written before the next one is parsed.
 ///
-/// `POST /rows` and `POST /rows/BATCH/N` with a JSON list of texts run a row, without a key or with the key (BATCH, N), under
-/// which it acts once; `POST /ask/VIEW` answers a query. The clock is asked once for each row in form. A stream ends with
-/// its input, after a reply that says `Connection: close`, and at a fault: `Read`, where nothing of the request was done;
-/// `Write`, where a part of the reply was written; `Memory`. After the last two the request may have acted: its key tells.
-/// A fault of the desk itself is a reply, 503, and the last one.
+/// `POST /rows` and `POST /rows/BATCH/N` with a JSON list of texts execute a row, without a key or
+/// with the key (BATCH, N), under which it is accepted at most once. `POST /ask/VIEW` executes a
+/// query. The clock is read once for each well-formed row. A stream ends with its input, and after
+/// a reply with `Connection: close`. A fault of the desk is a reply, 503, and the last one.
+///
+/// Fails with `Read`, `Write` or `Memory`. After `Read` nothing of the request was executed. After
+/// `Write` a part of its reply may have been written. After `Write` or `Memory` the request may
+/// have been executed: retry it under its key.
+///
+/// The contract specifies requests and replies only for a reader with specified content; a socket
+/// has none.
 pub fn serve_stream<R: Read + Drop, W: Write, C: Clock, S: Alter>(
     alloc: Global,
     reader: R,
@@ -34,13 +40,14 @@ pub fn serve_stream<R: Read + Drop, W: Write, C: Clock, S: Alter>(
     clock: &mut C,
     desk: &mut Desk<S>,
 ) -> Result<u64, ServeFault>
-    // Whatever comes of the stream, calls of the desk were made in turn and nothing else: it keeps all that a run of them promises.
-    // Where the reader tells its bytes, these calls are what it asks for, and the replies are those of their outcomes.
+    // For any stream, the desk changed only by a sequence of its calls. So every guarantee of a run
+    // holds. If the reader has specified content, it asks for exactly these calls, and the replies
+    // are those of their outcomes.
     ensures told { (calls : List (ℕ × made.Call)) × (outcomes : List came.Outcome) × IsRunOf S.Store desk.old desk.new calls outcomes
         × IfSome (R.remaining reader) (λ input. TellsOutcomes known_forms C.gives input (map call_of calls, map outcome_of outcomes)
         (record { clock = clock.old; later = clock.new; old = W.contents writer.old; new = W.contents writer.new }) result) }
-    // As far as the disk returns what was written, they are those of the abstract brokerage, from each base whose books the
-    // desk kept, and it keeps those of the base after them.
+    // Under the disk assumption, for every base that the desk represented, the outcomes are those
+    // of the model, and the desk represents the base after them.
     ensures kept { IfSome (R.remaining reader) (λ input. KeepsBooks (λ desk. HasCleanDisk (state S.Store desk)) (λ desk. Represents S.Store desk)
         known_forms Answers C.gives input desk.old desk.new
         (record { clock = clock.old; later = clock.new; old = W.contents writer.old; new = W.contents writer.new }) result) }

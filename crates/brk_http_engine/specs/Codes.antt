@@ -1,4 +1,4 @@
--- What the code's values are in the definitions.
+-- The model's values of the code's values.
 use Rattle.std.specs.Prelude.{List, map, Option, option_map, Result, Ok, Err, String, string_bytes}
 use Rattle.std.specs.Global.{Global, Vec}
 use Rattle.brk_money.specs.Spelling.{Text}
@@ -22,37 +22,37 @@ use Rattle.brk_http_engine.specs.declared.asking.Asking.TheVariants as asking
 use Rattle.brk_http_engine.specs.declared.acting.ServiceAnswer.{ServiceAnswer}
 use Rattle.brk_http_engine.specs.declared.acting.ServiceAnswer.TheVariants as told
 
--- the key of a row, if it has one
+-- The abstract key of a row's key, if it has one.
 abbrev pub key_for : Option ref.Key → Option records.Key
 key_for key = option_map key_of key
 
--- what came of a row
+-- The model's outcome of a call with a row, where `reply` gives the abstract reply.
 abbrev pub row_outcome : {R : Type 0} → (R → model.Reply) → Result (RowAnswer R) Fault → run.Outcome
 row_outcome reply (Ok (given.Done r)) = run.Did (model.Done (reply r))
 row_outcome reply (Ok (given.Again line)) = run.Did (model.Again (string_bytes line))
 row_outcome reply (Ok (given.Refused refusal)) = run.Did (model.Refused refusal)
 row_outcome reply (Err fault) = run.Failed fault
 
--- what came of a query
+-- The model's outcome of a query, where `shown` gives the abstract view.
 abbrev pub query_outcome : {V : Type 0} → (V → queries.View) → Result (Result V Refusal) Fault → run.Outcome
 query_outcome shown (Ok (Ok view)) = run.Saw (shown view)
 query_outcome shown (Ok (Err refusal)) = run.NoView refusal
 query_outcome shown (Err fault) = run.Failed fault
 
--- the texts of a list
+-- The bytes of each text of a list.
 abbrev pub list_of : Vec (String Global) → List Text
 list_of texts = map string_bytes texts.items
 
--- the texts of records
+-- The bytes of each text of the records, as a view of the model.
 abbrev pub records_of : Vec (Vec (String Global)) → queries.View
 records_of records = map list_of records.items
 
--- the route that was found
+-- The model's route of a route.
 abbrev pub route_is : Route → routes.Route
 route_is (route.ToRow key) = routes.ToRow (key_for key)
 route_is (route.ToView view) = routes.ToView view.now
 
--- what a request was found to ask
+-- The model's call of a request, or its response if the request makes no call.
 abbrev pub asked_is : {X Q : Type 0} → (X → model.Command) → (Q → queries.Query) → Asking X Q → asked.Asked
 asked_is command query (asking.Wrong problem) = asked.Answers (Wrong problem)
 asked_is command query (asking.BadRow refusal) = asked.Answers (Came (run.Did (model.Refused refusal)))
@@ -60,7 +60,7 @@ asked_is command query (asking.BadQuery refusal) = asked.Answers (Came (run.NoVi
 asked_is command query (asking.Row x key) = asked.Calls (run.Do (command x) (key_for key))
 asked_is command query (asking.View q) = asked.Calls (run.Ask (query q))
 
--- what is told of a request
+-- The model's response of a response.
 abbrev pub response_of : {R V : Type 0} → (R → model.Reply) → (V → queries.View) → ServiceAnswer R V → Response
 response_of reply shown (told.Wrong problem) = Wrong problem
 response_of reply shown (told.NoRow refusal) = Came (run.Did (model.Refused refusal))

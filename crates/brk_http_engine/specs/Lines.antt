@@ -4,9 +4,10 @@ use Rattle.brk_money.specs.Spelling.{Text}
 use Rattle.brk_http_model.specs.Replies.{head_line}
 use Rattle.http.specs.StatusCode.{code_digits, reason_phrase}
 
--- a status as a head tells it: its digits and its phrase
+-- The status `code` as it is written in a head: its digits, a space and its phrase.
 unfoldable pub line_of : ℕ → Text
 line_of code = code_digits code ++ 32 ∷ unwrap_or (reason_phrase code) []
 
+-- The first three lines of a head: status, content type and content length.
 unfoldable pub first_lines : Text → ℕ → Text
 first_lines status len = head_line (codes "HTTP/1.1 " ++ status) ++ head_line (codes "Content-Type: application/json") ++ head_line (codes "Content-Length: " ++ decimal len)

@@ -1,4 +1,4 @@
--- What a stream comes to, whatever the desk answers, and over the bases that it stands for.
+-- The guarantees of a stream: for any desk, and for the bases that the desk represents.
 use Rattle.std.specs.Prelude.{◌≡◌, ℕ, List, [], ◌∷◌, Result}
 use Rattle.brk_money.specs.Spelling.{Text}
 use Rattle.brk_model.specs.Run.{Call, Outcome}
@@ -9,23 +9,26 @@ use Rattle.brk_http_engine.specs.declared.stream.ServeFault.{ServeFault}
 use Rattle.brk_http_model.specs.Asked.{Forms}
 use Rattle.brk_http_model.specs.Stream.{Does}
 
--- calls of a desk were made, and nothing else
+-- The desk changed from `old` to `new` only by a sequence of calls.
 abbrev pub WasCalled : {D : Type 0} → Does D → D → D → Type 0
 WasCalled acts old new = (calls : List (ℕ × Call)) × (outcomes : List Outcome) × AreMade acts old calls outcomes new
 
--- calls at their moments, and what came of them
+-- Calls with their timestamps, and the outcomes of the calls.
 abbrev pub Script : Type 0
 Script = List (ℕ × Call) × List Outcome
 
--- a desk of which just these calls are made, with these outcomes, whatever they are
+-- The calls of a scripted desk: each is the next call of the script and has its next outcome.
 abbrev pub scripted : Does Script
 scripted script now call outcome rest = (script.0 ≡ (now, call) ∷ rest.0) × (script.1 ≡ outcome ∷ rest.1)
 
--- whatever the desk answered, the stream asked for just these calls and is answered with their outcomes
+-- The stream makes exactly the calls of `script`, and its replies and its result are those of the
+-- outcomes of `script`.
 abbrev pub TellsOutcomes : {C : Type 0} → Forms → (C → ℕ → C → Type 0) → Text → Script → Outside C → Result ℕ ServeFault → Type 0
 TellsOutcomes forms gives input script outside result = ServeGives forms scripted gives input (with_base script ([], []) outside) result
 
--- where the desk is honest, over each base that it stood for, the stream is answered by what calls do to that base, and the desk stands for the base after them
+-- The stream refines the model: under the disk assumption (`honest`), for every base that the desk
+-- represented, the stream is answered as `does` allows from this base, and the desk represents the
+-- base after it.
 abbrev pub KeepsBooks : {D B C : Type 0} → (D → Type 0) → (D → B → Type 0) → Forms → Does B → (C → ℕ → C → Type 0) → Text → D → D → Outside C → Result ℕ ServeFault → Type 0
 KeepsBooks {B = B} honest stands forms does gives input first last outside result =
     honest last → (base : B) → stands first base → (after : B) × stands last after × ServeGives forms does gives input (with_base base after outside) result

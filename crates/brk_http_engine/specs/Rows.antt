@@ -1,14 +1,16 @@
--- The rows that the router keeps for the three routes.
+-- The rows of the router for the three routes.
 use Rattle.std.specs.Prelude.{ℕ, Bool, true, false, List, [], ◌∷◌, ◌++◌, codes}
 use Rattle.matchit.specs.Rows.{RowsOf, param_token}
 use Rattle.matchit.specs.Router.{RouteOf}
 use Rattle.brk_http_engine.specs.declared.router.Kind.{Kind}
 use Rattle.brk_http_engine.specs.declared.router.Kind.TheVariants.{Row, KeyedRow, View}
 
--- a route with its pattern, its text, where its parameters' names stand in that, and its kind
+-- A row of the router: the pattern, the text, the positions of the parameter names in the text, and
+-- the kind of a route.
 abbrev pub route : List ℕ → List ℕ → List (ℕ × ℕ) → Kind → List ℕ × RouteOf Kind
 route pattern text names kind = (pattern, record { pattern = pattern; text = text; names = names; value = kind })
 
+-- The rows of the router for `/ask/{view}`, `/rows/{batch}/{n}` and `/rows`.
 abbrev pub the_routes : RowsOf (RouteOf Kind)
 the_routes =
     route (codes "/ask/" ++ param_token ∷ []) (codes "/ask/{view}") ((6, 10) ∷ []) View
@@ -16,7 +18,7 @@ the_routes =
     ∷ route (codes "/rows") (codes "/rows") [] Row
     ∷ []
 
--- a name of one byte or more
+-- True if the name is not empty.
 abbrev pub has_byte : List ℕ → Bool
 has_byte [] = false
 has_byte (b ∷ name) = true

@@ -1,4 +1,4 @@
--- What a turn of a stream and a whole stream do, by how they end. Said of a desk by what one call of it does.
+-- The effect of a turn of a stream and of a whole stream, by how they end, for any desk.
 use Rattle.std.specs.Prelude.{◌≡◌, ◌⊎◌, ◌==◌, ◌||◌, Bool, ℕ, ◌+◌, List, [], Option, Some, Result, Ok, Err, length, take}
 use Rattle.std.specs.Io.KnownBytes.{Appends}
 use Rattle.std.specs.List.{concat}
@@ -15,13 +15,15 @@ use Rattle.brk_http_engine.specs.declared.turning.FaultKind.{FaultKind}
 use Rattle.brk_http_engine.specs.declared.turning.FaultKind.TheVariants as kinds
 use Rattle.brk_http_engine.specs.declared.stream.ServeFault.{ServeFault}
 
--- one request was answered from here: the clock gave the moments that were taken
+-- The input at the front was answered with `reply`, after which the stream is `next`. The clock
+-- returned the timestamps that were taken.
 pub record Answered {B C : Type 0} (forms : Forms) (does : Does B) (gives : C → ℕ → C → Type 0) (n : ℕ) (input : Text) (span : Span B C) (reply : Text) (next : Next) : Type 0 where
   pub taken : List ℕ
   pub moments : Moments gives span.clock taken span.later
   pub one : One forms does n input span.base taken reply next span.after
 
--- a request was acted on: it has this reply
+-- The request was executed and `reply` is its reply. The reply closes the stream if it is the last
+-- that the limit allows, if the request asks to close, or if the desk failed.
 pub record Acted {B C : Type 0} (forms : Forms) (does : Does B) (gives : C → ℕ → C → Type 0) (n : ℕ) (request : Request) (span : Span B C) (closes : Bool) (reply : Text) : Type 0 where
   pub taken : List ℕ
   pub response : Response
@@ -30,14 +32,18 @@ pub record Acted {B C : Type 0} (forms : Forms) (does : Does B) (gives : C → �
   pub last : closes ≡ ((n + 1 == most_requests) || request.closes || is_fault response)
   pub bytes : reply ≡ reply_text response closes
 
--- a turn that did not fail
+-- The turn completed with this result. `Ended`: no input was left and nothing changed. `Closed`:
+-- the reply was written and ends the stream. `Open`: the reply was written and `left` is the rest
+-- of the input.
 abbrev pub Turned : {B C : Type 0} → Forms → Does B → (C → ℕ → C → Type 0) → ℕ → Text → Span B C → Option Text → Turn → Type 0
 Turned forms does gives n input span left turn.Ended = Finds input NoMore × IsUntouched span
 Turned forms does gives n input span left turn.Closed = (reply : Text) × Answered forms does gives n input span reply Ends × Appends span.old span.new reply
 Turned forms does gives n input span left turn.Open =
     (reply : Text) × (rest : Text) × Answered forms does gives n input span reply (GoesOn rest) × Appends span.old span.new reply × (left ≡ Some rest)
 
--- a turn that failed: a read changed nothing; where memory was wanted the request may have acted, and where the writer failed it has
+-- The turn failed with this fault. `Read`: nothing was executed or written. `Memory`: nothing was
+-- written, but the request may have been executed. `Write`: the request was executed, and the first
+-- `k` bytes of its reply were written, for some `k`.
 abbrev pub Failed : {B C : Type 0} → Forms → Does B → (C → ℕ → C → Type 0) → ℕ → Text → Span B C → FaultKind → Type 0
 Failed forms does gives n input span kinds.Read = IsUntouched span
 Failed forms does gives n input span kinds.Memory =
@@ -45,7 +51,8 @@ Failed forms does gives n input span kinds.Memory =
 Failed forms does gives n input span kinds.Write =
     (reply : Text) × (next : Next) × (k : ℕ) × Answered forms does gives n input span reply next × Appends span.old span.new (take k reply)
 
--- a stream that ended well: what was written is its reply text, at the moments that the clock gave
+-- The stream completed: the writer got exactly its `count` replies, for the timestamps that the
+-- clock returned.
 pub record Served {B C : Type 0} (forms : Forms) (does : Does B) (gives : C → ℕ → C → Type 0) (input : Text) (span : Span B C) (count : ℕ) : Type 0 where
   pub moments : List ℕ
   pub replies : List Text
@@ -54,7 +61,8 @@ pub record Served {B C : Type 0} (forms : Forms) (does : Does B) (gives : C → 
   pub written : Appends span.old span.new (concat replies)
   pub counted : count ≡ length replies
 
--- a stream that a fault ended: the first replies are written, and the next request failed
+-- A fault ended the stream: the first `count` replies were written, and the next turn failed with
+-- `kind`.
 pub record Stopped {B C : Type 0} (forms : Forms) (does : Does B) (gives : C → ℕ → C → Type 0) (input : Text) (span : Span B C) (kind : FaultKind) (count : ℕ) : Type 0 where
   pub moments : List ℕ
   pub replies : List Text
@@ -68,7 +76,8 @@ pub record Stopped {B C : Type 0} (forms : Forms) (does : Does B) (gives : C →
   pub failed : Failed forms does gives (length replies) rest (record { base = mid; after = span.after; clock = later; later = span.later; old = between; new = span.new }) kind
   pub counted : count ≡ length replies
 
--- what a stream comes to
+-- The result of a stream is as specified: the number of replies of a complete stream, or a fault
+-- with its effect.
 abbrev pub ServeGives : {B C : Type 0} → Forms → Does B → (C → ℕ → C → Type 0) → Text → Span B C → Result ℕ ServeFault → Type 0
 ServeGives forms does gives input span (Ok count) = Served forms does gives input span count
 ServeGives forms does gives input span (Err fault) = Stopped forms does gives input span fault.kind fault.done

@@ -13,21 +13,26 @@ use brk_money::{Fault, Refusal, Stamp};
 use brk_ref::Key;
 use std::alloc::Global;
 
-/// What is told of a request.
+/// The response to a request.
 #[derive(Debug, Drop)]
 pub enum ServiceAnswer<R, V> {
+    /// The request has this problem.
     Wrong(Problem),
     /// A row was refused.
     NoRow(Refusal),
     /// A query was refused.
     NoView(Refusal),
+    /// A row was executed, with this reply.
     Done(R),
+    /// A row was accepted before, with this stored reply.
     Again(String),
+    /// A query returned this view.
     Saw(V),
+    /// The desk failed.
     Failed(Fault),
 }
 
-// Runs a command.
+// Executes a command.
 fn act_on_row<D: Service>(
     alloc: Global,
     desk: &mut D::Desk,
@@ -46,7 +51,7 @@ fn act_on_row<D: Service>(
     }
 }
 
-// Answers a query.
+// Executes a query.
 fn act_on_query<D: Service>(
     alloc: Global,
     desk: &mut D::Desk,
@@ -62,7 +67,8 @@ fn act_on_query<D: Service>(
     }
 }
 
-/// Does what was asked. The clock is asked once for a row in form, and else not.
+/// Executes the call of a request and returns the response. The clock is read once for a
+/// well-formed row, otherwise not.
 pub fn act<C: Clock, D: Service>(
     alloc: Global,
     clock: &mut C,

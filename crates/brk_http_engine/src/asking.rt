@@ -15,20 +15,22 @@ use brk_ref::Key;
 use matchit::Router;
 use std::alloc::Global;
 
-/// What a request asks of the desk.
+/// The call that a request makes, or the reason why it makes none.
 #[derive(Drop)]
 pub enum Asking<X, Q> {
-    /// Nothing: this is wrong with it.
+    /// No call: the request has this problem.
     Wrong(Problem),
-    /// Nothing: its row is out of form.
+    /// No call: its row is malformed.
     BadRow(Refusal),
-    /// Nothing: its query is out of form.
+    /// No call: its query is malformed.
     BadQuery(Refusal),
+    /// A command, with or without a key.
     Row(X, Option<Key>),
+    /// A query.
     View(Q),
 }
 
-// What a row or a query with these texts asks.
+// Returns the call of a row or a query with these texts, or the refusal of its form.
 fn asking_with<D: Service>(
     alloc: Global,
     route: Route,
@@ -49,7 +51,7 @@ fn asking_with<D: Service>(
     }
 }
 
-/// What a request asks. An error is want of memory.
+/// Returns the call that a request makes, or the first reason why it makes none.
 #[tactic(auto, unfolding(brk_http_model::specs::Asked::asked_of), using(crate::proofs::AskLemmas::no_route, crate::proofs::AskLemmas::no_post, crate::proofs::AskLemmas::no_texts, crate::proofs::AskLemmas::all_there))]
 pub fn asking_of<D: Service>(
     alloc: Global,

@@ -8,7 +8,7 @@ ghost use Rattle.brk_http_engine.specs.Words.{word_text};
 use serde_json::{Value, json};
 use std::alloc::{AllocError, Global};
 
-// The texts in a list of values, if each is a text.
+// Returns the texts in a list of values, or `None` if one of them is not a text.
 fn strings(alloc: Global, values: &[Value]) -> Result<Option<Vec<String>>, AllocError>
     ensures found { IfOk result (λ o. IfSome o (λ v. map view values.now ≡ map string (map string_bytes v.items))) }
     ensures none { IfOk result (λ o. IfNone o ((ts : List (List ℕ)) → map view values.now ≢ map string ts)) }
@@ -23,7 +23,7 @@ fn strings(alloc: Global, values: &[Value]) -> Result<Option<Vec<String>>, Alloc
     Ok(Some(texts))
 }
 
-/// The texts of a body that is a JSON list of texts.
+/// Returns the texts of a body that is a JSON list of texts, otherwise `None`.
 #[tactic(auto, using(crate::proofs::BodyLemmas::no_value))]
 pub fn texts_of(alloc: Global, body: &[u8]) -> Result<Option<Vec<String>>, AllocError>
     ensures { IfOk result (λ found. option_map list_of found ≡ spec.texts_of body.now) }
@@ -46,7 +46,7 @@ pub fn texts_of(alloc: Global, body: &[u8]) -> Result<Option<Vec<String>>, Alloc
     }
 }
 
-/// The one member of a reply's object.
+/// The name of the one member of a reply's object.
 #[derive(Clone, Copy, Debug, PartialEq, Eq)]
 pub enum Word {
     Ok,
@@ -56,7 +56,7 @@ pub enum Word {
     Error,
 }
 
-// Texts as a list.
+// Returns texts as a JSON list.
 fn list_value(alloc: Global, texts: &[String]) -> Result<Value, AllocError>
     ensures { IfOk result (λ v. view v ≡ spec.listed (map string_bytes texts.now)) }
 {
@@ -67,7 +67,7 @@ fn list_value(alloc: Global, texts: &[String]) -> Result<Value, AllocError>
     Ok(Value::Array(list))
 }
 
-// Records of texts as a list of lists.
+// Returns records of texts as a JSON list of lists.
 fn records_value(alloc: Global, records: &[Vec<String>]) -> Result<Value, AllocError>
     ensures { IfOk result (λ v. view v ≡ array (items_of (map spec.listed (map list_of records.now)))) }
 {
@@ -78,7 +78,7 @@ fn records_value(alloc: Global, records: &[Vec<String>]) -> Result<Value, AllocE
     Ok(Value::Array(list))
 }
 
-// An object of one member.
+// Returns a JSON object of one member.
 fn told_value(alloc: Global, word: Word, value: Value) -> Result<Value, AllocError>
     ensures { IfOk result (λ v. view v ≡ object (member (word_text word) (view value) no_members)) }
 {
@@ -91,7 +91,7 @@ fn told_value(alloc: Global, word: Word, value: Value) -> Result<Value, AllocErr
     }
 }
 
-/// A list of texts under a word.
+/// Returns the JSON text `{"WORD":["TEXT",..]}`.
 pub fn told_texts(alloc: Global, word: Word, texts: &[String]) -> Result<String, AllocError>
     ensures { IfOk result (λ s. string_bytes s ≡ spec.told_texts (word_text word) (map string_bytes texts.now)) }
 {
@@ -100,7 +100,7 @@ pub fn told_texts(alloc: Global, word: Word, texts: &[String]) -> Result<String,
     told.to_string(alloc)
 }
 
-/// Records of texts as a view.
+/// Returns the JSON text `{"view":[["TEXT",..],..]}`.
 pub fn told_records(alloc: Global, records: &[Vec<String>]) -> Result<String, AllocError>
     ensures { IfOk result (λ s. string_bytes s ≡ spec.told_records (codes "view") (map list_of records.now)) }
 {
@@ -109,14 +109,14 @@ pub fn told_records(alloc: Global, records: &[Vec<String>]) -> Result<String, Al
     told.to_string(alloc)
 }
 
-// A text as a value.
+// Returns a text as a JSON value.
 fn text_value(alloc: Global, text: &str) -> Result<Value, AllocError>
     ensures { IfOk result (λ v. view v ≡ string text.now) }
 {
     Ok(Value::String(String::from_str(alloc, text)?))
 }
 
-/// An error in words.
+/// Returns the JSON text `{"error":"WORDS"}`.
 pub fn told_error(alloc: Global, words: &str) -> Result<String, AllocError>
     ensures { IfOk result (λ s. string_bytes s ≡ spec.told_error words.now) }
 {

@@ -1,5 +1,5 @@
-//! Streams of HTTP requests over a desk: requests are read one after the other, each is answered, and its reply is written
-//! before the next one is read.
+//! Serves streams of HTTP requests on any desk. Requests are executed in order: the reply to one is
+//! written before the next one is parsed.
 #![tactic(auto)]
 
 mod acting;

@@ -5,7 +5,7 @@ ghost use Rattle.brk_http_engine.specs.Codes.{list_of};
 
 use std::alloc::{AllocError, Global};
 
-/// The parts of a text between the places where a character stands.
+/// Returns the parts of `text` between the occurrences of the ASCII character `cut`.
 #[tactic(auto, unfolding(brk_http_model::specs::Routes::parts_at))]
 pub fn parts_at(alloc: Global, cut: char, text: &str) -> Result<Vec<&str>, AllocError>
     requires ascii { cut < 128 }
@@ -14,7 +14,7 @@ pub fn parts_at(alloc: Global, cut: char, text: &str) -> Result<Vec<&str>, Alloc
     text.split(cut).collect(alloc)
 }
 
-/// The same texts, each with bytes of its own.
+/// Returns owned copies of the texts.
 pub fn owned(alloc: Global, parts: &[&str]) -> Result<Vec<String>, AllocError>
     ensures { IfOk result (λ all. list_of all ≡ slices parts.now) }
 {
@@ -25,7 +25,7 @@ pub fn owned(alloc: Global, parts: &[&str]) -> Result<Vec<String>, AllocError>
     Ok(all)
 }
 
-/// The same texts, borrowed.
+/// Returns the bytes of the texts, borrowed.
 pub fn borrowed(alloc: Global, texts: &[String]) -> Result<Vec<&[u8]>, AllocError>
     ensures { IfOk result (λ all. slices all.items ≡ map string_bytes texts.now) }
 {

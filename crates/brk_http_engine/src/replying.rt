@@ -17,7 +17,7 @@ use brk_money::{Fault, Refusal};
 use http::StatusCode;
 use std::alloc::{AllocError, Global};
 
-// The status of a problem.
+// Returns the status of a problem.
 fn problem_code(problem: Problem) -> StatusCode
     ensures { line_of result ≡ problem_status problem }
 {
@@ -51,7 +51,7 @@ fn fault_word(fault: Fault) -> &'static str
     }
 }
 
-// The status of what is told.
+// Returns the status of a response.
 fn status_of<R, V>(told: &ServiceAnswer<R, V>) -> StatusCode
     ensures { (reply : R → model.Reply) (shown : V → queries.View) → line_of result ≡ status_of (response_of reply shown told.now) }
 {
@@ -75,7 +75,7 @@ fn asks_for_post<R, V>(told: &ServiceAnswer<R, V>) -> bool
     }
 }
 
-/// Whether the desk failed.
+/// Returns true if the desk failed.
 pub fn is_fault<R, V>(told: &ServiceAnswer<R, V>) -> bool
     ensures { (reply : R → model.Reply) (shown : V → queries.View) → result ≡ is_fault (response_of reply shown told.now) }
 {
@@ -85,7 +85,7 @@ pub fn is_fault<R, V>(told: &ServiceAnswer<R, V>) -> bool
     }
 }
 
-/// The fields of a line.
+/// Returns the fields of a line, which commas separate.
 pub fn line_fields(alloc: Global, line: &str) -> Result<Vec<String>, AllocError>
     ensures { IfOk result (λ fields. list_of fields ≡ parts_at 44 line.now) }
 {
@@ -93,7 +93,7 @@ pub fn line_fields(alloc: Global, line: &str) -> Result<Vec<String>, AllocError>
     owned(alloc, &parts)
 }
 
-// What is told of a refusal.
+// Returns the body of the reply to a refused request.
 #[tactic(auto, using(crate::proofs::PieceLemmas::refusal_parts))]
 fn refusal_body(alloc: Global, refusal: Refusal) -> Result<String, AllocError>
     ensures { IfOk result (λ s. string_bytes s ≡ body_of (Came (run.NoView refusal))) }
@@ -130,21 +130,21 @@ fn body_of<D: Service>(
     }
 }
 
-// Adds a line of the head.
+// Appends a line to the head.
 fn add_line(head: &mut String, line: &str) -> Result<(), AllocError>
     ensures { OnOk result (string_bytes head.new ≡ string_bytes head.old ++ head_line line.now) }
 {
     write!(head, "{line}\r\n")
 }
 
-// Adds a line of the head, where it is to stand.
+// Appends a line to the head if `stands` is true.
 fn add_line_if(head: &mut String, stands: bool, line: &str) -> Result<(), AllocError>
     ensures { OnOk result (string_bytes head.new ≡ string_bytes head.old ++ line_if stands line.now) }
 {
     if stands { add_line(head, line) } else { Ok(()) }
 }
 
-// The phrase of a status.
+// Returns the phrase of a status, or an empty text if it has none.
 fn phrase_of(code: StatusCode) -> &'static str
     ensures { result.now ≡ unwrap_or (reason_phrase code) [] }
 {
@@ -154,7 +154,7 @@ fn phrase_of(code: StatusCode) -> &'static str
     }
 }
 
-// The digits of a status, and its phrase.
+// Returns the digits of a status, a space, and its phrase.
 fn status_line(alloc: Global, code: StatusCode) -> Result<String, AllocError>
     ensures { IfOk result (λ s. string_bytes s ≡ line_of code) }
 {
@@ -164,7 +164,7 @@ fn status_line(alloc: Global, code: StatusCode) -> Result<String, AllocError>
     Ok(line)
 }
 
-// A label and a value.
+// Returns a label followed by a value.
 fn labelled(alloc: Global, label: &str, value: &str) -> Result<String, AllocError>
     ensures { IfOk result (λ s. string_bytes s ≡ label.now ++ value.now) }
 {
@@ -173,14 +173,14 @@ fn labelled(alloc: Global, label: &str, value: &str) -> Result<String, AllocErro
     Ok(text)
 }
 
-// The digits of a number.
+// Returns the decimal digits of a number.
 fn digits_of(alloc: Global, n: usize) -> Result<String, AllocError>
     ensures { IfOk result (λ s. string_bytes s ≡ decimal n) }
 {
     format!(in alloc; "{n}")
 }
 
-// The first three lines of a head.
+// Returns the first three lines of a head.
 fn first_lines(alloc: Global, status: &str, len: usize) -> Result<String, AllocError>
     ensures { IfOk result (λ s. string_bytes s ≡ first_lines status.now len) }
 {
@@ -212,7 +212,7 @@ fn reply_with(
     Ok(text)
 }
 
-/// The whole of a reply.
+/// Returns the bytes of a whole reply.
 pub fn reply_text<D: Service>(
     alloc: Global,
     told: &ServiceAnswer<D::Reply, D::View>,
@@ -230,7 +230,7 @@ pub fn reply_text<D: Service>(
     )
 }
 
-/// The reply to what is no request, which ends its stream.
+/// Returns the bytes of the reply to an unreadable request, which closes its stream.
 pub fn problem_text(alloc: Global, problem: Problem) -> Result<String, AllocError>
     ensures { IfOk result (λ s. string_bytes s ≡ reply_text (Wrong problem) Bool.true) }
 {

@@ -1,4 +1,4 @@
-//! The routes of a stream's targets, by the router.
+//! The router of request targets.
 
 ghost use Rattle.std.specs.Prelude.{◌≡◌, IfOk, is_some};
 ghost use Rattle.matchit.specs.Seek.{first};
@@ -7,18 +7,18 @@ ghost use Rattle.brk_http_engine.specs.Rows.{the_routes};
 use matchit::{InsertError, Router};
 use std::alloc::Global;
 
-/// What the targets of a route ask for.
+/// The kind of request that the targets of a route make.
 #[derive(Clone, Copy, Debug, PartialEq, Eq)]
 pub enum Kind {
     /// A row without a key.
     Row,
-    /// A row under its key.
+    /// A row with its key.
     KeyedRow,
     /// A view.
     View,
 }
 
-/// The router of the three routes.
+/// Creates the router of the three routes.
 pub fn new_router(alloc: Global) -> Result<Router<Kind>, InsertError>
     ensures { IfOk result (λ router. router ≡ the_routes) }
 {
@@ -29,7 +29,7 @@ pub fn new_router(alloc: Global) -> Result<Router<Kind>, InsertError>
     Ok(router)
 }
 
-/// Whether a target has one of the routes.
+/// Returns true if one of the routes matches `target`.
 pub fn is_routed(router: &Router<Kind>, target: &str) -> bool
     ensures { result ≡ is_some (first router.now target.now) }
 {

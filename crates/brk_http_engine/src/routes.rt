@@ -15,14 +15,16 @@ use brk_ref::{BatchName, Key, RowNumber, parse_id};
 use matchit::Router;
 use std::alloc::Global;
 
-/// What a target asks for.
+/// The route of a target.
 #[derive(Drop)]
 pub enum Route {
+    /// A row, with or without a key.
     ToRow(Option<Key>),
+    /// The view with this name.
     ToView(&'static str),
 }
 
-// The row of a batch, where the name and the number have their form.
+// Returns the key of a row of a batch, or `None` if the name or the number is malformed.
 fn row_of_batch(alloc: Global, batch: &[u8], n: &[u8]) -> Result<Option<Key>, Fault>
     ensures { IfOk result (λ key. option_map key_of key ≡ row_of_batch batch.now (read_id n.now)) }
 {
@@ -36,7 +38,7 @@ fn row_of_batch(alloc: Global, batch: &[u8], n: &[u8]) -> Result<Option<Key>, Fa
     Ok(Some(Key { batch, row }))
 }
 
-// Whether the first part is empty and the second this word.
+// Returns true if `first` is empty and `word` equals `name`.
 fn begins_with(first: &str, word: &str, name: &str) -> bool
     ensures { result ≡ begins_with first.now word.now name.now }
 {
@@ -46,7 +48,7 @@ fn begins_with(first: &str, word: &str, name: &str) -> bool
     word == name
 }
 
-// The view with a name, after its word.
+// Returns the route `/ask/VIEW` if the parts are those of one, otherwise `None`.
 fn view_route<D: Service>(first: &str, word: &str, view: &str) -> Option<Route>
     ensures { option_map route_is result ≡ route_by D.forms.views (first.now ∷ word.now ∷ view.now ∷ []) }
 {
@@ -59,7 +61,7 @@ fn view_route<D: Service>(first: &str, word: &str, view: &str) -> Option<Route>
     }
 }
 
-// The row of a batch, after its word.
+// Returns the route `/rows/BATCH/N` if the parts are those of one, otherwise `None`.
 fn keyed_route<D: Service>(
     alloc: Global,
     first: &str,
@@ -78,7 +80,7 @@ fn keyed_route<D: Service>(
     }
 }
 
-// A row without a key, after its word.
+// Returns the route `/rows` if the parts are those of it, otherwise `None`.
 fn plain_route<D: Service>(first: &str, word: &str) -> Option<Route>
     ensures { option_map route_is result ≡ route_by D.forms.views (first.now ∷ word.now ∷ []) }
 {
@@ -89,7 +91,7 @@ fn plain_route<D: Service>(first: &str, word: &str) -> Option<Route>
     }
 }
 
-// The route with these parts.
+// Returns the route of a target with these parts, or `None` if it has none.
 fn route_by<D: Service>(alloc: Global, parts: &[&str]) -> Result<Option<Route>, Fault>
     ensures { IfOk result (λ route. option_map route_is route ≡ route_by D.forms.views (texts parts.now)) }
 {
@@ -101,7 +103,7 @@ fn route_by<D: Service>(alloc: Global, parts: &[&str]) -> Result<Option<Route>, 
     }
 }
 
-/// The route of a target.
+/// Returns the route of a target, or `None` if it has none.
 #[tactic(auto, unfolding(brk_http_model::specs::Routes::route_of))]
 pub fn route_of<D: Service>(
     alloc: Global,

@@ -16,60 +16,64 @@ use std::alloc::{AllocError, Global};
 /// The answer to a row.
 #[derive(Debug, Drop)]
 pub enum RowAnswer<R> {
-    /// It was done, with this reply.
+    /// The row was executed, with this reply.
     Done(R),
-    /// It had been done before, with these fields.
+    /// The row was accepted before, with this stored reply.
     Again(String),
-    /// It was refused, and nothing was changed.
+    /// The row was refused.
     Refused(Refusal),
 }
 
-/// How the requests of a stream are answered.
+/// The operations of a desk that the requests of a stream need.
 pub trait Service {
-    /// What answers them.
+    /// The desk that executes the calls.
     type Desk;
 
-    /// A row in form.
+    /// A command: a well-formed row.
     type Command: Drop;
 
-    /// What is told of a row that was done.
+    /// The reply to a row that was executed.
     type Reply: Drop;
 
-    /// A query in form.
+    /// A well-formed query.
     type Query: Drop;
 
-    /// What a query shows.
+    /// The view that a query returns.
     type View: Drop;
 
-    /// How rows and queries are read, and which views there are.
+    /// The parsers of rows and queries, and the names of the views.
     ghost forms: { Forms };
 
-    /// From this desk to that one a call was made at a moment, with this outcome.
+    /// A call at a timestamp may turn the first desk into the second, with this outcome.
     ghost acts: { Self.Desk → ℕ → Call → Outcome → Self.Desk → Type 0 };
 
+    /// The abstract command of a command.
     ghost command_of: { Self.Command → model.Command };
 
+    /// The abstract query of a query.
     ghost query_of: { Self.Query → queries.Query };
 
+    /// The abstract reply of a reply.
     ghost told: { Self.Reply → model.Reply };
 
+    /// The abstract view of a view.
     ghost shown: { Self.View → queries.View };
 
-    /// Reads the fields of a row.
+    /// Parses the fields of a row: returns a command, or the refusal of a malformed row.
     fn parse_row(alloc: Global, row: &[&[u8]]) -> Planned<Self::Command>
         ensures { IfOk result (λ read. Reads command_of read (forms.row (texts row.now))) };
 
-    /// The view with a name, if there is one.
+    /// Returns the name of a view if a view with this name exists, otherwise `None`.
     fn view_named(name: &str) -> Option<&'static str>
         ensures { MatchOption result
             (list_any (λ v. bytes_eq v name.now) forms.views ≡ Bool.false)
             (λ view. (view.now ≡ name.now) × (list_any (λ v. bytes_eq v name.now) forms.views ≡ Bool.true)) };
 
-    /// Reads the arguments of a view.
+    /// Parses the arguments of a view: returns a query, or the refusal of a malformed query.
     fn parse_query(alloc: Global, view: &str, arguments: &[&[u8]]) -> Planned<Self::Query>
         ensures { IfOk result (λ read. Reads query_of read (forms.query view.now (texts arguments.now))) };
 
-    /// Runs a command at a moment, with or without a key.
+    /// Executes a command at the clock reading `now`, with or without a key.
     fn call(
         desk: &mut Self::Desk,
         alloc: Global,
@@ -79,15 +83,15 @@ pub trait Service {
     ) -> Result<RowAnswer<Self::Reply>, Fault>
         ensures { acts desk.old now (Do (command_of command.now) (key_for (option_copied key.entry))) (row_outcome told result) desk.new };
 
-    /// Answers a query.
+    /// Executes a query and returns its view or its refusal.
     fn ask(desk: &mut Self::Desk, alloc: Global, query: &Self::Query) -> Planned<Self::View>
         ensures { acts desk.old 0 (Ask (query_of query.now)) (query_outcome shown result) desk.new };
 
-    /// The fields of a reply.
+    /// Returns the fields of a reply.
     fn reply_fields(alloc: Global, reply: &Self::Reply) -> Result<Vec<String>, AllocError>
         ensures { IfOk result (λ fields. list_of fields ≡ reply_fields (told reply.now)) };
 
-    /// The records of a view.
+    /// Returns the records of a view.
     fn records(alloc: Global, view: &Self::View) -> Result<Vec<Vec<String>>, AllocError>
         ensures { IfOk result (λ records. records_of records ≡ shown view.now) };
 }

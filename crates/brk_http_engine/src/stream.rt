@@ -12,14 +12,15 @@ use matchit::Router;
 use std::alloc::Global;
 use std::io::{Read, Write};
 
-/// A stream that ended early, and how many requests were answered before.
+/// A fault that ended a stream early.
 #[derive(Clone, Copy, Debug, PartialEq, Eq)]
 pub struct ServeFault {
+    /// The number of requests that were answered before.
     pub done: u64,
     pub kind: FaultKind,
 }
 
-// Answers the requests of a stream with a router of the three routes.
+// Serves the requests of a stream, with a router of the three routes.
 fn serve_by<R: Read + Drop, W: Write, C: Clock, D: Service>(
     alloc: Global,
     router: &Router<Kind>,
@@ -55,7 +56,10 @@ fn serve_by<R: Read + Drop, W: Write, C: Clock, D: Service>(
     }
 }
 
-/// Answers the requests of a stream, one after the other, and says how many there were. The names of views are none of them empty.
+/// Serves the requests of a stream, in order, and returns the number of replies. No view may have
+/// an empty name.
+///
+/// After a fault of memory or of the writer, the next request may have been executed.
 pub fn serve<R: Read + Drop, W: Write, C: Clock, D: Service>(
     alloc: Global,
     reader: R,

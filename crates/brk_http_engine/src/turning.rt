@@ -19,31 +19,32 @@ use matchit::Router;
 use std::alloc::Global;
 use std::io::{Read, Write};
 
-/// A stream has at most so many requests answered.
+/// The largest number of requests that are answered on one stream.
 pub const MOST_REQUESTS: u64 = 1000;
 
+/// The result of one turn of a stream.
 #[derive(Clone, Copy, Debug, PartialEq, Eq)]
 pub enum Turn {
     /// The input ended before a request.
     Ended,
-    /// The stream goes on after the reply.
+    /// The stream continues after the reply.
     Open,
     /// The reply ended the stream.
     Closed,
 }
 
-/// Why a stream ended early.
+/// The cause that ended a stream early.
 #[derive(Clone, Copy, Debug, PartialEq, Eq)]
 pub enum FaultKind {
     /// The reader failed; an interrupted read is a failure too.
     Read,
-    /// The writer failed, or took no byte.
+    /// The writer failed, or accepted no byte.
     Write,
-    /// Memory was refused.
+    /// Out of memory.
     Memory,
 }
 
-// Whether a reply is the last.
+// Returns true if the reply after `done` replies is the last of its stream.
 fn is_last(done: u64, closes: bool, failed: bool) -> bool
     requires few { done < most_requests }
     ensures { result ≡ ((done + 1 == most_requests) || closes || failed) }
@@ -51,23 +52,23 @@ fn is_last(done: u64, closes: bool, failed: bool) -> bool
     done + 1 == MOST_REQUESTS || closes || failed
 }
 
-// The bytes of a reply, and whether it is the last.
+// The bytes of a reply, and a flag that it is the last.
 #[derive(Drop)]
 struct Draft {
     text: String,
     closes: bool,
 }
 
-// Why there is no draft.
+// The point at which memory ran out.
 #[derive(Clone, Copy, Debug, PartialEq, Eq)]
 enum Lack {
-    // Memory was refused before anything was asked of the desk.
+    // Before the desk was called or the clock was read.
     Before,
-    // Memory was refused after the request was answered.
+    // After the request was executed.
     After,
 }
 
-// Answers a request.
+// Executes a request and returns its reply.
 fn respond<C: Clock, D: Service>(
     alloc: Global,
     router: &Router<Kind>,
@@ -105,7 +106,8 @@ fn respond<C: Clock, D: Service>(
     }
 }
 
-/// Reads one request, answers it and writes the reply.
+/// Reads one request, executes it and writes the reply. If it fails with `Memory` or `Write`, the
+/// request may have been executed.
 pub fn take_turn<R: Read, W: Write, C: Clock, D: Service>(
     alloc: Global,
     router: &Router<Kind>,

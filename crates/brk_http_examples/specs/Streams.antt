@@ -1,27 +1,27 @@
--- How the examples are run: requests in, replies out.
+-- The functions that run the examples: requests in, replies out.
 use Rattle.std.specs.Prelude.{◌≡◌, ℕ, List, [], ◌∷◌, ◌++◌, replicate, false, true, codes}
 use Rattle.brk_money.specs.Spelling.{Text}
 use Rattle.brk_model_examples.specs.Setting.{setting}
 use Rattle.brk_http_model.specs.Computed.{replies_from}
 use Rattle.brk_http_model.specs.Found.{Request}
 
--- a clock that stands at 2024-03-01
+-- Twenty readings of a clock that returns only the start of 2024-03-01.
 abbrev pub clock : List ℕ
 clock = replicate 20 1709251200000
 
--- a request by POST
+-- A request by POST.
 abbrev pub post : Text → Text → Request
 post target body = record { method = codes "POST"; target = target; closes = false; body = body }
 
--- a request by GET, without a body
+-- A request by GET, without a body.
 abbrev pub get : Text → Request
 get target = record { method = codes "GET"; target = target; closes = false; body = [] }
 
--- the same, with Connection: close
+-- The request with `Connection: close`.
 abbrev pub last : Request → Request
 last request = record request { closes = true }
 
--- the bytes of a reply: its status, further fields, and its body with its length
+-- The bytes of a reply: its status, further fields, and its body with the length `len`.
 abbrev pub reply : Text → List Text → Text → Text → Text
 reply status fields len body =
     codes "HTTP/1.1 " ++ status ++ codes "\r\nContent-Type: application/json\r\nContent-Length: " ++ len ++ codes "\r\n" ++ lines fields ++ codes "\r\n" ++ body
@@ -30,6 +30,6 @@ reply status fields len body =
     lines [] = []
     lines (f ∷ fs) = f ++ codes "\r\n" ++ lines fs
 
--- these requests, over the setting, are answered with these replies
+-- These requests to the setting are answered with these replies.
 abbrev pub Gives : List Request → List Text → Type 0
 Gives requests replies = replies_from 0 setting clock requests ≡ replies

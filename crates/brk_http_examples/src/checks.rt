@@ -1,4 +1,5 @@
-//! Where heads end, how long bodies are, what has a route, what is a list of texts, and which check comes first.
+//! Checks of requests: the end of a head, the length of a body, routes, lists of texts, and the
+//! order of the checks.
 #![tactic(auto, unfolding(crate::proofs::OnLiterals::web_on_literals))]
 
 ghost use Rattle.std.specs.Prelude.{◌≡◌, ◌∷◌, [], ℕ, Ok, Err, Some, None, codes};
@@ -12,7 +13,7 @@ ghost use Rattle.brk_http_model.specs.declared.head_end.HeadEnd.TheVariants.{At,
 ghost use Rattle.brk_http_model.specs.declared.problem.Problem.TheVariants.{BadRequest, NotAllowed, NotFound, NotImplemented, TooLarge};
 ghost use Rattle.brk_http_examples.specs.Streams.{get, post};
 
-/// A head ends with its first empty line, which lies within the limit.
+/// Shows that a head ends with its first empty line, which must end within the limit.
 pub fn where_heads_end()
     ensures first { head_end (codes "GET / HTTP/1.1\r\n\r\nGET") ≡ At 18 }
     ensures bare { head_end (codes "a\n\nb\r\n\r\n") ≡ At 3 }
@@ -24,7 +25,7 @@ pub fn where_heads_end()
     ensures hopeless { head_end_within 4 (codes "\0\0\0\0") ≡ TooLong }
 {}
 
-/// The length of a body, and what is wrong with it; names of fields go without case.
+/// Shows the length of a body, or the problem with it. Names of fields are matched in any case.
 pub fn how_long_bodies_are()
     ensures absent { body_len ((codes "Host", codes "x") ∷ []) ≡ Ok 0 }
     ensures zeros { body_len ((codes "content-LENGTH", codes "000000012") ∷ []) ≡ Ok 12 }
@@ -37,7 +38,7 @@ pub fn how_long_bodies_are()
     ensures coded { body_len ((codes "Content-Length", codes "x") ∷ (codes "Transfer-Encoding", []) ∷ []) ≡ Err NotImplemented }
 {}
 
-/// What has a route.
+/// Shows targets with a route, and targets without one.
 pub fn what_has_a_route()
     ensures row { route_of all_forms.views (codes "/rows") ≡ Some (ToRow None) }
     ensures keyed { route_of all_forms.views (codes "/rows/A.b-c_1/1000000000000") ≡ Some (ToRow (Some (record { batch = codes "A.b-c_1"; row = 1000000000000 }))) }
@@ -53,7 +54,7 @@ pub fn what_has_a_route()
     ensures parts { parts_at 44 (codes "1,SBMT,,") ≡ codes "1" ∷ codes "SBMT" ∷ [] ∷ [] ∷ [] }
 {}
 
-/// What is a JSON list of texts.
+/// Shows bodies that are JSON lists of texts, and bodies that are not.
 pub fn what_is_a_list_of_texts()
     ensures none { texts_of (codes " [ ] ") ≡ Some [] }
     ensures escaped { texts_of (codes "[\"\\u0041\\n\",\"\"]") ≡ Some ((65 ∷ 10 ∷ []) ∷ [] ∷ []) }
@@ -66,7 +67,7 @@ pub fn what_is_a_list_of_texts()
     ensures mark { texts_of (239 ∷ 187 ∷ 191 ∷ 91 ∷ 93 ∷ []) ≡ None }
 {}
 
-/// The route is looked at before the method, the method before the body, and the body before what it asks.
+/// Shows that the route is checked before the method, and the method before the body.
 pub fn which_check_comes_first()
     ensures route { asked_of all_forms (get (codes "/ask/nope")) ≡ Answers (Wrong NotFound) }
     ensures method { asked_of all_forms (get (codes "/ask/lots")) ≡ Answers (Wrong NotAllowed) }

@@ -1,4 +1,5 @@
-//! Worked examples of streams of HTTP requests. Each is an equation that the checker computes from the definitions.
+//! Worked examples of streams of HTTP requests. Each is an equation that the checker computes from
+//! the specification.
 #![tactic(auto)]
 
 pub mod checks;

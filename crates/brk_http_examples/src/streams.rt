@@ -1,10 +1,10 @@
-//! Requests over the setting, and their replies.
+//! Requests to the setting, and their replies.
 #![tactic(auto, unfolding(crate::proofs::OnLiterals::web_on_literals))]
 
 ghost use Rattle.std.specs.Prelude.{◌∷◌, [], codes};
 ghost use Rattle.brk_http_examples.specs.Streams.{Gives, get, last, post, reply};
 
-/// A row with a key, the same again, and the same without a key.
+/// Shows a row with a key, its retry, and this row without a key.
 pub fn a_row_acts_once()
     ensures { Gives
         (post (codes "/rows/H/1") (codes "[\"broker\",\"2\",\"Cy\"]")
@@ -15,7 +15,7 @@ pub fn a_row_acts_once()
         ∷ reply (codes "409 Conflict") [] (codes "13") (codes "{\"no\":[\"15\"]}") ∷ []) }
 {}
 
-/// Five requests that leave the stream open.
+/// Shows five requests that leave the stream open.
 pub fn the_stream_stays_open()
     ensures { Gives
         (post (codes "/ask/submitted") (codes "[]")
@@ -30,7 +30,7 @@ pub fn the_stream_stays_open()
         ∷ reply (codes "400 Bad Request") [] (codes "23") (codes "{\"error\":\"bad request\"}") ∷ []) }
 {}
 
-/// A request that asks for the end of its stream has it, and what follows is not read.
+/// Shows that a request that asks to close its stream is the last that is answered.
 pub fn the_last_is_said()
     ensures { Gives
         (last (get (codes "/rows")) ∷ post (codes "/rows") (codes "[]") ∷ [])
@@ -38,7 +38,7 @@ pub fn the_last_is_said()
         (codes "{\"error\":\"method not allowed\"}") ∷ []) }
 {}
 
-/// An order, with the fields of its reply.
+/// Shows an order with the fields of its reply, its retry, a view of it, and a refused cancel.
 pub fn an_order_is_told()
     ensures { Gives
         (post (codes "/rows/H/1") (codes "[\"order\",\"100\",\"TMB\",\"ABC\",\"100\",\"\",\"cash\",\"fifo\",\"Ann\",\"Lee\",\"T10\"]")

@@ -1,4 +1,5 @@
--- What a request asks of the desk. The first check that fails is told.
+-- The call of the desk that a request makes, or the response that it has without one because a
+-- check fails.
 use Rattle.std.specs.Prelude.{List, map, Option, Some, None, Ok, Err, if◌then◌else◌, codes, bytes_eq}
 use Rattle.brk_money.specs.Spelling.{Text}
 use Rattle.brk_model.specs.Answers.{Fields}
@@ -15,47 +16,49 @@ use Rattle.brk_http_model.specs.Replies.{Response, Wrong, Came}
 use Rattle.brk_http_model.specs.Routes.{Route, ToRow, ToView, route_of}
 use Rattle.brk_http_model.specs.declared.problem.Problem.TheVariants.{NotFound, NotAllowed, BadRequest}
 
--- how rows and queries are read, and which views are known
+-- The parsers of rows and of queries, and the names of the known views.
 pub record Forms : Type 0 where
   pub row : Fields → Read Command
   pub views : List Text
   pub query : Text → Fields → Read Query
 
--- those of the definitions
+-- The parsers and the view names of the model.
 abbrev pub all_forms : Forms
 all_forms = record { row = parse_row; views = map (λ reader. reader.0) views; query = parse_query }
 
--- a request is answered without the desk, or makes a call
+-- The demand of a request: a response without a call of the desk, or a call.
 pub data Asked : Type 0 where
   Answers : Response → Asked
   Calls : Call → Asked
 
--- a row, or the refusal of its form
+-- The call of a command with its key, or the response that its row is refused.
 abbrev pub row_asked : Option Key → Read Command → Asked
 row_asked key (Ok command) = Calls (Do command key)
 row_asked key (Err refusal) = Answers (Came (Did (Refused refusal)))
 
--- a query, or the refusal of its form
+-- The call of a query, or the response that it is refused.
 abbrev pub query_asked : Read Query → Asked
 query_asked (Ok query) = Calls (Ask query)
 query_asked (Err refusal) = Answers (Came (NoView refusal))
 
--- the texts of the body, by the route
+-- The demand of a body with these texts: a row or a query, by the route.
 abbrev pub asked_by : Forms → Route → Fields → Asked
 asked_by forms (ToRow key) texts = row_asked key (forms.row texts)
 asked_by forms (ToView view) texts = query_asked (forms.query view texts)
 
--- a body that is a list of texts, or that is none
+-- The demand of a body; the response is `BadRequest` if it is not a JSON list of texts.
 abbrev pub asked_with : Forms → Route → Option Fields → Asked
 asked_with forms route None = Answers (Wrong BadRequest)
 asked_with forms route (Some texts) = asked_by forms route texts
 
--- a target with a route, or without one: then the method, then the body
+-- The demand of a request with the route of its target. The response is `NotFound` if there is no
+-- route, otherwise `NotAllowed` if the method is not POST.
 abbrev pub asked_at : Forms → Option Route → Request → Asked
 asked_at forms None request = Answers (Wrong NotFound)
 asked_at forms (Some route) request =
     if bytes_eq request.method (codes "POST") then asked_with forms route (texts_of request.body) else Answers (Wrong NotAllowed)
 
--- what a request asks
+-- The demand of a request: the call that it makes, or the response for the first check that fails
+-- (target, method, body, form).
 unfoldable pub asked_of : Forms → Request → Asked
 asked_of forms request = asked_at forms (route_of forms.views request.target) request

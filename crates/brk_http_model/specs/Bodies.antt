@@ -1,4 +1,4 @@
--- The bodies of requests and of replies: JSON as serde_json's own definitions read and write it.
+-- The bodies of requests and replies: JSON, as the definitions of `serde_json` read and write it.
 use Rattle.std.specs.Prelude.{List, [], ◌∷◌, map, Option, Some, None, option_map, if◌then◌else◌, codes}
 use Rattle.std.specs.Option.{option_and_then}
 use Rattle.std.specs.Str.{is_utf8}
@@ -8,7 +8,7 @@ use Rattle.serde_json.specs.Read.{read}
 use Rattle.serde_json.specs.Written.{compact_text}
 use Rattle.brk_money.specs.Spelling.{Text}
 
--- a value that is a text
+-- The text of a JSON value that is a string; none for another value.
 abbrev pub text_in : Data → Option Text
 text_in (string text) = Some text
 text_in null = None
@@ -17,12 +17,12 @@ text_in (number n) = None
 text_in (array items) = None
 text_in (object ms) = None
 
--- items, each of which is a text
+-- The texts of JSON values that are all strings; none if one is not.
 abbrev pub texts_in_items : Items → Option (List Text)
 texts_in_items no_items = Some []
 texts_in_items (item d ds) = option_and_then (λ t. option_map (λ ts. t ∷ ts) (texts_in_items ds)) (text_in d)
 
--- a value that is a list of texts
+-- The texts of a JSON value that is an array of strings; none for another value.
 abbrev pub texts_in : Data → Option (List Text)
 texts_in (array items) = texts_in_items items
 texts_in null = None
@@ -31,26 +31,26 @@ texts_in (number n) = None
 texts_in (string text) = None
 texts_in (object ms) = None
 
--- the texts of a body that is a JSON list of texts
+-- The texts of a body that is a JSON array of strings in UTF-8; none for another body.
 unfoldable pub texts_of : Text → Option (List Text)
 texts_of body = if is_utf8 body then option_and_then texts_in (read body) else None
 
--- texts as a list
+-- The JSON array of the texts.
 abbrev pub listed : List Text → Data
 listed texts = array (items_of (map string texts))
 
--- an object of one member, as JSON without white space
+-- The JSON text, without white space, of an object with one member: the name `word` and its value.
 abbrev pub told : Text → Data → Text
 told word value = compact_text (object (member word value no_members))
 
--- {"WORD":["TEXT",..]}
+-- The JSON text {"WORD":["TEXT",..]}.
 unfoldable pub told_texts : Text → List Text → Text
 told_texts word texts = told word (listed texts)
 
--- {"WORD":[["TEXT",..],..]}
+-- The JSON text {"WORD":[["TEXT",..],..]}.
 unfoldable pub told_records : Text → List (List Text) → Text
 told_records word records = told word (array (items_of (map listed records)))
 
--- {"error":"WORDS"}
+-- The JSON text {"error":"WORDS"}.
 unfoldable pub told_error : Text → Text
 told_error words = told (codes "error") (string words)

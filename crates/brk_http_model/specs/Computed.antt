@@ -1,4 +1,4 @@
--- The same replies as a function, for examples: what requests, as they were read, are answered with over a base and a clock's moments.
+-- The replies to requests as a function of the base and the clock readings, for examples.
 use Rattle.std.specs.Prelude.{ℕ, ◌+◌, ◌==◌, Bool, ◌||◌, if◌then◌else◌, List, [], ◌∷◌, Result, Ok, Err}
 use Rattle.brk_money.specs.Spelling.{Text}
 use Rattle.brk_money.specs.declared.fault.Fault.TheVariants.{Store}
@@ -14,37 +14,40 @@ use Rattle.brk_http_model.specs.Found.{Request}
 use Rattle.brk_http_model.specs.Replies.{Response, Came, is_fault, reply_text}
 use Rattle.brk_http_model.specs.Stream.{most_requests}
 
--- a response, the moments that are left, and the base after it
+-- A response, the clock readings that are left, and the base after it.
 pub record Responded : Type 0 where
   pub response : Response
   pub moments : List ℕ
   pub base : Base
 
--- an answer with its base
+-- The response with the answer to a command, and the base after it.
 abbrev pub did : List ℕ → Answer × Base → Responded
 did moments (answer, base) = record { response = Came (Did answer); moments = moments; base = base }
 
--- a view, or why there is none
+-- The outcome of a query: its view or its refusal.
 abbrev pub saw : Result View Refusal → Outcome
 saw (Ok view) = Saw view
 saw (Err refusal) = NoView refusal
 
--- what was asked, without faults; a command without a moment is answered by one
+-- The response to a demand if no call fails. A command for which no clock reading is left has the
+-- fault `Store`.
 abbrev pub responded : Base → List ℕ → Asked → Responded
 responded base moments (Answers said) = record { response = said; moments = moments; base = base }
 responded base moments (Calls (Ask query)) = record { response = Came (saw (ask base query)); moments = moments; base = base }
 responded base (now ∷ moments) (Calls (Do command key)) = did moments (keyed_step base now command key)
 responded base [] (Calls (Do command key)) = record { response = Came (Failed Store); moments = []; base = base }
 
--- whether a response is the last
+-- True if the response ends the stream, after `n` earlier requests: it is number `most_requests`,
+-- its request asks for the end, or it is a fault.
 abbrev pub is_last : ℕ → Request → Response → Bool
 is_last n request response = (n + 1 == most_requests) || request.closes || is_fault response
 
--- a reply, and where it is not the last the replies that follow from the base after it
+-- The reply to a request, followed by those that `more` gives for the base after it, unless it ends
+-- the stream.
 abbrev pub and_then : ℕ → Request → Responded → (Base → List ℕ → List Text) → List Text
 and_then n request r more = reply_text r.response (is_last n request r.response) ∷ (if is_last n request r.response then [] else more r.base r.moments)
 
--- the replies to requests, of which n were answered before
+-- The replies to the requests, after `n` earlier requests of the stream.
 abbrev pub replies_from : ℕ → Base → List ℕ → List Request → List Text
 replies_from n base moments [] = []
 replies_from n base moments (request ∷ requests) =

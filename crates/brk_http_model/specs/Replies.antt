@@ -12,12 +12,12 @@ use Rattle.brk_http_model.specs.Routes.{parts_at}
 use Rattle.brk_http_model.specs.declared.problem.Problem.{Problem}
 use Rattle.brk_http_model.specs.declared.problem.Problem.TheVariants.{TooLarge, BadRequest, NotImplemented, NotFound, NotAllowed}
 
--- what a request is answered with: an error, or what came of a call of the desk
+-- The response to a request: a problem, or the outcome of a call of the desk.
 pub data Response : Type 0 where
   Wrong : Problem → Response
   Came : Outcome → Response
 
--- the status of a problem, and its phrase
+-- The HTTP status of a problem: its number and phrase.
 abbrev pub problem_status : Problem → Text
 problem_status TooLarge = codes "413 Payload Too Large"
 problem_status BadRequest = codes "400 Bad Request"
@@ -25,7 +25,7 @@ problem_status NotImplemented = codes "501 Not Implemented"
 problem_status NotFound = codes "404 Not Found"
 problem_status NotAllowed = codes "405 Method Not Allowed"
 
--- a problem in words
+-- The text of a problem in the body of a reply.
 abbrev pub problem_words : Problem → Text
 problem_words TooLarge = codes "too large"
 problem_words BadRequest = codes "bad request"
@@ -33,49 +33,50 @@ problem_words NotImplemented = codes "not implemented"
 problem_words NotFound = codes "not found"
 problem_words NotAllowed = codes "method not allowed"
 
--- a fault of the desk in one word; damage, which no call of a desk answers, is told as the store's
+-- The word of a fault of the desk. `Damaged`, which no call of a desk returns, has the word of the
+-- store.
 abbrev pub fault_word : Fault → Text
 fault_word fault.Memory = codes "memory"
 fault_word fault.Store = codes "store"
 fault_word (fault.Damaged condition) = codes "store"
 
--- the status of an answer to a row: a refusal is a conflict
+-- The HTTP status of an answer: 409 if it is a refusal, otherwise 200.
 abbrev pub answer_status : Answer → Text
 answer_status (Done reply) = codes "200 OK"
 answer_status (Again line) = codes "200 OK"
 answer_status (Refused refusal) = codes "409 Conflict"
 
--- the status of what came of a call
+-- The HTTP status of the outcome of a call: 409 for a refusal, 503 for a fault, otherwise 200.
 abbrev pub outcome_status : Outcome → Text
 outcome_status (Did answer) = answer_status answer
 outcome_status (Saw view) = codes "200 OK"
 outcome_status (NoView refusal) = codes "409 Conflict"
 outcome_status (Failed fault) = codes "503 Service Unavailable"
 
--- the status of a reply, and its phrase
+-- The HTTP status of a response: its number and phrase.
 abbrev pub status_of : Response → Text
 status_of (Wrong problem) = problem_status problem
 status_of (Came outcome) = outcome_status outcome
 
--- the fields that are told of an answer; a kept line is cut at its commas
+-- The body of an answer: its word and its fields; a stored line is split at its commas.
 abbrev pub answer_body : Answer → Text
 answer_body (Done reply) = told_texts (codes "ok") (reply_fields reply)
 answer_body (Again line) = told_texts (codes "again") (parts_at 44 line)
 answer_body (Refused refusal) = told_texts (codes "no") (refusal_fields refusal)
 
--- the body that tells what came of a call
+-- The body of the outcome of a call.
 abbrev pub outcome_body : Outcome → Text
 outcome_body (Did answer) = answer_body answer
 outcome_body (Saw view) = told_records (codes "view") view
 outcome_body (NoView refusal) = told_texts (codes "no") (refusal_fields refusal)
 outcome_body (Failed fault) = told_error (fault_word fault)
 
--- the body of a reply
+-- The body of a response.
 abbrev pub body_of : Response → Text
 body_of (Wrong problem) = told_error (problem_words problem)
 body_of (Came outcome) = outcome_body outcome
 
--- only a wrong method is told which one is right
+-- True if the response is `NotAllowed`, the only one that names the allowed method.
 abbrev pub asks_for_post : Response → Bool
 asks_for_post (Wrong NotAllowed) = true
 asks_for_post (Wrong TooLarge) = false
@@ -84,7 +85,7 @@ asks_for_post (Wrong NotImplemented) = false
 asks_for_post (Wrong NotFound) = false
 asks_for_post (Came outcome) = false
 
--- a fault of the desk ends a stream
+-- True if the response is a fault of the desk, which ends the stream.
 abbrev pub is_fault : Response → Bool
 is_fault (Came (Failed fault)) = true
 is_fault (Came (Did answer)) = false
@@ -92,15 +93,16 @@ is_fault (Came (Saw view)) = false
 is_fault (Came (NoView refusal)) = false
 is_fault (Wrong problem) = false
 
--- a line of a head
+-- A line of a head, with its CR LF.
 abbrev pub head_line : Text → Text
 head_line text = text ++ 13 ∷ 10 ∷ []
 
--- a line, where it is to stand
+-- The line of a head if `stands` is true, otherwise no bytes.
 abbrev pub line_if : Bool → Text → Text
 line_if stands text = if stands then head_line text else []
 
--- the reply with these parts: the line of its status, its fields, an empty line, the body
+-- The bytes of a reply: the status line, the fields, an empty line and the body. It has `Allow:
+-- POST` if `asks_post` is true, and `Connection: close` if `closes` is true.
 unfoldable pub reply_with : Text → Bool → Bool → Text → Text
 reply_with status asks_post closes body =
     head_line (codes "HTTP/1.1 " ++ status)
@@ -110,6 +112,6 @@ reply_with status asks_post closes body =
     ++ line_if closes (codes "Connection: close")
     ++ head_line [] ++ body
 
--- the bytes of a reply, which may say that it is the last
+-- The bytes of the reply for a response; `closes` is true if it is the last reply of the stream.
 abbrev pub reply_text : Response → Bool → Text
 reply_text response closes = reply_with (status_of response) (asks_for_post response) closes (body_of response)

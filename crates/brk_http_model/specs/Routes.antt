@@ -1,4 +1,4 @@
--- Which route a target has. Nothing in a target is decoded.
+-- The route of a request's target, in which nothing is decoded.
 use Rattle.std.specs.Prelude.{ℕ, Bool, ◌&&◌, if◌then◌else◌, List, [], ◌∷◌, Option, Some, None, option_map, Ok, Err, bytes_eq, codes, eqb}
 use Rattle.std.specs.List.{list_any, slice_split}
 use Rattle.std.specs.Str.{is_utf8}
@@ -6,25 +6,26 @@ use Rattle.brk_money.specs.Spelling.{Text}
 use Rattle.brk_model.specs.Records.{Key}
 use Rattle.brk_model.specs.Forms.{Read, is_batch_name, read_id}
 
--- the parts of a text between the places where a byte stands
+-- The parts into which the text is split at each byte `cut`.
 unfoldable pub parts_at : ℕ → Text → List Text
 parts_at cut text = slice_split (λ b. eqb b cut) text
 
--- what a target asks for: a row with or without a key, or a view
+-- The route of a target: a row, with or without a key, or a view.
 pub data Route : Type 0 where
   ToRow : Option Key → Route
   ToView : Text → Route
 
--- the row of a batch, where the name and the number have their form
+-- The key of a batch name and a row number; none if one of them is malformed.
 abbrev pub row_of_batch : Text → Read ℕ → Option Key
 row_of_batch batch (Err refusal) = None
 row_of_batch batch (Ok n) = if is_batch_name batch then Some (record { batch = batch; row = n }) else None
 
--- the first part of a target is empty, and the second is this word
+-- True if the first part of a target is empty and the second equals `name`.
 abbrev pub begins_with : Text → Text → Text → Bool
 begins_with first word name = bytes_eq first [] && bytes_eq word name
 
--- by the parts between the slashes: /rows, /rows/BATCH/N, /ask/VIEW
+-- The route of the parts of a target between its slashes: /rows, /rows/BATCH/N, or /ask/VIEW with
+-- one of `views`; none for others.
 abbrev pub route_by : List Text → List Text → Option Route
 route_by views (first ∷ word ∷ []) = if begins_with first word (codes "rows") then Some (ToRow None) else None
 route_by views (first ∷ word ∷ view ∷ []) =
@@ -33,6 +34,7 @@ route_by views (first ∷ word ∷ batch ∷ n ∷ []) =
     if begins_with first word (codes "rows") then option_map (λ key. ToRow (Some key)) (row_of_batch batch (read_id n)) else None
 route_by views _ = None
 
--- the route of a target, where these views are known; a target that is no text has none
+-- The route of a target, if `views` are the known views; none if the target is not UTF-8 or has no
+-- route.
 unfoldable pub route_of : List Text → Text → Option Route
 route_of views target = if is_utf8 target then route_by views (parts_at 47 target) else None

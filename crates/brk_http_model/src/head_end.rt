@@ -1,12 +1,12 @@
-/// Where the head at the front of an input ends.
+/// The end of the head at the front of an input.
 #[derive(Clone, Copy, Debug, PartialEq, Eq)]
 pub enum HeadEnd {
     /// No byte is left.
     Nothing,
-    /// As many bytes as a head may have hold no empty line.
+    /// The first bytes, as many as a head may have, contain no empty line.
     TooLong,
     /// The input ends before an empty line.
     Cut,
-    /// The empty line ends there.
+    /// The head has this number of bytes, with its empty line.
     At(usize),
 }

@@ -1,5 +1,6 @@
-//! Streams of HTTP requests over a brokerage: what stands on a stream, what each request asks, and what it is answered.
-//! Definitions, and the words that code and definitions share; there is no code to call.
+//! The model of HTTP request streams over a brokerage: the requests on a stream, the calls that
+//! they make, and the replies. It consists of definitions, and of two enums that code and
+//! definitions share; there is no code to call.
 #![tactic(auto)]
 
 pub mod head_end;

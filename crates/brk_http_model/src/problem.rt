@@ -1,11 +1,12 @@
-/// Why a request is answered with an error before anything is asked of the desk.
+/// A problem of a request, which is answered with an error without a call of the desk.
 #[derive(Clone, Copy, Debug, PartialEq, Eq)]
 pub enum Problem {
     /// The head or the body is too long; ends the stream.
     TooLarge,
-    /// No head, no length, a cut body, all of which end the stream; or a body that is no JSON list of texts.
+    /// The head or the length is malformed, or the body is cut, all of which end the stream; or the
+    /// body is not a JSON list of texts.
     BadRequest,
-    /// The body has a coding of its own; ends the stream.
+    /// The head has a Transfer-Encoding; ends the stream.
     NotImplemented,
     /// The target has no route.
     NotFound,

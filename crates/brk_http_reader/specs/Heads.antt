@@ -1,4 +1,4 @@
--- What the code's facts say of a head.
+-- The relation between the code's facts and the head that they describe.
 use Rattle.std.specs.Prelude.{◌≡◌, ◌≤◌, ℕ, List, map, length, ◌==◌, ◌||◌}
 use Rattle.httparse.specs.Grammar.{RequestHead, ReadsRequest}
 use Rattle.httparse.specs.Spans.{span_bytes, name_and_value}
@@ -6,6 +6,8 @@ use Rattle.brk_http_model.specs.Fields.{body_len, asks_close}
 use Rattle.brk_http_model.specs.Found.{most_fields}
 use Rattle.brk_http_reader.specs.declared.head.HeadFacts.{HeadFacts}
 
+-- The bytes `front` begin with the head `h`, which has at most `most_fields` fields, and continue
+-- with `rest`. The facts give its method, its target, its body length and its close flag.
 pub record IsHeadAt (front : List ℕ) (facts : HeadFacts) (h : RequestHead) (rest : List ℕ) : Type 0 where
   pub reads : ReadsRequest front h rest
   pub few : length h.fields ≤ most_fields

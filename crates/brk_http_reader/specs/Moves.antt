@@ -1,14 +1,15 @@
--- What a read does to the bytes that are known to be left and to the buffer.
+-- The effect of a read on the bytes known to be left and on the buffer.
 use Rattle.std.specs.Prelude.{◌≡◌, ◌≤◌, ℕ, List, ◌++◌, Option, ⊤}
 use Rattle.std.specs.Io.KnownBytes.{Consumes}
 use Rattle.brk_http_model.specs.declared.head_end.HeadEnd.{HeadEnd}
 use Rattle.brk_http_model.specs.declared.head_end.HeadEnd.TheVariants.{Nothing, TooLong, Cut, At}
 
--- some bytes went from the reader to the end of the buffer
+-- The read moved some bytes from the reader, which had `left`, to the end of the buffer. They may
+-- be any bytes if the content of the reader is unknown.
 abbrev pub Moves : Option (List ℕ) → Option (List ℕ) → List ℕ → List ℕ → Type 0
 Moves left left' buffer buffer' = (bytes : List ℕ) × Consumes left left' bytes × (buffer' ≡ buffer ++ bytes)
 
--- the place is within so many bytes
+-- The end of the head, if it has one, is within the first `len` bytes.
 abbrev pub IsEndWithin : HeadEnd → ℕ → Type 0
 IsEndWithin (At n) len = n ≤ len
 IsEndWithin Nothing len = ⊤

@@ -1,9 +1,10 @@
--- What the code keeps of the fields seen so far; for private clauses.
+-- The facts of the fields read so far, for private contracts.
 use Rattle.std.specs.Prelude.{List, codes, ◌&&◌, ◌||◌, if◌then◌else◌, Err}
 use Rattle.brk_http_model.specs.Fields.{Pair, same_word, has_field, asks_close, only_length, values_of, length_value}
 use Rattle.brk_http_model.specs.declared.problem.Problem.TheVariants.{BadRequest}
 use Rattle.brk_http_reader.specs.declared.fields.Seen.{Seen}
 
+-- The facts `s` with the field `p` added.
 abbrev pub add_field : Seen → Pair → Seen
 add_field s p = record {
   chunked = s.chunked || same_word p.0 (codes "transfer-encoding");
@@ -12,7 +13,7 @@ add_field s p = record {
   len = if same_word p.0 (codes "content-length") then (if s.any_length then Err BadRequest else length_value p.1) else s.len;
 }
 
--- what is kept of these fields
+-- The facts of the fields `ps`.
 abbrev pub seen_of : List Pair → Seen
 seen_of ps = record {
   chunked = has_field (codes "transfer-encoding") ps;

@@ -1,4 +1,4 @@
--- What the places in the buffer show.
+-- The relation between the positions in the buffer and the request at the front.
 use Rattle.std.specs.Prelude.{◌≡◌, ℕ, List, drop, Option, Some, ⊤}
 use Rattle.std.specs.Io.KnownBytes.{prepend_known}
 use Rattle.httparse.specs.Spans.{span_bytes, IsWithin}
@@ -7,15 +7,18 @@ use Rattle.brk_http_reader.specs.declared.next.Places.{Places}
 use Rattle.brk_http_reader.specs.declared.next.Front.{Front}
 use Rattle.brk_http_reader.specs.declared.next.Front.TheVariants.{Ended, Broken, Whole}
 
+-- The positions of a whole request are within the first `len` bytes.
 abbrev pub IsRequestWithin : Front → ℕ → Type 0
 IsRequestWithin Ended len = ⊤
 IsRequestWithin (Broken b) len = ⊤
 IsRequestWithin (Whole r) len = IsWithin len r.method × IsWithin len r.target × IsWithin len r.body
 
--- the request as the buffer has it
+-- The request whose parts are at the positions `r` of the buffer.
 abbrev pub asked_at : List ℕ → Places → Request
 asked_at buffer r = record { method = span_bytes buffer r.method; target = span_bytes buffer r.target; closes = r.closes; body = span_bytes buffer r.body }
 
+-- The result agrees with the specified `found`. After a whole request, the buffer behind the body
+-- and the bytes `left` in the reader are together the rest of the input.
 abbrev pub Shows : Front → List ℕ → Option (List ℕ) → Found → Type 0
 Shows Ended buffer left found = found ≡ NoMore
 Shows (Broken b) buffer left found = found ≡ Unreadable b

@@ -1,4 +1,4 @@
-//! What the fields of a head say.
+//! The body length and the close flag that the fields of a head give.
 ghost use Rattle.std.specs.Prelude.{◌≡◌, ◌≤◌, ℕ, All, List, true, map, length, IfOk};
 ghost use Rattle.std.specs.List.{list_all};
 ghost use Rattle.std.specs.Char.{is_ascii_digit};
@@ -10,11 +10,12 @@ ghost use Rattle.brk_http_reader.specs.Seen.{add_field};
 use brk_http_model::Problem;
 use httparse::spans::HeaderSpan;
 
+/// The facts that the fields of a head give.
 #[derive(Clone, Copy, Debug)]
 pub struct FieldFacts {
-    /// How long the body is.
+    /// Length of the body in bytes, or the problem with the fields that give it.
     pub len: Result<usize, Problem>,
-    /// A field Connection says close.
+    /// True if a `Connection` field has the whole value `close`, in any case.
     pub closes: bool,
 }
 
@@ -30,14 +31,14 @@ fn all_digits(value: &[u8]) -> bool
     value.iter().all(|b| b.is_ascii_digit())
 }
 
-/// Whether there are bytes, and all are digits.
+/// Returns true if `value` is one or more ASCII digits.
 fn is_digits(value: &[u8]) -> bool
     ensures { result ≡ spec.is_digits value.now }
 {
     value.len() > 0 && all_digits(value)
 }
 
-/// The number that a few digits write.
+/// Returns the number that at most nine digits write.
 fn number(value: &[u8]) -> usize
     requires few { length value.now ≤ 9 }
     requires digits { list_all is_ascii_digit value.now ≡ true }
@@ -50,7 +51,10 @@ fn number(value: &[u8]) -> usize
     number
 }
 
-/// A length by its digits.
+/// Returns the body length, at most 65,536 bytes, that the digits of `value` write.
+///
+/// Fails with `BadRequest` if `value` is not one or more digits, and with `TooLarge` if it has more
+/// than nine digits or exceeds the limit.
 fn length_value(value: &[u8]) -> Result<usize, Problem>
     ensures value { result ≡ spec.length_value value.now }
     ensures small { IfOk result (λ n. n ≤ 65536) }
@@ -69,7 +73,7 @@ fn length_value(value: &[u8]) -> Result<usize, Problem>
     }
 }
 
-/// What the fields seen so far say.
+/// The facts of the fields read so far.
 #[derive(Clone, Copy, Debug)]
 struct Seen {
     chunked: bool,
@@ -78,7 +82,7 @@ struct Seen {
     len: Result<usize, Problem>,
 }
 
-/// One more field.
+/// Returns the facts `seen` with one more field added.
 fn add_field(seen: Seen, name: &[u8], value: &[u8]) -> Seen
     ensures value { result ≡ add_field seen (name.now, value.now) }
     ensures small { IfOk seen.len (λ n. n ≤ 65536) → IfOk result.len (λ n. n ≤ 65536) }
@@ -100,7 +104,11 @@ fn add_field(seen: Seen, name: &[u8], value: &[u8]) -> Seen
     }
 }
 
-/// What the fields say of the body's length and of the stream's end.
+/// Returns the body length and the close flag that the fields give.
+///
+/// The length is at most 65,536 bytes, and 0 without a `Content-Length` field. It is
+/// `NotImplemented` with a `Transfer-Encoding` field, otherwise `BadRequest` if `Content-Length` is
+/// repeated or not digits, and `TooLarge` above the limit.
 pub fn field_facts(front: &[u8], headers: &[HeaderSpan]) -> FieldFacts
     requires { All (IsHeaderWithin (length front.now)) headers.now }
     ensures len { result.len ≡ spec.body_len (map (header_bytes front.now) headers.now) }

@@ -1,4 +1,4 @@
-//! The head of a request.
+//! Parses the head of a request.
 ghost use Rattle.std.specs.Prelude.{◌≡◌, ◌||◌, ◌≤◌, ℕ, List, length, IfSome, IfNone, IfOk};
 ghost use Rattle.httparse.specs.Grammar.{RequestHead};
 ghost use Rattle.httparse.specs.Spans.{span_bytes, IsWithin};
@@ -12,13 +12,14 @@ use httparse::spans::{EMPTY_HEADER_SPAN, Span, parse_request};
 
 const MOST_FIELDS: usize = 100;
 
+/// The parts of a head that serving a request needs.
 #[derive(Clone, Copy, Debug)]
 pub struct HeadFacts {
     pub method: Span,
     pub target: Span,
-    /// The request says that it is the last, or is of version 1.0.
+    /// True if the request asks to close the stream, or is of version 1.0.
     pub closes: bool,
-    /// How long the body is.
+    /// Length of the body in bytes, or the problem with the fields that give it.
     pub len: Result<usize, Problem>,
 }
 
@@ -28,7 +29,8 @@ fn either(a: bool, b: bool) -> bool
     a || b
 }
 
-/// What a head says, or `None` where the bytes are no head.
+/// Returns the parts of the head at the front of `front`, or `None` if these bytes are not a head
+/// of at most 100 fields. The spans are within `front`.
 pub fn parse_front(front: &[u8]) -> Option<HeadFacts>
     ensures within { IfSome result (λ facts. IsWithin (length front.now) facts.method × IsWithin (length front.now) facts.target) }
     ensures small { IfSome result (λ facts. IfOk facts.len (λ n. n ≤ 65536)) }

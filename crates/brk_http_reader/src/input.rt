@@ -1,4 +1,4 @@
-//! Filling a buffer from a reader, up to the end of a head and of a body.
+//! Fills a buffer from a reader, up to the end of a head and of a body.
 ghost use Rattle.std.specs.Prelude.{◌≡◌, ℕ, ◌+◌, ◌<◌, ◌≤◌, ◌++◌, List, length, true, false, Ok, IfOk, OnOk, IfSome};
 ghost use Rattle.std.specs.Io.KnownBytes.{IsAtEnd};
 ghost use Rattle.brk_http_model.specs.Heads as spec;
@@ -8,12 +8,15 @@ use brk_http_model::HeadEnd;
 use std::alloc::{AllocError, Global};
 use std::io::Read;
 
-/// A head has its empty line within so many bytes.
+/// The limit in bytes within which the empty line after a head must end.
 const HEAD_LIMIT: usize = 16384;
 
+/// A failure to read from the input into the buffer.
 #[derive(Clone, Copy, Debug, PartialEq, Eq)]
 pub enum InputFault {
+    /// The reader failed.
     Read,
+    /// Out of memory.
     Memory,
 }
 
@@ -27,7 +30,7 @@ impl From<AllocError> for InputFault {
     }
 }
 
-/// How many bytes a line end at this place takes.
+/// Returns the length in bytes of the line end at the front of `bytes`, or `None`.
 fn line_end_at(bytes: &[u8]) -> Option<usize>
     ensures { result ≡ spec.begins_line_end bytes.now }
 {
@@ -38,7 +41,8 @@ fn line_end_at(bytes: &[u8]) -> Option<usize>
     }
 }
 
-/// Whether an empty line begins with this byte, and how far it goes into what follows.
+/// Returns the number of bytes of `rest` up to the end of an empty line that begins at the LF
+/// `byte`, or `None`.
 fn line_end_after(byte: u8, rest: &[u8]) -> Option<usize>
     ensures { result ≡ spec.line_end_after byte rest.now }
 {
@@ -49,7 +53,7 @@ fn line_end_after(byte: u8, rest: &[u8]) -> Option<usize>
     }
 }
 
-/// How many bytes there are up to the end of the first empty line.
+/// Returns the number of bytes up to the end of the first empty line, or `None`.
 pub fn head_len(bytes: &[u8]) -> Option<usize>
     ensures value { result ≡ spec.head_len bytes.now }
     ensures within { IfSome result (λ n. n ≤ length bytes.now) }
@@ -63,7 +67,7 @@ pub fn head_len(bytes: &[u8]) -> Option<usize>
     None
 }
 
-/// Reads once, and adds what came to the buffer; `false` at the end of the input.
+/// Reads once and appends the bytes to the buffer. Returns `false` at the end of the input.
 pub fn fill<R: Read>(reader: &mut R, buffer: &mut Vec<u8>) -> Result<bool, InputFault>
     ensures moves { OnOk result (Moves (R.remaining reader.old) (R.remaining reader.new) buffer.old.items buffer.new.items) }
     ensures more { result ≡ Ok true → length buffer.old.items < length buffer.new.items }
@@ -77,7 +81,8 @@ pub fn fill<R: Read>(reader: &mut R, buffer: &mut Vec<u8>) -> Result<bool, Input
     Ok(count > 0)
 }
 
-/// Reads until the head at the front has its end in the buffer, or has none.
+/// Reads until the buffer has the whole head at its front, has reached the limit for a head, or the
+/// input has ended. Returns where the head ends.
 pub fn read_head<R: Read>(reader: &mut R, buffer: &mut Vec<u8>) -> Result<HeadEnd, InputFault>
     ensures moves { OnOk result (Moves (R.remaining reader.old) (R.remaining reader.new) buffer.old.items buffer.new.items) }
     ensures within { IfOk result (λ end. IsEndWithin end (length buffer.new.items)) }
@@ -102,7 +107,7 @@ pub fn read_head<R: Read>(reader: &mut R, buffer: &mut Vec<u8>) -> Result<HeadEn
     }
 }
 
-/// Reads until the buffer has so many bytes; `false` where the input ends before.
+/// Reads until the buffer has `len` bytes. Returns `false` if the input ends before.
 pub fn read_body<R: Read>(
     reader: &mut R,
     buffer: &mut Vec<u8>,

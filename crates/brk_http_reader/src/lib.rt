@@ -1,4 +1,4 @@
-//! What stands at the front of a stream of requests.
+//! Reads the next HTTP request at the front of a stream.
 #![tactic(auto)]
 
 mod fields;

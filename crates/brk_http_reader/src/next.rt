@@ -10,7 +10,7 @@ use brk_http_model::{HeadEnd, Problem};
 use httparse::spans::Span;
 use std::io::Read;
 
-/// Where the parts of a request are in the buffer. Its body ends it.
+/// The positions of a request's parts in the buffer. The body is its last part.
 #[derive(Clone, Copy, Debug)]
 pub struct Places {
     pub method: Span,
@@ -19,14 +19,20 @@ pub struct Places {
     pub body: Span,
 }
 
+/// The result of reading at the front of a stream.
 #[derive(Clone, Copy, Debug)]
 pub enum Front {
+    /// No byte is left.
     Ended,
+    /// No request can be read, for this reason.
     Broken(Problem),
+    /// A whole request, at these positions.
     Whole(Places),
 }
 
-/// Reads as far as the next request goes.
+/// Reads the next request into the buffer, up to the end of its body, and returns its positions.
+///
+/// Returns `Ended` if no byte is left, and `Broken` if no request can be read.
 pub fn next_request<R: Read>(reader: &mut R, buffer: &mut Vec<u8>) -> Result<Front, InputFault>
     ensures moves { OnOk result (Moves (R.remaining reader.old) (R.remaining reader.new) buffer.old.items buffer.new.items) }
     ensures within { IfOk result (λ front. IsRequestWithin front (length buffer.new.items)) }

@@ -1,4 +1,4 @@
-//! A key acts once, whichever way its row comes: in a batch or as a request.
+//! Theorems: a key is idempotent across batches and requests.
 
 ghost use Rattle.std.specs.Prelude.{◌≡◌, ℕ, List, Some, codes};
 ghost use Rattle.brk_model.specs.Base.{Base};
@@ -11,15 +11,16 @@ ghost use Rattle.brk_http_model.specs.Bodies.{told_texts};
 ghost use Rattle.brk_http_model.specs.Replies.{answer_body};
 ghost use Rattle.brk_http_model.specs.Routes.{parts_at};
 
-/// A reply's line, cut at its commas, gives its fields back: none of them has a comma. So what is told of a row that comes
-/// again are the very fields that were told when it was accepted.
+/// Proves that a reply's line, split at its commas, gives the reply's fields: none of them has a
+/// comma. So a retried row is answered with exactly the fields of its first reply.
 pub fn fields_have_no_comma()
     ensures cut { (reply : Reply) → parts_at 44 (line_text reply) ≡ reply_fields reply }
     ensures told { (reply : Reply) → answer_body (Again (line_text reply)) ≡ told_texts (codes "again") (reply_fields reply) }
 {}
 
-/// A row that a batch booked is answered as a request with its kept line, and one that a request booked is answered so in a
-/// batch, whatever was booked between them; neither changes anything.
+/// Proves that a row that a batch committed is answered with its stored reply if it is retried as a
+/// request, and that a row that a request committed is answered so in a batch. Any calls may come
+/// between them, and the retry changes nothing.
 pub fn a_key_repeats_on_either_way()
     ensures booked_by_a_batch { (base mid after : Base) (now later : ℕ) (command : Command) (key : Key) (reply : Reply) (calls : List (ℕ × Call)) (outcomes : List Outcome)
         → row_step base now command key ≡ (Done reply, mid) → Run mid calls outcomes after

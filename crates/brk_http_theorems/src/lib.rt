@@ -1,4 +1,4 @@
-//! Laws of streams of requests, over the definitions alone.
+//! Theorems about streams of HTTP requests, over the specification only.
 #![tactic(auto)]
 
 pub mod keys;

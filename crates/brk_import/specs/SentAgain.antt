@@ -1,4 +1,4 @@
--- A batch that was stopped and is sent again.
+-- A batch that was interrupted and is retried.
 use Rattle.std.specs.Prelude.{◌≡◌, ◌⊎◌, ◌++◌, [], ◌∷◌, ℕ, List, Option}
 use Rattle.std.specs.Io.KnownBytes.{Appends}
 use Rattle.brk_money.specs.Spelling.{Text}
@@ -12,22 +12,23 @@ use Rattle.brk_io.specs.Moments.{Moments}
 use Rattle.brk_io.specs.Span.{Outside}
 use Rattle.brk_batch_engine.specs.Batch.{EndsRight}
 
--- the first sending began at one base, and the second one, which ended well, led to the other
+-- The first run of the batch started at `base`. The retry completed and led to `after`.
 pub record IsSentAgain {C : Type 0} (form : Fields → Read Command) (gives : C → ℕ → C → Type 0) (text : Option Text) (base after : Base) (one two : Outside C) : Type 0 where
-  -- all rows of the batch
+  -- All rows of the batch.
   pub name : Text
   pub rows : List Fields
   pub whole : EndsRight text name rows
-  -- what the first sending answered to the first of them, and at which moments
+  -- The answers of the first run to the first rows, and the timestamps that it took for them.
   pub answers : List Answer
   pub moments : List ℕ
   pub mid : C
   pub taken : Moments gives one.clock moments mid
-  -- what the second one told of all of them
+  -- The answers of the retry to all rows, its timestamps, and its lines.
   pub told : List Answer
   pub others : List ℕ
   pub asked : Moments gives two.clock others two.later
   pub written : Appends two.old two.new (lines_from 1 told ++ end_line told)
-  -- Where the first one refused none of them, the two come to one undisturbed sending. A row that was booked and not answered is settled at its own moment
+  -- If the first run refused none of these rows, both runs equal one uninterrupted run. A row that
+  -- was committed but not answered is decided at its own timestamp.
   pub completed : count_refused answers ≡ 0 → IsCompleted form name base moments others rows answers told after
       ⊎ ((moment : ℕ) × (answer : Answer) × gives mid moment one.later × IsCompleted form name base (moments ++ moment ∷ []) others rows (answers ++ answer ∷ []) told after)

@@ -22,7 +22,7 @@ use sqlite::Alter;
 use std::alloc::{AllocError, Global};
 use std::marker::PhantomData;
 
-// The key of row n of a batch.
+// Returns the key of row `n` of a batch. Fails with `Memory` only.
 fn row_key(batch: &BatchName, n: u64) -> Result<Key, Fault>
     requires first { 1 ≤ n }
     requires last { n ≤ 67108864 }
@@ -34,7 +34,7 @@ fn row_key(batch: &BatchName, n: u64) -> Result<Key, Fault>
     Ok(Key { batch, row })
 }
 
-/// How a desk over a store of this kind answers the rows of a batch.
+/// A desk as the batch engine uses it.
 pub struct DeskRows<S> {
     _store: PhantomData<S>,
 }

@@ -17,14 +17,21 @@ use sqlite::Alter;
 use std::alloc::Global;
 use std::io::{Read, Write};
 
-/// Reads a batch of rows, hands each to the desk and writes its line before the next one acts.
+/// Reads a batch of rows, executes each on the desk, and writes its line before the next one is
+/// executed. Returns the counts of the answers.
 ///
-/// The input is comma-separated: first `batch,NAME`, then the rows, then `end,N` with the number of rows. Of an input
-/// the first 67,108,864 bytes are read. A row acts once the record after it was read, so that the last row of a cut
-/// input never acts: it is refused with 18. Row n of batch NAME has the key (NAME, n), under which it acts once. The
-/// clock is asked once for each row that is in form and has a record after it. The lines are `n,ok,FIELDS`,
-/// `n,again,FIELDS` or `n,no,FIELDS`, and after the right end record `end,OK,AGAIN,NO`. At a fault the rows before
-/// stand. An error of the reader or the writer, an interrupted one too, ends the batch.
+/// The input is comma-separated: `batch,NAME`, then the rows, then `end,N` with the number of rows.
+/// The first 67,108,864 bytes of an input are read. A row is executed after the next record has
+/// been read, so the last row of a cut input is never executed: it is refused with 18.
+///
+/// Row n of batch NAME has the key (NAME, n), under which it is accepted at most once. The clock is
+/// read once for each decided row that is well-formed and has a record after it. The lines are
+/// `n,ok,FIELDS`, `n,again,FIELDS` or `n,no,FIELDS`, and after the correct end record
+/// `end,OK,AGAIN,NO`.
+///
+/// A fault ends the batch, also an interrupted read or write. The changes of the decided rows
+/// remain. After a fault of the desk, a crash may still find the next row committed: retry the
+/// batch under its name.
 pub fn run_batch<R: Read + Drop, W: Write, C: Clock, S: Alter>(
     alloc: Global,
     reader: R,
@@ -32,18 +39,20 @@ pub fn run_batch<R: Read + Drop, W: Write, C: Clock, S: Alter>(
     clock: &mut C,
     desk: &mut Desk<S>,
 ) -> Result<Counts, BatchFault>
-    // However it ends, calls of the desk were made in turn and nothing else: it keeps all that a run of them promises.
+    // For any result, the desk changed only by a sequence of its calls. So every guarantee of a run
+    // holds.
     ensures ran { IsSomeRun S.Store desk.old desk.new }
-    // Whatever the desk answers to the rows that are in form, the lines are those of its answers.
+    // For any answers of the desk to the well-formed rows, the lines are those of its answers.
     ensures told { TellsAnswers (parse_by readers) C.gives (option_map text_of (R.remaining reader))
         (record { clock = clock.old; later = clock.new; old = W.contents writer.old; new = W.contents writer.new }) result }
-    // As far as the disk returns what was written, the answers are those of the steps, from each base whose books the
-    // desk kept, and it keeps those of the base after them.
+    // Under the disk assumption, for every base that the desk represented, the answers are those of
+    // the model, and the desk represents the base after them.
     ensures kept { RefinesModel (λ desk. HasCleanDisk (state S.Store desk)) (λ desk. Represents S.Store desk) (parse_by readers) row_step C.gives
         (option_map text_of (R.remaining reader)) desk.old desk.new
         (record { clock = clock.old; later = clock.new; old = W.contents writer.old; new = W.contents writer.new }) result }
-    // Where a stop before the batch leaves the tables of such a base alone, one after it leaves those of the base after
-    // them, and where the desk answered a row with a fault perhaps those after that row's command.
+    // Crash safety: if a crash before the batch exposes only the tables of such a base, a crash
+    // after it exposes those of the base after it. If the desk answered a row with a fault, a crash
+    // may also expose the tables after that row's command.
     ensures left { CrashStates (λ desk. HasCleanDisk (state S.Store desk)) (λ desk. Represents S.Store desk) (LeavesOneOf S.Store) (parse_by readers) row_step
         C.gives (option_map text_of (R.remaining reader)) desk.old desk.new
         (record { clock = clock.old; later = clock.new; old = W.contents writer.old; new = W.contents writer.new }) result }

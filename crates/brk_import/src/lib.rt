@@ -1,4 +1,4 @@
-//! Batches of rows as CSV over a desk, answered line by line.
+//! Executes batches of CSV rows on a desk, and answers each row with a line.
 #![tactic(auto)]
 
 mod at_desk;

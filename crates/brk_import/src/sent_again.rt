@@ -1,4 +1,4 @@
-//! A batch that was stopped and is sent again.
+//! Theorem: a batch that was interrupted can be retried.
 
 ghost use Rattle.std.specs.Prelude.{◌≡◌, ℕ, List, None, Ok, Result, Some};
 ghost use Rattle.brk_desk.specs.Reopening.{IsReopened, IsDurable};
@@ -20,9 +20,10 @@ ghost use Rattle.sqlite.specs.State.{HasCleanDisk};
 use brk_io::Clock;
 use sqlite::Alter;
 
-/// Whatever a stop leaves of a batch, where it is opened again and adopted, no audit finds it damaged. Where the same batch is then
-/// sent again and ends well, the two come to one undisturbed sending of it, if the first one refused none of the rows that it answered: so it does
-/// where a row was booked and not answered too.
+/// Proves, under the disk assumption, that adopting a crash state of a batch never reports damage,
+/// if a crash before the batch exposed only one state. If the batch is then retried and completes,
+/// both runs equal one uninterrupted run, if the first run refused none of the rows that it
+/// answered. This includes a row that was committed but not answered.
 pub fn an_interrupted_batch_can_be_retried<S: Alter, C: Clock>()
     ensures { (input : List ℕ) (base : Base) (first left conn store last : Held S) (one two : Outside C) (ended : Result counted.Counts faults.BatchFault)
         (taken : Result (Unit {0}) money.Fault) (counts : counted.Counts) → IsDurable S.Store first base

@@ -1,4 +1,4 @@
--- Commands and keys in form: what a typed command always satisfies.
+-- Well-formed commands and keys: what a typed command always satisfies.
 use Rattle.brk_money.specs.OrderTypes.{price_asked}
 use Rattle.brk_money.specs.Moments.{last_day}
 use Rattle.std.specs.Prelude.{◌≡◌, ⊤, ℕ, ◌&&◌, Bool, true, nat_le, IfSome}
@@ -11,28 +11,28 @@ use Rattle.brk_model.specs.Forms.{is_batch_name, is_exchange, is_name, is_symbol
 use Rattle.brk_model.specs.Form.{charge_form, customer_form, is_id, is_price, is_qty, is_tier, tax_rate_form}
 use Rattle.brk_invariant_theorems.specs.Sound.{account_fields, broker_fields, permission_fields}
 
--- a listing's fields have their forms
+-- True if the fields of the listing are well-formed.
 abbrev pub listing_fields : Listing → Bool
 listing_fields l = is_symbol l.symbol && is_name l.name && is_exchange l.exchange && is_name l.sector && is_price l.price
 
--- a band's fields have their forms; the order of its bounds is tested
+-- True if the fields of the band are well-formed. The order of its bounds is checked elsewhere.
 abbrev pub band_fields : Band → Bool
 band_fields b = is_tier b.tier && is_exchange b.exchange && is_qty third_schema b.from_qty && is_qty third_schema b.to_qty && nat_le b.rate greatest_rate
 
--- an order's quantity and price
+-- The order's quantity is well-formed, and its price if it has one.
 pub record IsOrderInForm (o : Order) : Type 0 where
   pub qty : is_qty third_schema o.qty ≡ true
   pub price : IfSome (price_asked o.order_type) (λ p. is_price p ≡ true)
 
--- a tick's price
+-- The price of the tick is well-formed.
 abbrev pub IsTickInForm : Tick → Type 0
 IsTickInForm tick = is_price tick.price ≡ true
 
--- an amount that is moved
+-- True if the amount of a movement is at least 1 and at most the greatest amount, in cents.
 abbrev pub is_moved_amount : ℕ → Bool
 is_moved_amount n = nat_le 1 n && nat_le n greatest_amount
 
--- a command whose fields have their forms
+-- The fields of the command are well-formed.
 abbrev pub IsInForm : Command → Type 0
 IsInForm (AddBroker b) = broker_fields b ≡ true
 IsInForm (AddCustomer c) = customer_form c ≡ true
@@ -54,6 +54,6 @@ IsInForm (DepositCash account amount) = is_moved_amount amount ≡ true
 IsInForm (WithdrawCash account amount) = is_moved_amount amount ≡ true
 IsInForm (SetOneDay day) = nat_le day last_day ≡ true
 
--- a key of a row of a batch
+-- The key has a well-formed batch name and row number.
 abbrev pub IsKeyInForm : Key → Type 0
 IsKeyInForm key = is_batch_name key.batch && is_id key.row ≡ true

@@ -1,5 +1,5 @@
-//! Laws of sound books: what the tables of a base owe to an audit of form, and that each accepted command in form keeps it. There is no code
-//! to call.
+//! Theorems about the audit invariant: with it, the tables of a consistent base pass an audit, and
+//! every accepted well-formed command preserves it. Proof-only: there is no code to call.
 #![tactic(auto)]
 
 pub mod sound;

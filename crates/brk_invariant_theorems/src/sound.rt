@@ -1,4 +1,5 @@
-//! Sound books: what the tables of a base owe to an audit beside the order of its books, and what keeps it.
+//! Theorems: the audit invariant makes the tables of a consistent base pass an audit, and commands
+//! preserve it.
 
 ghost use Rattle.std.specs.Prelude.{◌≡◌, ◌≤◌, ◌↔◌, ℕ, IfOk, IfSome, IsTrue, List, Ok, Option, length};
 ghost use Rattle.brk_money.specs.Spelling.{Text};
@@ -27,7 +28,9 @@ ghost use Rattle.brk_invariant_theorems.specs.InForm.{IsInForm, IsKeyInForm};
 ghost use Rattle.brk_invariant_theorems.specs.Runs.{IsCallInForm, IsFormedCall};
 ghost use Rattle.brk_invariant_theorems.specs.Sound.{AuditInvariant};
 
-/// The tables of sound books have form and tell their trades as they went, so that they pass an audit; and nothing less does.
+/// Proves that the tables of a consistent base with the audit invariant are well-formed, have valid
+/// histories and pass an audit. The invariant is exactly these two: valid histories and well-formed
+/// tables.
 pub fn sound_tables_pass()
     ensures form { (base : Base) → BooksInvariant base → AuditInvariant base → IsTrue (has_form third_schema (sheets base)) }
     ensures told { (base : Base) → AuditInvariant base → HasValidHistories base }
@@ -35,17 +38,18 @@ pub fn sound_tables_pass()
     ensures exact { (base : Base) → BooksInvariant base → AuditInvariant base ↔ (HasValidHistories base × IsTrue (has_form third_schema (sheets base))) }
 {}
 
-/// The base of rows that pass an audit is sound.
+/// Proves that the base of rows that pass an audit satisfies the audit invariant.
 pub fn passing_rows_are_sound()
     ensures { (rows : Tables) → Passes third_schema rows → AuditInvariant (base_of rows) }
 {}
 
-/// The base that everything begins with is sound.
+/// Proves that the empty base satisfies the audit invariant.
 pub fn the_empty_base_is_sound()
     ensures { AuditInvariant empty_base }
 {}
 
-/// Each accepted command in form leaves a sound base sound, and so does each call with a key in form.
+/// Proves that every accepted well-formed command preserves the audit invariant, and so does every
+/// call of a well-formed command with a well-formed key or none.
 pub fn commands_keep_books_sound()
     ensures step { (base : Base) (now : ℕ) (command : Command) (reply : Reply) (after : Base)
         → AuditInvariant base → BooksInvariant base → IsInForm command → step base now command ≡ Ok (reply, after) → AuditInvariant after }
@@ -53,8 +57,9 @@ pub fn commands_keep_books_sound()
         → AuditInvariant base → BooksInvariant base → IsInForm command → IfSome key IsKeyInForm → AuditInvariant (keyed_step base now command key).1 }
 {}
 
-/// A run of calls in form leads from sound books to sound ones, so that what it leaves passes an audit: from the empty base, and from the base
-/// of rows that passed one. Calls whose rows are read as themselves are in form.
+/// Proves that a run of well-formed calls from a consistent base preserves the audit invariant. So
+/// the tables after a run from the empty base, or from the base of rows that pass an audit, pass an
+/// audit. From the empty base this also holds for calls whose rows parse as their commands.
 pub fn runs_end_in_tables_that_pass()
     ensures sound { (base : Base) (calls : List (ℕ × Call)) (outcomes : List Outcome) (after : Base)
         → BooksInvariant base → AuditInvariant base → AllByRecursion IsCallInForm calls → Run base calls outcomes after → AuditInvariant after }
@@ -66,13 +71,15 @@ pub fn runs_end_in_tables_that_pass()
         → AllByRecursion IsFormedCall calls → Run empty_base calls outcomes after → Passes third_schema (sheets after) }
 {}
 
-/// A row that is read gives a command in form, and so does each command whose row is read as itself.
+/// Proves that a row that parses gives a well-formed command, and that a command whose row parses
+/// as itself is well-formed.
 pub fn rows_are_read_in_form()
     ensures read { (fields : List Text) → IfOk (parse_row fields) IsInForm }
     ensures formed { (command : Command) → IsFormed command → IsInForm command }
 {}
 
-/// A batch whose name is one leads from sound books in order to sound books in order, where a row's number is within its limit.
+/// Proves that a batch with a well-formed name preserves the books invariant and the audit
+/// invariant, if the number of its rows is within the limit of ids.
 pub fn batches_keep_books_sound()
     ensures { (base : Base) (name : Text) (moments : List ℕ) (rows : List Fields) (answers : List Answer) (after : Base)
         → IsTrue (is_batch_name name) → length rows ≤ greatest_id → AreAnswered parse_row row_step name base moments rows answers after

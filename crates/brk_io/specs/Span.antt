@@ -1,9 +1,10 @@
--- What an engine has around it, before and after.
+-- The environment of an engine, before and after it ran.
 use Rattle.std.specs.Prelude.{◌≡◌, [], Option}
 use Rattle.std.specs.Io.KnownBytes.{Appends}
 use Rattle.brk_money.specs.Spelling.{Text}
 
--- the desk's base, the clock and what the writer holds, before and after
+-- The desk's base (`base`, `after`), the clock (`clock`, `later`) and the writer's content (`old`,
+-- `new`), each before and after. The content is none if it is unknown.
 pub record Span (S C : Type 0) : Type 0 where
   pub base : S
   pub after : S
@@ -12,19 +13,20 @@ pub record Span (S C : Type 0) : Type 0 where
   pub old : Option Text
   pub new : Option Text
 
--- nothing was asked, written or changed
+-- The desk's base and the clock are unchanged, and nothing was written.
 pub record IsUntouched {S C : Type 0} (span : Span S C) : Type 0 where
   pub base : span.after ≡ span.base
   pub clock : span.later ≡ span.clock
   pub written : Appends span.old span.new []
 
--- the clock and what the writer holds, before and after
+-- The clock (`clock`, `later`) and the writer's content (`old`, `new`), each before and after. The
+-- content is none if it is unknown.
 pub record Outside (C : Type 0) : Type 0 where
   pub clock : C
   pub later : C
   pub old : Option Text
   pub new : Option Text
 
--- these with the desk's base before and after
+-- The span of `outside` with the desk's base before and after.
 abbrev pub with_base : {S C : Type 0} → S → S → Outside C → Span S C
 with_base base after outside = record { base = base; after = after; clock = outside.clock; later = outside.later; old = outside.old; new = outside.new }

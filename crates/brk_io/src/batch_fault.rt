@@ -1,26 +1,27 @@
 use brk_money::Fault;
 
-/// Why a batch ended early.
+/// The reason why a batch ended early.
 #[derive(Clone, Copy, Debug, PartialEq, Eq)]
 pub enum FaultKind {
-    /// The first record is no header, or there is none.
+    /// The input has no record, or its first record is no header.
     BadHeader,
     /// The input ends without an end record.
     NoEnd,
-    /// The end record does not name the number of rows before it.
+    /// The end record does not hold the number of rows before it.
     BadEnd,
     /// The reader failed; an interrupted read is a failure too.
     Read,
     /// The writer failed, or took no byte.
     Write,
-    /// The desk failed, or memory was refused.
+    /// The desk failed, or memory ran out.
     Desk(Fault),
 }
 
-/// A batch that ended early. The rows that acted stand.
+/// A batch that ended early. The changes of its accepted rows remain.
 #[derive(Clone, Copy, Debug, PartialEq, Eq)]
 pub struct BatchFault {
-    /// How many rows have a settled answer, a refusal of form too.
+    /// The number of rows whose outcome was decided, rows that were refused as malformed included.
     pub rows: u64,
+    /// The reason why the batch ended early.
     pub kind: FaultKind,
 }

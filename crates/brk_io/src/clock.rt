@@ -2,12 +2,13 @@ ghost use Rattle.std.specs.Prelude.{ℕ};
 
 use brk_money::Stamp;
 
-/// Who tells the moment.
+/// A source of timestamps.
 pub trait Clock {
-    /// From this clock to that one it was asked once, and gave this moment.
+    /// Holds if the clock was read once between the first state and the second, and returned this
+    /// timestamp.
     ghost gives: { Self → ℕ → Self → Type 0 } = { λ _ _ _. Unit {0} };
 
-    /// The moment now.
+    /// Reads the clock once and returns its timestamp.
     fn now(&mut self) -> Stamp
         ensures { gives self.old result self.new };
 }

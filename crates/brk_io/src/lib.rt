@@ -1,4 +1,5 @@
-//! What an engine reads the time from, writes to and reports: the clock, writing all bytes, and why a batch ended early.
+//! The environment of an engine: a clock, writing all bytes, and the reasons why a batch ended
+//! early.
 #![tactic(auto)]
 
 mod batch_fault;

@@ -1,9 +1,10 @@
--- Whether a trade closes anything of what is held.
+-- The condition under which a trade closes lots.
 use Rattle.std.specs.Prelude.{ℤ, pos, negsuc, Bool, false, true, nat_lt}
 use Rattle.brk_money.specs.declared.side.Side.{Side}
 use Rattle.brk_money.specs.declared.side.Side.TheVariants.{Buy, Sell}
 
--- so many shares, held in all, are on the other side of a trade: bought ones for a sale, and those sold short for a purchase
+-- True if the signed number of shares that are held is on the other side of a trade: bought shares
+-- for a sale, shares sold short for a purchase.
 abbrev pub closes_lots : Side → ℤ → Bool
 closes_lots Buy (pos n) = false
 closes_lots Buy (negsuc n) = true

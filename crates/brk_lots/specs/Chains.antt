@@ -6,37 +6,40 @@ use Rattle.brk_model.specs.Tables.{HoldingHistoryRow, is_moved, lot_rows, touch_
 use Rattle.brk_lots.specs.declared.replay.DealTouch.{DealTouch}
 use Rattle.brk_lots.specs.Lots.{from_end}
 
--- the history of the lot of a trade: what each deal that changes it does
+-- The history of the lot of a trade: the change of the lot by each deal that changes it.
 abbrev pub rows_of : ℕ → List Deal → List Share → List Touch
 rows_of trade ds us = map touch_of_row (filter is_moved (lot_rows trade us ds))
 
--- fewer shares of the same side
+-- The quantity `after` has fewer shares than `before`, on the same side.
 abbrev pub IsNearer : ℤ → ℤ → Type 0
 IsNearer after before = (side : Side) × (m : ℕ) × (n : ℕ) × (after ≡ signed side m) × (before ≡ signed side n) × (m < n)
 
--- each row begins where the one before ended, and comes nearer to 0
+-- Each row begins at the quantity where the row before it ended, and comes strictly nearer to 0.
+-- The first begins at `from`, and the last ends at `to`.
 abbrev pub Falls : ℤ → List Touch → ℤ → Type 0
 Falls from [] to = from ≡ to
 Falls from (row ∷ rows) to = (row.before ≡ from) × IsNearer row.after row.before × Falls row.after rows to
 
--- a lot's life: a row from 0 to what is opened, and then a fall to what is there in the end; or nothing
+-- The life of a lot that ends at `to`: a row that opens it from 0, and then rows that come strictly
+-- nearer to 0. Without rows `to` is 0.
 abbrev pub IsLife : List Touch → ℤ → Type 0
 IsLife [] to = pos 0 ≡ to
 IsLife (row ∷ rows) to = (row.before ≡ pos 0) × Falls row.after rows to
 
--- the row of a lot that is opened
+-- The row of a lot that is opened.
 abbrev pub opening_touch : Lot → Touch
 opening_touch l = record { lot = l.trade; before = pos 0; after = l.qty }
 
--- what a deal upon shares does to lots: those that it touches, from its end, and then the one that it opens
+-- The lot changes of a deal: the lots that it touches, from its end, and then the lot that it
+-- opens.
 abbrev pub deal_rows : Deal → List Share → List HoldingHistoryRow
 deal_rows d us = map (touch_row d.trade) (from_end d.is_lifo (touches d us) ++ map opening_touch (lots (opened_shares d us)))
 
--- what deals do to lots, one after another
+-- The lot changes of deals that are applied in order.
 abbrev pub replay_rows : List Deal → List Share → List HoldingHistoryRow
 replay_rows [] us = []
 replay_rows (d ∷ ds) us = deal_rows d us ++ replay_rows ds (shares_after us d)
 
--- a touched lot with the trade of its deal, as the definitions have it
+-- The abstract row of a touched lot with the trade of its deal.
 abbrev pub plain_row : DealTouch → HoldingHistoryRow
 plain_row t = record { lot = t.touch.lot; trade = t.trade; before = t.touch.before; after = t.touch.after }

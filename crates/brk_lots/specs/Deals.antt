@@ -1,13 +1,13 @@
--- Deals one after another.
+-- Sequences of deals.
 use Rattle.std.specs.Prelude.{◌≢◌, ◌<◌, ⊤, List, [], ◌∷◌}
 use Rattle.std.specs.List.{AllByRecursion}
 use Rattle.brk_model.specs.Shares.{Deal}
 
--- a deal that comes later, by another trade
+-- The deal `e` is of another trade than `d` and has a later stamp.
 abbrev pub IsLater : Deal → Deal → Type 0
 IsLater d e = (d.trade ≢ e.trade) × (d.stamp < e.stamp)
 
--- deals of distinct trades, whose stamps rise
+-- The deals are of distinct trades, and their stamps ascend strictly.
 abbrev pub AreDeals : List Deal → Type 0
 AreDeals [] = ⊤
 AreDeals (d ∷ ds) = AllByRecursion (IsLater d) ds × AreDeals ds

@@ -1,4 +1,4 @@
--- Lots as the program keeps them, and the shares that they stand for.
+-- Lots in the program, and the shares that they represent.
 use Rattle.std.specs.Prelude.{ℤ, pos, negsuc, Bool, true, false, List, reverse, replicate}
 use Rattle.std.specs.List.{flat_map}
 use Rattle.std.specs.Int.RustNames.{unsigned_abs}
@@ -10,32 +10,33 @@ use Rattle.brk_lots.specs.declared.lot.Lot.{Lot}
 use Rattle.brk_lots.specs.declared.lot.Touch.{Touch}
 use Rattle.brk_lots.specs.declared.deal.Deal.{Deal}
 
--- the side of a signed number of shares
+-- The side of a signed number of shares.
 abbrev pub side_of_qty : ℤ → Side
 side_of_qty (pos n) = Buy
 side_of_qty (negsuc n) = Sell
 
--- one share of a lot
+-- One share of a lot.
 abbrev pub share_of : Lot → Share
 share_of l = record { side = side_of_qty l.qty; trade = l.trade; price = l.price; stamp = l.stamp }
 
--- the shares of lots, lot by lot
+-- The shares of lots, lot by lot.
 abbrev pub shares_of : List Lot → List Share
 shares_of ls = flat_map (λ l. replicate (unsigned_abs l.qty) (share_of l)) ls
 
--- what stands at an end first: for last in first out from the back, else from the front
+-- The list from the end that a deal takes first: reversed for last in first out, otherwise as it
+-- is.
 abbrev pub from_end : {X : Type 0} → Bool → List X → List X
 from_end true xs = reverse xs
 from_end false xs = xs
 
--- a lot, as the definitions have it
+-- The abstract lot of a lot.
 abbrev pub plain_lot : Lot → model.Lot
 plain_lot l = record { trade = l.trade; price = l.price; stamp = l.stamp; qty = l.qty }
 
--- a touched lot, as the definitions have it
+-- The abstract touched lot of a touched lot.
 abbrev pub plain_touch : Touch → model.Touch
 plain_touch t = record { lot = t.lot; before = t.before; after = t.after }
 
--- a deal, as the definitions have it
+-- The abstract deal of a deal.
 abbrev pub plain_deal : Deal → model.Deal
 plain_deal d = record { trade = d.trade; side = d.side; qty = d.qty; price = d.price; stamp = d.stamp; is_lifo = d.lifo }

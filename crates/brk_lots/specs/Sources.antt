@@ -1,17 +1,18 @@
--- What is known of the lots that a source had to give.
+-- The lots that remain in a source.
 use Rattle.std.specs.Prelude.{◌≡◌, Bool, List}
 use Rattle.brk_lots.specs.declared.lot.Lot.{Lot}
 use Rattle.brk_lots.specs.Lots.{from_end}
 use Rattle.brk_lots.specs.Position.{IsWalk}
 
--- these are the lots that it had, and it was told the truth of them
+-- The disk assumption holds (`told`), and `ls` are the remaining lots.
 abbrev pub AsTold : Type 0 → (List Lot → Type 0) → List Lot → Type 0
 AsTold told remaining ls = told × remaining ls
 
--- the lots of a position, the oldest first, are given from one of its ends
+-- The source yields the lots of a position `ls`, the oldest first, from the end that `lifo`
+-- selects.
 abbrev pub AreGiven : (List Lot → Type 0) → Bool → List Lot → Type 0
 AreGiven given lifo ls = given (from_end lifo ls) × IsWalk ls
 
--- these lots are given, and no others
+-- The list `ls` is exactly `lots`.
 abbrev pub Exactly : List Lot → List Lot → Type 0
 Exactly lots ls = ls ≡ lots

@@ -1,4 +1,4 @@
--- What shares were bought for and sold for.
+-- The buy value and the sell value of closed shares.
 use Rattle.std.specs.Prelude.{◌≡◌, ℕ, ◌+◌, ◌*◌, List}
 use Rattle.brk_money.specs.declared.side.Side.{Side}
 use Rattle.brk_model.specs.Shares.{Share, Deal, buy_value, sell_value}
@@ -7,15 +7,17 @@ use Rattle.brk_lots.specs.declared.lot.Lot.{Lot}
 use Rattle.brk_lots.specs.declared.lot.Touch.{Touch}
 use Rattle.brk_lots.specs.declared.values.Values.{Values}
 
--- what a deal's closed shares were bought for, and what they were sold for
+-- The buy value and the sell value of the shares that a deal closes.
 abbrev pub values_of : Deal → List Share → Values
 values_of d shares = record { buy_value = buy_value d shares; sell_value = sell_value d shares }
 
--- the values of shares that are closed at one value and were opened at another
+-- The buy value and the sell value of shares that are closed at one value and were opened at
+-- another.
 abbrev pub values_by : Side → ℕ → ℕ → Values
 values_by side closed opened = record { buy_value = bought side closed opened; sell_value = sold side closed opened }
 
--- what a trade takes of lots: what is left of its quantity, the rows of the lots, and what the shares were bought for and sold for
+-- The result of trading against lots: the quantity `over` that is left, the touched lots `taken`,
+-- and the buy and sell value `worth` of the closed shares.
 pub record IsTraded (side : Side) (qty price : ℕ) (ls : List Lot) (taken : List Touch) (over : ℕ) (worth : Values) : Type 0 where
   pub left : over + met side qty ls ≡ qty
   pub rows : taken ≡ rows_taken (met side qty ls) ls

@@ -11,51 +11,54 @@ use Rattle.brk_lots.specs.declared.lot.Lot.{Lot}
 use Rattle.brk_lots.specs.declared.lot.Touch.{Touch}
 use Rattle.brk_lots.specs.Lots.{side_of_qty, shares_of}
 
--- how many shares of lots a trade of q shares of a side closes: none of its own side, else as many as there are
+-- The number of shares of the lots that a trade of `q` shares closes: 0 if the lots are of its own
+-- side, otherwise `q` or all shares, whichever is less.
 abbrev pub met : Side → ℕ → List Lot → ℕ
 met side q [] = 0
 met side q (l ∷ ls) = if same_side (side_of_qty l.qty) side then 0 else min q (length (shares_of (l ∷ ls)))
 
--- the rows of the lots that k shares from the front touch
+-- The touched lots if the first `k` shares of the lots are closed.
 abbrev pub rows_taken : ℕ → List Lot → List Touch
 rows_taken k [] = []
 rows_taken k (l ∷ ls) =
     if nat_eq k 0 then []
     else record { lot = l.trade; before = l.qty; after = signed (side_of_qty l.qty) (unsigned_abs l.qty - k) } ∷ rows_taken (k - unsigned_abs l.qty) ls
 
--- what those shares cost
+-- The cost basis of the first `k` shares of the lots.
 abbrev pub paid : ℕ → List Lot → ℕ
 paid k [] = 0
 paid k (l ∷ ls) = min k (unsigned_abs l.qty) * l.price + paid (k - unsigned_abs l.qty) ls
 
--- what a walk takes of lots: what is left of the quantity, the rows of the lots, and what their shares cost
+-- The result of closing lots: the quantity `over` that is left, the touched lots `taken`, and the
+-- cost basis `cost` of the closed shares.
 pub record IsTaken (side : Side) (qty : ℕ) (ls : List Lot) (taken : List Touch) (over cost : ℕ) : Type 0 where
   pub left : over + met side qty ls ≡ qty
   pub rows : taken ≡ rows_taken (met side qty ls) ls
   pub shares : cost ≡ paid (met side qty ls) ls
 
--- the value of a trade's own price and that of the closed shares' prices, as what was bought and what was sold
+-- The buy value: the traded value of a purchase, the opening value of a sale.
 abbrev pub bought : Side → ℕ → ℕ → ℕ
 bought Buy traded opened = traded
 bought Sell traded opened = opened
 
+-- The sell value: the opening value of a purchase, the traded value of a sale.
 abbrev pub sold : Side → ℕ → ℕ → ℕ
 sold Buy traded opened = opened
 sold Sell traded opened = traded
 
--- a lot's quantity after the rows, which leave a lot that they do not name
+-- The quantity of a lot after the touches. It is unchanged if they do not name the lot.
 abbrev pub qty_after : List Touch → Lot → ℤ
 qty_after [] l = l.qty
 qty_after (t ∷ ts) l = if nat_eq t.lot l.trade then t.after else qty_after ts l
 
--- a lot with another quantity, which is none where that is 0
+-- The lot with another quantity, or no lot if the quantity is 0.
 abbrev pub smaller : ℤ → Lot → List Lot
 smaller qty l = if int_eq qty (pos 0) then [] else record { trade = l.trade; price = l.price; qty = qty; stamp = l.stamp } ∷ []
 
--- what the rows leave of a lot
+-- The rest of a lot after the touches, or no lot if they close it.
 abbrev pub left_of : List Touch → Lot → List Lot
 left_of ts l = smaller (qty_after ts l) l
 
--- what the rows leave of lots
+-- The rest of the lots after the touches.
 abbrev pub lots_left : List Touch → List Lot → List Lot
 lots_left ts ls = flat_map (left_of ts) ls

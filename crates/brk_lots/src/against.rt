@@ -1,4 +1,4 @@
-//! Trades that close nothing of what is held.
+//! Trades that close no lot.
 
 ghost use Rattle.std.specs.Prelude.{◌≡◌, List, Bool, false, pos};
 ghost use Rattle.brk_model.specs.Shares as model;
@@ -15,8 +15,8 @@ use crate::values::Values;
 use brk_money::{Amount, Id, Price, Qty, Side, Stamp, Wide};
 use std::alloc::Global;
 
-/// Whether so many shares, held in all (HS_QTY), are on the other side of a trade: bought ones for a sale, and those sold
-/// short for a purchase. Where they are not, the trade closes no lot.
+/// Returns true if the shares that are held in all (HS_QTY) are on the other side of a trade:
+/// bought shares for a sale, shares sold short for a purchase. Otherwise the trade closes no lot.
 pub fn closes_lots(side: Side, held: i64) -> bool
     ensures { result ≡ closes_lots side held }
 {
@@ -26,8 +26,8 @@ pub fn closes_lots(side: Side, held: i64) -> bool
     }
 }
 
-/// What a trade does to a position that has nothing on its other side: it opens a lot of all its shares (Trade-Result). It
-/// takes no memory.
+/// Returns the effect of a trade on a position without lots on the other side: it opens a lot of
+/// all its shares (Trade-Result). Never allocates.
 pub fn open_without_closing(
     alloc: Global,
     side: Side,
@@ -49,8 +49,8 @@ pub fn open_without_closing(
     }
 }
 
-/// What the shares were bought for and sold for that an order would close of a position that has nothing on its other side:
-/// nothing.
+/// Returns the buy value and the sell value of the shares that an order would close in a position
+/// without lots on the other side. Both are 0.
 pub fn no_values() -> Values
     ensures { (d : model.Deal) (ls : List Lot) → IsWalk ls → closes_lots d.side (lots_total ls) ≡ false → result ≡ values_of d (shares_of ls) }
 {

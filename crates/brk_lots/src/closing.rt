@@ -14,20 +14,20 @@ use crate::walk::take_lots;
 use brk_money::{Fault, Id, Price, Qty, Side, Stamp, Wide};
 use std::alloc::Global;
 
-/// What a trade does to a position.
+/// The effect of a trade on a position.
 #[derive(Drop)]
 pub struct Closing {
-    /// The lots that it closes or makes smaller, in the order in which the source gave them.
+    /// The lots that it closes or reduces, in the order of the source.
     pub touched: Vec<Touch>,
-    /// The lot that it opens with the shares that are left.
+    /// The lot that it opens with the remaining shares.
     pub opened: Option<Lot>,
-    /// What the closed shares were bought for, in cents.
+    /// Buy value of the closed shares, in cents.
     pub buy_value: Wide,
-    /// What they were sold for, in cents.
+    /// Sell value of the closed shares, in cents.
     pub sell_value: Wide,
 }
 
-// The lot that a trade opens with so many shares.
+// Returns the lot that a trade opens with `shares` shares, or `None` if that is 0.
 pub(crate) fn opened_lot(
     side: Side,
     shares: u32,
@@ -48,9 +48,11 @@ pub(crate) fn opened_lot(
     })
 }
 
-/// Closes lots of the other side until the quantity is used up, and opens a lot with what is left (Trade-Result). The
-/// trade is none that opened one of the lots. Where it succeeds it has asked for at most one lot more than it touches; a
-/// fault is the source's or want of memory.
+/// Closes lots of the other side until the quantity is used up, and opens a lot with the remaining
+/// shares (Trade-Result). None of the lots may have been opened by `trade`.
+///
+/// If it succeeds, it has requested at most one lot more than it touches. Fails with a fault of the
+/// source or with `Memory`.
 pub fn close<L: LotSource>(
     alloc: Global,
     source: &mut L,
@@ -61,14 +63,15 @@ pub fn close<L: LotSource>(
     stamp: Stamp,
 ) -> Result<Closing, Fault>
     ensures leads { L.leads source.old source.new }
-    // Over the lots of a position from the trade's end it is what the trade does to the shares of that position.
+    // Over the lots of a position from the trade's end, it is the effect of the trade on the shares
+    // of that position.
     ensures closing { IfOk result (λ closing. (ls : List Lot) (lifo : Bool) → AreGiven (AsTold (L.reads_faithfully source.new) (L.remaining source.old)) lifo ls → IsNew trade ls →
         IsClosing (record { trade = trade; side = side; qty = qty; price = price; stamp = stamp; is_lifo = lifo }) ls closing) }
-    // Neither value is below 0, and neither is above that of the quantity at the greatest price.
+    // Both values are at least 0, and at most that of the quantity at the greatest price.
     ensures bought { IfOk result (λ closing. (pos 0 ≤ℤ closing.buy_value) × (closing.buy_value ≤ℤ pos (qty * greatest_price))) }
     ensures sold { IfOk result (λ closing. (pos 0 ≤ℤ closing.sell_value) × (closing.sell_value ≤ℤ pos (qty * greatest_price))) }
     ensures asked { IfOk result (λ closing. L.asked source.new ≤ L.asked source.old + vec_len closing.touched + 1) }
-    // No fault of the source is passed over, and each is answered as it came.
+    // Every fault of the source is returned, unchanged.
     ensures faulted { IfOk result (λ closing. L.faulted source.new ≡ L.faulted source.old) }
     ensures fault { IfErr result (λ fault. (fault ≡ Fault.Memory) ⊎ ((before : L) × L.fails before fault source.new)) }
     ensures rest { (ls : List Lot) → AsTold (L.reads_faithfully source.new) (L.remaining source.old) ls → (n : ℕ) × L.remaining source.new (drop n ls) }

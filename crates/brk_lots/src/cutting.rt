@@ -6,7 +6,8 @@ ghost use Rattle.brk_lots.specs.Walks.{rows_taken, lots_left, smaller};
 
 use crate::lot::{Lot, Touch};
 
-// Leaves a lot, the first that stays, with a quantity, unless that is 0. Says where the lots begin.
+// Cuts off the lots before the index `last` and sets the quantity of the lot at it, or cuts that
+// lot off too if `qty` is 0. Returns the index of the first remaining lot.
 fn cut_front(lots: &mut Vec<Lot>, last: usize, qty: i64) -> usize
     requires { last < vec_len lots.old }
     ensures left { (lot : Lot) → lot ≡ slice_index_or lots.old.items last lot → drop result lots.new.items ≡ smaller qty lot ++ drop (last + 1) lots.old.items }
@@ -21,7 +22,8 @@ fn cut_front(lots: &mut Vec<Lot>, last: usize, qty: i64) -> usize
     last
 }
 
-// Leaves a lot, the last that stays, with a quantity, unless that is 0.
+// Cuts off the lots after the index `last` and sets the quantity of the lot at it, or cuts that lot
+// off too if `qty` is 0.
 fn cut_back(lots: &mut Vec<Lot>, last: usize, qty: i64)
     requires { last < vec_len lots.old }
     ensures left { (lot : Lot) → lot ≡ slice_index_or lots.old.items last lot → lots.new.items ≡ take last lots.old.items ++ smaller qty lot }
@@ -37,8 +39,9 @@ fn cut_back(lots: &mut Vec<Lot>, last: usize, qty: i64)
     lots[last].qty = qty;
 }
 
-// Takes the rows of a closing out of the lots from an index on, and says where they begin then. The rows cut lots off one
-// end, of which the last may stay with a smaller quantity.
+// Applies the touched lots of a closing to the lots from the index `first` on. Returns the index of
+// the first remaining lot.
+// The touched lots are at one end of the lots. The last of them may remain with a smaller quantity.
 pub(crate) fn cut_lots(lots: &mut Vec<Lot>, first: usize, touched: &[Touch]) -> usize
     requires within { first ≤ vec_len lots.old }
     requires walk { IsWalk (drop first lots.old.items) }

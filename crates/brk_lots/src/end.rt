@@ -6,7 +6,7 @@ use crate::lot::Lot;
 use crate::source::LotSource;
 use brk_money::Fault;
 
-/// The lots of a position from one end. It takes no memory and never faults.
+/// The lots of a position from one end. Never allocates and never returns an error.
 #[derive(Drop)]
 pub struct PositionEnd<'a> {
     lots: &'a [Lot],

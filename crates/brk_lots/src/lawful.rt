@@ -7,7 +7,8 @@ ghost use Rattle.brk_lots.specs.Position.{IsPosition};
 use crate::lot::{Lot, is_same};
 use brk_money::{Id, Stamp};
 
-// Whether the first of some lots is a later one of a lot's side.
+// Returns true if there are no more lots, or if the first of them has the side of `lot` and a later
+// stamp.
 fn next_rises(lot: &Lot, rest: &[Lot]) -> bool
     ensures { IsTrue result ↔ First (IsHigher lot.now) rest.now }
 {
@@ -17,7 +18,7 @@ fn next_rises(lot: &Lot, rest: &[Lot]) -> bool
     }
 }
 
-// Whether lots have one side, none is of 0 shares, and their stamps rise.
+// Returns true if the lots have one side, none is of 0 shares, and their stamps ascend strictly.
 fn climbs(lots: &[Lot]) -> bool
     ensures { IsTrue result ↔ IsByOpening lots.now }
 {
@@ -29,7 +30,7 @@ fn climbs(lots: &[Lot]) -> bool
     true
 }
 
-// Whether the first of some lots is not a trade's.
+// Returns true if there are no more lots, or if the first of them is of another trade.
 fn next_differs(trade: Id, rest: &[Lot]) -> bool
     ensures { IsTrue result ↔ First (λ l. l.trade ≢ trade) rest.now }
 {
@@ -39,7 +40,7 @@ fn next_differs(trade: Id, rest: &[Lot]) -> bool
     }
 }
 
-// Whether no two neighbours are of one trade.
+// Returns true if no two neighbours are of the same trade.
 fn differ(lots: &[Lot]) -> bool
     ensures { IsTrue result ↔ Differ lots.now }
 {
@@ -51,6 +52,7 @@ fn differ(lots: &[Lot]) -> bool
     true
 }
 
+// Sorts the lots by trade.
 fn sort_by_trade(lots: &mut [Lot])
     ensures permutation { IsPermutation lots.old lots.new }
     ensures order { IsNonDecreasingBy (λ l. l.trade) lots.new }
@@ -58,6 +60,7 @@ fn sort_by_trade(lots: &mut [Lot])
     lots.sort_unstable_by_key(|lot| lot.trade.get());
 }
 
+// Sorts the lots by stamp.
 fn sort_by_stamp(lots: &mut [Lot])
     ensures permutation { IsPermutation lots.old lots.new }
     ensures order { IsNonDecreasingBy (λ l. l.stamp) lots.new }
@@ -65,8 +68,9 @@ fn sort_by_stamp(lots: &mut [Lot])
     lots.sort_unstable_by_key(|lot| lot.stamp.get().unsigned_abs());
 }
 
-// Whether lots are those of a position. They are sorted by trade, so that each has those of its trade beside it, and
-// then back: rising stamps leave one order alone.
+// Returns true if the lots form a position, the oldest first.
+// Sorts them by trade, so that lots of the same trade become neighbours, and then by stamp again.
+// As the stamps ascend strictly, this restores the order.
 pub(crate) fn is_position(lots: &mut [Lot]) -> bool
     ensures lots { lots.new ≡ lots.old }
     ensures lawful { IsTrue result ↔ IsPosition lots.old }
@@ -80,7 +84,7 @@ pub(crate) fn is_position(lots: &mut [Lot]) -> bool
     distinct
 }
 
-// Whether all lots are older than a trade, and of other trades.
+// Returns true if all lots are older than the stamp and were opened by other trades.
 pub(crate) fn all_older(lots: &[Lot], trade: Id, stamp: Stamp) -> bool
     ensures { IsTrue result ↔ All (λ l. (l.trade ≢ trade) × (l.stamp < stamp)) lots.now }
 {

@@ -1,4 +1,5 @@
-//! Lots of a position, and how a trade closes them first in first out or last in first out (Trade-Result).
+//! The lots of a position, and how a trade closes them first in first out or last in first out
+//! (Trade-Result).
 #![tactic(auto)]
 
 pub mod against;

@@ -6,20 +6,20 @@ ghost use Rattle.brk_lots.specs.Lots.{side_of_qty};
 
 use brk_money::{Id, Price, Side, Stamp};
 
-/// What is left of the shares that one trade opened (HOLDING): bought where the quantity is above 0, sold short where it
-/// is below.
+/// The remaining shares that one trade opened (HOLDING). The quantity is above 0 if they were
+/// bought, and below 0 if they were sold short.
 #[derive(Clone, Copy, PartialEq, Eq)]
 pub struct Lot {
     /// The trade that opened it.
     pub trade: Id,
-    /// What it paid or was paid for each share, in cents.
+    /// The price of a share, in cents.
     pub price: Price,
     pub qty: i64,
-    /// When the trade was completed.
+    /// The stamp of the trade's completion.
     pub stamp: Stamp,
 }
 
-/// A lot that a trade made smaller or closed (HOLDING_HISTORY): its quantity before and after.
+/// A lot that a trade reduced or closed (HOLDING_HISTORY), with its quantity before and after.
 #[derive(Clone, Copy, PartialEq, Eq)]
 pub struct Touch {
     /// The trade that opened the lot.
@@ -29,21 +29,21 @@ pub struct Touch {
 }
 
 impl Lot {
-    /// The side that opened it.
+    /// Returns the side of the trade that opened it.
     pub fn side(&self) -> Side
         ensures { result ≡ side_of_qty self.now.qty }
     {
         if self.qty < 0 { Side::Sell } else { Side::Buy }
     }
 
-    /// How many shares it has.
+    /// Returns the number of its shares.
     pub fn size(&self) -> u64
         ensures { result ≡ unsigned_abs self.now.qty }
     {
         self.qty.unsigned_abs()
     }
 
-    // Its quantity without some of its shares.
+    // Returns its quantity without `shares` of its shares.
     fn less(&self, shares: u32) -> i64
         requires { shares ≤ unsigned_abs self.now.qty }
         ensures { result ≡ signed (side_of_qty self.now.qty) (unsigned_abs self.now.qty - shares) }
@@ -55,7 +55,7 @@ impl Lot {
         }
     }
 
-    // The row of the lot without some of its shares.
+    // Returns the touched lot without `shares` of its shares.
     pub(crate) fn touch(&self, shares: u32) -> Touch
         requires { shares ≤ unsigned_abs self.now.qty }
         ensures { result ≡ record { lot = self.now.trade; before = self.now.qty; after = signed (side_of_qty self.now.qty) (unsigned_abs self.now.qty - shares) } }
@@ -68,7 +68,7 @@ impl Lot {
     }
 }
 
-/// Whether two sides are the same.
+/// Returns true if the two sides are equal.
 pub fn is_same(a: Side, b: Side) -> bool
     ensures { result ≡ same_side a b }
 {
@@ -78,7 +78,7 @@ pub fn is_same(a: Side, b: Side) -> bool
     }
 }
 
-// So many shares of a side, as a signed number.
+// Returns `shares` shares of a side as a signed number.
 pub(crate) fn signed_qty(side: Side, shares: u32) -> i64
     ensures { result ≡ signed side shares }
 {

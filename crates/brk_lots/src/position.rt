@@ -14,11 +14,11 @@ use brk_money::{Fault, Id, Stamp};
 use std::alloc::Global;
 use std::marker::Model;
 
-/// The lots of one account and security, the oldest first. They have one side, none is of 0 shares, no two are of one
-/// trade, and their stamps rise.
+/// The lots of one account and security, the oldest first. They have one side, none is of 0 shares,
+/// no two are of the same trade, and their stamps ascend strictly.
 #[derive(Drop)]
 pub struct Position {
-    // The lots are those from `first` on: the ones before it were closed.
+    // The lots from `first` on. The ones before it were closed.
     lots: Vec<Lot>,
     first: usize,
 }
@@ -37,7 +37,7 @@ impl Model for Position {
 }
 
 impl Position {
-    /// The position without lots. It takes no memory.
+    /// Returns the position without lots. Never allocates.
     pub fn new(alloc: Global) -> Position
         ensures { result ≡ [] }
     {
@@ -47,7 +47,8 @@ impl Position {
         }
     }
 
-    /// The position of these lots, or none where they are not those of a position. It takes no memory.
+    /// Returns the position of these lots, the oldest first, or `None` if they do not form one.
+    /// Never allocates.
     pub fn from_lots(mut lots: Vec<Lot>) -> Option<Position>
         ensures { MatchOption result (IsPosition lots.items → ⊥) (λ position. (position ≡ lots.items) × IsPosition lots.items) }
     {
@@ -58,7 +59,7 @@ impl Position {
         }
     }
 
-    /// The lots, the oldest first.
+    /// Returns the lots, the oldest first.
     pub fn lots(&self) -> &[Lot]
         ensures lots { result.now ≡ self.now }
         ensures lawful { IsPosition self.now }
@@ -67,15 +68,18 @@ impl Position {
         &self.lots[self.first..]
     }
 
-    /// Whether a trade of this id and moment may come upon it: it opened none of the lots, and is later than all.
+    /// Returns true if a trade with this id and stamp can be applied: it opened none of the lots
+    /// and is later than all of them.
     pub fn takes(&self, trade: Id, stamp: Stamp) -> bool
         ensures { IsTrue result ↔ (IsNew trade self.now × AreOlder stamp self.now) }
     {
         all_older(self.lots(), trade, stamp)
     }
 
-    /// Books a closing that a trade made of this position, from whichever end it took. It changes only the lots that the
-    /// closing touched. Where memory is refused the position is as it was.
+    /// Applies the closing of this position by a trade, from either end. Changes only the lots that
+    /// the closing touched or opened.
+    ///
+    /// Fails with `Memory` only. The position is then unchanged.
     pub fn apply(&mut self, closing: &Closing) -> Result<(), Fault>
         requires { (d : model.Deal) × Applies d self.old closing.now }
         ensures shares { OnOk result ((d : model.Deal) → Applies d self.old closing.now → shares_of self.new ≡ model.shares_after (shares_of self.old) d) }
@@ -90,7 +94,8 @@ impl Position {
         Ok(())
     }
 
-    /// The lots from the back for last in first out, else from the front. It takes no memory.
+    /// Returns the lots as a source: from the back if `lifo`, otherwise from the front. Never
+    /// allocates.
     pub fn from_end(&self, lifo: bool) -> PositionEnd<'_>
         ensures remaining { ⟦<PositionEnd<'static> as LotSource>⟧.remaining result (from_end lifo self.now) }
         ensures walk { IsWalk self.now }

@@ -13,14 +13,14 @@ use crate::position::Position;
 use brk_money::{Fault, Id};
 use std::alloc::Global;
 
-/// A lot that a trade touched or opened.
+/// A lot that a trade touched or opened, with the trade.
 #[derive(Clone, Copy)]
 pub struct DealTouch {
     pub trade: Id,
     pub touch: Touch,
 }
 
-// Adds the lots that a trade touched.
+// Appends the lots that a trade touched.
 fn add_touched(rows: &mut Vec<DealTouch>, trade: Id, touched: &[Touch]) -> Result<(), Fault>
     ensures added { OnOk result (map plain_row rows.new.items ≡ map plain_row rows.old.items ++ map (touch_row trade) (map plain_touch touched.now)) }
     ensures fault { IfErr result (λ fault. fault ≡ Fault.Memory) }
@@ -34,7 +34,7 @@ fn add_touched(rows: &mut Vec<DealTouch>, trade: Id, touched: &[Touch]) -> Resul
     Ok(())
 }
 
-// Adds the lot that a trade opened.
+// Appends the lot that a trade opened.
 fn add_opened(rows: &mut Vec<DealTouch>, trade: Id, opened: Option<Lot>) -> Result<(), Fault>
     ensures added { OnOk result (map plain_row rows.new.items ≡ map plain_row rows.old.items ++ map (touch_row trade) (map opening_touch (map plain_lot (option_to_list opened)))) }
     ensures fault { IfErr result (λ fault. fault ≡ Fault.Memory) }
@@ -50,7 +50,7 @@ fn add_opened(rows: &mut Vec<DealTouch>, trade: Id, opened: Option<Lot>) -> Resu
     Ok(())
 }
 
-// Adds the lots that a trade touched, in their order, and the one that it opened.
+// Appends the lots that a trade touched, in order, and the lot that it opened.
 fn add_rows(rows: &mut Vec<DealTouch>, trade: Id, closing: &Closing) -> Result<(), Fault>
     ensures added { OnOk result (map plain_row rows.new.items ≡ map plain_row rows.old.items
         ++ map (touch_row trade) (map plain_touch closing.now.touched.items ++ map opening_touch (map plain_lot (option_to_list closing.now.opened)))) }
@@ -61,7 +61,8 @@ fn add_rows(rows: &mut Vec<DealTouch>, trade: Id, closing: &Closing) -> Result<(
 }
 
 impl Position {
-    /// The position after deals of distinct trades and rising stamps.
+    /// Returns the position after deals of distinct trades with ascending stamps. Fails with
+    /// `Memory` only.
     pub fn replay(alloc: Global, deals: &[Deal]) -> Result<Position, Fault>
         requires { AreDeals (map plain_deal deals.now) }
         ensures shares { IfOk result (λ position. shares_of position ≡ replay (map plain_deal deals.now)) }
@@ -71,8 +72,9 @@ impl Position {
         Position::replay_with(alloc, deals, &mut rows)
     }
 
-    /// The same, with what each deal did to lots, deal by deal: the lots that it touched, from its end, and the one that it
-    /// opened.
+    /// Returns the position after deals of distinct trades with ascending stamps. Appends to
+    /// `rows`, deal by deal, the lots that it touched, from its end, and the lot that it opened.
+    /// Fails with `Memory` only.
     pub fn replay_with(
         alloc: Global,
         deals: &[Deal],

@@ -6,12 +6,12 @@ ghost use Rattle.brk_money.specs.declared.fault.Fault.TheVariants.{Memory};
 use crate::lot::Touch;
 use brk_money::Fault;
 
-// Takes the rows of the lots that a walk goes through, one by one.
+// A receiver of the lots that a walk touches, one at a time.
 pub(crate) trait Rows {
-    // Whether it may have been given these rows.
+    // Relates the receiver to the rows that were added.
     ghost holds: { Self → List Touch → Type 0 };
 
-    // What a call that faults may answer.
+    // The faults with which a call may fail.
     ghost fails: { Fault → Type 0 };
 
     fn add(&mut self, row: Touch) -> Result<(), Fault>
@@ -19,7 +19,7 @@ pub(crate) trait Rows {
         ensures fault { IfErr result fails };
 }
 
-// Keeps them.
+// Stores the rows.
 impl Rows for Vec<Touch> {
     ghost holds = { λ kept rows. kept.items ≡ rows };
 
@@ -31,7 +31,7 @@ impl Rows for Vec<Touch> {
     }
 }
 
-// Keeps none, and takes no memory.
+// Stores no rows, and never allocates.
 #[derive(Drop)]
 pub(crate) struct NoRows;
 

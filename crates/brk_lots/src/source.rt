@@ -5,44 +5,47 @@ ghost use Rattle.brk_money.specs.declared.fault.Fault.{Fault};
 use crate::lot::Lot;
 use brk_money::Fault;
 
-/// Gives the lots of a position from one of its ends, none skipped and none twice.
+/// A source of the lots of a position from one of its ends. It skips no lot and repeats none.
 pub trait LotSource {
-    /// Whether these are the lots that it has still to give, in the order in which it gives them.
+    /// Relates the source to the lots that remain, in the order in which it yields them.
     ghost remaining: { Self → List Lot → Type 0 };
 
-    /// Whether what it reads from has told it the truth so far. A source that reads from no disk is always told it.
+    /// Every read of the underlying store so far met the disk assumption. Always true if the source
+    /// reads no disk.
     ghost reads_faithfully: { Self → Type 0 };
 
-    /// What its calls may make of it, and of what it reads from.
+    /// Relates the source to each state of it, and of the store that it reads, to which calls can
+    /// lead.
     ghost leads: { Self → Self → Type 0 };
 
-    /// How often it was asked.
+    /// The number of lots that were requested so far.
     ghost asked: { Self → ℕ };
 
-    /// How often it has faulted.
+    /// The number of faults so far.
     ghost faulted: { Self → ℕ };
 
-    /// What a call that faults may do: the source before it, the fault, the source after it.
+    /// The effect of a call that fails: the source before it, the fault, and the source after it.
     ghost fails: { Self → Fault → Self → Type 0 };
 
-    /// The next lot, or none at the end. A fault leaves what it has still to give, so it may be asked again.
+    /// Returns the next lot, or `None` after the last. An error leaves the remaining lots
+    /// unchanged, so the call may be retried.
     fn next(&mut self) -> Result<Option<Lot>, Fault>
         ensures leads { leads self.old self.new }
         ensures given { IfOk result (λ given. reads_faithfully self.new → (ls : List Lot) → remaining self.old ls →
             MatchOption given ((ls ≡ []) × remaining self.new []) (λ lot. (more : List Lot) × (ls ≡ lot ∷ more) × remaining self.new more)) }
-        // No lot is empty, whatever the source was told.
+        // No returned lot is of 0 shares, even if the disk assumption fails.
         ensures some_shares { IfOk result (λ given. IfSome given (λ lot. lot.qty ≢ pos 0)) }
         ensures fault { IfErr result (λ fault. fails self.old fault self.new) }
         ensures kept { IfErr result (λ _. (ls : List Lot) → remaining self.old ls → remaining self.new ls) }
         ensures asked { asked self.new ≤ asked self.old + 1 }
         ensures faulted { IfOk result (λ given. faulted self.new ≡ faulted self.old) };
 
-    /// No call leads nowhere else.
+    /// A source is related to itself.
     ghost stays: { (p : Self) → leads p p };
 
-    /// A call after another leads on.
+    /// The relation is transitive.
     ghost goes_on: { (p q r : Self) → leads p q → leads q r → leads p r };
 
-    /// What told the truth to the last told it before.
+    /// If reads met the disk assumption up to a later state, they did up to an earlier one.
     ghost told_before: { (p q : Self) → leads p q → reads_faithfully q → reads_faithfully p };
 }

@@ -13,21 +13,24 @@ use crate::source::LotSource;
 use crate::values::{Values, values_at};
 use brk_money::{Fault, Price, Qty, Side};
 
-// How far a trade went into the lots: what is left of its quantity, and what the shares cost that it took, in cents.
+// The quantity that is left after a walk over the lots, and the cost basis of the closed shares, in
+// cents.
 #[derive(Drop)]
 struct Walked {
     left: u32,
     cost: u64,
 }
 
-// What a trade took: what is left of its quantity, and what the shares were bought for and sold for.
+// The quantity that is left after a trade, and the buy value and the sell value of the closed
+// shares.
 #[derive(Drop)]
 pub(crate) struct Taken {
     pub left: u32,
     pub values: Values,
 }
 
-// Takes lots of the other side until the quantity is used up, and hands on their rows.
+// Closes lots of the other side until the quantity is used up, and passes the touched lots to
+// `rows`.
 fn walk<L: LotSource, R: Rows>(
     source: &mut L,
     side: Side,
@@ -36,7 +39,7 @@ fn walk<L: LotSource, R: Rows>(
 ) -> Result<Walked, Fault>
     requires { R.holds rows.old [] }
     ensures leads { L.leads source.old source.new }
-    // The rows that it handed on, for each of which it asked once, are those of the lots.
+    // The rows that it passed, each for one request, are those of the lots.
     ensures taken { IfOk result (λ walked. (touched : List Touch) × R.holds rows.new touched × (L.asked source.new ≤ L.asked source.old + length touched + 1)
         × ((ls : List Lot) → AsTold (L.reads_faithfully source.new) (L.remaining source.old) ls → IsWalk ls → IsTaken side qty ls touched walked.left walked.cost)) }
     ensures left { IfOk result (λ walked. walked.left ≤ qty) }
@@ -62,7 +65,8 @@ fn walk<L: LotSource, R: Rows>(
     Ok(Walked { left, cost })
 }
 
-// Takes lots of the other side until the quantity is used up, hands on their rows, and says what the shares were worth.
+// Closes lots of the other side until the quantity is used up, passes the touched lots to `rows`,
+// and returns the values of the closed shares.
 pub(crate) fn take_lots<L: LotSource, R: Rows>(
     source: &mut L,
     side: Side,
@@ -72,7 +76,7 @@ pub(crate) fn take_lots<L: LotSource, R: Rows>(
 ) -> Result<Taken, Fault>
     requires { R.holds rows.old [] }
     ensures leads { L.leads source.old source.new }
-    // The rows that it handed on, for each of which it asked once, are those of the lots.
+    // The rows that it passed, each for one request, are those of the lots.
     ensures taken { IfOk result (λ taken. (touched : List Touch) × R.holds rows.new touched × (L.asked source.new ≤ L.asked source.old + length touched + 1)
         × ((ls : List Lot) → AsTold (L.reads_faithfully source.new) (L.remaining source.old) ls → IsWalk ls → IsTraded side qty price ls touched taken.left taken.values)) }
     ensures bought { IfOk result (λ taken. taken.values.buy_value ≤ qty * greatest_price) }

@@ -1,4 +1,4 @@
--- The base that the rows of a database give.
+-- The base that is read from the rows of a database.
 use Rattle.std.specs.Prelude.{ℕ, Bool, false, ◌==◌, List, [], ◌++◌, map, filter, find, Some, is_none, bytes_eq}
 use Rattle.std.specs.Option.{option_map_or}
 use Rattle.brk_money.specs.Spelling.{Text}
@@ -9,35 +9,37 @@ use Rattle.brk_model.specs.Derived.{Posting}
 use Rattle.brk_model.specs.Tables.{Tables, AccountRow, SecurityRow, LastTradeRow, TradeRow, CashRow, MoveRow}
 use Rattle.brk_model.specs.Joins.{history_in, trade_in}
 
--- an account without its balance
+-- The account of a row, without its balance.
 abbrev pub account_of_row : AccountRow → Account
 account_of_row a = record { id = a.id; customer = a.customer; broker = a.broker; name = a.name; tax_status = a.tax_status; opening = a.opening }
 
--- the statuses of a trade, by rising stamp
+-- The status changes of a trade, sorted by stamp, ascending.
 abbrev pub marks_in : Tables → ℕ → List StatusChange
 marks_in tables trade = sort_by_key (λ m. m.stamp) (map (λ h. record { stamp = h.stamp; status = h.status }) (history_in tables trade))
 
--- a cash row of a trade as a posting to the trade's account
+-- The posting of a trade's cash row to the account of the trade; the account is 0 if the trade does
+-- not exist.
 abbrev pub posting_of_cash : Tables → CashRow → Posting
 posting_of_cash tables c = record { account = option_map_or (λ t. t.account) (trade_in tables c.trade) 0; trade = Some c.trade; stamp = c.stamp; amount = c.amount; name = c.name }
 
--- a numbered cash row as a posting
+-- The posting of a numbered cash row.
 abbrev pub posting_of_move : MoveRow → Posting
 posting_of_move r = record { account = r.account; trade = r.trade; stamp = r.stamp; amount = r.amount; name = r.name }
 
--- the postings of some tables, in whichever table of cash they stand
+-- The postings of all cash rows of the tables: those of CASH_TRANSACTION, then those of CASH_MOVE.
 abbrev pub postings_in : Tables → List Posting
 postings_in tables = map (posting_of_cash tables) tables.cash ++ map posting_of_move tables.moves
 
--- whether a posting is of this trade
+-- True if a posting is of the trade with the id `trade`.
 abbrev pub is_posted_by : ℕ → Posting → Bool
 is_posted_by trade p = option_map_or (λ id. id == trade) p.trade false
 
--- a cash row without a trade
+-- The movement of a cash row without a trade.
 abbrev pub movement_of_row : MoveRow → Movement
 movement_of_row r = record { account = r.account; stamp = r.stamp; amount = r.amount; name = r.name }
 
--- a trade with its statuses, and with the words of its settlement and its cash row
+-- The trade of a row, with its status changes, its cash type and the name of its cash row; the last
+-- two are empty if the rows do not exist.
 abbrev pub trade_of_row : Tables → TradeRow → Trade
 trade_of_row tables t = record {
   id = t.id;
@@ -58,21 +60,22 @@ trade_of_row tables t = record {
   cash_name = option_map_or (λ p. p.name) (find (is_posted_by t.id) (postings_in tables)) [];
 }
 
--- a security of two rows
+-- The security of its row and the row of its last trade.
 abbrev pub security_of_rows : SecurityRow → LastTradeRow → Security
 security_of_rows s l =
     record { symbol = s.symbol; name = s.name; exchange = s.exchange; sector = s.sector; last_price = l.price; volume = l.volume; moment = l.stamp }
 
--- what stands in for a last trade that is not there
+-- The row that replaces a missing last trade: price, volume and stamp are 0.
 abbrev pub no_last_trade : Text → LastTradeRow
 no_last_trade symbol = record { symbol = symbol; stamp = 0; price = 0; volume = 0 }
 
--- the security of a row, with its last trade
+-- The security of a row, with its last trade.
 abbrev pub security_of_row : Tables → SecurityRow → Security
 security_of_row tables s =
     option_map_or (security_of_rows s) (find (λ l. bytes_eq l.symbol s.symbol) tables.last_trades) (security_of_rows s (no_last_trade s.symbol))
 
--- the base that the columns of a base give, in whichever schema
+-- The base that is read from the tables of any schema. Values that follow from a base, such as
+-- lots, sums and balances, are not read.
 unfoldable pub base_of : Tables → Base
 base_of t = record {
   brokers = map (λ b. record { id = b.id; name = b.name }) t.brokers;

@@ -1,4 +1,4 @@
--- A query of a base: why it is refused, or the view. And from the arguments of a view to a query.
+-- The result of a query on a base, a refusal or the view, and the parsing of a view's arguments.
 use Rattle.std.specs.Prelude.{ℕ, List, [], ◌∷◌, ◌++◌, find, is_none, unwrap_or, Result, Ok, Err, codes, bytes_eq}
 use Rattle.std.specs.List.{list_any}
 use Rattle.brk_money.specs.Spelling.{Text}
@@ -16,7 +16,7 @@ use Rattle.brk_model.specs.Views.{view_of}
 use Rattle.brk_model.specs.Rows.{estimate_fields}
 use Rattle.brk_model.specs.Step.{unless}
 
--- the tests of a query, in the order in which they are made
+-- The tests of a query, in the order in which they are made.
 unfoldable pub query_tests : Base → Query → List Test
 query_tests base (PositionOf customer) = lacks_customer base customer ∷ []
 query_tests base (PositionOfTaxId tax_id) = (is_none (find (λ c. bytes_eq c.tax_id tax_id) base.customers), NoCustomer) ∷ []
@@ -30,72 +30,75 @@ query_tests base (TradesOfSymbol symbol first last) = lacks_security base symbol
 query_tests base (LotsTouched account first) = lacks_account base account ∷ []
 query_tests base (VolumeOf sector names) = []
 
--- the view of a query: the rows that it selects, and of an estimate its numbers
+-- The view of a query: the rows that it selects, or the figures of an estimate.
 unfoldable pub answer_of : Base → Query → View
 answer_of base (EstimateOf order) = estimate_fields (estimate base order) ∷ []
 answer_of base query = unwrap_or (view_of (tables_of base) query) []
 
--- a query: why it is refused, or its view
+-- The result of a query: the first refusal that applies, otherwise its view.
 unfoldable pub ask : Base → Query → Result View Refusal
 ask base query = unless (first_refusal (query_tests base query)) (answer_of base query)
 
 -- ---- from arguments to a query
 
--- one argument
+-- The query that exactly one argument parses as; `BadText` if there are none or more.
 abbrev pub read_one : (Text → Read Query) → List Text → Read Query
 read_one read (argument ∷ []) = read argument
 read_one read _ = Err BadText
 
--- no argument
+-- The query, if there are no arguments; otherwise `BadText`.
 abbrev pub read_none : Query → List Text → Read Query
 read_none query [] = Ok query
 read_none query (argument ∷ arguments) = Err BadText
 
--- something and two stamps
+-- The query that exactly three arguments parse as, a value and two stamps; `BadText` if there are
+-- fewer or more.
 abbrev pub read_span : {A : Type 0} → (Text → Read A) → (A → ℕ → ℕ → Query) → List Text → Read Query
 read_span read query (what ∷ first ∷ last ∷ []) = Ok query ⊛ read what ⊛ read_stamp first ⊛ read_stamp last
 read_span read query _ = Err BadText
 
--- an account and a stamp
+-- The query for touched lots that exactly two arguments parse as, an account and a stamp; `BadText`
+-- if there are fewer or more.
 abbrev pub read_lots : List Text → Read Query
 read_lots (account ∷ first ∷ []) = Ok (λ a f. LotsTouched a f) ⊛ read_id account ⊛ read_stamp first
 read_lots _ = Err BadText
 
--- broker names, each counted once
+-- The distinct broker names of a query, 1 to 20 of them; a repeated name is counted once.
 abbrev pub read_names : List Text → Read (List Text)
 read_names names = then_read (λ ns. some_of (distinct_texts ns)) (read_each read_name names)
 
--- a sector and broker names
+-- The query for volumes that a sector and broker names parse as.
 abbrev pub read_volume : List Text → Read Query
 read_volume [] = Err BadText
 read_volume (sector ∷ names) = Ok (λ s ns. VolumeOf s ns) ⊛ read_name sector ⊛ read_names names
 
 -- ---- the views
 
--- the views of what waits at the exchange, and of what an order would cost
+-- The views of submitted trades and of an order's estimate, with their names.
 abbrev pub order_views : List (Reader Query)
 order_views = (codes "submitted", read_none SubmittedTrades) ∷ (codes "estimate", read_as EstimateOf read_order) ∷ []
 
--- the views of what a customer has, and of what an account did
+-- The views of a customer's position, and of an account's recent trades and status, with their
+-- names.
 abbrev pub account_views : List (Reader Query)
 account_views =
     (codes "customer", read_one (read_as PositionOf read_id)) ∷ (codes "taxid", read_one (read_as PositionOfTaxId read_tax_id))
     ∷ (codes "recent", read_one (read_as RecentOf read_id)) ∷ (codes "status", read_one (read_as StatusOf read_id)) ∷ []
 
--- the views of trades looked up, with what became of them
+-- The views that look up trades and touched lots, with their names.
 abbrev pub lookup_views : List (Reader Query)
 lookup_views =
     (codes "trades", read_as TradesWith read_ids) ∷ (codes "accounttrades", read_span read_id (λ a f l. TradesOfAccount a f l))
     ∷ (codes "symboltrades", read_span read_symbol (λ s f l. TradesOfSymbol s f l)) ∷ (codes "lots", read_lots) ∷ []
 
--- the view of what brokers have to trade
+-- The view of the brokers' volumes, with its name.
 abbrev pub volume_views : List (Reader Query)
 volume_views = (codes "volume", read_volume) ∷ []
 
--- all views by their names
+-- All views, with their names.
 abbrev pub views : List (Reader Query)
 views = order_views ++ account_views ++ lookup_views ++ volume_views
 
--- a view's name and arguments as a query
+-- The query that a view's name and its arguments parse as, or the refusal of a malformed one.
 unfoldable pub parse_query : Text → List Text → Read Query
 parse_query view arguments = parse_by views (view ∷ arguments)

@@ -1,4 +1,5 @@
--- The conditions that an audit tests of tables, each taking those before it for granted (consistency conditions, and this project's own).
+-- The conditions that an audit checks of tables, each only if those before it hold (consistency
+-- conditions, and this project's own).
 use Rattle.std.specs.Prelude.{◌≡◌, ◌⊎◌, ⊤, List, [], ◌∷◌, map, Option, Some, None, IsTrue}
 use Rattle.brk_money.specs.declared.fault.Condition.{Condition}
 use Rattle.brk_money.specs.declared.fault.Condition.TheVariants as condition
@@ -9,11 +10,12 @@ use Rattle.brk_model.specs.Adopted.{base_of}
 use Rattle.brk_model.specs.Form.{has_form}
 use Rattle.brk_model.specs.Ways.{has_status_rows}
 
--- the tables of the base that tables of a schema give, by rising key
+-- The tables, sorted by key, that follow from the base of the tables `t` in a schema.
 abbrev pub expected : Schema → Tables → Tables
 expected schema t = sheets_at schema (base_of t)
 
--- what each condition says of tables of a schema whose rows are by rising key. The first two are said of a database and not of rows
+-- The condition holds of tables of a schema whose rows are sorted by key. `NotEmpty` and `Schema`
+-- are conditions of a database, not of rows, and always hold here.
 unfoldable pub ConditionHolds : Schema → Condition → Tables → Type 0
 ConditionHolds schema condition.NotEmpty t = ⊤
 ConditionHolds schema condition.Schema t = ⊤
@@ -29,17 +31,18 @@ ConditionHolds schema condition.Settlement t = t.settlements ≡ (expected schem
 ConditionHolds schema condition.Cash t = (t.cash ≡ (expected schema t).cash) × (t.moves ≡ (expected schema t).moves)
 ConditionHolds schema condition.Balance t = map (λ a. a.balance) t.accounts ≡ map (λ a. a.balance) (expected schema t).accounts
 
--- in the order of the tests
+-- The conditions of rows, in the order in which an audit checks them.
 abbrev pub row_conditions : List Condition
 row_conditions =
     condition.Form ∷ condition.Status ∷ condition.Requests ∷ condition.Lots ∷ condition.History ∷ condition.Summary ∷ condition.Count
     ∷ condition.Commission ∷ condition.Settlement ∷ condition.Cash ∷ condition.Balance ∷ []
 
--- the answer is the first condition that fails, and none where all hold
+-- The answer is the first of the conditions that fails, or none if all hold.
 abbrev pub IsFirstFailing : Schema → List Condition → Tables → Option Condition → Type 0
 IsFirstFailing schema [] t answer = answer ≡ None
 IsFirstFailing schema (c ∷ cs) t answer = (ConditionHolds schema c t × IsFirstFailing schema cs t answer) ⊎ ((¬ ConditionHolds schema c t) × (answer ≡ Some c))
 
--- the answer of an audit of tables of a schema, whose rows are by rising key
+-- The answer is the result of an audit of tables of a schema whose rows are sorted by key: the
+-- first condition that fails, or none.
 abbrev pub IsAudit : Schema → Tables → Option Condition → Type 0
 IsAudit schema t answer = IsFirstFailing schema row_conditions t answer

@@ -1,4 +1,4 @@
--- What a brokerage can be told, and what it replies.
+-- The commands to a brokerage, and its replies.
 use Rattle.std.specs.Prelude.{ℕ, Bool, List, ℤ}
 use Rattle.brk_money.specs.Spelling.{Text}
 use Rattle.brk_money.specs.declared.order_type.OrderType.{OrderType}
@@ -6,7 +6,7 @@ use Rattle.brk_money.specs.declared.status.Status.{Status}
 use Rattle.brk_money.specs.declared.refusal.Refusal.{Refusal}
 use Rattle.brk_model.specs.Records.{Broker, Customer, Account, Permission, Charge, Band, TaxRate, CustomerTax, Executor}
 
--- a security as it is listed
+-- A security to be listed, with its first price in cents.
 pub record Listing : Type 0 where
   pub symbol : Text
   pub name : Text
@@ -14,7 +14,7 @@ pub record Listing : Type 0 where
   pub sector : Text
   pub price : ℕ
 
--- an order, whose type has its price where it asks for one
+-- An order; its type has a price unless it is a market type.
 pub record Order : Type 0 where
   pub account : ℕ
   pub order_type : OrderType
@@ -24,13 +24,14 @@ pub record Order : Type 0 where
   pub is_lifo : Bool
   pub executor : Executor
 
--- a trade on the market
+-- A tick: the price in cents and the quantity of a trade on the market.
 pub record Tick : Type 0 where
   pub symbol : Text
   pub price : ℕ
   pub qty : ℕ
 
--- what can be told: nine kinds of reference records, orders, feeds, cancels, results, three changes of words, movements of cash, and the settlement day
+-- A command: one of nine kinds of reference records, an order, a feed, a cancel, a result, one of
+-- three text updates, a deposit, a withdrawal, or the settlement day.
 pub data Command : Type 0 where
   AddBroker : Broker → Command
   AddCustomer : Customer → Command
@@ -52,7 +53,7 @@ pub data Command : Type 0 where
   WithdrawCash : (account amount : ℕ) → Command
   SetOneDay : (day : ℕ) → Command
 
--- the numbers of an order
+-- The figures of an order, all in cents.
 pub record Estimate : Type 0 where
   pub price : ℕ
   pub buy_value : ℕ
@@ -62,7 +63,7 @@ pub record Estimate : Type 0 where
   pub charge : ℕ
   pub assets : ℤ
 
--- the numbers of a completion
+-- The figures of a completed trade: amounts in cents, and the day on which it settles.
 pub record Completion : Type 0 where
   pub commission : ℕ
   pub tax : ℕ
@@ -72,7 +73,7 @@ pub record Completion : Type 0 where
   pub sell_value : ℕ
   pub balance : ℤ
 
--- what is told of an accepted command, with its stamp
+-- The reply to an accepted command, with its stamp.
 pub data Reply : Type 0 where
   Booked : (stamp : ℕ) → Reply
   Ordered : (stamp trade : ℕ) → Status → Estimate → Reply
@@ -82,7 +83,7 @@ pub data Reply : Type 0 where
   Changed : (stamp count : ℕ) → Reply
   MovedCash : (stamp move : ℕ) → (balance : ℤ) → Reply
 
--- the answer to a command
+-- The answer to a command: done with a reply, again with a stored reply, or refused.
 pub data Answer : Type 0 where
   Done : Reply → Answer
   Again : (line : Text) → Answer

@@ -1,5 +1,7 @@
--- What follows from the completed trades and the movements of a base: positions, summaries, settlements, postings, balances, broker numbers; and the requests.
--- Each word names the lists that it reads: the accounts, the securities, and the completed trades as `done`.
+-- The values that follow from the completed trades and the movements of a base: positions,
+-- summaries, settlements, postings, balances and broker totals; and the pending trades. Each
+-- definition names the lists that it reads: the accounts, the securities, and the completed trades
+-- as `done`.
 use Rattle.std.specs.Prelude.{ℕ, ◌+◌, ◌*◌, false, nat_le, ◌==◌, if◌then◌else◌, List, ◌++◌, length, map, filter, sum_by, Option, Some, None, ℤ, pos, ◌+ℤ◌, ◌-ℤ◌, ◌*ℤ◌, neg_ℤ, bytes_eq}
 use Rattle.std.specs.Option.{option_map_or}
 use Rattle.brk_money.specs.Spelling.{Text}
@@ -13,60 +15,64 @@ use Rattle.brk_model.specs.Records.{Account, Security, Trade, Movement, SettleRu
 use Rattle.brk_model.specs.Base.{Base, completed, tax_status_in, opening_in, broker_in, takes_tax_off, has_status, moment_of, price_of}
 use Rattle.brk_model.specs.Shares.{Share, Deal, replay, signed}
 
--- a completed trade as it met its position
+-- The deal of a completed trade with its position.
 abbrev pub deal_of : Trade → Deal
 deal_of t = record { trade = t.id; side = side_of t.kind; qty = t.qty; price = price_of t; stamp = moment_of t; is_lifo = t.is_lifo }
 
--- of some trades, those of an account
+-- The trades of an account in a list of trades.
 abbrev pub of_account : List Trade → ℕ → List Trade
 of_account done account = filter (λ t. t.account == account) done
 
--- of some trades, those of an account in a symbol
+-- The trades of a position in a list of trades: those of an account in a symbol.
 abbrev pub of_position : List Trade → ℕ → Text → List Trade
 of_position done account symbol = filter (λ t. bytes_eq t.symbol symbol) (of_account done account)
 
--- a position's trades as deals, by rising completion
+-- The deals of a position, sorted by the stamp of completion, ascending.
 abbrev pub deals_in : List Trade → ℕ → Text → List Deal
 deals_in done account symbol = map deal_of (sort_by_key moment_of (of_position done account symbol))
 
--- the shares that an account holds of a symbol (HOLDING)
+-- The open shares of an account in a symbol, bought or sold short (HOLDING).
 unfoldable pub shares_in : List Trade → ℕ → Text → List Share
 shares_in done account symbol = replay (deals_in done account symbol)
 
--- the holding summary: shares bought less shares sold; it speaks of no lots (HS_QTY, consistency condition)
+-- The holding summary of a position: shares bought minus shares sold, without regard to lots
+-- (HS_QTY, consistency condition).
 unfoldable pub summary_of : List Trade → ℕ → Text → ℤ
 summary_of done account symbol = total_by (λ t. signed (side_of t.kind) t.qty) (of_position done account symbol)
 
--- what a value brings: a sale brings it, and a purchase costs it
+-- The proceeds of a value: the value for a sale, and its negation for a purchase.
 abbrev pub proceeds : Side → ℕ → ℤ
 proceeds Sell value = pos value
 proceeds Buy value = neg_ℤ (pos value)
 
--- the tax that is taken off a trade's settlement, which it is at one tax status alone
+-- The tax that is withheld from a trade's settlement, in cents; 0 unless the account's tax status
+-- is `Withheld`.
 abbrev pub withheld : List Account → Trade → ℕ
 withheld accounts t = if takes_tax_off (tax_status_in accounts t.account) then t.tax else 0
 
--- the amount that a completed trade settles for (SE_AMT, Trade-Result)
+-- The settlement amount of a completed trade, in cents: its proceeds minus charge, commission and
+-- withheld tax (SE_AMT, Trade-Result).
 abbrev pub amount_of : List Account → Trade → ℤ
 amount_of accounts t = proceeds (side_of t.kind) (t.qty * price_of t) -ℤ pos (t.charge + t.commission + withheld accounts t)
 
--- how many days after a day its completions settle: one where a first such day is set and has come, else two
+-- The number of days from a completion to its settlement: 1 if a first such day is set and `day` is
+-- not before it, otherwise 2.
 abbrev pub settlement_days : SettleRule → ℕ → ℕ
 settlement_days rule day = if option_map_or (λ first. nat_le first day) rule false then 1 else 2
 
--- the day on which a completion at a stamp settles
+-- The day on which a completion at this stamp settles.
 abbrev pub due_after : SettleRule → ℕ → ℕ
 due_after rule stamp = day_of stamp + settlement_days rule (day_of stamp)
 
--- the day on which a completed trade settles (SE_CASH_DUE_DATE, Trade-Result)
+-- The day on which a completed trade settles (SE_CASH_DUE_DATE, Trade-Result).
 abbrev pub due_day : SettleRule → Trade → ℕ
 due_day rule t = due_after rule (moment_of t)
 
--- the cash trades among some trades
+-- The cash trades in a list of trades.
 abbrev pub cash_trades : List Trade → List Trade
 cash_trades done = filter (λ t. t.is_cash) done
 
--- what is posted to an account's cash: by a trade, or without one
+-- An amount that is posted to an account's cash, by a trade or without one.
 pub record Posting : Type 0 where
   pub account : ℕ
   pub trade : Option ℕ
@@ -74,50 +80,52 @@ pub record Posting : Type 0 where
   pub amount : ℤ
   pub name : Text
 
--- what a completed cash trade posts: the amount that it settles for, when it is completed
+-- The posting of a completed cash trade: its settlement amount, at the stamp of its completion.
 abbrev pub posting_of_trade : List Account → Trade → Posting
 posting_of_trade accounts t = record { account = t.account; trade = Some t.id; stamp = moment_of t; amount = amount_of accounts t; name = t.cash_name }
 
--- what a movement posts
+-- The posting of a movement.
 abbrev pub posting_of_movement : Movement → Posting
 posting_of_movement m = record { account = m.account; trade = None; stamp = m.stamp; amount = m.amount; name = m.name }
 
--- the postings of completed cash trades, and those of movements
+-- The postings of the completed cash trades, then those of the movements.
 abbrev pub postings : List Account → List Trade → List Movement → List Posting
 postings accounts done movements = map (posting_of_trade accounts) (cash_trades done) ++ map posting_of_movement movements
 
--- postings by rising stamp
+-- The postings, sorted by stamp, ascending.
 abbrev pub in_turn : List Posting → List Posting
 in_turn posted = sort_by_key (λ p. p.stamp) posted
 
--- the postings of a base
+-- The postings of a base.
 abbrev pub postings_of : Base → List Posting
 postings_of base = postings base.accounts (completed base) base.movements
 
--- of some postings, those to an account
+-- The postings to an account in a list of postings.
 abbrev pub posted_to : List Posting → ℕ → List Posting
 posted_to posted account = filter (λ p. p.account == account) posted
 
--- the opening balance and the amounts of the account's postings (CA_BAL)
+-- The balance of an account, in cents: its opening balance plus the amounts of its postings
+-- (CA_BAL).
 unfoldable pub balance_of : List Account → List Posting → ℕ → ℤ
 balance_of accounts posted account = opening_in accounts account +ℤ total_by (λ p. p.amount) (posted_to posted account)
 
--- the worth of what an account holds, at the last prices
+-- The market value of an account's holdings at last prices, in cents.
 unfoldable pub holdings_of : List Security → List Trade → ℕ → ℤ
 holdings_of securities done account = total_by (λ s. summary_of done account s.symbol *ℤ pos s.last_price) securities
 
--- the completed trades of a broker's accounts
+-- The completed trades of a broker's accounts.
 abbrev pub of_broker : List Account → List Trade → ℕ → List Trade
 of_broker accounts done broker = filter (λ t. broker_in accounts t.account == broker) done
 
--- the number of a broker's completed trades (B_NUM_TRADES, consistency condition)
+-- The number of a broker's completed trades (B_NUM_TRADES, consistency condition).
 unfoldable pub trade_count_of : List Account → List Trade → ℕ → ℕ
 trade_count_of accounts done broker = length (of_broker accounts done broker)
 
--- the sum of the commissions of a broker's completed trades (B_COMM_TOTAL, consistency condition)
+-- The sum of the commissions of a broker's completed trades, in cents (B_COMM_TOTAL, consistency
+-- condition).
 unfoldable pub commissions_of : List Account → List Trade → ℕ → ℕ
 commissions_of accounts done broker = sum_by (λ t. t.commission) (of_broker accounts done broker)
 
--- the trades that wait for a price (TRADE_REQUEST)
+-- The pending trades in a list of trades (TRADE_REQUEST).
 abbrev pub pending : List Trade → List Trade
 pending trades = filter (has_status Pending) trades

@@ -1,4 +1,4 @@
--- Market-Feed: ticks change last prices and trigger pending trades.
+-- Market-Feed: ticks set last prices and trigger pending trades.
 use Rattle.std.specs.Prelude.{ℕ, ◌+◌, Bool, false, ◌&&◌, nat_le, List, [], ◌∷◌, ◌++◌, map, filter, fold, bytes_eq}
 use Rattle.brk_money.specs.declared.trade_type.TradeType.{TradeType}
 use Rattle.brk_money.specs.declared.trade_type.TradeType.TheVariants.{MarketBuy, MarketSell, StopLoss, LimitSell, LimitBuy}
@@ -8,7 +8,8 @@ use Rattle.brk_model.specs.Records.{Security, Trade}
 use Rattle.brk_model.specs.Base.{Base, has_status, marked, with_trades}
 use Rattle.brk_model.specs.Commands.{Tick}
 
--- whether a price triggers a bid
+-- True if a market price triggers a trade of this type: at or below the bid for a stop-loss and a
+-- limit buy, at or above it for a limit sell.
 abbrev pub triggers : TradeType → ℕ → ℕ → Bool
 triggers StopLoss bid price = nat_le price bid
 triggers LimitSell bid price = nat_le bid price
@@ -16,27 +17,30 @@ triggers LimitBuy bid price = nat_le price bid
 triggers MarketBuy bid price = false
 triggers MarketSell bid price = false
 
--- whether a tick triggers a trade: it waits for a price of this symbol
+-- True if a tick triggers a trade: the trade is pending, has the symbol of the tick, and the tick's
+-- price triggers it.
 abbrev pub is_triggered : Tick → Trade → Bool
 is_triggered tick t = has_status Pending t && bytes_eq t.symbol tick.symbol && triggers t.kind t.bid tick.price
 
--- the last price, the volume and the moment of a security after a tick
+-- The security after a tick: it has the last price of the tick and the stamp, and its volume is
+-- increased by the quantity of the tick.
 abbrev pub ticked : ℕ → Tick → Security → Security
 ticked stamp tick s = record s { last_price = tick.price; volume = s.volume + tick.qty; moment = stamp }
 
--- the base with the price, the volume and the moment of a tick
+-- The base with the last price, the volume and the stamp of the tick's security updated.
 abbrev pub with_price : ℕ → Tick → Base → Base
 with_price stamp tick base = record base { securities = update_where (λ s. bytes_eq s.symbol tick.symbol) (ticked stamp tick) base.securities }
 
--- the base after a tick: its price, and the triggered trades submitted
+-- The base after a tick: its security is updated, and the trades that it triggers are submitted.
 abbrev pub with_tick : ℕ → Base → Tick → Base
 with_tick stamp base tick = with_trades (is_triggered tick) (marked stamp Submitted) (with_price stamp tick base)
 
--- the base after ticks, one after another
+-- The base after the ticks, in order.
 unfoldable pub with_ticks : ℕ → Base → List Tick → Base
 with_ticks stamp base ticks = fold (with_tick stamp) base ticks
 
--- the trades that the ticks trigger, tick by tick, and by rising id within one
+-- The ids of the trades that the ticks trigger, tick by tick; those of one tick in the order of the
+-- base.
 unfoldable pub triggered_by : ℕ → Base → List Tick → List ℕ
 triggered_by stamp base [] = []
 triggered_by stamp base (tick ∷ ticks) =

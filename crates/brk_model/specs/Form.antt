@@ -1,4 +1,4 @@
--- The form of a database's rows: limits, references, keys.
+-- The audit condition `Form`: formats, limits, references and keys of the rows of a database.
 use Rattle.std.specs.Prelude.{ℕ, Bool, true, false, not, ◌&&◌, ◌||◌, ◌==◌, nat_le, if◌then◌else◌, List, [], ◌∷◌, map, filter, length, is_some, is_none, ℤ, pos, nat_abs, int_lt, codes, bytes_eq, flat_map, option_to_list}
 use Rattle.std.specs.List.{list_any, list_all, range_with_len}
 use Rattle.std.specs.Option.{option_map_or}
@@ -21,194 +21,206 @@ use Rattle.brk_model.specs.Joins.{history_in, trade_in, security_in, account_in}
 use Rattle.brk_model.specs.Adopted.{base_of, trade_of_row}
 use Rattle.brk_model.specs.Keys.{KeyPart, key_before, kept_key, broker_key, customer_key, account_key, permission_key, security_key, last_trade_key, charge_key, band_key, tax_rate_key, customer_tax_key, trade_key, history_key, request_key, holding_key, summary_key, holding_history_key, settlement_key, cash_key, move_key}
 
--- an id
+-- True if the number is an id: at least 1 and at most the greatest id.
 abbrev pub is_id : ℕ → Bool
 is_id n = nat_le 1 n && nat_le n greatest_id
 
--- the number of a cash row
+-- True if the number is that of a cash row: at least 1 and at most the greatest one.
 abbrev pub is_move_id : ℕ → Bool
 is_move_id n = nat_le 1 n && nat_le n greatest_move_id
 
--- a quantity within the limit of a schema
+-- True if the quantity is at least 1 and at most the greatest quantity of the schema.
 abbrev pub is_qty : Schema → ℕ → Bool
 is_qty schema n = nat_le 1 n && nat_le n schema.greatest_qty
 
--- a price
+-- True if the price is at least 1 cent and at most the greatest price.
 abbrev pub is_price : ℕ → Bool
 is_price n = nat_le 1 n && nat_le n greatest_price
 
--- a tier
+-- True if the number is a tier: 1 to 3.
 abbrev pub is_tier : ℕ → Bool
 is_tier n = nat_le 1 n && nat_le n 3
 
--- an amount of cents
+-- True if the absolute value of the amount is at most the greatest amount.
 abbrev pub is_amount : ℤ → Bool
 is_amount z = nat_le (nat_abs z) greatest_amount
 
--- a stamp that is not after the last one
+-- True if the stamp is not after the last stamp of the tables; false if they have none.
 abbrev pub is_stamp : Tables → ℕ → Bool
 is_stamp tables stamp = option_map_or (λ last. nat_le stamp last) tables.last false
 
--- a trade is there
+-- True if the trade exists.
 abbrev pub has_trade : Tables → ℕ → Bool
 has_trade tables id = is_some (trade_in tables id)
 
--- an account is there
+-- True if the account exists.
 abbrev pub has_account : Tables → ℕ → Bool
 has_account tables id = is_some (account_in tables id)
 
--- a security is there
+-- True if the security exists.
 abbrev pub has_security : Tables → Text → Bool
 has_security tables symbol = is_some (security_in tables symbol)
 
--- a customer is there
+-- True if the customer exists.
 abbrev pub has_customer : Tables → ℕ → Bool
 has_customer tables id = list_any (λ c. c.id == id) tables.customers
 
--- a broker is there
+-- True if the broker exists.
 abbrev pub has_broker : Tables → ℕ → Bool
 has_broker tables id = list_any (λ b. b.id == id) tables.brokers
 
--- the columns of KEPT have their forms: the form of a key
+-- True if the key of a row of KEPT is well-formed.
 abbrev pub kept_form : Kept → Bool
 kept_form k = is_batch_name k.key.batch && is_id k.key.row
 
--- the columns of BROKER have their forms
+-- True if the id, the name and the commission total of a row of BROKER are well-formed.
 abbrev pub broker_form : BrokerRow → Bool
 broker_form b = is_id b.id && is_name b.name && nat_le b.commissions greatest_amount
 
--- the columns of CUSTOMER have their forms
+-- True if the columns of a row of CUSTOMER are well-formed.
 abbrev pub customer_form : Customer → Bool
 customer_form c = is_id c.id && is_tier c.tier && is_tax_id c.tax_id && is_name c.last_name && is_name c.first_name
 
--- the columns of CUSTOMER_ACCOUNT have their forms, and what a row names is there
+-- True if the columns of a row of CUSTOMER_ACCOUNT are well-formed, and its customer and broker
+-- exist.
 abbrev pub account_form : Tables → AccountRow → Bool
 account_form t a =
     is_id a.id && has_customer t a.customer && has_broker t a.broker && is_name a.name && is_amount a.opening && is_amount a.balance
 
--- the columns of ACCOUNT_PERMISSION have their forms, and what a row names is there
+-- True if the columns of a row of ACCOUNT_PERMISSION are well-formed, and its account exists.
 abbrev pub permission_form : Tables → Permission → Bool
 permission_form t p = has_account t p.account && is_acl p.acl && is_tax_id p.tax_id && is_name p.last_name && is_name p.first_name
 
--- the columns of SECURITY have their forms: it has its last trade
+-- True if the columns of a row of SECURITY are well-formed, and its last trade exists.
 abbrev pub security_form : Tables → SecurityRow → Bool
 security_form t s =
     is_symbol s.symbol && is_name s.name && is_exchange s.exchange && is_name s.sector && list_any (λ l. bytes_eq l.symbol s.symbol) t.last_trades
 
--- the columns of LAST_TRADE have their forms, and what a row names is there
+-- True if the columns of a row of LAST_TRADE are well-formed, and its security exists.
 abbrev pub last_trade_form : Tables → LastTradeRow → Bool
 last_trade_form t l = has_security t l.symbol && is_stamp t l.stamp && is_price l.price && nat_le l.volume greatest_amount
 
--- the columns of CHARGE have their forms
+-- True if the columns of a row of CHARGE are well-formed.
 abbrev pub charge_form : Charge → Bool
 charge_form c = is_tier c.tier && nat_le c.amount greatest_charge
 
--- the columns of COMMISSION_RATE have their forms, and its bounds are in order
+-- True if the columns of a row of COMMISSION_RATE are well-formed, and its lower bound is at most
+-- its upper bound.
 abbrev pub band_form : Schema → Band → Bool
 band_form schema b = is_tier b.tier && is_exchange b.exchange && is_qty schema b.from_qty && is_qty schema b.to_qty && nat_le b.from_qty b.to_qty && nat_le b.rate greatest_rate
 
--- the columns of TAXRATE have their forms
+-- True if the columns of a row of TAXRATE are well-formed.
 abbrev pub tax_rate_form : TaxRate → Bool
 tax_rate_form r = is_id r.id && is_name r.name && nat_le r.rate greatest_tax_rate
 
--- the columns of CUSTOMER_TAXRATE have their forms, and what a row names is there
+-- True if the customer and the tax rate of a row of CUSTOMER_TAXRATE exist.
 abbrev pub customer_tax_form : Tables → CustomerTax → Bool
 customer_tax_form t x = has_customer t x.customer && list_any (λ r. r.id == x.tax) t.tax_rates
 
--- a trade has a price just where a row of its history says that it is completed
+-- True if the trade has a valid price and its history has a completion, or it has no price and its
+-- history has none.
 abbrev pub price_form : Tables → TradeRow → Bool
 price_form t row =
     if list_any (λ h. same_status h.status Completed) (history_in t row.id) then option_map_or is_price row.price false else is_none row.price
 
--- the columns of TRADE have their forms, and what a row names is there
+-- True if the columns of a row of TRADE are well-formed, its security and account exist, and its
+-- price agrees with its history.
 abbrev pub trade_form : Schema → Tables → TradeRow → Bool
 trade_form schema t row =
     is_id row.id && is_stamp t row.stamp && has_security t row.symbol && is_qty schema row.qty && is_price row.bid && has_account t row.account && price_form t row
     && nat_le row.charge greatest_charge && nat_le row.commission greatest_amount && nat_le row.tax greatest_amount
 
--- the columns of TRADE_HISTORY have their forms: a completion leaves its due day within the calendar
+-- True if the trade of a row of TRADE_HISTORY exists and its stamp is well-formed; the due day of a
+-- completion is within the calendar.
 abbrev pub history_form : Tables → HistoryRow → Bool
 history_form t h = has_trade t h.trade && is_stamp t h.stamp && (not (same_status h.status Completed) || nat_le (due_after t.rule h.stamp) last_day)
 
--- the columns of TRADE_REQUEST have their forms, and what a row names is there
+-- True if the columns of a row of TRADE_REQUEST are well-formed, and its trade, security and broker
+-- exist.
 abbrev pub request_form : Schema → Tables → RequestRow → Bool
 request_form schema t r = has_trade t r.trade && has_security t r.symbol && is_qty schema r.qty && is_price r.bid && has_broker t r.broker
 
--- the columns of HOLDING have their forms, and what a row names is there
+-- True if the stamp and the price of a row of HOLDING are well-formed, and its trade, account and
+-- security exist.
 abbrev pub holding_form : Tables → HoldingRow → Bool
 holding_form t h = has_trade t h.trade && has_account t h.account && has_security t h.symbol && is_stamp t h.stamp && is_price h.price
 
--- the columns of HOLDING_SUMMARY have their forms, and what a row names is there
+-- True if the quantity of a row of HOLDING_SUMMARY is within the limit of the schema, and its
+-- account and security exist.
 abbrev pub summary_form : Schema → Tables → SummaryRow → Bool
 summary_form schema t s = has_account t s.account && has_security t s.symbol && nat_le (nat_abs s.qty) schema.greatest_summary
 
--- the columns of HOLDING_HISTORY have their forms, and what a row names is there
+-- True if both trades of a row of HOLDING_HISTORY exist.
 abbrev pub holding_history_form : Tables → HoldingHistoryRow → Bool
 holding_history_form t h = has_trade t h.lot && has_trade t h.trade
 
--- the words that a settlement may have
+-- True if the text is one of the two cash types of a cash trade, or of a margin trade.
 abbrev pub is_cash_type : Bool → Text → Bool
 is_cash_type is_cash word =
     if is_cash then bytes_eq word (codes "Cash Account") || bytes_eq word (codes "Cash") else bytes_eq word (codes "Margin") || bytes_eq word (codes "Margin Account")
 
--- the columns of SETTLEMENT have their forms: its words are those of its kind of trade
+-- True if the trade of a row of SETTLEMENT exists, its cash type is one of the two of that trade,
+-- and its due day and amount are within their limits.
 abbrev pub settlement_form : Tables → SettlementRow → Bool
 settlement_form t s =
     option_map_or (λ row. is_cash_type row.is_cash s.cash_type) (trade_in t s.trade) false && nat_le s.due_day last_day && is_amount s.amount
 
--- the names that a cash row may have
+-- True if the name is one of the two that a cash row of the trade may have.
 abbrev pub is_cash_name : Tables → Text → TradeRow → Bool
 is_cash_name t name row =
     bytes_eq name (cash_text (codes " shares of ") (base_of t) (trade_of_row t row)) || bytes_eq name (cash_text (codes " Shares of ") (base_of t) (trade_of_row t row))
 
--- the columns of CASH_TRANSACTION have their forms: its name is one of the two of its trade
+-- True if the trade of a row of CASH_TRANSACTION exists, its name is one of the two of that trade,
+-- and its stamp and amount are well-formed.
 abbrev pub cash_form : Tables → CashRow → Bool
 cash_form t c = option_map_or (is_cash_name t c.name) (trade_in t c.trade) false && is_stamp t c.stamp && is_amount c.amount
 
--- a movement is a deposit of an amount above 0, or a withdrawal of one below 0
+-- True if the movement is a deposit of an amount above 0, or a withdrawal of an amount below 0.
 abbrev pub is_movement : Text → ℤ → Bool
 is_movement name amount = (bytes_eq name (codes "Deposit") && int_lt (pos 0) amount) || (bytes_eq name (codes "Withdrawal") && int_lt amount (pos 0))
 
--- the row of a trade has one of its two names
+-- True if the trade of a cash row exists, and the row's name is one of the two of that trade.
 abbrev pub is_cash_of_trade : Tables → MoveRow → ℕ → Bool
 is_cash_of_trade t r trade = option_map_or (is_cash_name t r.name) (trade_in t trade) false
 
--- the columns of CASH_MOVE have their forms, and what a row names is there
+-- True if the columns of a row of CASH_MOVE are well-formed, its account exists, and its name fits
+-- its trade or, if it has none, its movement.
 abbrev pub move_form : Tables → MoveRow → Bool
 move_form t r =
     is_move_id r.id && has_account t r.account && option_map_or (is_cash_of_trade t r) r.trade (is_movement r.name r.amount) && is_stamp t r.stamp && is_amount r.amount
 
--- the trades of cash rows
+-- The trades of cash rows; a row without a trade has none.
 abbrev pub trades_moved : List MoveRow → List ℕ
 trades_moved rows = flat_map (λ r. option_to_list r.trade) rows
 
--- the tables that a schema lacks have no rows
+-- True if the tables that the schema lacks have no rows.
 abbrev pub lacks_later_rows : Schema → Tables → Bool
 lacks_later_rows schema t = (schema.has_moves || (length t.moves == 0)) && (schema.has_rule || is_none t.rule)
 
--- no two bands of a list share a quantity
+-- True if no two bands of a list share a quantity for the same tier, type of trade and exchange.
 abbrev pub no_overlap : List Band → Bool
 no_overlap [] = true
 no_overlap (b ∷ bands) = not (list_any (bands_meet b) bands) && no_overlap bands
 
--- whether two lists hold the same numbers in the same order
+-- True if the two lists have the same numbers in the same order.
 abbrev pub same_numbers : List ℕ → List ℕ → Bool
 same_numbers [] [] = true
 same_numbers (m ∷ ms) (n ∷ ns) = (m == n) && same_numbers ms ns
 same_numbers _ _ = false
 
--- a customer has at most ten accounts and pays at most the greatest tax rate
+-- True if a customer has at most ten accounts, and its tax rates total at most the greatest tax
+-- rate.
 abbrev pub customer_limits : Tables → Customer → Bool
 customer_limits t c =
     nat_le (length (filter (λ a. a.customer == c.id) t.accounts)) most_accounts && nat_le (rates_of (base_of t) c.id) greatest_tax_rate
 
--- rows by strictly rising key: no key stands twice
+-- True if the rows are sorted by key, ascending, and no key occurs twice.
 abbrev pub rises : {Row : Type 0} → (Row → List KeyPart) → List Row → Bool
 rises key [] = true
 rises key (a ∷ []) = true
 rises key (a ∷ b ∷ rows) = key_before (key a) (key b) && rises key (b ∷ rows)
 
--- each table is by strictly rising key
+-- True if every table with a key is sorted by it, ascending, and no key occurs twice in a table.
 unfoldable pub has_keys : Tables → Bool
 has_keys t =
     rises kept_key t.kept && rises broker_key t.brokers && rises customer_key t.customers && rises account_key t.accounts
@@ -218,12 +230,14 @@ has_keys t =
     && rises holding_history_key t.holding_history && rises settlement_key t.settlements && rises cash_key t.cash
     && rises move_key t.moves
 
--- no tax id is of two customers
+-- True if no two customers have the same tax id.
 abbrev pub one_tax_id_each : List Customer → Bool
 one_tax_id_each [] = true
 one_tax_id_each (c ∷ customers) = not (list_any (λ d. bytes_eq d.tax_id c.tax_id) customers) && one_tax_id_each customers
 
--- each column holds a value of its form, within the limits of a schema, what a row names is there, and no key stands twice
+-- True if the tables satisfy the condition `Form` in a schema: columns are well-formed and within
+-- its limits, references resolve, no key or tax id occurs twice, and trades are numbered from 1
+-- without a gap.
 unfoldable pub has_form : Schema → Tables → Bool
 has_form schema t =
     option_map_or (λ last. nat_le last last_stamp) t.last true
@@ -252,7 +266,8 @@ has_form schema t =
     && option_map_or (λ day. nat_le day last_day) t.rule true
     && lacks_later_rows schema t
 
--- the texts that may be any are UTF-8: K_ROW, K_LINE, T_EXEC_NAME, CT_NAME and CM_NAME. Rows in types cannot say otherwise, bytes of a database can
+-- True if the texts of K_ROW, K_LINE, T_EXEC_NAME, CT_NAME and CM_NAME are UTF-8. Typed rows always
+-- satisfy this; the bytes of a database need not.
 abbrev pub has_texts : Tables → Bool
 has_texts t =
     list_all (λ k. is_utf8 k.row_text && is_utf8 k.line) t.kept && list_all (λ r. is_utf8 r.executor) t.trades && list_all (λ r. is_utf8 r.name) t.cash

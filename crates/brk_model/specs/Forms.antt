@@ -1,4 +1,5 @@
--- The forms of fields. A field that breaks its form is refused, and of several refusals the first in the order of the tests stands.
+-- The formats of fields. A malformed field is refused; of several refusals the first in the order
+-- of the format checks is returned.
 use Rattle.std.specs.Prelude.{ℕ, Bool, not, ◌&&◌, ◌||◌, ◌==◌, nat_le, if◌then◌else◌, List, [], ◌∷◌, length, find, Option, Some, None, Result, Ok, Err, ℤ, pos, negsuc, nat_abs, codes, bytes_eq, chars}
 use Rattle.std.specs.List.{list_all}
 use Rattle.std.specs.Option.{option_and_then}
@@ -17,11 +18,11 @@ use Rattle.brk_money.specs.declared.refusal.Refusal.TheVariants.{BadText, BadQty
 use Rattle.brk_model.specs.Limits.{greatest_qty, greatest_price, greatest_charge, greatest_rate, greatest_tax_rate, greatest_amount, greatest_id}
 use Rattle.brk_model.specs.Lists.{all_distinct}
 
--- a value that was read, or the refusal of its form
+-- A value that was read, or the refusal of a malformed field.
 abbrev pub Read : Type 0 → Type 0
 Read A = Result A Refusal
 
--- the place of a refusal of form among the tests
+-- The place of a refusal in the order of the format checks.
 abbrev pub form_rank : Refusal → ℕ
 form_rank BadText = 0
 form_rank BadQty = 1
@@ -29,7 +30,8 @@ form_rank BadPrice = 2
 form_rank BadType = 3
 form_rank _ = 4
 
--- a function of values that were read, and where several were refused the first refusal
+-- The function applied to the value if both were read; of two refusals, the first in the order of
+-- the format checks.
 infixl 60 ◌⊛◌
 abbrev pub ◌⊛◌ : {A B : Type 0} → Read (A → B) → Read A → Read B
 Ok f ⊛ Ok x = Ok (f x)
@@ -37,161 +39,164 @@ Ok f ⊛ Err r = Err r
 Err r ⊛ Ok x = Err r
 Err r ⊛ Err s = Err (if nat_le (form_rank r) (form_rank s) then r else s)
 
--- the value, where it is there and passes the test
+-- The value, if it exists and passes `test`; otherwise the refusal.
 abbrev pub read_if : {A : Type 0} → (A → Bool) → Refusal → Option A → Read A
 read_if test refusal None = Err refusal
 read_if test refusal (Some x) = if test x then Ok x else Err refusal
 
--- a text that passes the test
+-- The text, if it passes `test`; otherwise `BadText`.
 abbrev pub read_text : (Text → Bool) → Text → Read Text
 read_text test text = read_if test BadText (Some text)
 
--- a number between two, both included
+-- The number that a text parses as, if it is `low` to `high`, both included; otherwise the refusal.
 abbrev pub read_number : ℕ → ℕ → Refusal → Text → Read ℕ
 read_number low high refusal text = read_if (λ n. nat_le low n && nat_le n high) refusal (number_of text)
 
--- the id of a record
+-- The id that a text parses as, or `BadText`.
 abbrev pub read_id : Text → Read ℕ
 read_id = read_number 1 greatest_id BadText
 
--- a stamp
+-- The stamp that a text parses as, or `BadText`.
 abbrev pub read_stamp : Text → Read ℕ
 read_stamp = read_number 0 last_stamp BadText
 
--- a quantity of shares
+-- The quantity of shares that a text parses as, or `BadQty`.
 abbrev pub read_qty : Text → Read ℕ
 read_qty = read_number 1 greatest_qty BadQty
 
--- the tier of a customer, 1 to 3
+-- The tier that a text parses as, 1 to 3, or `BadText`.
 abbrev pub read_tier : Text → Read ℕ
 read_tier = read_number 1 3 BadText
 
--- a rate of commission, in hundredths of a percent
+-- The commission rate that a text parses as, in hundredths of a percent, or `BadText`.
 abbrev pub read_commission_rate : Text → Read ℕ
 read_commission_rate = read_number 0 greatest_rate BadText
 
--- a rate of tax, in hundred-thousandths
+-- The tax rate that a text parses as, in hundred-thousandths, or `BadText`.
 abbrev pub read_rate_of_tax : Text → Read ℕ
 read_rate_of_tax = read_number 0 greatest_tax_rate BadText
 
--- the number of an amount that is not below 0
+-- The amount as a number, if there is one and it is not negative; otherwise none.
 abbrev pub unsigned : Option ℤ → Option ℕ
 unsigned (Some (pos n)) = Some n
 unsigned (Some (negsuc n)) = None
 unsigned None = None
 
--- a price of a share
+-- The price of a share that a text parses as, in cents, or `BadPrice`.
 abbrev pub read_price : Text → Read ℕ
 read_price text = read_if (λ n. nat_le 1 n && nat_le n greatest_price) BadPrice (unsigned (cents_of text))
 
--- what an order costs
+-- The charge that a text parses as, in cents, or `BadText`.
 abbrev pub read_charge_amount : Text → Read ℕ
 read_charge_amount text = read_if (λ n. nat_le n greatest_charge) BadText (unsigned (cents_of text))
 
--- an amount that is moved, from one cent
+-- The amount of a deposit or a withdrawal that a text parses as, at least 1 cent, or `BadText`.
 abbrev pub read_amount : Text → Read ℕ
 read_amount text = read_if (λ n. nat_le 1 n && nat_le n greatest_amount) BadText (unsigned (cents_of text))
 
--- a day of the calendar
+-- The day that a text parses as, or `BadText`.
 abbrev pub read_day : Text → Read ℕ
 read_day text = read_if (λ day. nat_le day last_day) BadText (day_of_text text)
 
--- an opening balance, either way
+-- The opening balance that a text parses as, in cents, negative or not, or `BadText`.
 abbrev pub read_opening : Text → Read ℤ
 read_opening text = read_if (λ z. nat_le (nat_abs z) greatest_amount) BadText (cents_of text)
 
--- each byte passes the test, and there are from 1 to so many
+-- True if the text has 1 to `most` bytes, and each of them passes `test`.
 abbrev pub is_word : ℕ → (ℕ → Bool) → Text → Bool
 is_word most test text = nat_le 1 (length text) && nat_le (length text) most && list_all test text
 
--- a name or a sector: text of 1 to 60 bytes without control characters
+-- True if the text is a name or a sector: 1 to 60 bytes of UTF-8 without control characters.
 abbrev pub is_name : Text → Bool
 is_name text = nat_le 1 (length text) && nat_le (length text) 60 && is_utf8 text && list_all (λ c. not (is_control c)) (chars text)
 
--- a name
+-- The text, if it is a name; otherwise `BadText`.
 abbrev pub read_name : Text → Read Text
 read_name = read_text is_name
 
--- a tax id: 1 to 20 letters, digits and hyphens
+-- True if the text is a tax id: 1 to 20 ASCII letters, digits and hyphens.
 abbrev pub is_tax_id : Text → Bool
 is_tax_id = is_word 20 (λ c. is_ascii_alphanumeric c || (c == 45))
 
--- a tax id
+-- The text, if it is a tax id; otherwise `BadText`.
 abbrev pub read_tax_id : Text → Read Text
 read_tax_id = read_text is_tax_id
 
--- a symbol: 1 to 15 capital letters, digits, points and hyphens
+-- True if the text is a symbol: 1 to 15 ASCII capital letters, digits, points and hyphens.
 abbrev pub is_symbol : Text → Bool
 is_symbol = is_word 15 (λ c. is_ascii_uppercase c || is_ascii_digit c || (c == 46) || (c == 45))
 
--- a symbol
+-- The text, if it is a symbol; otherwise `BadText`.
 abbrev pub read_symbol : Text → Read Text
 read_symbol = read_text is_symbol
 
--- an exchange: 1 to 6 capital letters
+-- True if the text is an exchange: 1 to 6 ASCII capital letters.
 abbrev pub is_exchange : Text → Bool
 is_exchange = is_word 6 is_ascii_uppercase
 
--- an exchange
+-- The text, if it is an exchange; otherwise `BadText`.
 abbrev pub read_exchange : Text → Read Text
 read_exchange = read_text is_exchange
 
--- a batch's name: 1 to 40 letters, digits, points, hyphens and underscores
+-- True if the text is a batch name: 1 to 40 ASCII letters, digits, points, hyphens and underscores.
 abbrev pub is_batch_name : Text → Bool
 is_batch_name = is_word 40 (λ c. is_ascii_alphanumeric c || (c == 46) || (c == 45) || (c == 95))
 
--- four characters, each 0 or 1
+-- True if the text is the ACL of a permission: four characters, each 0 or 1.
 abbrev pub is_acl : Text → Bool
 is_acl text = (length text == 4) && list_all (λ c. (c == 48) || (c == 49)) text
 
--- a permission's four characters
+-- The text, if it is the ACL of a permission; otherwise `BadText`.
 abbrev pub read_acl : Text → Read Text
 read_acl = read_text is_acl
 
--- the tax status that a number stands for
+-- The tax status whose number the text parses as, or `BadText`.
 abbrev pub read_tax_status : Text → Read TaxStatus
 read_tax_status text = read_if (λ status. Bool.true) BadText (option_and_then tax_status_of (number_of text))
 
--- the five types
+-- The five types of trade.
 abbrev pub all_types : List TradeType
 all_types = MarketBuy ∷ MarketSell ∷ StopLoss ∷ LimitSell ∷ LimitBuy ∷ []
 
--- the type with a code
+-- The type of trade with this code, or none.
 abbrev pub type_of : Text → Option TradeType
 type_of text = find (λ kind. bytes_eq (type_code kind) text) all_types
 
--- a type of trade
+-- The type of trade with this code, or `BadType`.
 abbrev pub read_type : Text → Read TradeType
 read_type text = read_if (λ kind. Bool.true) BadType (type_of text)
 
--- one of two words
+-- True if the text is `yes_word`, false if it is `no_word`; otherwise `BadText`.
 abbrev pub read_either : Text → Text → Text → Read Bool
 read_either yes_word no_word text =
     if bytes_eq text yes_word then Ok Bool.true else if bytes_eq text no_word then Ok Bool.false else Err BadText
 
--- whether a trade is of the cash account
+-- True if the text is `cash`, false if it is `margin`; otherwise `BadText`.
 abbrev pub read_cash : Text → Read Bool
 read_cash = read_either (codes "cash") (codes "margin")
 
--- whether the last shares are closed first
+-- True if the text is `lifo` (the last shares are closed first), false if it is `fifo`; otherwise
+-- `BadText`.
 abbrev pub read_end : Text → Read Bool
 read_end = read_either (codes "lifo") (codes "fifo")
 
--- a type of order that has no price, for which no text stands
+-- The type of an order without a price, if the text of the price is empty; otherwise `BadPrice`.
 abbrev pub without_price : OrderType → Text → Read OrderType
 without_price order_type [] = Ok order_type
 without_price order_type _ = Err BadPrice
 
--- a type of order with the price that a text spells
+-- The type of an order with the price that the text parses as, or `BadPrice`.
 abbrev pub with_price : (ℕ → OrderType) → Text → Read OrderType
 with_price order_type text = Ok order_type ⊛ read_price text
 
--- what is read of a price where the type is not known: it may be missing, and the type is refused after it
+-- The refusal of an unknown type: `BadPrice` if the text of the price is malformed and not empty,
+-- otherwise `BadType`.
 abbrev pub without_type : Text → Read OrderType
 without_type [] = Err BadType
 without_type (c ∷ text) = Err BadType ⊛ read_price (c ∷ text)
 
--- the type of an order with its price, which has to stand where the type asks for one
+-- The type of an order with its price; the text of the price must be empty for a market type and
+-- well-formed for the others.
 abbrev pub order_type_for : Option TradeType → Text → Read OrderType
 order_type_for None = without_type
 order_type_for (Some MarketBuy) = without_price asked.MarketBuy
@@ -200,29 +205,31 @@ order_type_for (Some StopLoss) = with_price (λ price. asked.StopLoss price)
 order_type_for (Some LimitSell) = with_price (λ price. asked.LimitSell price)
 order_type_for (Some LimitBuy) = with_price (λ price. asked.LimitBuy price)
 
--- the type of an order with its price, of their two texts
+-- The type of an order with its price, of the texts of its code and its price.
 abbrev pub read_order_type : Text → Text → Read OrderType
 read_order_type type_text price_text = order_type_for (type_of type_text) price_text
 
--- every text by one form
+-- The values that the texts parse as, one each, or the first refusal in the order of the format
+-- checks.
 abbrev pub read_each : {A : Type 0} → (Text → Read A) → List Text → Read (List A)
 read_each read [] = Ok []
 read_each read (text ∷ texts) = Ok (λ x xs. x ∷ xs) ⊛ read text ⊛ read_each read texts
 
--- from 1 to 20 values
+-- The list, if it has 1 to 20 elements; `BadText` if it is empty, otherwise `TooMany`.
 abbrev pub some_of : {A : Type 0} → List A → Read (List A)
 some_of [] = Err BadText
 some_of (x ∷ xs) = if nat_le (length (x ∷ xs)) 20 then Ok (x ∷ xs) else Err TooMany
 
--- the value, read once more by a second test
+-- The result of `check` on a value that was read; a refusal stays as it is.
 abbrev pub then_read : {A B : Type 0} → (A → Read B) → Read A → Read B
 then_read check (Ok x) = check x
 then_read check (Err refusal) = Err refusal
 
--- from 1 to 20 distinct ids
+-- The ids, if they are distinct and 1 to 20 in number; `BadText` if they are not distinct or there
+-- is none, otherwise `TooMany`.
 abbrev pub distinct_ids : List ℕ → Read (List ℕ)
 distinct_ids ids = if all_distinct ids then some_of ids else Err BadText
 
--- from 1 to 20 distinct ids, each in one field
+-- The distinct ids that the texts parse as, one each, 1 to 20 in number, or a refusal.
 abbrev pub read_ids : List Text → Read (List ℕ)
 read_ids texts = then_read distinct_ids (read_each read_id texts)

@@ -6,36 +6,36 @@ use Rattle.brk_money.specs.Spelling.{Text}
 use Rattle.brk_model.specs.Forms.{is_batch_name}
 use Rattle.brk_model.specs.Answers.{Fields}
 
--- how many bytes of an input are read
+-- The greatest number of bytes that are read of an input.
 abbrev pub most_bytes : ℕ
 most_bytes = 67108864
 
--- the bytes that are read of an input, without a byte order mark at their head
+-- The bytes that are read of an input, without a byte order mark at their start.
 abbrev pub text_of : Text → Text
 text_of input = strip_bom (take most_bytes input)
 
--- the text begins with these records, where it is known
+-- The text begins with these records. An unknown text always satisfies this.
 abbrev pub Begins : Option Text → List Fields → Type 0
 Begins None front = Unit {0}
 Begins (Some text) front = (rest : List Fields) × (records default_config text ≡ front ++ rest)
 
--- these are all the records of the text, where it is known
+-- These are all the records of the text. An unknown text always satisfies this.
 abbrev pub AreAll : Option Text → List Fields → Type 0
 AreAll None all = Unit {0}
 AreAll (Some text) all = records default_config text ≡ all
 
--- the form of a batch's name
+-- The text is a well-formed batch name.
 abbrev pub IsName : Text → Type 0
 IsName name = IsTrue (is_batch_name name)
 
--- the first record of a batch
+-- The header of a batch: its first record.
 abbrev pub header_of : Text → Fields
 header_of name = codes "batch" ∷ name ∷ []
 
--- a record that ends a batch, rightly or not
+-- The record is an end record, correct or not.
 abbrev pub IsEnd : Fields → Type 0
 IsEnd row = field_at row 0 ≡ Some (codes "end")
 
--- the right end after n rows
+-- The correct end record after `n` rows.
 abbrev pub end_of : ℕ → Fields
 end_of n = codes "end" ∷ decimal n ∷ []

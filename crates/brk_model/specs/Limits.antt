@@ -8,42 +8,43 @@ use Rattle.brk_money.specs.declared.cents.TheConstants.Cents
 use Rattle.brk_money.specs.declared.id.TheConstants.Id
 use Rattle.brk_money.specs.declared.move_id.TheConstants.MoveId
 
--- the greatest quantity
+-- The greatest quantity, in shares.
 abbrev pub greatest_qty : ℕ
 greatest_qty = Qty.GREATEST
 
--- the greatest price, in cents
+-- The greatest price of a share, in cents.
 abbrev pub greatest_price : ℕ
 greatest_price = Price.GREATEST
 
--- the greatest charge
+-- The greatest charge, in cents.
 abbrev pub greatest_charge : ℕ
 greatest_charge = 1000000
 
--- the greatest commission rate, in hundredths of a percent
+-- The greatest commission rate, in hundredths of a percent.
 abbrev pub greatest_rate : ℕ
 greatest_rate = Rate.GREATEST
 
--- the greatest tax rate, and the greatest sum of a customer's rates
+-- The greatest tax rate, and the greatest sum of a customer's tax rates, in hundred-thousandths.
 abbrev pub greatest_tax_rate : ℕ
 greatest_tax_rate = TaxRate.GREATEST
 
--- the greatest opening balance and balance, either way, and the greatest sum of commissions and volume
+-- The greatest balance and opening balance (either way), movement and commission total of a broker,
+-- in cents. It is also the greatest volume of a security, in shares.
 abbrev pub greatest_amount : ℕ
 greatest_amount = Cents.GREATEST
 
--- the greatest holding summary, either way
+-- The greatest holding summary (either way), in shares.
 abbrev pub greatest_summary : ℕ
 greatest_summary = 9999999999
 
--- the greatest id, the greatest number of trades, and that of movements
+-- The greatest id; also the greatest number of trades, and of movements.
 abbrev pub greatest_id : ℕ
 greatest_id = Id.GREATEST
 
--- the greatest number of a cash row
+-- The greatest number of a cash row (CM_ID).
 abbrev pub greatest_move_id : ℕ
 greatest_move_id = MoveId.GREATEST
 
--- how many accounts a customer may have
+-- The greatest number of accounts of one customer.
 abbrev pub most_accounts : ℕ
 most_accounts = 10

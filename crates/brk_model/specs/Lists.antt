@@ -1,60 +1,63 @@
--- Words on lists that std lacks: a sort, a signed sum, a change of some elements, replaced parts of a text.
+-- Functions on lists that std lacks: a sort, a signed sum, an update of some elements, and
+-- replacement in texts.
 use Rattle.std.specs.Prelude.{ℕ, zero, suc, ◌-◌, Bool, true, false, not, ◌&&◌, ◌||◌, ◌==◌, nat_eq, nat_lt, if◌then◌else◌, List, [], ◌∷◌, ◌++◌, length, map, filter, ℤ, pos, negsuc, ◌+ℤ◌, bytes_eq}
 use Rattle.std.specs.List.{starts_with, list_any}
 
--- x put before the first element that goes no earlier than it
+-- The list with `x` inserted before the first element `y` for which `before y x` is false.
 abbrev pub insert_by : {X : Type 0} → (X → X → Bool) → X → List X → List X
 insert_by before x [] = x ∷ []
 insert_by before x (y ∷ ys) = if before y x then y ∷ insert_by before x ys else x ∷ y ∷ ys
 
--- the elements in an order; those that neither goes before stay as they stood
+-- The elements sorted by `before`. The sort is stable: two elements of which neither is before the
+-- other keep their sequence.
 unfoldable pub sort_by : {X : Type 0} → (X → X → Bool) → List X → List X
 sort_by before [] = []
 sort_by before (x ∷ xs) = insert_by before x (sort_by before xs)
 
--- the elements by a rising number
+-- The elements sorted by `key`, ascending; the sort is stable.
 abbrev pub sort_by_key : {X : Type 0} → (X → ℕ) → List X → List X
 sort_by_key key xs = sort_by (λ x y. nat_lt (key x) (key y)) xs
 
--- by a first number, and where that is equal by a second
+-- True if `a` is less than `a'`, or if they are equal and `b` is less than `b'`.
 abbrev pub rising : ℕ → ℕ → ℕ → ℕ → Bool
 rising a a' b b' = nat_lt a a' || ((a == a') && nat_lt b b')
 
--- the sum of a signed number over a list
+-- The sum of the signed numbers `f x` over the elements `x` of a list.
 unfoldable pub total_by : {X : Type 0} → (X → ℤ) → List X → ℤ
 total_by f [] = pos 0
 total_by f (x ∷ xs) = f x +ℤ total_by f xs
 
--- whether a number is 0
+-- True if the number is 0.
 abbrev pub is_zero : ℤ → Bool
 is_zero (pos zero) = true
 is_zero (pos (suc n)) = false
 is_zero (negsuc n) = false
 
--- the elements that pass a test changed, and the others as they are
+-- The list with `change` applied to each element that passes `test`; the others are unchanged.
 abbrev pub update_where : {X : Type 0} → (X → Bool) → (X → X) → List X → List X
 update_where test change xs = map (λ x. if test x then change x else x) xs
 
--- a number that is in a list
+-- True if the list `ns` contains the number `n`.
 abbrev pub contains_number : ℕ → List ℕ → Bool
 contains_number n ns = list_any (λ m. m == n) ns
 
--- whether no number stands twice
+-- True if no number occurs twice in the list.
 abbrev pub all_distinct : List ℕ → Bool
 all_distinct [] = true
 all_distinct (n ∷ ns) = not (contains_number n ns) && all_distinct ns
 
--- the same list with each text once, where it first stands
+-- The texts without duplicates, in the order of their first occurrences.
 abbrev pub distinct_texts : List (List ℕ) → List (List ℕ)
 distinct_texts [] = []
 distinct_texts (t ∷ ts) = t ∷ filter (λ u. not (bytes_eq u t)) (distinct_texts ts)
 
--- whether a text holds another
+-- True if the text contains `part`.
 abbrev pub holds_text : List ℕ → List ℕ → Bool
 holds_text part [] = starts_with nat_eq [] part
 holds_text part (c ∷ text) = starts_with nat_eq (c ∷ text) part || holds_text part text
 
--- a text with each part replaced, taken from the left; the first number of bytes is of a part replaced already
+-- The text without its first `skip` bytes, and with each occurrence of `part` (not empty) replaced
+-- by `new`, from the left. The first `skip` bytes belong to an occurrence that was replaced before.
 abbrev pub replace_from : ℕ → List ℕ → List ℕ → List ℕ → List ℕ
 replace_from skip part new [] = []
 replace_from (suc skip) part new (c ∷ text) = replace_from skip part new text
@@ -62,11 +65,12 @@ replace_from zero part new (c ∷ text) =
     if starts_with nat_eq (c ∷ text) part then new ++ replace_from (length part - 1) part new text
     else c ∷ replace_from zero part new text
 
--- a text with each occurrence of a part replaced, taken from the left without overlap
+-- The text with each occurrence of `part` (not empty) replaced by `new`, from the left, without
+-- overlap.
 unfoldable pub replace_text : List ℕ → List ℕ → List ℕ → List ℕ
 replace_text part new text = replace_from 0 part new text
 
--- whether a text comes before another in the order of its bytes
+-- True if the first text is before the second in the lexicographic order of bytes.
 abbrev pub text_before : List ℕ → List ℕ → Bool
 text_before xs [] = false
 text_before [] (y ∷ ys) = true

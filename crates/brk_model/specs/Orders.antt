@@ -1,4 +1,4 @@
--- Trade-Order: who may order, what an order is estimated at, and the trade that it makes.
+-- Trade-Order: permission to order, the estimate of an order, and the trade that an order creates.
 use Rattle.std.specs.Prelude.{ℕ, ◌+◌, Bool, true, ◌&&◌, ◌||◌, ◌==◌, if◌then◌else◌, List, [], ◌∷◌, ◌++◌, length, filter, Option, None, unwrap_or, option_map, ℤ, ◌+ℤ◌, bytes_eq}
 use Rattle.std.specs.List.{list_any}
 use Rattle.std.specs.Option.{option_map_or}
@@ -15,43 +15,47 @@ use Rattle.brk_model.specs.Shares.{Share, Deal, buy_value, sell_value, gain}
 use Rattle.brk_model.specs.Derived.{shares_in, postings_of, balance_of, holdings_of}
 use Rattle.brk_model.specs.Commands.{Order, Estimate, Reply, Ordered}
 
--- the executor has the three names of a person
+-- True if the executor has this first name, last name and tax id.
 abbrev pub is_person : Executor → Text → Text → Text → Bool
 is_person e first last tax_id = bytes_eq e.first_name first && bytes_eq e.last_name last && bytes_eq e.tax_id tax_id
 
--- the executor is the customer, or one permission of the account names all three (Trade-Order, frame 2)
+-- True if the executor is the customer, or if one permission names the executor's first name, last
+-- name and tax id (Trade-Order, frame 2).
 abbrev pub permitted : Customer → List Permission → Executor → Bool
 permitted c permissions e =
     is_person e c.first_name c.last_name c.tax_id || list_any (λ p. is_person e p.first_name p.last_name p.tax_id) permissions
 
--- whether the executor may order for an account
+-- True if the executor may order for the account, or if the account's customer does not exist.
 abbrev pub is_permitted : Base → ℕ → Executor → Bool
 is_permitted base account e =
     option_map_or (λ c. permitted c (filter (λ p. p.account == account) base.permissions) e) (customer_with base (customer_of base account)) true
 
--- the price that the order asks for, and else the market's (Trade-Order, frame 3)
+-- The price that the order asks for, or the last price of its security if it asks for none
+-- (Trade-Order, frame 3).
 abbrev pub requested_price : Base → Order → ℕ
 requested_price base o = unwrap_or (price_asked o.order_type) (last_price base o.symbol)
 
--- the commission of a quantity at a price, where a band has it
+-- The commission of `qty` shares at `price`, in cents; none if no band applies.
 abbrev pub commission_of : Base → ℕ → TradeType → Text → ℕ → ℕ → Option ℕ
 commission_of base account kind symbol qty price =
     option_map (λ b. commission b.rate qty price) (band_with base (tier_of base account) kind (exchange_of base symbol) qty)
 
--- the tax that a deal bears upon an account's shares
+-- The tax on the gain of the deal `d` against the shares of an account, in cents; 0 if the account
+-- is not taxable.
 abbrev pub tax_of : Base → ℕ → Deal → List Share → ℕ
 tax_of base account d shares = if is_taxed base account then tax (gain d shares) (rates_of base (customer_of base account)) else 0
 
--- the order as a deal at its requested price
+-- The order as a deal at its requested price, with the id of the next trade and the stamp 0.
 abbrev pub deal_at : Base → Order → Deal
 deal_at base o =
     record { trade = length base.trades + 1; side = side_of (kind_of o.order_type); qty = o.qty; price = requested_price base o; stamp = 0; is_lifo = o.is_lifo }
 
--- an account's balance and the worth of what it holds
+-- The account's balance plus the market value of its holdings at last prices, in cents.
 abbrev pub assets_of : Base → ℕ → ℤ
 assets_of base account = balance_of base.accounts (postings_of base) account +ℤ holdings_of base.securities (completed base) account
 
--- the numbers of an order, upon the shares of its account
+-- The estimate of an order against `shares`, the shares of its account in its security. The
+-- commission or the charge is 0 if no band or no charge applies.
 abbrev pub estimate_upon : List Share → Base → Order → Estimate
 estimate_upon shares base o = record {
   price = requested_price base o;
@@ -63,19 +67,19 @@ estimate_upon shares base o = record {
   assets = assets_of base o.account;
 }
 
--- the numbers of an order
+-- The estimate of an order against the shares that its account holds of its security.
 unfoldable pub estimate : Base → Order → Estimate
 estimate base o = estimate_upon (shares_in (completed base) o.account o.symbol) base o
 
--- the first status of an order
+-- The first status of an order: submitted if its type is a market type, otherwise pending.
 abbrev pub first_status : TradeType → Status
 first_status kind = if is_market kind then Submitted else Pending
 
--- first name, a space, last name
+-- The executor's first name, a space and the last name.
 abbrev pub executor_name : Executor → Text
 executor_name e = e.first_name ++ 32 ∷ e.last_name
 
--- the trade that an order makes, numbered after those before it
+-- The trade that an order creates at `stamp`. Its id is the number of earlier trades plus 1.
 abbrev pub ordered_trade : Base → ℕ → Order → Trade
 ordered_trade base stamp o = record {
   id = length base.trades + 1;
@@ -96,10 +100,10 @@ ordered_trade base stamp o = record {
   cash_name = [];
 }
 
--- the base with the trade that an order makes
+-- The base with the trade of the order added at the end.
 abbrev pub with_order : Base → ℕ → Order → Base
 with_order base stamp o = record base { trades = base.trades ++ ordered_trade base stamp o ∷ [] }
 
--- what is told of an order
+-- The reply to an order: the stamp, the trade's id, its first status and the estimate.
 abbrev pub order_reply : Base → ℕ → Order → Reply
 order_reply base stamp o = Ordered stamp (length base.trades + 1) (first_status (kind_of o.order_type)) (estimate base o)

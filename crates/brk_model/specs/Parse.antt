@@ -1,4 +1,4 @@
--- From the fields of a row to a command, or to the refusal of its form.
+-- The parser of rows: from fields to a command, or to a refusal if they are malformed.
 use Rattle.std.specs.Prelude.{ℕ, nat_le, if◌then◌else◌, List, [], ◌∷◌, ◌++◌, find, Option, Some, None, Ok, Err, codes, bytes_eq}
 use Rattle.brk_money.specs.Spelling.{Text}
 use Rattle.brk_money.specs.declared.refusal.Refusal.TheVariants.{BadText, BadQty}
@@ -8,76 +8,84 @@ use Rattle.brk_model.specs.Commands.{Command, Listing, Order, Tick, AddBroker, A
 
 -- ---- the fields after each kind
 
--- a broker
+-- The broker that two fields give (id, name), or the refusal of their form.
 abbrev pub read_broker : List Text → Read Broker
 read_broker (id ∷ name ∷ []) = Ok (λ i n. record { id = i; name = n }) ⊛ read_id id ⊛ read_name name
 read_broker _ = Err BadText
 
--- a customer
+-- The customer that five fields give (id, tier, tax id, last name, first name), or the refusal of
+-- their form.
 abbrev pub read_customer : List Text → Read Customer
 read_customer (id ∷ tier ∷ tax_id ∷ last ∷ first ∷ []) =
     Ok (λ i t x l f. record { id = i; tier = t; tax_id = x; last_name = l; first_name = f })
     ⊛ read_id id ⊛ read_tier tier ⊛ read_tax_id tax_id ⊛ read_name last ⊛ read_name first
 read_customer _ = Err BadText
 
--- an account
+-- The account that six fields give (id, customer, broker, name, tax status, opening balance), or
+-- the refusal of their form.
 abbrev pub read_account : List Text → Read Account
 read_account (id ∷ customer ∷ broker ∷ name ∷ tax_status ∷ opening ∷ []) =
     Ok (λ i c b n t o. record { id = i; customer = c; broker = b; name = n; tax_status = t; opening = o })
     ⊛ read_id id ⊛ read_id customer ⊛ read_id broker ⊛ read_name name ⊛ read_tax_status tax_status ⊛ read_opening opening
 read_account _ = Err BadText
 
--- a permission
+-- The permission that five fields give (account, acl, tax id, last name, first name), or the
+-- refusal of their form.
 abbrev pub read_permission : List Text → Read Permission
 read_permission (account ∷ acl ∷ tax_id ∷ last ∷ first ∷ []) =
     Ok (λ a c x l f. record { account = a; acl = c; tax_id = x; last_name = l; first_name = f })
     ⊛ read_id account ⊛ read_acl acl ⊛ read_tax_id tax_id ⊛ read_name last ⊛ read_name first
 read_permission _ = Err BadText
 
--- a security that is listed
+-- The listing of a security that five fields give (symbol, name, exchange, sector, price), or the
+-- refusal of their form.
 abbrev pub read_security : List Text → Read Listing
 read_security (symbol ∷ name ∷ exchange ∷ sector ∷ price ∷ []) =
     Ok (λ s n e c p. record { symbol = s; name = n; exchange = e; sector = c; price = p })
     ⊛ read_symbol symbol ⊛ read_name name ⊛ read_exchange exchange ⊛ read_name sector ⊛ read_price price
 read_security _ = Err BadText
 
--- a charge
+-- The charge that three fields give (type, tier, amount), or the refusal of their form.
 abbrev pub read_charge : List Text → Read Charge
 read_charge (kind ∷ tier ∷ amount ∷ []) =
     Ok (λ k t a. record { kind = k; tier = t; amount = a }) ⊛ read_type kind ⊛ read_tier tier ⊛ read_charge_amount amount
 read_charge _ = Err BadText
 
--- two quantities in order
+-- The two quantities, or `BadQty` if the first is greater than the second.
 abbrev pub in_order : ℕ × ℕ → Read (ℕ × ℕ)
 in_order bounds = if nat_le bounds.0 bounds.1 then Ok bounds else Err BadQty
 
--- the bounds of a band
+-- The least and the greatest quantity of a band. They are refused if one is malformed, or if the
+-- least is greater than the greatest.
 abbrev pub read_bounds : Text → Text → Read (ℕ × ℕ)
 read_bounds low high = then_read in_order (Ok (λ a b. (a, b)) ⊛ read_qty low ⊛ read_qty high)
 
--- a band of commission
+-- The commission band that six fields give (tier, type, exchange, least quantity, greatest
+-- quantity, rate), or the refusal of their form.
 abbrev pub read_band : List Text → Read Band
 read_band (tier ∷ kind ∷ exchange ∷ low ∷ high ∷ rate ∷ []) =
     Ok (λ t k e b r. record { tier = t; kind = k; exchange = e; from_qty = b.0; to_qty = b.1; rate = r })
     ⊛ read_tier tier ⊛ read_type kind ⊛ read_exchange exchange ⊛ read_bounds low high ⊛ read_commission_rate rate
 read_band _ = Err BadText
 
--- a tax rate
+-- The tax rate that three fields give (id, name, rate), or the refusal of their form.
 abbrev pub read_tax_rate : List Text → Read TaxRate
 read_tax_rate (id ∷ name ∷ rate ∷ []) =
     Ok (λ i n r. record { id = i; name = n; rate = r }) ⊛ read_id id ⊛ read_name name ⊛ read_rate_of_tax rate
 read_tax_rate _ = Err BadText
 
--- a tax that a customer pays
+-- The tax of a customer that two fields give (customer, tax rate), or the refusal of their form.
 abbrev pub read_customer_tax : List Text → Read CustomerTax
 read_customer_tax (customer ∷ tax ∷ []) = Ok (λ c t. record { customer = c; tax = t }) ⊛ read_id customer ⊛ read_id tax
 read_customer_tax _ = Err BadText
 
--- who places an order
+-- The executor that three texts give (first name, last name, tax id), or the refusal of their form.
 abbrev pub read_executor : Text → Text → Text → Read Executor
 read_executor first last tax_id = Ok (λ f l x. record { first_name = f; last_name = l; tax_id = x }) ⊛ read_name first ⊛ read_name last ⊛ read_tax_id tax_id
 
--- an order and an estimate have the same fields
+-- The order that ten fields give (account, type, symbol, quantity, price, `cash` or `margin`,
+-- `lifo` or `fifo`, first name, last name, tax id), or the refusal of their form. An estimate has
+-- the fields of an order.
 abbrev pub read_order : List Text → Read Order
 read_order (account ∷ kind ∷ symbol ∷ qty ∷ price ∷ cash ∷ end ∷ first ∷ last ∷ tax_id ∷ []) =
     Ok (λ a s q t c l e. record { account = a; order_type = t; symbol = s; qty = q; is_cash = c; is_lifo = l; executor = e })
@@ -85,103 +93,110 @@ read_order (account ∷ kind ∷ symbol ∷ qty ∷ price ∷ cash ∷ end ∷ f
     ⊛ read_executor first last tax_id
 read_order _ = Err BadText
 
--- the ticks of a feed, three fields each
+-- The ticks that the fields give, three fields each (symbol, price, quantity), or the refusal of
+-- their form.
 abbrev pub read_ticks : List Text → Read (List Tick)
 read_ticks [] = Ok []
 read_ticks (symbol ∷ price ∷ qty ∷ fields) =
     Ok (λ s p q ticks. record { symbol = s; price = p; qty = q } ∷ ticks) ⊛ read_symbol symbol ⊛ read_price price ⊛ read_qty qty ⊛ read_ticks fields
 read_ticks _ = Err BadText
 
--- the ticks of a feed, 1 to 20 of them
+-- The 1 to 20 ticks of a feed, or the refusal of the fields: `BadText` if there are none, `TooMany`
+-- if there are more than 20.
 abbrev pub read_feed : List Text → Read (List Tick)
 read_feed fields = then_read some_of (read_ticks fields)
 
--- the trade that is canceled
+-- The id of the trade to cancel that one field gives, or the refusal of its form.
 abbrev pub read_cancel : List Text → Read ℕ
 read_cancel (trade ∷ []) = read_id trade
 read_cancel _ = Err BadText
 
--- a trade that is completed, and its price
+-- The command that completes a trade, which two fields give (trade, price), or the refusal of their
+-- form.
 abbrev pub read_result : List Text → Read Command
 read_result (trade ∷ price ∷ []) = Ok (λ t p. CompleteTrade t p) ⊛ read_id trade ⊛ read_price price
 read_result _ = Err BadText
 
--- an account and two stamps
+-- The command `ChangeCashTypes` that three fields give (account, first stamp, last stamp), or the
+-- refusal of their form.
 abbrev pub read_upcash : List Text → Read Command
 read_upcash (account ∷ first ∷ last ∷ []) = Ok (λ a f l. ChangeCashTypes a f l) ⊛ read_id account ⊛ read_stamp first ⊛ read_stamp last
 read_upcash _ = Err BadText
 
--- a symbol and two stamps
+-- The command `ChangeCashNames` that three fields give (symbol, first stamp, last stamp), or the
+-- refusal of their form.
 abbrev pub read_uptext : List Text → Read Command
 read_uptext (symbol ∷ first ∷ last ∷ []) = Ok (λ s f l. ChangeCashNames s f l) ⊛ read_symbol symbol ⊛ read_stamp first ⊛ read_stamp last
 read_uptext _ = Err BadText
 
--- an account and an amount
+-- The command that `moved` gives for the account and the amount in two fields, or the refusal of
+-- their form.
 abbrev pub read_movement : (ℕ → ℕ → Command) → List Text → Read Command
 read_movement moved (account ∷ amount ∷ []) = Ok (λ a n. moved a n) ⊛ read_id account ⊛ read_amount amount
 read_movement moved _ = Err BadText
 
--- the first day whose completions settle after one day
+-- The first day of settlement after one day, which one field gives, or the refusal of its form.
 abbrev pub read_oneday : List Text → Read ℕ
 read_oneday (day ∷ []) = read_day day
 read_oneday _ = Err BadText
 
 -- ---- the kinds
 
--- a kind's word, and how the fields after it are read
+-- The word of a row kind or of a view, with the parser of the fields after it.
 abbrev pub Reader : Type 0 → Type 0
 Reader A = Text × (List Text → Read A)
 
--- what was read, as a command or a query
+-- The value that `read` gives with `wrap` applied to it, or its refusal.
 abbrev pub read_as : {A B Input : Type 0} → (A → B) → (Input → Read A) → Input → Read B
 read_as wrap read input = Ok wrap ⊛ read input
 
--- the kinds of those who trade
+-- The parsers of brokers, customers and accounts.
 abbrev pub party_readers : List (Reader Command)
 party_readers =
     (codes "broker", read_as AddBroker read_broker) ∷ (codes "customer", read_as AddCustomer read_customer) ∷ (codes "account", read_as AddAccount read_account) ∷ []
 
--- the kinds of what they trade, and of what it costs them
+-- The parsers of permissions, securities, charges, bands, tax rates and the taxes of customers.
 abbrev pub term_readers : List (Reader Command)
 term_readers =
     (codes "permission", read_as AddPermission read_permission) ∷ (codes "security", read_as AddSecurity read_security) ∷ (codes "charge", read_as AddCharge read_charge)
     ∷ (codes "band", read_as AddBand read_band) ∷ (codes "taxrate", read_as AddTaxRate read_tax_rate) ∷ (codes "custtax", read_as AddCustomerTax read_customer_tax) ∷ []
 
--- the nine kinds of reference rows
+-- The parsers of the nine kinds of reference rows.
 abbrev pub reference_readers : List (Reader Command)
 reference_readers = party_readers ++ term_readers
 
--- the kinds of orders, and of what comes of them before they are completed
+-- The parsers of orders, feeds and cancels.
 abbrev pub order_readers : List (Reader Command)
 order_readers = (codes "order", read_as PlaceOrder read_order) ∷ (codes "feed", read_as FeedTicks read_feed) ∷ (codes "cancel", read_as CancelTrade read_cancel) ∷ []
 
--- the kind of results
+-- The parser of results.
 abbrev pub result_readers : List (Reader Command)
 result_readers = (codes "result", read_result) ∷ []
 
--- the kinds of changed words
+-- The parsers of the three text updates.
 abbrev pub update_readers : List (Reader Command)
 update_readers = (codes "upname", read_as ChangeExecutors read_ids) ∷ (codes "upcash", read_upcash) ∷ (codes "uptext", read_uptext) ∷ []
 
--- the kinds of movements of cash, and of the settlement day
+-- The parsers of deposits, withdrawals and the settlement day.
 abbrev pub movement_readers : List (Reader Command)
 movement_readers =
     (codes "deposit", read_movement (λ a n. DepositCash a n)) ∷ (codes "withdraw", read_movement (λ a n. WithdrawCash a n)) ∷ (codes "oneday", read_as SetOneDay read_oneday) ∷ []
 
--- all kinds of rows
+-- The parsers of all row kinds.
 abbrev pub readers : List (Reader Command)
 readers = reference_readers ++ order_readers ++ result_readers ++ update_readers ++ movement_readers
 
--- the fields read by the reader that was found
+-- The fields parsed by the parser, or `BadText` if there is none.
 abbrev pub read_by : {A : Type 0} → Option (Reader A) → List Text → Read A
 read_by None fields = Err BadText
 read_by (Some reader) fields = reader.1 fields
 
--- fields whose first is a kind, read by the kinds that stand
+-- The fields after the first, parsed by the parser that `table` has for the first field; `BadText`
+-- if there is no field or no such parser.
 abbrev pub parse_by : {A : Type 0} → List (Reader A) → List Text → Read A
 parse_by table [] = Err BadText
 parse_by table (kind ∷ fields) = read_by (find (λ reader. bytes_eq reader.0 kind) table) fields
 
--- a row's fields as a command
+-- The command that a row's fields give, or the refusal of their form.
 unfoldable pub parse_row : List Text → Read Command
 parse_row fields = parse_by readers fields

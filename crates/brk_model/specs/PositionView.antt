@@ -1,4 +1,5 @@
--- The views of Customer-Position, which lends its name alone: what a customer has, and what an account did last.
+-- The two position views, which have only their name from Customer-Position: the accounts of a
+-- customer, and the last trades of an account.
 use Rattle.std.specs.Prelude.{ℕ, Bool, not, ◌&&◌, ◌||◌, ◌==◌, nat_lt, List, [], ◌∷◌, ◌++◌, map, filter, flat_map, take, ℤ, pos, ◌*ℤ◌, int_lt, codes, decimal}
 use Rattle.std.specs.List.{list_any}
 use Rattle.brk_money.specs.Spelling.{cents_text}
@@ -9,26 +10,28 @@ use Rattle.brk_model.specs.Tables.{Tables, AccountRow, TradeRow}
 use Rattle.brk_model.specs.Queries.{View}
 use Rattle.brk_model.specs.Joins.{price_in, trades_in, history_in, recent_first}
 
--- the worth of an account's summaries at the last prices
+-- The market value of an account's holding summaries at last prices, in cents.
 abbrev pub asset_total : Tables → AccountRow → ℤ
 asset_total tables a = total_by (λ row. row.qty *ℤ pos (price_in tables row.symbol)) (filter (λ row. row.account == a.id) tables.summaries)
 
--- by rising worth, then id
+-- True if account `a` has a smaller market value than account `b`, or an equal one and a smaller
+-- id.
 abbrev pub by_worth : Tables → AccountRow → AccountRow → Bool
 by_worth tables a b =
     int_lt (asset_total tables a) (asset_total tables b) || (not (int_lt (asset_total tables b) (asset_total tables a)) && nat_lt a.id b.id)
 
--- each account of the customers that pass a test: id, balance, worth
+-- One record (id, balance, market value) for each account of the customers that pass `test`, sorted
+-- by market value, then by id, ascending.
 unfoldable pub position_view : Tables → (Customer → Bool) → View
 position_view tables test =
     map (λ a. decimal a.id ∷ cents_text a.balance ∷ cents_text (asset_total tables a) ∷ [])
     (sort_by (by_worth tables) (filter (λ a. list_any (λ c. test c && (c.id == a.customer)) tables.customers) tables.accounts))
 
--- the last ten trades of an account
+-- The last 10 trades of an account, most recent first.
 abbrev pub last_ten : Tables → ℕ → List TradeRow
 last_ten tables account = take 10 (recent_first (trades_in tables account))
 
--- the last ten trades of an account, then all their history rows, at most three each
+-- The last 10 trades of an account, then all history rows of these trades, both most recent first.
 unfoldable pub recent_view : Tables → ℕ → View
 recent_view tables account =
     map (λ t. codes "trade" ∷ decimal t.id ∷ t.symbol ∷ decimal t.qty ∷ []) (last_ten tables account)

@@ -1,13 +1,13 @@
--- What can be asked.
+-- The queries, and the type of their views.
 use Rattle.std.specs.Prelude.{ℕ, List}
 use Rattle.brk_money.specs.Spelling.{Text}
 use Rattle.brk_model.specs.Commands.{Order}
 
--- a list of records of texts
+-- A list of records, each of which is a list of texts.
 abbrev pub View : Type 0
 View = List (List Text)
 
--- the eleven queries
+-- A query, of one of eleven kinds.
 pub data Query : Type 0 where
   PositionOf : (customer : ℕ) → Query
   PositionOfTaxId : (tax_id : Text) → Query

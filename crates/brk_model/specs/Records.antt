@@ -1,16 +1,17 @@
--- The records of a brokerage: what its customers, securities, rates and trades are, and nothing that follows from them.
+-- The records of a brokerage (reference data, trades, movements, stored replies), without the
+-- values that are derived from them.
 use Rattle.std.specs.Prelude.{ℕ, ℤ, Bool, List, Option}
 use Rattle.brk_money.specs.Spelling.{Text}
 use Rattle.brk_money.specs.declared.trade_type.TradeType.{TradeType}
 use Rattle.brk_money.specs.declared.status.Status.{Status}
 use Rattle.brk_money.specs.declared.tax_status.TaxStatus.{TaxStatus}
 
--- a broker, with a name
+-- A broker: an id and a name.
 pub record Broker : Type 0 where
   pub id : ℕ
   pub name : Text
 
--- a customer, whose tier decides charges and commissions
+-- A customer, whose tier selects the charges and commission rates.
 pub record Customer : Type 0 where
   pub id : ℕ
   pub tier : ℕ
@@ -18,7 +19,7 @@ pub record Customer : Type 0 where
   pub last_name : Text
   pub first_name : Text
 
--- an account of a customer with a broker; opening is the balance that the account began with
+-- An account of a customer with a broker; `opening` is its opening balance, in cents.
 pub record Account : Type 0 where
   pub id : ℕ
   pub customer : ℕ
@@ -27,7 +28,7 @@ pub record Account : Type 0 where
   pub tax_status : TaxStatus
   pub opening : ℤ
 
--- somebody other than the customer who may order for an account
+-- A person who may order for an account in addition to its customer.
 pub record Permission : Type 0 where
   pub account : ℕ
   pub acl : Text
@@ -35,7 +36,8 @@ pub record Permission : Type 0 where
   pub last_name : Text
   pub first_name : Text
 
--- a security with the price, the volume and the moment of its last trade on the market
+-- A security with its last price on the market, in cents, and its volume, in shares. `moment` is
+-- the stamp of its last tick, or of its listing before the first tick.
 pub record Security : Type 0 where
   pub symbol : Text
   pub name : Text
@@ -45,13 +47,14 @@ pub record Security : Type 0 where
   pub volume : ℕ
   pub moment : ℕ
 
--- what an order of a type costs a customer of a tier
+-- The charge of an order, by trade type and customer tier, in cents.
 pub record Charge : Type 0 where
   pub kind : TradeType
   pub tier : ℕ
   pub amount : ℕ
 
--- the commission rate of a tier, a type and an exchange for quantities within two bounds, both included
+-- The commission rate of a tier, a trade type and an exchange for quantities from `from_qty` to
+-- `to_qty`, both included. The rate is in hundredths of a percent.
 pub record Band : Type 0 where
   pub tier : ℕ
   pub kind : TradeType
@@ -60,24 +63,25 @@ pub record Band : Type 0 where
   pub to_qty : ℕ
   pub rate : ℕ
 
--- a tax rate, in hundred-thousandths
+-- A tax rate, in hundred-thousandths.
 pub record TaxRate : Type 0 where
   pub id : ℕ
   pub name : Text
   pub rate : ℕ
 
--- a tax that a customer pays
+-- A tax that a customer pays: the ids of the customer and of the tax rate.
 pub record CustomerTax : Type 0 where
   pub customer : ℕ
   pub tax : ℕ
 
--- when a trade came to a status
+-- A status change of a trade: the new status and its stamp.
 pub record StatusChange : Type 0 where
   pub stamp : ℕ
   pub status : Status
 
--- a trade as it was ordered, with its statuses and with what its completion recorded.
--- price is the price it was completed at; cash_type and cash_name are empty where there is no such row
+-- A trade as ordered, with its status changes and the values that its completion recorded. `price`
+-- is the price at completion. `cash_type` is empty without a settlement, and `cash_name` without a
+-- cash row.
 pub record Trade : Type 0 where
   pub id : ℕ
   pub account : ℕ
@@ -96,29 +100,30 @@ pub record Trade : Type 0 where
   pub cash_type : Text
   pub cash_name : Text
 
--- cash that came into an account or left it without a trade; its amount is below 0 where it left
+-- Cash that was paid into an account or out of it without a trade; `amount` is in cents, and below
+-- 0 if it was paid out.
 pub record Movement : Type 0 where
   pub account : ℕ
   pub stamp : ℕ
   pub amount : ℤ
   pub name : Text
 
--- the first day on which completions settle after one day, where one is set
+-- The first day whose completions settle after one day; none if no such day is set.
 abbrev pub SettleRule : Type 0
 SettleRule = Option ℕ
 
--- the name of a row of a batch
+-- The idempotency key of a row: the name of its batch and its number.
 pub record Key : Type 0 where
   pub batch : Text
   pub row : ℕ
 
--- an accepted row: its key, its text and the line that answered it
+-- An accepted row: its key, its text and the stored line of its reply.
 pub record Kept : Type 0 where
   pub key : Key
   pub row_text : Text
   pub line : Text
 
--- who places an order
+-- The person who places an order.
 pub record Executor : Type 0 where
   pub first_name : Text
   pub last_name : Text

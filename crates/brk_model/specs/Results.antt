@@ -1,4 +1,4 @@
--- Trade-Result: a submitted trade is completed at a price.
+-- Trade-Result: the completion of a submitted trade at a price.
 use Rattle.std.specs.Prelude.{ℕ, ◌==◌, if◌then◌else◌, [], ◌∷◌, ◌++◌, Some, unwrap_or, codes, decimal}
 use Rattle.brk_money.specs.Spelling.{Text}
 use Rattle.brk_money.specs.Kinds.{side_of, type_name}
@@ -10,23 +10,26 @@ use Rattle.brk_model.specs.Derived.{shares_in, amount_of, due_day, postings_of, 
 use Rattle.brk_model.specs.Orders.{commission_of, tax_of}
 use Rattle.brk_model.specs.Commands.{Completion}
 
--- the trade as it meets its account's shares
+-- The deal of a trade that is completed at `price` with `stamp`.
 abbrev pub result_deal : ℕ → ℕ → Trade → Deal
 result_deal stamp price t = record { trade = t.id; side = side_of t.kind; qty = t.qty; price = price; stamp = stamp; is_lifo = t.is_lifo }
 
--- SE_CASH_TYPE at first
+-- The cash type of a settlement at completion (SE_CASH_TYPE): `Cash Account` for a cash trade,
+-- otherwise `Margin`.
 abbrev pub first_cash_type : Trade → Text
 first_cash_type t = if t.is_cash then codes "Cash Account" else codes "Margin"
 
--- a cash row's text, with its middle words
+-- The text of a cash row: the name of the trade type, the quantity, `words` and the name of the
+-- security.
 abbrev pub cash_text : Text → Base → Trade → Text
 cash_text words base t = type_name t.kind ++ 32 ∷ decimal t.qty ++ words ++ security_name base t.symbol
 
--- CT_NAME at first
+-- The name of a cash row at completion (CT_NAME); empty if the trade is not a cash trade.
 abbrev pub first_cash_name : Base → Trade → Text
 first_cash_name base t = if t.is_cash then cash_text (codes " shares of ") base t else []
 
--- the trade with what its completion records
+-- The trade with the values that its completion at `price` records, and with the status completed
+-- at `stamp`.
 unfoldable pub completed_trade : Base → ℕ → ℕ → Trade → Trade
 completed_trade base stamp price t = marked stamp Completed (record t {
   price = Some price;
@@ -36,11 +39,12 @@ completed_trade base stamp price t = marked stamp Completed (record t {
   cash_name = first_cash_name base t;
 })
 
--- the base with the trade completed
+-- The base in which the trade `t` is completed at `price` with `stamp`.
 abbrev pub with_result : Base → ℕ → ℕ → Trade → Base
 with_result base stamp price t = with_trades (λ u. u.id == t.id) (completed_trade base stamp price) base
 
--- the numbers that are told of it, from the trade and the base after it
+-- The figures of a completion, computed from the base before it, the base `after` it, the deal `d`
+-- and the completed trade `t`.
 abbrev pub completion_after : Base → Base → Deal → Trade → Completion
 completion_after base after d t = record {
   commission = t.commission;
@@ -52,7 +56,8 @@ completion_after base after d t = record {
   balance = balance_of after.accounts (postings_of after) t.account;
 }
 
--- the numbers that are told of a result
+-- The figures of the completion of the trade `t` at `price` with `stamp`, which the reply to a
+-- result contains.
 unfoldable pub completion : Base → ℕ → ℕ → Trade → Completion
 completion base stamp price t =
     completion_after base (with_result base stamp price t) (result_deal stamp price t) (completed_trade base stamp price t)

@@ -1,4 +1,4 @@
--- The texts of a command, of a reply and of a refusal.
+-- The texts of a command and of a reply.
 use Rattle.std.specs.Prelude.{ℕ, Bool, if◌then◌else◌, List, [], ◌∷◌, map, flat_map, pos, codes, decimal}
 use Rattle.std.specs.List.{join_with_byte}
 use Rattle.std.specs.Option.{option_map_or}
@@ -7,29 +7,29 @@ use Rattle.brk_money.specs.Kinds.{type_code, status_code, tax_status_number}
 use Rattle.brk_money.specs.OrderTypes.{kind_of, price_asked}
 use Rattle.brk_model.specs.Commands.{Command, Order, Tick, Estimate, Completion, Reply, Booked, Ordered, Ticked, CanceledTrade, CompletedTrade, Changed, MovedCash, AddBroker, AddCustomer, AddAccount, AddPermission, AddSecurity, AddCharge, AddBand, AddTaxRate, AddCustomerTax, PlaceOrder, FeedTicks, CancelTrade, CompleteTrade, ChangeExecutors, ChangeCashTypes, ChangeCashNames, DepositCash, WithdrawCash, SetOneDay}
 
--- an amount that is not below 0
+-- The text of an amount of `n` cents, which is not below 0.
 abbrev pub price_text : ℕ → Text
 price_text n = cents_text (pos n)
 
--- the word of a trade's cash account or margin
+-- The word `cash` for a cash trade, otherwise `margin`.
 abbrev pub cash_word : Bool → Text
 cash_word is_cash = if is_cash then codes "cash" else codes "margin"
 
--- the word of the end from which lots are closed
+-- The word `lifo` if the last shares are closed first, otherwise `fifo`.
 abbrev pub end_word : Bool → Text
 end_word is_lifo = if is_lifo then codes "lifo" else codes "fifo"
 
--- the ten fields of an order
+-- The ten fields of an order; the field of the price is empty if the type asks for none.
 abbrev pub order_fields : Order → List Text
 order_fields o =
     decimal o.account ∷ type_code (kind_of o.order_type) ∷ o.symbol ∷ decimal o.qty ∷ option_map_or price_text (price_asked o.order_type) [] ∷ cash_word o.is_cash ∷ end_word o.is_lifo
     ∷ o.executor.first_name ∷ o.executor.last_name ∷ o.executor.tax_id ∷ []
 
--- the three fields of a tick
+-- The three fields of a tick: symbol, price and quantity.
 abbrev pub tick_fields : Tick → List Text
 tick_fields tick = tick.symbol ∷ price_text tick.price ∷ decimal tick.qty ∷ []
 
--- the fields of a command's row, its kind first
+-- The fields of a command's row, its kind first.
 unfoldable pub row_fields : Command → List Text
 row_fields (AddBroker b) = codes "broker" ∷ decimal b.id ∷ b.name ∷ []
 row_fields (AddCustomer c) = codes "customer" ∷ decimal c.id ∷ decimal c.tier ∷ c.tax_id ∷ c.last_name ∷ c.first_name ∷ []
@@ -51,21 +51,23 @@ row_fields (DepositCash account amount) = codes "deposit" ∷ decimal account �
 row_fields (WithdrawCash account amount) = codes "withdraw" ∷ decimal account ∷ price_text amount ∷ []
 row_fields (SetOneDay day) = codes "oneday" ∷ day_text day ∷ []
 
--- the text that is kept with a key, its fields joined by byte 31
+-- The text of a command's row that is stored with its key: the fields joined by byte 31.
 abbrev pub row_text : Command → Text
 row_text command = join_with_byte 31 (row_fields command)
 
--- the seven numbers of an estimate
+-- The seven fields of an estimate: price, buy value, sell value, tax, commission, charge and
+-- assets.
 abbrev pub estimate_fields : Estimate → List Text
 estimate_fields e =
     price_text e.price ∷ price_text e.buy_value ∷ price_text e.sell_value ∷ price_text e.tax ∷ price_text e.commission ∷ price_text e.charge ∷ cents_text e.assets ∷ []
 
--- the seven numbers of a completion
+-- The seven fields of a completion: commission, tax, amount, due day, buy value, sell value and
+-- balance.
 abbrev pub completion_fields : Completion → List Text
 completion_fields c =
     price_text c.commission ∷ price_text c.tax ∷ cents_text c.amount ∷ day_text c.due_day ∷ price_text c.buy_value ∷ price_text c.sell_value ∷ cents_text c.balance ∷ []
 
--- the fields of a reply, its stamp first
+-- The fields of a reply, its stamp first.
 unfoldable pub reply_fields : Reply → List Text
 reply_fields (Booked stamp) = decimal stamp ∷ []
 reply_fields (Ordered stamp trade status e) = decimal stamp ∷ decimal trade ∷ status_code status ∷ estimate_fields e
@@ -75,10 +77,10 @@ reply_fields (CompletedTrade stamp c) = decimal stamp ∷ completion_fields c
 reply_fields (Changed stamp count) = decimal stamp ∷ decimal count ∷ []
 reply_fields (MovedCash stamp move balance) = decimal stamp ∷ decimal move ∷ cents_text balance ∷ []
 
--- a line of fields, joined by commas
+-- The fields joined by commas.
 abbrev pub line_of : List Text → Text
 line_of fields = join_with_byte 44 fields
 
--- the line that is kept with a key: a reply's fields joined by commas
+-- The line of a reply that is stored with its key: the fields joined by commas.
 abbrev pub line_text : Reply → Text
 line_text reply = line_of (reply_fields reply)

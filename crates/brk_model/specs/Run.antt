@@ -1,4 +1,4 @@
--- A run of calls. Each is answered as the abstract brokerage answers, or fails and leaves the base as it was.
+-- A run of calls: each has the result that the model gives, or fails and leaves the base unchanged.
 use Rattle.std.specs.Prelude.{◌≡◌, ◌⊎◌, ℕ, List, [], ◌∷◌, Option, Result, Ok, Err}
 use Rattle.brk_money.specs.declared.refusal.Refusal.{Refusal}
 use Rattle.brk_money.specs.declared.fault.Fault.{Fault}
@@ -10,40 +10,44 @@ use Rattle.brk_model.specs.Keyed.{keyed_step}
 use Rattle.brk_model.specs.Queries.{View, Query}
 use Rattle.brk_model.specs.Ask.{ask}
 
--- a command, with or without a key, or a query
+-- A call: a command, with or without a key, or a query.
 pub data Call : Type 0 where
   Do : Command → Option Key → Call
   Ask : Query → Call
 
--- what came of a call
+-- The outcome of a call: the answer to a command, the view or the refusal of a query, or a fault.
 pub data Outcome : Type 0 where
   Did : Answer → Outcome
   Saw : View → Outcome
   NoView : Refusal → Outcome
   Failed : Fault → Outcome
 
--- a call may fail for want of memory or for its store
+-- The fault is `Memory` or `Store`, the two with which a call may fail.
 abbrev pub MayFail : Fault → Type 0
 MayFail fault = (fault ≡ Memory) ⊎ (fault ≡ Store)
 
--- a command is answered by the keyed step, and no query is
+-- The call is a command, and its keyed step at the clock reading `now` gives `answer` and the base
+-- `after`. It is false of a query.
 abbrev pub IsAnswered : Base → ℕ → Call → Answer → Base → Type 0
 IsAnswered base now (Do command key) answer after = keyed_step base now command key ≡ (answer, after)
 IsAnswered base now (Ask query) answer after = ⊥
 
--- a query has its view or its refusal and leaves the base, and no command has one
+-- The call is a query, `seen` is its view or its refusal, and `after` equals `base`. It is false of
+-- a command.
 abbrev pub IsSeen : Base → Call → Result View Refusal → Base → Type 0
 IsSeen base (Ask query) seen after = (ask base query ≡ seen) × (after ≡ base)
 IsSeen base (Do command key) seen after = ⊥
 
--- from a base, a call at a moment may have this outcome and lead to that base
+-- From `base`, the call at the clock reading `now` may have this outcome and lead to the base
+-- `after`.
 abbrev pub Answers : Base → ℕ → Call → Outcome → Base → Type 0
 Answers base now call (Did answer) after = IsAnswered base now call answer after
 Answers base now call (Saw view) after = IsSeen base call (Ok view) after
 Answers base now call (NoView refusal) after = IsSeen base call (Err refusal) after
 Answers base now call (Failed fault) after = MayFail fault × (after ≡ base)
 
--- calls with their moments may have these outcomes, one each, and lead to that base
+-- From `base`, the calls at their clock readings may have these outcomes, one each and in order,
+-- and lead to the base `after`.
 abbrev pub Run : Base → List (ℕ × Call) → List Outcome → Base → Type 0
 Run base [] [] after = after ≡ base
 Run base (call ∷ calls) (outcome ∷ outcomes) after = (mid : Base) × Answers base call.0 call.1 outcome mid × Run mid calls outcomes after

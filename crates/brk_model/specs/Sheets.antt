@@ -1,10 +1,10 @@
--- The tables with their rows by rising key, as a store reads them. Two that hold the same rows are then the same lists.
+-- The sheets: all tables, each sorted by key, as a store reads them.
 use Rattle.brk_model.specs.Base.{Base}
 use Rattle.brk_model.specs.Schemas.{Schema}
 use Rattle.brk_model.specs.Tables.{Tables, tables_at, tables_of}
 use Rattle.brk_model.specs.Keys.{by_key, kept_key, broker_key, customer_key, account_key, permission_key, security_key, last_trade_key, charge_key, band_key, tax_rate_key, customer_tax_key, trade_key, history_key, request_key, holding_key, summary_key, holding_history_key, settlement_key, cash_key, move_key}
 
--- each table by rising key
+-- The tables, each sorted by key, ascending.
 unfoldable pub sheets_of : Tables → Tables
 sheets_of t = record {
   last = t.last;
@@ -31,10 +31,10 @@ sheets_of t = record {
   rule = t.rule;
 }
 
--- the tables of a base in a schema, as a store reads them
+-- The sheets of a base in a schema.
 abbrev pub sheets_at : Schema → Base → Tables
 sheets_at schema base = sheets_of (tables_at schema base)
 
--- the same in the schema that a desk keeps
+-- The sheets of a base in the third schema, which a desk uses.
 abbrev pub sheets : Base → Tables
 sheets base = sheets_of (tables_of base)

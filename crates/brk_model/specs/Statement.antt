@@ -1,4 +1,4 @@
--- The text of an account's statement over the tables.
+-- The text of an account's statement, computed from the tables.
 use Rattle.std.specs.Prelude.{ℕ, ◌-◌, ◌&&◌, ◌||◌, ◌==◌, nat_le, nat_lt, if◌then◌else◌, List, [], ◌∷◌, ◌++◌, map, flat_map, filter, length, replicate, Option, Some, None, Result, Ok, Err, ℤ, ◌+ℤ◌, codes, decimal, bytes_eq}
 use Rattle.std.specs.Fmt.{signed_decimal}
 use Rattle.brk_money.specs.Spelling.{Text, cents_text, day_text}
@@ -11,50 +11,51 @@ use Rattle.brk_model.specs.Rows.{price_text}
 use Rattle.brk_model.specs.Joins.{account_in}
 use Rattle.brk_model.specs.PositionView.{asset_total}
 
--- a text in so many places, to the left
+-- The text, left-aligned and padded with spaces to `places` bytes; unchanged if it is longer.
 abbrev pub at_left : ℕ → Text → Text
 at_left places text = text ++ replicate (places - length text) 32
 
--- a text in so many places, to the right
+-- The text, right-aligned and padded with spaces to `places` bytes; unchanged if it is longer.
 abbrev pub at_right : ℕ → Text → Text
 at_right places text = replicate (places - length text) 32 ++ text
 
--- a word and an amount
+-- A word in 10 places, a space, and an amount, right-aligned in 22 places.
 abbrev pub amount_line : Text → ℤ → Text
 amount_line word amount = at_left 10 word ++ 32 ∷ at_right 22 (cents_text amount)
 
--- the account's cash rows, by rising stamp
+-- The account's rows of CASH_MOVE, sorted by stamp, ascending.
 abbrev pub cash_in : Tables → ℕ → List MoveRow
 cash_in tables account = sort_by_key (λ row. row.stamp) (filter (λ row. row.account == account) tables.moves)
 
--- the cash rows of earlier days
+-- The cash rows of the days before `from`.
 abbrev pub cash_before : ℕ → List MoveRow → List MoveRow
 cash_before from rows = filter (λ row. nat_lt (day_of row.stamp) from) rows
 
--- the cash rows of the days
+-- The cash rows of the days `from` to `to`, both included.
 abbrev pub cash_within : ℕ → ℕ → List MoveRow → List MoveRow
 cash_within from to rows = filter (λ row. nat_le from (day_of row.stamp) && nat_le (day_of row.stamp) to) rows
 
--- the sum of cash rows
+-- The sum of the amounts of the cash rows, in cents.
 abbrev pub cash_total : List MoveRow → ℤ
 cash_total rows = total_by (λ row. row.amount) rows
 
--- the account's lots, by symbol, then by the moment of opening
+-- The account's lots, sorted by symbol, then by opening stamp, ascending.
 abbrev pub lots_in : Tables → ℕ → List HoldingRow
 lots_in tables account =
     sort_by (λ a b. text_before a.symbol b.symbol || (bytes_eq a.symbol b.symbol && nat_lt a.stamp b.stamp))
     (filter (λ row. row.account == account) tables.holdings)
 
--- the line of a cash row
+-- The line of a cash row: its day, amount and name.
 abbrev pub cash_line : MoveRow → Text
 cash_line row = day_text (day_of row.stamp) ++ 32 ∷ at_right 22 (cents_text row.amount) ++ 32 ∷ row.name
 
--- the line of a lot
+-- The line of a lot: its symbol, the trade that opened it, its quantity and its price.
 abbrev pub lot_line : HoldingRow → Text
 lot_line row =
     at_left 15 row.symbol ++ 32 ∷ at_right 13 (decimal row.trade) ++ 32 ∷ at_right 11 (signed_decimal row.qty) ++ 32 ∷ at_right 10 (price_text row.price)
 
--- the lines of a statement
+-- The lines of the statement of account `a` over the days `from` to `to`, both included; `rows` are
+-- the cash rows of the account.
 abbrev pub statement_lines : Tables → AccountRow → ℕ → ℕ → List MoveRow → List Text
 statement_lines tables a from to rows =
     (codes "Statement of account " ++ decimal a.id)
@@ -68,15 +69,16 @@ statement_lines tables a from to rows =
     ∷ (codes "Cash rows " ++ decimal (length (cash_within from to rows)) ++ codes ", lots " ++ decimal (length (lots_in tables a.id)))
     ∷ []
 
--- lines, each ended by a line feed
+-- The text of the lines, each followed by a line feed.
 abbrev pub lines_text : List Text → Text
 lines_text lines = flat_map (λ line. line ++ 10 ∷ []) lines
 
--- the statement of an account, or that there is none
+-- The statement of the account, or the refusal `NoAccount` if there is none.
 abbrev pub statement_of : Tables → Option AccountRow → ℕ → ℕ → Result Text Refusal
 statement_of tables None from to = Err NoAccount
 statement_of tables (Some a) from to = Ok (lines_text (statement_lines tables a from to (cash_in tables a.id)))
 
--- the statement of an account over some days; days out of order are refused first
+-- The statement of an account over the days `from` to `to`, both included. It is refused with
+-- `BadText` if `to` is before `from`, otherwise with `NoAccount` if the account does not exist.
 unfoldable pub statement : Tables → ℕ → ℕ → ℕ → Result Text Refusal
 statement tables account from to = if nat_lt to from then Err BadText else statement_of tables (account_in tables account) from to

@@ -1,4 +1,5 @@
--- The view of Trade-Status, which lends its name alone, and the trades at the exchange.
+-- The status view of an account, which has only its name from Trade-Status, and the view of
+-- submitted trades.
 use Rattle.std.specs.Prelude.{ℕ, ◌==◌, nat_lt, List, [], ◌∷◌, ◌++◌, map, filter, flat_map, find, take, decimal}
 use Rattle.std.specs.Option.{option_map_or}
 use Rattle.brk_money.specs.Spelling.{Text}
@@ -10,28 +11,31 @@ use Rattle.brk_model.specs.Rows.{price_text}
 use Rattle.brk_model.specs.Queries.{View}
 use Rattle.brk_model.specs.Joins.{security_in, trades_in, recent_first}
 
--- a broker's name
+-- The name of the broker with this id; empty if there is none.
 abbrev pub name_of_broker : Tables → ℕ → Text
 name_of_broker tables id = option_map_or (λ row. row.name) (find (λ row. row.id == id) tables.brokers) []
 
--- whose account it is, and whose client
+-- One record with the last and the first name of the account's customer, and the name of its
+-- broker.
 abbrev pub status_head : Tables → AccountRow → View
 status_head tables a =
     map (λ c. c.last_name ∷ c.first_name ∷ name_of_broker tables a.broker ∷ []) (filter (λ c. c.id == a.customer) tables.customers)
 
--- a trade in ten fields
+-- The record of a trade, with 10 fields, of which the last two are the name and the exchange of its
+-- security.
 abbrev pub status_record : Tables → TradeRow → List Text
 status_record tables t =
     decimal t.id ∷ decimal t.stamp ∷ status_name t.status ∷ type_name t.kind ∷ t.symbol ∷ decimal t.qty ∷ t.executor ∷ price_text t.charge
     ∷ option_map_or (λ s. s.name) (security_in tables t.symbol) [] ∷ option_map_or (λ s. s.exchange) (security_in tables t.symbol) [] ∷ []
 
--- the names, then the last fifty trades
+-- The names of an account's customer and broker, then the last 50 trades of the account, most
+-- recent first.
 unfoldable pub status_view : Tables → ℕ → View
 status_view tables account =
     flat_map (status_head tables) (filter (λ a. a.id == account) tables.accounts)
     ++ map (status_record tables) (take 50 (recent_first (trades_in tables account)))
 
--- the trades at the exchange, by id
+-- One record (id, type, symbol, quantity, bid) for each submitted trade, sorted by id, ascending.
 unfoldable pub submitted_view : Tables → View
 submitted_view tables =
     map (λ t. decimal t.id ∷ type_code t.kind ∷ t.symbol ∷ decimal t.qty ∷ price_text t.bid ∷ [])

@@ -1,4 +1,4 @@
--- One command, and one call with a key: a refusal, or a reply and the base after it.
+-- The step of one command: a refusal, or a reply and the base after it.
 use Rattle.std.specs.Prelude.{ℕ, ◌==◌, [], ◌∷◌, ◌++◌, length, Option, Some, None, Result, Ok, Err}
 use Rattle.std.specs.Option.{option_map_or}
 use Rattle.brk_money.specs.declared.refusal.Refusal.{Refusal}
@@ -13,15 +13,17 @@ use Rattle.brk_model.specs.Movements.{deposit, withdrawal, with_movement, with_o
 use Rattle.brk_model.specs.Tests.{next_stamp, refusal_of}
 use Rattle.brk_model.specs.Commands.{Command, Listing, Reply, Booked, Ticked, CanceledTrade, CompletedTrade, Changed, AddBroker, AddCustomer, AddAccount, AddPermission, AddSecurity, AddCharge, AddBand, AddTaxRate, AddCustomerTax, PlaceOrder, FeedTicks, CancelTrade, CompleteTrade, ChangeExecutors, ChangeCashTypes, ChangeCashNames, DepositCash, WithdrawCash, SetOneDay}
 
--- a security with its first price, no volume and the stamp
+-- The security of a listing, with its first price, the volume 0 and the stamp.
 abbrev pub listed : ℕ → Listing → Security
 listed stamp l = record { symbol = l.symbol; name = l.name; exchange = l.exchange; sector = l.sector; last_price = l.price; volume = 0; moment = stamp }
 
--- the base after a trade's result
+-- The base in which the trade with the id `id` is completed at `price`; unchanged if there is no
+-- such trade.
 abbrev pub with_result_of : Base → ℕ → ℕ → ℕ → Base
 with_result_of base stamp id price = option_map_or (with_result base stamp price) (trade_with base id) base
 
--- the records of a base after a command that is accepted with a stamp
+-- The base after a command that is accepted with `stamp`, except for its last stamp, which is still
+-- the earlier one.
 unfoldable pub records_after : Base → ℕ → Command → Base
 records_after base stamp (AddBroker b) = record base { brokers = base.brokers ++ b ∷ [] }
 records_after base stamp (AddCustomer c) = record base { customers = base.customers ++ c ∷ [] }
@@ -43,7 +45,7 @@ records_after base stamp (DepositCash account amount) = with_movement base (depo
 records_after base stamp (WithdrawCash account amount) = with_movement base (withdrawal stamp account amount)
 records_after base stamp (SetOneDay day) = with_one_day base day
 
--- what is told of it
+-- The reply to a command that is accepted with `stamp`.
 unfoldable pub reply_to : Base → ℕ → Command → Reply
 reply_to base stamp (AddBroker b) = Booked stamp
 reply_to base stamp (AddCustomer c) = Booked stamp
@@ -65,16 +67,17 @@ reply_to base stamp (DepositCash account amount) = movement_reply base (deposit 
 reply_to base stamp (WithdrawCash account amount) = movement_reply base (withdrawal stamp account amount)
 reply_to base stamp (SetOneDay day) = Booked stamp
 
--- the base after an accepted command: its records, and its stamp as the last one
+-- The base after a command that is accepted with `stamp`, which is then its last stamp.
 abbrev pub base_after : Base → ℕ → Command → Base
 base_after base stamp command = record (records_after base stamp command) { last = Some stamp }
 
--- the refusal where there is one, and else the value
+-- The refusal if there is one, otherwise the value.
 abbrev pub unless : {A : Type 0} → Option Refusal → A → Result A Refusal
 unless None value = Ok value
 unless (Some refusal) value = Err refusal
 
--- one command at a moment: why it is refused, or the reply and the base after it
+-- The result of one command at the clock reading `now`: its refusal, or its reply and the base
+-- after it.
 unfoldable pub step : Base → ℕ → Command → Result (Reply × Base) Refusal
 step base now command =
     unless (refusal_of base now command) (reply_to base (next_stamp base now) command, base_after base (next_stamp base now) command)

@@ -1,4 +1,4 @@
--- The tables: one list of rows for each, in a stated order.
+-- The rows of the tables, and the tables of a base.
 use Rattle.std.specs.Prelude.{ℕ, ◌+◌, Bool, not, if◌then◌else◌, List, [], ◌∷◌, map, filter, flat_map, Option, None, ℤ, pos}
 use Rattle.std.specs.Option.{option_map_or}
 use Rattle.brk_money.specs.Spelling.{Text}
@@ -13,14 +13,14 @@ use Rattle.brk_model.specs.Shares.{Share, Deal, Touch, is_change, lot_qty, share
 use Rattle.brk_model.specs.Schemas.{Schema, third_schema}
 use Rattle.brk_model.specs.Derived.{Posting, deals_in, shares_in, summary_of, amount_of, due_day, cash_trades, postings, in_turn, balance_of, trade_count_of, commissions_of, pending}
 
--- BROKER: B_ID, B_NAME, B_NUM_TRADES, B_COMM_TOTAL
+-- A row of BROKER: B_ID, B_NAME, B_NUM_TRADES, B_COMM_TOTAL.
 pub record BrokerRow : Type 0 where
   pub id : ℕ
   pub name : Text
   pub trades : ℤ
   pub commissions : ℕ
 
--- CUSTOMER_ACCOUNT: CA_ID, CA_C_ID, CA_B_ID, CA_NAME, CA_TAX_ST, CA_OPEN, CA_BAL
+-- A row of CUSTOMER_ACCOUNT: CA_ID, CA_C_ID, CA_B_ID, CA_NAME, CA_TAX_ST, CA_OPEN, CA_BAL.
 pub record AccountRow : Type 0 where
   pub id : ℕ
   pub customer : ℕ
@@ -30,21 +30,22 @@ pub record AccountRow : Type 0 where
   pub opening : ℤ
   pub balance : ℤ
 
--- SECURITY: S_SYMB, S_NAME, S_EX_ID, S_SECTOR
+-- A row of SECURITY: S_SYMB, S_NAME, S_EX_ID, S_SECTOR.
 pub record SecurityRow : Type 0 where
   pub symbol : Text
   pub name : Text
   pub exchange : Text
   pub sector : Text
 
--- LAST_TRADE: LT_S_SYMB, LT_DTS, LT_PRICE, LT_VOL
+-- A row of LAST_TRADE: LT_S_SYMB, LT_DTS, LT_PRICE, LT_VOL.
 pub record LastTradeRow : Type 0 where
   pub symbol : Text
   pub stamp : ℕ
   pub price : ℕ
   pub volume : ℕ
 
--- TRADE: T_ID, T_DTS, T_ST_ID, T_TT_ID, T_IS_CASH, T_S_SYMB, T_QTY, T_BID_PRICE, T_CA_ID, T_EXEC_NAME, T_TRADE_PRICE, T_CHRG, T_COMM, T_TAX, T_LIFO
+-- A row of TRADE: T_ID, T_DTS, T_ST_ID, T_TT_ID, T_IS_CASH, T_S_SYMB, T_QTY, T_BID_PRICE, T_CA_ID,
+-- T_EXEC_NAME, T_TRADE_PRICE, T_CHRG, T_COMM, T_TAX, T_LIFO.
 pub record TradeRow : Type 0 where
   pub id : ℕ
   pub stamp : ℕ
@@ -62,13 +63,13 @@ pub record TradeRow : Type 0 where
   pub tax : ℕ
   pub is_lifo : Bool
 
--- TRADE_HISTORY: TH_T_ID, TH_ST_ID, TH_DTS
+-- A row of TRADE_HISTORY: TH_T_ID, TH_ST_ID, TH_DTS.
 pub record HistoryRow : Type 0 where
   pub trade : ℕ
   pub status : Status
   pub stamp : ℕ
 
--- TRADE_REQUEST: TR_T_ID, TR_TT_ID, TR_S_SYMB, TR_QTY, TR_BID_PRICE, TR_B_ID
+-- A row of TRADE_REQUEST: TR_T_ID, TR_TT_ID, TR_S_SYMB, TR_QTY, TR_BID_PRICE, TR_B_ID.
 pub record RequestRow : Type 0 where
   pub trade : ℕ
   pub kind : TradeType
@@ -77,7 +78,7 @@ pub record RequestRow : Type 0 where
   pub bid : ℕ
   pub broker : ℕ
 
--- HOLDING: H_T_ID, H_CA_ID, H_S_SYMB, H_DTS, H_PRICE, H_QTY
+-- A row of HOLDING: H_T_ID, H_CA_ID, H_S_SYMB, H_DTS, H_PRICE, H_QTY.
 pub record HoldingRow : Type 0 where
   pub trade : ℕ
   pub account : ℕ
@@ -86,34 +87,34 @@ pub record HoldingRow : Type 0 where
   pub price : ℕ
   pub qty : ℤ
 
--- HOLDING_SUMMARY: HS_CA_ID, HS_S_SYMB, HS_QTY
+-- A row of HOLDING_SUMMARY: HS_CA_ID, HS_S_SYMB, HS_QTY.
 pub record SummaryRow : Type 0 where
   pub account : ℕ
   pub symbol : Text
   pub qty : ℤ
 
--- HOLDING_HISTORY: HH_H_T_ID, HH_T_ID, HH_BEFORE_QTY, HH_AFTER_QTY
+-- A row of HOLDING_HISTORY: HH_H_T_ID, HH_T_ID, HH_BEFORE_QTY, HH_AFTER_QTY.
 pub record HoldingHistoryRow : Type 0 where
   pub lot : ℕ
   pub trade : ℕ
   pub before : ℤ
   pub after : ℤ
 
--- SETTLEMENT: SE_T_ID, SE_CASH_TYPE, SE_CASH_DUE_DATE, SE_AMT
+-- A row of SETTLEMENT: SE_T_ID, SE_CASH_TYPE, SE_CASH_DUE_DATE, SE_AMT.
 pub record SettlementRow : Type 0 where
   pub trade : ℕ
   pub cash_type : Text
   pub due_day : ℕ
   pub amount : ℤ
 
--- CASH_TRANSACTION: CT_T_ID, CT_DTS, CT_AMT, CT_NAME
+-- A row of CASH_TRANSACTION: CT_T_ID, CT_DTS, CT_AMT, CT_NAME.
 pub record CashRow : Type 0 where
   pub trade : ℕ
   pub stamp : ℕ
   pub amount : ℤ
   pub name : Text
 
--- CASH_MOVE: CM_ID, CM_CA_ID, CM_T_ID, CM_DTS, CM_AMT, CM_NAME
+-- A row of CASH_MOVE: CM_ID, CM_CA_ID, CM_T_ID, CM_DTS, CM_AMT, CM_NAME.
 pub record MoveRow : Type 0 where
   pub id : ℕ
   pub account : ℕ
@@ -122,8 +123,9 @@ pub record MoveRow : Type 0 where
   pub amount : ℤ
   pub name : Text
 
--- all tables; last is D_LAST, and rule is SR_DAY of SETTLE_RULE, which has one row or none.
--- Cash rows stand in one of two tables, by the schema: moves is empty in the first schema, and cash in each later one
+-- All tables. `last` is D_LAST, and `rule` is SR_DAY of SETTLE_RULE, which has one row or none.
+-- Cash rows are in one of two tables, by the schema: `moves` is empty in the first schema, and
+-- `cash` in each later one.
 pub record Tables : Type 0 where
   pub last : Option ℕ
   pub kept : List Kept
@@ -148,29 +150,30 @@ pub record Tables : Type 0 where
   pub moves : List MoveRow
   pub rule : SettleRule
 
--- a broker with the number of completed trades and the sum of their commissions
+-- The BROKER row of a broker, with the number of the completed trades `done` of its accounts and
+-- the sum of their commissions.
 abbrev pub broker_row : List Account → List Trade → Broker → BrokerRow
 broker_row accounts done b =
     record { id = b.id; name = b.name; trades = pos (trade_count_of accounts done b.id); commissions = commissions_of accounts done b.id }
 
--- an account with its balance
+-- The CUSTOMER_ACCOUNT row of an account, with its balance.
 abbrev pub account_row : List Account → List Posting → Account → AccountRow
 account_row accounts posted a =
     record { id = a.id; customer = a.customer; broker = a.broker; name = a.name; tax_status = a.tax_status; opening = a.opening; balance = balance_of accounts posted a.id }
 
--- a security as it is listed
+-- The SECURITY row of a security.
 abbrev pub security_row : Security → SecurityRow
 security_row s = record { symbol = s.symbol; name = s.name; exchange = s.exchange; sector = s.sector }
 
--- a security's last trade on the market
+-- The LAST_TRADE row of a security: its stamp, last price and volume.
 abbrev pub last_trade_row : Security → LastTradeRow
 last_trade_row s = record { symbol = s.symbol; stamp = s.moment; price = s.last_price; volume = s.volume }
 
--- the last status of a trade, which always has one
+-- The last status of a trade; `Canceled` if it has none.
 abbrev pub status_of : Trade → Status
 status_of t = option_map_or (λ m. m.status) (last_mark t) Canceled
 
--- a trade as it stands
+-- The TRADE row of a trade, with its last status and the stamp of that status.
 abbrev pub trade_row : Trade → TradeRow
 trade_row t =
     record {
@@ -191,79 +194,82 @@ trade_row t =
       is_lifo = t.is_lifo;
     }
 
--- a row for each status of a trade
+-- The TRADE_HISTORY rows of a trade, one for each status change.
 abbrev pub history_rows : Trade → List HistoryRow
 history_rows t = map (λ m. record { trade = t.id; status = m.status; stamp = m.stamp }) t.marks
 
--- a request of a waiting trade, with the broker of its account
+-- The TRADE_REQUEST row of a pending trade, with the broker of its account.
 abbrev pub request_row : List Account → Trade → RequestRow
 request_row accounts t = record { trade = t.id; kind = t.kind; symbol = t.symbol; qty = t.qty; bid = t.bid; broker = broker_in accounts t.account }
 
--- rows for each account and symbol
+-- The rows that `rows` gives for each account and each symbol of the base.
 abbrev pub by_position : {Row : Type 0} → Base → (ℕ → Text → List Row) → List Row
 by_position base rows = flat_map (λ a. flat_map (λ s. rows a.id s.symbol) base.securities) base.accounts
 
--- what is left of the shares that a completed trade opened: its lot
+-- The HOLDING row of the lot that a completed trade opened; its quantity is 0 if no share of the
+-- lot is left.
 abbrev pub holding_row : List Trade → Trade → HoldingRow
 holding_row done t =
     record { trade = t.id; account = t.account; symbol = t.symbol; stamp = moment_of t; price = price_of t; qty = lot_qty (shares_in done t.account t.symbol) t.id }
 
--- the row of what a trade does to a lot
+-- The HOLDING_HISTORY row of a lot that the trade with the id `trade` touched.
 abbrev pub touch_row : ℕ → Touch → HoldingHistoryRow
 touch_row trade touch = record { lot = touch.lot; trade = trade; before = touch.before; after = touch.after }
 
--- what the row of a trade tells of its lot
+-- The lot of a HOLDING_HISTORY row, with its quantities before and after.
 abbrev pub touch_of_row : HoldingHistoryRow → Touch
 touch_of_row row = record { lot = row.lot; before = row.before; after = row.after }
 
--- whether the trade of a row changed its lot
+-- True if the quantities before and after of a HOLDING_HISTORY row differ.
 abbrev pub is_moved : HoldingHistoryRow → Bool
 is_moved row = is_change (touch_of_row row)
 
--- what some deals do to the lot of a trade, one after another from some shares
+-- One HOLDING_HISTORY row of the lot `lot` for each deal, executed in order from `shares`.
 abbrev pub lot_rows : ℕ → List Share → List Deal → List HoldingHistoryRow
 lot_rows lot shares [] = []
 lot_rows lot shares (d ∷ deals) = touch_row d.trade (touch_by lot d shares) ∷ lot_rows lot (shares_after shares d) deals
 
--- the changes of the lot that a completed trade opened
+-- The HOLDING_HISTORY rows of the lot that a completed trade opened: one for each deal that changed
+-- it.
 abbrev pub lot_history : List Trade → Trade → List HoldingHistoryRow
 lot_history done t = filter is_moved (lot_rows t.id [] (deals_in done t.account t.symbol))
 
--- a position's summary, where it is not 0
+-- The HOLDING_SUMMARY row of a position; none if its quantity is 0.
 abbrev pub summary_rows : List Trade → ℕ → Text → List SummaryRow
 summary_rows done account symbol =
     filter (λ row. not (is_zero row.qty)) (record { account = account; symbol = symbol; qty = summary_of done account symbol } ∷ [])
 
--- what a completed trade settles for, and when
+-- The SETTLEMENT row of a completed trade: its cash type, due day and amount.
 abbrev pub settlement_row : List Account → SettleRule → Trade → SettlementRow
 settlement_row accounts rule t = record { trade = t.id; cash_type = t.cash_type; due_day = due_day rule t; amount = amount_of accounts t }
 
--- what a completed cash trade moved, in the first schema
+-- The CASH_TRANSACTION row of a completed cash trade, which only the first schema has.
 abbrev pub cash_row : List Account → Trade → CashRow
 cash_row accounts t = record { trade = t.id; stamp = moment_of t; amount = amount_of accounts t; name = t.cash_name }
 
--- a posting with its number
+-- The CASH_MOVE row of a posting, with the number `id`.
 abbrev pub move_row : ℕ → Posting → MoveRow
 move_row id p = record { id = id; account = p.account; trade = p.trade; stamp = p.stamp; amount = p.amount; name = p.name }
 
--- postings numbered in turn from a number on
+-- The CASH_MOVE rows of the postings, numbered `n`, `n + 1` and so on.
 abbrev pub numbered : ℕ → List Posting → List MoveRow
 numbered n [] = []
 numbered n (p ∷ posted) = move_row n p ∷ numbered (n + 1) posted
 
--- the postings by rising stamp, numbered from 1, in a schema that numbers them
+-- The CASH_MOVE rows: the postings sorted by stamp and numbered from 1; none if the schema does not
+-- number cash rows.
 abbrev pub move_rows : Schema → List Posting → List MoveRow
 move_rows schema posted = if schema.has_moves then numbered 1 (in_turn posted) else []
 
--- the cash rows of completed trades, in a schema that has no others
+-- The CASH_TRANSACTION rows of the completed cash trades; none if the schema numbers cash rows.
 abbrev pub cash_rows : Schema → List Account → List Trade → List CashRow
 cash_rows schema accounts done = if schema.has_moves then [] else map (cash_row accounts) (cash_trades done)
 
--- the tables without rows, where nothing was accepted yet
+-- The tables without rows, as they are before any command is accepted.
 abbrev pub no_rows : Tables
 no_rows = record { last = None; kept = []; brokers = []; customers = []; accounts = []; permissions = []; securities = []; last_trades = []; charges = []; bands = []; tax_rates = []; customer_taxes = []; trades = []; history = []; requests = []; holdings = []; summaries = []; holding_history = []; settlements = []; cash = []; moves = []; rule = None }
 
--- the rows of a base and those that follow from some completed trades, in a schema
+-- The tables of a base in a schema; the derived rows are computed from the completed trades `done`.
 abbrev pub tables_upon : Schema → Base → List Trade → Tables
 tables_upon schema base done = record {
   last = base.last;
@@ -290,10 +296,10 @@ tables_upon schema base done = record {
   rule = base.rule;
 }
 
--- the rows of a base and those that follow from it, in a schema
+-- The tables of a base in a schema.
 unfoldable pub tables_at : Schema → Base → Tables
 tables_at schema base = tables_upon schema base (completed base)
 
--- the same in the schema that a desk keeps
+-- The tables of a base in the third schema, which a desk uses.
 abbrev pub tables_of : Base → Tables
 tables_of base = tables_at third_schema base

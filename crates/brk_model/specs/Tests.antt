@@ -1,4 +1,5 @@
--- The tests of a command past those of form. The refusal is that of the first test that finds something wrong.
+-- The checks of a well-formed command against the base; the refusal is that of the first check that
+-- fails.
 use Rattle.std.specs.Prelude.{ℕ, ◌+◌, Bool, true, false, not, ◌&&◌, ◌==◌, nat_le, nat_lt, List, [], ◌∷◌, ◌++◌, length, filter, find, Option, option_map, is_some, is_none, nat_abs, bytes_eq}
 use Rattle.std.specs.List.{list_any}
 use Rattle.std.specs.Option.{option_map_or}
@@ -21,62 +22,65 @@ use Rattle.brk_model.specs.Results.{with_result}
 use Rattle.brk_model.specs.Movements.{deposit, withdrawal, with_movement}
 use Rattle.brk_model.specs.Commands.{Command, Order, AddBroker, AddCustomer, AddAccount, AddPermission, AddSecurity, AddCharge, AddBand, AddTaxRate, AddCustomerTax, PlaceOrder, FeedTicks, CancelTrade, CompleteTrade, ChangeExecutors, ChangeCashTypes, ChangeCashNames, DepositCash, WithdrawCash, SetOneDay}
 
--- a refusal, and whether there is cause for it
+-- A check: a refusal, and true if that refusal applies.
 abbrev pub Test : Type 0
 Test = Bool × Refusal
 
--- the first refusal that there is cause for
+-- The first refusal that applies; none if no check fails.
 abbrev pub first_refusal : List Test → Option Refusal
 first_refusal tests = option_map (λ test. test.1) (find (λ test. test.0) tests)
 
--- the stamp of a command that is accepted: the moment, moved past the last stamp
+-- The stamp of a command that is accepted at the clock reading `now`: `now`, but at least the last
+-- stamp plus 1.
 abbrev pub next_stamp : Base → ℕ → ℕ
 next_stamp base now = option_map_or (λ last. moved_past last now) base.last now
 
--- what a command names has to be there: no account has the id
+-- The check that fails with `NoAccount` if no account has the id.
 abbrev pub lacks_account : Base → ℕ → Test
 lacks_account base id = (is_none (account_with base id), NoAccount)
 
--- no customer has the id
+-- The check that fails with `NoCustomer` if no customer has the id.
 abbrev pub lacks_customer : Base → ℕ → Test
 lacks_customer base id = (is_none (customer_with base id), NoCustomer)
 
--- no broker has the id
+-- The check that fails with `NoBroker` if no broker has the id.
 abbrev pub lacks_broker : Base → ℕ → Test
 lacks_broker base id = (is_none (broker_with base id), NoBroker)
 
--- no security has the symbol
+-- The check that fails with `NoSecurity` if no security has the symbol.
 abbrev pub lacks_security : Base → Text → Test
 lacks_security base symbol = (is_none (security_with base symbol), NoSecurity)
 
--- what a command adds may not be there yet
+-- The check that fails with `Exists` if `found` is true: the record to be added exists.
 abbrev pub exists_if : Bool → Test
 exists_if found = (found, Exists)
 
--- two bands of a tier, a type and an exchange share a quantity
+-- True if the two bands have the same tier, type and exchange, and some quantity is within both.
 abbrev pub bands_meet : Band → Band → Bool
 bands_meet b c =
     (b.tier == c.tier) && same_type b.kind c.kind && bytes_eq b.exchange c.exchange && nat_le b.from_qty c.to_qty && nat_le c.from_qty b.to_qty
 
--- an order's charge has to be known
+-- The check that fails with `NoCharge` if no charge applies to the order.
 abbrev pub lacks_charge : Base → Order → Test
 lacks_charge base o = (is_none (charge_with base (kind_of o.order_type) (tier_of base o.account)), NoCharge)
 
--- an order's commission has to be known
+-- The check that fails with `NoRate` if no commission band applies to the order.
 abbrev pub lacks_rate : Base → Order → Test
 lacks_rate base o = (is_none (band_with base (tier_of base o.account) (kind_of o.order_type) (exchange_of base o.symbol) o.qty), NoRate)
 
--- what an order and an estimate are tested for
+-- The checks of an order and of an estimate, in sequence: account, security, permission, charge and
+-- commission band.
 abbrev pub order_tests : Base → Order → List Test
 order_tests base o =
     lacks_account base o.account ∷ lacks_security base o.symbol ∷ (not (is_permitted base o.account o.executor), NotPermitted)
     ∷ lacks_charge base o ∷ lacks_rate base o ∷ []
 
--- the trade's status is not the one that the command needs
+-- The check that fails with `WrongStatus` and the trade's status if `right` is false.
 abbrev pub wrong_status : Bool → Trade → Test
 wrong_status right t = (not right, WrongStatus (status_of t))
 
--- what a result is tested for, with the base that would follow
+-- The checks of a result, in sequence: status, commission band, holding summary, balance,
+-- commission total of the broker, and due day. `after` is the base after the result.
 abbrev pub result_tests : Base → Base → ℕ → Trade → List Test
 result_tests base after stamp t =
     wrong_status (has_status Submitted t) t
@@ -87,7 +91,8 @@ result_tests base after stamp t =
     ∷ (nat_lt last_day (due_after base.rule stamp), ClockEnd)
     ∷ []
 
--- what a movement is tested for: its account is there, the balance with it is within its limit, and a number is left
+-- The checks of a movement, in sequence: its account exists, the balance after it is within its
+-- limit, and the number of movements is below its limit.
 abbrev pub movement_tests : Base → Movement → List Test
 movement_tests base m =
     lacks_account base m.account
@@ -95,11 +100,12 @@ movement_tests base m =
     ∷ (nat_le greatest_id (length base.movements), Range limit.Moves)
     ∷ []
 
--- the tests of the trade that is named, or that there is none
+-- The checks that `tests` gives for the trade with the id, or the one that fails with `NoTrade` if
+-- there is no such trade.
 abbrev pub tests_of_trade : Base → ℕ → (Trade → List Test) → List Test
 tests_of_trade base id tests = option_map_or tests (trade_with base id) ((true, NoTrade) ∷ [])
 
--- the tests of a command, in the order in which they are made
+-- The checks of a command, in the sequence in which they are made.
 unfoldable pub tests : Base → ℕ → Command → List Test
 tests base stamp (AddBroker b) = exists_if (is_some (broker_with base b.id)) ∷ []
 tests base stamp (AddCustomer c) = exists_if (list_any (λ d. (d.id == c.id)) base.customers) ∷ exists_if (list_any (λ d. bytes_eq d.tax_id c.tax_id) base.customers) ∷ []
@@ -129,15 +135,16 @@ tests base stamp (DepositCash account amount) = movement_tests base (deposit sta
 tests base stamp (WithdrawCash account amount) = movement_tests base (withdrawal stamp account amount)
 tests base stamp (SetOneDay day) = exists_if (is_some base.rule) ∷ []
 
--- whether the day that a command sets is not after the day of its stamp
+-- True if the command sets a settlement day that is not after the day of `stamp`.
 abbrev pub is_too_early : ℕ → Command → Bool
 is_too_early stamp (SetOneDay day) = nat_le day (day_of stamp)
 is_too_early stamp _ = false
 
--- the tests that need the command's stamp, after all others: there is one left, and it is not too early for the day that is set
+-- The checks of the command's stamp, made after all others: `ClockEnd` if it is past the greatest
+-- stamp, `TooEarly` if a settlement day that is set is not after its day.
 abbrev pub stamp_tests : ℕ → Command → List Test
 stamp_tests stamp command = (nat_lt last_stamp stamp, ClockEnd) ∷ (is_too_early stamp command, TooEarly) ∷ []
 
--- why a command is refused, if it is
+-- The refusal of a command at the clock reading `now`; none if it is accepted.
 unfoldable pub refusal_of : Base → ℕ → Command → Option Refusal
 refusal_of base now command = first_refusal (tests base (next_stamp base now) command ++ stamp_tests (next_stamp base now) command)

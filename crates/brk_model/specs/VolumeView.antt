@@ -1,4 +1,4 @@
--- The view of Broker-Volume, which lends its name alone.
+-- The volume view of brokers, which has only its name from Broker-Volume.
 use Rattle.std.specs.Prelude.{ℕ, ◌*◌, Bool, false, ◌&&◌, ◌||◌, ◌==◌, nat_lt, List, [], ◌∷◌, map, filter, length, sum_by, decimal, bytes_eq}
 use Rattle.std.specs.List.{list_any}
 use Rattle.std.specs.Option.{option_map_or}
@@ -9,22 +9,24 @@ use Rattle.brk_model.specs.Rows.{price_text}
 use Rattle.brk_model.specs.Queries.{View}
 use Rattle.brk_model.specs.Joins.{security_in}
 
--- a broker's pending requests in a sector
+-- The pending requests of a broker whose securities are in the sector.
 abbrev pub requests_in : Tables → Text → ℕ → List RequestRow
 requests_in tables sector broker =
     filter (λ r. (r.broker == broker) && option_map_or (λ s. bytes_eq s.sector sector) (security_in tables r.symbol) false) tables.requests
 
--- the value of a broker's pending requests in a sector
+-- The value of a broker's pending requests in a sector, at their bid prices, in cents.
 abbrev pub volume_in : Tables → Text → ℕ → ℕ
 volume_in tables sector broker = sum_by (λ r. r.qty * r.bid) (requests_in tables sector broker)
 
--- by falling volume, then name, then id
+-- True if broker `a` is before broker `b`: sorted by volume, descending, then by name and id,
+-- ascending.
 abbrev pub by_volume : Tables → Text → BrokerRow → BrokerRow → Bool
 by_volume tables sector a b =
     nat_lt (volume_in tables sector b.id) (volume_in tables sector a.id)
     || ((volume_in tables sector b.id == volume_in tables sector a.id) && (text_before a.name b.name || (bytes_eq a.name b.name && nat_lt a.id b.id)))
 
--- the brokers of these names that have such a request
+-- One record (name, id, volume) for each broker with one of these names and a pending request in
+-- the sector, sorted by volume, descending, then by name and id, ascending.
 unfoldable pub volume_view : Tables → Text → List Text → View
 volume_view tables sector names =
     map (λ b. b.name ∷ decimal b.id ∷ price_text (volume_in tables sector b.id) ∷ [])

@@ -1,4 +1,4 @@
--- The statuses of a database's trades.
+-- The audit's condition on the statuses of trades.
 use Rattle.std.specs.Prelude.{ℕ, Bool, true, false, ◌&&◌, ◌==◌, nat_lt, List, [], ◌∷◌, ◌++◌, map, filter, is_none}
 use Rattle.std.specs.List.{list_all}
 use Rattle.brk_money.specs.Kinds.{same_status}
@@ -9,7 +9,7 @@ use Rattle.brk_model.specs.Records.{StatusChange}
 use Rattle.brk_model.specs.Tables.{Tables, TradeRow}
 use Rattle.brk_model.specs.Adopted.{marks_in}
 
--- the ways that a trade's status goes
+-- True if the statuses are a valid status sequence of a trade.
 abbrev pub is_way : List Status → Bool
 is_way (Submitted ∷ []) = true
 is_way (Submitted ∷ Completed ∷ []) = true
@@ -19,31 +19,34 @@ is_way (Pending ∷ Submitted ∷ []) = true
 is_way (Pending ∷ Submitted ∷ Completed ∷ []) = true
 is_way _ = false
 
--- whether numbers rise strictly
+-- True if the numbers are strictly ascending.
 abbrev pub is_rising : List ℕ → Bool
 is_rising [] = true
 is_rising (m ∷ []) = true
 is_rising (m ∷ n ∷ ns) = nat_lt m n && is_rising (n ∷ ns)
 
--- whether a row has the last of some statuses
+-- True if the row has the status and the stamp of the last of the status changes; false if there
+-- are none.
 abbrev pub is_last_of : TradeRow → List StatusChange → Bool
 is_last_of row [] = false
 is_last_of row (m ∷ []) = same_status row.status m.status && (row.stamp == m.stamp)
 is_last_of row (m ∷ n ∷ marks) = is_last_of row (n ∷ marks)
 
--- a trade's statuses are a way with rising stamps, and its row has the last of them
+-- True if the trade's statuses are a valid sequence with strictly ascending stamps, and its row has
+-- the last of them.
 abbrev pub trade_status : Tables → TradeRow → Bool
 trade_status t row =
     is_way (map (λ m. m.status) (marks_in t row.id)) && is_rising (map (λ m. m.stamp) (marks_in t row.id)) && is_last_of row (marks_in t row.id)
 
--- the stamps of completions
+-- The stamps of completions in TRADE_HISTORY.
 abbrev pub completion_stamps : Tables → List ℕ
 completion_stamps t = map (λ h. h.stamp) (filter (λ h. same_status h.status Completed) t.history)
 
--- the stamps of movements
+-- The stamps of movements, which are the CASH_MOVE rows without a trade.
 abbrev pub movement_stamps : Tables → List ℕ
 movement_stamps t = map (λ r. r.stamp) (filter (λ r. is_none r.trade) t.moves)
 
--- each trade's statuses are a way, and no two trades complete at one stamp, nor is a movement made at the stamp of another or of a completion
+-- True if every trade passes `trade_status`, and no two completions or movements have the same
+-- stamp.
 unfoldable pub has_status_rows : Tables → Bool
 has_status_rows t = list_all (trade_status t) t.trades && all_distinct (completion_stamps t ++ movement_stamps t)

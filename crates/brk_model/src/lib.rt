@@ -1,2 +1,3 @@
-//! The abstract brokerage: what it is told, what follows from that, and what it answers. Definitions alone; there is no code to call.
+//! The model of a brokerage: its commands, its abstract state, the values that follow from it, and
+//! the replies. It consists of definitions only; there is no code to call.
 #![tactic(auto)]

@@ -1,4 +1,4 @@
--- How the examples are run: rows in, lines out.
+-- The functions that run the examples: rows in, lines out.
 use Rattle.std.specs.Prelude.{◌≡◌, ℕ, List, [], ◌∷◌, ◌++◌, flat_map, length, replicate, Result, codes, decimal}
 use Rattle.brk_model.specs.Forms.{then_read}
 use Rattle.brk_money.specs.declared.refusal.Refusal.{Refusal}
@@ -8,30 +8,30 @@ use Rattle.brk_model.specs.Computed.{batch}
 use Rattle.brk_model.specs.Queries.{View}
 use Rattle.brk_model.specs.Ask.{ask, parse_query}
 
--- a clock that stands at 2024-03-01
+-- Twenty readings of a clock that returns only the start of 2024-03-01.
 abbrev pub clock : List ℕ
 clock = replicate 20 1709251200000
 
--- lines, each ended by a line feed
+-- The lines, each ended by a line feed.
 abbrev pub in_lines : List Text → Text
 in_lines lines = flat_map (λ line. line ++ 10 ∷ []) lines
 
--- the bytes of a batch of these rows
+-- The bytes of the batch `name` of these rows.
 abbrev pub batch_text : Text → List Text → Text
 batch_text name rows = in_lines ((codes "batch," ++ name) ∷ rows ++ (codes "end," ++ decimal (length rows)) ∷ [])
 
--- the base after a batch of these rows
+-- The base after a batch of these rows.
 abbrev pub after : Base → List Text → Base
 after base rows = (batch base clock (batch_text (codes "T") rows)).base
 
--- a batch of these rows is answered with these lines
+-- A batch of these rows is answered with these lines.
 abbrev pub Gives : Base → List Text → List Text → Type 0
 Gives base rows lines = (batch base clock (batch_text (codes "T") rows)).text ≡ in_lines lines
 
--- a base without its kept keys
+-- The base without its stored replies.
 abbrev pub unkept : Base → Base
 unkept base = record base { kept = [] }
 
--- the view of a query by its name and arguments, or the refusal of its form or of the query
+-- The view of a query by its name and arguments, or the refusal of the query or of its form.
 abbrev pub view : Base → Text → List Text → Result View Refusal
 view base name arguments = then_read (ask base) (parse_query name arguments)

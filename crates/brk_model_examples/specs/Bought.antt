@@ -1,4 +1,4 @@
--- The tables after the first purchase, row by row, and the same with something that another program changed.
+-- The tables after the first purchase, and variants of them that another program changed.
 use Rattle.std.specs.Prelude.{ℕ, ℤ, ◌+ℤ◌, ◌++◌, map, pos, negsuc, true, false, Some, None, [], ◌∷◌, codes}
 use Rattle.brk_money.specs.Spelling.{Text}
 use Rattle.brk_money.specs.declared.trade_type.TradeType.TheVariants.{MarketBuy, MarketSell, StopLoss, LimitSell, LimitBuy}
@@ -7,7 +7,7 @@ use Rattle.brk_money.specs.declared.tax_status.TaxStatus.TheVariants.{Withheld}
 use Rattle.brk_model.specs.Tables.{Tables, AccountRow, TradeRow, HoldingRow, SettlementRow, CashRow, MoveRow}
 use Rattle.brk_model_examples.specs.Setting.{setting}
 
--- by rising key
+-- The tables after the first purchase, each sorted by key.
 unfoldable pub bought_tables : Tables
 bought_tables = record {
   last = Some 1709251200017;
@@ -60,104 +60,105 @@ bought_tables = record {
   rule = None;
 }
 
--- the same in the first schema
+-- The tables after the first purchase in the first schema.
 unfoldable pub first_tables : Tables
 first_tables = record bought_tables {
   cash = record { trade = 1; stamp = 1709251200017; amount = negsuc 102509; name = codes "Market-Buy 100 shares of Acme" } ∷ [];
   moves = [];
 }
 
--- ---- changed by another program
+-- ---- tables that another program changed
 
--- a quantity of 0
+-- A trade has the quantity 0.
 unfoldable pub no_quantity : Tables
 no_quantity = record bought_tables { trades = map {B = TradeRow} (λ t. record t { qty = 0 }) bought_tables.trades }
 
--- no last trade on the market
+-- The security has no last trade.
 unfoldable pub no_last_trade : Tables
 no_last_trade = record bought_tables { last_trades = [] }
 
--- the row of the submission gone
+-- The submission of the trade has no row in the history.
 unfoldable pub no_submission : Tables
 no_submission = record bought_tables { history = record { trade = 1; status = Completed; stamp = 1709251200017 } ∷ [] }
 
--- another last status
+-- The status of the trade is not the last one of its history.
 unfoldable pub other_status : Tables
 other_status = record bought_tables { trades = map {B = TradeRow} (λ t. record t { status = Submitted }) bought_tables.trades }
 
--- a request of a trade that is completed
+-- A completed trade has a request row.
 unfoldable pub a_request : Tables
 a_request = record bought_tables { requests = record { trade = 1; kind = MarketBuy; symbol = codes "ABC"; qty = 100; bid = 1000; broker = 1 } ∷ [] }
 
--- a share less in a lot
+-- The lot has one share less.
 unfoldable pub other_lot : Tables
 other_lot = record bought_tables { holdings = map {B = HoldingRow} (λ h. record h { qty = pos 99 }) bought_tables.holdings }
 
--- another price of a lot
+-- The lot has another price.
 unfoldable pub other_lot_price : Tables
 other_lot_price = record bought_tables { holdings = map {B = HoldingRow} (λ h. record h { price = 1011 }) bought_tables.holdings }
 
--- another price of the trade
+-- The trade has another price.
 unfoldable pub other_trade_price : Tables
 other_trade_price = record bought_tables { trades = map {B = TradeRow} (λ t. record t { price = Some 1011 }) bought_tables.trades }
 
--- another quantity in the history of a lot
+-- The history of the lot has another quantity.
 unfoldable pub other_history : Tables
 other_history = record bought_tables { holding_history = record { lot = 1; trade = 1; before = pos 0; after = pos 99 } ∷ [] }
 
--- a share more in a summary
+-- The summary has one share more.
 unfoldable pub other_summary : Tables
 other_summary = record bought_tables { summaries = record { account = 100; symbol = codes "ABC"; qty = pos 101 } ∷ [] }
 
--- a trade more of the broker
+-- The broker has one trade more.
 unfoldable pub other_count : Tables
 other_count = record bought_tables { brokers = record { id = 1; name = codes "Bo"; trades = pos 2; commissions = 1010 } ∷ [] }
 
--- a cent more of the broker
+-- The broker has one cent of commissions more.
 unfoldable pub other_commissions : Tables
 other_commissions = record bought_tables { brokers = record { id = 1; name = codes "Bo"; trades = pos 1; commissions = 1011 } ∷ [] }
 
--- a cent more of the trade
+-- The trade has one cent of commission more.
 unfoldable pub other_commission : Tables
 other_commission = record bought_tables { trades = map {B = TradeRow} (λ t. record t { commission = 1011 }) bought_tables.trades }
 
--- a cent less settled
+-- The settlement amount is one cent off.
 unfoldable pub other_settlement : Tables
 other_settlement = record bought_tables { settlements = map {B = SettlementRow} (λ s. record s { amount = negsuc 102508 }) bought_tables.settlements }
 
--- a cent less moved
+-- The amount of the cash row is one cent off.
 unfoldable pub other_cash : Tables
 other_cash = record bought_tables { moves = map {B = MoveRow} (λ r. record r { amount = negsuc 102508 }) bought_tables.moves }
 
--- another number of a cash row
+-- The cash row has another number.
 unfoldable pub other_number : Tables
 other_number = record bought_tables { moves = map {B = MoveRow} (λ r. record r { id = 2 }) bought_tables.moves }
 
--- a second cash row of the trade
+-- The trade has a second cash row.
 unfoldable pub second_row : Tables
 second_row = record bought_tables { moves = bought_tables.moves ++ map {B = MoveRow} (λ r. record r { id = 2 }) bought_tables.moves }
 
--- a cash row that is left in the table of the first schema
+-- The cash table of the first schema still has a row.
 unfoldable pub left_behind : Tables
 left_behind = record bought_tables { cash = first_tables.cash }
 
--- a quantity that is too large before the third schema
+-- A trade has a quantity that is too large for the schemas before the third.
 unfoldable pub large_quantity : Tables
 large_quantity = record bought_tables { trades = map {B = TradeRow} (λ t. record t { qty = 1000000 }) bought_tables.trades }
 
--- a band of such quantities
+-- A band has a quantity that is too large for the schemas before the third.
 unfoldable pub large_band : Tables
 large_band = record bought_tables { bands = record { tier = 1; kind = MarketBuy; exchange = codes "NYSE"; from_qty = 1; to_qty = 9999999; rate = 100 } ∷ [] }
 
--- a settlement day set
+-- A settlement day is set, which is later than the completion.
 unfoldable pub day_set : Tables
 day_set = record bought_tables { rule = Some 19784 }
 
--- a settlement day set no later than a completion
+-- A settlement day is set, which is not later than the completion.
 unfoldable pub early_day : Tables
 early_day = record bought_tables { rule = Some 19783 }
 
--- a cash row without a trade, and with it its amount in the balance: at a stamp, of an amount, under a name
+-- A cash row without a trade is added: at `stamp`, of `amount`, under `name`. The balance includes
+-- its amount.
 abbrev pub movement_of : ℕ → ℤ → Text → Tables
 movement_of stamp amount name = record bought_tables {
   last = Some 1709251200018;
@@ -165,10 +166,10 @@ movement_of stamp amount name = record bought_tables {
   accounts = map {B = AccountRow} (λ a. record a { balance = a.balance +ℤ amount }) bought_tables.accounts;
 }
 
--- a cent more of balance
+-- The balance of the account is one cent more.
 unfoldable pub other_balance : Tables
 other_balance = record bought_tables { accounts = record { id = 100; customer = 10; broker = 1; name = codes "Main"; tax_status = Withheld; opening = pos 1000000; balance = pos 897491 } ∷ [] }
 
--- a lot and a summary changed
+-- The lot and the summary are missing.
 unfoldable pub two_changes : Tables
 two_changes = record bought_tables { holdings = []; summaries = [] }

@@ -1,4 +1,4 @@
--- More trades than a view shows, and a name that reads as other words.
+-- More trades than a view shows, and a security whose name contains ` shares of `, as cash rows do.
 use Rattle.std.specs.Prelude.{ℕ, ◌+◌, ◌*◌, true, false, Some, None, List, [], ◌∷◌, map, flat_map, Result, Ok, Err, bytes_eq, codes, if◌then◌else◌}
 use Rattle.std.specs.List.{range_with_len}
 use Rattle.brk_money.specs.Spelling.{Text}
@@ -10,7 +10,7 @@ use Rattle.brk_model.specs.Base.{Base}
 use Rattle.brk_model.specs.Queries.{View}
 use Rattle.brk_model_examples.specs.Setting.{setting}
 
--- a trade that waits for a price
+-- The pending trade with the id `n`.
 abbrev pub waiting_trade : ℕ → Trade
 waiting_trade n = record {
   id = n;
@@ -31,11 +31,11 @@ waiting_trade n = record {
   cash_name = [];
 }
 
--- fifty-one of them, one after another
+-- The setting with fifty-one pending trades.
 unfoldable pub fifty_one : Base
 fifty_one = record setting { trades = map waiting_trade (range_with_len 1 51); last = Some 1709251200066 }
 
--- one share bought on margin
+-- The trade with the id `n` that bought one share on margin.
 abbrev pub margin_trade : ℕ → Trade
 margin_trade n = record {
   id = n;
@@ -56,11 +56,11 @@ margin_trade n = record {
   cash_name = [];
 }
 
--- twenty-one shares, each bought by itself
+-- The setting with twenty-one trades that bought one share each.
 unfoldable pub twenty_one : Base
 twenty_one = record setting { trades = map margin_trade (range_with_len 1 21); last = Some 1709251200057 }
 
--- a security whose name has the words of a cash row in it
+-- The setting, with ` shares of ` in the security's name.
 unfoldable pub misnamed : Base
 misnamed = record setting {
   securities =
@@ -75,21 +75,22 @@ misnamed = record setting {
       } ∷ [];
 }
 
--- the ids in the records of trades
+-- The id in a record of a view, if it is the record of a trade.
 abbrev pub id_in : List Text → List Text
 id_in (word ∷ id ∷ fields) = if bytes_eq word (codes "trade") then id ∷ [] else []
 id_in _ = []
 
--- the ids of the trades that a view tells
+-- The ids of the trades in a view.
 abbrev pub ids_in : Result View Refusal → List Text
 ids_in (Ok view) = flat_map id_in view
 ids_in (Err refusal) = []
 
--- the first fields of the records of a view
+-- The first field of a record.
 abbrev pub first_in : List Text → Text
 first_in [] = []
 first_in (field ∷ fields) = field
 
+-- The first fields of the records of a view.
 abbrev pub firsts_in : Result View Refusal → List Text
 firsts_in (Ok view) = map first_in view
 firsts_in (Err refusal) = []

@@ -1,4 +1,4 @@
--- Bases at an end of their limits.
+-- Bases at their limits.
 use Rattle.std.specs.Prelude.{ℕ, pos, false, Some, [], ◌∷◌, map, codes}
 use Rattle.std.specs.List.{range_with_len}
 use Rattle.brk_money.specs.Moments.{last_stamp}
@@ -9,23 +9,23 @@ use Rattle.brk_model.specs.Records.{Account, Trade}
 use Rattle.brk_model.specs.Base.{Base}
 use Rattle.brk_model_examples.specs.Setting.{setting}
 
--- the last stamp is the greatest
+-- The setting with the greatest stamp as its last one.
 unfoldable pub at_the_end : Base
 at_the_end = record setting { last = Some last_stamp }
 
--- the customer has ten accounts
+-- The setting with ten accounts of the customer.
 unfoldable pub ten_accounts : Base
 ten_accounts = record setting {
   accounts = map {B = Account} (λ id. record { id = id; customer = 10; broker = 1; name = codes "Main"; tax_status = Untaxed; opening = pos 0 }) (range_with_len 100 10);
 }
 
--- a volume that has room for a hundred shares
+-- The setting with a volume that has room for one hundred shares.
 unfoldable pub full_volume : Base
 full_volume = record setting {
   securities = record { symbol = codes "ABC"; name = codes "Acme"; exchange = codes "NYSE"; sector = codes "Tech"; last_price = 1000; volume = 99999999999999900; moment = 1709251200003 } ∷ [];
 }
 
--- a trade of another security that was completed with a commission
+-- A completed trade of another security, with this commission.
 abbrev pub costly : ℕ → Trade
 costly commission = record {
   id = 1;
@@ -46,6 +46,6 @@ costly commission = record {
   cash_name = [];
 }
 
--- a broker with commissions before
+-- The setting with a broker who has this commission from a trade before.
 abbrev pub commissions_before : ℕ → Base
 commissions_before commission = record setting { trades = costly commission ∷ [] }

@@ -1,4 +1,4 @@
--- A deposit and a withdrawal after the first sale, and the first purchase with a settlement day set.
+-- A deposit and a withdrawal after the first sale, and the first purchase with a settlement day.
 use Rattle.std.specs.Prelude.{Some, [], ◌∷◌, pos, negsuc, codes}
 use Rattle.brk_model.specs.Base.{Base}
 use Rattle.brk_model.specs.Records.{Trade}
@@ -6,6 +6,7 @@ use Rattle.brk_money.specs.declared.status.Status.TheVariants.{Completed, Submit
 use Rattle.brk_model_examples.specs.Setting.{setting}
 use Rattle.brk_model_examples.specs.Trading.{first_purchase, sold}
 
+-- The base after the first sale, with a deposit and a withdrawal.
 unfoldable pub deposited : Base
 deposited = record sold {
   movements =
@@ -14,10 +15,10 @@ deposited = record sold {
   last = Some 1709251200023;
 }
 
--- the first purchase, one stamp later
+-- The first purchase, one stamp later.
 abbrev pub later_purchase : Trade
 later_purchase = record first_purchase { marks = record { stamp = 1709251200017; status = Submitted } ∷ record { stamp = 1709251200018; status = Completed } ∷ [] }
 
--- from 2024-03-02 on completions settle after one day
+-- The setting with this purchase. From 2024-03-02 on completions settle after one day.
 unfoldable pub one_day : Base
 one_day = record setting { trades = later_purchase ∷ []; rule = Some 19784; last = Some 1709251200018 }

@@ -1,33 +1,33 @@
--- What the examples of single rules begin with.
+-- The records that the examples of single rules use.
 use Rattle.std.specs.Prelude.{pos, false, codes}
 use Rattle.brk_money.specs.declared.tax_status.TaxStatus.{TaxStatus}
 use Rattle.brk_model.specs.Records.{Account, Customer, Executor, Permission, Trade}
 use Rattle.brk_model_examples.specs.Trading.{first_purchase}
 
--- an account of a tax status
+-- The account with this tax status.
 abbrev pub account_at : TaxStatus → Account
 account_at status = record { id = 100; customer = 10; broker = 1; name = codes "Main"; tax_status = status; opening = pos 1000000 }
 
--- the first purchase on margin
+-- The first purchase, on margin.
 abbrev pub on_margin : Trade
 on_margin = record first_purchase { is_cash = false }
 
--- a customer
+-- The customer.
 abbrev pub ann : Customer
 ann = record { id = 10; tier = 1; tax_id = codes "T10"; last_name = codes "Lee"; first_name = codes "Ann" }
 
--- the customer herself
+-- The customer as executor.
 abbrev pub herself : Executor
 herself = record { first_name = codes "Ann"; last_name = codes "Lee"; tax_id = codes "T10" }
 
--- somebody of her name with another tax id
+-- An executor with the customer's name and another tax id.
 abbrev pub namesake : Executor
 namesake = record { first_name = codes "Ann"; last_name = codes "Lee"; tax_id = codes "T11" }
 
--- a permission for the namesake
+-- A permission for the namesake.
 abbrev pub her_permission : Permission
 her_permission = record { account = 100; acl = codes "0000"; tax_id = codes "T11"; last_name = codes "Lee"; first_name = codes "Ann" }
 
--- a permission for another name with her tax id
+-- A permission for another name with the namesake's tax id.
 abbrev pub other_permission : Permission
 other_permission = record { account = 100; acl = codes "0000"; tax_id = codes "T11"; last_name = codes "Kay"; first_name = codes "Ann" }

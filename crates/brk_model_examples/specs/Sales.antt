@@ -1,26 +1,28 @@
--- Two lots that were bought, and sales and a purchase upon them.
+-- Two lots that were bought, and deals against them.
 use Rattle.std.specs.Prelude.{ℕ, Bool, List, [], ◌∷◌, length}
 use Rattle.brk_money.specs.declared.side.Side.{Side}
 use Rattle.brk_money.specs.declared.side.Side.TheVariants.{Buy}
 use Rattle.brk_model.specs.Shares.{Deal, Touch, touches, replay, opened_shares, buy_value, sell_value}
 
--- a hundred at 10.10, then two hundred at 12.00
+-- A purchase of 100 shares at 10.10, and one of 200 shares at 12.00.
 abbrev pub two_deals : List Deal
 two_deals =
     record { trade = 1; side = Buy; qty = 100; price = 1010; stamp = 1; is_lifo = Bool.false }
     ∷ record { trade = 2; side = Buy; qty = 200; price = 1200; stamp = 2; is_lifo = Bool.false } ∷ []
 
--- a deal upon them at 13.00
+-- A deal against these lots at 13.00.
 abbrev pub deal : Side → ℕ → Bool → Deal
 deal side qty is_lifo = record { trade = 9; side = side; qty = qty; price = 1300; stamp = 3; is_lifo = is_lifo }
 
--- the lots that it touches, how many shares it opens, and its two values
+-- The effect of a deal: the lots that it touches, the number of shares that it opens, and its buy
+-- and sell values.
 pub record Closed : Type 0 where
   pub touched : List Touch
   pub opened : ℕ
   pub buy_value : ℕ
   pub sell_value : ℕ
 
+-- The effect of a deal against these lots.
 unfoldable pub closed_by : Deal → Closed
 closed_by d = record {
   touched = touches d (replay two_deals);

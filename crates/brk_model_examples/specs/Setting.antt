@@ -1,11 +1,11 @@
--- The setting of most examples: a broker, a customer with an account, a security, and what trades in it cost.
+-- The setting of most examples: a broker, a customer, an account, a security, and the trade costs.
 use Rattle.std.specs.Prelude.{pos, Some, None, List, [], ◌∷◌, codes}
 use Rattle.brk_money.specs.Spelling.{Text}
 use Rattle.brk_money.specs.declared.trade_type.TradeType.TheVariants.{MarketBuy, MarketSell, StopLoss, LimitSell, LimitBuy}
 use Rattle.brk_money.specs.declared.tax_status.TaxStatus.TheVariants.{Withheld}
 use Rattle.brk_model.specs.Base.{Base}
 
--- its rows
+-- The rows of the setting.
 abbrev pub setting_rows : List Text
 setting_rows =
     codes "broker,1,Bo"
@@ -25,7 +25,7 @@ setting_rows =
     ∷ codes "taxrate,1,State,20000"
     ∷ codes "custtax,10,1" ∷ []
 
--- what they come to, but for the kept keys
+-- The base after these rows, without the stored replies.
 unfoldable pub setting : Base
 setting = record {
   brokers = record { id = 1; name = codes "Bo" } ∷ [];

@@ -1,9 +1,10 @@
--- What an example shows of the tables of a base.
+-- The part of a base's tables that an example shows.
 use Rattle.std.specs.Prelude.{ℕ, ℤ, List, map, filter, ◌==◌}
 use Rattle.brk_model.specs.Base.{Base}
 use Rattle.brk_model.specs.Tables.{Tables, tables_of}
 
--- the lots (trade, quantity), the changes of lots by one trade (lot, before, after), the summaries, the balances, and each broker's count and commissions
+-- The lots (trade, quantity), the changes of lots by one trade (lot, before, after), the summaries,
+-- the balances, and the broker totals (trade count, commissions).
 pub record Standing : Type 0 where
   pub lots : List (ℕ × ℤ)
   pub changes : List (ℕ × ℤ × ℤ)
@@ -11,6 +12,7 @@ pub record Standing : Type 0 where
   pub balances : List ℤ
   pub brokers : List (ℤ × ℕ)
 
+-- The part of the tables that an example shows, with the changes of lots by `trade`.
 abbrev pub standing_in : Tables → ℕ → Standing
 standing_in tables trade = record {
   lots = map {B = ℕ × ℤ} (λ row. (row.trade, row.qty)) tables.holdings;
@@ -20,6 +22,6 @@ standing_in tables trade = record {
   brokers = map {B = ℤ × ℕ} (λ row. (row.trades, row.commissions)) tables.brokers;
 }
 
--- of a base and a trade
+-- The part of a base's tables that an example shows, with the changes of lots by `trade`.
 abbrev pub standing : Base → ℕ → Standing
 standing base trade = standing_in (tables_of base) trade

@@ -1,4 +1,4 @@
--- What six trades come to, one after another: two purchases, a sale, a sale that turns the position short, a purchase that turns it back, a sale of all.
+-- Six trades: two purchases, a sale, a sale to a short position, a purchase back, a sale of all.
 use Rattle.std.specs.Prelude.{ℕ, true, false, Some, List, [], ◌∷◌, codes}
 use Rattle.brk_money.specs.declared.trade_type.TradeType.TheVariants.{MarketBuy, MarketSell}
 use Rattle.brk_money.specs.declared.status.Status.TheVariants.{Completed, Submitted}
@@ -6,7 +6,7 @@ use Rattle.brk_model.specs.Records.{Trade}
 use Rattle.brk_model.specs.Base.{Base}
 use Rattle.brk_model_examples.specs.Setting.{setting}
 
--- a hundred bought at 10.10
+-- A purchase of 100 shares at 10.10.
 abbrev pub first_purchase : Trade
 first_purchase = record {
   id = 1;
@@ -27,7 +27,7 @@ first_purchase = record {
   cash_name = codes "Market-Buy 100 shares of Acme";
 }
 
--- two hundred bought at 12.00
+-- A purchase of 200 shares at 12.00.
 abbrev pub second_purchase : Trade
 second_purchase = record {
   id = 2;
@@ -48,7 +48,7 @@ second_purchase = record {
   cash_name = codes "Market-Buy 200 shares of Acme";
 }
 
--- a hundred and fifty sold at 13.00, the first shares first
+-- A sale of 150 shares at 13.00, first in first out.
 abbrev pub first_sale : Trade
 first_sale = record {
   id = 3;
@@ -69,7 +69,7 @@ first_sale = record {
   cash_name = codes "Market-Sell 150 shares of Acme";
 }
 
--- the same with the last shares first
+-- A sale of 150 shares at 13.00, last in first out.
 abbrev pub last_sale : Trade
 last_sale = record {
   id = 3;
@@ -90,7 +90,7 @@ last_sale = record {
   cash_name = codes "Market-Sell 150 shares of Acme";
 }
 
--- four hundred sold at 13.00
+-- A sale of 400 shares at 13.00.
 abbrev pub short_sale : Trade
 short_sale = record {
   id = 4;
@@ -111,7 +111,7 @@ short_sale = record {
   cash_name = codes "Market-Sell 400 shares of Acme";
 }
 
--- three hundred bought at 11.00
+-- A purchase of 300 shares at 11.00.
 abbrev pub cover : Trade
 cover = record {
   id = 5;
@@ -132,7 +132,7 @@ cover = record {
   cash_name = codes "Market-Buy 300 shares of Acme";
 }
 
--- fifty sold at 11.00
+-- A sale of 50 shares at 11.00.
 abbrev pub sale_of_all : Trade
 sale_of_all = record {
   id = 6;
@@ -153,27 +153,34 @@ sale_of_all = record {
   cash_name = codes "Market-Sell 50 shares of Acme";
 }
 
--- the setting with some trades and a last stamp
+-- The setting with these trades and this last stamp.
 abbrev pub traded : List Trade → ℕ → Base
 traded trades last = record setting { trades = trades; last = Some last }
 
+-- The base after the first purchase.
 unfoldable pub bought : Base
 bought = traded (first_purchase ∷ []) 1709251200017
 
+-- The base after both purchases.
 unfoldable pub bought_twice : Base
 bought_twice = traded (first_purchase ∷ second_purchase ∷ []) 1709251200019
 
+-- The base after both purchases and the sale, first in first out.
 unfoldable pub sold : Base
 sold = traded (first_purchase ∷ second_purchase ∷ first_sale ∷ []) 1709251200021
 
+-- The base after both purchases and the sale, last in first out.
 unfoldable pub sold_last_first : Base
 sold_last_first = traded (first_purchase ∷ second_purchase ∷ last_sale ∷ []) 1709251200021
 
+-- The base after the sale that turns the position short.
 unfoldable pub flipped : Base
 flipped = traded (first_purchase ∷ second_purchase ∷ first_sale ∷ short_sale ∷ []) 1709251200023
 
+-- The base after the purchase that turns the position back.
 unfoldable pub covered : Base
 covered = traded (first_purchase ∷ second_purchase ∷ first_sale ∷ short_sale ∷ cover ∷ []) 1709251200025
 
+-- The base after the sale of all shares.
 unfoldable pub closed : Base
 closed = traded (first_purchase ∷ second_purchase ∷ first_sale ∷ short_sale ∷ cover ∷ sale_of_all ∷ []) 1709251200027

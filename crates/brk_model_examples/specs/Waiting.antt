@@ -1,4 +1,4 @@
--- Three orders that wait for a price.
+-- Three pending orders.
 use Rattle.std.specs.Prelude.{true, false, Some, None, List, [], ◌∷◌, codes}
 use Rattle.brk_money.specs.Spelling.{Text}
 use Rattle.brk_money.specs.declared.trade_type.TradeType.TheVariants.{StopLoss, LimitSell, LimitBuy}
@@ -6,14 +6,14 @@ use Rattle.brk_money.specs.declared.status.Status.TheVariants.{Pending}
 use Rattle.brk_model.specs.Base.{Base}
 use Rattle.brk_model_examples.specs.Setting.{setting}
 
--- a stop loss, a limit to buy and a limit to sell
+-- A stop loss, a limit buy and a limit sell.
 abbrev pub waiting_rows : List Text
 waiting_rows =
     codes "order,100,TSL,ABC,10,9.50,cash,fifo,Ann,Lee,T10"
     ∷ codes "order,100,TLB,ABC,10,10.00,cash,fifo,Ann,Lee,T10"
     ∷ codes "order,100,TLS,ABC,10,10.50,cash,fifo,Ann,Lee,T10" ∷ []
 
--- what they come to
+-- The base after these rows, without the stored replies.
 unfoldable pub waiting : Base
 waiting = record setting {
   trades =

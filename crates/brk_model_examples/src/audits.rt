@@ -1,4 +1,5 @@
-//! What an audit says: nothing of the tables of a base, and the first condition that fails of tables that another program changed.
+//! Audits of the tables of a base, which pass, and of tables that another program changed, which
+//! fail.
 #![tactic(auto, unfolding(crate::proofs::OnLiterals::model_on_literals))]
 
 ghost use Rattle.std.specs.Prelude.{None, Some, pos, negsuc, codes};
@@ -7,7 +8,7 @@ ghost use Rattle.brk_model.specs.Audit.{IsAudit};
 ghost use Rattle.brk_model.specs.Schemas.{first_schema, second_schema, third_schema};
 ghost use Rattle.brk_model_examples.specs.Bought.{bought_tables, no_quantity, no_last_trade, no_submission, other_status, a_request, other_lot, other_lot_price, other_trade_price, other_history, other_summary, other_count, other_commissions, other_commission, other_settlement, other_cash, other_balance, two_changes, first_tables, other_number, second_row, left_behind, large_quantity, large_band, day_set, early_day, movement_of};
 
-/// The tables after a purchase pass.
+/// Shows that the tables after a purchase pass, also with a set settlement day or a movement.
 pub fn tables_pass()
     ensures third { IsAudit third_schema bought_tables None }
     ensures second { IsAudit second_schema bought_tables None }
@@ -17,7 +18,7 @@ pub fn tables_pass()
     ensures withdrawal { IsAudit second_schema (movement_of 1709251200018 (negsuc 9999) (codes "Withdrawal")) None }
 {}
 
-/// Each change alone is told as its condition, and of two the first.
+/// Shows the condition that each change fails, and the first condition if two changes fail.
 pub fn changes_are_told()
     ensures no_quantity { IsAudit third_schema no_quantity (Some condition.Form) }
     ensures no_last_trade { IsAudit third_schema no_last_trade (Some condition.Form) }
@@ -42,7 +43,7 @@ pub fn changes_are_told()
     ensures two_changes { IsAudit third_schema two_changes (Some condition.Lots) }
 {}
 
-/// A movement has its name by its sign, and a stamp of its own.
+/// Shows that a movement must have the name of its sign, and a stamp of its own.
 pub fn movements_are_told()
     ensures other_sign { IsAudit third_schema (movement_of 1709251200018 (negsuc 9999) (codes "Deposit")) (Some condition.Form) }
     ensures nothing_moved { IsAudit third_schema (movement_of 1709251200018 (pos 0) (codes "Deposit")) (Some condition.Form) }
@@ -52,7 +53,7 @@ pub fn movements_are_told()
     ensures before_it { IsAudit third_schema (movement_of 1709251200005 (pos 10000) (codes "Deposit")) (Some condition.Cash) }
 {}
 
-/// Tables are audited by the limits and the tables of their own schema.
+/// Shows that tables are audited by the limits and the tables of their own schema.
 pub fn schemas_are_told()
     ensures quantity { IsAudit second_schema large_quantity (Some condition.Form) }
     ensures band { IsAudit second_schema large_band (Some condition.Form) }

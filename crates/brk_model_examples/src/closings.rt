@@ -1,4 +1,5 @@
-//! What a deal closes of two lots, from either end, and what it opens.
+//! Deals against two lots: the shares that they close, from either end, and the shares that they
+//! open.
 #![tactic(auto, unfolding(crate::proofs::OnLiterals::model_on_literals))]
 
 ghost use Rattle.std.specs.Prelude.{◌≡◌, ◌∷◌, [], pos, true, false};
@@ -6,7 +7,7 @@ ghost use Rattle.brk_money.specs.declared.side.Side.TheVariants.{Buy, Sell};
 ghost use Rattle.brk_model_examples.specs.Batches.{after};
 ghost use Rattle.brk_model_examples.specs.Sales.{deal, closed_by};
 
-/// Sales upon a lot of 100 at 10.10 and a lot of 200 at 12.00.
+/// Shows sales against a lot of 100 shares at 10.10 and a lot of 200 shares at 12.00.
 pub fn sales_upon_two_lots()
     ensures some { closed_by (deal Sell 99 false)
         ≡ record { touched = record { lot = 1; before = pos 100; after = pos 1 } ∷ []; opened = 0; buy_value = 99990; sell_value = 128700 } }

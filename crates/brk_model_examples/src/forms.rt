@@ -1,4 +1,4 @@
-//! The forms of fields, and the order in which their refusals stand.
+//! The format checks of fields, and the order of their refusals.
 #![tactic(auto, unfolding(crate::proofs::OnLiterals::model_on_literals))]
 
 ghost use Rattle.std.specs.Prelude.{◌≡◌, ◌∷◌, [], Err, Some, None, pos, negsuc, codes};
@@ -9,7 +9,8 @@ ghost use Rattle.brk_model.specs.Parse.{parse_row};
 ghost use Rattle.brk_model_examples.specs.Batches.{Gives};
 ghost use Rattle.brk_model_examples.specs.Setting.{setting};
 
-/// Of several fields that break their form, the refusal is the first in the order text, quantity, price, type; the number of ticks comes last.
+/// Shows that the first malformed field is refused in the order text, quantity, price, type. The
+/// number of ticks is checked last.
 pub fn order_of_forms()
     ensures text_first { parse_row (codes "charge" ∷ codes "TMX" ∷ codes "9" ∷ codes "5.00" ∷ []) ≡ Err BadText }
     ensures qty_then { parse_row (codes "order" ∷ codes "1" ∷ codes "TMX" ∷ codes "ABC" ∷ codes "0" ∷ codes "x" ∷ codes "cash" ∷ codes "fifo" ∷ codes "A" ∷ codes "B" ∷ codes "C" ∷ []) ≡ Err BadQty }
@@ -24,7 +25,7 @@ pub fn order_of_forms()
     ensures no_field { parse_row [] ≡ Err BadText }
 {}
 
-/// An amount and a number have one spelling.
+/// Shows that an amount and a number have one canonical form.
 pub fn spellings()
     ensures cents { cents_of (codes "10000.00") ≡ Some (pos 1000000) }
     ensures minus { cents_of (codes "-0.01") ≡ Some (negsuc 0) }
@@ -38,7 +39,7 @@ pub fn spellings()
     ensures empty { number_of [] ≡ None }
 {}
 
-/// An account whose opening balance is spelled otherwise is refused.
+/// Shows that an account is refused if its opening balance is not in canonical form.
 pub fn opening_spelled_otherwise()
     ensures { Gives setting
         (codes "account,101,10,1,Main,1,-0.00"

@@ -1,5 +1,6 @@
-//! Worked examples of the abstract brokerage: what batches over the empty base and a small setting are answered with, and what
-//! queries, statements and audits show then. Each is an equation that the checker computes from the definitions.
+//! Worked examples of the model: the answers to batches over the empty base and a small setting,
+//! and the queries, statements and audits after them. Each is an equation that the checker computes
+//! from the specification.
 #![tactic(auto)]
 
 pub mod audits;

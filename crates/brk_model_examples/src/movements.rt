@@ -9,7 +9,8 @@ ghost use Rattle.brk_model_examples.specs.Moving.{deposited};
 ghost use Rattle.brk_model_examples.specs.Setting.{setting};
 ghost use Rattle.brk_model_examples.specs.Trading.{sold};
 
-/// A balance may go below 0, and up to its limit. Each movement is told with the number of its cash row, after those of the trades.
+/// Shows that a balance may fall below 0 and may rise to its limit. The reply to a movement has the
+/// number of its cash row, which follows those of the trades.
 pub fn movements_after_a_sale()
     ensures lines { Gives sold
         (codes "deposit,100,100.00"
@@ -30,7 +31,8 @@ pub fn movements_after_a_sale()
     ensures base { unkept (after sold (codes "deposit,100,100.00" ∷ codes "withdraw,100,9000.00" ∷ [])) ≡ deposited }
 {}
 
-/// Their rows stand behind those of the trades, in the statement too; the words of a trade are looked up with its own row alone.
+/// Shows that cash rows of movements follow those of trades, also in the statement. A trade's
+/// lookup has only its own cash row, and a text update changes no movement.
 pub fn rows_of_movements()
     ensures numbers { map {B = ℕ} (λ row. row.id) (tables_of deposited).moves ≡ 1 ∷ 2 ∷ 3 ∷ 4 ∷ 5 ∷ [] }
     ensures amounts { map {B = ℤ} (λ row. row.amount) (tables_of deposited).moves ≡ negsuc 102509 ∷ negsuc 242899 ∷ pos 185750 ∷ pos 10000 ∷ negsuc 899999 ∷ [] }
@@ -60,7 +62,7 @@ pub fn rows_of_movements()
         ≡ codes "Market-Buy 100 Shares of Acme" ∷ codes "Market-Buy 200 Shares of Acme" ∷ codes "Market-Sell 150 Shares of Acme" ∷ codes "Deposit" ∷ codes "Withdrawal" ∷ [] }
 {}
 
-/// A movement before the first trade is the first cash row, and the trade's is the next.
+/// Shows that a movement before the first trade has the first cash row, and the trade the next.
 pub fn movement_before_a_trade()
     ensures { map {B = ℤ} (λ row. row.amount) (tables_of (after setting
         (codes "deposit,100,100.00"
@@ -68,14 +70,14 @@ pub fn movement_before_a_trade()
         ∷ codes "result,1,10.10" ∷ []))).moves ≡ pos 10000 ∷ negsuc 102509 ∷ [] }
 {}
 
-/// A deposit that comes again under its key is no second one.
+/// Shows that a deposit that is retried under its key is not booked again.
 pub fn one_deposit_to_a_key()
     ensures { map {B = ℤ} (λ row. row.balance) (tables_of (after (after setting
         (codes "deposit,100,100.00" ∷ []))
         (codes "deposit,100,100.00" ∷ []))).accounts ≡ pos 1010000 ∷ [] }
 {}
 
-/// What is no amount, or no account.
+/// Shows that movements with a malformed amount or account are refused.
 pub fn movements_out_of_form()
     ensures { Gives setting
         (codes "deposit,100,1000000000000000.01"

@@ -1,11 +1,12 @@
-//! Who may order for an account.
+//! The executors, charges and bands that an order needs.
 #![tactic(auto, unfolding(crate::proofs::OnLiterals::model_on_literals))]
 
 ghost use Rattle.std.specs.Prelude.{◌∷◌, [], codes};
 ghost use Rattle.brk_model_examples.specs.Batches.{Gives};
 ghost use Rattle.brk_model_examples.specs.Setting.{setting};
 
-/// An executor whose tax id differs is refused, until a permission names all three.
+/// Shows that an executor with another tax id is refused, until a permission has both names and the
+/// tax id.
 pub fn permission()
     ensures refused { Gives setting
         (codes "order,100,TMB,ABC,100,,cash,fifo,Ann,Lee,T11" ∷ [])
@@ -25,7 +26,7 @@ pub fn permission()
         ∷ codes "end,1,0,1" ∷ []) }
 {}
 
-/// A customer of another tier needs a charge, then a band of commission.
+/// Shows that a customer of another tier needs a charge, and then a commission band.
 pub fn charge_and_rate()
     ensures { Gives setting
         (codes "customer,11,2,T11,Kay,Kim"
@@ -41,7 +42,7 @@ pub fn charge_and_rate()
         ∷ codes "end,3,0,2" ∷ []) }
 {}
 
-/// An order names an account and a security that are there.
+/// Shows that an order needs an existing account and an existing security.
 pub fn unknown_names()
     ensures { Gives setting
         (codes "order,999,TMB,QQQ,100,,cash,fifo,Ann,Lee,T10"

@@ -1,4 +1,4 @@
-//! Reference rows: brokers, customers, accounts, and what trades cost.
+//! Reference rows: brokers, customers, accounts, and the costs of trades.
 #![tactic(auto, unfolding(crate::proofs::OnLiterals::model_on_literals))]
 
 ghost use Rattle.std.specs.Prelude.{◌≡◌, ◌∷◌, [], ℕ, map, codes};
@@ -7,7 +7,8 @@ ghost use Rattle.brk_model_examples.specs.Batches.{after, Gives, unkept};
 ghost use Rattle.brk_model_examples.specs.Setting.{setting, setting_rows};
 ghost use Rattle.brk_model_examples.specs.Extremes.{ten_accounts};
 
-/// A broker, a customer and two accounts, of which the second names no customer: it is refused, and its key is not kept.
+/// Shows a broker, a customer and two accounts. The second account has no existing customer: it is
+/// refused, and its key is not recorded.
 pub fn first_run()
     ensures rows { Gives empty_base
         (codes "broker,1,Bo"
@@ -29,7 +30,7 @@ pub fn first_run()
         (codes "end,0,0,0" ∷ []) }
 {}
 
-/// The sixteen rows of the setting, and the base that they come to.
+/// Shows the answers to the sixteen rows of the setting, and the base after them.
 pub fn setting_is_told()
     ensures lines { Gives empty_base setting_rows
         (codes "1,ok,1709251200000"
@@ -52,7 +53,7 @@ pub fn setting_is_told()
     ensures base { unkept (after empty_base setting_rows) ≡ setting }
 {}
 
-/// What reference rows are refused for.
+/// Shows the refusals of reference rows.
 pub fn refused_rows()
     ensures { Gives setting
         (codes "band,1,TMB,NYSE,999999,999999,50"
@@ -80,7 +81,7 @@ pub fn refused_rows()
         ∷ codes "end,1,0,10" ∷ []) }
 {}
 
-/// A customer has ten accounts at most; that the broker is there is tested before.
+/// Shows that a customer has at most ten accounts. That the broker exists is checked before.
 pub fn eleventh_account()
     ensures { Gives ten_accounts
         (codes "account,110,10,1,Main,1,0.00"
@@ -90,7 +91,7 @@ pub fn eleventh_account()
         ∷ codes "end,0,0,2" ∷ []) }
 {}
 
-/// A name that is there already is refused: each table has one row to a key.
+/// Shows that a name that exists is refused: a table has one row per key.
 pub fn names_twice()
     ensures { Gives setting
         (codes "broker,1,Bob"

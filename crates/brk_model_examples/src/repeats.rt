@@ -1,4 +1,4 @@
-//! Rows that come again, and inputs that are cut.
+//! Retried rows, and inputs that are cut.
 #![tactic(auto, unfolding(crate::proofs::OnLiterals::model_on_literals))]
 
 ghost use Rattle.std.specs.Prelude.{◌≡◌, ◌∷◌, [], ℕ, map, codes};
@@ -8,7 +8,8 @@ ghost use Rattle.brk_model.specs.Computed.{batch};
 ghost use Rattle.brk_model_examples.specs.Batches.{clock, batch_text, in_lines, after, Gives};
 ghost use Rattle.brk_model_examples.specs.Setting.{setting, setting_rows};
 
-/// A batch sent again is answered with its kept lines at any moment, and a changed row is refused; neither changes the base.
+/// Shows that a retried batch is answered with its stored replies and does not change the base, and
+/// that a changed row is refused.
 pub fn repeats()
     ensures once { Gives setting
         (codes "order,100,TMB,ABC,100,,cash,fifo,Ann,Lee,T10"
@@ -85,7 +86,7 @@ pub fn repeats()
         ∷ codes "result,3,13.00" ∷ []) }
 {}
 
-/// The setting sent again, and with another first row.
+/// Shows the setting retried, and retried with another first row.
 pub fn setting_again()
     ensures again { Gives (after empty_base setting_rows) setting_rows
         (codes "1,again,1709251200000"
@@ -141,7 +142,7 @@ pub fn setting_again()
         ∷ codes "end,0,15,1" ∷ []) }
 {}
 
-/// A row that is refused keeps no key: after its cause is gone it is accepted.
+/// Shows that a refused row records no key: it is accepted once its cause is gone.
 pub fn refused_then_accepted()
     ensures { (batch (batch (after setting
         (codes "account,101,11,1,Side,0,0.00" ∷ [])) clock (batch_text (codes "U") (codes "customer,11,1,T11,Kay,Kim" ∷ []))).base clock
@@ -150,7 +151,7 @@ pub fn refused_then_accepted()
         ∷ codes "end,1,0,0" ∷ []) }
 {}
 
-/// An input that is cut acts on no row that has no record after it.
+/// Shows that a cut input executes no row that has no record after it.
 pub fn cut_input()
     ensures text { (batch setting clock (codes "batch,C\nbroker,2,Cy\nbroker,3\nbroker,4,D")).text ≡ in_lines (codes "1,ok,1709251200016"
         ∷ codes "2,no,18"
@@ -161,7 +162,7 @@ pub fn cut_input()
     ensures header_alone { (batch setting clock (codes "batch,C\n")).ending ≡ NoEnd }
 {}
 
-/// What is no header, and what is no right end; the row before a wrong end acts.
+/// Shows malformed headers and wrong end records. The row before a wrong end record is executed.
 pub fn headers_and_ends()
     ensures nothing { (batch setting clock []).ending ≡ BadHeader }
     ensures no_name { (batch setting clock (codes "batch,\nend,0\n")).ending ≡ BadHeader }

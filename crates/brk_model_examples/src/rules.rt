@@ -1,4 +1,4 @@
-//! Single rules, each at its edge.
+//! Single rules, each at its limits.
 #![tactic(auto, unfolding(crate::proofs::OnLiterals::model_on_literals))]
 
 ghost use Rattle.std.specs.Prelude.{◌≡◌, ◌∷◌, [], ℕ, ℤ, pos, negsuc, map, true, false, Some, None, codes};
@@ -14,7 +14,7 @@ ghost use Rattle.brk_model_examples.specs.Rules.{account_at, ann, her_permission
 ghost use Rattle.brk_model_examples.specs.Setting.{setting};
 ghost use Rattle.brk_model_examples.specs.Trading.{closed, first_purchase, first_sale};
 
-/// Half a cent is rounded upwards, and a loss bears no tax.
+/// Shows that half a cent is rounded up, and that a loss is not taxed.
 pub fn rounding()
     ensures half { commission 100 1 50 ≡ 1 }
     ensures less { commission 100 1 49 ≡ 0 }
@@ -22,7 +22,8 @@ pub fn rounding()
     ensures loss { tax (negsuc 9999) 20000 ≡ 0 }
 {}
 
-/// A stop loss is triggered at its bid or below, a limit to sell at its bid or above, a limit to buy at its bid or below.
+/// Shows that a stop loss is triggered at its bid or below, a limit sell at its bid or above, and a
+/// limit buy at its bid or below.
 pub fn triggers_at_the_bid()
     ensures stop_loss { map (triggers StopLoss 950) (949 ∷ 950 ∷ 951 ∷ []) ≡ true ∷ true ∷ false ∷ [] }
     ensures limit_sell { map (triggers LimitSell 1050) (1049 ∷ 1050 ∷ 1051 ∷ []) ≡ false ∷ true ∷ true ∷ [] }
@@ -31,18 +32,18 @@ pub fn triggers_at_the_bid()
     ensures market_sell { triggers MarketSell 1000 1000 ≡ false }
 {}
 
-/// The tax is taken off what a sale settles for at one tax status alone.
+/// Shows that tax is withheld from the settlement of a sale at only one tax status.
 pub fn settled_amounts()
     ensures { map {B = ℤ} (λ status. amount_of (account_at status ∷ []) first_sale) (Untaxed ∷ Withheld ∷ Reported ∷ []) ≡ pos 192550 ∷ pos 185750 ∷ pos 192550 ∷ [] }
 {}
 
-/// A cash trade moves the balance, and a margin trade does not.
+/// Shows that a cash trade changes the balance, and a margin trade does not.
 pub fn balances()
     ensures cash { balance_of (account_at Withheld ∷ []) (postings (account_at Withheld ∷ []) (first_purchase ∷ []) []) 100 ≡ pos 897490 }
     ensures margin { balance_of (account_at Withheld ∷ []) (postings (account_at Withheld ∷ []) (on_margin ∷ []) []) 100 ≡ pos 1000000 }
 {}
 
-/// A completion settles after two days, and from a set day on after one.
+/// Shows that a completion settles after two days, and from a set day on after one.
 pub fn settlement_days()
     ensures no_day { due_after None 1709251200000 ≡ 19785 }
     ensures before { due_after (Some 19784) 1709337599999 ≡ 19785 }
@@ -50,7 +51,7 @@ pub fn settlement_days()
     ensures after_it { due_after (Some 19784) 1709424000000 ≡ 19786 }
 {}
 
-/// First name, last name and tax id are the customer's, or one permission names all three.
+/// Shows that first name, last name and tax id must be those of the customer or of one permission.
 pub fn permissions()
     ensures herself { permitted ann [] herself ≡ true }
     ensures namesake { permitted ann [] namesake ≡ false }
@@ -58,14 +59,15 @@ pub fn permissions()
     ensures other { permitted ann (other_permission ∷ []) namesake ≡ false }
 {}
 
-/// A stamp is above the last one, whatever the moment is.
+/// Shows that a stamp is the clock reading if this is greater than the last stamp, otherwise the
+/// next one after it.
 pub fn stamps()
     ensures behind { next_stamp closed 0 ≡ 1709251200028 }
     ensures at_it { next_stamp closed 1709251200027 ≡ 1709251200028 }
     ensures ahead { next_stamp closed 1709337600000 ≡ 1709337600000 }
 {}
 
-/// An order that comes again under its key is no second trade.
+/// Shows that an order that is retried under its key adds no second trade.
 pub fn one_trade_to_a_key()
     ensures { map {B = ℕ} (λ t. t.id) (after (after setting
         (codes "order,100,TMB,ABC,100,,cash,fifo,Ann,Lee,T10" ∷ []))

@@ -8,7 +8,8 @@ ghost use Rattle.brk_model_examples.specs.Batches.{after, batch_text, Gives, in_
 ghost use Rattle.brk_model_examples.specs.Moving.{one_day};
 ghost use Rattle.brk_model_examples.specs.Setting.{setting};
 
-/// The day is later than that of the command, and is set once. What is completed before it settles after two days.
+/// Shows that the settlement day must be later than the day of its command, and is set only once. A
+/// trade that is completed before it settles after two days.
 pub fn day_is_set()
     ensures lines { Gives setting
         (codes "oneday,2024-03-01"
@@ -29,7 +30,8 @@ pub fn day_is_set()
     ensures day { (tables_of one_day).rule ≡ Some 19784 }
 {}
 
-/// From that day on it settles after one day; what was completed before keeps its due day.
+/// Shows that from that day on a trade settles after one day. A trade completed before keeps its
+/// due day.
 pub fn days_from_the_set_day()
     ensures lines { (batch one_day (replicate 2 1709337600000) (batch_text (codes "G")
         (codes "order,100,TMB,ABC,200,,cash,fifo,Ann,Lee,T10"
@@ -42,7 +44,7 @@ pub fn days_from_the_set_day()
         ∷ codes "result,2,12.00" ∷ []))).base).settlements ≡ 19785 ∷ 19786 ∷ [] }
 {}
 
-/// Where completions settle after one day, the last day for one is 9999-12-30.
+/// Shows that 9999-12-30 is the last day for a completion that settles after one day.
 pub fn last_day_of_a_completion()
     ensures accepted { (batch one_day (253402214399998 ∷ 253402214399999 ∷ []) (batch_text (codes "Y")
         (codes "order,100,TMB,ABC,100,,cash,fifo,Ann,Lee,T10"
@@ -58,7 +60,7 @@ pub fn last_day_of_a_completion()
         ∷ codes "end,1,0,1" ∷ []) }
 {}
 
-/// A day has its one spelling, within the calendar.
+/// Shows that a day has one canonical form, within the calendar.
 pub fn days_out_of_form()
     ensures { Gives setting
         (codes "oneday,2024-3-02"
@@ -76,7 +78,8 @@ pub fn days_out_of_form()
         ∷ codes "end,1,0,5" ∷ []) }
 {}
 
-/// Quantities go to 9,999,999, where a band has them.
+/// Shows that quantities above 999,999 need a band that covers them, and that 10,000,000 is
+/// malformed.
 pub fn large_quantities()
     ensures { Gives setting
         (codes "order,100,TMB,ABC,1000000,,cash,fifo,Ann,Lee,T10"

@@ -1,4 +1,4 @@
-//! Wrong statuses, limits, and the end of the clock.
+//! Wrong statuses, limits, and the greatest stamp.
 #![tactic(auto, unfolding(crate::proofs::OnLiterals::model_on_literals))]
 
 ghost use Rattle.std.specs.Prelude.{◌≡◌, ◌∷◌, [], Ok, codes};
@@ -10,7 +10,7 @@ ghost use Rattle.brk_model_examples.specs.Trading.{bought, closed};
 ghost use Rattle.brk_model_examples.specs.Waiting.{waiting};
 ghost use Rattle.brk_model_examples.specs.Extremes.{at_the_end, commissions_before};
 
-/// A result needs a submitted trade.
+/// Shows that a result needs a submitted trade.
 pub fn wrong_status()
     ensures completed { Gives bought
         (codes "result,1,11.00"
@@ -24,7 +24,8 @@ pub fn wrong_status()
         ∷ codes "end,0,0,1" ∷ []) }
 {}
 
-/// A balance at its end takes no more: the trade stays submitted, and there is no lot.
+/// Shows that a balance at its limit takes no more: the trade stays submitted, and no lot is
+/// opened.
 pub fn balance_at_its_end()
     ensures lines { Gives setting
         (codes "account,102,10,1,Rich,0,1000000000000000.00"
@@ -46,7 +47,7 @@ pub fn balance_at_its_end()
         ∷ []) }
 {}
 
-/// The commissions of a broker at their end take no more.
+/// Shows that a broker's commissions at their limit take no more.
 pub fn commissions_at_their_end()
     ensures room { Gives (commissions_before 99999999999998990)
         (codes "order,100,TMB,ABC,100,,cash,fifo,Ann,Lee,T10"
@@ -62,13 +63,13 @@ pub fn commissions_at_their_end()
         ∷ codes "end,1,0,1" ∷ []) }
 {}
 
-/// The stamp goes on from the last one where the clock goes back.
+/// Shows that stamps continue after the last one if the clock goes back.
 pub fn clock_behind()
     ensures { (batch closed (0 ∷ []) (batch_text (codes "Y") (codes "broker,7,Cy" ∷ []))).text ≡ in_lines (codes "1,ok,1709251200028"
         ∷ codes "end,1,0,0" ∷ []) }
 {}
 
-/// No stamp is left after the greatest one: all that passes the other tests is refused.
+/// Shows that no stamp follows the greatest one: a command that passes all other checks is refused.
 pub fn clock_at_its_end()
     ensures { Gives at_the_end
         (codes "broker,7,Cy"
@@ -78,7 +79,7 @@ pub fn clock_at_its_end()
         ∷ codes "end,0,0,2" ∷ []) }
 {}
 
-/// A result is refused where its due day would leave the calendar.
+/// Shows that a result is refused if its due day is beyond the calendar.
 pub fn due_day_at_its_end()
     ensures { (batch setting (253402300799000 ∷ 0 ∷ []) (batch_text (codes "Y")
         (codes "order,100,TMB,ABC,100,,cash,fifo,Ann,Lee,T10"
@@ -88,7 +89,7 @@ pub fn due_day_at_its_end()
         ∷ codes "end,1,0,1" ∷ []) }
 {}
 
-/// The last day on which a result finds its due day in the calendar is 9999-12-29.
+/// Shows that 9999-12-29 is the last day on which a result has its due day in the calendar.
 pub fn last_days()
     ensures accepted { (batch setting (253402127999998 ∷ 253402127999999 ∷ []) (batch_text (codes "Y")
         (codes "order,100,TMB,ABC,100,,cash,fifo,Ann,Lee,T10"

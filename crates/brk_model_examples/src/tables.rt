@@ -1,4 +1,4 @@
-//! The tables of a base, by rising key.
+//! The tables of a base, each sorted by key.
 #![tactic(auto, unfolding(crate::proofs::OnLiterals::model_on_literals))]
 
 ghost use Rattle.std.specs.Prelude.{◌≡◌, true};
@@ -12,7 +12,8 @@ ghost use Rattle.brk_model.specs.Audit.{expected};
 ghost use Rattle.brk_model_examples.specs.Trading.{bought};
 ghost use Rattle.brk_model_examples.specs.Bought.{bought_tables, first_tables};
 
-/// The tables after the first purchase are well formed, and the base that they give has the same tables.
+/// Shows that the tables after the first purchase are well-formed, and that they equal the tables
+/// of the base that they describe.
 pub fn tables_of_a_base()
     ensures tables { sheets bought ≡ bought_tables }
     ensures form { has_form third_schema bought_tables ≡ true }
@@ -21,7 +22,8 @@ pub fn tables_of_a_base()
     ensures expected { expected third_schema bought_tables ≡ bought_tables }
 {}
 
-/// The tables of the same base in the two older schemas, and what the move makes of them. None loses what the base has.
+/// Shows the tables of this base in the two older schemas, and their upgrade. They describe the
+/// same base.
 pub fn tables_of_older_schemas()
     ensures first { sheets_at first_schema bought ≡ first_tables }
     ensures first_form { has_form first_schema first_tables ≡ true }

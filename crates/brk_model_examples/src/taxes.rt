@@ -1,11 +1,11 @@
-//! What a gain and a loss are taxed at each tax status.
+//! The tax on a gain and on a loss at each tax status.
 #![tactic(auto, unfolding(crate::proofs::OnLiterals::model_on_literals))]
 
 ghost use Rattle.std.specs.Prelude.{◌∷◌, [], codes};
 ghost use Rattle.brk_model_examples.specs.Batches.{Gives};
 ghost use Rattle.brk_model_examples.specs.Setting.{setting};
 
-/// A tax is recorded at the statuses 1 and 2, and taken off at 1 alone.
+/// Shows that tax is recorded at the statuses 1 and 2, and withheld at 1 only.
 pub fn tax_statuses()
     ensures none { Gives setting
         (codes "account,102,10,1,Tax,0,10000.00"
@@ -57,7 +57,7 @@ pub fn tax_statuses()
         ∷ codes "end,7,0,0" ∷ []) }
 {}
 
-/// A loss bears no tax at any status.
+/// Shows that a loss is not taxed at any status.
 pub fn loss()
     ensures none { Gives setting
         (codes "account,102,10,1,Tax,0,10000.00"

@@ -1,11 +1,12 @@
-//! What stands at one moment, or has one volume or one name.
+//! The order of rows with one stamp, one volume or one name.
 #![tactic(auto, unfolding(crate::proofs::OnLiterals::model_on_literals))]
 
 ghost use Rattle.std.specs.Prelude.{◌≡◌, ◌∷◌, [], Ok, codes};
 ghost use Rattle.brk_model_examples.specs.Batches.{after, view};
 ghost use Rattle.brk_model_examples.specs.Waiting.{waiting};
 
-/// Two trades that one feed triggers have one stamp: by falling numbers where the last comes first, by rising ones where the oldest does.
+/// Shows two trades with one stamp, which one feed triggered: by descending id if the last comes
+/// first, by ascending id if the oldest does.
 pub fn trades_of_one_stamp()
     ensures recent { view (after waiting (codes "feed,ABC,10.01,100,ABC,9.50,200" ∷ [])) (codes "recent") (codes "100" ∷ [])
         ≡ Ok ((codes "trade" ∷ codes "2" ∷ codes "ABC" ∷ codes "10" ∷ [])
@@ -37,8 +38,8 @@ pub fn trades_of_one_stamp()
         ≡ view (after waiting (codes "feed,ABC,10.01,100,ABC,9.50,200" ∷ [])) (codes "accounttrades") (codes "100" ∷ codes "1709251200019" ∷ codes "1709251200019" ∷ []) }
 {}
 
-/// The greatest volume comes first; of one volume it goes by the name, and of one name too by the id. A name twice counts once, and an unknown
-/// one adds nothing.
+/// Shows brokers in descending order of volume, then by name, then by id. A repeated name counts
+/// once, and an unknown one adds nothing.
 pub fn brokers_of_one_volume()
     ensures tech { view (after waiting
         (codes "broker,2,Bo"

@@ -1,4 +1,5 @@
-//! Orders and their results: positions, values, taxes, balances and broker numbers (Trade-Order, Trade-Result).
+//! Orders and their results: positions, values, taxes, balances and broker totals (Trade-Order,
+//! Trade-Result).
 #![tactic(auto, unfolding(crate::proofs::OnLiterals::model_on_literals))]
 
 ghost use Rattle.std.specs.Prelude.{◌≡◌, ◌∷◌, [], pos, negsuc, map, codes};
@@ -8,7 +9,8 @@ ghost use Rattle.brk_model_examples.specs.Setting.{setting};
 ghost use Rattle.brk_model_examples.specs.Trading.{bought, bought_twice, sold, sold_last_first, flipped, covered, closed};
 ghost use Rattle.brk_model_examples.specs.Standing.{standing};
 
-/// A purchase at the market and its result. The commission is that of the price it was completed at, and not the estimate.
+/// Shows a market purchase and its result. The commission is that of the completion price, not the
+/// estimated one.
 pub fn purchase()
     ensures lines { Gives setting
         (codes "order,100,TMB,ABC,100,,cash,fifo,Ann,Lee,T10"
@@ -28,7 +30,7 @@ pub fn purchase()
     } }
 {}
 
-/// A second purchase opens a lot of its own.
+/// Shows that a second purchase opens a lot of its own.
 pub fn second_lot()
     ensures lines { Gives bought
         (codes "order,100,TMB,ABC,200,,cash,fifo,Ann,Lee,T10"
@@ -48,7 +50,8 @@ pub fn second_lot()
     } }
 {}
 
-/// A sale first in first out closes the first lot and a part of the second, and is taxed on its gain.
+/// Shows that a sale first in first out closes the first lot and a part of the second, and is taxed
+/// on its gain.
 pub fn first_in_first_out()
     ensures lines { Gives bought_twice
         (codes "order,100,TMS,ABC,150,,cash,fifo,Ann,Lee,T10"
@@ -68,7 +71,7 @@ pub fn first_in_first_out()
     } }
 {}
 
-/// The same sale last in first out closes a part of the second lot alone.
+/// Shows that a sale last in first out closes only a part of the second lot.
 pub fn last_in_first_out()
     ensures lines { Gives bought_twice
         (codes "order,100,TMS,ABC,150,,cash,lifo,Ann,Lee,T10"
@@ -88,7 +91,7 @@ pub fn last_in_first_out()
     } }
 {}
 
-/// A sale of more than there is closes what there is, and opens a lot of the other sign.
+/// Shows that a sale of more shares than are held closes all of them, and opens a short lot.
 pub fn sign_flips()
     ensures lines { Gives sold
         (codes "order,100,TMS,ABC,400,,cash,fifo,Ann,Lee,T10"
@@ -108,7 +111,7 @@ pub fn sign_flips()
     } }
 {}
 
-/// A purchase covers the short lot, is taxed on its gain, and opens a long lot again.
+/// Shows that a purchase covers the short lot, is taxed on its gain, and opens a long lot again.
 pub fn cover_and_flip_back()
     ensures lines { Gives flipped
         (codes "order,100,TMB,ABC,300,,cash,fifo,Ann,Lee,T10"
@@ -128,7 +131,7 @@ pub fn cover_and_flip_back()
     } }
 {}
 
-/// A sale of exactly all leaves no lot and no summary.
+/// Shows that a sale of exactly all shares leaves no lot and no summary.
 pub fn exactly_all()
     ensures lines { Gives covered
         (codes "order,100,TMS,ABC,50,,cash,fifo,Ann,Lee,T10"
@@ -148,7 +151,7 @@ pub fn exactly_all()
     } }
 {}
 
-/// A margin trade settles, and moves no cash.
+/// Shows that a margin trade has a settlement and no cash row.
 pub fn margin_trade()
     ensures lines { Gives setting
         (codes "order,100,TMB,ABC,100,,margin,fifo,Ann,Lee,T10"

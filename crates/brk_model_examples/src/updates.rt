@@ -1,4 +1,4 @@
-//! Changed words (Trade-Update, by name alone).
+//! Text updates (Trade-Update, by name only).
 #![tactic(auto, unfolding(crate::proofs::OnLiterals::model_on_literals))]
 
 ghost use Rattle.std.specs.Prelude.{◌≡◌, ◌∷◌, [], Ok, map, codes};
@@ -9,7 +9,7 @@ ghost use Rattle.brk_model_examples.specs.Crowds.{misnamed};
 ghost use Rattle.brk_model_examples.specs.Setting.{setting};
 ghost use Rattle.brk_model_examples.specs.Trading.{sold};
 
-/// The three updates after a sale.
+/// Shows the three text updates after a sale.
 pub fn updates()
     ensures lines { Gives sold
         (codes "upname,1"
@@ -47,7 +47,8 @@ pub fn updates()
         ∷ codes "upcash,100,5,4" ∷ []))).settlements ≡ codes "Cash" ∷ codes "Cash" ∷ codes "Cash" ∷ [] }
 {}
 
-/// The name goes in and out again; of two it leaves one.
+/// Shows that `upname` inserts ` X` into an executor's name, and removes it again. Of two it
+/// removes one.
 pub fn names()
     ensures in_it { map (λ t. t.executor) (after sold
         (codes "upname,1" ∷ [])).trades ≡ codes "Ann X Lee" ∷ codes "Ann Lee" ∷ codes "Ann Lee" ∷ [] }
@@ -61,7 +62,8 @@ pub fn names()
     ensures out_of_the_head { changed_executor (codes "X X Lee") ≡ codes "X Lee" }
 {}
 
-/// A security's own name may have the words of a cash row in it: they are looked for in the whole text, which then always has them.
+/// Shows a security whose own name contains ` shares of `. `uptext` searches the whole text, which
+/// then always contains it.
 pub fn words_in_a_name()
     ensures lines { Gives misnamed
         (codes "order,100,TMB,ABC,100,,cash,fifo,Ann,Lee,T10"
@@ -87,7 +89,7 @@ pub fn words_in_a_name()
         ∷ codes "uptext,ABC,0,253402300799999" ∷ [])).trades ≡ codes "Market-Buy 100 Shares of Big shares of Small" ∷ [] }
 {}
 
-/// The words of a margin trade: it has no cash row, and uptext does not choose it.
+/// Shows the text updates of a margin trade: it has no cash row, and `uptext` does not select it.
 pub fn margin_words()
     ensures once { map (λ t. t.cash_type) (after setting
         (codes "order,100,TMB,ABC,100,,margin,fifo,Ann,Lee,T10"

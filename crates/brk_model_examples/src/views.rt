@@ -1,4 +1,4 @@
-//! The views (Customer-Position, Trade-Status, Trade-Lookup by name alone).
+//! The views (Customer-Position, Trade-Status, Trade-Lookup by name only).
 #![tactic(auto, unfolding(crate::proofs::OnLiterals::model_on_literals))]
 
 ghost use Rattle.std.specs.Prelude.{◌≡◌, ◌∷◌, [], Ok, Err, codes};
@@ -6,7 +6,7 @@ ghost use Rattle.brk_money.specs.declared.refusal.Refusal.TheVariants.{BadText, 
 ghost use Rattle.brk_model_examples.specs.Batches.{view};
 ghost use Rattle.brk_model_examples.specs.Trading.{bought, bought_twice, sold};
 
-/// What a customer has, by id and by tax id.
+/// Shows the position of a customer, by id and by tax id.
 pub fn customer_position()
     ensures by_id { view sold (codes "customer") (codes "10" ∷ [])
         ≡ Ok ((codes "100" ∷ codes "8403.40" ∷ codes "1500.00" ∷ [])
@@ -18,7 +18,7 @@ pub fn customer_position()
         ≡ Err NoCustomer }
 {}
 
-/// The last trades of an account, with their statuses.
+/// Shows the last trades of an account, with their statuses.
 pub fn recent_trades()
     ensures { view bought (codes "recent") (codes "100" ∷ [])
         ≡ Ok ((codes "trade" ∷ codes "1" ∷ codes "ABC" ∷ codes "100" ∷ [])
@@ -27,7 +27,7 @@ pub fn recent_trades()
         ∷ []) }
 {}
 
-/// Whose account it is, and its trades, the last first.
+/// Shows the customer and the broker of an account, and its trades, the last first.
 pub fn trade_status()
     ensures { view sold (codes "status") (codes "100" ∷ [])
         ≡ Ok ((codes "Lee" ∷ codes "Ann" ∷ codes "Bo" ∷ [])
@@ -37,7 +37,7 @@ pub fn trade_status()
         ∷ []) }
 {}
 
-/// A trade by its id, by its account and by its symbol.
+/// Shows a trade by its id, by its account and by its symbol.
 pub fn trade_lookup()
     ensures by_id { view sold (codes "trades") (codes "3" ∷ [])
         ≡ Ok ((codes "trade" ∷ codes "3" ∷ codes "1709251200021" ∷ codes "CMPT" ∷ codes "TMS" ∷ codes "ABC" ∷ codes "150" ∷ codes "10.00" ∷ codes "Ann Lee" ∷ codes "13.00" ∷ codes "5.00" ∷ codes "19.50" ∷ codes "68.00" ∷ codes "cash" ∷ codes "fifo" ∷ [])
@@ -66,7 +66,7 @@ pub fn trade_lookup()
         ≡ Err BadText }
 {}
 
-/// The changes of all lots that the oldest trade from a stamp on touched.
+/// Shows the changes of all lots that the oldest trade from a stamp on touched.
 pub fn touched_lots()
     ensures last { view sold (codes "lots") (codes "100" ∷ codes "1709251200021" ∷ [])
         ≡ Ok ((codes "3" ∷ [])
@@ -84,7 +84,8 @@ pub fn touched_lots()
         ≡ Ok ([]) }
 {}
 
-/// An estimate gives the numbers of an order without the order, and is refused as the order.
+/// Shows that an estimate returns the numbers of an order without the order, and is refused like an
+/// order.
 pub fn estimates()
     ensures numbers { view bought_twice (codes "estimate") (codes "100" ∷ codes "TMS" ∷ codes "ABC" ∷ codes "150" ∷ [] ∷ codes "cash" ∷ codes "fifo" ∷ codes "Ann" ∷ codes "Lee" ∷ codes "T10" ∷ [])
         ≡ Ok ((codes "10.00" ∷ codes "1610.00" ∷ codes "1500.00" ∷ codes "0.00" ∷ codes "15.00" ∷ codes "5.00" ∷ codes "9545.90" ∷ [])

@@ -1,4 +1,4 @@
--- What the condition of form asks of tables, part by part.
+-- The parts of the audit's condition `Form`.
 use Rattle.std.specs.Prelude.{◌≡◌, true, map, filter, length, nat_le, is_none}
 use Rattle.std.specs.List.{list_all, range_with_len}
 use Rattle.std.specs.Option.{option_map_or}
@@ -10,7 +10,7 @@ use Rattle.brk_model.specs.Tables.{Tables}
 use Rattle.brk_model.specs.Form.{kept_form, broker_form, customer_form, customer_limits, account_form, permission_form, security_form, last_trade_form, charge_form, band_form, no_overlap, tax_rate_form, customer_tax_form, trade_form, same_numbers, history_form, request_form, holding_form, summary_form, holding_history_form, settlement_form, cash_form, move_form, trades_moved, lacks_later_rows, has_keys, one_tax_id_each, rises}
 use Rattle.brk_model.specs.Keys.{kept_key, broker_key, customer_key, account_key, permission_key, security_key, last_trade_key, charge_key, band_key, tax_rate_key, customer_tax_key, trade_key, history_key, request_key, holding_key, summary_key, holding_history_key, settlement_key, cash_key, move_key}
 
--- what has form, by the limits of a schema
+-- Every part of the condition `Form` holds of the tables, by the limits of a schema.
 pub record FormParts (schema : Schema) (t : Tables) : Type 0 where
   pub clock : option_map_or (λ last. nat_le last last_stamp) t.last true ≡ true
   pub keys : has_keys t ≡ true
@@ -43,7 +43,7 @@ pub record FormParts (schema : Schema) (t : Tables) : Type 0 where
   pub rule : option_map_or (λ day. nat_le day last_day) t.rule true ≡ true
   pub fits : lacks_later_rows schema t ≡ true
 
--- what has keys: each table rises by its own
+-- Every table is sorted by its key, strictly ascending.
 pub record KeysRise (t : Tables) : Type 0 where
   pub kept : rises kept_key t.kept ≡ true
   pub brokers : rises broker_key t.brokers ≡ true

@@ -1,4 +1,5 @@
--- Words for the laws: what is accepted, which stamps rise, what a base begins with, and what comes again.
+-- Definitions for the theorems on runs and batches: stamps, accepted commands, stored keys and
+-- retried batches.
 use Rattle.std.specs.Prelude.{◌≡◌, ◌⊎◌, ⊤, ℕ, ◌+◌, ◌<◌, ◌++◌, if◌then◌else◌, List, [], ◌∷◌, drop, filter, length, map, take, Option, Some, None, Ok, IfSome, is_none}
 use Rattle.brk_money.specs.Spelling.{Text}
 use Rattle.brk_model.specs.Records.{Key, Kept}
@@ -13,7 +14,7 @@ use Rattle.brk_model.specs.Lines.{count_refused}
 use Rattle.brk_model.specs.Batch.{AreSettled, Batch, EndedWell, IsAnswered, row_step}
 use Rattle.brk_model.specs.Run.{Call, Do, Ask, Outcome, Did, Saw, NoView, Failed, Run}
 
--- the stamp of a reply
+-- The stamp of a reply.
 abbrev pub stamp_of : Reply → ℕ
 stamp_of (Booked stamp) = stamp
 stamp_of (Ordered stamp trade status estimate) = stamp
@@ -23,7 +24,7 @@ stamp_of (CompletedTrade stamp completion) = stamp
 stamp_of (Changed stamp count) = stamp
 stamp_of (MovedCash stamp move balance) = stamp
 
--- the stamp of an outcome, where it was accepted
+-- The stamp of an outcome that accepts a command, as a list; empty for other outcomes.
 abbrev pub stamp_in : Outcome → List ℕ
 stamp_in (Did (Done reply)) = stamp_of reply ∷ []
 stamp_in (Did (Again line)) = []
@@ -32,137 +33,145 @@ stamp_in (Saw view) = []
 stamp_in (NoView refusal) = []
 stamp_in (Failed fault) = []
 
--- the stamps of the accepted commands
+-- The stamps of the accepted commands, in order.
 abbrev pub stamps_of : List Outcome → List ℕ
 stamps_of [] = []
 stamps_of (outcome ∷ outcomes) = stamp_in outcome ++ stamps_of outcomes
 
--- each is above the one before, and the first above the last stamp
+-- The stamps are strictly ascending, and the first is greater than `last` if there is one.
 abbrev pub RiseFrom : Option ℕ → List ℕ → Type 0
 RiseFrom last [] = ⊤
 RiseFrom last (stamp ∷ stamps) = IfSome last (λ l. l < stamp) × RiseFrom (Some stamp) stamps
 
--- the base after a call that was answered so: moved by an accepted command, and else as it was
+-- The base after a call with this answer: that of the keyed step if the answer is `Done`, otherwise
+-- `base`.
 abbrev pub moved_by : Base → ℕ → Call → Answer → Base
 moved_by base now (Do command key) (Done reply) = (keyed_step base now command key).1
 moved_by base now (Do command key) (Again line) = base
 moved_by base now (Do command key) (Refused refusal) = base
 moved_by base now (Ask query) answer = base
 
+-- The base after a call with this outcome: that of the keyed step if a command was accepted,
+-- otherwise `base`.
 abbrev pub moved : Base → ℕ → Call → Outcome → Base
 moved base now call (Did answer) = moved_by base now call answer
 moved base now call (Saw view) = base
 moved base now call (NoView refusal) = base
 moved base now call (Failed fault) = base
 
--- the base after the accepted commands of some calls, one after another
+-- The base after the accepted commands of the calls, executed in order.
 abbrev pub accepted_after : Base → List (ℕ × Call) → List Outcome → Base
 accepted_after base [] outcomes = base
 accepted_after base (call ∷ calls) [] = base
 accepted_after base (call ∷ calls) (outcome ∷ outcomes) = accepted_after (moved base call.0 call.1 outcome) calls outcomes
 
--- a row of a batch as a call of a run
+-- The call of a row of a batch, with its clock reading.
 abbrev pub call_of : RowCall Command → ℕ × Call
 call_of call = (call.now, Do call.command (Some call.key))
 
--- a row under this key was accepted
+-- The call is a command with this key, and it was accepted.
 abbrev pub IsDoneUnder : Key → Call → Outcome → Type 0
 IsDoneUnder key (Do command (Some other)) (Did (Done reply)) = other ≡ key
 IsDoneUnder key call outcome = ⊥
 
--- none of the rows under this key was accepted
+-- No command with this key was accepted in the calls.
 abbrev pub NoneDoneUnder : Key → List (ℕ × Call) → List Outcome → Type 0
 NoneDoneUnder key (call ∷ calls) (outcome ∷ outcomes) = ¬ (IsDoneUnder key call.1 outcome) × NoneDoneUnder key calls outcomes
 NoneDoneUnder key calls outcomes = ⊤
 
--- some calls lead from a base to another one
+-- Some run of calls leads from `base` to `after`.
 abbrev pub LeadsTo : Base → Base → Type 0
 LeadsTo base after = (calls : List (ℕ × Call)) × (outcomes : List Outcome) × Run base calls outcomes after
 
--- a base that some calls lead to from the empty one
+-- Some run of calls leads from the empty base to this base.
 abbrev pub IsReached : Base → Type 0
 IsReached base = LeadsTo empty_base base
 
--- a batch, by whatever tests of form, ended well and answered its rows so, and refused none
+-- The batch is complete, it has these answers, and it refused no row; `form` is its format check.
 pub record IsCleanBatch (form : Fields → Read Command) (base : Base) (moments : List ℕ) (input : Text) (answers : List Answer) (batch : Batch Base) : Type 0 where
   pub answered : IsAnswered form row_step base moments (Some (text_of input)) batch
   pub ended : batch.ending ≡ EndedWell
   pub these : answered.answers ≡ answers
   pub none_refused : count_refused answers ≡ 0
 
--- the answer to a row that comes again: the kept line of what was accepted
+-- The answer to a retried row: the stored line if the row was accepted, otherwise its former
+-- answer.
 abbrev pub again_of : Answer → Answer
 again_of (Done reply) = Again (line_text reply)
 again_of (Again line) = Again line
 again_of (Refused refusal) = Refused refusal
 
--- ---- rows of which a base keeps some
+-- ---- rows of which some have their keys in a base
 
--- the calls whose keys a base does not keep
+-- The calls whose keys the base does not contain.
 abbrev pub calls_left : Base → List (RowCall Command) → List (RowCall Command)
 calls_left base calls = filter (λ call. is_none (kept_under base call.key)) calls
 
--- their answers
+-- The answers to the calls whose keys the base does not contain.
 abbrev pub answers_left : Base → List (RowCall Command) → List Answer → List Answer
 answers_left base (call ∷ calls) (answer ∷ answers) =
     if is_none (kept_under base call.key) then answer ∷ answers_left base calls answers else answers_left base calls answers
 answers_left base calls answers = []
 
--- a call whose key is kept is answered with the kept line where it is the same row, and refused where it is another
+-- If a row is stored under the key of the call, the call is answered with its line if it is the
+-- same row, and refused if it is another row.
 abbrev pub IsKeptAnswer : Base → Option Kept → RowCall Command → Answer → Type 0
 IsKeptAnswer base None call answer = ⊤
 IsKeptAnswer base (Some k) call answer = answer ≡ (repeated base call.command k).0
 
--- so it is with each call whose key the base keeps
+-- Each call whose key the base contains is answered with the stored line if it is the same row, and
+-- refused if it is another row.
 abbrev pub AreKeptAnswers : Base → List (RowCall Command) → List Answer → Type 0
 AreKeptAnswers base (call ∷ calls) (answer ∷ answers) = IsKeptAnswer base (kept_under base call.key) call answer × AreKeptAnswers base calls answers
 AreKeptAnswers base calls answers = ⊤
 
 -- ---- rows that were accepted
 
--- the calls that were accepted
+-- The calls that were accepted.
 abbrev pub done_calls : List (RowCall Command) → List Answer → List (RowCall Command)
 done_calls (call ∷ calls) (Done reply ∷ answers) = call ∷ done_calls calls answers
 done_calls (call ∷ calls) (Again line ∷ answers) = done_calls calls answers
 done_calls (call ∷ calls) (Refused refusal ∷ answers) = done_calls calls answers
 done_calls calls answers = []
 
--- their answers
+-- The answers of the calls that were accepted.
 abbrev pub done_answers : List Answer → List Answer
 done_answers [] = []
 done_answers (Done reply ∷ answers) = Done reply ∷ done_answers answers
 done_answers (Again line ∷ answers) = done_answers answers
 done_answers (Refused refusal ∷ answers) = done_answers answers
 
--- a call that was accepted is kept under its key, with its row and its line
+-- If the call was accepted, the base contains its row and its line under its key.
 abbrev pub IsRemembered : Base → RowCall Command → Answer → Type 0
 IsRemembered base call (Done reply) = kept_under base call.key ≡ Some (record { key = call.key; row_text = row_text call.command; line = line_text reply })
 IsRemembered base call (Again line) = ⊤
 IsRemembered base call (Refused refusal) = ⊤
 
--- so it is with each call that was accepted
+-- The base contains the row and the line of each accepted call under its key.
 abbrev pub AreRemembered : Base → List (RowCall Command) → List Answer → Type 0
 AreRemembered base (call ∷ calls) (answer ∷ answers) = IsRemembered base call answer × AreRemembered base calls answers
 AreRemembered base calls answers = ⊤
 
--- ---- rows of a batch that was stopped
+-- ---- rows of a batch that was interrupted
 
--- behind some first rows of a batch the next one was booked at a moment, and not answered
+-- The row after the rows `front` of a batch is well-formed. Executed from `mid` at the clock
+-- reading `moment`, it has the answer `answer` and leads to the base `stood`.
 pub record IsBookedNext (form : Fields → Read Command) (name : Text) (mid : Base) (front more : List Fields) (moment : ℕ) (answer : Answer) (stood : Base) : Type 0 where
   pub row : Fields
   pub rest : List Fields
   pub next : more ≡ row ∷ rest
   pub command : Command
   pub formed : form row ≡ Ok command
-  -- what would have been answered, and the base that stands
+  -- The answer to the row, and the base after it.
   pub booked : row_step mid moment command (record { batch = name; row = length front + 1 }) ≡ (answer, stood)
 
--- what stands is the base after these first rows, or the next one was booked
+-- The base `stood` is the base `mid` after the rows `front`, or the base after one more row.
 abbrev pub StandsAfter : (Fields → Read Command) → Text → Base → List Fields → List Fields → Base → Type 0
 StandsAfter form name mid front more stood = (stood ≡ mid) ⊎ ((moment : ℕ) × (answer : Answer) × IsBookedNext form name mid front more moment answer stood)
 
--- Rows that are all settled by now were settled as by one sending: those that had answers before at the earlier moments and with those answers, the
--- others at the later moments and as they are told now. Those that had answers are told them again.
+-- The rows of a batch are decided as by one uninterrupted run. The first rows have `answers`, at
+-- the clock readings `earlier`, and their retry has the answers that `again_of` gives. The other
+-- rows have the answers in `told`, at the clock readings `later`.
 pub record IsCompleted (form : Fields → Read Command) (name : Text) (base : Base) (earlier later : List ℕ) (rows : List Fields) (answers told : List Answer) (last : Base) : Type 0 where
   pub again : take (length answers) told ≡ map again_of answers
   pub settled : AreSettled form row_step name base (earlier ++ drop (length earlier) later) rows (answers ++ drop (length answers) told) last

@@ -1,4 +1,4 @@
--- Positions: their side, and their lots.
+-- The sides and the lots of positions.
 use Rattle.std.specs.Prelude.{◌≡◌, ◌==◌, ◌&&◌, ℕ, Bool, List, bytes_eq}
 use Rattle.std.specs.List.{AllByRecursion}
 use Rattle.brk_money.specs.Spelling.{Text}
@@ -6,14 +6,14 @@ use Rattle.brk_money.specs.declared.side.Side.{Side}
 use Rattle.brk_model.specs.Shares.{Share}
 use Rattle.brk_model.specs.Tables.{HoldingRow}
 
--- all shares are of a side
+-- All shares are of the side.
 abbrev pub AllOf : Side → List Share → Type 0
 AllOf side shares = AllByRecursion (λ share. share.side ≡ side) shares
 
--- all shares are of one side: a position is long or short
+-- All shares are of one side: the position is long or short.
 abbrev pub IsOneSided : List Share → Type 0
 IsOneSided shares = (side : Side) × AllOf side shares
 
--- the lots of an account in a symbol
+-- True if the HOLDING row belongs to the account and the symbol.
 abbrev pub in_position : ℕ → Text → HoldingRow → Bool
 in_position account symbol row = (row.account == account) && bytes_eq row.symbol symbol

@@ -1,4 +1,4 @@
-//! A key acts once.
+//! Theorems on keys: a command is accepted at most once per key.
 
 ghost use Rattle.std.specs.Prelude.{◌≡◌, ℕ, false, List, Some, None, Ok, bytes_eq};
 ghost use Rattle.brk_money.specs.declared.refusal.Refusal.{Refusal};
@@ -12,20 +12,23 @@ ghost use Rattle.brk_model.specs.Step.{step};
 ghost use Rattle.brk_model.specs.Run.{Call, Outcome, Run};
 ghost use Rattle.brk_model_theorems.specs.Laws.{NoneDoneUnder};
 
-/// A row that comes again under its key is answered with its kept line, at any moment, and changes nothing.
+/// Proves that an accepted row that is retried under its key, over the base after it and at any
+/// clock reading, is answered with the stored line and changes nothing.
 pub fn repeat_is_answered()
     ensures { (base after : Base) (now later : ℕ) (command : Command) (key : Key) (reply : Reply) → keyed_step base now command (Some key) ≡ (Done reply, after)
         → keyed_step after later command (Some key) ≡ (Again (line_text reply), after) }
 {}
 
-/// Another row under a key that is kept is refused, and changes nothing.
+/// Proves that another row under the key of an accepted row, over the base after it, is refused
+/// with `KeyReused` and changes nothing.
 pub fn changed_repeat_is_refused()
     ensures { (base after : Base) (now later : ℕ) (command other : Command) (key : Key) (reply : Reply) → keyed_step base now command (Some key) ≡ (Done reply, after)
         → bytes_eq (row_text command) (row_text other) ≡ false → keyed_step after later other (Some key) ≡ (Refused KeyReused, after) }
 {}
 
-/// A row that is refused keeps no key, so that it may be sent again. Where it is refused for anything but its key, nothing was kept under that.
-/// A key stays free while no row under it is accepted, and over any base where it is free its row is accepted as the command is.
+/// Proves that a refused row stores no key, so it may be retried. If it is refused for another
+/// reason than its key, nothing was stored under the key. A key stays free while no row under it is
+/// accepted. Over a base in which the key is free, its row is accepted if the command is.
 pub fn a_refused_row_keeps_no_key()
     ensures keeps_none { (base after : Base) (now : ℕ) (command : Command) (key : Key) (refusal : Refusal) → keyed_step base now command (Some key) ≡ (Refused refusal, after)
         → kept_under base key ≡ None → (after ≡ base) × (kept_under after key ≡ None) }

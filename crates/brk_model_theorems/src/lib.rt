@@ -1,4 +1,4 @@
-//! Laws of the abstract brokerage, in its own words: they show how its definitions hang together.
+//! Theorems about the model alone, which relate its definitions.
 #![tactic(auto)]
 
 pub mod batches;

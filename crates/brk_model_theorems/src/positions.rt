@@ -1,4 +1,4 @@
-//! Laws of positions.
+//! Theorems on positions: their side and their lots.
 
 ghost use Rattle.std.specs.Prelude.{◌≡◌, ℕ, List, filter};
 ghost use Rattle.brk_model.specs.Base.{Base, completed};
@@ -11,13 +11,13 @@ ghost use Rattle.brk_model.specs.Tables.{tables_of};
 ghost use Rattle.brk_model_theorems.specs.Names.{IsNamed};
 ghost use Rattle.brk_model_theorems.specs.Positions.{IsOneSided, in_position};
 
-/// Whatever deals a position came through, it is long or short: all its shares are of one side.
+/// Proves that after any deals all shares of a position are of one side.
 pub fn shares_are_of_one_side()
     ensures { (deals : List Deal) → IsOneSided (replay deals) }
 {}
 
-/// Where trades are numbered from 1 in turn, the lots of an account in a symbol add up to its holding summary. So they do after any calls from a base
-/// where what records name is there, as the empty one.
+/// Proves that the lots of an account in a symbol total its holding summary if trades are numbered
+/// from 1 in sequence. They do so after any run of calls from a base that satisfies `IsNamed`.
 pub fn lots_add_up()
     ensures numbered { (base : Base) (account : ℕ) (symbol : List ℕ) → NumberedFrom 1 base.trades
         → total_by (λ row. row.qty) (filter (in_position account symbol) (tables_of base).holdings) ≡ summary_of (completed base) account symbol }

@@ -1,4 +1,4 @@
-//! Laws of runs of calls.
+//! Theorems on runs of calls.
 
 ghost use Rattle.std.specs.Prelude.{◌≡◌, ℕ, List, Option};
 ghost use Rattle.brk_money.specs.declared.refusal.Refusal.{Refusal};
@@ -9,18 +9,19 @@ ghost use Rattle.brk_model.specs.Keyed.{keyed_step};
 ghost use Rattle.brk_model.specs.Run.{Call, Outcome, Run};
 ghost use Rattle.brk_model_theorems.specs.Laws.{RiseFrom, accepted_after, stamps_of};
 
-/// A row that is refused or answered again leaves the base.
+/// Proves that a row that is refused, or answered with its stored line, leaves the base unchanged.
 pub fn others_leave_the_base()
     ensures refused { (base after : Base) (now : ℕ) (command : Command) (key : Option Key) (refusal : Refusal) → keyed_step base now command key ≡ (Refused refusal, after) → after ≡ base }
     ensures again { (base after : Base) (now : ℕ) (command : Command) (key : Option Key) (line : List ℕ) → keyed_step base now command key ≡ (Again line, after) → after ≡ base }
 {}
 
-/// The base after any run of calls is that after its accepted commands alone.
+/// Proves that the base after a run of calls equals the base after its accepted commands alone.
 pub fn accepted_commands_make_the_base()
     ensures { (base after : Base) (calls : List (ℕ × Call)) (outcomes : List Outcome) → Run base calls outcomes after → after ≡ accepted_after base calls outcomes }
 {}
 
-/// The stamps of a run's accepted commands rise strictly from the last stamp before it: no two are the same.
+/// Proves that the stamps of a run's accepted commands are strictly ascending and greater than the
+/// last stamp before it.
 pub fn stamps_rise()
     ensures { (base after : Base) (calls : List (ℕ × Call)) (outcomes : List Outcome) → Run base calls outcomes after → RiseFrom base.last (stamps_of outcomes) }
 {}

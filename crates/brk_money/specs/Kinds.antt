@@ -1,4 +1,5 @@
--- What the types of trade and the statuses are, and the words and numbers that stand for them.
+-- The types of trades, the statuses, the refusals, the faults and the audit conditions, with the
+-- words and numbers that represent them.
 use Rattle.std.specs.Prelude.{ℕ, Bool, true, false, List, [], ◌∷◌, ◌==◌, if◌then◌else◌, Option, Some, None, codes, decimal}
 use Rattle.std.specs.List.{join_with_byte}
 use Rattle.brk_money.specs.declared.trade_type.TradeType.{TradeType}
@@ -18,7 +19,7 @@ use Rattle.brk_money.specs.declared.refusal.Limit.TheVariants as limit
 use Rattle.brk_money.specs.declared.refusal.Refusal.{Refusal}
 use Rattle.brk_money.specs.declared.refusal.Refusal.TheVariants.{BadText, BadQty, BadPrice, BadType, TooMany, KeyReused, NoAccount, NoCustomer, NoBroker, NoSecurity, NoTrade, NoTax, WrongStatus, NotPermitted, Exists, Overlap, TaxSum, NoCharge, NoRate, Range, ClockEnd, TooEarly}
 
--- which way a type goes (TT_IS_SELL)
+-- The side of a trade of this type: buy or sell (TT_IS_SELL).
 abbrev pub side_of : TradeType → Side
 side_of MarketBuy = Buy
 side_of MarketSell = Sell
@@ -26,7 +27,7 @@ side_of StopLoss = Sell
 side_of LimitSell = Sell
 side_of LimitBuy = Buy
 
--- whether a type trades at the market's price (TT_IS_MRKT)
+-- True if a trade of this type is at the market price (TT_IS_MRKT).
 abbrev pub is_market : TradeType → Bool
 is_market MarketBuy = true
 is_market MarketSell = true
@@ -34,7 +35,7 @@ is_market StopLoss = false
 is_market LimitSell = false
 is_market LimitBuy = false
 
--- TT_ID
+-- The code of a type of trade: three letters (TT_ID).
 abbrev pub type_code : TradeType → List ℕ
 type_code MarketBuy = codes "TMB"
 type_code MarketSell = codes "TMS"
@@ -42,7 +43,7 @@ type_code StopLoss = codes "TSL"
 type_code LimitSell = codes "TLS"
 type_code LimitBuy = codes "TLB"
 
--- TT_NAME
+-- The name of a type of trade (TT_NAME).
 abbrev pub type_name : TradeType → List ℕ
 type_name MarketBuy = codes "Market-Buy"
 type_name MarketSell = codes "Market-Sell"
@@ -50,7 +51,7 @@ type_name StopLoss = codes "Stop-Loss"
 type_name LimitSell = codes "Limit-Sell"
 type_name LimitBuy = codes "Limit-Buy"
 
--- ST_ID
+-- The code of a status: four letters (ST_ID).
 abbrev pub status_code : Status → List ℕ
 status_code Completed = codes "CMPT"
 status_code Active = codes "ACTV"
@@ -58,7 +59,7 @@ status_code Submitted = codes "SBMT"
 status_code Pending = codes "PNDG"
 status_code Canceled = codes "CNCL"
 
--- ST_NAME
+-- The name of a status (ST_NAME).
 abbrev pub status_name : Status → List ℕ
 status_name Completed = codes "Completed"
 status_name Active = codes "Active"
@@ -66,7 +67,7 @@ status_name Submitted = codes "Submitted"
 status_name Pending = codes "Pending"
 status_name Canceled = codes "Canceled"
 
--- tests of equality
+-- True if two types of trade are equal.
 abbrev pub same_type : TradeType → TradeType → Bool
 same_type MarketBuy MarketBuy = true
 same_type MarketSell MarketSell = true
@@ -75,6 +76,7 @@ same_type LimitSell LimitSell = true
 same_type LimitBuy LimitBuy = true
 same_type _ _ = false
 
+-- True if two statuses are equal.
 abbrev pub same_status : Status → Status → Bool
 same_status Completed Completed = true
 same_status Active Active = true
@@ -83,13 +85,14 @@ same_status Pending Pending = true
 same_status Canceled Canceled = true
 same_status _ _ = false
 
+-- True if two sides are equal.
 abbrev pub same_side : Side → Side → Bool
 same_side Buy Buy = true
 same_side Sell Sell = true
 same_side Buy Sell = false
 same_side Sell Buy = false
 
--- the word of what would leave its range
+-- The word that a `Range` refusal prints for its limit.
 abbrev pub limit_word : Limit → List ℕ
 limit_word limit.Summary = codes "summary"
 limit_word limit.Balance = codes "balance"
@@ -99,7 +102,7 @@ limit_word limit.Trades = codes "trades"
 limit_word limit.Accounts = codes "accounts"
 limit_word limit.Moves = codes "moves"
 
--- the number that is printed of a refusal
+-- The number that is printed for a refusal, 1 to 22.
 abbrev pub refusal_number : Refusal → ℕ
 refusal_number NoAccount = 1
 refusal_number NoCustomer = 2
@@ -124,37 +127,39 @@ refusal_number TooMany = 20
 refusal_number ClockEnd = 21
 refusal_number TooEarly = 22
 
--- what a refusal says beside its number
+-- The fields that follow the number of a refusal: the status code for `WrongStatus`, the word of
+-- the limit for `Range`, and none otherwise.
 abbrev pub refusal_words : Refusal → List (List ℕ)
 refusal_words (WrongStatus status) = status_code status ∷ []
 refusal_words (Range limit) = limit_word limit ∷ []
 refusal_words _ = []
 
--- the fields that are told of a refusal
+-- The fields that are printed for a refusal: its number, then its `refusal_words`.
 abbrev pub refusal_fields : Refusal → List (List ℕ)
 refusal_fields refusal = decimal (refusal_number refusal) ∷ refusal_words refusal
 
--- the same, joined by commas
+-- The text that is printed for a refusal: its fields, separated by commas.
 abbrev pub refusal_text : Refusal → List ℕ
 refusal_text refusal = join_with_byte 44 (refusal_fields refusal)
 
--- the number that stands for a fault
+-- The number that represents a fault: 90 for `Memory`, 91 for `Store`, 92 for `Damaged` with any
+-- condition.
 abbrev pub fault_number : Fault → ℕ
 fault_number Memory = 90
 fault_number Store = 91
 fault_number (Damaged condition) = 92
 
--- CA_TAX_ST
+-- The number of a tax status, 0 to 2 (CA_TAX_ST).
 abbrev pub tax_status_number : TaxStatus → ℕ
 tax_status_number Untaxed = 0
 tax_status_number Withheld = 1
 tax_status_number Reported = 2
 
--- the status with a number
+-- The tax status with the number `n`, or none if `n` is above 2.
 abbrev pub tax_status_of : ℕ → Option TaxStatus
 tax_status_of n = if n == 0 then Some Untaxed else if n == 1 then Some Withheld else if n == 2 then Some Reported else None
 
--- the word of a condition of the audit
+-- The word that represents an audit condition.
 abbrev pub condition_word : Condition → List ℕ
 condition_word condition.NotEmpty = codes "notempty"
 condition_word condition.Schema = codes "schema"

@@ -5,7 +5,8 @@ use crate::cents::Cents;
 use crate::wide::Wide;
 use std::marker::Model;
 
-/// An amount that is never below 0, such as a commission, a tax or the value of shares: whole cents, 0 to 10^17.
+/// An amount that is never negative, such as a commission, a tax or the value of shares: whole
+/// cents, 0 to 10^17, both included.
 #[derive(Clone, Copy, PartialEq, Eq)]
 pub struct Amount(u64);
 
@@ -23,7 +24,7 @@ impl Amount {
     /// The greatest amount, in cents.
     pub const GREATEST: u64 = 100_000_000_000_000_000;
 
-    /// The amount of so many cents, where it is within the limit.
+    /// Returns the amount of `cents`, or `None` if it is above `GREATEST`.
     pub fn new(cents: u64) -> Option<Amount>
         ensures { SomeIff result (cents ≤ Amount.GREATEST) cents }
     {
@@ -34,6 +35,7 @@ impl Amount {
         }
     }
 
+    /// Returns the amount in cents.
     pub fn get(self) -> u64
         ensures value { result ≡ self }
         ensures high { self ≤ Amount.GREATEST }
@@ -43,7 +45,7 @@ impl Amount {
 }
 
 impl Cents {
-    /// How much it is, whichever its sign.
+    /// Returns the absolute value.
     pub fn unsigned_abs(self) -> Amount
         ensures { result ≡ nat_abs self }
     {

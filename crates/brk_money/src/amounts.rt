@@ -8,17 +8,17 @@ use crate::qty::Qty;
 use crate::rate::Rate;
 use crate::tax_rate::TaxRate;
 
-/// `n / d` to the nearest whole number, a half upwards.
+/// Returns `n / d`, rounded to the nearest whole number; a half is rounded up.
 pub fn half_up(n: u128, d: u128) -> u128
     requires divisor { 0 < d }
     requires fits { 2 * n + d < 2 ^ 128 }
     ensures { result ≡ spec.half_up n d }
 {
-    // by two first, so that twice the divisor need not fit
+    // Divides by two first, so that twice the divisor need not fit.
     (2 * n + d) / 2 / d
 }
 
-// An amount that is within the limit.
+// Returns the amount of `cents`, which is within the limit.
 fn natural(cents: u128) -> Cents
     requires { cents ≤ Cents.GREATEST }
     ensures { result ≡ pos cents }
@@ -26,7 +26,7 @@ fn natural(cents: u128) -> Cents
     Cents::new(cents as i64).unwrap()
 }
 
-/// The commission of a trade, rounded once to whole cents (T_COMM, Trade-Result).
+/// Returns the commission of a trade in cents, rounded once (T_COMM, Trade-Result).
 pub fn commission(rate: Rate, qty: Qty, price: Price) -> Cents
     ensures { result ≡ pos (spec.commission rate qty price) }
 {
@@ -34,7 +34,8 @@ pub fn commission(rate: Rate, qty: Qty, price: Price) -> Cents
     natural(half_up(product, 10_000))
 }
 
-/// The tax on a trade's gain, rounded once to whole cents; a loss bears none (T_TAX, Trade-Result).
+/// Returns the tax on a trade's gain in cents, rounded once; the tax on a loss is 0 (T_TAX,
+/// Trade-Result).
 pub fn tax(gain: Cents, rates: TaxRate) -> Cents
     ensures { result ≡ pos (spec.tax gain rates) }
 {

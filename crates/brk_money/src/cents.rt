@@ -5,7 +5,7 @@ ghost use Rattle.brk_money.specs.Spelling.{cents_text, magnitude_text, most_cent
 use crate::whole::parse_whole;
 use std::marker::Model;
 
-/// An amount of whole cents, up to 10^17 either way.
+/// An amount in whole cents: -10^17 to 10^17, both included.
 #[derive(Clone, Copy, Debug, PartialEq, Eq)]
 pub struct Cents(i64);
 
@@ -20,10 +20,10 @@ impl Model for Cents {
 }
 
 impl Cents {
-    /// The greatest amount, either way.
+    /// The greatest absolute value, in cents.
     pub const GREATEST: u64 = 100_000_000_000_000_000;
 
-    /// The amount of so many cents, where it is within the limits.
+    /// Returns the amount of `cents`, or `None` if its absolute value is above `GREATEST`.
     pub fn new(cents: i64) -> Option<Cents>
         ensures { SomeIff result
             ((neg_ℤ (pos Cents.GREATEST) ≤ℤ cents) × (cents ≤ℤ pos Cents.GREATEST)) cents }
@@ -35,6 +35,7 @@ impl Cents {
         }
     }
 
+    /// Returns the amount in cents.
     pub fn get(self) -> i64
         ensures value { result ≡ self }
         ensures low { neg_ℤ (pos Cents.GREATEST) ≤ℤ self }
@@ -44,7 +45,7 @@ impl Cents {
     }
 }
 
-// The cents that the bytes spell without a sign.
+// Returns the cents that the bytes spell without a sign, or `None` if they spell none.
 #[tactic(auto, using(crate::proofs::Plain::plain_split, crate::proofs::Plain::plain_joined))]
 fn parse_plain(bytes: &[u8]) -> Option<u64>
     ensures found { IfSome result (λ n. (n ≤ most_cents) × (bytes.now ≡ magnitude_text n)) }
@@ -69,8 +70,9 @@ fn parse_plain(bytes: &[u8]) -> Option<u64>
     Some(n)
 }
 
-/// The amount that the bytes spell, within the limit: a minus below zero, digits without a needless zero, a point and
-/// two digits. `-0.00`, `010.00` and `10.0` spell none.
+/// Returns the amount that the bytes spell, or `None` if they spell none within the limits: a minus
+/// if it is negative, digits without a leading zero, a point and two digits. `-0.00`, `010.00` and
+/// `10.0` spell none.
 #[tactic(auto, using(crate::proofs::Plain::plain_split))]
 pub fn parse_cents(bytes: &[u8]) -> Option<Cents>
     ensures found { IfSome result (λ cents. IsWithin cents × (bytes.now ≡ cents_text cents)) }
@@ -95,7 +97,8 @@ pub fn parse_cents(bytes: &[u8]) -> Option<Cents>
     }
 }
 
-/// No two amounts are spelled alike.
+/// Proof-only: does nothing at run time. No two amounts within the limits have the same canonical
+/// text.
 pub fn one_spelling()
     ensures { (y z : ℤ) → IsWithin y → IsWithin z → cents_text y ≡ cents_text z → y ≡ z }
 {}

@@ -9,7 +9,7 @@ use crate::fault::Fault;
 use jiff::ToSpan;
 use jiff::civil::{Date, date};
 
-// The date of a day.
+// Returns the date of a day.
 fn date_of(day: Day) -> Date
     ensures { epoch_day result ≡ pos day }
 {
@@ -18,7 +18,7 @@ fn date_of(day: Day) -> Date
         .unwrap()
 }
 
-// The number below 100 that two digits spell.
+// Returns the number below 100 that two digits spell, or `None` if a byte is no digit.
 fn two_digits(tens: u8, ones: u8) -> Option<u8>
     ensures found { IfSome result (λ n. (n < 100) × (tens ≡ 48 + n / 10) × (ones ≡ 48 + n % 10)) }
     ensures none { IfNone result ((n : ℕ) → n < 100 → tens ≡ 48 + n / 10 → ones ≢ 48 + n % 10) }
@@ -29,7 +29,7 @@ fn two_digits(tens: u8, ones: u8) -> Option<u8>
     Some((tens - b'0') * 10 + (ones - b'0'))
 }
 
-// The date of a year, a month and a day of the month, where the calendar has it.
+// Returns the date of a year, a month and a day of the month, or `None` if the calendar lacks it.
 fn calendar_date(year: u16, month: u8, day: u8) -> Option<Date>
     requires year { year < 10000 }
     requires month { month < 100 }
@@ -43,7 +43,8 @@ fn calendar_date(year: u16, month: u8, day: u8) -> Option<Date>
     }
 }
 
-// The date that the bytes spell, with four digits of a year, two of a month and two of a day.
+// Returns the date that the bytes spell, or `None` if they spell none: four digits of a year, two
+// of a month and two of a day, with a hyphen between.
 #[tactic(auto, using(crate::proofs::DayTexts::spelled, crate::proofs::DayTexts::parts_spelled))]
 fn date_spelled(bytes: &[u8]) -> Option<Date>
     ensures found { IfSome result (λ date. (pos 0 ≤ℤ date.year) × (bytes.now ≡ date_digits (unsigned_abs date.year) date.month date.day)) }
@@ -67,8 +68,8 @@ fn date_spelled(bytes: &[u8]) -> Option<Date>
     calendar_date(u16::from(century) * 100 + u16::from(year), month, day)
 }
 
-/// The day that the bytes spell, as `2024-03-01`: four digits of a year, two of a month and two of a day of it, from
-/// 1970-01-01 to 9999-12-31.
+/// Returns the day that the bytes spell, such as `2024-03-01`, or `None` if they spell none: four
+/// digits of a year, two of a month and two of a day, from 1970-01-01 to 9999-12-31, both included.
 pub fn parse_day(bytes: &[u8]) -> Option<Day>
     ensures found { IfSome result (λ day. bytes.now ≡ day_text day) }
     ensures none { IfNone result ((n : ℕ) → n ≤ last_day → bytes.now ≢ day_text n) }
@@ -79,7 +80,7 @@ pub fn parse_day(bytes: &[u8]) -> Option<Day>
     Day::new(date.to_plain().to_unix_epoch_day())
 }
 
-// The digits of a date from the year 0 on.
+// Returns the ten bytes of a date whose year is not negative.
 fn date_bytes(date: Date) -> [u8; 10]
     requires { pos 0 ≤ℤ date.year }
     ensures { result ≡ date_digits (unsigned_abs date.year) date.month date.day }
@@ -103,7 +104,9 @@ fn date_bytes(date: Date) -> [u8; 10]
     ]
 }
 
-/// Adds the one spelling of a day, as `2024-03-01`. Where memory is refused the vector stays as it was.
+/// Appends the canonical text of a day, such as `2024-03-01`.
+///
+/// Fails with `Memory` only; `out` is then unchanged.
 #[tactic(auto, using(crate::proofs::DayTexts::text_of, crate::proofs::Calendar::from_zero))]
 pub fn write_day(out: &mut Vec<u8>, day: Day) -> Result<(), Fault>
     ensures ok { OnOk result (out.new.items ≡ out.old.items ++ day_text day) }
@@ -117,7 +120,7 @@ pub fn write_day(out: &mut Vec<u8>, day: Day) -> Result<(), Fault>
     }
 }
 
-/// No two days are spelled alike.
+/// Proof-only: does nothing at run time. No two days have the same canonical text.
 pub fn one_day_spelling()
     ensures { (m n : ℕ) → m ≤ last_day → n ≤ last_day → day_text m ≡ day_text n → m ≡ n }
 {}

@@ -5,7 +5,8 @@ ghost use Rattle.brk_money.specs.Moments as spec;
 use crate::stamp::Stamp;
 use std::marker::Model;
 
-/// A day, as the number of days since 1970-01-01, up to 9999-12-31: 0 to 2932896 (SE_CASH_DUE_DATE).
+/// A day as the number of days since 1970-01-01, up to 9999-12-31: 0 to 2932896, both included
+/// (SE_CASH_DUE_DATE).
 #[derive(Clone, Copy, Debug, PartialEq, Eq)]
 pub struct Day(i32);
 
@@ -25,10 +26,10 @@ impl Model for Day {
 }
 
 impl Day {
-    /// 9999-12-31.
+    /// The greatest day: 9999-12-31.
     pub const GREATEST: i32 = 2_932_896;
 
-    /// The day that is so many days after 1970-01-01, where it is within the limits.
+    /// Returns the day `days` days after 1970-01-01, or `None` if it is out of range.
     pub fn new(days: i32) -> Option<Day>
         ensures found { IfSome result (λ day. days ≡ pos day) }
         ensures limits { SomeIff (option_map (λ day. pos day) result) ((pos 0 ≤ℤ days) × (days ≤ℤ pos spec.last_day)) days }
@@ -40,6 +41,7 @@ impl Day {
         }
     }
 
+    /// Returns the number of days since 1970-01-01.
     pub fn get(self) -> i32
         ensures value { result ≡ pos self }
         ensures high { self ≤ spec.last_day }
@@ -47,7 +49,7 @@ impl Day {
         self.0
     }
 
-    /// The day that is so many days later, where it is within the limits.
+    /// Returns the day `days` days later, or `None` if it is out of range.
     pub fn later(self, days: u16) -> Option<Day>
         ensures { SomeIff result (self + days ≤ spec.last_day) (self + days) }
     {
@@ -55,7 +57,7 @@ impl Day {
     }
 }
 
-/// The UTC day of a stamp.
+/// Returns the UTC day of a stamp.
 pub fn day_of(stamp: Stamp) -> Day
     ensures { result ≡ spec.day_of stamp }
 {

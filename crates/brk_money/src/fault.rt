@@ -4,39 +4,39 @@ ghost use Rattle.brk_money.specs.declared.fault.Fault.TheVariants.{Memory};
 
 use std::alloc::{AllocError, AllocFailed};
 
-/// What is asked of the tables of a database, in the order of the tests.
+/// A condition that is checked of the tables of a database, in the order of the checks.
 #[derive(Clone, Copy, Debug, PartialEq, Eq)]
 pub enum Condition {
-    /// No table of a desk stands where one is to be made.
+    /// None of the desk's tables exists before they are created.
     NotEmpty,
-    /// The tables are there with their columns.
+    /// The tables exist with their columns.
     Schema,
-    /// Each column holds a value of its form and limit.
+    /// Columns are well-formed and within their limits, keys are unique, and references resolve.
     Form,
-    /// Each trade's statuses are a way that a trade can go.
+    /// Each trade's history is a valid status sequence.
     Status,
-    /// The requests are the pending trades.
+    /// The requests equal those of the pending trades.
     Requests,
-    /// The lots are those that the completed trades leave.
+    /// The lots equal those that the completed trades leave open.
     Lots,
-    /// The history of lots is that of the completed trades.
+    /// The history of lots equals that of the completed trades.
     History,
-    /// Each summary is the sum of its lots.
+    /// Each summary equals the shares bought less the shares sold.
     Summary,
-    /// Each broker's count is that of the completed trades.
+    /// Each broker's trade count equals the number of its completed trades.
     Count,
-    /// Each broker's commissions are the sum over the completed trades.
+    /// Each broker's commission total equals the sum over its completed trades.
     Commission,
-    /// Each settlement is that of its trade.
+    /// The settlements equal those of the completed trades.
     Settlement,
-    /// Each cash row is that of its trade.
+    /// The cash rows equal those of the completed cash trades and the movements.
     Cash,
-    /// Each balance is its opening plus its cash rows.
+    /// Each balance equals the opening balance plus the account's cash rows.
     Balance,
 }
 
 impl Condition {
-    /// The word that tells which condition fails.
+    /// Returns the word that represents the condition.
     pub fn word(self) -> &'static str
         ensures { result.now ≡ condition_word self }
     {
@@ -58,19 +58,20 @@ impl Condition {
     }
 }
 
-/// Why a call gave up. The tables hold what they held before the call.
+/// The reason why a call failed. A fault says nothing about the books.
 #[derive(Clone, Copy, Debug, PartialEq, Eq)]
 pub enum Fault {
-    /// Memory was refused.
+    /// Out of memory.
     Memory,
     /// The database or its disk failed.
     Store,
-    /// The tables of a database are not those of a desk; only where one is made, adopted or audited.
+    /// The database fails this condition of a desk's tables; returned only when tables are created,
+    /// adopted, upgraded or audited.
     Damaged(Condition),
 }
 
 impl Fault {
-    /// The number that stands for it, whatever condition fails.
+    /// Returns the number that represents the fault, the same for every condition.
     pub fn number(self) -> u8
         ensures { result ≡ fault_number self }
     {

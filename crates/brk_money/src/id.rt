@@ -3,7 +3,8 @@ ghost use Rattle.brk_money.specs.declared.id.TheConstants.Id;
 
 use std::marker::Model;
 
-/// The number of a customer, an account, a broker, a trade or a tax rate, 1 to 10^12.
+/// The number of a customer, an account, a broker, a trade or a tax rate: 1 to 10^12, both
+/// included.
 #[derive(Clone, Copy, Debug, PartialEq, Eq)]
 pub struct Id(u64);
 
@@ -21,7 +22,7 @@ impl Id {
     /// The greatest id.
     pub const GREATEST: u64 = 1_000_000_000_000;
 
-    /// The id with a number, where the number is within the limits.
+    /// Returns the id `number`, or `None` if it is not within 1 to `GREATEST`.
     pub fn new(number: u64) -> Option<Id>
         ensures { SomeIff result ((1 ≤ number) × (number ≤ Id.GREATEST)) number }
     {
@@ -32,6 +33,7 @@ impl Id {
         }
     }
 
+    /// Returns the number of the id.
     pub fn get(self) -> u64
         ensures value { result ≡ self }
         ensures low { 1 ≤ self }

@@ -1,5 +1,5 @@
-//! Amounts, moments and numbers of a brokerage, each within its limits and in one spelling, and the words that every
-//! layer names: the types and the statuses of trades, refusals and faults.
+//! Amounts, timestamps and numbers of a brokerage, each with its limits and one canonical text, and
+//! the words that all layers share: types and statuses of trades, refusals and faults.
 #![tactic(auto)]
 
 pub mod amount;

@@ -34,6 +34,7 @@ impl MoveId {
         }
     }
 
+    /// Returns the number of the cash row.
     pub fn get(self) -> u64
         ensures value { result ≡ self }
         ensures low { 1 ≤ self }

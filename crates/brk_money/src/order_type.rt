@@ -4,7 +4,8 @@ ghost use Rattle.brk_money.specs.OrderTypes.{kind_of, price_asked};
 use crate::price::Price;
 use crate::trade_type::TradeType;
 
-/// The type of an order, with the price of a share that it asks for where its type has one (TT_ID, Trade-Order).
+/// The type of an order, with the price per share that it asks for unless it is a market type
+/// (TT_ID, Trade-Order).
 #[derive(Clone, Copy)]
 pub enum OrderType {
     MarketBuy,
@@ -15,7 +16,7 @@ pub enum OrderType {
 }
 
 impl OrderType {
-    /// The type of the trade that it makes.
+    /// Returns the type of the trade that the order creates.
     pub fn kind(self) -> TradeType
         ensures { result ≡ kind_of self }
     {
@@ -28,7 +29,7 @@ impl OrderType {
         }
     }
 
-    /// The price of a share that it asks for; none for a market type.
+    /// Returns the price per share that the order asks for, or `None` for a market type.
     pub fn price(self) -> Option<Price>
         ensures { result ≡ price_asked self }
     {

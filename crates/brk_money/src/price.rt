@@ -3,7 +3,7 @@ ghost use Rattle.brk_money.specs.declared.price.TheConstants.Price;
 
 use std::marker::Model;
 
-/// The price of one share in cents, 1 to 9,999,999.
+/// The price of one share in cents: 1 to 9,999,999, both included.
 #[derive(Clone, Copy, Debug, PartialEq, Eq)]
 pub struct Price(u32);
 
@@ -21,7 +21,7 @@ impl Price {
     /// The greatest price, in cents.
     pub const GREATEST: u32 = 9_999_999;
 
-    /// The price of so many cents, where it is within the limits.
+    /// Returns the price of `cents`, or `None` if it is not within 1 to `GREATEST`.
     pub fn new(cents: u32) -> Option<Price>
         ensures { SomeIff result ((1 ≤ cents) × (cents ≤ Price.GREATEST)) cents }
     {
@@ -32,6 +32,7 @@ impl Price {
         }
     }
 
+    /// Returns the price in cents.
     pub fn get(self) -> u32
         ensures value { result ≡ self }
         ensures low { 1 ≤ self }

@@ -21,7 +21,7 @@ impl Qty {
     /// The greatest quantity.
     pub const GREATEST: u32 = 9_999_999;
 
-    /// The quantity of so many shares, where it is within the limits.
+    /// Returns the quantity of `shares`, or `None` if it is not within 1 to `GREATEST`.
     pub fn new(shares: u32) -> Option<Qty>
         ensures { SomeIff result ((1 ≤ shares) × (shares ≤ Qty.GREATEST)) shares }
     {
@@ -32,6 +32,7 @@ impl Qty {
         }
     }
 
+    /// Returns the number of shares.
     pub fn get(self) -> u32
         ensures value { result ≡ self }
         ensures low { 1 ≤ self }

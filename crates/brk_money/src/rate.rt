@@ -3,7 +3,7 @@ ghost use Rattle.brk_money.specs.declared.rate.TheConstants.Rate;
 
 use std::marker::Model;
 
-/// A commission rate in hundredths of a percent, 0 to 10,000 (CR_RATE).
+/// A commission rate in hundredths of a percent: 0 to 10,000, both included (CR_RATE).
 #[derive(Clone, Copy, Debug, PartialEq, Eq)]
 pub struct Rate(u32);
 
@@ -21,7 +21,7 @@ impl Rate {
     /// The greatest rate: the whole value of the trade.
     pub const GREATEST: u32 = 10_000;
 
-    /// The rate of so many hundredths of a percent, where it is within the limit.
+    /// Returns the rate of `hundredths`, or `None` if it is above `GREATEST`.
     pub fn new(hundredths: u32) -> Option<Rate>
         ensures { SomeIff result (hundredths ≤ Rate.GREATEST) hundredths }
     {
@@ -32,6 +32,7 @@ impl Rate {
         }
     }
 
+    /// Returns the rate in hundredths of a percent.
     pub fn get(self) -> u32
         ensures value { result ≡ self }
         ensures high { self ≤ Rate.GREATEST }

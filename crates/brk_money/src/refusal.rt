@@ -5,30 +5,30 @@ use crate::fault::Fault;
 use crate::status::Status;
 use std::fmt;
 
-/// What a call plans or reads, or why it refuses to; a fault where it can't tell.
+/// The result of a call that plans or reads: the value or a refusal, or a fault if the call failed.
 pub type Planned<T> = Result<Result<T, Refusal>, Fault>;
 
-/// What would leave its range.
+/// A number or a sum that would leave its range.
 #[derive(Clone, Copy, Debug, PartialEq, Eq)]
 pub enum Limit {
     /// The quantity of an account in a security (HS_QTY).
     Summary,
     /// An account's balance (CA_BAL).
     Balance,
-    /// A broker's commissions (B_COMM_TOTAL).
+    /// A broker's commission total (B_COMM_TOTAL).
     Broker,
     /// The volume of a security (LT_VOL).
     Volume,
     /// The number of trades.
     Trades,
-    /// The accounts of a customer.
+    /// The number of accounts of a customer.
     Accounts,
     /// The number of deposits and withdrawals, at most `Id::GREATEST`.
     Moves,
 }
 
 impl Limit {
-    /// The word that a refusal tells of it.
+    /// Returns the word that a refusal prints for the limit.
     pub fn word(self) -> &'static str
         ensures { result.now ≡ limit_word self }
     {
@@ -44,47 +44,52 @@ impl Limit {
     }
 }
 
-/// Why a command or a query is refused. A refusal changes nothing.
+/// The reason why a command or a query is refused. A refusal changes nothing.
 #[derive(Clone, Copy, Debug, PartialEq, Eq)]
 pub enum Refusal {
-    /// A field breaks its form, or the kind is unknown, or there are too few fields or too many.
+    /// A field is malformed, the kind is unknown, or there are too few or too many fields.
     BadText,
-    /// A quantity breaks its form or its limits.
+    /// A quantity is malformed or out of range.
     BadQty,
-    /// A price breaks its form or its limits, or does not fit the type of an order.
+    /// A price is malformed or out of range, or does not fit the type of an order.
     BadPrice,
-    /// There is no such type of trade.
+    /// The type of trade is unknown.
     BadType,
-    /// There are more than 20 of what is listed.
+    /// A list has more than 20 entries.
     TooMany,
-    /// The key is kept with another row.
+    /// Another row was accepted under the key before.
     KeyReused,
+    /// The account does not exist.
     NoAccount,
+    /// The customer does not exist.
     NoCustomer,
+    /// The broker does not exist.
     NoBroker,
+    /// The security does not exist.
     NoSecurity,
+    /// The trade does not exist.
     NoTrade,
-    /// There is no such tax rate.
+    /// The tax rate does not exist.
     NoTax,
-    /// The trade's status is another one.
+    /// The trade has this status, which the command does not allow.
     WrongStatus(Status),
-    /// The executor is neither the customer nor permitted.
+    /// The executor is neither the customer nor permitted to order for the account.
     NotPermitted,
-    /// It is there already.
+    /// The record already exists.
     Exists,
-    /// The band shares a quantity with another one.
+    /// The band shares a quantity with another band.
     Overlap,
-    /// The customer's tax rates would come to more than the whole.
+    /// The customer's tax rates would total more than `TaxRate::GREATEST`.
     TaxSum,
-    /// No charge is known for the type and the tier.
+    /// No charge exists for the type of trade and the tier.
     NoCharge,
-    /// No commission rate is known for the quantity.
+    /// No commission rate exists for the quantity.
     NoRate,
-    /// Something would leave its range.
+    /// A number or a sum would leave its range.
     Range(Limit),
     /// No later stamp is left, or a due day would fall after 9999-12-31.
     ClockEnd,
-    /// The settlement day is not later than the day (UTC) of the command's stamp.
+    /// The settlement day is not later than the UTC day of the command's stamp.
     TooEarly,
 }
 
@@ -120,7 +125,8 @@ impl Refusal {
     }
 }
 
-/// The fields that a line tells of a refusal, joined by commas: its number, then the status or the word.
+/// Writes the fields that a line prints for a refusal, separated by commas: its number, then the
+/// status code or the word of the limit, if it has one.
 impl fmt::Display for Refusal {
     ghost output = { λ refusal. Some (refusal_text refusal) };
 

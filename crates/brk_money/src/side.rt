@@ -1,4 +1,4 @@
-/// Which way a trade goes: whether shares come or leave.
+/// The side of a trade: shares are bought or sold.
 #[derive(Clone, Copy, Debug, PartialEq, Eq)]
 pub enum Side {
     Buy,

@@ -4,7 +4,8 @@ ghost use Rattle.brk_money.specs.Moments as spec;
 
 use std::marker::Model;
 
-/// A moment in milliseconds since 1970-01-01 UTC, up to the last of 9999-12-31: 0 to 253402300799999.
+/// A timestamp in milliseconds since 1970-01-01 UTC, up to the last of 9999-12-31: 0 to
+/// 253402300799999, both included.
 #[derive(Clone, Copy, Debug, PartialEq, Eq)]
 pub struct Stamp(i64);
 
@@ -24,10 +25,10 @@ impl Model for Stamp {
 }
 
 impl Stamp {
-    /// The last moment of 9999-12-31.
+    /// The greatest stamp: the last millisecond of 9999-12-31 UTC.
     pub const GREATEST: i64 = 253_402_300_799_999;
 
-    /// The stamp of so many milliseconds, where it is within the limits.
+    /// Returns the stamp of `millis`, or `None` if it is out of range.
     pub fn new(millis: i64) -> Option<Stamp>
         ensures found { IfSome result (λ stamp. millis ≡ pos stamp) }
         ensures limits { SomeIff (option_map (λ stamp. pos stamp) result) ((pos 0 ≤ℤ millis) × (millis ≤ℤ pos spec.last_stamp)) millis }
@@ -39,7 +40,7 @@ impl Stamp {
         }
     }
 
-    /// The stamp of so many milliseconds, or the nearest one where they are beyond the limits.
+    /// Returns the stamp of `millis`, or the nearest stamp if it is out of range.
     pub fn nearest(millis: i64) -> Stamp
         ensures within { pos 0 ≤ℤ millis → millis ≤ℤ pos spec.last_stamp → pos result ≡ millis }
         ensures below { millis ≤ℤ pos 0 → result ≡ 0 }
@@ -48,6 +49,7 @@ impl Stamp {
         Stamp(millis.max(0).min(Stamp::GREATEST))
     }
 
+    /// Returns the milliseconds since 1970-01-01 UTC.
     pub fn get(self) -> i64
         ensures value { result ≡ pos self }
         ensures high { self ≤ spec.last_stamp }
@@ -56,8 +58,8 @@ impl Stamp {
     }
 }
 
-/// The stamp of an accepted command: the moment, moved past the last stamp so that no two commands share one. None
-/// where the last stamp is the greatest.
+/// Returns the stamp of an accepted command: the clock reading `now`, or the millisecond after
+/// `last` if that is later. Returns `None` if `last` is the greatest stamp.
 pub fn stamp_after(last: Option<Stamp>, now: Stamp) -> Option<Stamp>
     ensures { result ≡ spec.stamp_after last now }
 {

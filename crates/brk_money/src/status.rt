@@ -1,23 +1,23 @@
 ghost use Rattle.std.specs.Prelude.{◌≡◌};
 ghost use Rattle.brk_money.specs.Kinds.{status_code, status_name};
 
-/// Where a trade stands (ST_ID, Trade-Order, Market-Feed, Trade-Result).
+/// The status of a trade (ST_ID, Trade-Order, Market-Feed, Trade-Result).
 #[derive(Clone, Copy, Debug, PartialEq, Eq)]
 pub enum Status {
-    /// A result has completed it.
+    /// A result has completed the trade.
     Completed,
     /// No trade of this desk is ever active.
     Active,
-    /// It was sent to the market.
+    /// The trade was sent to the market.
     Submitted,
-    /// It waits for its price.
+    /// The trade waits for its price.
     Pending,
-    /// It was taken back before its price came.
+    /// The trade was canceled while it was pending.
     Canceled,
 }
 
 impl Status {
-    /// The four letters that stand for the status in tables and replies.
+    /// Returns the four-letter code of the status, as in tables and replies.
     pub fn code(self) -> &'static str
         ensures { result.now ≡ status_code self }
     {
@@ -30,7 +30,7 @@ impl Status {
         }
     }
 
-    /// The status in words (ST_NAME).
+    /// Returns the name of the status (ST_NAME).
     pub fn name(self) -> &'static str
         ensures { result.now ≡ status_name self }
     {

@@ -3,7 +3,8 @@ ghost use Rattle.brk_money.specs.declared.tax_rate.TheConstants.TaxRate;
 
 use std::marker::Model;
 
-/// A tax rate, or a customer's sum of them, in hundred-thousandths, 0 to 100,000 (TX_RATE).
+/// A tax rate, or a customer's sum of tax rates, in hundred-thousandths: 0 to 100,000, both
+/// included (TX_RATE).
 #[derive(Clone, Copy, Debug, PartialEq, Eq)]
 pub struct TaxRate(u32);
 
@@ -21,7 +22,7 @@ impl TaxRate {
     /// The greatest rate: the whole gain.
     pub const GREATEST: u32 = 100_000;
 
-    /// The rate of so many hundred-thousandths, where it is within the limit.
+    /// Returns the rate of `parts`, or `None` if it is above `GREATEST`.
     pub fn new(parts: u32) -> Option<TaxRate>
         ensures { SomeIff result (parts ≤ TaxRate.GREATEST) parts }
     {
@@ -32,6 +33,7 @@ impl TaxRate {
         }
     }
 
+    /// Returns the rate in hundred-thousandths.
     pub fn get(self) -> u32
         ensures value { result ≡ self }
         ensures high { self ≤ TaxRate.GREATEST }

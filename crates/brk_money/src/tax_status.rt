@@ -1,19 +1,19 @@
 ghost use Rattle.std.specs.Prelude.{◌≡◌};
 ghost use Rattle.brk_money.specs.Kinds.{tax_status_number, tax_status_of};
 
-/// How an account's gains are taxed (CA_TAX_ST).
+/// The tax status of an account: how its gains are taxed (CA_TAX_ST).
 #[derive(Clone, Copy, Debug, PartialEq, Eq)]
 pub enum TaxStatus {
     /// No tax is recorded.
     Untaxed,
-    /// The tax is recorded and taken off the settlement.
+    /// The tax is recorded and withheld from the settlement.
     Withheld,
-    /// The tax is recorded and left to the customer.
+    /// The tax is recorded and not withheld.
     Reported,
 }
 
 impl TaxStatus {
-    /// The number that stands for the status in tables and rows, 0 to 2.
+    /// Returns the number of the status, as in tables and rows, 0 to 2.
     pub fn number(self) -> u8
         ensures { result ≡ tax_status_number self }
     {
@@ -24,7 +24,7 @@ impl TaxStatus {
         }
     }
 
-    /// The status with a number.
+    /// Returns the status with this number, or `None` if it is above 2.
     pub fn from_number(number: u64) -> Option<TaxStatus>
         ensures { result ≡ tax_status_of number }
     {

@@ -4,7 +4,7 @@ ghost use Rattle.brk_money.specs.declared.side.Side.TheVariants.{Sell};
 
 use crate::side::Side;
 
-/// What an order asks for (TT_ID, Trade-Order).
+/// The type of a trade (TT_ID, Trade-Order).
 #[derive(Clone, Copy, Debug, PartialEq, Eq)]
 pub enum TradeType {
     MarketBuy,
@@ -15,7 +15,7 @@ pub enum TradeType {
 }
 
 impl TradeType {
-    /// The three letters that stand for the type in tables and rows.
+    /// Returns the three-letter code of the type, as in tables and rows.
     pub fn code(self) -> &'static str
         ensures { result.now ≡ type_code self }
     {
@@ -28,7 +28,7 @@ impl TradeType {
         }
     }
 
-    /// The type in words (TT_NAME).
+    /// Returns the name of the type (TT_NAME).
     pub fn name(self) -> &'static str
         ensures { result.now ≡ type_name self }
     {
@@ -41,7 +41,7 @@ impl TradeType {
         }
     }
 
-    /// Which way such a trade goes.
+    /// Returns the side of a trade of this type.
     pub fn side(self) -> Side
         ensures { result ≡ side_of self }
     {
@@ -51,14 +51,14 @@ impl TradeType {
         }
     }
 
-    /// Whether shares leave (TT_IS_SELL).
+    /// Returns true if a trade of this type sells shares (TT_IS_SELL).
     pub fn is_sell(self) -> bool
         ensures { IsTrue result ↔ (side_of self ≡ Sell) }
     {
         self.side() == Side::Sell
     }
 
-    /// Whether it trades at the market's price (TT_IS_MRKT).
+    /// Returns true if a trade of this type is at the market price (TT_IS_MRKT).
     pub fn is_market(self) -> bool
         ensures { result ≡ is_market self }
     {

@@ -3,7 +3,8 @@ ghost use Rattle.std.specs.Fmt.{decimal};
 ghost use Rattle.std.specs.Str.{all_ascii_digits};
 ghost use Rattle.brk_money.specs.Spelling.{most_cents, read_on};
 
-// What digits read as, unless it is above the limit.
+// Returns the number that the bytes spell in decimal digits, or `None` if a byte is no digit or the
+// number is above `limit`.
 #[tactic(auto, using(crate::proofs::Digits::read_on_le))]
 fn read_digits(bytes: &[u8], limit: u64) -> Option<u64>
     requires { limit ≤ most_cents }
@@ -23,7 +24,8 @@ fn read_digits(bytes: &[u8], limit: u64) -> Option<u64>
     Some(value)
 }
 
-/// The whole number up to the limit that the bytes spell: digits without a sign and without a needless zero in front.
+/// Returns the whole number up to `limit` that the bytes spell, or `None` if they spell none:
+/// decimal digits without a sign or a leading zero.
 #[tactic(auto, using(crate::proofs::Digits::whole_found, crate::proofs::Digits::whole_only))]
 pub fn parse_whole(bytes: &[u8], limit: u64) -> Option<u64>
     requires { limit ≤ most_cents }

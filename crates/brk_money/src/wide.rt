@@ -9,7 +9,7 @@ use itoa::Buffer;
 use std::fmt;
 use std::marker::Model;
 
-/// An amount of cents that may go beyond the limits of a balance, as an asset total does.
+/// An amount in cents that may exceed the limits of a balance, as an asset total may.
 #[derive(Clone, Copy, Debug, PartialEq, Eq)]
 pub struct Wide(i128);
 
@@ -22,12 +22,14 @@ impl Model for Wide {
 }
 
 impl Wide {
+    /// Returns the amount of `cents`.
     pub fn new(cents: i128) -> Wide
         ensures { result ≡ cents }
     {
         Wide(cents)
     }
 
+    /// Returns the amount in cents.
     pub fn get(self) -> i128
         ensures { result ≡ self }
     {
@@ -51,7 +53,7 @@ impl From<Price> for Wide {
     }
 }
 
-/// Prints the one spelling of an amount, as `-12.05`.
+/// Writes the canonical text of an amount, such as `-12.05`.
 impl fmt::Display for Wide {
     ghost output = { λ amount. Some (cents_text amount) };
 
@@ -69,7 +71,7 @@ impl fmt::Display for Wide {
     }
 }
 
-// Adds three texts in turn.
+// Appends three texts in order. Fails with `Memory` only; `out` is then unchanged.
 fn append_three(out: &mut Vec<u8>, first: &[u8], second: &[u8], third: &[u8]) -> Result<(), Fault>
     ensures ok { OnOk result (out.new.items ≡ out.old.items ++ (first.now ++ (second.now ++ third.now))) }
     ensures err { OnErr result (out.new.items ≡ out.old.items) }
@@ -86,8 +88,10 @@ fn append_three(out: &mut Vec<u8>, first: &[u8], second: &[u8], third: &[u8]) ->
     Err(Fault::Memory)
 }
 
-/// Adds the one spelling of an amount: a minus below zero, digits, a point and two digits. Where memory is refused the
-/// vector stays as it was.
+/// Appends the canonical text of an amount: a minus if it is negative, digits, a point and two
+/// digits.
+///
+/// Fails with `Memory` only; `out` is then unchanged.
 pub fn write_cents(out: &mut Vec<u8>, amount: Wide) -> Result<(), Fault>
     ensures ok { OnOk result (out.new.items ≡ out.old.items ++ cents_text amount) }
     ensures err { OnErr result (out.new.items ≡ out.old.items) }

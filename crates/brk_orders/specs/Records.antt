@@ -1,4 +1,4 @@
--- What is asked for, in the abstract brokerage.
+-- The abstract value of each requested order, tick, completion, text update and movement of cash.
 use Rattle.std.specs.Prelude.{ℕ, List, [], ◌∷◌, map}
 use Rattle.std.specs.Global.{Vec}
 use Rattle.brk_money.specs.Spelling.{Text}
@@ -14,47 +14,50 @@ use Rattle.brk_orders.specs.declared.tick.Tick as tick
 use Rattle.brk_orders.specs.declared.update.Update as told_update
 use Rattle.brk_orders.specs.declared.update.Update.TheVariants as update
 
+-- The abstract order of an order.
 abbrev pub order_of : order.Order → Order
 order_of o = record { account = o.account; order_type = o.order_type; symbol = o.symbol; qty = o.qty; is_cash = o.is_cash; is_lifo = o.is_lifo; executor = executor_of o.executor }
 
--- the texts of an order's fields in their order
+-- The texts of an order's fields, in the order of the row.
 abbrev pub told_texts : told.Told → List Text
 told_texts t =
     t.account.now ∷ t.kind.now ∷ t.symbol.now ∷ t.qty.now ∷ t.price.now ∷ t.cash.now ∷ t.end.now ∷ t.first_name.now ∷ t.last_name.now ∷ t.tax_id.now ∷ []
 
+-- The abstract tick of a tick.
 abbrev pub tick_of : tick.Tick → Tick
 tick_of t = record { symbol = t.symbol; price = t.price; qty = t.qty }
 
--- a feed of one tick
+-- A list of one abstract tick.
 abbrev pub alone : tick.Tick → List Tick
 alone t = tick_of t ∷ []
 
+-- The abstract ticks of a list of ticks.
 abbrev pub ticks_of : List tick.Tick → List Tick
 ticks_of ticks = map tick_of ticks
 
--- the ticks that were taken so far
+-- The abstract ticks of a vector of ticks.
 abbrev pub items_of : Vec tick.Tick → List Tick
 items_of ticks = ticks_of ticks.items
 
--- a trade that is completed, and its price
+-- The command that completes a trade at a price.
 abbrev pub result_of : completion.Completion → Command
 result_of c = CompleteTrade c.trade c.price
 
--- the ids that were taken so far
+-- The ids in a vector.
 abbrev pub ids_in : Vec ℕ → List ℕ
 ids_in ids = ids.items
 
--- words of trades that are corrected
+-- The command of a text update.
 abbrev pub update_of : told_update.Update → Command
 update_of (update.Executors trades) = ChangeExecutors trades
 update_of (update.CashTypes account span) = ChangeCashTypes account span.first span.last
 update_of (update.CashNames symbol span) = ChangeCashNames symbol span.first span.last
 
--- what is told to move cash in a direction, of an account and an amount
+-- The command that moves an amount into the account or out of it.
 abbrev pub moved_by : Direction → (account amount : ℕ) → Command
 moved_by Deposit account amount = DepositCash account amount
 moved_by Withdrawal account amount = WithdrawCash account amount
 
--- cash that is moved
+-- The command of a deposit or a withdrawal.
 abbrev pub movement_of : Movement → Command
 movement_of m = moved_by m.direction m.account m.amount

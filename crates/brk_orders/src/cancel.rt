@@ -4,7 +4,10 @@ ghost use Rattle.brk_ref.specs.Fields.{Reads, texts};
 use brk_money::{Id, Refusal};
 use brk_ref::parse_id;
 
-/// The trade that the field TRADE names, which is to be canceled, or the refusal of its form. It takes no memory.
+/// Reads the trade to cancel from the field TRADE.
+///
+/// Refuses with `BadText` if there is not exactly one field, or if it is not an id. Does not
+/// allocate.
 pub fn check_cancel(fields: &[&[u8]]) -> Result<Id, Refusal>
     ensures { Reads (λ trade. trade) result (read_cancel (texts fields.now)) }
 {

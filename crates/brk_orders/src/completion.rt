@@ -5,17 +5,19 @@ ghost use Rattle.brk_ref.specs.Fields.{Reads, texts};
 use brk_money::{Id, Price, Refusal};
 use brk_ref::{parse_id, parse_price};
 
-/// The completion of a submitted trade, as it is told of (Trade-Result).
+/// The completion of a submitted trade, as it is requested (Trade-Result).
 #[derive(Clone, Copy)]
 pub struct Completion {
     /// The trade that is completed.
     pub trade: Id,
-    /// The price of a share that it was made at.
+    /// The price of a share at which it was executed.
     pub price: Price,
 }
 
-/// The completion that the fields TRADE and PRICE are, or the refusal of their form: of both refusals that of the trade
-/// stands (18), else the price's (9). It takes no memory.
+/// Reads a completion from the fields TRADE and PRICE.
+///
+/// Refuses with `BadText` (18) if there are not exactly two fields or TRADE is not an id, otherwise
+/// with `BadPrice` (9) if PRICE is not a price. Does not allocate.
 pub fn check_result(fields: &[&[u8]]) -> Result<Completion, Refusal>
     ensures { Reads result_of result (read_result (texts fields.now)) }
 {

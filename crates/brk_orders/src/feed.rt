@@ -12,7 +12,7 @@ use brk_money::{Planned, Refusal};
 use std::alloc::Global;
 use std::marker::Model;
 
-/// The ticks of a feed in their order, 1 to 20 of them.
+/// The ticks of a feed, in order, 1 to 20 of them.
 #[derive(Drop)]
 pub struct Feed {
     ticks: Vec<Tick>,
@@ -30,10 +30,11 @@ impl Model for Feed {
 }
 
 impl Feed {
-    /// The most ticks of a feed.
+    /// The greatest number of ticks of a feed.
     pub const MOST: usize = 20;
 
-    /// The feed of these ticks, or the refusal of none (18) or too many (20). It takes no memory.
+    /// Returns the feed of these ticks. Refuses with `BadText` (18) if there are none, and with
+    /// `TooMany` (20) if there are more than 20. Never allocates.
     pub fn new(ticks: Vec<Tick>) -> Result<Feed, Refusal>
         ensures { Reads ticks_of result (some_of (ticks_of ticks.items)) }
     {
@@ -46,7 +47,7 @@ impl Feed {
         Ok(Feed { ticks })
     }
 
-    /// The ticks in their order.
+    /// Returns the ticks, in order.
     pub fn ticks(&self) -> &[Tick]
         ensures { result.now ≡ self.now }
     {
@@ -54,7 +55,7 @@ impl Feed {
     }
 }
 
-// The place of a refusal of form among the tests.
+// Returns the rank of a refusal among the format checks.
 fn form_rank(refusal: Refusal) -> u8
     ensures { result ≡ forms.form_rank refusal }
 {
@@ -67,7 +68,7 @@ fn form_rank(refusal: Refusal) -> u8
     }
 }
 
-// The refusal of two that is tested first.
+// Returns the refusal of the format check that comes first.
 fn first_of(one: Refusal, other: Refusal) -> Refusal
     ensures { result ≡ (if nat_le (forms.form_rank one) (forms.form_rank other) then one else other) }
 {
@@ -78,7 +79,8 @@ fn first_of(one: Refusal, other: Refusal) -> Refusal
     }
 }
 
-// The ticks that were read and one more, or the refusal that is tested first.
+// Appends one tick to ticks that were parsed, or returns the refusal of the format check that comes
+// first.
 fn with_tick(ticks: Result<Vec<Tick>, Refusal>, tick: Result<Tick, Refusal>) -> Planned<Vec<Tick>>
     ensures read { IfOk result (λ read. seen items_of read ≡ joined (seen items_of ticks) (seen alone tick)) }
     ensures fault { OnErr result (result ≡ Err Memory) }
@@ -94,8 +96,8 @@ fn with_tick(ticks: Result<Vec<Tick>, Refusal>, tick: Result<Tick, Refusal>) -> 
     }
 }
 
-// The ticks that these texts are, three for each. All are tested: of several refusals the first in the order of the
-// tests stands, whichever tick it is of.
+// Parses the texts of ticks, three for each. All are checked, and the refusal is that of the first
+// failing format check, of whichever tick.
 fn ticks_from(alloc: Global, fields: &[&[u8]]) -> Planned<Vec<Tick>>
     ensures read { IfOk result (λ read. Reads items_of read (read_ticks (texts fields.now))) }
     ensures fault { OnErr result (result ≡ Err Memory) }
@@ -113,9 +115,11 @@ fn ticks_from(alloc: Global, fields: &[&[u8]]) -> Planned<Vec<Tick>>
     Ok(ticks)
 }
 
-/// The feed that the fields SYMBOL, PRICE and QTY of each tick are, or the refusal of their form. All fields are tested
-/// before the number of ticks, which is 1 to 20: of several refusals that of a text stands (18), else a quantity's (8), a
-/// price's (9), the number's (20).
+/// Reads a feed from the fields SYMBOL, PRICE and QTY of each tick. Fails with `Memory` only.
+///
+/// Refuses with `BadText` (18) for a malformed text, otherwise with `BadQty` (8) for a quantity,
+/// with `BadPrice` (9) for a price, and with `TooMany` (20) for more than 20 ticks. All fields are
+/// checked before the number of ticks; no tick at all is `BadText`.
 pub fn check_feed(alloc: Global, fields: &[&[u8]]) -> Planned<Feed>
     ensures read { IfOk result (λ read. Reads ticks_of read (read_feed (texts fields.now))) }
     ensures fault { OnErr result (result ≡ Err Memory) }

@@ -13,25 +13,25 @@ use brk_money::{Fault, Id, OrderType, Planned, Price, Qty, Refusal, TradeType};
 use brk_ref::{Executor, Name, Symbol, TaxId, parse_id, parse_price, parse_qty, parse_type};
 use std::alloc::Global;
 
-/// An order, as it is asked for (Trade-Order).
+/// An order, as it is requested (Trade-Order).
 #[derive(Drop)]
 pub struct Order {
-    /// The account that it is for.
+    /// The account of the order.
     pub account: Id,
-    /// Its type, with the price that it asks for.
+    /// The type, with the price that it requires.
     pub order_type: OrderType,
     pub symbol: Symbol,
-    /// How many shares.
+    /// The number of shares.
     pub qty: Qty,
-    /// Whether it is of the cash account, else it is on margin.
+    /// True for the cash account, false for margin.
     pub is_cash: bool,
-    /// Whether the last lots are closed first, else the first.
+    /// True if the last lots are closed first, false if the first are.
     pub is_lifo: bool,
-    /// Who places it.
+    /// The person who places it.
     pub executor: Executor,
 }
 
-// The fields of an order, as they are told.
+// The fields of an order, as they were received.
 #[derive(Clone, Copy)]
 struct Told<'a> {
     account: &'a [u8],
@@ -46,7 +46,7 @@ struct Told<'a> {
     tax_id: &'a [u8],
 }
 
-// Which of two words the bytes are.
+// Returns true for the word `yes`, false for the word `no`, and otherwise `None`.
 fn parse_either(yes: &str, no: &str, bytes: &[u8]) -> Option<bool>
     ensures { ok_or result BadText ≡ read_either yes.now no.now bytes.now }
 {
@@ -59,7 +59,7 @@ fn parse_either(yes: &str, no: &str, bytes: &[u8]) -> Option<bool>
     None
 }
 
-// Who places an order.
+// Parses the names and the tax id of an executor. Returns `None` if one is malformed.
 fn parse_executor(
     alloc: Global,
     first_name: &[u8],
@@ -85,7 +85,8 @@ fn parse_executor(
     }))
 }
 
-// A type of order that has no price, for which no text stands.
+// Returns an order type without a price. Refuses with `BadPrice` if the text of the price is not
+// empty.
 fn without_price(order_type: OrderType, price: &[u8]) -> Result<OrderType, Refusal>
     ensures { result ≡ forms.without_price order_type price.now }
 {
@@ -96,14 +97,15 @@ fn without_price(order_type: OrderType, price: &[u8]) -> Result<OrderType, Refus
     }
 }
 
-// The price that a text spells.
+// Parses a price. Refuses with `BadPrice` if the text is malformed.
 fn named_price(price: &[u8]) -> Result<Price, Refusal>
     ensures { result ≡ read_price price.now }
 {
     parse_price(price).ok_or(Refusal::BadPrice)
 }
 
-// Why an order of an unknown type is refused: for its price, where a text stands that is none, and else for its type.
+// Returns the refusal of an order with an unknown type: `BadPrice` if the text of the price is
+// malformed and not empty, otherwise `BadType`.
 fn without_type(price: &[u8]) -> Refusal
     ensures { forms.without_type price.now ≡ Err result }
 {
@@ -116,7 +118,7 @@ fn without_type(price: &[u8]) -> Refusal
     }
 }
 
-// The type of an order with its price, which has to stand where the type asks for one.
+// Returns the order type with its price, which the text must contain if the type requires one.
 fn order_type_for(kind: Option<TradeType>, price: &[u8]) -> Result<OrderType, Refusal>
     ensures { result ≡ forms.order_type_for kind price.now }
 {
@@ -130,7 +132,7 @@ fn order_type_for(kind: Option<TradeType>, price: &[u8]) -> Result<OrderType, Re
     }
 }
 
-// The order that these texts are.
+// Parses the fields of an order.
 fn order_from(alloc: Global, told: Told<'_>) -> Planned<Order>
     ensures read { IfOk result (λ read. Reads order_of read (read_order (told_texts told.entry))) }
     ensures fault { OnErr result (result ≡ Err Memory) }
@@ -168,9 +170,12 @@ fn order_from(alloc: Global, told: Told<'_>) -> Planned<Order>
     }))
 }
 
-/// The order that the fields ACCOUNT, TYPE, SYMBOL, QTY, PRICE, CASH, END, FIRST, LAST and TAXID are, or the refusal of
-/// their form. PRICE is empty for a market type, a price for the others, and either where there is no such type. Of
-/// several refusals that of a text stands (18), else the quantity's (8), the price's (9), the type's (7).
+/// Reads an order from the fields ACCOUNT, TYPE, SYMBOL, QTY, PRICE, CASH, END, FIRST, LAST and
+/// TAXID. PRICE is empty for a market type, a price for the other types, and either of them for an
+/// unknown type. Fails with `Memory` only.
+///
+/// Refuses with `BadText` (18) for a malformed text, otherwise with `BadQty` (8) for the quantity,
+/// with `BadPrice` (9) for the price, and with `BadType` (7) for the type.
 pub fn check_order(alloc: Global, fields: &[&[u8]]) -> Planned<Order>
     ensures read { IfOk result (λ read. Reads order_of read (read_order (texts fields.now))) }
     ensures fault { OnErr result (result ≡ Err Memory) }

@@ -5,14 +5,15 @@ ghost use Rattle.brk_money.specs.declared.refusal.Refusal.TheVariants.{BadText};
 
 use brk_money::{Stamp, parse_whole};
 
-/// The stamps from one to another, both included; none where the first is above the last.
+/// The stamps from `first` to `last`, both included. There are none if `first` is later than
+/// `last`.
 #[derive(Clone, Copy)]
 pub struct Span {
     pub first: Stamp,
     pub last: Stamp,
 }
 
-/// The stamp that the bytes spell.
+/// Parses a stamp. Returns `None` if the bytes are malformed or out of range.
 pub fn parse_stamp(bytes: &[u8]) -> Option<Stamp>
     ensures { ok_or result BadText ≡ read_stamp bytes.now }
 {

@@ -8,17 +8,17 @@ use brk_money::{Planned, Price, Qty, Refusal};
 use brk_ref::{Symbol, parse_price, parse_qty};
 use std::alloc::Global;
 
-/// A trade on the market, as a feed tells of it (Market-Feed).
+/// A trade on the market, as a feed reports it (Market-Feed).
 #[derive(Drop)]
 pub struct Tick {
     pub symbol: Symbol,
     /// The price of a share.
     pub price: Price,
-    /// How many shares were traded.
+    /// The number of shares that were traded.
     pub qty: Qty,
 }
 
-// The tick that these texts are, or the refusal of their form.
+// Parses the fields of a tick, or returns the refusal of malformed fields.
 pub(crate) fn tick_from(alloc: Global, symbol: &[u8], price: &[u8], qty: &[u8]) -> Planned<Tick>
     ensures read { IfOk result (λ read. Reads alone read (read_ticks (symbol.now ∷ price.now ∷ qty.now ∷ []))) }
     ensures fault { OnErr result (result ≡ Err Memory) }

@@ -10,7 +10,7 @@ use brk_ref::parse_id;
 use std::alloc::Global;
 use std::marker::Model;
 
-/// Different trades in the order in which they are named, 1 to 20 of them.
+/// Distinct trades in the order in which they are named, 1 to 20 of them.
 #[derive(Drop)]
 pub struct TradeIds {
     ids: Vec<Id>,
@@ -28,10 +28,11 @@ impl Model for TradeIds {
 }
 
 impl TradeIds {
-    /// The most trades that are named at once.
+    /// The greatest number of trades that one row names.
     pub const MOST: usize = 20;
 
-    /// These trades, or the refusal of one that is named twice or of none (18), or of too many (20). It takes no memory.
+    /// Returns these trades. Refuses with `BadText` (18) if there are none or one is named twice,
+    /// and with `TooMany` (20) if there are more than 20. Never allocates.
     pub fn new(ids: Vec<Id>) -> Result<TradeIds, Refusal>
         ensures { Reads (λ trades. trades) result (distinct_ids ids.items) }
     {
@@ -47,7 +48,7 @@ impl TradeIds {
         Ok(TradeIds { ids })
     }
 
-    /// The trades in their order.
+    /// Returns the trades, in order.
     pub fn ids(&self) -> &[Id]
         ensures { result.now ≡ self.now }
     {
@@ -55,14 +56,14 @@ impl TradeIds {
     }
 }
 
-// Whether a trade is among some.
+// Returns true if the trade is one of `ids`.
 fn is_among(id: Id, ids: &[Id]) -> bool
     ensures { result ≡ contains_number id ids.now }
 {
     ids.iter().any(|other| *other == id)
 }
 
-// Whether no trade is named twice.
+// Returns true if no trade is named twice.
 fn are_distinct(ids: &[Id]) -> bool
     ensures { result ≡ all_distinct ids.now }
 {
@@ -74,7 +75,7 @@ fn are_distinct(ids: &[Id]) -> bool
     true
 }
 
-// The trades that these texts name, each an id.
+// Parses the ids of trades.
 fn ids_from(alloc: Global, fields: &[&[u8]]) -> Planned<Vec<Id>>
     ensures read { IfOk result (λ read. Reads ids_in read (read_each read_id (texts fields.now))) }
     ensures fault { OnErr result (result ≡ Err Memory) }
@@ -89,8 +90,10 @@ fn ids_from(alloc: Global, fields: &[&[u8]]) -> Planned<Vec<Id>>
     Ok(Ok(ids))
 }
 
-/// The trades that the fields name, or the refusal of their form: 1 to 20 different ids. All fields are tested before
-/// the number of trades.
+/// Reads 1 to 20 distinct ids of trades from the fields. Fails with `Memory` only.
+///
+/// Refuses with `BadText` (18) if a field is malformed, if an id is named twice, or if there are
+/// none. Otherwise refuses with `TooMany` (20) if there are more than 20.
 pub fn check_ids(alloc: Global, fields: &[&[u8]]) -> Planned<TradeIds>
     ensures read { IfOk result (λ read. Reads (λ trades. trades) read (read_ids (texts fields.now))) }
     ensures fault { OnErr result (result ≡ Err Memory) }

@@ -12,19 +12,20 @@ use brk_money::{Id, Planned, Refusal};
 use brk_ref::{Symbol, parse_id};
 use std::alloc::Global;
 
-/// Words of trades that are to be corrected (Trade-Update).
+/// A text update of trades (Trade-Update).
 #[derive(Drop)]
 pub enum Update {
-    /// The executors' names of these trades.
+    /// Updates the executors' names of these trades.
     Executors(TradeIds),
-    /// How an account's trades are settled, of those that were completed between two stamps.
+    /// Updates the cash types of an account's trades that were completed between two stamps.
     CashTypes { account: Id, span: Span },
-    /// The texts of what a security's cash trades moved, of those that were completed between two stamps.
+    /// Updates the texts of the cash rows of a security's cash trades that were completed between
+    /// two stamps.
     CashNames { symbol: Symbol, span: Span },
 }
 
-/// The correction of executors' names that the fields, 1 to 20 different ids of trades, ask for, or the refusal of their
-/// form.
+/// Reads an update of executors' names from the fields, 1 to 20 distinct ids of trades, or returns
+/// the refusal of malformed fields. Fails with `Memory` only.
 pub fn check_upname(alloc: Global, fields: &[&[u8]]) -> Planned<Update>
     ensures read { IfOk result (λ read. Reads update_of read (read_as ChangeExecutors read_ids (texts fields.now))) }
     ensures fault { OnErr result (result ≡ Err Memory) }
@@ -35,8 +36,8 @@ pub fn check_upname(alloc: Global, fields: &[&[u8]]) -> Planned<Update>
     }
 }
 
-/// The correction of settlements that the fields ACCOUNT, FROM and TO ask for, or the refusal of their form. It takes no
-/// memory.
+/// Reads an update of cash types from the fields ACCOUNT, FROM and TO, or returns the refusal of
+/// malformed fields. Never allocates.
 pub fn check_upcash(fields: &[&[u8]]) -> Result<Update, Refusal>
     ensures { Reads update_of result (read_upcash (texts fields.now)) }
 {
@@ -56,7 +57,8 @@ pub fn check_upcash(fields: &[&[u8]]) -> Result<Update, Refusal>
     Ok(Update::CashTypes { account, span })
 }
 
-/// The correction of texts that the fields SYMBOL, FROM and TO ask for, or the refusal of their form.
+/// Reads an update of cash texts from the fields SYMBOL, FROM and TO, or returns the refusal of
+/// malformed fields. Fails with `Memory` only.
 pub fn check_uptext(alloc: Global, fields: &[&[u8]]) -> Planned<Update>
     ensures read { IfOk result (λ read. Reads update_of read (read_uptext (texts fields.now))) }
     ensures fault { OnErr result (result ≡ Err Memory) }

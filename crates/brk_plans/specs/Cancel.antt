@@ -1,4 +1,4 @@
--- Trades that are canceled: what is tested, and what an accepted cancel comes to.
+-- Cancels: the checks of the trade, and the plan of an accepted cancel.
 use Rattle.std.specs.Prelude.{◌≡◌, ℕ, true, not, List, [], ◌∷◌, ◌++◌, Option, Some, None}
 use Rattle.brk_money.specs.Kinds.{same_status}
 use Rattle.brk_money.specs.Moments.{stamp_after}
@@ -13,16 +13,17 @@ use Rattle.brk_changes.specs.declared.change.Change.TheVariants.{SetLast}
 use Rattle.brk_plans.specs.declared.plan.Plan.{Plan}
 use Rattle.brk_plans.specs.declared.reply.Reply.TheVariants as reply
 
--- what is tested of the trade that is named, by its status, where there is one: it has to wait for its price
+-- The checks of the trade with this status: it exists and is pending.
 abbrev pub cancel_tests : Option Status → List Test
 cancel_tests None = (true, NoTrade) ∷ []
 cancel_tests (Some status) = (not (same_status status Pending), WrongStatus status) ∷ []
 
--- the changes of a trade that is canceled, with the last stamp
+-- The row changes of a canceled trade, with the last stamp.
 abbrev pub cancel_changes : ℕ → ℕ → List Change
 cancel_changes trade stamp = left_waiting trade Canceled stamp ++ SetLast stamp ∷ []
 
--- the plan of a cancel that is accepted: the trade leaves the requests, the last stamp is moved, and the stamp is told
+-- The plan cancels the trade, deletes its request and sets the last stamp, and its reply has the
+-- stamp. The trade passes its checks.
 pub record IsCancel (trade : ℕ) (found : Option Status) (last : Option ℕ) (now : ℕ) (plan : Plan) : Type 0 where
   pub stamp : ℕ
   pub accepted : first_refusal (cancel_tests found ++ clock_test last now ∷ []) ≡ None

@@ -1,10 +1,10 @@
--- What the commands that add records are in the abstract brokerage.
+-- The commands of the model for records of reference data.
 use Rattle.brk_model.specs.Commands.{Command, AddBroker, AddCustomer, AddAccount, AddPermission, AddSecurity, AddCharge, AddBand, AddTaxRate, AddCustomerTax}
 use Rattle.brk_ref.specs.Records.{broker_of, customer_of, account_of, permission_of, listing_of, charge_of, band_of, tax_of, customer_tax_of}
 use Rattle.brk_plans.specs.declared.reference.Reference.{Reference}
 use Rattle.brk_plans.specs.declared.reference.Reference.TheVariants as reference
 
--- the command that adds a record
+-- The model's command that adds the record.
 abbrev pub command_of : Reference → Command
 command_of (reference.Broker broker) = AddBroker (broker_of broker)
 command_of (reference.Customer customer) = AddCustomer (customer_of customer)

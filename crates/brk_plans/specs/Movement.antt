@@ -1,4 +1,4 @@
--- Deposits and withdrawals: what is tested, and what an accepted one comes to.
+-- Deposits and withdrawals: their checks, and the plan of an accepted one.
 use Rattle.std.specs.Prelude.{◌≡◌, ℕ, ℤ, pos, neg_ℤ, ◌+ℤ◌, nat_abs, nat_le, nat_lt, is_none, unwrap_or, codes, List, [], ◌∷◌, ◌++◌, Option, None, Some}
 use Rattle.brk_money.specs.Moments.{stamp_after}
 use Rattle.brk_money.specs.Spelling.{Text}
@@ -19,47 +19,48 @@ use Rattle.brk_plans.specs.declared.movement.MoveFound.{MoveFound}
 use Rattle.brk_plans.specs.declared.plan.Plan.{Plan}
 use Rattle.brk_plans.specs.declared.reply.Reply.TheVariants as reply
 
--- an amount as it is moved in a direction
+-- The amount in cents, negative for a withdrawal.
 abbrev pub signed_by : Direction → ℕ → ℤ
 signed_by Deposit amount = pos amount
 signed_by Withdrawal amount = neg_ℤ (pos amount)
 
--- what is moved, below 0 where it is taken out
+-- The amount of the movement in cents, negative for a withdrawal.
 abbrev pub signed : Movement → ℤ
 signed m = signed_by m.direction m.amount
 
--- CM_NAME
+-- The text of the cash row (CM_NAME).
 abbrev pub name_of : Direction → Text
 name_of Deposit = codes "Deposit"
 name_of Withdrawal = codes "Withdrawal"
 
--- the balance of the account with it
+-- The balance of the account after the movement.
 abbrev pub balance_after : Movement → MoveFound → ℤ
 balance_after m found = unwrap_or found.balance (pos 0) +ℤ signed m
 
--- what is tested of a movement, by what was found in the tables
+-- The checks of a movement against the facts in the tables.
 abbrev pub move_tests : Movement → MoveFound → List Test
 move_tests m found =
     (is_none found.balance, NoAccount) ∷ (nat_lt greatest_amount (nat_abs (balance_after m found)), Range limit.Balance)
     ∷ (nat_le greatest_id found.movements, Range limit.Moves) ∷ []
 
--- the cash row of a movement
+-- The cash row of a movement.
 abbrev pub move_row : Movement → (number stamp : ℕ) → tables.MoveRow
 move_row m number stamp = record { id = number; account = m.account; trade = None; stamp = stamp; amount = signed m; name = name_of m.direction }
 
--- the changes of a movement: its row, the balance of the account, and the last stamp
+-- The row changes of a movement: its cash row, the balance of the account, and the last stamp.
 abbrev pub move_changes : ℕ → MoveRow → ℤ → ℕ → List Change
 move_changes account row balance stamp = change.AddMove row ∷ change.SetBalance account balance ∷ change.SetLast stamp ∷ []
 
--- what a movement comes to, with this number and this balance after it: a cash row more, the balance of the account, and the last stamp; the number
--- and the balance are told
+-- The plan adds the cash row with this number, and sets the balance of the account and the last
+-- stamp. Its reply has the stamp, the number and the balance.
 pub record IsMoved (m : Movement) (number : ℕ) (balance : ℤ) (stamp : ℕ) (plan : Plan) : Type 0 where
   pub row : MoveRow
   pub posted : move_row_of row ≡ move_row m number stamp
   pub told : plan.reply ≡ reply.Moved stamp number balance
   pub changes : plan.changes.items ≡ move_changes m.account row balance stamp
 
--- the plan of a movement that is accepted
+-- The plan applies the movement with the next number and the balance after it. The movement passes
+-- its checks.
 pub record IsMove (m : Movement) (found : MoveFound) (last : Option ℕ) (now : ℕ) (plan : Plan) : Type 0 where
   pub stamp : ℕ
   pub accepted : first_refusal (move_tests m found ++ clock_test last now ∷ []) ≡ None

@@ -1,4 +1,4 @@
--- The settlement day: what is tested, and what one that is set comes to.
+-- The settlement day: its checks, and the plan that sets it.
 use Rattle.std.specs.Prelude.{◌≡◌, ℕ, false, is_some, nat_le, List, [], ◌∷◌, Option, None, Some}
 use Rattle.std.specs.Option.{option_map_or}
 use Rattle.brk_money.specs.Moments.{day_of, stamp_after}
@@ -9,15 +9,16 @@ use Rattle.brk_plans.specs.Reference.{clock_test}
 use Rattle.brk_plans.specs.declared.plan.Plan.{Plan}
 use Rattle.brk_plans.specs.declared.reply.Reply.TheVariants as reply
 
--- the day has to be after the day of the stamp, where one is left
+-- The check that the day is later than the day of the command's stamp; it passes if no later stamp
+-- is left.
 abbrev pub early_test : ℕ → Option ℕ → ℕ → Test
 early_test day last now = (option_map_or (λ stamp. nat_le day (day_of stamp)) (stamp_after last now) false, TooEarly)
 
--- what is tested of a settlement day, by the one that is set, where there is one
+-- The checks of a settlement day; `rule` is the day that is already set, if any.
 abbrev pub one_day_tests : ℕ → Option ℕ → Option ℕ → ℕ → List Test
 one_day_tests day rule last now = exists_if (is_some rule) ∷ clock_test last now ∷ early_test day last now ∷ []
 
--- the plan of a settlement day that is accepted: it is set, the last stamp is moved, and the stamp is told
+-- The plan sets the day and the last stamp, and its reply has the stamp. The day passes its checks.
 pub record IsOneDay (day : ℕ) (rule : Option ℕ) (last : Option ℕ) (now : ℕ) (plan : Plan) : Type 0 where
   pub stamp : ℕ
   pub accepted : first_refusal (one_day_tests day rule last now) ≡ None

@@ -1,4 +1,4 @@
--- Records of reference data that commands add: what is tested, and what an accepted one comes to.
+-- Reference data: the checks of a record that a command adds, and the plan of an accepted one.
 use Rattle.std.specs.Prelude.{◌≡◌, ℕ, ◌+◌, Bool, true, not, nat_le, nat_lt, is_none, unwrap_or, List, [], ◌∷◌, ◌++◌, Option, Some, None}
 use Rattle.brk_money.specs.Moments.{stamp_after}
 use Rattle.brk_money.specs.declared.refusal.Refusal.TheVariants.{BadQty, NoAccount, NoCustomer, NoBroker, NoTax, Overlap, TaxSum, Range, ClockEnd}
@@ -16,30 +16,31 @@ use Rattle.brk_plans.specs.declared.reference.Reference.{Reference}
 use Rattle.brk_plans.specs.declared.reference.Reference.TheVariants as reference
 use Rattle.brk_plans.specs.declared.reply.Reply.TheVariants.{Booked}
 
--- what is tested of an account
+-- The checks of an account.
 abbrev pub account_tests : ReferenceFacts → List Test
 account_tests found =
     (not found.customer, NoCustomer) ∷ (not found.broker, NoBroker) ∷ exists_if found.same_id ∷ (nat_le most_accounts found.accounts, Range limit.Accounts) ∷ []
 
--- what is tested of a permission
+-- The checks of a permission.
 abbrev pub permission_tests : ReferenceFacts → List Test
 permission_tests found = (not found.account, NoAccount) ∷ exists_if found.same_id ∷ []
 
--- what is tested of a band
+-- The checks of a band.
 abbrev pub band_tests : Band → ReferenceFacts → List Test
 band_tests band found = (nat_lt band.to_qty band.from_qty, BadQty) ∷ (found.overlaps, Overlap) ∷ []
 
--- whether the sum of a customer's rates, where it is no more than the whole, and another rate come to more than that
+-- True if the customer's rates plus another rate exceed the greatest rate, or the customer's rates
+-- alone do (`None`).
 abbrev pub exceeds_whole : Option ℕ → Option ℕ → Bool
 exceeds_whole None rate = true
 exceeds_whole (Some rates) rate = nat_lt greatest_tax_rate (rates + unwrap_or rate 0)
 
--- what is tested of a tax that a customer is to pay
+-- The checks of a tax that a customer is to pay.
 abbrev pub customer_tax_tests : ReferenceFacts → List Test
 customer_tax_tests found =
     (not found.customer, NoCustomer) ∷ (is_none found.rate, NoTax) ∷ exists_if found.same_id ∷ (exceeds_whole found.rates found.rate, TaxSum) ∷ []
 
--- what is tested of a record, by what was found in the tables
+-- The checks of a record against the facts in the tables.
 abbrev pub tests_of : Reference → ReferenceFacts → List Test
 tests_of (reference.Broker broker) found = exists_if found.same_id ∷ []
 tests_of (reference.Customer customer) found = exists_if found.same_id ∷ exists_if found.same_tax_id ∷ []
@@ -51,11 +52,11 @@ tests_of (reference.Band band) found = band_tests band found
 tests_of (reference.TaxRate tax) found = exists_if found.same_id ∷ []
 tests_of (reference.CustomerTax pays) found = customer_tax_tests found
 
--- a stamp has to be left
+-- The check that a later stamp is left.
 abbrev pub clock_test : Option ℕ → ℕ → Test
 clock_test last now = (is_none (stamp_after last now), ClockEnd)
 
--- the change that adds a record
+-- The row change that adds the record.
 abbrev pub row_added : Reference → Change
 row_added (reference.Broker broker) = change.AddBroker broker
 row_added (reference.Customer customer) = change.AddCustomer customer
@@ -67,16 +68,17 @@ row_added (reference.Band band) = change.AddBand band
 row_added (reference.TaxRate tax) = change.AddTaxRate tax
 row_added (reference.CustomerTax pays) = change.AddCustomerTax pays
 
--- the last trade of a security that was only listed: its first price, and no volume
+-- The last trade of a newly listed security: its first price, and volume 0.
 abbrev pub first_trade : ℕ → Listing → LastTrade
 first_trade stamp listing = record { symbol = listing.security.symbol; stamp = stamp; price = listing.price; volume = 0 }
 
--- the changes that add a record's rows: a security comes with its last trade
+-- The row changes that add the record: of a security, its last trade too.
 abbrev pub rows_added : ℕ → Reference → List Change
 rows_added stamp (reference.Security listing) = change.AddSecurity listing.security ∷ change.AddLastTrade (first_trade stamp listing) ∷ []
 rows_added stamp other = row_added other ∷ []
 
--- the plan of a record that is accepted: its rows are added, the last stamp is moved, and the stamp is told
+-- The plan adds the rows of the record and sets the last stamp, and its reply has the stamp. The
+-- record passes its checks.
 pub record IsPlanned (reference : Reference) (found : ReferenceFacts) (last : Option ℕ) (now : ℕ) (plan : Plan) : Type 0 where
   pub stamp : ℕ
   pub accepted : first_refusal (tests_of reference found ++ clock_test last now ∷ []) ≡ None

@@ -1,4 +1,4 @@
--- What replies are in the abstract brokerage.
+-- The replies of the model for the program's replies.
 use Rattle.brk_model.specs.Commands as model
 use Rattle.brk_model.specs.Commands.{Reply, Booked, Ordered, Ticked, CanceledTrade, CompletedTrade, Changed, MovedCash}
 use Rattle.brk_plans.specs.declared.estimate.Estimate.{Estimate}
@@ -6,7 +6,7 @@ use Rattle.brk_plans.specs.declared.reply.Completed.{Completed}
 use Rattle.brk_plans.specs.declared.reply.Reply as trade
 use Rattle.brk_plans.specs.declared.reply.Reply.TheVariants as reply
 
--- the numbers of an order
+-- The model's estimate with the figures of `e`.
 abbrev pub estimate_of : Estimate → model.Estimate
 estimate_of e = record {
   price = e.price;
@@ -18,7 +18,7 @@ estimate_of e = record {
   assets = e.assets;
 }
 
--- the numbers of a completion
+-- The model's completion with the figures of `c`.
 abbrev pub completion_of : Completed → model.Completion
 completion_of c = record {
   commission = c.commission;
@@ -30,7 +30,7 @@ completion_of c = record {
   balance = c.balance;
 }
 
--- what is told of a command
+-- The model's reply for a reply of the program.
 abbrev pub reply_of : trade.Reply → Reply
 reply_of (reply.Booked stamp) = Booked stamp
 reply_of (reply.Ordered ordered) = Ordered ordered.stamp ordered.trade ordered.status (estimate_of ordered.estimate)
@@ -40,7 +40,7 @@ reply_of (reply.Completed completed) = CompletedTrade completed.stamp (completio
 reply_of (reply.Changed stamp count) = Changed stamp count
 reply_of (reply.Moved stamp number balance) = MovedCash stamp number balance
 
--- an estimate of the definitions, as the program has it
+-- The program's estimate with the figures of the model's estimate `e`.
 abbrev pub told : model.Estimate → Estimate
 told e = record {
   price = e.price;

@@ -11,7 +11,7 @@ use brk_changes::Change;
 use brk_money::{Fault, Id, Planned, Refusal, Stamp, Status, stamp_after};
 use std::alloc::Global;
 
-// The first cause to refuse a cancel of a trade of this status.
+// Returns the first refusal that applies to a cancel of a trade of this status.
 fn refusal_of(found: Option<Status>) -> Option<Refusal>
     ensures { result ≡ first_refusal (cancel_tests found) }
 {
@@ -22,7 +22,7 @@ fn refusal_of(found: Option<Status>) -> Option<Refusal>
     }
 }
 
-// The changes of a trade that is canceled, with the last stamp.
+// Returns the row changes of a canceled trade, with the last stamp.
 fn changes_of(alloc: Global, trade: Id, stamp: Stamp) -> Result<Vec<Change>, Fault>
     ensures changes { IfOk result (λ changes. changes.items ≡ cancel_changes trade stamp) }
     ensures fault { OnErr result (result ≡ Err Memory) }
@@ -33,10 +33,14 @@ fn changes_of(alloc: Global, trade: Id, stamp: Stamp) -> Result<Vec<Change>, Fau
     Ok(changes)
 }
 
-/// Plans the cancel of a trade, by its status, where there is such a trade, and the stamp of the last accepted command.
-/// It is refused with the first of `NoTrade` and `WrongStatus` (it does not wait for its price) that there is cause for,
-/// and with `ClockEnd` where no later stamp is left; else the trade is canceled with a row of history, its request is
-/// taken away, and the last stamp is moved.
+/// Plans the cancel of a trade from its status, `None` if it does not exist, and the stamp of the
+/// last accepted command.
+///
+/// The plan sets the status, adds a history row, deletes the request and sets the last stamp. Its
+/// reply has the stamp.
+///
+/// Refuses with the first that applies of `NoTrade`; `WrongStatus`, if the trade is not pending;
+/// and `ClockEnd`, if no later stamp is left. Fails with `Memory` only.
 pub fn plan_cancel(
     alloc: Global,
     trade: Id,

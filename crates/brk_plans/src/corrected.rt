@@ -2,7 +2,7 @@ use brk_changes::{CashType, TradeRow};
 use brk_money::{Id, Qty, TradeType};
 use brk_ref::Name;
 
-/// What tells how a completed trade is settled (SE_CASH_TYPE).
+/// The settlement text of a completed trade (SE_CASH_TYPE), and whether it is a cash trade.
 #[derive(Clone, Copy)]
 pub struct SettlementText {
     pub trade: Id,
@@ -20,13 +20,13 @@ pub struct CashText {
     pub name: String,
 }
 
-/// The trades of which words are corrected, in their order, with what tells the words.
+/// The trades of a text update, in order, with the facts that make their new texts.
 #[derive(Drop)]
 pub enum TextUpdate {
-    /// Trades whose executors' names are corrected.
+    /// Trades whose executors' names are updated.
     Executors(Vec<TradeRow>),
-    /// Trades whose settlements are corrected.
+    /// Trades whose settlement texts are updated.
     CashTypes(Vec<SettlementText>),
-    /// Trades whose texts are corrected, of a security of this name.
+    /// Trades whose cash texts are updated. The name is that of their security.
     CashNames(Name, Vec<CashText>),
 }

@@ -1,18 +1,18 @@
 use brk_money::{Amount, Price, Wide};
 
-/// The numbers of an order, in cents (Trade-Order).
+/// The figures of an order, in cents (Trade-Order).
 #[derive(Clone, Copy, PartialEq, Eq)]
 pub struct Estimate {
     /// The requested price.
     pub price: Price,
-    /// What the shares that it would close were bought for.
+    /// Buy value of the shares that it would close.
     pub buy_value: Amount,
-    /// What they would be sold for.
+    /// Sell value of these shares.
     pub sell_value: Amount,
-    /// The tax on what they gain.
+    /// The tax on their gain.
     pub tax: Amount,
     pub commission: Amount,
     pub charge: Amount,
-    /// The account's balance and the worth of what it holds, before the order.
+    /// The balance of the account plus the market value of its holdings, before the order.
     pub assets: Wide,
 }

@@ -20,8 +20,8 @@ use brk_orders::{Feed, Tick};
 use brk_ref::{LastTrade, Symbol, Volume};
 use std::alloc::Global;
 
-/// Whether a price of the market triggers a trade that waits for it: a stop loss at its bid or below, a limit sell at its
-/// bid or above, a limit buy at its bid or below (Market-Feed).
+/// Returns true if the market price triggers a pending trade of this type and bid (Market-Feed). A
+/// stop loss and a limit buy are triggered at the bid or below, a limit sell at the bid or above.
 pub fn triggers(kind: TradeType, bid: Price, price: Price) -> bool
     ensures { result ≡ definition.triggers kind bid price }
 {
@@ -33,28 +33,28 @@ pub fn triggers(kind: TradeType, bid: Price, price: Price) -> bool
     }
 }
 
-// Whether this is the quote of a symbol.
+// Returns true if this is the quote of the symbol.
 fn is_quote_of(quote: &Quote, symbol: &Symbol) -> bool
     ensures { result ≡ is_of symbol.now (held_of quote.now) }
 {
     quote.last.symbol.as_str() == symbol.as_str()
 }
 
-/// Whether a tick's symbol has no quote among those that were found.
+/// Returns true if none of the quotes is of the tick's symbol.
 pub fn has_no_quote(quotes: &[Quote], tick: &Tick) -> bool
     ensures { result ≡ lacks_quote (held quotes.now) tick.now }
 {
     !quotes.iter().any(|quote| is_quote_of(quote, &tick.symbol))
 }
 
-// Whether the symbol of some tick has no quote.
+// Returns true if the symbol of some tick has no quote.
 fn has_unknown(quotes: &[Quote], ticks: &[Tick]) -> bool
     ensures { result ≡ list_any (lacks_quote (held quotes.now)) ticks.now }
 {
     ticks.iter().any(|tick| has_no_quote(quotes, tick))
 }
 
-// The last trade after a tick, or the refusal where the volume would be beyond its limit.
+// Returns the last trade after the tick, or `Range(Volume)` if the volume would exceed its limit.
 fn last_after(stamp: Stamp, tick: &Tick, last: LastTrade) -> Result<LastTrade, Refusal>
     ensures after { IfOk result (λ after. after ≡ spec.last_after stamp tick.now last) }
     ensures refusal { IfErr result (λ refusal. (refusal ≡ Range limit.Volume) × (exceeds (record { last = spec.last_after stamp tick.now last; requests = [] }) ≡ true)) }
@@ -71,7 +71,7 @@ fn last_after(stamp: Stamp, tick: &Tick, last: LastTrade) -> Result<LastTrade, R
     })
 }
 
-// The change to a last trade.
+// Returns the row change that sets the last trade.
 fn set_to(last: &LastTrade) -> Result<Change, Fault>
     ensures change { IfOk result (λ change. change ≡ SetLastTrade last.now) }
     ensures fault { OnErr result (result ≡ Err Memory) }
@@ -84,7 +84,7 @@ fn set_to(last: &LastTrade) -> Result<Change, Fault>
     }))
 }
 
-// Adds the changes of the requests that a price triggers, and their trades.
+// Appends the row changes of the requests that the price triggers, and their trades.
 fn submit_triggered(
     stamp: Stamp,
     price: Price,
@@ -105,7 +105,7 @@ fn submit_triggered(
     Ok(())
 }
 
-// The requests that a price does not trigger.
+// Returns the requests that the price does not trigger.
 fn still_waiting(
     alloc: Global,
     price: Price,
@@ -123,7 +123,9 @@ fn still_waiting(
     Ok(waiting)
 }
 
-// A quote after a tick, where the tick is of its symbol, and what came of it added.
+// Returns the quote after the tick, and appends the row changes and the triggered trades. A quote
+// of another symbol is unchanged. Refuses with `Range(Volume)` if the volume would exceed its
+// limit.
 fn take_price(
     alloc: Global,
     stamp: Stamp,
@@ -153,7 +155,8 @@ fn take_price(
     Ok(Ok(Quote { last, requests }))
 }
 
-// The quotes after a tick, and what came of it added.
+// Returns the quotes after the tick, and appends the row changes and the triggered trades. Refuses
+// with `Range(Volume)` if the volume would exceed its limit.
 fn take_tick(
     alloc: Global,
     stamp: Stamp,
@@ -179,7 +182,7 @@ fn take_tick(
     Ok(Ok(after))
 }
 
-// What the type of each volume says: none is beyond its limit. It only reads them.
+// Proves that no volume exceeds its limit, by its type. It only reads them.
 fn tell_limits(quotes: &[Quote])
     ensures { list_any exceeds (held quotes.now) ≡ false }
 {
@@ -188,7 +191,8 @@ fn tell_limits(quotes: &[Quote])
     }
 }
 
-// Adds what comes of ticks, one after another, or the refusal where a volume would be beyond its limit.
+// Appends the row changes and the triggered trades of the ticks, in order. Refuses with
+// `Range(Volume)` if a volume would exceed its limit.
 fn take_ticks(
     alloc: Global,
     stamp: Stamp,
@@ -214,11 +218,16 @@ fn take_ticks(
     Ok(Ok(()))
 }
 
-/// Plans a feed, by the quotes of its symbols that were found, one for each symbol, and the stamp of the last accepted
-/// command. It is refused with the first of `NoSecurity` (of some tick) and `Range(Volume)` (after all ticks, those of
-/// one symbol added up) that there is cause for, and with `ClockEnd` where no later stamp is left; else each tick in its
-/// order sets the last trade of its symbol and submits the trades whose requests it triggers, as the ticks before it
-/// left them, and the last stamp is moved.
+/// Plans a feed from the quotes of its symbols, one for each symbol, and the stamp of the last
+/// accepted command.
+///
+/// Each tick in order sets the last trade of its symbol and submits the trades whose requests it
+/// triggers, after the changes of the ticks before it. The plan then sets the last stamp. Its reply
+/// has the stamp and the triggered trades.
+///
+/// Refuses with the first that applies of `NoSecurity`, if a tick has no quote; `Range(Volume)`, if
+/// a volume exceeds its limit after all ticks; and `ClockEnd`, if no later stamp is left. Fails
+/// with `Memory` only.
 pub fn plan_feed(
     alloc: Global,
     feed: &Feed,
@@ -235,7 +244,7 @@ pub fn plan_feed(
     if has_unknown(&quotes, ticks) {
         return Ok(Err(Refusal::NoSecurity));
     }
-    // The volumes are tested before the clock, and whatever the stamp.
+    // The volumes are checked before the clock. The stamp does not affect their check.
     let moved = stamp_after(last, now);
     let mut changes = Vec::new(alloc);
     let mut ids = Vec::new(alloc);

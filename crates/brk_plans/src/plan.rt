@@ -1,7 +1,8 @@
 use crate::reply::Reply;
 use brk_changes::Change;
 
-/// What an accepted command comes to: the changes of rows, in their order, and what is told of it.
+/// The effect of an accepted command: its row changes, in the order in which they are applied, and
+/// its reply.
 #[derive(Drop)]
 pub struct Plan {
     pub changes: Vec<Change>,

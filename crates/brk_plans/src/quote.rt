@@ -7,16 +7,15 @@ use brk_changes::RequestRow;
 use brk_money::Fault;
 use brk_ref::LastTrade;
 
-/// What the tables hold of the market of one security: its last trade, and trades that wait for a price of it, by rising
-/// trade.
+/// The last trade of one security, and its pending requests, sorted by trade.
 #[derive(Drop)]
 pub struct Quote {
     pub last: LastTrade,
     pub requests: Vec<RequestRow>,
 }
 
-/// A quote of a last trade and of the requests of the types that wait, which are merged by rising trade. The only fault
-/// is want of memory.
+/// Creates a quote of a last trade and of the requests of each pending type, which are merged in
+/// ascending order of their trades. Fails with `Memory` only.
 pub fn quote_with(
     last: LastTrade,
     stop_losses: Vec<RequestRow>,

@@ -30,41 +30,42 @@ pub enum Reference {
     CustomerTax(CustomerTax),
 }
 
-/// What the tables hold that decides on a record. What a kind does not need is not looked at.
+/// The facts in the tables that decide on a record. A fact that its kind does not need is not read.
 #[derive(Clone, Copy, PartialEq, Eq)]
 pub struct ReferenceFacts {
-    /// Whether a record has its id: of a permission its account and tax id, of a security its symbol, of a charge its
-    /// type and tier, of a customer's tax both ids.
+    /// True if a record with its key exists: of a permission the account and the tax id, of a
+    /// security the symbol, of a charge the type and the tier, of a customer's tax both ids,
+    /// otherwise the id.
     pub same_id: bool,
-    /// Whether a customer has its tax id.
+    /// True if a customer has its tax id.
     pub same_tax_id: bool,
-    /// Whether the customer that it names is there.
+    /// True if its customer exists.
     pub customer: bool,
-    /// Whether the broker that it names is there.
+    /// True if its broker exists.
     pub broker: bool,
-    /// How many accounts the customer has.
+    /// The number of accounts of the customer.
     pub accounts: usize,
-    /// Whether the account that it names is there.
+    /// True if its account exists.
     pub account: bool,
-    /// Whether a band shares a quantity with it.
+    /// True if a band shares a quantity with it.
     pub overlaps: bool,
-    /// The rate of the tax that it names, where there is one.
+    /// The rate of its tax rate, or `None` if that does not exist.
     pub rate: Option<TaxRate>,
-    /// The sum of the rates that the customer pays, where it is no more than the whole.
+    /// The sum of the rates that the customer pays, or `None` if it exceeds the greatest rate.
     pub rates: Option<TaxRate>,
 }
 
-/// The most accounts that a customer may have.
+/// The greatest number of accounts of a customer.
 pub const MOST_ACCOUNTS: usize = 10;
 
-// What is there already is not added again.
+// Returns `Exists` if the record was found.
 fn exists_if(found: bool) -> Option<Refusal>
     ensures { result ≡ (if found then Some Exists else None) }
 {
     if found { Some(Refusal::Exists) } else { None }
 }
 
-// The first refusal that there is cause for.
+// Returns the first refusal that applies to the record.
 fn refusal_of(reference: &Reference, found: ReferenceFacts) -> Option<Refusal>
     ensures { result ≡ first_refusal (tests_of reference.now found) }
 {
@@ -81,7 +82,7 @@ fn refusal_of(reference: &Reference, found: ReferenceFacts) -> Option<Refusal>
     }
 }
 
-// The first cause to refuse an account.
+// Returns the first refusal that applies to an account.
 fn account_refusal(found: ReferenceFacts) -> Option<Refusal>
     ensures { result ≡ first_refusal (account_tests found) }
 {
@@ -100,7 +101,7 @@ fn account_refusal(found: ReferenceFacts) -> Option<Refusal>
     None
 }
 
-// The first cause to refuse a permission.
+// Returns the first refusal that applies to a permission.
 fn permission_refusal(found: ReferenceFacts) -> Option<Refusal>
     ensures { result ≡ first_refusal (permission_tests found) }
 {
@@ -110,7 +111,7 @@ fn permission_refusal(found: ReferenceFacts) -> Option<Refusal>
     exists_if(found.same_id)
 }
 
-// The first cause to refuse a band.
+// Returns the first refusal that applies to a band.
 fn band_refusal(band: &Band, found: ReferenceFacts) -> Option<Refusal>
     ensures { result ≡ first_refusal (band_tests band.now found) }
 {
@@ -123,7 +124,7 @@ fn band_refusal(band: &Band, found: ReferenceFacts) -> Option<Refusal>
     None
 }
 
-// Whether a customer's rates and another one come to more than the whole.
+// Returns true if the customer's rates plus another one exceed the greatest rate.
 fn exceeds_whole(rates: Option<TaxRate>, rate: TaxRate) -> bool
     ensures { result ≡ spec.exceeds_whole rates (Some rate) }
 {
@@ -133,7 +134,7 @@ fn exceeds_whole(rates: Option<TaxRate>, rate: TaxRate) -> bool
     }
 }
 
-// The first cause to refuse a tax that a customer is to pay.
+// Returns the first refusal that applies to a tax that a customer is to pay.
 fn customer_tax_refusal(found: ReferenceFacts) -> Option<Refusal>
     ensures { result ≡ first_refusal (customer_tax_tests found) }
 {
@@ -152,7 +153,7 @@ fn customer_tax_refusal(found: ReferenceFacts) -> Option<Refusal>
     None
 }
 
-// The change that adds the record.
+// Returns the row change that adds the record.
 fn added(reference: &Reference) -> Result<Change, AllocError>
     ensures { IfOk result (λ change. change ≡ row_added reference.now) }
 {
@@ -169,7 +170,7 @@ fn added(reference: &Reference) -> Result<Change, AllocError>
     }
 }
 
-// The last trade of a security that was only listed: its first price, and no volume.
+// Returns the last trade of a newly listed security: its first price, and volume 0.
 fn first_trade(listing: &Listing, stamp: Stamp) -> Result<LastTrade, AllocError>
     ensures { IfOk result (λ row. row ≡ spec.first_trade stamp listing.now) }
 {
@@ -181,7 +182,7 @@ fn first_trade(listing: &Listing, stamp: Stamp) -> Result<LastTrade, AllocError>
     })
 }
 
-// The changes of an accepted record: its rows, and the last stamp.
+// Returns the row changes of an accepted record: its rows, and the last stamp.
 fn changes_of(alloc: Global, reference: &Reference, stamp: Stamp) -> Result<Vec<Change>, Fault>
     ensures changes { IfOk result (λ changes. changes.items ≡ rows_added stamp reference.now ++ change.SetLast stamp ∷ []) }
     ensures fault { OnErr result (result ≡ Err Memory) }
@@ -195,10 +196,16 @@ fn changes_of(alloc: Global, reference: &Reference, stamp: Stamp) -> Result<Vec<
     Ok(changes)
 }
 
-/// Plans a record of reference data, by what was found in the tables and the stamp of the last accepted command. It is
-/// refused with the first of `BadQty` (bounds of a band out of order), `NoAccount`, `NoCustomer`, `NoBroker`, `NoTax`,
-/// `Exists`, `Overlap`, `TaxSum` and `Range(Accounts)` that there is cause for, and with `ClockEnd` where no later stamp
-/// is left; else its row is added, of a security its last trade too, and the last stamp is moved.
+/// Plans a record of reference data from the facts in the tables and the stamp of the last accepted
+/// command.
+///
+/// The plan adds its row, of a security its last trade too, and sets the last stamp. Its reply has
+/// the stamp.
+///
+/// Refuses with the first that applies of `BadQty` (the bounds of a band are reversed),
+/// `NoAccount`, `NoCustomer`, `NoBroker`, `NoTax`, `Exists`, `Overlap`, `TaxSum` and
+/// `Range(Accounts)`; and then with `ClockEnd`, if no later stamp is left. Fails with `Memory`
+/// only.
 pub fn plan_reference(
     alloc: Global,
     reference: &Reference,

@@ -1,58 +1,59 @@
 use crate::estimate::Estimate;
 use brk_money::{Amount, Cents, Day, Id, MoveId, Stamp, Status};
 
-/// What is told of an accepted order (Trade-Order).
+/// The reply to an accepted order (Trade-Order).
 #[derive(Clone, Copy, PartialEq, Eq)]
 pub struct Ordered {
     pub stamp: Stamp,
-    /// The trade that the order became.
+    /// The number of the new trade.
     pub trade: Id,
-    /// Whether it was sent to the market or waits for its price.
+    /// `Submitted` for a market order, otherwise `Pending`.
     pub status: Status,
-    /// What it comes to, in cents.
+    /// The estimate of the order, in cents.
     pub estimate: Estimate,
 }
 
-/// What is told of a trade that was completed (Trade-Result), in cents.
+/// The figures of a completed trade (Trade-Result), in cents.
 #[derive(Clone, Copy, PartialEq, Eq)]
 pub struct Completed {
     pub stamp: Stamp,
     pub commission: Amount,
-    /// The tax on what the closed shares gained.
+    /// The tax on the realised gain of the closed shares.
     pub tax: Amount,
-    /// What the trade settles for, below 0 where the account pays.
+    /// The settlement amount, negative if the account pays.
     pub amount: Cents,
-    /// The day on which it settles.
+    /// The settlement day.
     pub due_day: Day,
-    /// What the closed shares were bought for.
+    /// Buy value of the closed shares.
     pub buy_value: Amount,
-    /// What they were sold for.
+    /// Sell value of the closed shares.
     pub sell_value: Amount,
-    /// The account's balance after it.
+    /// The balance of the account after the result.
     pub balance: Cents,
 }
 
-/// What is told of an accepted command, with its stamp.
+/// The reply to an accepted command, with its stamp.
 #[derive(Drop)]
 pub enum Reply {
     /// A row of reference data was added.
     Booked(Stamp),
     /// An order was placed.
     Ordered(Ordered),
-    /// Ticks were taken; the trades that they triggered, tick by tick, and by rising id within one.
+    /// A feed was taken. Lists the trades that its ticks triggered, tick by tick, and in ascending
+    /// order of id within one.
     Ticked(Stamp, Vec<Id>),
-    /// A trade that waited for its price was canceled.
+    /// A pending trade was canceled.
     Canceled(Stamp),
     /// A submitted trade was completed.
     Completed(Completed),
-    /// Words of so many trades were corrected.
+    /// Texts were updated; the count is the number of trades.
     Changed(Stamp, usize),
     /// Cash was deposited or withdrawn.
     Moved {
         stamp: Stamp,
         /// The number of its cash row (CM_ID).
         number: MoveId,
-        /// The account's balance after it.
+        /// The balance of the account after it.
         balance: Cents,
     },
 }

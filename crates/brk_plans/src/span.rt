@@ -11,7 +11,7 @@ pub struct Span {
     pub highest: Price,
 }
 
-// A span with a price more.
+// Returns the span widened to include the price.
 fn widened(span: Span, price: Price) -> Span
     ensures { result ≡ spec.widened price span }
 {
@@ -28,8 +28,8 @@ fn widened(span: Span, price: Price) -> Span
     Span { lowest, highest }
 }
 
-/// The lowest and the highest price of ticks of a symbol: that of the first one, and those of the others that are of the
-/// same symbol.
+/// Returns the lowest and the highest price of the ticks of the first tick's symbol. Ticks of other
+/// symbols do not count.
 pub fn span_of(first: &Tick, others: &[Tick]) -> Span
     ensures { result ≡ spec.span_of first.now others.now }
 {

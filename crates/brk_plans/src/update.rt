@@ -16,7 +16,7 @@ use brk_orders::Update;
 use brk_ref::Name;
 use std::alloc::Global;
 
-// The refusal where what an update names is not there.
+// Returns the refusal if what the update names does not exist.
 fn missing(update: &Update) -> Refusal
     ensures { result ≡ spec.missing update.now }
 {
@@ -27,7 +27,7 @@ fn missing(update: &Update) -> Refusal
     }
 }
 
-// The change of an executor's name.
+// Returns the row change of an executor's name.
 fn set_executor(alloc: Global, trade: &TradeRow) -> Result<Change, Fault>
     ensures change { IfOk result (λ change. after_change change ≡ executor_set trade.now) }
     ensures fault { OnErr result (result ≡ Err Memory) }
@@ -39,7 +39,7 @@ fn set_executor(alloc: Global, trade: &TradeRow) -> Result<Change, Fault>
     })
 }
 
-// The change of how a trade is settled.
+// Returns the row change of a settlement text.
 fn set_cash_type(settled: &SettlementText) -> Change
     ensures { after_change result ≡ cash_type_set settled.now }
 {
@@ -49,7 +49,7 @@ fn set_cash_type(settled: &SettlementText) -> Change
     }
 }
 
-// The change of the text of what a trade moved.
+// Returns the row change of a cash text.
 fn set_cash_name(alloc: Global, security: &Name, paid: &CashText) -> Result<Change, Fault>
     ensures change { IfOk result (λ change. after_change change ≡ cash_name_set security.now paid.now) }
     ensures fault { OnErr result (result ≡ Err Memory) }
@@ -94,7 +94,7 @@ fn set_cash_names(alloc: Global, security: &Name, paid: &[CashText]) -> Result<V
     Ok(changes)
 }
 
-// The changes of the words of trades.
+// Returns the row changes of the texts of the trades.
 fn set_words(alloc: Global, found: &TextUpdate) -> Result<Vec<Change>, Fault>
     ensures changes { IfOk result (λ changes. map after_change changes.items ≡ words_set found.now) }
     ensures fault { OnErr result (result ≡ Err Memory) }
@@ -106,7 +106,7 @@ fn set_words(alloc: Global, found: &TextUpdate) -> Result<Vec<Change>, Fault>
     }
 }
 
-// How many trades are corrected.
+// Returns the number of trades whose text is updated.
 fn count(found: &TextUpdate) -> usize
     ensures { result ≡ count_of found.now }
 {
@@ -117,10 +117,14 @@ fn count(found: &TextUpdate) -> usize
     }
 }
 
-/// Plans a correction of words (Trade-Update), by the trades that were found for it, none where what it names is not
-/// there, and the stamp of the last accepted command. It is refused with `NoTrade`, `NoAccount` or `NoSecurity` where
-/// nothing was found, and with `ClockEnd` where no later stamp is left; else the words of each trade are changed and the
-/// last stamp is moved. No status and no moment of a trade changes.
+/// Plans a text update (Trade-Update) from the trades that it selects, `None` if what it names does
+/// not exist, and the stamp of the last accepted command.
+///
+/// The plan updates one text of each trade and sets the last stamp. Its reply has the stamp and the
+/// number of trades. No status and no stamp of a trade changes.
+///
+/// Refuses with `NoTrade`, `NoAccount` or `NoSecurity` if `found` is `None`, and with `ClockEnd` if
+/// no later stamp is left. Fails with `Memory` only.
 pub fn plan_update(
     alloc: Global,
     update: &Update,

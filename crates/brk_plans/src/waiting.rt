@@ -5,7 +5,7 @@ ghost use Rattle.brk_plans.specs.Waiting.{left_waiting};
 use brk_changes::{Change, HistoryRow};
 use brk_money::{Fault, Id, Stamp, Status};
 
-// Adds the changes by which a trade that waited for its price comes to another status.
+// Appends the row changes by which a pending trade changes to another status.
 pub(crate) fn leave_waiting(
     trade: Id,
     status: Status,

@@ -1,4 +1,4 @@
-//! Words that are corrected: the name of an executor, how a trade is settled, the text of what it moved.
+//! Text updates: the name of an executor, the settlement text and the cash text of a trade.
 
 ghost use Rattle.std.specs.Prelude.{◌≡◌, ◌≤◌, ◌∷◌, ◌++◌, IfOk, OnOk, codes, decimal, length, string_bytes};
 ghost use Rattle.brk_model.specs.Lists.{holds_text, replace_text};
@@ -12,7 +12,7 @@ use brk_money::Qty;
 use brk_ref::Name;
 use std::alloc::{AllocError, Global};
 
-// A text with each occurrence of a part replaced, taken from the left without overlap.
+// Returns the text with each occurrence of `part` replaced by `new`, from the left without overlap.
 fn replaced(alloc: Global, text: &str, part: &str, new: &str) -> Result<String, AllocError>
     requires { 1 ≤ length part.now }
     ensures { IfOk result (λ result. string_bytes result ≡ replace_text part.now new.now text.now) }
@@ -28,14 +28,15 @@ fn replaced(alloc: Global, text: &str, part: &str, new: &str) -> Result<String, 
     Ok(written)
 }
 
-// Whether a text holds a part.
+// Returns true if the text contains the part.
 fn holds(text: &str, part: &str) -> bool
     ensures { result ≡ holds_text part.now text.now }
 {
     text.contains(part)
 }
 
-/// The name of an executor without " X " where it holds that, each time as one space; else with " X " for each space.
+/// Returns the executor's name with each " X " replaced by a space. If the name has no " X ", each
+/// space is replaced by " X ".
 pub fn changed_executor(alloc: Global, name: &str) -> Result<String, AllocError>
     ensures { IfOk result (λ result. string_bytes result ≡ definition.changed_executor name.now) }
 {
@@ -46,7 +47,7 @@ pub fn changed_executor(alloc: Global, name: &str) -> Result<String, AllocError>
     }
 }
 
-/// The other word for how a trade is settled, in cash or on margin.
+/// Returns the other settlement text of a cash trade (`is_cash`) or of a margin trade.
 pub fn changed_cash_type(is_cash: bool, cash_type: CashType) -> CashType
     ensures { cash_type_word result ≡ spec.changed_cash_type is_cash (cash_type_word cash_type) }
 {
@@ -58,14 +59,14 @@ pub fn changed_cash_type(is_cash: bool, cash_type: CashType) -> CashType
     }
 }
 
-// Adds how many shares were traded, and these words.
+// Appends a space, the number of shares and `words`.
 fn add_shares(text: &mut String, qty: Qty, words: &str) -> Result<(), AllocError>
     ensures { OnOk result (string_bytes text.new ≡ string_bytes text.old ++ 32 ∷ decimal qty ++ words.now) }
 {
     write!(text, " {}{words}", qty.get())
 }
 
-// The text of what a cash trade moved, with these words and the name of its security.
+// Returns the cash text of a trade with these words and the name of its security.
 fn cash_text(
     alloc: Global,
     paid: &CashText,
@@ -80,8 +81,8 @@ fn cash_text(
     Ok(text)
 }
 
-/// The text of what a cash trade moved, written anew with the name of its security: with " Shares of " where the old one
-/// holds " shares of ", else with " shares of ".
+/// Returns the new cash text of a trade with the name of its security: with " Shares of " if the
+/// old text contains " shares of ", otherwise with " shares of ".
 pub fn changed_cash_name(
     alloc: Global,
     paid: &CashText,

@@ -1,4 +1,4 @@
--- What the records are in the abstract brokerage.
+-- The abstract value of each record of this crate.
 use Rattle.std.specs.Prelude.{string_bytes}
 use Rattle.brk_model.specs.Records.{Broker, Customer, Account, Permission, Charge, Band, TaxRate, CustomerTax, Key, Kept, Executor}
 use Rattle.brk_model.specs.Commands.{Listing}
@@ -20,51 +20,67 @@ use Rattle.brk_ref.specs.declared.customer_tax.CustomerTax as customer_tax
 use Rattle.brk_ref.specs.declared.key.Key as key
 use Rattle.brk_ref.specs.declared.key.Kept as kept
 
+-- The abstract broker of a broker.
 abbrev pub broker_of : broker.Broker → Broker
 broker_of b = record { id = b.id; name = b.name }
 
+-- The abstract customer of a customer.
 abbrev pub customer_of : customer.Customer → Customer
 customer_of c = record { id = c.id; tier = c.tier; tax_id = c.tax_id; last_name = c.last_name; first_name = c.first_name }
 
+-- The abstract account of an account.
 abbrev pub account_of : account.Account → Account
 account_of a = record { id = a.id; customer = a.customer; broker = a.broker; name = a.name; tax_status = a.tax_status; opening = a.opening }
 
+-- The abstract permission of a permission.
 abbrev pub permission_of : permission.Permission → Permission
 permission_of p = record { account = p.account; acl = p.acl; tax_id = p.tax_id; last_name = p.last_name; first_name = p.first_name }
 
+-- The abstract executor of an executor.
 abbrev pub executor_of : executor.Executor → Executor
 executor_of e = record { first_name = e.first_name; last_name = e.last_name; tax_id = e.tax_id }
 
+-- The abstract SECURITY row of a security.
 abbrev pub security_of : security.Security → SecurityRow
 security_of s = record { symbol = s.symbol; name = s.name; exchange = s.exchange; sector = s.sector }
 
+-- The abstract listing of a listing.
 abbrev pub listing_of : listing.Listing → Listing
 listing_of l = record { symbol = l.security.symbol; name = l.security.name; exchange = l.security.exchange; sector = l.security.sector; price = l.price }
 
+-- The abstract LAST_TRADE row of a last trade.
 abbrev pub last_trade_of : last_trade.LastTrade → LastTradeRow
 last_trade_of l = record { symbol = l.symbol; stamp = l.stamp; price = l.price; volume = l.volume }
 
+-- The abstract charge of a charge.
 abbrev pub charge_of : charge.Charge → Charge
 charge_of c = record { kind = c.kind; tier = c.tier; amount = c.amount }
 
+-- The abstract commission band of a band.
 abbrev pub band_of : band.Band → Band
 band_of b = record { tier = b.tier; kind = b.kind; exchange = b.exchange; from_qty = b.from_qty; to_qty = b.to_qty; rate = b.rate }
 
+-- The abstract tax rate of a tax.
 abbrev pub tax_of : tax.Tax → TaxRate
 tax_of t = record { id = t.id; name = t.name; rate = t.rate }
 
+-- The abstract customer's tax of a customer's tax.
 abbrev pub customer_tax_of : customer_tax.CustomerTax → CustomerTax
 customer_tax_of x = record { customer = x.customer; tax = x.tax }
 
+-- The abstract key of a key.
 abbrev pub key_of : key.Key → Key
 key_of k = record { batch = k.batch; row = k.row }
 
+-- The abstract KEPT row of a stored reply.
 abbrev pub kept_of : kept.Kept → Kept
 kept_of k = record { key = key_of k.key; row_text = string_bytes k.row_text; line = string_bytes k.line }
 
+-- The abstract BROKER row of a broker's row.
 abbrev pub broker_row_of : broker_row.BrokerRow → BrokerRow
 broker_row_of r = record { id = r.broker.id; name = r.broker.name; trades = r.trades; commissions = r.commissions }
 
+-- The abstract CUSTOMER_ACCOUNT row of an account's row.
 abbrev pub account_row_of : account_row.AccountRow → AccountRow
 account_row_of r = record {
   id = r.account.id;

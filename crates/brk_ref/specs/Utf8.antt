@@ -1,4 +1,4 @@
--- Bytes that have one of the forms of text are UTF-8. These are facts for proofs, and no contract cites them.
+-- Bytes that pass a format check are UTF-8. These are facts for proofs, and no contract cites them.
 use Rattle.std.proofs.Common.{◌≡◌, ◌<◌, ℕ, List, [], ◌∷◌, Bool, true, false, refl, arith, ◌&&◌}
 use Rattle.std.specs.Prelude.{nat_le, zero, suc, ◌==◌, ◌||◌}
 use Rattle.std.specs.List.{list_all}
@@ -8,7 +8,7 @@ use Rattle.std.proofs.lemmas.Str.{IsUtf8-from_ascii, IsUtf8-from_is_utf8}
 use Rattle.std.proofs.lemmas.Bool.{leb-true, eqb-true}
 use Rattle.brk_model.specs.Forms.{is_word, is_name, is_tax_id, is_symbol, is_exchange, is_acl, is_batch_name}
 
--- tests that pass together, and one of two
+-- Each of two checks that pass together passes, and one of two alternatives applies.
 first_of : (a b : Bool) → a && b ≡ true → a ≡ true
 first_of true b h = refl
 first_of false b h = h
@@ -21,7 +21,7 @@ either : (a b : Bool) (P : Type 0) → (a ≡ true → P) → (b ≡ true → P)
 either true b P p q h = p refl
 either false b P p q h = q h
 
--- letters, digits and marks are below 128
+-- Letters, digits and the separators in a word are below 128.
 between_low : (low high c : ℕ) → high < 128 → nat_le low c && nat_le c high ≡ true → c < 128
 between_low low high c below h = let k = leb-true c high (second_of (nat_le low c) (nat_le c high) h) in omega (arith, k, below)
 
@@ -32,21 +32,25 @@ letter_low : (c : ℕ) → is_ascii_alphanumeric c ≡ true → c < 128
 letter_low c h =
     either _ _ (c < 128) (either _ _ (c < 128) (between_low 48 57 c (omega arith)) (between_low 65 90 c (omega arith))) (between_low 97 122 c (omega arith)) h
 
--- bytes that pass a test of what is below 128 are ASCII
+-- Bytes are ASCII if each passes a check that only bytes below 128 pass.
 ascii_by : (test : ℕ → Bool) → ((c : ℕ) → test c ≡ true → c < 128) → (text : List ℕ) → list_all test text ≡ true → IsAscii text
 ascii_by test low [] h i = omega arith
 ascii_by test low (c ∷ cs) h zero = low c (first_of (test c) (list_all test cs) h)
 ascii_by test low (c ∷ cs) h (suc i) = ascii_by test low cs (second_of (test c) (list_all test cs) h) i
 
+-- A word is UTF-8 if its check admits only bytes below 128.
 word_utf8 : (most : ℕ) (test : ℕ → Bool) → ((c : ℕ) → test c ≡ true → c < 128) → (text : List ℕ) → is_word most test text ≡ true → IsUtf8 text
 word_utf8 most test low text h = IsUtf8-from_ascii text (ascii_by test low text (second_of _ (list_all test text) h))
 
+-- A name is UTF-8.
 pub name_utf8 : (text : List ℕ) → is_name text ≡ true → IsUtf8 text
 name_utf8 text h = IsUtf8-from_is_utf8 text (second_of _ (is_utf8 text) (first_of _ _ h))
 
+-- A tax id is UTF-8.
 pub tax_id_utf8 : (text : List ℕ) → is_tax_id text ≡ true → IsUtf8 text
 tax_id_utf8 = word_utf8 20 _ (λ c. either _ _ (c < 128) (letter_low c) (mark_low 45 c (omega arith)))
 
+-- A symbol is UTF-8.
 pub symbol_utf8 : (text : List ℕ) → is_symbol text ≡ true → IsUtf8 text
 symbol_utf8 =
     word_utf8 15 _
@@ -54,15 +58,18 @@ symbol_utf8 =
     (either _ _ (c < 128) (either _ _ (c < 128) (between_low 65 90 c (omega arith)) (between_low 48 57 c (omega arith))) (mark_low 46 c (omega arith)))
     (mark_low 45 c (omega arith)))
 
+-- An exchange is UTF-8.
 pub exchange_utf8 : (text : List ℕ) → is_exchange text ≡ true → IsUtf8 text
 exchange_utf8 = word_utf8 6 _ (λ c. between_low 65 90 c (omega arith))
 
+-- The name of a batch is UTF-8.
 pub batch_name_utf8 : (text : List ℕ) → is_batch_name text ≡ true → IsUtf8 text
 batch_name_utf8 =
     word_utf8 40 _
     (λ c. either _ _ (c < 128)
     (either _ _ (c < 128) (either _ _ (c < 128) (letter_low c) (mark_low 46 c (omega arith))) (mark_low 45 c (omega arith))) (mark_low 95 c (omega arith)))
 
+-- The four characters of a permission are UTF-8.
 pub acl_utf8 : (text : List ℕ) → is_acl text ≡ true → IsUtf8 text
 acl_utf8 text h =
     IsUtf8-from_ascii text

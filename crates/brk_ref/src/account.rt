@@ -9,7 +9,7 @@ use crate::numbers::{parse_id, parse_opening, parse_tax_status};
 use brk_money::{Cents, Id, Planned, Refusal, TaxStatus};
 use std::alloc::Global;
 
-/// An account of a customer, looked after by a broker.
+/// An account of a customer, in the care of a broker.
 #[derive(Clone, Drop)]
 pub struct Account {
     pub id: Id,
@@ -17,7 +17,7 @@ pub struct Account {
     pub broker: Id,
     pub name: Name,
     pub tax_status: TaxStatus,
-    /// The balance that the account began with.
+    /// The balance at the opening of the account.
     pub opening: Cents,
 }
 
@@ -28,7 +28,7 @@ pub struct AccountRow {
     pub balance: Cents,
 }
 
-// The account that these texts are.
+// Parses the fields of an account.
 fn account_from(
     alloc: Global,
     id: &[u8],
@@ -69,7 +69,7 @@ fn account_from(
     }))
 }
 
-// The account of these parties, with the rest of its fields.
+// Parses the fields of an account, the last three of them in `terms`.
 fn account_on(
     alloc: Global,
     id: &[u8],
@@ -86,7 +86,8 @@ fn account_on(
     account_from(alloc, id, customer, broker, name, tax_status, opening)
 }
 
-/// The account that the fields ID, CUSTOMER, BROKER, NAME, TAXST and OPENING are, or the refusal of their form.
+/// Parses the fields ID, CUSTOMER, BROKER, NAME, TAXST and OPENING of an account, or returns the
+/// refusal of malformed fields. Fails with `Memory` only.
 pub fn check_account(alloc: Global, fields: &[&[u8]]) -> Planned<Account>
     ensures read { IfOk result (λ read. Reads account_of read (read_account (texts fields.now))) }
     ensures fault { OnErr result (result ≡ Err Memory) }

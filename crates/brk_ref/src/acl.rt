@@ -5,17 +5,17 @@ ghost use Rattle.brk_ref.specs.Utf8.{acl_utf8};
 
 use crate::text::{Form, Text};
 
-/// What a permission allows (AP_ACL): four characters, each 0 or 1, which are kept as they are.
+/// The rights of a permission (AP_ACL): four characters, each 0 or 1, which are stored as they are.
 pub type Acl = Text<AclForm>;
 
-// Whether there are only zeros and ones.
+// Returns true if every byte is a 0 or a 1.
 fn has_bits_only(text: &[u8]) -> bool
     ensures { result ≡ list_all (λ c. (c == 48) || (c == 49)) text.now }
 {
     text.iter().all(|c| *c == b'0' || *c == b'1')
 }
 
-/// The form of what a permission allows.
+/// The format of the rights of a permission.
 #[derive(Drop)]
 pub struct AclForm;
 

@@ -15,8 +15,8 @@ use crate::trade_type::parse_type;
 use brk_money::{Planned, Qty, Rate, Refusal, TradeType};
 use std::alloc::Global;
 
-/// The commission rate of a tier, a type and an exchange for quantities within two bounds, both included (a row of
-/// COMMISSION_RATE).
+/// The commission rate of a tier, a type and an exchange for quantities between two bounds, both
+/// included (a row of COMMISSION_RATE).
 #[derive(Clone, Drop)]
 pub struct Band {
     pub tier: Tier,
@@ -27,7 +27,7 @@ pub struct Band {
     pub rate: Rate,
 }
 
-// The bounds that these texts are, in order.
+// Parses two bounds. Returns `None` if one is malformed, or if the first exceeds the second.
 fn parse_bounds(low: &[u8], high: &[u8]) -> Option<(Qty, Qty)>
     ensures { ok_or result BadQty ≡ read_bounds low.now high.now }
 {
@@ -44,7 +44,7 @@ fn parse_bounds(low: &[u8], high: &[u8]) -> Option<(Qty, Qty)>
     }
 }
 
-// The band that these texts are.
+// Parses the fields of a band.
 fn band_from(
     alloc: Global,
     tier: &[u8],
@@ -82,7 +82,7 @@ fn band_from(
     }))
 }
 
-// The band of a tier, a type and an exchange, with the rest of its fields.
+// Parses the fields of a band, the last three of them in `terms`.
 fn band_on(
     alloc: Global,
     tier: &[u8],
@@ -99,7 +99,8 @@ fn band_on(
     band_from(alloc, tier, kind, exchange, low, high, rate)
 }
 
-/// The band that the fields TIER, TYPE, EXCHANGE, FROM, TO and RATE are, or the refusal of their form.
+/// Parses the fields TIER, TYPE, EXCHANGE, FROM, TO and RATE of a band, or returns the refusal of
+/// malformed fields. Fails with `Memory` only.
 pub fn check_band(alloc: Global, fields: &[&[u8]]) -> Planned<Band>
     ensures read { IfOk result (λ read. Reads band_of read (read_band (texts fields.now))) }
     ensures fault { OnErr result (result ≡ Err Memory) }
@@ -110,14 +111,14 @@ pub fn check_band(alloc: Global, fields: &[&[u8]]) -> Planned<Band>
     band_on(alloc, tier, kind, exchange, terms)
 }
 
-// Whether the quantity is within the band's bounds.
+// Returns true if the quantity is between the band's bounds, both included.
 fn holds(band: &Band, qty: Qty) -> bool
     ensures { result ≡ nat_le band.now.from_qty qty && nat_le qty band.now.to_qty }
 {
     band.from_qty.get() <= qty.get() && qty.get() <= band.to_qty.get()
 }
 
-/// Whether two bands share a quantity of a tier, a type and an exchange.
+/// Returns true if two bands have the same tier, type and exchange and share a quantity.
 pub fn share_quantity(one: &Band, other: &Band) -> bool
     ensures { result ≡ bands_meet (band_of one.now) (band_of other.now) }
 {
@@ -128,7 +129,9 @@ pub fn share_quantity(one: &Band, other: &Band) -> bool
         && other.from_qty.get() <= one.to_qty.get()
 }
 
-/// The rate of the first of the bands that a quantity is within. The bands are those of a tier, a type and an exchange.
+/// Returns the rate of the first band whose bounds contain the quantity, or `None` if no band does.
+///
+/// The tier, type and exchange of a band are not compared: pass the bands of one combination.
 pub fn band_for(bands: &[Band], qty: Qty) -> Option<Rate>
     ensures { result ≡ option_map (λ b. b.rate) (find (λ b. nat_le b.from_qty qty && nat_le qty b.to_qty) (map band_of bands.now)) }
 {
@@ -138,7 +141,8 @@ pub fn band_for(bands: &[Band], qty: Qty) -> Option<Rate>
     Some(band.rate)
 }
 
-/// Whether a band shares a quantity with one of the bands that is of its tier, its type and its exchange.
+/// Returns true if `band` shares a quantity with one of `bands` that has its tier, type and
+/// exchange.
 pub fn overlaps(bands: &[Band], band: &Band) -> bool
     ensures { result ≡ list_any (bands_meet (band_of band.now)) (map band_of bands.now) }
 {

@@ -9,14 +9,14 @@ use crate::text::{Form, Text};
 /// The name of a batch (K_BATCH): 1 to 40 ASCII letters, digits, points, hyphens and underscores.
 pub type BatchName = Text<BatchNameForm>;
 
-// Whether there are only letters, digits, points, hyphens and underscores.
+// Returns true if every byte is a letter, a digit, a point, a hyphen or an underscore.
 fn has_letters_only(text: &[u8]) -> bool
     ensures { result ≡ list_all (λ c. is_ascii_alphanumeric c || (c == 46) || (c == 45) || (c == 95)) text.now }
 {
     text.iter().all(|c| c.is_ascii_alphanumeric() || *c == b'.' || *c == b'-' || *c == b'_')
 }
 
-/// The form of a batch's name.
+/// The format of the name of a batch.
 #[derive(Drop)]
 pub struct BatchNameForm;
 

@@ -16,7 +16,8 @@ pub struct Broker {
     pub name: Name,
 }
 
-/// A row of BROKER: a broker with the number of its completed trades and their commissions in cents.
+/// A row of BROKER: a broker with the number of its completed trades and their commissions, in
+/// cents.
 #[derive(Drop)]
 pub struct BrokerRow {
     pub broker: Broker,
@@ -24,7 +25,8 @@ pub struct BrokerRow {
     pub commissions: u64,
 }
 
-/// The broker that the fields ID and NAME are, or the refusal of their form.
+/// Parses the fields ID and NAME of a broker, or returns the refusal of malformed fields. Fails
+/// with `Memory` only.
 pub fn check_broker(alloc: Global, fields: &[&[u8]]) -> Planned<Broker>
     ensures read { IfOk result (λ read. Reads broker_of read (read_broker (texts fields.now))) }
     ensures fault { OnErr result (result ≡ Err Memory) }

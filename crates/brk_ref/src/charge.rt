@@ -9,7 +9,7 @@ use crate::tier::Tier;
 use crate::trade_type::parse_type;
 use brk_money::{Refusal, TradeType};
 
-/// What an order of a type costs a customer of a tier (a row of CHARGE).
+/// The charge for an order of a type by a customer of a tier (a row of CHARGE).
 #[derive(Clone, Copy)]
 pub struct Charge {
     pub kind: TradeType,
@@ -17,7 +17,7 @@ pub struct Charge {
     pub amount: ChargeAmount,
 }
 
-// The charge that these texts are.
+// Parses the fields of a charge.
 fn charge_from(kind: &[u8], tier: &[u8], amount: &[u8]) -> Result<Charge, Refusal>
     ensures { Reads charge_of result (read_charge (kind.now ∷ tier.now ∷ amount.now ∷ [])) }
 {
@@ -33,7 +33,8 @@ fn charge_from(kind: &[u8], tier: &[u8], amount: &[u8]) -> Result<Charge, Refusa
     Ok(Charge { kind, tier, amount })
 }
 
-/// The charge that the fields TYPE, TIER and AMOUNT are, or the refusal of their form. It takes no memory.
+/// Parses the fields TYPE, TIER and AMOUNT of a charge, or returns the refusal of malformed fields.
+/// Never allocates.
 pub fn check_charge(fields: &[&[u8]]) -> Result<Charge, Refusal>
     ensures { Reads charge_of result (read_charge (texts fields.now)) }
 {

@@ -3,7 +3,7 @@ ghost use Rattle.brk_ref.specs.declared.charge_amount.TheConstants.ChargeAmount;
 
 use std::marker::Model;
 
-/// What an order costs beside its commission (CH_CHRG), in cents, 0 to 1,000,000.
+/// The cost of an order in addition to its commission (CH_CHRG), in cents, 0 to 1,000,000.
 #[derive(Clone, Copy, Debug, PartialEq, Eq)]
 pub struct ChargeAmount(u32);
 
@@ -21,7 +21,7 @@ impl ChargeAmount {
     /// The greatest charge, in cents.
     pub const GREATEST: u32 = 1_000_000;
 
-    /// The charge of so many cents, where it is within the limit.
+    /// Returns the charge of `cents` cents, or `None` if it exceeds `GREATEST`.
     pub fn new(cents: u32) -> Option<ChargeAmount>
         ensures { SomeIff result (cents ≤ ChargeAmount.GREATEST) cents }
     {
@@ -32,6 +32,7 @@ impl ChargeAmount {
         }
     }
 
+    /// Returns the charge in cents.
     pub fn get(self) -> u32
         ensures value { result ≡ self }
         ensures high { self ≤ ChargeAmount.GREATEST }

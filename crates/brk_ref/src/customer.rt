@@ -11,7 +11,7 @@ use crate::tier::Tier;
 use brk_money::{Id, Planned, Refusal};
 use std::alloc::Global;
 
-/// A customer. No two customers have one tax id.
+/// A customer. A tax id belongs to at most one customer.
 #[derive(Clone, Drop)]
 pub struct Customer {
     pub id: Id,
@@ -21,7 +21,7 @@ pub struct Customer {
     pub first_name: Name,
 }
 
-// The customer that these texts are.
+// Parses the fields of a customer.
 fn customer_from(
     alloc: Global,
     id: &[u8],
@@ -57,7 +57,8 @@ fn customer_from(
     }))
 }
 
-/// The customer that the fields ID, TIER, TAXID, LAST and FIRST are, or the refusal of their form.
+/// Parses the fields ID, TIER, TAXID, LAST and FIRST of a customer, or returns the refusal of
+/// malformed fields. Fails with `Memory` only.
 pub fn check_customer(alloc: Global, fields: &[&[u8]]) -> Planned<Customer>
     ensures read { IfOk result (λ read. Reads customer_of read (read_customer (texts fields.now))) }
     ensures fault { OnErr result (result ≡ Err Memory) }

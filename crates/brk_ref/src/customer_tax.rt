@@ -12,7 +12,8 @@ pub struct CustomerTax {
     pub tax: Id,
 }
 
-/// The tax and who pays it that the fields CUSTOMER and TAXRATE are, or the refusal of their form. It takes no memory.
+/// Parses the fields CUSTOMER and TAXRATE, or returns the refusal of malformed fields. Never
+/// allocates.
 pub fn check_customer_tax(fields: &[&[u8]]) -> Result<CustomerTax, Refusal>
     ensures { Reads customer_tax_of result (read_customer_tax (texts fields.now)) }
 {

@@ -9,14 +9,14 @@ use crate::text::{Form, Text};
 /// An exchange (S_EX_ID): 1 to 6 capital letters.
 pub type Exchange = Text<ExchangeForm>;
 
-// Whether there are only capital letters.
+// Returns true if every byte is a capital letter.
 fn has_letters_only(text: &[u8]) -> bool
     ensures { result ≡ list_all (λ c. is_ascii_uppercase c) text.now }
 {
     text.iter().all(|c| c.is_ascii_uppercase())
 }
 
-/// The form of an exchange.
+/// The format of an exchange.
 #[derive(Drop)]
 pub struct ExchangeForm;
 

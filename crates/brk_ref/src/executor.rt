@@ -1,7 +1,7 @@
 use crate::name::Name;
 use crate::tax_id::TaxId;
 
-/// Who places an order.
+/// The person who places an order.
 #[derive(Drop)]
 pub struct Executor {
     pub first_name: Name,

@@ -1,4 +1,4 @@
-//! The records of a brokerage, and the tests that make records of fields.
+//! The records of a brokerage, and the parsers of their fields.
 #![tactic(auto)]
 
 pub mod account;

@@ -12,14 +12,14 @@ use crate::symbol::Symbol;
 use brk_money::{Planned, Price, Refusal};
 use std::alloc::Global;
 
-/// A security as it is listed, with its first price.
+/// A security to list, with its first price.
 #[derive(Drop)]
 pub struct Listing {
     pub security: Security,
     pub price: Price,
 }
 
-// The security that these texts are.
+// Parses the fields of a listing.
 fn listing_from(
     alloc: Global,
     symbol: &[u8],
@@ -55,7 +55,8 @@ fn listing_from(
     Ok(Ok(Listing { security, price }))
 }
 
-/// The security that the fields SYMBOL, NAME, EXCHANGE, SECTOR and PRICE are, or the refusal of their form.
+/// Parses the fields SYMBOL, NAME, EXCHANGE, SECTOR and PRICE of a listing, or returns the refusal
+/// of malformed fields. Fails with `Memory` only.
 pub fn check_security(alloc: Global, fields: &[&[u8]]) -> Planned<Listing>
     ensures read { IfOk result (λ read. Reads listing_of read (read_security (texts fields.now))) }
     ensures fault { OnErr result (result ≡ Err Memory) }

@@ -3,7 +3,7 @@ ghost use Rattle.brk_ref.specs.declared.moved_amount.TheConstants.MovedAmount;
 
 use std::marker::Model;
 
-/// The amount of a deposit or a withdrawal in cents, 1 to 10^17, both included.
+/// The amount of a deposit or a withdrawal, in cents, 1 to 10^17, both included.
 #[derive(Clone, Copy, Debug, PartialEq, Eq)]
 pub struct MovedAmount(u64);
 
@@ -32,6 +32,7 @@ impl MovedAmount {
         }
     }
 
+    /// Returns the amount in cents.
     pub fn get(self) -> u64
         ensures value { result ≡ self }
         ensures low { 1 ≤ self }

@@ -9,14 +9,14 @@ use crate::text::{Form, Text};
 /// A name or a sector: text of 1 to 60 bytes of UTF-8 without control characters.
 pub type Name = Text<NameForm>;
 
-// Whether there is no control character.
+// Returns true if no character is a control character.
 fn has_no_control(text: &str) -> bool
     ensures { result ≡ list_all (λ c. not (is_control c)) (chars text.now) }
 {
     text.chars().all(|c| !c.is_control())
 }
 
-/// The form of a name.
+/// The format of a name.
 #[derive(Drop)]
 pub struct NameForm;
 

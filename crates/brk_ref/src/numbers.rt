@@ -8,7 +8,7 @@ use crate::charge_amount::ChargeAmount;
 use crate::moved_amount::MovedAmount;
 use brk_money::{Cents, Id, Price, Qty, Rate, TaxRate, TaxStatus, parse_cents, parse_whole};
 
-/// The id that the bytes spell.
+/// Parses an id. Returns `None` if the bytes are malformed or out of range.
 pub fn parse_id(bytes: &[u8]) -> Option<Id>
     ensures { ok_or result BadText ≡ read_id bytes.now }
 {
@@ -18,7 +18,7 @@ pub fn parse_id(bytes: &[u8]) -> Option<Id>
     Id::new(number)
 }
 
-/// The tax status whose number the bytes spell.
+/// Parses the number of a tax status. Returns `None` if the bytes are not one.
 pub fn parse_tax_status(bytes: &[u8]) -> Option<TaxStatus>
     ensures { ok_or result BadText ≡ read_tax_status bytes.now }
 {
@@ -28,14 +28,15 @@ pub fn parse_tax_status(bytes: &[u8]) -> Option<TaxStatus>
     TaxStatus::from_number(number)
 }
 
-/// The opening balance that the bytes spell, up to 10^17 cents either way.
+/// Parses an opening balance. Returns `None` if the bytes are malformed or the amount exceeds 10^17
+/// cents in either direction.
 pub fn parse_opening(bytes: &[u8]) -> Option<Cents>
     ensures { ok_or result BadText ≡ read_opening bytes.now }
 {
     parse_cents(bytes)
 }
 
-/// The quantity that the bytes spell.
+/// Parses a quantity. Returns `None` if the bytes are malformed or out of range.
 pub fn parse_qty(bytes: &[u8]) -> Option<Qty>
     ensures { ok_or result BadQty ≡ read_qty bytes.now }
 {
@@ -45,7 +46,8 @@ pub fn parse_qty(bytes: &[u8]) -> Option<Qty>
     Qty::new(number as u32)
 }
 
-/// The commission rate that the bytes spell, in hundredths of a percent.
+/// Parses a commission rate, in hundredths of a percent. Returns `None` if the bytes are malformed
+/// or out of range.
 pub fn parse_rate(bytes: &[u8]) -> Option<Rate>
     ensures { ok_or result BadText ≡ read_commission_rate bytes.now }
 {
@@ -55,7 +57,8 @@ pub fn parse_rate(bytes: &[u8]) -> Option<Rate>
     Rate::new(number as u32)
 }
 
-/// The rate of tax that the bytes spell, in hundred-thousandths.
+/// Parses a tax rate, in hundred-thousandths. Returns `None` if the bytes are malformed or out of
+/// range.
 pub fn parse_tax_rate(bytes: &[u8]) -> Option<TaxRate>
     ensures { ok_or result BadText ≡ read_rate_of_tax bytes.now }
 {
@@ -65,7 +68,8 @@ pub fn parse_tax_rate(bytes: &[u8]) -> Option<TaxRate>
     TaxRate::new(number as u32)
 }
 
-// The cents that the bytes spell, not below 0.
+// Parses an amount in cents that is not below 0. Returns `None` if the bytes are malformed or
+// exceed 10^17 cents.
 fn parse_unsigned(bytes: &[u8]) -> Option<u64>
     ensures { result ≡ at_most most_cents (unsigned (cents_of bytes.now)) }
 {
@@ -79,7 +83,7 @@ fn parse_unsigned(bytes: &[u8]) -> Option<u64>
     Some(cents as u64)
 }
 
-/// The price that the bytes spell.
+/// Parses a price. Returns `None` if the bytes are malformed or out of range.
 pub fn parse_price(bytes: &[u8]) -> Option<Price>
     ensures { ok_or result BadPrice ≡ read_price bytes.now }
 {
@@ -92,7 +96,7 @@ pub fn parse_price(bytes: &[u8]) -> Option<Price>
     Price::new(cents as u32)
 }
 
-/// The charge that the bytes spell.
+/// Parses a charge. Returns `None` if the bytes are malformed or out of range.
 pub fn parse_charge_amount(bytes: &[u8]) -> Option<ChargeAmount>
     ensures { ok_or result BadText ≡ read_charge_amount bytes.now }
 {

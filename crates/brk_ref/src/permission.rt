@@ -14,7 +14,8 @@ use crate::tax_id::TaxId;
 use brk_money::{Id, Planned, Refusal};
 use std::alloc::Global;
 
-/// Somebody other than the customer who may order for an account (a row of ACCOUNT_PERMISSION).
+/// A person other than the customer who may place orders for an account (a row of
+/// ACCOUNT_PERMISSION).
 #[derive(Clone, Drop)]
 pub struct Permission {
     pub account: Id,
@@ -24,7 +25,7 @@ pub struct Permission {
     pub first_name: Name,
 }
 
-// The permission that these texts are.
+// Parses the fields of a permission.
 fn permission_from(
     alloc: Global,
     account: &[u8],
@@ -60,7 +61,8 @@ fn permission_from(
     }))
 }
 
-/// The permission that the fields ACCOUNT, ACL, TAXID, LAST and FIRST are, or the refusal of their form.
+/// Parses the fields ACCOUNT, ACL, TAXID, LAST and FIRST of a permission, or returns the refusal of
+/// malformed fields. Fails with `Memory` only.
 pub fn check_permission(alloc: Global, fields: &[&[u8]]) -> Planned<Permission>
     ensures read { IfOk result (λ read. Reads permission_of read (read_permission (texts fields.now))) }
     ensures fault { OnErr result (result ≡ Err Memory) }
@@ -71,7 +73,7 @@ pub fn check_permission(alloc: Global, fields: &[&[u8]]) -> Planned<Permission>
     permission_from(alloc, account, acl, tax_id, last_name, first_name)
 }
 
-// Whether the executor has the three names of a person.
+// Returns true if the executor has this first name, last name and tax id.
 fn is_person(executor: &Executor, first_name: &Name, last_name: &Name, tax_id: &TaxId) -> bool
     ensures { result ≡ orders.is_person (executor_of executor.now) first_name.now last_name.now tax_id.now }
 {
@@ -80,7 +82,7 @@ fn is_person(executor: &Executor, first_name: &Name, last_name: &Name, tax_id: &
         && executor.tax_id.as_str() == tax_id.as_str()
 }
 
-// Whether a permission names the executor.
+// Returns true if the permission has the executor's first name, last name and tax id.
 fn names(permission: &Permission, executor: &Executor) -> bool
     ensures { result ≡ orders.is_person (executor_of executor.now) permission.now.first_name permission.now.last_name permission.now.tax_id }
 {
@@ -92,8 +94,8 @@ fn names(permission: &Permission, executor: &Executor) -> bool
     )
 }
 
-/// Whether the executor may order for an account of the customer: first name, last name and tax id are the customer's,
-/// or those of one of the account's permissions (Trade-Order).
+/// Returns true if the executor may place orders for an account (Trade-Order). First name, last
+/// name and tax id must be those of `customer` or of one of `permissions`.
 pub fn permitted(customer: &Customer, permissions: &[Permission], executor: &Executor) -> bool
     ensures { result ≡ orders.permitted (customer_of customer.now) (map permission_of permissions.now) (executor_of executor.now) }
 {

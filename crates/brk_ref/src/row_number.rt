@@ -21,7 +21,7 @@ impl RowNumber {
     /// The greatest number of a row.
     pub const GREATEST: u64 = 1_000_000_000_000;
 
-    /// The row with a number, where the number is within the limits.
+    /// Returns the row number `number`, or `None` if it is not within 1 to `GREATEST`.
     pub fn new(number: u64) -> Option<RowNumber>
         ensures { SomeIff result ((1 ≤ number) × (number ≤ RowNumber.GREATEST)) number }
     {
@@ -32,6 +32,7 @@ impl RowNumber {
         }
     }
 
+    /// Returns the number.
     pub fn get(self) -> u64
         ensures value { result ≡ self }
         ensures low { 1 ≤ self }

@@ -9,14 +9,14 @@ use crate::text::{Form, Text};
 /// The symbol of a security (S_SYMB): 1 to 15 capital letters, digits, points and hyphens.
 pub type Symbol = Text<SymbolForm>;
 
-// Whether there are only capital letters, digits, points and hyphens.
+// Returns true if every byte is a capital letter, a digit, a point or a hyphen.
 fn has_letters_only(text: &[u8]) -> bool
     ensures { result ≡ list_all (λ c. is_ascii_uppercase c || is_ascii_digit c || (c == 46) || (c == 45)) text.now }
 {
     text.iter().all(|c| c.is_ascii_uppercase() || c.is_ascii_digit() || *c == b'.' || *c == b'-')
 }
 
-/// The form of a symbol.
+/// The format of a symbol.
 #[derive(Drop)]
 pub struct SymbolForm;
 

@@ -17,7 +17,8 @@ pub struct Tax {
     pub rate: TaxRate,
 }
 
-/// The tax that the fields ID, NAME and RATE are, or the refusal of their form.
+/// Parses the fields ID, NAME and RATE of a tax, or returns the refusal of malformed fields. Fails
+/// with `Memory` only.
 pub fn check_tax_rate(alloc: Global, fields: &[&[u8]]) -> Planned<Tax>
     ensures read { IfOk result (λ read. Reads tax_of read (read_tax_rate (texts fields.now))) }
     ensures fault { OnErr result (result ≡ Err Memory) }

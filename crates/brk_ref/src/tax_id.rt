@@ -9,14 +9,14 @@ use crate::text::{Form, Text};
 /// A tax id (C_TAX_ID): 1 to 20 ASCII letters, digits and hyphens.
 pub type TaxId = Text<TaxIdForm>;
 
-// Whether there are only letters, digits and hyphens.
+// Returns true if every byte is a letter, a digit or a hyphen.
 fn has_letters_only(text: &[u8]) -> bool
     ensures { result ≡ list_all (λ c. is_ascii_alphanumeric c || (c == 45)) text.now }
 {
     text.iter().all(|c| c.is_ascii_alphanumeric() || *c == b'-')
 }
 
-/// The form of a tax id.
+/// The format of a tax id.
 #[derive(Drop)]
 pub struct TaxIdForm;
 

@@ -4,7 +4,7 @@ ghost use Rattle.brk_money.specs.declared.tax_rate.TheConstants.TaxRate;
 use crate::tax::Tax;
 use brk_money::TaxRate;
 
-/// The sum of the rates, where it is no more than the whole.
+/// Returns the sum of the rates, or `None` if it exceeds the whole (`TaxRate::GREATEST`).
 pub fn tax_sum(taxes: &[Tax]) -> Option<TaxRate>
     ensures { SomeIff result (sum_by (λ tax. tax.rate) taxes.now ≤ TaxRate.GREATEST) (sum_by (λ tax. tax.rate) taxes.now) }
 {

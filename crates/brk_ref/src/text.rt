@@ -9,18 +9,18 @@ use brk_money::Fault;
 use std::alloc::{AllocError, Global};
 use std::marker::{Model, PhantomData};
 
-/// A form of text, as that of a symbol or of a name.
+/// A format of text, such as that of a symbol or of a name.
 pub trait Form {
     ghost form: { List ℕ → Bool };
 
-    /// Whether the text has the form.
+    /// Returns true if the text has the format.
     fn has_form(text: &str) -> bool
         ensures { result ≡ form text.now };
 
     ghost is_utf8: { (bytes : List ℕ) → form bytes ≡ true → IsUtf8 bytes };
 }
 
-/// A text of a form, which contracts see as its bytes.
+/// A text of the format `F`. Contracts see its bytes.
 #[derive(Drop)]
 pub struct Text<F: Form> {
     text: String,
@@ -36,7 +36,7 @@ impl<F: Form> Model for Text<F> {
 }
 
 impl<F: Form> Text<F> {
-    /// The text, where it has the form.
+    /// Returns the text, or `None` if it does not have the format.
     pub fn new(text: String) -> Option<Text<F>>
         ensures { ok_or result BadText ≡ read_text F.form (string_bytes text) }
     {
@@ -50,7 +50,8 @@ impl<F: Form> Text<F> {
         }
     }
 
-    /// The text that the bytes are, where they have the form.
+    /// Copies the bytes as a text. Returns `None` if they do not have the format. Fails with
+    /// `Memory` only.
     pub fn parse(alloc: Global, bytes: &[u8]) -> Result<Option<Text<F>>, Fault>
         ensures read { IfOk result (λ text. ok_or text BadText ≡ read_text F.form bytes.now) }
         ensures fault { OnErr result (result ≡ Err Memory) }
@@ -68,13 +69,14 @@ impl<F: Form> Text<F> {
         }))
     }
 
+    /// Returns the text.
     pub fn as_str(&self) -> &str
         ensures { result.now ≡ self.now }
     {
         self.text.as_str()
     }
 
-    /// A text has its form. There is nothing to call it for but this fact.
+    /// Proof-only: states that the text has its format. Does nothing at run time.
     pub fn keeps_form(&self)
         ensures { F.form self.now ≡ true }
     {

@@ -6,7 +6,7 @@ ghost use Rattle.brk_money.specs.declared.refusal.Refusal.TheVariants.{BadText};
 use brk_money::parse_whole;
 use std::marker::Model;
 
-/// A customer's tier (C_TIER), 1 to 3: charges and commission rates go by it.
+/// A customer's tier (C_TIER), 1 to 3. Charges and commission rates depend on it.
 #[derive(Clone, Copy, PartialEq, Eq)]
 pub struct Tier(u8);
 
@@ -21,7 +21,7 @@ impl Model for Tier {
 }
 
 impl Tier {
-    /// The tier with a number.
+    /// Returns the tier `number`, or `None` if it is not within 1 to 3.
     pub fn new(number: u64) -> Option<Tier>
         ensures { SomeIff result ((1 ≤ number) × (number ≤ 3)) number }
     {
@@ -32,7 +32,7 @@ impl Tier {
         }
     }
 
-    /// The tier that the bytes spell.
+    /// Parses a tier. Returns `None` if the bytes are malformed or out of range.
     pub fn parse(bytes: &[u8]) -> Option<Tier>
         ensures { ok_or result BadText ≡ read_tier bytes.now }
     {
@@ -42,6 +42,7 @@ impl Tier {
         Tier::new(number)
     }
 
+    /// Returns the number of the tier, 1 to 3.
     pub fn get(self) -> u8
         ensures value { result ≡ self }
         ensures low { 1 ≤ self }

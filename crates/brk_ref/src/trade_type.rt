@@ -6,14 +6,14 @@ ghost use Rattle.brk_money.specs.declared.refusal.Refusal.TheVariants.{BadType};
 
 use brk_money::TradeType;
 
-// Whether the bytes are the code of a type.
+// Returns true if the bytes are the code of the type.
 fn is_code_of(kind: TradeType, bytes: &[u8]) -> bool
     ensures { result ≡ bytes_eq (type_code kind) bytes.now }
 {
     kind.code().as_bytes() == bytes
 }
 
-/// The type of trade whose code the bytes are.
+/// Returns the trade type with this code, or `None` if no type has it.
 pub fn parse_type(bytes: &[u8]) -> Option<TradeType>
     ensures { ok_or result BadType ≡ read_type bytes.now }
 {

@@ -4,7 +4,7 @@ ghost use Rattle.brk_ref.specs.declared.volume.TheConstants.Volume;
 use brk_money::Cents;
 use std::marker::Model;
 
-/// How many shares of a security were traded on the market (LT_VOL), 0 to 10^17.
+/// The number of shares of a security that were traded on the market (LT_VOL), 0 to 10^17.
 #[derive(Clone, Copy)]
 pub struct Volume(u64);
 
@@ -22,7 +22,7 @@ impl Volume {
     /// The greatest volume.
     pub const GREATEST: u64 = Cents::GREATEST;
 
-    /// The volume of so many shares, where it is within the limit.
+    /// Returns the volume of `shares` shares, or `None` if it exceeds `GREATEST`.
     pub fn new(shares: u64) -> Option<Volume>
         ensures { SomeIff result (shares ≤ Volume.GREATEST) shares }
     {
@@ -33,13 +33,14 @@ impl Volume {
         }
     }
 
-    /// The volume before anything was traded.
+    /// Returns the volume before the first trade, 0.
     pub fn none() -> Volume
         ensures { result ≡ 0 }
     {
         Volume(0)
     }
 
+    /// Returns the number of shares.
     pub fn get(self) -> u64
         ensures value { result ≡ self }
         ensures high { self ≤ Volume.GREATEST }

@@ -8,27 +8,29 @@ use Rattle.brk_desk.specs.declared.head.Head.{Head}
 use Rattle.brk_report_lines.specs.Written.{BreaksIn}
 use Rattle.brk_report_lines.specs.declared.fault.LinesFault.{LinesFault}
 
--- the first four
+-- The first four lines.
 abbrev pub top_lines : ℕ → Text → ℕ → ℕ → ℤ → List Text
 top_lines account name from to opening =
     (codes "Statement of account " ++ decimal account) ∷ name ∷ (codes "From " ++ day_text from ++ codes " to " ++ day_text to) ∷ amount_line (codes "Opening") opening ∷ []
 
--- those of the cash rows of the days, and the closing line
+-- The lines of the cash rows of the days, and the closing line.
 abbrev pub days_lines : Tables → ℕ → ℕ → ℕ → ℤ → List Text
 days_lines t account from to opening =
     map cash_line (cash_within from to (cash_in t account)) ++ amount_line (codes "Closing") (opening +ℤ cash_total (cash_within from to (cash_in t account))) ∷ []
 
--- they are written, and the answer is how many rows there are
+-- The lines of the days were written, and the result is the number of their cash rows; or writing
+-- failed as `BreaksIn` specifies.
 abbrev pub WritesDays : Tables → ℕ → ℕ → ℕ → ℤ → Option Text → Option Text → Result ℕ LinesFault → Type 0
 WritesDays t account from to opening old new (Ok count) = Appends old new (lines_text (days_lines t account from to opening)) × (count ≡ length (cash_within from to (cash_in t account)))
 WritesDays t account from to opening old new (Err e) = BreaksIn (days_lines t account from to opening) old new e
 
--- those of the lots, and the last two
+-- The lines of the lots, and the last two lines: the market value of the lots, and the numbers of
+-- cash rows and lots.
 abbrev pub held_lines : Tables → ℕ → ℤ → ℕ → List Text
 held_lines t account holdings cash =
     map lot_line (lots_in t account) ++ amount_line (codes "Holdings") holdings ∷ (codes "Cash rows " ++ decimal cash ++ codes ", lots " ++ decimal (length (lots_in t account))) ∷ []
 
--- all of a statement of an account with this head
+-- All lines of a statement of an account with this head.
 abbrev pub all_lines : Tables → ℕ → Head → ℕ → ℕ → List Text
 all_lines t account head from to =
     top_lines account head.name from to (head.opening +ℤ cash_total (cash_before from (cash_in t account)))

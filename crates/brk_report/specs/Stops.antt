@@ -1,9 +1,10 @@
--- Why a walk ended, as a statement tells it.
+-- The fault of a statement whose walk failed.
 use Rattle.brk_tables_walks.specs.declared.walking.WalkError.{WalkError}
 use Rattle.brk_tables_walks.specs.declared.walking.WalkError.TheVariants.{Failed, Cause}
 use Rattle.brk_report_lines.specs.declared.fault.LinesFault.{LinesFault}
 use Rattle.brk_report_lines.specs.declared.fault.LinesFault.TheVariants.{Desk}
 
+-- The statement's fault of a failed walk: that of the desk or of the visitor.
 abbrev pub fault_of : WalkError LinesFault → LinesFault
 fault_of (Failed fault) = Desk fault
 fault_of (Cause fault) = fault

@@ -1,4 +1,4 @@
-//! Statements of accounts: what the desk walks over, written line by line.
+//! Statements of accounts, written line by line while the desk walks over its rows.
 #![tactic(auto)]
 
 mod parts;

@@ -14,7 +14,7 @@ use sqlite::Alter;
 use std::alloc::Global;
 use std::io::Write;
 
-/// The first four lines.
+/// Writes the first four lines.
 pub(crate) fn write_top<W: Write>(
     alloc: Global,
     account: Id,
@@ -32,7 +32,8 @@ pub(crate) fn write_top<W: Write>(
     write_line(writer, amount_line(alloc, "Opening", opening))
 }
 
-/// The lines of the cash rows of the days, and the closing line. It answers how many rows they are.
+/// Writes the lines of the cash rows of the days, and the closing line. Returns the number of the
+/// cash rows.
 pub(crate) fn write_days<W: Write, S: Alter>(
     alloc: Global,
     desk: &mut Desk<S>,
@@ -50,7 +51,7 @@ pub(crate) fn write_days<W: Write, S: Alter>(
     Ok(moved.count)
 }
 
-/// The lines of the lots, of what they are worth, and of how many rows and lots there are.
+/// Writes the lines of the lots, of their market value, and of the numbers of cash rows and lots.
 pub(crate) fn write_held<W: Write, S: Alter>(
     alloc: Global,
     desk: &mut Desk<S>,

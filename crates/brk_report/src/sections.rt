@@ -1,4 +1,4 @@
-//! The parts of a statement that the desk walks over. Each keeps what the desk's store held.
+//! The parts of a statement that the desk walks over. None of them changes the desk.
 
 ghost use Rattle.std.specs.Prelude.{◌≡◌, ◌+ℤ◌};
 ghost use Rattle.brk_model.specs.Statement.{cash_before, cash_in, cash_total};
@@ -13,7 +13,7 @@ use sqlite::Alter;
 use std::alloc::Global;
 use std::io::Write;
 
-// Why a walk of a statement ended.
+// Returns the fault of a statement whose walk failed.
 fn broken(stop: WalkError<LinesFault>) -> LinesFault
     ensures { result ≡ fault_of stop }
 {
@@ -23,7 +23,7 @@ fn broken(stop: WalkError<LinesFault>) -> LinesFault
     }
 }
 
-/// The opening balance with the cash rows of earlier days.
+/// Returns the opening balance plus the cash rows of the days before `from`.
 pub(crate) fn sum_before<S: Alter>(
     desk: &mut Desk<S>,
     account: Id,
@@ -45,7 +45,8 @@ pub(crate) fn sum_before<S: Alter>(
     }
 }
 
-/// A line of each cash row of the days.
+/// Writes a line for each cash row of the days. Returns their number, and `opening` plus their
+/// total.
 pub(crate) fn write_cash<W: Write, S: Alter>(
     alloc: Global,
     desk: &mut Desk<S>,
@@ -72,7 +73,7 @@ pub(crate) fn write_cash<W: Write, S: Alter>(
     }
 }
 
-/// A line of each lot, and how many they are.
+/// Writes a line for each lot, and returns the number of lots.
 pub(crate) fn write_lots<W: Write, S: Alter>(
     alloc: Global,
     desk: &mut Desk<S>,

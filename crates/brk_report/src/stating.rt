@@ -11,7 +11,7 @@ use sqlite::Alter;
 use std::alloc::Global;
 use std::io::Write;
 
-// All lines of a statement that is not refused.
+// Writes all lines of a statement that is not refused.
 fn write_all<W: Write, S: Alter>(
     alloc: Global,
     desk: &mut Desk<S>,
@@ -30,13 +30,15 @@ fn write_all<W: Write, S: Alter>(
     write_held(alloc, desk, account, head.holdings, cash, writer)
 }
 
-/// Writes the statement of an account over some days, both included: its opening balance and the cash rows of earlier days,
-/// each cash row of the days, the closing amount, each lot that it holds now, and their worth at the last prices. The desk is
-/// only read. Of the rows that the database hands out one is held at a time.
+/// Writes the statement of an account for the days `from` to `to`, both included: the opening
+/// amount after the cash rows of earlier days, each cash row of the days, the closing amount, each
+/// lot that it holds now, and their market value at last prices. It only reads the desk, one row at
+/// a time.
 ///
-/// It is refused where `from` is after `to` (18), and then where there is no such account (1); nothing is written then. At a
-/// fault of the desk or want of memory whole lines are written, the first of the text and never the last. At a fault of the
-/// writer they are a first part of the text, with each line before the one that failed.
+/// Fails with `Refused` 18 if `from` is after `to`, otherwise with `Refused` 1 if the account does
+/// not exist; nothing is then written. After `Desk` only whole lines are written, from the first on
+/// and never the last one. After `Write` whole lines are written, from the first on, and a part of
+/// the next one.
 pub fn statement<W: Write, S: Alter>(
     alloc: Global,
     desk: &mut Desk<S>,

@@ -1,4 +1,4 @@
-//! Visitors that write a line of each record, count them, and add up what they moved.
+//! Visitors that write a line for each record, count the records, and add up their amounts.
 
 ghost use Rattle.std.specs.Prelude.{◌≡◌, ◌+ℤ◌, Err, IfErr, IfOk, OnErr};
 ghost use Rattle.brk_money.specs.Spelling.{Text};
@@ -16,9 +16,10 @@ use std::io::Write;
 
 /// A record that has a line.
 pub trait Line {
+    /// The text of the line.
     ghost line: { Self → Text };
 
-    /// The line with its line feed.
+    /// Returns the line with its line feed. Fails with `Memory` or `Store`.
     fn line(&self, alloc: Global) -> Result<Vec<u8>, Fault>
         ensures line { IfOk result (λ l. l.items ≡ ended (line self.now)) }
         ensures fault { IfErr result MayFail };
@@ -46,7 +47,7 @@ impl Line for MoveRow {
     }
 }
 
-// An amount with one more.
+// Returns `total` plus `amount`. Fails with `Desk(Store)` only.
 fn added(total: Wide, amount: Cents) -> Result<Wide, LinesFault>
     ensures sum { IfOk result (λ sum. sum ≡ total +ℤ amount) }
     ensures fault { OnErr result (result ≡ Err (Desk fault.Store)) }
@@ -57,7 +58,7 @@ fn added(total: Wide, amount: Cents) -> Result<Wide, LinesFault>
     }
 }
 
-/// Adds up cash rows.
+/// A visitor that adds up cash rows.
 #[derive(Drop)]
 pub struct Sum {
     pub total: Wide,
@@ -86,7 +87,7 @@ impl Visitor<MoveRow, LinesFault> for Sum {
     ghost goes_on = { λ _ _ _ _ _. tt };
 }
 
-/// Writes a line of each record, and counts them.
+/// A visitor that writes a line for each record, and counts the records.
 #[derive(Drop)]
 pub struct Lines<'a, W> {
     pub alloc: Global,
@@ -122,14 +123,14 @@ impl<R: Line, W: Write> Visitor<R, LinesFault> for Lines<'_, W> {
     ghost goes_on = { λ _ _ _ a b. b ∙ a };
 }
 
-/// How many cash rows were written, and an amount with what they moved.
+/// The number of cash rows that were written, and an amount plus their total.
 #[derive(Clone, Copy)]
 pub struct Moved {
     pub count: u64,
     pub total: Wide,
 }
 
-/// Writes a line of each cash row, counts them, and adds them up.
+/// A visitor that writes a line for each cash row, counts the rows, and adds up their amounts.
 #[derive(Drop)]
 pub struct CashLines<'a, W> {
     pub alloc: Global,
@@ -138,7 +139,7 @@ pub struct CashLines<'a, W> {
 }
 
 impl<W> CashLines<'_, W> {
-    /// What was counted and added up so far.
+    /// Returns the count and the total so far.
     pub fn moved(&self) -> Moved
         ensures { result ≡ self.now.moved }
     {

@@ -1,4 +1,4 @@
-//! Texts in columns of at most 22 places. A longer text is not cut.
+//! Texts padded to columns of at most 22 places. A longer text is not cut.
 
 ghost use Rattle.std.specs.Prelude.{◌≡◌, ◌++◌, ◌≤◌, Err, OnErr, OnOk, replicate};
 ghost use Rattle.brk_money.specs.declared.fault.Fault.TheVariants.{Memory};
@@ -16,7 +16,7 @@ fn put_spaces(out: &mut Vec<u8>, count: usize) -> Result<(), Fault>
     Ok(())
 }
 
-/// A text in so many places, to the left.
+/// Appends a text, left-aligned in `places` places. Fails with `Memory` only.
 pub(crate) fn put_left(out: &mut Vec<u8>, places: usize, text: &[u8]) -> Result<(), Fault>
     requires { places ≤ 22 }
     ensures ok { OnOk result (out.new.items ≡ out.old.items ++ at_left places text.now) }
@@ -26,7 +26,7 @@ pub(crate) fn put_left(out: &mut Vec<u8>, places: usize, text: &[u8]) -> Result<
     put_spaces(out, places.saturating_sub(text.len()))
 }
 
-/// A text in so many places, to the right.
+/// Appends a text, right-aligned in `places` places. Fails with `Memory` only.
 pub(crate) fn put_right(out: &mut Vec<u8>, places: usize, text: &[u8]) -> Result<(), Fault>
     requires { places ≤ 22 }
     ensures ok { OnOk result (out.new.items ≡ out.old.items ++ at_right places text.now) }

@@ -1,4 +1,4 @@
-//! The stamps of days.
+//! The stamps at the ends of days.
 
 ghost use Rattle.std.specs.Prelude.{◌≡◌, ◌+◌, ◌-◌, ◌*◌, ◌<◌, MatchOption};
 
@@ -6,21 +6,21 @@ use brk_money::{Day, Stamp};
 
 const DAY: i64 = 86_400_000;
 
-/// The first stamp of a day.
+/// Returns the first stamp of a day.
 pub fn first_stamp(day: Day) -> Stamp
     ensures { result ≡ day * 86400000 }
 {
     Stamp::nearest(i64::from(day.get()) * DAY)
 }
 
-/// The last stamp of a day.
+/// Returns the last stamp of a day.
 pub fn last_stamp(day: Day) -> Stamp
     ensures { result ≡ day * 86400000 + 86399999 }
 {
     Stamp::nearest(i64::from(day.get()) * DAY + (DAY - 1))
 }
 
-/// The last stamp before a day, where there is one.
+/// Returns the last stamp before a day, or `None` for day 0.
 pub fn stamp_before(day: Day) -> Option<Stamp>
     ensures { MatchOption result (day ≡ 0) (λ stamp. (0 < day) × (stamp ≡ day * 86400000 - 1)) }
 {

@@ -1,21 +1,21 @@
 use brk_money::{Fault, Refusal};
 
-/// Why not all lines are written.
+/// The cause that left lines unwritten.
 #[derive(Debug, Drop)]
 pub enum LinesFault {
-    /// The desk failed, or want of memory. Whole lines are written, and not the last.
+    /// The desk failed, or memory ran out. Only whole lines are written, and not the last one.
     Desk(Fault),
-    /// The writer failed, or took no byte.
+    /// The writer failed, or accepted no byte.
     Write,
 }
 
-/// Why a statement ended early.
+/// The cause that ended a statement early.
 #[derive(Debug, Drop)]
 pub enum StatementFault {
-    /// It is refused, and nothing is written.
+    /// The statement is refused, and nothing is written.
     Refused(Refusal),
-    /// The desk failed, or want of memory. Whole lines are written, and not the last.
+    /// The desk failed, or memory ran out. Only whole lines are written, and not the last one.
     Desk(Fault),
-    /// The writer failed, or took no byte.
+    /// The writer failed, or accepted no byte.
     Write,
 }

@@ -1,4 +1,5 @@
-//! The lines of a statement beside those of rows. Each has its line feed.
+//! The lines of a statement that are not rows, each with its line feed. The functions fail with
+//! `Memory` only.
 
 ghost use Rattle.std.specs.Prelude.{◌≡◌, ◌++◌, Err, IfOk, OnErr, codes, decimal};
 ghost use Rattle.brk_money.specs.Spelling.{day_text};
@@ -12,7 +13,7 @@ use brk_ref::Name;
 use itoa::Buffer;
 use std::alloc::Global;
 
-/// Whose statement it is.
+/// Returns the title line, with the account's id.
 pub fn title_line(alloc: Global, account: Id) -> Result<Vec<u8>, Fault>
     ensures line { IfOk result (λ line. line.items ≡ ended (codes "Statement of account " ++ decimal account)) }
     ensures fault { OnErr result (result ≡ Err Memory) }
@@ -24,7 +25,7 @@ pub fn title_line(alloc: Global, account: Id) -> Result<Vec<u8>, Fault>
     Ok(line)
 }
 
-/// The account's name.
+/// Returns the line of the account's name.
 pub fn name_line(alloc: Global, name: &Name) -> Result<Vec<u8>, Fault>
     ensures line { IfOk result (λ line. line.items ≡ ended name.now) }
     ensures fault { OnErr result (result ≡ Err Memory) }
@@ -34,7 +35,7 @@ pub fn name_line(alloc: Global, name: &Name) -> Result<Vec<u8>, Fault>
     Ok(line)
 }
 
-/// The days that it tells of, both included.
+/// Returns the line of the first and the last day, both included.
 pub fn days_line(alloc: Global, from: Day, to: Day) -> Result<Vec<u8>, Fault>
     ensures line { IfOk result (λ line. line.items ≡ ended (codes "From " ++ day_text from ++ codes " to " ++ day_text to)) }
     ensures fault { OnErr result (result ≡ Err Memory) }
@@ -47,7 +48,7 @@ pub fn days_line(alloc: Global, from: Day, to: Day) -> Result<Vec<u8>, Fault>
     Ok(line)
 }
 
-/// A word, left in 10 places, and an amount, right in 22.
+/// Returns the line of a word, left-aligned in 10 places, and an amount, right-aligned in 22.
 pub fn amount_line(alloc: Global, word: &str, amount: Wide) -> Result<Vec<u8>, Fault>
     ensures line { IfOk result (λ line. line.items ≡ ended (statement.amount_line word.now amount)) }
     ensures fault { OnErr result (result ≡ Err Memory) }
@@ -62,7 +63,7 @@ pub fn amount_line(alloc: Global, word: &str, amount: Wide) -> Result<Vec<u8>, F
     Ok(line)
 }
 
-/// How many cash rows and lots it tells of.
+/// Returns the line of the numbers of cash rows and lots.
 pub fn counts_line(alloc: Global, cash: u64, lots: u64) -> Result<Vec<u8>, Fault>
     ensures line { IfOk result (λ line. line.items ≡ ended (codes "Cash rows " ++ decimal cash ++ codes ", lots " ++ decimal lots)) }
     ensures fault { OnErr result (result ≡ Err Memory) }

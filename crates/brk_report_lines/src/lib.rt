@@ -1,4 +1,4 @@
-//! The lines of a statement, each by the definitions, and what is written of lines.
+//! The lines of a statement, as specified, and how they are written.
 #![tactic(auto)]
 
 mod columns;

@@ -1,4 +1,4 @@
-//! The lines of rows in their columns. Each has its line feed.
+//! The lines of rows in columns, each with its line feed. The functions fail with `Memory` only.
 
 ghost use Rattle.std.specs.Prelude.{◌≡◌, Err, IfOk, OnErr};
 ghost use Rattle.brk_money.specs.declared.fault.Fault.TheVariants.{Memory};
@@ -12,7 +12,7 @@ use brk_money::{Fault, Wide, day_of, write_cents, write_day};
 use itoa::Buffer;
 use std::alloc::Global;
 
-/// A cash row: its day, its amount, and its text.
+/// Returns the line of a cash row: its day, its amount, and its text.
 pub fn cash_line(alloc: Global, row: &MoveRow) -> Result<Vec<u8>, Fault>
     ensures line { IfOk result (λ line. line.items ≡ ended (statement.cash_line (move_row_of row.now))) }
     ensures fault { OnErr result (result ≡ Err Memory) }
@@ -29,7 +29,8 @@ pub fn cash_line(alloc: Global, row: &MoveRow) -> Result<Vec<u8>, Fault>
     Ok(line)
 }
 
-/// A lot: its symbol, the trade that opened it, its quantity, below 0 where it was sold short, and its price.
+/// Returns the line of a lot: its symbol, the trade that opened it, its quantity (below 0 if it was
+/// sold short), and its price.
 pub fn lot_line(alloc: Global, row: &HoldingRow) -> Result<Vec<u8>, Fault>
     ensures line { IfOk result (λ line. line.items ≡ ended (statement.lot_line (holding_row_of row.now))) }
     ensures fault { OnErr result (result ≡ Err Memory) }

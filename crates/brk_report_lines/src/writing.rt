@@ -8,7 +8,7 @@ use brk_io::write_out;
 use brk_money::Fault;
 use std::io::Write;
 
-/// Writes a line, which was made or could not be.
+/// Writes `line`, or returns `Desk` with the fault that `line` has instead.
 pub fn write_line<W: Write>(writer: &mut W, line: Result<Vec<u8>, Fault>) -> Result<(), LinesFault>
     ensures written { (text : Text) → IfOk line (λ l. l.items ≡ ended text) → IfErr line MayFail → Writes (text ∷ []) (W.contents writer.old) (W.contents writer.new) result }
 {

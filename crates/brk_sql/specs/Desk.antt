@@ -1,4 +1,4 @@
--- The tables of one program in a database that may have others.
+-- The tables of one program in a database that may contain other tables.
 use Rattle.std.specs.Prelude.{◌≡◌, ◌≢◌, ◌==◌, ℕ, Bool, true, false, List, [], ◌∷◌, ◌++◌, Option, Some, not, ◌||◌, slice_get}
 use Rattle.std.specs.List.{list_all, AllByRecursion}
 use Rattle.std.specs.declared.cmp.Ordering.{Ordering}
@@ -23,24 +23,29 @@ use Rattle.sqlite.specs.Listing.{understood}
 use Rattle.sqlite.specs.Steps.{column_names}
 use Rattle.brk_sql.specs.Rows.{TreeHolds}
 
--- ---- what a table is made of
+-- ---- The definition of a table
 
+-- A NOT NULL column of a STRICT table, of the given kind and without a default.
 abbrev pub of_kind : Kind → List ℕ → Column
 of_kind kind name = record { name = name; kind = kind; is_strict = true; not_null = true; default = Null; collation = Binary }
 
+-- A text column that may not be null.
 abbrev pub text : List ℕ → Column
 text = of_kind Text
 
+-- An integer column that may not be null.
 abbrev pub whole : List ℕ → Column
 whole = of_kind Integer
 
--- one that may be null
+-- An integer column that may be null.
 abbrev pub perhaps : List ℕ → Column
 perhaps name = record (whole name) { not_null = false }
 
+-- A foreign key of one column to one column, with no action on delete or update.
 abbrev pub refers : ℕ → List ℕ → List ℕ → Reference
 refers place parent column = record { columns = place ∷ []; parent = parent; parent_columns = column ∷ []; on_delete = NoAction; on_update = NoAction; is_deferred = false }
 
+-- A table of these columns, keys and foreign keys, without checks and computed columns.
 abbrev pub table_of : List ℕ → ℕ → List Column → Option ℕ → List ℕ → List (List ℕ) → List Reference → Table
 table_of name tree columns key primary uniques references = record {
   name = name;
@@ -57,14 +62,15 @@ table_of name tree columns key primary uniques references = record {
   is_counted = false;
 }
 
--- ---- where it stands
+-- ---- The place of a table in a schema
 
--- the name finds the table
+-- The schema contains `table` at the position `at`, and its name refers to it.
 pub record Stands (schema : Schema) (table : Table) (at : ℕ) : Type 0 where
   pub named : table_named schema table.name ≡ Some at
   pub found : slice_get schema.tables at ≡ Some table
 
--- what a foreign key does to the rows that refer: it writes them, or it refuses at most
+-- True if a foreign-key action writes the referring rows. The other actions at most refuse the
+-- change.
 abbrev pub writes_rows : Action → Bool
 writes_rows NoAction = false
 writes_rows Restrict = false
@@ -72,21 +78,25 @@ writes_rows Cascade = true
 writes_rows SetNull = true
 writes_rows SetDefault = true
 
--- it writes them where the row that they refer to is deleted, or gets another key
+-- True if a foreign key writes referring rows when the row that they refer to is deleted or its key
+-- changes.
 abbrev pub acts : Reference → Bool
 acts ref = writes_rows ref.on_delete || writes_rows ref.on_update
 
+-- True if no foreign key of the table writes rows, or if the table is not at `tree`.
 abbrev pub is_calm_at : ℕ → Table → Bool
 is_calm_at tree t = not (t.tree == tree) || list_all (λ ref. not (acts ref)) t.references
 
--- no reference of a table at this tree acts, so no action reaches it, whatever a stranger's reference does
+-- No foreign key of a table at `tree` writes rows, so no foreign-key action changes its rows.
 abbrev pub IsCalm : Schema → ℕ → Type 0
 IsCalm schema tree = list_all (is_calm_at tree) schema.tables ≡ true
 
+-- True if no foreign key of the table writes rows.
 abbrev pub is_inert : Table → Bool
 is_inert t = list_all (λ ref. not (acts ref)) t.references
 
--- what CREATE TABLE leaves, whatever was there
+-- The database `new` has an empty table of this shape, and each table of `old` at its position with
+-- its rows.
 pub record Makes (old new : Database) (shape : ℕ → Table) : Type 0 where
   pub tree : ℕ
   pub at : ℕ
@@ -94,22 +104,22 @@ pub record Makes (old new : Database) (shape : ℕ → Table) : Type 0 where
   pub empty : new.trees tree ≡ []
   pub kept : (table : Table) (place : ℕ) → Stands old.schema table place → Stands new.schema table place
   pub rows : AllByRecursion (λ t. new.trees t.tree ≡ old.trees t.tree) old.schema.tables
-  -- the tree is none that was used
+  -- The tree of the new table belonged to no table.
   pub apart : AllByRecursion (λ t. t.tree ≢ tree) old.schema.tables
-  -- the tables that came, of which no reference acts
+  -- The added tables, whose foreign keys write no rows.
   pub more : List Table
   pub tables : new.schema.tables ≡ old.schema.tables ++ more
   pub inert : list_all is_inert more ≡ true
   pub sound : IsDatabase new
 
--- several are made, one after another
+-- The tables of these shapes are created in order.
 abbrev pub MakesEach : List (ℕ → Table) → Database → Database → Type 0
 MakesEach [] old new = new ≡ old
 MakesEach (shape ∷ shapes) old new = (mid : Database) × Makes old mid shape × MakesEach shapes mid new
 
--- ---- all of them
+-- ---- All tables of the program
 
--- W names the tables, and T has a list for each
+-- The tables of a program: `W` names them, and `T` contains a list of records for each of them.
 pub record Desk (W T : Type 0) : Type 1 where
   pub shape : W → ℕ → Table
   pub placed : (w : W) (tree : ℕ) → (shape w tree).tree ≡ tree
@@ -118,17 +128,19 @@ pub record Desk (W T : Type 0) : Type 1 where
   pub order : (w : W) → Item w → Item w → Ordering
   pub list : (w : W) → T → List (Item w)
 
--- The database has the tables, at these trees, with these records. It may have others before, between and after.
+-- The database contains all tables of the program, at the trees `tree`, with the records of `t`. It
+-- may contain other tables.
 pub record HasTables {W T : Type 0} (desk : Desk W T) (t : T) (tree : W → ℕ) (db : Database) : Type 0 where
   pub place : W → ℕ
   pub stands : (w : W) → Stands db.schema (desk.shape w (tree w)) (place w)
   pub apart : (v w : W) → tree v ≡ tree w → v ≡ w
   pub calm : (w : W) → IsCalm db.schema (tree w)
-  -- the trees list the schema and obey it, so that whoever opens them again finds it
+  -- The trees list the schema and obey it, so reopening the database finds the same schema.
   pub sound : IsDatabase db
   pub rows : (w : W) → TreeHolds (desk.shape w (tree w)) (desk.encode w) (desk.order w) (desk.list w t) (db.trees (tree w))
 
--- The database has those of the tables that are In, as HasTables says of all of them.
+-- The database contains the tables that are `In`, at the trees `tree`, with the records of `t`. It
+-- may contain other tables.
 pub record HasSome {W T : Type 0} (desk : Desk W T) (In : W → Type 0) (t : T) (tree : W → ℕ) (db : Database) : Type 0 where
   pub place : W → ℕ
   pub stands : (w : W) → In w → Stands db.schema (desk.shape w (tree w)) (place w)
@@ -137,37 +149,43 @@ pub record HasSome {W T : Type 0} (desk : Desk W T) (In : W → Type 0) (t : T) 
   pub sound : IsDatabase db
   pub rows : (w : W) → In w → TreeHolds (desk.shape w (tree w)) (desk.encode w) (desk.order w) (desk.list w t) (db.trees (tree w))
 
--- The schema stays, and so do the rows of each table in none of these trees, unless a foreign key of its own acts on them.
+-- The schema is unchanged, and so are the rows of each table at none of the trees `tree`, unless a
+-- foreign key of that table writes its rows.
 pub record SparesStrangers {W : Type 0} (tree : W → ℕ) (old new : Database) : Type 0 where
   pub schema : new.schema ≡ old.schema
   pub rows : AllByRecursion (λ k. ((w : W) → k.tree ≢ tree w) → IsCalm old.schema k.tree → new.trees k.tree ≡ old.trees k.tree) old.schema.tables
 
--- whatever the tables hold before, they hold f of it after, at the same trees, and the tables of others stay
+-- If the database contains the tables with records `t`, it contains them with `f t` afterwards, at
+-- the same trees. Other tables are unchanged, unless their own foreign keys write their rows.
 abbrev pub Turns : {W T : Type 0} → Desk W T → (T → T) → Database → Database → Type 0
 Turns {W} {T} desk f old new = (t : T) (tree : W → ℕ) → HasTables desk t tree old → HasTables desk (f t) tree new × SparesStrangers tree old new
 
--- whatever the tables hold, this is so of it
+-- `P` holds of the records that the database contains. Vacuous if the database does not contain the
+-- program's tables.
 abbrev pub Tells : {W T : Type 0} → Desk W T → (T → Type 0) → Database → Type 0
 Tells {W} {T} desk P db = (t : T) (tree : W → ℕ) → HasTables desk t tree db → P t
 
--- each table that stood stands, with its rows
+-- Each table of `old` is in `new` at the same position, with the same rows.
 pub record KeepsOthers (old new : Database) : Type 0 where
   pub more : List Table
   pub tables : new.schema.tables ≡ old.schema.tables ++ more
   pub rows : AllByRecursion (λ t. new.trees t.tree ≡ old.trees t.tree) old.schema.tables
 
--- the tables are made, with these records, at trees that no table had
+-- The tables are created with the records `t`, at trees that belonged to no table. The other tables
+-- are unchanged.
 pub record Founds {W T : Type 0} (desk : Desk W T) (t : T) (old new : Database) : Type 0 where
   pub tree : W → ℕ
   pub tables : HasTables desk t tree new
   pub fresh : (w : W) → AllByRecursion (λ t. t.tree ≢ tree w) old.schema.tables
   pub others : KeepsOthers old new
 
--- what it says of a text that it was understood, or that its table is not there
+-- If the Boolean is true, the text compiles. Otherwise it does not, as a table that it names does
+-- not exist.
 abbrev pub Probes : List ℕ → Bool → Schema → Type 0
 Probes text true schema = (c : Compiled) × (understood schema text ≡ Ok c)
 Probes text false schema = understood schema text ≡ Err NoSuchTable
 
--- what it says of a text that was understood: whether it shows just the columns of these names, in their order
+-- The text compiles, and `has` is true if and only if its result columns are exactly `names`, in
+-- order.
 abbrev pub Heads : List ℕ → List (List ℕ) → Bool → Schema → Type 0
 Heads text names has schema = (c : Compiled) × (understood schema text ≡ Ok c) × (IsTrue has ↔ column_names c ≡ names)

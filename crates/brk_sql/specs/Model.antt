@@ -1,4 +1,4 @@
--- A call inside a transaction.
+-- Calls within an open transaction.
 use Rattle.std.specs.Prelude.{◌≡◌, ℕ, List, Result, Ok, IfOk, IsTrue}
 use Rattle.sqlite_value.specs.Order.{Row}
 use Rattle.sqlite_trees.specs.declared.store.Store.{Ghosts}
@@ -7,32 +7,36 @@ use Rattle.sqlite.specs.Held.{state}
 use Rattle.sqlite.specs.State.{State, HasCleanDisk, KeepsCommit, Survives, Executes, Shown}
 use Rattle.brk_sql.specs.Desk.{Desk, Turns, Tells}
 
--- It commits nothing, and where it answers Ok in a transaction, that goes on with what it made.
+-- Under the disk assumption the call commits nothing and adds no state that a crash can expose. If
+-- it returns `Ok v` within a transaction, the transaction is still open and `Made v` relates the
+-- two states.
 pub record IsStep {V E : Type 0} (old new : State) (result : Result V E) (Made : V → State → State → Type 0) : Type 0 where
   pub kept : HasCleanDisk new → KeepsCommit old new
   pub made : HasCleanDisk new → IsTrue old.in_transaction → IfOk result (λ v. IsTrue new.in_transaction × Made v old new)
   pub survives : Survives old new (λ _. ⊥)
 
--- the text ran as a statement with these parameters
+-- The statement `sql` is executed with the parameters `params` and succeeds.
 abbrev pub Ran : List ℕ → Row → State → State → Type 0
 Ran sql params old new = (count : ℕ) × Executes sql params old new (Ok count)
 
--- the text showed these rows of an open database, and changed nothing
+-- The query `sql` yields `rows` of an open database, which is unchanged.
 abbrev pub Selected : List ℕ → Row → List Row → State → State → Type 0
 Selected sql params rows old new = Shown sql params old new rows × (new.now ≡ old.now) × IsTrue old.is_open
 
--- the database is open and stays as it is, and this is so of its tables
+-- The database is open and unchanged, and `P` holds of its tables.
 abbrev pub Looks : {W T : Type 0} → Desk W T → (T → Type 0) → State → State → Type 0
 Looks desk P old new = IsTrue old.is_open × (new.now ≡ old.now) × Tells desk P old.now
 
--- a call with a transaction is such a step of its connection
+-- A call of a transaction is a step (`IsStep`) of its connection.
 abbrev pub Steps : {S V E : Type 0} → Ghosts S → Transaction S → Transaction S → Result V E → (V → State → State → Type 0) → Type 0
 Steps g old new result Made = IsStep (state g old.conn.now) (state g new.conn.now) result Made
 
--- it makes f of whatever the tables hold
+-- If the call succeeds, it changes the tables by `f`, whatever records they contain. It commits
+-- nothing. Both under the disk assumption, within a transaction.
 abbrev pub WritesTables : {W T S V E : Type 0} → Desk W T → Ghosts S → Transaction S → Transaction S → Result V E → (T → T) → Type 0
 WritesTables desk g old new result f = Steps g old new result (λ _ a b. Turns desk f a.now b.now)
 
--- it changes nothing, and its answer is so of whatever the tables hold
+-- If the call succeeds, it changes nothing, and `Told` relates its value to the records of the
+-- tables. Vacuous if the disk assumption fails.
 abbrev pub ReadsTables : {W T S V E : Type 0} → Desk W T → Ghosts S → Transaction S → Transaction S → Result V E → (V → T → Type 0) → Type 0
 ReadsTables desk g old new result Told = Steps g old new result (λ v. Looks desk (Told v))

@@ -1,4 +1,4 @@
-//! The columns that a text shows.
+//! The column names of a statement's result.
 
 ghost use Rattle.std.specs.Prelude.{◌≡◌, ◌↔◌, ℕ, List, IsTrue, map};
 ghost use Rattle.std.specs.Borrow.{Bor};
@@ -8,7 +8,7 @@ ghost use Rattle.brk_sql.specs.Model.{Steps};
 use sqlite::{Alter, Error, Transaction};
 use sqlite_value::value::Bytes;
 
-// Whether the columns have just these names, in their order.
+// Returns true if the columns are exactly `names`, in order.
 fn are_named(columns: &[Bytes], names: &[&str]) -> bool
     ensures { IsTrue result ↔ columns.now ≡ map (λ (name : Bor (List ℕ)). name.now) names.now }
 {
@@ -23,7 +23,8 @@ fn are_named(columns: &[Bytes], names: &[&str]) -> bool
     true
 }
 
-/// Whether the rows that a text shows have just the columns of these names, in their order. It runs nothing.
+/// Returns true if the columns of the statement's result are exactly `names`, in order. If it
+/// returns a value, the database is unchanged.
 pub fn shows_columns<S: Alter>(
     tx: &mut Transaction<'_, S>,
     text: &str,

@@ -1,4 +1,4 @@
-//! The tables of a program as lists of records, in a database that may have others.
+//! The tables of a program as lists of records, in a database that may contain other tables.
 #![tactic(auto)]
 
 mod columns;
@@ -15,7 +15,7 @@ use sqlite::{Alter, Error, Row, Transaction};
 use sqlite_resolve::error::CompileError;
 use std::alloc::Global;
 
-/// Whether each number is above the one before it.
+/// Returns true if each number is greater than the one before it.
 pub fn climbs(numbers: &[i64]) -> bool
     ensures { result ≡ climbs_from None numbers.now }
 {
@@ -31,7 +31,7 @@ pub fn climbs(numbers: &[i64]) -> bool
     true
 }
 
-/// The numbers in a column.
+/// Returns the number in column `at` of each row.
 pub fn numbers_in(alloc: Global, rows: &[Row], at: usize) -> Result<Vec<i64>, Error>
     ensures { IfOk result (λ all. map Int all.items ≡ map (λ r. column r at) rows.now) }
 {
@@ -42,7 +42,8 @@ pub fn numbers_in(alloc: Global, rows: &[Row], at: usize) -> Result<Vec<i64>, Er
     Ok(all)
 }
 
-/// Whether a text is understood, or names a table that is not there. It runs nothing.
+/// Returns true if the statement compiles, and false if it names a table that does not exist. If it
+/// returns a value, the database is unchanged.
 pub fn is_understood<S: Alter>(tx: &mut Transaction<'_, S>, text: &str) -> Result<bool, Error>
     ensures same_reference { tx.new.conn.ghost_name ≡ tx.old.conn.ghost_name }
     ensures step { Steps S.Store tx.old tx.new result (λ has old new. IsTrue old.is_open × (new.now ≡ old.now) × Probes text.now has old.now.schema) }

@@ -1,4 +1,4 @@
--- What an audit of a database over all schemas tells.
+-- The statement that an `AuditResult` makes about a database.
 use Rattle.std.specs.Prelude.{Some, None}
 use Rattle.sqlite.specs.Effect.{Database}
 use Rattle.brk_model.specs.Tables.{Tables}
@@ -7,7 +7,8 @@ use Rattle.brk_store.specs.Audited.{Answered, Audited}
 use Rattle.brk_store.specs.declared.examining.AuditResult.{AuditResult}
 use Rattle.brk_store.specs.declared.examining.AuditResult.TheVariants.{Passes, Fails}
 
--- what was told of a database
+-- `Passes schema` says that the database has rows of `schema` that pass all its conditions, with
+-- texts in UTF-8. `Fails failing` says that an audit of the database answers `failing`.
 abbrev pub Tells : AuditResult → Database → Type 0
 Tells (Passes schema) db = (t : Tables) × Answered (schema_of schema) t db None
 Tells (Fails failing) db = Audited db (Some failing)

@@ -1,4 +1,4 @@
--- What an audit of a database answers, and what becomes of a database that is adopted.
+-- Answers of an audit of a database, and the postconditions of an audit and of an adoption.
 use Rattle.std.specs.Prelude.{◌≡◌, ◌≢◌, ◌⊎◌, ⊤, Option, Some, None, Result, Ok, Err, OnOk, OnErr, IsTrue}
 use Rattle.sqlite_trees.specs.declared.store.Store.{Ghosts}
 use Rattle.sqlite_trees.specs.Tree.{Trees}
@@ -27,103 +27,117 @@ use Rattle.brk_audit_theorems.specs.Passing.{Passes}
 use Rattle.brk_invariant_theorems.specs.Sound.{AuditInvariant}
 use Rattle.brk_store.specs.Holds.{AreTreesOf, Holds, IsSame}
 
--- ---- what is answered
+-- ---- answers of an audit
 
--- the database has these rows of a schema, with texts that can be read, and by the schema's conditions this is their audit
+-- The database has the rows `t` of the schema, with texts in UTF-8, and `answer` is their audit by
+-- the conditions of the schema.
 abbrev pub Answered : Schema → Tables → Database → Option Condition → Type 0
 Answered schema t db answer = HasRowsIn schema t db × IsTrue (has_texts t) × IsAudit schema t answer
 
--- what an audit answers that asks one schema: the first condition that fails, and none where the rows pass
+-- An audit of the database by one schema answers the first condition that fails, or `None` if its
+-- rows pass.
 abbrev pub AuditedBy : Schema → Database → Option Condition → Type 0
--- it is asked only where a desk is made
+-- No audit answers `NotEmpty`, which only a creation returns.
 AuditedBy schema db (Some condition.NotEmpty) = ⊥
--- no desk of the schema is there
+-- The database has no desk of the schema.
 AuditedBy schema db (Some condition.Schema) = ¬ HasDesk schema db
--- one is there, and whatever has its rows has not their form
+-- The database has a desk of the schema, and the audit of any rows that it has, with texts in
+-- UTF-8, answers `Form`.
 AuditedBy schema db (Some condition.Form) =
     HasDesk schema db × ((t : Tables) → HasRowsIn schema t db → IsTrue (has_texts t) → IsAudit schema t (Some condition.Form))
--- the answer is that of its rows
+-- The answer is the audit of the rows that the database has.
 AuditedBy schema db answer = (t : Tables) × Answered schema t db answer
 
--- a desk of this schema is there, or of none
+-- The database has a desk of the given schema or, for `None`, no desk of any schema.
 abbrev pub HasDeskOf : Option known.Schema → Database → Type 0
 HasDeskOf (Some schema) db = HasDesk (schema_of schema) db
 HasDeskOf None db = (schema : known.Schema) → ¬ HasDesk (schema_of schema) db
 
--- what an audit answers that asks the schema whose desk is there: a file of an older one is audited by its own conditions
+-- An audit of the database by the schema whose desk it has gives this answer: rows of an older
+-- schema are audited by its own conditions.
 abbrev pub Audited : Database → Option Condition → Type 0
 Audited db (Some condition.NotEmpty) = ⊥
 Audited db (Some condition.Schema) = HasDeskOf None db
 Audited db answer = (schema : known.Schema) × AuditedBy (schema_of schema) db answer
 
--- What is so of what an audit told: that the rows pass, or which condition fails. Want of memory and a fault of the disk tell neither.
+-- The answer of an audit satisfies `P`: `None` at `Ok`, the condition at `Damaged`. Says nothing if
+-- the result is `Memory` or `Store`.
 abbrev pub OnAnswer : Result (Unit {0}) Fault → (Option Condition → Type 0) → Type 0
 OnAnswer (Ok x) P = P None
 OnAnswer (Err (Damaged failing)) P = P (Some failing)
 OnAnswer (Err Memory) P = ⊤
 OnAnswer (Err Store) P = ⊤
 
--- ---- premises on what is held
+-- ---- premises on the database
 
--- As far as the disk has returned what was written and no fault has shut the store, its tables by the names and columns of a desk of any schema are such a desk's.
+-- If the database has all tables of a desk of any schema by their names and columns, they are as
+-- the desk creates them. Says nothing if the disk assumption fails, or once the store is closed.
 abbrev pub IsDefinedIn : {S : Type 0} → Ghosts S → Held S → Type 0
 IsDefinedIn g held = HasCleanDisk (state g held) → IsTrue (state g held).is_open → IsDefined (state g held).now
 
--- likewise of a desk of the third schema alone
+-- If the database has all tables of schema 3 by their names and columns, they are as the desk
+-- creates them. Says nothing if the disk assumption fails, or once the store is closed.
 abbrev pub IsThirdDefinedIn : {S : Type 0} → Ghosts S → Held S → Type 0
 IsThirdDefinedIn g held = HasCleanDisk (state g held) → IsTrue (state g held).is_open → IsDefinedAs third_schema (state g held).now
 
--- a desk of the third schema is there
+-- The database has a desk of schema 3. Says nothing if the disk assumption fails, or once the store
+-- is closed.
 abbrev pub HasThirdIn : {S : Type 0} → Ghosts S → Held S → Type 0
 HasThirdIn g held = HasCleanDisk (state g held) → IsTrue (state g held).is_open → HasDesk third_schema (state g held).now
 
 -- ---- an audit
 
--- an audit by the third schema of what a connection or a store holds, which writes nothing
+-- The postcondition of an audit by the conditions of schema 3, which writes nothing.
 pub record AuditPost {S : Type 0} (g : Ghosts S) (old new : Held S) (result : Result (Unit {0}) Fault) : Type 0 where
-  -- it tells whether the rows pass, and else the first condition that fails
+  -- `Ok` is returned only if the rows pass, and `Damaged` only with the first condition that fails.
+  -- Vacuous if the old database is not defined as schema 3 (`IsThirdDefinedIn`).
   pub told : HasCleanDisk (state g new) → IsThirdDefinedIn g old → OnAnswer result (AuditedBy third_schema (state g old).now)
-  -- only of a database that is open
+  -- `Ok` and `Damaged` are returned only if the database was open.
   pub opened : HasCleanDisk (state g new) → OnAnswer result (λ _. IsTrue (state g old).is_open)
-  -- the rows are held still, whatever the answer
+  -- The rows that were held are held, whatever the result.
   pub kept : (t : Tables) → Holds g old t → Holds g new t
-  -- the whole database is as it was
+  -- The database was open and is unchanged, if it is open after the call.
   pub same : HasCleanDisk (state g new) → IsTrue (state g new).is_open → IsSame (state g old) (state g new)
-  -- a crash leaves what it could leave before
+  -- A crash exposes only states that were possible before the call.
   pub survives : Survives (state g old) (state g new) (λ _. ⊥)
 
 -- ---- an adoption
 
--- The rows of some schema passed, and another database has the tables of the base that they give, in the third. Each table that is not the desk's stands, with its
--- rows unless a foreign key of its own acts on them.
+-- Rows of some schema passed in `db`, and `after` has the tables of their base in schema 3. Tables
+-- that are not the desk's still exist, with their rows unless a foreign key of their own acts on
+-- them.
 abbrev pub IsUpgraded : Database → Database → Type 0
 IsUpgraded db after =
     (schema : known.Schema) × (t : Tables) × (passed : Answered (schema_of schema) t db None) × HasRows (sheets (base_of t)) after × KeepsOtherTables (IsOf (schema_of schema)) passed.0.0 db after
 
--- the rows of an older schema passed, and these trees have the tables of the base that they give, in the third
+-- Rows of an older schema passed in `db`, and `trees` have the tables of their base in schema 3.
 abbrev pub AreUpgraded : Database → Trees → Type 0
 AreUpgraded db trees = (schema : known.Schema) × (t : Tables) × (schema ≢ Third) × Answered (schema_of schema) t db None × AreTreesOf (sheets (base_of t)) trees
 
--- the adoption of what a connection holds: an audit by the conditions of the schema that is there, and at Ok a store that holds the rows in the third
+-- The postcondition of an adoption: an audit by the conditions of the schema that the database has
+-- and, at `Ok`, a store that holds the rows in schema 3.
 pub record AdoptPost {S : Type 0} (g : Ghosts S) (old new : Held S) (result : Result (Unit {0}) Fault) : Type 0 where
-  -- it tells whether the rows pass, and else the first condition that fails
+  -- `Ok` is returned only if the rows pass, and `Damaged` only with the first condition that fails.
   pub told : HasCleanDisk (state g new) → IsDefinedIn g old → OnAnswer result (Audited (state g old).now)
-  -- only of a database that is open
+  -- `Ok` and `Damaged` are returned only if the database was open.
   pub opened : HasCleanDisk (state g new) → OnAnswer result (λ _. IsTrue (state g old).is_open)
-  -- at Ok rows are held that pass
+  -- At `Ok` the store holds rows that pass the audit of schema 3, with texts in UTF-8.
   pub adopted : IsDefinedIn g old → OnOk result ((t : Tables) × Holds g new t × Passes third_schema t × IsTrue (has_texts t))
-  -- these are the tables of the base that the rows gave, and they are committed
+  -- At `Ok` the store has the tables of the base of the old rows, committed, if it is open.
   pub upgraded : HasCleanDisk (state g new) → IsTrue (state g new).is_open → IsDefinedIn g old → OnOk result (IsUpgraded (state g old).now (state g new).now × ((state g new).committed ≡ (state g new).now))
-  -- a store whose rows were upgraded is open still
+  -- At `Ok` the database had a desk of schema 3, or the store is open.
   pub stays : HasCleanDisk (state g new) → IsDefinedIn g old → OnOk result (HasThirdIn g old ⊎ IsTrue (state g new).is_open)
-  -- at a fault the whole database is as it was
+  -- At an error the database was open and is unchanged, if it is open after the call.
   pub same : HasCleanDisk (state g new) → IsTrue (state g new).is_open → OnErr result (IsSame (state g old) (state g new))
-  -- a crash leaves what it could leave before, or the tables of the base of rows of an older schema that passed
+  -- A crash exposes a state that was possible before the call or, if rows of an older schema
+  -- passed, the tables of their base in schema 3.
   pub survives : IsDefinedIn g old → Survives (state g old) (state g new) (AreUpgraded (state g old).now)
-  -- of a desk of the third schema it is an audit, which writes nothing
+  -- If the database had a desk of schema 3, the call satisfies the postcondition of an audit, which
+  -- writes nothing.
   pub audited : IsDefinedIn g old → HasThirdIn g old → AuditPost g old new result
 
--- the store holds the tables of sound books in order, whose texts can be read
+-- The abstraction relation: the store holds the tables of `base`, which satisfies the books
+-- invariant and the audit invariant, and whose texts are UTF-8.
 pub record Represents {S : Type 0} (g : Ghosts S) (store : Held S) (base : Base) : Type 0 where
   pub rows : Holds g store (sheets base)
   pub books : BooksInvariant base

@@ -1,11 +1,11 @@
--- A call of a closure at a lot, with its symbol.
+-- Calls of a closure with a lot and its symbol.
 use Rattle.std.specs.Prelude.{◌≡◌, ℕ, List}
 use Rattle.std.specs.Fn.{Called, Mut}
 use denote.Ref.{Bor}
 use Rattle.brk_lots.specs.declared.lot.Lot.{Lot}
 use Rattle.brk_changes.specs.declared.holding_row.HoldingRow.{HoldingRow}
 
--- it may give r at the symbol and the lot of a row, and leave f'
+-- The closure `f`, called with the symbol and the lot of `row`, may return `r` and become `f'`.
 pub record CalledAtLot {F R : Type 0} (g : Mut F (Bor (List ℕ) × (Bor Lot × Unit {0})) R) (f : F) (row : HoldingRow) (r : R) (f' : F) : Type 0 where
   pub symbol : Bor (List ℕ)
   pub lot : Bor Lot

@@ -1,4 +1,4 @@
--- Reads one after another.
+-- Sequences of reads.
 use Rattle.std.proofs.Common.{IsTrue, ◌∙◌, refl, inl}
 use Rattle.std.proofs.Math.Nat.{le_refl}
 use Rattle.sqlite_trees.specs.declared.store.Store.{Ghosts}
@@ -9,16 +9,19 @@ use Rattle.brk_model.specs.Tables.{Tables}
 use Rattle.brk_sql.proofs.Inside.{clean_before}
 use Rattle.brk_store.specs.Holds.{Holds, ReadPost, IsSame}
 
--- what reads may make of a store: it holds what it held, the whole database is as it was, and a crash leaves what it left
+-- The postcondition of any number of reads: the store holds the rows that it held, the database is
+-- unchanged, and a crash exposes only states that were possible before.
 pub record IsKept {S : Type 0} (g : Ghosts S) (old new : Held S) : Type 0 where
   pub kept : (t : Tables) → Holds g old t → Holds g new t
   pub same : HasCleanDisk (state g new) → IsTrue (state g new).is_open → IsSame (state g old) (state g new)
   pub survives : Survives (state g old) (state g new) (λ _. ⊥)
 
 module _ {S : Type 0} {g : Ghosts S} where
+  -- If the disk assumption holds after reads, it held before them.
   pub clean_at : (old new : Held S) → IsKept g old new → HasCleanDisk (state g new) → HasCleanDisk (state g old)
   clean_at old new k = clean_before (state g old) (state g new) (λ _. ⊥) k.survives
 
+  -- Reads after reads satisfy `IsKept`.
   pub kept_then : (p q r : Held S) → IsKept g p q → IsKept g q r → IsKept g p r
   kept_then p q r a b = record {
     kept = λ t h. b.kept t (a.kept t h);
@@ -29,9 +32,11 @@ module _ {S : Type 0} {g : Ghosts S} where
     survives = survives_then (state g p) (state g q) (state g r) (λ _. ⊥) (λ _. ⊥) (λ _. ⊥) (λ _ db none. none) (λ _ db none. none) a.survives b.survives;
   }
 
+  -- A call that satisfies `ReadPost` satisfies `IsKept`.
   pub kept_read : {V E : Type 0} (old new : Held S) (result : _) (Told : _) → ReadPost {V = V} {E = E} g old new result Told → IsKept g old new
   kept_read old new result Told r = record { kept = r.kept; same = r.same; survives = r.survives }
 
+-- No read at all satisfies `IsKept`.
 pub kept_none : {S : Type 0} {g : Ghosts S} (old : Held S) → IsKept g old old
 kept_none {S} {g} old = record {
   kept = λ t h. h;

@@ -1,4 +1,4 @@
--- What pages have still to give.
+-- The lots that a source of pages has still to return.
 use Rattle.std.specs.Borrow.{MutBor}
 use Rattle.std.specs.Prelude.{◌≡◌, ℕ, List, drop}
 use Rattle.sqlite_trees.specs.declared.store.Store.{Ghosts}
@@ -10,14 +10,14 @@ use Rattle.brk_store.specs.Pages.{left_of, rows_from}
 use Rattle.brk_store.specs.declared.pages.Page.{Page}
 use Rattle.brk_store.specs.declared.pages.Pages.{Pages}
 
--- the store that pages were lent
+-- The store that the pages borrow.
 abbrev pub lent : {S P : Type 0} → Pages S P → MutBor (Held S)
 lent p = p.store
 
--- how many rows pages have read
+-- The number of rows that the pages have read.
 abbrev pub read_by : {S P : Type 0} → Pages S P → ℕ
 read_by p = p.read
 
--- these are the lots behind those that were given, of tables that the store holds
+-- The lots `ls` are those that the source has still to return, for some rows that the store holds.
 abbrev pub Rests : {S : Type 0} → Ghosts S → Pages S Page → List Lot → Type 0
 Rests g p ls = (t : Tables) × Holds g p.store.now t × (ls ≡ left_of (drop p.page.given p.page.rows.items) p.ended p.read (rows_from p.lifo p.account p.symbol.now t))

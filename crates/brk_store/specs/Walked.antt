@@ -1,4 +1,4 @@
--- What a walk of a store comes to.
+-- The postconditions of the walks of a store.
 use Rattle.std.specs.Prelude.{◌≡◌, ℕ, ◌&&◌, List, ◌++◌, filter, nat_le, Result, Ok, Err, OnOk, IfErr, IsTrue}
 use Rattle.sqlite_trees.specs.declared.store.Store.{Ghosts}
 use Rattle.sqlite.specs.Held.{Held, state}
@@ -11,41 +11,46 @@ use Rattle.brk_tables_walks.specs.declared.walking.WalkError.{WalkError}
 use Rattle.brk_tables_walks.specs.declared.walking.WalkError.TheVariants.{Failed, Cause}
 use Rattle.brk_store.specs.Holds.{Holds, IsSame}
 
--- the cash rows of an account from one stamp to another, both included, by rising stamp
+-- The cash rows of the account with stamps from `from` to `to`, both included, sorted by stamp,
+-- ascending.
 abbrev pub cash_of : ℕ → ℕ → ℕ → Tables → List MoveRow
 cash_of account from to t = filter (λ r. nat_le from r.stamp && nat_le r.stamp to) (cash_in t account)
 
--- these are all records of the list, whatever rows the store holds
+-- The records `all` are the whole list, for whatever rows the store holds.
 abbrev pub AreAll : {S M : Type 0} → Ghosts S → Held S → (Tables → List M) → List M → Type 0
 AreAll g store list all = (t : Tables) → Holds g store t → all ≡ list t
 
--- these are its first
+-- The records `first` are a prefix of the list, for whatever rows the store holds.
 abbrev pub AreFirst : {S M : Type 0} → Ghosts S → Held S → (Tables → List M) → List M → Type 0
 AreFirst {S} {M} g store list first = (t : Tables) → Holds g store t → (rest : List M) × (first ++ rest ≡ list t)
 
--- a walk hands the records of a list to a visitor, one at a time and in order, until it stops at one
+-- The postcondition of a walk, which passes the records of a list to a visitor, one at a time and
+-- in order, until the visitor stops.
 pub record WalkPost {S X M V E : Type 0} (g : Ghosts S) (old new : Held S) (of : X → M) (list : Tables → List M) (takes : V → X → V → Type 0) (stops : V → X → E → V → Type 0)
     (before after : V) (result : Result (Unit {0}) (WalkError E)) : Type 0 where
-  -- at Ok it has taken each of them
+  -- At `Ok` the visitor has taken every record.
   pub all : HasCleanDisk (state g new) → OnOk result (Takes (AreAll g old list) of takes before after)
-  -- else the first of them, and at its own cause it stopped at the next
+  -- At a fault the visitor has taken a prefix of the records. At its own error it has taken the
+  -- records before the one at which it stopped.
   pub early : HasCleanDisk (state g new) → IfErr result (BreaksOff (AreFirst g old list) of takes stops before after)
-  -- only a store that is open answers
+  -- `Ok` is returned only if the store was open.
   pub opened : HasCleanDisk (state g new) → OnOk result (IsTrue (state g old).is_open)
-  -- the store holds what it held, whatever the end
+  -- The store holds the rows that it held, whatever the result.
   pub kept : (t : Tables) → Holds g old t → Holds g new t
-  -- the whole database is as it was
+  -- The database was open and is unchanged, if it is open after the call.
   pub same : HasCleanDisk (state g new) → IsTrue (state g new).is_open → IsSame (state g old) (state g new)
-  -- a crash leaves what it could leave before
+  -- A crash exposes only states that were possible before the call.
   pub survives : Survives (state g old) (state g new) (λ _. ⊥)
 
--- the answer of a walk that calls a closure: its own error as it came, and a fault made one of its errors
+-- The result of a walk that calls a closure is `Ok`, the closure's own error, or an error that
+-- `gives` allows for the fault.
 abbrev pub AnswersAs : {E : Type 0} → (Fault → E → Type 0) → Result (Unit {0}) (WalkError E) → Result (Unit {0}) E → Type 0
 AnswersAs {E} gives (Ok u) result = result ≡ Ok tt
 AnswersAs {E} gives (Err (Cause e)) result = result ≡ Err e
 AnswersAs {E} gives (Err (Failed fault)) result = (e : E) × (result ≡ Err e) × gives fault e
 
--- a walk calls a closure at each record of a list, in order, until it gives an error, which is the answer
+-- A walk calls the closure with each record of the list, in order, until the closure returns an
+-- error, which is the result.
 abbrev pub CallsEach : {S X M F E : Type 0} → Ghosts S → Held S → Held S → (X → M) → (Tables → List M) → (F → X → Result (Unit {0}) E → F → Type 0) → (Fault → E → Type 0) → F → Result (Unit {0}) E → Type 0
 CallsEach {S} {X} {M} {F} {E} g old new of list called gives call result =
     (last : F) × (outcome : Result (Unit {0}) (WalkError E)) × WalkPost g old new of list (λ p x q. called p x (Ok tt) q) (λ p x e q. called p x (Err e) q) call last outcome × AnswersAs gives outcome result

@@ -1,4 +1,4 @@
-//! What is known of an audit's answer, and of a store that was adopted.
+//! Theorems about the answer of an audit, and about an adopted store.
 
 ghost use Rattle.brk_model.specs.Form.{has_texts};
 ghost use Rattle.std.specs.Prelude.{◌≡◌, IsTrue, None, Ok, Option, Result};
@@ -20,20 +20,22 @@ ghost use Rattle.brk_store.specs.Holds.{Holds};
 
 use sqlite::Alter;
 
-/// An audit has one answer of a database: it passes, or one condition is the first that fails; by the schema whose desk is there, and
-/// by each schema.
+/// Proves that an audit has one answer for a database, by the schema whose desk exists and by each
+/// schema: the rows pass, or one condition is the first that fails.
 pub fn an_audit_has_one_answer()
     ensures whole { (db : Database) (a b : Option Condition) → Audited db a → Audited db b → a ≡ b }
     ensures by { (schema : Schema) (db : Database) (a b : Option Condition) → AuditedBy (schema_of schema) db a → AuditedBy (schema_of schema) db b → a ≡ b }
 {}
 
-/// A database that has the tables of a desk of the third schema, with whatever rows, is defined, and such a desk is there.
+/// Proves that a store that holds rows of schema 3, whatever they are, is defined and has a desk of
+/// schema 3.
 pub fn a_desk_is_defined<S: Alter>()
     ensures defined { (held : Held S) (t : Tables) → Holds S.Store held t → IsDefinedIn S.Store held }
     ensures there { (held : Held S) (t : Tables) → Holds S.Store held t → HasThirdIn S.Store held }
 {}
 
-/// An audit of a store that holds rows tells what is so of these rows; of the rows of sound books in order, that they pass.
+/// Proves that an audit of a store that holds rows returns the audit of these rows, and never
+/// `Damaged` if the store represents a base.
 pub fn an_audit_tells_of_the_rows<S: Alter>()
     ensures rows { (old new : Held S) (result : Result (Unit {0}) Fault) (t : Tables)
         → AuditPost S.Store old new result → Holds S.Store old t → IsTrue (has_texts t) → HasCleanDisk (state S.Store new) → OnAnswer result (IsAudit third_schema t) }
@@ -41,14 +43,15 @@ pub fn an_audit_tells_of_the_rows<S: Alter>()
         → AuditPost S.Store old new result → Represents S.Store old base → HasCleanDisk (state S.Store new) → OnAnswer result (λ answer. answer ≡ None) }
 {}
 
-/// The adoption of what holds rows of the third schema is an audit: it writes nothing.
+/// Proves that an adoption of a database that holds rows of schema 3 is an audit: it writes
+/// nothing.
 pub fn an_adoption_of_rows_is_an_audit<S: Alter>()
     ensures { (old new : Held S) (result : Result (Unit {0}) Fault) (t : Tables)
         → AdoptPost S.Store old new result → Holds S.Store old t → AuditPost S.Store old new result }
 {}
 
-/// A store whose rows pass holds the tables of a base in order and sound, of the base that the rows give; so does one that was adopted: of
-/// the base that the rows gave that were found, in whichever schema.
+/// Proves that a store whose rows pass represents their base. An adopted store represents a base
+/// too: that of the rows that were found, of whichever schema.
 pub fn an_adopted_store_holds_its_books<S: Alter>()
     ensures rows { (store : Held S) (t : Tables) → Holds S.Store store t → Passes third_schema t → IsTrue (has_texts t) → Represents S.Store store (base_of t) }
     ensures adopted { (old new : Held S) → AdoptPost S.Store old new (Ok tt) → IsDefinedIn S.Store old → (base : Base) × Represents S.Store new base }

@@ -69,9 +69,15 @@ fn audit_desk<S: Alter>(conn: &mut Connection<S>, alloc: Global) -> Result<(), F
 }
 
 impl<S: Alter> Store<S> {
-    /// Audits the database by the conditions of schema 3. Writes nothing.
+    /// Audits the database by the conditions of schema 3. Returns `Ok` only if its rows pass.
+    /// Writes nothing.
     ///
-    /// Fails with `Damaged` and the first condition that fails, or with `Memory` or `Store`.
+    /// Fails with `Damaged` and the first condition that fails, or with `Memory` or `Store`. The
+    /// rows and the open database are unchanged, whatever the result.
+    ///
+    /// A crash exposes only states that were possible before the call.
+    ///
+    /// The result is specified only of a database that is defined (`Store::adopt`).
     pub fn audit(&mut self, alloc: Global) -> Result<(), Fault>
         ensures audited { AuditPost S.Store self.old self.new result }
         ensures condition { IfErr result (λ f. f ≢ fault.Damaged NotEmpty) }

@@ -5,7 +5,8 @@ ghost use Rattle.sqlite.specs.Held.{state};
 
 use sqlite::{Alter, Connection, Transaction};
 
-/// Begins a transaction. Outside one, what an open database holds is what it has committed.
+/// Begins a transaction. Outside a transaction, the current state of an open database is its
+/// committed state.
 pub(crate) fn begin<S: Alter>(conn: &mut Connection<S>) -> Transaction<'_, S>
     requires { conn.old.in_transaction ≡ false }
     ensures same_reference { result.conn.ghost_name ≡ conn.entry.ghost_name }

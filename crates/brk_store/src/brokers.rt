@@ -1,4 +1,5 @@
-//! Reads of brokers by their names, and of a broker's requests. Each is a transaction of its own, which is rolled back.
+//! Reads of brokers by name and of a broker's requests. Each read is a transaction of its own,
+//! which is rolled back.
 
 ghost use Rattle.std.specs.Prelude.{◌==◌, IfErr, bytes_eq};
 ghost use Rattle.brk_changes.specs.Rows.{request_row_of};
@@ -18,7 +19,7 @@ use std::alloc::Global;
 
 #[tactic(auto, using(crate::proofs::Ending::is_read_of))]
 impl<S: Alter> Store<S> {
-    /// The brokers with a name, by rising id.
+    /// Returns the brokers with a name, sorted by id, ascending. Fails with `Memory` or `Store`.
     pub fn brokers_named(&mut self, alloc: Global, name: &Name) -> Result<Vec<BrokerRow>, Fault>
         ensures read { ReadPost S.Store self.old self.new result (Listed Brokers broker_row_of (λ r. bytes_eq r.name name.now)) }
         ensures fault { IfErr result MayFail }
@@ -27,7 +28,8 @@ impl<S: Alter> Store<S> {
         brk_tables_views::brokers_named(&mut tx, alloc, name)
     }
 
-    /// The requests of a broker, by rising trade.
+    /// Returns the requests of a broker, sorted by trade, ascending. Fails with `Memory` or
+    /// `Store`.
     pub fn requests_of_broker(
         &mut self,
         alloc: Global,

@@ -1,10 +1,10 @@
-//! Closures as visitors.
+//! Visitors that call a closure.
 
 use brk_changes::HoldingRow;
 use brk_lots::Lot;
 use brk_tables_walks::Visitor;
 
-/// Calls a closure at each record.
+/// A visitor that calls a closure with each record.
 #[derive(Drop)]
 pub struct Calls<F> {
     pub call: F,
@@ -31,7 +31,7 @@ impl<R, E, F: FnMut(&R) -> Result<(), E>> Visitor<R, E> for Calls<F> {
     ghost goes_on = { λ _ _ _ _ _. tt };
 }
 
-/// Calls a closure at each lot, with its symbol.
+/// A visitor that calls a closure with each lot and its symbol.
 #[derive(Drop)]
 pub struct LotCalls<F> {
     pub call: F,

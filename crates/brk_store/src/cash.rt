@@ -50,7 +50,7 @@ impl<S: Alter> Store<S> {
         brk_tables_cash::last_move(&mut tx)
     }
 
-    // Returns whether there are at least `ALL_MOVEMENTS` deposits and withdrawals. The database
+    // Returns true if there are at least `ALL_MOVEMENTS` deposits and withdrawals. The database
     // goes over all cash rows.
     fn has_all_movements(&mut self) -> Result<bool, Fault>
         ensures read { ReadPost S.Store self.old self.new result (λ all t. all ≡ nat_le greatest_id (length (filter (λ r. is_none r.trade) t.moves))) }

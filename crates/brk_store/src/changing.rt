@@ -1,4 +1,4 @@
-//! Changes of rows, and the making of the tables, each in one transaction.
+//! Changes of rows and the creation of the tables, each in one transaction.
 
 ghost use Rattle.std.specs.Prelude.{◌≡◌, ◌⊎◌, Err, IfErr, OnErr, false};
 ghost use Rattle.brk_money.specs.declared.fault.Condition.TheVariants.{NotEmpty};
@@ -14,7 +14,7 @@ use brk_changes::Change;
 use brk_money::{Condition, Fault};
 use sqlite::{Alter, Connection, Transaction};
 
-// Makes one change of one row.
+// Applies one change to its row. Fails with `Store` only.
 fn make<S: Alter>(tx: &mut Transaction<'_, S>, change: &Change) -> Result<(), Fault>
     ensures same_reference { tx.new.conn.ghost_name ≡ tx.old.conn.ghost_name }
     ensures step { IsStep (state S.Store tx.old.conn.now) (state S.Store tx.new.conn.now) result (λ _ a b. Turns desk (after_change change.now) a.now b.now) }
@@ -86,6 +86,7 @@ fn make<S: Alter>(tx: &mut Transaction<'_, S>, change: &Change) -> Result<(), Fa
     }
 }
 
+// Applies the changes in order. Fails with `Store` only.
 fn make_all<S: Alter>(tx: &mut Transaction<'_, S>, changes: &[Change]) -> Result<(), Fault>
     ensures same_reference { tx.new.conn.ghost_name ≡ tx.old.conn.ghost_name }
     ensures step { IsStep (state S.Store tx.old.conn.now) (state S.Store tx.new.conn.now) result (λ _ a b. Turns desk (after_changes changes.now) a.now b.now) }
@@ -97,7 +98,7 @@ fn make_all<S: Alter>(tx: &mut Transaction<'_, S>, changes: &[Change]) -> Result
     Ok(())
 }
 
-/// Makes the changes in turn, all of them or none.
+/// Applies the changes in order, in one transaction, or none of them. Fails with `Store` only.
 pub(crate) fn apply_all<S: Alter>(conn: &mut Connection<S>, changes: &[Change]) -> Result<(), Fault>
     requires { conn.old.in_transaction ≡ false }
     ensures mode { conn.new.in_transaction ≡ false }
@@ -106,7 +107,7 @@ pub(crate) fn apply_all<S: Alter>(conn: &mut Connection<S>, changes: &[Change]) 
 {
     let _settled = conn.is_autocommit();
     let mut tx = conn.transaction();
-    // What it tells is known already; that it answers shows that the store is open.
+    // The stamp is known already. That the read succeeds shows that the store is open.
     let _last = brk_tables_schema::last_stamp(&mut tx)?;
     make_all(&mut tx, changes)?;
     match tx.commit() {
@@ -115,7 +116,8 @@ pub(crate) fn apply_all<S: Alter>(conn: &mut Connection<S>, changes: &[Change]) 
     }
 }
 
-/// Makes the tables where none of them is there, or none of them.
+/// Creates the tables in one transaction, or none of them. Fails with `Store`, or with
+/// `Damaged(NotEmpty)`, only if one of the tables exists.
 pub(crate) fn make_desk<S: Alter>(conn: &mut Connection<S>) -> Result<(), Fault>
     requires { conn.old.in_transaction ≡ false }
     ensures mode { conn.new.in_transaction ≡ false }

@@ -1,4 +1,4 @@
-//! A desk's database: made, read and changed as a whole. Each change is one transaction.
+//! A desk's database: creation, adoption, audit, reads, and changes in transactions.
 #![tactic(auto)]
 
 pub mod adopting;

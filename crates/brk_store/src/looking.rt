@@ -1,4 +1,5 @@
-//! Reads of what views of an account's trades show. Each is a transaction of its own, which is rolled back.
+//! Reads for the views of an account's trades. Each read is a transaction of its own, which is
+//! rolled back.
 
 ghost use Rattle.std.specs.Prelude.{◌≡◌, ◌==◌, IfErr, map, take};
 ghost use Rattle.brk_changes.specs.Rows.{history_row_of, trade_row_of};
@@ -17,7 +18,8 @@ use std::alloc::Global;
 
 #[tactic(auto, using(crate::proofs::Ending::is_read_of))]
 impl<S: Alter> Store<S> {
-    /// The last ten trades of an account, the most recent first.
+    /// Returns the last ten trades of an account, the most recent first. Fails with `Memory` or
+    /// `Store`.
     pub fn last_ten_of_account(
         &mut self,
         alloc: Global,
@@ -30,7 +32,8 @@ impl<S: Alter> Store<S> {
         brk_tables_trading::last_ten_of_account(&mut tx, alloc, account)
     }
 
-    /// The last fifty trades of an account, the most recent first.
+    /// Returns the last fifty trades of an account, the most recent first. Fails with `Memory` or
+    /// `Store`.
     pub fn last_fifty_of_account(
         &mut self,
         alloc: Global,
@@ -43,7 +46,8 @@ impl<S: Alter> Store<S> {
         brk_tables_trading::last_fifty_of_account(&mut tx, alloc, account)
     }
 
-    /// When a trade came to its statuses, by the codes of these.
+    /// Returns the history of a trade, sorted by status code, ascending. Fails with `Memory` or
+    /// `Store`.
     pub fn history_of(&mut self, alloc: Global, trade: Id) -> Result<Vec<HistoryRow>, Fault>
         ensures read { ReadPost S.Store self.old self.new result (Listed TradeHistory history_row_of (λ r. r.trade == trade)) }
         ensures fault { IfErr result MayFail }

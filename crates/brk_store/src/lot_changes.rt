@@ -1,4 +1,5 @@
-//! Reads of what trades made of lots, by lot and then by trade. Each is a transaction of its own, which is rolled back.
+//! Reads of lot changes, sorted by lot and then by trade. Each read is a transaction of its own,
+//! which is rolled back.
 
 ghost use Rattle.std.specs.Prelude.{◌==◌, IfErr};
 ghost use Rattle.brk_changes.specs.Rows.{lot_change_of};
@@ -16,7 +17,8 @@ use std::alloc::Global;
 
 #[tactic(auto, using(crate::proofs::Ending::is_read_of))]
 impl<S: Alter> Store<S> {
-    /// What a trade made of the lots that it touched.
+    /// Returns the changes that a trade made to lots, sorted by lot, ascending. Fails with `Memory`
+    /// or `Store`.
     pub fn changes_by(&mut self, alloc: Global, trade: Id) -> Result<Vec<LotChange>, Fault>
         ensures read { ReadPost S.Store self.old self.new result (Listed HoldingHistory lot_change_of (λ r. r.trade == trade)) }
         ensures fault { IfErr result MayFail }
@@ -25,7 +27,8 @@ impl<S: Alter> Store<S> {
         brk_tables_views::changes_by(&mut tx, alloc, trade)
     }
 
-    /// What trades made of the lot that a trade opened.
+    /// Returns the changes of the lot that a trade opened, sorted by trade, ascending. Fails with
+    /// `Memory` or `Store`.
     pub fn changes_of(&mut self, alloc: Global, lot: Id) -> Result<Vec<LotChange>, Fault>
         ensures read { ReadPost S.Store self.old self.new result (Listed HoldingHistory lot_change_of (λ r. r.lot == lot)) }
         ensures fault { IfErr result MayFail }

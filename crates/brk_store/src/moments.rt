@@ -1,5 +1,5 @@
-//! Reads of trades of any status by the moments at which they came to their last one. Each is a transaction of its own, which is
-//! rolled back.
+//! Reads of trades of any status by the stamps of their last status. Each read is a transaction of
+//! its own, which is rolled back.
 
 ghost use Rattle.std.specs.Prelude.{◌≡◌, ◌==◌, ◌&&◌, Err, IfErr, OnErr, bytes_eq, filter, map, nat_le, option_map, option_to_list, take};
 ghost use Rattle.brk_money.specs.declared.fault.Fault.TheVariants as fault;
@@ -20,7 +20,8 @@ use std::alloc::Global;
 
 #[tactic(auto, using(crate::proofs::Ending::is_read_of))]
 impl<S: Alter> Store<S> {
-    /// The first twenty trades of an account between two stamps, both included, the oldest first.
+    /// Returns the first twenty trades of an account in a span, both ends included, the oldest
+    /// first. Fails with `Memory` or `Store`.
     pub fn twenty_of_account(
         &mut self,
         alloc: Global,
@@ -34,7 +35,8 @@ impl<S: Alter> Store<S> {
         brk_tables_views::twenty_of_account(&mut tx, alloc, account, span.first, span.last)
     }
 
-    /// The first twenty trades in a security between two stamps, both included, the oldest first.
+    /// Returns the first twenty trades of a symbol in a span, both ends included, the oldest first.
+    /// Fails with `Memory` or `Store`.
     pub fn twenty_of_symbol(
         &mut self,
         alloc: Global,
@@ -48,7 +50,8 @@ impl<S: Alter> Store<S> {
         brk_tables_views::twenty_of_symbol(&mut tx, alloc, symbol, span.first, span.last)
     }
 
-    /// The oldest trade of an account at or after a stamp.
+    /// Returns the oldest trade of an account at or after a stamp, or `None` if there is none.
+    /// Fails with `Store` only.
     pub fn first_since(&mut self, account: Id, first: Stamp) -> Result<Option<TradeRow>, Fault>
         ensures read { ReadPost S.Store self.old self.new result (λ o t. option_to_list (option_map trade_row_of o) ≡ take 1 (oldest_first_rows (filter (λ r. nat_le first r.stamp) (trades_in t account)))) }
         ensures fault { OnErr result (result ≡ Err fault.Store) }

@@ -1,4 +1,4 @@
-//! Numbers of an account and of a broker, each read with its row.
+//! Reads of the balance of an account and of the totals of a broker.
 
 ghost use Rattle.std.specs.Prelude.{IfSome, pos, ◌≡◌, ◌==◌, Err, OnErr, find, option_map};
 ghost use Rattle.brk_money.specs.declared.fault.Fault.TheVariants as fault;
@@ -11,7 +11,7 @@ use brk_money::{Cents, Fault, Id};
 use brk_ref::BrokerRow;
 use sqlite::Alter;
 
-// The numbers in a broker's row, where they are within their limits.
+// Returns the totals in a broker's row, or `None` if one is out of range.
 fn numbers_in(row: &BrokerRow) -> Option<BrokerNumbers>
     ensures { IfSome result (λ numbers. (pos numbers.trades ≡ row.now.trades) × (numbers.commissions ≡ row.now.commissions)) }
 {
@@ -32,7 +32,8 @@ fn numbers_in(row: &BrokerRow) -> Option<BrokerNumbers>
 
 #[tactic(auto, using(crate::proofs::Ending::is_read_of))]
 impl<S: Alter> Store<S> {
-    /// The numbers of a broker, where there is such a broker. Numbers beyond their limits are a fault.
+    /// Returns the totals of a broker, or `None` if the broker does not exist. Fails with `Store`
+    /// only, also if a total is out of range.
     pub fn broker_numbers(&mut self, broker: Id) -> Result<Option<BrokerNumbers>, Fault>
         ensures read { ReadPost S.Store self.old self.new result (λ numbers t. AreNumbers numbers (find (λ r. r.id == broker) t.brokers)) }
         ensures fault { OnErr result (result ≡ Err fault.Store) }
@@ -46,7 +47,8 @@ impl<S: Alter> Store<S> {
         }
     }
 
-    /// The balance of an account in cents (CA_BAL), where there is such an account.
+    /// Returns the balance of an account in cents (CA_BAL), or `None` if the account does not
+    /// exist. Fails with `Store` only.
     pub fn balance_of(&mut self, account: Id) -> Result<Option<Cents>, Fault>
         ensures read { ReadPost S.Store self.old self.new result (λ balance t. balance ≡ option_map (λ r. r.balance) (find (λ r. r.id == account) t.accounts)) }
         ensures fault { OnErr result (result ≡ Err fault.Store) }

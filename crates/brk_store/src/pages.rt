@@ -1,4 +1,4 @@
-//! The lots of a position, read from the tables by pages.
+//! The lots of a position, read from the tables in pages.
 
 ghost use Rattle.std.specs.Prelude.{◌≡◌, ◌≢◌, ◌≤◌, ◌+◌, IfErr, IfOk, IsTrue, length, map, pos};
 ghost use Rattle.std.specs.List.{All};
@@ -17,10 +17,10 @@ use brk_ref::Symbol;
 use sqlite::Alter;
 use std::alloc::Global;
 
-// How many rows a page has, unless it is the last. The statements have this number too.
+// The number of rows of a page, unless it is the last. The statements have this number too.
 const PAGE_SIZE: usize = 16;
 
-/// The rows of a page, and how many of them were given as lots.
+/// The rows of a page, and the number of them that were returned as lots.
 #[derive(Drop)]
 pub struct Page {
     rows: Vec<HoldingRow>,
@@ -29,11 +29,12 @@ pub struct Page {
     ghost some_shares: { All (λ r. r.qty ≢ pos 0) rows.items },
 }
 
-/// The lots of an account in a security from one end, read 16 at a time. While it is there nothing else is asked of the
-/// store.
+/// A source of the lots of an account in a security, from one end, which reads 16 rows at a time.
+/// It borrows the store.
 pub type LotPages<'a, S> = Pages<'a, S, Page>;
 
-/// Pages of a store that they were lent. That a page is a type parameter lets a caller know what the store is afterwards.
+/// Pages of a borrowed store. The page is a type parameter, so that a caller knows the store's
+/// state afterwards.
 pub struct Pages<'a, S: Alter, P> {
     store: &'a mut Store<S>,
     alloc: Global,
@@ -41,7 +42,7 @@ pub struct Pages<'a, S: Alter, P> {
     symbol: &'a Symbol,
     lifo: bool,
     page: P,
-    // how many rows were read, and whether there are no more
+    // The number of rows read, and whether there are no more.
     read: u32,
     ended: bool,
 }
@@ -65,7 +66,7 @@ impl<S: Alter, P: Drop> Drop for Pages<'_, S, P> {
     }
 }
 
-// A page from one end, behind so many.
+// Returns the page of rows after the first `skipped`, from one end.
 fn read_page<S: Alter>(
     store: &mut Store<S>,
     alloc: Global,
@@ -84,14 +85,15 @@ fn read_page<S: Alter>(
     }
 }
 
-// Whether they are no more than a page, and each has shares.
+// Returns true if the rows are at most a page and each has shares.
 fn is_page(rows: &[HoldingRow]) -> bool
     ensures { IsTrue result → (length rows.now ≤ page_size) × All (λ r. r.qty ≢ pos 0) rows.now }
 {
     rows.len() <= PAGE_SIZE && rows.iter().all(|row| row.qty != 0)
 }
 
-// The next page. One of more rows than were asked for, or with a lot of no shares, is a fault of the store.
+// Returns the next page. Fails with `Memory` or `Store`, also with `Store` if the page has more
+// rows than were asked for, or a lot without shares.
 fn known_page<S: Alter>(
     store: &mut Store<S>,
     alloc: Global,
@@ -113,7 +115,7 @@ fn known_page<S: Alter>(
     }
 }
 
-// The lot of a row.
+// Returns the lot of a row.
 fn lot_of(row: &HoldingRow) -> Lot
     ensures { result ≡ lot_in row.now }
 {
@@ -133,8 +135,13 @@ impl<S: Alter> Store<S> {
     ghost use Rattle.brk_store.specs.Resting.{lent, read_by};
     ghost use Rattle.brk_book_theorems.specs.TradeReads.{position_in};
 
-    /// The lots of an account in a security, from the newest for last in first out, else from the oldest. Nothing is read
-    /// yet.
+    /// Returns a source of the lots of an account in a security, the newest first if `lifo`,
+    /// otherwise the oldest first. Reads nothing yet: the source reads 16 rows at a time.
+    ///
+    /// A call of the source fails with `Memory` or `Store`. The remaining lots and the open
+    /// database are then unchanged, so the call may be retried.
+    ///
+    /// A crash during its reads exposes only states that were possible before.
     pub fn lot_pages<'a>(
         &'a mut self,
         alloc: Global,
@@ -174,8 +181,7 @@ impl<S: Alter> Pages<'_, S, Page> {
     ghost use Rattle.brk_store.specs.Kept.{IsKept};
     ghost use Rattle.brk_store.specs.Resting.{Rests, read_by};
 
-    /// How many rows it has read: at least as many as it gave lots, and at most 15 more. After `close` these are at most 16
-    /// more than were touched.
+    /// Returns the number of rows read: at least the number of lots returned, and at most 15 more.
     pub fn rows_read(&self) -> u64
         ensures counted { result ≡ read_by self.now }
         ensures least { ⟦<Pages<'static, S, Page> as LotSource>⟧.asked self.now ≤ result }
@@ -184,7 +190,7 @@ impl<S: Alter> Pages<'_, S, Page> {
         u64::from(self.read)
     }
 
-    // Turns to the next page, and gives its first lot.
+    // Turns to the next page and returns its first lot, or `None` if no lot remains.
     fn turn(&mut self) -> Result<Option<Lot>, Fault>
         requires { length self.old.page.rows.items ≤ self.old.page.given }
         ensures same_reference { self.new.store.ghost_name ≡ self.old.store.ghost_name }

@@ -1,4 +1,5 @@
-//! Reads of parties, of what is kept, and of the last stamp. Each is a transaction of its own, which is rolled back.
+//! Reads of parties, of stored replies and of the last stamp. Each read is a transaction of its
+//! own, which is rolled back.
 
 ghost use Rattle.std.specs.Prelude.{◌≡◌, ◌==◌, ◌&&◌, Err, IfErr, OnErr, bytes_eq};
 ghost use Rattle.brk_money.specs.declared.fault.Fault.TheVariants as fault;
@@ -17,7 +18,8 @@ use std::alloc::Global;
 
 #[tactic(auto, using(crate::proofs::Ending::is_read_of))]
 impl<S: Alter> Store<S> {
-    /// The stamp of the last accepted command.
+    /// Returns the stamp of the last accepted command, or `None` if there is none. Fails with
+    /// `Store` only.
     pub fn last(&mut self) -> Result<Option<Stamp>, Fault>
         ensures read { ReadPost S.Store self.old self.new result (λ last t. last ≡ t.last) }
         ensures fault { OnErr result (result ≡ Err fault.Store) }
@@ -26,7 +28,7 @@ impl<S: Alter> Store<S> {
         brk_tables_schema::last_stamp(&mut tx)
     }
 
-    /// The broker with an id.
+    /// Returns the broker with an id, or `None` if there is none. Fails with `Store` only.
     pub fn broker(&mut self, id: Id) -> Result<Option<BrokerRow>, Fault>
         ensures read { ReadPost S.Store self.old self.new result (Found Brokers broker_row_of (λ r. r.id == id)) }
         ensures fault { OnErr result (result ≡ Err fault.Store) }
@@ -35,7 +37,7 @@ impl<S: Alter> Store<S> {
         brk_tables_reference::broker_by_id(&mut tx, id)
     }
 
-    /// The customer with an id.
+    /// Returns the customer with an id, or `None` if there is none. Fails with `Store` only.
     pub fn customer(&mut self, id: Id) -> Result<Option<Customer>, Fault>
         ensures read { ReadPost S.Store self.old self.new result (Found Customers customer_of (λ r. r.id == id)) }
         ensures fault { OnErr result (result ≡ Err fault.Store) }
@@ -44,7 +46,7 @@ impl<S: Alter> Store<S> {
         brk_tables_reference::customer_by_id(&mut tx, id)
     }
 
-    /// The customer with a tax id.
+    /// Returns the customer with a tax id, or `None` if there is none. Fails with `Store` only.
     pub fn customer_by_tax_id(&mut self, tax_id: &TaxId) -> Result<Option<Customer>, Fault>
         ensures read { ReadPost S.Store self.old self.new result (Found Customers customer_of (λ r. bytes_eq r.tax_id tax_id.now)) }
         ensures fault { OnErr result (result ≡ Err fault.Store) }
@@ -53,7 +55,7 @@ impl<S: Alter> Store<S> {
         brk_tables_reference::customer_by_tax_id(&mut tx, tax_id)
     }
 
-    /// The account with an id.
+    /// Returns the account with an id, or `None` if there is none. Fails with `Store` only.
     pub fn account(&mut self, id: Id) -> Result<Option<AccountRow>, Fault>
         ensures read { ReadPost S.Store self.old self.new result (Found Accounts account_row_of (λ r. r.id == id)) }
         ensures fault { OnErr result (result ≡ Err fault.Store) }
@@ -62,7 +64,7 @@ impl<S: Alter> Store<S> {
         brk_tables_reference::account_by_id(&mut tx, id)
     }
 
-    /// The accounts of a customer, by rising id.
+    /// Returns the accounts of a customer, sorted by id, ascending. Fails with `Memory` or `Store`.
     pub fn accounts_of(&mut self, alloc: Global, customer: Id) -> Result<Vec<AccountRow>, Fault>
         ensures read { ReadPost S.Store self.old self.new result (Listed Accounts account_row_of (λ r. r.customer == customer)) }
         ensures fault { IfErr result MayFail }
@@ -71,7 +73,7 @@ impl<S: Alter> Store<S> {
         brk_tables_reference::accounts_of_customer(&mut tx, alloc, customer)
     }
 
-    /// The row that is kept under a key.
+    /// Returns the row of KEPT under a key, or `None` if there is none. Fails with `Store` only.
     pub fn kept(&mut self, key: &Key) -> Result<Option<Kept>, Fault>
         ensures read { ReadPost S.Store self.old self.new result (Found KeptRows kept_of (λ k. bytes_eq k.key.batch key.now.batch && (k.key.row == key.now.row))) }
         ensures fault { OnErr result (result ≡ Err fault.Store) }

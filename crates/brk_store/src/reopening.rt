@@ -1,4 +1,4 @@
-//! What is known of a store that is opened again, and of one in memory.
+//! Theorems about a store that is reopened after a crash, and about one in memory.
 
 ghost use Rattle.sqlite.specs.Held.{Held, state};
 ghost use Rattle.sqlite.specs.State.{HasCleanDisk};
@@ -11,17 +11,17 @@ ghost use Rattle.brk_store.specs.Holds.{AreTreesOf, Holds, IsOpenedOver, OnlyCra
 
 use sqlite::Alter;
 
-/// A connection that is opened over trees that a stop has left holds the rows that they were said to have.
+/// Proves that a connection opened over trees that have the rows `t` holds these rows.
 pub fn reopening_finds_the_rows<S: Alter>()
     ensures { (t : Tables) (trees : Trees) (conn : Held S) → AreTreesOf t trees → IsOpenedOver S.Store trees conn → Holds S.Store conn t }
 {}
 
-/// While a store is open a stop leaves its last commit, and nothing else.
+/// Proves that a crash of an open store exposes only its last commit.
 pub fn an_open_store_leaves_its_last_commit<S: Alter>()
     ensures { (store : Held S) → IsTrue (state S.Store store).is_open → OnlyCrashState S.Store store (λ trees. trees ≡ (state S.Store store).committed.trees) }
 {}
 
-/// In memory no disk can fail and nothing shuts a store: what holds as far as it is clean and open holds.
+/// Proves that a store in memory is always open, and that its disk assumption always holds.
 pub fn a_store_in_memory_is_open()
     ensures { (store : Held MemStore) → HasCleanDisk (state over_memory store) × IsTrue (state over_memory store).is_open }
 {}

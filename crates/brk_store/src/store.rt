@@ -4,8 +4,8 @@ use brk_money::Fault;
 use sqlite::{Alter, Connection};
 use std::marker::Model;
 
-/// The tables of a desk over a connection, on which no transaction is open between two calls. Contracts see it as what
-/// the connection holds.
+/// The tables of a desk in the database of a connection, on which no transaction is open between
+/// calls. Contracts see a store as the state of its connection.
 pub struct Store<S: Alter> {
     pub(crate) conn: Connection<S>,
 }
@@ -36,10 +36,15 @@ impl<S: Alter> Store<S> {
     ghost use Rattle.brk_changes.specs.Changes.{after_changes};
     ghost use Rattle.brk_store.specs.Holds.{ApplyPost, CreatePost};
 
-    /// Makes the tables of a desk in a database that has none of them, whatever others it has, which keep their rows, or
-    /// answers `Damaged(NotEmpty)` where it has one of them. At a fault the database is as it was, and the connection
-    /// comes back, with no transaction that it did not have. A connection on which one is open is refused with `Store`,
-    /// and comes back as it is.
+    /// Creates the tables of a desk, without rows, in the database of `conn` and commits them.
+    /// Returns the store. Tables that existed keep their rows.
+    ///
+    /// Errors return the connection, with no transaction open that was not open before, and the
+    /// open database unchanged: `Damaged(NotEmpty)`, only if one of the tables exists; `Store`,
+    /// also if a transaction is open on `conn`, which is then returned unchanged.
+    ///
+    /// A crash exposes a state that was possible before the call, or the tables without rows; after
+    /// `Ok` only the latter. After an error too, a crash may find the tables created.
     pub fn create(mut conn: Connection<S>) -> Result<Store<S>, (Connection<S>, Fault)>
         ensures created { MatchResult result (λ store. CreatePost S.Store conn store (Ok tt)) (λ e. CreatePost S.Store conn e.0 (Err e.1)) }
         ensures fault { IfErr result (λ e. (e.1 ≡ fault.Store) ⊎ (e.1 ≡ fault.Damaged NotEmpty)) }
@@ -55,7 +60,13 @@ impl<S: Alter> Store<S> {
         }
     }
 
-    /// Makes the changes in turn, all of them in one transaction, or none at a fault.
+    /// Applies `changes` in order, in one transaction, and commits them. Tables that are not the
+    /// desk's keep their rows, unless a foreign key of their own acts on them.
+    ///
+    /// Fails with `Store` only. The rows and the open database are then unchanged.
+    ///
+    /// A crash exposes a state that was possible before the call, or the changed rows; after `Ok`
+    /// only the latter. After an error too, a crash may find the changes committed.
     pub fn apply(&mut self, changes: &[Change]) -> Result<(), Fault>
         ensures applied { ApplyPost S.Store self.old self.new result (after_changes changes.now) }
         ensures fault { OnErr result (result ≡ Err fault.Store) }
@@ -63,7 +74,7 @@ impl<S: Alter> Store<S> {
         apply_all(&mut self.conn, changes)
     }
 
-    /// The connection, on which no transaction is open.
+    /// Returns the connection, on which no transaction is open.
     pub fn into_conn(self) -> Connection<S>
         ensures same { result ≡ self }
         ensures idle { result.in_transaction ≡ false }

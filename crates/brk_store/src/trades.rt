@@ -1,4 +1,5 @@
-//! Reads of trades and of what follows from them. Each is a transaction of its own, which is rolled back.
+//! Reads of trades, requests, last trades, lots and summaries. Each read is a transaction of its
+//! own, which is rolled back.
 
 ghost use Rattle.std.specs.Prelude.{◌≡◌, ◌==◌, ◌&&◌, Err, IfErr, OnErr, bytes_eq, map, nat_le, option_map, reverse, slice_get};
 ghost use Rattle.brk_money.specs.declared.fault.Fault.TheVariants as fault;
@@ -22,7 +23,7 @@ use std::alloc::Global;
 
 #[tactic(auto, using(crate::proofs::Ending::is_read_of))]
 impl<S: Alter> Store<S> {
-    /// The trade with an id.
+    /// Returns the trade with an id, or `None` if there is none. Fails with `Store` only.
     pub fn trade(&mut self, id: Id) -> Result<Option<TradeRow>, Fault>
         ensures read { ReadPost S.Store self.old self.new result (Found Trades trade_row_of (λ r. r.id == id)) }
         ensures fault { OnErr result (result ≡ Err fault.Store) }
@@ -31,7 +32,7 @@ impl<S: Alter> Store<S> {
         brk_tables_trading::trade_by_id(&mut tx, id)
     }
 
-    /// The greatest id of a trade, where there is a trade.
+    /// Returns the greatest trade id, or `None` if there is no trade. Fails with `Store` only.
     pub fn last_trade_id(&mut self) -> Result<Option<Id>, Fault>
         ensures read { ReadPost S.Store self.old self.new result (λ o t. o ≡ option_map (λ r. r.id) (slice_get (reverse t.trades) 0)) }
         ensures fault { OnErr result (result ≡ Err fault.Store) }
@@ -40,7 +41,7 @@ impl<S: Alter> Store<S> {
         brk_tables_trading::last_trade_id(&mut tx)
     }
 
-    /// The trades that are at the market, by rising id.
+    /// Returns the submitted trades, sorted by id, ascending. Fails with `Memory` or `Store`.
     pub fn submitted_trades(&mut self, alloc: Global) -> Result<Vec<TradeRow>, Fault>
         ensures read { ReadPost S.Store self.old self.new result (Listed Trades trade_row_of (λ r. same_status r.status Submitted)) }
         ensures fault { IfErr result MayFail }
@@ -49,7 +50,8 @@ impl<S: Alter> Store<S> {
         brk_tables_trading::submitted_trades(&mut tx, alloc)
     }
 
-    /// The requests of a symbol and a type whose bid is at a price or above it, by rising trade.
+    /// Returns the requests of a symbol and a type with a bid of at least `price`, sorted by trade,
+    /// ascending. Fails with `Memory` or `Store`.
     pub fn requests_at_or_above(
         &mut self,
         alloc: Global,
@@ -64,7 +66,8 @@ impl<S: Alter> Store<S> {
         brk_tables_trading::requests_at_or_above(&mut tx, alloc, symbol, kind, price)
     }
 
-    /// The requests of a symbol and a type whose bid is at a price or below it, by rising trade.
+    /// Returns the requests of a symbol and a type with a bid of at most `price`, sorted by trade,
+    /// ascending. Fails with `Memory` or `Store`.
     pub fn requests_at_or_below(
         &mut self,
         alloc: Global,
@@ -79,7 +82,7 @@ impl<S: Alter> Store<S> {
         brk_tables_trading::requests_at_or_below(&mut tx, alloc, symbol, kind, price)
     }
 
-    /// The last trade of the security with a symbol.
+    /// Returns the last trade of a symbol, or `None` if there is none. Fails with `Store` only.
     pub fn last_trade(&mut self, symbol: &Symbol) -> Result<Option<LastTrade>, Fault>
         ensures read { ReadPost S.Store self.old self.new result (Found LastTrades last_trade_of (λ r. bytes_eq r.symbol symbol.now)) }
         ensures fault { OnErr result (result ≡ Err fault.Store) }
@@ -88,8 +91,9 @@ impl<S: Alter> Store<S> {
         brk_tables_trading::last_trade_by_symbol(&mut tx, symbol)
     }
 
-    /// A page of the lots of an account in a security, by the moment of opening and then by trade, the oldest first: at most
-    /// 16, behind so many.
+    /// Returns a page of the lots of an account in a security: at most 16, after the first
+    /// `skipped`, sorted by opening stamp and then by trade, the oldest first. Fails with `Memory`
+    /// or `Store`.
     pub fn oldest_lots(
         &mut self,
         alloc: Global,
@@ -104,7 +108,9 @@ impl<S: Alter> Store<S> {
         brk_tables_trading::oldest_lots(&mut tx, alloc, account, symbol, skipped)
     }
 
-    /// The same, the newest first.
+    /// Returns a page of the lots of an account in a security: at most 16, after the first
+    /// `skipped`, sorted by opening stamp and then by trade, the newest first. Fails with `Memory`
+    /// or `Store`.
     pub fn newest_lots(
         &mut self,
         alloc: Global,
@@ -119,7 +125,8 @@ impl<S: Alter> Store<S> {
         brk_tables_trading::newest_lots(&mut tx, alloc, account, symbol, skipped)
     }
 
-    /// How many shares an account holds of each security, by rising symbol.
+    /// Returns the summaries of an account, sorted by symbol, ascending. Fails with `Memory` or
+    /// `Store`.
     pub fn summaries_of(&mut self, alloc: Global, account: Id) -> Result<Vec<SummaryRow>, Fault>
         ensures read { ReadPost S.Store self.old self.new result (Listed Summaries summary_row_of (λ r. r.account == account)) }
         ensures fault { IfErr result MayFail }
@@ -128,7 +135,8 @@ impl<S: Alter> Store<S> {
         brk_tables_trading::summaries_of(&mut tx, alloc, account)
     }
 
-    /// How many shares an account holds of a security, where it holds some.
+    /// Returns the summary of an account in a security, or `None` if there is none. Fails with
+    /// `Store` only.
     pub fn summary_of(&mut self, account: Id, symbol: &Symbol) -> Result<Option<SummaryRow>, Fault>
         ensures read { ReadPost S.Store self.old self.new result (Found Summaries summary_row_of (λ r. (r.account == account) && bytes_eq r.symbol symbol.now)) }
         ensures fault { OnErr result (result ≡ Err fault.Store) }

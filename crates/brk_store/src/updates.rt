@@ -1,4 +1,4 @@
-//! Reads of trades whose words are corrected. Each is a transaction of its own, which is rolled back.
+//! Reads of trades for text updates. Each read is a transaction of its own, which is rolled back.
 
 ghost use Rattle.std.specs.Prelude.{◌≡◌, ◌==◌, Err, IfErr, OnErr, map};
 ghost use Rattle.brk_money.specs.declared.fault.Fault.TheVariants as fault;
@@ -20,7 +20,8 @@ use std::alloc::Global;
 
 #[tactic(auto, using(crate::proofs::Ending::is_read_of))]
 impl<S: Alter> Store<S> {
-    /// The first twenty trades of an account that were completed between two stamps, the oldest first.
+    /// Returns the first twenty trades of an account that were completed in a span, both ends
+    /// included, the oldest first. Fails with `Memory` or `Store`.
     pub fn completed_of_account(
         &mut self,
         alloc: Global,
@@ -34,7 +35,8 @@ impl<S: Alter> Store<S> {
         brk_tables_trading::completed_of_account(&mut tx, alloc, account, span.first, span.last)
     }
 
-    /// The first twenty trades in cash of a symbol that were completed between two stamps, the oldest first.
+    /// Returns the first twenty cash trades of a symbol that were completed in a span, both ends
+    /// included, the oldest first. Fails with `Memory` or `Store`.
     pub fn completed_cash_of_symbol(
         &mut self,
         alloc: Global,
@@ -48,7 +50,7 @@ impl<S: Alter> Store<S> {
         brk_tables_trading::completed_cash_of_symbol(&mut tx, alloc, symbol, span.first, span.last)
     }
 
-    /// What a trade settles for, where it is completed.
+    /// Returns the settlement of a trade, or `None` if it has none. Fails with `Store` only.
     pub fn settlement(&mut self, trade: Id) -> Result<Option<SettlementRow>, Fault>
         ensures read { ReadPost S.Store self.old self.new result (Found Settlements settlement_row_of (λ r. r.trade == trade)) }
         ensures fault { OnErr result (result ≡ Err fault.Store) }

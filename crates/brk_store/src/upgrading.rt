@@ -48,6 +48,10 @@ impl<S: Alter> Store<S> {
     ///
     /// A crash exposes a state that was possible before the call or, if rows of an older schema
     /// passed, the upgraded tables. After an error too, a crash may find the upgrade committed.
+    ///
+    /// The result and the crash states are specified only of a database that is defined: if it has
+    /// all tables of a desk of some schema by their names and columns, they have its types, keys
+    /// and references too.
     pub fn adopt(alloc: Global, mut conn: Connection<S>) -> Result<Store<S>, (Connection<S>, Fault)>
         ensures adopted { MatchResult result (λ store. AdoptPost S.Store conn store (Ok tt)) (λ e. AdoptPost S.Store conn e.0 (Err e.1)) }
         ensures condition { IfErr result (λ e. e.1 ≢ fault.Damaged NotEmpty) }

@@ -1,4 +1,5 @@
-//! Walks: the rows of an account handed out one at a time. While one is open nothing else is asked of the store.
+//! Walks: reads that pass the rows of an account, one at a time, to a visitor or a closure. The
+//! store is borrowed for the whole walk.
 
 ghost use Rattle.std.specs.Fn.{CalledAt};
 ghost use Rattle.brk_changes.specs.Rows.{holding_row_of, move_row_of};
@@ -15,8 +16,14 @@ use brk_tables_walks::{Visitor, WalkError};
 use sqlite::Alter;
 
 impl<S: Alter> Store<S> {
-    /// Hands the cash rows of an account from one stamp to another, both included, to a visitor, by stamp, until it stops at
-    /// one.
+    /// Passes the cash rows of an account with stamps from `from` to `to`, both included, to a
+    /// visitor, sorted by stamp, ascending. Returns `Ok` only after the visitor has taken the last
+    /// row.
+    ///
+    /// Fails with `Cause` and the visitor's error, or with `Failed` and the fault `Memory` or
+    /// `Store` after a prefix of the rows. The open database is unchanged, whatever the result.
+    ///
+    /// A crash exposes only states that were possible before the call.
     pub fn visit_cash<E, V: Visitor<MoveRow, E>>(
         &mut self,
         account: Id,
@@ -32,7 +39,13 @@ impl<S: Alter> Store<S> {
         brk_tables_walks::walk_cash_between::<S, E, V>(&mut self.conn, account, from, to, visitor)
     }
 
-    /// Hands the lots of an account to a visitor, by symbol and then by the moment of opening, until it stops at one.
+    /// Passes the lots of an account to a visitor, sorted by symbol, then by opening stamp. Returns
+    /// `Ok` only after the visitor has taken the last lot.
+    ///
+    /// Fails with `Cause` and the visitor's error, or with `Failed` and the fault `Memory` or
+    /// `Store` after a prefix of the lots. The open database is unchanged, whatever the result.
+    ///
+    /// A crash exposes only states that were possible before the call.
     pub fn visit_lots<E, V: Visitor<HoldingRow, E>>(
         &mut self,
         account: Id,
@@ -46,8 +59,13 @@ impl<S: Alter> Store<S> {
         brk_tables_walks::walk_lots::<S, E, V>(&mut self.conn, account, visitor)
     }
 
-    /// Calls a closure at each cash row of an account from one stamp to another, both included, by stamp. Its first error ends
-    /// the walk and is the answer; so does a fault of the store or want of memory, behind the first rows.
+    /// Calls a closure with each cash row of an account with a stamp from `from` to `to`, both
+    /// included, sorted by stamp, ascending. Returns `Ok` only after the last row.
+    ///
+    /// Fails with the closure's first error, or with a fault (`Memory` or `Store`) as an error of
+    /// type `E`, after a prefix of the rows. The open database is unchanged, whatever the result.
+    ///
+    /// A crash exposes only states that were possible before the call.
     pub fn walk_cash<E: From<Fault>, F: FnMut(&MoveRow) -> Result<(), E> + Drop>(
         &mut self,
         account: Id,
@@ -66,8 +84,13 @@ impl<S: Alter> Store<S> {
         }
     }
 
-    /// Calls a closure at each lot of an account, with its symbol, by symbol and then by the moment of opening. Its first error
-    /// ends the walk and is the answer; so does a fault of the store or want of memory, behind the first lots.
+    /// Calls a closure with each lot of an account and its symbol, sorted by symbol, then by
+    /// opening stamp. Returns `Ok` only after the last lot.
+    ///
+    /// Fails with the closure's first error, or with a fault (`Memory` or `Store`) as an error of
+    /// type `E`, after a prefix of the lots. The open database is unchanged, whatever the result.
+    ///
+    /// A crash exposes only states that were possible before the call.
     pub fn walk_lots<E: From<Fault>, F: FnMut(&str, &Lot) -> Result<(), E> + Drop>(
         &mut self,
         account: Id,

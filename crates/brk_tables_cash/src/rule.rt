@@ -27,6 +27,7 @@ pub fn set_one_day<S: Alter>(tx: &mut Transaction<'_, S>, day: Day) -> Result<()
     )
 }
 
+// Decodes the settlement day from the rows of SETTLE_RULE. Fails with `Store` only.
 fn only_day(rows: &[Row]) -> Result<Option<Day>, Fault>
     ensures value { IfOk result (λ day. map rule_cells (rule_rows day) ≡ rows.now) }
     ensures fault { OnErr result (result ≡ Err Store) }

@@ -1,4 +1,4 @@
--- Written by tools/tables.py: which table each text makes.
+-- Written by tools/tables.py: the table that each text creates.
 use Rattle.std.proofs.Common.{◌≡◌, ℕ, List, [], Ok, refl, inl, inr}
 use Rattle.sqlite.specs.State.{State, Executes}
 use Rattle.sqlite_tied.specs.Compute.{everything}
@@ -12,7 +12,7 @@ use Rattle.brk_tables_schema.specs.Desk.{Which, TheDesk, KeptRows, Brokers, Cust
 use Rattle.brk_tables_schema.proofs.Wide.{Wide, wide, wide_list}
 use Rattle.brk_tables_create.specs.Texts.{create_text}
 
--- the tables without rows, that of DESK too
+-- The tables without rows, DESK included.
 abbrev pub bare : Wide
 bare = record { rows = []; rules = []; tables = no_rows }
 
@@ -194,7 +194,7 @@ makes_of CashRows = makes_cash
 makes_of CashMoves = makes_move
 makes_of SettleRules = makes_rule
 
--- each table is one of those that are made
+-- Each table is one of those that are created.
 pub all_made : (w : Which) → Among wide all_tables (λ _. ⊥) w
 all_made TheDesk = inr (inr (inr (inr (inr (inr (inr (inr (inr (inr (inr (inr (inr (inr (inr (inr (inr (inr (inr (inr (inr (inl refl)))))))))))))))))))))
 all_made KeptRows = inr (inr (inr (inr (inr (inr (inr (inr (inr (inr (inr (inr (inr (inr (inr (inr (inr (inr (inr (inr (inl refl))))))))))))))))))))
@@ -219,7 +219,7 @@ all_made CashRows = inr (inr (inl refl))
 all_made CashMoves = inr (inl refl)
 all_made SettleRules = inl refl
 
--- none of them has rows yet
+-- None of them has a row yet.
 pub none_held : (w : Which) → wide_list w bare ≡ []
 none_held TheDesk = refl
 none_held KeptRows = refl

@@ -1,4 +1,4 @@
--- Written by tools/tables.py: what a statement that is looked at, and not run, tells of a table.
+-- Written by tools/tables.py: what preparing a statement on a table shows of it.
 use Rattle.std.proofs.Common.{◌≡◌, ℕ, List, codes, Bool, refl}
 use Rattle.sqlite_schema.specs.declared.schema.Schema.{Schema}
 use Rattle.sqlite.specs.Listing.{listing_schema}

@@ -1,4 +1,4 @@
--- Tables that are made.
+-- The creation of a desk's tables.
 use Rattle.std.specs.Prelude.{ℕ, List, filter, not, codes}
 use Rattle.sqlite.specs.Effect.{Database}
 use Rattle.brk_model.specs.Schemas.{Schema}
@@ -7,15 +7,16 @@ use Rattle.brk_sql.specs.Desk.{KeepsOthers}
 use Rattle.brk_tables_schema.specs.Desk.{Which, all_tables, has_table}
 use Rattle.brk_tables_schema.specs.Made.{HasRows}
 
--- the tables that a schema lacks
+-- The tables that later schemas add to this one.
 abbrev pub later_than : Schema → List Which
 later_than schema = filter (λ w. not (has_table schema w)) all_tables
 
--- the tables of a desk are made without rows, beside those that were there
+-- The database `new` has the tables of a desk, without rows except the one of DESK, and the tables
+-- of `old` unchanged.
 pub record MakesDesk (old new : Database) : Type 0 where
   pub rows : HasRows no_rows new
   pub others : KeepsOthers old new
 
--- the text that adds the row of DESK
+-- The statement that inserts the row of DESK.
 abbrev pub desk_row_text : List ℕ
 desk_row_text = codes "INSERT INTO DESK (D_ID, D_SCHEMA, D_LAST) VALUES (1, 3, NULL)"

@@ -1,5 +1,7 @@
-//! The tables of a brokerage made, and found by their names. Each call is made within an open transaction. An error that the
-//! database answers is the fault `Store`.
+//! The creation of the tables of a brokerage, and their look-up by name.
+//!
+//! Each call is made within an open transaction. An error of the `sqlite` crate is reported as the
+//! fault `Store`.
 #![tactic(auto)]
 
 pub mod making;

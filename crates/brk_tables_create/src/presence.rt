@@ -1,4 +1,4 @@
-//! Lookups of tables by their names.
+//! Look-ups of tables by name.
 
 ghost use Rattle.std.specs.Prelude.{◌≡◌, ◌&&◌, Err, OnErr, IsTrue, not};
 ghost use Rattle.std.specs.List.{list_all, list_any};
@@ -51,7 +51,7 @@ fn has_each_of<S: Alter>(tx: &mut Transaction<'_, S>, tables: &[Table]) -> Resul
     Ok(true)
 }
 
-/// Whether the database has a table with the name of one of a desk's.
+/// Returns true if the database has a table with the name of some table of a desk.
 pub fn has_some_table<S: Alter>(tx: &mut Transaction<'_, S>) -> Result<bool, Fault>
     ensures same_reference { tx.new.conn.ghost_name ≡ tx.old.conn.ghost_name }
     ensures step { Steps S.Store tx.old tx.new result (λ has a b. (b.now ≡ a.now) × (has ≡ has_table_of_desk a.now.schema)) }

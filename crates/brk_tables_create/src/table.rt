@@ -1,4 +1,4 @@
-//! Written by tools/tables.py: the tables of a desk, and their texts.
+//! Written by tools/tables.py: the tables of a desk, and their SQL texts.
 
 ghost use Rattle.std.specs.Prelude.{◌≡◌};
 ghost use Rattle.brk_tables_create.specs.Texts.{create_text, probe_text, which_of};
@@ -53,7 +53,7 @@ pub enum Table {
 }
 
 impl Table {
-    /// The text that makes it.
+    /// Returns the text of the statement that creates the table.
     pub fn create_text(self) -> &'static str
         ensures { result.now ≡ create_text (which_of self) }
     {
@@ -105,7 +105,7 @@ impl Table {
         }
     }
 
-    /// A statement on it, which is only looked at, and never run.
+    /// Returns the text of a statement on the table, which is prepared and never run.
     pub fn probe_text(self) -> &'static str
         ensures { result.now ≡ probe_text (which_of self) }
     {
@@ -160,7 +160,7 @@ pub const IN_FIRST: [Table; 20] = [
     Table::CashRows,
 ];
 
-/// Those of the second.
+/// The tables of the second schema.
 pub const IN_SECOND: [Table; 21] = [
     Table::TheDesk,
     Table::KeptRows,
@@ -185,7 +185,7 @@ pub const IN_SECOND: [Table; 21] = [
     Table::CashMoves,
 ];
 
-/// Those of the third.
+/// The tables of the third schema.
 pub const IN_THIRD: [Table; 22] = [
     Table::TheDesk,
     Table::KeptRows,
@@ -211,8 +211,8 @@ pub const IN_THIRD: [Table; 22] = [
     Table::SettleRules,
 ];
 
-/// Those that the second and the third add.
-pub const SINCE_SECOND: [Table; 2] = [Table::CashMoves, Table::SettleRules];
+/// The tables that the second and the third schema add.
+pub const ADDED_AFTER_FIRST: [Table; 2] = [Table::CashMoves, Table::SettleRules];
 
-/// Those that the third adds.
-pub const SINCE_THIRD: [Table; 1] = [Table::SettleRules];
+/// The tables that the third schema adds.
+pub const ADDED_AFTER_SECOND: [Table; 1] = [Table::SettleRules];

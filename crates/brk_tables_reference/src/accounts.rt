@@ -14,7 +14,7 @@ use brk_tables_schema::values::{cents_value, id_value, tax_status_value, text_va
 use sqlite::{Alter, Transaction};
 use std::alloc::Global;
 
-/// Adds an account, whose balance is its opening.
+/// Inserts an account, whose id is new. Its balance is its opening balance.
 pub fn add_account<S: Alter>(tx: &mut Transaction<'_, S>, account: &Account) -> Result<(), Fault>
     ensures same_reference { tx.new.conn.ghost_name ≡ tx.old.conn.ghost_name }
     ensures step { Writes S.Store tx.old tx.new result (with_account (account_of account.now)) }
@@ -34,7 +34,7 @@ pub fn add_account<S: Alter>(tx: &mut Transaction<'_, S>, account: &Account) -> 
     )
 }
 
-/// The account with an id.
+/// Returns the account with this id, or `None` if there is none.
 pub fn account_by_id<S: Alter>(
     tx: &mut Transaction<'_, S>,
     id: Id,
@@ -51,7 +51,7 @@ pub fn account_by_id<S: Alter>(
     first_row(&rows)
 }
 
-/// The accounts of a customer, by rising id.
+/// Returns the accounts of a customer, sorted by id, ascending. Fails with `Memory` or `Store`.
 pub fn accounts_of_customer<S: Alter>(
     tx: &mut Transaction<'_, S>,
     alloc: Global,

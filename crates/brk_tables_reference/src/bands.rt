@@ -15,7 +15,7 @@ use brk_tables_schema::values::{qty_value, rate_value, text_value, tier_value, t
 use sqlite::{Alter, Transaction};
 use std::alloc::Global;
 
-/// Adds a band, whose tier, type, exchange and lower bound are new together.
+/// Inserts a band, whose combination of tier, type, exchange and lower bound is new.
 pub fn add_band<S: Alter>(tx: &mut Transaction<'_, S>, band: &Band) -> Result<(), Fault>
     ensures same_reference { tx.new.conn.ghost_name ≡ tx.old.conn.ghost_name }
     ensures step { Writes S.Store tx.old tx.new result (with_band (band_of band.now)) }
@@ -35,7 +35,8 @@ pub fn add_band<S: Alter>(tx: &mut Transaction<'_, S>, band: &Band) -> Result<()
     )
 }
 
-/// The bands of a tier, a type and an exchange, by rising lower bound.
+/// Returns the bands of a tier, a type and an exchange, sorted by lower bound, ascending. Fails
+/// with `Memory` or `Store`.
 pub fn bands_for<S: Alter>(
     tx: &mut Transaction<'_, S>,
     alloc: Global,

@@ -12,7 +12,7 @@ use brk_tables_schema::record::first_row;
 use brk_tables_schema::values::{id_value, text_value};
 use sqlite::{Alter, Transaction};
 
-/// Adds a broker, with no trades and no commissions yet.
+/// Inserts a broker, whose id is new, with no trades and no commissions yet.
 pub fn add_broker<S: Alter>(tx: &mut Transaction<'_, S>, broker: &Broker) -> Result<(), Fault>
     ensures same_reference { tx.new.conn.ghost_name ≡ tx.old.conn.ghost_name }
     ensures step { Writes S.Store tx.old tx.new result (with_broker (broker_of broker.now)) }
@@ -25,7 +25,7 @@ pub fn add_broker<S: Alter>(tx: &mut Transaction<'_, S>, broker: &Broker) -> Res
     )
 }
 
-/// The broker with an id.
+/// Returns the broker with this id, or `None` if there is none.
 pub fn broker_by_id<S: Alter>(
     tx: &mut Transaction<'_, S>,
     id: Id,

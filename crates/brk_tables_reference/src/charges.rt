@@ -13,7 +13,7 @@ use brk_tables_schema::record::first_row;
 use brk_tables_schema::values::{charge_amount_value, tier_value, type_value};
 use sqlite::{Alter, Transaction};
 
-/// Adds a charge, whose type and tier are new together.
+/// Inserts a charge, whose combination of type and tier is new.
 pub fn add_charge<S: Alter>(tx: &mut Transaction<'_, S>, charge: &Charge) -> Result<(), Fault>
     ensures same_reference { tx.new.conn.ghost_name ≡ tx.old.conn.ghost_name }
     ensures step { Writes S.Store tx.old tx.new result (with_charge (charge_of charge.now)) }
@@ -30,7 +30,7 @@ pub fn add_charge<S: Alter>(tx: &mut Transaction<'_, S>, charge: &Charge) -> Res
     )
 }
 
-/// The charge of a type and a tier.
+/// Returns the charge of a type and a tier, or `None` if there is none.
 pub fn charge_by_key<S: Alter>(
     tx: &mut Transaction<'_, S>,
     kind: TradeType,

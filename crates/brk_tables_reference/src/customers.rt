@@ -12,7 +12,7 @@ use brk_tables_schema::record::first_row;
 use brk_tables_schema::values::{id_value, text_value, tier_value};
 use sqlite::{Alter, Transaction};
 
-/// Adds a customer, whose id and tax id are new.
+/// Inserts a customer, whose id and tax id are new.
 pub fn add_customer<S: Alter>(tx: &mut Transaction<'_, S>, customer: &Customer) -> Result<(), Fault>
     ensures same_reference { tx.new.conn.ghost_name ≡ tx.old.conn.ghost_name }
     ensures step { Writes S.Store tx.old tx.new result (with_customer (customer_of customer.now)) }
@@ -31,7 +31,7 @@ pub fn add_customer<S: Alter>(tx: &mut Transaction<'_, S>, customer: &Customer) 
     )
 }
 
-/// The customer with an id.
+/// Returns the customer with this id, or `None` if there is none.
 pub fn customer_by_id<S: Alter>(
     tx: &mut Transaction<'_, S>,
     id: Id,
@@ -48,7 +48,7 @@ pub fn customer_by_id<S: Alter>(
     first_row(&rows)
 }
 
-/// The customer with a tax id.
+/// Returns the customer with this tax id, or `None` if there is none.
 pub fn customer_by_tax_id<S: Alter>(
     tx: &mut Transaction<'_, S>,
     tax_id: &TaxId,

@@ -1,5 +1,7 @@
-//! The statements on the nine kinds of reference rows: one function for each. Each is called within an open transaction. An error
-//! that the database answers, and a row that breaks its form, are the fault `Store`.
+//! The SQL statements on the nine kinds of reference rows, one function for each.
+//!
+//! Each function is called within an open transaction. An error of the `sqlite` crate and a
+//! malformed row are reported as the fault `Store`.
 #![tactic(auto)]
 
 pub mod accounts;

@@ -12,7 +12,7 @@ use brk_tables_schema::record::first_row;
 use brk_tables_schema::values::{id_value, text_value};
 use sqlite::{Alter, Transaction};
 
-/// Adds a permission, whose account and tax id are new together.
+/// Inserts a permission, whose combination of account and tax id is new.
 pub fn add_permission<S: Alter>(
     tx: &mut Transaction<'_, S>,
     permission: &Permission,
@@ -34,7 +34,7 @@ pub fn add_permission<S: Alter>(
     )
 }
 
-/// The permission of an account for a tax id.
+/// Returns the permission of an account for a tax id, or `None` if there is none.
 pub fn permission_by_key<S: Alter>(
     tx: &mut Transaction<'_, S>,
     account: Id,

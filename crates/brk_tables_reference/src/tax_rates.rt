@@ -14,7 +14,7 @@ use brk_tables_schema::values::{id_value, tax_rate_value, text_value};
 use sqlite::{Alter, Transaction};
 use std::alloc::Global;
 
-/// Adds a tax with its rate, whose id is new.
+/// Inserts a tax with its rate, whose id is new.
 pub fn add_tax_rate<S: Alter>(tx: &mut Transaction<'_, S>, tax: &Tax) -> Result<(), Fault>
     ensures same_reference { tx.new.conn.ghost_name ≡ tx.old.conn.ghost_name }
     ensures step { Writes S.Store tx.old tx.new result (with_tax_rate (tax_of tax.now)) }
@@ -31,7 +31,7 @@ pub fn add_tax_rate<S: Alter>(tx: &mut Transaction<'_, S>, tax: &Tax) -> Result<
     )
 }
 
-/// Adds a tax that a customer pays, who does not pay it yet.
+/// Inserts a tax for a customer who does not pay it yet.
 pub fn add_customer_tax<S: Alter>(
     tx: &mut Transaction<'_, S>,
     pays: &CustomerTax,
@@ -47,7 +47,7 @@ pub fn add_customer_tax<S: Alter>(
     )
 }
 
-/// The tax with an id.
+/// Returns the tax with this id, or `None` if there is none.
 pub fn tax_rate_by_id<S: Alter>(tx: &mut Transaction<'_, S>, id: Id) -> Result<Option<Tax>, Fault>
     ensures same_reference { tx.new.conn.ghost_name ≡ tx.old.conn.ghost_name }
     ensures step { Finds S.Store tx.old tx.new result TaxRates tax_of (λ r. r.id == id) }
@@ -61,7 +61,7 @@ pub fn tax_rate_by_id<S: Alter>(tx: &mut Transaction<'_, S>, id: Id) -> Result<O
     first_row(&rows)
 }
 
-/// The row of a customer and a tax, where the customer pays it.
+/// Returns the row of a customer and a tax, or `None` if the customer does not pay it.
 pub fn customer_tax_by_key<S: Alter>(
     tx: &mut Transaction<'_, S>,
     customer: Id,
@@ -79,7 +79,8 @@ pub fn customer_tax_by_key<S: Alter>(
     first_row(&rows)
 }
 
-/// The taxes that a customer pays, by rising id of the tax.
+/// Returns the taxes that a customer pays, sorted by id of the tax, ascending. Fails with `Memory`
+/// or `Store`.
 pub fn customer_taxes_of<S: Alter>(
     tx: &mut Transaction<'_, S>,
     alloc: Global,

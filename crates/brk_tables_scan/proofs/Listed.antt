@@ -1,4 +1,4 @@
--- Written by tools/tables.py: the name of a table and the names of its columns are no matter of its tree.
+-- Written by tools/tables.py: the names of a table and of its columns do not depend on its tree.
 use Rattle.std.proofs.Common.{◌≡◌, ℕ, refl}
 use Rattle.brk_tables_schema.specs.Desk.{Which, TheDesk, KeptRows, Brokers, Customers, Accounts, Permissions, Securities, LastTrades, Charges, Bands, TaxRates, CustomerTaxes, Trades, TradeHistory, Requests, Holdings, Summaries, HoldingHistory, Settlements, CashRows, CashMoves, SettleRules, shape}
 use Rattle.brk_tables_scan.specs.Schemas.{names_of}

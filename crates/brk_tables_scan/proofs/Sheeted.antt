@@ -1,4 +1,4 @@
--- The rows of all tables in types are the sheets.
+-- The typed rows of all tables are the sheets.
 use Rattle.std.proofs.Common.{◌∙◌}
 use Rattle.brk_sql.proofs.Order.{map_twice}
 use Rattle.brk_model.specs.Schemas.{Schema}

@@ -1,4 +1,4 @@
--- What the rows of all tables are in types, and whether they have their forms.
+-- The typed rows of all tables, and the test that each raw row is well-formed.
 use Rattle.std.specs.Prelude.{◌≡◌, Bool, ◌&&◌, map}
 use Rattle.std.specs.List.{list_all}
 use Rattle.brk_model.specs.Schemas.{Schema}
@@ -24,7 +24,7 @@ use Rattle.brk_tables_scan.specs.declared.decoding.TradeSheets.{TradeSheets}
 use Rattle.brk_tables_scan.specs.declared.decoding.LastSheets.{LastSheets}
 use Rattle.brk_tables_scan.specs.declared.decoding.LaterSheets.{LaterSheets}
 
--- they are the rows of these tables in types
+-- The raw rows encode the rows of these tables.
 pub record IsFirst (schema : Schema) (sheets : FirstSheets) (raw : FirstRows) : Type 0 where
   pub desk : map desk_row_cells (desk_rows schema sheets.last) ≡ raw.desk.items
   pub kept : map (λ r. kept_cells (kept_of r)) sheets.kept.items ≡ raw.kept.items
@@ -34,7 +34,7 @@ pub record IsFirst (schema : Schema) (sheets : FirstSheets) (raw : FirstRows) : 
 abbrev pub formed_first : Schema → FirstRows → Bool
 formed_first desk raw = is_desk_row desk raw.desk.items && list_all (all_formed kept_forms) raw.kept.items && list_all (all_formed broker_forms) raw.brokers.items && list_all (all_formed customer_forms) raw.customers.items
 
--- they are the rows of these tables in types
+-- The raw rows encode the rows of these tables.
 pub record IsAccount (sheets : AccountSheets) (raw : AccountRows) : Type 0 where
   pub accounts : map (λ r. account_cells (account_row_of r)) sheets.accounts.items ≡ raw.accounts.items
   pub permissions : map (λ r. permission_cells (permission_of r)) sheets.permissions.items ≡ raw.permissions.items
@@ -44,7 +44,7 @@ pub record IsAccount (sheets : AccountSheets) (raw : AccountRows) : Type 0 where
 abbrev pub formed_accounts : AccountRows → Bool
 formed_accounts raw = list_all (all_formed account_forms) raw.accounts.items && list_all (all_formed permission_forms) raw.permissions.items && list_all (all_formed security_forms) raw.securities.items && list_all (all_formed last_trade_forms) raw.last_trades.items
 
--- they are the rows of these tables in types
+-- The raw rows encode the rows of these tables.
 pub record IsRate (sheets : RateSheets) (raw : RateRows) : Type 0 where
   pub charges : map (λ r. charge_cells (charge_of r)) sheets.charges.items ≡ raw.charges.items
   pub bands : map (λ r. band_cells (band_of r)) sheets.bands.items ≡ raw.bands.items
@@ -54,7 +54,7 @@ pub record IsRate (sheets : RateSheets) (raw : RateRows) : Type 0 where
 abbrev pub formed_rates : RateRows → Bool
 formed_rates raw = list_all (all_formed charge_forms) raw.charges.items && list_all (all_formed band_forms) raw.bands.items && list_all (all_formed tax_rate_forms) raw.tax_rates.items && list_all (all_formed customer_tax_forms) raw.customer_taxes.items
 
--- they are the rows of these tables in types
+-- The raw rows encode the rows of these tables.
 pub record IsTrade (sheets : TradeSheets) (raw : TradeRows) : Type 0 where
   pub trades : map (λ r. trade_cells (trade_row_of r)) sheets.trades.items ≡ raw.trades.items
   pub history : map (λ r. history_cells (history_row_of r)) sheets.history.items ≡ raw.history.items
@@ -64,7 +64,7 @@ pub record IsTrade (sheets : TradeSheets) (raw : TradeRows) : Type 0 where
 abbrev pub formed_trades : TradeRows → Bool
 formed_trades raw = list_all (all_formed trade_forms) raw.trades.items && list_all (all_formed history_forms) raw.history.items && list_all (all_formed request_forms) raw.requests.items && list_all (all_formed holding_forms) raw.holdings.items
 
--- they are the rows of these tables in types
+-- The raw rows encode the rows of these tables.
 pub record IsLast (sheets : LastSheets) (raw : LastRows) : Type 0 where
   pub summaries : map (λ r. summary_cells (summary_row_of r)) sheets.summaries.items ≡ raw.summaries.items
   pub holding_history : map (λ r. holding_history_cells (lot_change_of r)) sheets.holding_history.items ≡ raw.holding_history.items
@@ -74,7 +74,7 @@ pub record IsLast (sheets : LastSheets) (raw : LastRows) : Type 0 where
 abbrev pub formed_last : LastRows → Bool
 formed_last raw = list_all (all_formed summary_forms) raw.summaries.items && list_all (all_formed holding_history_forms) raw.holding_history.items && list_all (all_formed settlement_forms) raw.settlements.items && list_all (all_formed cash_forms) raw.cash.items
 
--- they are the rows of these tables in types
+-- The raw rows encode the rows of these tables.
 pub record IsLater (sheets : LaterSheets) (raw : LaterRows) : Type 0 where
   pub moves : map (λ r. move_cells (move_row_of r)) sheets.moves.items ≡ raw.moves.items
   pub rule : map rule_cells (rule_rows sheets.rule) ≡ raw.rule.items
@@ -82,10 +82,10 @@ pub record IsLater (sheets : LaterSheets) (raw : LaterRows) : Type 0 where
 abbrev pub formed_later : LaterRows → Bool
 formed_later raw = list_all (all_formed move_forms) raw.moves.items && is_rule raw.rule.items
 
--- each column of each row has its form
+-- True if each column of each row is well-formed.
 abbrev pub formed : Schema → RawSheets → Bool
 formed desk raw = formed_first desk raw.first && formed_accounts raw.accounts && formed_rates raw.rates && formed_trades raw.trades && formed_last raw.last && formed_later raw.later
 
--- the sheets are the rows of all tables in types
+-- The sheets are the typed rows of all tables.
 abbrev pub AreSheets : Schema → Sheets → RawSheets → Type 0
 AreSheets desk sheets raw = (w : Which) → map (encode w) (list_in desk w (tables_in_sheets sheets)) ≡ raw_rows raw w

@@ -1,4 +1,4 @@
--- What the reads of all tables show.
+-- The raw rows of all tables, as their reads show them.
 use Rattle.std.specs.Prelude.{◌≡◌, List, IsTrue}
 use Rattle.sqlite_value.specs.Order.{Row}
 use Rattle.sqlite.specs.State.{State}
@@ -13,11 +13,11 @@ use Rattle.brk_tables_scan.specs.declared.raw.LastRows.{LastRows}
 use Rattle.brk_tables_scan.specs.declared.raw.LaterRows.{LaterRows}
 use Rattle.brk_tables_scan.specs.declared.raw.RawSheets.{RawSheets}
 
--- nothing changed, and the database is open
+-- Nothing changed, and the database is open.
 abbrev pub Stays : State → State → Type 0
 Stays old new = IsTrue old.is_open × (new.now ≡ old.now)
 
--- the rows of four tables
+-- The reads show the rows of these tables, whole, and change nothing.
 pub record ShowsFour (first second third fourth : Which) (a b c d : List Row) (old new : State) : Type 0 where
   pub stays : Stays old new
   pub one : ShowsAll first a old.now
@@ -40,13 +40,13 @@ ShowsTrade raw = ShowsFour Trades TradeHistory Requests Holdings raw.trades.item
 abbrev pub ShowsLast : LastRows → State → State → Type 0
 ShowsLast raw = ShowsFour Summaries HoldingHistory Settlements CashRows raw.summaries.items raw.holding_history.items raw.settlements.items raw.cash.items
 
--- the rows of the tables that later schemas add, where a schema has them
+-- The reads show the rows of the tables that later schemas add, if `schema` has them.
 pub record ShowsLater (desk : Schema) (raw : LaterRows) (old new : State) : Type 0 where
   pub same : new.now ≡ old.now
   pub moves : ShowsIf desk CashMoves raw.moves.items old.now
   pub rule : ShowsIf desk SettleRules raw.rule.items old.now
 
--- the rows of each table
+-- The reads show the rows of each table of `schema`.
 abbrev pub raw_rows : RawSheets → Which → List Row
 raw_rows raw TheDesk = raw.first.desk.items
 raw_rows raw KeptRows = raw.first.kept.items
@@ -71,6 +71,6 @@ raw_rows raw CashRows = raw.last.cash.items
 raw_rows raw CashMoves = raw.later.moves.items
 raw_rows raw SettleRules = raw.later.rule.items
 
--- each table of a schema is shown whole, none of another, and nothing changed
+-- The reads show each table of `schema` whole and no other table, and change nothing.
 abbrev pub ShowsDesk : Schema → RawSheets → State → State → Type 0
 ShowsDesk desk raw old new = Stays old new × ((w : Which) → ShowsIf desk w (raw_rows raw w) old.now)

@@ -1,4 +1,5 @@
--- Which tables a database has to have to be a desk's in a schema, and the premise under which their rows are known.
+-- The tables that a database must have to be a desk's in a schema, and the premise under which
+-- their rows are known.
 use Rattle.std.specs.Prelude.{◌≡◌, ℕ, List, [], ◌∷◌, map, Some, None, slice_get, IsTrue}
 use Rattle.std.specs.List.{AllByRecursion, IsDistinct}
 use Rattle.sqlite_value.specs.declared.value.Value.{Value}
@@ -20,67 +21,71 @@ use Rattle.brk_tables_schema.specs.Desk.{Which, name_of, shape, tables_in}
 use Rattle.brk_tables_schema.specs.Made.{IsOf}
 use Rattle.brk_tables_create.specs.Made.{later_than}
 
--- a table by its name and the names of its columns, in their order
+-- The name of a table and the names of its columns, in order.
 pub record TableNames : Type 0 where
   pub name : List ℕ
   pub columns : List (List ℕ)
 
--- the names of a table
+-- The names of a table and its columns.
 abbrev pub names_of : Table → TableNames
 names_of table = record { name = table.name; columns = map (λ c. c.name) table.columns }
 
--- it is the table with this name, and has exactly these columns, in this order
+-- The schema's table at `at` has this name and exactly these columns, in order.
 pub record IsTableOf (schema : database.Schema) (names : TableNames) (at : ℕ) (table : Table) : Type 0 where
   pub named : table_named schema names.name ≡ Some at
   pub found : slice_get schema.tables at ≡ Some table
   pub columns : map (λ c. c.name) table.columns ≡ names.columns
 
--- it is there
+-- A table with this name and exactly these columns exists.
 abbrev pub HasTable : database.Schema → TableNames → Type 0
 HasTable schema names = (at : ℕ) × (table : Table) × IsTableOf schema names at table
 
--- each table of a schema is there
+-- Each table of the desk's schema exists, with its name and exactly its columns.
 abbrev pub HasTablesOf : Schema → database.Schema → Type 0
 HasTablesOf desk schema = AllByRecursion (λ w. HasTable schema (names_of (shape w 0))) (tables_in desk)
 
--- none is there that a later schema adds
+-- No table with the name of one that a later schema adds exists.
 abbrev pub LacksLater : Schema → database.Schema → Type 0
 LacksLater desk schema = AllByRecursion (λ w. table_named schema (name_of w) ≡ None) (later_than desk)
 
--- the row of DESK in a schema
+-- The row is one of DESK with the number of the schema.
 abbrev pub IsRowOf : Schema → Row → Type 0
 IsRowOf desk row = (last : Value) × (row ≡ nat 1 ∷ nat desk.number ∷ last ∷ [])
 
--- these are the rows of DESK, of which there is one, with the number of the schema
+-- DESK has exactly one row, with the number of the schema.
 abbrev pub Says : Schema → List Row → Type 0
 Says desk rows = (last : Value) × (rows ≡ (nat 1 ∷ nat desk.number ∷ last ∷ []) ∷ [])
 
--- the database has the tables of a desk in a schema, by their names and those of their columns, none of a later schema, and in DESK one row with the number of the schema
+-- The database has a desk of the schema: each of its tables with exactly its columns, none that a
+-- later schema adds, and one row of DESK with the schema's number.
 pub record HasDesk (desk : Schema) (db : Database) : Type 0 where
   pub tables : HasTablesOf desk db.schema
   pub later : LacksLater desk db.schema
   pub row : (at tree : ℕ) → Stands db.schema (desk_row tree) at → Says desk (map (cells (desk_row tree)) (db.trees tree))
 
--- no two rows have one rowid, and each is an integer
+-- The rowids of the rows are distinct integers.
 pub record IsKeyed (rows : List Row) : Type 0 where
   pub keyed : AllByRecursion (λ r. IsTrue (is_int (rowid r))) rows
   pub apart : IsDistinct same_rowid rows
 
--- What no look at the names of tables and columns can tell: the tables of a schema are made as the desk makes them.
+-- The desk's tables are defined as the desk defines them, which the names of tables and columns do
+-- not show.
 pub record IsMadeAlike (desk : Schema) (db : Database) : Type 0 where
   pub sound : IsDatabase db
-  -- the types of the columns, and the keys and references, are those of the desk's table
+  -- The column types, keys and foreign keys equal those of the desk's table.
   pub shaped : (w : Which) → IsOf desk w → (at : ℕ) (table : Table) → table_named db.schema (name_of w) ≡ Some at → slice_get db.schema.tables at ≡ Some table → table ≡ shape w table.tree
-  -- no tree is of two of them
+  -- No two of them share a tree.
   pub apart : (v w : Which) → IsOf desk v → IsOf desk w → (i j tree : ℕ) → Stands db.schema (shape v tree) i → Stands db.schema (shape w tree) j → v ≡ w
-  -- no reference of whatever table acts on their rows
+  -- No foreign key of any table at their trees writes rows.
   pub calm : (w : Which) → IsOf desk w → (at tree : ℕ) → Stands db.schema (shape w tree) at → IsCalm db.schema tree
   pub keyed : (w : Which) → IsOf desk w → (at tree : ℕ) → Stands db.schema (shape w tree) at → IsKeyed (db.trees tree)
 
--- where the tables of a schema are there by their names and columns, they are made alike
+-- If the tables of the schema exist by their names and columns, they are defined as the desk
+-- defines them.
 abbrev pub IsDefinedAs : Schema → Database → Type 0
 IsDefinedAs desk db = HasTablesOf desk db.schema → IsMadeAlike desk db
 
--- The premise on a database that others made. It asks nothing of one that lacks a table or a column of a desk, or has a column too many.
+-- The premise on a database that another program may have created. Vacuous if a table or a column
+-- of a desk is missing, or if there is an extra column.
 abbrev pub IsDefined : Database → Type 0
 IsDefined db = (schema : known.Schema) → IsDefinedAs (schema_of schema) db

@@ -1,4 +1,4 @@
--- What the reads of whole tables tell.
+-- The results of reading whole tables.
 use Rattle.std.specs.Prelude.{◌≡◌, ℕ, false, ◌&&◌, List, [], map, Option, Some, None, Result, IsTrue}
 use Rattle.std.specs.Global.{Vec}
 use Rattle.std.specs.List.Sorted.{IsPermutation}
@@ -18,32 +18,34 @@ use Rattle.brk_tables_schema.specs.Desk.{Which, Item, shape, encode, order, has_
 use Rattle.brk_tables_schema.specs.Made.{HasRowsIn, IsOf}
 use Rattle.brk_tables_scan.specs.Schemas.{IsKeyed}
 
--- rows are those of a table at this tree, in the order of its key
+-- The rows are those of a table at the tree `tree`, sorted by its key.
 pub record AreRowsOf (w : Which) (rows : List Row) (db : Database) (tree : ℕ) : Type 0 where
-  -- each row of the tree, as often as it is there
+  -- They are all rows of the tree, each as often as the tree has it.
   pub all : IsPermutation (map (cells (shape w tree)) (db.trees tree)) rows
-  -- records that the table holds show these rows
+  -- If the table contains records, the rows are their encodings, in order.
   pub told : (xs : List (Item w)) → TreeHolds (shape w tree) (encode w) (order w) xs (db.trees tree) → rows ≡ map (encode w) xs
-  -- and records that show these rows are those that it holds
+  -- If the rows are the encodings of records, the table contains these records.
   pub held : (xs : List (Item w)) → IsDatabase db → IsKeyed (db.trees tree) → map (encode w) xs ≡ rows → TreeHolds (shape w tree) (encode w) (order w) xs (db.trees tree)
 
--- the rows are those of this table, wherever it stands as its shape says
+-- The rows are all rows of this table, if it exists with the desk's shape.
 abbrev pub ShowsAll : Which → List Row → Database → Type 0
 ShowsAll w rows db = (at tree : ℕ) → Stands db.schema (shape w tree) at → AreRowsOf w rows db tree
 
--- it changes nothing, and its answer is all rows of this table
+-- If the call succeeds, it changes nothing and returns all rows of this table.
 abbrev pub ReadsWhole : {S E : Type 0} → Ghosts S → Transaction S → Transaction S → Result (Vec Row) E → Which → Type 0
 ReadsWhole g old new result w = Steps g old new result (λ rows a b. IsTrue a.is_open × (b.now ≡ a.now) × ShowsAll w rows.items a.now)
 
--- the rows of a table that a schema has, and no rows of one that it lacks
+-- The rows are all rows of this table if the schema has it, otherwise there are none.
 abbrev pub ShowsIf : Schema → Which → List Row → Database → Type 0
 ShowsIf desk w rows db = (IsOf desk w → ShowsAll w rows db) × (has_table desk w ≡ false → rows ≡ [])
 
--- it changes nothing, and its answer is the rows of this table, where the schema has it
+-- If the call succeeds, it changes nothing and returns all rows of this table, or none if the
+-- schema does not have it.
 abbrev pub ReadsIf : {S E : Type 0} → Ghosts S → Transaction S → Transaction S → Result (Vec Row) E → Schema → Which → Type 0
 ReadsIf g old new result desk w = Steps g old new result (λ rows a b. (b.now ≡ a.now) × ShowsIf desk w rows.items a.now)
 
--- the rows were read in types: these are what the tables of the schema hold, or no tables in form by the schema have these rows
+-- The typed rows are those of the schema's tables in the database. Without typed rows, no
+-- well-formed tables of the schema have the rows of the database.
 abbrev pub WasRead : Schema → Database → Option Sheets → Type 0
 WasRead desk db (Some sheets) = HasRowsIn desk (tables_in_sheets sheets) db
 WasRead desk db None = (t : Tables) → HasRowsIn desk t db → has_form desk t && has_texts t ≡ false

@@ -1,4 +1,4 @@
-//! Written by tools/tables.py: for each table of a schema a statement that shows all of its columns, and their names in their order.
+//! Written by tools/tables.py: for each table a statement that shows all of its columns, and their names in order.
 
 /// The tables of the first schema.
 pub(crate) const IN_FIRST: [(&str, &[&str]); 20] = [
@@ -110,7 +110,7 @@ pub(crate) const IN_FIRST: [(&str, &[&str]); 20] = [
     ),
 ];
 
-/// Those of the second.
+/// The tables of the second schema.
 pub(crate) const IN_SECOND: [(&str, &[&str]); 21] = [
     ("SELECT * FROM DESK", &["D_ID", "D_SCHEMA", "D_LAST"]),
     ("SELECT * FROM KEPT", &["K_BATCH", "K_N", "K_ROW", "K_LINE"]),
@@ -226,7 +226,7 @@ pub(crate) const IN_SECOND: [(&str, &[&str]); 21] = [
     ),
 ];
 
-/// Those of the third.
+/// The tables of the third schema.
 pub(crate) const IN_THIRD: [(&str, &[&str]); 22] = [
     ("SELECT * FROM DESK", &["D_ID", "D_SCHEMA", "D_LAST"]),
     ("SELECT * FROM KEPT", &["K_BATCH", "K_N", "K_ROW", "K_LINE"]),

@@ -1,4 +1,4 @@
-//! Whether the tables of a desk are there, by their names and those of their columns.
+//! The check of a desk's tables by their names and columns.
 
 ghost use Rattle.std.specs.Prelude.{◌≡◌, ◌↔◌, map, Err, OnErr, IsTrue};
 ghost use Rattle.brk_money.specs.declared.fault.Fault.TheVariants.{Store};
@@ -15,7 +15,7 @@ use brk_tables_create::has_tables_of;
 use brk_tables_schema::calls::shows_columns;
 use sqlite::{Alter, Transaction};
 
-// Whether each of the statements shows just the columns of its names.
+// Returns whether each statement's result has exactly its column names, in order.
 fn each_shows<S: Alter>(
     tx: &mut Transaction<'_, S>,
     headings: &[(&str, &[&str])],

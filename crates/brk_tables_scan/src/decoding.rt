@@ -1,4 +1,4 @@
-//! The rows of all tables in types.
+//! The typed rows of all tables.
 
 ghost use Rattle.std.specs.Prelude.{◌≡◌, Err, IfOk, false};
 ghost use Rattle.brk_tables_schema.specs.declared.decode_error.DecodeError.TheVariants.{Form as Formless};
@@ -143,7 +143,8 @@ fn decode_later(alloc: Global, raw: &LaterRows) -> Result<LaterSheets, DecodeErr
     })
 }
 
-/// All rows in types, where each column has its form.
+/// Returns the typed rows of all tables. Fails with `Form` if a column is malformed, or with
+/// `Memory`.
 pub fn decode(alloc: Global, schema: Schema, raw: &RawSheets) -> Result<Sheets, DecodeError>
     ensures value { IfOk result (λ sheets. AreSheets (schema_of schema) sheets raw.now) }
     ensures form { result ≡ Err Formless → formed (schema_of schema) raw.now ≡ false }

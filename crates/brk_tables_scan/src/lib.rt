@@ -1,5 +1,8 @@
-//! All rows of a desk's tables: whether a database has the tables, and their rows in types or the answer that they break their
-//! form. Each call is made within an open transaction. An error that the database answers is the fault `Store`.
+//! The reads of all rows of a desk's tables: the check that the tables exist, and the decoding of
+//! their rows, or the answer that they are malformed.
+//!
+//! Each call is made within an open transaction. An error of the `sqlite` crate is reported as the
+//! fault `Store`.
 #![tactic(auto)]
 
 mod column_names;

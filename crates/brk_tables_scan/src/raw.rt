@@ -1,4 +1,4 @@
-//! The rows of all tables as the database shows them, read before any of them is looked at.
+//! The rows of all tables as the database shows them. All are read before the first is decoded.
 
 ghost use Rattle.std.specs.Prelude.{◌≡◌, Err, OnErr};
 ghost use Rattle.brk_money.specs.declared.fault.Fault.TheVariants.{Store};
@@ -160,7 +160,7 @@ fn read_later<S: Alter>(
     })
 }
 
-/// Reads the rows of all tables of `schema`. Those of a table that it lacks are none.
+/// Reads the rows of all tables of `schema`. A table that it lacks has no rows.
 pub fn read_raw<S: Alter>(
     tx: &mut Transaction<'_, S>,
     alloc: Global,

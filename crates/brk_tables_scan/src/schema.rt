@@ -61,6 +61,9 @@ fn has_schema_row(schema: Schema, rows: &[Row]) -> bool
 
 /// Returns whether the database has a desk of `schema`: each table of the schema with exactly its
 /// columns, none that a later schema adds, and in DESK one row with the schema's number.
+///
+/// This is proved only if the tables of these names and columns are defined as the desk defines
+/// them.
 pub fn has_desk<S: Alter>(tx: &mut Transaction<'_, S>, schema: Schema) -> Result<bool, Fault>
     ensures same_reference { tx.new.conn.ghost_name ≡ tx.old.conn.ghost_name }
     ensures step { Steps S.Store tx.old tx.new result (λ has a b. IsTrue a.is_open × (b.now ≡ a.now) × (IsDefinedAs (schema_of schema) a.now → IsTrue has ↔ HasDesk (schema_of schema) a.now)) }

@@ -16,7 +16,8 @@ use std::alloc::Global;
 /// Reads the tables of `schema` as typed rows, each list sorted by key, ascending. Returns `None`
 /// if the rows are malformed. All tables are read before the first row is decoded.
 ///
-/// Fails with `Memory` or `Store`.
+/// Fails with `Memory` or `Store`. The result is specified only if the database has a desk of
+/// `schema` (`has_desk`) whose tables are defined as the desk defines them.
 pub fn read_sheets<S: Alter>(
     tx: &mut Transaction<'_, S>,
     alloc: Global,

@@ -1,4 +1,4 @@
--- Written by tools/tables.py: whether a table is a certain one.
+-- Written by tools/tables.py: equality of tables is decidable.
 use Rattle.std.proofs.Common.{◌≡◌, ◌≢◌, ◌⊎◌, refl, inl, inr}
 use Rattle.sqlite_rules.specs.Lists.{Has}
 use Rattle.brk_tables_schema.specs.Desk.{Which, TheDesk, KeptRows, Brokers, Customers, Accounts, Permissions, Securities, LastTrades, Charges, Bands, TaxRates, CustomerTaxes, Trades, TradeHistory, Requests, Holdings, Summaries, HoldingHistory, Settlements, CashRows, CashMoves, SettleRules, all_tables}
@@ -91,7 +91,7 @@ pub is_rule : (v : Which) → (v ≡ SettleRules) ⊎ (v ≢ SettleRules)
 is_rule SettleRules = inl refl
 is_rule v = inr (λ e. absurd (let f = e in cc))
 
--- whether a table is another
+-- Two tables are equal or not.
 pub split : (w v : Which) → (v ≡ w) ⊎ (v ≢ w)
 split TheDesk v = is_desk_row v
 split KeptRows v = is_kept v
@@ -116,7 +116,7 @@ split CashRows v = is_cash v
 split CashMoves v = is_move v
 split SettleRules v = is_rule v
 
--- each is listed
+-- The list of all tables contains each table.
 pub all_listed : (w : Which) → Has all_tables w
 all_listed TheDesk = inl refl
 all_listed KeptRows = inr (inl refl)

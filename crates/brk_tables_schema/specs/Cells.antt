@@ -8,26 +8,26 @@ use Rattle.brk_money.specs.Kinds.{type_code, status_code, tax_status_number}
 use Rattle.brk_model.specs.Records.{Customer, Permission, Charge, Band, TaxRate, CustomerTax, Kept}
 use Rattle.brk_model.specs.Tables.{BrokerRow, AccountRow, SecurityRow, LastTradeRow, TradeRow, HistoryRow, RequestRow, HoldingRow, SummaryRow, HoldingHistoryRow, SettlementRow, CashRow, MoveRow}
 
--- the row of DESK: D_ID, D_SCHEMA, D_LAST
+-- The row of DESK: D_ID, D_SCHEMA, D_LAST.
 pub record DeskRow : Type 0 where
   pub id : ℕ
   pub schema : ℕ
   pub last : Option ℕ
 
--- a row of SETTLE_RULE: SR_ID, SR_DAY
+-- A row of SETTLE_RULE: SR_ID, SR_DAY.
 pub record RuleRow : Type 0 where
   pub id : ℕ
   pub day : ℕ
 
--- a number that is not below 0
+-- The cell of a natural number.
 abbrev pub nat : ℕ → Value
 nat n = Int (pos n)
 
--- such a number, or null
+-- The cell of a natural number, or null.
 abbrev pub maybe : Option ℕ → Value
 maybe = or_null (λ n. Int (pos n))
 
--- 1 for true and 0 for false
+-- The cell of a truth value: 1 for true, 0 for false.
 abbrev pub flag : Bool → Value
 flag b = Int (pos (if b then 1 else 0))
 

@@ -1,4 +1,4 @@
--- Written by tools/tables.py: the tables of a desk, and the list of rows that each of them holds.
+-- Written by tools/tables.py: the tables of a desk, and the list of rows that each holds.
 use Rattle.std.specs.Prelude.{◌≡◌, ℕ, Bool, true, List, [], ◌∷◌, Option, Some, None, map, filter, refl}
 use Rattle.std.specs.declared.cmp.Ordering.{Ordering}
 use Rattle.sqlite_value.specs.Order.{Row}
@@ -12,7 +12,7 @@ use Rattle.brk_tables_schema.specs.Shapes.{desk_row, kept, broker, customer, acc
 use Rattle.brk_tables_schema.specs.Cells.{DeskRow, RuleRow, desk_row_cells, kept_cells, broker_cells, customer_cells, account_cells, permission_cells, security_cells, last_trade_cells, charge_cells, band_cells, tax_rate_cells, customer_tax_cells, trade_cells, history_cells, request_cells, holding_cells, summary_cells, holding_history_cells, settlement_cells, cash_cells, move_cells, rule_cells}
 use Rattle.brk_tables_schema.specs.Order.{by_key_values}
 
--- the tables by name
+-- A table, by its name.
 pub data Which : Type 0 where
   TheDesk : Which
   KeptRows : Which
@@ -37,14 +37,14 @@ pub data Which : Type 0 where
   CashMoves : Which
   SettleRules : Which
 
--- the one row of DESK, in a schema
+-- The single row of DESK, in a schema.
 abbrev pub desk_rows : Schema → Option ℕ → List DeskRow
 desk_rows schema last = record { id = 1; schema = schema.number; last = last } ∷ []
 
 abbrev pub desk_key : DeskRow → List KeyPart
 desk_key r = number r.id ∷ []
 
--- the one row of SETTLE_RULE, or none
+-- The single row of SETTLE_RULE, or none.
 abbrev pub rule_rows : Option ℕ → List RuleRow
 rule_rows None = []
 rule_rows (Some day) = record { id = 1; day = day } ∷ []
@@ -52,13 +52,13 @@ rule_rows (Some day) = record { id = 1; day = day } ∷ []
 abbrev pub rule_key : RuleRow → List KeyPart
 rule_key r = number r.id ∷ []
 
--- whether a schema has a table
+-- True if the schema has the table.
 abbrev pub has_table : Schema → Which → Bool
 has_table schema CashMoves = schema.has_moves
 has_table schema SettleRules = schema.has_rule
 has_table schema w = true
 
--- what each is made of
+-- The shape of a table, with its rows in the tree `n`.
 abbrev pub shape : Which → ℕ → Table
 shape TheDesk = desk_row
 shape KeptRows = kept
@@ -107,7 +107,7 @@ placed CashRows tree = refl
 placed CashMoves tree = refl
 placed SettleRules tree = refl
 
--- what a row of it is
+-- The type of the rows of a table.
 abbrev pub Item : Which → Type 0
 Item TheDesk = DeskRow
 Item KeptRows = Kept
@@ -180,11 +180,11 @@ key CashRows = cash_key
 key CashMoves = move_key
 key SettleRules = rule_key
 
--- by rising key
+-- The order of the rows of a table: by key, ascending.
 abbrev pub order : (w : Which) → Item w → Item w → Ordering
 order w = by_key_values (key w)
 
--- the rows that it holds in a schema
+-- The rows that a table holds in a schema.
 abbrev pub list_in : Schema → (w : Which) → Tables → List (Item w)
 list_in schema TheDesk t = desk_rows schema t.last
 list_in schema KeptRows t = t.kept
@@ -209,29 +209,29 @@ list_in schema CashRows t = t.cash
 list_in schema CashMoves t = t.moves
 list_in schema SettleRules t = rule_rows t.rule
 
--- the rows that it holds, in the schema that a desk keeps
+-- The rows that a table holds in the third schema, which an open desk has.
 abbrev pub list : (w : Which) → Tables → List (Item w)
 list = list_in third_schema
 
--- the tables of a desk in a schema, which may lack some
+-- The tables of a desk in a schema, which may lack some of them.
 abbrev pub desk_in : Schema → Desk Which Tables
 desk_in schema = record { shape = shape; placed = placed; Item = Item; encode = encode; order = order; list = list_in schema }
 
--- all of them
+-- The tables of a desk in the third schema.
 abbrev pub desk : Desk Which Tables
 desk = desk_in third_schema
 
 abbrev pub all_tables : List Which
 all_tables = TheDesk ∷ KeptRows ∷ Brokers ∷ Customers ∷ Accounts ∷ Permissions ∷ Securities ∷ LastTrades ∷ Charges ∷ Bands ∷ TaxRates ∷ CustomerTaxes ∷ Trades ∷ TradeHistory ∷ Requests ∷ Holdings ∷ Summaries ∷ HoldingHistory ∷ Settlements ∷ CashRows ∷ CashMoves ∷ SettleRules ∷ []
 
--- the tables of a schema, and those that it lacks
+-- The list of the tables of a schema, and of those that it lacks.
 abbrev pub tables_in : Schema → List Which
 tables_in schema = filter (has_table schema) all_tables
 
--- the name of a table
+-- The name of a table.
 abbrev pub name_of : Which → List ℕ
 name_of w = (shape w 0).name
 
--- their names
+-- The names of all tables.
 abbrev pub names : List (List ℕ)
 names = map name_of all_tables

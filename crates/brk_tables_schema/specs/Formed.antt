@@ -1,4 +1,4 @@
--- Whether the columns of a row hold values of their forms, each by itself.
+-- The checks of each column of a row, independent of other columns and rows.
 use Rattle.std.specs.Prelude.{ℕ, pos, Bool, true, false, ◌&&◌, ◌||◌, ◌==◌, nat_le, List, [], ◌∷◌, is_some, bytes_eq}
 use Rattle.std.specs.List.{list_any}
 use Rattle.std.specs.Str.{is_utf8}
@@ -17,201 +17,246 @@ use Rattle.brk_changes.specs.Rows.{cash_type_word}
 use Rattle.brk_changes.specs.declared.cash_type.CashType.{CashType}
 use Rattle.brk_changes.specs.declared.cash_type.CashType.TheVariants.{CashAccount, Cash, Margin, MarginAccount}
 
--- ---- one column
+-- ---- The check of one column
 
--- a number that is not below 0 and has a form
+-- True if the value is an integer that is not below 0 and passes `form`.
 abbrev pub natural_cell : (ℕ → Bool) → Value → Bool
 natural_cell form (Int (pos n)) = form n
 natural_cell form _ = false
 
--- null, or such a number
+-- True if the value is null, or an integer that is not below 0 and passes `form`.
 abbrev pub maybe_cell : (ℕ → Bool) → Value → Bool
 maybe_cell form Null = true
 maybe_cell form (Int (pos n)) = form n
 maybe_cell form _ = false
 
--- any whole number
+-- True if the value is an integer.
 abbrev pub number_cell : Value → Bool
 number_cell (Int n) = true
 number_cell _ = false
 
--- an amount of cents, either way
+-- True if the value is an amount of cents within the limits, of either sign.
 abbrev pub cents_cell : Value → Bool
 cents_cell (Int n) = is_amount n
 cents_cell _ = false
 
--- a text of a form
+-- True if the value is a text that passes `form`.
 abbrev pub words_cell : (List ℕ → Bool) → Value → Bool
 words_cell form (Words s) = form s
 words_cell form _ = false
 
--- 1 or 0
+-- True if the value is 1 or 0.
 abbrev pub flag_cell : Value → Bool
 flag_cell = natural_cell (λ n. (n == 0) || (n == 1))
 
--- any text of UTF-8
+-- True if the value is a text of UTF-8.
 abbrev pub text_cell : Value → Bool
 text_cell = words_cell is_utf8
 
+-- True if the text is the code of a trade type.
 abbrev pub is_type : List ℕ → Bool
 is_type s = is_some (type_of s)
 
+-- All statuses of a trade.
 abbrev pub all_statuses : List Status
 all_statuses = Completed ∷ Active ∷ Submitted ∷ Pending ∷ Canceled ∷ []
 
+-- True if the text is the code of a status.
 abbrev pub is_status : List ℕ → Bool
 is_status s = list_any (λ status. bytes_eq (status_code status) s) all_statuses
 
+-- All cash types of a settlement.
 abbrev pub all_cash_types : List CashType
 all_cash_types = CashAccount ∷ Cash ∷ Margin ∷ MarginAccount ∷ []
 
+-- True if the text is that of a cash type.
 abbrev pub is_cash_word : List ℕ → Bool
 is_cash_word s = list_any (λ kind. bytes_eq (cash_type_word kind) s) all_cash_types
 
+-- True if the number is that of a tax status.
 abbrev pub is_tax_status : ℕ → Bool
 is_tax_status n = is_some (tax_status_of n)
 
+-- True if the value is an id.
 abbrev pub id_cell : Value → Bool
 id_cell = natural_cell is_id
 
+-- True if the value is the id of a cash row.
 abbrev pub move_id_cell : Value → Bool
 move_id_cell = natural_cell is_move_id
 
+-- True if the value is a name.
 abbrev pub name_cell : Value → Bool
 name_cell = words_cell is_name
 
+-- True if the value is a tax id.
 abbrev pub tax_id_cell : Value → Bool
 tax_id_cell = words_cell is_tax_id
 
+-- True if the value is a symbol.
 abbrev pub symbol_cell : Value → Bool
 symbol_cell = words_cell is_symbol
 
+-- True if the value is an exchange.
 abbrev pub exchange_cell : Value → Bool
 exchange_cell = words_cell is_exchange
 
+-- True if the value is the code of a trade type.
 abbrev pub type_cell : Value → Bool
 type_cell = words_cell is_type
 
+-- True if the value is the code of a status.
 abbrev pub status_cell : Value → Bool
 status_cell = words_cell is_status
 
+-- True if the value is a tier.
 abbrev pub tier_cell : Value → Bool
 tier_cell = natural_cell is_tier
 
+-- True if the value is a quantity of schema 3.
 abbrev pub qty_cell : Value → Bool
 qty_cell = natural_cell (is_qty third_schema)
 
+-- True if the value is a price.
 abbrev pub price_cell : Value → Bool
 price_cell = natural_cell is_price
 
+-- True if the value is a stamp.
 abbrev pub stamp_cell : Value → Bool
 stamp_cell = natural_cell (λ n. nat_le n last_stamp)
 
--- a sum of cents, or a volume
+-- True if the value is a sum of cents or a volume.
 abbrev pub sum_cell : Value → Bool
 sum_cell = natural_cell (λ n. nat_le n greatest_amount)
 
+-- True if the value is a commission rate.
 abbrev pub rate_cell : Value → Bool
 rate_cell = natural_cell (λ n. nat_le n greatest_rate)
 
+-- True if the value is a tax rate.
 abbrev pub tax_cell : Value → Bool
 tax_cell = natural_cell (λ n. nat_le n greatest_tax_rate)
 
+-- True if the value is a day.
 abbrev pub day_cell : Value → Bool
 day_cell = natural_cell (λ n. nat_le n last_day)
 
+-- True if the value is the number of a tax status.
 abbrev pub tax_status_cell : Value → Bool
 tax_status_cell = natural_cell is_tax_status
 
+-- True if the value is a charge.
 abbrev pub charge_cell : Value → Bool
 charge_cell = natural_cell (λ n. nat_le n greatest_charge)
 
--- a stamp, or null
+-- True if the value is a stamp or null.
 abbrev pub last_cell : Value → Bool
 last_cell = maybe_cell (λ n. nat_le n last_stamp)
 
--- ---- a row
+-- ---- The check of a row
 
--- each column has its form, and there are no more
+-- True if each column passes its check, and the row has as many columns as there are checks.
 abbrev pub all_formed : List (Value → Bool) → Row → Bool
 all_formed [] [] = true
 all_formed (has_form ∷ forms) (v ∷ row) = has_form v && all_formed forms row
 all_formed _ _ = false
 
+-- The checks of the columns of DESK, in a schema.
 abbrev pub desk_forms : Schema → List (Value → Bool)
 desk_forms schema = natural_cell (λ n. n == 1) ∷ natural_cell (λ n. n == schema.number) ∷ last_cell ∷ []
 
--- the one row of DESK, in a schema
+-- True if there is exactly one row of DESK and it passes the checks of the schema.
 abbrev pub is_desk_row : Schema → List Row → Bool
 is_desk_row schema (row ∷ []) = all_formed (desk_forms schema) row
 is_desk_row schema _ = false
 
+-- The checks of the columns of KEPT.
 abbrev pub kept_forms : List (Value → Bool)
 kept_forms = words_cell is_batch_name ∷ id_cell ∷ text_cell ∷ text_cell ∷ []
 
+-- The checks of the columns of BROKER.
 abbrev pub broker_forms : List (Value → Bool)
 broker_forms = id_cell ∷ name_cell ∷ number_cell ∷ natural_cell (λ n. true) ∷ []
 
+-- The checks of the columns of CUSTOMER.
 abbrev pub customer_forms : List (Value → Bool)
 customer_forms = id_cell ∷ tier_cell ∷ tax_id_cell ∷ name_cell ∷ name_cell ∷ []
 
+-- The checks of the columns of CUSTOMER_ACCOUNT.
 abbrev pub account_forms : List (Value → Bool)
 account_forms = id_cell ∷ id_cell ∷ id_cell ∷ name_cell ∷ tax_status_cell ∷ cents_cell ∷ cents_cell ∷ []
 
+-- The checks of the columns of ACCOUNT_PERMISSION.
 abbrev pub permission_forms : List (Value → Bool)
 permission_forms = id_cell ∷ tax_id_cell ∷ words_cell is_acl ∷ name_cell ∷ name_cell ∷ []
 
+-- The checks of the columns of SECURITY.
 abbrev pub security_forms : List (Value → Bool)
 security_forms = symbol_cell ∷ name_cell ∷ exchange_cell ∷ name_cell ∷ []
 
+-- The checks of the columns of LAST_TRADE.
 abbrev pub last_trade_forms : List (Value → Bool)
 last_trade_forms = symbol_cell ∷ stamp_cell ∷ price_cell ∷ sum_cell ∷ []
 
+-- The checks of the columns of CHARGE.
 abbrev pub charge_forms : List (Value → Bool)
 charge_forms = type_cell ∷ tier_cell ∷ charge_cell ∷ []
 
+-- The checks of the columns of COMMISSION_RATE.
 abbrev pub band_forms : List (Value → Bool)
 band_forms = tier_cell ∷ type_cell ∷ exchange_cell ∷ qty_cell ∷ qty_cell ∷ rate_cell ∷ []
 
+-- The checks of the columns of TAXRATE.
 abbrev pub tax_rate_forms : List (Value → Bool)
 tax_rate_forms = id_cell ∷ name_cell ∷ tax_cell ∷ []
 
+-- The checks of the columns of CUSTOMER_TAXRATE.
 abbrev pub customer_tax_forms : List (Value → Bool)
 customer_tax_forms = id_cell ∷ id_cell ∷ []
 
+-- The checks of the columns of TRADE.
 abbrev pub trade_forms : List (Value → Bool)
 trade_forms =
     id_cell ∷ stamp_cell ∷ status_cell ∷ type_cell ∷ flag_cell ∷ symbol_cell ∷ qty_cell ∷ price_cell ∷ id_cell ∷ text_cell ∷ maybe_cell is_price ∷ charge_cell
     ∷ sum_cell ∷ sum_cell ∷ flag_cell ∷ []
 
+-- The checks of the columns of TRADE_HISTORY.
 abbrev pub history_forms : List (Value → Bool)
 history_forms = id_cell ∷ status_cell ∷ stamp_cell ∷ []
 
+-- The checks of the columns of TRADE_REQUEST.
 abbrev pub request_forms : List (Value → Bool)
 request_forms = id_cell ∷ type_cell ∷ symbol_cell ∷ qty_cell ∷ price_cell ∷ id_cell ∷ []
 
+-- The checks of the columns of HOLDING.
 abbrev pub holding_forms : List (Value → Bool)
 holding_forms = id_cell ∷ id_cell ∷ symbol_cell ∷ stamp_cell ∷ price_cell ∷ number_cell ∷ []
 
+-- The checks of the columns of HOLDING_SUMMARY.
 abbrev pub summary_forms : List (Value → Bool)
 summary_forms = id_cell ∷ symbol_cell ∷ number_cell ∷ []
 
+-- The checks of the columns of HOLDING_HISTORY.
 abbrev pub holding_history_forms : List (Value → Bool)
 holding_history_forms = id_cell ∷ id_cell ∷ number_cell ∷ number_cell ∷ []
 
+-- The checks of the columns of SETTLEMENT.
 abbrev pub settlement_forms : List (Value → Bool)
 settlement_forms = id_cell ∷ words_cell is_cash_word ∷ day_cell ∷ cents_cell ∷ []
 
+-- The checks of the columns of CASH_TRANSACTION.
 abbrev pub cash_forms : List (Value → Bool)
 cash_forms = id_cell ∷ stamp_cell ∷ cents_cell ∷ text_cell ∷ []
 
+-- The checks of the columns of CASH_MOVE.
 abbrev pub move_forms : List (Value → Bool)
 move_forms = move_id_cell ∷ id_cell ∷ maybe_cell is_id ∷ stamp_cell ∷ cents_cell ∷ text_cell ∷ []
 
+-- The checks of the columns of SETTLE_RULE.
 abbrev pub rule_forms : List (Value → Bool)
 rule_forms = natural_cell (λ n. n == 1) ∷ day_cell ∷ []
 
--- the one row of SETTLE_RULE, or none
+-- True if there is no row of SETTLE_RULE, or one row that passes its checks.
 abbrev pub is_rule : List Row → Bool
 is_rule [] = true
 is_rule (row ∷ []) = all_formed rule_forms row

@@ -1,4 +1,4 @@
--- Written by tools/tables.py: what the tables are made of, each at any tree.
+-- Written by tools/tables.py: the shape of each table, with its rows in any tree.
 use Rattle.std.specs.Prelude.{ℕ, [], ◌∷◌, codes, Some, None}
 use Rattle.sqlite_schema.specs.declared.schema.Table.{Table}
 use Rattle.brk_sql.specs.Desk.{text, whole, perhaps, refers, table_of}

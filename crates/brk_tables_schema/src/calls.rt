@@ -1,4 +1,4 @@
-//! Calls of the database within a transaction. Each of its errors is the fault `Store`.
+//! Calls of the database within a transaction. Each fails with the fault `Store` only.
 
 ghost use Rattle.std.specs.Prelude.{◌≡◌, ℕ, List, map, Ok, None, Err, OnErr, IsTrue};
 ghost use Rattle.std.specs.Borrow.{Bor};
@@ -14,7 +14,7 @@ use brk_money::Fault;
 use sqlite::{Alter, Row, Transaction};
 use sqlite_value::value::ValueRef;
 
-/// Runs a statement that makes a table or changes rows.
+/// Executes a statement that creates a table or changes rows.
 pub fn run<S: Alter>(
     tx: &mut Transaction<'_, S>,
     text: &str,
@@ -30,7 +30,7 @@ pub fn run<S: Alter>(
     }
 }
 
-/// The rows that a statement selects.
+/// Returns the rows that a statement selects.
 pub fn select<S: Alter>(
     tx: &mut Transaction<'_, S>,
     text: &str,
@@ -47,7 +47,7 @@ pub fn select<S: Alter>(
     }
 }
 
-/// Whether the table that a statement names is there. It runs nothing.
+/// Returns true if the statement compiles, and false if it names a table that does not exist.
 pub fn is_understood<S: Alter>(tx: &mut Transaction<'_, S>, text: &str) -> Result<bool, Fault>
     ensures same_reference { tx.new.conn.ghost_name ≡ tx.old.conn.ghost_name }
     ensures step { Steps S.Store tx.old tx.new result (λ has a b. IsTrue a.is_open × (b.now ≡ a.now) × Probes text.now has a.now.schema) }
@@ -59,7 +59,7 @@ pub fn is_understood<S: Alter>(tx: &mut Transaction<'_, S>, text: &str) -> Resul
     }
 }
 
-/// Whether the rows that a statement shows have just the columns of these names, in their order. It runs nothing.
+/// Returns true if the columns of the statement's result are exactly `names`, in order.
 pub fn shows_columns<S: Alter>(
     tx: &mut Transaction<'_, S>,
     text: &str,

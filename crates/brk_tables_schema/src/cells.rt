@@ -1,4 +1,4 @@
-//! The columns of a row as typed values. One that breaks its form is `DecodeError::Form`.
+//! The columns of a row as typed values. A malformed column is `DecodeError::Form`.
 
 ghost use Rattle.std.specs.Prelude.{◌≡◌, ◌≢◌, ◌<◌, ◌^◌, Err, IfOk, MatchOption, OnOk, bytes_eq, length, nat_lt, pos, string_bytes, true, false};
 ghost use Rattle.sqlite_value.specs.declared.value.Value.TheVariants.{Int, Text};
@@ -20,7 +20,7 @@ use sqlite::Row;
 use sqlite::types::FromSql;
 use sqlite_value::value::ValueRef;
 
-/// A row with so many columns.
+/// Fails unless the row has exactly `count` columns.
 pub fn has_columns(row: &Row, count: usize) -> Result<(), DecodeError>
     ensures columns { OnOk result (length row.now ≡ count) }
     ensures form { result ≡ Err Formless → length row.now ≢ count }
@@ -32,7 +32,7 @@ pub fn has_columns(row: &Row, count: usize) -> Result<(), DecodeError>
     }
 }
 
-// A column as the database reads it.
+// Reads a column as the type `T`.
 fn value_in<T: FromSql>(row: &Row, at: usize) -> Result<T, DecodeError>
     ensures value { IfOk result (T.FromSql.reads_as (column row.now at)) }
     ensures form { result ≡ Err Formless → at < length row.now → ¬ T.FromSql.is_readable (column row.now at) }
@@ -43,7 +43,7 @@ fn value_in<T: FromSql>(row: &Row, at: usize) -> Result<T, DecodeError>
     }
 }
 
-// The bytes of a text.
+// Reads the bytes of a text.
 fn bytes_in(row: &Row, at: usize) -> Result<&[u8], DecodeError>
     ensures value { IfOk result (λ bytes. column row.now at ≡ Text bytes.now) }
     ensures form { result ≡ Err Formless → at < length row.now → words_cell (λ _. true) (column row.now at) ≡ false }
@@ -54,7 +54,7 @@ fn bytes_in(row: &Row, at: usize) -> Result<&[u8], DecodeError>
     }
 }
 
-/// A whole number.
+/// Reads an integer.
 pub fn number_in(row: &Row, at: usize) -> Result<i64, DecodeError>
     ensures value { IfOk result (λ number. column row.now at ≡ Int number) }
     ensures form { result ≡ Err Formless → at < length row.now → number_cell (column row.now at) ≡ false }
@@ -62,7 +62,7 @@ pub fn number_in(row: &Row, at: usize) -> Result<i64, DecodeError>
     value_in(row, at)
 }
 
-/// A whole number that is not below 0.
+/// Reads an integer that is not below 0.
 pub fn natural_in(row: &Row, at: usize) -> Result<u64, DecodeError>
     ensures value { IfOk result (λ number. column row.now at ≡ Int (pos number)) }
     ensures form { result ≡ Err Formless → at < length row.now → natural_cell (λ _. true) (column row.now at) ≡ false }
@@ -70,7 +70,7 @@ pub fn natural_in(row: &Row, at: usize) -> Result<u64, DecodeError>
     value_in(row, at)
 }
 
-/// A whole number that is not below 0 and fits 32 bits.
+/// Reads an integer that is not below 0 and fits 32 bits.
 pub fn small_in(row: &Row, at: usize) -> Result<u32, DecodeError>
     ensures value { IfOk result (λ number. column row.now at ≡ Int (pos number)) }
     ensures form { result ≡ Err Formless → at < length row.now → natural_cell (λ n. nat_lt n (2 ^ 32)) (column row.now at) ≡ false }
@@ -78,7 +78,7 @@ pub fn small_in(row: &Row, at: usize) -> Result<u32, DecodeError>
     value_in(row, at)
 }
 
-/// Any text of UTF-8.
+/// Reads a text of UTF-8.
 #[tactic(auto, using(crate::proofs::Unformed::no_text))]
 pub fn text_in(row: &Row, at: usize) -> Result<String, DecodeError>
     ensures value { IfOk result (λ text. column row.now at ≡ Text (string_bytes text)) }
@@ -87,7 +87,7 @@ pub fn text_in(row: &Row, at: usize) -> Result<String, DecodeError>
     value_in(row, at)
 }
 
-/// A text of a form.
+/// Reads a text of the format `F`.
 #[tactic(auto, using(crate::proofs::Unformed::no_formed_text))]
 pub fn text_of<F: Form>(row: &Row, at: usize) -> Result<FormedText<F>, DecodeError>
     ensures value { IfOk result (λ text. column row.now at ≡ Text text) }
@@ -96,6 +96,7 @@ pub fn text_of<F: Form>(row: &Row, at: usize) -> Result<FormedText<F>, DecodeErr
     FormedText::new(text_in(row, at)?).ok_or(DecodeError::Form)
 }
 
+/// Reads the number of a row of a batch.
 pub fn row_number_in(row: &Row, at: usize) -> Result<RowNumber, DecodeError>
     ensures value { IfOk result (λ number. column row.now at ≡ Int (pos number)) }
     ensures form { result ≡ Err Formless → at < length row.now → id_cell (column row.now at) ≡ false }
@@ -103,6 +104,7 @@ pub fn row_number_in(row: &Row, at: usize) -> Result<RowNumber, DecodeError>
     RowNumber::new(natural_in(row, at)?).ok_or(DecodeError::Form)
 }
 
+/// Reads an id.
 pub fn id_in(row: &Row, at: usize) -> Result<Id, DecodeError>
     ensures value { IfOk result (λ id. column row.now at ≡ Int (pos id)) }
     ensures form { result ≡ Err Formless → at < length row.now → id_cell (column row.now at) ≡ false }
@@ -110,6 +112,7 @@ pub fn id_in(row: &Row, at: usize) -> Result<Id, DecodeError>
     Id::new(natural_in(row, at)?).ok_or(DecodeError::Form)
 }
 
+/// Reads the id of a cash row.
 pub fn move_id_in(row: &Row, at: usize) -> Result<MoveId, DecodeError>
     ensures value { IfOk result (λ id. column row.now at ≡ Int (pos id)) }
     ensures form { result ≡ Err Formless → at < length row.now → move_id_cell (column row.now at) ≡ false }
@@ -117,7 +120,7 @@ pub fn move_id_in(row: &Row, at: usize) -> Result<MoveId, DecodeError>
     MoveId::new(natural_in(row, at)?).ok_or(DecodeError::Form)
 }
 
-/// An id, or none where the column is null.
+/// Reads an id, or `None` if the column is null.
 pub fn maybe_id_in(row: &Row, at: usize) -> Result<Option<Id>, DecodeError>
     ensures value { IfOk result (λ id. column row.now at ≡ maybe id) }
     ensures form { result ≡ Err Formless → at < length row.now → maybe_cell is_id (column row.now at) ≡ false }
@@ -129,6 +132,7 @@ pub fn maybe_id_in(row: &Row, at: usize) -> Result<Option<Id>, DecodeError>
     Ok(Some(Id::new(number).ok_or(DecodeError::Form)?))
 }
 
+/// Reads a tier.
 pub fn tier_in(row: &Row, at: usize) -> Result<Tier, DecodeError>
     ensures value { IfOk result (λ tier. column row.now at ≡ Int (pos tier)) }
     ensures form { result ≡ Err Formless → at < length row.now → tier_cell (column row.now at) ≡ false }
@@ -136,6 +140,7 @@ pub fn tier_in(row: &Row, at: usize) -> Result<Tier, DecodeError>
     Tier::new(natural_in(row, at)?).ok_or(DecodeError::Form)
 }
 
+/// Reads an amount of cents that is not below 0.
 pub fn amount_in(row: &Row, at: usize) -> Result<Amount, DecodeError>
     ensures value { IfOk result (λ amount. column row.now at ≡ Int (pos amount)) }
     ensures form { result ≡ Err Formless → at < length row.now → sum_cell (column row.now at) ≡ false }
@@ -143,6 +148,7 @@ pub fn amount_in(row: &Row, at: usize) -> Result<Amount, DecodeError>
     Amount::new(natural_in(row, at)?).ok_or(DecodeError::Form)
 }
 
+/// Reads a volume.
 pub fn volume_in(row: &Row, at: usize) -> Result<Volume, DecodeError>
     ensures value { IfOk result (λ volume. column row.now at ≡ Int (pos volume)) }
     ensures form { result ≡ Err Formless → at < length row.now → sum_cell (column row.now at) ≡ false }
@@ -150,6 +156,7 @@ pub fn volume_in(row: &Row, at: usize) -> Result<Volume, DecodeError>
     Volume::new(natural_in(row, at)?).ok_or(DecodeError::Form)
 }
 
+/// Reads a quantity.
 pub fn qty_in(row: &Row, at: usize) -> Result<Qty, DecodeError>
     ensures value { IfOk result (λ qty. column row.now at ≡ Int (pos qty)) }
     ensures form { result ≡ Err Formless → at < length row.now → qty_cell (column row.now at) ≡ false }
@@ -157,6 +164,7 @@ pub fn qty_in(row: &Row, at: usize) -> Result<Qty, DecodeError>
     Qty::new(small_in(row, at)?).ok_or(DecodeError::Form)
 }
 
+/// Reads a price.
 pub fn price_in(row: &Row, at: usize) -> Result<Price, DecodeError>
     ensures value { IfOk result (λ price. column row.now at ≡ Int (pos price)) }
     ensures form { result ≡ Err Formless → at < length row.now → price_cell (column row.now at) ≡ false }
@@ -164,6 +172,7 @@ pub fn price_in(row: &Row, at: usize) -> Result<Price, DecodeError>
     Price::new(small_in(row, at)?).ok_or(DecodeError::Form)
 }
 
+/// Reads a commission rate.
 pub fn rate_in(row: &Row, at: usize) -> Result<Rate, DecodeError>
     ensures value { IfOk result (λ rate. column row.now at ≡ Int (pos rate)) }
     ensures form { result ≡ Err Formless → at < length row.now → rate_cell (column row.now at) ≡ false }
@@ -171,6 +180,7 @@ pub fn rate_in(row: &Row, at: usize) -> Result<Rate, DecodeError>
     Rate::new(small_in(row, at)?).ok_or(DecodeError::Form)
 }
 
+/// Reads a tax rate.
 pub fn tax_rate_in(row: &Row, at: usize) -> Result<TaxRate, DecodeError>
     ensures value { IfOk result (λ rate. column row.now at ≡ Int (pos rate)) }
     ensures form { result ≡ Err Formless → at < length row.now → tax_cell (column row.now at) ≡ false }
@@ -178,6 +188,7 @@ pub fn tax_rate_in(row: &Row, at: usize) -> Result<TaxRate, DecodeError>
     TaxRate::new(small_in(row, at)?).ok_or(DecodeError::Form)
 }
 
+/// Reads a charge.
 pub fn charge_amount_in(row: &Row, at: usize) -> Result<ChargeAmount, DecodeError>
     ensures value { IfOk result (λ amount. column row.now at ≡ Int (pos amount)) }
     ensures form { result ≡ Err Formless → at < length row.now → charge_cell (column row.now at) ≡ false }
@@ -185,6 +196,7 @@ pub fn charge_amount_in(row: &Row, at: usize) -> Result<ChargeAmount, DecodeErro
     ChargeAmount::new(small_in(row, at)?).ok_or(DecodeError::Form)
 }
 
+/// Reads an amount of cents, of either sign.
 pub fn cents_in(row: &Row, at: usize) -> Result<Cents, DecodeError>
     ensures value { IfOk result (λ cents. column row.now at ≡ Int cents) }
     ensures form { result ≡ Err Formless → at < length row.now → cents_cell (column row.now at) ≡ false }
@@ -192,6 +204,7 @@ pub fn cents_in(row: &Row, at: usize) -> Result<Cents, DecodeError>
     Cents::new(number_in(row, at)?).ok_or(DecodeError::Form)
 }
 
+/// Reads a stamp.
 pub fn stamp_in(row: &Row, at: usize) -> Result<Stamp, DecodeError>
     ensures value { IfOk result (λ stamp. column row.now at ≡ Int (pos stamp)) }
     ensures form { result ≡ Err Formless → at < length row.now → stamp_cell (column row.now at) ≡ false }
@@ -199,6 +212,7 @@ pub fn stamp_in(row: &Row, at: usize) -> Result<Stamp, DecodeError>
     Stamp::new(number_in(row, at)?).ok_or(DecodeError::Form)
 }
 
+/// Reads a day.
 pub fn day_in(row: &Row, at: usize) -> Result<Day, DecodeError>
     ensures value { IfOk result (λ day. column row.now at ≡ Int (pos day)) }
     ensures form { result ≡ Err Formless → at < length row.now → day_cell (column row.now at) ≡ false }
@@ -206,7 +220,7 @@ pub fn day_in(row: &Row, at: usize) -> Result<Day, DecodeError>
     Day::new(value_in(row, at)?).ok_or(DecodeError::Form)
 }
 
-/// A stamp, or none where the column is null.
+/// Reads a stamp, or `None` if the column is null.
 pub fn maybe_stamp_in(row: &Row, at: usize) -> Result<Option<Stamp>, DecodeError>
     ensures value { IfOk result (λ stamp. column row.now at ≡ maybe stamp) }
     ensures form { result ≡ Err Formless → at < length row.now → last_cell (column row.now at) ≡ false }
@@ -218,7 +232,7 @@ pub fn maybe_stamp_in(row: &Row, at: usize) -> Result<Option<Stamp>, DecodeError
     Ok(Some(Stamp::new(millis).ok_or(DecodeError::Form)?))
 }
 
-/// A price, or none where the column is null.
+/// Reads a price, or `None` if the column is null.
 pub fn maybe_price_in(row: &Row, at: usize) -> Result<Option<Price>, DecodeError>
     ensures value { IfOk result (λ price. column row.now at ≡ maybe price) }
     ensures form { result ≡ Err Formless → at < length row.now → maybe_cell is_price (column row.now at) ≡ false }
@@ -230,6 +244,7 @@ pub fn maybe_price_in(row: &Row, at: usize) -> Result<Option<Price>, DecodeError
     Ok(Some(Price::new(cents).ok_or(DecodeError::Form)?))
 }
 
+/// Reads a tax status by its number.
 pub fn tax_status_in(row: &Row, at: usize) -> Result<TaxStatus, DecodeError>
     ensures value { IfOk result (λ tax_status. column row.now at ≡ Int (pos (tax_status_number tax_status))) }
     ensures form { result ≡ Err Formless → at < length row.now → tax_status_cell (column row.now at) ≡ false }
@@ -237,7 +252,7 @@ pub fn tax_status_in(row: &Row, at: usize) -> Result<TaxStatus, DecodeError>
     TaxStatus::from_number(natural_in(row, at)?).ok_or(DecodeError::Form)
 }
 
-/// 1 as true and 0 as false.
+/// Reads a flag: 1 as true and 0 as false.
 pub fn flag_in(row: &Row, at: usize) -> Result<bool, DecodeError>
     ensures value { IfOk result (λ is. column row.now at ≡ flag is) }
     ensures form { result ≡ Err Formless → at < length row.now → flag_cell (column row.now at) ≡ false }
@@ -249,7 +264,7 @@ pub fn flag_in(row: &Row, at: usize) -> Result<bool, DecodeError>
     }
 }
 
-/// The type of trade whose code the column is.
+/// Reads a trade type by its code.
 pub fn type_in(row: &Row, at: usize) -> Result<TradeType, DecodeError>
     ensures value { IfOk result (λ kind. column row.now at ≡ Text (type_code kind)) }
     ensures form { result ≡ Err Formless → at < length row.now → type_cell (column row.now at) ≡ false }
@@ -257,14 +272,14 @@ pub fn type_in(row: &Row, at: usize) -> Result<TradeType, DecodeError>
     parse_type(bytes_in(row, at)?).ok_or(DecodeError::Form)
 }
 
-// Whether the bytes are the code of a status.
+// Returns true if the bytes are the code of the status.
 fn is_code_of(status: Status, bytes: &[u8]) -> bool
     ensures { result ≡ bytes_eq (status_code status) bytes.now }
 {
     status.code().as_bytes() == bytes
 }
 
-// The status whose code the bytes are.
+// Returns the status with this code, or `None` if no status has it.
 fn parse_status(bytes: &[u8]) -> Option<Status>
     ensures { MatchOption result (is_status bytes.now ≡ false) (λ status. status_code status ≡ bytes.now) }
 {
@@ -286,7 +301,7 @@ fn parse_status(bytes: &[u8]) -> Option<Status>
     None
 }
 
-/// The status whose code the column is.
+/// Reads a status by its code.
 pub fn status_in(row: &Row, at: usize) -> Result<Status, DecodeError>
     ensures value { IfOk result (λ status. column row.now at ≡ Text (status_code status)) }
     ensures form { result ≡ Err Formless → at < length row.now → status_cell (column row.now at) ≡ false }
@@ -294,14 +309,14 @@ pub fn status_in(row: &Row, at: usize) -> Result<Status, DecodeError>
     parse_status(bytes_in(row, at)?).ok_or(DecodeError::Form)
 }
 
-// Whether the bytes are the word of a way to settle.
+// Returns true if the bytes are the text of the cash type.
 fn is_word_of(kind: CashType, bytes: &[u8]) -> bool
     ensures { result ≡ bytes_eq (cash_type_word kind) bytes.now }
 {
     kind.word().as_bytes() == bytes
 }
 
-// The way to settle whose word the bytes are.
+// Returns the cash type with this text, or `None` if no cash type has it.
 fn parse_cash_type(bytes: &[u8]) -> Option<CashType>
     ensures { MatchOption result (is_cash_word bytes.now ≡ false) (λ kind. cash_type_word kind ≡ bytes.now) }
 {
@@ -320,7 +335,7 @@ fn parse_cash_type(bytes: &[u8]) -> Option<CashType>
     None
 }
 
-/// How a trade is settled, by its word in the column.
+/// Reads a cash type by its text.
 pub fn cash_type_in(row: &Row, at: usize) -> Result<CashType, DecodeError>
     ensures value { IfOk result (λ kind. column row.now at ≡ Text (cash_type_word kind)) }
     ensures form { result ≡ Err Formless → at < length row.now → words_cell is_cash_word (column row.now at) ≡ false }

@@ -7,12 +7,12 @@ use brk_money::Fault;
 use sqlite::{Error, ErrorCode};
 use std::alloc::{AllocError, AllocFailed};
 
-/// Why a row shows no record.
+/// The reason why a row could not be decoded.
 #[derive(Clone, Copy)]
 pub enum DecodeError {
-    /// A column breaks its form, or there are too many or too few.
+    /// A column is malformed, or the number of columns is wrong.
     Form,
-    /// Memory was refused.
+    /// Out of memory.
     Memory,
 }
 
@@ -38,7 +38,7 @@ impl<T: Drop> From<AllocFailed<T>> for DecodeError {
     }
 }
 
-/// A store in order has no such row.
+/// Every decoding error becomes the fault `Store`. A consistent store has no malformed row.
 impl From<DecodeError> for Fault {
     ghost from_gives = { λ _ fault. fault ≡ Store };
 
@@ -47,7 +47,7 @@ impl From<DecodeError> for Fault {
     }
 }
 
-/// What an error of a read says of the row.
+/// Converts an error of a read: `Memory` if the database was out of memory, otherwise `Form`.
 pub(crate) fn decode_error_by(error: Error) -> DecodeError
     ensures { result ≡ DecodeError.Form → error ≢ Error.SqliteFailure ErrorCode.OutOfMemory }
 {

@@ -16,7 +16,7 @@ use brk_money::Fault;
 use brk_ref::{Kept, Key};
 use sqlite::{Alter, Row, Transaction};
 
-/// Adds an accepted row, whose key is new.
+/// Inserts an accepted row, whose key is new. Fails with `Store` only.
 pub fn add_kept<S: Alter>(tx: &mut Transaction<'_, S>, kept: &Kept) -> Result<(), Fault>
     ensures same_reference { tx.new.conn.ghost_name ≡ tx.old.conn.ghost_name }
     ensures step { Writes S.Store tx.old tx.new result (with_kept (kept_of kept.now)) }
@@ -53,7 +53,7 @@ impl Record for Kept {
     }
 }
 
-/// The row that is kept under a key.
+/// Returns the accepted row with this key, or `None` if there is none. Fails with `Store` only.
 pub fn kept_by_key<S: Alter>(tx: &mut Transaction<'_, S>, key: &Key) -> Result<Option<Kept>, Fault>
     ensures same_reference { tx.new.conn.ghost_name ≡ tx.old.conn.ghost_name }
     ensures step { Finds S.Store tx.old tx.new result KeptRows kept_of (λ k. bytes_eq k.key.batch key.now.batch && (k.key.row == key.now.row)) }

@@ -1,6 +1,8 @@
-//! The form of the tables of a brokerage over SQL: their shapes, how a value is bound and a column read, and the desk's own
-//! rows. Each call is made within an open transaction. An error that the database answers, and a row that breaks
-//! its form, are the fault `Store`.
+//! The schema of a brokerage in SQL: the shapes of the tables, the binding of values, the decoding
+//! of columns, and the desk's own rows.
+//!
+//! Each call is made within an open transaction. An error of the database and a malformed row are
+//! reported as the fault `Store`.
 #![tactic(auto)]
 
 pub mod calls;

@@ -1,4 +1,4 @@
-//! Rows of a table as records.
+//! Rows of a table as typed records.
 
 ghost use Rattle.std.specs.Prelude.{◌≡◌, Bool, Err, IfErr, IfOk, List, OnErr, false, map, option_map, slice_get};
 ghost use Rattle.std.specs.List.{list_all};
@@ -14,21 +14,22 @@ use brk_money::Fault;
 use sqlite::Row;
 use std::alloc::Global;
 
-/// What a row of a table is in types.
+/// A typed record of a row of a table.
 pub trait Record: Drop {
-    /// The row that shows it.
+    /// The row that represents the record.
     ghost cells: { Self → Cells };
 
-    /// The forms of its columns.
+    /// The checks of its columns.
     ghost forms: { List (Value → Bool) };
 
-    /// The record that a row shows.
+    /// Decodes a row. Fails with `Form` only if a column is malformed or the number of columns is
+    /// wrong.
     fn from_row(row: &Row) -> Result<Self, DecodeError>
         ensures value { IfOk result (λ r. cells r ≡ row.now) }
         ensures form { result ≡ Err Formless → all_formed forms row.now ≡ false };
 }
 
-/// The first of the rows, where there is one.
+/// Decodes the first row, or returns `None` if there is none. Fails with `Store` only.
 pub fn first_row<T: Record>(rows: &[Row]) -> Result<Option<T>, Fault>
     ensures value { IfOk result (λ o. option_map T.cells o ≡ slice_get rows.now 0) }
     ensures fault { OnErr result (result ≡ Err Store) }
@@ -39,7 +40,7 @@ pub fn first_row<T: Record>(rows: &[Row]) -> Result<Option<T>, Fault>
     }
 }
 
-/// All of the rows.
+/// Decodes all rows.
 pub fn all_rows<T: Record>(alloc: Global, rows: &[Row]) -> Result<Vec<T>, Fault>
     ensures value { IfOk result (λ all. map T.cells all.items ≡ rows.now) }
     ensures fault { IfErr result MayFail }
@@ -51,7 +52,7 @@ pub fn all_rows<T: Record>(alloc: Global, rows: &[Row]) -> Result<Vec<T>, Fault>
     }
 }
 
-/// All of the rows, where each shows a record.
+/// Decodes all rows. Fails with `Form` only if one of them is malformed.
 #[tactic(auto, using(crate::proofs::Unformed::not_all))]
 pub fn all_records<T: Record>(alloc: Global, rows: &[Row]) -> Result<Vec<T>, DecodeError>
     ensures value { IfOk result (λ all. map T.cells all.items ≡ rows.now) }

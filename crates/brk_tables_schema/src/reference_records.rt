@@ -1,4 +1,4 @@
-//! What a row of reference data is in types, column by column.
+//! The decoding of the rows of reference data, column by column.
 
 ghost use Rattle.brk_ref.specs.Records.{account_row_of, band_of, broker_row_of, charge_of, customer_of, customer_tax_of, permission_of, security_of, tax_of};
 ghost use Rattle.brk_tables_schema.specs.Cells.{account_cells, band_cells, broker_cells, charge_cells, customer_cells, customer_tax_cells, permission_cells, security_cells, tax_rate_cells};

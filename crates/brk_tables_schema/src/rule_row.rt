@@ -11,6 +11,7 @@ use crate::decode_error::DecodeError;
 use brk_money::Day;
 use sqlite::Row;
 
+// Decodes the day in a row of SETTLE_RULE.
 fn day_of_row(row: &Row) -> Result<Day, DecodeError>
     ensures value { IfOk result (λ day. map rule_cells (rule_rows (Some day)) ≡ row.now ∷ []) }
     ensures form { result ≡ Err Formless → all_formed rule_forms row.now ≡ false }
@@ -22,7 +23,7 @@ fn day_of_row(row: &Row) -> Result<Day, DecodeError>
     day_in(row, 1)
 }
 
-/// The day in the one row of SETTLE_RULE, where there is one.
+/// Decodes the day in the one row of SETTLE_RULE, or returns `None` if there is no row.
 pub fn day_in_rows(rows: &[Row]) -> Result<Option<Day>, DecodeError>
     ensures value { IfOk result (λ day. map rule_cells (rule_rows day) ≡ rows.now) }
     ensures form { result ≡ Err Formless → is_rule rows.now ≡ false }

@@ -1,4 +1,4 @@
-//! What a row of trades and of what follows from them is in types, column by column.
+//! The decoding of the rows of trades, holdings, settlements and cash, column by column.
 
 ghost use Rattle.std.specs.Prelude.{◌∷◌, []};
 ghost use Rattle.brk_ref.specs.Records.{last_trade_of};

@@ -1,17 +1,17 @@
--- Lots read by pages.
+-- The lots of an account in a security, read page by page.
 use Rattle.std.specs.Prelude.{ℕ, ◌==◌, ◌&&◌, List, bytes_eq, drop, filter, take}
 use Rattle.brk_money.specs.Spelling.{Text}
 use Rattle.brk_model.specs.Tables.{Tables, HoldingRow}
 use Rattle.brk_changes.specs.Rows.{oldest_lots_first}
 
--- how many rows a page has, unless it is the last
+-- The number of rows of a page. The last page may have fewer.
 abbrev pub page_size : ℕ
 page_size = 16
 
--- the page of a list behind so many
+-- The page of a list after the first `skipped` elements.
 abbrev pub on_page : {X : Type 0} → ℕ → List X → List X
 on_page skipped xs = take page_size (drop skipped xs)
 
--- the lots of an account in a security, the oldest first
+-- The lots of an account in a security, the oldest first.
 abbrev pub lots_held : ℕ → Text → Tables → List HoldingRow
 lots_held account symbol t = oldest_lots_first (filter (λ r. (r.account == account) && bytes_eq r.symbol symbol) t.holdings)

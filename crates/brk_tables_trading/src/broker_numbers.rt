@@ -9,7 +9,7 @@ use brk_tables_schema::calls::run;
 use brk_tables_schema::values::{amount_value, id_value, number_value};
 use sqlite::{Alter, Transaction};
 
-/// Sets the number of a broker's completed trades and the sum of their commissions.
+/// Sets a broker's totals: the number of its completed trades and the sum of their commissions.
 pub fn set_broker_numbers<S: Alter>(
     tx: &mut Transaction<'_, S>,
     broker: Id,

@@ -10,7 +10,7 @@ use brk_tables_schema::calls::run;
 use brk_tables_schema::values::{id_value, stamp_value, status_value};
 use sqlite::{Alter, Transaction};
 
-/// Adds a status that a trade came to, which it did not have yet.
+/// Inserts a status that a trade reached, which it did not have before.
 pub fn add_trade_history<S: Alter>(
     tx: &mut Transaction<'_, S>,
     mark: &HistoryRow,

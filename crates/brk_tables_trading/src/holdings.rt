@@ -1,4 +1,4 @@
-//! What accounts hold: their lots, and how many shares of each security in all.
+//! The holdings of accounts: their lots, and the number of shares of each security in all.
 
 ghost use Rattle.std.specs.Prelude.{◌≡◌, ◌==◌, ◌&&◌, Err, IfErr, OnErr, bytes_eq, map, pos, reverse};
 ghost use Rattle.sqlite_value.specs.Value.{owned};
@@ -20,15 +20,16 @@ use sqlite::{Alter, Transaction};
 use sqlite_value::value::ValueRef;
 use std::alloc::Global;
 
-// How many rows are passed over.
+// Converts the number of rows to skip to a parameter.
 fn skip_value<'a>(skipped: u32) -> ValueRef<'a>
     ensures { owned result ≡ Int (pos skipped) }
 {
     ValueRef::Int(skipped as i64)
 }
 
-/// A page of the lots of an account in a security: at most 16, behind so many, by the moment of opening and then by
-/// trade, the oldest first.
+/// Returns a page of the lots of an account in a security: at most 16 lots after the first
+/// `skipped`, sorted by stamp of opening and then by trade, the oldest first. Fails with `Memory`
+/// or `Store`.
 pub fn oldest_lots<S: Alter>(
     tx: &mut Transaction<'_, S>,
     alloc: Global,
@@ -52,7 +53,9 @@ pub fn oldest_lots<S: Alter>(
     all_rows(alloc, &rows)
 }
 
-/// The same, the newest first.
+/// Returns a page of the lots of an account in a security: at most 16 lots after the first
+/// `skipped`, sorted by stamp of opening and then by trade, the newest first. Fails with `Memory`
+/// or `Store`.
 pub fn newest_lots<S: Alter>(
     tx: &mut Transaction<'_, S>,
     alloc: Global,
@@ -76,7 +79,8 @@ pub fn newest_lots<S: Alter>(
     all_rows(alloc, &rows)
 }
 
-/// How many shares an account holds of each security, by rising symbol.
+/// Returns the number of shares that an account holds of each security, sorted by symbol,
+/// ascending. Fails with `Memory` or `Store`.
 pub fn summaries_of<S: Alter>(
     tx: &mut Transaction<'_, S>,
     alloc: Global,
@@ -94,7 +98,7 @@ pub fn summaries_of<S: Alter>(
     all_rows(alloc, &rows)
 }
 
-/// How many shares an account holds of a security, where it holds some.
+/// Returns the number of shares that an account holds of a security, or `None` if there is no row.
 pub fn summary_of<S: Alter>(
     tx: &mut Transaction<'_, S>,
     account: Id,

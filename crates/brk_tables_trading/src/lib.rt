@@ -1,8 +1,9 @@
-//! The statements on trades, their history, the requests of those that wait, last trades on the market, lots and what trades made
-//! of them, what accounts hold in all, settlements, balances, brokers' numbers and words that are corrected: one
-//! function for each. Each
-//! is called within an open transaction. An error that the database answers, and a row that breaks its form, are the fault
-//! `Store`.
+//! The SQL statements on trades and on the rows that follow from them, one function for each. They
+//! cover history, requests, last trades, lots and their changes, summaries, settlements, balances,
+//! broker totals and text updates.
+//!
+//! Each function is called within an open transaction. An error of the `sqlite` crate and a
+//! malformed row are reported as the fault `Store`.
 #![tactic(auto)]
 
 pub mod balances;

@@ -1,4 +1,5 @@
-//! What views of an account's trades show: its last trades, and when they came to their statuses.
+//! The trades of an account for its views: the last ones, and the stamps at which they reached
+//! their statuses.
 
 ghost use Rattle.std.specs.Prelude.{◌≡◌, ◌==◌, IfErr, map, take};
 ghost use Rattle.brk_model.specs.Joins.{recent_first, trades_in};
@@ -15,7 +16,8 @@ use brk_tables_schema::values::id_value;
 use sqlite::{Alter, Transaction};
 use std::alloc::Global;
 
-/// The last ten trades of an account, the most recent first.
+/// Returns the last ten trades of an account, the most recent first. Fails with `Memory` or
+/// `Store`.
 pub fn last_ten_of_account<S: Alter>(
     tx: &mut Transaction<'_, S>,
     alloc: Global,
@@ -33,7 +35,8 @@ pub fn last_ten_of_account<S: Alter>(
     all_rows(alloc, &rows)
 }
 
-/// The last fifty trades of an account, the most recent first.
+/// Returns the last fifty trades of an account, the most recent first. Fails with `Memory` or
+/// `Store`.
 pub fn last_fifty_of_account<S: Alter>(
     tx: &mut Transaction<'_, S>,
     alloc: Global,
@@ -51,7 +54,8 @@ pub fn last_fifty_of_account<S: Alter>(
     all_rows(alloc, &rows)
 }
 
-/// When a trade came to its statuses, by the codes of these.
+/// Returns the statuses that a trade reached, sorted by code, ascending. Fails with `Memory` or
+/// `Store`.
 pub fn history_of<S: Alter>(
     tx: &mut Transaction<'_, S>,
     alloc: Global,

@@ -1,4 +1,4 @@
-//! The lots of accounts, and what trades made of them.
+//! The lots of accounts, and their changes by trades.
 
 ghost use Rattle.std.specs.Prelude.{◌≡◌, Err, OnErr};
 ghost use Rattle.brk_money.specs.declared.fault.Fault.TheVariants.{Store};
@@ -12,7 +12,7 @@ use brk_tables_schema::calls::run;
 use brk_tables_schema::values::{id_value, number_value, price_value, stamp_value, text_value};
 use sqlite::{Alter, Transaction};
 
-/// Adds the lot that a trade opened, which has none yet.
+/// Inserts the lot that a trade opened, which has none yet.
 pub fn add_lot<S: Alter>(tx: &mut Transaction<'_, S>, lot: &HoldingRow) -> Result<(), Fault>
     ensures same_reference { tx.new.conn.ghost_name ≡ tx.old.conn.ghost_name }
     ensures step { Writes S.Store tx.old tx.new result (with_lot (holding_row_of lot.now)) }
@@ -45,7 +45,7 @@ pub fn set_lot<S: Alter>(tx: &mut Transaction<'_, S>, trade: Id, qty: i64) -> Re
     )
 }
 
-/// Takes the lot that a trade opened away.
+/// Deletes the lot that a trade opened.
 pub fn remove_lot<S: Alter>(tx: &mut Transaction<'_, S>, trade: Id) -> Result<(), Fault>
     ensures same_reference { tx.new.conn.ghost_name ≡ tx.old.conn.ghost_name }
     ensures step { Writes S.Store tx.old tx.new result (without_lot trade) }
@@ -58,7 +58,7 @@ pub fn remove_lot<S: Alter>(tx: &mut Transaction<'_, S>, trade: Id) -> Result<()
     )
 }
 
-/// Adds what a trade made of a lot, of which it has made nothing yet.
+/// Inserts the change of a lot by a trade, which has not changed the lot yet.
 pub fn add_lot_change<S: Alter>(
     tx: &mut Transaction<'_, S>,
     change: &LotChange,

@@ -1,4 +1,4 @@
-//! What completed trades settle for.
+//! The settlements of completed trades.
 
 ghost use Rattle.std.specs.Prelude.{◌≡◌, Err, OnErr};
 ghost use Rattle.brk_money.specs.declared.fault.Fault.TheVariants.{Store};
@@ -12,7 +12,7 @@ use brk_tables_schema::calls::run;
 use brk_tables_schema::values::{cash_type_value, cents_value, day_value, id_value};
 use sqlite::{Alter, Transaction};
 
-/// Adds what a trade settles for, which is not settled yet.
+/// Inserts the settlement of a trade, which has none yet.
 pub fn add_settlement<S: Alter>(
     tx: &mut Transaction<'_, S>,
     settlement: &SettlementRow,

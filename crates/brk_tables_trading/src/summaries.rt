@@ -1,4 +1,4 @@
-//! How many shares of each security accounts hold in all.
+//! The number of shares of each security that accounts hold in all.
 
 ghost use Rattle.std.specs.Prelude.{◌≡◌, Err, OnErr};
 ghost use Rattle.brk_money.specs.declared.fault.Fault.TheVariants.{Store};
@@ -13,7 +13,7 @@ use brk_tables_schema::calls::run;
 use brk_tables_schema::values::{id_value, number_value, text_value};
 use sqlite::{Alter, Transaction};
 
-/// Adds how many shares of a security an account holds, which has no such row yet.
+/// Inserts the number of shares of a security that an account holds, which has no such row yet.
 pub fn add_summary<S: Alter>(tx: &mut Transaction<'_, S>, summary: &SummaryRow) -> Result<(), Fault>
     ensures same_reference { tx.new.conn.ghost_name ≡ tx.old.conn.ghost_name }
     ensures step { Writes S.Store tx.old tx.new result (with_summary (summary_row_of summary.now)) }
@@ -30,7 +30,7 @@ pub fn add_summary<S: Alter>(tx: &mut Transaction<'_, S>, summary: &SummaryRow) 
     )
 }
 
-/// Sets how many shares of a security an account holds, by the account and the symbol.
+/// Sets the number of shares of a security that an account holds.
 pub fn set_summary<S: Alter>(tx: &mut Transaction<'_, S>, summary: &SummaryRow) -> Result<(), Fault>
     ensures same_reference { tx.new.conn.ghost_name ≡ tx.old.conn.ghost_name }
     ensures step { Writes S.Store tx.old tx.new result (with_summary_set (summary_row_of summary.now)) }
@@ -47,7 +47,7 @@ pub fn set_summary<S: Alter>(tx: &mut Transaction<'_, S>, summary: &SummaryRow) 
     )
 }
 
-/// Takes the row of an account's shares of a security away.
+/// Deletes the row of an account's shares of a security.
 pub fn remove_summary<S: Alter>(
     tx: &mut Transaction<'_, S>,
     account: Id,

@@ -1,4 +1,4 @@
-//! Words of trades that are corrected: the trades that are chosen for it, what tells their words, and the words set anew.
+//! Text updates of trades: the reads of the selected trades and of their texts, and the writes.
 
 ghost use Rattle.std.specs.Prelude.{◌≡◌, ◌==◌, Err, IfErr, OnErr, map};
 ghost use Rattle.brk_money.specs.declared.fault.Fault.TheVariants.{Store};
@@ -20,7 +20,8 @@ use brk_tables_schema::values::{
 use sqlite::{Alter, Transaction};
 use std::alloc::Global;
 
-/// The first twenty trades of an account that were completed between two stamps, the oldest first.
+/// Returns the first twenty trades of an account that were completed between two stamps, both
+/// included, the oldest first. Fails with `Memory` or `Store`.
 pub fn completed_of_account<S: Alter>(
     tx: &mut Transaction<'_, S>,
     alloc: Global,
@@ -45,7 +46,8 @@ pub fn completed_of_account<S: Alter>(
     all_rows(alloc, &rows)
 }
 
-/// The first twenty trades in cash of a symbol that were completed between two stamps, the oldest first.
+/// Returns the first twenty cash trades of a symbol that were completed between two stamps, both
+/// included, the oldest first. Fails with `Memory` or `Store`.
 pub fn completed_cash_of_symbol<S: Alter>(
     tx: &mut Transaction<'_, S>,
     alloc: Global,
@@ -71,7 +73,7 @@ pub fn completed_cash_of_symbol<S: Alter>(
     all_rows(alloc, &rows)
 }
 
-/// What a trade settles for.
+/// Returns the settlement of a trade, or `None` if it has none.
 pub fn settlement_by_trade<S: Alter>(
     tx: &mut Transaction<'_, S>,
     trade: Id,
@@ -105,7 +107,7 @@ pub fn set_executor<S: Alter>(
     )
 }
 
-/// Sets the word for how a trade is settled.
+/// Sets the text for how a trade is settled.
 pub fn set_cash_type<S: Alter>(
     tx: &mut Transaction<'_, S>,
     trade: Id,

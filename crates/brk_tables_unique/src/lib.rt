@@ -1,4 +1,4 @@
-//! What a database's rows say of its tables. There is no code to call.
+//! Theorems on the tables that the rows of a database encode. This crate has no run-time code.
 #![tactic(auto)]
 
 pub mod exact;

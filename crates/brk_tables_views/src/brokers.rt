@@ -1,4 +1,4 @@
-//! Brokers by their names, which more than one may have, and the requests of a broker.
+//! Brokers by name, which several brokers may share, and the requests of a broker.
 
 ghost use Rattle.std.specs.Prelude.{◌≡◌, ◌==◌, IfErr, bytes_eq};
 ghost use Rattle.brk_model.specs.Run.{MayFail};
@@ -16,7 +16,7 @@ use brk_tables_schema::values::{id_value, text_value};
 use sqlite::{Alter, Transaction};
 use std::alloc::Global;
 
-/// The brokers with a name, by rising id.
+/// Returns the brokers with this name, sorted by id, ascending. Fails with `Memory` or `Store`.
 pub fn brokers_named<S: Alter>(
     tx: &mut Transaction<'_, S>,
     alloc: Global,
@@ -34,7 +34,7 @@ pub fn brokers_named<S: Alter>(
     all_rows(alloc, &rows)
 }
 
-/// The requests of a broker, by rising trade.
+/// Returns the requests of a broker, sorted by trade, ascending. Fails with `Memory` or `Store`.
 pub fn requests_of_broker<S: Alter>(
     tx: &mut Transaction<'_, S>,
     alloc: Global,

@@ -1,6 +1,8 @@
-//! The statements that only views ask: trades of any status by their moments, what trades made of lots, brokers by their names and
-//! the requests of a broker: one function for each. Each is called within an open transaction. An error that the database answers,
-//! and a row that breaks its form, are the fault `Store`.
+//! The SQL statements that only views execute, one function for each: trades of any status by
+//! stamp, lot changes, brokers by name, and the requests of a broker.
+//!
+//! Each function is called within an open transaction. An error of the `sqlite` crate and a
+//! malformed row are reported as the fault `Store`.
 #![tactic(auto)]
 
 pub mod brokers;

@@ -1,4 +1,4 @@
-//! What trades made of lots: rows of HOLDING_HISTORY in the order of their key, by lot and then by trade.
+//! Lot changes: rows of HOLDING_HISTORY, sorted by lot and then by trade.
 
 ghost use Rattle.std.specs.Prelude.{◌≡◌, ◌==◌, IfErr};
 ghost use Rattle.brk_model.specs.Run.{MayFail};
@@ -14,7 +14,8 @@ use brk_tables_schema::values::id_value;
 use sqlite::{Alter, Transaction};
 use std::alloc::Global;
 
-/// What a trade made of the lots that it touched.
+/// Returns the changes of lots by a trade, sorted by lot, ascending. Fails with `Memory` or
+/// `Store`.
 pub fn changes_by<S: Alter>(
     tx: &mut Transaction<'_, S>,
     alloc: Global,
@@ -32,7 +33,8 @@ pub fn changes_by<S: Alter>(
     all_rows(alloc, &rows)
 }
 
-/// What trades made of the lot that a trade opened.
+/// Returns the changes of the lot that a trade opened, sorted by trade, ascending. Fails with
+/// `Memory` or `Store`.
 pub fn changes_of<S: Alter>(
     tx: &mut Transaction<'_, S>,
     alloc: Global,

@@ -1,4 +1,4 @@
-//! Trades of any status by the moments at which they came to their last one.
+//! Trades of any status, by the stamp at which they reached it.
 
 ghost use Rattle.std.specs.Prelude.{◌≡◌, ◌==◌, ◌&&◌, Err, IfErr, OnErr, bytes_eq, filter, map, nat_le, option_map, option_to_list, take};
 ghost use Rattle.brk_money.specs.declared.fault.Fault.TheVariants.{Store};
@@ -17,7 +17,8 @@ use brk_tables_schema::values::{id_value, stamp_value, text_value};
 use sqlite::{Alter, Transaction};
 use std::alloc::Global;
 
-/// The first twenty trades of an account between two stamps, both included, the oldest first.
+/// Returns the first twenty trades of an account between two stamps, both included, the oldest
+/// first. Fails with `Memory` or `Store`.
 pub fn twenty_of_account<S: Alter>(
     tx: &mut Transaction<'_, S>,
     alloc: Global,
@@ -37,7 +38,8 @@ pub fn twenty_of_account<S: Alter>(
     all_rows(alloc, &rows)
 }
 
-/// The first twenty trades in a security between two stamps, both included, the oldest first.
+/// Returns the first twenty trades in a security between two stamps, both included, the oldest
+/// first. Fails with `Memory` or `Store`.
 pub fn twenty_of_symbol<S: Alter>(
     tx: &mut Transaction<'_, S>,
     alloc: Global,
@@ -61,7 +63,8 @@ pub fn twenty_of_symbol<S: Alter>(
     all_rows(alloc, &rows)
 }
 
-/// The oldest trade of an account at or after a stamp.
+/// Returns the oldest trade of an account at or after the stamp `first`, or `None` if there is
+/// none.
 pub fn first_since<S: Alter>(
     tx: &mut Transaction<'_, S>,
     account: Id,

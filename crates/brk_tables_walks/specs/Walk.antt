@@ -1,4 +1,4 @@
--- What a walk over the rows of a query comes to.
+-- The outcome of a walk over the rows of a query.
 use Rattle.std.specs.Prelude.{◌≡◌, ◌⊎◌, ℕ, List, [], ◌∷◌, ◌++◌, Ok, None, map, IsTrue}
 use Rattle.std.specs.List.{FoldsTo}
 use Rattle.sqlite_schema.specs.declared.schema.Schema.{Schema}
@@ -10,25 +10,26 @@ use Rattle.brk_model.specs.Run.{MayFail}
 use Rattle.brk_tables_walks.specs.declared.walking.WalkError.{WalkError}
 use Rattle.brk_tables_walks.specs.declared.walking.WalkError.TheVariants.{Failed, Cause}
 
--- whatever the schema is, it shows rows and changes none
+-- If the statement compiles, in whatever schema, it selects rows and writes none.
 abbrev pub IsQuery : List ℕ → Type 0
 IsQuery sql = (schema : Schema) (c : Compiled) → understood schema sql ≡ Ok c → c.returning ≡ None
 
 module _ {V X : Type 0} (cells : X → Row) (takes : V → X → V → Type 0) where
-  -- it took all records of an answer, in its order
+  -- The visitor took all records of the query's result, in order.
   pub record TakesAll (sql : List ℕ) (params : Row) (db : State) (old new : V) : Type 0 where
     pub records : List X
     pub is_open : IsTrue db.is_open
     pub shown : Shown sql params db db (map cells records)
     pub taken : FoldsTo takes old records new
 
-  -- it took the first records of an answer
+  -- The visitor took the first records of the query's result, possibly none.
   pub record TakesFirst (sql : List ℕ) (params : Row) (db : State) (old new : V) : Type 0 where
     pub records : List X
     pub begins : (records ≡ []) ⊎ (IsTrue db.is_open × Begins sql params db (map cells records))
     pub taken : FoldsTo takes old records new
 
-  -- it took the first records of an answer, and stopped at the next
+  -- The visitor took the first records of the query's result, in order, and stopped at the next
+  -- with the error `e`.
   pub record StopsAt {E : Type 0} (stops : V → X → E → V → Type 0) (sql : List ℕ) (params : Row) (db : State) (old : V) (e : E) (new : V) : Type 0 where
     pub records : List X
     pub next : X
@@ -38,7 +39,8 @@ module _ {V X : Type 0} (cells : X → Row) (takes : V → X → V → Type 0) w
     pub taken : FoldsTo takes old records at
     pub stopped : stops at next e new
 
-  -- it ended before the last: for want of memory, at the store, or where the visitor stopped
+  -- The walk ended before the last record: with the fault `Memory` or `Store`, or with the
+  -- visitor's error.
   abbrev pub EndsEarly : {E : Type 0} → (V → X → E → V → Type 0) → List ℕ → Row → State → V → V → WalkError E → Type 0
   EndsEarly stops sql params db old new (Failed fault) = MayFail fault × TakesFirst sql params db old new
   EndsEarly stops sql params db old new (Cause e) = StopsAt stops sql params db old e new

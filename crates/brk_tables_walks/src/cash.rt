@@ -1,4 +1,4 @@
-//! Cash rows of an account, one at a time.
+//! A walk over the cash rows of an account.
 
 ghost use Rattle.std.specs.Prelude.{◌≡◌, false};
 ghost use Rattle.brk_changes.specs.Rows.{move_row_of};
@@ -12,7 +12,11 @@ use brk_money::{Id, Stamp};
 use brk_tables_schema::values::{id_value, stamp_value};
 use sqlite::{Alter, Connection};
 
-/// Hands the cash rows of an account from one stamp to another, both included, to a visitor, by stamp, until it stops at one.
+/// Passes the cash rows of an account from the stamp `from` to `to`, both included, to the visitor,
+/// sorted by stamp and then by number.
+///
+/// Stops at the first error and returns it: `Failed` with `Memory` or `Store`, or the visitor's
+/// `Cause`. Returns `Ok` only after the last row. Writes nothing.
 pub fn walk_cash_between<S: Alter, E, V: Visitor<MoveRow, E>>(
     conn: &mut Connection<S>,
     account: Id,

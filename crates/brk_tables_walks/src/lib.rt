@@ -1,4 +1,5 @@
-//! Rows of an open query, handed out one at a time: the lots of an account, and cash rows by their stamps.
+//! Walks over the rows of an open query, one at a time: the lots of an account, and cash rows by
+//! stamp.
 #![tactic(auto)]
 
 pub mod cash;

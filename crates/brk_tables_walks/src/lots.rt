@@ -1,4 +1,4 @@
-//! The lots of an account, one at a time.
+//! A walk over the lots of an account.
 
 ghost use Rattle.std.specs.Prelude.{◌≡◌, false};
 ghost use Rattle.brk_changes.specs.Rows.{holding_row_of};
@@ -12,7 +12,11 @@ use brk_money::Id;
 use brk_tables_schema::values::id_value;
 use sqlite::{Alter, Connection};
 
-/// Hands the lots of an account to a visitor, by symbol and then by the moment of opening, until it stops at one.
+/// Passes the lots of an account to the visitor, sorted by symbol and then by stamp of opening, the
+/// oldest first.
+///
+/// Stops at the first error and returns it: `Failed` with `Memory` or `Store`, or the visitor's
+/// `Cause`. Returns `Ok` only after the last lot. Writes nothing.
 pub fn walk_lots<S: Alter, E, V: Visitor<HoldingRow, E>>(
     conn: &mut Connection<S>,
     account: Id,

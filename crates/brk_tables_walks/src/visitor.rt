@@ -1,20 +1,22 @@
 ghost use Rattle.std.specs.Prelude.{OnOk, IfErr};
 
-/// Is handed records, one after another.
+/// A receiver of records, one at a time.
 pub trait Visitor<R, E> {
-    /// It may be handed one.
+    /// The visitor is ready for a record.
     ghost ready: { Self → Type 0 };
 
-    /// What its calls may make of it, and of what it holds.
+    /// Relates the visitor to each state of it, and of the values that it holds, to which calls can
+    /// lead.
     ghost leads: { Self → Self → Type 0 };
 
-    /// What it may be after one that it takes.
+    /// Relates the visitor to its state after a record that it takes.
     ghost takes: { Self → R → Self → Type 0 };
 
-    /// What it may be where it stops: itself before, the record, why, itself after.
+    /// Relates the visitor before a record at which it stops, the record, the error, and the
+    /// visitor after it.
     ghost stops: { Self → R → E → Self → Type 0 };
 
-    /// Takes a record, or stops at it.
+    /// Takes a record, or returns the error with which the walk stops.
     fn visit(&mut self, item: &R) -> Result<(), E>
         requires ready { ready self.old }
         ensures ready { ready self.new }
@@ -22,9 +24,9 @@ pub trait Visitor<R, E> {
         ensures takes { OnOk result (takes self.old item.now self.new) }
         ensures stops { IfErr result (λ e. stops self.old item.now e self.new) };
 
-    /// No call leads nowhere.
+    /// A visitor is related to itself.
     ghost stays: { (p : Self) → leads p p };
 
-    /// A call after another leads on.
+    /// The relation is transitive.
     ghost goes_on: { (p q r : Self) → leads p q → leads q r → leads p r };
 }

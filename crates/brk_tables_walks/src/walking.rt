@@ -12,16 +12,16 @@ use brk_tables_schema::record::Record;
 use sqlite::{Alter, Connection, Row};
 use sqlite_value::value::ValueRef;
 
-/// Why a walk ended early.
+/// The reason why a walk ended early.
 #[derive(Debug, Drop)]
 pub enum WalkError<E> {
-    /// Want of memory, the database, or its disk.
+    /// A fault: out of memory, or an error of the database.
     Failed(Fault),
-    /// The visitor's own cause.
+    /// The visitor's own error.
     Cause(E),
 }
 
-// The record that a row shows.
+// Decodes the record in a row.
 fn record_in<R: Record>(row: &Row) -> Result<R, Fault>
     ensures value { IfOk result (λ r. R.cells r ≡ row.now) }
     ensures fault { IfErr result MayFail }
@@ -33,7 +33,8 @@ fn record_in<R: Record>(row: &Row) -> Result<R, Fault>
     }
 }
 
-/// Hands the records that the rows of a query show to a visitor, one at a time and in order, until it stops at one.
+/// Passes the records in the rows of a query to the visitor, in order, and stops at the first
+/// error, which it returns.
 pub fn walk<S: Alter, R: Record, E, V: Visitor<R, E>>(
     conn: &mut Connection<S>,
     sql: &str,
@@ -44,9 +45,10 @@ pub fn walk<S: Alter, R: Record, E, V: Visitor<R, E>>(
     requires ready { V.ready visitor.old }
     ensures ready { V.ready visitor.new }
     ensures leads { V.leads visitor.old visitor.new }
-    // At Ok it has taken all records of the answer, in its order.
+    // If it returns `Ok`, the visitor took all records of the result, in order.
     ensures all { HasCleanDisk (state S.Store conn.new) → OnOk result (TakesAll R.cells V.takes sql.now (bound params.now) (state S.Store conn.old) visitor.old visitor.new) }
-    // At its own cause it has taken those before the record at which it stopped, and else the first of them.
+    // At the visitor's error, it took the records before the one at which it stopped. Otherwise it
+    // took the first records, possibly none.
     ensures early { HasCleanDisk (state S.Store conn.new) → IfErr result (EndsEarly R.cells V.takes V.stops sql.now (bound params.now) (state S.Store conn.old) visitor.old visitor.new) }
     ensures same { HasCleanDisk (state S.Store conn.new) → OnOk result (IsUnchanged (state S.Store conn.old) (state S.Store conn.new)) }
     ensures kept { HasCleanDisk (state S.Store conn.new) → IsUnchanged (state S.Store conn.old) (state S.Store conn.new) ⊎ IsRolledBack (state S.Store conn.old) (state S.Store conn.new) }

@@ -1,4 +1,4 @@
--- What an order is estimated by.
+-- The terms of an order, from which it is estimated.
 use Rattle.std.specs.Prelude.{◌≡◌, ℕ, ◌+◌, ◌≤◌, Bool, List, length, pos, ◌-ℤ◌, Some, option_map, if◌then◌else◌}
 use Rattle.brk_money.specs.OrderTypes.{kind_of}
 use Rattle.brk_money.specs.Amounts.{commission, tax}
@@ -15,32 +15,33 @@ use Rattle.brk_lots.specs.Sources.{AreGiven}
 use Rattle.brk_lots.specs.declared.lot.Lot.{Lot}
 use Rattle.brk_lots.specs.declared.values.Values.{Values}
 
--- the tax on a gain, where the status bears one
+-- The tax on the realised gain, or 0 if gains are not taxed at the tax status.
 abbrev pub tax_at : TaxStatus → ℕ → Values → ℕ
 tax_at status rates values = if bears_tax status then tax (pos values.sell_value -ℤ pos values.buy_value) rates else 0
 
--- the commission of an order by its terms
+-- The commission of an order from its terms.
 abbrev pub commission_by : Terms → ℕ
 commission_by terms = commission terms.rate terms.qty terms.price
 
--- what an order is estimated by is what the base has
+-- The terms are those of the order in the base. They say nothing of `held`.
 pub record AreTerms (base : Base) (o : Order) (terms : Terms) : Type 0 where
   pub side : terms.side ≡ side_of (kind_of o.order_type)
   pub qty : terms.qty ≡ o.qty
   pub price : terms.price ≡ requested_price base o
   pub tax_status : terms.tax_status ≡ tax_status_in base.accounts o.account
   pub rates : terms.rates ≡ rates_of base (customer_of base o.account)
-  -- the rate of the band that was found
+  -- The rate is that of the band that the model finds.
   pub rate : option_map (λ b. b.rate) (band_with base (tier_of base o.account) (kind_of o.order_type) (exchange_of base o.symbol) o.qty) ≡ Some terms.rate
-  -- the charge that was found
+  -- The charge is the one that the model finds.
   pub charge : option_map (λ c. c.amount) (charge_with base (kind_of o.order_type) (tier_of base o.account)) ≡ Some terms.charge
   pub assets : terms.assets ≡ assets_of base o.account
 
--- an order by its terms as a deal
+-- The deal of an order with these terms.
 abbrev pub deal_by : Terms → (trade stamp : ℕ) → Bool → Deal
 deal_by terms trade stamp lifo = record { trade = trade; side = terms.side; qty = terms.qty; price = terms.price; stamp = stamp; is_lifo = lifo }
 
--- a source is asked for at most one lot more than the order would touch
+-- The source is asked for at most one lot more than the order would touch as a trade that opened
+-- none of the given lots.
 abbrev pub AsksFew : Terms → (List Lot → Type 0) → (before after : ℕ) → Type 0
 AsksFew terms given before after =
     (ls : List Lot) (trade stamp : ℕ) (lifo : Bool) → AreGiven given lifo ls → IsNew trade ls

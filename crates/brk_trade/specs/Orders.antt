@@ -1,4 +1,4 @@
--- Orders: what is tested, what they are estimated by, and what an accepted one comes to.
+-- Orders: their checks, their estimates, and the plan of an accepted one.
 use Rattle.std.specs.Prelude.{◌≡◌, ℕ, ◌+◌, Bool, not, nat_le, is_none, unwrap_or, if◌then◌else◌, pos, List, [], ◌∷◌, ◌++◌, map, Option, Some, None, option_to_list}
 use Rattle.std.specs.Option.{option_map_or}
 use Rattle.brk_trade.specs.Estimates.{AreTerms, commission_by}
@@ -36,17 +36,18 @@ use Rattle.brk_plans.specs.declared.reply.Reply.TheVariants.{Ordered}
 use Rattle.brk_changes.specs.declared.request_row.RequestRow.{RequestRow}
 use Rattle.brk_changes.specs.declared.trade_row.TradeRow.{TradeRow}
 
--- what an order is tested for, by what was found in the tables
+-- The checks of an order against the facts in the tables.
 abbrev pub order_tests : OrderFound → List Test
 order_tests found =
     (is_none found.account, NoAccount) ∷ (is_none found.last_price, NoSecurity) ∷ (not found.is_permitted, NotPermitted)
     ∷ (is_none found.charge, NoCharge) ∷ (is_none found.rate, NoRate) ∷ []
 
--- the price that the order asks for, and else the market's last price
+-- The price that the order asks for, or the last price if it asks for none.
 abbrev pub requested_price : Order → ℕ → ℕ
 requested_price order last = unwrap_or (price_asked order.order_type) last
 
--- what an order is estimated by; 0 and no tax stand for what was not found, and 0 shares for no summary
+-- The terms of an order. A fact that does not exist counts 0, as an account without tax, or as no
+-- shares held.
 abbrev pub terms_of : Order → OrderFound → Terms
 terms_of order found = record {
   side = side_of (kind_of order.order_type);
@@ -60,32 +61,33 @@ terms_of order found = record {
   held = unwrap_or found.summary (pos 0);
 }
 
--- what an order that nothing refuses is placed by, with what was found
+-- The order passes its checks, and `placement` has its terms and the broker of its account.
 pub record IsPlacement (order : Order) (found : OrderFound) (placement : Placement) : Type 0 where
   pub tested : first_refusal (order_tests found) ≡ None
   pub terms : placement.terms ≡ terms_of order found
   pub broker : placement.broker ≡ option_map_or (λ a. a.broker) found.account 0
 
--- the estimate by some terms over the lots that are given: of a base that has these terms, upon the shares that it has, it is that of the definitions
+-- The estimate from the terms and the given lots equals the model's estimate, in every base that
+-- has these terms and exactly the shares of these lots.
 abbrev pub IsEstimate : Terms → (List Lot → Type 0) → Estimate → Type 0
 IsEstimate terms given estimate =
     (base : Base) (o : model.Order) (ls : List Lot) → AreTerms base o terms → shares_in (completed base) o.account o.symbol ≡ shares_of ls
     → AreGiven given o.is_lifo ls → terms.held ≡ lots_total ls → estimate ≡ told (model_orders.estimate base o)
 
--- the estimate of an order that nothing refuses
+-- The order passes its checks, and the estimate is that of its terms (`IsEstimate`).
 pub record IsEstimated (order : Order) (found : OrderFound) (given : List Lot → Type 0) (estimate : Estimate) : Type 0 where
   pub accepted : first_refusal (order_tests found) ≡ None
   pub estimated : IsEstimate (terms_of order found) given estimate
 
--- an id has to be left for the trade; trades are numbered from 1 without a gap
+-- The check that an id is left for the trade. Trades are numbered from 1 without a gap.
 abbrev pub trades_test : Option ℕ → Test
 trades_test last = (nat_le greatest_id (unwrap_or last 0), Range limit.Trades)
 
--- the number of the next trade
+-- The number of the next trade.
 abbrev pub next_trade : Option ℕ → ℕ
 next_trade last = unwrap_or last 0 + 1
 
--- the row of a trade that an order makes by some terms, under these texts: no price, no tax yet
+-- The trade row of an order with these terms and texts: no price and no tax yet.
 abbrev pub row_named : Order → Terms → (trade stamp : ℕ) → (symbol executor : Text) → tables.TradeRow
 row_named order terms trade stamp symbol executor = record {
   id = trade;
@@ -105,30 +107,33 @@ row_named order terms trade stamp symbol executor = record {
   is_lifo = order.is_lifo;
 }
 
--- the row of a trade that an order makes by some terms
+-- The trade row of an order with these terms.
 abbrev pub trade_row : Order → Terms → (trade stamp : ℕ) → tables.TradeRow
 trade_row order terms trade stamp = row_named order terms trade stamp order.symbol (model_orders.executor_name (executor_of order.executor))
 
--- the request of the trade of an order that waits for its price, by the account's broker
+-- The request of the order's trade with the account's broker, or `None` if the order is a market
+-- order.
 abbrev pub request_row : Order → Terms → (broker trade : ℕ) → Option RequestRow
 request_row order terms broker trade =
     if is_market (kind_of order.order_type) then None
     else Some (record { trade = trade; kind = kind_of order.order_type; symbol = order.symbol; qty = order.qty; bid = terms.price; broker = broker })
 
--- the changes that add a trade: its row, its first status, its request if it waits, and the last stamp
+-- The row changes that add a trade: its row, its first status, its request if it has one, and the
+-- last stamp.
 abbrev pub changes_of : TradeRow → Option RequestRow → List Change
 changes_of row request =
     change.AddTrade row ∷ change.AddHistory (record { trade = row.id; status = row.status; stamp = row.stamp })
     ∷ map change.AddRequest (option_to_list request) ++ change.SetLast row.stamp ∷ []
 
--- the changes that an order makes by some terms
+-- The row changes are those of an order with these terms.
 pub record AreChanges (order : Order) (terms : Terms) (broker trade stamp : ℕ) (changes : List Change) : Type 0 where
   pub row : TradeRow
   pub added : trade_row_of row ≡ trade_row order terms trade stamp
   pub changed : changes ≡ changes_of row (request_row order terms broker trade)
 
--- the plan of an order that is accepted: its trade is added, with its first status, and with a request where it waits; the
--- last stamp is moved; its number, its status and what it is estimated at are told
+-- The plan adds the trade with its first status, and its request if it is pending, and sets the
+-- last stamp. Its reply has the stamp, the number, the status and the estimate. The order passes
+-- its checks.
 pub record IsOrdered (order : Order) (found : OrderFound) (given : List Lot → Type 0) (last : Option ℕ) (now : ℕ) (plan : Plan) : Type 0 where
   pub stamp : ℕ
   pub estimate : Estimate

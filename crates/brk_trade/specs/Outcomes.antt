@@ -1,4 +1,4 @@
--- What a result comes to for a trade that it completes, and what is tested of it.
+-- The figures of a result for the trade that it completes, and its checks.
 use Rattle.std.specs.Prelude.{ℕ, ◌+◌, ◌*◌, ◌&&◌, true, not, nat_lt, nat_abs, is_none, unwrap_or, if◌then◌else◌, ℤ, pos, ◌+ℤ◌, ◌-ℤ◌, List, [], ◌∷◌, ◌++◌, Option}
 use Rattle.std.specs.Option.{option_map_or}
 use Rattle.brk_trade.specs.Estimates.{tax_at}
@@ -19,72 +19,73 @@ use Rattle.brk_trade.specs.declared.outcome.ResultNumbers.{ResultNumbers}
 use Rattle.brk_trade.specs.declared.result_found.ResultFound.{ResultFound}
 use Rattle.brk_changes.specs.declared.trade_row.TradeRow.{TradeRow}
 
--- the greatest value of a trade, above which no commission and no tax of it is
+-- The greatest value of a trade in cents; no commission and no tax of a trade exceeds it.
 abbrev pub greatest_value : ℕ
 greatest_value = greatest_qty * greatest_price
 
--- a trade as it meets the lots of its account and symbol
+-- The trade as a deal with the lots of its account and symbol.
 abbrev pub deal_of : TradeRow → (price stamp : ℕ) → Deal
 deal_of t price stamp = record { trade = t.id; side = side_of t.kind; qty = t.qty; price = price; stamp = stamp; is_lifo = t.is_lifo }
 
--- how many shares of the symbol the account holds after the trade
+-- The number of shares of the symbol that the account holds after the trade, negative if sold
+-- short.
 abbrev pub summary_after : ResultFound → ℤ
 summary_after found = unwrap_or found.summary (pos 0) +ℤ signed (side_of found.trade.kind) found.trade.qty
 
--- the commission of the trade, by the band of now
+-- The commission of the trade, at the rate of its band.
 abbrev pub commission_at : ResultFound → ℕ → ℕ
 commission_at found price = commission (unwrap_or found.rate 0) found.trade.qty price
 
--- the tax on what the closed shares gained
+-- The tax on the realised gain of the closed shares.
 abbrev pub tax_upon : ResultFound → Values → ℕ
 tax_upon found values = tax_at found.account.tax_status found.rates values
 
--- the tax that is taken off what is settled, at one tax status alone
+-- The tax that is withheld from the settlement; 0 if the tax status withholds none.
 abbrev pub withheld : ResultFound → Values → ℕ
 withheld found values = if takes_tax_off found.account.tax_status then tax_upon found values else 0
 
--- what the trade settles for
+-- The settlement amount of the trade, negative if the account pays.
 abbrev pub amount_of : ResultFound → ℕ → Values → ℤ
 amount_of found price values =
     proceeds (side_of found.trade.kind) (found.trade.qty * price) -ℤ pos (found.trade.charge + commission_at found price + withheld found values)
 
--- the account's balance with an amount, which a trade on margin does not change
+-- The balance of the account plus the amount; a margin trade leaves it unchanged.
 abbrev pub balance_with : ResultFound → ℤ → ℤ
 balance_with found amount = if found.trade.is_cash then found.account.balance +ℤ amount else found.account.balance
 
--- the account's balance after the trade
+-- The balance of the account after the trade.
 abbrev pub balance_after : ResultFound → ℕ → Values → ℤ
 balance_after found price values = balance_with found (amount_of found price values)
 
--- the sum of the commissions of the broker after the trade
+-- The commission total of the broker after the trade.
 abbrev pub commissions_after : ResultFound → ℕ → ℕ
 commissions_after found price = found.broker.commissions + commission_at found price
 
--- what is tested before the lots are looked at
+-- The checks before the lots are read.
 abbrev pub first_tests : ResultFound → List Test
 first_tests found =
     (not (same_status found.trade.status Submitted), WrongStatus found.trade.status) ∷ (is_none found.rate, NoRate)
     ∷ (nat_lt greatest_summary (nat_abs (summary_after found)), Range limit.Summary) ∷ []
 
--- a stamp has to be left, and the day on which the trade settles has to be one
+-- The check that a later stamp is left, and that the settlement day is within the calendar.
 abbrev pub due_test : Option ℕ → Option ℕ → Test
 due_test rule stamp = (option_map_or (λ s. nat_lt last_day (due_after rule s)) stamp true, ClockEnd)
 
--- what is tested by the values of the shares that are closed
+-- The checks against the values of the closed shares.
 abbrev pub last_tests : ResultFound → ℕ → Values → Option ℕ → List Test
 last_tests found price values stamp =
     (found.trade.is_cash && nat_lt greatest_amount (nat_abs (balance_after found price values)), Range limit.Balance)
     ∷ (nat_lt greatest_amount (commissions_after found price), Range limit.Broker) ∷ due_test found.rule stamp ∷ []
 
--- what a result of a trade is tested for
+-- All checks of a result of a trade.
 abbrev pub result_tests : ResultFound → ℕ → Values → Option ℕ → List Test
 result_tests found price values stamp = first_tests found ++ last_tests found price values stamp
 
--- what the shares that are closed were bought for and sold for, neither of which is below 0
+-- The buy value and the sell value of the closed shares, as absolute values.
 abbrev pub values_in : Closing → Values
 values_in closing = record { buy_value = nat_abs closing.buy_value; sell_value = nat_abs closing.sell_value }
 
--- what a completion comes to
+-- The figures of a completion.
 abbrev pub outcome_of : ResultFound → ℕ → Values → ℕ → ResultNumbers
 outcome_of found price values stamp = record {
   stamp = stamp;

@@ -1,4 +1,4 @@
--- Results of submitted trades: the changes of a completion, and what a result comes to.
+-- Results of submitted trades: the row changes of a completion, and the plan of an accepted result.
 use Rattle.std.specs.Prelude.{◌≡◌, ℕ, ◌+◌, ◌≤◌, IfSome, Bool, false, ℤ, pos, if◌then◌else◌, List, [], ◌∷◌, ◌++◌, codes, decimal, length, flat_map, Option, Some, None, option_map, option_to_list, unwrap_or}
 use Rattle.brk_lots.specs.Values.{values_of}
 use Rattle.brk_lots.specs.Closing.{IsClosing}
@@ -34,44 +34,45 @@ use Rattle.brk_plans.specs.declared.reply.Completed.{Completed}
 use Rattle.brk_plans.specs.declared.reply.Reply.TheVariants as reply
 use Rattle.brk_changes.specs.declared.trade_row.TradeRow.{TradeRow}
 
--- a touched lot made smaller, or taken away where nothing is left of it
+-- The row change of a touched lot: it is reduced, or deleted if no share is left of it.
 abbrev pub lot_left : Touch → Change
 lot_left touch = if is_zero touch.after then change.RemoveLot touch.lot else change.SetLot touch.lot touch.after
 
--- the history of a lot that a trade touches
+-- The row change that adds the history row of a touched lot.
 abbrev pub lot_change : ℕ → Touch → Change
 lot_change trade touch = change.AddLotChange (record { lot = touch.lot; trade = trade; before = touch.before; after = touch.after })
 
--- the changes of a lot that a trade touches, with its history
+-- The row changes of a touched lot, with its history.
 abbrev pub touched_changes : ℕ → Touch → List Change
 touched_changes trade touch = lot_left touch ∷ lot_change trade touch ∷ []
 
--- the changes of a lot that a trade opens, with its history
+-- The row changes of a lot that the trade opens, with its history.
 abbrev pub opened_changes : TradeRow → Lot → List Change
 opened_changes t lot =
     change.AddLot (record { trade = lot.trade; account = t.account; symbol = t.symbol; stamp = lot.stamp; price = lot.price; qty = lot.qty })
     ∷ change.AddLotChange (record { lot = lot.trade; trade = lot.trade; before = pos 0; after = lot.qty }) ∷ []
 
--- the change of the summary of an account and a symbol, where there was one or none; at 0 there is none
+-- The row change of the summary of the trade's account and symbol: it is added if there was none,
+-- deleted if `qty` is 0, and set otherwise.
 abbrev pub summary_change : Option ℤ → TradeRow → ℤ → Change
 summary_change None t qty = change.AddSummary (record { account = t.account; symbol = t.symbol; qty = qty })
 summary_change (Some held) t qty =
     if is_zero qty then change.RemoveSummary t.account t.symbol
     else change.SetSummary (record { account = t.account; symbol = t.symbol; qty = qty })
 
--- how a trade is settled at first
+-- The first settlement text of a cash trade (`is_cash`) or of a margin trade.
 abbrev pub first_cash_type : Bool → CashType
 first_cash_type is_cash = if is_cash then cash_type.CashAccount else cash_type.Margin
 
--- the middle of the text of a cash trade
+-- The quantity in the cash text of a trade.
 abbrev pub shares_text : ℕ → Text
 shares_text qty = 32 ∷ decimal qty ++ codes " shares of "
 
--- the text of a cash trade, with the name of its security
+-- The cash text of a trade, with the name of its security.
 abbrev pub cash_name : TradeRow → Text → Text
 cash_name t security = type_name t.kind ++ 32 ∷ decimal t.qty ++ codes " shares of " ++ security
 
--- the cash row of a trade with the next number, if it is a cash trade
+-- The cash row of the trade with the next number, or `None` if it is not a cash trade.
 abbrev pub cash_row : ResultFound → ResultNumbers → Option tables.MoveRow
 cash_row found outcome =
     if found.trade.is_cash
@@ -85,32 +86,33 @@ cash_row found outcome =
     })
     else None
 
--- the changes of what a cash trade moves
+-- The row changes of the cash row of a trade: the row, and the balance of the account.
 abbrev pub cash_changes : ℕ → ℤ → MoveRow → List Change
 cash_changes account balance row = change.AddMove row ∷ change.SetBalance account balance ∷ []
 
--- the changes of a completed trade's own row and of its status
+-- The row changes of the completed trade's own row and history.
 abbrev pub trade_changes : ℕ → ℕ → ResultNumbers → List Change
 trade_changes trade price outcome =
     change.CompleteTrade trade outcome.stamp price outcome.commission outcome.tax
     ∷ change.AddHistory (record { trade = trade; status = status.Completed; stamp = outcome.stamp }) ∷ []
 
--- the change of the numbers of a broker, of whom one more trade is completed
+-- The row change of the totals of the broker, with one more completed trade.
 abbrev pub broker_change : ResultFound → ℕ → Change
 broker_change found commissions = change.SetBrokerNumbers found.account.broker (pos (found.broker.trades + 1)) commissions
 
--- the change that adds a settlement
+-- The row change that adds the settlement.
 abbrev pub settlement_change : TradeRow → ResultNumbers → Change
 settlement_change t outcome =
     change.AddSettlement (record { trade = t.id; cash_type = first_cash_type t.is_cash; due_day = outcome.due_day; amount = outcome.amount })
 
--- the changes of the account's summary, of the broker's numbers and of the settlement
+-- The row changes of the account's summary, of the broker totals and of the settlement.
 abbrev pub sum_changes : ResultFound → ResultNumbers → List Change
 sum_changes found outcome =
     summary_change found.summary found.trade outcome.summary ∷ broker_change found outcome.commissions ∷ settlement_change found.trade outcome ∷ []
 
--- the changes that complete a trade: its own; the lots that it touches and the one that it opens; what follows of sums; what it
--- moves, if it is a cash trade; and the last stamp
+-- The row changes that complete a trade: its own row, the lots that it touches and the one that it
+-- opens, the summary, the broker totals and the settlement, the cash row of a cash trade, and the
+-- last stamp.
 abbrev pub changes_of : ResultFound → ℕ → Closing → ResultNumbers → Option MoveRow → List Change
 changes_of found price closing outcome cash =
     trade_changes found.trade.id price outcome
@@ -120,13 +122,13 @@ changes_of found price closing outcome cash =
     ++ flat_map (cash_changes found.trade.account outcome.balance) (option_to_list cash)
     ++ change.SetLast outcome.stamp ∷ []
 
--- the changes that complete a trade, by the lots that are closed and what it comes to
+-- The row changes complete the trade with these closed lots and figures.
 pub record AreChanges (found : ResultFound) (price : ℕ) (closing : Closing) (outcome : ResultNumbers) (changes : List Change) : Type 0 where
   pub cash : Option MoveRow
   pub moved : option_map move_row_of cash ≡ cash_row found outcome
   pub changed : changes ≡ changes_of found price closing outcome cash
 
--- what is told of a completion
+-- The figures of a completion in its reply.
 abbrev pub told_of : ResultNumbers → Completed
 told_of outcome = record {
   stamp = outcome.stamp;
@@ -139,20 +141,22 @@ told_of outcome = record {
   balance = outcome.balance;
 }
 
--- how many shares the account holds in all
+-- The number of shares of the symbol that the account holds in all, negative if sold short.
 abbrev pub held_by : ResultFound → ℤ
 held_by found = unwrap_or found.summary (pos 0)
 
--- lots from the trade's end are given, none of which the trade opened, and they are all that the summary sums up
+-- The lots are given from the trade's end, none was opened by the trade, and their quantities sum
+-- to the summary.
 abbrev pub AreMet : (List Lot → Type 0) → ResultFound → List Lot → Type 0
 AreMet given found ls = AreGiven given found.trade.is_lifo ls × IsNew found.trade.id ls × (held_by found ≡ lots_total ls)
 
--- nothing that the account holds is on the other side of the trade
+-- The account holds no shares that the trade would close.
 abbrev pub MeetsNone : ResultFound → Type 0
 MeetsNone found = closes_lots (side_of found.trade.kind) (held_by found) ≡ false
 
--- the plan of a result that is accepted, by the lots of the account and symbol from the trade's end: what `closing` closes and
--- opens of them, and what follows from its values
+-- The plan of an accepted result: `closing` has the lots that the trade closes and opens, and the
+-- row changes and the reply follow from its values. The result passes its checks. The clause on
+-- `closing` is vacuous if the lots do not match the summary (`AreMet`).
 pub record IsCompletion (found : ResultFound) (price : ℕ) (given : List Lot → Type 0) (last : Option ℕ) (now : ℕ) (plan : Plan) : Type 0 where
   pub stamp : ℕ
   pub closing : Closing
@@ -162,29 +166,33 @@ pub record IsCompletion (found : ResultFound) (price : ℕ) (given : List Lot �
   pub told : plan.reply ≡ reply.Completed (told_of (outcome_of found price (values_in closing) stamp))
   pub changes : AreChanges found price closing (outcome_of found price (values_in closing) stamp) plan.changes.items
 
--- the plan of a result of a trade that is there
+-- The trade exists, and the plan completes it.
 abbrev pub IsCompleted : Option ResultFound → ℕ → (List Lot → Type 0) → Option ℕ → ℕ → Plan → Type 0
 IsCompleted None price given last now plan = ⊥
 IsCompleted (Some found) price given last now plan = IsCompletion found price given last now plan
 
--- why the result of a trade that is there is refused
+-- The refusal of a result of an existing trade.
 pub record IsRefusal (found : ResultFound) (price : ℕ) (given : List Lot → Type 0) (last : Option ℕ) (now : ℕ) (refusal : Refusal) : Type 0 where
-  -- what is tested before the lots are looked at refuses it whatever they are
+  -- If a check before the lots are read fails, it is the refusal, for any lots.
   pub early : IfSome (first_refusal (first_tests found)) (λ cause. refusal ≡ cause)
-  -- it is the first test that finds a cause, by the values of the shares of those lots that it would close
+  -- It is the refusal of the first check that fails, with the values of the shares of the given
+  -- lots that the trade would close.
   pub late : (ls : List Lot) (stamp : ℕ) → AreMet given found ls
       → first_refusal (result_tests found price (values_of (deal_of found.trade price stamp) (shares_of ls)) (stamp_after last now)) ≡ Some refusal
 
--- why a result is refused: there is no such trade, or what was found of it
+-- The refusal of a result: `NoTrade` if there is no trade, otherwise one from the facts of the
+-- trade.
 abbrev pub IsRefused : Option ResultFound → ℕ → (List Lot → Type 0) → Option ℕ → ℕ → Refusal → Type 0
 IsRefused None price given last now refusal = refusal ≡ NoTrade
 IsRefused (Some found) price given last now refusal = IsRefusal found price given last now refusal
 
--- the moment that an opened lot has: the stamp, or while none is left the moment at hand
+-- The stamp of an opened lot: the stamp of the command, or the clock reading `now` if no stamp is
+-- left.
 abbrev pub moment_of : Option ℕ → ℕ → ℕ
 moment_of stamp now = unwrap_or stamp now
 
--- a source is asked for at most one lot more than the trade touches, and for none where there is no trade
+-- The source is asked for at most one lot more than the trade touches, and for none if there is no
+-- trade.
 abbrev pub AsksFew : Option ResultFound → ℕ → ℕ → (List Lot → Type 0) → (before after : ℕ) → Type 0
 AsksFew None price stamp given before after = after ≤ before
 AsksFew (Some found) price stamp given before after =

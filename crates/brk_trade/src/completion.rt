@@ -1,4 +1,4 @@
-//! The changes of rows that complete a trade.
+//! The row changes that complete a trade.
 
 ghost use Rattle.std.specs.Prelude.{◌≡◌, ◌++◌, flat_map, option_map, option_to_list, string_bytes, IfOk, OnOk, OnErr, Err};
 ghost use Rattle.brk_money.specs.declared.fault.Fault.TheVariants.{Memory};
@@ -17,7 +17,7 @@ use brk_money::{Fault, Id, Price, Qty, Status};
 use brk_ref::Name;
 use std::alloc::{AllocError, Global};
 
-// Adds the changes of a trade's own row and of its status.
+// Appends the row changes of the trade's own row and history.
 fn complete_trade(
     trade: Id,
     price: Price,
@@ -42,7 +42,7 @@ fn complete_trade(
     Ok(())
 }
 
-// A touched lot made smaller, or taken away where nothing is left of it.
+// Returns the row change of a touched lot: it is reduced, or deleted if no share is left of it.
 fn lot_left(touch: &Touch) -> Change
     ensures { result ≡ spec.lot_left touch.now }
 {
@@ -56,7 +56,7 @@ fn lot_left(touch: &Touch) -> Change
     }
 }
 
-// The history of a lot that a trade touches.
+// Returns the row change that adds the history row of a touched lot.
 fn lot_change(trade: Id, touch: &Touch) -> Change
     ensures { result ≡ spec.lot_change trade touch.now }
 {
@@ -68,7 +68,7 @@ fn lot_change(trade: Id, touch: &Touch) -> Change
     })
 }
 
-// Adds the changes of a lot that a trade touches, with its history.
+// Appends the row changes of a touched lot, with its history.
 fn touch_lot(trade: Id, touch: &Touch, changes: &mut Vec<Change>) -> Result<(), Fault>
     ensures changes { OnOk result (changes.new.items ≡ changes.old.items ++ spec.touched_changes trade touch.now) }
     ensures fault { OnErr result (result ≡ Err Memory) }
@@ -78,7 +78,7 @@ fn touch_lot(trade: Id, touch: &Touch, changes: &mut Vec<Change>) -> Result<(), 
     Ok(())
 }
 
-// Adds the changes of the lots that a trade touches.
+// Appends the row changes of the touched lots.
 fn close_lots(trade: Id, touched: &[Touch], changes: &mut Vec<Change>) -> Result<(), Fault>
     ensures changes { OnOk result (changes.new.items ≡ changes.old.items ++ flat_map (spec.touched_changes trade) touched.now) }
     ensures fault { OnErr result (result ≡ Err Memory) }
@@ -89,7 +89,7 @@ fn close_lots(trade: Id, touched: &[Touch], changes: &mut Vec<Change>) -> Result
     Ok(())
 }
 
-// Adds the changes of the lot that a trade opens, if it opens one, with its history.
+// Appends the row changes of the lot that the trade opens, if it opens one, with its history.
 fn open_lot(trade: &TradeRow, opened: Option<Lot>, changes: &mut Vec<Change>) -> Result<(), Fault>
     ensures changes { OnOk result (changes.new.items ≡ changes.old.items ++ flat_map (spec.opened_changes trade.now) (option_to_list opened)) }
     ensures fault { OnErr result (result ≡ Err Memory) }
@@ -114,7 +114,8 @@ fn open_lot(trade: &TradeRow, opened: Option<Lot>, changes: &mut Vec<Change>) ->
     Ok(())
 }
 
-// The change of the account's summary, which was there or not.
+// Returns the row change of the account's summary: it is added if there was none, deleted if it is
+// 0, and set otherwise.
 fn summary_change(found: &ResultFound, outcome: &ResultNumbers) -> Result<Change, Fault>
     ensures change { IfOk result (λ change. change ≡ spec.summary_change found.now.summary found.now.trade outcome.now.summary) }
     ensures fault { OnErr result (result ≡ Err Memory) }
@@ -139,7 +140,7 @@ fn summary_change(found: &ResultFound, outcome: &ResultNumbers) -> Result<Change
     }))
 }
 
-// How a trade is settled at first.
+// Returns the first settlement text of a cash trade (`is_cash`) or of a margin trade.
 fn first_cash_type(is_cash: bool) -> CashType
     ensures { result ≡ spec.first_cash_type is_cash }
 {
@@ -150,7 +151,7 @@ fn first_cash_type(is_cash: bool) -> CashType
     }
 }
 
-// The change of the numbers of the broker, of whom one more trade is completed.
+// Returns the row change of the totals of the broker, with one more completed trade.
 fn broker_change(found: &ResultFound, commissions: Amount) -> Change
     ensures { result ≡ spec.broker_change found.now commissions }
 {
@@ -161,7 +162,7 @@ fn broker_change(found: &ResultFound, commissions: Amount) -> Change
     }
 }
 
-// The change that adds the settlement.
+// Returns the row change that adds the settlement.
 fn settlement_change(trade: &TradeRow, outcome: &ResultNumbers) -> Change
     ensures { result ≡ spec.settlement_change trade.now outcome.now }
 {
@@ -173,7 +174,7 @@ fn settlement_change(trade: &TradeRow, outcome: &ResultNumbers) -> Change
     })
 }
 
-// Adds the changes of the account's summary, the broker's numbers and the settlement.
+// Appends the row changes of the account's summary, the broker totals and the settlement.
 fn settle(
     found: &ResultFound,
     outcome: &ResultNumbers,
@@ -189,14 +190,14 @@ fn settle(
     Ok(())
 }
 
-// Adds how many shares were traded, to the text of a cash trade.
+// Appends the quantity to the cash text of a trade.
 fn add_shares(name: &mut String, qty: Qty) -> Result<(), AllocError>
     ensures { OnOk result (string_bytes name.new ≡ string_bytes name.old ++ spec.shares_text qty) }
 {
     write!(name, " {} shares of ", qty.get())
 }
 
-// The text of a cash trade, with the name of its security.
+// Returns the cash text of a trade, with the name of its security.
 fn cash_name(alloc: Global, trade: &TradeRow, security: &Name) -> Result<String, AllocError>
     ensures { IfOk result (λ name. string_bytes name ≡ spec.cash_name trade.now security.now) }
 {
@@ -206,7 +207,7 @@ fn cash_name(alloc: Global, trade: &TradeRow, security: &Name) -> Result<String,
     Ok(name)
 }
 
-// What a cash trade moves, if it is one.
+// Returns the cash row of a cash trade, or `None` for a margin trade.
 fn cash_row(
     alloc: Global,
     found: &ResultFound,
@@ -227,7 +228,7 @@ fn cash_row(
     }))
 }
 
-// Adds the changes of what a cash trade moves, if it is one.
+// Appends the row changes of the cash row, if there is one.
 fn move_cash(
     account: Id,
     outcome: &ResultNumbers,
@@ -248,7 +249,7 @@ fn move_cash(
     Ok(())
 }
 
-// The changes of a completion, with what a cash trade moves.
+// Returns the row changes of a completion, with the cash row of a cash trade.
 fn changes_of(
     alloc: Global,
     found: &ResultFound,
@@ -271,7 +272,7 @@ fn changes_of(
     Ok(changes)
 }
 
-// The changes that complete a trade, by the lots that are closed and what it comes to.
+// Returns the row changes that complete the trade with these closed lots and figures.
 pub(crate) fn completion_changes(
     alloc: Global,
     found: &ResultFound,

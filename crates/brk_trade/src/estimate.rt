@@ -20,27 +20,27 @@ use brk_money::{
 use brk_plans::Estimate;
 use brk_ref::ChargeAmount;
 
-/// What an order is estimated by.
+/// The terms of an order, from which it is estimated.
 #[derive(Clone, Copy, PartialEq, Eq)]
 pub struct Terms {
     pub side: Side,
     pub qty: Qty,
-    /// The requested price, in cents: the market's for a market type, and else the order's.
+    /// The requested price in cents: the last price for a market order, otherwise the order's own.
     pub price: Price,
     pub tax_status: TaxStatus,
     /// The sum of the tax rates that the account's customer pays.
     pub rates: TaxRate,
-    /// The rate of the band that the quantity is in.
+    /// The rate of the band of the quantity.
     pub rate: Rate,
     /// The charge of the order's type and the customer's tier, in cents.
     pub charge: ChargeAmount,
-    /// The account's balance and the worth of what it holds, in cents.
+    /// The balance of the account plus the market value of its holdings, in cents.
     pub assets: Wide,
-    /// How many shares of the security the account holds in all, below 0 where they were sold short.
+    /// The number of shares of the security that the account holds in all, negative if sold short.
     pub held: i64,
 }
 
-// Whether gains are taxed at a tax status.
+// Returns true if gains are taxed at the tax status.
 fn bears_tax(status: TaxStatus) -> bool
     ensures { result ≡ spec.bears_tax status }
 {
@@ -50,14 +50,15 @@ fn bears_tax(status: TaxStatus) -> bool
     }
 }
 
-// What shares gain, in cents; below 0 where they lose.
+// Returns the realised gain of the shares in cents, negative for a loss.
 fn gain(values: Values) -> Cents
     ensures { result ≡ pos values.sell_value -ℤ pos values.buy_value }
 {
     Cents::new(values.sell_value.get() as i64 - values.buy_value.get() as i64).unwrap()
 }
 
-/// The tax on what shares gain, by an account's tax status and the sum of the rates that its customer pays.
+/// Returns the tax on the realised gain of shares, from the account's tax status and the sum of the
+/// rates that its customer pays.
 pub fn tax_on(values: Values, status: TaxStatus, rates: TaxRate) -> Amount
     ensures { result ≡ tax_at status rates values }
 {
@@ -68,8 +69,8 @@ pub fn tax_on(values: Values, status: TaxStatus, rates: TaxRate) -> Amount
     }
 }
 
-// What the shares that an order would close were bought for and sold for. Where none that are held are on its other side no
-// lot is asked for.
+// Returns the buy value and the sell value of the shares that the order would close. Reads no lot
+// if the account holds no shares that it would close.
 fn values_upon<L: LotSource>(source: &mut L, terms: &Terms) -> Result<Values, Fault>
     ensures leads { L.leads source.old source.new }
     ensures values { IfOk result (λ values. (ls : List Lot) (trade stamp : ℕ) (lifo : Bool) →
@@ -88,20 +89,24 @@ fn values_upon<L: LotSource>(source: &mut L, terms: &Terms) -> Result<Values, Fa
     }
 }
 
-/// The numbers of an order, by the lots of its account and symbol that a source gives from the order's end (Trade-Order). It
-/// changes nothing and takes no memory; a fault is the source's. Where none of the shares that are held are on the order's
-/// other side it asks for no lot.
+/// Estimates an order from its terms and the lots of its account and symbol from the order's end
+/// (Trade-Order).
+///
+/// Fails only with a fault of the source. Reads no lot if the account holds no shares that the
+/// order would close.
 pub fn estimate_order<L: LotSource>(source: &mut L, terms: &Terms) -> Result<Estimate, Fault>
     ensures leads { L.leads source.old source.new }
-    // Of what a base has, upon the shares that it has, the estimate is that of the definitions.
+    // The estimate equals the model's estimate, in a base that has the terms and the shares of the
+    // lots.
     ensures estimate { IfOk result (λ estimate. (base : Base) (o : Order) (ls : List Lot) →
         AreTerms base o terms.now → shares_in (completed base) o.account o.symbol ≡ shares_of ls → AreGiven (AsTold (L.reads_faithfully source.new) (L.remaining source.old)) o.is_lifo ls →
         terms.now.held ≡ lots_total ls → estimate ≡ told (spec_orders.estimate base o)) }
     ensures commission { IfOk result (λ estimate. estimate.commission ≡ commission_by terms.now) }
-    // It asks for at most one lot more than a trade that opened none of them would touch, and for none where it would close none.
+    // It asks for at most one lot more than the order would touch, and for none if it would close
+    // none.
     ensures asked { IfOk result (λ estimate. AsksFew terms.now (AsTold (L.reads_faithfully source.new) (L.remaining source.old)) (L.asked source.old) (L.asked source.new)) }
     ensures unmet { closes_lots terms.now.side terms.now.held ≡ false → source.new ≡ source.old }
-    // No fault of the source is passed over, and each is answered as it came.
+    // No fault of the source is ignored, and each is returned as it came.
     ensures faulted { IfOk result (λ estimate. L.faulted source.new ≡ L.faulted source.old) }
     ensures fault { IfErr result (λ fault. (before : L) × L.fails before fault source.new) }
     ensures rest { (ls : List Lot) → AsTold (L.reads_faithfully source.new) (L.remaining source.old) ls → (n : ℕ) × L.remaining source.new (drop n ls) }

@@ -1,5 +1,6 @@
-//! Commands planned as changes of rows: a refusal, or the reply and the changes that a store makes in one transaction. Here are
-//! those that look at lots: orders, their estimates and results; the others are those of `brk_plans`.
+//! Plans of the commands that read lots: orders and results, and the estimates of orders. A plan is
+//! a refusal, or the reply and the row changes that a store applies in one transaction. The other
+//! plans are re-exported from `brk_plans`.
 #![tactic(auto)]
 
 mod completion;

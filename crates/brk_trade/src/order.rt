@@ -26,53 +26,56 @@ use brk_plans::{Estimate, Ordered, Plan, Reply};
 use brk_ref::{ChargeAmount, Executor, Symbol};
 use std::alloc::{AllocError, Global};
 
-/// What decides on an order of the account that it is for.
+/// The facts of an order's account that decide on the order.
 #[derive(Clone, Copy, PartialEq, Eq)]
 pub struct OrderAccount {
-    /// The broker who looks after it.
+    /// Its broker.
     pub broker: Id,
-    /// How its gains are taxed.
+    /// Its tax status.
     pub tax_status: TaxStatus,
 }
 
-/// What the tables hold that decides on an order. What is not needed after an earlier refusal is not looked at.
+/// The facts in the tables that decide on an order. A fact that is not needed after an earlier
+/// refusal is not read.
 #[derive(Clone, Copy, PartialEq, Eq)]
 pub struct OrderFound {
-    /// The account that it is for, where there is one.
+    /// The account, or `None` if it does not exist.
     pub account: Option<OrderAccount>,
-    /// The last price of its security on the market, where there is such a security.
+    /// The last price of its security in cents, or `None` if the security does not exist.
     pub last_price: Option<Price>,
-    /// Whether its executor is the account's customer or has a permission of the account.
+    /// True if its executor is the account's customer or has a permission of the account.
     pub is_permitted: bool,
-    /// The charge of its type and the customer's tier, where there is one.
+    /// The charge of its type and the customer's tier, or `None` if there is none.
     pub charge: Option<ChargeAmount>,
-    /// The rate of the band that its quantity is in, where there is one.
+    /// The rate of the band of its quantity, or `None` if there is none.
     pub rate: Option<Rate>,
     /// The sum of the tax rates that the account's customer pays.
     pub rates: TaxRate,
-    /// The account's balance and the worth of what it holds, in cents.
+    /// The balance of the account plus the market value of its holdings, in cents.
     pub assets: Wide,
-    /// How many shares of its security the account holds in all (HS_QTY), where it holds some.
+    /// The number of shares of its security that the account holds in all, negative if sold short,
+    /// or `None` if there is no row (HS_QTY).
     pub summary: Option<i64>,
-    /// The greatest id of a trade, which is the number of trades; none where there is no trade.
+    /// The greatest id of a trade, which is the number of trades, or `None` if there are no trades.
     pub last_trade: Option<Id>,
 }
 
-// What an order that nothing refuses is placed by: its terms, and the account's broker.
+// The terms of an order that passes its checks, and the account's broker.
 #[derive(Clone, Copy)]
 struct Placement {
     terms: Terms,
     broker: Id,
 }
 
-// The price that an order is estimated at: the market's for a market type, and else its own.
+// Returns the price at which the order is estimated: its own, or the last price if it asks for
+// none.
 fn requested_price(order: &Order, last: Price) -> Price
     ensures { result ≡ spec.requested_price order.now last }
 {
     order.order_type.price().unwrap_or(last)
 }
 
-// What the order is placed by, or the first refusal that there is cause for.
+// Returns the placement of the order, or the first refusal that applies.
 fn placement_of(order: &Order, found: &OrderFound) -> Result<Placement, Refusal>
     ensures { MatchResult result
         (IsPlacement order.now found.now)
@@ -109,10 +112,12 @@ fn placement_of(order: &Order, found: &OrderFound) -> Result<Placement, Refusal>
     })
 }
 
-/// Plans the estimate of an order, by what was found in the tables and the lots of its account and symbol that a source
-/// gives from the order's end (Trade-Order). It is refused with the first of `NoAccount`, `NoSecurity`, `NotPermitted`,
-/// `NoCharge` and `NoRate` that there is cause for, and then asks the source for nothing. It does so too where the account
-/// holds nothing that the order would close. It takes no memory; a fault is the source's.
+/// Plans the estimate of an order from the facts in the tables and the lots of its account and
+/// symbol from the order's end (Trade-Order).
+///
+/// Refuses with the first that applies of `NoAccount`, `NoSecurity`, `NotPermitted`, `NoCharge` and
+/// `NoRate`. Fails only with a fault of the source. Reads no lot if it refuses, or if the account
+/// holds no shares that the order would close.
 pub fn plan_estimate<L: LotSource>(
     order: &Order,
     found: &OrderFound,
@@ -124,9 +129,9 @@ pub fn plan_estimate<L: LotSource>(
         (λ refusal. first_refusal (order_tests found.now) ≡ Some refusal)) }
     ensures refused { IfOk result (λ planned. OnErr planned (source.new ≡ source.old)) }
     ensures asked { IfOk result (λ planned. OnOk planned (AsksFew (terms_of order.now found.now) (AsTold (L.reads_faithfully source.new) (L.remaining source.old)) (L.asked source.old) (L.asked source.new))) }
-    // It asks for none where none of the shares that are held are on the order's other side.
+    // It asks for no lot if the account holds no shares that the order would close.
     ensures unmet { closes_lots (terms_of order.now found.now).side (terms_of order.now found.now).held ≡ false → source.new ≡ source.old }
-    // No fault of the source is passed over, and each is answered as it came.
+    // No fault of the source is ignored, and each is returned as it came.
     ensures faulted { IfOk result (λ planned. L.faulted source.new ≡ L.faulted source.old) }
     ensures fault { IfErr result (λ fault. (before : L) × L.fails before fault source.new) }
     ensures rest { (ls : List Lot) → AsTold (L.reads_faithfully source.new) (L.remaining source.old) ls → (n : ℕ) × L.remaining source.new (drop n ls) }
@@ -139,7 +144,7 @@ pub fn plan_estimate<L: LotSource>(
     Ok(Ok(estimate))
 }
 
-// The id of the next trade, where one is left.
+// Returns the id of the next trade, or `None` if no id is left.
 fn next_trade(last: Option<Id>) -> Option<Id>
     ensures { MatchOption result
         (first_refusal (trades_test last ∷ []) ≡ Some (Range limit.Trades))
@@ -151,7 +156,7 @@ fn next_trade(last: Option<Id>) -> Option<Id>
     }
 }
 
-// The status that an order of a type begins with: a market type goes to the market, another one waits for its price.
+// Returns the first status of an order: submitted for a market order, otherwise pending.
 fn first_status(kind: TradeType) -> Status
     ensures { result ≡ model.first_status kind }
 {
@@ -162,7 +167,7 @@ fn first_status(kind: TradeType) -> Status
     }
 }
 
-// The name that a trade keeps of its executor: first name, one space, last name.
+// Returns the executor's name as the trade stores it: first name, a space, last name.
 fn executor_name(alloc: Global, executor: &Executor) -> Result<String, AllocError>
     ensures { IfOk result (λ name. string_bytes name ≡ model.executor_name (executor_of executor.now)) }
 {
@@ -172,7 +177,7 @@ fn executor_name(alloc: Global, executor: &Executor) -> Result<String, AllocErro
     Ok(name)
 }
 
-// The row of a trade under these texts.
+// Returns the row of the trade with these texts.
 fn row_named(
     order: &Order,
     terms: &Terms,
@@ -204,7 +209,7 @@ fn row_named(
     }
 }
 
-// The row of the trade that an order makes.
+// Returns the row of the order's trade.
 fn trade_row(
     alloc: Global,
     order: &Order,
@@ -221,7 +226,7 @@ fn trade_row(
     Ok(row_named(order, terms, commission, trade, stamp, symbol, executor))
 }
 
-// The request of a trade that has to wait for its price.
+// Returns the request of the trade, or `None` for a market order.
 fn request_row(
     order: &Order,
     placement: &Placement,
@@ -242,7 +247,8 @@ fn request_row(
     }))
 }
 
-// The changes of a trade that is made: its row, its first status, its request if it waits, and the last stamp.
+// Returns the row changes that add the trade: its row, its first status, its request if it has one,
+// and the last stamp.
 fn changes_of(
     alloc: Global,
     row: TradeRow,
@@ -266,7 +272,7 @@ fn changes_of(
     Ok(changes)
 }
 
-// The changes of an accepted order.
+// Returns the row changes of an accepted order.
 fn order_changes(
     alloc: Global,
     order: &Order,
@@ -285,12 +291,16 @@ fn order_changes(
     Ok(changes)
 }
 
-/// Plans an order, by what was found in the tables, the lots of its account and symbol that a source gives from the
-/// order's end, and the stamp of the last accepted command (Trade-Order). It is refused with the first of `NoAccount`,
-/// `NoSecurity`, `NotPermitted`, `NoCharge`, `NoRate`, `Range(Trades)` (no id is left) and `ClockEnd` (no later stamp is
-/// left) that there is cause for, and then asks the source for nothing. Else its trade is added with its first status, and
-/// with a request where it has to wait for its price, and the last stamp is moved; what it is estimated at is told. Where
-/// the account holds nothing that the order would close, no lot is asked for. A fault is the source's or want of memory.
+/// Plans an order from the facts in the tables, the lots of its account and symbol from the order's
+/// end, and the stamp of the last accepted command (Trade-Order).
+///
+/// The plan adds the trade with its first status, and its request if it is pending, and sets the
+/// last stamp. Its reply has the stamp, the number, the status and the estimate.
+///
+/// Refuses with the first that applies of `NoAccount`, `NoSecurity`, `NotPermitted`, `NoCharge`,
+/// `NoRate`; `Range(Trades)`, if no id is left; and `ClockEnd`, if no later stamp is left. Fails
+/// with `Memory` or a fault of the source. Reads no lot if it refuses, or if the account holds no
+/// shares that the order would close.
 pub fn plan_order<L: LotSource>(
     alloc: Global,
     order: &Order,
@@ -305,9 +315,9 @@ pub fn plan_order<L: LotSource>(
         (λ refusal. first_refusal (order_tests found.now ++ trades_test found.now.last_trade ∷ clock_test last now ∷ []) ≡ Some refusal)) }
     ensures refused { IfOk result (λ planned. OnErr planned (source.new ≡ source.old)) }
     ensures asked { IfOk result (λ planned. OnOk planned (AsksFew (terms_of order.now found.now) (AsTold (L.reads_faithfully source.new) (L.remaining source.old)) (L.asked source.old) (L.asked source.new))) }
-    // It asks for none where none of the shares that are held are on the order's other side.
+    // It asks for no lot if the account holds no shares that the order would close.
     ensures unmet { closes_lots (terms_of order.now found.now).side (terms_of order.now found.now).held ≡ false → source.new ≡ source.old }
-    // No fault of the source is passed over, and each is answered as it came.
+    // No fault of the source is ignored, and each is returned as it came.
     ensures faulted { IfOk result (λ planned. L.faulted source.new ≡ L.faulted source.old) }
     ensures fault { IfErr result (λ fault. (fault ≡ Fault.Memory) ⊎ ((before : L) × L.fails before fault source.new)) }
     ensures rest { (ls : List Lot) → AsTold (L.reads_faithfully source.new) (L.remaining source.old) ls → (n : ℕ) × L.remaining source.new (drop n ls) }

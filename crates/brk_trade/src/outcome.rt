@@ -1,4 +1,4 @@
-//! What a result comes to for a trade that it completes.
+//! The figures of a result for the trade that it completes.
 
 ghost use Rattle.std.specs.Prelude.{◌≡◌, ◌*◌, ◌≤ℤ◌, true, false, nat_lt, nat_abs, pos, MatchOption, MatchResult, None, Some};
 ghost use Rattle.brk_model.specs.Limits.{greatest_price, greatest_summary};
@@ -15,40 +15,42 @@ use brk_changes::{Amount, is_submitted};
 use brk_lots::Closing;
 use brk_money::{Cents, Day, Limit, Price, Rate, Refusal, Side, Stamp};
 
-// The greatest number of shares of a security that an account holds, either way.
+// The greatest number of shares of a security that an account holds, bought or sold short.
 const GREATEST_SUMMARY: u128 = 9_999_999_999;
 
-/// What the completion of a trade comes to, in cents (Trade-Result).
+/// The figures of a completed trade, in cents (Trade-Result).
 #[derive(Clone, Copy, PartialEq, Eq)]
 pub struct ResultNumbers {
     pub stamp: Stamp,
-    /// The day on which the trade settles.
+    /// The settlement day.
     pub due_day: Day,
     pub commission: Amount,
-    /// The tax on what the closed shares gained.
+    /// The tax on the realised gain of the closed shares.
     pub tax: Amount,
-    /// What the trade settles for, below 0 where the account pays.
+    /// The settlement amount, negative if the account pays.
     pub amount: Cents,
-    /// How many shares of the security the account holds after it.
+    /// The number of shares of the security that the account holds after it, negative if sold
+    /// short.
     pub summary: i64,
-    /// The account's balance after it.
+    /// The balance of the account after it.
     pub balance: Cents,
-    /// The sum of the broker's commissions after it.
+    /// The commission total of the broker after it.
     pub commissions: Amount,
-    /// What the closed shares were bought for.
+    /// Buy value of the closed shares.
     pub buy_value: Amount,
-    /// What they were sold for.
+    /// Sell value of the closed shares.
     pub sell_value: Amount,
 }
 
-// What is known of a result before its lots are looked at: the rate of its commission, and the shares held after it.
+// The facts of a result that are known before its lots are read: the rate of its commission, and
+// the shares held after it.
 #[derive(Clone, Copy)]
 pub(crate) struct RateAndSummary {
     pub rate: Rate,
     pub summary: i64,
 }
 
-// A quantity with the sign of a side.
+// Returns the quantity, negative for a sale.
 fn signed(side: Side, qty: u32) -> i128
     ensures { result ≡ shares.signed side qty }
 {
@@ -58,7 +60,8 @@ fn signed(side: Side, qty: u32) -> i128
     }
 }
 
-// How many shares the account holds after the trade, where they are within the limit.
+// Returns the number of shares that the account holds after the trade, or `None` if it exceeds the
+// limit.
 fn summary_after(found: &ResultFound) -> Option<i64>
     ensures { MatchOption result
         (nat_lt greatest_summary (nat_abs (spec.summary_after found.now)) ≡ true)
@@ -72,7 +75,8 @@ fn summary_after(found: &ResultFound) -> Option<i64>
     Some(after as i64)
 }
 
-// What is known before the lots are looked at, or the first cause to refuse a result that is told without them.
+// Returns the facts that are known before the lots are read, or the first refusal that applies
+// without them.
 pub(crate) fn rate_and_summary(found: &ResultFound) -> Result<RateAndSummary, Refusal>
     ensures { MatchResult result
         (λ known. (first_refusal (first_tests found.now) ≡ None) × (found.now.rate ≡ Some known.rate) × (known.summary ≡ spec.summary_after found.now))
@@ -90,7 +94,8 @@ pub(crate) fn rate_and_summary(found: &ResultFound) -> Result<RateAndSummary, Re
     Ok(RateAndSummary { rate, summary })
 }
 
-// What the completion of a trade comes to, or the first cause to refuse it that the closed shares tell.
+// Returns the figures of the completion, or the first refusal that applies with the values of the
+// closed shares.
 pub(crate) fn complete(
     found: &ResultFound,
     price: Price,

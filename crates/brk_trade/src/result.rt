@@ -16,7 +16,7 @@ use brk_money::{Fault, Planned, Price, Refusal, Stamp, stamp_after};
 use brk_plans::{Completed, Plan, Reply};
 use std::alloc::Global;
 
-// What is told of a completion.
+// Returns the figures of a completion in its reply.
 fn told(outcome: &ResultNumbers) -> Completed
     ensures { result ≡ told_of outcome.now }
 {
@@ -32,8 +32,8 @@ fn told(outcome: &ResultNumbers) -> Completed
     }
 }
 
-// What the trade does to the lots of its account and symbol. Where nothing that is held is on its other side no lot is asked
-// for.
+// Returns the lots that the trade closes, and the one that it opens. Reads no lot if the account
+// holds no shares that the trade would close.
 fn close_met<L: LotSource>(
     alloc: Global,
     source: &mut L,
@@ -61,15 +61,21 @@ fn close_met<L: LotSource>(
     }
 }
 
-/// Plans the result of a trade at a price, by what was found in the tables, where there is such a trade, the lots of its
-/// account and symbol that a source gives from the trade's end, and the stamp of the last accepted command
-/// (Trade-Result). It is refused with the first of `NoTrade`, `WrongStatus` (it
-/// was not submitted, or is completed), `NoRate`, `Range(Summary)`, `Range(Balance)` (of a cash trade), `Range(Broker)` and
-/// `ClockEnd` (no later stamp is left, or it would settle after the last day) that there is cause for. Else the trade is
-/// completed: lots are closed and what is left of it opens one, the account's summary is moved, the broker's numbers
-/// grow, it settles, a cash trade moves its account's balance, and the last stamp is moved; what it comes to is told. Where
-/// nothing that the account holds is on the trade's other side no lot is asked for. A fault is the source's or want of
-/// memory.
+/// Plans the result of a trade at `price` (Trade-Result). `found` has the facts in the tables, and
+/// is `None` if there is no such trade. `source` has the lots of the trade's account and symbol
+/// from the trade's end, and `last` is the stamp of the last accepted command.
+///
+/// The plan completes the trade: it closes lots, opens one with the rest of the quantity, if any,
+/// moves the summary, adds to the broker totals and settles the trade. A cash trade adds a cash row
+/// and moves the balance of its account. The plan then sets the last stamp. Its reply has the
+/// figures of the completion.
+///
+/// Refuses with the first that applies of `NoTrade`; `WrongStatus`, if the trade is not submitted;
+/// `NoRate`; `Range(Summary)`; `Range(Balance)`, of a cash trade; `Range(Broker)`; and `ClockEnd`,
+/// if no later stamp is left or the settlement day is after the last day.
+///
+/// Fails with `Memory` or a fault of the source. Reads no lot if the account holds no shares that
+/// the trade would close.
 pub fn plan_result<L: LotSource>(
     alloc: Global,
     found: Option<&ResultFound>,
@@ -83,9 +89,9 @@ pub fn plan_result<L: LotSource>(
         (IsCompleted (option_map (λ f. f.now) found.entry) price (AsTold (L.reads_faithfully source.new) (L.remaining source.old)) last now)
         (IsRefused (option_map (λ f. f.now) found.entry) price (AsTold (L.reads_faithfully source.new) (L.remaining source.old)) last now)) }
     ensures asked { IfOk result (λ planned. AsksFew (option_map (λ f. f.now) found.entry) price (moment_of (moments.stamp_after last now) now) (AsTold (L.reads_faithfully source.new) (L.remaining source.old)) (L.asked source.old) (L.asked source.new)) }
-    // It asks for none where nothing that the account holds is on the trade's other side.
+    // It asks for no lot if the account holds no shares that the trade would close.
     ensures unmet { IfSome (option_map (λ f. f.now) found.entry) (λ f. MeetsNone f → source.new ≡ source.old) }
-    // No fault of the source is passed over, and each is answered as it came.
+    // No fault of the source is ignored, and each is returned as it came.
     ensures faulted { IfOk result (λ planned. L.faulted source.new ≡ L.faulted source.old) }
     ensures fault { IfErr result (λ fault. (fault ≡ Fault.Memory) ⊎ ((before : L) × L.fails before fault source.new)) }
     ensures rest { (ls : List Lot) → AsTold (L.reads_faithfully source.new) (L.remaining source.old) ls → (n : ℕ) × L.remaining source.new (drop n ls) }
@@ -97,7 +103,8 @@ pub fn plan_result<L: LotSource>(
         Ok(known) => known,
         Err(refusal) => return Ok(Err(refusal)),
     };
-    // The balance and the broker's sum are tested before the clock, and whatever the stamp.
+    // The balance and the broker totals are checked before the clock. The stamp does not affect
+    // their check.
     let moved = stamp_after(last, now);
     let at = match moved {
         Some(stamp) => stamp,

@@ -1,4 +1,5 @@
-//! The arithmetic of a settlement: what a completed trade costs and brings, and what is left after it.
+//! The arithmetic of a settlement: the cost and the proceeds of a completed trade, and the totals
+//! after it.
 
 ghost use Rattle.std.specs.Prelude.{◌≡◌, ◌+◌, ◌*◌, ◌≤◌, ◌≤ℤ◌, ◌+ℤ◌, ◌-ℤ◌, ◌&&◌, true, false, nat_lt, nat_abs, pos, if◌then◌else◌, MatchOption};
 ghost use Rattle.brk_model.specs.Base.{takes_tax_off};
@@ -18,7 +19,7 @@ use brk_lots::{Closing, Values};
 use brk_money::{Cents, Day, Price, Qty, Rate, Side, Stamp, TaxStatus, Wide, commission};
 use brk_plans::added;
 
-// The value of closed shares as an amount.
+// Returns the value of closed shares as an amount.
 fn amount(value: Wide) -> Amount
     requires low { pos 0 ≤ℤ value }
     requires high { value ≤ℤ pos greatest_value }
@@ -27,7 +28,8 @@ fn amount(value: Wide) -> Amount
     Amount::new(value.get() as u64).unwrap()
 }
 
-// What the closed shares of a quantity were bought for and sold for. It reads what the limit says of the quantity.
+// Returns the buy value and the sell value of the closed shares of a quantity. It reads the limit
+// of the quantity for the proof.
 pub(crate) fn values_of(qty: Qty, closing: &Closing) -> Values
     requires bought { (pos 0 ≤ℤ closing.now.buy_value) × (closing.now.buy_value ≤ℤ pos (qty * greatest_price)) }
     requires sold { (pos 0 ≤ℤ closing.now.sell_value) × (closing.now.sell_value ≤ℤ pos (qty * greatest_price)) }
@@ -41,7 +43,8 @@ pub(crate) fn values_of(qty: Qty, closing: &Closing) -> Values
     }
 }
 
-// The commission of a trade, which is not above the greatest value of a trade. It reads what the limits say of that.
+// Returns the commission of a trade, at most the greatest value of a trade. It reads the limits for
+// the proof.
 #[tactic(auto, using(crate::proofs::Bounds::commission_high))]
 pub(crate) fn commission_at(trade: &TradeRow, price: Price, rate: Rate) -> Amount
     ensures value { result ≡ amounts.commission rate trade.now.qty price }
@@ -51,7 +54,7 @@ pub(crate) fn commission_at(trade: &TradeRow, price: Price, rate: Rate) -> Amoun
     commission(rate, trade.qty, price).unsigned_abs()
 }
 
-// The tax on what the closed shares gained, which is not above the greatest value of a trade.
+// Returns the tax on the realised gain of the closed shares, at most the greatest value of a trade.
 #[tactic(auto, using(crate::proofs::Bounds::tax_at_high))]
 pub(crate) fn tax_upon(found: &ResultFound, values: Values) -> Amount
     requires { values.sell_value ≤ greatest_value }
@@ -62,7 +65,7 @@ pub(crate) fn tax_upon(found: &ResultFound, values: Values) -> Amount
     tax_on(values, found.account.tax_status, found.rates)
 }
 
-// The part of the tax that is taken off what is settled.
+// Returns the part of the tax that is withheld from the settlement, in cents.
 fn withheld(status: TaxStatus, tax: Amount) -> u64
     ensures { result ≡ (if takes_tax_off status then tax else 0) }
 {
@@ -72,7 +75,8 @@ fn withheld(status: TaxStatus, tax: Amount) -> u64
     }
 }
 
-// What shares of this value bring, less what is taken off; a purchase costs them.
+// Returns the proceeds of shares of this value less what is taken off, in cents. A purchase costs
+// the value.
 fn settled(side: Side, value: u64, taken_off: u64) -> Cents
     requires value { value ≤ greatest_value }
     requires taken_off { taken_off ≤ 3 * greatest_value }
@@ -85,7 +89,7 @@ fn settled(side: Side, value: u64, taken_off: u64) -> Cents
     Cents::new(brought - taken_off as i64).unwrap()
 }
 
-// What the trade settles for.
+// Returns the settlement amount of the trade, negative if the account pays.
 pub(crate) fn amount_of(found: &ResultFound, price: Price, commission: Amount, tax: Amount) -> Cents
     requires commission { commission ≤ greatest_value }
     requires tax { tax ≤ greatest_value }
@@ -98,7 +102,8 @@ pub(crate) fn amount_of(found: &ResultFound, price: Price, commission: Amount, t
     settled(trade.kind.side(), value, taken_off)
 }
 
-// The account's balance after the trade, where it is within the limit; a trade on margin leaves it.
+// Returns the balance of the account after the trade, or `None` if it exceeds the limit. A margin
+// trade leaves it unchanged.
 pub(crate) fn balance_after(found: &ResultFound, amount: Cents) -> Option<Cents>
     ensures { MatchOption result
         (found.now.trade.is_cash && nat_lt greatest_amount (nat_abs (spec.balance_with found.now amount)) ≡ true)
@@ -110,7 +115,7 @@ pub(crate) fn balance_after(found: &ResultFound, amount: Cents) -> Option<Cents>
     added(found.account.balance, amount)
 }
 
-// The sum of the broker's commissions after the trade, where it is within the limit.
+// Returns the commission total of the broker after the trade, or `None` if it exceeds the limit.
 pub(crate) fn commissions_after(broker: BrokerNumbers, commission: Amount) -> Option<Amount>
     ensures { MatchOption result
         (nat_lt greatest_amount (broker.commissions + commission) ≡ true)
@@ -119,7 +124,8 @@ pub(crate) fn commissions_after(broker: BrokerNumbers, commission: Amount) -> Op
     Amount::new(broker.commissions.get() + commission.get())
 }
 
-// The day on which a trade settles that is completed at a stamp, where it is one.
+// Returns the settlement day of a trade that is completed at the stamp, or `None` if it is after
+// the last day.
 pub(crate) fn due_day(rule: Option<Day>, stamp: Stamp) -> Option<Day>
     ensures { MatchOption result
         (nat_lt last_day (derived.due_after rule stamp) ≡ true)

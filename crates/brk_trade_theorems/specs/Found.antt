@@ -1,4 +1,4 @@
--- What was found in tables before a record is planned.
+-- The facts that are read from the tables before a record is planned.
 use Rattle.std.specs.Prelude.{◌≡◌, ◌≤◌, ℕ, SomeIff}
 use Rattle.brk_model.specs.Limits.{greatest_tax_rate}
 use Rattle.brk_model.specs.Tables.{Tables}
@@ -8,21 +8,23 @@ use Rattle.brk_plans.specs.declared.reference.Reference.{Reference}
 use Rattle.brk_plans.specs.declared.reference.Reference.TheVariants as reference
 use Rattle.brk_book_theorems.specs.Reads.{has_broker, has_customer, has_tax_id, has_account, accounts_of, has_permission, has_security, has_charge, has_overlap, has_tax_rate, rate_of, pays_tax, rates_of}
 
--- what was found for an account
+-- The facts of an account are those in the tables.
 pub record IsFoundForAccount (t : Tables) (id customer broker : ℕ) (found : ReferenceFacts) : Type 0 where
   pub same_id : found.same_id ≡ has_account t id
   pub customer_there : found.customer ≡ has_customer t customer
   pub broker_there : found.broker ≡ has_broker t broker
   pub count : found.accounts ≡ accounts_of t customer
 
--- what was found for a tax that a customer is to pay
+-- The facts of a customer's tax are those in the tables. The sum of the rates is `None` if it
+-- exceeds the greatest rate.
 pub record IsFoundForTax (t : Tables) (customer tax : ℕ) (found : ReferenceFacts) : Type 0 where
   pub customer_there : found.customer ≡ has_customer t customer
   pub rate_there : found.rate ≡ rate_of t tax
   pub same_id : found.same_id ≡ pays_tax t customer tax
   pub sum : SomeIff found.rates (rates_of t customer ≤ greatest_tax_rate) (rates_of t customer)
 
--- what was found is what stands in the tables; of what a kind does not need nothing is said
+-- The facts of a record are those in the tables. It says nothing of facts that the kind of record
+-- does not need.
 abbrev pub IsFound : Tables → Reference → ReferenceFacts → Type 0
 IsFound t (reference.Broker broker) found = found.same_id ≡ has_broker t broker.id
 IsFound t (reference.Customer customer) found = (found.same_id ≡ has_customer t customer.id) × (found.same_tax_id ≡ has_tax_id t customer.tax_id)

@@ -1,4 +1,5 @@
--- What is known where a movement of cash or a settlement day is planned: what was read from the tables of a base that is in order.
+-- The preconditions of planning a movement or a settlement day: the facts that are read from the
+-- tables of a consistent base.
 use Rattle.std.specs.Prelude.{◌≡◌, ◌≤◌, ◌+◌, ℕ, is_none, nat_le, length, filter, Option, option_map}
 use Rattle.brk_money.specs.Moments.{last_stamp}
 use Rattle.brk_model.specs.Base.{Base}
@@ -13,15 +14,17 @@ use Rattle.brk_book_theorems.specs.TradeReads.{last_move}
 
 -- ---- a movement
 
--- what was found for a movement is what stands in the tables
+-- The facts of a movement are those in the tables.
 pub record IsFoundForMove (t : Tables) (m : Movement) (found : MoveFound) : Type 0 where
   pub balance : found.balance ≡ option_map (λ r. r.balance) (account_in t m.account)
-  -- whether there are as many movements as there may be: rows without a trade
+  -- The count reaches the greatest id if and only if the number of movements does; movements are
+  -- the cash rows without a trade.
   pub counted : nat_le greatest_id found.movements ≡ nat_le greatest_id (length (filter (λ r. is_none r.trade) t.moves))
-  -- the number after that of the last cash row
+  -- The next number follows that of the last cash row.
   pub next : found.next ≡ last_move t + 1
 
--- what is known where a movement is planned: the base is in order, and its tables were looked up at a moment that there is
+-- The base is consistent, the facts of the movement are read from its tables, and the clock reading
+-- is within the range of stamps.
 pub record IsReadForMove (base : Base) (m : Movement) (found : MoveFound) (last : Option ℕ) (now : ℕ) : Type 0 where
   pub books : BooksInvariant base
   pub looked_up : IsFoundForMove (sheets base) m found
@@ -30,8 +33,8 @@ pub record IsReadForMove (base : Base) (m : Movement) (found : MoveFound) (last 
 
 -- ---- a settlement day
 
--- what is known where a settlement day is planned: the base is in order, and the day that is set, where there is one, was read at a moment that
--- there is
+-- The base is consistent, the settlement day is read from its tables (`None` if it is not set), and
+-- the clock reading is within the range of stamps.
 pub record IsReadForOneDay (base : Base) (rule : Option ℕ) (last : Option ℕ) (now : ℕ) : Type 0 where
   pub books : BooksInvariant base
   pub rule_read : rule ≡ (sheets base).rule

@@ -1,4 +1,4 @@
--- What is read from the tables before an order is planned or estimated.
+-- The facts that are read from the tables before an order is planned or estimated.
 use Rattle.std.specs.Prelude.{◌≡◌, ◌≤◌, ℕ, ◌+ℤ◌, List, take, IfSome, Option, None, option_map}
 use Rattle.brk_lots.specs.declared.lot.Lot.{Lot}
 use Rattle.brk_model.specs.Base.{Base}
@@ -20,50 +20,55 @@ use Rattle.brk_book_theorems.specs.Reads.{rates_of}
 use Rattle.brk_book_theorems.specs.TradeReads.{band_in, permission_in, summary_in}
 use Rattle.brk_book_theorems.specs.OrderReads.{GivesLots, IfCustomer, charge_in, last_price_in, last_trade_in}
 
--- ---- look-ups
+-- ---- lookups
 
--- what an account's row says of the orders for it
+-- The facts of an order's account in its row.
 abbrev pub order_account : AccountRow → OrderAccount
 order_account r = record { broker = r.broker; tax_status = r.tax_status }
 
--- ---- what was found
+-- ---- facts
 
--- the first tests of an order (its account, its security, its executor, its charge, its band) find nothing wrong, so that more is looked up
+-- The first `n` checks of the order pass, so more facts are read. The checks are, in order:
+-- account, security, executor, charge and band.
 abbrev pub Passes : ℕ → OrderFound → Type 0
 Passes n found = first_refusal (take n (order_tests found)) ≡ None
 
--- what was found for an estimate is what stands in the tables; of what is not needed after an earlier refusal nothing is said
+-- The facts of an estimate are those in the tables. A clause is vacuous if an earlier check fails,
+-- since its fact is not needed then.
 pub record IsFoundForEstimate (t : Tables) (order : Order) (found : OrderFound) : Type 0 where
   pub account : found.account ≡ option_map order_account (account_in t order.account)
   pub last_price : Passes 1 found → found.last_price ≡ last_price_in t order.symbol
-  -- the executor, by the customer's names and the account's permission for the executor's tax id
+  -- The executor is checked by the customer's names and the account's permission for the executor's
+  -- tax id.
   pub is_permitted : Passes 2 found → IfCustomer t order.account (λ c. found.is_permitted ≡ permitted c (permission_in t order.account order.executor.tax_id) (executor_of order.executor))
-  -- the charge of the customer's tier
+  -- The charge is that of the customer's tier.
   pub charge : Passes 3 found → IfCustomer t order.account (λ c. found.charge ≡ charge_in t (kind_of order.order_type) c.tier)
-  -- the rate of the band of the quantity, by the customer's tier and the security's exchange
+  -- The rate is that of the band of the quantity, by the customer's tier and the security's
+  -- exchange.
   pub rate : Passes 4 found
       → IfCustomer t order.account (λ c. IfSome (security_in t order.symbol) (λ s. found.rate ≡ option_map (λ b. b.rate) (band_in t c.tier (kind_of order.order_type) s.exchange order.qty)))
-  -- the rates that the customer pays
+  -- The rates are the sum of those that the customer pays.
   pub rates : Passes 5 found → IfSome (account_in t order.account) (λ a. found.rates ≡ rates_of t a.customer)
-  -- the balance and the worth of what is held
+  -- The assets are the balance plus the market value of the holdings.
   pub assets : Passes 5 found → IfSome (account_in t order.account) (λ a. found.assets ≡ a.balance +ℤ asset_total t a)
-  -- the number of the summary
+  -- The summary is that of the account in the symbol.
   pub summary : Passes 5 found → found.summary ≡ option_map (λ r. r.qty) (summary_in t order.account order.symbol)
 
--- what was found for an order is what was found for its estimate, and the number of the last trade
+-- The facts of an order are those of its estimate, and the number of the last trade.
 pub record IsFoundForOrder (t : Tables) (order : Order) (found : OrderFound) : Type 0 where
   pub estimate : IsFoundForEstimate t order found
   pub last_trade : Passes 5 found → found.last_trade ≡ last_trade_in t
 
 -- ---- lots
 
--- the lots that are given for an order are those of its account and symbol from the order's end
+-- The lots that are given for the order are those of its account and symbol from the order's end.
 abbrev pub AreLots : Tables → Order → (List Lot → Type 0) → Type 0
 AreLots t order given = GivesLots t order.account order.symbol order.is_lifo given
 
 -- ---- an order
 
--- what is known where an order is planned: the base is in order, and its tables were looked up at a moment that there is
+-- The base is consistent, the facts of the order are read from its tables, and the clock reading is
+-- within the range of stamps.
 pub record IsReadForPlan (base : Base) (order : Order) (found : OrderFound) (last : Option ℕ) (now : ℕ) : Type 0 where
   pub books : BooksInvariant base
   pub looked_up : IsFoundForOrder (sheets base) order found

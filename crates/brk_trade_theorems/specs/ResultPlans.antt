@@ -1,4 +1,4 @@
--- What is read from the tables before a result is planned.
+-- The facts that are read from the tables before a result is planned.
 use Rattle.std.specs.Prelude.{◌≡◌, ◌≤◌, ◌<◌, ◌+◌, ℕ, ◌==◌, List, find, take, IfSome, Option, None, option_map, pos}
 use Rattle.brk_lots.specs.declared.lot.Lot.{Lot}
 use Rattle.brk_model.specs.Base.{Base}
@@ -17,46 +17,52 @@ use Rattle.brk_book_theorems.specs.OrderReads.{GivesLots, IfCustomer}
 use Rattle.brk_book_theorems.specs.Reads.{rates_of}
 use Rattle.brk_book_theorems.specs.TradeReads.{band_in, last_move, summary_in}
 
--- ---- what was found
+-- ---- facts
 
--- the first tests of a result (its status, its band, its summary) find nothing wrong, so that more is looked up
+-- The first `n` checks of the result pass, so more facts are read. The checks are, in order:
+-- status, band and summary.
 abbrev pub PassesFirst : ℕ → ResultFound → Type 0
 PassesFirst n found = first_refusal (take n (first_tests found)) ≡ None
 
--- what an account's row says of the results of its trades
+-- The facts of a result's account in its row.
 abbrev pub result_account : AccountRow → ResultAccount
 result_account r = record { broker = r.broker; tax_status = r.tax_status; balance = r.balance }
 
--- what was found for a trade is what stands in the tables; of what is not needed after an earlier refusal nothing is said
+-- The facts of a result are those in the tables. A clause is vacuous if an earlier check fails,
+-- since its fact is not needed then.
 pub record IsFoundForResult (t : Tables) (found : ResultFound) : Type 0 where
-  -- the rate of the band of the quantity, by the customer's tier and the security's exchange
+  -- The rate is that of the band of the quantity, by the customer's tier and the security's
+  -- exchange.
   pub rate : PassesFirst 1 found
       → IfCustomer t found.trade.account (λ c. IfSome (security_in t found.trade.symbol) (λ s.
       found.rate ≡ option_map (λ b. b.rate) (band_in t c.tier found.trade.kind s.exchange found.trade.qty)))
-  -- the number of the summary
+  -- The summary is that of the account in the symbol.
   pub summary : PassesFirst 2 found → found.summary ≡ option_map (λ r. r.qty) (summary_in t found.trade.account found.trade.symbol)
   pub account : PassesFirst 3 found → IfSome (account_in t found.trade.account) (λ a. found.account ≡ result_account a)
-  -- the rates that the customer pays
+  -- The rates are the sum of those that the customer pays.
   pub rates : PassesFirst 3 found → IfSome (account_in t found.trade.account) (λ a. found.rates ≡ rates_of t a.customer)
-  -- the numbers of the account's broker
+  -- The totals are those of the account's broker.
   pub broker : PassesFirst 3 found
       → IfSome (account_in t found.trade.account) (λ a. IfSome (find (λ r. r.id == a.broker) t.brokers) (λ b.
       (pos found.broker.trades ≡ b.trades) × (found.broker.commissions ≡ b.commissions)))
   pub security : PassesFirst 3 found → IfSome (security_in t found.trade.symbol) (λ s. found.security ≡ s.name)
-  -- the settlement day, and the number after that of the last cash row
+  -- The settlement day is that of the tables, and the next number follows that of the last cash
+  -- row.
   pub rule : PassesFirst 3 found → found.rule ≡ t.rule
   pub next : PassesFirst 3 found → found.next ≡ last_move t + 1
 
 -- ---- lots
 
--- the lots that are given for a result are those of the account and the symbol of its trade from the trade's end
+-- The lots that are given for the result are those of the account and the symbol of its trade from
+-- the trade's end.
 abbrev pub AreLotsOfTrade : Tables → TradeRow → (List Lot → Type 0) → Type 0
 AreLotsOfTrade t trade given = GivesLots t trade.account trade.symbol trade.is_lifo given
 
 -- ---- a result
 
--- what is known where a result is planned: the base is in order, its tables were looked up at a moment that there is, the lots that are given
--- are those of a trade at the market, and the trade that was found is of some shares
+-- The base is consistent, the trade and its facts are read from its tables, and the clock reading
+-- is within the range of stamps. The given lots are those of the trade if it is submitted, and its
+-- quantity is above 0.
 pub record IsReadForResult (base : Base) (id : ℕ) (found : Option ResultFound) (given : List Lot → Type 0) (last : Option ℕ) (now : ℕ) : Type 0 where
   pub books : BooksInvariant base
   pub trade_read : trade_in (sheets base) id ≡ option_map (λ f. trade_row_of f.trade) found

@@ -1,4 +1,4 @@
--- What cancels and feeds are tested for, by what was read from the tables.
+-- The checks of cancels and feeds against the tables.
 use Rattle.std.specs.Prelude.{ℕ, true, not, List, [], ◌∷◌, Option, Some, None}
 use Rattle.std.specs.List.{list_any}
 use Rattle.brk_money.specs.Kinds.{same_status}
@@ -13,14 +13,15 @@ use Rattle.brk_book_theorems.specs.Ticks.{exceeds_volume, is_unknown}
 
 -- ---- a cancel
 
--- what a cancel is tested for, by the row of its trade, the last stamp and the moment
+-- The checks of a cancel against the row of its trade, the last stamp and the clock reading.
 abbrev pub cancel_tests : Option TradeRow → Option ℕ → ℕ → List Test
 cancel_tests None last now = (true, NoTrade) ∷ clock_test last now ∷ []
 cancel_tests (Some r) last now = (not (same_status r.status Pending), WrongStatus r.status) ∷ clock_test last now ∷ []
 
 -- ---- a feed
 
--- what a feed is tested for, by the last trades of its symbols, the last stamp and the moment
+-- The checks of a feed against the last trades of its symbols, the last stamp and the clock
+-- reading.
 abbrev pub feed_tests : Tables → List Tick → Option ℕ → ℕ → List Test
 feed_tests t ticks last now =
     (list_any (is_unknown t) ticks, NoSecurity) ∷ (list_any (exceeds_volume t ticks) ticks, Range limit.Volume) ∷ clock_test last now ∷ []

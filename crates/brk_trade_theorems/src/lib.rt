@@ -1,4 +1,5 @@
-//! Laws of plans: what is planned of rows that were found is what the definitions say. There is no code to call.
+//! Theorems about plans: a plan from facts that were read implements the command as specified.
+//! Proof-only: there is no code to call.
 #![tactic(auto)]
 
 pub mod move_plans;

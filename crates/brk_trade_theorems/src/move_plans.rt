@@ -1,4 +1,4 @@
-//! What is planned of movements of cash and of the settlement day from what was read is what the definitions say.
+//! Theorems: the plans of movements and of the settlement day implement their commands.
 
 ghost use Rattle.std.specs.Prelude.{◌≡◌, ◌∷◌, ◌++◌, [], ℕ, Err, Option, Some};
 ghost use Rattle.brk_money.specs.declared.refusal.Refusal.{Refusal};
@@ -16,7 +16,8 @@ ghost use Rattle.brk_plans.specs.declared.plan.Plan.{Plan};
 ghost use Rattle.brk_trade_theorems.specs.MovePlans.{IsReadForMove, IsReadForOneDay};
 ghost use Rattle.brk_trade_theorems.specs.Plans.{DoesCommand};
 
-/// A movement is refused by what was found for it as by the base; the plan of one that is not does the movement.
+/// Proves that the checks of a movement against its facts refuse it as the base does, and that its
+/// plan implements the command.
 pub fn move_plans_do_commands()
     ensures first { (base : Base) (m : Movement) (found : MoveFound) (last : Option ℕ) (now : ℕ) → IsReadForMove base m found last now
         → first_refusal (move_tests m found ++ clock_test last now ∷ []) ≡ refusal_of base now (movement_of m) }
@@ -26,7 +27,8 @@ pub fn move_plans_do_commands()
         → IsMove m found last now plan → DoesCommand base now (movement_of m) plan }
 {}
 
-/// A settlement day is refused by the one that was read as by the base; the plan of one that is not sets it.
+/// Proves that the checks of a settlement day against its facts refuse it as the base does, and
+/// that its plan implements the command.
 pub fn one_day_plans_do_commands()
     ensures first { (base : Base) (day : ℕ) (rule last : Option ℕ) (now : ℕ) → IsReadForOneDay base rule last now
         → first_refusal (one_day_tests day rule last now) ≡ refusal_of base now (SetOneDay day) }

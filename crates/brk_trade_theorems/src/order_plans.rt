@@ -1,4 +1,4 @@
-//! What is planned and estimated of an order by what was found in the tables is what the definitions say.
+//! Theorems: the plans and the estimates of orders implement their commands and queries.
 
 ghost use Rattle.std.specs.Prelude.{◌≡◌, ◌∷◌, ◌++◌, [], ℕ, Err, List, None, Ok, Option, Some};
 ghost use Rattle.brk_trade.specs.Estimates.{AreTerms};
@@ -27,14 +27,15 @@ ghost use Rattle.brk_book_theorems.specs.Books.{BooksInvariant};
 ghost use Rattle.brk_trade_theorems.specs.OrderPlans.{AreLots, IsFoundForEstimate, IsReadForPlan};
 ghost use Rattle.brk_trade_theorems.specs.Plans.{DoesCommand};
 
-/// What was found for an order that nothing refuses gives the terms that the base has for it.
+/// Proves that the facts of an order that passes its checks give the terms that the base has for
+/// it.
 pub fn terms_follow_from_the_tables()
     ensures { (base : Base) (order : Order) (found : OrderFound) → BooksInvariant base → IsFoundForEstimate (sheets base) order found
         → first_refusal (order_tests found) ≡ None → AreTerms base (order_of order) (terms_of order found) }
 {}
 
-/// The first refusal by what was found is the first by the base, so that an order is refused as its command is; and the plan of an order
-/// does its command.
+/// Proves that the checks of an order against its facts refuse it as the base does, and that its
+/// plan implements the command.
 pub fn order_plans_do_commands()
     ensures first { (base : Base) (order : Order) (found : OrderFound) (last : Option ℕ) (now : ℕ) → IsReadForPlan base order found last now
         → first_refusal (order_tests found ++ trades_test found.last_trade ∷ clock_test last now ∷ []) ≡ refusal_of base now (PlaceOrder (order_of order)) }
@@ -45,7 +46,8 @@ pub fn order_plans_do_commands()
         → AreLots (sheets base) order (Exactly lots) → IsOrdered order found (Exactly lots) last now plan → DoesCommand base now (PlaceOrder (order_of order)) plan }
 {}
 
-/// An estimate is refused by what was found as by the base; else it is that of the definitions, and its fields are the view.
+/// Proves that an estimate is refused only as the base refuses its query. Otherwise it equals the
+/// model's estimate, and its fields are the view of the query.
 pub fn estimate_plans_answer_queries()
     ensures refused { (base : Base) (order : Order) (found : OrderFound) (refusal : Refusal) → BooksInvariant base → IsFoundForEstimate (sheets base) order found
         → first_refusal (order_tests found) ≡ Some refusal → ask base (EstimateOf (order_of order)) ≡ Err refusal }

@@ -1,4 +1,4 @@
-//! What is planned from the tables is what the definitions say.
+//! Theorems: the plans of records of reference data implement their commands.
 
 ghost use Rattle.std.specs.Prelude.{◌≡◌, ◌∷◌, ◌++◌, [], ℕ, Err, Option, Some};
 ghost use Rattle.brk_money.specs.declared.refusal.Refusal.{Refusal};
@@ -12,7 +12,7 @@ ghost use Rattle.brk_plans.specs.declared.reference.Reference.{Reference};
 ghost use Rattle.brk_plans.specs.Commands.{command_of};
 ghost use Rattle.brk_trade_theorems.specs.Plans.{DoesCommand, IsRead};
 
-/// The first refusal by what was found in the tables is the first by the base, so that a record is refused as its command is.
+/// Proves that the checks of a record against its facts refuse it as the base does.
 pub fn refusals_follow_from_the_tables()
     ensures first { (base : Base) (reference : Reference) (found : ReferenceFacts) (last : Option ℕ) (now : ℕ) → IsRead base reference found last now
         → first_refusal (tests_of reference found ++ clock_test last now ∷ []) ≡ refusal_of base now (command_of reference) }
@@ -20,7 +20,7 @@ pub fn refusals_follow_from_the_tables()
         → first_refusal (tests_of reference found ++ clock_test last now ∷ []) ≡ Some refusal → step base now (command_of reference) ≡ Err refusal }
 {}
 
-/// The plan of a record does its command.
+/// Proves that the plan of a record implements its command.
 pub fn plans_do_commands()
     ensures { (base : Base) (reference : Reference) (found : ReferenceFacts) (last : Option ℕ) (now : ℕ) (plan : Plan) → IsRead base reference found last now
         → IsPlanned reference found last now plan → DoesCommand base now (command_of reference) plan }

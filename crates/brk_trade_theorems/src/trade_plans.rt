@@ -1,4 +1,4 @@
-//! What is planned of cancels and feeds from what was read is what the definitions say.
+//! Theorems: the plans of cancels, feeds and results implement their commands.
 
 ghost use Rattle.std.specs.Prelude.{◌≡◌, ◌∷◌, ◌++◌, [], true, false, ℕ, Err, List, None, Option, Some};
 ghost use Rattle.std.specs.List.{Contains, list_any};
@@ -25,7 +25,8 @@ ghost use Rattle.brk_trade_theorems.specs.ResultPlans.{IsReadForResult};
 ghost use Rattle.brk_trade_theorems.specs.TradePlans.{AreQuotes, IsQuote, IsReadForCancel, IsReadForFeed};
 ghost use Rattle.brk_book_theorems.specs.TradeReads.{last_trade_in};
 
-/// A cancel is refused by the status of its trade as by the base; the plan of one that is not does the cancel.
+/// Proves that the checks of a cancel against the status of its trade refuse it as the base does,
+/// and that its plan implements the command.
 pub fn cancel_plans_do_commands()
     ensures first { (base : Base) (id : ℕ) (found : Option Status) (last : Option ℕ) (now : ℕ) → IsReadForCancel base id found last now
         → first_refusal (cancel_tests found ++ clock_test last now ∷ []) ≡ refusal_of base now (CancelTrade id) }
@@ -35,7 +36,8 @@ pub fn cancel_plans_do_commands()
         → IsCancel id found last now plan → DoesCommand base now (CancelTrade id) plan }
 {}
 
-/// A feed is refused by the quotes of its ticks as by the base, at whatever stamp they are tried; the plan of one that is not does the feed.
+/// Proves that the checks of a feed against its quotes, at any stamp, refuse it as the base does,
+/// and that its plan implements the command.
 pub fn feed_plans_do_commands()
     ensures first { (base : Base) (stamp : ℕ) (ticks : List Tick) (quotes : List SymbolState) (last : Option ℕ) (now : ℕ) → IsReadForFeed base ticks quotes last now
         → first_refusal (feed_tests stamp ticks quotes ++ clock_test last now ∷ []) ≡ refusal_of base now (FeedTicks (ticks_of ticks)) }
@@ -45,8 +47,8 @@ pub fn feed_plans_do_commands()
         → IsFeed ticks quotes last now plan → DoesCommand base now (FeedTicks (ticks_of ticks)) plan }
 {}
 
-/// Quotes are read tick by tick, each by all ticks of its feed: of a tick whose symbol has a quote nothing is read, of one whose symbol has no
-/// last trade nothing comes, and of any other a quote more.
+/// Proves that the quotes of a feed can be read tick by tick. A tick whose symbol has a quote needs
+/// no read, one whose symbol has no last trade adds no quote, and any other adds one.
 pub fn quotes_are_read_tick_by_tick()
     ensures none { (t : Tables) (all : List Tick) → AreQuotes t all [] [] }
     ensures again { (t : Tables) (all ticks : List Tick) (tick : Tick) (quotes : List Quote) → AreQuotes t all ticks (held quotes)
@@ -58,8 +60,8 @@ pub fn quotes_are_read_tick_by_tick()
         → AreQuotes t all (ticks ++ tick ∷ []) (held (quotes ++ quote ∷ [])) }
 {}
 
-/// A result is refused by what was found for its trade as by the base, whatever stamp its values are taken at; the plan of one that is not
-/// refused does the result.
+/// Proves that a result is refused only as the base refuses it, and that its plan implements the
+/// command.
 pub fn result_plans_do_commands()
     ensures refused { (base : Base) (id price : ℕ) (found : Option ResultFound) (lots : List Lot) (last : Option ℕ) (now : ℕ) (refusal : Refusal)
         → IsReadForResult base id found (Exactly lots) last now → IsRefused found price (Exactly lots) last now refusal → step base now (CompleteTrade id price) ≡ Err refusal }

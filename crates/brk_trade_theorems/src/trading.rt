@@ -1,4 +1,5 @@
-//! What is planned of cancels and feeds from the tables is what the definitions say.
+//! Theorems: the checks and the row changes of cancels and feeds from the tables implement their
+//! commands.
 
 ghost use Rattle.std.specs.Prelude.{◌+◌, ◌≡◌, ◌≤◌, ℕ, Err, List, None, Some, is_some, true};
 ghost use Rattle.std.specs.List.{AllByRecursion};
@@ -18,12 +19,13 @@ ghost use Rattle.brk_trade_theorems.specs.TradeTests.{cancel_tests, feed_tests};
 ghost use Rattle.brk_book_theorems.specs.Ticks.{qty_fed};
 ghost use Rattle.brk_book_theorems.specs.Trading.{cancel_rows, fed_trades, feed_rows};
 
-/// A command that is refused steps to its refusal.
+/// Proves that the step of a refused command returns its refusal.
 pub fn refused_commands_step_to_refusals()
     ensures { (base : Base) (now : ℕ) (command : Command) (refusal : Refusal) → refusal_of base now command ≡ Some refusal → step base now command ≡ Err refusal }
 {}
 
-/// A cancel is refused by the row of its trade as by the base; where it is not, its rows do it.
+/// Proves that the checks of a cancel against the row of its trade refuse it as the base does. If
+/// they pass, its row changes implement the command.
 pub fn cancels_follow_from_the_tables()
     ensures first { (base : Base) (now id : ℕ) → BooksInvariant base → now ≤ last_stamp
         → first_refusal (cancel_tests (trade_in (sheets base) id) (sheets base).last now) ≡ refusal_of base now (CancelTrade id) }
@@ -32,8 +34,9 @@ pub fn cancels_follow_from_the_tables()
         → IsDone base now (CancelTrade id) stamp (CanceledTrade stamp) (cancel_rows stamp id) }
 {}
 
-/// A feed is refused by the last trades of its symbols as by the base; where it is not, its rows do it, and the trades that it triggers are
-/// told as the tables give them.
+/// Proves that the checks of a feed against the last trades of its symbols refuse it as the base
+/// does. If they pass, its row changes implement the command, with the trades that it triggers in
+/// the reply.
 pub fn feeds_follow_from_the_tables()
     ensures first { (base : Base) (now : ℕ) (ticks : List Tick) → BooksInvariant base → now ≤ last_stamp
         → first_refusal (feed_tests (sheets base) ticks (sheets base).last now) ≡ refusal_of base now (FeedTicks ticks) }
@@ -42,7 +45,8 @@ pub fn feeds_follow_from_the_tables()
         → IsDone base now (FeedTicks ticks) stamp (Ticked stamp (fed_trades stamp ticks (sheets base))) (feed_rows stamp ticks) }
 {}
 
-/// A feed whose symbols are known lets the volume of a symbol grow by what its ticks trade of it.
+/// Proves that a feed of known symbols adds to the volume of a symbol the total quantity of its
+/// ticks.
 pub fn feeds_let_volumes_grow()
     ensures { (base : Base) (stamp : ℕ) (ticks : List Tick) (symbol : Text) → BooksInvariant base
         → AllByRecursion (λ tick. is_some (security_with base tick.symbol) ≡ true) ticks → is_some (security_with base symbol) ≡ true

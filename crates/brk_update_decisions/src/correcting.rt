@@ -1,4 +1,4 @@
-//! Corrections of words, decided on.
+//! Decisions on text updates.
 
 ghost use Rattle.std.specs.Prelude.{IfErr};
 ghost use Rattle.brk_decisions.specs.Decisions.{Decides};
@@ -15,7 +15,8 @@ use brk_trade::{Plan, TextUpdate, plan_update};
 use sqlite::Alter;
 use std::alloc::Global;
 
-// The trades that are corrected, none where what the correction names is not there.
+// Returns the trades that an update changes, or `None` if a trade, account or security that it
+// names does not exist.
 fn find<S: Alter>(
     alloc: Global,
     store: &mut Store<S>,
@@ -31,8 +32,11 @@ fn find<S: Alter>(
     }
 }
 
-/// Decides on a correction of words at a moment (Trade-Update): why it is refused, or its plan. Nothing is changed; the
-/// only faults are want of memory and the store's, which tables that are not those of a desk are too.
+/// Decides on a text update at the clock reading `now` (Trade-Update): returns its plan, or the
+/// refusal. Changes nothing.
+///
+/// Fails with `Memory` or `Store` only; with `Store` also if a completed trade has no settlement,
+/// or a completed cash trade no cash row.
 pub fn decide_update<S: Alter>(
     alloc: Global,
     store: &mut Store<S>,

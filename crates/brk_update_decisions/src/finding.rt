@@ -1,4 +1,4 @@
-//! What the tables hold that decides on a correction of words.
+//! Reads of the facts that decide on a text update.
 
 ghost use Rattle.std.specs.Prelude.{◌≡◌, IfErr, MatchOption, is_none, is_some, true};
 ghost use Rattle.std.specs.List.{list_any};
@@ -18,7 +18,8 @@ use brk_trade::{CashText, SettlementText, TextUpdate, TradeRow};
 use sqlite::Alter;
 use std::alloc::Global;
 
-/// The trades with these ids, where there are such trades: none where one of them is missing.
+/// Returns the trades with these ids, in the order of the ids, or `None` if one of them does not
+/// exist. Fails with `Memory` or `Store` only.
 pub fn find_trades<S: Alter>(
     alloc: Global,
     store: &mut Store<S>,
@@ -39,7 +40,7 @@ pub fn find_trades<S: Alter>(
     Ok(Some(trades))
 }
 
-// The trades of an account that are chosen, each with the word of its settlement.
+// Returns the selected trades of an account, each with the cash type of its settlement.
 fn find_settled<S: Alter>(
     alloc: Global,
     store: &mut Store<S>,
@@ -62,7 +63,7 @@ fn find_settled<S: Alter>(
     Ok(settled)
 }
 
-// The trades of a symbol that are chosen, each with the text of what it moved.
+// Returns the selected cash trades of a symbol, each with the name of its cash row.
 fn find_paid<S: Alter>(
     alloc: Global,
     store: &mut Store<S>,
@@ -86,6 +87,7 @@ fn find_paid<S: Alter>(
     Ok(paid)
 }
 
+// Returns the trades of an update of executors, or `None` if one of them does not exist.
 pub(crate) fn find_executors<S: Alter>(
     alloc: Global,
     store: &mut Store<S>,
@@ -100,6 +102,7 @@ pub(crate) fn find_executors<S: Alter>(
     }
 }
 
+// Returns true if the account exists.
 fn is_account_there<S: Alter>(store: &mut Store<S>, account: Id) -> Result<bool, Fault>
     ensures read { ReadPost S.Store store.old store.new result (λ there t. there ≡ is_some (account_in t account)) }
     ensures fault { IfErr result MayFail }
@@ -107,6 +110,7 @@ fn is_account_there<S: Alter>(store: &mut Store<S>, account: Id) -> Result<bool,
     Ok(store.account(account)?.is_some())
 }
 
+// Returns the trades of an update of cash types, or `None` if the account does not exist.
 pub(crate) fn find_cash_types<S: Alter>(
     alloc: Global,
     store: &mut Store<S>,
@@ -123,7 +127,7 @@ pub(crate) fn find_cash_types<S: Alter>(
     Ok(Some(TextUpdate::CashTypes(settled)))
 }
 
-// The name of the security with a symbol, where there is such a security.
+// Returns the name of the security with a symbol, or `None` if the security does not exist.
 fn name_of<S: Alter>(store: &mut Store<S>, symbol: &Symbol) -> Result<Option<Name>, Fault>
     ensures read { ReadPost S.Store store.old store.new result (λ name t. MatchOption name (is_none (security_in t symbol.now) ≡ true) (IsNamed t symbol.now)) }
     ensures fault { IfErr result MayFail }
@@ -134,6 +138,7 @@ fn name_of<S: Alter>(store: &mut Store<S>, symbol: &Symbol) -> Result<Option<Nam
     }
 }
 
+// Returns the trades of an update of cash names, or `None` if the security does not exist.
 pub(crate) fn find_cash_names<S: Alter>(
     alloc: Global,
     store: &mut Store<S>,

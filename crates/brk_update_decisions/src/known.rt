@@ -1,4 +1,4 @@
-//! What tells the words of a completed trade, which has to be there: where it is not, that is a fault of the store.
+//! Reads of the texts of a completed trade. If its row does not exist, the fault is `Store`.
 
 ghost use Rattle.std.specs.Prelude.{◌≡◌, IfErr, Some, option_map, string_bytes};
 ghost use Rattle.brk_changes.specs.Rows.{cash_type_word};
@@ -11,7 +11,7 @@ use brk_store::Store;
 use brk_trade::CashType;
 use sqlite::Alter;
 
-// How a trade is settled; a trade that is not is a fault of the store.
+// Returns the cash type of a trade's settlement. Fails with `Store` if the trade has none.
 pub(crate) fn known_cash_type<S: Alter>(store: &mut Store<S>, trade: Id) -> Result<CashType, Fault>
     ensures read { ReadPost S.Store store.old store.new result (λ cash_type t. Some (cash_type_word cash_type) ≡ option_map (λ s. s.cash_type) (settlement_in t trade)) }
     ensures fault { IfErr result MayFail }
@@ -22,7 +22,7 @@ pub(crate) fn known_cash_type<S: Alter>(store: &mut Store<S>, trade: Id) -> Resu
     }
 }
 
-// The text of what a trade moved; a trade that moved nothing is a fault of the store.
+// Returns the name of a trade's cash row (CM_NAME). Fails with `Store` if the trade has none.
 pub(crate) fn known_cash_name<S: Alter>(store: &mut Store<S>, trade: Id) -> Result<String, Fault>
     ensures read { ReadPost S.Store store.old store.new result (λ name t. Some (string_bytes name) ≡ option_map (λ c. c.name) (cash_in t trade)) }
     ensures fault { IfErr result MayFail }

@@ -1,4 +1,5 @@
-//! What is decided on a correction of words: the trades that it chooses are read, and it is refused or planned.
+//! Decisions on text updates: each reads the trades that the update selects and returns a plan or a
+//! refusal.
 #![tactic(auto)]
 
 pub mod correcting;

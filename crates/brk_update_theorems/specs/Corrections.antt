@@ -1,4 +1,4 @@
--- What is known where a correction of words is planned, and what it leaves as it is.
+-- The preconditions of planning a text update, and the rows and columns that it does not change.
 use Rattle.std.specs.Prelude.{◌≡◌, ◌≤◌, ℕ, ◌==◌, true, false, is_none, List, [], find, map, Option, Some, option_map, MatchOption, Bool, string_bytes}
 use Rattle.std.specs.List.{list_any}
 use Rattle.brk_money.specs.Moments.{last_stamp}
@@ -24,57 +24,58 @@ use Rattle.brk_plans.specs.declared.corrected.SettlementText.{SettlementText}
 use Rattle.brk_book_theorems.specs.Books.{BooksInvariant}
 use Rattle.brk_book_theorems.specs.Steps.{base_then}
 
--- ---- what is found
+-- ---- facts
 
--- what a trade settles for
+-- The settlement of the trade, or `None` if it has none.
 abbrev pub settlement_in : Tables → ℕ → Option SettlementRow
 settlement_in t trade = find (λ r. r.trade == trade) t.settlements
 
--- what a trade moved
+-- The cash row of the trade, or `None` if it has none.
 abbrev pub cash_in : Tables → ℕ → Option MoveRow
 cash_in t trade = find (is_cash_of trade) t.moves
 
--- the trades with some ids, each of them
+-- The trades are those with the ids `ids`, in this order, and each of them exists.
 abbrev pub AreTradesOf : Tables → List ℕ → List row.TradeRow → Type 0
 AreTradesOf t ids trades = map (λ r. Some (trade_row_of r)) trades ≡ map (trade_in t) ids
 
--- a trade, whether it is in cash, and the word of its settlement
+-- A trade, whether it is a cash trade, and its settlement text.
 abbrev pub SettledRow : Type 0
 SettledRow = ℕ × Bool × Option Text
 
--- as it was found
+-- The settlement text as it was read.
 abbrev pub settled_row : SettlementText → SettledRow
 settled_row s = (s.trade, s.is_cash, Some (cash_type_word s.cash_type))
 
--- as the tables have it
+-- The settlement text of the trade in the tables.
 abbrev pub settled_in : Tables → TradeRow → SettledRow
 settled_in t r = (r.id, r.is_cash, option_map (λ s. s.cash_type) (settlement_in t r.id))
 
--- a trade, its type and quantity, and the text of what it moved
+-- A trade, its type and quantity, and its cash text.
 abbrev pub PaidRow : Type 0
 PaidRow = ℕ × TradeType × ℕ × Option Text
 
--- as it was found
+-- The cash text as it was read.
 abbrev pub paid_row : CashText → PaidRow
 paid_row p = (p.trade, p.kind, p.qty, Some (string_bytes p.name))
 
--- as the tables have it
+-- The cash text of the trade in the tables.
 abbrev pub paid_in : Tables → TradeRow → PaidRow
 paid_in t r = (r.id, r.kind, r.qty, option_map (λ c. c.name) (cash_in t r.id))
 
--- these trades, each with the word of its settlement
+-- The settlement texts are those of the trades in the tables.
 abbrev pub AreSettled : Tables → List TradeRow → List SettlementText → Type 0
 AreSettled t trades settled = map settled_row settled ≡ map (settled_in t) trades
 
--- these trades, each with the text of what it moved
+-- The cash texts are those of the trades in the tables.
 abbrev pub ArePaid : Tables → List TradeRow → List CashText → Type 0
 ArePaid t trades paid = map paid_row paid ≡ map (paid_in t) trades
 
--- a security's name
+-- The security of the symbol exists and has this name.
 abbrev pub IsNamed : Tables → Text → Text → Type 0
 IsNamed t symbol name = option_map (λ s. s.name) (security_in t symbol) ≡ Some name
 
--- what an update of some kind finds
+-- The selected trades of the update are those in the tables, with the facts that make their new
+-- texts.
 abbrev pub IsCorrected : Tables → told.Update → TextUpdate → Type 0
 IsCorrected t (update.Executors ids) (corrected.Executors trades) = AreTradesOf t ids trades.items
 IsCorrected t (update.CashTypes account span) (corrected.CashTypes settled) =
@@ -83,64 +84,66 @@ IsCorrected t (update.CashNames symbol span) (corrected.CashNames name paid) =
     IsNamed t symbol name × ArePaid t (completed_cash_of_symbol symbol span.first span.last t) paid.items
 IsCorrected t _ _ = ⊥
 
--- what an update names is not there
+-- What the update names does not exist: one of its trades, its account or its security.
 abbrev pub IsMissing : Tables → told.Update → Type 0
 IsMissing t (update.Executors ids) = list_any (λ id. is_none (trade_in t id)) ids ≡ true
 IsMissing t (update.CashTypes account span) = is_none (account_in t account) ≡ true
 IsMissing t (update.CashNames symbol span) = is_none (security_in t symbol) ≡ true
 
--- what is found for an update: nothing where what it names is not there
+-- The facts of an update are those in the tables: `None` if what it names does not exist, otherwise
+-- its selected trades.
 abbrev pub IsFoundForUpdate : Tables → told.Update → Option TextUpdate → Type 0
 IsFoundForUpdate t u found = MatchOption found (IsMissing t u) (IsCorrected t u)
 
--- what is known where an update is planned: the base is in order, and what it names was read at a moment that there is
+-- The base is consistent, the facts of the update are read from its tables, and the clock reading
+-- is within the range of stamps.
 pub record IsReadForUpdate (base : Base) (u : told.Update) (found : Option TextUpdate) (last : Option ℕ) (now : ℕ) : Type 0 where
   pub books : BooksInvariant base
   pub found_read : IsFoundForUpdate (sheets base) u found
   pub last_read : last ≡ (sheets base).last
   pub moment : now ≤ last_stamp
 
--- ---- what stays
+-- ---- unchanged rows and columns
 
--- the tables after a command
+-- The tables after the command.
 abbrev pub sheets_then : Base → ℕ → Command → Tables
 sheets_then base now command = sheets (base_then base now command)
 
--- a row of a trade without the name of its executor
+-- The row of a trade without the name of its executor.
 abbrev pub no_name : TradeRow → TradeRow
 no_name r = record r { executor = [] }
 
--- rows of trades without the names of their executors
+-- The rows of trades without the names of their executors.
 abbrev pub nameless : List TradeRow → List TradeRow
 nameless rows = map no_name rows
 
--- a settlement without its word
+-- The settlement without its text.
 abbrev pub no_word : SettlementRow → SettlementRow
 no_word r = record r { cash_type = [] }
 
--- settlements without their words
+-- The settlements without their texts.
 abbrev pub wordless : List SettlementRow → List SettlementRow
 wordless rows = map no_word rows
 
--- a cash row without the text
+-- The cash row without its text.
 abbrev pub no_text : MoveRow → MoveRow
 no_text r = record r { name = [] }
 
--- cash rows without the texts
+-- The cash rows without their texts.
 abbrev pub textless : List MoveRow → List MoveRow
 textless rows = map no_text rows
 
--- a command changes names of executors and the last stamp, and nothing else
+-- The command changes only executors' names and the last stamp.
 pub record ChangesNamesAlone (base : Base) (now : ℕ) (command : Command) : Type 0 where
   pub others : sheets_then base now command ≡ with_last (next_stamp base now) (record (sheets base) { trades = (sheets_then base now command).trades })
   pub rows : nameless (sheets_then base now command).trades ≡ nameless (sheets base).trades
 
--- a command changes words of settlements and the last stamp, and nothing else
+-- The command changes only settlement texts and the last stamp.
 pub record ChangesWordsAlone (base : Base) (now : ℕ) (command : Command) : Type 0 where
   pub others : sheets_then base now command ≡ with_last (next_stamp base now) (record (sheets base) { settlements = (sheets_then base now command).settlements })
   pub rows : wordless (sheets_then base now command).settlements ≡ wordless (sheets base).settlements
 
--- a command changes texts of what trades moved and the last stamp, and nothing else
+-- The command changes only cash texts and the last stamp.
 pub record ChangesTextsAlone (base : Base) (now : ℕ) (command : Command) : Type 0 where
   pub others : sheets_then base now command ≡ with_last (next_stamp base now) (record (sheets base) { moves = (sheets_then base now command).moves })
   pub rows : textless (sheets_then base now command).moves ≡ textless (sheets base).moves

@@ -1,4 +1,4 @@
-//! What is planned of corrections from what was read is what the definitions say.
+//! Theorems: the plans of text updates implement their commands.
 
 ghost use Rattle.std.specs.Prelude.{◌≡◌, ◌∷◌, ◌++◌, [], ℕ, Err, List, Option, Some};
 ghost use Rattle.brk_money.specs.Spelling.{Text};
@@ -16,7 +16,8 @@ ghost use Rattle.brk_plans.specs.declared.plan.Plan.{Plan};
 ghost use Rattle.brk_trade_theorems.specs.Plans.{DoesCommand};
 ghost use Rattle.brk_update_theorems.specs.Corrections.{ChangesNamesAlone, ChangesTextsAlone, ChangesWordsAlone, IsReadForUpdate};
 
-/// A correction is refused by what was found of what it names as by the base; the plan of one that is not does the correction.
+/// Proves that the checks of an update against its facts refuse it as the base does, and that its
+/// plan implements the command.
 pub fn corrections_do_commands()
     ensures first { (base : Base) (update : Update) (found : Option TextUpdate) (last : Option ℕ) (now : ℕ) → IsReadForUpdate base update found last now
         → first_refusal (update_tests update found ++ clock_test last now ∷ []) ≡ refusal_of base now (update_of update) }
@@ -26,8 +27,8 @@ pub fn corrections_do_commands()
         → IsUpdate found last now plan → DoesCommand base now (update_of update) plan }
 {}
 
-/// A correction that is accepted changes one column of one table, and the last stamp: the executors' names of trades, the words of settlements, or
-/// the texts of what trades moved. Every other row stays: no status, moment, lot, sum or balance changes.
+/// Proves that an update changes one text column of one table, and the last stamp: executors'
+/// names, settlement texts or cash texts. All other rows and columns are unchanged.
 pub fn corrections_change_words_alone()
     ensures executors { (base : Base) (now : ℕ) (ids : List ℕ) → ChangesNamesAlone base now (ChangeExecutors ids) }
     ensures cash_types { (base : Base) (now account first last : ℕ) → ChangesWordsAlone base now (ChangeCashTypes account first last) }

@@ -1,5 +1,5 @@
-//! Laws of corrections of words: what is planned of the trades that were found for one is what the definitions say, and no table but that of
-//! the words changes. There is no code to call.
+//! Theorems about text updates: a plan from the trades that were read implements the command as
+//! specified, and changes only one text column. Proof-only: there is no code to call.
 #![tactic(auto)]
 
 pub mod corrections;

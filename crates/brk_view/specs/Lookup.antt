@@ -1,4 +1,4 @@
--- What is shown of trades that are looked up.
+-- The records of trades that are looked up.
 use Rattle.std.specs.Prelude.{◌≡◌, Bool, ◌==◌, nat_lt, List, [], ◌∷◌, ◌++◌, filter, map, codes, decimal, Option, option_map, option_to_list}
 use Rattle.std.specs.Option.{option_map_or}
 use Rattle.brk_changes.specs.Rows.{history_row_of, move_row_of, settlement_row_of, trade_row_of}
@@ -18,36 +18,43 @@ use Rattle.brk_money.specs.Spelling.{Text}
 use Rattle.brk_view.specs.declared.lookups.LookedUp.{LookedUp}
 use Rattle.brk_view.specs.declared.lookups.StatusMoment.{StatusMoment}
 
--- by rising stamp
+-- True if status `a` has the smaller stamp.
 abbrev pub older_moment : StatusMoment → StatusMoment → Bool
 older_moment a b = nat_lt a.stamp b.stamp
 
--- by rising stamp of the last status, then rising id
+-- True if trade `a` is before trade `b`: sorted by the stamp of the last status, then by id,
+-- ascending.
 abbrev pub older : TradeRow → TradeRow → Bool
 older a b = rising a.stamp b.stamp a.id b.id
 
--- a row of the history without its trade
+-- The status and the stamp of a history row, without its trade.
 abbrev pub moment_of : HistoryRow → StatusMoment
 moment_of r = record { stamp = r.stamp; status = r.status }
 
--- the record of a status that a trade came to
+-- The record of a status of a trade: the word `history`, its stamp and its code.
 abbrev pub moment_record : StatusMoment → List Text
 moment_record m = codes "history" ∷ decimal m.stamp ∷ status_code m.status ∷ []
 
--- the fifteen fields of a trade: how it stands, what was asked for and by whom, what it costs, and its conditions
+-- The fields of a trade from the word `trade` to its type, the first five of fifteen.
 abbrev pub state_fields : tables.TradeRow → List Text
 state_fields t = codes "trade" ∷ decimal t.id ∷ decimal t.stamp ∷ status_code t.status ∷ type_code t.kind ∷ []
 
+-- The fields of a trade from its symbol to its executor, the next four.
 abbrev pub term_fields : tables.TradeRow → List Text
 term_fields t = t.symbol ∷ decimal t.qty ∷ price_text t.bid ∷ t.executor ∷ []
 
+-- The fields of a trade from its price to its tax, the next four. The field of the price is empty
+-- if the trade was not completed.
 abbrev pub cost_fields : tables.TradeRow → List Text
 cost_fields t = option_map_or price_text t.price [] ∷ price_text t.charge ∷ price_text t.commission ∷ price_text t.tax ∷ []
 
+-- The last two fields of a trade: whether it is in cash, and whether it closes the newest lots
+-- first.
 abbrev pub condition_fields : tables.TradeRow → List Text
 condition_fields t = cash_word t.is_cash ∷ end_word t.is_lifo ∷ []
 
--- a trade, its settlement and its cash row where they are there, and its statuses
+-- The records of a trade: the trade, its settlement and its cash row if they exist, and its
+-- statuses.
 abbrev pub looked_up_records : LookedUp → View
 looked_up_records l =
     model.trade_record (trade_row_of l.trade)
@@ -55,7 +62,7 @@ looked_up_records l =
     ++ map model.cash_record (option_to_list (option_map move_row_of l.cash))
     ++ map moment_record l.history.items
 
--- what became of a trade stands in its rows
+-- The settlement, the cash row and the history are the rows that the tables `t` have of the trade.
 pub record IsOfTrade (t : Tables) (trade : TradeRow) (settlement : Option SettlementRow) (cash : Option MoveRow) (history : List HistoryRow) : Type 0 where
   pub settles : option_to_list (option_map settlement_row_of settlement) ≡ filter (λ s. s.trade == trade.id) t.settlements
   pub moves : option_to_list (option_map move_row_of cash) ≡ filter (model.is_cash_of trade.id) t.moves

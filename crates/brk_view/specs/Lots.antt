@@ -1,4 +1,4 @@
--- What is shown of the lots that a trade touched.
+-- The records of the lots that a trade touched.
 use Rattle.std.specs.Prelude.{◌≡◌, ℕ, Bool, nat_le, List, [], ◌∷◌, filter, map, take, decimal, Option, Some, None, option_map, option_to_list, IfSome}
 use Rattle.std.specs.Fmt.{signed_decimal}
 use Rattle.brk_model.specs.Joins.{oldest_first_rows, trades_in}
@@ -10,32 +10,34 @@ use Rattle.brk_money.specs.Spelling.{Text}
 use Rattle.brk_view.specs.declared.lots.LotTouch.{LotTouch}
 use Rattle.brk_view.specs.declared.lots.TouchedLots.{TouchedLots}
 
--- by rising stamp, then rising lot
+-- True if change `a` is before change `b`: sorted by stamp, then by lot, ascending.
 abbrev pub touch_before : LotTouch → LotTouch → Bool
 touch_before a b = rising a.stamp b.stamp a.change.lot b.change.lot
 
--- the record of a change
+-- The record of a change: its lot, its trade, and the shares of the lot before and after it.
 abbrev pub touch_record : LotTouch → List Text
 touch_record touch = decimal touch.change.lot ∷ decimal touch.change.trade ∷ signed_decimal touch.change.before ∷ signed_decimal touch.change.after ∷ []
 
--- the trade that was found, then the changes of its lots
+-- The records of the trade that was found and of the changes of its touched lots, or none if no
+-- trade was found.
 abbrev pub touched_records : Option TouchedLots → model.View
 touched_records None = []
 touched_records (Some lots) = (decimal lots.trade ∷ []) ∷ map touch_record lots.changes.items
 
--- a row of HOLDING_HISTORY with the stamp of its trade
+-- The change of a lot that a row of HOLDING_HISTORY records, with the stamp of its trade.
 abbrev pub touch_in : Tables → HoldingHistoryRow → LotTouch
 touch_in t row = record { change = record { lot = row.lot; trade = row.trade; before = row.before; after = row.after }; stamp = touch_stamp t row }
 
--- the changes of the lots that a trade touched
+-- All changes of the lots that the trade touched.
 abbrev pub touches_of : Tables → ℕ → List LotTouch
 touches_of t trade = map (touch_in t) (filter (λ row. is_touched_by t trade row.lot) t.holding_history)
 
--- the oldest trade of an account at or after a stamp
+-- The oldest trade of the account with a stamp of at least `first`, if there is one.
 abbrev pub first_since : Tables → ℕ → ℕ → List TradeRow
 first_since t account first = take 1 (oldest_first_rows (filter (λ row. nat_le first row.stamp) (trades_in t account)))
 
--- the oldest trade of an account at or after a stamp was found, with the first twenty changes of its lots; or there is none
+-- The lots are those that the account's oldest trade with a stamp of at least `first` touched, with
+-- their first 20 changes. They are `None` if there is no such trade.
 pub record IsTouched (t : Tables) (account first : ℕ) (lots : Option TouchedLots) : Type 0 where
   pub found : map (λ row. row.id) (first_since t account first) ≡ option_to_list (option_map (λ l. l.trade) lots)
   pub changes : IfSome lots (λ l. l.changes.items ≡ take 20 (sort_by touch_before (touches_of t l.trade)))

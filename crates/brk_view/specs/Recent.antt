@@ -1,4 +1,4 @@
--- What is shown of what an account did last.
+-- The records of the last trades of an account.
 use Rattle.std.specs.Prelude.{Bool, List, [], ◌∷◌, ◌++◌, map, codes, decimal}
 use Rattle.brk_changes.specs.Rows.{trade_row_of}
 use Rattle.brk_changes.specs.declared.history_row.HistoryRow.{HistoryRow}
@@ -9,18 +9,18 @@ use Rattle.brk_money.specs.Kinds.{status_name}
 use Rattle.brk_money.specs.Spelling.{Text}
 use Rattle.brk_view.specs.declared.recents.Activity.{Activity}
 
--- by falling stamp, then falling trade
+-- True if status `a` is before status `b`: sorted by stamp, then by trade, descending.
 abbrev pub newer : HistoryRow → HistoryRow → Bool
 newer a b = rising b.stamp a.stamp b.trade a.trade
 
--- the record of a trade
+-- The record of a trade: the word `trade`, its id, its symbol and its quantity.
 abbrev pub recent_trade : TradeRow → List Text
 recent_trade t = codes "trade" ∷ decimal t.id ∷ t.symbol ∷ decimal t.qty ∷ []
 
--- the record of a status that it came to
+-- The record of a status: the word `history`, its trade, its name and its stamp.
 abbrev pub recent_status : HistoryRow → List Text
 recent_status h = codes "history" ∷ decimal h.trade ∷ status_name h.status ∷ decimal h.stamp ∷ []
 
--- the trades, then their statuses
+-- The records of the trades, then those of their statuses.
 abbrev pub recent_records : Activity → model.View
 recent_records r = map recent_trade (map trade_row_of r.trades.items) ++ map recent_status r.history.items

@@ -1,4 +1,4 @@
--- What is shown of an account's trades.
+-- The records of an account's parties and trades.
 use Rattle.std.specs.Prelude.{List, [], ◌∷◌, ◌++◌, map, decimal, string_bytes}
 use Rattle.brk_changes.specs.declared.trade_row.TradeRow.{TradeRow}
 use Rattle.brk_model.specs.Queries as model
@@ -8,22 +8,23 @@ use Rattle.brk_money.specs.Spelling.{Text}
 use Rattle.brk_view.specs.declared.statuses.AccountStatus.{AccountStatus}
 use Rattle.brk_view.specs.declared.statuses.TradeStatus.{TradeStatus}
 
--- whose account it is, and whose client
+-- The record of the names of the account's customer (last, first) and of its broker.
 abbrev pub status_names : AccountStatus → List Text
 status_names a = a.last_name ∷ a.first_name ∷ a.broker ∷ []
 
--- the first five fields of a trade
+-- The first five fields of a trade, from its id to its symbol.
 abbrev pub status_fields : TradeRow → List Text
 status_fields t = decimal t.id ∷ decimal t.stamp ∷ status_name t.status ∷ type_name t.kind ∷ t.symbol ∷ []
 
--- the other five, the last two of its security
+-- The other five fields of a trade, of which the last two are the name and the exchange of its
+-- security.
 abbrev pub term_fields : TradeStatus → List Text
 term_fields s = decimal s.trade.qty ∷ string_bytes s.trade.executor ∷ price_text s.trade.charge ∷ s.security.name ∷ s.security.exchange ∷ []
 
--- the record of a trade in its security
+-- The record of a trade, with ten fields.
 abbrev pub shown_trade : TradeStatus → List Text
 shown_trade s = status_fields s.trade ++ term_fields s
 
--- the names, then the trades
+-- The record of the names, then those of the trades.
 abbrev pub status_records : AccountStatus → model.View
 status_records a = status_names a ∷ map shown_trade a.trades.items

@@ -1,4 +1,4 @@
--- What a view is in the abstract brokerage: its records of texts.
+-- The view of the model that a `View` represents: its records of texts.
 use Rattle.std.specs.Prelude.{Bool, List, [], ◌∷◌, flat_map, map, decimal, pos, String, string_bytes}
 use Rattle.std.specs.Global.{Global, Vec}
 use Rattle.brk_plans.specs.declared.estimate.Estimate as estimate
@@ -18,25 +18,25 @@ use Rattle.brk_view.specs.declared.view.SubmittedTrade.{SubmittedTrade}
 use Rattle.brk_view.specs.declared.view.View.{View}
 use Rattle.brk_view.specs.declared.view.View.TheVariants as view
 
--- whether a trade is at the market
+-- True if the trade of the row is submitted.
 abbrev pub is_submitted : TradeRow → Bool
 is_submitted row = same_status row.status Submitted
 
--- what is shown of a row of TRADE that is at the market
+-- The record of a row of TRADE that is submitted: id, type, symbol, quantity and bid price.
 abbrev pub submitted_record : TradeRow → List Text
 submitted_record row = decimal row.id ∷ type_code row.kind ∷ row.symbol ∷ decimal row.qty ∷ price_text row.bid ∷ []
 
--- the record of a trade that is at the market
+-- The record of a submitted trade: id, type, symbol, quantity and bid price.
 abbrev pub trade_record : SubmittedTrade → List Text
 trade_record trade = decimal trade.id ∷ type_code trade.kind ∷ trade.symbol ∷ decimal trade.qty ∷ price_text trade.bid ∷ []
 
--- the record of an estimate
+-- The record of an estimate, with seven fields.
 abbrev pub estimate_record : estimate.Estimate → List Text
 estimate_record e =
     price_text e.price ∷ cents_text (pos e.buy_value) ∷ cents_text (pos e.sell_value) ∷ cents_text (pos e.tax) ∷ cents_text (pos e.commission) ∷ cents_text (pos e.charge)
     ∷ cents_text e.assets ∷ []
 
--- the records of a view
+-- The records of a view.
 abbrev pub fields_of : View → model.View
 fields_of (view.Position accounts) = map worth_record accounts.items
 fields_of (view.Recent recent) = recent_records recent
@@ -47,10 +47,10 @@ fields_of (view.Volume brokers) = map volume_record brokers.items
 fields_of (view.Submitted trades) = map trade_record trades.items
 fields_of (view.Estimate estimate) = estimate_record estimate ∷ []
 
--- the texts of a record
+-- The texts of a record.
 abbrev pub record_of : Vec (String Global) → List Text
 record_of texts = map string_bytes texts.items
 
--- the texts of some records
+-- The texts of a list of records.
 abbrev pub records_of : Vec (Vec (String Global)) → model.View
 records_of records = map record_of records.items

@@ -1,4 +1,4 @@
--- What is shown of what brokers have to trade.
+-- The records of the brokers' volumes, and the sequence of the brokers.
 use Rattle.std.specs.Prelude.{ℕ, ◌*◌, Bool, not, ◌&&◌, ◌||◌, nat_lt, int_lt, List, [], ◌∷◌, length, decimal, pos, bytes_eq}
 use Rattle.std.specs.List.{list_any}
 use Rattle.brk_model.specs.Lists.{text_before}
@@ -7,26 +7,27 @@ use Rattle.brk_model.specs.VolumeView.{requests_in, volume_in}
 use Rattle.brk_money.specs.Spelling.{Text, cents_text}
 use Rattle.brk_view.specs.declared.volumes.BrokerVolume.{BrokerVolume}
 
--- by rising name, then rising id
+-- True if broker `a` is before broker `b`: sorted by name, then by id, ascending.
 abbrev pub name_before : BrokerVolume → BrokerVolume → Bool
 name_before a b = text_before a.name b.name || (bytes_eq a.name b.name && nat_lt a.broker b.broker)
 
--- by falling volume, then name, then id
+-- True if broker `a` is before broker `b`: sorted by volume, descending, then by name and id,
+-- ascending.
 abbrev pub volume_before : BrokerVolume → BrokerVolume → Bool
 volume_before a b = int_lt b.volume a.volume || (not (int_lt a.volume b.volume) && name_before a b)
 
--- the record of a broker
+-- The record of a broker: name, id and volume.
 abbrev pub volume_record : BrokerVolume → List Text
 volume_record v = v.name ∷ decimal v.broker ∷ cents_text v.volume ∷ []
 
--- the worth of a request
+-- The value of a request at its bid price, in cents.
 abbrev pub request_worth : RequestRow → ℕ
 request_worth r = r.qty * r.bid
 
--- what a broker has to trade in a sector
+-- The volume of a broker in a sector, in cents, with its id and name.
 abbrev pub broker_volume : Tables → Text → BrokerRow → BrokerVolume
 broker_volume t sector b = record { broker = b.id; name = b.name; volume = pos (volume_in t sector b.id) }
 
--- whether a broker has one of some names, and something to trade in a sector
+-- True if the broker has one of the names, and a pending request in the sector.
 abbrev pub is_shown : Tables → Text → List Text → BrokerRow → Bool
 is_shown t sector names b = list_any (bytes_eq b.name) names && nat_lt 0 (length (requests_in t sector b.id))

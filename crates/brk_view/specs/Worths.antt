@@ -1,18 +1,18 @@
--- What an account is worth, and what is shown of it.
+-- The balance and the market value of an account, and their record.
 use Rattle.std.specs.Prelude.{Bool, not, ◌&&◌, ◌||◌, nat_lt, int_lt, List, [], ◌∷◌, decimal}
 use Rattle.brk_money.specs.Spelling.{Text, cents_text}
 use Rattle.brk_model.specs.PositionView.{asset_total}
 use Rattle.brk_model.specs.Tables.{Tables, AccountRow}
 use Rattle.brk_view.specs.declared.worths.AccountWorth.{AccountWorth}
 
--- the balance of an account, and the worth of its summaries
+-- The balance of an account, and the market value of its summaries.
 abbrev pub worth_in : Tables → AccountRow → AccountWorth
 worth_in t a = record { account = a.id; balance = a.balance; assets = asset_total t a }
 
--- by rising worth, then id
+-- True if account `a` is before account `b`: sorted by market value, then by id, ascending.
 abbrev pub worth_before : AccountWorth → AccountWorth → Bool
 worth_before a b = int_lt a.assets b.assets || (not (int_lt b.assets a.assets) && nat_lt a.account b.account)
 
--- the record of an account
+-- The record of an account: id, balance and market value.
 abbrev pub worth_record : AccountWorth → List Text
 worth_record a = decimal a.account ∷ cents_text a.balance ∷ cents_text a.assets ∷ []

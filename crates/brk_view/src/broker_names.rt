@@ -11,7 +11,7 @@ use brk_ref::Name;
 use std::alloc::Global;
 use std::marker::Model;
 
-/// Different names of brokers in the order in which they are told, 1 to 20 of them.
+/// Different broker names, 1 to 20, in the order in which they were read.
 #[derive(Drop)]
 pub struct BrokerNames {
     names: Vec<Name>,
@@ -29,10 +29,10 @@ impl Model for BrokerNames {
 }
 
 impl BrokerNames {
-    /// The most names that are told at once.
+    /// The greatest number of names.
     pub const MOST: usize = 20;
 
-    // These names, of which none stands twice, or the refusal of none (18) or of too many (20).
+    // Returns the names, which are different. Refuses none (18) and more than 20 (20).
     fn of(names: Vec<Name>) -> Result<BrokerNames, Refusal>
         requires { distinct_texts names.items ≡ names.items }
         ensures { Reads (λ told. told) result (some_of names.items) }
@@ -46,7 +46,7 @@ impl BrokerNames {
         Ok(BrokerNames { names })
     }
 
-    /// The names in their order.
+    /// Returns the names in their order.
     pub fn names(&self) -> &[Name]
         ensures names { result.now ≡ self.now }
         ensures distinct { distinct_texts result.now ≡ result.now }
@@ -55,14 +55,14 @@ impl BrokerNames {
     }
 }
 
-// Whether a name is among some.
+// Returns true if a name is one of `names`.
 fn is_among(name: &Name, names: &[Name]) -> bool
     ensures { result ≡ is_named names.now name.now }
 {
     names.iter().any(|other| name.as_str() == other.as_str())
 }
 
-// Adds a name, where it is not there yet.
+// Adds a name if it is not one of `names`. Fails with `Memory` only.
 #[tactic(auto, using(crate::proofs::Distinct::still_distinct))]
 fn add_once(names: &mut Vec<Name>, name: Name) -> Result<(), Fault>
     ensures names { OnOk result (names.new.items ≡ with_name names.old.items name) }
@@ -74,7 +74,7 @@ fn add_once(names: &mut Vec<Name>, name: Name) -> Result<(), Fault>
     Ok(())
 }
 
-// The names that the fields spell, each once, where it first stands.
+// Parses names and returns each once, at its first position. Fails with `Memory` only.
 fn names_from(alloc: Global, fields: &[&[u8]]) -> Planned<Vec<Name>>
     ensures read { IfOk result (λ read. Reads names_in read (each_once (read_each read_name (texts fields.now)))) }
     ensures distinct { IfOk result (λ read. IfOk read (λ names. distinct_texts names.items ≡ names.items)) }
@@ -90,8 +90,8 @@ fn names_from(alloc: Global, fields: &[&[u8]]) -> Planned<Vec<Name>>
     Ok(Ok(names))
 }
 
-/// The names of brokers that the fields spell, each counted once, or the refusal of their form: 1 to 20 of them. All fields
-/// are tested before the number of names.
+/// Parses broker names, each counted once, or returns the refusal of their form: 1 to 20 names are
+/// allowed. All fields are checked before the number of names. Fails with `Memory` only.
 pub fn check_names(alloc: Global, fields: &[&[u8]]) -> Planned<BrokerNames>
     ensures read { IfOk result (λ read. Reads (λ names. names) read (read_names (texts fields.now))) }
     ensures fault { OnErr result (result ≡ Err Memory) }

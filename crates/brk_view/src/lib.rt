@@ -1,4 +1,4 @@
-//! What can be asked of a desk, and what it answers: queries read from texts, and views made of typed rows.
+//! Queries to a desk and its views: queries parsed from texts, and views made of typed rows.
 #![tactic(auto)]
 
 pub mod broker_names;

@@ -1,4 +1,4 @@
-//! Trades looked up, with what became of them.
+//! Trades that are looked up, with their settlement, cash row and history.
 
 ghost use Rattle.std.specs.Prelude.{◌≡◌, ◌&&◌, ◌==◌, ℕ, Bool, Err, IfOk, List, OnErr, bytes_eq, filter, flat_map, map, take};
 ghost use Rattle.brk_changes.specs.Rows.{trade_row_of};
@@ -16,7 +16,7 @@ use brk_changes::{HistoryRow, MoveRow, SettlementRow, TradeRow};
 use brk_money::{Fault, Stamp, Status};
 use std::alloc::Global;
 
-/// When a trade came to a status.
+/// A status of a trade and its stamp.
 #[derive(Clone, Copy)]
 pub struct StatusMoment {
     pub stamp: Stamp,
@@ -42,19 +42,19 @@ impl Ranked for TradeRow {
     }
 }
 
-/// A trade with what became of it.
+/// A trade with its settlement, cash row and history.
 #[derive(Drop)]
 pub struct LookedUp {
     pub trade: TradeRow,
-    /// What it settles for, where it is completed.
+    /// The settlement, or `None` if the trade has none.
     pub settlement: Option<SettlementRow>,
-    /// What it moved, where it is completed and in cash.
+    /// The cash row, or `None` if the trade has none.
     pub cash: Option<MoveRow>,
-    /// When it came to its statuses, the oldest first.
+    /// The statuses, the oldest first.
     pub history: Vec<StatusMoment>,
 }
 
-// The moments of a trade's statuses, the oldest first.
+// Returns the statuses of a trade, the oldest first. Fails with `Memory` only.
 fn moments_of(alloc: Global, history: &[HistoryRow]) -> Result<Vec<StatusMoment>, Fault>
     ensures order { IfOk result (λ moments. moments.items ≡ sort_by older_moment (map moment_of history.now)) }
     ensures fault { OnErr result (result ≡ Err Memory) }
@@ -69,7 +69,8 @@ fn moments_of(alloc: Global, history: &[HistoryRow]) -> Result<Vec<StatusMoment>
     in_order(alloc, moments)
 }
 
-/// A trade with what became of it, given the rows of its settlement, its cash and its history.
+/// Returns a trade with its settlement, its cash row and its history, which it sorts, the oldest
+/// first. Fails with `Memory` only.
 #[tactic(auto, using(crate::proofs::Shown::one_shown))]
 pub fn looked_up(
     alloc: Global,
@@ -90,7 +91,8 @@ pub fn looked_up(
     })
 }
 
-/// Trades by the moments of their last statuses, and those of one moment by id: the oldest first.
+/// Sorts trades by the stamp of their last status, then by id: the oldest first. Fails with
+/// `Memory` only.
 #[tactic(auto, using(crate::proofs::Shown::older_shown))]
 pub fn oldest_first(alloc: Global, trades: Vec<TradeRow>) -> Result<Vec<TradeRow>, Fault>
     ensures order { IfOk result (λ ordered. map trade_row_of ordered.items ≡ oldest_first_rows (map trade_row_of trades.items)) }
@@ -99,8 +101,8 @@ pub fn oldest_first(alloc: Global, trades: Vec<TradeRow>) -> Result<Vec<TradeRow
     in_order(alloc, trades)
 }
 
-/// The view of trades that were named by their ids (Trade-Lookup), given them with what became of them, the oldest first.
-/// It takes no memory.
+/// Returns the view of trades selected by their ids (Trade-Lookup). The caller passes them with
+/// their settlement, cash row and history, the oldest first. Does not allocate.
 pub fn lookup_ids(trades: Vec<LookedUp>) -> View
     ensures shown { fields_of result ≡ flat_map looked_up_records trades.items }
     ensures view { (t : Tables) (ids : List ℕ)
@@ -110,8 +112,8 @@ pub fn lookup_ids(trades: Vec<LookedUp>) -> View
     View::Lookup(trades)
 }
 
-/// The view of an account's trades between two stamps (Trade-Lookup), given the first twenty with what became of them, the
-/// oldest first. It takes no memory.
+/// Returns the view of an account's trades between two stamps (Trade-Lookup). The caller passes the
+/// first 20 with their settlement, cash row and history, the oldest first. Does not allocate.
 pub fn lookup_account(trades: Vec<LookedUp>) -> View
     ensures shown { fields_of result ≡ flat_map looked_up_records trades.items }
     ensures view { (t : Tables) (account first last : ℕ)
@@ -121,8 +123,8 @@ pub fn lookup_account(trades: Vec<LookedUp>) -> View
     View::Lookup(trades)
 }
 
-/// The view of a security's trades between two stamps (Trade-Lookup), given the first twenty with what became of them, the
-/// oldest first. It takes no memory.
+/// Returns the view of a symbol's trades between two stamps (Trade-Lookup). The caller passes the
+/// first 20 with their settlement, cash row and history, the oldest first. Does not allocate.
 pub fn lookup_symbol(trades: Vec<LookedUp>) -> View
     ensures shown { fields_of result ≡ flat_map looked_up_records trades.items }
     ensures view { (t : Tables) (symbol : List ℕ) (first last : ℕ)

@@ -8,7 +8,7 @@ use brk_money::{Id, Planned, Refusal};
 use brk_orders::{TradeIds, check_ids};
 use std::alloc::Global;
 
-/// Different trades that are asked for by their ids, 1 to 20 of them.
+/// Different trade ids, 1 to 20.
 #[derive(Drop)]
 pub struct NamedTrades {
     pub trades: TradeIds,
@@ -17,7 +17,8 @@ pub struct NamedTrades {
 }
 
 impl NamedTrades {
-    /// These trades, or the refusal of one that is named twice or of none (18), or of too many (20). It takes no memory.
+    /// Returns the trades. Refuses an id that is repeated and no id at all (18), and more than 20
+    /// (20). Does not allocate.
     pub fn new(ids: Vec<Id>) -> Result<NamedTrades, Refusal>
         ensures { Reads (λ named. named.trades) result (distinct_ids ids.items) }
     {
@@ -28,7 +29,7 @@ impl NamedTrades {
     }
 }
 
-/// The trades that the fields name, or the refusal of their form.
+/// Parses the trades, or returns the refusal of their form. Fails with `Memory` only.
 pub fn check_named(alloc: Global, fields: &[&[u8]]) -> Planned<NamedTrades>
     ensures read { IfOk result (λ read. Reads (λ named. named.trades) read (read_ids (texts fields.now))) }
     ensures fault { OnErr result (result ≡ Err Memory) }

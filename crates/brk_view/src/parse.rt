@@ -16,7 +16,7 @@ use brk_money::{Planned, Refusal};
 use brk_orders::check_order;
 use std::alloc::Global;
 
-// The query of what is at the market, which has no argument.
+// Parses the query of the submitted trades, which has no argument.
 fn parse_submitted(arguments: &[&[u8]]) -> Result<Query, Refusal>
     ensures { Reads query_of result (read_none SubmittedTrades (texts arguments.now)) }
 {
@@ -26,7 +26,7 @@ fn parse_submitted(arguments: &[&[u8]]) -> Result<Query, Refusal>
     Ok(Query::Submitted)
 }
 
-// The query of an order's estimate, whose arguments are the fields of the order.
+// Parses the query of an order's estimate. Its arguments are the fields of the order.
 fn parse_estimate(alloc: Global, arguments: &[&[u8]]) -> Planned<Query>
     ensures read { IfOk result (λ read. Reads query_of read (read_as EstimateOf read_order (texts arguments.now))) }
     ensures fault { OnErr result (result ≡ Err Memory) }
@@ -37,7 +37,7 @@ fn parse_estimate(alloc: Global, arguments: &[&[u8]]) -> Planned<Query>
     }
 }
 
-// The query of one of the views of trades looked up, or of what brokers have to trade.
+// Parses a query of a lookup view or of the volume view.
 fn parse_lookup_view(alloc: Global, view: &str, arguments: &[&[u8]]) -> Planned<Query>
     ensures read { IfOk result (λ read. Reads query_of read (parse_by (lookup_views ++ volume_views) (view.now ∷ texts arguments.now))) }
     ensures fault { OnErr result (result ≡ Err Memory) }
@@ -52,7 +52,7 @@ fn parse_lookup_view(alloc: Global, view: &str, arguments: &[&[u8]]) -> Planned<
     }
 }
 
-// The query of one of the views of accounts, or of a view after them.
+// Parses a query of an account view, of a lookup view or of the volume view.
 fn parse_account_view(alloc: Global, view: &str, arguments: &[&[u8]]) -> Planned<Query>
     ensures read { IfOk result (λ read. Reads query_of read (parse_by (account_views ++ lookup_views ++ volume_views) (view.now ∷ texts arguments.now))) }
     ensures fault { OnErr result (result ≡ Err Memory) }
@@ -66,14 +66,16 @@ fn parse_account_view(alloc: Global, view: &str, arguments: &[&[u8]]) -> Planned
     }
 }
 
-/// The query that a view's name and its arguments are, or the refusal of their form. An unknown name is `BadText`, and so
-/// is a wrong number of arguments.
+/// Parses a query from the name of its view and its arguments, or returns the refusal of their
+/// form. Refuses an unknown name or a wrong number of arguments with `BadText`. Fails with `Memory`
+/// only.
 ///
-/// `submitted` has no argument, and `estimate` the ten fields of an order, with their refusals. `customer` has the id of a
-/// customer, `taxid` a tax id, `recent` and `status` the id of an account. `trades` has 1 to 20 different ids of trades,
-/// `accounttrades` an account and two stamps, `symboltrades` a symbol and two stamps, `lots` an account and a stamp.
-/// `volume` has a sector and 1 to 20 names of brokers, each counted once. More than 20 ids or names are `TooMany`, where
-/// nothing else is out of form.
+/// `submitted` has no argument, and `estimate` the ten fields of an order, with their refusals.
+/// `customer` has the id of a customer, `taxid` a tax id, `recent` and `status` the id of an
+/// account. `trades` has 1 to 20 different trade ids, `accounttrades` an account and two stamps,
+/// `symboltrades` a symbol and two stamps, `lots` an account and a stamp. `volume` has a sector and
+/// 1 to 20 broker names, each counted once. More than 20 ids or names are refused with `TooMany`,
+/// if the arguments are otherwise well-formed.
 #[tactic(auto, unfolding(brk_model::specs::Ask::parse_query))]
 pub fn parse_query(alloc: Global, view: &str, arguments: &[&[u8]]) -> Planned<Query>
     ensures read { IfOk result (λ read. Reads query_of read (model.parse_query view.now (texts arguments.now))) }

@@ -12,7 +12,7 @@ use brk_money::{Planned, Refusal};
 use brk_ref::{TaxId, parse_id};
 use std::alloc::Global;
 
-// The query of a customer's accounts.
+// Parses the query of the accounts of a customer.
 pub(crate) fn parse_position(arguments: &[&[u8]]) -> Result<Query, Refusal>
     ensures { Reads query_of result (read_one (read_as PositionOf read_id) (texts arguments.now)) }
 {
@@ -25,7 +25,7 @@ pub(crate) fn parse_position(arguments: &[&[u8]]) -> Result<Query, Refusal>
     Ok(Query::Position(customer))
 }
 
-// The query of the accounts of the customer with a tax id.
+// Parses the query of the accounts of the customer with a tax id.
 pub(crate) fn parse_position_of_tax_id(alloc: Global, arguments: &[&[u8]]) -> Planned<Query>
     ensures read { IfOk result (λ read. Reads query_of read (read_one (read_as PositionOfTaxId read_tax_id) (texts arguments.now))) }
     ensures fault { OnErr result (result ≡ Err Memory) }
@@ -39,7 +39,7 @@ pub(crate) fn parse_position_of_tax_id(alloc: Global, arguments: &[&[u8]]) -> Pl
     Ok(Ok(Query::PositionOfTaxId(tax_id)))
 }
 
-// The query of what an account did last.
+// Parses the query of an account's last trades and statuses.
 pub(crate) fn parse_recent(arguments: &[&[u8]]) -> Result<Query, Refusal>
     ensures { Reads query_of result (read_one (read_as RecentOf read_id) (texts arguments.now)) }
 {
@@ -52,7 +52,7 @@ pub(crate) fn parse_recent(arguments: &[&[u8]]) -> Result<Query, Refusal>
     Ok(Query::Recent(account))
 }
 
-// The query of whose account it is, and of its last trades.
+// Parses the query of an account's parties and its last trades.
 pub(crate) fn parse_status(arguments: &[&[u8]]) -> Result<Query, Refusal>
     ensures { Reads query_of result (read_one (read_as StatusOf read_id) (texts arguments.now)) }
 {

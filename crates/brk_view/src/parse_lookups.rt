@@ -15,7 +15,7 @@ use brk_orders::{Span, parse_stamp};
 use brk_ref::{Name, Symbol, parse_id};
 use std::alloc::Global;
 
-// The query of trades by their ids.
+// Parses the query of trades by their ids.
 pub(crate) fn parse_trades(alloc: Global, arguments: &[&[u8]]) -> Planned<Query>
     ensures read { IfOk result (λ read. Reads query_of read (read_as TradesWith read_ids (texts arguments.now))) }
     ensures fault { OnErr result (result ≡ Err Memory) }
@@ -26,7 +26,7 @@ pub(crate) fn parse_trades(alloc: Global, arguments: &[&[u8]]) -> Planned<Query>
     }
 }
 
-// The query of an account's trades between two stamps.
+// Parses the query of an account's trades between two stamps.
 pub(crate) fn parse_account_trades(arguments: &[&[u8]]) -> Result<Query, Refusal>
     ensures { Reads query_of result (read_span read_id (λ account first last. TradesOfAccount account first last) (texts arguments.now)) }
 {
@@ -46,7 +46,7 @@ pub(crate) fn parse_account_trades(arguments: &[&[u8]]) -> Result<Query, Refusal
     Ok(Query::AccountTrades { account, span })
 }
 
-// The query of a security's trades between two stamps.
+// Parses the query of a symbol's trades between two stamps.
 pub(crate) fn parse_symbol_trades(alloc: Global, arguments: &[&[u8]]) -> Planned<Query>
     ensures read { IfOk result (λ read. Reads query_of read (read_span read_symbol (λ symbol first last. TradesOfSymbol symbol first last) (texts arguments.now))) }
     ensures fault { OnErr result (result ≡ Err Memory) }
@@ -67,7 +67,7 @@ pub(crate) fn parse_symbol_trades(alloc: Global, arguments: &[&[u8]]) -> Planned
     Ok(Ok(Query::SymbolTrades { symbol, span }))
 }
 
-// The query of the lots that an account's first trade at or after a stamp touched.
+// Parses the query of the lots that an account's first trade at or after a stamp touched.
 pub(crate) fn parse_lots(arguments: &[&[u8]]) -> Result<Query, Refusal>
     ensures { Reads query_of result (read_lots (texts arguments.now)) }
 {
@@ -83,7 +83,8 @@ pub(crate) fn parse_lots(arguments: &[&[u8]]) -> Result<Query, Refusal>
     Ok(Query::Lots { account, first })
 }
 
-// The query of what brokers have to trade in a sector. All fields are tested before the number of names.
+// Parses the query of the brokers' volumes in a sector. All fields are checked before the number of
+// names.
 #[tactic(auto, using(brk_ref::proofs::Applied::text_left, brk_ref::proofs::Applied::text_right))]
 pub(crate) fn parse_volume(alloc: Global, arguments: &[&[u8]]) -> Planned<Query>
     ensures read { IfOk result (λ read. Reads query_of read (read_volume (texts arguments.now))) }

@@ -4,29 +4,31 @@ use brk_money::{Id, Stamp};
 use brk_orders::{Order, Span};
 use brk_ref::{Name, Symbol, TaxId};
 
-/// What is asked of a desk. A query is in form.
+/// A query to a desk. It is well-formed by construction.
 #[derive(Drop)]
 pub enum Query {
-    /// What the accounts of a customer are worth (Customer-Position).
+    /// The balances and market values of a customer's accounts (Customer-Position).
     Position(Id),
-    /// The same of the customer with a tax id.
+    /// The balances and market values of the accounts of the customer with a tax id
+    /// (Customer-Position).
     PositionOfTaxId(TaxId),
-    /// What an account did last (Customer-Position).
+    /// The last trades of an account and their statuses (Customer-Position).
     Recent(Id),
-    /// Whose account it is, and its last trades (Trade-Status).
+    /// The names of an account's customer and broker, and its last trades (Trade-Status).
     Status(Id),
-    /// The trades that are at the market.
+    /// The submitted trades.
     Submitted,
-    /// What an order would come to, were it placed now (Trade-Order).
+    /// The estimate of an order, as if it were placed now (Trade-Order).
     Estimate(Order),
-    /// These trades, with what became of them (Trade-Lookup).
+    /// These trades, with their settlement, cash row and history (Trade-Lookup).
     Trades(NamedTrades),
     /// The first trades of an account between two stamps (Trade-Lookup).
     AccountTrades { account: Id, span: Span },
-    /// The first trades of a security between two stamps (Trade-Lookup).
+    /// The first trades of a symbol between two stamps (Trade-Lookup).
     SymbolTrades { symbol: Symbol, span: Span },
-    /// What became of the lots that the first trade of an account at or after a stamp touched (Trade-Lookup).
+    /// The changes of the lots that the first trade of an account at or after a stamp touched
+    /// (Trade-Lookup).
     Lots { account: Id, first: Stamp },
-    /// What the brokers with these names have to trade in a sector (Broker-Volume).
+    /// The volumes of the brokers with these names in a sector (Broker-Volume).
     Volume { sector: Name, names: BrokerNames },
 }

@@ -1,4 +1,4 @@
-//! What an account did last.
+//! The last trades of an account and their statuses.
 
 ghost use Rattle.std.specs.Prelude.{◌≡◌, ◌++◌, ℕ, Err, IfOk, OnErr, flat_map, map};
 ghost use Rattle.brk_changes.specs.Rows.{history_row_of, trade_row_of};
@@ -16,7 +16,7 @@ use brk_changes::{HistoryRow, TradeRow};
 use brk_money::Fault;
 use std::alloc::Global;
 
-/// The last trades of an account, and when they came to their statuses.
+/// The last trades of an account, and their statuses with the stamps of these.
 #[derive(Drop)]
 pub struct Activity {
     /// The trades, the most recent first.
@@ -36,11 +36,12 @@ impl Ranked for HistoryRow {
     }
 }
 
-/// The view of what an account did last (Customer-Position), given its last trades, the most recent first, and all rows of
-/// their history, which it shows by falling stamp and then falling trade.
+/// Returns the view of an account's last trades (Customer-Position). The caller passes the trades,
+/// the most recent first, and all rows of their history, which are sorted by stamp, then by trade,
+/// descending. Fails with `Memory` only.
 pub fn recent(alloc: Global, trades: Vec<TradeRow>, history: Vec<HistoryRow>) -> Result<View, Fault>
     ensures shown { IfOk result (λ view. fields_of view ≡ map recent_trade (map trade_row_of trades.items) ++ map recent_status (sort_by newer history.items)) }
-    // Of the last ten trades of an account it is the view of the definitions.
+    // If the trades are the last ten of an account, the view equals the specified view.
     ensures view { IfOk result (λ view. (t : Tables) (account : ℕ)
         → map trade_row_of trades.items ≡ last_ten t account
         → map history_row_of history.items ≡ flat_map (λ row. history_in t row.id) (last_ten t account)

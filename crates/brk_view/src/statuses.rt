@@ -1,4 +1,4 @@
-//! Whose account it is, and its last trades.
+//! The parties of an account, and its last trades.
 
 ghost use Rattle.std.specs.Prelude.{◌≡◌, ◌==◌, ◌∷◌, [], ℕ, Some, filter, flat_map, map, take};
 ghost use Rattle.brk_changes.specs.Rows.{trade_row_of};
@@ -13,14 +13,14 @@ use crate::view::View;
 use brk_changes::TradeRow;
 use brk_ref::{Name, Security};
 
-/// A trade with the security that it is in.
+/// A trade with its security.
 #[derive(Drop)]
 pub struct TradeStatus {
     pub trade: TradeRow,
     pub security: Security,
 }
 
-/// Whose account it is, and its last trades, the most recent first.
+/// The parties of an account, and its last trades, the most recent first.
 #[derive(Drop)]
 pub struct AccountStatus {
     /// The last and the first name of the account's customer.
@@ -31,7 +31,7 @@ pub struct AccountStatus {
     pub trades: Vec<TradeStatus>,
 }
 
-/// A trade with the security that it is in. It takes no memory.
+/// Returns a trade with its security. Does not allocate.
 #[tactic(auto, using(crate::proofs::Shown::trade_shown))]
 pub fn trade_status(trade: TradeRow, security: Security) -> TradeStatus
     ensures shown { (t : Tables) → security_in t trade.symbol ≡ Some (security_of security) → shown_trade result ≡ status_record t (trade_row_of trade) }
@@ -39,12 +39,13 @@ pub fn trade_status(trade: TradeRow, security: Security) -> TradeStatus
     TradeStatus { trade, security }
 }
 
-/// The view of an account's trades (Trade-Status), given whose account it is and its last trades, the most recent first,
-/// each with its security. It takes no memory.
+/// Returns the view of an account's trades (Trade-Status). The caller passes the names of its
+/// parties and its last trades, the most recent first, each with its security. Does not allocate.
 #[tactic(auto, using(crate::proofs::Shown::status_shown))]
 pub fn status(account: AccountStatus) -> View
     ensures shown { fields_of result ≡ status_names account ∷ map shown_trade account.trades.items }
-    // Of the last fifty trades of an account that is there it is the view of the definitions.
+    // If the trades are the last fifty of an account that exists, the view equals the specified
+    // view.
     ensures view { (t : Tables) (id : ℕ)
         → flat_map (status_head t) (filter (λ a. a.id == id) t.accounts) ≡ status_names account ∷ []
         → map shown_trade account.trades.items ≡ map (status_record t) (take 50 (recent_first (trades_in t id)))

@@ -1,4 +1,4 @@
-//! The trades that are at the market, from their rows.
+//! The submitted trades, from their rows.
 
 ghost use Rattle.std.specs.Prelude.{◌≡◌, IfOk, OnErr, Err, filter, map};
 ghost use Rattle.brk_model.specs.Sheets.{sheets_of};
@@ -13,7 +13,7 @@ use brk_changes::TradeRow;
 use brk_money::Fault;
 use std::alloc::Global;
 
-// What is shown of a trade.
+// Returns the fields of a submitted trade that a view shows. Fails with `Memory` only.
 fn submitted_trade(row: &TradeRow) -> Result<SubmittedTrade, Fault>
     ensures shown { IfOk result (λ trade. trade_record trade ≡ submitted_record (trade_row_of row.now)) }
     ensures fault { OnErr result (result ≡ Err Memory) }
@@ -28,11 +28,12 @@ fn submitted_trade(row: &TradeRow) -> Result<SubmittedTrade, Fault>
     })
 }
 
-/// The view of trades that are at the market, given their rows of TRADE (Trade-Order). It shows each row in its turn and
-/// leaves out none, so the caller gives just those that are submitted, by rising id.
+/// Returns the view of the submitted trades (Trade-Order). It shows every row, in the given order,
+/// so the caller passes exactly the submitted rows, sorted by id. Fails with `Memory` only.
 pub fn submitted(alloc: Global, rows: &[TradeRow]) -> Result<View, Fault>
     ensures shown { IfOk result (λ view. fields_of view ≡ map submitted_record (map trade_row_of rows.now)) }
-    // Of the submitted rows of a table, as a store reads them, it is the view of the definitions.
+    // If the rows are the submitted rows of a table, as a store reads them, the view equals the
+    // specified view.
     ensures view { IfOk result (λ view. (t : Tables) → map trade_row_of rows.now ≡ filter is_submitted (sheets_of t).trades → fields_of view ≡ submitted_view t) }
     ensures fault { OnErr result (result ≡ Err Memory) }
 {

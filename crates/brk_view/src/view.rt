@@ -8,35 +8,38 @@ use brk_money::{Id, Price, Qty, TradeType};
 use brk_plans::Estimate;
 use brk_ref::Symbol;
 
-/// A trade that is at the market: it was sent there, and neither completed nor canceled.
+/// A submitted trade: it was sent to the market, and neither completed nor canceled.
 #[derive(Drop)]
 pub struct SubmittedTrade {
     pub id: Id,
     pub kind: TradeType,
     pub symbol: Symbol,
-    /// How many shares.
+    /// The number of shares.
     pub qty: Qty,
-    /// The price of a share that was asked for (T_BID_PRICE), in cents.
+    /// The bid price of a share (T_BID_PRICE), in cents.
     pub bid: Price,
 }
 
-/// What a query is answered with: records of texts, once `view_fields` writes them.
+/// The reply to a query, which `view_fields` writes as records of texts.
 #[derive(Drop)]
 pub enum View {
-    /// What a customer's accounts are worth, by rising assets and then id (Customer-Position).
+    /// The balances and market values of a customer's accounts, sorted by market value, then by id,
+    /// ascending (Customer-Position).
     Position(Vec<AccountWorth>),
     /// The last trades of an account and their statuses (Customer-Position).
     Recent(Activity),
-    /// Whose account it is, and its last trades (Trade-Status).
+    /// The names of an account's customer and broker, and its last trades (Trade-Status).
     Status(AccountStatus),
-    /// The trades that are at the market, by rising id.
+    /// The submitted trades, sorted by id, ascending.
     Submitted(Vec<SubmittedTrade>),
-    /// What an order would come to (Trade-Order).
+    /// The estimate of an order (Trade-Order).
     Estimate(Estimate),
-    /// Trades with what became of them, the oldest first (Trade-Lookup).
+    /// Trades with their settlement, cash row and history, the oldest first (Trade-Lookup).
     Lookup(Vec<LookedUp>),
-    /// What became of the lots that a trade touched (Trade-Lookup), or no trade.
+    /// The changes of the lots that a trade touched, or `None` if there is no such trade
+    /// (Trade-Lookup).
     Lots(Option<TouchedLots>),
-    /// What brokers have to trade in a sector, by falling volume, then name, then id (Broker-Volume).
+    /// The volumes of brokers in a sector, sorted by volume, descending, then by name and id,
+    /// ascending (Broker-Volume).
     Volume(Vec<BrokerVolume>),
 }

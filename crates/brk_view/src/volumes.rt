@@ -1,4 +1,4 @@
-//! What brokers have to trade.
+//! The volumes of brokers: the value of their pending requests.
 
 ghost use Rattle.std.specs.Prelude.{◌≡◌, ◌≤◌, Err, IfOk, List, OnErr, filter, map, pos, sum_by};
 ghost use Rattle.brk_changes.specs.Rows.{request_row_of};
@@ -19,16 +19,16 @@ use brk_ref::Name;
 use std::alloc::Global;
 use std::cmp::Ordering;
 
-/// What a broker has to trade.
+/// The volume of a broker.
 #[derive(Drop)]
 pub struct BrokerVolume {
     pub broker: Id,
     pub name: Name,
-    /// The worth of its pending requests at the prices that were asked for, in cents.
+    /// The value of its pending requests at their bid prices, in cents.
     pub volume: Wide,
 }
 
-// Whether a broker goes before another by its name, and where they share a name by its id.
+// Returns true if a broker is before another: sorted by name, then by id, ascending.
 #[tactic(auto, using(crate::proofs::Names::names_compared))]
 fn is_named_before(one: &BrokerVolume, other: &BrokerVolume) -> bool
     ensures { result ≡ name_before one.now other.now }
@@ -51,7 +51,7 @@ impl Ranked for BrokerVolume {
     }
 }
 
-// The worth of a request, in cents.
+// Returns the value of a request at its bid price, in cents.
 fn worth_of(request: &RequestRow) -> u128
     ensures worth { result ≡ request_worth (request_row_of request.now) }
     ensures limit { result ≤ 99999980000001 }
@@ -59,7 +59,7 @@ fn worth_of(request: &RequestRow) -> u128
     u128::from(request.qty.get()) * u128::from(request.bid.get())
 }
 
-/// The worth of some requests, in cents.
+/// Returns the value of requests at their bid prices, in cents.
 pub fn request_volume(requests: &[RequestRow]) -> Wide
     ensures { result ≡ pos (sum_by request_worth (map request_row_of requests.now)) }
 {
@@ -70,11 +70,13 @@ pub fn request_volume(requests: &[RequestRow]) -> Wide
     Wide::new(cents as i128)
 }
 
-/// The view of what brokers have to trade in a sector (Broker-Volume), given those with one of some names that have a pending
-/// request there: by falling volume, then name, then id.
+/// Returns the view of the brokers' volumes in a sector (Broker-Volume), sorted by volume,
+/// descending, then by name and id, ascending. The caller passes the brokers with one of the names
+/// and a pending request in the sector. Fails with `Memory` only.
 pub fn broker_volume(alloc: Global, brokers: Vec<BrokerVolume>) -> Result<View, Fault>
     ensures shown { IfOk result (λ view. fields_of view ≡ map volume_record (sort_by volume_before brokers.items)) }
-    // Of the brokers with these names that have a request, in whatever order, it is the view of the definitions.
+    // If the brokers are those with these names and a request, in any sequence, the view equals the
+    // specified view.
     ensures view { IfOk result (λ view. (t : Tables) (sector : Text) (names : List Text) (rows : List BrokerRow)
         → brokers.items ≡ map (volume.broker_volume t sector) rows
         → sort_by (by_volume t sector) rows ≡ sort_by (by_volume t sector) (filter (is_shown t sector names) t.brokers)

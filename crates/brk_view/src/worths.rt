@@ -1,4 +1,4 @@
-//! What the accounts of a customer are worth.
+//! The balances and market values of a customer's accounts.
 
 ghost use Rattle.std.specs.Prelude.{◌≡◌, ◌&&◌, ◌==◌, Bool, Err, IfOk, OnErr, filter, map};
 ghost use Rattle.std.specs.List.{list_any};
@@ -15,13 +15,13 @@ use crate::view::View;
 use brk_money::{Cents, Fault, Id, Wide};
 use std::alloc::Global;
 
-/// What an account is worth.
+/// The balance and the market value of an account.
 #[derive(Clone, Copy)]
 pub struct AccountWorth {
     pub account: Id,
     /// Its balance (CA_BAL), in cents.
     pub balance: Cents,
-    /// What it holds at the last prices, in cents; shares sold short count below 0.
+    /// The market value of its holdings at last prices, in cents. Shares sold short count below 0.
     pub assets: Wide,
 }
 
@@ -36,10 +36,12 @@ impl Ranked for AccountWorth {
     }
 }
 
-/// The view of a customer's accounts (Customer-Position), given what they are worth: by rising assets, then id.
+/// Returns the view of a customer's accounts (Customer-Position), sorted by market value, then by
+/// id, ascending. Fails with `Memory` only.
 pub fn position(alloc: Global, accounts: Vec<AccountWorth>) -> Result<View, Fault>
     ensures shown { IfOk result (λ view. fields_of view ≡ map worth_record (sort_by worth_before accounts.items)) }
-    // Of the accounts of the customers that pass a test it is the view of the definitions.
+    // If the accounts are those of the customers that pass a test, the view equals the specified
+    // view.
     ensures view { IfOk result (λ view. (t : Tables) (test : records.Customer → Bool)
         → accounts.items ≡ map (worth_in t) (filter (λ a. list_any (λ c. test c && (c.id == a.customer)) t.customers) t.accounts)
         → fields_of view ≡ position_view t test) }

@@ -1,4 +1,4 @@
-//! The records of views of accounts.
+//! The records of the views of accounts.
 
 ghost use Rattle.std.specs.Prelude.{◌≡◌, ◌∷◌, ◌++◌, [], Err, IfOk, OnErr, OnOk, map};
 ghost use Rattle.brk_changes.specs.Rows.{trade_row_of};
@@ -16,7 +16,7 @@ use brk_view::statuses::{AccountStatus, TradeStatus};
 use brk_view::worths::AccountWorth;
 use std::alloc::Global;
 
-// The record of an account.
+// Returns the record of an account.
 fn worth_texts(alloc: Global, account: &AccountWorth) -> Result<Vec<String>, Fault>
     ensures texts { IfOk result (λ texts. record_of texts ≡ worth_record account.now) }
     ensures fault { OnErr result (result ≡ Err Memory) }
@@ -28,7 +28,7 @@ fn worth_texts(alloc: Global, account: &AccountWorth) -> Result<Vec<String>, Fau
     Ok(texts)
 }
 
-// A record for each account.
+// Returns a record for each account. Fails with `Memory` only.
 pub(crate) fn worth_records(
     alloc: Global,
     accounts: &[AccountWorth],
@@ -44,7 +44,7 @@ pub(crate) fn worth_records(
     Ok(records)
 }
 
-// The record of one of the last trades.
+// Returns the record of one of the last trades.
 fn trade_texts(alloc: Global, trade: &TradeRow) -> Result<Vec<String>, Fault>
     ensures texts { IfOk result (λ texts. record_of texts ≡ recents.recent_trade (trade_row_of trade.now)) }
     ensures fault { OnErr result (result ≡ Err Memory) }
@@ -57,7 +57,7 @@ fn trade_texts(alloc: Global, trade: &TradeRow) -> Result<Vec<String>, Fault>
     Ok(texts)
 }
 
-// The record of a status that a trade came to.
+// Returns the record of a status of a trade.
 fn history_texts(alloc: Global, row: &HistoryRow) -> Result<Vec<String>, Fault>
     ensures texts { IfOk result (λ texts. record_of texts ≡ recents.recent_status row.now) }
     ensures fault { OnErr result (result ≡ Err Memory) }
@@ -70,7 +70,7 @@ fn history_texts(alloc: Global, row: &HistoryRow) -> Result<Vec<String>, Fault>
     Ok(texts)
 }
 
-// A record for each of the last trades.
+// Returns a record for each of the last trades.
 fn trade_records(alloc: Global, trades: &[TradeRow]) -> Result<Vec<Vec<String>>, Fault>
     ensures records { IfOk result (λ records. records_of records ≡ map recents.recent_trade (map trade_row_of trades.now)) }
     ensures fault { OnErr result (result ≡ Err Memory) }
@@ -83,7 +83,7 @@ fn trade_records(alloc: Global, trades: &[TradeRow]) -> Result<Vec<Vec<String>>,
     Ok(records)
 }
 
-// Adds a record for each status.
+// Appends a record for each status.
 fn add_history(
     alloc: Global,
     records: &mut Vec<Vec<String>>,
@@ -99,7 +99,8 @@ fn add_history(
     Ok(())
 }
 
-// The last trades of an account, then their statuses.
+// Returns the records of the last trades of an account, then those of their statuses. Fails with
+// `Memory` only.
 pub(crate) fn recent_records(alloc: Global, recent: &Activity) -> Result<Vec<Vec<String>>, Fault>
     ensures records { IfOk result (λ records. records_of records ≡ recents.recent_records recent.now) }
     ensures fault { OnErr result (result ≡ Err Memory) }
@@ -109,7 +110,7 @@ pub(crate) fn recent_records(alloc: Global, recent: &Activity) -> Result<Vec<Vec
     Ok(records)
 }
 
-// Whose account it is, and whose client.
+// Returns the record of the names of an account's customer and broker.
 fn name_texts(alloc: Global, account: &AccountStatus) -> Result<Vec<String>, Fault>
     ensures texts { IfOk result (λ texts. record_of texts ≡ statuses.status_names account.now) }
     ensures fault { OnErr result (result ≡ Err Memory) }
@@ -121,7 +122,7 @@ fn name_texts(alloc: Global, account: &AccountStatus) -> Result<Vec<String>, Fau
     Ok(texts)
 }
 
-// The first five fields of a trade.
+// Returns the first five fields of a trade.
 fn status_texts(alloc: Global, trade: &TradeRow) -> Result<Vec<String>, Fault>
     ensures texts { IfOk result (λ texts. record_of texts ≡ statuses.status_fields trade.now) }
     ensures fault { OnErr result (result ≡ Err Memory) }
@@ -135,7 +136,7 @@ fn status_texts(alloc: Global, trade: &TradeRow) -> Result<Vec<String>, Fault>
     Ok(texts)
 }
 
-// Adds the other five, the last two of its security.
+// Appends the other five fields, of which the last two are those of its security.
 fn add_terms(alloc: Global, texts: &mut Vec<String>, status: &TradeStatus) -> Result<(), Fault>
     ensures texts { OnOk result (record_of texts.new ≡ record_of texts.old ++ statuses.term_fields status.now) }
     ensures fault { OnErr result (result ≡ Err Memory) }
@@ -149,7 +150,7 @@ fn add_terms(alloc: Global, texts: &mut Vec<String>, status: &TradeStatus) -> Re
     Ok(())
 }
 
-// The record of a trade in its security.
+// Returns the record of a trade with its security.
 fn shown_texts(alloc: Global, status: &TradeStatus) -> Result<Vec<String>, Fault>
     ensures texts { IfOk result (λ texts. record_of texts ≡ statuses.shown_trade status.now) }
     ensures fault { OnErr result (result ≡ Err Memory) }
@@ -159,7 +160,7 @@ fn shown_texts(alloc: Global, status: &TradeStatus) -> Result<Vec<String>, Fault
     Ok(texts)
 }
 
-// Adds a record for each trade.
+// Appends a record for each trade.
 fn add_trades(
     alloc: Global,
     records: &mut Vec<Vec<String>>,
@@ -175,7 +176,7 @@ fn add_trades(
     Ok(())
 }
 
-// The names of an account, then its trades.
+// Returns the record of an account's names, then those of its trades. Fails with `Memory` only.
 pub(crate) fn status_records(
     alloc: Global,
     account: &AccountStatus,

@@ -1,4 +1,4 @@
-//! The texts of a view.
+//! The records of a view, as texts.
 
 ghost use Rattle.std.specs.Prelude.{◌≡◌, ◌∷◌, [], IfOk, OnErr, Err, decimal, map, string_bytes};
 ghost use Rattle.brk_plans.specs.Replies.{told};
@@ -19,7 +19,7 @@ use brk_plans::Estimate;
 use brk_view::view::{SubmittedTrade, View};
 use std::alloc::Global;
 
-// The amounts in their order, as they are printed.
+// Returns the texts of amounts, in their order.
 fn amount_texts(alloc: Global, amounts: &[Wide]) -> Result<Vec<String>, Fault>
     ensures texts { IfOk result (λ texts. record_of texts ≡ map cents_text amounts.now) }
     ensures fault { OnErr result (result ≡ Err Memory) }
@@ -32,7 +32,7 @@ fn amount_texts(alloc: Global, amounts: &[Wide]) -> Result<Vec<String>, Fault>
     Ok(texts)
 }
 
-// The record of a submitted trade.
+// Returns the record of a submitted trade.
 fn trade_texts(alloc: Global, trade: &SubmittedTrade) -> Result<Vec<String>, Fault>
     ensures texts { IfOk result (λ texts. record_of texts ≡ trade_record trade.now) }
     ensures fault { OnErr result (result ≡ Err Memory) }
@@ -46,7 +46,7 @@ fn trade_texts(alloc: Global, trade: &SubmittedTrade) -> Result<Vec<String>, Fau
     Ok(texts)
 }
 
-// A record for each trade.
+// Returns a record for each trade.
 fn submitted_records(alloc: Global, trades: &[SubmittedTrade]) -> Result<Vec<Vec<String>>, Fault>
     ensures records { IfOk result (λ records. records_of records ≡ map trade_record trades.now) }
     ensures fault { OnErr result (result ≡ Err Memory) }
@@ -59,7 +59,7 @@ fn submitted_records(alloc: Global, trades: &[SubmittedTrade]) -> Result<Vec<Vec
     Ok(records)
 }
 
-// The one record of an estimate.
+// Returns the one record of an estimate.
 fn estimate_records(alloc: Global, estimate: &Estimate) -> Result<Vec<Vec<String>>, Fault>
     ensures records { IfOk result (λ records. records_of records ≡ estimate_record estimate.now ∷ []) }
     ensures fault { OnErr result (result ≡ Err Memory) }
@@ -79,11 +79,12 @@ fn estimate_records(alloc: Global, estimate: &Estimate) -> Result<Vec<Vec<String
     Ok(records)
 }
 
-/// The records of texts that a view is shown as. Of a submitted trade: T_ID, TYPE, SYMBOL, QTY, T_BID_PRICE; of an
-/// estimate: PRICE, BUY, SELL, TAX, COMMISSION, CHARGE, ASSETS. Each amount is in its one spelling.
+/// Returns the records of a view, as texts. The fields of a submitted trade are T_ID, TYPE, SYMBOL,
+/// QTY and T_BID_PRICE; those of an estimate are PRICE, BUY, SELL, TAX, COMMISSION, CHARGE and
+/// ASSETS. Each amount is in its canonical form. Fails with `Memory` only.
 pub fn view_fields(alloc: Global, view: &View) -> Result<Vec<Vec<String>>, Fault>
     ensures records { IfOk result (λ records. records_of records ≡ fields_of view.now) }
-    // An estimate of the definitions is shown as they show it.
+    // If the estimate is one of the model, its record equals that of the model.
     ensures estimate { IfOk result (λ records. (e : model.Estimate) → view.now ≡ views.Estimate (told e) → records_of records ≡ estimate_fields e ∷ []) }
     ensures fault { OnErr result (result ≡ Err Memory) }
 {

@@ -1,4 +1,4 @@
-//! What is shown of a view: its records of texts.
+//! The records of views, as texts.
 #![tactic(auto)]
 
 mod account_fields;

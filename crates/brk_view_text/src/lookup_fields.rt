@@ -14,7 +14,7 @@ use brk_money::{Fault, Wide};
 use brk_view::lookups::{LookedUp, StatusMoment};
 use std::alloc::Global;
 
-// The first five fields of a trade: how it stands.
+// Returns the first five fields of a trade: the word `trade`, its id, stamp, status and type.
 fn state_texts(alloc: Global, trade: &TradeRow) -> Result<Vec<String>, Fault>
     ensures texts { IfOk result (λ texts. record_of texts ≡ state_fields (trade_row_of trade.now)) }
     ensures fault { OnErr result (result ≡ Err Memory) }
@@ -28,7 +28,7 @@ fn state_texts(alloc: Global, trade: &TradeRow) -> Result<Vec<String>, Fault>
     Ok(texts)
 }
 
-// Adds the next four: what was asked for, and by whom.
+// Appends the next four fields: its symbol, quantity, bid price and executor.
 fn add_terms(alloc: Global, texts: &mut Vec<String>, trade: &TradeRow) -> Result<(), Fault>
     ensures texts { OnOk result (record_of texts.new ≡ record_of texts.old ++ term_fields (trade_row_of trade.now)) }
     ensures fault { OnErr result (result ≡ Err Memory) }
@@ -40,7 +40,8 @@ fn add_terms(alloc: Global, texts: &mut Vec<String>, trade: &TradeRow) -> Result
     Ok(())
 }
 
-// Adds the next four: its price, once it has one, and what it costs.
+// Appends the next four fields: its price, which is empty before completion, its charge, commission
+// and tax.
 fn add_costs(alloc: Global, texts: &mut Vec<String>, trade: &TradeRow) -> Result<(), Fault>
     ensures texts { OnOk result (record_of texts.new ≡ record_of texts.old ++ cost_fields (trade_row_of trade.now)) }
     ensures fault { OnErr result (result ≡ Err Memory) }
@@ -53,7 +54,7 @@ fn add_costs(alloc: Global, texts: &mut Vec<String>, trade: &TradeRow) -> Result
     Ok(())
 }
 
-// Adds the last two: how it is settled, and which lots it closes first.
+// Appends the last two fields: its account type, and the end from which it closes lots.
 fn add_conditions(alloc: Global, texts: &mut Vec<String>, trade: &TradeRow) -> Result<(), Fault>
     ensures texts { OnOk result (record_of texts.new ≡ record_of texts.old ++ condition_fields (trade_row_of trade.now)) }
     ensures fault { OnErr result (result ≡ Err Memory) }
@@ -63,7 +64,7 @@ fn add_conditions(alloc: Global, texts: &mut Vec<String>, trade: &TradeRow) -> R
     Ok(())
 }
 
-// The record of a trade.
+// Returns the record of a trade.
 fn trade_texts(alloc: Global, trade: &TradeRow) -> Result<Vec<String>, Fault>
     ensures texts { IfOk result (λ texts. record_of texts ≡ model.trade_record (trade_row_of trade.now)) }
     ensures fault { OnErr result (result ≡ Err Memory) }
@@ -75,7 +76,7 @@ fn trade_texts(alloc: Global, trade: &TradeRow) -> Result<Vec<String>, Fault>
     Ok(texts)
 }
 
-// The record of a settlement.
+// Returns the record of a settlement.
 fn settlement_texts(alloc: Global, row: SettlementRow) -> Result<Vec<String>, Fault>
     ensures texts { IfOk result (λ texts. record_of texts ≡ model.settlement_record (settlement_row_of row)) }
     ensures fault { OnErr result (result ≡ Err Memory) }
@@ -88,7 +89,7 @@ fn settlement_texts(alloc: Global, row: SettlementRow) -> Result<Vec<String>, Fa
     Ok(texts)
 }
 
-// The record of a cash row.
+// Returns the record of a cash row.
 fn cash_texts(alloc: Global, row: &MoveRow) -> Result<Vec<String>, Fault>
     ensures texts { IfOk result (λ texts. record_of texts ≡ model.cash_record (move_row_of row.now)) }
     ensures fault { OnErr result (result ≡ Err Memory) }
@@ -101,7 +102,7 @@ fn cash_texts(alloc: Global, row: &MoveRow) -> Result<Vec<String>, Fault>
     Ok(texts)
 }
 
-// The record of a status that a trade came to.
+// Returns the record of a status of a trade.
 fn moment_texts(alloc: Global, moment: StatusMoment) -> Result<Vec<String>, Fault>
     ensures texts { IfOk result (λ texts. record_of texts ≡ moment_record moment) }
     ensures fault { OnErr result (result ≡ Err Memory) }
@@ -113,7 +114,7 @@ fn moment_texts(alloc: Global, moment: StatusMoment) -> Result<Vec<String>, Faul
     Ok(texts)
 }
 
-// Adds the record of a settlement, where there is one.
+// Appends the record of a settlement, if there is one.
 fn add_settlement(
     alloc: Global,
     records: &mut Vec<Vec<String>>,
@@ -129,7 +130,7 @@ fn add_settlement(
     Ok(())
 }
 
-// Adds the record of a cash row, where there is one.
+// Appends the record of a cash row, if there is one.
 fn add_cash(
     alloc: Global,
     records: &mut Vec<Vec<String>>,
@@ -145,7 +146,7 @@ fn add_cash(
     Ok(())
 }
 
-// Adds a record for each status.
+// Appends a record for each status.
 fn add_moments(
     alloc: Global,
     records: &mut Vec<Vec<String>>,
@@ -161,7 +162,7 @@ fn add_moments(
     Ok(())
 }
 
-// Adds the record of a trade.
+// Appends the record of a trade.
 fn add_trade(alloc: Global, records: &mut Vec<Vec<String>>, trade: &TradeRow) -> Result<(), Fault>
     ensures records { OnOk result (records_of records.new ≡ records_of records.old ++ model.trade_record (trade_row_of trade.now) ∷ []) }
     ensures fault { OnErr result (result ≡ Err Memory) }
@@ -171,7 +172,7 @@ fn add_trade(alloc: Global, records: &mut Vec<Vec<String>>, trade: &TradeRow) ->
     Ok(())
 }
 
-// Adds the records of a trade and of what became of it.
+// Appends the records of a trade, its settlement, its cash row and its history.
 fn add_found(alloc: Global, records: &mut Vec<Vec<String>>, found: &LookedUp) -> Result<(), Fault>
     ensures records { OnOk result (records_of records.new ≡ records_of records.old ++ looked_up_records found.now) }
     ensures fault { OnErr result (result ≡ Err Memory) }
@@ -183,7 +184,8 @@ fn add_found(alloc: Global, records: &mut Vec<Vec<String>>, found: &LookedUp) ->
     Ok(())
 }
 
-// The records of some trades and of what became of each.
+// Returns the records of trades, each with its settlement, cash row and history. Fails with
+// `Memory` only.
 pub(crate) fn lookup_records(alloc: Global, trades: &[LookedUp]) -> Result<Vec<Vec<String>>, Fault>
     ensures records { IfOk result (λ records. records_of records ≡ flat_map looked_up_records trades.now) }
     ensures fault { OnErr result (result ≡ Err Memory) }

@@ -1,4 +1,4 @@
-//! The records of lots that a trade touched.
+//! The records of the lots that a trade touched.
 
 ghost use Rattle.std.specs.Prelude.{◌≡◌, ◌++◌, ◌∷◌, [], Err, IfOk, OnErr, OnOk, decimal, map, string_bytes};
 ghost use Rattle.std.specs.Fmt.{signed_decimal};
@@ -11,7 +11,7 @@ use brk_money::Fault;
 use brk_view::lots::{LotTouch, TouchedLots};
 use std::alloc::Global;
 
-// A quantity, as it is printed, with a minus where shares were sold short.
+// Returns the text of a number of shares, with a minus sign if they were sold short.
 fn shares_text(alloc: Global, shares: i64) -> Result<String, Fault>
     ensures text { IfOk result (λ text. string_bytes text ≡ signed_decimal shares) }
     ensures fault { OnErr result (result ≡ Err Memory) }
@@ -19,7 +19,7 @@ fn shares_text(alloc: Global, shares: i64) -> Result<String, Fault>
     Ok(format!(in alloc; "{}", shares)?)
 }
 
-// The record of a change.
+// Returns the record of a change of a lot.
 fn touch_texts(alloc: Global, touch: LotTouch) -> Result<Vec<String>, Fault>
     ensures texts { IfOk result (λ texts. record_of texts ≡ touch_record touch) }
     ensures fault { OnErr result (result ≡ Err Memory) }
@@ -33,7 +33,7 @@ fn touch_texts(alloc: Global, touch: LotTouch) -> Result<Vec<String>, Fault>
     Ok(texts)
 }
 
-// Adds a record for each change.
+// Appends a record for each change.
 fn add_touches(
     alloc: Global,
     records: &mut Vec<Vec<String>>,
@@ -49,7 +49,7 @@ fn add_touches(
     Ok(())
 }
 
-// The id of the trade that was found, alone in its record.
+// Returns the record of the trade that was found, which has its id only.
 fn found_texts(alloc: Global, lots: &TouchedLots) -> Result<Vec<String>, Fault>
     ensures texts { IfOk result (λ texts. record_of texts ≡ decimal lots.now.trade ∷ []) }
     ensures fault { OnErr result (result ≡ Err Memory) }
@@ -59,7 +59,8 @@ fn found_texts(alloc: Global, lots: &TouchedLots) -> Result<Vec<String>, Fault>
     Ok(texts)
 }
 
-// The trade that was found, then the changes of the lots that it touched; no record where there is none.
+// Returns the record of the trade that was found, then those of the changes of its lots, or no
+// record if there is no trade. Fails with `Memory` only.
 pub(crate) fn lot_records(
     alloc: Global,
     lots: &Option<TouchedLots>,

@@ -1,4 +1,4 @@
-//! The texts of numbers and of what may be missing, as views show them.
+//! The texts of numbers and of optional prices, as views show them.
 
 ghost use Rattle.std.specs.Prelude.{◌≡◌, [], Err, IfOk, OnErr, decimal, string_bytes};
 ghost use Rattle.std.specs.Option.{option_map_or};
@@ -9,7 +9,7 @@ ghost use Rattle.brk_money.specs.declared.fault.Fault.TheVariants.{Memory};
 use brk_money::{Fault, Price, Stamp, Wide};
 use std::alloc::Global;
 
-// A text of its own.
+// Returns a copy of a text. Fails with `Memory` only.
 pub(crate) fn word_text(alloc: Global, word: &str) -> Result<String, Fault>
     ensures text { IfOk result (λ text. string_bytes text ≡ word.now) }
     ensures fault { OnErr result (result ≡ Err Memory) }
@@ -17,7 +17,7 @@ pub(crate) fn word_text(alloc: Global, word: &str) -> Result<String, Fault>
     Ok(String::from_str(alloc, word)?)
 }
 
-// A number, as it is printed.
+// Returns the text of a number. Fails with `Memory` only.
 pub(crate) fn number_text(alloc: Global, number: u64) -> Result<String, Fault>
     ensures text { IfOk result (λ text. string_bytes text ≡ decimal number) }
     ensures fault { OnErr result (result ≡ Err Memory) }
@@ -25,7 +25,7 @@ pub(crate) fn number_text(alloc: Global, number: u64) -> Result<String, Fault>
     Ok(format!(in alloc; "{}", number)?)
 }
 
-// A stamp, as it is printed.
+// Returns the text of a stamp. Fails with `Memory` only.
 pub(crate) fn stamp_text(alloc: Global, stamp: Stamp) -> Result<String, Fault>
     ensures text { IfOk result (λ text. string_bytes text ≡ decimal stamp) }
     ensures fault { OnErr result (result ≡ Err Memory) }
@@ -33,7 +33,7 @@ pub(crate) fn stamp_text(alloc: Global, stamp: Stamp) -> Result<String, Fault>
     number_text(alloc, stamp.get().unsigned_abs())
 }
 
-// An amount, as it is printed.
+// Returns the text of an amount. Fails with `Memory` only.
 pub(crate) fn amount_text(alloc: Global, amount: Wide) -> Result<String, Fault>
     ensures text { IfOk result (λ text. string_bytes text ≡ cents_text amount) }
     ensures fault { OnErr result (result ≡ Err Memory) }
@@ -41,7 +41,7 @@ pub(crate) fn amount_text(alloc: Global, amount: Wide) -> Result<String, Fault>
     Ok(format!(in alloc; "{}", amount)?)
 }
 
-// A price, and an empty text where there is none.
+// Returns the text of a price, or an empty text if there is none. Fails with `Memory` only.
 pub(crate) fn maybe_price_text(alloc: Global, price: Option<Price>) -> Result<String, Fault>
     ensures text { IfOk result (λ text. string_bytes text ≡ option_map_or text_of_price price []) }
     ensures fault { OnErr result (result ≡ Err Memory) }

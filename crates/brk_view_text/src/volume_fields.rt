@@ -1,4 +1,4 @@
-//! The records of what brokers have to trade.
+//! The records of the brokers' volumes.
 
 ghost use Rattle.std.specs.Prelude.{◌≡◌, Err, IfOk, OnErr, map};
 ghost use Rattle.brk_money.specs.declared.fault.Fault.TheVariants.{Memory};
@@ -10,7 +10,7 @@ use brk_money::Fault;
 use brk_view::volumes::BrokerVolume;
 use std::alloc::Global;
 
-// The record of a broker.
+// Returns the record of a broker.
 fn volume_texts(alloc: Global, broker: &BrokerVolume) -> Result<Vec<String>, Fault>
     ensures texts { IfOk result (λ texts. record_of texts ≡ volume_record broker.now) }
     ensures fault { OnErr result (result ≡ Err Memory) }
@@ -22,7 +22,7 @@ fn volume_texts(alloc: Global, broker: &BrokerVolume) -> Result<Vec<String>, Fau
     Ok(texts)
 }
 
-// A record for each broker.
+// Returns a record for each broker. Fails with `Memory` only.
 pub(crate) fn volume_records(
     alloc: Global,
     brokers: &[BrokerVolume],

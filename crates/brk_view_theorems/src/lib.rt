@@ -1,4 +1,5 @@
-//! Views over the tables of a base, and over these as a store reads them, are the same. There is no code to call.
+//! Theorems: a view over the tables of a base, sorted by key as a store reads them, equals the
+//! specified view of the base. Proof-only: there is no code to call.
 #![tactic(auto)]
 
 pub mod lookups;

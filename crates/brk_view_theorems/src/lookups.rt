@@ -1,4 +1,4 @@
-//! Laws of the views of trades that are looked up, and of the lots that a trade touched.
+//! Theorems about the views of trades that are looked up, and of the lots that a trade touched.
 
 ghost use Rattle.std.specs.Prelude.{◌≡◌, ◌==◌, ℕ, Bool, List, filter, find, flat_map, map, option_to_list, true};
 ghost use Rattle.brk_model.specs.Base.{Base};
@@ -10,19 +10,22 @@ ghost use Rattle.brk_model.specs.Tables.{TradeRow, tables_of};
 ghost use Rattle.brk_invariant_theorems.specs.Sound.{AuditInvariant};
 ghost use Rattle.brk_book_theorems.specs.Books.{BooksInvariant};
 
-/// Trades that pass a test, with what became of them, are the same in the tables of a base in order and as a store reads them.
+/// Proves that the view of the trades that pass a test, over the sorted tables of a consistent base
+/// with the audit invariant, equals the specified view.
 #[tactic(auto, using(crate::proofs::LookupRows::same_lookup))]
 pub fn lookups_are_as_read()
     ensures { (base : Base) (test : TradeRow → Bool) → BooksInvariant base → AuditInvariant base → lookup_view (sheets base) test ≡ lookup_view (tables_of base) test }
 {}
 
-/// What became of the lots that a trade touched is the same in both.
+/// Proves that the view of the lots that a trade of an account touched, over the sorted tables,
+/// equals the specified view.
 #[tactic(auto, using(crate::proofs::TouchRows::same_lots))]
 pub fn lots_are_as_read()
     ensures { (base : Base) (account first : ℕ) → BooksInvariant base → AuditInvariant base → lots_view (sheets base) account first ≡ lots_view (tables_of base) account first }
 {}
 
-/// What a store finds by a key is all that there is of it.
+/// Proves that at most one row has the key of a settlement, of a cash row by its trade, of an
+/// account or of a customer: the row that is found is the only one.
 #[tactic(auto, using(crate::proofs::FoundRows::settlement_alone, crate::proofs::FoundRows::cash_alone, crate::proofs::FoundRows::account_alone, crate::proofs::FoundRows::customer_alone))]
 pub fn rows_are_found_alone()
     ensures settlements { (base : Base) (trade : ℕ) → BooksInvariant base → AuditInvariant base
@@ -35,7 +38,8 @@ pub fn rows_are_found_alone()
         → option_to_list (find (λ c. c.id == id) (sheets base).customers) ≡ filter (λ c. c.id == id) (sheets base).customers }
 {}
 
-/// Trades that are found by one id after another are, the oldest first, all trades with these ids.
+/// Proves that the trades that are found by distinct ids, sorted oldest first, are all trades with
+/// these ids.
 #[tactic(auto, using(crate::proofs::FoundRows::trades_by_id))]
 pub fn trades_are_found_by_ids()
     ensures { (base : Base) (ids : List ℕ) → BooksInvariant base → AuditInvariant base → all_distinct ids ≡ true
@@ -43,7 +47,8 @@ pub fn trades_are_found_by_ids()
         ≡ oldest_first_rows (filter (λ t. contains_number t.id ids) (sheets base).trades) }
 {}
 
-/// The changes of each lot that a trade touched, lot after lot, are those of all these lots as a store reads them.
+/// Proves that the changes of the lots that a trade touched, read lot by lot, are the changes of
+/// all these lots in the order of the table.
 #[tactic(auto, using(crate::proofs::TouchRows::touched_by_lot))]
 pub fn changes_are_read_by_lot()
     ensures { (base : Base) (trade : ℕ) → BooksInvariant base → AuditInvariant base

@@ -1,4 +1,4 @@
-//! Laws of the view of what brokers have to trade.
+//! Theorems about the view of brokers' pending requests.
 
 ghost use Rattle.std.specs.Prelude.{◌≡◌, ◌&&◌, List, bytes_eq, filter, flat_map, length, nat_lt};
 ghost use Rattle.std.specs.List.{list_any};
@@ -11,13 +11,15 @@ ghost use Rattle.brk_model.specs.VolumeView.{by_volume, requests_in, volume_view
 ghost use Rattle.brk_invariant_theorems.specs.Sound.{AuditInvariant};
 ghost use Rattle.brk_book_theorems.specs.Books.{BooksInvariant};
 
-/// What brokers have to trade is the same in the tables of a base in order and as a store reads them.
+/// Proves that the view of brokers' pending requests over the sorted tables equals the specified
+/// view.
 #[tactic(auto, using(crate::proofs::VolumeRows::same_volumes))]
 pub fn volumes_are_as_read()
     ensures { (base : Base) (sector : Text) (names : List Text) → BooksInvariant base → AuditInvariant base → volume_view (sheets base) sector names ≡ volume_view (tables_of base) sector names }
 {}
 
-/// The brokers of each name that have something to trade, name after name, stand in the order of the view as all of them do.
+/// Proves that the brokers with pending requests, read by distinct names and sorted by the order of
+/// the view, are all such brokers with these names in this order.
 #[tactic(auto, using(crate::proofs::VolumeRows::brokers_by_name))]
 pub fn brokers_are_read_by_name()
     ensures { (base : Base) (sector : Text) (names : List Text) → BooksInvariant base → AuditInvariant base → distinct_texts names ≡ names

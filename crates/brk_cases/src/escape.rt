@@ -1,0 +1,109 @@
+//! The escapes of transcripts, there and back.
+
+use crate::failed::Failed;
+use std::alloc::{AllocError, Global};
+
+/// The bytes that an input line stands for.
+#[derive(Drop)]
+pub struct Piece {
+    pub bytes: Vec<u8>,
+    /// Whether a line feed follows them.
+    pub has_feed: bool,
+}
+
+// What has been read of an escape.
+#[derive(Clone, Copy)]
+enum Escape {
+    Nothing,
+    Backslash,
+    Hex,
+    Digit(u32),
+}
+
+// Returns the value of a hexadecimal digit, or 0 for any other byte.
+fn digit(byte: u8) -> u32 {
+    char::from(byte).to_digit(16).unwrap_or(0)
+}
+
+// Reads the next byte of an input line: adds what it completes, and returns what it begins.
+fn read_byte(bytes: &mut Vec<u8>, read: Escape, byte: u8) -> Result<Escape, AllocError> {
+    match (read, byte) {
+        (Escape::Nothing, b'\\') => return Ok(Escape::Backslash),
+        (Escape::Backslash, b'x') => return Ok(Escape::Hex),
+        (Escape::Backslash, b'r') => bytes.push(b'\r')?,
+        (Escape::Hex, _) => return Ok(Escape::Digit(digit(byte))),
+        (Escape::Digit(high), _) => bytes.push(((high << 4) | digit(byte)) as u8)?,
+        (Escape::Nothing | Escape::Backslash, _) => bytes.push(byte)?,
+    }
+    Ok(Escape::Nothing)
+}
+
+/// Returns the bytes of an input line. A single backslash at its end says that no line feed follows.
+pub fn unescaped(alloc: Global, text: &str) -> Result<Piece, AllocError> {
+    let mut bytes = Vec::new(alloc);
+    let mut read = Escape::Nothing;
+    for byte in text.as_bytes() {
+        read = read_byte(&mut bytes, read, *byte)?;
+    }
+    Ok(Piece {
+        bytes,
+        has_feed: !matches!(read, Escape::Backslash),
+    })
+}
+
+// Adds text as an output line has it; within a record a bar is escaped too.
+fn add_text(out: &mut String, text: &str, in_record: bool) -> Result<(), Failed> {
+    for c in text.chars() {
+        match c {
+            '\\' => out.push_str("\\\\")?,
+            '\r' => out.push_str("\\r")?,
+            '|' if in_record => out.push_str("\\x7c")?,
+            '\0'..='\x1f' | '\x7f' => write!(out, "\\x{:02x}", u32::from(c))?,
+            _ => out.push(c)?,
+        }
+    }
+    Ok(())
+}
+
+/// Adds bytes as an output line has them; within a record a bar is escaped too. A byte that is no
+/// part of a character in UTF-8 is escaped.
+pub fn add_escaped(out: &mut String, bytes: &[u8], in_record: bool) -> Result<(), Failed> {
+    let mut rest = bytes;
+    for _ in 0..bytes.len() {
+        let known = match str::from_utf8(rest) {
+            Ok(_) => rest.len(),
+            Err(error) => error.valid_up_to().min(rest.len()),
+        };
+        let (front, back) = rest.split_at(known);
+        add_text(out, str::from_utf8(front).unwrap_or(""), in_record)?;
+        let Some((bad, after)) = back.split_first() else {
+            return Ok(());
+        };
+        write!(out, "\\x{:02x}", *bad)?;
+        rest = after;
+    }
+    Ok(())
+}
+
+/// Adds bytes that were written as output lines: one for each line feed, and one that ends in a
+/// single backslash for what follows the last.
+pub fn add_written(out: &mut String, bytes: &[u8]) -> Result<(), Failed> {
+    for piece in bytes.split_inclusive(|byte| *byte == b'\n') {
+        out.push_str("> ")?;
+        match piece.strip_suffix(b"\n") {
+            Some(line) => add_escaped(out, line, false)?,
+            None => {
+                add_escaped(out, piece, false)?;
+                out.push_str("\\")?;
+            }
+        }
+        out.push_str("\n")?;
+    }
+    Ok(())
+}
+
+/// Adds an output line.
+pub fn add_line(out: &mut String, line: &str) -> Result<(), Failed> {
+    writeln!(out, "> {line}")?;
+    Ok(())
+}

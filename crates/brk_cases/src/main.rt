@@ -1,0 +1,38 @@
+//! Replays transcripts: reads them from standard input, executes their commands, and prints them
+//! again with its own output lines in place of those that it read. A desk that answers as a
+//! transcript says prints the bytes of the transcript.
+#![tactic(auto)]
+
+mod commands;
+mod escape;
+mod failed;
+mod place;
+mod replay;
+mod tables;
+mod views;
+
+use failed::Failed;
+use std::io;
+use std::process::ExitCode;
+
+// Replays standard input onto standard output.
+fn run(rt: &HostRuntime) -> Result<(), Failed> {
+    let Ok(text) = io::read_to_string(rt.alloc(), rt.reader()) else {
+        return Err(Failed::Input);
+    };
+    let replayed = replay::replayed(rt.alloc(), text.as_str())?;
+    match rt.print(replayed.as_str()) {
+        Ok(()) => Ok(()),
+        Err(_) => Err(Failed::Output),
+    }
+}
+
+fn main(rt: HostRuntime) -> ExitCode {
+    match run(&rt) {
+        Ok(()) => ExitCode::SUCCESS,
+        Err(failed) => {
+            let _ = rt.eprint(failed.word());
+            ExitCode::FAILURE
+        }
+    }
+}

@@ -1,0 +1,98 @@
+//! A transcript, line by line.
+
+use crate::commands::execute;
+use crate::escape::{Piece, unescaped};
+use crate::failed::Failed;
+use crate::place::Place;
+use std::alloc::Global;
+
+// A command and its input lines, of which the output lines are due.
+#[derive(Drop)]
+struct Due<'a> {
+    command: &'a str,
+    pieces: Vec<Piece>,
+}
+
+// Executes the command that is due, if there is one.
+fn settle(
+    alloc: Global,
+    out: &mut String,
+    place: Place,
+    due: Option<Due<'_>>,
+) -> Result<Place, Failed> {
+    match due {
+        Some(due) => execute(alloc, out, place, due.command, &due.pieces),
+        None => Ok(place),
+    }
+}
+
+// Whether a line is a comment or empty.
+fn is_note(line: &str) -> bool {
+    line.is_empty() || line.starts_with('#')
+}
+
+// A replay under way.
+#[derive(Drop)]
+struct Replay<'a> {
+    place: Place,
+    due: Option<Due<'a>>,
+}
+
+impl<'a> Replay<'a> {
+    // Adds an input line to the command that is due.
+    fn add_input(self, alloc: Global, text: &str) -> Result<Replay<'a>, Failed> {
+        let Replay { place, due } = self;
+        let Some(mut due) = due else {
+            return Ok(Replay { place, due: None });
+        };
+        due.pieces.push(unescaped(alloc, text)?)?;
+        Ok(Replay {
+            place,
+            due: Some(due),
+        })
+    }
+
+    // Executes what is due, and begins with a line that is none of its lines.
+    fn begin(self, alloc: Global, out: &mut String, line: &'a str) -> Result<Replay<'a>, Failed> {
+        let Replay { place, due } = self;
+        let place = settle(alloc, out, place, due)?;
+        writeln!(out, "{line}")?;
+        let due = if is_note(line) {
+            None
+        } else {
+            Some(Due {
+                command: line,
+                pieces: Vec::new(alloc),
+            })
+        };
+        Ok(Replay { place, due })
+    }
+
+    // Takes the next line.
+    fn take(self, alloc: Global, out: &mut String, line: &'a str) -> Result<Replay<'a>, Failed> {
+        if line.starts_with("> ") {
+            return Ok(self);
+        }
+        match line.strip_prefix("| ") {
+            Some(text) => {
+                writeln!(out, "{line}")?;
+                self.add_input(alloc, text)
+            }
+            None => self.begin(alloc, out, line),
+        }
+    }
+}
+
+/// Returns the transcript with the output lines of its commands as they are answered now.
+pub fn replayed(alloc: Global, text: &str) -> Result<String, Failed> {
+    let mut out = String::new(alloc);
+    let mut replay = Replay {
+        place: Place::Nothing,
+        due: None,
+    };
+    for line in text.strip_suffix('\n').unwrap_or(text).split('\n') {
+        replay = replay.take(alloc, &mut out, line)?;
+    }
+    settle(alloc, &mut out, replay.place, replay.due)?;
+    Ok(out)
+}

@@ -1,0 +1,88 @@
+//! The rows of all tables as records.
+
+use crate::escape::add_escaped;
+use crate::failed::Failed;
+use sqlite::types::ValueRef;
+use sqlite::{Connection, MemStore, Row};
+use std::alloc::Global;
+
+// The tables, and the places of the columns of their keys.
+const TABLES: [(&str, &str); 22] = [
+    ("DESK", "1"),
+    ("KEPT", "1, 2"),
+    ("BROKER", "1"),
+    ("CUSTOMER", "1"),
+    ("CUSTOMER_ACCOUNT", "1"),
+    ("ACCOUNT_PERMISSION", "1, 2"),
+    ("SECURITY", "1"),
+    ("LAST_TRADE", "1"),
+    ("CHARGE", "1, 2"),
+    ("COMMISSION_RATE", "1, 2, 3, 4"),
+    ("TAXRATE", "1"),
+    ("CUSTOMER_TAXRATE", "1, 2"),
+    ("TRADE", "1"),
+    ("TRADE_HISTORY", "1, 2"),
+    ("TRADE_REQUEST", "1"),
+    ("HOLDING", "1"),
+    ("HOLDING_SUMMARY", "1, 2"),
+    ("HOLDING_HISTORY", "1, 2"),
+    ("SETTLEMENT", "1"),
+    ("CASH_TRANSACTION", "1"),
+    ("CASH_MOVE", "1"),
+    ("SETTLE_RULE", "1"),
+];
+
+// Adds a column of a row, with a bar before each but the first.
+fn add_column(out: &mut String, row: &Row, at: usize) -> Result<(), Failed> {
+    if at > 0 {
+        out.push_str("|")?;
+    }
+    match row.get_ref(at) {
+        Ok(ValueRef::Int(number)) => write!(out, "{number}")?,
+        Ok(ValueRef::Text(bytes)) => add_escaped(out, bytes, true)?,
+        _ => out.push_str("\\x00")?,
+    }
+    Ok(())
+}
+
+// Adds a row of a table.
+fn add_row(out: &mut String, table: &str, row: &Row) -> Result<(), Failed> {
+    write!(out, "> {table} ")?;
+    for at in 0..row.column_count() {
+        add_column(out, row, at)?;
+    }
+    out.push_str("\n")?;
+    Ok(())
+}
+
+// Adds the rows of a table, sorted by its key.
+fn add_table(
+    alloc: Global,
+    out: &mut String,
+    conn: &mut Connection<MemStore>,
+    table: &str,
+    key: &str,
+) -> Result<(), Failed> {
+    let sql = format!(in alloc; "SELECT * FROM {table} ORDER BY {key}")?;
+    match conn.query_all(sql.as_str(), &[]) {
+        Ok(rows) => {
+            for row in &rows {
+                add_row(out, table, row)?;
+            }
+        }
+        Err(_) => writeln!(out, "> ! no table {table}")?,
+    }
+    Ok(())
+}
+
+/// Adds the rows of all tables, each sorted by its key.
+pub fn add_tables(
+    alloc: Global,
+    out: &mut String,
+    conn: &mut Connection<MemStore>,
+) -> Result<(), Failed> {
+    for (table, key) in &TABLES {
+        add_table(alloc, out, conn, table, key)?;
+    }
+    Ok(())
+}
