@@ -4,8 +4,6 @@
 #![tactic(auto)]
 
 #[cfg(test)]
-mod batches;
-#[cfg(test)]
 mod booked;
 #[cfg(test)]
 mod calls;
@@ -24,45 +22,17 @@ mod files;
 #[cfg(test)]
 mod http;
 #[cfg(test)]
-mod keys;
-#[cfg(test)]
-mod limits;
-#[cfg(test)]
 mod made;
 #[cfg(test)]
 mod many_results;
-#[cfg(test)]
-mod moves;
-#[cfg(test)]
-mod older;
-#[cfg(test)]
-mod order_batches;
-#[cfg(test)]
-mod order_fields;
-#[cfg(test)]
-mod order_refusals;
-#[cfg(test)]
-mod orders;
-#[cfg(test)]
-mod refusals;
-#[cfg(test)]
-mod result_refusals;
-#[cfg(test)]
-mod results;
 #[cfg(test)]
 mod row_calls;
 #[cfg(test)]
 mod rows_read;
 #[cfg(test)]
-mod settings;
-#[cfg(test)]
-mod settlements;
-#[cfg(test)]
 mod statements;
 #[cfg(test)]
 mod tables;
-#[cfg(test)]
-mod triggers;
 #[cfg(test)]
 mod views;
 #[cfg(test)]

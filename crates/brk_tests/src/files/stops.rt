@@ -4,7 +4,6 @@
 use crate::cuts::batch::{ROWS, all_lines};
 use crate::desks::set_desk;
 use crate::files::machine::{File, Held, Seen, Stop, book, changed, run};
-use crate::older::{FIRST, SECOND};
 use crate::worked;
 use crate::worked::{SET, SET_LINES, batch_of};
 use std::alloc::Global;
@@ -15,6 +14,16 @@ const MOST_CALLS: u64 = 10_000;
 
 // A batch without rows.
 const NO_ROWS: &[u8] = b"batch,Z\nend,0\n";
+
+// Makes a desk of the first schema from one that bought 100 and 200 shares and sold 150.
+const FIRST: &str =
+    "UPDATE DESK SET D_SCHEMA = 1; DROP TABLE SETTLE_RULE; DROP TABLE CASH_MOVE; \
+    INSERT INTO CASH_TRANSACTION VALUES (1, 1709251200017, -102510, 'Market-Buy 100 shares of Acme'); \
+    INSERT INTO CASH_TRANSACTION VALUES (2, 1709251200019, -242900, 'Market-Buy 200 shares of Acme'); \
+    INSERT INTO CASH_TRANSACTION VALUES (3, 1709251200021, 185750, 'Market-Sell 150 shares of Acme')";
+
+// Makes a desk of the second schema.
+const SECOND: &str = "UPDATE DESK SET D_SCHEMA = 2; DROP TABLE SETTLE_RULE";
 
 // Each file, and what becomes of what was not synced.
 const STOPS: [Stop; 4] = [
