@@ -10,8 +10,6 @@ mod calls;
 #[cfg(test)]
 mod cuts;
 #[cfg(test)]
-mod damages;
-#[cfg(test)]
 mod desks;
 #[cfg(test)]
 mod faulty;
@@ -33,7 +31,5 @@ mod rows_read;
 mod statements;
 #[cfg(test)]
 mod tables;
-#[cfg(test)]
-mod views;
 #[cfg(test)]
 mod worked;

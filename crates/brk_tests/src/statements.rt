@@ -1,8 +1,6 @@
-//! Statements, byte for byte, and the walks that they are made of, over desks in memory.
+//! Statements whose writer stops, the walks that they are made of, and amounts wider than their column.
 
 mod asking;
 mod lines;
-mod refusals;
 mod walks;
-mod worked;
 mod writers;

@@ -90,10 +90,10 @@ fn is_told(
     Ok(out == bytes.as_bytes() && ended == Ok(wanted.len() as u64))
 }
 
-/// Sends bytes to a desk as they are and byte by byte, each time to a desk of its own that was set up, and says whether it answered
-/// with these replies.
+/// Sends bytes to a desk in large pieces, in pieces of seven bytes and byte by byte, each time to a desk of its own that was set up,
+/// and says whether it answered with these replies.
 pub fn answers(alloc: Global, bytes: &[u8], wanted: &[Told]) -> Result<bool, Fail> {
-    for size in [4096usize, 1] {
+    for size in [4096usize, 7, 1] {
         let mut desk = set_desk(alloc)?;
         let (out, ended) = served(alloc, &mut desk, bytes, size);
         if !is_told(alloc, &out, ended, wanted)? {

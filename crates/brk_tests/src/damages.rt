@@ -1,5 +1,0 @@
-//! Desks that another program changed.
-
-mod conditions;
-mod forms;
-mod told;

@@ -1,0 +1,78 @@
+//! Streams whose bytes come in large pieces, in pieces of seven, and one by one: line ends and bodies that are split, what stands
+//! behind a request, and the longest head.
+
+use crate::http::streams::{Told, answers};
+use std::alloc::{AllocError, Global};
+use std::test::Fail;
+
+const LARGE: Told = Told::Last("413 Payload Too Large", "{\"error\":\"too large\"}");
+
+const CLOSED: Told = Told::Last("400 Bad Request", "{\"error\":\"bad request\"}");
+
+const EMPTY: Told = Told::Open("200 OK", "{\"view\":[]}");
+
+const SAID: Told = Told::Last("200 OK", "{\"view\":[]}");
+
+// A stream and its replies. What follows a reply that ends a stream is not read.
+const STREAMS: [(&str, &[Told]); 7] = [
+    (
+        "POST /rows/H/1 HTTP/1.1\r\nContent-Length: 19\r\n\r\n[\"broker\",\"2\",\"Cy\"]\
+        POST /rows/H/1 HTTP/1.1\r\nContent-Length: 19\r\n\r\n[\"broker\",\"2\",\"Cy\"]\
+        POST /rows HTTP/1.1\r\nContent-Length: 19\r\n\r\n[\"broker\",\"2\",\"Cy\"]",
+        &[
+            Told::Open("200 OK", "{\"ok\":[\"1709251200016\"]}"),
+            Told::Open("200 OK", "{\"again\":[\"1709251200016\"]}"),
+            Told::Open("409 Conflict", "{\"no\":[\"15\"]}"),
+        ],
+    ),
+    ("\r\n", &[CLOSED]),
+    (
+        "\r\nPOST /ask/submitted HTTP/1.1\r\nContent-Length: 2\r\n\r\n[]",
+        &[EMPTY],
+    ),
+    (
+        "\nPOST /ask/submitted HTTP/1.1\nContent-Length: 2\n\n[]",
+        &[EMPTY],
+    ),
+    (
+        "\r\n\r\nPOST /ask/submitted HTTP/1.1\r\nContent-Length: 2\r\n\r\n[]",
+        &[CLOSED],
+    ),
+    (
+        "POST /ask/submitted HTTP/1.1\r\nContent-Length: 2\r\n\r\n[]\r\n",
+        &[EMPTY, CLOSED],
+    ),
+    (
+        "POST /ask/submitted HTTP/1.0\r\nContent-Length: 2\r\n\r\n[]GET /",
+        &[SAID],
+    ),
+];
+
+#[test]
+fn a_stream_may_come_in_pieces(rt: HostRuntime) -> Result<(), Fail> {
+    for (input, wanted) in STREAMS {
+        assert!(rt; answers(rt.alloc(), input.as_bytes(), wanted)?, "{input:?}");
+    }
+    Ok(())
+}
+
+// A request whose head has so many bytes, filled up in one field.
+fn with_head(alloc: Global, len: usize) -> Result<String, AllocError> {
+    let front = "POST /ask/submitted HTTP/1.1\r\nContent-Length: 2\r\nX: ";
+    let mut head = String::from_str(alloc, front)?;
+    for _ in 0..len.saturating_sub(front.len()).saturating_sub(4) {
+        head.push('x')?;
+    }
+    head.push_str("\r\n\r\n[]")?;
+    Ok(head)
+}
+
+#[test]
+fn a_head_in_pieces_has_16_384_bytes_at_most(rt: HostRuntime) -> Result<(), Fail> {
+    for (len, wanted) in [(16_384, EMPTY), (16_385, LARGE)] {
+        let input = with_head(rt.alloc(), len)?;
+        assert!(rt; input.len() == len + 2);
+        assert!(rt; answers(rt.alloc(), input.as_bytes(), &[wanted])?, "{len}");
+    }
+    Ok(())
+}
