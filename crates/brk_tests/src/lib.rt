@@ -1,10 +1,7 @@
-//! Tests of a desk: batches that set it up and batches of orders, ticks, cancels and results, with all tables after them; calls, runs and queries;
-//! views, corrections and statements. And of what is around it: streams of HTTP requests, other programs that change its tables,
-//! files, and sweeps of hostile use.
+//! Tests of a desk that no transcript of `cases/` can show: readers, writers and disks that fail, crashes, files, sockets, streams
+//! in pieces, runs of calls, walks, and how many rows a sale reads.
 #![tactic(auto)]
 
-#[cfg(test)]
-mod booked;
 #[cfg(test)]
 mod calls;
 #[cfg(test)]

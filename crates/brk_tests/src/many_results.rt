@@ -1,8 +1,7 @@
 //! A batch of five hundred orders and their results, and the same calls in one run.
 
-use crate::desks::{answer_at, set_desk};
+use crate::desks::{answer, set_desk};
 use crate::row_calls::keyed;
-use crate::worked::FIRST_MOMENT;
 use brk_import::Counts;
 use brk_import::brk_desk::brk_store::Store;
 use brk_import::brk_desk::{Answer, Call, Desk, Outcome, line_text};
@@ -66,7 +65,7 @@ fn expect_sums(rt: &impl Abort, alloc: Global, store: &mut Store<MemStore>) -> R
 fn expect_batch(rt: &impl Abort, alloc: Global, rows: &[String]) -> Result<Vec<u8>, Fail> {
     let batch = batch_of(alloc, rows)?;
     let mut desk = set_desk(alloc)?;
-    let (lines, ended) = answer_at(alloc, &mut desk, FIRST_MOMENT, batch.as_bytes());
+    let (lines, ended) = answer(alloc, &mut desk, batch.as_bytes());
     let all = Counts {
         ok: 1_000,
         again: 0,

@@ -1,6 +1,6 @@
 //! How many rows a sale reads of a position of forty lots of one share each.
 
-use crate::desks::{answer_at, set_desk};
+use crate::desks::{answer, set_desk};
 use crate::worked::FIRST_MOMENT;
 use brk_import::brk_desk::brk_store::Store;
 use brk_lots::close;
@@ -27,7 +27,7 @@ fn purchases(alloc: Global) -> Result<String, Fail> {
 fn store_of_lots(alloc: Global) -> Result<Store<MemStore>, Fail> {
     let batch = purchases(alloc)?;
     let mut desk = set_desk(alloc)?;
-    let (_, ended) = answer_at(alloc, &mut desk, FIRST_MOMENT, batch.as_bytes());
+    let (_, ended) = answer(alloc, &mut desk, batch.as_bytes());
     match ended {
         Ok(_) => Ok(desk.into_store()),
         Err(_) => Err("the purchases")?,

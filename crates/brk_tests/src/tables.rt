@@ -1,6 +1,5 @@
 //! What the tables of a desk hold, row by row.
 
-use crate::desks::{Step, expect_steps, set_desk};
 use brk_import::brk_desk::brk_store::Store;
 use sqlite::types::ValueRef;
 use sqlite::{Alter, Connection, MemStore, Row};
@@ -36,17 +35,6 @@ const TRADING: [&str; 15] = [
     "CASH_MOVE",
     "SETTLE_RULE",
     "KEPT WHERE K_BATCH <> 'SET'",
-];
-
-// Those of them in which trades change or remove rows; in the others they only add some.
-const STANDING: [&str; 7] = [
-    "DESK",
-    "BROKER",
-    "CUSTOMER_ACCOUNT",
-    "LAST_TRADE",
-    "TRADE_REQUEST",
-    "HOLDING",
-    "HOLDING_SUMMARY",
 ];
 
 // What the tables of reference data hold at a desk that was set up.
@@ -169,40 +157,4 @@ pub fn expect_tables(
     let mut conn = store.into_conn();
     expect_rows(alloc, &mut conn, name, &REFERENCE, SET_TABLES)?;
     expect_rows(alloc, &mut conn, name, &TRADING, wanted)
-}
-
-/// Compares the tables in which trades change or remove rows.
-pub fn expect_standing(
-    alloc: Global,
-    store: Store<MemStore>,
-    name: &str,
-    wanted: &str,
-) -> Result<(), Fail> {
-    let mut conn = store.into_conn();
-    expect_rows(alloc, &mut conn, name, &STANDING, wanted)
-}
-
-/// Compares these tables.
-pub fn expect_these(
-    alloc: Global,
-    store: Store<MemStore>,
-    name: &str,
-    tables: &[&str],
-    wanted: &str,
-) -> Result<(), Fail> {
-    let mut conn = store.into_conn();
-    expect_rows(alloc, &mut conn, name, tables, wanted)
-}
-
-/// What is told of a case that fails, its batches one after another, and all tables after them.
-pub type Booked = (&'static str, &'static [Step<'static>], &'static str);
-
-/// Answers the batches of each case at a desk of its own that was set up, and compares all tables after them.
-pub fn expect_booked(alloc: Global, cases: &[Booked]) -> Result<(), Fail> {
-    for (name, steps, tables) in cases {
-        let mut desk = set_desk(alloc)?;
-        expect_steps(alloc, &mut desk, name, steps)?;
-        expect_tables(alloc, desk.into_store(), name, tables)?;
-    }
-    Ok(())
 }

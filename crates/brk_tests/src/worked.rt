@@ -34,14 +34,6 @@ pub const SET_LINES: &str =
     13,ok,1709251200012\n14,ok,1709251200013\n15,ok,1709251200014\n16,ok,1709251200015\n\
     end,16,0,0\n";
 
-/// Its lines where it was booked before.
-pub const SET_AGAIN: &str = "1,again,1709251200000\n2,again,1709251200001\n3,again,1709251200002\n\
-    4,again,1709251200003\n5,again,1709251200004\n6,again,1709251200005\n\
-    7,again,1709251200006\n8,again,1709251200007\n9,again,1709251200008\n\
-    10,again,1709251200009\n11,again,1709251200010\n12,again,1709251200011\n\
-    13,again,1709251200012\n14,again,1709251200013\n15,again,1709251200014\n\
-    16,again,1709251200015\nend,0,16,0\n";
-
 /// Two purchases, a sale of a part, a sale of more than is held, a cover of more than is owed, and a sale of all.
 pub const ROWS: [&str; 12] = [
     "order,100,TMB,ABC,100,,cash,fifo,Ann,Lee,T10",
