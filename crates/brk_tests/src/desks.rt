@@ -30,11 +30,11 @@ impl Clock for Still {
     }
 }
 
-/// A batch that is sent to a desk, and the lines that it is answered with.
+/// A batch, and the lines that a desk writes of it at 2024-03-01 00:00 UTC.
 #[derive(Clone, Copy)]
-pub enum Step<'a> {
-    /// It is answered to its end, at 2024-03-01 00:00 UTC.
-    Done(&'a [u8], &'a str),
+pub struct Step<'a> {
+    pub batch: &'a [u8],
+    pub lines: &'a str,
 }
 
 /// A desk in memory at which nothing was booked.
@@ -48,7 +48,11 @@ pub fn new_desk(alloc: Global) -> Result<Desk<MemStore>, Fail> {
 /// A desk in memory that was set up.
 pub fn set_desk(alloc: Global) -> Result<Desk<MemStore>, Fail> {
     let mut desk = new_desk(alloc)?;
-    expect(alloc, &mut desk, "set", Step::Done(SET, SET_LINES))?;
+    let set = Step {
+        batch: SET,
+        lines: SET_LINES,
+    };
+    expect(alloc, &mut desk, "set", set)?;
     Ok(desk)
 }
 
@@ -104,8 +108,7 @@ pub fn expect(
     name: &str,
     step: Step<'_>,
 ) -> Result<(), Fail> {
-    let Step::Done(input, wanted) = step;
-    let (lines, ended) = answer(alloc, desk, input);
-    expect_lines(name, &lines, wanted)?;
-    expect_ending(alloc, name, ended, wanted)
+    let (lines, ended) = answer(alloc, desk, step.batch);
+    expect_lines(name, &lines, step.lines)?;
+    expect_ending(alloc, name, ended, step.lines)
 }

@@ -106,7 +106,10 @@ pub fn complete(
         alloc,
         &mut desk,
         name,
-        Step::Done(batch.as_bytes(), lines.as_str()),
+        Step {
+            batch: batch.as_bytes(),
+            lines: lines.as_str(),
+        },
     )?;
     expect_tables(alloc, desk.into_store(), name, TABLES)
 }

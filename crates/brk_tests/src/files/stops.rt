@@ -16,8 +16,7 @@ const MOST_CALLS: u64 = 10_000;
 const NO_ROWS: &[u8] = b"batch,Z\nend,0\n";
 
 // Makes a desk of the first schema from one that bought 100 and 200 shares and sold 150.
-const FIRST: &str =
-    "UPDATE DESK SET D_SCHEMA = 1; DROP TABLE SETTLE_RULE; DROP TABLE CASH_MOVE; \
+const FIRST: &str = "UPDATE DESK SET D_SCHEMA = 1; DROP TABLE SETTLE_RULE; DROP TABLE CASH_MOVE; \
     INSERT INTO CASH_TRANSACTION VALUES (1, 1709251200017, -102510, 'Market-Buy 100 shares of Acme'); \
     INSERT INTO CASH_TRANSACTION VALUES (2, 1709251200019, -242900, 'Market-Buy 200 shares of Acme'); \
     INSERT INTO CASH_TRANSACTION VALUES (3, 1709251200021, 185750, 'Market-Sell 150 shares of Acme')";

@@ -7,8 +7,8 @@ use brk_money::{Fault, Id, Stamp};
 use std::test::Fail;
 
 // Two purchases, a sale that takes the last lot first, a short sale on margin of another symbol, and a deposit.
-const TRADES: Step = Step::Done(
-    b"batch,W\n\
+const TRADES: Step = Step {
+    batch: b"batch,W\n\
         order,100,TMB,ABC,100,,cash,fifo,Ann,Lee,T10\n\
         result,1,10.10\n\
         order,100,TMB,ABC,200,,cash,fifo,Ann,Lee,T10\n\
@@ -20,7 +20,7 @@ const TRADES: Step = Step::Done(
         result,4,2.60\n\
         deposit,100,1.00\n\
         end,10\n",
-    "1,ok,1709251200016,1,SBMT,10.00,0.00,0.00,0.00,10.00,5.00,10000.00\n\
+    lines: "1,ok,1709251200016,1,SBMT,10.00,0.00,0.00,0.00,10.00,5.00,10000.00\n\
         2,ok,1709251200017,10.10,0.00,-1025.10,2024-03-03,0.00,0.00,8974.90\n\
         3,ok,1709251200018,2,SBMT,10.00,0.00,0.00,0.00,20.00,5.00,9974.90\n\
         4,ok,1709251200019,24.00,0.00,-2429.00,2024-03-03,0.00,0.00,6545.90\n\
@@ -30,7 +30,7 @@ const TRADES: Step = Step::Done(
         8,ok,1709251200023,4,SBMT,2.50,0.00,0.00,0.00,0.25,5.00,9941.40\n\
         9,ok,1709251200024,0.26,0.00,20.74,2024-03-03,0.00,0.00,8441.40\n\
         10,ok,1709251200025,4,8442.40\nend,10,0,0\n",
-);
+};
 
 // Why a walk ended early: a fault, or the trade at whose row it was to stop.
 #[derive(Debug, PartialEq, Eq, Clone, Copy)]

@@ -12,8 +12,8 @@ use std::process::Abort;
 use std::test::Fail;
 
 // Two purchases and a sale of a part.
-const BOUGHT: Step = Step::Done(
-    b"batch,T\n\
+const BOUGHT: Step = Step {
+    batch: b"batch,T\n\
         order,100,TMB,ABC,100,,cash,fifo,Ann,Lee,T10\n\
         result,1,10.10\n\
         order,100,TMB,ABC,200,,cash,fifo,Ann,Lee,T10\n\
@@ -21,14 +21,14 @@ const BOUGHT: Step = Step::Done(
         order,100,TMS,ABC,150,,cash,fifo,Ann,Lee,T10\n\
         result,3,13.00\n\
         end,6\n",
-    "1,ok,1709251200016,1,SBMT,10.00,0.00,0.00,0.00,10.00,5.00,10000.00\n\
+    lines: "1,ok,1709251200016,1,SBMT,10.00,0.00,0.00,0.00,10.00,5.00,10000.00\n\
         2,ok,1709251200017,10.10,0.00,-1025.10,2024-03-03,0.00,0.00,8974.90\n\
         3,ok,1709251200018,2,SBMT,10.00,0.00,0.00,0.00,20.00,5.00,9974.90\n\
         4,ok,1709251200019,24.00,0.00,-2429.00,2024-03-03,0.00,0.00,6545.90\n\
         5,ok,1709251200020,3,SBMT,10.00,1610.00,1500.00,0.00,15.00,5.00,9545.90\n\
         6,ok,1709251200021,19.50,68.00,1857.50,2024-03-03,1610.00,1950.00,8403.40\n\
         end,6,0,0\n",
-);
+};
 
 // The statement of their month.
 const WANTED: &str = "Statement of account 100\n\
