@@ -17,12 +17,13 @@ enum Escape {
     Nothing,
     Backslash,
     Hex,
-    Digit(u32),
+    Digit(u8),
 }
 
 // Returns the value of a hexadecimal digit, or 0 for any other byte.
-fn digit(byte: u8) -> u32 {
-    char::from(byte).to_digit(16).unwrap_or(0)
+fn digit(byte: u8) -> u8 {
+    let value = char::from(byte).to_digit(16).unwrap_or(0);
+    u8::try_from(value).unwrap_or(0)
 }
 
 // Reads the next byte of an input line: adds what it completes, and returns what it begins.
@@ -32,7 +33,7 @@ fn read_byte(bytes: &mut Vec<u8>, read: Escape, byte: u8) -> Result<Escape, Allo
         (Escape::Backslash, b'x') => return Ok(Escape::Hex),
         (Escape::Backslash, b'r') => bytes.push(b'\r')?,
         (Escape::Hex, _) => return Ok(Escape::Digit(digit(byte))),
-        (Escape::Digit(high), _) => bytes.push(((high << 4) | digit(byte)) as u8)?,
+        (Escape::Digit(high), _) => bytes.push((high << 4) | digit(byte))?,
         (Escape::Nothing | Escape::Backslash, _) => bytes.push(byte)?,
     }
     Ok(Escape::Nothing)
