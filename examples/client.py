@@ -3,8 +3,8 @@
 
     python3 examples/client.py [--at MS]
 
-The words are handed on to `brk batch`, and its exit status is answered. docs/FORMATS.md says what the rows and the
-lines mean.
+The arguments are passed to `brk batch`, and its exit status is returned. docs/formats/batches.md explains the lines,
+and docs/formats/rows.md the rows.
 """
 
 import csv

@@ -7,7 +7,7 @@
 at="http://127.0.0.1:${1:-8123}"
 
 tell() {
-    echo "$ curl $*"
+    printf '%s\n' "curl $*"
     curl -sS -w '   (%{http_code})\n' "$@"
 }
 

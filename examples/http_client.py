@@ -5,7 +5,7 @@
     python3 examples/http_client.py 8123
 
 The rows are those of examples/setting.csv and two orders. Each is sent until a reply comes, so that a row acts once however often
-a stream breaks off; docs/FORMATS.md, "HTTP", says what the replies mean.
+a stream breaks off; docs/formats/http.md explains the replies.
 """
 
 import csv

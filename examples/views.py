@@ -6,7 +6,7 @@
     python3 examples/views.py 8123 status 100
 
 Without a view it first books the rows of examples/day.csv, each under its key, so that a second run books nothing, and then asks for
-all eleven views. With one it asks for that alone. docs/FORMATS.md, "Queries", has the views, and says what their numbers mean.
+all eleven views. With one it asks for that alone. docs/formats/queries.md explains the views and their numbers.
 """
 
 import csv
