@@ -21,9 +21,9 @@ pub fn passing_rows_are_tables()
     ensures tables { (schema : Schema) (rows : Tables) → Passes schema rows → sheets_at schema (base_of rows) ≡ rows }
 {}
 
-/// Proves that the tables of a consistent base with valid histories describe this base with its
-/// reference records sorted by key, whose tables are equal to them. Their statuses are right. If
-/// they are well-formed, they pass the audit.
+/// Proves that the tables of a base that satisfies the books invariant and has valid histories
+/// describe this base with its reference records sorted by key, whose tables are equal to them.
+/// Their statuses are right. If they are well-formed, they pass the audit of schema 3.
 pub fn tables_of_books_pass()
     ensures base { (base : Base) → BooksInvariant base → HasValidHistories base → base_of (sheets base) ≡ sorted base }
     ensures tables { (base : Base) → BooksInvariant base → HasValidHistories base → sheets (base_of (sheets base)) ≡ sheets base }

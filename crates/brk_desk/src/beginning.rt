@@ -40,7 +40,8 @@ pub fn an_adopted_store_keeps_its_books<S: Alter>()
 {}
 
 /// Proves that a store represents the base over whose tables it was opened, if a crash after a run
-/// may expose this base (`MayBeRecovered`). The calls of the run have to be well-formed.
+/// may expose this base (`MayBeRecovered`), its texts are UTF-8, the calls of the run are
+/// well-formed, and the base before the run satisfies the books invariant and the audit invariant.
 pub fn reopening_restores_the_books<S: Alter>()
     ensures { (base : Base) (calls : List (ℕ × Call)) (outcomes : List Outcome) (after : Base) (trees : Trees) (conn : Held S) → BooksInvariant base → AuditInvariant base
         → AllByRecursion IsCallInForm calls → MayBeRecovered base calls outcomes after → IsTrue (has_texts (sheets after))

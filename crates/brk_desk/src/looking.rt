@@ -19,8 +19,7 @@ use std::alloc::Global;
 
 /// Returns the view of a query, or the refusal. Changes nothing.
 ///
-/// Fails with `Memory` or `Store` only; with `Store` also if a row that another row names does not
-/// exist.
+/// Fails with `Memory` or `Store` only.
 pub fn view_of_query<S: Alter>(alloc: Global, store: &mut Store<S>, query: &Query) -> Planned<View>
     ensures read { ReadPost S.Store store.old store.new result (Shows (query_of query.now)) }
     ensures fault { IfErr result MayFail }

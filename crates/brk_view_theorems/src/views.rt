@@ -31,7 +31,8 @@ pub fn statuses_are_as_read()
     ensures { (base : Base) (account : ℕ) → BooksInvariant base → status_view (sheets base) account ≡ status_view (tables_of base) account }
 {}
 
-/// Proves that the view of each query over the sorted tables equals the specified view.
+/// Proves that the view of each query over the sorted tables of a base equals the specified view,
+/// if the base satisfies the books invariant and the audit invariant.
 #[tactic(auto, using(crate::proofs::AllViews::same_view_of))]
 pub fn views_are_as_read()
     ensures { (base : Base) (query : Query) → BooksInvariant base → AuditInvariant base → view_of (sheets base) query ≡ view_of (tables_of base) query }
