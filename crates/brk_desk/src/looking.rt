@@ -17,9 +17,9 @@ use brk_view::{Query, View};
 use sqlite::Alter;
 use std::alloc::Global;
 
-/// Returns the view of a query, or the refusal. Changes nothing.
+/// Returns the view of a query, or the refusal.
 ///
-/// Fails with `Memory` or `Store` only.
+/// Fails with `Memory` or `Store` only. The open database is unchanged, whatever the result.
 pub fn view_of_query<S: Alter>(alloc: Global, store: &mut Store<S>, query: &Query) -> Planned<View>
     ensures read { ReadPost S.Store store.old store.new result (Shows (query_of query.now)) }
     ensures fault { IfErr result MayFail }

@@ -41,9 +41,9 @@ use sqlite::Alter;
 /// `making`: after a crash in the creation of the tables, the adopted store represents the empty
 /// base, unless the state was possible before; of such a state nothing is said.
 ///
-/// `upgrading`: after a crash in an adoption of rows that pass the audit of their schema, an older
-/// one included, a later adoption finds no damage. If it succeeds, the store represents the base
-/// that the same rows give.
+/// `upgrading`: after a crash in an adoption of a database that was just opened, and whose rows
+/// pass the audit of their schema, an older one included, a later adoption finds no damage. If it
+/// succeeds, the store represents the base that the same rows give.
 pub fn every_crash_state_is_adopted<S: Alter>()
     ensures made { (conn store : Held S) → CreatePost S.Store conn store (Ok tt) → HasCleanDisk (state S.Store store) → IsDurable S.Store store empty_base }
     ensures adopted { (trees : Trees) (conn store : Held S) → IsJustOpened S.Store trees conn → IsDefinedIn S.Store conn → AdoptPost S.Store conn store (Ok tt)

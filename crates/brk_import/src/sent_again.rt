@@ -20,10 +20,11 @@ ghost use Rattle.sqlite.specs.State.{HasCleanDisk};
 use brk_io::Clock;
 use sqlite::Alter;
 
-/// Proves, under the disk assumption, that adopting a crash state of a batch never reports damage,
-/// if a crash before the batch exposed only one state. If the batch is then retried and completes,
-/// both runs equal one uninterrupted run, if the first run refused none of the rows that it
-/// answered. This includes a row that was committed but not answered.
+/// Proves, under the disk assumption and for a reader with specified content, that adopting a crash
+/// state of a batch never reports damage, if a crash before the batch exposed only the tables of
+/// the base that the desk represented. If the batch is then retried and completes, both runs equal
+/// one uninterrupted run, if the first run refused none of the rows that it answered. This includes
+/// a row that was committed but not answered.
 pub fn an_interrupted_batch_can_be_retried<S: Alter, C: Clock>()
     ensures { (input : List ℕ) (base : Base) (first left conn store last : Held S) (one two : Outside C) (ended : Result counted.Counts faults.BatchFault)
         (taken : Result (Unit {0}) money.Fault) (counts : counted.Counts) → IsDurable S.Store first base

@@ -32,8 +32,8 @@ fn write_all<W: Write, S: Alter>(
 
 /// Writes the statement of an account for the days `from` to `to`, both included: the opening
 /// amount after the cash rows of earlier days, each cash row of the days, the closing amount, each
-/// lot that it holds now, and their market value at last prices. It only reads the desk, one row at
-/// a time.
+/// lot that it holds now, and their market value at last prices. The open database is unchanged,
+/// whatever the result.
 ///
 /// Fails with `Refused` 18 if `from` is after `to`, otherwise with `Refused` 1 if the account does
 /// not exist; nothing is then written. After `Desk` only whole lines are written, from the first on

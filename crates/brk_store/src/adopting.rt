@@ -34,8 +34,8 @@ pub fn a_desk_is_defined<S: Alter>()
     ensures there { (held : Held S) (t : Tables) → Holds S.Store held t → HasThirdIn S.Store held }
 {}
 
-/// Proves that an audit of a store that holds rows returns the audit of these rows, and never
-/// `Damaged` if the store represents a base.
+/// Proves that an audit of a store that holds rows whose texts are UTF-8 returns the audit of these
+/// rows, and never `Damaged` if the store represents a base.
 pub fn an_audit_tells_of_the_rows<S: Alter>()
     ensures rows { (old new : Held S) (result : Result (Unit {0}) Fault) (t : Tables)
         → AuditPost S.Store old new result → Holds S.Store old t → IsTrue (has_texts t) → HasCleanDisk (state S.Store new) → OnAnswer result (IsAudit third_schema t) }
@@ -50,8 +50,9 @@ pub fn an_adoption_of_rows_is_an_audit<S: Alter>()
         → AdoptPost S.Store old new result → Holds S.Store old t → AuditPost S.Store old new result }
 {}
 
-/// Proves that a store whose rows pass represents their base. An adopted store represents a base
-/// too: that of the rows that were found, of whichever schema.
+/// Proves that a store represents the base of its rows if these pass and their texts are UTF-8. A
+/// store that was adopted from a defined database (`IsDefinedIn`) represents a base too; if it is
+/// open, this is the base of the rows that were found, of whichever schema.
 pub fn an_adopted_store_holds_its_books<S: Alter>()
     ensures rows { (store : Held S) (t : Tables) → Holds S.Store store t → Passes third_schema t → IsTrue (has_texts t) → Represents S.Store store (base_of t) }
     ensures adopted { (old new : Held S) → AdoptPost S.Store old new (Ok tt) → IsDefinedIn S.Store old → (base : Base) × Represents S.Store new base }

@@ -77,13 +77,13 @@ impl<S: Alter> Store<S> {
     }
 
     /// Returns at least `Id::GREATEST` if there are that many deposits and withdrawals, otherwise a
-    /// number below it, which need not be their number. Counts them only if the number of the next
-    /// cash row allows that many. Fails with `Store` only.
+    /// number below it, which need not be their number. Fails with `Store` only.
     pub fn movements_for_limit(&mut self) -> Result<u64, Fault>
         ensures read { ReadPost S.Store self.old self.new result (λ count t. nat_le greatest_id count ≡ nat_le greatest_id (length (filter (λ r. is_none r.trade) t.moves))) }
         ensures fault { OnErr result (result ≡ Err fault.Store) }
     {
         let next = self.next_move()?;
+        // Below this number there cannot be that many, so they are not counted.
         if next.get() < ALL_MOVEMENTS {
             return Ok(next.get());
         }
