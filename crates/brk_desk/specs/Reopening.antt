@@ -43,14 +43,15 @@ IsReopened g left conn = (trees : Trees) × (state g left).may_leave trees × Is
 abbrev pub HasTakenOver : {S : Type 0} → Ghosts S → Held S → Held S → Type 0
 HasTakenOver g conn store = (schema : known.Schema) × (rows : Tables) × Answered (schema_of schema) rows (state g conn).now None × IsDurable g store (base_of rows)
 
--- The adoption found no failing condition. At `Ok` the store represents this base, and a crash
--- exposes only its tables.
+-- The adoption did not fail with `Damaged`. At `Ok` the store represents this base, and a crash
+-- exposes only its tables. Says nothing of the store if the adoption failed with `Memory` or
+-- `Store`.
 pub record IsUpgradedOver {S : Type 0} (g : Ghosts S) (store : Held S) (result : Result (Unit {0}) Fault) (base : Base) : Type 0 where
   pub undamaged : OnAnswer result (λ failing. failing ≡ None)
   pub stands : OnOk result (IsDurable g store base)
 
--- The adoption found no failing condition. The store, or the connection that an error returns,
--- represents a base that `May` allows, and a crash exposes only its tables.
+-- The adoption did not fail with `Damaged`. The store, or the connection that comes back with
+-- `Memory` or `Store`, represents a base that `May` allows, and a crash exposes only its tables.
 pub record IsRecovered {S : Type 0} (g : Ghosts S) (store : Held S) (result : Result (Unit {0}) Fault) (May : Base → Type 0) : Type 0 where
   pub base : Base
   pub may : May base

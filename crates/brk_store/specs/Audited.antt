@@ -115,7 +115,9 @@ abbrev pub AreUpgraded : Database → Trees → Type 0
 AreUpgraded db trees = (schema : known.Schema) × (t : Tables) × (schema ≢ Third) × Answered (schema_of schema) t db None × AreTreesOf (sheets (base_of t)) trees
 
 -- The postcondition of an adoption: an audit by the conditions of the schema that the database has
--- and, at `Ok`, a store that holds the rows in schema 3.
+-- and, at `Ok`, a store that holds the rows in schema 3. The clauses with `IsDefinedIn` say nothing
+-- of a database whose tables have the names and columns of a desk's, and are not as a desk creates
+-- them.
 pub record AdoptPost {S : Type 0} (g : Ghosts S) (old new : Held S) (result : Result (Unit {0}) Fault) : Type 0 where
   -- `Ok` is returned only if the rows pass, and `Damaged` only with the first condition that fails.
   pub told : HasCleanDisk (state g new) → IsDefinedIn g old → OnAnswer result (Audited (state g old).now)
