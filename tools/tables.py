@@ -1,10 +1,11 @@
 #!/usr/bin/env python3
 """Writes the files that follow from the list of tables and statements below: the shapes and cells of the tables (brk_tables_schema), which
 text makes which table (brk_tables_create), the rows of a desk's tables in code (brk_changes), the names of all columns, the reads of
-whole tables and their decoding (brk_tables_scan), and what each SQL text means over any schema (in the crate of the statement). Run
-it at the top of the repository after a change of the list; `.ci/run` does so first. It lays out what it wrote by `rt fmt`, so where
-nothing changed it leaves the tree as it was, and it prints nothing. With `--texts` it prints the SQL texts as well, for the Rust code.
-What it writes is checked like any other file."""
+whole tables and their decoding (brk_tables_scan), that a database has the rows of one set of tables (brk_tables_unique), the tables that
+a transcript shows (brk_cases), and what each SQL text means over any schema (in the crate of the statement). Run it at the top of the
+repository after a change of the list; `.ci/run` does so first. It lays out what it wrote by `rt fmt`, so where nothing changed it leaves
+the tree as it was, and it prints nothing. With `--texts` it prints the SQL texts as well, for the Rust code. What it writes is checked
+like any other file."""
 import os
 import re
 import subprocess
@@ -53,6 +54,8 @@ KEYS = {'kept': 2, 'permission': 2, 'security': 1, 'last_trade': 1, 'charge': 2,
 UNIQUE = {'customer': [3], 'move': [3]}
 # written inside the column, as its key is one text
 INLINE = {'security', 'last_trade'}
+# the tables whose rows are decoded in proofs/TradingBack of brk_tables_schema; those of the others are decoded in proofs/Back
+TRADING_BACK = {'last_trade', 'trade', 'history', 'request', 'holding', 'summary', 'holding_history', 'settlement', 'cash'}
 
 TABLES = {d[0]: (d[1], [(c[0], c[1]) for c in d[7]], d[6]) for d in DATA}
 
@@ -889,7 +892,7 @@ STATEMENTS = {
         (update, 'SetSchema', 'desk_row', [('D_SCHEMA', 1)], [('D_ID', 2)]),
     ],
     'brk_tables_upgrade': [
-        (select, 'CashByStamp', 'cash', [], [('CT_DTS', False), ('CT_T_ID', False)]),
+        (select, 'CashByTrade', 'cash', [], [('CT_T_ID', False)]),
         (select, 'AccountOfTrade', 'trade', [('T_ID', 1)], [('T_ID', False)], None, ['T_CA_ID']),
     ],
     'brk_tables_walks': [
@@ -1357,9 +1360,70 @@ pub struct Sheets {{
 """
     save('crates/brk_changes/src/sheets.rt', text)
 
+def back(d):
+    """The function of proofs that decodes a row of a table; its lemma, that the row it decodes is the one encoded, is named with `_is_back`"""
+    return 'desk' if d[0] == 'desk_row' else d[0]
+
+def backs(module):
+    """The imports of the functions that decode the rows of some tables, and of their lemmas"""
+    tables = [d for d in DATA if (d[0] in TRADING_BACK) == (module == 'TradingBack')]
+    return f"use Rattle.brk_tables_schema.proofs.{module}.{{{', '.join(f'{back(d)}_back, {back(d)}_is_back' for d in tables)}}}"
+
+def decode_proof():
+    """That a row of any table is encoded by one record, and that a table's name does not depend on its tree"""
+    out = f"""-- Written by tools/tables.py: the record that a row of each table encodes.
+use Rattle.std.proofs.Common.{{◌≡◌, ℕ, refl}}
+use Rattle.sqlite_value.specs.Order.{{Row}}
+use Rattle.brk_tables_schema.specs.Desk.{{Item, Which, encode, shape, {WHICHES}}}
+{backs('Back')}
+{backs('TradingBack')}
+
+-- The record that a row of a table encodes.
+pub decode : (w : Which) → Row → Item w
+{chr(10).join(f'decode {d[2]} = {back(d)}_back' for d in DATA)}
+
+-- Decoding the row that encodes a record returns this record.
+pub decodes : (w : Which) (x : Item w) → decode w (encode w x) ≡ x
+unfolding decode
+{chr(10).join(f'decodes {d[2]} x = {back(d)}_is_back x' for d in DATA)}
+
+-- The name of a table does not depend on its tree.
+pub named_alike : (w : Which) (m n : ℕ) → (shape w m).name ≡ (shape w n).name
+{chr(10).join(f'named_alike {d[2]} m n = refl' for d in DATA)}
+"""
+    save('crates/brk_tables_unique/proofs/Decode.antt', out)
+
+def same_tables():
+    """That tables with the same lists of rows are the same"""
+    values = {d[0]: f'{sheet_field(d)}_alike s s t u (each {d[2]}) i' for d in DATA if d[0] in VALUES}
+    out = f"""-- Written by tools/tables.py: tables with the same lists of rows are the same.
+use Rattle.std.proofs.Common.{{◌≡◌}}
+use Rattle.brk_model.specs.Schemas.{{Schema}}
+use Rattle.brk_model.specs.Tables.{{Tables}}
+use Rattle.brk_tables_schema.specs.Desk.{{Which, list_in, {WHICHES}}}
+use Rattle.brk_tables_unique.proofs.Values.{{{', '.join(f'{sheet_field(d)}_alike' for d in DATA if d[0] in VALUES)}}}
+
+pub same_tables : (s : Schema) (t u : Tables) → ((w : Which) → list_in s w t ≡ list_in s w u) → t ≡ u
+same_tables s t u each = λ i. record {{
+{chr(10).join(f'  {sheet_field(d)} = {values.get(d[0], f"each {d[2]} i")};' for d in DATA)}
+}}
+"""
+    save('crates/brk_tables_unique/proofs/SameTables.antt', out)
+
+def table_list():
+    """The tables that a transcript shows"""
+    keys = lambda d: ', '.join(str(n + 1) for n in range(len(key_columns(d))))
+    out = f"""//! Written by tools/tables.py: the tables that a transcript shows.
+
+/// The tables, and the places of the columns of their keys.
+pub const TABLES: [(&str, &str); {len(DATA)}] = [
+{''.join(f'    ("{d[1]}", "{keys(d)}"),{chr(10)}' for d in DATA)}];
+"""
+    save('crates/brk_cases/src/table_list.rt', out)
+
 def lay_out():
     """Lays out the crates that were written to, and gives each file that came out as it was its time again"""
-    for crate in ['brk_changes', *STATEMENTS]:
+    for crate in ['brk_changes', 'brk_tables_unique', 'brk_cases', *STATEMENTS]:
         done = subprocess.run(['rt', 'fmt'], cwd=f'crates/{crate}', stdout=subprocess.PIPE, stderr=subprocess.STDOUT, text=True)
         if done.returncode != 0:
             sys.exit(f'tools/tables.py: rt fmt in crates/{crate}:\n{done.stdout}')
@@ -1389,6 +1453,9 @@ if __name__ == '__main__':
     sheeted()
     sheets_spec()
     sheets_code()
+    decode_proof()
+    same_tables()
+    table_list()
     all_texts = [create_text(table) for table in DATA]
     for crate, statements in STATEMENTS.items():
         all_texts += [write_one(crate, *parts) for write_one, *parts in statements]

@@ -8,6 +8,7 @@ mod escape;
 mod failed;
 mod place;
 mod replay;
+mod table_list;
 mod tables;
 mod views;
 

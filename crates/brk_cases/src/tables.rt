@@ -2,35 +2,10 @@
 
 use crate::escape::add_escaped;
 use crate::failed::Failed;
+use crate::table_list::TABLES;
 use sqlite::types::ValueRef;
 use sqlite::{Connection, MemStore, Row};
 use std::alloc::Global;
-
-// The tables, and the places of the columns of their keys.
-const TABLES: [(&str, &str); 22] = [
-    ("DESK", "1"),
-    ("KEPT", "1, 2"),
-    ("BROKER", "1"),
-    ("CUSTOMER", "1"),
-    ("CUSTOMER_ACCOUNT", "1"),
-    ("ACCOUNT_PERMISSION", "1, 2"),
-    ("SECURITY", "1"),
-    ("LAST_TRADE", "1"),
-    ("CHARGE", "1, 2"),
-    ("COMMISSION_RATE", "1, 2, 3, 4"),
-    ("TAXRATE", "1"),
-    ("CUSTOMER_TAXRATE", "1, 2"),
-    ("TRADE", "1"),
-    ("TRADE_HISTORY", "1, 2"),
-    ("TRADE_REQUEST", "1"),
-    ("HOLDING", "1"),
-    ("HOLDING_SUMMARY", "1, 2"),
-    ("HOLDING_HISTORY", "1, 2"),
-    ("SETTLEMENT", "1"),
-    ("CASH_TRANSACTION", "1"),
-    ("CASH_MOVE", "1"),
-    ("SETTLE_RULE", "1"),
-];
 
 // Adds a column of a row, with a bar before each but the first.
 fn add_column(out: &mut String, row: &Row, at: usize) -> Result<(), Failed> {

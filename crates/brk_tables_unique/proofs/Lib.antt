@@ -1,2 +1,4 @@
 pub mod Decode
+pub mod Values
+pub mod SameTables
 pub mod OneTables

@@ -1,6 +1,5 @@
 -- The rows of a database are those of one set of tables at most.
-use Rattle.std.proofs.Common.{Bool, true, false, ◌≡◌, ℕ, List, [], ◌∷◌, Option, Some, None, Ordering, Less, Equal, Greater, map, slice_get, refl, sym, ap, subst, ◌∙◌, inl, inr}
-use Rattle.std.specs.Prelude.{◌⊎◌}
+use Rattle.std.proofs.Common.{Bool, true, false, ◌≡◌, ℕ, List, [], ◌∷◌, Some, Ordering, Less, Equal, Greater, map, slice_get, refl, sym, ap, subst, ◌∙◌, inl, inr}
 use Rattle.std.specs.Ordering.{ordering_reverse}
 use Rattle.std.specs.Cmp.{IsTotalOrder}
 use Rattle.std.specs.List.{AllByRecursion}
@@ -17,14 +16,15 @@ use Rattle.brk_model.specs.Tables.{Tables}
 use Rattle.brk_changes.specs.declared.schema.Schema as known
 use Rattle.brk_changes.specs.declared.schema.Schema.TheVariants.{First, Second, Third}
 use Rattle.brk_changes.specs.Schemas.{schema_of}
-use Rattle.brk_sql.specs.Desk.{HasTables, Stands}
+use Rattle.brk_sql.specs.Desk.{Stands}
 use Rattle.brk_sql.specs.Rows.{TreeHolds, Rises, cells}
 use Rattle.brk_sql.proofs.Order.{has_permuted}
-use Rattle.brk_tables_schema.specs.Cells.{DeskRow, RuleRow}
-use Rattle.brk_tables_schema.specs.Desk.{Item, Which, encode, key, order, placed, shape, TheDesk, KeptRows, Brokers, Customers, Accounts, Permissions, Securities, LastTrades, Charges, Bands, TaxRates, CustomerTaxes, Trades, TradeHistory, Requests, Holdings, Summaries, HoldingHistory, Settlements, CashRows, CashMoves, SettleRules, list_in, has_table, rule_rows}
+use Rattle.brk_tables_schema.specs.Desk.{Item, Which, encode, key, order, placed, shape, TheDesk, list_in, has_table}
 use Rattle.brk_tables_schema.specs.Made.{HasRows, HasRowsIn, IsOf}
 use Rattle.brk_tables_schema.proofs.Order.{key_total}
 use Rattle.brk_tables_unique.proofs.Decode.{decode, decodes, named_alike}
+use Rattle.brk_tables_unique.proofs.SameTables.{same_tables}
+use Rattle.brk_tables_unique.proofs.Values.{number_alike}
 
 -- ---- two lists that rise, and have the same members
 
@@ -113,61 +113,6 @@ alike : (w : Which) (s r : Schema) (t u : Tables) (db : Database) (m n at by : �
 alike w s r t u db m n at by h k some more =
     let e : m ≡ n = tree_alike w db m n at by h k in
     held_alike w (shape w m) (list_in s w t) (list_in r w u) (db.trees m) some (subst (λ (q : ℕ). TreeHolds (shape w q) (encode w) (order w) (list_in r w u) (db.trees q)) (sym e) more)
-
-last_of : List DeskRow → Option ℕ
-last_of [] = None
-last_of (r ∷ rs) = r.last
-
-number_of : List DeskRow → ℕ
-number_of [] = 0
-number_of (r ∷ rs) = r.schema
-
-rule_of : List RuleRow → Option ℕ
-rule_of [] = None
-rule_of (r ∷ rs) = Some r.day
-
-rule_back : (o : Option ℕ) → rule_of (rule_rows o) ≡ o
-unfolding rule_of
-rule_back None = refl
-rule_back (Some day) = refl
-
-last_alike : (s r : Schema) (t u : Tables) → list_in s TheDesk t ≡ list_in r TheDesk u → t.last ≡ u.last
-unfolding last_of
-last_alike s r t u e = ap last_of e
-
-number_alike : (s r : Schema) (t u : Tables) → list_in s TheDesk t ≡ list_in r TheDesk u → s.number ≡ r.number
-unfolding number_of
-number_alike s r t u e = ap number_of e
-
-rule_alike : (s r : Schema) (t u : Tables) → list_in s SettleRules t ≡ list_in r SettleRules u → t.rule ≡ u.rule
-rule_alike s r t u e = sym (rule_back t.rule) ∙ ap rule_of e ∙ rule_back u.rule
-
--- tables with the same lists are the same
-same_tables : (s : Schema) (t u : Tables) → ((w : Which) → list_in s w t ≡ list_in s w u) → t ≡ u
-same_tables s t u each = λ i. record {
-  last = last_alike s s t u (each TheDesk) i;
-  kept = each KeptRows i;
-  brokers = each Brokers i;
-  customers = each Customers i;
-  accounts = each Accounts i;
-  permissions = each Permissions i;
-  securities = each Securities i;
-  last_trades = each LastTrades i;
-  charges = each Charges i;
-  bands = each Bands i;
-  tax_rates = each TaxRates i;
-  customer_taxes = each CustomerTaxes i;
-  trades = each Trades i;
-  history = each TradeHistory i;
-  requests = each Requests i;
-  holdings = each Holdings i;
-  summaries = each Summaries i;
-  holding_history = each HoldingHistory i;
-  settlements = each Settlements i;
-  cash = each CashRows i;
-  moves = each CashMoves i;
-  rule = rule_alike s s t u (each SettleRules) i;
-}
 
 pub one_tables : (t u : Tables) → (db : Database) → HasRows t db → HasRows u db → t ≡ u
 one_tables t u db h k =

@@ -11,7 +11,7 @@ use Rattle.brk_model.specs.Tables.{Tables}
 use Rattle.brk_sql.specs.Desk.{HasTables, HasSome, IsCalm, MakesEach, SparesStrangers, Turns}
 use Rattle.brk_sql.proofs.Founded.{Among, OrIn, all_left}
 use Rattle.brk_sql.proofs.Grown.{Grown, grown_each, all_there}
-use Rattle.brk_tables_schema.specs.Desk.{Which, CashMoves, CashRows, all_tables, desk, desk_in, has_table, list_in, shape}
+use Rattle.brk_tables_schema.specs.Desk.{Which, CashMoves, all_tables, desk, desk_in, has_table, list_in, shape}
 use Rattle.brk_tables_schema.specs.Made.{IsOf, Lacks}
 use Rattle.brk_tables_schema.proofs.Which.{all_listed, split}
 use Rattle.brk_tables_create.specs.Made.{later_than}
@@ -104,5 +104,5 @@ module _ (desk : Schema) where
   -- those that are not are upgraded
   pub moves_cash : (a c d : Database) → desk.has_moves ≡ false → AddsLaterTables desk a c → Turns (desk_in Rattle.brk_model.specs.Schemas.third_schema) with_numbered_cash c d → Upgrades desk a d
   moves_cash a c d off up turns = λ t tree h lacks.
-      let same : with_numbered_cash t ≡ upgraded_from desk t = rw off (upgraded_is t (h.rows CashRows refl).rising (lacks CashMoves off).1) in
+      let same : with_numbered_cash t ≡ upgraded_from desk t = rw off (upgraded_is t (lacks CashMoves off).1) in
       subst (λ u. HasUpgradedTables desk tree u a d) same (stands_then tree t with_numbered_cash a c d (up t tree h lacks) turns)

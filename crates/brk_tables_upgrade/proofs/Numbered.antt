@@ -5,12 +5,10 @@ use Rattle.std.specs.List.{AllByRecursion}
 use Rattle.std.proofs.lemmas.Bool.{lt-ltb}
 use Rattle.brk_model.specs.Adopted.{posting_of_cash, posting_of_move, postings_in}
 use Rattle.brk_model.specs.Derived.{Posting, in_turn}
-use Rattle.brk_model.specs.Keys.{insert_row, row_before, move_key, by_key}
+use Rattle.brk_model.specs.Keys.{insert_row, row_before, move_key}
 use Rattle.brk_model.specs.Upgraded.{upgraded}
 use Rattle.brk_model.specs.Tables.{Tables, CashRow, MoveRow, move_row, numbered}
-use Rattle.brk_sql.specs.Rows.{Rises}
-use Rattle.brk_tables_schema.specs.Desk.{CashRows, order}
-use Rattle.brk_tables_upgrade.specs.Upgrade.{cash_by_stamp, stamp_key, with_cash_from, with_numbered_cash, with_numbered}
+use Rattle.brk_tables_upgrade.specs.Upgrade.{cash_by_stamp, with_cash_from, with_numbered_cash, with_numbered}
 use Rattle.brk_tables_upgrade.proofs.Sorting.{posted_in_turn}
 
 -- ---- one more of a list
@@ -56,13 +54,13 @@ added n (c ∷ cs) t low =
     ∙ ap (λ (xs : List MoveRow). let u : Tables = record t { moves = xs } in u) (Rattle.std.proofs.Common.append_assoc t.moves (r ∷ []) (numbered (n + 1) (map (posting_of_cash t) cs)))
 
 -- the tables of the first schema with their cash rows upgraded are the upgraded tables
-pub upgraded_is : (t : Tables) → Rises (order CashRows) t.cash → t.moves ≡ [] → with_numbered_cash t ≡ upgraded t
+pub upgraded_is : (t : Tables) → t.moves ≡ [] → with_numbered_cash t ≡ upgraded t
 unfolding upgraded
-upgraded_is t up none =
+upgraded_is t none =
     let low : above_all 1 t.moves = Rattle.std.proofs.Common.subst (above_all 1) (sym none) tt in
     let all : t.moves ++ numbered 1 (map (posting_of_cash t) (cash_by_stamp t)) ≡ numbered 1 (in_turn (postings_in t)) =
     ap (λ (l : List MoveRow). l ++ numbered 1 (map (posting_of_cash t) (cash_by_stamp t))) none
-    ∙ ap (numbered 1) (sym (posted_in_turn t t.cash up)
+    ∙ ap (numbered 1) (sym (posted_in_turn t t.cash)
     ∙ ap in_turn (sym (append-nil (map (posting_of_cash t) t.cash)) ∙ ap (λ (ms : List MoveRow). map (posting_of_cash t) t.cash ++ map posting_of_move ms) (sym none))) in
     ap (λ (u : Tables). let v : Tables = record u { cash = [] } in v) (added 1 (cash_by_stamp t) t low)
     ∙ ap (λ (xs : List MoveRow). let u : Tables = record t { cash = []; moves = xs } in u) all

@@ -3,7 +3,7 @@ use Rattle.std.specs.Prelude.{◌≡◌, ◌≢◌, ◌+◌, ℕ, List, [], ◌�
 use Rattle.std.specs.List.{AllByRecursion}
 use Rattle.sqlite_schema.specs.declared.schema.Table.{Table}
 use Rattle.sqlite.specs.Effect.{Database}
-use Rattle.brk_model.specs.Keys.{KeyPart, number, by_key}
+use Rattle.brk_model.specs.Lists.{sort_by_key}
 use Rattle.brk_model.specs.Adopted.{posting_of_cash}
 use Rattle.brk_model.specs.Upgraded.{upgraded_from}
 use Rattle.brk_model.specs.Schemas.{Schema}
@@ -14,13 +14,10 @@ use Rattle.brk_tables_schema.specs.Desk.{Which, desk, desk_in}
 use Rattle.brk_tables_schema.specs.Made.{IsOf, Lacks}
 use Rattle.brk_tables_cash.specs.Upgrade.{without_cash}
 
--- The sort key of a cash row: its stamp, then its trade.
-abbrev pub stamp_key : CashRow → List KeyPart
-stamp_key r = number r.stamp ∷ number r.trade ∷ []
-
--- The rows of CASH_TRANSACTION, sorted by stamp and then by trade, ascending.
+-- The rows of CASH_TRANSACTION, sorted by stamp, ascending. Rows of one stamp keep the order of the
+-- table, which is that of their trades.
 abbrev pub cash_by_stamp : Tables → List CashRow
-cash_by_stamp t = by_key stamp_key t.cash
+cash_by_stamp t = sort_by_key (λ r. r.stamp) t.cash
 
 -- The tables with the cash row `c` of a trade inserted into CASH_MOVE under the number `id`.
 abbrev pub with_numbered : ℕ → CashRow → Tables → Tables

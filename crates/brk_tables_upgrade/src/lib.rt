@@ -3,6 +3,7 @@
 #![tactic(auto)]
 
 pub mod numbering;
+pub mod ordering;
 pub mod reading;
 pub mod upgrade;
 

@@ -1,4 +1,4 @@
-//! The reads of the upgrade: the cash rows of schema 1 by their stamps, and the account of each.
+//! The reads of the upgrade: the cash rows of schema 1, and the account of a trade.
 
 ghost use Rattle.std.specs.Prelude.{◌≡◌, Err, IfErr, OnErr, map, option_map};
 ghost use Rattle.brk_money.specs.declared.fault.Fault.TheVariants.{Store};
@@ -6,7 +6,6 @@ ghost use Rattle.brk_model.specs.Run.{MayFail};
 ghost use Rattle.brk_model.specs.Joins.{trade_in};
 ghost use Rattle.brk_changes.specs.Rows.{cash_row_of};
 ghost use Rattle.brk_tables_schema.specs.Statements.{Reads};
-ghost use Rattle.brk_tables_upgrade.specs.Upgrade.{cash_by_stamp};
 
 use brk_changes::CashRow;
 use brk_money::{Fault, Id};
@@ -16,19 +15,18 @@ use brk_tables_schema::values::id_value;
 use sqlite::{Alter, Transaction};
 use std::alloc::Global;
 
-/// Returns all rows of CASH_TRANSACTION, sorted by stamp, ascending, and then by trade. Fails with
-/// `Memory` or `Store`.
-pub fn cash_by_stamp<S: Alter>(
+/// Returns all rows of CASH_TRANSACTION, sorted by trade, ascending. Fails with `Memory` or `Store`.
+pub fn cash_rows<S: Alter>(
     tx: &mut Transaction<'_, S>,
     alloc: Global,
 ) -> Result<Vec<CashRow>, Fault>
     ensures same_reference { tx.new.conn.ghost_name ≡ tx.old.conn.ghost_name }
-    ensures step { Reads S.Store tx.old tx.new result (λ all t. map cash_row_of all.items ≡ cash_by_stamp t) }
+    ensures step { Reads S.Store tx.old tx.new result (λ all t. map cash_row_of all.items ≡ t.cash) }
     ensures fault { IfErr result MayFail }
 {
     let rows = select(
         tx,
-        "SELECT CT_T_ID, CT_DTS, CT_AMT, CT_NAME FROM CASH_TRANSACTION ORDER BY CT_DTS, CT_T_ID",
+        "SELECT CT_T_ID, CT_DTS, CT_AMT, CT_NAME FROM CASH_TRANSACTION ORDER BY CT_T_ID",
         &[],
     )?;
     all_rows(alloc, &rows)

@@ -8,7 +8,8 @@ ghost use Rattle.brk_tables_schema.specs.Statements.{Writes};
 ghost use Rattle.brk_tables_upgrade.specs.Upgrade.{AddsLaterTables, Upgrades, with_numbered_cash};
 
 use crate::numbering::add_all;
-use crate::reading::cash_by_stamp;
+use crate::ordering::in_order;
+use crate::reading::cash_rows;
 use brk_changes::Schema;
 use brk_money::Fault;
 use brk_tables_cash::{remove_cash_rows, set_schema};
@@ -33,7 +34,8 @@ fn number_cash_rows<S: Alter>(tx: &mut Transaction<'_, S>, alloc: Global) -> Res
     ensures step { Writes S.Store tx.old tx.new result with_numbered_cash }
     ensures fault { IfErr result MayFail }
 {
-    let rows = cash_by_stamp(tx, alloc)?;
+    let found = cash_rows(tx, alloc)?;
+    let rows = in_order(found)?;
     add_all(tx, &rows)?;
     remove_cash_rows(tx)
 }

@@ -41,7 +41,7 @@ use Rattle.sqlite_resolve.specs.declared.compiled.Compiled.{Compiled}
 use Rattle.sqlite.specs.Listing.{understood}
 
 abbrev pub statement : List ℕ
-statement = codes "SELECT CT_T_ID, CT_DTS, CT_AMT, CT_NAME FROM CASH_TRANSACTION ORDER BY CT_DTS, CT_T_ID"
+statement = codes "SELECT CT_T_ID, CT_DTS, CT_AMT, CT_NAME FROM CASH_TRANSACTION ORDER BY CT_T_ID"
 
 abbrev pub source : Source
 source = roll-Source (record { is_left = false; origin = Table (codes "CASH_TRANSACTION"); alias = None; on = None; using = [] })
@@ -57,7 +57,7 @@ core = roll-Core (record {
 })
 
 abbrev pub by : List Sort
-by = roll-Sort (record { key = e.Column None (codes "CT_DTS"); descending = false; nulls_first = None }) ∷ roll-Sort (record { key = e.Column None (codes "CT_T_ID"); descending = false; nulls_first = None }) ∷ []
+by = roll-Sort (record { key = e.Column None (codes "CT_T_ID"); descending = false; nulls_first = None }) ∷ []
 
 abbrev pub select : ast.Select
 select = ast.roll-Select (record { with = []; first = core; others = []; order = by; limit = None; offset = None })
@@ -69,7 +69,7 @@ abbrev pub project : List Term
 project = col 1 0 ∷ col 1 2 ∷ col 1 3 ∷ col 1 4 ∷ []
 
 abbrev pub order : List (Term × Key)
-order = (col 1 2, record { collation = Binary; descending = false }) ∷ (col 1 0, record { collation = Binary; descending = false }) ∷ []
+order = (col 1 0, record { collation = Binary; descending = false }) ∷ []
 
 abbrev pub paging : Term × Term
 paging = (lit (Int (negsuc 0)), lit (Int (pos 0)))
@@ -115,19 +115,16 @@ module _ (schema : Schema) (at tree : ℕ) (h : Stands schema (cash tree) at) wh
   unfolding lowering
   matches = rw found
 
-  sorted : sorts lower (inside schema (level_one (codes "CASH_TRANSACTION") at columns) false) columns by (after 4 binary) ≡ Ok ((draft tree).order, after 6 nothing)
+  sorted : sorts lower (inside schema (level_one (codes "CASH_TRANSACTION") at columns) false) columns by (after 4 binary) ≡ Ok ((draft tree).order, after 5 nothing)
   unfolding lowering
   sorted =
-      rw (
-        column_is schema at (cash tree) found (codes "CASH_TRANSACTION") columns [] false true (codes "CT_DTS") 1 (whole (codes "CT_DTS")) refl refl,
-        column_is schema at (cash tree) found (codes "CASH_TRANSACTION") columns [] false true (codes "CT_T_ID") 0 (whole (codes "CT_T_ID")) refl refl,
-      )
+      rw (column_is schema at (cash tree) found (codes "CASH_TRANSACTION") columns [] false true (codes "CT_T_ID") 0 (whole (codes "CT_T_ID")) refl refl)
 
   meaning_is : meaning schema select ≡ Ok ((draft tree, names, None ∷ Some Binary ∷ Some Binary ∷ Some Binary ∷ []), [])
   unfolding everything
   meaning_is = query_is schema select core source (codes "CASH_TRANSACTION") paging _ refl refl refl refl refl refl
       (named_is schema core source (codes "CASH_TRANSACTION") at h.named refl refl refl refl columns (after 4 binary)
-      (record { steps = Inner tree ∷ []; filter = terms }) (after 4 binary) shows matches by _ (after 6 nothing) _ refl refl sorted)
+      (record { steps = Inner tree ∷ []; filter = terms }) (after 4 binary) shows matches by _ (after 5 nothing) _ refl refl sorted)
 
   pub understood_as : (compiled schema statement ≡ Ok (meant (read statement) [] (Select (record { lets = []; body = selection tree terms project order paging }) names))) ⊎ (compiled schema statement ≡ Err Mismatch)
   unfolding everything
