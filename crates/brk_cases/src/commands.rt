@@ -11,7 +11,7 @@ use brk_import::{Clock, FaultKind, run_batch};
 use brk_money::{Fault, Refusal, Stamp, parse_day};
 use brk_orders::parse_stamp;
 use brk_ref::parse_id;
-use brk_report::{StatementFault, statement};
+use brk_report::{ReportFault, statement};
 use sqlite::{Connection, MemStore};
 use std::alloc::{AllocError, Global};
 
@@ -114,7 +114,7 @@ fn state(
     add_written(out, &lines)?;
     match ended {
         Ok(()) => Ok(()),
-        Err(StatementFault::Refused(refusal)) => add_refusal(out, refusal),
+        Err(ReportFault::Refused(refusal)) => add_refusal(out, refusal),
         Err(_) => add_line(out, "! fault"),
     }
 }

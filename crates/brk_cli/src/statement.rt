@@ -16,7 +16,7 @@ fn print<S: Alter>(
     let mut lines = rt.stdout();
     match statement(rt.alloc(), desk, account, from, to, &mut lines) {
         Ok(()) => Ending::Done,
-        Err(fault) => Ending::Statement(fault),
+        Err(fault) => Ending::Report(fault),
     }
 }
 

@@ -3,8 +3,8 @@ use Rattle.std.specs.Prelude.{ℕ, List, [], ◌∷◌, ◌++◌, Result, Err, c
 use Rattle.brk_money.specs.declared.fault.Fault.{Fault}
 use Rattle.brk_money.specs.declared.fault.Fault.TheVariants as fault
 use Rattle.brk_money.specs.Kinds.{refusal_number}
-use Rattle.brk_report_lines.specs.declared.fault.StatementFault.{StatementFault}
-use Rattle.brk_report_lines.specs.declared.fault.StatementFault.TheVariants as statement
+use Rattle.brk_report_lines.specs.declared.fault.ReportFault.{ReportFault}
+use Rattle.brk_report_lines.specs.declared.fault.ReportFault.TheVariants as statement
 use Rattle.brk_io.specs.declared.batch_fault.FaultKind.{FaultKind}
 use Rattle.brk_io.specs.declared.batch_fault.FaultKind.TheVariants as kind
 use Rattle.brk_http_engine.specs.declared.turning.FaultKind.{FaultKind as StreamFault}
@@ -34,10 +34,10 @@ batch_status (kind.Desk fault) = fault_status fault
 
 -- The exit status of a statement that was not written: 1 if it is refused, otherwise that of its
 -- fault.
-abbrev pub statement_status : StatementFault → ℕ
-statement_status (statement.Refused refusal) = 1
-statement_status (statement.Desk fault) = fault_status fault
-statement_status statement.Write = 3
+abbrev pub report_status : ReportFault → ℕ
+report_status (statement.Refused refusal) = 1
+report_status (statement.Desk fault) = fault_status fault
+report_status statement.Write = 3
 
 -- The exit status of an ending: 0 if the job is done and for help, 2 if the arguments are wrong,
 -- otherwise that of its fault.
@@ -45,7 +45,7 @@ abbrev pub status_of : Ending → ℕ
 status_of ending.Done = 0
 status_of (ending.Open fault) = fault_status fault
 status_of (ending.Batch fault) = batch_status fault.kind
-status_of (ending.Statement fault) = statement_status fault
+status_of (ending.Report fault) = report_status fault
 status_of (ending.Serve fault) = 3
 status_of ending.Net = 3
 status_of ending.Output = 3
@@ -76,10 +76,10 @@ stream_line stream.Write = codes "brk: fault: write\n"
 stream_line stream.Memory = codes "brk: fault: memory\n"
 
 -- The line of a statement that is refused or ended early.
-abbrev pub statement_line : StatementFault → List ℕ
-statement_line (statement.Refused refusal) = codes "brk: refused: " ++ (decimal (refusal_number refusal) ++ (10 ∷ []))
-statement_line (statement.Desk fault) = fault_line fault
-statement_line statement.Write = codes "brk: fault: write\n"
+abbrev pub report_line : ReportFault → List ℕ
+report_line (statement.Refused refusal) = codes "brk: refused: " ++ (decimal (refusal_number refusal) ++ (10 ∷ []))
+report_line (statement.Desk fault) = fault_line fault
+report_line statement.Write = codes "brk: fault: write\n"
 
 -- The line of arguments that are wrong. Help has none.
 abbrev pub usage_line : UsageFault → List ℕ
@@ -93,7 +93,7 @@ abbrev pub line_of : Ending → List ℕ
 line_of ending.Done = []
 line_of (ending.Open fault) = fault_line fault
 line_of (ending.Batch fault) = batch_line fault.kind
-line_of (ending.Statement fault) = statement_line fault
+line_of (ending.Report fault) = report_line fault
 line_of (ending.Serve fault) = stream_line fault.kind
 line_of ending.Net = codes "brk: fault: net\n"
 line_of ending.Output = codes "brk: fault: write\n"

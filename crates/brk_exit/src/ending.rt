@@ -10,7 +10,7 @@ use brk_args::UsageFault;
 use brk_http_engine::{FaultKind as StreamFault, ServeFault};
 use brk_io::{BatchFault, FaultKind, NotWritten};
 use brk_money::Fault;
-use brk_report_lines::StatementFault;
+use brk_report_lines::ReportFault;
 use itoa::Buffer;
 
 /// The outcome of the program.
@@ -23,7 +23,7 @@ pub enum Ending {
     /// The batch ended early.
     Batch(BatchFault),
     /// The statement is refused, or ended early.
-    Statement(StatementFault),
+    Report(ReportFault),
     /// A stream of requests ended because memory ran out.
     Serve(ServeFault),
     /// No stream could be accepted: the port is in use, or the machine gives no more.
@@ -78,13 +78,13 @@ fn batch_status(kind: FaultKind) -> u8
     }
 }
 
-fn statement_status(fault: &StatementFault) -> u8
-    ensures { result ≡ spec.statement_status fault.now }
+fn report_status(fault: &ReportFault) -> u8
+    ensures { result ≡ spec.report_status fault.now }
 {
     match fault {
-        StatementFault::Refused(_) => 1,
-        StatementFault::Desk(fault) => fault_status(*fault),
-        StatementFault::Write => 3,
+        ReportFault::Refused(_) => 1,
+        ReportFault::Desk(fault) => fault_status(*fault),
+        ReportFault::Write => 3,
     }
 }
 
@@ -95,7 +95,7 @@ fn status(ending: &Ending) -> u8
         Ending::Done => 0,
         Ending::Open(fault) => fault_status(*fault),
         Ending::Batch(fault) => batch_status(fault.kind),
-        Ending::Statement(fault) => statement_status(fault),
+        Ending::Report(fault) => report_status(fault),
         Ending::Serve(_) => 3,
         Ending::Net => 3,
         Ending::Output => 3,
@@ -116,17 +116,17 @@ pub fn after_close(ending: Ending, closed: Result<(), Fault>) -> Ending
     }
 }
 
-fn tell_statement<S: Sink>(fault: &StatementFault, errors: &mut S) -> Result<(), NotWritten>
-    ensures ok { OnOk result (Appends (S.contents errors.old) (S.contents errors.new) (spec.statement_line fault.now)) }
-    ensures err { OnErr result (FailsWithin S.contents S.fails errors.old errors.new (spec.statement_line fault.now)) }
+fn tell_report<S: Sink>(fault: &ReportFault, errors: &mut S) -> Result<(), NotWritten>
+    ensures ok { OnOk result (Appends (S.contents errors.old) (S.contents errors.new) (spec.report_line fault.now)) }
+    ensures err { OnErr result (FailsWithin S.contents S.fails errors.old errors.new (spec.report_line fault.now)) }
 {
     match fault {
-        StatementFault::Refused(refusal) => {
+        ReportFault::Refused(refusal) => {
             let mut buffer = Buffer::new();
             write_line(errors, ("brk: refused: ", buffer.format(refusal.number())))
         }
-        StatementFault::Desk(fault) => write_line(errors, fault_line(*fault)),
-        StatementFault::Write => write_line(errors, ("brk: fault: ", "write")),
+        ReportFault::Desk(fault) => write_line(errors, fault_line(*fault)),
+        ReportFault::Write => write_line(errors, ("brk: fault: ", "write")),
     }
 }
 
@@ -152,7 +152,7 @@ pub fn tell<S: Sink>(ending: &Ending, errors: &mut S) -> Result<(), NotWritten>
         Ending::Done => Ok(()),
         Ending::Open(fault) => write_line(errors, fault_line(*fault)),
         Ending::Batch(fault) => write_line(errors, batch_line(fault.kind)),
-        Ending::Statement(fault) => tell_statement(fault, errors),
+        Ending::Report(fault) => tell_report(fault, errors),
         Ending::Serve(fault) => write_line(errors, stream_line(fault.kind)),
         Ending::Net => write_line(errors, ("brk: fault: ", "net")),
         Ending::Output => write_line(errors, ("brk: fault: ", "write")),

@@ -18,7 +18,7 @@ use Rattle.brk_report.specs.Stated.{AreLines, States}
 use Rattle.brk_report_lines.specs.Written.{BreaksIn, Writes}
 use Rattle.brk_report_lines.specs.declared.fault.LinesFault.{LinesFault}
 use Rattle.brk_report_lines.specs.declared.fault.LinesFault.TheVariants.{Desk, Write}
-use Rattle.brk_report_lines.specs.declared.fault.StatementFault.TheVariants as stated
+use Rattle.brk_report_lines.specs.declared.fault.ReportFault.TheVariants as stated
 use Rattle.brk_desk.specs.Heads.{IsHead}
 use Rattle.brk_report.proofs.Handing.{none_written}
 

@@ -14,8 +14,8 @@ use Rattle.brk_store.specs.Holds.{Holds, IsSame}
 use Rattle.brk_report_lines.specs.Written.{BreaksOff, WroteFirst, WrotePart}
 use Rattle.brk_report_lines.specs.declared.fault.LinesFault.{LinesFault}
 use Rattle.brk_report_lines.specs.declared.fault.LinesFault.TheVariants as lines
-use Rattle.brk_report_lines.specs.declared.fault.StatementFault.{StatementFault}
-use Rattle.brk_report_lines.specs.declared.fault.StatementFault.TheVariants.{Refused, Desk, Write}
+use Rattle.brk_report_lines.specs.declared.fault.ReportFault.{ReportFault}
+use Rattle.brk_report_lines.specs.declared.fault.ReportFault.TheVariants.{Refused, Desk, Write}
 use Rattle.brk_report.specs.declared.visitors.Moved.{Moved}
 
 -- The desk is unchanged.
@@ -61,14 +61,14 @@ AreLines t account from to lines = (nat_lt to from ≡ false) × ((a : AccountRo
 -- The result of a statement is as specified. `Ok`: its text was written. `Refused`: the model
 -- refuses it with this refusal. `Desk`: nothing was written, or whole lines from the first on,
 -- without the last one. `Write`: whole lines from the first on, and a part of the next one.
-abbrev pub States : Tables → ℕ → ℕ → ℕ → Option Text → Option Text → Result (Unit {0}) StatementFault → Type 0
+abbrev pub States : Tables → ℕ → ℕ → ℕ → Option Text → Option Text → Result (Unit {0}) ReportFault → Type 0
 States t account from to old new (Ok u) = (text : Text) × (statement t account from to ≡ Ok text) × Appends old new text
 States t account from to old new (Err (Refused refusal)) = statement t account from to ≡ Err refusal
 States t account from to old new (Err (Desk fault)) = MayFail fault × (Appends old new [] ⊎ ((lines : List Text) × AreLines t account from to lines × WroteFirst lines old new))
 States t account from to old new (Err Write) = (lines : List Text) × AreLines t account from to lines × WrotePart lines old new
 
 -- The postcondition of a statement of an account, which only reads the desk.
-pub record IsStated {S : Type 0} (g : Ghosts S) (old new : Held S) (account from to : ℕ) (before after : Option Text) (result : Result (Unit {0}) StatementFault) : Type 0 where
+pub record IsStated {S : Type 0} (g : Ghosts S) (old new : Held S) (account from to : ℕ) (before after : Option Text) (result : Result (Unit {0}) ReportFault) : Type 0 where
   -- The output is as specified for the rows that the store holds, whatever they are.
   pub told : OverRows g old new (λ t. States t account from to before after result)
   pub keeps : Keeps g old new

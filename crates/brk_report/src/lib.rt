@@ -6,5 +6,5 @@ pub mod sections;
 pub mod stating;
 pub mod visitors;
 
-pub use brk_report_lines::StatementFault;
+pub use brk_report_lines::ReportFault;
 pub use stating::statement;

@@ -6,7 +6,7 @@ use crate::parts::{write_days, write_held, write_top};
 use crate::sections::sum_before;
 use brk_desk::{Desk, Head};
 use brk_money::{Day, Id, Refusal};
-use brk_report_lines::{LinesFault, StatementFault};
+use brk_report_lines::{LinesFault, ReportFault};
 use sqlite::Alter;
 use std::alloc::Global;
 use std::io::Write;
@@ -46,20 +46,20 @@ pub fn statement<W: Write, S: Alter>(
     from: Day,
     to: Day,
     writer: &mut W,
-) -> Result<(), StatementFault>
+) -> Result<(), ReportFault>
     ensures stated { IsStated S.Store desk.old desk.new account from to (W.contents writer.old) (W.contents writer.new) result }
 {
     if to.get() < from.get() {
-        return Err(StatementFault::Refused(Refusal::BadText));
+        return Err(ReportFault::Refused(Refusal::BadText));
     }
     let head = match desk.head(alloc, account) {
         Ok(Some(head)) => head,
-        Ok(None) => return Err(StatementFault::Refused(Refusal::NoAccount)),
-        Err(fault) => return Err(StatementFault::Desk(fault)),
+        Ok(None) => return Err(ReportFault::Refused(Refusal::NoAccount)),
+        Err(fault) => return Err(ReportFault::Desk(fault)),
     };
     match write_all(alloc, desk, account, &head, from, to, writer) {
         Ok(()) => Ok(()),
-        Err(LinesFault::Desk(fault)) => Err(StatementFault::Desk(fault)),
-        Err(LinesFault::Write) => Err(StatementFault::Write),
+        Err(LinesFault::Desk(fault)) => Err(ReportFault::Desk(fault)),
+        Err(LinesFault::Write) => Err(ReportFault::Write),
     }
 }

@@ -11,7 +11,7 @@ pub enum LinesFault {
 
 /// The cause that ended a statement early.
 #[derive(Debug, Drop)]
-pub enum StatementFault {
+pub enum ReportFault {
     /// The statement is refused, and nothing is written.
     Refused(Refusal),
     /// The desk failed, or memory ran out. Only whole lines are written, and not the last one.

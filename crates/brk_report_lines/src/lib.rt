@@ -9,7 +9,7 @@ pub mod row_lines;
 pub mod writing;
 
 pub use days::{first_stamp, last_stamp, stamp_before};
-pub use fault::{LinesFault, StatementFault};
+pub use fault::{LinesFault, ReportFault};
 pub use head_lines::{amount_line, counts_line, days_line, name_line, title_line};
 pub use row_lines::{cash_line, lot_line};
 pub use writing::write_line;

@@ -1,6 +1,6 @@
 use brk_args::UsageFault;
 use brk_exit::brk_io::{BatchFault, FaultKind};
-use brk_exit::brk_report_lines::StatementFault;
+use brk_exit::brk_report_lines::ReportFault;
 use brk_exit::{Ending, end_with};
 use brk_http_engine::{FaultKind as StreamFault, ServeFault};
 use brk_money::{Condition, Fault, Refusal};
@@ -41,13 +41,13 @@ fn tells_how_a_batch_ended(rt: HostRuntime) {
 #[test]
 fn tells_how_a_statement_ended(rt: HostRuntime) {
     let alloc = rt.alloc();
-    let stranger = Ending::Statement(StatementFault::Refused(Refusal::NoAccount));
+    let stranger = Ending::Report(ReportFault::Refused(Refusal::NoAccount));
     expect_ending(&rt, alloc, &stranger, 1, "brk: refused: 1\n");
-    let days = Ending::Statement(StatementFault::Refused(Refusal::BadText));
+    let days = Ending::Report(ReportFault::Refused(Refusal::BadText));
     expect_ending(&rt, alloc, &days, 1, "brk: refused: 18\n");
-    let store = Ending::Statement(StatementFault::Desk(Fault::Store));
+    let store = Ending::Report(ReportFault::Desk(Fault::Store));
     expect_ending(&rt, alloc, &store, 3, "brk: fault: store\n");
-    let writer = Ending::Statement(StatementFault::Write);
+    let writer = Ending::Report(ReportFault::Write);
     expect_ending(&rt, alloc, &writer, 3, "brk: fault: write\n");
 }
 

@@ -2,7 +2,7 @@
 
 use crate::files::machine::{Held, Seen, Stop, desk_in, file_of, run};
 use brk_money::{Fault, Id, parse_day};
-use brk_report::{StatementFault, statement};
+use brk_report::{ReportFault, statement};
 use sqlite::{Files, Options};
 use std::alloc::Global;
 use std::test::Fail;
@@ -44,7 +44,7 @@ fn written(
     held: &Held,
     calls: u64,
     text: &mut Vec<u8>,
-) -> Result<Option<Result<(), StatementFault>>, Fail> {
+) -> Result<Option<Result<(), ReportFault>>, Fail> {
     let account = Id::new(100).ok_or("an account")?;
     let from = parse_day(b"2024-03-01").ok_or("a first day")?;
     let to = parse_day(b"2024-03-31").ok_or("a last day")?;
@@ -82,7 +82,7 @@ fn a_disk_may_fail_within_a_statement(rt: HostRuntime) -> Result<(), Fail> {
             }
             Some(Err(ended)) => {
                 assert!(rt;
-                    matches!(&ended, StatementFault::Desk(Fault::Store)),
+                    matches!(&ended, ReportFault::Desk(Fault::Store)),
                     "after {calls} calls"
                 );
                 assert!(rt; is_of_first_lines(&text), "after {calls} calls");

@@ -4,7 +4,7 @@ use crate::desks::{Step, expect, set_desk};
 use crate::faulty::Narrow;
 use crate::statements::asking::span_of;
 use brk_import::brk_desk::Desk;
-use brk_report::{StatementFault, statement};
+use brk_report::{ReportFault, statement};
 use sqlite::MemStore;
 use std::alloc::Global;
 use std::io::ErrorKind;
@@ -69,7 +69,7 @@ fn expect_cut(
         asked.to,
         &mut writer,
     );
-    let is_cut = matches!(&ended, Err(StatementFault::Write));
+    let is_cut = matches!(&ended, Err(ReportFault::Write));
     assert!(rt;
         is_cut == (room < WANTED.len()),
         "room for {room}: the fault"
