@@ -21,6 +21,15 @@ pub enum Job {
     Audit {
         db: String,
     },
+    /// The view that a name and its arguments ask for, of the file at `db`: as JSON or as CSV rows,
+    /// with the names of its fields first or without.
+    Ask {
+        db: String,
+        json: bool,
+        heads: bool,
+        view: String,
+        arguments: Vec<String>,
+    },
     /// The given number of streams, in sequence, at a port of this machine, with `db` and `at` as
     /// for a batch.
     Serve {

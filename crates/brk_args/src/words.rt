@@ -1,10 +1,27 @@
 use crate::job::{Job, UsageFault};
 use brk_money::{Day, Id, Stamp, parse_day};
 use clap::error::ErrorKind;
-use clap::{Arg, ArgMatches, Command, Error, value_parser};
+use clap::{Arg, ArgAction, ArgMatches, Command, Error, value_parser};
 use std::alloc::{AllocError, Global};
 
 const VERSION: &str = "0.1.0";
+
+const VIEWS: &str = "Views and their arguments:
+  customer ID
+  taxid TAXID
+  recent ACCOUNT
+  status ACCOUNT
+  submitted
+  estimate ACCOUNT TYPE SYMBOL QTY PRICE CASH END FIRST LAST TAXID
+  trades ID ..
+  accounttrades ACCOUNT FROM TO
+  symboltrades SYMBOL FROM TO
+  lots ACCOUNT FROM
+  volume SECTOR NAME ..
+Write -- before an argument that begins with a hyphen.
+
+Example:
+  brk ask --db desk.db --heads customer 10";
 
 // Returns the argument of a file that is created if it is missing or empty.
 fn made_file<'a>(alloc: Global) -> Arg<'a> {
@@ -73,6 +90,38 @@ fn audit<'a>(alloc: Global) -> Result<Command<'a>, AllocError> {
         .arg(kept_file(alloc))
 }
 
+// Returns an argument that is given or not.
+fn flag<'a>(alloc: Global, name: &'static str, help: &'static str) -> Arg<'a> {
+    Arg::new(alloc, name)
+        .long(name)
+        .action(ArgAction::SetTrue)
+        .help(help)
+}
+
+// Returns the arguments of `brk ask`.
+fn ask<'a>(alloc: Global) -> Result<Command<'a>, AllocError> {
+    let view = Arg::new(alloc, "view")
+        .value_name("VIEW")
+        .help("The name of the view")
+        .required(true);
+    let arguments = Arg::new(alloc, "arguments")
+        .value_name("ARGUMENT")
+        .num_args(0..)
+        .help("The arguments of the view");
+    Command::new(alloc, "ask")
+        .about("Prints a view of a desk: a CSV row for each record")
+        .after_help(VIEWS)
+        .arg(kept_file(alloc))?
+        .arg(flag(alloc, "json", "Prints the view as JSON, as over HTTP"))?
+        .arg(flag(
+            alloc,
+            "heads",
+            "Prints the names of the fields first, where all records have the same",
+        ))?
+        .arg(view)?
+        .arg(arguments)
+}
+
 // Returns the arguments of `brk serve`.
 fn serve<'a>(alloc: Global) -> Result<Command<'a>, AllocError> {
     let port = Arg::new(alloc, "port")
@@ -99,6 +148,7 @@ fn serve<'a>(alloc: Global) -> Result<Command<'a>, AllocError> {
 fn grammar<'a>(alloc: Global) -> Result<Command<'a>, AllocError> {
     let batch = batch(alloc)?;
     let statement = statement(alloc)?;
+    let ask = ask(alloc)?;
     let audit = audit(alloc)?;
     let serve = serve(alloc)?;
     Command::new(alloc, "brk")
@@ -109,6 +159,7 @@ fn grammar<'a>(alloc: Global) -> Result<Command<'a>, AllocError> {
         .arg_required_else_help(true)
         .subcommand(batch)?
         .subcommand(statement)?
+        .subcommand(ask)?
         .subcommand(audit)?
         .subcommand(serve)
 }
@@ -155,6 +206,29 @@ fn serve_of(alloc: Global, matches: &ArgMatches<'_>) -> Result<Job, UsageFault> 
     })
 }
 
+// Returns the texts that were given for `name`, in order.
+fn texts_of(
+    alloc: Global,
+    matches: &ArgMatches<'_>,
+    name: &str,
+) -> Result<Vec<String>, AllocError> {
+    let mut texts = Vec::new(alloc);
+    for text in matches.get_strs(name).unwrap_or(&[]) {
+        texts.push(String::from_str(alloc, text)?)?;
+    }
+    Ok(texts)
+}
+
+fn ask_of(alloc: Global, matches: &ArgMatches<'_>) -> Result<Job, UsageFault> {
+    Ok(Job::Ask {
+        db: text_of(alloc, matches, "db")?,
+        json: matches.get_flag("json"),
+        heads: matches.get_flag("heads"),
+        view: text_of(alloc, matches, "view")?,
+        arguments: texts_of(alloc, matches, "arguments")?,
+    })
+}
+
 // Returns the job that the matched arguments give.
 fn job_of(alloc: Global, name: &str, matches: &ArgMatches<'_>) -> Result<Job, UsageFault> {
     if name == "statement" {
@@ -162,6 +236,9 @@ fn job_of(alloc: Global, name: &str, matches: &ArgMatches<'_>) -> Result<Job, Us
     }
     if name == "serve" {
         return serve_of(alloc, matches);
+    }
+    if name == "ask" {
+        return ask_of(alloc, matches);
     }
     if name == "audit" {
         let db = text_of(alloc, matches, "db")?;

@@ -4,7 +4,7 @@ use crate::escape::{Piece, add_line, add_written};
 use crate::failed::Failed;
 use crate::place::{Place, adopt};
 use crate::tables::add_tables;
-use crate::views::{add_refusal, ask};
+use crate::views::{add_refusal, ask, print};
 use brk_http::serve_stream;
 use brk_import::brk_desk::Desk;
 use brk_import::{Clock, FaultKind, run_batch};
@@ -214,6 +214,7 @@ fn at_desk(
         "batch" => batch(alloc, out, desk, words, &block(alloc, pieces)?),
         "http" => http(alloc, out, desk, words, &block(alloc, pieces)?),
         "ask" => ask(alloc, out, desk, words, pieces),
+        "print" => print(alloc, out, desk, words, pieces),
         "statement" => state(alloc, out, desk, words),
         _ => add_line(out, "! no such command"),
     }

@@ -1,7 +1,8 @@
 //! Views as records.
 
-use crate::escape::{Piece, add_escaped, add_line};
+use crate::escape::{Piece, add_escaped, add_line, add_written};
 use crate::failed::Failed;
+use brk_ask::{Form, ReportFault};
 use brk_import::brk_desk::{Desk, parse_query};
 use brk_money::{Planned, Refusal};
 use brk_view::View;
@@ -74,6 +75,34 @@ pub fn ask(
     match answer(alloc, desk, view, &arguments) {
         Ok(Ok(view)) => add_view(alloc, out, &view),
         Ok(Err(refusal)) => add_refusal(out, refusal),
+        Err(_) => add_line(out, "! fault"),
+    }
+}
+
+// The form of a printed view by its word.
+fn form_of(word: &str) -> Form {
+    Form {
+        json: word == "json" || word == "json-heads",
+        heads: word == "csv-heads" || word == "json-heads",
+    }
+}
+
+/// Prints a view of a desk: its words are the form and the view, its input lines the arguments.
+pub fn print(
+    alloc: Global,
+    out: &mut String,
+    desk: &mut Desk<MemStore>,
+    words: &str,
+    pieces: &[Piece],
+) -> Result<(), Failed> {
+    let (form, view) = words.split_once(' ').unwrap_or((words, ""));
+    let arguments = texts(alloc, pieces)?;
+    let mut printed = Vec::new(alloc);
+    let ended = brk_ask::ask(alloc, desk, view, &arguments, form_of(form), &mut printed);
+    add_written(out, &printed)?;
+    match ended {
+        Ok(()) => Ok(()),
+        Err(ReportFault::Refused(refusal)) => add_refusal(out, refusal),
         Err(_) => add_line(out, "! fault"),
     }
 }

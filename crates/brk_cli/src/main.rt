@@ -1,6 +1,7 @@
 //! The program `brk`: a brokerage desk at the command line.
 #![tactic(auto)]
 
+mod ask;
 mod audit;
 mod batch;
 mod moment;
@@ -8,6 +9,7 @@ mod serve;
 mod statement;
 
 use brk_args::{Job, UsageFault, no_text, read_words};
+use brk_ask::Form;
 use brk_exit::{Ending, end_with};
 use std::alloc::AllocError;
 use std::env;
@@ -40,6 +42,21 @@ fn run(rt: &HostRuntime) -> Ending {
                 to,
             },
         ) => statement::run(rt, db.as_str(), account, from, to),
+        Ok(
+            Job::Ask {
+                db,
+                json,
+                heads,
+                view,
+                arguments,
+            },
+        ) => ask::run(
+            rt,
+            db.as_str(),
+            view.as_str(),
+            &arguments,
+            Form { json, heads },
+        ),
         Ok(Job::Audit { db }) => audit::run(rt, db.as_str()),
         Ok(
             Job::Serve {

@@ -4,7 +4,7 @@ use Rattle.brk_money.specs.declared.fault.Fault.{Fault}
 use Rattle.brk_money.specs.declared.fault.Fault.TheVariants as fault
 use Rattle.brk_money.specs.Kinds.{refusal_number}
 use Rattle.brk_report_lines.specs.declared.fault.ReportFault.{ReportFault}
-use Rattle.brk_report_lines.specs.declared.fault.ReportFault.TheVariants as statement
+use Rattle.brk_report_lines.specs.declared.fault.ReportFault.TheVariants as report
 use Rattle.brk_io.specs.declared.batch_fault.FaultKind.{FaultKind}
 use Rattle.brk_io.specs.declared.batch_fault.FaultKind.TheVariants as kind
 use Rattle.brk_http_engine.specs.declared.turning.FaultKind.{FaultKind as StreamFault}
@@ -32,12 +32,12 @@ batch_status kind.Read = 3
 batch_status kind.Write = 3
 batch_status (kind.Desk fault) = fault_status fault
 
--- The exit status of a statement that was not written: 1 if it is refused, otherwise that of its
+-- The exit status of a report that was not written: 1 if it is refused, otherwise that of its
 -- fault.
 abbrev pub report_status : ReportFault → ℕ
-report_status (statement.Refused refusal) = 1
-report_status (statement.Desk fault) = fault_status fault
-report_status statement.Write = 3
+report_status (report.Refused refusal) = 1
+report_status (report.Desk fault) = fault_status fault
+report_status report.Write = 3
 
 -- The exit status of an ending: 0 if the job is done and for help, 2 if the arguments are wrong,
 -- otherwise that of its fault.
@@ -75,11 +75,11 @@ stream_line stream.Read = codes "brk: fault: read\n"
 stream_line stream.Write = codes "brk: fault: write\n"
 stream_line stream.Memory = codes "brk: fault: memory\n"
 
--- The line of a statement that is refused or ended early.
+-- The line of a report that is refused or ended early.
 abbrev pub report_line : ReportFault → List ℕ
-report_line (statement.Refused refusal) = codes "brk: refused: " ++ (decimal (refusal_number refusal) ++ (10 ∷ []))
-report_line (statement.Desk fault) = fault_line fault
-report_line statement.Write = codes "brk: fault: write\n"
+report_line (report.Refused refusal) = codes "brk: refused: " ++ (decimal (refusal_number refusal) ++ (10 ∷ []))
+report_line (report.Desk fault) = fault_line fault
+report_line report.Write = codes "brk: fault: write\n"
 
 -- The line of arguments that are wrong. Help has none.
 abbrev pub usage_line : UsageFault → List ℕ

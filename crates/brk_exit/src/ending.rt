@@ -22,7 +22,7 @@ pub enum Ending {
     Open(Fault),
     /// The batch ended early.
     Batch(BatchFault),
-    /// The statement is refused, or ended early.
+    /// The statement or the view is refused, or ended early.
     Report(ReportFault),
     /// A stream of requests ended because memory ran out.
     Serve(ServeFault),

@@ -13,6 +13,7 @@ mod service;
 mod stream;
 mod turning;
 
+pub use bodies::told_records;
 pub use replying::line_fields;
 pub use service::{RowAnswer, Service};
 pub use stream::{ServeFault, serve};

@@ -9,10 +9,10 @@ pub enum LinesFault {
     Write,
 }
 
-/// The cause that ended a statement early.
+/// The cause that ended a report early: a statement, or the view of a query.
 #[derive(Debug, Drop)]
 pub enum ReportFault {
-    /// The statement is refused, and nothing is written.
+    /// The report is refused, and nothing is written.
     Refused(Refusal),
     /// The desk failed, or memory ran out. Only whole lines are written, and not the last one.
     Desk(Fault),

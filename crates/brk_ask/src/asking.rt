@@ -1,0 +1,89 @@
+ghost use Rattle.std.specs.Prelude.{◌≡◌, OnErr, Err, IfOk};
+ghost use Rattle.brk_ask.specs.Asked.{PrintPost, Writes};
+ghost use Rattle.brk_ask.specs.Printed.{text_of};
+ghost use Rattle.brk_model.specs.Ask as model;
+ghost use Rattle.brk_money.specs.declared.fault.Fault.TheVariants.{Memory};
+ghost use Rattle.brk_ref.specs.Fields.{texts};
+ghost use Rattle.brk_view.specs.Queries.{query_of};
+ghost use Rattle.brk_view.specs.Views.{fields_of};
+
+use crate::form::Form;
+use crate::heads::heads;
+use crate::rows::{json, rows};
+use brk_desk::{Desk, Query, View, parse_query, view_fields};
+use brk_io::write_out;
+use brk_money::Fault;
+use brk_report_lines::ReportFault;
+use sqlite::Alter;
+use std::alloc::Global;
+use std::io::Write;
+
+// Returns the text of a query's view.
+fn text(alloc: Global, query: &Query, view: &View, form: Form) -> Result<Vec<u8>, Fault>
+    ensures text { IfOk result (λ text. text.items ≡ text_of form (query_of query.now) (fields_of view.now)) }
+    ensures fault { OnErr result (result ≡ Err Memory) }
+{
+    let mut records = if form.heads {
+        heads(alloc, query)?
+    } else {
+        Vec::new(alloc)
+    };
+    for record in view_fields(alloc, view)? {
+        records.push(record)?;
+    }
+    if form.json {
+        Ok(json(alloc, &records)?)
+    } else {
+        Ok(rows(alloc, &records)?)
+    }
+}
+
+// Writes the view of a query.
+fn write_view<W: Write>(
+    alloc: Global,
+    query: &Query,
+    view: &View,
+    form: Form,
+    writer: &mut W,
+) -> Result<(), ReportFault>
+    ensures { Writes (text_of form (query_of query.now) (fields_of view.now)) (W.contents writer.old) (W.contents writer.new) result }
+{
+    match text(alloc, query, view, form) {
+        Ok(text) => match write_out(writer, &text) {
+            Ok(()) => Ok(()),
+            Err(_) => Err(ReportFault::Write),
+        },
+        Err(fault) => Err(ReportFault::Desk(fault)),
+    }
+}
+
+/// Asks the desk the query of a view's name and its arguments, and writes its view. The desk is
+/// asked nothing else.
+///
+/// Fails with `Refused` 18 if the texts are no query, otherwise with the refusal of the query;
+/// nothing is then written. Fails with `Desk` and `Memory` or `Store`, and nothing is written; with
+/// `Write` after a first part of the text, perhaps all of it. The open database is unchanged,
+/// whatever the result.
+///
+/// A crash exposes only states that were possible before the call.
+pub fn ask<W: Write, S: Alter>(
+    alloc: Global,
+    desk: &mut Desk<S>,
+    view: &str,
+    arguments: &[&[u8]],
+    form: Form,
+    writer: &mut W,
+) -> Result<(), ReportFault>
+    ensures asked { PrintPost S.Store desk.old desk.new form (model.parse_query view.now (texts arguments.now)) (W.contents writer.old) (W.contents writer.new) result }
+{
+    let query = match parse_query(alloc, view, arguments) {
+        Ok(Ok(query)) => query,
+        Ok(Err(refusal)) => return Err(ReportFault::Refused(refusal)),
+        Err(fault) => return Err(ReportFault::Desk(fault)),
+    };
+    match desk.ask(alloc, &query) {
+        Ok(Ok(view)) => write_view(alloc, &query, &view, form, writer),
+        Ok(Err(refusal)) => Err(ReportFault::Refused(refusal)),
+        Err(fault) => Err(ReportFault::Desk(fault)),
+    }
+}

@@ -1,0 +1,11 @@
+//! Asks a desk one query, given as texts, and writes its view as CSV rows or as JSON.
+#![tactic(auto)]
+
+pub mod asking;
+mod form;
+mod heads;
+mod rows;
+
+pub use asking::ask;
+pub use brk_report_lines::ReportFault;
+pub use form::Form;
