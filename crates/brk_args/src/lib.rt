@@ -2,6 +2,7 @@
 #![tactic(auto)]
 
 pub mod job;
+mod notes;
 pub mod words;
 
 pub use job::{Job, UsageFault};

@@ -1,32 +1,17 @@
 use crate::job::{Job, UsageFault};
+use crate::notes;
 use brk_money::{Day, Id, Stamp, parse_day};
 use clap::error::ErrorKind;
 use clap::{Arg, ArgAction, ArgMatches, Command, Error, value_parser};
 use std::alloc::{AllocError, Global};
 
-const VERSION: &str = "0.1.0";
-
-const VIEWS: &str = "Views and their arguments:
-  customer ID
-  taxid TAXID
-  recent ACCOUNT
-  status ACCOUNT
-  submitted
-  estimate ACCOUNT TYPE SYMBOL QTY PRICE CASH END FIRST LAST TAXID
-  trades ID ..
-  accounttrades ACCOUNT FROM TO
-  symboltrades SYMBOL FROM TO
-  lots ACCOUNT FROM
-  volume SECTOR NAME ..
-Write -- before an argument that begins with a hyphen.
-
-Example:
-  brk ask --db desk.db --heads customer 10";
+// The version of the program, and the schema of the files that it writes.
+const VERSION: &str = "0.1.0 (schema 3)";
 
 // Returns the argument of a file that is created if it is missing or empty.
 fn made_file<'a>(alloc: Global) -> Arg<'a> {
     Arg::new(alloc, "db").long("db").value_name("FILE").help(
-        "The file that keeps the desk, made where it is missing or empty; without it the desk is forgotten",
+        "The file of the desk, created if it is missing or empty; without it the desk is in memory",
     )
 }
 
@@ -35,7 +20,7 @@ fn kept_file<'a>(alloc: Global) -> Arg<'a> {
     Arg::new(alloc, "db")
         .long("db")
         .value_name("FILE")
-        .help("The file that keeps the desk")
+        .help("The file of the desk")
         .required(true)
 }
 
@@ -45,7 +30,7 @@ fn moment<'a>(alloc: Global) -> Arg<'a> {
         .value_name("MS")
         .value_parser(value_parser!(i64).range(0..=Stamp::GREATEST))
         .help(
-            "The moment of every command, in milliseconds since 1970-01-01 UTC; without it the clock is asked",
+            "The time of every command, in milliseconds since 1970-01-01 UTC; without it the clock is read",
         )
 }
 
@@ -61,6 +46,7 @@ fn day<'a>(alloc: Global, name: &'static str, help: &'static str) -> Arg<'a> {
 fn batch<'a>(alloc: Global) -> Result<Command<'a>, AllocError> {
     Command::new(alloc, "batch")
         .about("Reads a batch from standard input and writes a line for each row")
+        .after_help(notes::BATCH)
         .arg(made_file(alloc))?
         .arg(moment(alloc))
 }
@@ -74,9 +60,8 @@ fn statement<'a>(alloc: Global) -> Result<Command<'a>, AllocError> {
         .help("The account")
         .required(true);
     Command::new(alloc, "statement")
-        .about(
-            "Prints the statement of an account: its cash from day to day, and the lots that it holds",
-        )
+        .about("Prints the statement of an account: its cash, day by day, and its lots")
+        .after_help(notes::STATEMENT)
         .arg(kept_file(alloc))?
         .arg(account)?
         .arg(day(alloc, "from", "The first day, as 2024-03-01"))?
@@ -86,7 +71,8 @@ fn statement<'a>(alloc: Global) -> Result<Command<'a>, AllocError> {
 // Returns the arguments of `brk audit`.
 fn audit<'a>(alloc: Global) -> Result<Command<'a>, AllocError> {
     Command::new(alloc, "audit")
-        .about("Tests that the tables of a desk follow from one another, and prints ok")
+        .about("Recomputes every derived table of a desk, and prints ok if all are right")
+        .after_help(notes::AUDIT)
         .arg(kept_file(alloc))
 }
 
@@ -110,7 +96,7 @@ fn ask<'a>(alloc: Global) -> Result<Command<'a>, AllocError> {
         .help("The arguments of the view");
     Command::new(alloc, "ask")
         .about("Prints a view of a desk: a CSV row for each record")
-        .after_help(VIEWS)
+        .after_help(notes::ASK)
         .arg(kept_file(alloc))?
         .arg(flag(alloc, "json", "Prints the view as JSON, as over HTTP"))?
         .arg(flag(
@@ -128,16 +114,17 @@ fn serve<'a>(alloc: Global) -> Result<Command<'a>, AllocError> {
         .long("port")
         .value_name("P")
         .value_parser(value_parser!(u16).range(1..=65_535))
-        .help("The port of 127.0.0.1 that is listened at")
+        .help("The port of 127.0.0.1")
         .required(true);
     let streams = Arg::new(alloc, "streams")
         .long("streams")
         .value_name("N")
         .value_parser(value_parser!(u32).range(1..=1_000_000))
         .default_value("1")
-        .help("How many streams are served before the program ends");
+        .help("The number of streams that are served before the program ends");
     Command::new(alloc, "serve")
         .about("Serves the desk over HTTP, one stream after the other")
+        .after_help(notes::SERVE)
         .arg(port)?
         .arg(made_file(alloc))?
         .arg(moment(alloc))?

@@ -1,0 +1,33 @@
+/// Ends the help of `brk batch`.
+pub const BATCH: &str = "Example:
+  brk batch --db desk.db < examples/setting.csv";
+
+/// Ends the help of `brk statement`.
+pub const STATEMENT: &str = "Example:
+  brk statement --db desk.db --account 100 --from 2024-03-01 --to 2024-03-31";
+
+/// Ends the help of `brk audit`.
+pub const AUDIT: &str = "Example:
+  brk audit --db desk.db";
+
+/// Ends the help of `brk serve`.
+pub const SERVE: &str = "Example:
+  brk serve --port 8123 --db desk.db --streams 1000";
+
+/// Ends the help of `brk ask`.
+pub const ASK: &str = "Views and their arguments:
+  customer ID
+  taxid TAXID
+  recent ACCOUNT
+  status ACCOUNT
+  submitted
+  estimate ACCOUNT TYPE SYMBOL QTY PRICE CASH END FIRST LAST TAXID
+  trades ID ..
+  accounttrades ACCOUNT FROM TO
+  symboltrades SYMBOL FROM TO
+  lots ACCOUNT FROM
+  volume SECTOR NAME ..
+Write -- before an argument that begins with a hyphen.
+
+Example:
+  brk ask --db desk.db --heads customer 10";
