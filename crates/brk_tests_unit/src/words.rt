@@ -30,6 +30,20 @@ fn told_job(alloc: Global, job: &Job) -> Result<String, AllocError> {
             let (account, from, to) = (account.get(), from.get(), to.get());
             format!(in alloc; "statement {db} {account} {from} {to}")
         }
+        Job::Ask {
+            db,
+            json,
+            heads,
+            view,
+            arguments,
+        } => {
+            let mut text = format!(in alloc; "ask {db} {json} {heads} {view}")?;
+            for argument in arguments {
+                text.push_str(" ")?;
+                text.push_str(argument.as_str())?;
+            }
+            Ok(text)
+        }
         Job::Audit { db } => format!(in alloc; "audit {db}"),
         Job::Serve {
             port,
@@ -57,7 +71,7 @@ fn told(alloc: Global, words: &[&str]) -> Result<String, Fail> {
 }
 
 // Words, and the job that they ask for: a file or `-`, milliseconds or -1, days since 1970-01-01.
-const JOBS: [(&[&str], &str); 11] = [
+const JOBS: [(&[&str], &str); 14] = [
     (&["batch"], "batch - -1"),
     (&["batch", "--db", "a b.db"], "batch a b.db -1"),
     (&["batch", "--at", "0"], "batch - 0"),
@@ -92,6 +106,28 @@ const JOBS: [(&[&str], &str); 11] = [
             "a",
         ],
         "statement a 1000000000000 2932896 0",
+    ),
+    (
+        &["ask", "--db", "a.db", "--heads", "customer", "10"],
+        "ask a.db false true customer 10",
+    ),
+    (
+        &[
+            "ask",
+            "--json",
+            "--db",
+            "a.db",
+            "--",
+            "symboltrades",
+            "-X",
+            "0",
+            "1",
+        ],
+        "ask a.db true false symboltrades -X 0 1",
+    ),
+    (
+        &["ask", "--db", "a.db", "submitted"],
+        "ask a.db false false submitted",
     ),
     (&["audit", "--db", "a.db"], "audit a.db"),
     (&["serve", "--port", "1"], "serve 1 - -1 1"),
@@ -363,21 +399,22 @@ fn refuses_wrong_words(rt: HostRuntime) -> Result<(), Fail> {
 
 const HELP: &str = "A brokerage back office\n\nUsage: brk <COMMAND>\n\nCommands:\n\
     \x20 batch      Reads a batch from standard input and writes a line for each row\n\
-    \x20 statement  Prints the statement of an account: its cash from day to day, and the lots that it holds\n\
-    \x20 audit      Tests that the tables of a desk follow from one another, and prints ok\n\
+    \x20 statement  Prints the statement of an account: its cash, day by day, and its lots\n\
+    \x20 ask        Prints a view of a desk: a CSV row for each record\n\
+    \x20 audit      Recomputes every derived table of a desk, and prints ok if all are right\n\
     \x20 serve      Serves the desk over HTTP, one stream after the other\n\
     \x20 help       Print this message or the help of the given subcommand(s)\n\nOptions:\n\
     \x20 -h, --help     Print help\n\x20 -V, --version  Print version\n";
 
 const BATCH_HELP: &str = "Reads a batch from standard input and writes a line for each row\n\n\
     Usage: brk batch [OPTIONS]\n\nOptions:\n\
-    \x20     --db <FILE>  The file that keeps the desk, made where it is missing or empty; without it the desk is forgotten\n\
-    \x20     --at <MS>    The moment of every command, in milliseconds since 1970-01-01 UTC; without it the clock is asked\n\
-    \x20 -h, --help       Print help\n";
+    \x20     --db <FILE>  The file of the desk, created if it is missing or empty; without it the desk is in memory\n\
+    \x20     --at <MS>    The time of every command, in milliseconds since 1970-01-01 UTC; without it the clock is read\n\
+    \x20 -h, --help       Print help\n\nExample:\n\x20 brk batch --db desk.db < examples/setting.csv\n";
 
 // Words, and what a reader of the shell is told.
 const TEXTS: [(&[&str], &str); 3] = [
-    (&["--version"], "help: brk 0.1.0\n"),
+    (&["--version"], "help: brk 0.1.0 (schema 3)\n"),
     (
         &["bath"],
         "wrong: error: unrecognized subcommand 'bath'\n\n  tip: a similar subcommand exists: 'batch'\n\n\
@@ -385,9 +422,9 @@ const TEXTS: [(&[&str], &str); 3] = [
     ),
     (
         &["help", "audit"],
-        "help: Tests that the tables of a desk follow from one another, and prints ok\n\n\
-        Usage: brk audit --db <FILE>\n\nOptions:\n      --db <FILE>  The file that keeps the desk\n\
-        \x20 -h, --help       Print help\n",
+        "help: Recomputes every derived table of a desk, and prints ok if all are right\n\n\
+        Usage: brk audit --db <FILE>\n\nOptions:\n      --db <FILE>  The file of the desk\n\
+        \x20 -h, --help       Print help\n\nExample:\n\x20 brk audit --db desk.db\n",
     ),
 ];
 
