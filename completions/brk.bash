@@ -9,8 +9,9 @@ _brk_hint() {
     esac
 }
 
+# Offers files. A name that begins with a quote is left to the shell.
 _brk_files() {
-    compopt -o filenames 2>/dev/null
+    compopt -o filenames -o default 2>/dev/null
     mapfile -t COMPREPLY < <(compgen -f -- "$cur")
 }
 
