@@ -20,6 +20,8 @@ mod volumes;
 
 pub use brk_commands::{Command, line_text, parse_row, row_text};
 pub use brk_commit::Answer;
+pub use brk_money::{Fault, Planned, Refusal, Stamp};
+pub use brk_ref::Key;
 pub use brk_store;
 pub use brk_store::{Visitor, WalkError};
 pub use brk_view::{Query, View, parse_query};
