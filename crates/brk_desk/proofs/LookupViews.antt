@@ -1,6 +1,7 @@
 -- Trades that were looked up, as they were read, are the view of the definitions.
 use Rattle.std.proofs.Common.{◌≡◌, ◌≤◌, ◌==◌, ℕ, Bool, true, false, cond, List, [], ◌∷◌, Option, Some, None, Ok, Err, refl, sym, ap, ◌∙◌, find, filter, length, map, take, arith, ◌+◌, ◌++◌}
 use Rattle.std.proofs.lemmas.List.{take_all}
+use Rattle.std.specs.Global.{Vec}
 use Rattle.std.specs.List.{list_any}
 use Rattle.std.specs.Prelude.{◌&&◌, ◌||◌, bytes_eq, flat_map, is_none, option_map, option_to_list}
 use Rattle.brk_money.specs.Spelling.{Text}
@@ -25,15 +26,17 @@ use Rattle.brk_book_theorems.proofs.Reading.{is_none-map}
 use Rattle.brk_book_theorems.proofs.TermReading.{reads_security}
 use Rattle.brk_book_theorems.proofs.TradeReading.{reads_trade}
 use Rattle.brk_update_theorems.specs.Corrections.{AreTradesOf}
-use Rattle.brk_view.specs.Lookup.{IsOfTrade, looked_up_records}
+use Rattle.brk_view.specs.Lookup.{IsOfTrade, looked_up_records, lookup_rows}
 use Rattle.brk_view.specs.Views.{fields_of}
 use Rattle.brk_view.specs.declared.lookups.LookedUp.{LookedUp}
 use Rattle.brk_view.specs.declared.view.View.{View}
+use Rattle.brk_view.specs.declared.view.View.TheVariants as views
+use Rattle.brk_view.proofs.Shown.{rows_shown}
 use Rattle.brk_view_theorems.proofs.FoundRows.{cash_alone, settlement_alone, trades_by_id}
 use Rattle.brk_view_theorems.proofs.LookupRows.{same_lookup}
 use Rattle.brk_desk.specs.LookedUp.{AreLookedUp}
 use Rattle.brk_desk.specs.Shows.{Shows}
-use Rattle.brk_desk.proofs.Tested.{answered, is_missing, is_there, refused}
+use Rattle.brk_desk.proofs.Tested.{answered, carried_as, is_missing, is_there, refused}
 use Rattle.brk_update_decisions.proofs.Found.{twice}
 use Rattle.brk_desk.proofs.RecentViews.{account_missing, account_there}
 
@@ -69,25 +72,29 @@ seen_by : (test : TradeRow → Bool) (rows : List TradeRow) (found : List Looked
     → (t : Tables) → rows ≡ take 20 (oldest_first_rows (filter test t.trades)) → AreLookedUp rows found t → (base : Base) → BooksInvariant base → AuditInvariant base → t ≡ sheets base
     → lookup_view (tables_of base) test ≡ fields_of view
 seen_by test rows found view is t e looked base books sound s =
-    sym (is t (looked base books sound s ∙ ap (map (lookup_records t)) e) ∙ ap (λ (x : Tables). lookup_view x test) s ∙ same_lookup base test books sound)
+    sym (is t (rows_shown t found rows (looked base books sound s) ∙ ap (map (lookup_records t)) e) ∙ ap (λ (x : Tables). lookup_view x test) s ∙ same_lookup base test books sound)
 
 -- ---- of an account
 
 pub no_account_trades : (id first last : ℕ) (t : Tables) → None ≡ find (λ r. r.id == id) t.accounts → Shows (TradesOfAccount id first last) (Err NoAccount) t
 unfolding ask query_tests
-no_account_trades id first last t e base books sound s = refused (is_none (account_with base id)) NoAccount (answer_of base (TradesOfAccount id first last)) (account_missing base id t s e)
+no_account_trades id first last t e =
+    (λ base books sound s. refused (is_none (account_with base id)) NoAccount (answer_of base (TradesOfAccount id first last)) (account_missing base id t s e), tt)
 
 abbrev pub OfAccount : ℕ → ℕ → ℕ → TradeRow → Bool
 OfAccount account first last r = (r.account == account) && is_between first last r
 
-pub account_trades_seen : (id first last : ℕ) (a : AccountRow) (rows : List TradeRow) (found : List LookedUp) (view : View)
-    → ((t : Tables) (account first last : ℕ) → map looked_up_records found ≡ map (lookup_records t) (take 20 (oldest_first_rows (filter (OfAccount account first last) t.trades))) → fields_of view ≡ lookup_view t (OfAccount account first last))
-    → (t : Tables) → Some a ≡ find (λ r. r.id == id) t.accounts → rows ≡ take 20 (oldest_first_rows (filter (OfAccount id first last) t.trades)) → AreLookedUp rows found t
+pub account_trades_seen : (id first last : ℕ) (a : AccountRow) (rows : List TradeRow) (found : Vec LookedUp) (view : View) → view ≡ views.Lookup found
+    → ((t : Tables) (account first last : ℕ) → map looked_up_records found.items ≡ map (lookup_records t) (take 20 (oldest_first_rows (filter (OfAccount account first last) t.trades))) → fields_of view ≡ lookup_view t (OfAccount account first last))
+    → (t : Tables) → Some a ≡ find (λ r. r.id == id) t.accounts → rows ≡ take 20 (oldest_first_rows (filter (OfAccount id first last) t.trades)) → AreLookedUp rows found.items t
     → Shows (TradesOfAccount id first last) (Ok view) t
 unfolding ask query_tests answer_of view_of
-account_trades_seen id first last a rows found view is t e w looked base books sound s =
-    answered (is_none (account_with base id)) NoAccount (lookup_view (tables_of base) (OfAccount id first last)) (account_there base id a t s e)
-    ∙ ap Ok (seen_by (OfAccount id first last) rows found view (λ t. is t id first last) t w looked base books sound s)
+account_trades_seen id first last a rows found view shown is t e w looked = (
+  λ base books sound s.
+      answered (is_none (account_with base id)) NoAccount (lookup_view (tables_of base) (OfAccount id first last)) (account_there base id a t s e)
+      ∙ ap Ok (seen_by (OfAccount id first last) rows found.items view (λ t. is t id first last) t w looked base books sound s),
+  λ base books sound s. carried_as (TradesOfAccount id first last) view (views.Lookup found) t shown (looked base books sound s ∙ ap (map (lookup_rows t)) w),
+)
 
 -- ---- of a security
 
@@ -103,20 +110,23 @@ security_there base symbol r t s e =
 
 pub no_symbol_trades : (symbol : Text) (first last : ℕ) (t : Tables) → None ≡ find (λ r. bytes_eq r.symbol symbol) t.securities → Shows (TradesOfSymbol symbol first last) (Err NoSecurity) t
 unfolding ask query_tests
-no_symbol_trades symbol first last t e base books sound s =
-    refused (is_none (security_with base symbol)) NoSecurity (answer_of base (TradesOfSymbol symbol first last)) (security_missing base symbol t s e)
+no_symbol_trades symbol first last t e =
+    (λ base books sound s. refused (is_none (security_with base symbol)) NoSecurity (answer_of base (TradesOfSymbol symbol first last)) (security_missing base symbol t s e), tt)
 
 abbrev pub OfSymbol : Text → ℕ → ℕ → TradeRow → Bool
 OfSymbol symbol first last r = bytes_eq r.symbol symbol && is_between first last r
 
-pub symbol_trades_seen : (symbol : Text) (first last : ℕ) (row : SecurityRow) (rows : List TradeRow) (found : List LookedUp) (view : View)
-    → ((t : Tables) (symbol : List ℕ) (first last : ℕ) → map looked_up_records found ≡ map (lookup_records t) (take 20 (oldest_first_rows (filter (OfSymbol symbol first last) t.trades))) → fields_of view ≡ lookup_view t (OfSymbol symbol first last))
-    → (t : Tables) → Some row ≡ find (λ r. bytes_eq r.symbol symbol) t.securities → rows ≡ take 20 (oldest_first_rows (filter (OfSymbol symbol first last) t.trades)) → AreLookedUp rows found t
+pub symbol_trades_seen : (symbol : Text) (first last : ℕ) (row : SecurityRow) (rows : List TradeRow) (found : Vec LookedUp) (view : View) → view ≡ views.Lookup found
+    → ((t : Tables) (symbol : List ℕ) (first last : ℕ) → map looked_up_records found.items ≡ map (lookup_records t) (take 20 (oldest_first_rows (filter (OfSymbol symbol first last) t.trades))) → fields_of view ≡ lookup_view t (OfSymbol symbol first last))
+    → (t : Tables) → Some row ≡ find (λ r. bytes_eq r.symbol symbol) t.securities → rows ≡ take 20 (oldest_first_rows (filter (OfSymbol symbol first last) t.trades)) → AreLookedUp rows found.items t
     → Shows (TradesOfSymbol symbol first last) (Ok view) t
 unfolding ask query_tests answer_of view_of
-symbol_trades_seen symbol first last row rows found view is t e w looked base books sound s =
-    answered (is_none (security_with base symbol)) NoSecurity (lookup_view (tables_of base) (OfSymbol symbol first last)) (security_there base symbol row t s e)
-    ∙ ap Ok (seen_by (OfSymbol symbol first last) rows found view (λ t. is t symbol first last) t w looked base books sound s)
+symbol_trades_seen symbol first last row rows found view shown is t e w looked = (
+  λ base books sound s.
+      answered (is_none (security_with base symbol)) NoSecurity (lookup_view (tables_of base) (OfSymbol symbol first last)) (security_there base symbol row t s e)
+      ∙ ap Ok (seen_by (OfSymbol symbol first last) rows found.items view (λ t. is t symbol first last) t w looked base books sound s),
+  λ base books sound s. carried_as (TradesOfSymbol symbol first last) view (views.Lookup found) t shown (looked base books sound s ∙ ap (map (lookup_rows t)) w),
+)
 
 -- ---- named by their ids
 
@@ -126,9 +136,12 @@ same_missing base (id ∷ ids) = (λ i. (ap is_none (reads_trade base id) ∙ is
 
 pub no_trades : (ids : List ℕ) (t : Tables) → list_any (λ id. is_none (trade_in t id)) ids ≡ true → Shows (TradesWith ids) (Err NoTrade) t
 unfolding ask query_tests
-no_trades ids t e base books sound s =
-    refused (list_any (λ id. is_none (trade_with base id)) ids) NoTrade (answer_of base (TradesWith ids))
-    (sym (same_missing base ids) ∙ ap (λ (x : Tables). list_any (λ id. is_none (trade_in x id)) ids) (sym s) ∙ e)
+no_trades ids t e = (
+  λ base books sound s.
+      refused (list_any (λ id. is_none (trade_with base id)) ids) NoTrade (answer_of base (TradesWith ids))
+      (sym (same_missing base ids) ∙ ap (λ (x : Tables). list_any (λ id. is_none (trade_in x id)) ids) (sym s) ∙ e),
+  tt,
+)
 
 none_missing : (look : ℕ → Option TradeRow) (ids : List ℕ) (rows : List TradeRow) → map Some rows ≡ map look ids → list_any (λ id. is_none (look id)) ids ≡ false
 none_missing look [] rows e = refl
@@ -182,16 +195,30 @@ oldest_named base ids rows books sound distinct few e =
 abbrev pub OfIds : List ℕ → TradeRow → Bool
 OfIds ids r = contains_number r.id ids
 
-pub trades_seen : (ids : List ℕ) (named ordered : List trade.TradeRow) (found : List LookedUp) (view : View) → all_distinct ids ≡ true → length ids ≤ 20
-    → map trade_row_of ordered ≡ oldest_first_rows (map trade_row_of named)
-    → ((t : Tables) (ids : List ℕ) → map looked_up_records found ≡ map (lookup_records t) (take 20 (oldest_first_rows (filter (OfIds ids) t.trades))) → fields_of view ≡ lookup_view t (OfIds ids))
-    → (t : Tables) → AreTradesOf t ids named → AreLookedUp (map trade_row_of ordered) found t → Shows (TradesWith ids) (Ok view) t
+-- the trades of these ids that were found
+are_named : (ids : List ℕ) (named : List trade.TradeRow) (t : Tables) → AreTradesOf t ids named → (base : Base) → t ≡ sheets base
+    → map Some (map trade_row_of named) ≡ map (trade_in (sheets base)) ids
+are_named ids named t e base s = sym (twice trade_row_of Some named) ∙ e ∙ ap (λ (x : Tables). map (trade_in x) ids) s
+
+-- in order, they are the first twenty of these ids
+named_first : (ids : List ℕ) (named ordered : List trade.TradeRow) → all_distinct ids ≡ true → length ids ≤ 20 → map trade_row_of ordered ≡ oldest_first_rows (map trade_row_of named)
+    → (t : Tables) → AreTradesOf t ids named → (base : Base) → BooksInvariant base → AuditInvariant base → t ≡ sheets base
+    → map trade_row_of ordered ≡ take 20 (oldest_first_rows (filter (OfIds ids) t.trades))
+named_first ids named ordered distinct few order t e base books sound s =
+    order ∙ oldest_named base ids (map trade_row_of named) books sound distinct few (are_named ids named t e base s)
+    ∙ ap (λ (x : Tables). take 20 (oldest_first_rows (filter (OfIds ids) x.trades))) (sym s)
+
+pub trades_seen : (ids : List ℕ) (named ordered : List trade.TradeRow) (found : Vec LookedUp) (view : View) → all_distinct ids ≡ true → length ids ≤ 20
+    → map trade_row_of ordered ≡ oldest_first_rows (map trade_row_of named) → view ≡ views.Lookup found
+    → ((t : Tables) (ids : List ℕ) → map looked_up_records found.items ≡ map (lookup_records t) (take 20 (oldest_first_rows (filter (OfIds ids) t.trades))) → fields_of view ≡ lookup_view t (OfIds ids))
+    → (t : Tables) → AreTradesOf t ids named → AreLookedUp (map trade_row_of ordered) found.items t → Shows (TradesWith ids) (Ok view) t
 unfolding ask query_tests answer_of view_of
-trades_seen ids named ordered found view distinct few order is t e looked base books sound s =
-    let there : map Some (map trade_row_of named) ≡ map (trade_in (sheets base)) ids =
-    sym (twice trade_row_of Some named) ∙ e ∙ ap (λ (x : Tables). map (trade_in x) ids) s in
-    let first : map trade_row_of ordered ≡ take 20 (oldest_first_rows (filter (OfIds ids) t.trades)) =
-    order ∙ oldest_named base ids (map trade_row_of named) books sound distinct few there ∙ ap (λ (x : Tables). take 20 (oldest_first_rows (filter (OfIds ids) x.trades))) (sym s) in
-    answered (list_any (λ id. is_none (trade_with base id)) ids) NoTrade (lookup_view (tables_of base) (OfIds ids))
-    (sym (same_missing base ids) ∙ none_missing (trade_in (sheets base)) ids (map trade_row_of named) there)
-    ∙ ap Ok (seen_by (OfIds ids) (map trade_row_of ordered) found view (λ t. is t ids) t first looked base books sound s)
+trades_seen ids named ordered found view distinct few order shown is t e looked = (
+  λ base books sound s.
+      answered (list_any (λ id. is_none (trade_with base id)) ids) NoTrade (lookup_view (tables_of base) (OfIds ids))
+      (sym (same_missing base ids) ∙ none_missing (trade_in (sheets base)) ids (map trade_row_of named) (are_named ids named t e base s))
+      ∙ ap Ok (seen_by (OfIds ids) (map trade_row_of ordered) found.items view (λ t. is t ids) t (named_first ids named ordered distinct few order t e base books sound s) looked base books sound s),
+  λ base books sound s.
+      carried_as (TradesWith ids) view (views.Lookup found) t shown
+      (looked base books sound s ∙ ap (map (lookup_rows t)) (named_first ids named ordered distinct few order t e base books sound s)),
+)

@@ -22,11 +22,12 @@ use Rattle.brk_view.specs.Views.{fields_of}
 use Rattle.brk_view.specs.declared.lots.LotTouch.{LotTouch}
 use Rattle.brk_view.specs.declared.lots.TouchedLots.{TouchedLots}
 use Rattle.brk_view.specs.declared.view.View.{View}
+use Rattle.brk_view.specs.declared.view.View.TheVariants as views
 use Rattle.brk_view_theorems.proofs.TouchRows.{same_lots, touched_by_lot}
 use Rattle.brk_desk.specs.Shows.{Shows}
 use Rattle.brk_desk.specs.Touched.{AreTouched, changes_with}
 use Rattle.brk_desk.proofs.RecentViews.{account_missing, account_there}
-use Rattle.brk_desk.proofs.Tested.{answered, refused}
+use Rattle.brk_desk.proofs.Tested.{answered, carried_as, refused}
 
 -- ---- gathered from the last one on
 
@@ -81,27 +82,30 @@ by_lot base trade books sound =
 
 pub no_lots : (id first : ℕ) (t : Tables) → None ≡ find (λ r. r.id == id) t.accounts → Shows (LotsTouched id first) (Err NoAccount) t
 unfolding ask query_tests
-no_lots id first t e base books sound s = refused (is_none (account_with base id)) NoAccount (answer_of base (LotsTouched id first)) (account_missing base id t s e)
+no_lots id first t e = (λ base books sound s. refused (is_none (account_with base id)) NoAccount (answer_of base (LotsTouched id first)) (account_missing base id t s e), tt)
 
 -- the oldest trade of an account at or after a stamp
 abbrev pub IsSince : ℕ → ℕ → Option trade.TradeRow → Tables → Type 0
 IsSince id first o t = option_to_list (option_map trade_row_of o) ≡ take 1 (oldest_first_rows (filter (λ r. nat_le first r.stamp) (trades_in t id)))
 
-seen : (id first : ℕ) (a : AccountRow) (lots : Option TouchedLots) (view : View) → ((t : Tables) (account first : ℕ) → IsTouched t account first lots → fields_of view ≡ lots_view t account first)
+seen : (id first : ℕ) (a : AccountRow) (lots : Option TouchedLots) (view : View) → view ≡ views.Lots lots → ((t : Tables) (account first : ℕ) → IsTouched t account first lots → fields_of view ≡ lots_view t account first)
     → (t : Tables) → Some a ≡ find (λ r. r.id == id) t.accounts → ((base : Base) → BooksInvariant base → AuditInvariant base → t ≡ sheets base → IsTouched t id first lots) → Shows (LotsTouched id first) (Ok view) t
 unfolding ask query_tests answer_of view_of
-seen id first a lots view is t e touched base books sound s =
-    answered (is_none (account_with base id)) NoAccount (lots_view (tables_of base) id first) (account_there base id a t s e)
-    ∙ ap Ok (sym (is t id first (touched base books sound s) ∙ ap (λ (x : Tables). lots_view x id first) s ∙ same_lots base id first books sound))
+seen id first a lots view shown is t e touched = (
+  λ base books sound s.
+      answered (is_none (account_with base id)) NoAccount (lots_view (tables_of base) id first) (account_there base id a t s e)
+      ∙ ap Ok (sym (is t id first (touched base books sound s) ∙ ap (λ (x : Tables). lots_view x id first) s ∙ same_lots base id first books sound)),
+  λ base books sound s. carried_as (LotsTouched id first) view (views.Lots lots) t shown (touched base books sound s),
+)
 
-pub none_seen : (id first : ℕ) (a : AccountRow) (view : View) → ((t : Tables) (account first : ℕ) → IsTouched t account first None → fields_of view ≡ lots_view t account first)
+pub none_seen : (id first : ℕ) (a : AccountRow) (view : View) → view ≡ views.Lots None → ((t : Tables) (account first : ℕ) → IsTouched t account first None → fields_of view ≡ lots_view t account first)
     → (t : Tables) → Some a ≡ find (λ r. r.id == id) t.accounts → IsSince id first None t → Shows (LotsTouched id first) (Ok view) t
-none_seen id first a view is t e none = seen id first a None view is t e (λ base books sound s. record { found = ap (map (λ (r : TradeRow). r.id)) (sym none); changes = tt })
+none_seen id first a view shown is t e none = seen id first a None view shown is t e (λ base books sound s. record { found = ap (map (λ (r : TradeRow). r.id)) (sym none); changes = tt })
 
-pub lots_seen : (id first : ℕ) (a : AccountRow) (row : trade.TradeRow) (lots : TouchedLots) (view : View)
+pub lots_seen : (id first : ℕ) (a : AccountRow) (row : trade.TradeRow) (lots : TouchedLots) (view : View) → view ≡ views.Lots (Some lots)
     → ((t : Tables) (account first : ℕ) → IsTouched t account first (Some lots) → fields_of view ≡ lots_view t account first)
     → (t : Tables) → Some a ≡ find (λ r. r.id == id) t.accounts → IsSince id first (Some row) t → AreTouched row.id lots t → Shows (LotsTouched id first) (Ok view) t
-lots_seen id first a row lots view is t e since touched = seen id first a (Some lots) view is t e (λ base books sound s. record {
+lots_seen id first a row lots view shown is t e since touched = seen id first a (Some lots) view shown is t e (λ base books sound s. record {
   found = ap (map (λ (r : TradeRow). r.id)) (sym since) ∙ ap (λ n. n ∷ []) (sym touched.0);
   changes = touched.1
       ∙ ap (λ (x : Tables). take 20 (sort_by touch_before (flat_map (λ r. changes_with x r.lot) (filter (λ r. r.trade == row.id) x.holding_history)))) s

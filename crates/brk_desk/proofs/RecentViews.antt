@@ -1,5 +1,6 @@
 -- What an account did last, as it was read, is the view of the definitions.
 use Rattle.std.proofs.Common.{◌≡◌, ℕ, ◌==◌, List, true, false, Some, None, Ok, Err, sym, ap, ◌∙◌, map, find}
+use Rattle.std.specs.Global.{Vec}
 use Rattle.std.specs.Prelude.{flat_map, is_none, option_map}
 use Rattle.brk_money.specs.declared.refusal.Refusal.TheVariants.{NoAccount}
 use Rattle.brk_changes.specs.Rows.{history_row_of, trade_row_of}
@@ -17,9 +18,10 @@ use Rattle.brk_model.specs.Views.{view_of}
 use Rattle.brk_book_theorems.proofs.Reading.{is_none-map, reads_account}
 use Rattle.brk_view.specs.Views.{fields_of}
 use Rattle.brk_view.specs.declared.view.View.{View}
+use Rattle.brk_view.specs.declared.view.View.TheVariants as views
 use Rattle.brk_view_theorems.proofs.RecentRows.{same_recent}
 use Rattle.brk_desk.specs.Shows.{Shows}
-use Rattle.brk_desk.proofs.Tested.{answered, is_missing, is_there, refused}
+use Rattle.brk_desk.proofs.Tested.{answered, carried_as, is_missing, is_there, refused}
 
 -- the view is that of these trades and statuses
 abbrev pub IsRecent : List read_trade.TradeRow → List read.HistoryRow → View → Type 0
@@ -41,11 +43,15 @@ account_there base id a t s e =
 
 pub no_account : (id : ℕ) (t : Tables) → None ≡ find (λ r. r.id == id) t.accounts → Shows (RecentOf id) (Err NoAccount) t
 unfolding ask query_tests
-no_account id t e base books sound s = refused (is_none (account_with base id)) NoAccount (answer_of base (RecentOf id)) (account_missing base id t s e)
+no_account id t e = (λ base books sound s. refused (is_none (account_with base id)) NoAccount (answer_of base (RecentOf id)) (account_missing base id t s e), tt)
 
-pub recent_seen : (id : ℕ) (a : AccountRow) (trades : List read_trade.TradeRow) (history : List read.HistoryRow) (view : View) → IsRecent trades history view
-    → (t : Tables) → Some a ≡ find (λ r. r.id == id) t.accounts → AreRecent id trades history t → Shows (RecentOf id) (Ok view) t
+pub recent_seen : (id : ℕ) (a : AccountRow) (trades : Vec read_trade.TradeRow) (history sorted : Vec read.HistoryRow) (view : View) → IsRecent trades.items history.items view
+    → view ≡ views.Recent (record { trades = trades; history = sorted })
+    → (t : Tables) → Some a ≡ find (λ r. r.id == id) t.accounts → AreRecent id trades.items history.items t → Shows (RecentOf id) (Ok view) t
 unfolding ask query_tests answer_of view_of
-recent_seen id a trades history view is t e w base books sound s =
-    answered (is_none (account_with base id)) NoAccount (recent_view (tables_of base) id) (account_there base id a t s e)
-    ∙ ap Ok (sym (is t id w.0 w.1 ∙ ap (λ x. recent_view x id) s ∙ same_recent base id books sound))
+recent_seen id a trades history sorted view is shown t e w = (
+  λ base books sound s.
+      answered (is_none (account_with base id)) NoAccount (recent_view (tables_of base) id) (account_there base id a t s e)
+      ∙ ap Ok (sym (is t id w.0 w.1 ∙ ap (λ x. recent_view x id) s ∙ same_recent base id books sound)),
+  λ base books sound s. carried_as (RecentOf id) view (views.Recent (record { trades = trades; history = sorted })) t shown w.0,
+)

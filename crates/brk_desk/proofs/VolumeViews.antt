@@ -2,6 +2,7 @@
 use Rattle.std.proofs.Common.{◌≡◌, ◌==◌, ◌+◌, ◌<◌, ℕ, Bool, true, false, cond, List, [], ◌∷◌, ◌++◌, Ok, refl, sym, ap, ◌∙◌, arith, filter, get_or, length, map, pos, reverse, take}
 use Rattle.std.proofs.lemmas.List.{map-append, reverse-append}
 use Rattle.std.proofs.lemmas.Bool.Decides.{nat_tests}
+use Rattle.std.specs.Global.{Vec}
 use Rattle.std.specs.Prelude.{bytes_eq, flat_map, nat_lt, sum_by}
 use Rattle.brk_money.specs.Spelling.{Text}
 use Rattle.brk_changes.specs.Rows.{request_row_of}
@@ -19,11 +20,13 @@ use Rattle.brk_view.specs.Views.{fields_of}
 use Rattle.brk_view.specs.Volume.{is_shown, request_worth}
 use Rattle.brk_view.specs.Volume as volume
 use Rattle.brk_view.specs.declared.view.View.{View}
+use Rattle.brk_view.specs.declared.view.View.TheVariants as views
 use Rattle.brk_view.specs.declared.volumes.BrokerVolume.{BrokerVolume}
 use Rattle.brk_view_theorems.proofs.VolumeRows.{brokers_by_name, same_volumes}
 use Rattle.brk_desk.specs.Shows.{Shows}
 use Rattle.brk_desk.specs.Volumes.{has_requests, is_in, named_in, volumes_in, with_request}
 use Rattle.brk_desk.proofs.Each.{first_more}
+use Rattle.brk_desk.proofs.Tested.{carried_as}
 
 append_nil : {X : Type 0} (xs : List X) → xs ++ [] ≡ xs
 append_nil [] = refl
@@ -131,12 +134,15 @@ name_more t sector names i name old new inside is e g =
 
 -- ---- the view
 
-pub volume_seen : (sector : Text) (names : List Text) (found : List BrokerVolume) (view : View) → distinct_texts names ≡ names
+pub volume_seen : (sector : Text) (names : List Text) (found : List BrokerVolume) (sorted : Vec BrokerVolume) (view : View) → distinct_texts names ≡ names → view ≡ views.Volume sorted
     → ((t : Tables) (sector : Text) (names : List Text) (rows : List BrokerRow) → found ≡ map (volume.broker_volume t sector) rows
     → sort_by (by_volume t sector) rows ≡ sort_by (by_volume t sector) (filter (is_shown t sector names) t.brokers) → fields_of view ≡ volume_view t sector names)
     → (t : Tables) → found ≡ map (volume.broker_volume t sector) (flat_map (named_in t sector) names) → Shows (VolumeOf sector names) (Ok view) t
 unfolding ask query_tests answer_of view_of
-volume_seen sector names found view distinct is t e base books sound s =
-    let at_sheets : found ≡ map (volume.broker_volume (sheets base) sector) (flat_map (named_in (sheets base) sector) names) =
-    e ∙ ap (λ x. map (volume.broker_volume x sector) (flat_map (named_in x sector) names)) s in
-    ap Ok (sym (is (sheets base) sector names (flat_map (named_in (sheets base) sector) names) at_sheets (brokers_by_name base sector names books sound distinct) ∙ same_volumes base sector names books sound))
+volume_seen sector names found sorted view distinct shown is t e = (
+  λ base books sound s.
+      let at_sheets : found ≡ map (volume.broker_volume (sheets base) sector) (flat_map (named_in (sheets base) sector) names) =
+      e ∙ ap (λ x. map (volume.broker_volume x sector) (flat_map (named_in x sector) names)) s in
+      ap Ok (sym (is (sheets base) sector names (flat_map (named_in (sheets base) sector) names) at_sheets (brokers_by_name base sector names books sound distinct) ∙ same_volumes base sector names books sound)),
+  λ base books sound s. carried_as (VolumeOf sector names) view (views.Volume sorted) t shown tt,
+)

@@ -24,6 +24,7 @@ use Rattle.brk_invariant_theorems.specs.Runs.{IsCallInForm}
 use Rattle.brk_store.specs.Audited.{AuditPost, OnAnswer, Represents}
 use Rattle.brk_store.specs.Holds.{AreTreesOf, Holds, IsSame, OnlyCrashState}
 use Rattle.brk_desk.specs.Shows.{seen_of}
+use Rattle.brk_view.specs.Carried.{CarriesRows}
 use Rattle.brk_view.specs.Queries.{query_of}
 use Rattle.brk_view.specs.declared.view.View.{View}
 use Rattle.brk_commit.specs.Booked.{CallPost, StillKeeps}
@@ -42,6 +43,9 @@ use Rattle.brk_desk.specs.declared.call.Outcome.{Outcome}
 pub record AskPost {S : Type 0} (g : Ghosts S) (old new : Held S) (query : Query) (result : Result (Result View Refusal) Fault) : Type 0 where
   -- At `Ok` the result equals that of the model. Says nothing if the disk assumption fails.
   pub answered : HasCleanDisk (state g new) → IfOk result (λ seen. (base : Base) → Represents g old base → ask base query ≡ seen_of seen)
+  -- A returned view has the variant of the query, and carries the rows that the query selects from
+  -- the tables of the base. Says nothing if the disk assumption fails.
+  pub carried : HasCleanDisk (state g new) → IfOk result (λ seen. IfOk seen (λ view. (base : Base) → Represents g old base → CarriesRows query view (sheets base)))
   -- The store represents every base that it represented, whatever the result.
   pub kept : StillKeeps g old new
   -- The error is `Memory` or `Store`.

@@ -1,20 +1,20 @@
 -- Trades that were read with their settlements, cash rows and histories.
 use Rattle.std.specs.Prelude.{◌≡◌, List, map}
 use Rattle.brk_model.specs.Base.{Base}
-use Rattle.brk_model.specs.LookupView.{lookup_records}
 use Rattle.brk_model.specs.Sheets.{sheets}
 use Rattle.brk_model.specs.Tables.{Tables, TradeRow}
 use Rattle.brk_invariant_theorems.specs.Sound.{AuditInvariant}
 use Rattle.brk_book_theorems.specs.Books.{BooksInvariant}
-use Rattle.brk_view.specs.Lookup.{looked_up_records}
+use Rattle.brk_view.specs.Lookup.{looked_up_rows, lookup_rows}
 use Rattle.brk_view.specs.declared.lookups.LookedUp.{LookedUp}
 
--- The records of the trade that was looked up equal those of the model. Vacuous if the rows are not
--- the tables of a base that satisfies the books invariant and the audit invariant.
+-- The rows of the trade that was looked up are those that the tables have of it. Vacuous if the rows
+-- are not the tables of a base that satisfies the books invariant and the audit invariant.
 abbrev pub IsLookedUp : TradeRow → LookedUp → Tables → Type 0
-IsLookedUp row found t = (base : Base) → BooksInvariant base → AuditInvariant base → t ≡ sheets base → looked_up_records found ≡ lookup_records t row
+IsLookedUp row found t = (base : Base) → BooksInvariant base → AuditInvariant base → t ≡ sheets base → looked_up_rows found ≡ lookup_rows t row
 
--- The records of each trade that was looked up equal those of the model, in order. Vacuous if the
--- rows are not the tables of a base that satisfies the books invariant and the audit invariant.
+-- The rows of each trade that was looked up are those that the tables have of it, in order. Vacuous
+-- if the rows are not the tables of a base that satisfies the books invariant and the audit
+-- invariant.
 abbrev pub AreLookedUp : List TradeRow → List LookedUp → Tables → Type 0
-AreLookedUp rows found t = (base : Base) → BooksInvariant base → AuditInvariant base → t ≡ sheets base → map looked_up_records found ≡ map (lookup_records t) rows
+AreLookedUp rows found t = (base : Base) → BooksInvariant base → AuditInvariant base → t ≡ sheets base → map looked_up_rows found ≡ map (lookup_rows t) rows

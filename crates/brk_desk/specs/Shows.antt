@@ -1,5 +1,5 @@
 -- The specification of the result of a query.
-use Rattle.std.specs.Prelude.{◌≡◌, Result, Ok, Err}
+use Rattle.std.specs.Prelude.{◌≡◌, IfOk, Result, Ok, Err}
 use Rattle.brk_money.specs.declared.refusal.Refusal.{Refusal}
 use Rattle.brk_model.specs.Ask.{ask}
 use Rattle.brk_model.specs.Base.{Base}
@@ -9,6 +9,7 @@ use Rattle.brk_model.specs.Sheets.{sheets}
 use Rattle.brk_model.specs.Tables.{Tables}
 use Rattle.brk_invariant_theorems.specs.Sound.{AuditInvariant}
 use Rattle.brk_book_theorems.specs.Books.{BooksInvariant}
+use Rattle.brk_view.specs.Carried.{CarriesRows}
 use Rattle.brk_view.specs.Views.{fields_of}
 use Rattle.brk_view.specs.declared.view.View.{View}
 
@@ -18,7 +19,17 @@ abbrev pub seen_of : Result View Refusal → Result model.View Refusal
 seen_of (Ok view) = Ok (fields_of view)
 seen_of (Err refusal) = Err refusal
 
--- The result equals that of the model: the view or the refusal of the query. Vacuous if the rows
--- are not the tables of a base that satisfies the books invariant and the audit invariant.
+-- The result equals that of the model, as texts: the view or the refusal of the query. Vacuous if
+-- the rows are not the tables of a base that satisfies the books invariant and the audit invariant.
+abbrev pub ShowsTexts : Query → Result View Refusal → Tables → Type 0
+ShowsTexts query seen t = (base : Base) → BooksInvariant base → AuditInvariant base → t ≡ sheets base → ask base query ≡ seen_of seen
+
+-- A returned view carries the rows that the query selects. Vacuous at a refusal, and if the rows are
+-- not the tables of a base that satisfies the books invariant and the audit invariant.
+abbrev pub ShowsRows : Query → Result View Refusal → Tables → Type 0
+ShowsRows query seen t = IfOk seen (λ view. (base : Base) → BooksInvariant base → AuditInvariant base → t ≡ sheets base → CarriesRows query view t)
+
+-- The result equals that of the model, as texts, and a returned view carries the rows that the query
+-- selects.
 abbrev pub Shows : Query → Result View Refusal → Tables → Type 0
-Shows query seen t = (base : Base) → BooksInvariant base → AuditInvariant base → t ≡ sheets base → ask base query ≡ seen_of seen
+Shows query seen t = ShowsTexts query seen t × ShowsRows query seen t

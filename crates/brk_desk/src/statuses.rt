@@ -6,9 +6,8 @@ ghost use Rattle.brk_desk.specs.Shows.{Shows};
 ghost use Rattle.brk_model.specs.Joins.{recent_first, trades_in};
 ghost use Rattle.brk_model.specs.Queries.{StatusOf};
 ghost use Rattle.brk_model.specs.Run.{MayFail};
-ghost use Rattle.brk_model.specs.StatusView.{status_record};
 ghost use Rattle.brk_store.specs.Holds.{ReadPost};
-ghost use Rattle.brk_view.specs.Status.{shown_trade};
+ghost use Rattle.brk_view.specs.Status.{status_rows, status_rows_in};
 
 use crate::parties::with_parties;
 use brk_money::{Fault, Id, Planned, Refusal};
@@ -20,7 +19,7 @@ use std::alloc::Global;
 
 // Returns a trade with its security. Fails with `Store` if the security does not exist.
 fn with_security<S: Alter>(store: &mut Store<S>, trade: TradeRow) -> Result<TradeStatus, Fault>
-    ensures read { ReadPost S.Store store.old store.new result (λ status t. shown_trade status ≡ status_record t (trade_row_of trade)) }
+    ensures read { ReadPost S.Store store.old store.new result (λ status t. status_rows status ≡ status_rows_in t (trade_row_of trade)) }
     ensures fault { IfErr result MayFail }
 {
     match store.security(&trade.symbol)? {
@@ -35,7 +34,7 @@ fn read_statuses<S: Alter>(
     store: &mut Store<S>,
     account: Id,
 ) -> Result<Vec<TradeStatus>, Fault>
-    ensures read { ReadPost S.Store store.old store.new result (λ statuses t. map shown_trade statuses.items ≡ map (status_record t) (take 50 (recent_first (trades_in t account)))) }
+    ensures read { ReadPost S.Store store.old store.new result (λ statuses t. map status_rows statuses.items ≡ map (status_rows_in t) (take 50 (recent_first (trades_in t account)))) }
     ensures fault { IfErr result MayFail }
 {
     let mut rest = store.last_fifty_of_account(alloc, account)?;

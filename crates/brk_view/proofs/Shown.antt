@@ -18,17 +18,17 @@ use Rattle.brk_model.specs.Records.{Customer}
 use Rattle.brk_model.specs.Rows.{price_text}
 use Rattle.brk_model.specs.StatusView.{status_head, status_record, status_view}
 use Rattle.brk_model.specs.Tables as tables
-use Rattle.brk_model.specs.Tables.{Tables, AccountRow}
+use Rattle.brk_model.specs.Tables.{Tables, AccountRow, SecurityRow}
 use Rattle.brk_model.specs.VolumeView.{by_volume, volume_in, volume_view}
 use Rattle.brk_money.specs.Kinds.{status_code, status_name, type_name}
 use Rattle.brk_money.specs.Spelling.{Text}
 use Rattle.brk_ref.specs.Records.{security_of}
 use Rattle.brk_ref.specs.declared.security.Security.{Security}
 use Rattle.std.specs.Global.{Vec}
-use Rattle.brk_view.specs.Lookup.{IsOfTrade, looked_up_records, moment_of, moment_record, older, older_moment}
+use Rattle.brk_view.specs.Lookup.{IsOfTrade, LookedUpRows, looked_up_records, looked_up_rows, lookup_rows, moment_of, moment_record, older, older_moment, status_in}
 use Rattle.brk_view.specs.Lots.{IsTouched, first_since, touch_before, touch_in, touch_record, touched_records, touches_of}
 use Rattle.brk_view.specs.Recent.{newer, recent_status, recent_trade}
-use Rattle.brk_view.specs.Status.{shown_trade, status_names}
+use Rattle.brk_view.specs.Status.{shown_trade, status_names, status_rows, status_rows_in}
 use Rattle.brk_view.specs.Volume.{broker_volume, is_shown, volume_before, volume_record}
 use Rattle.brk_view.specs.Worths.{worth_before, worth_in, worth_record}
 use Rattle.brk_view.specs.declared.lookups.LookedUp.{LookedUp}
@@ -36,6 +36,7 @@ use Rattle.brk_view.specs.declared.lookups.StatusMoment.{StatusMoment}
 use Rattle.brk_view.specs.declared.lots.LotTouch.{LotTouch}
 use Rattle.brk_view.specs.declared.lots.TouchedLots.{TouchedLots}
 use Rattle.brk_view.specs.declared.statuses.AccountStatus.{AccountStatus}
+use Rattle.brk_view.specs.declared.statuses.TradeStatus.{TradeStatus}
 use Rattle.brk_view.specs.declared.volumes.BrokerVolume.{BrokerVolume}
 use Rattle.brk_view.specs.declared.worths.AccountWorth.{AccountWorth}
 use Rattle.brk_view.proofs.Names.{volumes_before}
@@ -97,20 +98,41 @@ older_shown trades = sym (map_sorted older older_row trade_row_of trades (λ a b
 abbrev older_status : tables.HistoryRow → tables.HistoryRow → Bool
 older_status a b = nat_lt a.stamp b.stamp
 
-moments_shown : (history : List HistoryRow) → map moment_record (sort_by older_moment (map moment_of history))
-    ≡ map (λ h. codes "history" ∷ decimal h.stamp ∷ status_code h.status ∷ []) (sort_by (λ a b. nat_lt a.stamp b.stamp) (map history_row_of history))
-moments_shown history =
+moments_carried : (history : List HistoryRow) → sort_by older_moment (map moment_of history) ≡ map status_in (sort_by (λ a b. nat_lt a.stamp b.stamp) (map history_row_of history))
+moments_carried history =
     let before : HistoryRow → HistoryRow → Bool = λ a b. nat_lt a.stamp b.stamp in
-    let shown : tables.HistoryRow → List (List ℕ) = λ h. codes "history" ∷ decimal h.stamp ∷ status_code h.status ∷ [] in
-    ap (map moment_record) (map_sorted before older_moment moment_of history (λ a b. refl)) ∙ map_map moment_record moment_of (sort_by before history)
-    ∙ sym (map_map shown history_row_of (sort_by before history)) ∙ ap (map shown) (sym (map_sorted before older_status history_row_of history (λ a b. refl)))
+    map_sorted before older_moment moment_of history (λ a b. refl)
+    ∙ sym (map_map status_in history_row_of (sort_by before history)) ∙ ap (map status_in) (sym (map_sorted before older_status history_row_of history (λ a b. refl)))
+
+pub one_carried : (t : Tables) (trade : TradeRow) (settlement : Option SettlementRow) (cash : Option MoveRow) (history : List HistoryRow) (moments : Vec StatusMoment)
+    → moments.items ≡ sort_by older_moment (map moment_of history) → IsOfTrade t trade settlement cash history
+    → looked_up_rows (record { trade = trade; settlement = settlement; cash = cash; history = moments }) ≡ lookup_rows t (trade_row_of trade)
+one_carried t trade settlement cash history moments e is = λ i. record {
+  trade = trade_row_of trade;
+  settlements = is.settles i;
+  moves = is.moves i;
+  history = (e ∙ moments_carried history ∙ ap (λ rows. map status_in (sort_by (λ a b. nat_lt a.stamp b.stamp) rows)) is.comes) i;
+}
+
+-- the records of the rows of a trade
+abbrev shown_rows : LookedUpRows → View
+shown_rows r = model.trade_record r.trade ∷ map model.settlement_record r.settlements ++ map model.cash_record r.moves ++ map moment_record r.history
+
+rows_in_shown : (t : Tables) (row : tables.TradeRow) → shown_rows (lookup_rows t row) ≡ model.lookup_records t row
+rows_in_shown t row =
+    ap (λ moments. model.trade_record row ∷ map model.settlement_record (filter (λ s. s.trade == row.id) t.settlements) ++ map model.cash_record (filter (model.is_cash_of row.id) t.moves) ++ moments)
+    (map_map moment_record status_in (sort_by (λ a b. nat_lt a.stamp b.stamp) (history_in t row.id)))
+
+-- trades with these rows have their records
+pub rows_shown : (t : Tables) (found : List LookedUp) (rows : List tables.TradeRow) → map looked_up_rows found ≡ map (lookup_rows t) rows → map looked_up_records found ≡ map (model.lookup_records t) rows
+rows_shown t found rows e =
+    sym (map_map shown_rows looked_up_rows found) ∙ ap (map shown_rows) e ∙ map_map shown_rows (lookup_rows t) rows ∙ (λ i. map (λ row. rows_in_shown t row i) rows)
 
 pub one_shown : (t : Tables) (trade : TradeRow) (settlement : Option SettlementRow) (cash : Option MoveRow) (history : List HistoryRow) (moments : Vec StatusMoment) → moments.items ≡ sort_by older_moment (map moment_of history)
     → IsOfTrade t trade settlement cash history
     → looked_up_records (record { trade = trade; settlement = settlement; cash = cash; history = moments }) ≡ model.lookup_records t (trade_row_of trade)
 one_shown t trade settlement cash history moments e is =
-    (λ i. model.trade_record (trade_row_of trade) ∷ map model.settlement_record (is.settles i) ++ map model.cash_record (is.moves i)
-    ++ (ap (map moment_record) e ∙ moments_shown history ∙ ap (λ rows. map (λ h. codes "history" ∷ decimal h.stamp ∷ status_code h.status ∷ []) (sort_by (λ a b. nat_lt a.stamp b.stamp) rows)) is.comes) i)
+    ap shown_rows (one_carried t trade settlement cash history moments e is) ∙ rows_in_shown t (trade_row_of trade)
 
 -- ---- lots that a trade touched
 
@@ -174,6 +196,20 @@ pub trade_shown : (t : Tables) (trade : TradeRow) (security : Security) → secu
 trade_shown t trade security e i =
     decimal trade.id ∷ decimal trade.stamp ∷ status_name trade.status ∷ type_name trade.kind ∷ trade.symbol ∷ decimal trade.qty ∷ string_bytes trade.executor ∷ price_text trade.charge
     ∷ option_map_or (λ s. s.name) (sym e i) [] ∷ option_map_or (λ s. s.exchange) (sym e i) [] ∷ []
+
+pub trade_carried : (t : Tables) (trade : TradeRow) (security : Security) → security_in t trade.symbol ≡ Some (security_of security)
+    → status_rows (record { trade = trade; security = security }) ≡ status_rows_in t (trade_row_of trade)
+trade_carried t trade security e = λ i. (trade_row_of trade, sym e i)
+
+-- the record of a trade with its security
+abbrev shown_status : tables.TradeRow × Option SecurityRow → List Text
+shown_status r =
+    decimal r.0.id ∷ decimal r.0.stamp ∷ status_name r.0.status ∷ type_name r.0.kind ∷ r.0.symbol ∷ decimal r.0.qty ∷ r.0.executor ∷ price_text r.0.charge
+    ∷ option_map_or (λ s. s.name) r.1 [] ∷ option_map_or (λ s. s.exchange) r.1 [] ∷ []
+
+-- trades with these rows have their records
+pub statuses_shown : (t : Tables) (trades : List TradeStatus) (rows : List tables.TradeRow) → map status_rows trades ≡ map (status_rows_in t) rows → map shown_trade trades ≡ map (status_record t) rows
+statuses_shown t trades rows e = sym (map_map shown_status status_rows trades) ∙ ap (map shown_status) e ∙ map_map shown_status (status_rows_in t) rows
 
 pub status_shown : (t : Tables) (id : ℕ) (account : AccountStatus) → flat_map (status_head t) (filter (λ a. a.id == id) t.accounts) ≡ status_names account ∷ []
     → map shown_trade account.trades.items ≡ map (status_record t) (take 50 (recent_first (trades_in t id)))

@@ -1,4 +1,5 @@
 pub mod BrokerNames
+pub mod Carried
 pub mod Lookup
 pub mod Lots
 pub mod Queries

@@ -7,7 +7,7 @@ use Rattle.brk_changes.specs.declared.move_row.MoveRow.{MoveRow}
 use Rattle.brk_changes.specs.declared.settlement_row.SettlementRow.{SettlementRow}
 use Rattle.brk_changes.specs.declared.trade_row.TradeRow.{TradeRow}
 use Rattle.brk_model.specs.Joins.{history_in}
-use Rattle.brk_model.specs.Lists.{rising}
+use Rattle.brk_model.specs.Lists.{rising, sort_by}
 use Rattle.brk_model.specs.LookupView as model
 use Rattle.brk_model.specs.Queries.{View}
 use Rattle.brk_model.specs.Rows.{cash_word, end_word, price_text}
@@ -61,6 +61,35 @@ looked_up_records l =
     ∷ map model.settlement_record (option_to_list (option_map settlement_row_of l.settlement))
     ++ map model.cash_record (option_to_list (option_map move_row_of l.cash))
     ++ map moment_record l.history.items
+
+-- A trade with its settlement, its cash row and its statuses, as rows of the tables.
+pub record LookedUpRows : Type 0 where
+  pub trade : tables.TradeRow
+  pub settlements : List tables.SettlementRow
+  pub moves : List tables.MoveRow
+  pub history : List StatusMoment
+
+-- The rows of a trade that was looked up.
+abbrev pub looked_up_rows : LookedUp → LookedUpRows
+looked_up_rows l = record {
+  trade = trade_row_of l.trade;
+  settlements = option_to_list (option_map settlement_row_of l.settlement);
+  moves = option_to_list (option_map move_row_of l.cash);
+  history = l.history.items;
+}
+
+-- The status and the stamp of a row of TRADE_HISTORY, without its trade.
+abbrev pub status_in : tables.HistoryRow → StatusMoment
+status_in r = record { stamp = r.stamp; status = r.status }
+
+-- The rows that the tables have of a trade, with its statuses, the oldest first.
+abbrev pub lookup_rows : Tables → tables.TradeRow → LookedUpRows
+lookup_rows t row = record {
+  trade = row;
+  settlements = filter (λ s. s.trade == row.id) t.settlements;
+  moves = filter (model.is_cash_of row.id) t.moves;
+  history = map status_in (sort_by (λ a b. nat_lt a.stamp b.stamp) (history_in t row.id));
+}
 
 -- The settlement, the cash row and the history are the rows that the tables `t` have of the trade.
 pub record IsOfTrade (t : Tables) (trade : TradeRow) (settlement : Option SettlementRow) (cash : Option MoveRow) (history : List HistoryRow) : Type 0 where

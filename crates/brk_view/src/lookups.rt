@@ -7,8 +7,9 @@ ghost use Rattle.brk_model.specs.Lists.{contains_number, sort_by};
 ghost use Rattle.brk_model.specs.LookupView.{is_between, lookup_records, lookup_view};
 ghost use Rattle.brk_model.specs.Tables.{Tables};
 ghost use Rattle.brk_money.specs.declared.fault.Fault.TheVariants.{Memory};
-ghost use Rattle.brk_view.specs.Lookup.{IsOfTrade, looked_up_records, moment_of, older, older_moment};
+ghost use Rattle.brk_view.specs.Lookup.{IsOfTrade, looked_up_records, looked_up_rows, lookup_rows, moment_of, older, older_moment};
 ghost use Rattle.brk_view.specs.Views.{fields_of};
+ghost use Rattle.brk_view.specs.declared.view.View.TheVariants as views;
 
 use crate::ordering::{Ranked, in_order};
 use crate::view::View;
@@ -71,7 +72,7 @@ fn moments_of(alloc: Global, history: &[HistoryRow]) -> Result<Vec<StatusMoment>
 
 /// Returns a trade with its settlement, its cash row and its history, which it sorts, the oldest
 /// first. Fails with `Memory` only.
-#[tactic(auto, using(crate::proofs::Shown::one_shown))]
+#[tactic(auto, using(crate::proofs::Shown::one_shown, crate::proofs::Shown::one_carried))]
 pub fn looked_up(
     alloc: Global,
     trade: TradeRow,
@@ -80,6 +81,8 @@ pub fn looked_up(
     history: &[HistoryRow],
 ) -> Result<LookedUp, Fault>
     ensures records { IfOk result (λ found. (t : Tables) → IsOfTrade t trade settlement cash history.now → looked_up_records found ≡ lookup_records t (trade_row_of trade)) }
+    ensures rows { IfOk result (λ found. (t : Tables) → IsOfTrade t trade settlement cash history.now
+        → looked_up_rows found ≡ lookup_rows t (trade_row_of trade)) }
     ensures fault { OnErr result (result ≡ Err Memory) }
 {
     let history = moments_of(alloc, history)?;
@@ -105,6 +108,7 @@ pub fn oldest_first(alloc: Global, trades: Vec<TradeRow>) -> Result<Vec<TradeRow
 /// their settlement, cash row and history, the oldest first. Does not allocate.
 pub fn lookup_ids(trades: Vec<LookedUp>) -> View
     ensures shown { fields_of result ≡ flat_map looked_up_records trades.items }
+    ensures carried { result ≡ views.Lookup trades }
     ensures view { (t : Tables) (ids : List ℕ)
         → map looked_up_records trades.items ≡ map (lookup_records t) (take 20 (oldest_first_rows (filter (λ row. contains_number row.id ids) t.trades)))
         → fields_of result ≡ lookup_view t (λ row. contains_number row.id ids) }
@@ -116,6 +120,7 @@ pub fn lookup_ids(trades: Vec<LookedUp>) -> View
 /// first 20 with their settlement, cash row and history, the oldest first. Does not allocate.
 pub fn lookup_account(trades: Vec<LookedUp>) -> View
     ensures shown { fields_of result ≡ flat_map looked_up_records trades.items }
+    ensures carried { result ≡ views.Lookup trades }
     ensures view { (t : Tables) (account first last : ℕ)
         → map looked_up_records trades.items ≡ map (lookup_records t) (take 20 (oldest_first_rows (filter (λ row. (row.account == account) && is_between first last row) t.trades)))
         → fields_of result ≡ lookup_view t (λ row. (row.account == account) && is_between first last row) }
@@ -127,6 +132,7 @@ pub fn lookup_account(trades: Vec<LookedUp>) -> View
 /// first 20 with their settlement, cash row and history, the oldest first. Does not allocate.
 pub fn lookup_symbol(trades: Vec<LookedUp>) -> View
     ensures shown { fields_of result ≡ flat_map looked_up_records trades.items }
+    ensures carried { result ≡ views.Lookup trades }
     ensures view { (t : Tables) (symbol : List ℕ) (first last : ℕ)
         → map looked_up_records trades.items ≡ map (lookup_records t) (take 20 (oldest_first_rows (filter (λ row. bytes_eq row.symbol symbol && is_between first last row) t.trades)))
         → fields_of result ≡ lookup_view t (λ row. bytes_eq row.symbol symbol && is_between first last row) }

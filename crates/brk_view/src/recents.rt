@@ -1,7 +1,9 @@
 //! The last trades of an account and their statuses.
 
 ghost use Rattle.std.specs.Prelude.{◌≡◌, ◌++◌, ℕ, Err, IfOk, OnErr, flat_map, map};
+ghost use Rattle.std.specs.Global.{Vec};
 ghost use Rattle.brk_changes.specs.Rows.{history_row_of, trade_row_of};
+ghost use Rattle.brk_changes.specs.declared.history_row.HistoryRow.{HistoryRow};
 ghost use Rattle.brk_model.specs.Joins.{history_in};
 ghost use Rattle.brk_model.specs.Lists.{sort_by};
 ghost use Rattle.brk_model.specs.PositionView.{last_ten, recent_view};
@@ -9,6 +11,7 @@ ghost use Rattle.brk_model.specs.Tables.{Tables};
 ghost use Rattle.brk_money.specs.declared.fault.Fault.TheVariants.{Memory};
 ghost use Rattle.brk_view.specs.Recent.{newer, recent_status, recent_trade};
 ghost use Rattle.brk_view.specs.Views.{fields_of};
+ghost use Rattle.brk_view.specs.declared.view.View.TheVariants as views;
 
 use crate::ordering::{Ranked, in_order};
 use crate::view::View;
@@ -41,6 +44,8 @@ impl Ranked for HistoryRow {
 /// descending. Fails with `Memory` only.
 pub fn recent(alloc: Global, trades: Vec<TradeRow>, history: Vec<HistoryRow>) -> Result<View, Fault>
     ensures shown { IfOk result (λ view. fields_of view ≡ map recent_trade (map trade_row_of trades.items) ++ map recent_status (sort_by newer history.items)) }
+    ensures carried { IfOk result (λ view. (sorted : Vec HistoryRow)
+        × (view ≡ views.Recent (record { trades = trades; history = sorted })) × (sorted.items ≡ sort_by newer history.items)) }
     // If the trades are the last ten of an account, the view equals the specified view.
     ensures view { IfOk result (λ view. (t : Tables) (account : ℕ)
         → map trade_row_of trades.items ≡ last_ten t account

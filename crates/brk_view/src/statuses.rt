@@ -6,8 +6,9 @@ ghost use Rattle.brk_model.specs.Joins.{recent_first, security_in, trades_in};
 ghost use Rattle.brk_model.specs.StatusView.{status_head, status_record, status_view};
 ghost use Rattle.brk_model.specs.Tables.{Tables};
 ghost use Rattle.brk_ref.specs.Records.{security_of};
-ghost use Rattle.brk_view.specs.Status.{shown_trade, status_names};
+ghost use Rattle.brk_view.specs.Status.{shown_trade, status_names, status_rows, status_rows_in};
 ghost use Rattle.brk_view.specs.Views.{fields_of};
+ghost use Rattle.brk_view.specs.declared.view.View.TheVariants as views;
 
 use crate::view::View;
 use brk_changes::TradeRow;
@@ -32,9 +33,10 @@ pub struct AccountStatus {
 }
 
 /// Returns a trade with its security. Does not allocate.
-#[tactic(auto, using(crate::proofs::Shown::trade_shown))]
+#[tactic(auto, using(crate::proofs::Shown::trade_shown, crate::proofs::Shown::trade_carried))]
 pub fn trade_status(trade: TradeRow, security: Security) -> TradeStatus
     ensures shown { (t : Tables) → security_in t trade.symbol ≡ Some (security_of security) → shown_trade result ≡ status_record t (trade_row_of trade) }
+    ensures rows { (t : Tables) → security_in t trade.symbol ≡ Some (security_of security) → status_rows result ≡ status_rows_in t (trade_row_of trade) }
 {
     TradeStatus { trade, security }
 }
@@ -44,6 +46,7 @@ pub fn trade_status(trade: TradeRow, security: Security) -> TradeStatus
 #[tactic(auto, using(crate::proofs::Shown::status_shown))]
 pub fn status(account: AccountStatus) -> View
     ensures shown { fields_of result ≡ status_names account ∷ map shown_trade account.trades.items }
+    ensures carried { result ≡ views.Status account }
     // If the trades are the last fifty of an account that exists, the view equals the specified
     // view.
     ensures view { (t : Tables) (id : ℕ)

@@ -1,6 +1,7 @@
 //! The volumes of brokers: the value of their pending requests.
 
 ghost use Rattle.std.specs.Prelude.{◌≡◌, ◌≤◌, Err, IfOk, List, OnErr, filter, map, pos, sum_by};
+ghost use Rattle.std.specs.Global.{Vec};
 ghost use Rattle.brk_changes.specs.Rows.{request_row_of};
 ghost use Rattle.brk_model.specs.Lists.{sort_by};
 ghost use Rattle.brk_model.specs.Tables.{BrokerRow, Tables};
@@ -10,6 +11,8 @@ ghost use Rattle.brk_money.specs.declared.fault.Fault.TheVariants.{Memory};
 ghost use Rattle.brk_view.specs.Views.{fields_of};
 ghost use Rattle.brk_view.specs.Volume as volume;
 ghost use Rattle.brk_view.specs.Volume.{is_shown, name_before, request_worth, volume_before, volume_record};
+ghost use Rattle.brk_view.specs.declared.view.View.TheVariants as views;
+ghost use Rattle.brk_view.specs.declared.volumes.BrokerVolume.{BrokerVolume};
 
 use crate::ordering::{Ranked, in_order};
 use crate::view::View;
@@ -75,6 +78,8 @@ pub fn request_volume(requests: &[RequestRow]) -> Wide
 /// and a pending request in the sector. Fails with `Memory` only.
 pub fn broker_volume(alloc: Global, brokers: Vec<BrokerVolume>) -> Result<View, Fault>
     ensures shown { IfOk result (λ view. fields_of view ≡ map volume_record (sort_by volume_before brokers.items)) }
+    ensures carried { IfOk result (λ view. (sorted : Vec BrokerVolume)
+        × (view ≡ views.Volume sorted) × (sorted.items ≡ sort_by volume_before brokers.items)) }
     // If the brokers are those with these names and a request, in any sequence, the view equals the
     // specified view.
     ensures view { IfOk result (λ view. (t : Tables) (sector : Text) (names : List Text) (rows : List BrokerRow)

@@ -1,6 +1,7 @@
 //! The balances and market values of a customer's accounts.
 
 ghost use Rattle.std.specs.Prelude.{◌≡◌, ◌&&◌, ◌==◌, Bool, Err, IfOk, OnErr, filter, map};
+ghost use Rattle.std.specs.Global.{Vec};
 ghost use Rattle.std.specs.List.{list_any};
 ghost use Rattle.brk_model.specs.Lists.{sort_by};
 ghost use Rattle.brk_model.specs.PositionView.{position_view};
@@ -9,6 +10,8 @@ ghost use Rattle.brk_model.specs.Tables.{Tables};
 ghost use Rattle.brk_money.specs.declared.fault.Fault.TheVariants.{Memory};
 ghost use Rattle.brk_view.specs.Views.{fields_of};
 ghost use Rattle.brk_view.specs.Worths.{worth_before, worth_in, worth_record};
+ghost use Rattle.brk_view.specs.declared.view.View.TheVariants as views;
+ghost use Rattle.brk_view.specs.declared.worths.AccountWorth.{AccountWorth};
 
 use crate::ordering::{Ranked, in_order};
 use crate::view::View;
@@ -40,6 +43,8 @@ impl Ranked for AccountWorth {
 /// id, ascending. Fails with `Memory` only.
 pub fn position(alloc: Global, accounts: Vec<AccountWorth>) -> Result<View, Fault>
     ensures shown { IfOk result (λ view. fields_of view ≡ map worth_record (sort_by worth_before accounts.items)) }
+    ensures carried { IfOk result (λ view. (sorted : Vec AccountWorth)
+        × (view ≡ views.Position sorted) × (sorted.items ≡ sort_by worth_before accounts.items)) }
     // If the accounts are those of the customers that pass a test, the view equals the specified
     // view.
     ensures view { IfOk result (λ view. (t : Tables) (test : records.Customer → Bool)

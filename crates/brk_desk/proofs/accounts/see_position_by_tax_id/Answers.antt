@@ -31,5 +31,5 @@ returns-clause-read g c =
     (λ o (t : Tables). option_map customer_of o ≡ find (λ r. bytes_eq r.tax_id tax_id) t.customers)
     (λ all (t : Tables). WorthsOf x.id all.items t)
     (Shows (PositionOfTaxId tax_id))
-    (λ t e w. position_seen_by_tax_id tax_id (customer_of x) worths.items view c.in_ok-view.ensures.view t e w)
+    (λ t e w. position_seen_by_tax_id tax_id (customer_of x) worths.items c.in_ok-view.ensures.carried.0 view c.in_ok-view.ensures.view c.in_ok-view.ensures.carried.1 t e w)
     (rw c.in-Some.is at c.in_ok-found.ensures.read) c.in_ok-worths.ensures.read

@@ -29,4 +29,4 @@ returns-clause-read g c =
     (λ moved (t : Tables). (option_map settlement_row_of settled ≡ find (λ (s : SettlementRow). s.trade == trade.id) t.settlements) × (option_map move_row_of moved ≡ find (is_cash_of trade.id) t.moves))
     (λ t a b. (a, b)) c.in_ok-settlement.ensures.read c.in_ok-cash.ensures.read)
     c.in_ok-history.ensures.read)
-    (IfOk-weaker c.looked_up.result _ _ (λ found h t k base books sound s. h t (follows trade settled moved came.items t k base books sound s)) (rw c.deref.ensures.value at c.looked_up.ensures.records))
+    (IfOk-weaker c.looked_up.result _ _ (λ found h t k base books sound s. h t (follows trade settled moved came.items t k base books sound s)) (rw c.deref.ensures.value at c.looked_up.ensures.rows))

@@ -3,14 +3,13 @@ use Rattle.brk_money.specs.declared.fault.Fault.{Fault}
 use Rattle.brk_changes.specs.Rows.{trade_row_of}
 use Rattle.brk_changes.specs.declared.trade_row.TradeRow.{TradeRow}
 use Rattle.brk_model.specs.Base.{Base}
-use Rattle.brk_model.specs.LookupView.{lookup_records}
 use Rattle.brk_model.specs.Sheets.{sheets}
 use Rattle.brk_model.specs.Tables.{Tables}
 use Rattle.brk_store.proofs.Retelling.{retold}
 use Rattle.brk_invariant_theorems.specs.Sound.{AuditInvariant}
 use Rattle.brk_book_theorems.specs.Books.{BooksInvariant}
 use Rattle.brk_decisions.proofs.Looking.{read_both}
-use Rattle.brk_view.specs.Lookup.{looked_up_records}
+use Rattle.brk_view.specs.Lookup.{looked_up_rows, lookup_rows}
 use Rattle.brk_view.specs.declared.lookups.LookedUp.{LookedUp}
 use Rattle.brk_desk.specs.LookedUp.{AreLookedUp, IsLookedUp}
 use Rattle.brk_desk.proofs.Each.{all_made, map_map, none_made, popped}
@@ -19,13 +18,13 @@ use Rattle.brk_desk.proofs.lookups.look_up_all.Goals as goal
 -- trades that are left, and those after them that were looked up, are all of some
 abbrev AreAll : List TradeRow → List TradeRow → List LookedUp → Tables → Type 0
 AreAll trades rest found t =
-    (base : Base) → BooksInvariant base → AuditInvariant base → t ≡ sheets base → map (λ r. lookup_records t (trade_row_of r)) rest ++ map looked_up_records (reverse found) ≡ map (λ r. lookup_records t (trade_row_of r)) trades
+    (base : Base) → BooksInvariant base → AuditInvariant base → t ≡ sheets base → map (λ r. lookup_rows t (trade_row_of r)) rest ++ map looked_up_rows (reverse found) ≡ map (λ r. lookup_rows t (trade_row_of r)) trades
 
 pub loop-trade-init : goal.loop-trade-init
 loop-trade-init g c =
     let trades = c.args.trades.items in
     retold g.S.Store c.args.store.now c.last.new.self c.in_ok-_last._last tt (λ last (t : Tables). last ≡ t.last) (λ _. AreAll trades trades c.new-found.result.items)
-    (λ t e base books sound s. none_made (λ r. lookup_records t (trade_row_of r)) looked_up_records trades c.new-found.result.items c.new-found.ensures.items)
+    (λ t e base books sound s. none_made (λ r. lookup_rows t (trade_row_of r)) looked_up_rows trades c.new-found.result.items c.new-found.ensures.items)
     c.in_ok-_last.ensures.read
 
 pub loop-trade-preserved : goal.loop-trade-preserved
@@ -41,7 +40,7 @@ loop-trade-preserved g c =
     (λ _. AreAll trades before all)
     (IsLookedUp (trade_row_of trade))
     (λ _. AreAll trades rest (all ++ one ∷ []))
-    (λ t p e base books sound s. popped (λ r. lookup_records t (trade_row_of r)) looked_up_records before rest trade all one _ c.in-Some.ensures.items (p base books sound s) (e base books sound s))
+    (λ t p e base books sound s. popped (λ r. lookup_rows t (trade_row_of r)) looked_up_rows before rest trade all one _ c.in-Some.ensures.items (p base books sound s) (e base books sound s))
     c.loop-trade.invariant c.in_ok-one.ensures.read)
 
 pub returns-clause-read : goal.returns-clause-read
@@ -52,7 +51,7 @@ returns-clause-read g c =
     retold g.S.Store c.args.store.now c.loop-trade.store tt c.reverse.new.self
     (λ _. AreAll trades rest.items found)
     (λ found. AreLookedUp (map trade_row_of trades) found.items)
-    (λ t p base books sound s. ap (map looked_up_records) c.reverse.ensures.items
-    ∙ all_made (λ r. lookup_records t (trade_row_of r)) looked_up_records rest.items found _ (sym rest.ok.0 ∙ c.in_default.ensures.cases.0) (p base books sound s)
-    ∙ sym (map_map (lookup_records t) trade_row_of trades))
+    (λ t p base books sound s. ap (map looked_up_rows) c.reverse.ensures.items
+    ∙ all_made (λ r. lookup_rows t (trade_row_of r)) looked_up_rows rest.items found _ (sym rest.ok.0 ∙ c.in_default.ensures.cases.0) (p base books sound s)
+    ∙ sym (map_map (lookup_rows t) trade_row_of trades))
     c.loop-trade.invariant

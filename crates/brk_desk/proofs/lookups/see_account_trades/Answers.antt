@@ -43,7 +43,7 @@ returns-clause-read g c =
     (λ o (t : Tables). IsRowOf id o t × (rows ≡ take 20 (oldest_first_rows (filter (OfAccount id span.first span.last) t.trades))))
     (λ found. AreLookedUp rows found.items)
     (Shows (TradesOfAccount id span.first span.last))
-    (λ t k p. account_trades_seen id span.first span.last (account_row_of row) rows found.items view c.lookup_account.ensures.view t k.0 k.1 p)
+    (λ t k p. account_trades_seen id span.first span.last (account_row_of row) rows found view c.lookup_account.ensures.carried c.lookup_account.ensures.view t k.0 k.1 p)
     (read_both g.S.Store old c.account.new.self c.twenty_of_account.new.self {X = Option AccountRow} {H = Fault} (Some row) trades (Some row)
     (IsRowOf id) (λ all (t : Tables). map trade_row_of all.items ≡ take 20 (oldest_first_rows (filter (OfAccount id span.first span.last) t.trades)))
     (λ o (t : Tables). IsRowOf id o t × (rows ≡ take 20 (oldest_first_rows (filter (OfAccount id span.first span.last) t.trades))))

@@ -44,7 +44,7 @@ returns-clause-read g c =
     (λ o (t : Tables). IsRowOf symbol o t × (rows ≡ take 20 (oldest_first_rows (filter (OfSymbol symbol span.first span.last) t.trades))))
     (λ found. AreLookedUp rows found.items)
     (Shows (TradesOfSymbol symbol span.first span.last))
-    (λ t k p. symbol_trades_seen symbol span.first span.last (security_of row) rows found.items view c.lookup_symbol.ensures.view t k.0 k.1 p)
+    (λ t k p. symbol_trades_seen symbol span.first span.last (security_of row) rows found view c.lookup_symbol.ensures.carried c.lookup_symbol.ensures.view t k.0 k.1 p)
     (read_both g.S.Store old c.security.new.self c.twenty_of_symbol.new.self {X = Option Security} {H = Fault} (Some row) trades (Some row)
     (IsRowOf symbol) (λ all (t : Tables). map trade_row_of all.items ≡ take 20 (oldest_first_rows (filter (OfSymbol symbol span.first span.last) t.trades)))
     (λ o (t : Tables). IsRowOf symbol o t × (rows ≡ take 20 (oldest_first_rows (filter (OfSymbol symbol span.first span.last) t.trades))))

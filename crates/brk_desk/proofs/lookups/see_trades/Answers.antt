@@ -42,5 +42,5 @@ returns-clause-read g c =
     (AreFound ids)
     (λ found. AreLookedUp (map trade_row_of ordered.items) found.items)
     (Shows (TradesWith ids))
-    (λ t e p. trades_seen ids named.items ordered.items found.items view c.args.trades.now.distinct c.args.trades.now.few c.in_ok-ordered.ensures.order c.lookup_ids.ensures.view t e p)
+    (λ t e p. trades_seen ids named.items ordered.items found view c.args.trades.now.distinct c.args.trades.now.few c.in_ok-ordered.ensures.order c.lookup_ids.ensures.carried c.lookup_ids.ensures.view t e p)
     (rw (c.in-Some.is, c.ids.ensures) at c.in_ok-named.ensures.read) c.in_ok-found.ensures.read

@@ -36,7 +36,7 @@ returns-in_default-2-clause-read g c =
     let view = c.lookup_lots.result in
     read_both g.S.Store c.args.store.now c.account.new.self c.first_since.new.self {W = Option TradeRow} {X = Result View Refusal} {H = Fault} (Some row) None (Ok view)
     (IsRowOf id) (IsSince id first) (Shows (LotsTouched id first))
-    (λ t e s. none_seen id first (account_row_of row) view c.lookup_lots.ensures.view t e s)
+    (λ t e s. none_seen id first (account_row_of row) view c.lookup_lots.ensures.carried c.lookup_lots.ensures.view t e s)
     (rw c.in-Some.is at c.in_ok-_row.ensures.read) (rw c.in_default-2.is at c.in_ok-trade.ensures.read)
 
 pub returns-clause-read : goal.returns-clause-read
@@ -52,7 +52,7 @@ returns-clause-read g c =
     (λ o (t : Tables). (Some (account_row_of row) ≡ find (λ r. r.id == id) t.accounts) × IsSince id first o t)
     (AreTouched trade.id)
     (Shows (LotsTouched id first))
-    (λ t k p. lots_seen id first (account_row_of row) trade lots view c.lookup_lots-2.ensures.view t k.0 k.1 p)
+    (λ t k p. lots_seen id first (account_row_of row) trade lots view c.lookup_lots-2.ensures.carried c.lookup_lots-2.ensures.view t k.0 k.1 p)
     (read_both g.S.Store old c.account.new.self c.first_since.new.self {X = Option TradeRow} {H = Fault} (Some row) (Some trade) (Some trade)
     (IsRowOf id) (IsSince id first) (λ o (t : Tables). (Some (account_row_of row) ≡ find (λ r. r.id == id) t.accounts) × IsSince id first o t)
     (λ t e s. (e, s)) (rw c.in-Some.is at c.in_ok-_row.ensures.read) (rw c.in-Some-2.is at c.in_ok-trade.ensures.read))

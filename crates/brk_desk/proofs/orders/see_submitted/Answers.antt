@@ -15,5 +15,5 @@ returns-clause-read g c =
     let view = c.in_ok-view.view in
     retold g.S.Store c.args.store.now c.submitted_trades.new.self rows (Ok view)
     (λ all (t : Tables). map trade_row_of all.items ≡ filter (λ (r : TradeRow). same_status r.status Submitted) t.trades) (Shows SubmittedTrades)
-    (submitted_shown rows.items _ view c.deref.ensures.value c.in_ok-view.ensures.view)
+    (submitted_shown rows.items _ c.in_ok-view.ensures.carried.0 view c.deref.ensures.value c.in_ok-view.ensures.carried.1 c.in_ok-view.ensures.view)
     c.in_ok-rows.ensures.read

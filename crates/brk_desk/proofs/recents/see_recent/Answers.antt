@@ -32,5 +32,5 @@ returns-clause-read g c =
     (λ o (t : Tables). option_map account_row_of o ≡ find (λ r. r.id == id) t.accounts)
     (λ found (t : Tables). AreRecent id found.0.items found.1.items t)
     (Shows (RecentOf id))
-    (λ t e w. recent_seen id (account_row_of a) trades.items history.items view c.in_ok-view.ensures.view t e w)
+    (λ t e w. recent_seen id (account_row_of a) trades history c.in_ok-view.ensures.carried.0 view c.in_ok-view.ensures.view c.in_ok-view.ensures.carried.1 t e w)
     (rw c.in-Some.is at c.in_ok-found.ensures.read) c.in_ok-trades.ensures.read

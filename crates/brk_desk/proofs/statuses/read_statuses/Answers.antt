@@ -3,11 +3,10 @@ use Rattle.brk_money.specs.declared.fault.Fault.{Fault}
 use Rattle.brk_changes.specs.Rows.{trade_row_of}
 use Rattle.brk_changes.specs.declared.trade_row.TradeRow.{TradeRow}
 use Rattle.brk_model.specs.Joins.{recent_first, trades_in}
-use Rattle.brk_model.specs.StatusView.{status_record}
 use Rattle.brk_model.specs.Tables.{Tables}
 use Rattle.brk_store.proofs.Retelling.{retold}
 use Rattle.brk_decisions.proofs.Looking.{read_both}
-use Rattle.brk_view.specs.Status.{shown_trade}
+use Rattle.brk_view.specs.Status.{status_rows, status_rows_in}
 use Rattle.brk_view.specs.declared.statuses.TradeStatus.{TradeStatus}
 use Rattle.brk_desk.proofs.Each.{all_made, map_map, none_made, popped}
 use Rattle.brk_desk.proofs.statuses.read_statuses.Goals as goal
@@ -15,7 +14,7 @@ use Rattle.brk_desk.proofs.statuses.read_statuses.Goals as goal
 -- trades that are left, and those after them with their securities, are an account's last
 abbrev AreLast : ℕ → List TradeRow → List TradeStatus → Tables → Type 0
 AreLast account rest statuses t =
-    map (λ r. status_record t (trade_row_of r)) rest ++ map shown_trade (reverse statuses) ≡ map (status_record t) (take 50 (recent_first (trades_in t account)))
+    map (λ r. status_rows_in t (trade_row_of r)) rest ++ map status_rows (reverse statuses) ≡ map (status_rows_in t) (take 50 (recent_first (trades_in t account)))
 
 pub loop-trade-init : goal.loop-trade-init
 loop-trade-init g c =
@@ -23,8 +22,8 @@ loop-trade-init g c =
     retold g.S.Store c.args.store.now c.last_fifty_of_account.new.self rest tt
     (λ all (t : Tables). map trade_row_of all.items ≡ take 50 (recent_first (trades_in t c.args.account)))
     (λ _. AreLast c.args.account rest.items c.new-statuses.result.items)
-    (λ t e. none_made (λ r. status_record t (trade_row_of r)) shown_trade rest.items c.new-statuses.result.items c.new-statuses.ensures.items
-    ∙ sym (map_map (status_record t) trade_row_of rest.items) ∙ ap (map (status_record t)) e)
+    (λ t e. none_made (λ r. status_rows_in t (trade_row_of r)) status_rows rest.items c.new-statuses.result.items c.new-statuses.ensures.items
+    ∙ sym (map_map (status_rows_in t) trade_row_of rest.items) ∙ ap (map (status_rows_in t)) e)
     c.in_ok-rest.ensures.read
 
 pub loop-trade-preserved : goal.loop-trade-preserved
@@ -37,9 +36,9 @@ loop-trade-preserved g c =
     rw c.in_ok-push.ensures.items
     (read_both g.S.Store c.args.store.now c.loop-trade.store c.with_security.new.store {H = Fault} tt status tt
     (λ _. AreLast c.args.account before all)
-    (λ status (t : Tables). shown_trade status ≡ status_record t (trade_row_of trade))
+    (λ status (t : Tables). status_rows status ≡ status_rows_in t (trade_row_of trade))
     (λ _. AreLast c.args.account rest (all ++ status ∷ []))
-    (λ t p e. popped (λ r. status_record t (trade_row_of r)) shown_trade before rest trade all status _ c.in-Some.ensures.items p e)
+    (λ t p e. popped (λ r. status_rows_in t (trade_row_of r)) status_rows before rest trade all status _ c.in-Some.ensures.items p e)
     c.loop-trade.invariant c.in_ok-status.ensures.read)
 
 pub returns-clause-read : goal.returns-clause-read
@@ -48,6 +47,6 @@ returns-clause-read g c =
     let statuses = c.loop-trade.statuses.items in
     retold g.S.Store c.args.store.now c.loop-trade.store tt c.reverse.new.self
     (λ _. AreLast c.args.account rest.items statuses)
-    (λ statuses (t : Tables). map shown_trade statuses.items ≡ map (status_record t) (take 50 (recent_first (trades_in t c.args.account))))
-    (λ t p. ap (map shown_trade) c.reverse.ensures.items ∙ all_made (λ r. status_record t (trade_row_of r)) shown_trade rest.items statuses _ (sym rest.ok.0 ∙ c.in_default.ensures.cases.0) p)
+    (λ statuses (t : Tables). map status_rows statuses.items ≡ map (status_rows_in t) (take 50 (recent_first (trades_in t c.args.account))))
+    (λ t p. ap (map status_rows) c.reverse.ensures.items ∙ all_made (λ r. status_rows_in t (trade_row_of r)) status_rows rest.items statuses _ (sym rest.ok.0 ∙ c.in_default.ensures.cases.0) p)
     c.loop-trade.invariant

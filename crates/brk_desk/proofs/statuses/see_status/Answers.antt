@@ -38,7 +38,7 @@ returns-clause-read g c =
     (λ o (t : Tables). IsRowOf id o t × AreStatuses id trades.items t)
     (λ found. ArePartiesOf (account_row_of row) trades found)
     (Shows (StatusOf id))
-    (λ t k p. status_seen id (account_row_of row) trades found view c.status.ensures.shown t k.0 k.1 p)
+    (λ t k p. status_seen id (account_row_of row) trades found view c.status.ensures.carried t k.0 k.1 p)
     (read_both g.S.Store old c.account.new.self c.read_statuses.new.store {X = Option AccountRow} {H = Fault} (Some row) trades (Some row)
     (IsRowOf id) (λ trades (t : Tables). AreStatuses id trades.items t) (λ o (t : Tables). IsRowOf id o t × AreStatuses id trades.items t)
     (λ t e w. (e, w)) (rw c.in-Some.is at c.in_ok-row.ensures.read) c.in_ok-trades.ensures.read)

@@ -18,5 +18,5 @@ returns-clause-read g c =
     retold g.S.Store c.args.store.now c.volumes_of.new.store found (Ok view)
     (λ found (t : Tables). found.items ≡ map (volume.broker_volume t sector) (flat_map (named_in t sector) names))
     (Shows (VolumeOf sector names))
-    (λ t e. volume_seen sector names found.items view (rw c.names-names.ensures.names at c.names-names.ensures.distinct) c.in_ok-view.ensures.view t e)
+    (λ t e. volume_seen sector names found.items c.in_ok-view.ensures.carried.0 view (rw c.names-names.ensures.names at c.names-names.ensures.distinct) c.in_ok-view.ensures.carried.1 c.in_ok-view.ensures.view t e)
     (rw c.names-names.ensures.names at c.in_ok-found.ensures.read)

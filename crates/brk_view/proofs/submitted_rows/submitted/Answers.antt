@@ -1,4 +1,4 @@
-use Rattle.std.proofs.Common.{◌∙◌, ap, map}
+use Rattle.std.proofs.Common.{◌∙◌, ap, map, refl}
 use Rattle.std.proofs.lemmas.List.{take_all}
 use Rattle.brk_changes.specs.Rows.{trade_row_of}
 use Rattle.brk_view.specs.Views.{submitted_record}
@@ -10,3 +10,10 @@ returns-clause-view c = λ t are_submitted.
     c.loop-row.invariant
     ∙ ap (λ rows. map submitted_record (map trade_row_of rows)) (take_all c.loop-row.row-index c.args.rows.now c.loop-row-test.false)
     ∙ ap (map submitted_record) are_submitted ∙ shown_of_sheets t
+
+pub returns-clause-carried : goal.returns-clause-carried
+returns-clause-carried c = (
+  c.loop-row.trades,
+  refl,
+  c.loop-row.invariant ∙ ap (λ rows. map submitted_record (map trade_row_of rows)) (take_all c.loop-row.row-index c.args.rows.now c.loop-row-test.false),
+)
