@@ -8,6 +8,7 @@ pub mod beginning;
 pub mod call;
 pub mod desk;
 pub mod head;
+pub mod in_order;
 pub mod looking;
 mod lookups;
 mod lots;
