@@ -7,6 +7,7 @@ pub mod StreamLemmas
 pub mod Simulated
 pub mod Promised
 pub mod Called
+pub mod Counted
 pub mod RouteLemmas
 pub mod Seeking
 pub mod Routing

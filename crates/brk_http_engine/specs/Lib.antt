@@ -3,4 +3,5 @@ pub mod Lines
 pub mod Words
 pub mod Codes
 pub mod Turns
+pub mod Limits
 pub mod Promises

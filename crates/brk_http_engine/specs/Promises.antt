@@ -1,5 +1,5 @@
 -- The guarantees of a stream: for any desk, and for the bases that the desk represents.
-use Rattle.std.specs.Prelude.{◌≡◌, ℕ, List, [], ◌∷◌, Result}
+use Rattle.std.specs.Prelude.{◌≡◌, ◌≤◌, ℕ, List, [], ◌∷◌, Result, length}
 use Rattle.brk_money.specs.Spelling.{Text}
 use Rattle.brk_model.specs.Run.{Call, Outcome}
 use Rattle.brk_io.specs.Calls.{AreMade}
@@ -9,9 +9,9 @@ use Rattle.brk_http_engine.specs.declared.stream.ServeFault.{ServeFault}
 use Rattle.brk_http_model.specs.Asked.{Forms}
 use Rattle.brk_http_model.specs.Stream.{Does}
 
--- The desk changed from `old` to `new` only by a sequence of calls.
-abbrev pub WasCalled : {D : Type 0} → Does D → D → D → Type 0
-WasCalled acts old new = (calls : List (ℕ × Call)) × (outcomes : List Outcome) × AreMade acts old calls outcomes new
+-- The desk changed from `old` to `new` only by a sequence of calls, at most `most` of them.
+abbrev pub WasCalled : {D : Type 0} → Does D → ℕ → D → D → Type 0
+WasCalled acts most old new = (calls : List (ℕ × Call)) × (outcomes : List Outcome) × AreMade acts old calls outcomes new × (length calls ≤ most)
 
 -- Calls with their timestamps, and the outcomes of the calls.
 abbrev pub Script : Type 0

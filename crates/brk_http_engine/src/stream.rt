@@ -1,6 +1,8 @@
-ghost use Rattle.std.specs.Prelude.{◌≡◌, Bool, IfSome};
+ghost use Rattle.std.specs.Prelude.{◌≡◌, ◌<◌, ◌≤◌, Bool, IfErr, IfOk, IfSome};
 ghost use Rattle.std.specs.List.{list_all};
+ghost use Rattle.brk_http_model.specs.Stream.{most_requests};
 ghost use Rattle.brk_http_engine.specs.Rows.{has_byte, the_routes};
+ghost use Rattle.brk_http_engine.specs.Limits.{most_calls};
 ghost use Rattle.brk_http_engine.specs.Promises.{WasCalled};
 ghost use Rattle.brk_http_engine.specs.Turns.{ServeGives};
 
@@ -31,7 +33,9 @@ fn serve_by<R: Read + Drop, W: Write, C: Clock, D: Service>(
 ) -> Result<u64, ServeFault>
     requires routes { router.now ≡ the_routes }
     requires named { list_all has_byte D.forms.views ≡ Bool.true }
-    ensures called { WasCalled D.acts desk.old desk.new }
+    ensures few { IfOk result (λ count. count ≤ most_requests) }
+    ensures early { IfErr result (λ fault. fault.done < most_requests) }
+    ensures called { WasCalled D.acts (most_calls result) desk.old desk.new }
     ensures gives { IfSome (R.remaining reader) (λ input. ServeGives D.forms D.acts C.gives input
         (record { base = desk.old; after = desk.new; clock = clock.old; later = clock.new; old = W.contents writer.old; new = W.contents writer.new }) result) }
 {
@@ -56,10 +60,11 @@ fn serve_by<R: Read + Drop, W: Write, C: Clock, D: Service>(
     }
 }
 
-/// Serves the requests of a stream, in order, and returns the number of replies. No view may have
-/// an empty name.
+/// Serves the requests of a stream, in order, at most 1,000, and returns the number of replies. No
+/// view may have an empty name.
 ///
-/// After a fault of memory or of the writer, the next request may have been executed.
+/// Each request makes at most one call of the desk. After a fault of memory or of the writer, the
+/// next request may have been executed; after a fault of the reader it was not.
 pub fn serve<R: Read + Drop, W: Write, C: Clock, D: Service>(
     alloc: Global,
     reader: R,
@@ -68,7 +73,9 @@ pub fn serve<R: Read + Drop, W: Write, C: Clock, D: Service>(
     desk: &mut D::Desk,
 ) -> Result<u64, ServeFault>
     requires named { list_all has_byte D.forms.views ≡ Bool.true }
-    ensures called { WasCalled D.acts desk.old desk.new }
+    ensures few { IfOk result (λ count. count ≤ most_requests) }
+    ensures early { IfErr result (λ fault. fault.done < most_requests) }
+    ensures called { WasCalled D.acts (most_calls result) desk.old desk.new }
     ensures gives { IfSome (R.remaining reader) (λ input. ServeGives D.forms D.acts C.gives input
         (record { base = desk.old; after = desk.new; clock = clock.old; later = clock.new; old = W.contents writer.old; new = W.contents writer.new }) result) }
 {

@@ -5,6 +5,7 @@ ghost use Rattle.brk_http_engine.specs.Rows.{has_byte, the_routes};
 ghost use Rattle.brk_http_model.specs.Stream.{most_requests};
 ghost use Rattle.httparse.specs.Spans.{IsWithin};
 ghost use Rattle.brk_http_reader.specs.Shown.{asked_at};
+ghost use Rattle.brk_http_engine.specs.Limits.{most_in_turn};
 ghost use Rattle.brk_http_engine.specs.Promises.{WasCalled};
 ghost use Rattle.brk_http_engine.specs.Turns.{Acted, Failed, Turned};
 
@@ -84,7 +85,7 @@ fn respond<C: Clock, D: Service>(
     requires method { IsWithin (length buffer.now) places.method }
     requires target { IsWithin (length buffer.now) places.target }
     requires body { IsWithin (length buffer.now) places.body }
-    ensures called { WasCalled D.acts desk.old desk.new }
+    ensures called { WasCalled D.acts 1 desk.old desk.new }
     ensures open { IfOk result (λ draft. draft.closes ≡ Bool.false → done + 1 < most_requests) }
     ensures ok { (old : Option (List ℕ)) (new : Option (List ℕ)) → IfOk result (λ draft. Acted D.forms D.acts C.gives done (asked_at buffer.now places)
         (record { base = desk.old; after = desk.new; clock = clock.old; later = clock.new; old = old; new = new }) draft.closes (string_bytes draft.text)) }
@@ -121,7 +122,7 @@ pub fn take_turn<R: Read, W: Write, C: Clock, D: Service>(
     requires few { done < most_requests }
     requires routes { router.now ≡ the_routes }
     requires named { list_all has_byte D.forms.views ≡ Bool.true }
-    ensures called { WasCalled D.acts desk.old desk.new }
+    ensures called { WasCalled D.acts (most_in_turn result) desk.old desk.new }
     ensures open { result ≡ Ok Turn.Open → done + 1 < most_requests }
     ensures ok { IfOk result (λ turn. IfSome (R.remaining reader.old) (λ xs. Turned D.forms D.acts C.gives done (buffer.old.items ++ xs)
         (record { base = desk.old; after = desk.new; clock = clock.old; later = clock.new; old = W.contents writer.old; new = W.contents writer.new })

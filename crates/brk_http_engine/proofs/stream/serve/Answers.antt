@@ -1,9 +1,10 @@
-use Rattle.std.proofs.Common.{[], refl}
+use Rattle.std.proofs.Common.{refl}
+use Rattle.brk_http_engine.proofs.Called.{not_called}
 use Rattle.brk_http_engine.proofs.StreamLemmas.{unstarted}
 use Rattle.brk_http_engine.proofs.stream.serve.Goals as goal
 
 pub returns-in-Err-clause-called : goal.returns-in-Err-clause-called
-returns-in-Err-clause-called g c = ([], [], refl)
+returns-in-Err-clause-called g c = not_called g.D.Service.acts _ _ _ refl
 
 pub returns-in-Err-clause-gives : goal.returns-in-Err-clause-gives
 returns-in-Err-clause-gives g c =

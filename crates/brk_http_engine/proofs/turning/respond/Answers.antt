@@ -1,7 +1,7 @@
-use Rattle.std.proofs.Common.{[], refl}
+use Rattle.std.proofs.Common.{refl}
 use Rattle.brk_http_model.specs.Replies.{reply_text}
 use Rattle.brk_http_engine.specs.Codes.{response_of}
-use Rattle.brk_http_engine.proofs.Called.{responds_called}
+use Rattle.brk_http_engine.proofs.Called.{not_called, responds_called}
 use Rattle.brk_http_engine.proofs.turning.respond.Goals as goal
 
 pub returns-clause-after : goal.returns-clause-after
@@ -20,7 +20,7 @@ returns-clause-after g c = λ old new is.
     )
 
 pub returns-in_default-clause-called : goal.returns-in_default-clause-called
-returns-in_default-clause-called g c = ([], [], refl)
+returns-in_default-clause-called g c = not_called g.D.Service.acts _ _ _ refl
 
 pub returns-in-Ok-reply_text-clause-called : goal.returns-in-Ok-reply_text-clause-called
 returns-in-Ok-reply_text-clause-called g c = responds_called g.D.Service.acts _ _ _ c.act-told.ensures.0 _ c.act-told.ensures.2
