@@ -18,11 +18,11 @@ fn listen<S: Alter>(
     streams: u32,
     desk: &mut Desk<S>,
 ) -> Ending {
-    let Ok(listener) = TcpListener::bind(rt, ("127.0.0.1", port)) else {
+    let Ok(mut listener) = TcpListener::bind(rt, ("127.0.0.1", port)) else {
         return Ending::Net;
     };
     let mut clock = Moments::new(rt, at);
-    match serve_on(rt.alloc(), &listener, streams, &mut clock, desk) {
+    match serve_on(rt.alloc(), &mut listener, streams, &mut clock, desk) {
         Ok(()) => Ending::Done,
         Err(ListenFault::Stream(fault)) => Ending::Serve(fault),
         Err(ListenFault::Net) => Ending::Net,

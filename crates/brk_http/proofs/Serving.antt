@@ -1,6 +1,7 @@
 -- The calls that a stream asks for, as the program makes them.
-use Rattle.std.proofs.Common.{◌≡◌, ℕ, List, [], ◌∷◌, map, Option, Some, None, IfSome, refl, subst₂, sym}
+use Rattle.std.proofs.Common.{◌≡◌, ℕ, ◌≤◌, List, [], ◌∷◌, length, map, Option, Some, None, IfSome, refl, ap, arith, subst₂, sym}
 use Rattle.std.specs.Prelude.{Result}
+use Rattle.std.proofs.lemmas.List.{length-map}
 use Rattle.sqlite_trees.specs.declared.store.Store.{Ghosts}
 use Rattle.sqlite.specs.Held.{Held}
 use Rattle.brk_desk.proofs.Made.{run_of}
@@ -14,12 +15,17 @@ use Rattle.brk_model.specs.Run as run
 use Rattle.brk_money.specs.Spelling.{Text}
 use Rattle.brk_io.specs.Calls.{AreMade}
 use Rattle.brk_io.specs.Span.{Outside, with_base}
+use Rattle.brk_http_engine.proofs.Counted.{tells_few}
 use Rattle.brk_http_engine.proofs.Promised.{tells}
+use Rattle.brk_http_engine.specs.Limits.{most_calls}
 use Rattle.brk_http_engine.specs.Promises.{TellsOutcomes, WasCalled}
 use Rattle.brk_http_engine.specs.Turns.{ServeGives}
 use Rattle.brk_http_engine.specs.declared.stream.ServeFault.{ServeFault}
 use Rattle.brk_http.specs.Acts.{DeskActs}
 use Rattle.brk_http.specs.Forms.{known_forms}
+
+still_few : (made : List (ℕ × Call)) (calls : List (ℕ × run.Call)) (n : ℕ) → map call_of made ≡ calls → length calls ≤ n → length made ≤ n
+still_few made calls n is few = omega (arith, ap length is, length-map made call_of)
 
 module _ {S : Type 0} (g : Ghosts S) where
   abbrev Acts : Held S → ℕ → run.Call → run.Outcome → Held S → Type 0
@@ -41,13 +47,14 @@ module _ {S : Type 0} (g : Ghosts S) where
   as_made old new (c ∷ cs) [] made = absurd made
 
   -- whatever the reader gave, calls were made; where it tells its bytes, these are what they ask for
-  pub tells_run : {C : Type 0} (gives : C → ℕ → C → Type 0) (input : Option Text) (first last : Held S) (outside : Outside C) (result : Result ℕ ServeFault) → WasCalled Acts first last
+  pub tells_run : {C : Type 0} (gives : C → ℕ → C → Type 0) (input : Option Text) (first last : Held S) (outside : Outside C) (result : Result ℕ ServeFault) → WasCalled Acts (most_calls result) first last
       → IfSome input (λ text. ServeGives known_forms Acts gives text (with_base first last outside) result)
-      → (calls : List (ℕ × Call)) × (outcomes : List Outcome) × IsRunOf g first last calls outcomes
+      → (calls : List (ℕ × Call)) × (outcomes : List Outcome) × IsRunOf g first last calls outcomes × (length calls ≤ most_calls result)
       × IfSome input (λ text. TellsOutcomes known_forms gives text (map call_of calls, map outcome_of outcomes) outside result)
-  tells_run gives None first last outside result (calls, outcomes, made) h =
-      let r = as_made first last calls outcomes made in (r.0, r.1, run_of g first last r.0 r.1 r.4, tt)
+  tells_run gives None first last outside result (calls, outcomes, made, few) h =
+      let r = as_made first last calls outcomes made in (r.0, r.1, run_of g first last r.0 r.1 r.4, still_few r.0 calls _ r.2 few, tt)
   tells_run gives (Some text) first last outside result called h =
       let t = tells known_forms Acts gives last text first outside result h in
       let r = as_made first last t.0.0 t.0.1 t.1 in
-      (r.0, r.1, run_of g first last r.0 r.1 r.4, subst₂ (λ cs os. TellsOutcomes known_forms gives text (cs, os) outside result) (sym r.2) (sym r.3) t.2)
+      let few = tells_few known_forms gives text t.0 outside result t.2 in
+      (r.0, r.1, run_of g first last r.0 r.1 r.4, still_few r.0 t.0.0 _ r.2 few, subst₂ (λ cs os. TellsOutcomes known_forms gives text (cs, os) outside result) (sym r.2) (sym r.3) t.2)

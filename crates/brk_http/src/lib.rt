@@ -3,12 +3,15 @@
 #![tactic(auto)]
 
 mod at_desk;
+mod at_socket;
 mod listening;
 mod streams;
 
 pub use at_desk::DeskService;
+pub use at_socket::PATIENCE;
 pub use brk_desk;
 pub use brk_http_engine::{FaultKind, ServeFault};
+pub use brk_http_listener::{AcceptFault, ListenFault, Listener};
 pub use brk_io::Clock;
-pub use listening::{ListenFault, PATIENCE, serve_on};
+pub use listening::serve_on;
 pub use streams::serve_stream;

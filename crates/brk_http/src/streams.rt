@@ -1,4 +1,4 @@
-ghost use Rattle.std.specs.Prelude.{ℕ, IfSome, List, map};
+ghost use Rattle.std.specs.Prelude.{◌<◌, ◌≤◌, ℕ, IfErr, IfOk, IfSome, List, length, map};
 ghost use Rattle.brk_store.specs.Audited.{Represents};
 ghost use Rattle.brk_desk.specs.Answers.{outcome_of};
 ghost use Rattle.brk_desk.specs.Commands.{call_of};
@@ -7,6 +7,8 @@ ghost use Rattle.brk_desk.specs.declared.call.Call as made;
 ghost use Rattle.brk_desk.specs.declared.call.Outcome as came;
 ghost use Rattle.brk_http.specs.Forms.{known_forms};
 ghost use Rattle.brk_model.specs.Run.{Answers};
+ghost use Rattle.brk_http_model.specs.Stream.{most_requests};
+ghost use Rattle.brk_http_engine.specs.Limits.{most_calls};
 ghost use Rattle.brk_http_engine.specs.Promises.{KeepsBooks, TellsOutcomes};
 ghost use Rattle.sqlite.specs.Held.{state};
 ghost use Rattle.sqlite.specs.State.{HasCleanDisk};
@@ -31,8 +33,8 @@ use std::io::{Read, Write};
 /// `Write` a part of its reply may have been written. After `Write` or `Memory` the request may
 /// have been executed: retry it under its key.
 ///
-/// The contract specifies requests and replies only for a reader with specified content; a socket
-/// has none.
+/// For any reader the number of requests and of calls is limited, as the contract says. It specifies
+/// requests and replies only for a reader with specified content; a socket has none.
 pub fn serve_stream<R: Read + Drop, W: Write, C: Clock, S: Alter>(
     alloc: Global,
     reader: R,
@@ -40,10 +42,14 @@ pub fn serve_stream<R: Read + Drop, W: Write, C: Clock, S: Alter>(
     clock: &mut C,
     desk: &mut Desk<S>,
 ) -> Result<u64, ServeFault>
+    // For any stream, at most 1,000 requests are answered, and fewer before a fault.
+    ensures few { IfOk result (λ count. count ≤ most_requests) }
+    ensures early { IfErr result (λ fault. fault.done < most_requests) }
     // For any stream, the desk changed only by a sequence of its calls. So every guarantee of a run
-    // holds. If the reader has specified content, it asks for exactly these calls, and the replies
-    // are those of their outcomes.
-    ensures told { (calls : List (ℕ × made.Call)) × (outcomes : List came.Outcome) × IsRunOf S.Store desk.old desk.new calls outcomes
+    // holds. The calls are at most as many as the answered requests, and one more after a fault of
+    // the writer or of memory. If the reader has specified content, it asks for exactly these calls,
+    // and the replies are those of their outcomes.
+    ensures told { (calls : List (ℕ × made.Call)) × (outcomes : List came.Outcome) × IsRunOf S.Store desk.old desk.new calls outcomes × (length calls ≤ most_calls result)
         × IfSome (R.remaining reader) (λ input. TellsOutcomes known_forms C.gives input (map call_of calls, map outcome_of outcomes)
         (record { clock = clock.old; later = clock.new; old = W.contents writer.old; new = W.contents writer.new }) result) }
     // Under the disk assumption, for every base that the desk represented, the outcomes are those

@@ -1,14 +1,26 @@
-//! A stream that is cut at each of its bytes, a reader that fails there, and a writer that takes so many bytes.
+//! A stream that is cut at each of its bytes, and a stream whose reader or writer fails at each byte. After a fault it is sent again,
+//! whole, and completed.
 
 use crate::desks::{Still, set_desk};
 use crate::faulty::{Failing, Narrow};
 use crate::http::streams::{Told, post, reply, served};
+use crate::tables::expect_tables;
 use brk_http::{FaultKind, ServeFault, serve_stream};
 use brk_import::brk_desk::Desk;
 use sqlite::MemStore;
 use std::alloc::{AllocError, Global};
 use std::io::ErrorKind;
 use std::test::Fail;
+
+// The tables after the requests, without those of reference data.
+const TABLES: &str = "DESK\n1,1,1709251200016\n\
+    BROKER\n1,Bo,0,0\n2,Cy,0,0\n\
+    CUSTOMER_ACCOUNT\n100,10,1,Main,1,1000000,1000000\n\
+    LAST_TRADE\nABC,1709251200003,1000,0\n\
+    TRADE\nTRADE_HISTORY\nTRADE_REQUEST\n\
+    HOLDING\nHOLDING_SUMMARY\nHOLDING_HISTORY\n\
+    SETTLEMENT\nCASH_TRANSACTION\nCASH_MOVE\nSETTLE_RULE\n\
+    KEPT WHERE K_BATCH <> 'SET'\nC,1,broker\x1f2\x1fCy,1709251200016\n";
 
 // Three requests, where each ends, and what they are answered with.
 #[derive(Drop)]
@@ -81,63 +93,91 @@ fn a_stream_may_be_cut_at_each_byte(rt: HostRuntime) -> Result<(), Fail> {
     Ok(())
 }
 
-// Serves an input whose reader is interrupted after so many bytes.
-fn until_interrupted(
+// Sends all requests to a desk that executed the first one before, or did not, and compares the replies and all tables after them.
+fn complete(
     alloc: Global,
-    desk: &mut Desk<MemStore>,
-    input: &str,
-    len: usize,
-) -> (Vec<u8>, Result<u64, ServeFault>) {
+    mut desk: Desk<MemStore>,
+    name: &str,
+    all: &Three,
+    executed: bool,
+) -> Result<(), Fail> {
+    let first = if executed { 1 } else { 0 };
+    let mut wanted = String::from_str(alloc, all.replies[first].as_str())?;
+    wanted.push_str(all.replies[1].as_str())?;
+    wanted.push_str(all.replies[2].as_str())?;
+    let (out, ended) = served(alloc, &mut desk, all.input.as_bytes(), 64);
+    if out.as_slice() != wanted.as_bytes() || ended != Ok(3) {
+        return Err(Fail::new(format_args!("{name}: the stream that is sent again")));
+    }
+    expect_tables(alloc, desk.into_store(), name, TABLES)
+}
+
+// Sends the requests by a reader that fails after so many bytes. Nothing is executed of the request that it did not read whole.
+fn expect_read(alloc: Global, all: &Three, len: usize, kind: ErrorKind) -> Result<(), Fail> {
+    let name = format!(in alloc; "the reader fails after {len}")?;
+    let (wanted, done, _) = first_replies(alloc, all, len)?;
+    let mut desk = set_desk(alloc)?;
     let mut out = Vec::new(alloc);
-    let reader = Failing::after(input.as_bytes(), len, ErrorKind::Interrupted);
-    let ended = serve_stream(alloc, reader, &mut out, &mut Still::first(), desk);
-    (out, ended)
+    let reader = Failing::after(all.input.as_bytes(), len, kind);
+    let ended = serve_stream(alloc, reader, &mut out, &mut Still::first(), &mut desk);
+    let kind = FaultKind::Read;
+    if out.as_slice() != wanted.as_bytes() || ended != Err(ServeFault { done, kind }) {
+        return Err(Fail::new(format_args!("{name}: the fault, or the replies")));
+    }
+    complete(alloc, desk, name.as_str(), all, done > 0)
 }
 
 #[test]
 fn a_reader_may_fail_at_each_byte(rt: HostRuntime) -> Result<(), Fail> {
-    let alloc = rt.alloc();
-    let all = three_requests(alloc)?;
+    let all = three_requests(rt.alloc())?;
     for len in 0..=all.input.len() {
-        let (wanted, done, _) = first_replies(alloc, &all, len)?;
-        let mut desk = set_desk(alloc)?;
-        let (out, ended) = until_interrupted(alloc, &mut desk, all.input.as_str(), len);
-        let kind = FaultKind::Read;
-        assert!(rt; out.as_slice() == wanted.as_bytes(), "fails at {len}");
-        assert!(rt; ended == Err(ServeFault { done, kind }), "fails at {len}");
+        expect_read(rt.alloc(), &all, len, ErrorKind::Interrupted)?;
+        expect_read(rt.alloc(), &all, len, ErrorKind::ConnectionReset)?;
     }
     Ok(())
 }
 
+// Sends the requests to a desk whose writer fails after so many bytes. A request is executed before its reply is written.
+fn expect_written(
+    alloc: Global,
+    all: &Three,
+    room: usize,
+    fault: Option<ErrorKind>,
+) -> Result<(), Fail> {
+    let name = format!(in alloc; "the writer fails after {room}")?;
+    let (wanted, _, _) = first_replies(alloc, all, all.input.len())?;
+    let one = all.replies[0].len();
+    let two = one.saturating_add(all.replies[1].len());
+    let done = u64::from(room >= one).saturating_add(u64::from(room >= two));
+    let mut writer = Narrow::new(alloc, room, fault);
+    let mut desk = set_desk(alloc)?;
+    let ended = serve_stream(
+        alloc,
+        all.input.as_bytes(),
+        &mut writer,
+        &mut Still::first(),
+        &mut desk,
+    );
+    let kind = FaultKind::Write;
+    let written = wanted.as_bytes().get(..room) == Some(writer.taken.as_slice());
+    if !written || ended != Err(ServeFault { done, kind }) {
+        return Err(Fail::new(format_args!("{name}: the fault, or the replies")));
+    }
+    complete(alloc, desk, name.as_str(), all, true)
+}
+
 #[test]
-fn a_writer_may_stop_at_each_byte(rt: HostRuntime) -> Result<(), Fail> {
-    let alloc = rt.alloc();
-    let all = three_requests(alloc)?;
-    let (wanted, _, _) = first_replies(alloc, &all, all.input.len())?;
-    for room in 0..wanted.len() {
-        let mut desk = set_desk(alloc)?;
-        let mut writer = Narrow::new(alloc, room, None);
-        let ended = serve_stream(
-            alloc,
-            all.input.as_bytes(),
-            &mut writer,
-            &mut Still::first(),
-            &mut desk,
-        );
-        let one = all.replies[0].len();
-        let done = if room < one {
-            0
-        } else if room < one.saturating_add(all.replies[1].len()) {
-            1
-        } else {
-            2
-        };
-        let kind = FaultKind::Write;
-        assert!(rt;
-            writer.taken.as_slice() == &wanted.as_bytes()[..room],
-            "room for {room}"
-        );
-        assert!(rt; ended == Err(ServeFault { done, kind }), "room for {room}");
+fn a_writer_may_fail_at_each_byte(rt: HostRuntime) -> Result<(), Fail> {
+    let all = three_requests(rt.alloc())?;
+    let (replies, _, _) = first_replies(rt.alloc(), &all, all.input.len())?;
+    for room in 0..replies.len() {
+        for fault in [
+            None,
+            Some(ErrorKind::BrokenPipe),
+            Some(ErrorKind::Interrupted),
+        ] {
+            expect_written(rt.alloc(), &all, room, fault)?;
+        }
     }
     Ok(())
 }

@@ -1,4 +1,4 @@
-//! A desk whose disk fails: the reply that tells it is the last of its stream.
+//! A desk whose disk fails: the reply that reports it is the last of its stream.
 
 use crate::files::machine::desk_in;
 use crate::http::streams::{Told, post, reply, served};
@@ -26,6 +26,8 @@ fn a_fault_of_the_store_ends_a_stream(rt: HostRuntime) -> Result<(), Fail> {
         alloc,
         Told::Last("503 Service Unavailable", "{\"error\":\"store\"}"),
     )?;
+    let mut whole = reply(alloc, Told::Open("200 OK", "{\"ok\":[\"1709251200000\"]}"))?;
+    whole.push_str(reply(alloc, Told::Open("200 OK", "{\"view\":[]}"))?.as_str())?;
     let mut faults = 0u64;
     let mut booked = false;
     for calls in 0..1_000 {
@@ -33,11 +35,14 @@ fn a_fault_of_the_store_ends_a_stream(rt: HostRuntime) -> Result<(), Fail> {
             continue;
         };
         let (out, ended) = served(alloc, &mut desk, input.as_bytes(), 4096);
-        if ended != Ok(1) {
-            booked = true;
+        if ended == Ok(2) {
+            booked = out.as_slice() == whole.as_bytes();
             break;
         }
-        assert!(rt; out.as_slice() == wanted.as_bytes(), "after {calls} calls");
+        assert!(rt;
+            ended == Ok(1) && out.as_slice() == wanted.as_bytes(),
+            "after {calls} calls"
+        );
         faults = faults.saturating_add(1);
     }
     assert!(rt; faults > 0 && booked);

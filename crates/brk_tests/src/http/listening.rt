@@ -1,42 +1,71 @@
 //! Streams over sockets of this machine, in one process.
 
 use crate::desks::{Still, new_desk};
-use brk_http::serve_on;
+use brk_http::{ListenFault, serve_on};
 use std::io;
 use std::io::Write;
 use std::net::{Shutdown, TcpListener, TcpStream};
 use std::test::Fail;
 
-// What each peer sends, one after the other, and what it is answered with.
-const PEERS: [(&str, &str); 4] = [
+// The bytes that each peer sends, in the order of their streams, and its replies. A peer without replies breaks its stream off: the
+// first such peer within its second request, the other one before the reply to its first.
+const PEERS: [(&str, Option<&str>); 6] = [
+    (
+        "POST /rows/S/1 HTTP/1.1\r\nContent-Length: 19\r\n\r\n[\"broker\",\"1\",\"Bo\"]\
+        POST /rows/S/2 HTTP/1.1\r\nContent-Length: 19\r\n\r\n[\"broker\",\"2\",",
+        None,
+    ),
     (
         "POST /rows/S/1 HTTP/1.1\r\nHost: desk\r\nContent-Length: 19\r\n\r\n[\"broker\",\"1\",\"Bo\"]",
-        "HTTP/1.1 200 OK\r\nContent-Type: application/json\r\nContent-Length: 24\r\n\r\n{\"ok\":[\"1709251200000\"]}",
+        Some(
+            "HTTP/1.1 200 OK\r\nContent-Type: application/json\r\nContent-Length: 27\r\n\r\n{\"again\":[\"1709251200000\"]}",
+        ),
     ),
-    ("", ""),
+    (
+        "POST /rows/S/2 HTTP/1.1\r\nContent-Length: 19\r\n\r\n[\"broker\",\"2\",\"Cy\"]\
+        POST /rows/S/2 HTTP/1.1\r\nContent-Length: 19\r\n\r\n[\"broker\",\"2\",\"Cy\"]\
+        POST /rows/S/2 HTTP/1.1\r\nContent-Length: 19\r\n\r\n[\"broker\",\"2\",\"Cy\"]",
+        None,
+    ),
+    ("", Some("")),
     (
         "nothing\r\n\r\nand more",
-        "HTTP/1.1 400 Bad Request\r\nContent-Type: application/json\r\nContent-Length: 23\r\n\
-        Connection: close\r\n\r\n{\"error\":\"bad request\"}",
+        Some(
+            "HTTP/1.1 400 Bad Request\r\nContent-Type: application/json\r\nContent-Length: 23\r\n\
+            Connection: close\r\n\r\n{\"error\":\"bad request\"}",
+        ),
     ),
     (
-        "POST /rows/S/1 HTTP/1.0\r\nContent-Length: 19\r\n\r\n[\"broker\",\"1\",\"Bo\"]",
-        "HTTP/1.1 200 OK\r\nContent-Type: application/json\r\nContent-Length: 27\r\n\
-        Connection: close\r\n\r\n{\"again\":[\"1709251200000\"]}",
+        "POST /rows/S/2 HTTP/1.0\r\nContent-Length: 19\r\n\r\n[\"broker\",\"2\",\"Cy\"]",
+        Some(
+            "HTTP/1.1 200 OK\r\nContent-Type: application/json\r\nContent-Length: 27\r\n\
+            Connection: close\r\n\r\n{\"again\":[\"1709251200001\"]}",
+        ),
     ),
 ];
 
 #[test]
 fn streams_share_a_desk(rt: HostRuntime) -> Result<(), Fail> {
     let mut desk = new_desk(rt.alloc())?;
-    let listener = TcpListener::bind(&rt, ("127.0.0.1", 0))?;
-    for (input, wanted) in PEERS {
+    let mut clock = Still::first();
+    let mut listener = TcpListener::bind(&rt, ("127.0.0.1", 0))?;
+    let mut whole = Vec::new(rt.alloc());
+    for (input, replies) in PEERS {
         let mut peer = TcpStream::connect(&rt, listener.local_addr()?)?;
         peer.write_all(input.as_bytes())?;
-        peer.shutdown(Shutdown::Write)?;
-        assert!(rt; serve_on(rt.alloc(), &listener, 1, &mut Still::first(), &mut desk).is_ok());
-        let told = io::read_to_string(rt.alloc(), peer)?;
-        assert!(rt; told.as_str() == wanted, "{input:?}");
+        if let Some(wanted) = replies {
+            peer.shutdown(Shutdown::Write)?;
+            whole.push((peer, wanted))?;
+        }
     }
+    assert!(rt; serve_on(rt.alloc(), &mut listener, 6, &mut clock, &mut desk) == Ok(()));
+    for (peer, wanted) in whole {
+        let told = io::read_to_string(rt.alloc(), peer)?;
+        assert!(rt; told.as_str() == wanted, "{wanted:?}");
+    }
+    listener.set_nonblocking(true)?;
+    assert!(rt;
+        serve_on(rt.alloc(), &mut listener, 1, &mut clock, &mut desk) == Err(ListenFault::Net)
+    );
     Ok(())
 }

@@ -1,0 +1,25 @@
+-- The effect of one stream on a desk, for a reader without specified content, as a socket.
+use Rattle.std.specs.Prelude.{◌<◌, ◌≤◌, ℕ, IfErr, IfOk, List, Result, length}
+use Rattle.sqlite_trees.specs.declared.store.Store.{Ghosts}
+use Rattle.sqlite.specs.Held.{Held}
+use Rattle.brk_desk.specs.Runs.{IsRunOf}
+use Rattle.brk_desk.specs.declared.call.Call.{Call}
+use Rattle.brk_desk.specs.declared.call.Outcome.{Outcome}
+use Rattle.brk_http_model.specs.Stream.{most_requests}
+use Rattle.brk_http_engine.specs.Limits.{most_calls}
+use Rattle.brk_http_engine.specs.declared.stream.ServeFault.{ServeFault}
+use Rattle.brk_http_listener.specs.Listening.{Serves}
+
+-- A stream that ended with this result changed the desk only by these calls, in order, which are a
+-- run. The number of answered requests and the number of calls are within their limits.
+pub record IsServed {S : Type 0} (g : Ghosts S) (old new : Held S) (ended : Result ℕ ServeFault) : Type 0 where
+  pub calls : List (ℕ × Call)
+  pub outcomes : List Outcome
+  pub run : IsRunOf g old new calls outcomes
+  pub few : length calls ≤ most_calls ended
+  pub within : IfOk ended (λ count. count ≤ most_requests)
+  pub early : IfErr ended (λ fault. fault.done < most_requests)
+
+-- The relation of one stream that a desk serves. Of the clock and of the stream it says nothing.
+abbrev pub DeskServes : {S C X : Type 0} → Ghosts S → Serves C (Held S) X
+DeskServes g clock old stream ended later new = IsServed g old new ended

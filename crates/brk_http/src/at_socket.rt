@@ -1,0 +1,79 @@
+ghost use Rattle.brk_http.specs.Served.{DeskServes};
+
+use crate::streams::serve_stream;
+use brk_desk::Desk;
+use brk_http_engine::{FaultKind, ServeFault};
+use brk_http_listener::StreamServer;
+use brk_io::Clock;
+use sqlite::Alter;
+use std::alloc::Global;
+use std::io;
+use std::io::Read;
+use std::marker::PhantomData;
+use std::net::{Shutdown, TcpStream};
+use std::time::Duration;
+
+/// The seconds after which a stream is ended if its peer neither sends nor accepts a byte.
+pub const PATIENCE: u64 = 30;
+
+// The milliseconds that a peer has, after the last reply, for each piece that is read and dropped.
+// At most `MOST_PIECES` pieces are read.
+const LAST_PATIENCE: u64 = 250;
+
+const MOST_PIECES: u32 = 128;
+
+// Sets the time limits of the stream: a read or a write that waits longer is an error.
+fn limit_waiting(stream: &TcpStream) -> io::Result<()> {
+    stream.set_read_timeout(Some(Duration::from_secs(PATIENCE)))?;
+    stream.set_write_timeout(Some(Duration::from_secs(PATIENCE)))
+}
+
+// Signals that no reply follows, and reads the bytes that still arrive, so that the kernel does not
+// drop the last reply.
+fn let_go(stream: &TcpStream) -> io::Result<()> {
+    stream.shutdown(Shutdown::Write)?;
+    stream.set_read_timeout(Some(Duration::from_millis(LAST_PATIENCE)))?;
+    let mut reader = stream;
+    let mut piece = [0u8; 8192];
+    for _ in 0..MOST_PIECES {
+        if reader.read(&mut piece)? == 0 {
+            break;
+        }
+    }
+    Ok(())
+}
+
+/// A desk as a server of sockets.
+pub struct SocketServer<C, S> {
+    _clock: PhantomData<C>,
+    _store: PhantomData<S>,
+}
+
+impl<C: Clock, S: Alter> StreamServer for SocketServer<C, S> {
+    type Stream = TcpStream;
+
+    type Clock = C;
+
+    type Desk = Desk<S>;
+
+    ghost serves = { DeskServes S.Store };
+
+    // A socket that takes no time limits is one that its peer broke off.
+    fn serve(
+        alloc: Global,
+        stream: TcpStream,
+        clock: &mut C,
+        desk: &mut Desk<S>,
+    ) -> Result<u64, ServeFault> {
+        if limit_waiting(&stream).is_err() {
+            return Err(ServeFault {
+                done: 0,
+                kind: FaultKind::Read,
+            });
+        }
+        let mut writer = &stream;
+        let ended = serve_stream(alloc, &stream, &mut writer, clock, desk);
+        let _ = let_go(&stream);
+        ended
+    }
+}

@@ -1,0 +1,63 @@
+-- The streams of a listener, taken in sequence, for any listener and any server of streams.
+use Rattle.std.specs.Prelude.{◌≡◌, ◌≢◌, ◌<◌, ℕ, List, [], ◌∷◌, Option, None, Some, Result, Ok, Err, length}
+use Rattle.brk_http_engine.specs.declared.stream.ServeFault.{ServeFault}
+use Rattle.brk_http_engine.specs.declared.turning.FaultKind.TheVariants.{Memory}
+use Rattle.brk_http_listener.specs.declared.faults.AcceptFault.{AcceptFault}
+use Rattle.brk_http_listener.specs.declared.faults.AcceptFault.TheVariants.{Aborted, Failed}
+use Rattle.brk_http_listener.specs.declared.faults.ListenFault.{ListenFault}
+use Rattle.brk_http_listener.specs.declared.faults.ListenFault.TheVariants.{Stream, Net}
+
+-- A listener, a clock and a desk at one time.
+pub record Scene (L C D : Type 0) : Type 0 where
+  pub listener : L
+  pub clock : C
+  pub desk : D
+
+-- A relation of one accept: from a listener, it may have this result and lead to that listener.
+abbrev pub Accepts : Type 0 → Type 0 → Type 1
+Accepts L X = L → Result X AcceptFault → L → Type 0
+
+-- A relation of one stream: from a clock and a desk, it may be served with this result and lead to
+-- that clock and that desk.
+abbrev pub Serves : Type 0 → Type 0 → Type 0 → Type 1
+Serves C D X = C → D → X → Result ℕ ServeFault → C → D → Type 0
+
+-- The end of a stream: the result of serving it, or `None` if its peer broke it off before it was
+-- accepted.
+abbrev pub StreamEnd : Type 0
+StreamEnd = Option (Result ℕ ServeFault)
+
+-- The accept had this result, and nothing else changed.
+pub record IsAccepted {L C D X : Type 0} (accepts : Accepts L X) (old : Scene L C D) (result : Result X AcceptFault) (new : Scene L C D) : Type 0 where
+  pub accepted : accepts old.listener result new.listener
+  pub clock : new.clock ≡ old.clock
+  pub desk : new.desk ≡ old.desk
+
+-- One stream was taken, with this end: it was accepted and served, or its peer had broken it off.
+abbrev pub Takes : {L C D X : Type 0} → Accepts L X → Serves C D X → Scene L C D → StreamEnd → Scene L C D → Type 0
+Takes accepts serves old None new = IsAccepted accepts old (Err Aborted) new
+Takes {X = X} accepts serves old (Some ended) new =
+    (stream : X) × accepts old.listener (Ok stream) new.listener × serves old.clock old.desk stream ended new.clock new.desk
+
+-- The next stream may be taken: this one did not end because memory ran out.
+abbrev pub MayGoOn : StreamEnd → Type 0
+MayGoOn None = Unit {0}
+MayGoOn (Some (Ok count)) = Unit {0}
+MayGoOn (Some (Err fault)) = fault.kind ≢ Memory
+
+-- Streams were taken, in order, with these ends. After each of them the next may be taken.
+abbrev pub TakesAll : {L C D X : Type 0} → Accepts L X → Serves C D X → Scene L C D → List StreamEnd → Scene L C D → Type 0
+TakesAll accepts serves old [] new = new ≡ old
+TakesAll {L} {C} {D} accepts serves old (end ∷ ends) new =
+    (mid : Scene L C D) × Takes accepts serves old end mid × MayGoOn end × TakesAll accepts serves mid ends new
+
+-- The result of taking `streams` streams. `Ok`: exactly so many were taken. `Stream`: after fewer,
+-- one more was accepted and served, and ended with this fault, because memory ran out. `Net`: after
+-- fewer, the listener accepted no more.
+abbrev pub Listens : {L C D X : Type 0} → Accepts L X → Serves C D X → ℕ → Scene L C D → Result (Unit {0}) ListenFault → Scene L C D → Type 0
+Listens accepts serves streams old (Ok done) new = (ends : List StreamEnd) × TakesAll accepts serves old ends new × (length ends ≡ streams)
+Listens {L} {C} {D} accepts serves streams old (Err (Stream fault)) new =
+    (ends : List StreamEnd) × (mid : Scene L C D) × TakesAll accepts serves old ends mid × (length ends < streams)
+    × Takes accepts serves mid (Some (Err fault)) new × (fault.kind ≡ Memory)
+Listens {L} {C} {D} accepts serves streams old (Err Net) new =
+    (ends : List StreamEnd) × (mid : Scene L C D) × TakesAll accepts serves old ends mid × (length ends < streams) × IsAccepted accepts mid (Err Failed) new

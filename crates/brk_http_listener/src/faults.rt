@@ -1,0 +1,19 @@
+use brk_http_engine::ServeFault;
+
+/// The reason why a listener returned no stream.
+#[derive(Clone, Copy, Debug, PartialEq, Eq)]
+pub enum AcceptFault {
+    /// The peer broke its stream off before it was accepted.
+    Aborted,
+    /// The listener accepts no more streams.
+    Failed,
+}
+
+/// The cause that ended serving early.
+#[derive(Clone, Copy, Debug, PartialEq, Eq)]
+pub enum ListenFault {
+    /// A stream ended because memory ran out.
+    Stream(ServeFault),
+    /// No stream could be accepted.
+    Net,
+}

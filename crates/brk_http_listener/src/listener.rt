@@ -1,0 +1,32 @@
+ghost use Rattle.std.specs.Prelude.{Result};
+ghost use Rattle.brk_http_listener.specs.declared.faults.AcceptFault.{AcceptFault};
+
+use crate::faults::AcceptFault;
+use std::io::ErrorKind;
+use std::net::{TcpListener, TcpStream};
+
+/// A source of streams.
+pub trait Listener {
+    /// A stream that a peer opened.
+    type Stream: Drop;
+
+    /// Holds if the listener was asked for one stream between the first state and the second, and
+    /// returned this result.
+    ghost accepts: { Self → Result Self.Stream AcceptFault → Self → Type 0 } = { λ _ _ _. Unit {0} };
+
+    /// Waits for the next stream and accepts it.
+    fn accept_next(&mut self) -> Result<Self::Stream, AcceptFault>
+        ensures { accepts self.old result self.new };
+}
+
+impl Listener for TcpListener {
+    type Stream = TcpStream;
+
+    fn accept_next(&mut self) -> Result<TcpStream, AcceptFault> {
+        match self.accept() {
+            Ok((stream, _)) => Ok(stream),
+            Err(error) if error.kind() == ErrorKind::ConnectionAborted => Err(AcceptFault::Aborted),
+            Err(_) => Err(AcceptFault::Failed),
+        }
+    }
+}

@@ -1,0 +1,30 @@
+ghost use Rattle.std.specs.Prelude.{ℕ, Result};
+ghost use Rattle.brk_http_engine.specs.declared.stream.ServeFault.{ServeFault};
+
+use brk_http_engine::ServeFault;
+use std::alloc::Global;
+
+/// Serves a stream that was accepted.
+pub trait StreamServer {
+    /// A stream that a peer opened.
+    type Stream: Drop;
+
+    /// The source of timestamps.
+    type Clock;
+
+    /// The desk that executes the calls.
+    type Desk;
+
+    /// Holds if this stream was served between the first clock and desk and the second, and ended
+    /// with this result.
+    ghost serves: { Self.Clock → Self.Desk → Self.Stream → Result ℕ ServeFault → Self.Clock → Self.Desk → Type 0 };
+
+    /// Serves a stream to its end, and returns the number of requests that were answered.
+    fn serve(
+        alloc: Global,
+        stream: Self::Stream,
+        clock: &mut Self::Clock,
+        desk: &mut Self::Desk,
+    ) -> Result<u64, ServeFault>
+        ensures { serves clock.old desk.old stream result clock.new desk.new };
+}

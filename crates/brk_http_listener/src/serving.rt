@@ -1,0 +1,55 @@
+ghost use Rattle.brk_http_listener.specs.Listening.{Listens};
+
+use crate::faults::{AcceptFault, ListenFault};
+use crate::listener::Listener;
+use crate::server::StreamServer;
+use brk_http_engine::FaultKind;
+use std::alloc::Global;
+
+// Accepts the next stream and serves it.
+fn take_next<L: Listener, H: StreamServer<Stream = L::Stream>>(
+    alloc: Global,
+    listener: &mut L,
+    clock: &mut H::Clock,
+    desk: &mut H::Desk,
+) -> Result<(), ListenFault>
+    ensures { Listens L.accepts H.serves 1 (record { listener = listener.old; clock = clock.old; desk = desk.old })
+        result (record { listener = listener.new; clock = clock.new; desk = desk.new }) }
+{
+    let stream = match listener.accept_next() {
+        Ok(stream) => stream,
+        Err(AcceptFault::Aborted) => return Ok(()),
+        Err(AcceptFault::Failed) => return Err(ListenFault::Net),
+    };
+    let Err(fault) = H::serve(alloc, stream, clock, desk) else {
+        return Ok(());
+    };
+    match fault.kind {
+        FaultKind::Memory => Err(ListenFault::Stream(fault)),
+        FaultKind::Read => Ok(()),
+        FaultKind::Write => Ok(()),
+    }
+}
+
+/// Takes `streams` streams of a listener, in sequence. Each is served to its end before the next
+/// one is accepted. A stream that its peer breaks off counts as one.
+///
+/// Fails with `Stream` at the first stream that ended because memory ran out, and with `Net` if no
+/// stream could be accepted. No stream is taken after a fault.
+pub fn serve_each<L: Listener, H: StreamServer<Stream = L::Stream>>(
+    alloc: Global,
+    listener: &mut L,
+    streams: u32,
+    clock: &mut H::Clock,
+    desk: &mut H::Desk,
+) -> Result<(), ListenFault>
+    ensures { Listens L.accepts H.serves streams (record { listener = listener.old; clock = clock.old; desk = desk.old })
+        result (record { listener = listener.new; clock = clock.new; desk = desk.new }) }
+{
+    let mut taken = 0u32;
+    'streams: while taken < streams {
+        take_next::<L, H>(alloc, listener, clock, desk)?;
+        taken += 1;
+    }
+    Ok(())
+}
