@@ -1,6 +1,6 @@
 ghost use Rattle.std.specs.Prelude.{◌≡◌, IfOk, map, string_bytes};
 ghost use Rattle.brk_ask.specs.Printed.{json_text, rows_text};
-ghost use Rattle.brk_ref.specs.Fields.{texts};
+ghost use Rattle.brk_ref.specs.Fields.{texts as slices};
 ghost use Rattle.brk_view.specs.Views.{record_of};
 ghost use Rattle.csv.specs.Writing.{default_writer, row_text};
 
@@ -9,21 +9,21 @@ use csv::WriterBuilder;
 use std::alloc::{AllocError, Global};
 
 // Returns the bytes of the texts of a record, borrowed.
-fn fields(alloc: Global, record: &[String]) -> Result<Vec<&[u8]>, AllocError>
-    ensures { IfOk result (λ all. texts all.items ≡ map string_bytes record.now) }
+fn fields(alloc: Global, texts: &[String]) -> Result<Vec<&[u8]>, AllocError>
+    ensures { IfOk result (λ all. slices all.items ≡ map string_bytes texts.now) }
 {
     let mut all = Vec::new(alloc);
-    for text in record {
+    for text in texts {
         all.push(text.as_str().as_bytes())?;
     }
     Ok(all)
 }
 
 // Returns a record as a row of CSV.
-fn row(alloc: Global, record: &[String]) -> Result<Vec<u8>, AllocError>
-    ensures { IfOk result (λ row. row.items ≡ row_text default_writer (map string_bytes record.now)) }
+fn row(alloc: Global, texts: &[String]) -> Result<Vec<u8>, AllocError>
+    ensures { IfOk result (λ row. row.items ≡ row_text default_writer (map string_bytes texts.now)) }
 {
-    let fields = fields(alloc, record)?;
+    let fields = fields(alloc, texts)?;
     let mut writer = WriterBuilder::new().from_writer(Vec::new(alloc));
     match writer.write_fields(&fields) {
         Ok(()) => {}
