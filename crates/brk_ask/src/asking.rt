@@ -28,9 +28,8 @@ fn text(alloc: Global, query: &Query, view: &View, form: Form) -> Result<Vec<u8>
     } else {
         Vec::new(alloc)
     };
-    for record in view_fields(alloc, view)? {
-        records.push(record)?;
-    }
+    let mut shown = view_fields(alloc, view)?;
+    records.append(&mut shown)?;
     if form.json {
         Ok(json(alloc, &records)?)
     } else {

@@ -36,11 +36,11 @@ fn field_names(query: &Query) -> &'static [&'static str]
 fn name_record(alloc: Global, names: &[&str]) -> Result<Vec<String>, AllocError>
     ensures { IfOk result (λ owned. record_of owned ≡ texts names.now) }
 {
-    let mut record = Vec::new(alloc);
+    let mut owned = Vec::new(alloc);
     for name in names {
-        record.push(String::from_str(alloc, name)?)?;
+        owned.push(String::from_str(alloc, name)?)?;
     }
-    Ok(record)
+    Ok(owned)
 }
 
 /// Returns the record of the names of a view's fields, or no record if its records have different
