@@ -13,7 +13,7 @@ use std::io::ErrorKind;
 use std::test::Fail;
 
 // The tables after the requests, without those of reference data.
-const TABLES: &str = "DESK\n1,1,1709251200016\n\
+const TABLES: &str = "DESK\n1,3,1709251200016\n\
     BROKER\n1,Bo,0,0\n2,Cy,0,0\n\
     CUSTOMER_ACCOUNT\n100,10,1,Main,1,1000000,1000000\n\
     LAST_TRADE\nABC,1709251200003,1000,0\n\
