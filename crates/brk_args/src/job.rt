@@ -40,8 +40,6 @@ pub enum UsageFault {
     Help(String),
     /// An argument must be a day, and is not.
     Day,
-    /// The requested job does not exist yet.
-    NotYet,
     /// Out of memory.
     Memory,
 }

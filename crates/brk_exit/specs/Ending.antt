@@ -52,7 +52,6 @@ status_of ending.Output = 3
 status_of (ending.Usage (usage.Help text)) = 0
 status_of (ending.Usage (usage.Words text)) = 2
 status_of (ending.Usage usage.Day) = 2
-status_of (ending.Usage usage.NotYet) = 2
 status_of (ending.Usage usage.Memory) = 3
 
 -- The ending after the database is closed: a fault of the close is reported only if the job was
@@ -87,7 +86,6 @@ abbrev pub usage_line : UsageFault → List ℕ
 usage_line (usage.Words text) = string_bytes text
 usage_line (usage.Help text) = []
 usage_line usage.Day = codes "brk: usage: day\n"
-usage_line usage.NotYet = codes "brk: usage: not yet\n"
 usage_line usage.Memory = codes "brk: fault: memory\n"
 
 -- The text that is written to standard error.

@@ -1,2 +1,3 @@
+pub mod Sinks
 pub mod Lines
 pub mod Ending

@@ -1,7 +1,6 @@
 -- The lines that the program writes to standard error.
-use Rattle.std.specs.Prelude.{◌≡◌, ℕ, List, [], ◌∷◌, ◌++◌, codes, Option}
+use Rattle.std.specs.Prelude.{ℕ, List, [], ◌∷◌, ◌++◌, codes}
 use Rattle.std.specs.Borrow.{Bor}
-use Rattle.std.specs.Io.KnownBytes.{Appends}
 use Rattle.brk_money.specs.Kinds.{condition_word}
 use Rattle.brk_money.specs.declared.fault.Fault.{Fault}
 use Rattle.brk_money.specs.declared.fault.Fault.TheVariants as fault
@@ -9,10 +8,6 @@ use Rattle.brk_money.specs.declared.fault.Fault.TheVariants as fault
 -- The bytes of a line: its two parts and a line feed.
 abbrev pub told : Bor (List ℕ) × Bor (List ℕ) → List ℕ
 told line = line.0.now ++ (line.1.now ++ (10 ∷ []))
-
--- The writer got the first bytes of `line`, or all of them.
-abbrev pub WritesFront : Option (List ℕ) → Option (List ℕ) → List ℕ → Type 0
-WritesFront old new line = (front : List ℕ) × (left : List ℕ) × Appends old new front × (line ≡ front ++ left)
 
 -- The line of a fault of a desk.
 abbrev pub fault_line : Fault → List ℕ

@@ -2,15 +2,16 @@ ghost use Rattle.std.specs.Prelude.{◌≡◌, OnErr, OnOk};
 ghost use Rattle.std.specs.Io.KnownBytes.{Appends};
 ghost use Rattle.brk_exit.specs.Ending as spec;
 ghost use Rattle.brk_exit.specs.Lines as line;
+ghost use Rattle.brk_exit.specs.Sinks.{FailsWithin, ReceivesUnlessFailed};
 
+use crate::sink::Sink;
 use crate::telling::{Line, fault_line, write_line};
 use brk_args::UsageFault;
 use brk_http_engine::{FaultKind as StreamFault, ServeFault};
-use brk_io::{BatchFault, FaultKind, NotWritten, write_out};
+use brk_io::{BatchFault, FaultKind, NotWritten};
 use brk_money::Fault;
 use brk_report_lines::StatementFault;
 use itoa::Buffer;
-use std::io::Write;
 
 /// The outcome of the program.
 #[derive(Drop)]
@@ -99,7 +100,7 @@ fn status(ending: &Ending) -> u8
         Ending::Net => 3,
         Ending::Output => 3,
         Ending::Usage(UsageFault::Help(_)) => 0,
-        Ending::Usage(UsageFault::Words(_) | UsageFault::Day | UsageFault::NotYet) => 2,
+        Ending::Usage(UsageFault::Words(_) | UsageFault::Day) => 2,
         Ending::Usage(UsageFault::Memory) => 3,
     }
 }
@@ -115,9 +116,9 @@ pub fn after_close(ending: Ending, closed: Result<(), Fault>) -> Ending
     }
 }
 
-fn tell_statement<W: Write>(fault: &StatementFault, errors: &mut W) -> Result<(), NotWritten>
-    ensures ok { OnOk result (Appends (W.contents errors.old) (W.contents errors.new) (spec.statement_line fault.now)) }
-    ensures err { OnErr result (line.WritesFront (W.contents errors.old) (W.contents errors.new) (spec.statement_line fault.now)) }
+fn tell_statement<S: Sink>(fault: &StatementFault, errors: &mut S) -> Result<(), NotWritten>
+    ensures ok { OnOk result (Appends (S.contents errors.old) (S.contents errors.new) (spec.statement_line fault.now)) }
+    ensures err { OnErr result (FailsWithin S.contents S.fails errors.old errors.new (spec.statement_line fault.now)) }
 {
     match fault {
         StatementFault::Refused(refusal) => {
@@ -129,23 +130,23 @@ fn tell_statement<W: Write>(fault: &StatementFault, errors: &mut W) -> Result<()
     }
 }
 
-fn tell_usage<W: Write>(fault: &UsageFault, errors: &mut W) -> Result<(), NotWritten>
-    ensures ok { OnOk result (Appends (W.contents errors.old) (W.contents errors.new) (spec.usage_line fault.now)) }
-    ensures err { OnErr result (line.WritesFront (W.contents errors.old) (W.contents errors.new) (spec.usage_line fault.now)) }
+fn tell_usage<S: Sink>(fault: &UsageFault, errors: &mut S) -> Result<(), NotWritten>
+    ensures ok { OnOk result (Appends (S.contents errors.old) (S.contents errors.new) (spec.usage_line fault.now)) }
+    ensures err { OnErr result (FailsWithin S.contents S.fails errors.old errors.new (spec.usage_line fault.now)) }
 {
     match fault {
-        UsageFault::Words(text) => write_out(errors, text.as_bytes()),
+        UsageFault::Words(text) => errors.send(text.as_bytes()),
         UsageFault::Help(_) => Ok(()),
         UsageFault::Day => write_line(errors, ("brk: usage: ", "day")),
-        UsageFault::NotYet => write_line(errors, ("brk: usage: ", "not yet")),
         UsageFault::Memory => write_line(errors, ("brk: fault: ", "memory")),
     }
 }
 
-// Writes the line of an ending, or its first bytes if the writer fails.
-fn tell<W: Write>(ending: &Ending, errors: &mut W) -> Result<(), NotWritten>
-    ensures ok { OnOk result (Appends (W.contents errors.old) (W.contents errors.new) (spec.line_of ending.now)) }
-    ensures err { OnErr result (line.WritesFront (W.contents errors.old) (W.contents errors.new) (spec.line_of ending.now)) }
+/// Sends the line of an ending to `errors`. Help and a job that is done have no line. If the sink
+/// fails, it has received a prefix of the line.
+pub fn tell<S: Sink>(ending: &Ending, errors: &mut S) -> Result<(), NotWritten>
+    ensures ok { OnOk result (Appends (S.contents errors.old) (S.contents errors.new) (spec.line_of ending.now)) }
+    ensures err { OnErr result (FailsWithin S.contents S.fails errors.old errors.new (spec.line_of ending.now)) }
 {
     match ending {
         Ending::Done => Ok(()),
@@ -159,11 +160,11 @@ fn tell<W: Write>(ending: &Ending, errors: &mut W) -> Result<(), NotWritten>
     }
 }
 
-/// Writes the line of an ending to `errors` and returns the exit status, even if the write fails.
-/// Help and a job that is done have no line.
-pub fn end_with<W: Write>(ending: &Ending, errors: &mut W) -> u8
+/// Sends the line of an ending to `errors` and returns the exit status, which is the same if the
+/// sink fails. Help and a job that is done have no line.
+pub fn end_with<S: Sink>(ending: &Ending, errors: &mut S) -> u8
     ensures status { result ≡ spec.status_of ending.now }
-    ensures line { line.WritesFront (W.contents errors.old) (W.contents errors.new) (spec.line_of ending.now) }
+    ensures line { ReceivesUnlessFailed S.contents S.fails errors.old errors.new (spec.line_of ending.now) }
 {
     let _ = tell(ending, errors);
     status(ending)

@@ -2,8 +2,10 @@
 #![tactic(auto)]
 
 pub mod ending;
+pub mod sink;
 pub mod telling;
 
 pub use brk_io;
 pub use brk_report_lines;
-pub use ending::{Ending, after_close, end_with};
+pub use ending::{Ending, after_close, end_with, tell};
+pub use sink::Sink;

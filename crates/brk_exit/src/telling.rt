@@ -1,10 +1,11 @@
 ghost use Rattle.std.specs.Prelude.{◌≡◌, OnErr, OnOk};
 ghost use Rattle.std.specs.Io.KnownBytes.{Appends};
 ghost use Rattle.brk_exit.specs.Lines as spec;
+ghost use Rattle.brk_exit.specs.Sinks.{FailsWithin};
 
-use brk_io::{NotWritten, write_out};
+use crate::sink::Sink;
+use brk_io::NotWritten;
 use brk_money::Fault;
-use std::io::Write;
 
 /// An error line in two parts: the program's name with the subject, and the cause.
 pub type Line<'a> = (&'a str, &'a str);
@@ -20,12 +21,12 @@ pub fn fault_line(fault: Fault) -> Line<'static>
     }
 }
 
-/// Writes a line, or its first bytes if the writer fails.
-pub fn write_line<W: Write>(writer: &mut W, line: Line<'_>) -> Result<(), NotWritten>
-    ensures ok { OnOk result (Appends (W.contents writer.old) (W.contents writer.new) (spec.told line.entry)) }
-    ensures err { OnErr result (spec.WritesFront (W.contents writer.old) (W.contents writer.new) (spec.told line.entry)) }
+/// Sends a line. If the sink fails, it has received a prefix of the line.
+pub fn write_line<S: Sink>(sink: &mut S, line: Line<'_>) -> Result<(), NotWritten>
+    ensures ok { OnOk result (Appends (S.contents sink.old) (S.contents sink.new) (spec.told line.entry)) }
+    ensures err { OnErr result (FailsWithin S.contents S.fails sink.old sink.new (spec.told line.entry)) }
 {
-    write_out(writer, line.0.as_bytes())?;
-    write_out(writer, line.1.as_bytes())?;
-    write_out(writer, b"\n")
+    sink.send(line.0.as_bytes())?;
+    sink.send(line.1.as_bytes())?;
+    sink.send(b"\n")
 }

@@ -77,8 +77,6 @@ fn tells_what_words_ask_for_no_job(rt: HostRuntime) -> Result<(), Fail> {
     expect_ending(&rt, alloc, &help, 0, "");
     let day = Ending::Usage(UsageFault::Day);
     expect_ending(&rt, alloc, &day, 2, "brk: usage: day\n");
-    let later = Ending::Usage(UsageFault::NotYet);
-    expect_ending(&rt, alloc, &later, 2, "brk: usage: not yet\n");
     let memory = Ending::Usage(UsageFault::Memory);
     expect_ending(&rt, alloc, &memory, 3, "brk: fault: memory\n");
     Ok(())

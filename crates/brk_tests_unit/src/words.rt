@@ -1,6 +1,7 @@
 use brk_args::{Job, UsageFault, read_words};
 use brk_money::Stamp;
 use std::alloc::{AllocError, Global};
+use std::process::Abort;
 use std::test::Fail;
 
 fn file(db: &Option<String>) -> &str {
@@ -51,7 +52,6 @@ fn told(alloc: Global, words: &[&str]) -> Result<String, Fail> {
         Err(UsageFault::Words(text)) => Ok(format!(in alloc; "wrong: {text}")?),
         Err(UsageFault::Help(text)) => Ok(format!(in alloc; "help: {text}")?),
         Err(UsageFault::Day) => Ok(String::from_str(alloc, "day")?),
-        Err(UsageFault::NotYet) => Ok(String::from_str(alloc, "not yet")?),
         Err(UsageFault::Memory) => Err("memory")?,
     }
 }
@@ -148,23 +148,71 @@ fn reads_each_job(rt: HostRuntime) -> Result<(), Fail> {
     Ok(())
 }
 
-#[test]
-fn refuses_wrong_words(rt: HostRuntime) -> Result<(), Fail> {
-    let wrong: [&[&str]; 25] = [
-        &[],
-        &["bath"],
+const BATCH: &str = "Usage: brk batch [OPTIONS]\n\n";
+
+const STATEMENT: &str =
+    "Usage: brk statement --db <FILE> --account <ID> --from <DAY> --to <DAY>\n\n";
+
+const AUDIT: &str = "Usage: brk audit --db <FILE>\n\n";
+
+const SERVE: &str = "Usage: brk serve --port <P>\n\n";
+
+// Wrong arguments of `batch`, the cause that clap gives for them, and the usage that it adds.
+const WRONG_BATCHES: [(&[&str], &str, &str); 10] = [
+    (
         &["batch", "first.csv"],
+        "unexpected argument 'first.csv' found",
+        BATCH,
+    ),
+    (
         &["batch", "--at"],
+        "a value is required for '--at <MS>' but none was supplied",
+        "",
+    ),
+    (
         &["batch", "--at", "now"],
+        "invalid value 'now' for '--at <MS>': invalid digit found in string",
+        "",
+    ),
+    (
+        &["batch", "--at", "1.5"],
+        "invalid value '1.5' for '--at <MS>': invalid digit found in string",
+        "",
+    ),
+    (
         &["batch", "--at=-1"],
+        "invalid value '-1' for '--at <MS>': -1 is not in 0..=253402300799999",
+        "",
+    ),
+    (
         &["batch", "--at", "253402300800000"],
+        "invalid value '253402300800000' for '--at <MS>': 253402300800000 is not in 0..=253402300799999",
+        "",
+    ),
+    (
         &["batch", "--at", "1", "--at", "2"],
+        "the argument '--at <MS>' cannot be used multiple times",
+        BATCH,
+    ),
+    (
         &["batch", "--db"],
+        "a value is required for '--db <FILE>' but none was supplied",
+        "",
+    ),
+    (
         &["batch", "--db", "a.db", "--db", "b.db"],
+        "the argument '--db <FILE>' cannot be used multiple times",
+        BATCH,
+    ),
+    (
         &["batch", "--port", "1"],
-        &["audit"],
-        &["audit", "a.db"],
-        &["audit", "--db", "a.db", "--at", "1"],
+        "unexpected argument '--port' found",
+        BATCH,
+    ),
+];
+
+const WRONG_STATEMENTS: [(&[&str], &str, &str); 6] = [
+    (
         &[
             "statement",
             "--db",
@@ -174,6 +222,10 @@ fn refuses_wrong_words(rt: HostRuntime) -> Result<(), Fail> {
             "--to",
             "2024-03-01",
         ],
+        "the following required arguments were not provided:\n\x20 --account <ID>",
+        STATEMENT,
+    ),
+    (
         &[
             "statement",
             "--db",
@@ -183,6 +235,10 @@ fn refuses_wrong_words(rt: HostRuntime) -> Result<(), Fail> {
             "--to",
             "2024-03-01",
         ],
+        "the following required arguments were not provided:\n\x20 --from <DAY>",
+        STATEMENT,
+    ),
+    (
         &[
             "statement",
             "--db",
@@ -192,6 +248,10 @@ fn refuses_wrong_words(rt: HostRuntime) -> Result<(), Fail> {
             "--from",
             "2024-03-01",
         ],
+        "the following required arguments were not provided:\n\x20 --to <DAY>",
+        STATEMENT,
+    ),
+    (
         &[
             "statement",
             "--account",
@@ -201,6 +261,10 @@ fn refuses_wrong_words(rt: HostRuntime) -> Result<(), Fail> {
             "--to",
             "2024-03-01",
         ],
+        "the following required arguments were not provided:\n\x20 --db <FILE>",
+        STATEMENT,
+    ),
+    (
         &[
             "statement",
             "--db",
@@ -212,31 +276,92 @@ fn refuses_wrong_words(rt: HostRuntime) -> Result<(), Fail> {
             "--to",
             "2024-03-01",
         ],
-        &[
-            "statement",
-            "--db",
-            "a",
-            "--account",
-            "1000000000001",
-            "--from",
-            "2024-03-01",
-            "--to",
-            "2024-03-01",
-        ],
+        "invalid value '0' for '--account <ID>': 0 is not in 1..=1000000000000",
+        "",
+    ),
+    (
+        &["statement", "--account", "1000000000001"],
+        "invalid value '1000000000001' for '--account <ID>': 1000000000001 is not in 1..=1000000000000",
+        "",
+    ),
+];
+
+const WRONG_AUDITS: [(&[&str], &str, &str); 3] = [
+    (
+        &["audit"],
+        "the following required arguments were not provided:\n\x20 --db <FILE>",
+        AUDIT,
+    ),
+    (
+        &["audit", "a.db"],
+        "unexpected argument 'a.db' found",
+        AUDIT,
+    ),
+    (
+        &["audit", "--db", "a.db", "--at", "1"],
+        "unexpected argument '--at' found",
+        AUDIT,
+    ),
+];
+
+const WRONG_SERVES: [(&[&str], &str, &str); 6] = [
+    (
         &["serve"],
+        "the following required arguments were not provided:\n\x20 --port <P>",
+        SERVE,
+    ),
+    (
         &["serve", "--port", "0"],
+        "invalid value '0' for '--port <P>': 0 is not in 1..=65535",
+        "",
+    ),
+    (
         &["serve", "--port", "65536"],
+        "invalid value '65536' for '--port <P>': 65536 is not in 1..=65535",
+        "",
+    ),
+    (
         &["serve", "--port", "1", "--streams", "0"],
+        "invalid value '0' for '--streams <N>': 0 is not in 1..=1000000",
+        "",
+    ),
+    (
         &["serve", "--port", "1", "--streams", "1000001"],
-    ];
-    for words in wrong {
-        let read = told(rt.alloc(), words)?;
-        assert!(rt; read.as_str().starts_with("wrong: "), "{words:?}: {read}");
+        "invalid value '1000001' for '--streams <N>': 1000001 is not in 1..=1000000",
+        "",
+    ),
+    (
+        &["serve", "--port", "1", "--at", ""],
+        "invalid value '' for '--at <MS>': cannot parse integer from empty string",
+        "",
+    ),
+];
+
+// Compares the whole text of each usage fault.
+fn expect_faults(
+    rt: &impl Abort,
+    alloc: Global,
+    faults: &[(&[&str], &str, &str)],
+) -> Result<(), Fail> {
+    for (words, cause, usage) in faults {
+        let read = told(alloc, words)?;
+        let text = format!(in alloc;
+            "wrong: error: {cause}\n\n{usage}For more information, try '--help'.\n"
+        )?;
+        assert!(rt; read.as_str() == text.as_str(), "{words:?}: {read}");
     }
     Ok(())
 }
 
-const HELP: &str = "help: A brokerage back office\n\nUsage: brk <COMMAND>\n\nCommands:\n\
+#[test]
+fn refuses_wrong_words(rt: HostRuntime) -> Result<(), Fail> {
+    expect_faults(&rt, rt.alloc(), &WRONG_BATCHES)?;
+    expect_faults(&rt, rt.alloc(), &WRONG_STATEMENTS)?;
+    expect_faults(&rt, rt.alloc(), &WRONG_AUDITS)?;
+    expect_faults(&rt, rt.alloc(), &WRONG_SERVES)
+}
+
+const HELP: &str = "A brokerage back office\n\nUsage: brk <COMMAND>\n\nCommands:\n\
     \x20 batch      Reads a batch from standard input and writes a line for each row\n\
     \x20 statement  Prints the statement of an account: its cash from day to day, and the lots that it holds\n\
     \x20 audit      Tests that the tables of a desk follow from one another, and prints ok\n\
@@ -244,15 +369,14 @@ const HELP: &str = "help: A brokerage back office\n\nUsage: brk <COMMAND>\n\nCom
     \x20 help       Print this message or the help of the given subcommand(s)\n\nOptions:\n\
     \x20 -h, --help     Print help\n\x20 -V, --version  Print version\n";
 
-const BATCH_HELP: &str =
-    "help: Reads a batch from standard input and writes a line for each row\n\n\
+const BATCH_HELP: &str = "Reads a batch from standard input and writes a line for each row\n\n\
     Usage: brk batch [OPTIONS]\n\nOptions:\n\
     \x20     --db <FILE>  The file that keeps the desk, made where it is missing or empty; without it the desk is forgotten\n\
     \x20     --at <MS>    The moment of every command, in milliseconds since 1970-01-01 UTC; without it the clock is asked\n\
     \x20 -h, --help       Print help\n";
 
 // Words, and what a reader of the shell is told.
-const TEXTS: [(&[&str], &str); 9] = [
+const TEXTS: [(&[&str], &str); 3] = [
     (&["--version"], "help: brk 0.1.0\n"),
     (
         &["bath"],
@@ -260,34 +384,11 @@ const TEXTS: [(&[&str], &str); 9] = [
         Usage: brk <COMMAND>\n\nFor more information, try '--help'.\n",
     ),
     (
-        &["serve", "--port", "65536"],
-        "wrong: error: invalid value '65536' for '--port <P>': 65536 is not in 1..=65535\n\n\
-        For more information, try '--help'.\n",
-    ),
-    (
         &["help", "audit"],
         "help: Tests that the tables of a desk follow from one another, and prints ok\n\n\
         Usage: brk audit --db <FILE>\n\nOptions:\n      --db <FILE>  The file that keeps the desk\n\
         \x20 -h, --help       Print help\n",
     ),
-    (
-        &[
-            "statement",
-            "--db",
-            "a",
-            "--from",
-            "2024-03-01",
-            "--to",
-            "2024-03-01",
-        ],
-        "wrong: error: the following required arguments were not provided:\n\x20 --account <ID>\n\n\
-        Usage: brk statement --db <FILE> --account <ID> --from <DAY> --to <DAY>\n\n\
-        For more information, try '--help'.\n",
-    ),
-    (&["help", "batch"], BATCH_HELP),
-    (&["batch", "--help"], BATCH_HELP),
-    (&["help"], HELP),
-    (&["--help"], HELP),
 ];
 
 #[test]
@@ -296,5 +397,29 @@ fn tells_what_there_is(rt: HostRuntime) -> Result<(), Fail> {
         let read = told(rt.alloc(), words)?;
         assert!(rt; read.as_str() == text, "{words:?}: {read}");
     }
+    Ok(())
+}
+
+const HELPS: [(&[&str], &str); 4] = [
+    (&["help", "batch"], BATCH_HELP),
+    (&["batch", "--help"], BATCH_HELP),
+    (&["help"], HELP),
+    (&["--help"], HELP),
+];
+
+#[test]
+fn shows_help(rt: HostRuntime) -> Result<(), Fail> {
+    for (words, text) in HELPS {
+        let read = told(rt.alloc(), words)?;
+        assert!(rt;
+            read.as_str().strip_prefix("help: ") == Some(text),
+            "{words:?}: {read}"
+        );
+    }
+    let read = told(rt.alloc(), &[])?;
+    assert!(rt;
+        read.as_str().strip_prefix("wrong: ") == Some(HELP),
+        "no words: {read}"
+    );
     Ok(())
 }

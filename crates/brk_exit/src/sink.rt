@@ -1,0 +1,29 @@
+ghost use Rattle.std.specs.Prelude.{ℕ, List, Option, None, OnErr, OnOk};
+ghost use Rattle.std.specs.Io.KnownBytes.{Appends};
+ghost use Rattle.brk_exit.specs.Sinks.{FailsWithin};
+
+use brk_io::{NotWritten, write_out};
+use std::io::Write;
+
+/// A receiver of bytes that may fail.
+pub trait Sink {
+    /// The bytes that the sink has received, if they are known.
+    ghost contents: { Self → Option (List ℕ) } = { λ _. None };
+
+    /// Holds if the sink failed in a step from the first state to the second.
+    ghost fails: { Self → Self → Type 0 } = { λ _ _. Unit {0} };
+
+    /// Sends all bytes. If the sink fails, it has received a prefix of them.
+    fn send(&mut self, bytes: &[u8]) -> Result<(), NotWritten>
+        ensures ok { OnOk result (Appends (contents self.old) (contents self.new) bytes.now) }
+        ensures err { OnErr result (FailsWithin contents fails self.old self.new bytes.now) };
+}
+
+/// Every writer is a sink. `Write` specifies no failure, so any step of a writer may be one.
+impl<W: Write> Sink for W {
+    ghost contents = { W.contents };
+
+    fn send(&mut self, bytes: &[u8]) -> Result<(), NotWritten> {
+        write_out(self, bytes)
+    }
+}
