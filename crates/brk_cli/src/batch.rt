@@ -1,4 +1,4 @@
-use crate::moment::Moments;
+use brk_clock::Moments;
 use brk_desk::Desk;
 use brk_exit::{Ending, after_close};
 use brk_files as file;

@@ -3,7 +3,6 @@
 
 mod audit;
 mod batch;
-mod moment;
 mod serve;
 mod statement;
 

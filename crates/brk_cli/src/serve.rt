@@ -1,6 +1,6 @@
 //! Serves a desk to programs on the same machine.
 
-use crate::moment::Moments;
+use brk_clock::Moments;
 use brk_desk::Desk;
 use brk_exit::{Ending, after_close};
 use brk_files as file;

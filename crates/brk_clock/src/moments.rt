@@ -1,4 +1,7 @@
-use brk_import::Clock;
+ghost use Rattle.std.specs.Prelude.{◌≡◌};
+ghost use Rattle.brk_clock.specs.Readings.{Gives, clock_of};
+
+use brk_io::Clock;
 use brk_money::Stamp;
 use std::rt;
 use std::time::{SystemTime, UNIX_EPOCH};
@@ -25,8 +28,10 @@ fn millis<R: rt::Clock>(clock: &R) -> i64 {
 }
 
 impl<'a, R: rt::Clock> Moments<'a, R> {
-    /// Creates a clock that always returns `at`, or the machine's clock.
-    pub fn new(clock: &'a R, at: Option<Stamp>) -> Moments<'a, R> {
+    /// Returns a clock that always returns `at`, or the machine's clock if there is no `at`.
+    pub fn new(clock: &'a R, at: Option<Stamp>) -> Moments<'a, R>
+        ensures { result ≡ clock_of clock.entry at }
+    {
         match at {
             Some(stamp) => Moments::At(stamp),
             None => Moments::Machine(clock),
@@ -34,7 +39,11 @@ impl<'a, R: rt::Clock> Moments<'a, R> {
     }
 }
 
+/// A reading of the machine's clock is in milliseconds, limited to the limits of stamps. It is 0 if
+/// the clock cannot be read. No contract specifies it.
 impl<R: rt::Clock> Clock for Moments<'_, R> {
+    ghost gives = { Gives };
+
     fn now(&mut self) -> Stamp {
         match self {
             Moments::At(stamp) => *stamp,
