@@ -1,98 +1,102 @@
 //! A desk's database in a file.
 
-ghost use Rattle.std.specs.Prelude.{◌≡◌, IfErr, IfOk, false};
+ghost use Rattle.std.specs.Prelude.{◌≡◌, Err, IfOk, OnErr, OnOk};
+ghost use Rattle.brk_money.specs.declared.fault.Fault.TheVariants as fault;
 ghost use Rattle.sqlite.specs.Files.{over_files};
+ghost use Rattle.brk_files.specs.Files.{IsClosedFile, IsOpenedFile, file_steps};
 ghost use Rattle.brk_files.specs.Opened.{StandsOnRows};
+ghost use Rattle.brk_files.specs.Places.{OpenOrMakePost, OpenPost};
 
-use brk_money::{Condition, Fault};
+use crate::opening::{open_at, open_or_make_at};
+use crate::place::Place;
+use brk_money::Fault;
 use brk_store::Store;
-use sqlite::{Alter, Connection, File, FileStore};
-use std::alloc::Global;
+use sqlite::{Connection, File, FileStore};
 use std::fs;
 use std::io::ErrorKind;
 
 /// A desk's database in a file, which its connection locks for this program alone.
 pub type FileDesk = Store<FileStore<File>>;
 
-/// Closes a desk's file. Until then a part of what was committed may be in the log beside the file.
-/// Fails with `Store` only. No contract specifies the file that is left.
-pub fn close(store: FileDesk) -> Result<(), Fault> {
+/// The file at a path.
+#[derive(Clone, Copy)]
+pub struct FileAt<'a> {
+    rt: &'a HostRuntime,
+    path: &'a str,
+}
+
+impl<'a> FileAt<'a> {
+    /// Returns the place of the file at `path`.
+    pub fn new(rt: &'a HostRuntime, path: &'a str) -> FileAt<'a> {
+        FileAt { rt, path }
+    }
+}
+
+/// No contract relates a connection to a path, or a file that is missing to what was seen of it.
+impl Place<FileStore<File>> for FileAt<'_> {
+    ghost opens = { λ _. IsOpenedFile };
+
+    ghost closes = { λ _. IsClosedFile };
+
+    // An empty file is missing too: to connect would create a database in either.
+    fn is_missing(&self) -> bool {
+        match fs::metadata(self.rt, self.path) {
+            Ok(found) => found.is_file() && found.len() == 0,
+            Err(error) => error.kind() == ErrorKind::NotFound,
+        }
+    }
+
+    fn connect(&self) -> Result<Connection<FileStore<File>>, Fault> {
+        match Connection::open(self.rt, self.path) {
+            Ok(conn) => Ok(conn),
+            Err(_) => Err(Fault::Store),
+        }
+    }
+
+    fn close(&self, conn: Connection<FileStore<File>>) -> Result<(), Fault>
+        ensures closed { OnOk result (IsClosedFile conn) }
+        ensures fault { OnErr result (result ≡ Err fault.Store) }
+    {
+        shut(conn)
+    }
+}
+
+fn shut(conn: Connection<FileStore<File>>) -> Result<(), Fault>
+    ensures closed { OnOk result (IsClosedFile conn) }
+    ensures fault { OnErr result (result ≡ Err fault.Store) }
+{
+    match conn.close_files() {
+        Ok(_) => Ok(()),
+        Err((_, store)) => {
+            drop(store.close());
+            Err(Fault::Store)
+        }
+    }
+}
+
+/// Closes a desk's file. At `Ok` the last commit is in the database file, without its log; until
+/// then a part of what was committed may be in the log beside it. Fails with `Store` only.
+pub fn close(store: FileDesk) -> Result<(), Fault>
+    ensures closed { OnOk result (IsClosedFile store) }
+    ensures fault { OnErr result (result ≡ Err fault.Store) }
+{
     shut(store.into_conn())
-}
-
-fn shut(conn: Connection<FileStore<File>>) -> Result<(), Fault> {
-    match conn.close() {
-        Ok(()) => Ok(()),
-        Err(_) => Err(Fault::Store),
-    }
-}
-
-fn connect(rt: &HostRuntime, path: &str) -> Result<Connection<FileStore<File>>, Fault>
-    ensures { IfOk result (λ conn. conn.in_transaction ≡ false) }
-{
-    match Connection::open(rt, path) {
-        Ok(conn) => Ok(conn),
-        Err(_) => Err(Fault::Store),
-    }
-}
-
-// Adopts the database of a connection.
-fn take<S: Alter>(alloc: Global, conn: Connection<S>) -> Result<Store<S>, (Connection<S>, Fault)>
-    ensures { IfOk result (λ store. StandsOnRows S.Store store) }
-{
-    Store::adopt(alloc, conn)
-}
-
-// Adopts the database of a connection. If that fails, closes the file.
-fn adopt(rt: &HostRuntime, conn: Connection<FileStore<File>>) -> Result<FileDesk, Fault>
-    requires { conn.in_transaction ≡ false }
-    ensures { IfOk result (λ store. StandsOnRows over_files store) }
-{
-    match take(rt.alloc(), conn) {
-        Ok(store) => Ok(store),
-        Err((conn, fault)) => {
-            let _ = shut(conn);
-            Err(fault)
-        }
-    }
-}
-
-/// Opens the desk in the file at `path`, and upgrades a file of an older schema. Creates a desk if
-/// the file is missing or empty or has no table of a desk.
-///
-/// A new desk is closed and opened again, so that its tables are in the file itself, and a file
-/// that then loses its log is never taken for a new one.
-pub fn open_or_make(rt: &HostRuntime, path: &str) -> Result<FileDesk, Fault>
-    ensures stands { IfOk result (λ store. StandsOnRows over_files store) }
-{
-    match Store::create(connect(rt, path)?) {
-        Ok(store) => {
-            close(store)?;
-            adopt(rt, connect(rt, path)?)
-        }
-        Err((conn, Fault::Damaged(_))) => adopt(rt, conn),
-        Err((conn, fault)) => {
-            let _ = shut(conn);
-            Err(fault)
-        }
-    }
-}
-
-// Returns true if no file or an empty one is at the path. Opening it would create a database.
-fn is_missing(rt: &HostRuntime, path: &str) -> bool {
-    match fs::metadata(rt, path) {
-        Ok(found) => found.is_file() && found.len() == 0,
-        Err(error) => error.kind() == ErrorKind::NotFound,
-    }
 }
 
 /// Opens the desk in the file at `path`, and upgrades a file of an older schema. Creates nothing:
 /// if the file is missing or empty, fails with `Damaged(Schema)`.
 pub fn open(rt: &HostRuntime, path: &str) -> Result<FileDesk, Fault>
+    ensures opened { OpenPost file_steps over_files result }
     ensures stands { IfOk result (λ store. StandsOnRows over_files store) }
 {
-    if is_missing(rt, path) {
-        return Err(Fault::Damaged(Condition::Schema));
-    }
-    adopt(rt, connect(rt, path)?)
+    open_at(rt.alloc(), &FileAt::new(rt, path))
+}
+
+/// Opens the desk in the file at `path`, and upgrades a file of an older schema. Creates a desk if
+/// the file is missing or empty or has no table of a desk.
+pub fn open_or_make(rt: &HostRuntime, path: &str) -> Result<FileDesk, Fault>
+    ensures opened { OpenOrMakePost file_steps over_files result }
+    ensures stands { IfOk result (λ store. StandsOnRows over_files store) }
+{
+    open_or_make_at(rt.alloc(), &FileAt::new(rt, path))
 }
