@@ -1,5 +1,5 @@
 -- How a batch ends from where it stands.
-use Rattle.std.proofs.Common.{◌≡◌, ◌+◌, ◌⊎◌, ◌++◌, ◌∷◌, [], ℕ, List, sym, ap, ◌∙◌, refl, length, arith, inl, inr}
+use Rattle.std.proofs.Common.{◌≡◌, ◌+◌, ◌⊎◌, ◌++◌, ◌∷◌, [], ℕ, List, sym, ap, ◌∙◌, refl, length, arith, inl, inr, subst}
 use Rattle.std.specs.Prelude.{Option, Ok, Err}
 use Rattle.std.specs.Io.KnownBytes.{Appends}
 use Rattle.std.proofs.KnownBytes.{Appends-nil, Appends-trans}
@@ -16,7 +16,9 @@ use Rattle.brk_model.specs.Forms.{Read}
 use Rattle.brk_model.specs.Input.{AreAll, Begins, IsEnd, IsName, end_of, header_of}
 use Rattle.brk_model.specs.Lines.{answer_line, end_line, lines_from}
 use Rattle.brk_model.specs.Run.{MayFail}
-use Rattle.brk_batch_engine.specs.Batch.{BatchGives, EndsRight, Faulted, LeavesAt, Stopped}
+use Rattle.brk_batch_engine.specs.Answers.{FailedBy}
+use Rattle.brk_batch_engine.specs.Batch.{BatchGives, EndsRight, FailedRow, Faulted, LeavesAt, Stopped}
+use Rattle.brk_batch_engine.specs.Script.{MakesCall}
 use Rattle.brk_io.specs.Span.{IsUntouched, Span}
 use Rattle.brk_batch_engine.specs.Counts.{counts_line}
 use Rattle.brk_io.specs.Moments.{AskedOnce}
@@ -26,7 +28,7 @@ use Rattle.brk_io.specs.declared.batch_fault.FaultKind.{FaultKind}
 use Rattle.brk_io.specs.declared.batch_fault.FaultKind.TheVariants as kinds
 use Rattle.brk_batch_engine.proofs.Progress.{At, Progress, Start, StandsAt, counts_whole}
 use Rattle.brk_batch_engine.proofs.Pushes.{lines_push}
-use Rattle.brk_batch_engine.proofs.Reading.{begins_front, begins_of}
+use Rattle.brk_batch_engine.proofs.Reading.{begins_front, begins_more, begins_of}
 
 abbrev pub span_of : {S C R : Type 0} → Start S C R → At S C R → C → Option Text → Span S C
 span_of start now later new = record { base = start.base; after = now.after; clock = start.clock; later = later; old = start.old; new = new }
@@ -155,26 +157,49 @@ pub answer_failed : {S X C R : Type 0} (form : Fields → Read X) (step : RowSte
 answer_failed form step gives rem start now later new text p f wrote asked may h =
     inr (inl (stopped_of form step gives rem start now later new text p h, asked, may, refl, wrote))
 
--- what a stop leaves then
-pub answer_left : {D S X C R : Type 0} (form : Fields → Read X) (step : RowStep S X) (gives : C → ℕ → C → Type 0) (leaves : D → S → S → Type 0) (rem : R → Option Text)
-    (start : Start S C R) (now : At S C R) (later : C) (new : Option Text) (text : Option Text) (p : Progress form step gives rem start now) (last : D) (f : Fault)
+-- the clock was asked at most once for it
+pub failed_asked : {D S X C : Type 0} (honest : D → Type 0) (stands : D → S → Type 0) (leaves : D → S → S → Type 0) (acts : MakesCall D X) (step : RowStep S X) (gives : C → ℕ → C → Type 0)
+    (read : Read X) (batch : Text) (n : ℕ) (f : Fault) (old new : D) (clock later : C)
+    → FailedBy honest stands leaves acts step gives read batch n f old new clock later → AskedOnce gives clock later
+failed_asked honest stands leaves acts step gives read batch n f old new clock later (inl same) = inl same.1
+failed_asked honest stands leaves acts step gives read batch n f old new clock later (inr way) = inr (way.0, way.3)
+
+-- its call failed, after the record after it had been read
+abbrev pub failed_row : {S X C R : Type 0} (form : Fields → Read X) (step : RowStep S X) (gives : C → ℕ → C → Type 0) (rem : R → Option Text)
+    (start : Start S C R) (now : At S C R) (later : C) (new : Option Text) (text : Option Text) (p : Progress form step gives rem start now) (next : Fields) (reader : Reader R) (f : Fault)
+    (moment : ℕ) (command : X) → form now.row ≡ Ok command → gives now.later moment later → MayFail f → Appends start.old new (lines_from 1 p.answers)
+    → ((text : Option Text) (before : List Fields) → StandsAt rem text before now.reader → StandsAt rem text (before ++ (next ∷ [])) reader)
     → StandsAt rem text (header_of start.name ∷ []) start.reader
-    → leaves last now.after now.after ⊎ ((moment : ℕ) × (command : X) × (form now.row ≡ Ok command) × gives now.later moment later
-    × leaves last now.after (step now.after moment command (record { batch = start.name; row = now.settled + 1 })).1)
-    → LeavesAt form step gives leaves text (span_of start now later new) last (Err (record { rows = now.settled; kind = kinds.Desk f }))
-answer_left form step gives leaves rem start now later new text p last f h (inl alone) = inl alone
-answer_left form step gives leaves rem start now later new text p last f h (inr way) = inr (record {
+    → FailedRow form step gives text (span_of start now later new) (record { rows = now.settled; kind = kinds.Desk f })
+failed_row form step gives rem start now later new text p next reader f moment command formed given may wrote found h = record {
   cause = f;
   kind = refl;
+  may_fail = may;
   stopped = stopped_of form step gives rem start now later new text p h;
   told = refl;
+  written = wrote;
   row = now.row;
-  begins = begins_at rem text _ now.reader (p.stands text h);
-  command = way.1;
-  formed = way.2;
-  moment = way.0;
-  given = way.3;
-  may = way.4;
+  next = next;
+  begins = begins_more text start.name p.rows now.row next (begins_at rem text _ reader (found text _ (p.stands text h)));
+  command = command;
+  formed = formed;
+  moment = moment;
+  given = given;
+}
+
+-- what a stop leaves then
+pub answer_left : {D S X C R : Type 0} (honest : D → Type 0) (stands : D → S → Type 0) (leaves : D → S → S → Type 0) (acts : MakesCall D X)
+    (form : Fields → Read X) (step : RowStep S X) (gives : C → ℕ → C → Type 0) (rem : R → Option Text)
+    (start : Start S C R) (now : At S C R) (later : C) (new : Option Text) (text : Option Text) (p : Progress form step gives rem start now) (next : Fields) (reader : Reader R) (f : Fault) (desk last : D)
+    → FailedBy honest stands leaves acts step gives (form now.row) start.name (now.settled + 1) f desk last now.later later → MayFail f → Appends start.old new (lines_from 1 p.answers)
+    → ((text : Option Text) (before : List Fields) → StandsAt rem text before now.reader → StandsAt rem text (before ++ (next ∷ [])) reader)
+    → StandsAt rem text (header_of start.name ∷ []) start.reader → honest last → stands desk now.after → leaves desk now.after now.after
+    → LeavesAt form step gives leaves text (span_of start now later new) last (Err (record { rows = now.settled; kind = kinds.Desk f }))
+answer_left honest stands leaves acts form step gives rem start now later new text p next reader f desk last (inl same) may wrote found h good stood alone =
+    inl (subst (λ d. leaves d now.after now.after) (sym same.0) alone)
+answer_left honest stands leaves acts form step gives rem start now later new text p next reader f desk last (inr way) may wrote found h good stood alone = inr (record {
+  failed = failed_row form step gives rem start now later new text p next reader f way.0 way.1 way.2 way.3 may wrote found h;
+  may = way.5 good now.after stood alone;
 })
 
 -- the line of the row that was answered last was not written

@@ -1,13 +1,18 @@
 -- One more row, answer, moment or line at the end.
-use Rattle.std.proofs.Common.{◌≡◌, ◌+◌, ◌++◌, ◌∷◌, [], ℕ, List, sym, ap, ◌∙◌, refl, length, arith, append_assoc, add-zero, subst}
+use Rattle.std.proofs.Common.{◌≡◌, ◌+◌, ◌++◌, ◌∷◌, [], ℕ, List, sym, ap, ◌∙◌, refl, length, arith, append_assoc, add-zero, subst, map}
 use Rattle.std.specs.Prelude.{Bool, Ok, Err}
-use Rattle.std.proofs.lemmas.List.{append-nil, length-append}
+use Rattle.std.proofs.lemmas.List.{append-nil, length-append, map-append}
 use Rattle.brk_money.specs.Spelling.{Text}
 use Rattle.brk_model.specs.Answers.{Fields, InTurn, RowCall, RowStep, call_step, calls_of, formed_from, with_formed, woven, woven_one}
 use Rattle.brk_model.specs.Commands.{Answer, Refused}
 use Rattle.brk_model.specs.Forms.{Read}
 use Rattle.brk_model.specs.Lines.{answer_line, lines_from}
-use Rattle.brk_batch_engine.specs.Answers.{AnsweredBy, scripted}
+use Rattle.brk_model.specs.Records.{Key}
+use Rattle.brk_model.specs.Run.{Did}
+use Rattle.brk_batch_engine.specs.Answers.{AnsweredBy}
+use Rattle.brk_batch_engine.specs.Script.{MakesCall, RowCalls, recorded}
+use Rattle.brk_io.proofs.Calls.{made_then}
+use Rattle.brk_io.specs.Calls.{AreMade}
 use Rattle.brk_io.specs.Moments.{Moments}
 
 pub moments_push : {C : Type 0} (gives : C → ℕ → C → Type 0) (old mid new : C) (ms : List ℕ) (m : ℕ)
@@ -74,8 +79,23 @@ abbrev pub Follows : {D S X : Type 0} → (D → Type 0) → (D → S → Type 0
 Follows {S = S} honest stands step first desk calls replies =
     honest desk → (base : S) → stands first base → (after : S) × stands desk after × InTurn step base calls replies after
 
+-- a call of a row, as one of a desk
+abbrev pub called_of : {X : Type 0} → RowCall X → ℕ × (X × Key)
+called_of call = (call.now, (call.command, call.key))
+
+-- the calls of rows, with one answer each
+abbrev pub AreCalled : {D X : Type 0} → MakesCall D X → D → List (RowCall X) → List Answer → D → Type 0
+AreCalled acts first calls replies last = AreMade acts first (map called_of calls) (map Did replies) last
+
+-- one call more was answered
+called_push : {D X : Type 0} (acts : MakesCall D X) (first mid last : D) (calls : List (RowCall X)) (replies : List Answer) (call : RowCall X) (answer : Answer)
+    → AreCalled acts first calls replies mid → acts mid call.now (call.command, call.key) (Did answer) last → AreCalled acts first (calls ++ (call ∷ [])) (replies ++ (answer ∷ [])) last
+called_push acts first mid last calls replies call answer made acted =
+    rw (map-append called_of calls (call ∷ []), map-append Did replies (answer ∷ []))
+    (made_then acts first mid last (map called_of calls) (called_of call ∷ []) (map Did replies) (Did answer ∷ []) made (last, acted, refl))
+
 -- these rows took those moments, and were answered so
-pub record Answered {D S X C : Type 0} (honest : D → Type 0) (stands : Bool → D → S → Type 0) (form : Fields → Read X) (step : RowStep S X) (gives : C → ℕ → C → Type 0)
+pub record Answered {D S X C : Type 0} (honest : D → Type 0) (stands : Bool → D → S → Type 0) (acts : MakesCall D X) (form : Fields → Read X) (step : RowStep S X) (gives : C → ℕ → C → Type 0)
     (batch : Text) (first : D) (clock : C) (rows : List Fields) (answers : List Answer) (desk : D) (later : C) : Type 0 where
   pub moments : List ℕ
   pub replies : List Answer
@@ -83,15 +103,16 @@ pub record Answered {D S X C : Type 0} (honest : D → Type 0) (stands : Bool �
   pub one_each : length moments ≡ length (formed_from form 1 rows)
   pub replied : length replies ≡ length (formed_from form 1 rows)
   pub all : answers ≡ woven form rows replies
+  pub made : AreCalled acts first (calls_of batch moments (formed_from form 1 rows)) replies desk
   pub follows : (sure : Bool) → Follows honest (stands sure) step first desk (calls_of batch moments (formed_from form 1 rows)) replies
 
 -- one more row, answered as its form says
-pub answered_push : {D S X C : Type 0} (honest : D → Type 0) (stands : Bool → D → S → Type 0) (form : Fields → Read X) (step : RowStep S X) (gives : C → ℕ → C → Type 0)
+pub answered_push : {D S X C : Type 0} (honest : D → Type 0) (stands : Bool → D → S → Type 0) (acts : MakesCall D X) (form : Fields → Read X) (step : RowStep S X) (gives : C → ℕ → C → Type 0)
     (batch : Text) (first mid desk : D) (clock c later : C) (rows : List Fields) (answers : List Answer) (row : Fields) (answer : Answer)
-    → Answered honest stands form step gives batch first clock rows answers mid c → (honest desk → honest mid)
-    → (o : Read X) → form row ≡ o → AnsweredBy honest stands step gives o batch (1 + length rows) answer mid desk c later
-    → Answered honest stands form step gives batch first clock (rows ++ (row ∷ [])) (answers ++ (answer ∷ [])) desk later
-answered_push {X = X} honest stands form step gives batch first mid desk clock c later rows answers row answer h earlier (Err k) e a =
+    → Answered honest stands acts form step gives batch first clock rows answers mid c → (honest desk → honest mid)
+    → (o : Read X) → form row ≡ o → AnsweredBy honest stands acts step gives o batch (1 + length rows) answer mid desk c later
+    → Answered honest stands acts form step gives batch first clock (rows ++ (row ∷ [])) (answers ++ (answer ∷ [])) desk later
+answered_push {X = X} honest stands acts form step gives batch first mid desk clock c later rows answers row answer h earlier (Err k) e a =
     let formed = formed_push form 1 rows row ∙ ap (λ (o : Read X). formed_from form 1 rows ++ with_formed o (1 + length rows) []) e ∙ append-nil (formed_from form 1 rows) in
     let wove = rw (append-nil h.replies, e) at (woven_push form 1 rows row h.replies [] h.replied) in
     record {
@@ -101,9 +122,10 @@ answered_push {X = X} honest stands form step gives batch first mid desk clock c
       one_each = rw formed h.one_each;
       replied = rw formed h.replied;
       all = ap (λ (l : List Answer). l ++ (answer ∷ [])) h.all ∙ ap (λ (t : Answer). woven form rows h.replies ++ (t ∷ [])) a.0 ∙ sym wove;
+      made = rw (formed, a.1) h.made;
       follows = rw (formed, a.1) h.follows;
     }
-answered_push {S = S} {X = X} honest stands form step gives batch first mid desk clock c later rows answers row answer h earlier (Ok command) e a =
+answered_push {S = S} {X = X} honest stands acts form step gives batch first mid desk clock c later rows answers row answer h earlier (Ok command) e a =
     let formed = formed_push form 1 rows row ∙ ap (λ (o : Read X). formed_from form 1 rows ++ with_formed o (1 + length rows) []) e in
     let wove = rw e at (woven_push form 1 rows row h.replies (answer ∷ []) h.replied) in
     let longer : length (formed_from form 1 (rows ++ (row ∷ []))) ≡ length (formed_from form 1 rows) + 1 =
@@ -115,9 +137,11 @@ answered_push {S = S} {X = X} honest stands form step gives batch first mid desk
       one_each = length-append h.moments (a.0 ∷ []) ∙ ap (λ (n : ℕ). n + 1) h.one_each ∙ sym longer;
       replied = length-append h.replies (answer ∷ []) ∙ ap (λ (n : ℕ). n + 1) h.replied ∙ sym longer;
       all = ap (λ (l : List Answer). l ++ (answer ∷ [])) h.all ∙ sym wove;
+      made = rw (formed, calls_push batch h.moments (formed_from form 1 rows) a.0 (1 + length rows, command) h.one_each)
+          (called_push acts first mid desk (calls_of batch h.moments (formed_from form 1 rows)) h.replies _ answer h.made a.2);
       follows = λ sure good base stood.
           let before = h.follows sure (earlier good) base stood in
-          let now = a.2 sure good before.0 before.1 in (
+          let now = a.3 sure good before.0 before.1 in (
             now.0,
             now.1,
             rw (formed, calls_push batch h.moments (formed_from form 1 rows) a.0 (1 + length rows, command) h.one_each)
@@ -125,9 +149,21 @@ answered_push {S = S} {X = X} honest stands form step gives batch first mid desk
           );
     }
 
--- a desk that answers by a list of answers gives just these
-pub scripted_turns : {X : Type 0} (calls : List (RowCall X)) (answers : List Answer) → length answers ≡ length calls → InTurn scripted answers calls answers []
-scripted_turns [] [] e = refl
-scripted_turns [] (a ∷ rs) e = absurd (omega arith)
-scripted_turns (c ∷ cs) [] e = absurd (omega arith)
-scripted_turns (c ∷ cs) (a ∷ rs) e = (refl, scripted_turns cs rs (omega arith))
+-- a desk that answers by a list of answers, one for each call, gives just these and records just those
+pub recorded_turns : {X : Type 0} (calls : List (RowCall X)) (answers : List Answer) (before : RowCalls X) → length answers ≡ length calls
+    → InTurn recorded (answers, before) calls answers ([], before ++ map called_of calls)
+recorded_turns {X} [] [] before e = ap (λ (l : RowCalls X). let both : List Answer × RowCalls X = ([], l) in both) (append-nil before)
+recorded_turns [] (a ∷ rs) before e = absurd (omega arith)
+recorded_turns (c ∷ cs) [] before e = absurd (omega arith)
+recorded_turns {X} (c ∷ cs) (a ∷ rs) before e = (
+  refl,
+  subst (λ (l : RowCalls X). InTurn recorded (rs, before ++ (called_of c ∷ [])) cs rs ([], l)) (append_assoc before (called_of c ∷ []) (map called_of cs))
+      (recorded_turns cs rs (before ++ (called_of c ∷ [])) (omega arith)),
+)
+
+-- the moments of the calls are those that they took
+pub calls_taken : {X : Type 0} (batch : Text) (ms : List ℕ) (fs : List (ℕ × X)) → length ms ≡ length fs → map (λ (c : ℕ × (X × Key)). c.0) (map called_of (calls_of batch ms fs)) ≡ ms
+calls_taken batch [] [] e = refl
+calls_taken batch [] (g ∷ gs) e = absurd (omega arith)
+calls_taken batch (x ∷ xs) [] e = absurd (omega arith)
+calls_taken batch (x ∷ xs) (g ∷ gs) e = let more = calls_taken batch xs gs (omega arith) in cc

@@ -1,5 +1,5 @@
 -- How the records of an input are read in turn.
-use Rattle.std.proofs.Common.{◌≡◌, ◌++◌, ◌∷◌, ◌∙◌, [], ℕ, List, Bool, true, false, take, refl, length, arith, append_assoc}
+use Rattle.std.proofs.Common.{◌≡◌, ◌++◌, ◌∷◌, ◌∙◌, [], ℕ, List, Bool, true, false, take, refl, length, arith, append_assoc, subst, sym}
 use Rattle.std.specs.Prelude.{Option, None, Some, MatchBool, option_map}
 use Rattle.csv.specs.Reading.{ReadRecord, Reached, default_config, source_of, strip_bom}
 use Rattle.csv.specs.Records.{field_at}
@@ -70,3 +70,15 @@ begins_of (Some t) records s (Some y) h = reached_begin default_config t records
 pub begins_front : (text : Option (List ℕ)) (front back : List Fields) → Begins text (front ++ back) → Begins text front
 begins_front None front back h = tt
 begins_front (Some t) front back h = (back ++ h.0, h.1 ∙ append_assoc front back h.0)
+
+-- one record more behind the last row
+pub begins_more : (text : Option (List ℕ)) (name : List ℕ) (rows : List Fields) (row next : Fields) → Begins text ((header_of name ∷ (rows ++ (row ∷ []))) ++ (next ∷ []))
+    → Begins text (header_of name ∷ (rows ++ (row ∷ next ∷ [])))
+begins_more text name rows row next h = subst (λ (l : List Fields). Begins text (header_of name ∷ l)) (append_assoc rows (row ∷ []) (next ∷ [])) h
+
+-- and one less
+pub begins_less : (text : Option (List ℕ)) (name : List ℕ) (rows : List Fields) (row next : Fields) → Begins text (header_of name ∷ (rows ++ (row ∷ next ∷ [])))
+    → Begins text (header_of name ∷ (rows ++ (row ∷ [])))
+begins_less text name rows row next h =
+    begins_front text (header_of name ∷ (rows ++ (row ∷ []))) (next ∷ [])
+    (subst (λ (l : List Fields). Begins text (header_of name ∷ l)) (sym (append_assoc rows (row ∷ []) (next ∷ []))) h)

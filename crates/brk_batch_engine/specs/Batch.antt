@@ -1,5 +1,5 @@
 -- The effect of a run of a batch, by how it ends.
-use Rattle.std.specs.Prelude.{◌≡◌, ◌+◌, ◌<◌, ◌⊎◌, ◌∷◌, ◌++◌, [], List, ℕ, Option, Result, Ok, Err, take, length}
+use Rattle.std.specs.Prelude.{◌≡◌, ◌+◌, ◌<◌, ◌⊎◌, ◌∷◌, ◌++◌, [], List, ℕ, Option, Result, Ok, Err, take, length, map}
 use Rattle.std.specs.Io.KnownBytes.{Appends}
 use Rattle.brk_money.specs.Spelling.{Text}
 use Rattle.brk_money.specs.declared.fault.Fault.{Fault}
@@ -10,9 +10,10 @@ use Rattle.brk_model.specs.Commands.{Answer}
 use Rattle.brk_model.specs.Forms.{Read}
 use Rattle.brk_model.specs.Input.{Begins, end_of, header_of}
 use Rattle.brk_model.specs.Lines.{answer_line, end_line, lines_from}
-use Rattle.brk_model.specs.Run.{MayFail}
-use Rattle.brk_batch_engine.specs.Answers.{scripted}
+use Rattle.brk_model.specs.Run.{Did, Failed, MayFail}
 use Rattle.brk_batch_engine.specs.Counts.{counts_of}
+use Rattle.brk_batch_engine.specs.Script.{MakesCall, RowCalls, Script, recorded}
+use Rattle.brk_io.specs.Calls.{AreMade}
 use Rattle.brk_io.specs.Moments.{AskedOnce, Moments}
 use Rattle.brk_io.specs.Span.{IsUntouched, Outside, Span, with_base}
 use Rattle.brk_io.specs.declared.batch_fault.BatchFault.{BatchFault}
@@ -103,10 +104,53 @@ BatchGives form step gives text span (Ok counts) =
     (c : CameTo form step gives text span model.EndedWell (counts.ok + counts.again + counts.no)) × (counts ≡ counts_of c.answered.answers)
 BatchGives form step gives text span (Err fault) = Faulted form step gives text span fault.rows fault.kind
 
--- Some list of answers of the desk gives exactly this result and output. It needs no disk
--- assumption, and says nothing of the desk's state.
-abbrev pub TellsAnswers : {X C : Type 0} → (Fields → Read X) → (C → ℕ → C → Type 0) → Option Text → Outside C → Result Counts BatchFault → Type 0
-TellsAnswers form gives text outside result = (script : List Answer) × BatchGives form scripted gives text (with_base script [] outside) result
+-- The row after the decided rows was called at a clock reading. It has a record after it. The call
+-- failed, and its fault ended the batch, after the lines of the decided rows.
+pub record FailedRow {S X C : Type 0} (form : Fields → Read X) (step : RowStep S X) (gives : C → ℕ → C → Type 0)
+    (text : Option Text) (span : Span S C) (fault : BatchFault) : Type 0 where
+  pub cause : Fault
+  pub kind : fault.kind ≡ kinds.Desk cause
+  pub may_fail : MayFail cause
+  pub stopped : Stopped form step gives text span fault.rows
+  pub told : stopped.told ≡ stopped.answers
+  pub written : Appends span.old span.new (lines_from 1 stopped.told)
+  pub row : Fields
+  pub next : Fields
+  pub begins : Begins text (header_of stopped.name ∷ (stopped.rows ++ (row ∷ next ∷ [])))
+  pub command : X
+  pub formed : form row ≡ Ok command
+  pub moment : ℕ
+  pub given : gives stopped.mid moment span.later
+
+-- Every call of the script was answered. A desk that answers by its outcomes records just its calls
+-- and gives these lines and this result.
+abbrev pub TellsAnswers : {X C : Type 0} → (Fields → Read X) → (C → ℕ → C → Type 0) → Option Text → Script X → Outside C → Result Counts BatchFault → Type 0
+TellsAnswers form gives text script outside result =
+    (answers : List Answer) × (script.1 ≡ map Did answers) × BatchGives form recorded gives text (with_base (answers, []) ([], script.0) outside) result
+
+-- The last call of the script failed, and its fault is the result. It is that of the row after the
+-- decided rows, under the key of that row. The calls before it were answered.
+abbrev pub TellsFailure : {X C : Type 0} → (Fields → Read X) → (C → ℕ → C → Type 0) → Option Text → Script X → Outside C → Result Counts BatchFault → Type 0
+TellsFailure form gives text script outside (Ok counts) = ⊥
+TellsFailure {X = X} form gives text script outside (Err fault) =
+    (answers : List Answer) × (calls : RowCalls X) × (failed : FailedRow form recorded gives text (with_base (answers, []) ([], calls) outside) fault)
+    × (script.0 ≡ calls ++ ((failed.moment, (failed.command, record { batch = failed.stopped.name; row = fault.rows + 1 })) ∷ []))
+    × (script.1 ≡ map Did answers ++ (Failed failed.cause ∷ []))
+
+-- The calls of the script are those of the rows of the batch: each decided row that is well-formed
+-- and has a record after it is called once, in order, with its command, row n of batch NAME under
+-- the key (NAME, n). The clock was read once for each call, and not otherwise. The lines and the
+-- result are those of the outcomes.
+abbrev pub TellsOutcomes : {X C : Type 0} → (Fields → Read X) → (C → ℕ → C → Type 0) → Option Text → Script X → Outside C → Result Counts BatchFault → Type 0
+TellsOutcomes form gives text script outside result =
+    Moments gives outside.clock (map (λ call. call.0) script.0) outside.later
+    × (TellsAnswers form gives text script outside result ⊎ TellsFailure form gives text script outside result)
+
+-- The desk changed from `first` to `last` only by the calls of a script, with their outcomes, and
+-- the batch tells the script. It needs no disk assumption.
+abbrev pub TellsCalls : {D X C : Type 0} → MakesCall D X → (Fields → Read X) → (C → ℕ → C → Type 0) → Option Text → D → D → Outside C → Result Counts BatchFault → Type 0
+TellsCalls {X = X} acts form gives text first last outside result =
+    (script : Script X) × AreMade acts first script.0 script.1 last × TellsOutcomes form gives text script outside result
 
 -- The batch refines the model: under the disk assumption (`honest`), for every base that the desk
 -- represented, the batch is answered by `step`, and the desk represents the base after it.
@@ -114,21 +158,12 @@ abbrev pub RefinesModel : {D S X C : Type 0} → (D → Type 0) → (D → S →
 RefinesModel {S = S} honest stands form step gives text first last outside result =
     honest last → (base : S) → stands first base → (after : S) × stands last after × BatchGives form step gives text (with_base base after outside) result
 
--- The row after the decided rows was executed at a clock reading, and its call failed. A crash
--- exposes the base before it, or the one after its command.
+-- The call of the row after the decided rows failed. A crash exposes the base before it, or the one
+-- after its command.
 pub record IsUnderWay {D S X C : Type 0} (form : Fields → Read X) (step : RowStep S X) (gives : C → ℕ → C → Type 0) (leaves : D → S → S → Type 0)
     (text : Option Text) (span : Span S C) (last : D) (fault : BatchFault) : Type 0 where
-  pub cause : Fault
-  pub kind : fault.kind ≡ kinds.Desk cause
-  pub stopped : Stopped form step gives text span fault.rows
-  pub told : stopped.told ≡ stopped.answers
-  pub row : Fields
-  pub begins : Begins text (header_of stopped.name ∷ (stopped.rows ++ (row ∷ [])))
-  pub command : X
-  pub formed : form row ≡ Ok command
-  pub moment : ℕ
-  pub given : gives stopped.mid moment span.later
-  pub may : leaves last span.after (step span.after moment command (record { batch = stopped.name; row = fault.rows + 1 })).1
+  pub failed : FailedRow form step gives text span fault
+  pub may : leaves last span.after (step span.after failed.moment failed.command (record { batch = failed.stopped.name; row = fault.rows + 1 })).1
 
 -- A crash after the batch exposes only the base after it. After a fault it may also expose the base
 -- after the row that was under way.
@@ -144,10 +179,10 @@ CrashStates {S = S} honest stands leaves form step gives text first last outside
     honest last → (base : S) → stands first base → leaves first base base → (after : S) × stands last after
     × BatchGives form step gives text (with_base base after outside) result × LeavesAt form step gives leaves text (with_base base after outside) last result
 
--- The postcondition of a run of a batch: its answers, its refinement of the model, and its crash
--- safety.
-pub record BatchPost {D S X C : Type 0} (honest : D → Type 0) (stands : D → S → Type 0) (leaves : D → S → S → Type 0) (form : Fields → Read X) (step : RowStep S X) (gives : C → ℕ → C → Type 0)
-    (text : Option Text) (first last : D) (outside : Outside C) (result : Result Counts BatchFault) : Type 0 where
-  pub told : TellsAnswers form gives text outside result
+-- The postcondition of a run of a batch: its calls and their outcomes, its refinement of the model,
+-- and its crash safety.
+pub record BatchPost {D S X C : Type 0} (honest : D → Type 0) (stands : D → S → Type 0) (leaves : D → S → S → Type 0) (acts : MakesCall D X) (form : Fields → Read X) (step : RowStep S X)
+    (gives : C → ℕ → C → Type 0) (text : Option Text) (first last : D) (outside : Outside C) (result : Result Counts BatchFault) : Type 0 where
+  pub told : TellsCalls acts form gives text first last outside result
   pub kept : RefinesModel honest stands form step gives text first last outside result
   pub left : CrashStates honest stands leaves form step gives text first last outside result

@@ -1,4 +1,5 @@
 pub mod Counts
+pub mod Script
 pub mod Answers
 pub mod Reading
 pub mod Batch

@@ -1,14 +1,15 @@
-ghost use Rattle.std.specs.Prelude.{◌≤◌, IfErr, IfOk, OnErr};
+ghost use Rattle.std.specs.Prelude.{◌≡◌, ◌≤◌, Err, IfErr, IfOk, OnErr};
 ghost use Rattle.csv.specs.Records.{fields_of};
+ghost use Rattle.brk_money.specs.declared.fault.Fault.TheVariants.{Memory};
 ghost use Rattle.brk_model.specs.Run.{MayFail};
-ghost use Rattle.brk_batch_engine.specs.Answers.{AnsweredBy, Keeps, MayActBy, RepresentsDurably, answer_of};
-ghost use Rattle.brk_io.specs.Moments.{AskedOnce};
+ghost use Rattle.brk_ref.specs.Records.{key_of};
+ghost use Rattle.brk_batch_engine.specs.Answers.{AnsweredBy, FailedBy, Keeps, RepresentsDurably, answer_of};
 
 use crate::records::fields_list;
 use crate::rows::Rows;
 use brk_io::Clock;
 use brk_money::{Fault, Refusal};
-use brk_ref::BatchName;
+use brk_ref::{BatchName, Key, RowNumber};
 use csv::ByteRecord;
 use std::alloc::Global;
 
@@ -23,11 +24,23 @@ pub enum RowAnswer<R> {
     Refused(Refusal),
 }
 
-/// Returns the answer to row `n` of `batch`. The clock is read once if the row is well-formed,
-/// otherwise not.
+// Returns the key of row `n` of a batch. Fails with `Memory` only.
+fn row_key(batch: &BatchName, n: u64) -> Result<Key, Fault>
+    requires first { 1 ≤ n }
+    requires last { n ≤ 67108864 }
+    ensures key { IfOk result (λ key. key_of key ≡ record { batch = batch.now; row = n }) }
+    ensures fault { OnErr result (result ≡ Err Memory) }
+{
+    let batch = batch.clone()?;
+    let row = RowNumber::new(n).unwrap();
+    Ok(Key { batch, row })
+}
+
+/// Returns the answer to row `n` of `batch`. A well-formed row reads the clock once and is one call
+/// of the desk; a malformed one does neither.
 ///
-/// Fails with `Memory` or `Store`; the clock was then read at most once. The desk then represents
-/// the state before, but after a crash the row may be committed.
+/// Fails with `Memory` or `Store`; the clock was then read at most once, for a call that failed.
+/// The desk then represents the state before, but after a crash the row may be committed.
 pub fn answer_row<C: Clock, D: Rows>(
     alloc: Global,
     desk: &mut D::Desk,
@@ -38,13 +51,12 @@ pub fn answer_row<C: Clock, D: Rows>(
 ) -> Result<RowAnswer<D::Reply>, Fault>
     requires first { 1 ≤ n }
     requires last { n ≤ 67108864 }
-    ensures leads { D.leads desk.old desk.new }
     ensures earlier { D.honest desk.new → D.honest desk.old }
-    ensures ok { IfOk result (λ answer. AnsweredBy D.honest (RepresentsDurably D.stands D.leaves) D.step C.gives (D.form (fields_of row.now)) batch.now n
+    ensures ok { IfOk result (λ answer. AnsweredBy D.honest (RepresentsDurably D.stands D.leaves) D.acts D.step C.gives (D.form (fields_of row.now)) batch.now n
         (answer_of D.told answer) desk.old desk.new clock.old clock.new) }
     ensures kept { OnErr result (Keeps D.honest D.stands desk.old desk.new) }
-    ensures stop { OnErr result (MayActBy D.honest D.stands D.leaves D.step C.gives (D.form (fields_of row.now)) batch.now n desk.old desk.new clock.old clock.new) }
-    ensures asked { OnErr result (AskedOnce C.gives clock.old clock.new) }
+    ensures failed { IfErr result (λ fault. FailedBy D.honest D.stands D.leaves D.acts D.step C.gives (D.form (fields_of row.now)) batch.now n fault
+        desk.old desk.new clock.old clock.new) }
     ensures fault { IfErr result MayFail }
 {
     let Ok(fields) = fields_list(alloc, row) else {
@@ -52,8 +64,9 @@ pub fn answer_row<C: Clock, D: Rows>(
     };
     match D::parse(alloc, fields.as_slice())? {
         Ok(command) => {
+            let key = row_key(batch, n)?;
             let now = clock.now();
-            D::call(desk, alloc, now, &command, batch, n)
+            D::call(desk, alloc, now, &command, &key)
         }
         Err(refusal) => Ok(RowAnswer::Refused(refusal)),
     }

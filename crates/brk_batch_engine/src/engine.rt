@@ -7,7 +7,7 @@ ghost use Rattle.brk_model.specs.Commands.{Refused};
 ghost use Rattle.brk_model.specs.Input.{IsName, end_of, header_of, text_of};
 ghost use Rattle.brk_model.specs.Lines.{answer_line};
 ghost use Rattle.brk_batch_engine.specs.Answers.{answer_of};
-ghost use Rattle.brk_batch_engine.specs.Batch.{BatchPost, RefinesModel, CrashStates, TellsAnswers};
+ghost use Rattle.brk_batch_engine.specs.Batch.{BatchPost, RefinesModel, CrashStates, TellsCalls};
 ghost use Rattle.brk_batch_engine.specs.Counts.{counts_line};
 ghost use Rattle.brk_batch_engine.specs.Parts.{CutPart, EndPart, HeaderPart, Part};
 ghost use Rattle.brk_batch_engine.specs.Reading.{ReadsBatch, Stands};
@@ -111,9 +111,8 @@ fn run_rows<R: Read, W: Write, C: Clock, D: Rows>(
 ) -> Result<Counts, BatchFault>
     requires setup { ReadsBatch records.old }
     requires named { IsName name.now }
-    ensures leads { D.leads desk.old desk.new }
-    ensures comes { (text : Option (List ℕ)) → Stands text (header_of name.now ∷ []) (reader_state records.old) (source_of R.remaining records.old)
-        → BatchPost D.honest D.stands D.leaves D.form D.step C.gives text desk.old desk.new
+    ensures { (text : Option (List ℕ)) → Stands text (header_of name.now ∷ []) (reader_state records.old) (source_of R.remaining records.old)
+        → BatchPost D.honest D.stands D.leaves D.acts D.form D.step C.gives text desk.old desk.new
         (record { clock = clock.old; later = clock.new; old = W.contents writer.old; new = W.contents writer.new }) result }
 {
     let mut counts = Counts::NONE;
@@ -186,8 +185,7 @@ pub fn run<R: Read + Drop, W: Write, C: Clock, D: Rows>(
     clock: &mut C,
     desk: &mut D::Desk,
 ) -> Result<Counts, BatchFault>
-    ensures leads { D.leads desk.old desk.new }
-    ensures told { TellsAnswers D.form C.gives (option_map text_of (R.remaining reader))
+    ensures told { TellsCalls D.acts D.form C.gives (option_map text_of (R.remaining reader)) desk.old desk.new
         (record { clock = clock.old; later = clock.new; old = W.contents writer.old; new = W.contents writer.new }) result }
     ensures kept { RefinesModel D.honest D.stands D.form D.step C.gives (option_map text_of (R.remaining reader)) desk.old desk.new
         (record { clock = clock.old; later = clock.new; old = W.contents writer.old; new = W.contents writer.new }) result }

@@ -1,4 +1,4 @@
-ghost use Rattle.std.specs.Prelude.{◌≡◌, ◌≤◌, Bool, Err, IfErr, IfOk, OnErr, string_bytes};
+ghost use Rattle.std.specs.Prelude.{◌≡◌, Bool, Err, IfErr, IfOk, OnErr, string_bytes};
 ghost use Rattle.brk_money.specs.declared.fault.Fault.TheVariants.{Memory};
 ghost use Rattle.brk_model.specs.Answers.{Fields, RowStep};
 ghost use Rattle.brk_model.specs.Commands.{Reply};
@@ -6,11 +6,13 @@ ghost use Rattle.brk_model.specs.Forms.{Read};
 ghost use Rattle.brk_model.specs.Rows.{line_text};
 ghost use Rattle.brk_model.specs.Run.{MayFail};
 ghost use Rattle.brk_ref.specs.Fields.{Reads, texts};
-ghost use Rattle.brk_batch_engine.specs.Answers.{Acts, Keeps, MayAct, RepresentsDurably, answer_of};
+ghost use Rattle.brk_ref.specs.Records.{key_of};
+ghost use Rattle.brk_batch_engine.specs.Answers.{Acts, Keeps, MayAct, RepresentsDurably, answer_of, outcome_of};
+ghost use Rattle.brk_batch_engine.specs.Script.{MakesCall};
 
 use crate::answer::RowAnswer;
 use brk_money::{Fault, Planned, Stamp};
-use brk_ref::BatchName;
+use brk_ref::Key;
 use std::alloc::{AllocError, Global};
 
 /// The operations of a desk that the rows of a batch need.
@@ -39,8 +41,9 @@ pub trait Rows {
     /// After a crash the state is one of these two bases.
     ghost leaves: { Self.Desk → Base → Base → Type 0 };
 
-    /// Calls may turn the first desk into the second, whatever they return.
-    ghost leads: { Self.Desk → Self.Desk → Type 0 };
+    /// A call at a timestamp, with a command under its key, may turn the first desk into the second,
+    /// with this outcome.
+    ghost acts: { MakesCall Self.Desk Asked };
 
     /// The abstract command of a command.
     ghost asked: { Self.Command → Asked };
@@ -60,7 +63,7 @@ pub trait Rows {
         ensures read { IfOk result (λ read. Reads asked read (form (texts row.now))) }
         ensures fault { OnErr result (result ≡ Err Memory) };
 
-    /// Executes a command, row `n` of `batch`, at the clock reading `now`, and returns its answer.
+    /// Executes a command under its key at the clock reading `now`, and returns its answer.
     ///
     /// Fails with `Memory` or `Store`. The desk then represents the state before, but after a crash
     /// the command may be committed.
@@ -69,26 +72,17 @@ pub trait Rows {
         alloc: Global,
         now: Stamp,
         command: &Self::Command,
-        batch: &BatchName,
-        n: u64,
+        key: &Key,
     ) -> Result<RowAnswer<Self::Reply>, Fault>
-        requires first { 1 ≤ n }
-        requires last { n ≤ 67108864 }
-        ensures leads { leads desk.old desk.new }
+        ensures called { acts desk.old now (asked command.now, key_of key.now) (outcome_of told result) desk.new }
         ensures earlier { honest desk.new → honest desk.old }
         ensures ok { IfOk result (λ answer. (sure : Bool) →
-            Acts honest (RepresentsDurably stands leaves sure) step desk.old desk.new now (asked command.now) (record { batch = batch.now; row = n }) (answer_of told answer)) }
+            Acts honest (RepresentsDurably stands leaves sure) step desk.old desk.new now (asked command.now) (key_of key.now) (answer_of told answer)) }
         ensures err { OnErr result (Keeps honest stands desk.old desk.new) }
-        ensures stop { OnErr result (MayAct honest stands leaves step desk.old desk.new now (asked command.now) (record { batch = batch.now; row = n })) }
+        ensures stop { OnErr result (MayAct honest stands leaves step desk.old desk.new now (asked command.now) (key_of key.now)) }
         ensures fault { IfErr result MayFail };
 
     /// Returns the fields of a reply, joined by commas.
     fn reply_line(alloc: Global, reply: &Self::Reply) -> Result<String, AllocError>
         ensures { IfOk result (λ line. string_bytes line ≡ line_text (told reply.now)) };
-
-    /// `leads` is reflexive.
-    ghost stays: { (first : Self.Desk) → leads first first };
-
-    /// `leads` is transitive.
-    ghost goes_on: { (first mid last : Self.Desk) → leads first mid → leads mid last → leads first last };
 }

@@ -32,7 +32,7 @@ use Rattle.brk_io.specs.declared.batch_fault.BatchFault.{BatchFault}
 use Rattle.brk_io.specs.declared.batch_fault.FaultKind.{FaultKind}
 use Rattle.brk_io.specs.declared.batch_fault.FaultKind.TheVariants as kinds
 use Rattle.brk_batch_engine.specs.declared.counts.Counts.{Counts}
-use Rattle.brk_batch_engine.proofs.Reading.{begins_front}
+use Rattle.brk_batch_engine.proofs.Reading.{begins_front, begins_less}
 
 module _ {S C : Type 0} (g : Ghosts S) (rests : Settles g) (form : Fields → Read Command) (apart : (n : ℕ) (command : Command) → form (end_of n) ≡ Ok command → ⊥) (gives : C → ℕ → C → Type 0)
     (text : Text) (one : Outside C) (base : Base) where
@@ -119,18 +119,18 @@ module _ {S C : Type 0} (g : Ghosts S) (rests : Settles g) (form : Fields → Re
   by_result (Err fault) after h = by_kind fault.rows fault.kind after h
 
   under_way : (after : Base) (left : Held S) (fault : BatchFault) (w : IsUnderWay form row_step gives (LeavesOneOf g) (Some text) (with_base base after one) left fault)
-      → Under after (row_step after w.moment w.command (record { batch = w.stopped.name; row = fault.rows + 1 })).1
+      → Under after (row_step after w.failed.moment w.failed.command (record { batch = w.failed.stopped.name; row = fault.rows + 1 })).1
   under_way after left fault w = record {
-    part = stopped fault.rows after w.stopped;
-    row = w.row;
-    begins = w.begins;
-    command = w.command;
-    formed = w.formed;
-    moment = w.moment;
-    given = w.given;
+    part = stopped fault.rows after w.failed.stopped;
+    row = w.failed.row;
+    begins = begins_less (Some text) w.failed.stopped.name w.failed.stopped.rows w.failed.row w.failed.next w.failed.begins;
+    command = w.failed.command;
+    formed = w.failed.formed;
+    moment = w.failed.moment;
+    given = w.failed.given;
     booked =
-        ap (λ (n : ℕ). (row_step after w.moment w.command (record { batch = w.stopped.name; row = n + 1 })).1)
-        (sym (w.stopped.counted ∙ ap (λ (l : List Answer). length l) w.told ∙ w.stopped.settled.each));
+        ap (λ (n : ℕ). (row_step after w.failed.moment w.failed.command (record { batch = w.failed.stopped.name; row = n + 1 })).1)
+        (sym (w.failed.stopped.counted ∙ ap (λ (l : List Answer). length l) w.failed.told ∙ w.failed.stopped.settled.each));
   }
 
   module _ (left : Held S) (trees : Trees) (may : (state g left).may_leave trees) (after : Base) (keeps : Represents g left after) (first : First after) where
@@ -148,7 +148,7 @@ module _ {S C : Type 0} (g : Ghosts S) (rests : Settles g) (form : Fields → Re
       | inl are ↦ record { after = after; stood = after; can = kept_can_be g left after keeps; are = are; how = inl (refl, first) }
       | inr booked ↦ record {
         after = after;
-        stood = (row_step after w.moment w.command (record { batch = w.stopped.name; row = fault.rows + 1 })).1;
+        stood = (row_step after w.failed.moment w.failed.command (record { batch = w.failed.stopped.name; row = fault.rows + 1 })).1;
         can = booked.1;
         are = booked.0;
         how = inr (under_way after left fault w);

@@ -1,5 +1,5 @@
 -- A row that was answered, or not, under its key.
-use Rattle.std.proofs.Common.{◌≡◌, ◌⊎◌, ℕ, Bool, true, false, Option, Result, Ok, Err, Some, inl, inr, ap, refl, subst, sym}
+use Rattle.std.proofs.Common.{◌≡◌, ◌⊎◌, ℕ, Bool, true, false, Result, Ok, Err, Some, inl, inr, ap, refl, subst, sym}
 use Rattle.sqlite_trees.specs.Tree.{Trees}
 use Rattle.sqlite_trees.specs.declared.store.Store.{Ghosts}
 use Rattle.sqlite.specs.Held.{Held, state}
@@ -10,6 +10,7 @@ use Rattle.brk_model.specs.Batch.{row_step}
 use Rattle.brk_model.specs.Commands as model
 use Rattle.brk_model.specs.Commands.{Command}
 use Rattle.brk_model.specs.Records.{Key}
+use Rattle.brk_model.specs.Run.{Did, Failed}
 use Rattle.brk_model.specs.Sheets.{sheets}
 use Rattle.brk_store.specs.Holds.{AreTreesOf}
 use Rattle.brk_commit.specs.Answers.{answer_of}
@@ -18,18 +19,18 @@ use Rattle.brk_store.specs.Audited.{Represents}
 use Rattle.brk_commit.specs.Keys.{key_for}
 use Rattle.brk_commands.specs.Commands.{command_of}
 use Rattle.brk_commands.specs.declared.command.Command as commands
+use Rattle.brk_ref.specs.Records.{key_of}
 use Rattle.brk_ref.specs.declared.key.Key as keys
-use Rattle.brk_desk.specs.Answers.{outcome_for}
 use Rattle.brk_desk.specs.Reopening.{IsConsistent}
-use Rattle.brk_desk.specs.Runs.{IsSomeRun}
-use Rattle.brk_desk.specs.declared.call.Call.TheVariants as call
-use Rattle.brk_desk.proofs.Made.{one_run}
+use Rattle.brk_desk.specs.declared.call.Call.TheVariants as made
+use Rattle.brk_desk.specs.declared.call.Outcome.TheVariants as came
 use Rattle.brk_commit.specs.declared.answer.Answer.{Answer}
 use Rattle.brk_commit.specs.declared.answer.Answer.TheVariants as given
 use Rattle.brk_desk.proofs.Reopened.{booked_can_be}
 use Rattle.brk_desk.proofs.Stopping.{quiet_leaves}
 use Rattle.brk_batch_engine.specs.Answers.{Acts, MayAct, RepresentsDurably}
 use Rattle.brk_import.specs.Leaving.{LeavesOneOf}
+use Rattle.brk_import.specs.Rows.{DeskActs}
 
 module _ {S : Type 0} (g : Ghosts S) (old new : Held S) (now : ℕ) (command : Command) where
   -- a call that booked nothing leaves what was left before
@@ -66,27 +67,23 @@ module _ {S : Type 0} (g : Ghosts S) (old new : Held S) (now : ℕ) (command : C
   answered_left key (given.Again line) called = quiet_left key (given.Again line) (λ base after e. quiet_leaves base now command (Some key) (answer_of (given.Again line)) after e tt) called
   answered_left key (given.Refused refusal) called = quiet_left key (given.Refused refusal) (λ base after e. quiet_leaves base now command (Some key) (answer_of (given.Refused refusal)) after e tt) called
 
-  acts : (key : Key) (answer : Answer) → CallPost g old new now command (Some key) (Ok answer) → (sure : Bool)
+  pub acts : (key : Key) (answer : Answer) → CallPost g old new now command (Some key) (Ok answer) → (sure : Bool)
       → Acts (λ desk. HasCleanDisk (state g desk)) (RepresentsDurably (λ desk. Represents g desk) (LeavesOneOf g) sure) row_step old new now command key (answer_of answer)
   acts key answer called false = called.answered
   acts key answer called true = answered_left key answer called
 
-  -- two keys that are the same answer the same
-  pub under : (key same : Key) (answer : Answer) → key ≡ same → CallPost g old new now command (Some key) (Ok answer) → (sure : Bool)
-      → Acts (λ desk. HasCleanDisk (state g desk)) (RepresentsDurably (λ desk. Represents g desk) (LeavesOneOf g) sure) row_step old new now command same (answer_of answer)
-  under key same answer e called = acts same answer (subst (λ k. CallPost g old new now command (Some k) (Ok answer)) e called)
-
   -- it was not answered
-  pub may_act : (key same : Key) (fault : Fault) → key ≡ same → CallPost g old new now command (Some key) (Err fault)
-      → MayAct (λ desk. HasCleanDisk (state g desk)) (λ desk. Represents g desk) (LeavesOneOf g) row_step old new now command same
-  may_act key same fault e called clean base keeps alone trees may =
-      let same_called : CallPost g old new now command (Some same) (Err fault) = subst (λ k. CallPost g old new now command (Some k) (Err fault)) e called in
-      elim (same_called.survives.crash clean trees may) [
-        | inl earlier ↦ elim (alone trees earlier) [ inl are ↦ inl are | inr are ↦ inl are.0 ]
-        | inr come ↦ inr (come.1 base keeps, booked_can_be g old new base now command (Some same) (Err fault) trees same_called keeps come)
-      ]
+  pub may_act : (key : Key) (fault : Fault) → CallPost g old new now command (Some key) (Err fault)
+      → MayAct (λ desk. HasCleanDisk (state g desk)) (λ desk. Represents g desk) (LeavesOneOf g) row_step old new now command key
+  may_act key fault called clean base keeps alone trees may = elim (called.survives.crash clean trees may) [
+    | inl earlier ↦ elim (alone trees earlier) [ inl are ↦ inl are | inr are ↦ inl are.0 ]
+    | inr come ↦ inr (come.1 base keeps, booked_can_be g old new base now command (Some key) (Err fault) trees called keeps come)
+  ]
 
 -- one call was made, and nothing else
-pub was_called : {S : Type 0} (g : Ghosts S) (old new : Held S) (now : ℕ) (command : commands.Command) (key : Option keys.Key) (result : Result Answer Fault)
-    → CallPost g old new now (command_of command) (key_for key) result → IsSomeRun g old new
-was_called g old new now command key result called = one_run g old new now (call.Do command key) (outcome_for result) (result, refl, called)
+module _ {S : Type 0} (g : Ghosts S) (old new : Held S) (now : ℕ) (command : commands.Command) (key : keys.Key) where
+  pub did : (answer : Answer) → CallPost g old new now (command_of command) (key_for (Some key)) (Ok answer) → DeskActs g old now (command_of command, key_of key) (Did (answer_of answer)) new
+  did answer h = record { made = made.Do command (Some key); came = came.Did answer; call_is = refl; outcome_is = refl; is_made = (Ok answer, refl, h) }
+
+  pub failed : (fault : Fault) → CallPost g old new now (command_of command) (key_for (Some key)) (Err fault) → DeskActs g old now (command_of command, key_of key) (Failed fault) new
+  failed fault h = record { made = made.Do command (Some key); came = came.Failed fault; call_is = refl; outcome_is = refl; is_made = (Err fault, refl, h) }

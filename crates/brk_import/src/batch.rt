@@ -1,11 +1,16 @@
-ghost use Rattle.std.specs.Prelude.{option_map};
+ghost use Rattle.std.specs.Prelude.{ℕ, List, map, option_map};
 ghost use Rattle.brk_model.specs.Batch.{row_step};
 ghost use Rattle.brk_model.specs.Input.{text_of};
 ghost use Rattle.brk_model.specs.Parse.{parse_by, readers};
 ghost use Rattle.brk_store.specs.Audited.{Represents};
-ghost use Rattle.brk_batch_engine.specs.Batch.{RefinesModel, CrashStates, TellsAnswers};
-ghost use Rattle.brk_desk.specs.Runs.{IsSomeRun};
+ghost use Rattle.brk_batch_engine.specs.Batch.{RefinesModel, CrashStates};
+ghost use Rattle.brk_desk.specs.Answers.{outcome_of};
+ghost use Rattle.brk_desk.specs.Commands.{call_of};
+ghost use Rattle.brk_desk.specs.Runs.{IsRunOf};
+ghost use Rattle.brk_desk.specs.declared.call.Call as made;
+ghost use Rattle.brk_desk.specs.declared.call.Outcome as came;
 ghost use Rattle.brk_import.specs.Leaving.{LeavesOneOf};
+ghost use Rattle.brk_import.specs.Rows.{TellsRows};
 ghost use Rattle.sqlite.specs.Held.{state};
 ghost use Rattle.sqlite.specs.State.{HasCleanDisk};
 
@@ -39,11 +44,12 @@ pub fn run_batch<R: Read + Drop, W: Write, C: Clock, S: Alter>(
     clock: &mut C,
     desk: &mut Desk<S>,
 ) -> Result<Counts, BatchFault>
-    // For any result, the desk changed only by a sequence of its calls. So every guarantee of a run
-    // holds.
-    ensures ran { IsSomeRun S.Store desk.old desk.new }
-    // For any answers of the desk to the well-formed rows, the lines are those of its answers.
-    ensures told { TellsAnswers (parse_by readers) C.gives (option_map text_of (R.remaining reader))
+    // For any result, the desk changed only by these calls, in order, with these outcomes. So every
+    // guarantee of a run holds. They are those of the rows: each decided row that is well-formed
+    // and has a record after it is one call, under its key, and one more call may have failed at
+    // the end. The clock is read once for each call, and the lines are those of the outcomes.
+    ensures told { (calls : List (ℕ × made.Call)) × (outcomes : List came.Outcome) × IsRunOf S.Store desk.old desk.new calls outcomes
+        × TellsRows C.gives (option_map text_of (R.remaining reader)) (map call_of calls) (map outcome_of outcomes)
         (record { clock = clock.old; later = clock.new; old = W.contents writer.old; new = W.contents writer.new }) result }
     // Under the disk assumption, for every base that the desk represented, the answers are those of
     // the model, and the desk represents the base after them.

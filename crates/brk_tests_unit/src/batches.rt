@@ -7,7 +7,7 @@ ghost use Rattle.brk_tests_unit.specs.declared.batches.Asked.TheVariants as asks
 
 use brk_batch_engine::{BatchFault, Clock, Counts, FaultKind, MOST_BYTES, RowAnswer, Rows, run};
 use brk_money::{Fault, Limit, Planned, Refusal, Stamp};
-use brk_ref::BatchName;
+use brk_ref::Key;
 use std::alloc::{AllocError, Global};
 use std::io;
 use std::io::{Read, Write};
@@ -59,7 +59,7 @@ impl Rows for Last {
 
     ghost leaves = { λ _ _ _. Unit {0} };
 
-    ghost leads = { λ _ _. Unit {0} };
+    ghost acts = { λ _ _ _ _ _. Unit {0} };
 
     ghost asked = { λ command. command };
 
@@ -97,8 +97,7 @@ impl Rows for Last {
         alloc: Global,
         now: Stamp,
         command: &Asked,
-        _batch: &BatchName,
-        _n: u64,
+        _key: &Key,
     ) -> Result<RowAnswer<u64>, Fault> {
         match *command {
             Asked::Put => {
@@ -118,10 +117,6 @@ impl Rows for Last {
     fn reply_line(alloc: Global, reply: &u64) -> Result<String, AllocError> {
         format!(in alloc; "{reply}")
     }
-
-    ghost stays = { λ _. tt };
-
-    ghost goes_on = { λ _ _ _ _ _. tt };
 }
 
 // Gives its text a byte at a time, and fails once, in place of the byte at `cut`.

@@ -8,8 +8,7 @@ pub returns : goal.returns
 returns g c =
     let text = option_map text_of (g.R.Read.remaining c.args.reader) in
     let part = c.in-Err.ensures.err text c.open_records-records.ensures.start in
-    let come = comes_at_once g.D.Rows.honest g.D.Rows.stands g.D.Rows.leaves g.D.Rows.form g.D.Rows.step g.C.Clock.gives c.args.desk.now text
-    (record { clock = c.args.clock.now; later = c.args.clock.now; old = g.W.Write.contents c.args.writer.now; new = g.W.Write.contents c.args.writer.now })
-    (Err (record { rows = 0; kind = c.in-Err.kind }))
+    let come = comes_at_once g.D.Rows.honest g.D.Rows.stands g.D.Rows.leaves g.D.Rows.acts g.D.Rows.form g.D.Rows.step g.C.Clock.gives c.args.desk.now text
+    c.args.clock.now (g.W.Write.contents c.args.writer.now) (g.W.Write.contents c.args.writer.now) (Err (record { rows = 0; kind = c.in-Err.kind }))
     (λ T other base. header_failed _ _ _ text base _ _ c.in-Err.kind part) in
-    record { leads = g.met.D.Rows.stays c.args.desk.now; told = come.told; kept = come.kept; left = come.left }
+    record { told = come.told; kept = come.kept; left = come.left }
