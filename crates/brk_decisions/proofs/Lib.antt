@@ -1,3 +1,4 @@
+pub mod Counting
 pub mod Looking
 pub mod Deciding
 pub mod References
