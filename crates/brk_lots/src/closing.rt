@@ -1,9 +1,9 @@
-ghost use Rattle.std.specs.Prelude.{◌≡◌, ◌+◌, ◌*◌, ◌≤◌, ◌≤ℤ◌, ℕ, List, Bool, drop, map, IfOk, IfErr, vec_len, ◌⊎◌, replicate, pos};
+ghost use Rattle.std.specs.Prelude.{◌≡◌, ◌+◌, ◌*◌, ◌≤◌, ◌≤ℤ◌, ℕ, List, Bool, drop, length, map, IfOk, IfErr, vec_len, ◌⊎◌, replicate, pos};
 ghost use Rattle.std.specs.Option.{option_to_list};
 ghost use Rattle.brk_model.specs.Limits.{greatest_price};
-ghost use Rattle.brk_model.specs.Shares.{lots};
+ghost use Rattle.brk_model.specs.Shares.{lots, touches};
 ghost use Rattle.brk_lots.specs.declared.lot.Lot.{Lot};
-ghost use Rattle.brk_lots.specs.Lots.{plain_lot};
+ghost use Rattle.brk_lots.specs.Lots.{plain_lot, shares_of};
 ghost use Rattle.brk_lots.specs.Position.{IsNew};
 ghost use Rattle.brk_lots.specs.Closing.{IsClosing};
 ghost use Rattle.brk_lots.specs.Sources.{AreGiven, AsTold};
@@ -51,7 +51,7 @@ pub(crate) fn opened_lot(
 /// Closes lots of the other side until the quantity is used up, and opens a lot with the remaining
 /// shares (Trade-Result). None of the lots may have been opened by `trade`.
 ///
-/// If it succeeds, it has requested at most one lot more than it touches. Fails with a fault of the
+/// It requests at most one lot more than it touches, also if it fails. Fails with a fault of the
 /// source or with `Memory`.
 pub fn close<L: LotSource>(
     alloc: Global,
@@ -71,6 +71,11 @@ pub fn close<L: LotSource>(
     ensures bought { IfOk result (λ closing. (pos 0 ≤ℤ closing.buy_value) × (closing.buy_value ≤ℤ pos (qty * greatest_price))) }
     ensures sold { IfOk result (λ closing. (pos 0 ≤ℤ closing.sell_value) × (closing.sell_value ≤ℤ pos (qty * greatest_price))) }
     ensures asked { IfOk result (λ closing. L.asked source.new ≤ L.asked source.old + vec_len closing.touched + 1) }
+    // Also if it fails, it has requested at most one lot a share, and at most one lot more than the
+    // trade touches.
+    ensures few { L.asked source.new ≤ L.asked source.old + qty }
+    ensures most { (ls : List Lot) (lifo : Bool) → AreGiven (AsTold (L.reads_faithfully source.new) (L.remaining source.old)) lifo ls → IsNew trade ls →
+        L.asked source.new ≤ L.asked source.old + length (touches (record { trade = trade; side = side; qty = qty; price = price; stamp = stamp; is_lifo = lifo }) (shares_of ls)) + 1 }
     // Every fault of the source is returned, unchanged.
     ensures faulted { IfOk result (λ closing. L.faulted source.new ≡ L.faulted source.old) }
     ensures fault { IfErr result (λ fault. (fault ≡ Fault.Memory) ⊎ ((before : L) × L.fails before fault source.new)) }

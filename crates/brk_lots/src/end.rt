@@ -1,4 +1,4 @@
-ghost use Rattle.std.specs.Prelude.{◌≡◌, ◌≢◌, ⊤, pos};
+ghost use Rattle.std.specs.Prelude.{◌≡◌, ◌≢◌, ◌≤◌, ◌-◌, ⊤, length, pos};
 ghost use Rattle.std.specs.List.{All};
 ghost use Rattle.brk_lots.specs.Lots.{from_end};
 
@@ -11,15 +11,23 @@ use brk_money::Fault;
 pub struct PositionEnd<'a> {
     lots: &'a [Lot],
     lifo: bool,
+    // The number of lots of the position.
+    total: usize,
     ghost some_shares: { All (λ l. l.qty ≢ pos 0) lots.now },
+    ghost within: { length lots.now ≤ total },
 }
 
 impl<'a> PositionEnd<'a> {
     pub(crate) fn new(lots: &'a [Lot], lifo: bool) -> PositionEnd<'a>
         requires { All (λ l. l.qty ≢ pos 0) lots.now }
-        ensures { ⟦<PositionEnd<'static> as LotSource>⟧.remaining result (from_end lifo lots.now) }
+        ensures remaining { ⟦<PositionEnd<'static> as LotSource>⟧.remaining result (from_end lifo lots.now) }
+        ensures asked { ⟦<PositionEnd<'static> as LotSource>⟧.asked result ≡ 0 }
     {
-        PositionEnd { lots, lifo }
+        PositionEnd {
+            lots,
+            lifo,
+            total: lots.len(),
+        }
     }
 }
 
@@ -30,7 +38,8 @@ impl LotSource for PositionEnd<'_> {
 
     ghost leads = { λ _ _. ⊤ };
 
-    ghost asked = { λ _. 0 };
+    // It counts the lots that it returned.
+    ghost asked = { λ end. end.total - length end.lots.now };
 
     ghost faulted = { λ _. 0 };
 

@@ -98,6 +98,7 @@ impl Position {
     /// allocates.
     pub fn from_end(&self, lifo: bool) -> PositionEnd<'_>
         ensures remaining { ⟦<PositionEnd<'static> as LotSource>⟧.remaining result (from_end lifo self.now) }
+        ensures asked { ⟦<PositionEnd<'static> as LotSource>⟧.asked result ≡ 0 }
         ensures walk { IsWalk self.now }
     {
         PositionEnd::new(self.lots(), lifo)

@@ -18,7 +18,7 @@ pub trait LotSource {
     /// lead.
     ghost leads: { Self → Self → Type 0 };
 
-    /// The number of lots that were requested so far.
+    /// The number of lots that were requested so far. A request that returned no lot need not count.
     ghost asked: { Self → ℕ };
 
     /// The number of faults so far.

@@ -5,7 +5,7 @@ ghost use Rattle.brk_lots.specs.declared.lot.Touch.{Touch};
 ghost use Rattle.brk_lots.specs.Position.{IsWalk};
 ghost use Rattle.brk_lots.specs.Sources.{AsTold};
 ghost use Rattle.brk_lots.specs.Values.{IsTraded};
-ghost use Rattle.brk_lots.specs.Walks.{IsTaken};
+ghost use Rattle.brk_lots.specs.Walks.{IsTaken, met, rows_taken};
 
 use crate::lot::is_same;
 use crate::rows::Rows;
@@ -44,6 +44,10 @@ fn walk<L: LotSource, R: Rows>(
         × ((ls : List Lot) → AsTold (L.reads_faithfully source.new) (L.remaining source.old) ls → IsWalk ls → IsTaken side qty ls touched walked.left walked.cost)) }
     ensures left { IfOk result (λ walked. walked.left ≤ qty) }
     ensures limit { IfOk result (λ walked. walked.cost ≤ qty * greatest_price) }
+    // It requests at most one lot a share, and at most one lot more than it passes rows of these lots,
+    // also if it fails.
+    ensures few { L.asked source.new ≤ L.asked source.old + qty }
+    ensures most { (ls : List Lot) → AsTold (L.reads_faithfully source.new) (L.remaining source.old) ls → IsWalk ls → L.asked source.new ≤ L.asked source.old + length (rows_taken (met side qty ls) ls) + 1 }
     ensures faulted { OnOk result (L.faulted source.new ≡ L.faulted source.old) }
     ensures fault { IfErr result (λ fault. R.fails fault ⊎ ((before : L) × L.fails before fault source.new)) }
     ensures rest { (ls : List Lot) → AsTold (L.reads_faithfully source.new) (L.remaining source.old) ls → (n : ℕ) × L.remaining source.new (drop n ls) }
@@ -81,6 +85,10 @@ pub(crate) fn take_lots<L: LotSource, R: Rows>(
         × ((ls : List Lot) → AsTold (L.reads_faithfully source.new) (L.remaining source.old) ls → IsWalk ls → IsTraded side qty price ls touched taken.left taken.values)) }
     ensures bought { IfOk result (λ taken. taken.values.buy_value ≤ qty * greatest_price) }
     ensures sold { IfOk result (λ taken. taken.values.sell_value ≤ qty * greatest_price) }
+    // It requests at most one lot a share, and at most one lot more than it passes rows of these lots,
+    // also if it fails.
+    ensures few { L.asked source.new ≤ L.asked source.old + qty }
+    ensures most { (ls : List Lot) → AsTold (L.reads_faithfully source.new) (L.remaining source.old) ls → IsWalk ls → L.asked source.new ≤ L.asked source.old + length (rows_taken (met side qty ls) ls) + 1 }
     ensures faulted { OnOk result (L.faulted source.new ≡ L.faulted source.old) }
     ensures fault { IfErr result (λ fault. R.fails fault ⊎ ((before : L) × L.fails before fault source.new)) }
     ensures rest { (ls : List Lot) → AsTold (L.reads_faithfully source.new) (L.remaining source.old) ls → (n : ℕ) × L.remaining source.new (drop n ls) }

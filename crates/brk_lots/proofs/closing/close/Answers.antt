@@ -4,6 +4,7 @@ use Rattle.brk_lots.specs.Lots.{from_end}
 use Rattle.brk_lots.specs.Values.{values_by}
 use Rattle.brk_lots.specs.Walks.{met, paid}
 use Rattle.brk_lots.specs.declared.values.Values.{Values}
+use Rattle.brk_lots.proofs.Closed.{touched_are}
 use Rattle.brk_lots.proofs.Ends.{walk_end}
 use Rattle.brk_lots.proofs.Upon.{closes}
 use Rattle.brk_lots.proofs.closing.close.Goals as goal
@@ -23,3 +24,13 @@ returns-clause-closing g c ls lifo given fresh =
     (c.opened_lot.ensures ∙ ap (λ n. lots (replicate n u)) left)
     (c.from.ensures ∙ ap (λ (v : Values). pos v.buy_value) values)
     (c.from-2.ensures ∙ ap (λ (v : Values). pos v.sell_value) values)
+
+pub returns-in_err-taken-clause-most : goal.returns-in_err-taken-clause-most
+returns-in_err-taken-clause-most g c ls lifo given fresh =
+    let d : Deal = record { trade = c.args.trade; side = c.args.side; qty = c.args.qty; price = c.args.price; stamp = c.args.stamp; is_lifo = lifo } in
+    omega (arith, c.take_lots.ensures.most (from_end lifo ls) given.0 (walk_end lifo ls given.1), touched_are d ls given.1 fresh)
+
+pub returns-clause-most : goal.returns-clause-most
+returns-clause-most g c ls lifo given fresh =
+    let d : Deal = record { trade = c.args.trade; side = c.args.side; qty = c.args.qty; price = c.args.price; stamp = c.args.stamp; is_lifo = lifo } in
+    omega (arith, c.take_lots.ensures.most (from_end lifo ls) given.0 (walk_end lifo ls given.1), touched_are d ls given.1 fresh)

@@ -9,6 +9,7 @@ use Rattle.brk_money.specs.Kinds.{same_side}
 use Rattle.brk_money.specs.declared.side.Side.{Side}
 use Rattle.brk_lots.specs.Lots.{side_of_qty}
 use Rattle.brk_lots.specs.Walks.{IsTaken, met, rows_taken, paid}
+use Rattle.brk_lots.proofs.Runs.{size_positive}
 use Rattle.brk_lots.proofs.Walks.{met_none, met_own, touches_none, paid_none, met_more, touches_more, paid_more}
 use Rattle.brk_lots.proofs.walk.walk.Goals as goal
 
@@ -69,6 +70,7 @@ loop-left-preserved g c =
             ),
       );
       short = omega (arith, i.short);
+      few = omega (arith, i.few, c.next.ensures.asked, s, size_positive lot.qty (rw c.in-Some.is at c.in_ok-lot.ensures.some_shares), c.loop-left-test.true);
       bound = rw v (omega (arith, b, i.bound));
       faulted = c.in_ok-lot.ensures.faulted ∙ i.faulted;
       given = λ told all h.

@@ -18,6 +18,7 @@ invariant-loop-left g l =
           × (touched ++ rows_taken (met l.side l.left rest) rest ≡ rows_taken (met l.side l.fn.qty all) all)
           × (l.cost + paid (met l.side l.left rest) rest ≡ paid (met l.side l.fn.qty all) all));
       short : l.left ≤ l.fn.qty;
+      few : g.L.LotSource.asked l.source + l.left ≤ g.L.LotSource.asked l.fn.source + l.fn.qty;
       bound : l.cost + l.left * greatest_price ≤ l.fn.qty * greatest_price;
       faulted : g.L.LotSource.faulted l.source ≡ g.L.LotSource.faulted l.fn.source;
       given : g.L.LotSource.reads_faithfully l.source → (all : List Lot) → g.L.LotSource.remaining l.fn.source all → (n : ℕ) × g.L.LotSource.remaining l.source (drop n all);
