@@ -43,8 +43,8 @@ pub(crate) fn values_at(side: Side, traded: u64, opened: u64) -> Values
 /// Returns the buy value and the sell value of the shares that an order at `price` would close
 /// (Trade-Order). Changes no lot and never allocates.
 ///
-/// If it succeeds, it has requested at most one lot more than it would touch. Fails with a fault of
-/// the source only.
+/// It requests at most one lot more than it would touch, also if it fails. Fails with a fault of the
+/// source only.
 pub fn estimate_values<L: LotSource>(
     source: &mut L,
     side: Side,
@@ -57,10 +57,12 @@ pub fn estimate_values<L: LotSource>(
     ensures values { IfOk result (λ values. (ls : List Lot) (trade stamp : ℕ) (lifo : Bool) →
         AreGiven (AsTold (L.reads_faithfully source.new) (L.remaining source.old)) lifo ls →
         values ≡ values_of (record { trade = trade; side = side; qty = qty; price = price; stamp = stamp; is_lifo = lifo }) (shares_of ls)) }
-    // It requests at most one lot more than a trade that opened none of them would touch.
-    ensures asked { IfOk result (λ values. (ls : List Lot) (trade stamp : ℕ) (lifo : Bool) →
+    // It requests at most one lot a share, and at most one lot more than a trade that opened none of
+    // them would touch, also if it fails.
+    ensures few { L.asked source.new ≤ L.asked source.old + qty }
+    ensures asked { (ls : List Lot) (trade stamp : ℕ) (lifo : Bool) →
         AreGiven (AsTold (L.reads_faithfully source.new) (L.remaining source.old)) lifo ls → IsNew trade ls →
-        L.asked source.new ≤ L.asked source.old + length (touches (record { trade = trade; side = side; qty = qty; price = price; stamp = stamp; is_lifo = lifo }) (shares_of ls)) + 1) }
+        L.asked source.new ≤ L.asked source.old + length (touches (record { trade = trade; side = side; qty = qty; price = price; stamp = stamp; is_lifo = lifo }) (shares_of ls)) + 1 }
     // Every fault of the source is returned, unchanged.
     ensures faulted { IfOk result (λ values. L.faulted source.new ≡ L.faulted source.old) }
     ensures fault { IfErr result (λ fault. (before : L) × L.fails before fault source.new) }
