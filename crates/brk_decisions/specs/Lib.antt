@@ -1,3 +1,4 @@
 pub mod Decisions
 pub mod Finds
+pub mod LotReads
 pub mod ResultFinds

@@ -1,18 +1,44 @@
 //! Decisions on estimates of orders.
 
-ghost use Rattle.std.specs.Prelude.{IfErr};
+ghost use Rattle.std.specs.Prelude.{◌≡◌, ◌+◌, false, Some, IfErr, IfOk, MatchResult};
 ghost use Rattle.brk_decisions.specs.Decisions.{Tells};
+ghost use Rattle.brk_decisions.specs.LotReads.{LotsGiven};
+ghost use Rattle.brk_lots.specs.Against.{closes_lots};
 ghost use Rattle.brk_model.specs.Run.{MayFail};
+ghost use Rattle.brk_model.specs.Tests.{first_refusal};
 ghost use Rattle.brk_orders.specs.Records.{order_of};
 ghost use Rattle.brk_store.specs.Holds.{ReadPost};
+ghost use Rattle.brk_store.specs.Kept.{IsKept};
+ghost use Rattle.brk_store.specs.Resting.{lent, read_by};
+ghost use Rattle.brk_trade.specs.Estimates.{AsksFew};
+ghost use Rattle.brk_trade.specs.Orders.{IsEstimated, order_tests, terms_of};
 
 use crate::order_finding::find_for_estimate;
 use brk_money::Planned;
 use brk_orders::Order;
-use brk_store::Store;
-use brk_trade::{Estimate, plan_estimate};
+use brk_store::{LotPages, Store};
+use brk_trade::{Estimate, OrderFound, plan_estimate};
 use sqlite::Alter;
 use std::alloc::Global;
+
+// Plans an estimate from the facts that were found. Of the position it has only `lots`, of which it
+// reads at most 16 rows more than the lots that the order would touch, also if it fails.
+fn plan_over<S: Alter>(
+    order: &Order,
+    found: &OrderFound,
+    lots: &mut LotPages<'_, S>,
+) -> Planned<Estimate>
+    ensures same_reference { (lent lots.new).ghost_name ≡ (lent lots.old).ghost_name }
+    ensures kept { IsKept S.Store (lent lots.old).now (lent lots.new).now }
+    ensures planned { IfOk result (λ planned. MatchResult planned
+        (IsEstimated order.now found.now (LotsGiven S.Store lots.old lots.new))
+        (λ refusal. first_refusal (order_tests found.now) ≡ Some refusal)) }
+    ensures rows { AsksFew (terms_of order.now found.now) (LotsGiven S.Store lots.old lots.new) (read_by lots.old + 15) (read_by lots.new) }
+    ensures unmet { closes_lots (terms_of order.now found.now).side (terms_of order.now found.now).held ≡ false → lots.new ≡ lots.old }
+    ensures fault { IfErr result MayFail }
+{
+    plan_estimate(order, found, lots)
+}
 
 /// Returns the estimate of an order (Trade-Order), or the refusal. Changes nothing.
 ///
@@ -28,5 +54,5 @@ pub fn decide_estimate<S: Alter>(
 {
     let found = find_for_estimate(alloc, store, order)?;
     let mut lots = store.lot_pages(alloc, order.account, &order.symbol, order.is_lifo);
-    plan_estimate(order, &found, &mut lots)
+    plan_over(order, &found, &mut lots)
 }

@@ -1,28 +1,53 @@
 //! Decisions on results of trades.
 
-ghost use Rattle.std.specs.Prelude.{IfErr, IfOk, MatchResult};
+ghost use Rattle.std.specs.Prelude.{◌≡◌, ◌+◌, Some, IfErr, IfOk, MatchResult};
 ghost use Rattle.sqlite.specs.Held.{state};
 ghost use Rattle.sqlite.specs.State.{HasCleanDisk};
 ghost use Rattle.brk_decisions.specs.Decisions.{Decides};
+ghost use Rattle.brk_decisions.specs.LotReads.{LotsGiven};
 ghost use Rattle.brk_decisions.specs.ResultFinds.{lots_met};
 ghost use Rattle.brk_model.specs.Commands.{CompleteTrade};
 ghost use Rattle.brk_model.specs.Run.{MayFail};
 ghost use Rattle.brk_model.specs.Tables.{Tables};
+ghost use Rattle.brk_money.specs.Moments as moments;
 ghost use Rattle.brk_store.specs.Holds.{Holds, ReadPost};
 ghost use Rattle.brk_store.specs.Kept.{IsKept};
-ghost use Rattle.brk_trade.specs.Results.{IsCompleted, IsRefused};
+ghost use Rattle.brk_store.specs.Resting.{lent, read_by};
+ghost use Rattle.brk_trade.specs.Results.{AsksFew, IsCompleted, IsRefused, MeetsNone, moment_of};
 
 use crate::result_finding::find_for_result;
 use brk_lots::Position;
 use brk_money::{Planned, Price, Stamp};
 use brk_orders::Completion;
-use brk_store::Store;
+use brk_store::{LotPages, Store};
 use brk_trade::{Plan, ResultFound, plan_result};
 use sqlite::Alter;
 use std::alloc::Global;
 
-// Plans a result from the facts that were found and the lots of its trade's position, which are
-// read only as far as they are asked for.
+// Plans the result of a trade from the facts that were found. Of its position it has only `lots`, of
+// which it reads at most 16 rows more than the lots that the trade touches, also if it fails.
+fn plan_over<S: Alter>(
+    alloc: Global,
+    found: &ResultFound,
+    price: Price,
+    lots: &mut LotPages<'_, S>,
+    last: Option<Stamp>,
+    now: Stamp,
+) -> Planned<Plan>
+    ensures same_reference { (lent lots.new).ghost_name ≡ (lent lots.old).ghost_name }
+    ensures kept { IsKept S.Store (lent lots.old).now (lent lots.new).now }
+    ensures planned { IfOk result (λ planned. MatchResult planned
+        (IsCompleted (Some found.now) price (LotsGiven S.Store lots.old lots.new) last now)
+        (IsRefused (Some found.now) price (LotsGiven S.Store lots.old lots.new) last now)) }
+    ensures rows { AsksFew (Some found.now) price (moment_of (moments.stamp_after last now) now) (LotsGiven S.Store lots.old lots.new) (read_by lots.old + 15) (read_by lots.new) }
+    ensures unmet { MeetsNone found.now → lots.new ≡ lots.old }
+    ensures fault { IfErr result MayFail }
+{
+    plan_result(alloc, Some(found), price, lots, last, now)
+}
+
+// Plans a result from the facts that were found and the lots of its trade's position, if there is
+// such a trade.
 fn plan_found<S: Alter>(
     alloc: Global,
     store: &mut Store<S>,
@@ -41,7 +66,7 @@ fn plan_found<S: Alter>(
         Some(found) => {
             let trade = &found.trade;
             let mut lots = store.lot_pages(alloc, trade.account, &trade.symbol, trade.is_lifo);
-            plan_result(alloc, Some(&found), price, &mut lots, last, now)
+            plan_over(alloc, &found, price, &mut lots, last, now)
         }
         None => {
             let none = Position::new(alloc);

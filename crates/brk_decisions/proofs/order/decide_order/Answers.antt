@@ -11,12 +11,12 @@ pub returns-clause-read : goal.returns-clause-read
 returns-clause-read g c =
     let old = c.args.store.now in
     let mid = c.find_for_order.new.store in
-    let end = c.plan_order.new.source.store.now in
+    let end = c.plan_over.new.lots.store.now in
     let order = c.args.order.now in
     let last = c.in_ok-last.last in
     let found = c.in_ok-found.found in
-    read_at g.S.Store old end _ (search rules) c.plan_order.result (Decides c.args.now (PlaceOrder (order_of order)))
-    (decided_on g.S.Store old mid end found (KnownForOrder order last) (Decides c.args.now (PlaceOrder (order_of order))) c.plan_order.result
+    read_at g.S.Store old end _ (search rules) c.plan_over.result (Decides c.args.now (PlaceOrder (order_of order)))
+    (decided_on g.S.Store old mid end found (KnownForOrder order last) (Decides c.args.now (PlaceOrder (order_of order))) c.plan_over.result
     (order_read g.S.Store old c.last.new.self mid order last found c.in_ok-last.ensures.read c.in_ok-found.ensures.read)
-    (rw c.lot_pages-lots.ensures.same at c.plan_order.ensures.leads.1)
-    (λ clean. order_decided order found last c.args.now _ c.get-moment.ensures.high (Holds g.S.Store mid) (λ t h. (clean, c.lot_pages-lots.ensures.remaining t h)) c.plan_order.result c.plan_order.ensures.planned))
+    (rw c.lot_pages-lots.ensures.same at c.plan_over.ensures.kept)
+    (λ clean. order_decided order found last c.args.now _ c.get-moment.ensures.high (Holds g.S.Store mid) (λ t h. (clean, c.lot_pages-lots.ensures.remaining t h)) c.plan_over.result c.plan_over.ensures.planned))

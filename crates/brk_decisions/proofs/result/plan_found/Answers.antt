@@ -9,18 +9,18 @@ use Rattle.brk_decisions.proofs.result.plan_found.Goals as goal
 
 pub returns-in-Some-clause-kept : goal.returns-in-Some-clause-kept
 returns-in-Some-clause-kept g c =
-    kept_at g.S.Store c.args.store.now c.plan_result.new.source.store.now _ (search rules) (rw c.lot_pages-lots.ensures.same at c.plan_result.ensures.leads.1)
+    kept_at g.S.Store c.args.store.now c.plan_over.new.lots.store.now _ (search rules) (rw c.lot_pages-lots.ensures.same at c.plan_over.ensures.kept)
 
 pub returns-in-Some-clause-planned : goal.returns-in-Some-clause-planned
 returns-in-Some-clause-planned g c clean =
-    let was : HasCleanDisk (state g.S.Store c.plan_result.new.source.store.now) = search rules in
+    let was : HasCleanDisk (state g.S.Store c.plan_over.new.lots.store.now) = search rules in
     rw c.in-Some.is
     (result_over (Some c.in-Some.found) c.args.price _ c.args.last c.args.now (Holds g.S.Store c.args.store.now)
-    (λ t holds ls e. (was, rw e (c.lot_pages-lots.ensures.remaining t holds))) c.plan_result.result c.plan_result.ensures.planned)
+    (λ t holds ls e. (was, rw e (c.lot_pages-lots.ensures.remaining t holds))) c.plan_over.result c.plan_over.ensures.planned)
 
 pub returns-in-None-clause-kept : goal.returns-in-None-clause-kept
 returns-in-None-clause-kept g c = kept_none c.args.store.now
 
 pub returns-in-None-clause-planned : goal.returns-in-None-clause-planned
 returns-in-None-clause-planned g c clean =
-    rw c.in-None.is (none_over (Holds g.S.Store c.args.store.now) c.plan_result-in-None.result c.plan_result-in-None.ensures.planned)
+    rw c.in-None.is (none_over (Holds g.S.Store c.args.store.now) c.plan_result.result c.plan_result.ensures.planned)

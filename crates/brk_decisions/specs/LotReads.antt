@@ -1,0 +1,15 @@
+-- The lots of a position that a plan reads in pages.
+use Rattle.std.specs.Prelude.{List}
+use Rattle.sqlite_trees.specs.declared.store.Store.{Ghosts}
+use Rattle.sqlite.specs.Held.{state}
+use Rattle.sqlite.specs.State.{HasCleanDisk}
+use Rattle.brk_lots.specs.Sources.{AsTold}
+use Rattle.brk_lots.specs.declared.lot.Lot.{Lot}
+use Rattle.brk_store.specs.Resting.{Rests, lent}
+use Rattle.brk_store.specs.declared.pages.Page.{Page}
+use Rattle.brk_store.specs.declared.pages.Pages.{Pages}
+
+-- The lots `ls` are those that the pages had to return before the reads, and the disk assumption
+-- holds after them.
+abbrev pub LotsGiven : {S : Type 0} → Ghosts S → (old new : Pages S Page) → List Lot → Type 0
+LotsGiven g old new ls = AsTold (HasCleanDisk (state g (lent new).now)) (Rests g old) ls
