@@ -37,9 +37,14 @@ module _ {S : Type 0} (g : Ghosts S) where
   pub one_run : (old new : Held S) (now : ℕ) (call : Call) (outcome : Outcome) → OutcomePost g old new now call outcome → IsSomeRun g old new
   one_run old new now call outcome is = record { calls = (now, call) ∷ []; outcomes = outcome ∷ []; run = run_of old new ((now, call) ∷ []) (outcome ∷ []) (new, is, refl) }
 
+  -- two runs, one after the other
+  pub runs_joined : (first mid last : Held S) (calls others : List (ℕ × Call)) (outcomes more : List Outcome) → IsRunOf g first mid calls outcomes → IsRunOf g mid last others more
+      → IsRunOf g first last (calls ++ others) (outcomes ++ more)
+  runs_joined first mid last calls others outcomes more one two = run_of first last (calls ++ others) (outcomes ++ more) (made_then Made first mid last calls others outcomes more one.made two.made)
+
   pub run_then : (first mid last : Held S) → IsSomeRun g first mid → IsSomeRun g mid last → IsSomeRun g first last
   run_then first mid last one two = record {
     calls = one.calls ++ two.calls;
     outcomes = one.outcomes ++ two.outcomes;
-    run = run_of first last (one.calls ++ two.calls) (one.outcomes ++ two.outcomes) (made_then Made first mid last one.calls two.calls one.outcomes two.outcomes one.run.made two.run.made);
+    run = runs_joined first mid last one.calls two.calls one.outcomes two.outcomes one.run two.run;
   }

@@ -3,6 +3,7 @@ use Rattle.brk_model.specs.Form.{has_texts}
 use Rattle.std.specs.Prelude.{◌≡◌, ℕ, List, None, map, length, Result, IfOk, IfErr, IsTrue}
 use Rattle.std.specs.List.{AllByRecursion}
 use Rattle.sqlite_trees.specs.declared.store.Store.{Ghosts}
+use Rattle.sqlite_trees.specs.Tree.{Trees}
 use Rattle.sqlite.specs.Held.{Held, state}
 use Rattle.sqlite.specs.State.{HasCleanDisk, Survives}
 use Rattle.brk_money.specs.declared.fault.Fault.{Fault}
@@ -31,11 +32,12 @@ use Rattle.brk_desk.specs.Answers.{outcome_for, outcome_of, outcome_seen}
 use Rattle.brk_commands.specs.Commands.{command_of}
 use Rattle.brk_commit.specs.Keys.{key_for}
 use Rattle.brk_desk.specs.Commands.{call_of}
-use Rattle.brk_desk.specs.Stops.{MayBeRecovered}
+use Rattle.brk_desk.specs.Stops.{AcknowledgesNothing, MayBeRecovered}
 use Rattle.brk_commit.specs.declared.answer.Answer as desk
 use Rattle.brk_desk.specs.declared.call.Call.{Call}
 use Rattle.brk_desk.specs.declared.call.Call.TheVariants as call
 use Rattle.brk_desk.specs.declared.call.Outcome.{Outcome}
+use Rattle.brk_desk.specs.declared.call.Outcome.TheVariants as came
 
 -- The postcondition of a query, which changes nothing: the result equals that of the model for
 -- every base that the store represented, or is a fault.
@@ -61,6 +63,27 @@ OutcomePost g old new now (call.Do command key) outcome =
 OutcomePost g old new now (call.Ask query) outcome =
     (result : Result (Result View Refusal) Fault) × (outcome ≡ outcome_seen result) × AskPost g old new (query_of query) result
 
+-- No outcome acknowledges a change: each is of a query, a refusal, a stored reply or a fault.
+abbrev pub AcknowledgeNothing : List Outcome → Type 0
+AcknowledgeNothing outcomes = AllByRecursion AcknowledgesNothing (map outcome_of outcomes)
+
+-- If the call failed, the fault is `Memory` or `Store`.
+abbrev pub FailsAsKnown : Outcome → Type 0
+FailsAsKnown (came.Failed fault) = MayFail fault
+FailsAsKnown _ = Unit {0}
+
+-- The trees have the tables of a base that `MayBeRecovered` allows after the calls, with texts in
+-- UTF-8. This base has every acknowledged command, and at most one more that returned a fault, with
+-- no change acknowledged after it.
+abbrev pub AreRecoverable : Base → List (ℕ × Call) → List Outcome → Trees → Type 0
+AreRecoverable base calls outcomes trees =
+    (after : Base) × MayBeRecovered base (map call_of calls) (map outcome_of outcomes) after × AreTreesOf (sheets after) trees × IsTrue (has_texts (sheets after))
+
+-- The store was open, and the trees are recoverable after the calls from every base that the store
+-- represented.
+abbrev pub MayBeExposed : {S : Type 0} → Ghosts S → Held S → List (ℕ × Call) → List Outcome → Trees → Type 0
+MayBeExposed g old calls outcomes trees = IsTrue (state g old).is_open × ((base : Base) → Represents g old base → AreRecoverable base calls outcomes trees)
+
 -- The postcondition of a run, with one outcome for each call. For every base that the store
 -- represented, the calls and outcomes are a run of the model, and the store represents the base
 -- after it.
@@ -68,13 +91,22 @@ pub record RunPost {S : Type 0} (g : Ghosts S) (old new : Held S) (calls : List 
   pub count : length outcomes ≡ length calls
   pub ran : HasCleanDisk (state g new) → (base : Base) → Represents g old base
       → (after : Base) × Represents g new after × Run base (map call_of calls) (map outcome_of outcomes) after
-  -- No fault of the disk is lost from the count, and only such a fault closes the store.
-  pub survives : Survives (state g old) (state g new) (λ _. Unit {0})
-  -- Crash safety: if a crash before the calls exposes only the tables of `base`, a crash after them
-  -- exposes the tables of a base that `MayBeRecovered` allows. This base has every acknowledged
-  -- command, and at most one more that returned a fault, with no change acknowledged after it.
+  -- Each fault is `Memory` or `Store`.
+  pub fault : AllByRecursion FailsAsKnown outcomes
+  -- If no outcome acknowledges a change, the whole database was open and is unchanged, if it is
+  -- open after the calls.
+  pub same : HasCleanDisk (state g new) → IsTrue (state g new).is_open → AcknowledgeNothing outcomes → IsSame (state g old) (state g new)
+  -- The store is open after the calls only if it was open before.
+  pub opened : HasCleanDisk (state g new) → IsTrue (state g new).is_open → IsTrue (state g old).is_open
+  -- Crash safety: a crash exposes a state that was possible before the calls, or recoverable trees.
+  pub survives : Survives (state g old) (state g new) (MayBeExposed g old calls outcomes)
+  -- If an outcome acknowledges a change, a crash exposes only recoverable trees.
+  pub durable : HasCleanDisk (state g new) → (base : Base) → Represents g old base → ¬ AcknowledgeNothing outcomes
+      → OnlyCrashState g new (AreRecoverable base calls outcomes)
+  -- If a crash before the calls exposes only the tables of `base`, a crash after them exposes only
+  -- recoverable trees.
   pub leaves : HasCleanDisk (state g new) → (base : Base) → Represents g old base → OnlyCrashState g old (AreTreesOf (sheets base))
-      → OnlyCrashState g new (λ trees. (after : Base) × MayBeRecovered base (map call_of calls) (map outcome_of outcomes) after × AreTreesOf (sheets after) trees × IsTrue (has_texts (sheets after)))
+      → OnlyCrashState g new (AreRecoverable base calls outcomes)
   -- If the disk assumption holds after the calls, it held before.
   pub clean : HasCleanDisk (state g new) → HasCleanDisk (state g old)
   -- The commands and their keys are well-formed.

@@ -8,8 +8,10 @@ use Rattle.brk_desk.specs.declared.call.Call.{Call}
 use Rattle.brk_desk.specs.declared.call.Outcome.{Outcome}
 
 -- Exactly these calls of the desk were made, in order, with these outcomes. They are a run and give
--- the guarantee of a run.
+-- the guarantee of a run (`calls_in_order_are_a_run`).
 pub record IsRunOf {S : Type 0} (g : Ghosts S) (old new : Held S) (calls : List (ℕ × Call)) (outcomes : List Outcome) : Type 0 where
+  -- The calls lead from `old` to `new`, one after another, and nothing else was done: without calls
+  -- `new` equals `old`.
   pub made : AreMade (λ old now call outcome new. OutcomePost g old new now call outcome) old calls outcomes new
   pub ran : RunPost g old new calls outcomes
   pub promised : RunGuarantee g old new calls outcomes

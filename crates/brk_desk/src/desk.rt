@@ -41,7 +41,8 @@ impl<S: Alter> Desk<S> {
     ghost use Rattle.brk_commands.specs.Commands.{command_of};
     ghost use Rattle.brk_commit.specs.Keys.{key_for};
     ghost use Rattle.brk_commit.specs.Booked.{CallPost};
-    ghost use Rattle.brk_desk.specs.Keeping.{AskPost, DeskAuditPost, OutcomePost, RunPost, RunGuarantee};
+    ghost use Rattle.brk_desk.specs.Keeping.{AskPost, DeskAuditPost, OutcomePost};
+    ghost use Rattle.brk_desk.specs.Runs.{IsRunOf};
     ghost use Rattle.brk_desk.specs.declared.call.Outcome as came;
     ghost use Rattle.brk_money.specs.declared.fault.Condition.TheVariants.{NotEmpty};
     ghost use Rattle.brk_money.specs.declared.fault.Fault.TheVariants.{Damaged, Memory};
@@ -99,16 +100,17 @@ impl<S: Alter> Desk<S> {
         answer_query(alloc, &mut self.store, query)
     }
 
-    /// Executes the calls in order, each at its clock reading, and appends one outcome for each to
-    /// `out`. A query, a refusal, a stored reply or a fault changes no row of the desk's tables,
-    /// and the next call is executed.
+    /// Executes the calls in order, each at its clock reading, and nothing else, and appends one
+    /// outcome for each to `out`. A query, a refusal, a stored reply or a fault changes nothing in
+    /// the open store, and the next call is executed.
     ///
     /// Fails with `Memory` only. The desk and the outcomes in `out` are then unchanged: no call was
-    /// executed.
+    /// executed. The fault of an outcome is `Memory` or `Store`.
     ///
-    /// If a crash before the run exposes one state only, a crash after it exposes that state with
-    /// every acknowledged command applied, and at most one more command: one that returned a fault,
-    /// with no change acknowledged after it.
+    /// A crash exposes a state that was possible before the run, or the tables of the represented
+    /// base with every acknowledged command applied, and at most one more command: one that
+    /// returned a fault, with no change acknowledged after it. It exposes only the latter if the
+    /// run acknowledges a change, or if a crash before the run exposed only the represented base.
     pub fn run(
         &mut self,
         alloc: Global,
@@ -116,7 +118,7 @@ impl<S: Alter> Desk<S> {
         out: &mut Vec<Outcome>,
     ) -> Result<(), Fault>
         ensures ran { OnOk result ((outcomes : List came.Outcome) × (out.new.items ≡ out.old.items ++ outcomes)
-            × RunPost S.Store self.old self.new calls.now outcomes × RunGuarantee S.Store self.old self.new calls.now outcomes) }
+            × IsRunOf S.Store self.old self.new calls.now outcomes) }
         ensures fault { OnErr result (result ≡ Err Memory) }
         ensures unmade { OnErr result ((self.new ≡ self.old) × (out.new.items ≡ out.old.items)) }
     {

@@ -15,6 +15,7 @@ mod orders;
 mod parties;
 mod recents;
 pub mod reopening;
+pub mod running;
 mod statuses;
 mod volumes;
 

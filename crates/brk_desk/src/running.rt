@@ -1,0 +1,23 @@
+//! Theorems: what the calls of a run come to, whoever makes them.
+
+ghost use Rattle.std.specs.Prelude.{◌++◌, ℕ, List};
+ghost use Rattle.sqlite.specs.Held.{Held};
+ghost use Rattle.brk_io.specs.Calls.{AreMade};
+ghost use Rattle.brk_desk.specs.Keeping.{OutcomePost};
+ghost use Rattle.brk_desk.specs.Runs.{IsRunOf};
+ghost use Rattle.brk_desk.specs.declared.call.Call as made;
+ghost use Rattle.brk_desk.specs.declared.call.Outcome as came;
+
+use sqlite::Alter;
+
+/// Proves that calls of a desk, made in order with nothing between them, are a run with the
+/// guarantee of a run (`IsRunOf`), whoever makes them: `Desk::run`, or a caller that makes them one
+/// by one. So the contracts of `Desk::call` and `Desk::ask` imply that of a run.
+///
+/// `joined`: a run and a run after it are one run of all their calls.
+pub fn calls_in_order_are_a_run<S: Alter>()
+    ensures made { (old new : Held S) (calls : List (ℕ × made.Call)) (outcomes : List came.Outcome)
+        → AreMade (λ before now call outcome after. OutcomePost S.Store before after now call outcome) old calls outcomes new → IsRunOf S.Store old new calls outcomes }
+    ensures joined { (old mid new : Held S) (calls others : List (ℕ × made.Call)) (outcomes more : List came.Outcome)
+        → IsRunOf S.Store old mid calls outcomes → IsRunOf S.Store mid new others more → IsRunOf S.Store old new (calls ++ others) (outcomes ++ more) }
+{}
