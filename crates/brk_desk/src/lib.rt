@@ -8,6 +8,7 @@ pub mod beginning;
 pub mod call;
 pub mod desk;
 pub mod head;
+pub mod in_order;
 pub mod looking;
 mod lookups;
 mod lots;
@@ -15,7 +16,6 @@ mod orders;
 mod parties;
 mod recents;
 pub mod reopening;
-pub mod running;
 mod statuses;
 mod volumes;
 

@@ -1,5 +1,5 @@
 use Rattle.brk_desk.proofs.Made.{run_of, runs_joined}
-use Rattle.brk_desk.proofs.running.calls_in_order_are_a_run.Goals as goal
+use Rattle.brk_desk.proofs.in_order.calls_in_order_are_a_run.Goals as goal
 
 pub returns-clause-made : goal.returns-clause-made
 returns-clause-made g c = λ old new calls outcomes made. run_of g.S.Store old new calls outcomes made
