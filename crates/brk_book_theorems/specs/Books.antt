@@ -1,4 +1,5 @@
--- The books invariant: what holds of every base that accepted commands reach from the empty base.
+-- The books invariant: what holds of every base that accepted commands reach from the empty base,
+-- and of every base that is read from rows that pass an audit.
 use Rattle.std.specs.Prelude.{◌≡◌, ◌≤◌, ⊤, ℕ, ◌==◌, ◌&&◌, true, false, List, [], ◌∷◌, Option, Some, None, nat_le, IfSome, bytes_eq, find, is_some}
 use Rattle.std.specs.List.{AllByRecursion}
 use Rattle.brk_money.specs.Moments.{last_stamp}

@@ -22,7 +22,7 @@ use Rattle.brk_http_engine.specs.Promises.{TellsOutcomes, WasCalled}
 use Rattle.brk_http_engine.specs.Turns.{ServeGives}
 use Rattle.brk_http_engine.specs.declared.stream.ServeFault.{ServeFault}
 use Rattle.brk_http.specs.Acts.{DeskActs}
-use Rattle.brk_http.specs.Forms.{known_forms}
+use Rattle.brk_http_model.specs.Asked.{all_forms}
 
 still_few : (made : List (ℕ × Call)) (calls : List (ℕ × run.Call)) (n : ℕ) → map call_of made ≡ calls → length calls ≤ n → length made ≤ n
 still_few made calls n is few = omega (arith, ap length is, length-map made call_of)
@@ -48,13 +48,13 @@ module _ {S : Type 0} (g : Ghosts S) where
 
   -- whatever the reader gave, calls were made; where it tells its bytes, these are what they ask for
   pub tells_run : {C : Type 0} (gives : C → ℕ → C → Type 0) (input : Option Text) (first last : Held S) (outside : Outside C) (result : Result ℕ ServeFault) → WasCalled Acts (most_calls result) first last
-      → IfSome input (λ text. ServeGives known_forms Acts gives text (with_base first last outside) result)
+      → IfSome input (λ text. ServeGives all_forms Acts gives text (with_base first last outside) result)
       → (calls : List (ℕ × Call)) × (outcomes : List Outcome) × IsRunOf g first last calls outcomes × (length calls ≤ most_calls result)
-      × IfSome input (λ text. TellsOutcomes known_forms gives text (map call_of calls, map outcome_of outcomes) outside result)
+      × IfSome input (λ text. TellsOutcomes all_forms gives text (map call_of calls, map outcome_of outcomes) outside result)
   tells_run gives None first last outside result (calls, outcomes, made, few) h =
       let r = as_made first last calls outcomes made in (r.0, r.1, run_of g first last r.0 r.1 r.4, still_few r.0 calls _ r.2 few, tt)
   tells_run gives (Some text) first last outside result called h =
-      let t = tells known_forms Acts gives last text first outside result h in
+      let t = tells all_forms Acts gives last text first outside result h in
       let r = as_made first last t.0.0 t.0.1 t.1 in
-      let few = tells_few known_forms gives text t.0 outside result t.2 in
-      (r.0, r.1, run_of g first last r.0 r.1 r.4, still_few r.0 t.0.0 _ r.2 few, subst₂ (λ cs os. TellsOutcomes known_forms gives text (cs, os) outside result) (sym r.2) (sym r.3) t.2)
+      let few = tells_few all_forms gives text t.0 outside result t.2 in
+      (r.0, r.1, run_of g first last r.0 r.1 r.4, still_few r.0 t.0.0 _ r.2 few, subst₂ (λ cs os. TellsOutcomes all_forms gives text (cs, os) outside result) (sym r.2) (sym r.3) t.2)

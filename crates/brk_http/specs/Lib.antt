@@ -1,3 +1,2 @@
-pub mod Forms
 pub mod Acts
 pub mod Served

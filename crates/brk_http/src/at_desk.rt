@@ -2,7 +2,7 @@ ghost use Rattle.std.specs.Prelude.{◌≡◌, Ok};
 ghost use Rattle.brk_commands.specs.Commands.{command_of};
 ghost use Rattle.brk_commit.specs.Answers.{answer_of};
 ghost use Rattle.brk_http.specs.Acts.{DeskActs};
-ghost use Rattle.brk_http.specs.Forms.{known_forms};
+ghost use Rattle.brk_http_model.specs.Asked.{all_forms};
 ghost use Rattle.brk_model.specs.Run.{Did};
 ghost use Rattle.brk_plans.specs.Replies.{reply_of};
 ghost use Rattle.brk_http_engine.specs.Codes.{row_outcome};
@@ -47,7 +47,7 @@ impl<S: Alter> Service for DeskService<S> {
 
     type View = View;
 
-    ghost forms = { known_forms };
+    ghost forms = { all_forms };
 
     ghost acts = { λ old now call outcome new. DeskActs S.Store old now call outcome new };
 

@@ -5,7 +5,7 @@ ghost use Rattle.brk_desk.specs.Commands.{call_of};
 ghost use Rattle.brk_desk.specs.Runs.{IsRunOf};
 ghost use Rattle.brk_desk.specs.declared.call.Call as made;
 ghost use Rattle.brk_desk.specs.declared.call.Outcome as came;
-ghost use Rattle.brk_http.specs.Forms.{known_forms};
+ghost use Rattle.brk_http_model.specs.Asked.{all_forms};
 ghost use Rattle.brk_model.specs.Run.{Answers};
 ghost use Rattle.brk_http_model.specs.Stream.{most_requests};
 ghost use Rattle.brk_http_engine.specs.Limits.{most_calls};
@@ -50,12 +50,12 @@ pub fn serve_stream<R: Read + Drop, W: Write, C: Clock, S: Alter>(
     // the writer or of memory. If the reader has specified content, it asks for exactly these calls,
     // and the replies are those of their outcomes.
     ensures told { (calls : List (ℕ × made.Call)) × (outcomes : List came.Outcome) × IsRunOf S.Store desk.old desk.new calls outcomes × (length calls ≤ most_calls result)
-        × IfSome (R.remaining reader) (λ input. TellsOutcomes known_forms C.gives input (map call_of calls, map outcome_of outcomes)
+        × IfSome (R.remaining reader) (λ input. TellsOutcomes all_forms C.gives input (map call_of calls, map outcome_of outcomes)
         (record { clock = clock.old; later = clock.new; old = W.contents writer.old; new = W.contents writer.new }) result) }
     // Under the disk assumption, for every base that the desk represented, the outcomes are those
     // of the model, and the desk represents the base after them.
     ensures kept { IfSome (R.remaining reader) (λ input. KeepsBooks (λ desk. HasCleanDisk (state S.Store desk)) (λ desk. Represents S.Store desk)
-        known_forms Answers C.gives input desk.old desk.new
+        all_forms Answers C.gives input desk.old desk.new
         (record { clock = clock.old; later = clock.new; old = W.contents writer.old; new = W.contents writer.new }) result) }
 {
     serve::<R, W, C, DeskService<S>>(alloc, reader, writer, clock, desk)

@@ -5,7 +5,7 @@ use Rattle.brk_money.specs.Spelling.{Text}
 use Rattle.brk_model.specs.Answers.{Fields}
 use Rattle.brk_model.specs.Commands.{Command, Refused}
 use Rattle.brk_model.specs.Forms.{Read}
-use Rattle.brk_model.specs.Parse.{parse_row}
+use Rattle.brk_model.specs.Parse.{parse_by, readers}
 use Rattle.brk_model.specs.Ask.{parse_query, views}
 use Rattle.brk_model.specs.Records.{Key}
 use Rattle.brk_model.specs.Run.{Call, Do, Ask, Did, NoView}
@@ -22,9 +22,9 @@ pub record Forms : Type 0 where
   pub views : List Text
   pub query : Text → Fields → Read Query
 
--- The parsers and the view names of the model.
+-- The parsers of all rows and all queries of the model, and the names of its views.
 abbrev pub all_forms : Forms
-all_forms = record { row = parse_row; views = map (λ reader. reader.0) views; query = parse_query }
+all_forms = record { row = parse_by readers; views = map (λ reader. reader.0) views; query = parse_query }
 
 -- The demand of a request: a response without a call of the desk, or a call.
 pub data Asked : Type 0 where

@@ -2,10 +2,8 @@
 -- desk over it.
 use Rattle.std.specs.Prelude.{◌≡◌, ℕ, ◌+◌, List, [], ◌∷◌, ◌++◌, Bool, true, false, ◌||◌, ◌==◌}
 use Rattle.brk_money.specs.Spelling.{Text}
-use Rattle.brk_model.specs.Base.{Base}
-use Rattle.brk_model.specs.Run as run
 use Rattle.brk_model.specs.Run.{Call, Do, Ask, Outcome}
-use Rattle.brk_http_model.specs.Asked.{Forms, Asked, Answers, Calls, all_forms, asked_of}
+use Rattle.brk_http_model.specs.Asked.{Forms, Asked, Answers, Calls, asked_of}
 use Rattle.brk_http_model.specs.Found.{Request, Found, NoMore, Unreadable, Asks, Finds}
 use Rattle.brk_http_model.specs.Replies.{Response, Wrong, Came, is_fault, reply_text}
 
@@ -82,8 +80,3 @@ Begins forms does n input base moments [] rest after = (rest ≡ input) × (mome
 Begins {B} forms does n input base moments (reply ∷ replies) rest after =
     (taken : List ℕ) × (more : List ℕ) × (left : Text) × (mid : B)
     × (moments ≡ taken ++ more) × One forms does n input base taken reply (GoesOn left) mid × Begins forms does (n + 1) left mid more replies rest after
-
--- The model gives `replies` to all of `input` and leads from `base` to `after`. The clock is read
--- once per well-formed row, with the readings `moments`.
-abbrev pub IsReplyText : Base → List ℕ → Text → List Text → Base → Type 0
-IsReplyText base moments input replies after = Replies all_forms run.Answers 0 (GoesOn input) base moments replies after

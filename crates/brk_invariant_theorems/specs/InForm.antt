@@ -1,4 +1,5 @@
--- Well-formed commands and keys: what a typed command always satisfies.
+-- The fields of a command and of a key whose formats an audit needs. A typed command satisfies
+-- them; not every command that does so is well-formed (`IsFormed`).
 use Rattle.brk_money.specs.OrderTypes.{price_asked}
 use Rattle.brk_money.specs.Moments.{last_day}
 use Rattle.std.specs.Prelude.{◌≡◌, ⊤, ℕ, ◌&&◌, Bool, true, nat_le, IfSome}
@@ -32,7 +33,8 @@ IsTickInForm tick = is_price tick.price ≡ true
 abbrev pub is_moved_amount : ℕ → Bool
 is_moved_amount n = nat_le 1 n && nat_le n greatest_amount
 
--- The fields of the command are well-formed.
+-- Those fields of the command whose formats an audit needs are well-formed. Ids that must exist,
+-- and the numbers of ids and ticks, are not among them.
 abbrev pub IsInForm : Command → Type 0
 IsInForm (AddBroker b) = broker_fields b ≡ true
 IsInForm (AddCustomer c) = customer_form c ≡ true

@@ -15,10 +15,10 @@ abbrev pub expected : Schema → Tables → Tables
 expected schema t = sheets_at schema (base_of t)
 
 -- The condition holds of tables of a schema whose rows are sorted by key. `NotEmpty` and `Schema`
--- are conditions of a database, not of rows, and always hold here.
+-- are conditions of a database, not of rows, so they hold of no tables.
 unfoldable pub ConditionHolds : Schema → Condition → Tables → Type 0
-ConditionHolds schema condition.NotEmpty t = ⊤
-ConditionHolds schema condition.Schema t = ⊤
+ConditionHolds schema condition.NotEmpty t = ⊥
+ConditionHolds schema condition.Schema t = ⊥
 ConditionHolds schema condition.Form t = IsTrue (has_form schema t)
 ConditionHolds schema condition.Status t = IsTrue (has_status_rows t)
 ConditionHolds schema condition.Requests t = t.requests ≡ (expected schema t).requests

@@ -1,5 +1,7 @@
 -- The base (abstract state) of a brokerage: all that it accepted and recorded, in the order of
--- acceptance. Lots, sums, balances and requests are not in it, since they follow from it.
+-- acceptance. A base that is read from tables (`base_of` of Adopted) has its lists in the order of
+-- the rows, which are sorted by key. Lots, sums, balances and requests are not in a base, since
+-- they follow from it.
 use Rattle.std.specs.Prelude.{ℕ, Bool, true, false, ◌&&◌, ◌==◌, nat_le, List, [], ◌∷◌, ◌++◌, filter, find, sum_by, Option, None, unwrap_or, ℤ, pos, bytes_eq}
 use Rattle.std.specs.List.{last_or}
 use Rattle.std.specs.Option.{option_map_or}

@@ -8,7 +8,6 @@ use Rattle.brk_money.specs.declared.refusal.Refusal.TheVariants.{BadText}
 use Rattle.brk_model.specs.Records.{Key}
 use Rattle.brk_model.specs.Base.{Base}
 use Rattle.brk_model.specs.Forms.{Read}
-use Rattle.brk_model.specs.Parse.{parse_row}
 use Rattle.brk_model.specs.Commands.{Command, Answer, Refused}
 use Rattle.brk_model.specs.Keyed.{keyed_step}
 use Rattle.brk_model.specs.Answers.{Fields, RowStep, AreAnswered}
@@ -95,7 +94,3 @@ BatchText form step base moments input batch =
 -- The step of a row: its command under its key.
 abbrev pub row_step : Base → ℕ → Command → Key → Answer × Base
 row_step base now command key = keyed_step base now command (Some key)
-
--- The batch is the result of an input by the rows and the step of the brokerage.
-abbrev pub IsBatch : Base → List ℕ → Text → Batch Base → Type 0
-IsBatch base moments input batch = BatchText parse_row row_step base moments input batch

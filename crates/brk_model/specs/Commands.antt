@@ -31,7 +31,9 @@ pub record Tick : Type 0 where
   pub qty : ℕ
 
 -- A command: one of nine kinds of reference records, an order, a feed, a cancel, a result, one of
--- three text updates, a deposit, a withdrawal, or the settlement day.
+-- three text updates, a deposit, a withdrawal, or the settlement day. `price` and `amount` are in
+-- cents; `first` and `last` are stamps, both included, in milliseconds since 1970-01-01 UTC; `day`
+-- is in days since 1970-01-01.
 pub data Command : Type 0 where
   AddBroker : Broker → Command
   AddCustomer : Customer → Command
@@ -73,14 +75,22 @@ pub record Completion : Type 0 where
   pub sell_value : ℕ
   pub balance : ℤ
 
--- The reply to an accepted command, with its stamp.
+-- The reply to an accepted command, with its stamp and the figures of its kind. Amounts are in
+-- cents.
 pub data Reply : Type 0 where
+  -- To a reference record, and to the settlement day.
   Booked : (stamp : ℕ) → Reply
+  -- To an order: the id of its trade, the first status and the estimate.
   Ordered : (stamp trade : ℕ) → Status → Estimate → Reply
+  -- To a feed: the ids of the trades that it triggered.
   Ticked : (stamp : ℕ) → (triggered : List ℕ) → Reply
+  -- To a cancel.
   CanceledTrade : (stamp : ℕ) → Reply
+  -- To a result: the figures of the completion.
   CompletedTrade : (stamp : ℕ) → Completion → Reply
+  -- To a text update: the number of trades that it selects.
   Changed : (stamp count : ℕ) → Reply
+  -- To a deposit or a withdrawal: the number of its cash row, and the balance after it.
   MovedCash : (stamp move : ℕ) → (balance : ℤ) → Reply
 
 -- The answer to a command: done with a reply, again with a stored reply, or refused.

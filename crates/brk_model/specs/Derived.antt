@@ -1,7 +1,7 @@
--- The values that follow from the completed trades and the movements of a base: positions,
--- summaries, settlements, postings, balances and broker totals; and the pending trades. Each
--- definition names the lists that it reads: the accounts, the securities, and the completed trades
--- as `done`.
+-- The values that follow from a base: positions, summaries, settlements, postings, balances and
+-- broker totals, of its completed trades, movements, accounts and settlement rule; the market value
+-- of holdings, which needs its securities too; and the pending trades. Each definition takes the
+-- lists that it reads; `done` are the completed trades.
 use Rattle.std.specs.Prelude.{ℕ, ◌+◌, ◌*◌, false, nat_le, ◌==◌, if◌then◌else◌, List, ◌++◌, length, map, filter, sum_by, Option, Some, None, ℤ, pos, ◌+ℤ◌, ◌-ℤ◌, ◌*ℤ◌, neg_ℤ, bytes_eq}
 use Rattle.std.specs.Option.{option_map_or}
 use Rattle.brk_money.specs.Spelling.{Text}
@@ -55,8 +55,8 @@ withheld accounts t = if takes_tax_off (tax_status_in accounts t.account) then t
 abbrev pub amount_of : List Account → Trade → ℤ
 amount_of accounts t = proceeds (side_of t.kind) (t.qty * price_of t) -ℤ pos (t.charge + t.commission + withheld accounts t)
 
--- The number of days from a completion to its settlement: 1 if a first such day is set and `day` is
--- not before it, otherwise 2.
+-- The number of days from a completion on `day` to its settlement: 1 if the rule has a first day
+-- and `day` is not before it, otherwise 2.
 abbrev pub settlement_days : SettleRule → ℕ → ℕ
 settlement_days rule day = if option_map_or (λ first. nat_le first day) rule false then 1 else 2
 
@@ -92,7 +92,7 @@ posting_of_movement m = record { account = m.account; trade = None; stamp = m.st
 abbrev pub postings : List Account → List Trade → List Movement → List Posting
 postings accounts done movements = map (posting_of_trade accounts) (cash_trades done) ++ map posting_of_movement movements
 
--- The postings, sorted by stamp, ascending.
+-- The postings, sorted by stamp, ascending; the sort is stable.
 abbrev pub in_turn : List Posting → List Posting
 in_turn posted = sort_by_key (λ p. p.stamp) posted
 

@@ -123,8 +123,9 @@ abbrev pub price_form : Tables → TradeRow → Bool
 price_form t row =
     if list_any (λ h. same_status h.status Completed) (history_in t row.id) then option_map_or is_price row.price false else is_none row.price
 
--- True if the columns of a row of TRADE are well-formed, its security and account exist, and its
--- price agrees with its history.
+-- True if the id, the stamp, the quantity and the bid of a row of TRADE and its charge, commission
+-- and tax are within their limits, its security and account exist, and its price agrees with its
+-- history. Of the executor it checks nothing.
 abbrev pub trade_form : Schema → Tables → TradeRow → Bool
 trade_form schema t row =
     is_id row.id && is_stamp t row.stamp && has_security t row.symbol && is_qty schema row.qty && is_price row.bid && has_account t row.account && price_form t row
@@ -175,7 +176,8 @@ is_cash_name t name row =
 abbrev pub cash_form : Tables → CashRow → Bool
 cash_form t c = option_map_or (is_cash_name t c.name) (trade_in t c.trade) false && is_stamp t c.stamp && is_amount c.amount
 
--- True if the movement is a deposit of an amount above 0, or a withdrawal of an amount below 0.
+-- True if the name is `Deposit` and the amount is above 0, or the name is `Withdrawal` and the
+-- amount is below 0.
 abbrev pub is_movement : Text → ℤ → Bool
 is_movement name amount = (bytes_eq name (codes "Deposit") && int_lt (pos 0) amount) || (bytes_eq name (codes "Withdrawal") && int_lt amount (pos 0))
 
@@ -183,8 +185,9 @@ is_movement name amount = (bytes_eq name (codes "Deposit") && int_lt (pos 0) amo
 abbrev pub is_cash_of_trade : Tables → MoveRow → ℕ → Bool
 is_cash_of_trade t r trade = option_map_or (is_cash_name t r.name) (trade_in t trade) false
 
--- True if the columns of a row of CASH_MOVE are well-formed, its account exists, and its name fits
--- its trade or, if it has none, its movement.
+-- True if the number, the stamp and the amount of a row of CASH_MOVE are within their limits, and
+-- its account exists. If the row has a trade, that trade exists and the name is one of its two; if
+-- it has none, name and amount are those of a movement.
 abbrev pub move_form : Tables → MoveRow → Bool
 move_form t r =
     is_move_id r.id && has_account t r.account && option_map_or (is_cash_of_trade t r) r.trade (is_movement r.name r.amount) && is_stamp t r.stamp && is_amount r.amount
@@ -235,9 +238,12 @@ abbrev pub one_tax_id_each : List Customer → Bool
 one_tax_id_each [] = true
 one_tax_id_each (c ∷ customers) = not (list_any (λ d. bytes_eq d.tax_id c.tax_id) customers) && one_tax_id_each customers
 
--- True if the tables satisfy the condition `Form` in a schema: columns are well-formed and within
--- its limits, references resolve, no key or tax id occurs twice, and trades are numbered from 1
--- without a gap.
+-- True if the tables satisfy the condition `Form` in a schema. Columns are well-formed and within
+-- its limits, and references resolve. Every table is sorted by key, and no key and no tax id occurs
+-- twice. Bands do not overlap, no customer is above its limits of accounts and of tax rates, and
+-- trades are numbered from 1 without a gap. No trade has two rows of CASH_MOVE, and at most
+-- `greatest_id` of these rows have no trade. The last stamp and the settlement day are within the
+-- calendar. The tables that the schema lacks have no rows.
 unfoldable pub has_form : Schema → Tables → Bool
 has_form schema t =
     option_map_or (λ last. nat_le last last_stamp) t.last true

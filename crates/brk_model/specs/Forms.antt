@@ -82,23 +82,25 @@ unsigned (Some (pos n)) = Some n
 unsigned (Some (negsuc n)) = None
 unsigned None = None
 
--- The price of a share that a text parses as, in cents, or `BadPrice`.
+-- The price of a share that a text parses as, in cents, 1 to `greatest_price`, or `BadPrice`.
 abbrev pub read_price : Text → Read ℕ
 read_price text = read_if (λ n. nat_le 1 n && nat_le n greatest_price) BadPrice (unsigned (cents_of text))
 
--- The charge that a text parses as, in cents, or `BadText`.
+-- The charge that a text parses as, in cents, 0 to `greatest_charge`, or `BadText`.
 abbrev pub read_charge_amount : Text → Read ℕ
 read_charge_amount text = read_if (λ n. nat_le n greatest_charge) BadText (unsigned (cents_of text))
 
--- The amount of a deposit or a withdrawal that a text parses as, at least 1 cent, or `BadText`.
+-- The amount of a deposit or a withdrawal that a text parses as, in cents, 1 to `greatest_amount`,
+-- or `BadText`.
 abbrev pub read_amount : Text → Read ℕ
 read_amount text = read_if (λ n. nat_le 1 n && nat_le n greatest_amount) BadText (unsigned (cents_of text))
 
--- The day that a text parses as, or `BadText`.
+-- The day that a text parses as, at most `last_day`, or `BadText`.
 abbrev pub read_day : Text → Read ℕ
 read_day text = read_if (λ day. nat_le day last_day) BadText (day_of_text text)
 
--- The opening balance that a text parses as, in cents, negative or not, or `BadText`.
+-- The opening balance that a text parses as, in cents, negative or not, at most `greatest_amount`
+-- either way, or `BadText`.
 abbrev pub read_opening : Text → Read ℤ
 read_opening text = read_if (λ z. nat_le (nat_abs z) greatest_amount) BadText (cents_of text)
 

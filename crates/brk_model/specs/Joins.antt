@@ -1,4 +1,4 @@
--- Lookups in the tables by symbol, trade or account, and the orders of trades.
+-- Lookups in the tables by symbol, trade or account, and rows of TRADE sorted by stamp.
 use Rattle.std.specs.Prelude.{ℕ, ◌==◌, List, filter, find, Option, bytes_eq}
 use Rattle.std.specs.Option.{option_map_or}
 use Rattle.brk_money.specs.Spelling.{Text}

@@ -1,4 +1,5 @@
--- The key of each table, and rows sorted by key.
+-- The key of each table but DESK and SETTLE_RULE, which have at most one row, and rows sorted by
+-- key.
 use Rattle.std.specs.Prelude.{ℕ, Bool, true, false, ◌&&◌, ◌||◌, nat_lt, not, List, [], ◌∷◌}
 use Rattle.brk_money.specs.Spelling.{Text}
 use Rattle.brk_money.specs.Kinds.{type_code, status_code}

@@ -28,8 +28,10 @@ greatest_rate = Rate.GREATEST
 abbrev pub greatest_tax_rate : ℕ
 greatest_tax_rate = TaxRate.GREATEST
 
--- The greatest balance and opening balance (either way), movement and commission total of a broker,
--- in cents. It is also the greatest volume of a security, in shares.
+-- The greatest absolute value of an amount, in cents: of an opening balance, a balance, a movement,
+-- a settlement and a cash row (CA_OPEN, CA_BAL, SE_AMT, CT_AMT, CM_AMT), of the commission and the
+-- tax of a trade (T_COMM, T_TAX), and of the commission total of a broker (B_COMM_TOTAL). It is
+-- also the greatest volume of a security, in shares (LT_VOL).
 abbrev pub greatest_amount : ℕ
 greatest_amount = Cents.GREATEST
 
@@ -37,11 +39,13 @@ greatest_amount = Cents.GREATEST
 abbrev pub greatest_summary : ℕ
 greatest_summary = 9999999999
 
--- The greatest id; also the greatest number of trades, and of movements.
+-- The greatest id, and the greatest row number in a key; also the greatest number of trades, and of
+-- movements.
 abbrev pub greatest_id : ℕ
 greatest_id = Id.GREATEST
 
--- The greatest number of a cash row (CM_ID).
+-- The greatest number of a cash row (CM_ID): the greatest number of trades plus the greatest number
+-- of movements.
 abbrev pub greatest_move_id : ℕ
 greatest_move_id = MoveId.GREATEST
 

@@ -30,7 +30,7 @@ trade_record t =
 abbrev pub is_cash_of : ℕ → MoveRow → Bool
 is_cash_of trade row = option_map_or (λ id. id == trade) row.trade false
 
--- The records of a trade: the trade, its settlement and its cash row if they exist, and its
+-- The records of a trade: the trade, its settlement and its row of CASH_MOVE if they exist, and its
 -- statuses, oldest first.
 abbrev pub lookup_records : Tables → TradeRow → View
 lookup_records tables t =

@@ -135,7 +135,8 @@ abbrev pub read_movement : (ℕ → ℕ → Command) → List Text → Read Comm
 read_movement moved (account ∷ amount ∷ []) = Ok (λ a n. moved a n) ⊛ read_id account ⊛ read_amount amount
 read_movement moved _ = Err BadText
 
--- The first day of settlement after one day, which one field gives, or the refusal of its form.
+-- The first day whose completions settle after one day, which one field gives, or the refusal of
+-- its form.
 abbrev pub read_oneday : List Text → Read ℕ
 read_oneday (day ∷ []) = read_day day
 read_oneday _ = Err BadText

@@ -19,12 +19,13 @@ result_deal stamp price t = record { trade = t.id; side = side_of t.kind; qty = 
 abbrev pub first_cash_type : Trade → Text
 first_cash_type t = if t.is_cash then codes "Cash Account" else codes "Margin"
 
--- The text of a cash row: the name of the trade type, the quantity, `words` and the name of the
--- security.
+-- The name of a cash row: the name of the trade type, a space, the quantity, `words`, and the name
+-- of the security.
 abbrev pub cash_text : Text → Base → Trade → Text
 cash_text words base t = type_name t.kind ++ 32 ∷ decimal t.qty ++ words ++ security_name base t.symbol
 
--- The name of a cash row at completion (CT_NAME); empty if the trade is not a cash trade.
+-- The name of a cash row at completion (CM_NAME; CT_NAME in the first schema); empty if the trade
+-- is not a cash trade.
 abbrev pub first_cash_name : Base → Trade → Text
 first_cash_name base t = if t.is_cash then cash_text (codes " shares of ") base t else []
 

@@ -3,27 +3,32 @@
 use Rattle.std.specs.Prelude.{ℕ, Bool, true, false}
 use Rattle.brk_model.specs.Limits.{greatest_qty, greatest_summary}
 
--- A schema of a database; `number` is the one that DESK contains (D_SCHEMA).
+-- A schema of a database.
 pub record Schema : Type 0 where
+  -- The number that DESK contains (D_SCHEMA).
   pub number : ℕ
   -- True if cash rows are numbered and may have no trade (CASH_MOVE); otherwise each belongs to a
   -- trade (CASH_TRANSACTION).
   pub has_moves : Bool
   -- True if the table of the settlement day exists (SETTLE_RULE).
   pub has_rule : Bool
+  -- The greatest quantity of a trade, a request and a commission band, in shares (T_QTY, TR_QTY,
+  -- CR_FROM_QTY, CR_TO_QTY).
   pub greatest_qty : ℕ
+  -- The greatest holding summary (either way), in shares (HS_QTY).
   pub greatest_summary : ℕ
 
--- The first schema: cash rows of trades only, no settlement day, and smaller quantities.
+-- The first schema: cash rows of trades only, no settlement day, quantities of at most 999,999
+-- shares and summaries of at most 999,999,999.
 abbrev pub first_schema : Schema
 first_schema = record { number = 1; has_moves = false; has_rule = false; greatest_qty = 999999; greatest_summary = 999999999 }
 
--- The second schema: cash rows of trades and of movements, no settlement day, and smaller
--- quantities.
+-- The second schema: cash rows of trades and of movements, no settlement day, quantities of at most
+-- 999,999 shares and summaries of at most 999,999,999.
 abbrev pub second_schema : Schema
 second_schema = record { number = 2; has_moves = true; has_rule = false; greatest_qty = 999999; greatest_summary = 999999999 }
 
 -- The third schema, which a desk uses: cash rows of trades and of movements, the settlement day,
--- and larger quantities.
+-- quantities of at most 9,999,999 shares and summaries of at most 9,999,999,999.
 abbrev pub third_schema : Schema
 third_schema = record { number = 3; has_moves = true; has_rule = true; greatest_qty = greatest_qty; greatest_summary = greatest_summary }

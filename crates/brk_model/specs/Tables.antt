@@ -123,9 +123,9 @@ pub record MoveRow : Type 0 where
   pub amount : ℤ
   pub name : Text
 
--- All tables. `last` is D_LAST, and `rule` is SR_DAY of SETTLE_RULE, which has one row or none.
--- Cash rows are in one of two tables, by the schema: `moves` is empty in the first schema, and
--- `cash` in each later one.
+-- The rows of all tables. Of DESK it has D_LAST alone, as `last`, and of SETTLE_RULE the SR_DAY of
+-- its row, if there is one, as `rule`. The tables of a base have their cash rows in one of two
+-- tables, by the schema: `moves` is empty in the first schema, and `cash` in each later one.
 pub record Tables : Type 0 where
   pub last : Option ℕ
   pub kept : List Kept
@@ -269,7 +269,10 @@ cash_rows schema accounts done = if schema.has_moves then [] else map (cash_row 
 abbrev pub no_rows : Tables
 no_rows = record { last = None; kept = []; brokers = []; customers = []; accounts = []; permissions = []; securities = []; last_trades = []; charges = []; bands = []; tax_rates = []; customer_taxes = []; trades = []; history = []; requests = []; holdings = []; summaries = []; holding_history = []; settlements = []; cash = []; moves = []; rule = None }
 
--- The tables of a base in a schema; the derived rows are computed from the completed trades `done`.
+-- The tables of a base in a schema, if `done` are its completed trades. From them the totals of
+-- brokers, the balances, lots, summaries, lot changes, settlements and cash rows are computed, and
+-- the requests from the pending trades; balances and CASH_MOVE have the movements too. The schema
+-- determines only which table has the cash rows; `rule` is that of the base in every schema.
 abbrev pub tables_upon : Schema → Base → List Trade → Tables
 tables_upon schema base done = record {
   last = base.last;

@@ -1,5 +1,6 @@
 -- The checks of a well-formed command against the base; the refusal is that of the first check that
--- fails.
+-- fails. The bounds of a commission band are checked here once more: no row that parses has them
+-- out of order (`read_bounds` of Parse).
 use Rattle.std.specs.Prelude.{ℕ, ◌+◌, Bool, true, false, not, ◌&&◌, ◌==◌, nat_le, nat_lt, List, [], ◌∷◌, ◌++◌, length, filter, find, Option, option_map, is_some, is_none, nat_abs, bytes_eq}
 use Rattle.std.specs.List.{list_any}
 use Rattle.std.specs.Option.{option_map_or}
@@ -51,7 +52,8 @@ lacks_broker base id = (is_none (broker_with base id), NoBroker)
 abbrev pub lacks_security : Base → Text → Test
 lacks_security base symbol = (is_none (security_with base symbol), NoSecurity)
 
--- The check that fails with `Exists` if `found` is true: the record to be added exists.
+-- The check that fails with `Exists` if `found` is true: the record to be added exists, or a
+-- settlement day is set already.
 abbrev pub exists_if : Bool → Test
 exists_if found = (found, Exists)
 
@@ -140,8 +142,9 @@ abbrev pub is_too_early : ℕ → Command → Bool
 is_too_early stamp (SetOneDay day) = nat_le day (day_of stamp)
 is_too_early stamp _ = false
 
--- The checks of the command's stamp, made after all others: `ClockEnd` if it is past the greatest
--- stamp, `TooEarly` if a settlement day that is set is not after its day.
+-- The checks of the stamp that a command would get: `ClockEnd` if it is past the greatest stamp,
+-- and `TooEarly` if the command sets a settlement day that is not after the day of the stamp.
+-- `refusal_of` makes them after all others.
 abbrev pub stamp_tests : ℕ → Command → List Test
 stamp_tests stamp command = (nat_lt last_stamp stamp, ClockEnd) ∷ (is_too_early stamp command, TooEarly) ∷ []
 

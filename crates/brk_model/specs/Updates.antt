@@ -24,8 +24,8 @@ changed_cash_type t =
     if t.is_cash then other_word (codes "Cash Account") (codes "Cash") t.cash_type
     else other_word (codes "Margin Account") (codes "Margin") t.cash_type
 
--- The updated name of a cash row (CT_NAME): it is written with " Shares of " if it contains "
--- shares of ", otherwise with " shares of ".
+-- The updated name of a cash row (CM_NAME): it is written anew, with " Shares of " if it contains
+-- " shares of ", otherwise with " shares of ".
 abbrev pub changed_cash_name : Base → Trade → Text
 changed_cash_name base t =
     if holds_text (codes " shares of ") t.cash_name then cash_text (codes " Shares of ") base t else cash_text (codes " shares of ") base t

@@ -1,4 +1,5 @@
--- The audit's condition on the statuses of trades.
+-- The audit condition `Status`: the status sequence of each trade, and the stamps of completions
+-- and movements.
 use Rattle.std.specs.Prelude.{ℕ, Bool, true, false, ◌&&◌, ◌==◌, nat_lt, List, [], ◌∷◌, ◌++◌, map, filter, is_none}
 use Rattle.std.specs.List.{list_all}
 use Rattle.brk_money.specs.Kinds.{same_status}

@@ -13,7 +13,7 @@ use Rattle.brk_model.specs.Parse.{parse_row}
 use Rattle.brk_model.specs.Commands.{Answer, Refused}
 use Rattle.brk_model.specs.Answers.{Fields, RowStep, RowCall, call_step, InTurn, formed_from, with_formed, calls_of, woven, woven_one}
 use Rattle.brk_model.specs.Input.{text_of, Begins, AreAll, IsName, IsEnd, header_of, end_of}
-use Rattle.brk_model.specs.Batch.{Batch, BadEnd, AreSettled, IsAnswered, IsUnanswered, row_step, IsBatch}
+use Rattle.brk_model.specs.Batch.{Batch, BadEnd, AreSettled, IsAnswered, IsUnanswered, BatchText, row_step}
 use Rattle.brk_model.specs.Computed.{Answered, in_turn, settled, is_end, Split, with_row, split_at_end, name_in, is_right, told, told_whole, ended_by, cut_off, rows_of, named, batch_from, batch}
 
 -- ---- a run and its answers
@@ -324,6 +324,6 @@ comes form step base moments text (header ∷ rest) e h =
 
 -- the function gives the batch text, and takes the first of the moments
 pub computes : (base : Base) (moments : List ℕ) (input : Text) → length (records default_config (text_of input)) ≤ length moments
-    → (n : ℕ) × IsBatch base (take n moments) input (batch base moments input)
+    → (n : ℕ) × BatchText parse_row row_step base (take n moments) input (batch base moments input)
 unfolding batch
 computes base moments input h = comes parse_row row_step base moments (text_of input) (records default_config (text_of input)) refl h

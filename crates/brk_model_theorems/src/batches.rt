@@ -6,19 +6,20 @@ ghost use Rattle.brk_model.specs.Base.{Base};
 ghost use Rattle.brk_model.specs.Commands.{Answer, Command};
 ghost use Rattle.brk_model.specs.Answers.{Fields, InTurn, RowCall};
 ghost use Rattle.brk_model.specs.Forms.{Read};
+ghost use Rattle.brk_model.specs.Parse.{parse_row};
 ghost use Rattle.brk_model.specs.Input.{Begins, header_of, text_of};
-ghost use Rattle.brk_model.specs.Batch.{AreSettled, Batch, BatchText, IsBatch, row_step};
+ghost use Rattle.brk_model.specs.Batch.{AreSettled, Batch, BatchText, row_step};
 ghost use Rattle.brk_model.specs.Lines.{count_refused};
 ghost use Rattle.brk_model.specs.Computed.{batch, told_whole};
 ghost use Rattle.brk_model.specs.Run.{Did, Run};
 ghost use Rattle.brk_model_theorems.specs.Laws.{AreKeptAnswers, AreRemembered, IsBookedNext, IsCompleted, LeadsTo, StandsAfter, IsCleanBatch, again_of, answers_left, call_of, calls_left, done_answers, done_calls};
 
-/// Proves that the batch that the function `batch` computes satisfies `IsBatch` with the first `n`
-/// of the clock readings, for some `n`. It needs at least as many clock readings as the input has
-/// records.
+/// Proves that the batch that the function `batch` computes is the result of the input by the rows
+/// and the step of the brokerage, with the first `n` of the clock readings, for some `n`. It needs at
+/// least as many clock readings as the input has records.
 pub fn batch_is_computed()
     ensures { (base : Base) (moments : List ℕ) (input : List ℕ) → length (records default_config (text_of input)) ≤ length moments
-        → (n : ℕ) × IsBatch base (take n moments) input (batch base moments input) }
+        → (n : ℕ) × BatchText parse_row row_step base (take n moments) input (batch base moments input) }
 {}
 
 /// Proves that the well-formed rows of a batch are the calls of a run, each with its key.
