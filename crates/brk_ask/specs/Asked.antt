@@ -3,7 +3,7 @@ use Rattle.std.specs.Prelude.{◌≡◌, ◌⊎◌, ℕ, List, Option, Result, O
 use Rattle.std.specs.Io.KnownBytes.{Appends}
 use Rattle.sqlite_trees.specs.declared.store.Store.{Ghosts}
 use Rattle.sqlite.specs.Held.{Held}
-use Rattle.brk_ask.specs.Printed.{text_of}
+use Rattle.brk_ask.specs.Printed.{printed_view}
 use Rattle.brk_ask.specs.declared.form.Form.{Form}
 use Rattle.brk_desk.specs.Keeping.{AskPost}
 use Rattle.brk_model.specs.Forms.{Read}
@@ -23,28 +23,28 @@ Unwritten before after result fault = (after ≡ before) × (result ≡ Err faul
 
 -- `text` was written, or writing it failed. `Desk`: memory ran out, and nothing was written.
 -- `Write`: the first `k` bytes were written, for some `k`.
-abbrev pub Writes : Text → Option Text → Option Text → Result (Unit {0}) ReportFault → Type 0
-Writes text before after (Ok u) = Appends before after text
-Writes text before after (Err (Refused refusal)) = ⊥
-Writes text before after (Err (Desk fault)) = (after ≡ before) × (fault ≡ Memory)
-Writes text before after (Err Write) = (k : ℕ) × Appends before after (take k text)
+abbrev pub WritesText : Text → Option Text → Option Text → Result (Unit {0}) ReportFault → Type 0
+WritesText text before after (Ok u) = Appends before after text
+WritesText text before after (Err (Refused refusal)) = ⊥
+WritesText text before after (Err (Desk fault)) = (after ≡ before) × (fault ≡ Memory)
+WritesText text before after (Err Write) = (k : ℕ) × Appends before after (take k text)
 
 -- The result of a query was written: its view. A refusal or a fault of the desk is returned, and
 -- nothing is written.
-abbrev pub Tells : Form → Query → Result (Result View Refusal) Fault → Option Text → Option Text → Result (Unit {0}) ReportFault → Type 0
-Tells form query (Ok (Ok view)) before after result = Writes (text_of form query (fields_of view)) before after result
-Tells form query (Ok (Err refusal)) before after result = Unwritten before after result (Refused refusal)
-Tells form query (Err fault) before after result = Unwritten before after result (Desk fault)
+abbrev pub WritesView : Form → Query → Result (Result View Refusal) Fault → Option Text → Option Text → Result (Unit {0}) ReportFault → Type 0
+WritesView form query (Ok (Ok view)) before after result = WritesText (printed_view form query (fields_of view)) before after result
+WritesView form query (Ok (Err refusal)) before after result = Unwritten before after result (Refused refusal)
+WritesView form query (Err fault) before after result = Unwritten before after result (Desk fault)
 
 -- The desk was asked this query and nothing else, and its result was written. If the texts are no
 -- query, the desk was not asked, and their refusal is returned.
-abbrev pub IsAnswered : {S : Type 0} → Ghosts S → Held S → Held S → Form → Read Query → Option Text → Option Text → Result (Unit {0}) ReportFault → Type 0
-IsAnswered g old new form (Ok query) before after result =
-    (seen : Result (Result View Refusal) Fault) × AskPost g old new query seen × Tells form query seen before after result
-IsAnswered g old new form (Err refusal) before after result = (new ≡ old) × Unwritten before after result (Refused refusal)
+abbrev pub IsQueryAnswered : {S : Type 0} → Ghosts S → Held S → Held S → Form → Read Query → Option Text → Option Text → Result (Unit {0}) ReportFault → Type 0
+IsQueryAnswered g old new form (Ok query) before after result =
+    (seen : Result (Result View Refusal) Fault) × AskPost g old new query seen × WritesView form query seen before after result
+IsQueryAnswered g old new form (Err refusal) before after result = (new ≡ old) × Unwritten before after result (Refused refusal)
 
 -- The desk was asked the query that the texts are; or memory ran out first, and the desk was not
 -- asked.
 abbrev pub PrintPost : {S : Type 0} → Ghosts S → Held S → Held S → Form → Read Query → Option Text → Option Text → Result (Unit {0}) ReportFault → Type 0
 PrintPost g old new form query before after result =
-    IsAnswered g old new form query before after result ⊎ ((new ≡ old) × Unwritten before after result (Desk Memory))
+    IsQueryAnswered g old new form query before after result ⊎ ((new ≡ old) × Unwritten before after result (Desk Memory))

@@ -1,6 +1,6 @@
 ghost use Rattle.std.specs.Prelude.{◌≡◌, OnErr, Err, IfOk};
-ghost use Rattle.brk_ask.specs.Asked.{PrintPost, Writes};
-ghost use Rattle.brk_ask.specs.Printed.{text_of};
+ghost use Rattle.brk_ask.specs.Asked.{PrintPost, WritesText};
+ghost use Rattle.brk_ask.specs.Printed.{printed_view};
 ghost use Rattle.brk_model.specs.Ask as model;
 ghost use Rattle.brk_money.specs.declared.fault.Fault.TheVariants.{Memory};
 ghost use Rattle.brk_ref.specs.Fields.{texts};
@@ -20,7 +20,7 @@ use std::io::Write;
 
 // Returns the text of a query's view.
 fn text(alloc: Global, query: &Query, view: &View, form: Form) -> Result<Vec<u8>, Fault>
-    ensures text { IfOk result (λ text. text.items ≡ text_of form (query_of query.now) (fields_of view.now)) }
+    ensures text { IfOk result (λ text. text.items ≡ printed_view form (query_of query.now) (fields_of view.now)) }
     ensures fault { OnErr result (result ≡ Err Memory) }
 {
     let mut records = if form.heads {
@@ -45,7 +45,7 @@ fn write_view<W: Write>(
     form: Form,
     writer: &mut W,
 ) -> Result<(), ReportFault>
-    ensures { Writes (text_of form (query_of query.now) (fields_of view.now)) (W.contents writer.old) (W.contents writer.new) result }
+    ensures { WritesText (printed_view form (query_of query.now) (fields_of view.now)) (W.contents writer.old) (W.contents writer.new) result }
 {
     match text(alloc, query, view, form) {
         Ok(text) => match write_out(writer, &text) {

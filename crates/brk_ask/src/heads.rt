@@ -1,5 +1,5 @@
 ghost use Rattle.std.specs.Prelude.{◌≡◌, IfOk};
-ghost use Rattle.brk_ask.specs.Printed.{names_of, heads_of};
+ghost use Rattle.brk_ask.specs.Printed.{names_of_fields, heads_of};
 ghost use Rattle.brk_ref.specs.Fields.{texts};
 ghost use Rattle.brk_view.specs.Queries.{query_of};
 ghost use Rattle.brk_view.specs.Views.{record_of, records_of};
@@ -10,7 +10,7 @@ use std::alloc::{AllocError, Global};
 // Returns the names of the fields that all records of a query's view have, or no name if its
 // records have different fields.
 fn field_names(query: &Query) -> &'static [&'static str]
-    ensures { texts result.now ≡ names_of (query_of query.now) }
+    ensures { texts result.now ≡ names_of_fields (query_of query.now) }
 {
     match query {
         Query::Position(_) | Query::PositionOfTaxId(_) => &["account", "balance", "holdings"],

@@ -23,7 +23,7 @@ use Rattle.brk_model.specs.Adopted.{base_of, is_posted_by, movement_of_row, post
 use Rattle.brk_model.specs.Form.{has_form, trades_moved}
 use Rattle.brk_model.specs.Ways.{has_status_rows, trade_status}
 use Rattle.brk_model.specs.Audit.{ConditionHolds, expected}
-use Rattle.brk_book_theorems.specs.Books.{BooksInvariant, IsOtherwhen, MomentsApart, MovementsApart}
+use Rattle.brk_book_theorems.specs.Books.{BooksInvariant, IsOtherwhen, DistinctMoments, MovementsApart}
 use Rattle.brk_book_theorems.proofs.Order.{All-insert}
 use Rattle.brk_book_theorems.proofs.LotReading.{All-sort}
 use Rattle.brk_book_theorems.proofs.Orders.{Ascends, Rises, SameSums, one_order, permuted, sum_append, sum_map, sum_sort}
@@ -114,7 +114,7 @@ of_each : (t : Trade) (done : List Trade) (ms : List Movement) → In t done →
 of_each t done [] i h = tt
 of_each t done (m ∷ ms) i h = (other_stamp (moment_of t) m.stamp (of_all (IsOtherwhen m.stamp) done t h.0 i), of_each t done ms i h.2)
 
-apart_trades : (base : Base) (done ts : List Trade) (ms : List Movement) → AllByRecursion (λ t. In t done) ts → MomentsApart ts → MovementsApart done ms
+apart_trades : (base : Base) (done ts : List Trade) (ms : List Movement) → AllByRecursion (λ t. In t done) ts → DistinctMoments ts → MovementsApart done ms
     → Apart (map (posting_of_trade base.accounts) ts ++ map posting_of_movement ms)
 unfolding Apart
 apart_trades base done [] ms i m h = apart_movements done ms h
@@ -125,10 +125,10 @@ apart_trades base done (t ∷ ts) ms i m h = (
   apart_trades base done ts ms i.1 m.1 h,
 )
 
-moments_filter : (p : Trade → Bool) (ts : List Trade) → MomentsApart ts → MomentsApart (filter p ts)
+moments_filter : (p : Trade → Bool) (ts : List Trade) → DistinctMoments ts → DistinctMoments (filter p ts)
 moments_filter p [] m = tt
 moments_filter p (t ∷ ts) m =
-    elim (p t) as (λ b. MomentsApart (cond b (t ∷ filter p ts) (filter p ts)))
+    elim (p t) as (λ b. DistinctMoments (cond b (t ∷ filter p ts) (filter p ts)))
     [ true ↦ (All-filter (λ u. (moment_of u == moment_of t) ≡ false) p ts m.0, moments_filter p ts m.1) | false ↦ moments_filter p ts m.1 ]
 
 postings_rise : (base : Base) → BooksInvariant base → Rises (λ p. p.stamp) (in_turn (postings_of base))

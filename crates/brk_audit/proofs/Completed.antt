@@ -16,7 +16,7 @@ use Rattle.brk_book_theorems.proofs.Same.{All-map, All-filter, filter-same}
 use Rattle.brk_audit_theorems.proofs.Climbs.{list_all_true}
 use Rattle.brk_audit_theorems.proofs.Marks.{Lasts, lasts, same_statuses}
 use Rattle.brk_audit_theorems.proofs.AdoptedBooks.{filter-map}
-use Rattle.brk_audit.specs.Completed.{done_rows, is_done, is_waiting, waiting_rows}
+use Rattle.brk_audit.specs.Completed.{done_rows, is_completed_row, is_waiting, waiting_rows}
 
 -- each trade's statuses are right
 pub right_rows : (t : Tables) → has_status_rows t ≡ true → AllByRecursion (λ r. trade_status t r ≡ true) t.trades
@@ -43,7 +43,7 @@ pub completed_rows : (t : Tables) → has_status_rows t ≡ true → completed (
 unfolding base_of
 completed_rows t s =
     filter-map is_completed (trade_of_row t) t.trades
-    ∙ ap (map (trade_of_row t)) (filter-same (λ r. is_completed (trade_of_row t r)) is_done t.trades (All-map t.trades (λ r e. row_status t r Completed e) (right_rows t s)))
+    ∙ ap (map (trade_of_row t)) (filter-same (λ r. is_completed (trade_of_row t r)) is_completed_row t.trades (All-map t.trades (λ r e. row_status t r Completed e) (right_rows t s)))
 
 -- and those that wait are the rows that say that they wait
 pub pending_rows : (t : Tables) → has_status_rows t ≡ true → pending (base_of t).trades ≡ map (trade_of_row t) (waiting_rows t)
@@ -54,4 +54,4 @@ pending_rows t s =
 
 -- each completed trade came to that at the stamp of its row
 pub done_moments : (t : Tables) → has_status_rows t ≡ true → AllByRecursion (λ r. moment_of (trade_of_row t r) ≡ r.stamp) (done_rows t)
-done_moments t s = All-map (done_rows t) (row_moment t) (All-filter (λ r. trade_status t r ≡ true) is_done t.trades (right_rows t s))
+done_moments t s = All-map (done_rows t) (row_moment t) (All-filter (λ r. trade_status t r ≡ true) is_completed_row t.trades (right_rows t s))

@@ -15,7 +15,7 @@ use Rattle.brk_lots.specs.Lots.{plain_lot}
 use Rattle.brk_lots.proofs.Ends.{walk_of}
 use Rattle.brk_lots.proofs.Plain.{lots_walk}
 use Rattle.brk_book_theorems.specs.Books.{BooksInvariant}
-use Rattle.brk_book_theorems.specs.TradeReads.{lots_in, position_in, row_lot}
+use Rattle.brk_book_theorems.specs.TradeReads.{lots_of_position, position_in, row_lot}
 use Rattle.brk_book_theorems.proofs.LotOrder.{position_read, shares_read}
 use Rattle.brk_book_theorems.proofs.LotReading.{All-sort, all_pass}
 use Rattle.brk_book_theorems.proofs.Places.{filter-all, filter-append}
@@ -68,17 +68,17 @@ rows_back r (h ∷ hs) p = let k = is_at r h p.0 in λ i. record h { account = s
 
 -- what a position's deals leave is what the tables have of it
 rows_there : (base : Base) → BooksInvariant base → (r : TradeRow) (run : List TradeRow) → map row_deal run ≡ deals_in (completed base) r.account r.symbol
-    → run_rows r run ≡ lots_in (sheets base) r.account r.symbol
+    → run_rows r run ≡ lots_of_position (sheets base) r.account r.symbol
 unfolding shares_in
 rows_there base books r run e =
     let P : List Lot = position_in (sheets base) r.account r.symbol in
     ap (λ (ds : List Deal). map (lot_row r) (lots (replay ds))) e
     ∙ ap (λ (us : List Share). map (lot_row r) (lots us)) (sym (shares_read base r.account r.symbol books))
     ∙ ap (map (lot_row r)) (lots_walk P (walk_of P (position_read base r.account r.symbol books)))
-    ∙ rows_back r (lots_in (sheets base) r.account r.symbol)
+    ∙ rows_back r (lots_of_position (sheets base) r.account r.symbol)
     (All-sort (λ h. at_place r h ≡ true) (row_before (λ h. number h.stamp ∷ number h.trade ∷ [])) (filter (at_place r) (sheets base).holdings) (all_pass (at_place r) (sheets base).holdings))
 
-sum_there : (base : Base) (r : TradeRow) (f : HoldingRow → ℕ) → sum_by f (lots_in (sheets base) r.account r.symbol) ≡ sum_by f (filter (at_place r) (sheets base).holdings)
+sum_there : (base : Base) (r : TradeRow) (f : HoldingRow → ℕ) → sum_by f (lots_of_position (sheets base) r.account r.symbol) ≡ sum_by f (filter (at_place r) (sheets base).holdings)
 sum_there base r f = sum_sort f (row_before (λ h. number h.stamp ∷ number h.trade ∷ [])) (filter (at_place r) (sheets base).holdings)
 
 -- ---- position by position

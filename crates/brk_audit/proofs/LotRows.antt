@@ -31,7 +31,7 @@ use Rattle.brk_model.specs.Form.{has_account, has_security, is_id, is_price, is_
 use Rattle.brk_changes.specs.Rows.{trade_row_of}
 use Rattle.brk_changes.specs.declared.trade_row.TradeRow as trade
 use Rattle.brk_lots.proofs.Left.{same_is}
-use Rattle.brk_book_theorems.specs.Books.{BooksInvariant, MomentsApart}
+use Rattle.brk_book_theorems.specs.Books.{BooksInvariant, DistinctMoments}
 use Rattle.brk_book_theorems.proofs.Bools.{numbers_back}
 use Rattle.brk_book_theorems.proofs.LotOrder.{Follows, InOrder, held_in_order, trades_held}
 use Rattle.brk_book_theorems.proofs.LotReading.{IdsApart, IdsRise, all_pass, filter-map, holdings_in_order, is_left, numbered_rise, rise_apart, rise_filter}
@@ -46,14 +46,14 @@ use Rattle.brk_audit_theorems.proofs.Members.{in_filter}
 use Rattle.brk_model_theorems.specs.FormParts.{FormParts}
 use Rattle.brk_model_theorems.proofs.FormParts.{form_parts}
 use Rattle.brk_model_theorems.proofs.Conjunctions.{parts10}
-use Rattle.brk_audit.specs.Completed.{done_rows, is_done}
+use Rattle.brk_audit.specs.Completed.{done_rows, is_completed_row}
 use Rattle.brk_audit.specs.Positions.{Leave, clash, place_before, row_deal, same_place}
 use Rattle.brk_audit.proofs.Completed.{completed_rows, done_moments, right_rows}
 use Rattle.brk_audit.proofs.Leaving.{any_in, at_any, at_place, leave_sums}
 use Rattle.brk_book_theorems.proofs.Orders.{Ascends, Rises, one_order, permuted, sum_filter, sum_map, sum_same, sum_sort}
 use Rattle.brk_audit.proofs.Places.{at_one, moment_order}
 use Rattle.brk_audit.proofs.Stretches.{seen}
-use Rattle.brk_audit.specs.Conditions.{IsFormed}
+use Rattle.brk_audit.specs.Conditions.{HasSomeForm}
 use Rattle.brk_audit.proofs.Expected.{same_holdings}
 use Rattle.brk_model.specs.Schemas.{Schema}
 
@@ -66,7 +66,7 @@ has_price : (o : Option ℕ) → option_map_or is_price o false ≡ true → IsS
 has_price None e = false_true e
 has_price (Some n) e = search
 
-priced_row : (schema : Schema) (t : Tables) (r : TradeRow) → trade_form schema t r ≡ true → trade_status t r ≡ true → is_done r ≡ true → IsSome r.price
+priced_row : (schema : Schema) (t : Tables) (r : TradeRow) → trade_form schema t r ≡ true → trade_status t r ≡ true → is_completed_row r ≡ true → IsSome r.price
 priced_row schema t r f e d =
     let l : Lasts t r = lasts t r e in
     let k : IsOf t r.id l.mark = last_is_row t r l.mark l.is in
@@ -78,14 +78,14 @@ priced_row schema t r f e d =
     let q : option_map_or is_price r.price false ≡ true = rw done at p.6 in
     has_price r.price q
 
-pub priced_rows : (t : Tables) → IsFormed t → has_status_rows t ≡ true → AllByRecursion (λ r. IsSome r.price) (done_rows t)
+pub priced_rows : (t : Tables) → HasSomeForm t → has_status_rows t ≡ true → AllByRecursion (λ r. IsSome r.price) (done_rows t)
 priced_rows t f s =
     let p : FormParts f.schema t = form_parts f.schema t f.form in
     All-map (done_rows t) (λ r k. priced_row f.schema t r k.0.0 k.0.1 k.1)
-    (filtered (λ r. (trade_form f.schema t r ≡ true) × (trade_status t r ≡ true)) is_done t.trades
+    (filtered (λ r. (trade_form f.schema t r ≡ true) × (trade_status t r ≡ true)) is_completed_row t.trades
     (both_all (λ r. trade_form f.schema t r ≡ true) (λ r. trade_status t r ≡ true) t.trades (list_all_true (trade_form f.schema t) t.trades p.trades) (right_rows t s)))
 
-no_clash : (t : Tables) (rs : List TradeRow) → IdsApart (map (trade_of_row t) rs) → MomentsApart (map (trade_of_row t) rs) → AllByRecursion (λ r. moment_of (trade_of_row t r) ≡ r.stamp) rs
+no_clash : (t : Tables) (rs : List TradeRow) → IdsApart (map (trade_of_row t) rs) → DistinctMoments (map (trade_of_row t) rs) → AllByRecursion (λ r. moment_of (trade_of_row t r) ≡ r.stamp) rs
     → IsDistinct clash rs
 unfolding IsDistinct
 no_clash t [] i m h = tt
@@ -99,14 +99,14 @@ no_clash t (r ∷ rs) i m h = (ahead rs i.0 m.0 h.1, no_clash t rs i.1 m.1 h.1)
         let stamp : (r.stamp == u.stamp) ≡ false = numbers_back r.stamp u.stamp ∙ (λ x. sym k.0 x == sym h.0 x) ∙ n.0 in
         ((λ x. id x || stamp x), ahead ss j.1 n.1 k.1)
 
-pub clash_apart : (t : Tables) → IsFormed t → has_status_rows t ≡ true → IsDistinct clash (done_rows t)
+pub clash_apart : (t : Tables) → HasSomeForm t → has_status_rows t ≡ true → IsDistinct clash (done_rows t)
 clash_apart t f s =
     let base : Base = base_of t in
     let books : BooksInvariant base = adopted_books f.schema t f.form s in
     let rows : completed base ≡ map (trade_of_row t) (done_rows t) = completed_rows t s in
     no_clash t (done_rows t)
     (subst IdsApart rows (rise_apart (completed base) (rise_filter is_completed base.trades (numbered_rise 1 base.trades books.numbered))))
-    (subst MomentsApart rows books.moments)
+    (subst DistinctMoments rows books.moments)
     (done_moments t s)
 
 -- ---- the deals of a position
@@ -205,7 +205,7 @@ sums_alike t r f rs h =
         ∙ parted (u.account == r.account) (bytes_eq u.symbol r.symbol) (f (deal_of (trade_of_row t u)))
 
 -- in sorted rows a position's deals are those of the base
-pub dealt : (t : Tables) → IsFormed t → has_status_rows t ≡ true → (rs : List TradeRow) → IsPermutation (done_rows t) rs → Sorted place_before rs → (r : TradeRow)
+pub dealt : (t : Tables) → HasSomeForm t → has_status_rows t ≡ true → (rs : List TradeRow) → IsPermutation (done_rows t) rs → Sorted place_before rs → (r : TradeRow)
     → map row_deal (filter (same_place r) rs) ≡ deals_in (completed (base_of t)) r.account r.symbol
 dealt t f s rs p o r =
     let base : Base = base_of t in
@@ -269,7 +269,7 @@ lots_placed t done rs (r ∷ all) m =
     let here : at_place r (holding_row done (trade_of_row t r)) ≡ true = and_from (r.account == r.account) (bytes_eq r.symbol r.symbol) (eq-eqb r.account r.account refl) ((bytes_eq-Decides r.symbol r.symbol).1 refl) in
     (any_in (λ u. at_place u (holding_row done (trade_of_row t r))) rs r (m r (inl refl)) here, lots_placed t done rs all (λ u k. m u (inr k)))
 
-pub lots_told : (schema : Schema) (t : Tables) → IsFormed t → has_status_rows t ≡ true → (rs : List TradeRow) (rows held : List HoldingRow) → IsPermutation (done_rows t) rs → Sorted place_before rs
+pub lots_told : (schema : Schema) (t : Tables) → HasSomeForm t → has_status_rows t ≡ true → (rs : List TradeRow) (rows held : List HoldingRow) → IsPermutation (done_rows t) rs → Sorted place_before rs
     → Leave rs rows → IsPermutation rows held → Ascends (λ h. h.trade) held → held ≡ (expected schema t).holdings
 lots_told schema t f s rs rows held p o l q a =
     let base : Base = base_of t in
@@ -306,8 +306,8 @@ pub clash_moved : (rs ss : List TradeRow) → IsPermutation rs ss → IsDistinct
 clash_moved rs ss p d = IsDistinct-IsPermutation clash (λ r s. (λ i. numbers_back r.id s.id i || numbers_back r.stamp s.stamp i)) rs ss p d
 
 -- the rows are those of the tables
-pub rows_moved : (rows now : List trade.TradeRow) (t : Tables) (done held : List (Bor trade.TradeRow)) → now ≡ rows → held ≡ done → t.trades ≡ map trade_row_of rows → IsPermutation (filter is_done (map trade_row_of now)) (map seen done) → IsPermutation (done_rows t) (map seen held)
+pub rows_moved : (rows now : List trade.TradeRow) (t : Tables) (done held : List (Bor trade.TradeRow)) → now ≡ rows → held ≡ done → t.trades ≡ map trade_row_of rows → IsPermutation (filter is_completed_row (map trade_row_of now)) (map seen done) → IsPermutation (done_rows t) (map seen held)
 rows_moved rows now t done held e h u p =
-    subst (λ (rs : List TradeRow). IsPermutation (filter is_done rs) (map seen held)) (sym u)
-    (subst (λ (rs : List trade.TradeRow). IsPermutation (filter is_done (map trade_row_of rs)) (map seen held)) e
-    (subst (λ (ds : List (Bor trade.TradeRow)). IsPermutation (filter is_done (map trade_row_of now)) (map seen ds)) (sym h) p))
+    subst (λ (rs : List TradeRow). IsPermutation (filter is_completed_row rs) (map seen held)) (sym u)
+    (subst (λ (rs : List trade.TradeRow). IsPermutation (filter is_completed_row (map trade_row_of rs)) (map seen held)) e
+    (subst (λ (ds : List (Bor trade.TradeRow)). IsPermutation (filter is_completed_row (map trade_row_of now)) (map seen ds)) (sym h) p))

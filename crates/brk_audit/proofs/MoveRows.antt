@@ -36,7 +36,7 @@ use Rattle.brk_audit.proofs.LotRows.{dealt}
 use Rattle.brk_audit.proofs.Moves.{run_sums}
 use Rattle.brk_book_theorems.proofs.Orders.{SameSums, permuted, sum_append, sum_map, sum_none, sum_same, sum_sort}
 use Rattle.brk_audit.proofs.Places.{all_back, at_one, same_self}
-use Rattle.brk_audit.specs.Conditions.{IsFormed}
+use Rattle.brk_audit.specs.Conditions.{HasSomeForm}
 use Rattle.brk_audit.proofs.Expected.{same_history}
 use Rattle.brk_model.specs.Schemas.{Schema}
 
@@ -163,7 +163,7 @@ listed : (base : Base) → (sheets base).holding_history ≡ by_key holding_hist
 unfolding tables_at sheets_of
 listed base = refl
 
-pub moves_told : (schema : Schema) (t : Tables) → IsFormed t → has_status_rows t ≡ true → (rs : List TradeRow) (rows moved : List HoldingHistoryRow) → IsPermutation (done_rows t) rs → Sorted place_before rs
+pub moves_told : (schema : Schema) (t : Tables) → HasSomeForm t → has_status_rows t ≡ true → (rs : List TradeRow) (rows moved : List HoldingHistoryRow) → IsPermutation (done_rows t) rs → Sorted place_before rs
     → Trace rs rows → IsPermutation rows moved → Sorted (row_before holding_history_key) moved → (moved ≡ t.holding_history) ↔ (t.holding_history ≡ (expected schema t).holding_history)
 moves_told schema t f s rs rows moved p o l q a =
     let base : Base = base_of t in

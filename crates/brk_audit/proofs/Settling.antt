@@ -24,8 +24,8 @@ use Rattle.brk_book_theorems.proofs.Reading.{find-map}
 use Rattle.brk_audit_theorems.proofs.Climbs.{Climbs, In, climbs_filter, climbs_map, each_in, stays}
 use Rattle.brk_audit_theorems.proofs.Members.{FoundIn, found_in, map-map, one_of_key}
 use Rattle.brk_audit_theorems.proofs.AdoptedBooks.{filter-map}
-use Rattle.brk_audit.specs.Completed.{done_rows, is_done, is_waiting, waiting_rows}
-use Rattle.brk_audit.specs.Settling.{amount_at, broker_at, due_in, due_of, is_done_in_cash, moved_by, moved_in, request_of, tax_status_at}
+use Rattle.brk_audit.specs.Completed.{done_rows, is_completed_row, is_waiting, waiting_rows}
+use Rattle.brk_audit.specs.Settling.{amount_at, broker_at, due_in, due_of, is_done_in_cash, posted_row, moved_in, request_of, tax_status_at}
 use Rattle.brk_audit.proofs.Completed.{completed_rows, pending_rows, right_rows, row_moment}
 use Rattle.brk_model.specs.Schemas.{Schema}
 
@@ -73,7 +73,7 @@ wanted_settlements schema t c s =
     let f : TradeRow → SettlementRow = λ r. settlement_row (accounts_in t) t.rule (trade_of_row t r) in
     ap (λ ts. by_key settlement_key (map (settlement_row (accounts_in t) t.rule) ts)) (completed_rows t s)
     ∙ ap (by_key settlement_key) (map-map (settlement_row (accounts_in t) t.rule) (trade_of_row t) (done_rows t))
-    ∙ stays settlement_key (map f (done_rows t)) (climbs_map trade_key settlement_key f (done_rows t) (λ r. refl) (climbs_filter trade_key is_done t.trades c))
+    ∙ stays settlement_key (map f (done_rows t)) (climbs_map trade_key settlement_key f (done_rows t) (λ r. refl) (climbs_filter trade_key is_completed_row t.trades c))
 
 pub filter-filter : {X : Type 0} (p q : X → Bool) (xs : List X) → filter p (filter q xs) ≡ filter (λ x. q x && p x) xs
 filter-filter p q [] = refl
@@ -87,7 +87,7 @@ filter-filter {X = X} p q (x ∷ xs) = by_test (q x) (filter-filter p q xs)
 pub cash_rows : (t : Tables) → has_status_rows t ≡ true → cash_trades (completed (base_of t)) ≡ map (trade_of_row t) (filter is_done_in_cash t.trades)
 cash_rows t s =
     ap cash_trades (completed_rows t s) ∙ filter-map (λ u. u.is_cash) (trade_of_row t) (done_rows t)
-    ∙ ap (map (trade_of_row t)) (filter-filter (λ r. r.is_cash) is_done t.trades)
+    ∙ ap (map (trade_of_row t)) (filter-filter (λ r. r.is_cash) is_completed_row t.trades)
 
 wanted_cash : (schema : Schema) (t : Tables) → schema.has_moves ≡ false → Climbs trade_key t.trades → has_status_rows t ≡ true
     → (expected schema t).cash ≡ map (λ r. cash_row (accounts_in t) (trade_of_row t r)) (filter is_done_in_cash t.trades)
@@ -179,7 +179,7 @@ pub settlements_by_rows : (schema : Schema) (t : Tables) → Climbs trade_key t.
 unfolding ConditionHolds
 settlements_by_rows schema t c d s =
     let f : TradeRow → SettlementRow = λ r. settlement_row (accounts_in t) t.rule (trade_of_row t r) in
-    let right : AllByRecursion (IsRight t) (done_rows t) = right_done t is_done s in
+    let right : AllByRecursion (IsRight t) (done_rows t) = right_done t is_completed_row s in
     let e = wanted_settlements schema t c s in (
       (λ h. ap (map due_in) (h ∙ e) ∙ map-map due_in f (done_rows t) ∙ map-same (λ r. due_in (f r)) (due_of t.rule (tax_status_at t)) (done_rows t) (All-map (done_rows t) (due_right t) right)),
       (λ h. same_settlements t t.settlements (done_rows t) (settlement_found t.settlements d) right h ∙ sym e),
@@ -188,9 +188,9 @@ settlements_by_rows schema t c d s =
 -- ---- cash rows
 
 abbrev HasCash : Tables → Type 0
-HasCash t = map moved_in t.cash ≡ map (moved_by (tax_status_at t)) (filter is_done_in_cash t.trades)
+HasCash t = map moved_in t.cash ≡ map (posted_row (tax_status_at t)) (filter is_done_in_cash t.trades)
 
-moved_right : (t : Tables) (r : TradeRow) → IsRight t r → moved_in (cash_row (accounts_in t) (trade_of_row t r)) ≡ moved_by (tax_status_at t) r
+moved_right : (t : Tables) (r : TradeRow) → IsRight t r → moved_in (cash_row (accounts_in t) (trade_of_row t r)) ≡ posted_row (tax_status_at t) r
 moved_right t r e = λ i. record { trade = r.id; stamp = row_moment t r e i; amount = same_amount t r i }
 
 cash_found : (cs : List CashRow) → Climbs cash_key cs → AllByRecursion (λ c. find (λ x. x.trade == c.trade) cs ≡ Some c) cs
@@ -214,7 +214,7 @@ posted_cash t e id =
     ∙ find-map (is_posted_by id) (posting_of_cash t) t.cash
 
 same_cash_row : (t : Tables) (c : CashRow) (r : TradeRow) → t.moves ≡ [] → find (λ x. x.trade == c.trade) t.cash ≡ Some c → IsRight t r
-    → moved_in c ≡ moved_by (tax_status_at t) r → c ≡ cash_row (accounts_in t) (trade_of_row t r)
+    → moved_in c ≡ posted_row (tax_status_at t) r → c ≡ cash_row (accounts_in t) (trade_of_row t r)
 same_cash_row t c r n f e d =
     let g : moved_in c ≡ moved_in (cash_row (accounts_in t) (trade_of_row t r)) = d ∙ sym (moved_right t r e) in
     let id : c.trade ≡ r.id = ap (λ x. x.trade) g in
@@ -224,13 +224,13 @@ same_cash_row t c r n f e d =
     λ i. record { trade = (g i).trade; stamp = (g i).stamp; amount = (g i).amount; name = w i }
 
 same_cash : (t : Tables) (cs : List CashRow) (rs : List TradeRow) → t.moves ≡ [] → AllByRecursion (λ c. find (λ x. x.trade == c.trade) t.cash ≡ Some c) cs
-    → AllByRecursion (IsRight t) rs → map moved_in cs ≡ map (moved_by (tax_status_at t)) rs → cs ≡ map (λ r. cash_row (accounts_in t) (trade_of_row t r)) rs
+    → AllByRecursion (IsRight t) rs → map moved_in cs ≡ map (posted_row (tax_status_at t)) rs → cs ≡ map (λ r. cash_row (accounts_in t) (trade_of_row t r)) rs
 same_cash t [] [] n f e d = refl
 same_cash t [] (r ∷ rs) n f e d = absurd (cc)
 same_cash t (c ∷ cs) [] n f e d = absurd (cc)
 same_cash t (c ∷ cs) (r ∷ rs) n f e d =
-    let h : moved_in c ≡ moved_by (tax_status_at t) r = cc in
-    let k : map moved_in cs ≡ map (moved_by (tax_status_at t)) rs = cc in
+    let h : moved_in c ≡ posted_row (tax_status_at t) r = cc in
+    let k : map moved_in cs ≡ map (posted_row (tax_status_at t)) rs = cc in
     let g = same_cash_row t c r n f.0 e.0 h in
     let more = same_cash t cs rs n f.1 e.1 k in
     λ i. g i ∷ more i
@@ -243,6 +243,6 @@ cash_by_rows schema t n m c d s =
     let rows : List TradeRow = filter is_done_in_cash t.trades in
     let right : AllByRecursion (IsRight t) rows = right_done t is_done_in_cash s in
     let e = wanted_cash schema t n c s in (
-      (λ h. ap (map moved_in) (h.0 ∙ e) ∙ map-map moved_in f rows ∙ map-same (λ r. moved_in (f r)) (moved_by (tax_status_at t)) rows (All-map rows (moved_right t) right)),
+      (λ h. ap (map moved_in) (h.0 ∙ e) ∙ map-map moved_in f rows ∙ map-same (λ r. moved_in (f r)) (posted_row (tax_status_at t)) rows (All-map rows (moved_right t) right)),
       (λ h. (same_cash t t.cash rows m (cash_found t.cash d) right h ∙ sym e, m ∙ sym (wanted_no_moves schema t n))),
     )

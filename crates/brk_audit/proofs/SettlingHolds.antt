@@ -20,9 +20,9 @@ use Rattle.brk_changes.specs.declared.request_row.RequestRow as request
 use Rattle.brk_changes.specs.declared.settlement_row.SettlementRow as settlement
 use Rattle.brk_changes.specs.declared.cash_row.CashRow as cash
 use Rattle.brk_audit.specs.AccountTerms.{broker_by, tax_status_by}
-use Rattle.brk_audit.specs.Completed.{is_done, is_waiting}
+use Rattle.brk_audit.specs.Completed.{is_completed_row, is_waiting}
 use Rattle.brk_audit.specs.Conditions.{HasForm, HasStatuses}
-use Rattle.brk_audit.specs.Settling.{amount_at, due_in, due_of, is_done_in_cash, moved_by, moved_in, request_of, tax_status_at, broker_at}
+use Rattle.brk_audit.specs.Settling.{amount_at, due_in, due_of, is_done_in_cash, posted_row, moved_in, request_of, tax_status_at, broker_at}
 use Rattle.brk_audit.specs.declared.account_terms.AccountTerms.{AccountTerms}
 use Rattle.brk_audit.proofs.AccountTerms.{HasTerms, same_brokers, same_tax_statuses}
 use Rattle.brk_audit.proofs.Settling.{cash_by_rows, requests_by_rows, settlements_by_rows}
@@ -33,14 +33,14 @@ keys_of s f = key_parts (tables_in_sheets s) (form_parts f.schema (tables_in_she
 
 pub settlements_hold : (schema : Schema) (s : Sheets) (terms : BTreeMap ℕ AccountTerms) (ss : List settlement.SettlementRow) (ts : List trade.TradeRow) → HasForm s → HasStatuses s
     → HasTerms terms s.accounts.items → ss ≡ s.settlements.items → ts ≡ s.trades.items
-    → (map due_in (map settlement_row_of ss) ≡ map (due_of s.rule (tax_status_by terms)) (filter is_done (map trade_row_of ts))) ↔ ConditionHolds schema condition.Settlement (tables_in_sheets s)
+    → (map due_in (map settlement_row_of ss) ≡ map (due_of s.rule (tax_status_by terms)) (filter is_completed_row (map trade_row_of ts))) ↔ ConditionHolds schema condition.Settlement (tables_in_sheets s)
 settlements_hold schema s terms ss ts f w h e g =
     let t : Tables = tables_in_sheets s in
     let law = settlements_by_rows schema t (keys_of s f).trades (keys_of s f).settlements w in
     let left : map due_in (map settlement_row_of ss) ≡ map due_in t.settlements = ap (λ xs. map due_in (map settlement_row_of xs)) e in
-    let rows : List TradeRow = filter is_done (map trade_row_of s.trades.items) in
-    let right : map (due_of s.rule (tax_status_by terms)) (filter is_done (map trade_row_of ts)) ≡ map (due_of t.rule (tax_status_at t)) rows =
-    ap (λ xs. map (due_of s.rule (tax_status_by terms)) (filter is_done (map trade_row_of xs))) g
+    let rows : List TradeRow = filter is_completed_row (map trade_row_of s.trades.items) in
+    let right : map (due_of s.rule (tax_status_by terms)) (filter is_completed_row (map trade_row_of ts)) ≡ map (due_of t.rule (tax_status_at t)) rows =
+    ap (λ xs. map (due_of s.rule (tax_status_by terms)) (filter is_completed_row (map trade_row_of xs))) g
     ∙ map-same (due_of s.rule (tax_status_by terms)) (due_of t.rule (tax_status_at t)) rows
     (All-of rows (λ r i. record { trade = r.id; due_day = due_after s.rule r.stamp; amount = amount_at (same_tax_statuses s terms h r.account i) r })) in
     ((λ k. law.1 (sym left ∙ k ∙ right)), (λ k. left ∙ law.0 k ∙ sym right))
@@ -56,16 +56,16 @@ fitting schema t f n =
 pub cash_holds : (schema : Schema) (s : Sheets) (terms : BTreeMap ℕ AccountTerms) (cs : List cash.CashRow) (ts : List trade.TradeRow) → schema.has_moves ≡ false
     → has_form schema (tables_in_sheets s) ≡ true → HasStatuses s
     → HasTerms terms s.accounts.items → cs ≡ s.cash.items → ts ≡ s.trades.items
-    → (map moved_in (map cash_row_of cs) ≡ map (moved_by (tax_status_by terms)) (filter is_done_in_cash (map trade_row_of ts))) ↔ ConditionHolds schema condition.Cash (tables_in_sheets s)
+    → (map moved_in (map cash_row_of cs) ≡ map (posted_row (tax_status_by terms)) (filter is_done_in_cash (map trade_row_of ts))) ↔ ConditionHolds schema condition.Cash (tables_in_sheets s)
 cash_holds schema s terms cs ts n f w h e g =
     let t : Tables = tables_in_sheets s in
     let formed : HasForm s = record { schema = schema; form = f } in
     let law = cash_by_rows schema t n (fitting schema t (form_parts schema t f).fits n) (keys_of s formed).trades (keys_of s formed).cash w in
     let left : map moved_in (map cash_row_of cs) ≡ map moved_in t.cash = ap (λ xs. map moved_in (map cash_row_of xs)) e in
     let rows : List TradeRow = filter is_done_in_cash (map trade_row_of s.trades.items) in
-    let right : map (moved_by (tax_status_by terms)) (filter is_done_in_cash (map trade_row_of ts)) ≡ map (moved_by (tax_status_at t)) rows =
-    ap (λ xs. map (moved_by (tax_status_by terms)) (filter is_done_in_cash (map trade_row_of xs))) g
-    ∙ map-same (moved_by (tax_status_by terms)) (moved_by (tax_status_at t)) rows
+    let right : map (posted_row (tax_status_by terms)) (filter is_done_in_cash (map trade_row_of ts)) ≡ map (posted_row (tax_status_at t)) rows =
+    ap (λ xs. map (posted_row (tax_status_by terms)) (filter is_done_in_cash (map trade_row_of xs))) g
+    ∙ map-same (posted_row (tax_status_by terms)) (posted_row (tax_status_at t)) rows
     (All-of rows (λ r i. record { trade = r.id; stamp = r.stamp; amount = amount_at (same_tax_statuses s terms h r.account i) r })) in
     ((λ k. law.1 (sym left ∙ k ∙ right)), (λ k. left ∙ law.0 k ∙ sym right))
 

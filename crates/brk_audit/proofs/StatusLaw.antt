@@ -21,9 +21,9 @@ use Rattle.brk_audit_theorems.proofs.Parts.{KeyParts, key_parts}
 use Rattle.brk_model_theorems.specs.FormParts.{FormParts}
 use Rattle.brk_model_theorems.proofs.FormParts.{form_parts}
 use Rattle.brk_audit_theorems.proofs.AdoptedHistory.{joined}
-use Rattle.brk_audit.specs.Statuses.{all_go, goes_way, stamps_of}
+use Rattle.brk_audit.specs.Statuses.{all_go, goes_way, completion_stamps_of}
 use Rattle.brk_audit.proofs.Statuses.{status_by_rows}
-use Rattle.brk_audit.specs.Conditions.{IsFormed}
+use Rattle.brk_audit.specs.Conditions.{HasSomeForm}
 use Rattle.brk_model.specs.Schemas.{Schema}
 
 -- ---- a trade's rows are the first of those that are left
@@ -72,7 +72,7 @@ same_all t (r ∷ rs) c =
     same_tests (trade_status t r) (goes_way r (history_in t r.id)) (status_by_rows t r c).0 (status_by_rows t r c).1 in
     λ i. e i && same_all t rs c i
 
-pub statuses_by_rows : (t : Tables) → IsFormed t → has_status_rows t ≡ all_go t.trades t.history && all_distinct (stamps_of t.history ++ movement_stamps t)
+pub statuses_by_rows : (t : Tables) → HasSomeForm t → has_status_rows t ≡ all_go t.trades t.history && all_distinct (completion_stamps_of t.history ++ movement_stamps t)
 unfolding has_status_rows runs
 statuses_by_rows t f =
     let p : FormParts f.schema t = form_parts f.schema t f.form in
@@ -80,7 +80,7 @@ statuses_by_rows t f =
     let j : runs t t.trades ≡ t.history = joined t k.history k.trades (list_all_true (history_form t) t.history p.history) in
     ap (λ b. b && all_distinct (completion_stamps t ++ movement_stamps t)) (same_all t t.trades k.history ∙ sym (go_each t t.trades k.trades) ∙ ap (all_go t.trades) j)
 
-pub status_holds : (schema : Schema) (t : Tables) (go apart : Bool) → IsFormed t → go ≡ all_go t.trades t.history → apart ≡ all_distinct (stamps_of t.history ++ movement_stamps t)
+pub status_holds : (schema : Schema) (t : Tables) (go apart : Bool) → HasSomeForm t → go ≡ all_go t.trades t.history → apart ≡ all_distinct (completion_stamps_of t.history ++ movement_stamps t)
     → (go && apart ≡ true → ConditionHolds schema condition.Status t) × (ConditionHolds schema condition.Status t → go && apart ≡ true)
 unfolding ConditionHolds
 status_holds schema t go apart f g a =

@@ -22,7 +22,7 @@ use Rattle.brk_book_theorems.proofs.Same.{All-map, All-of, filter-same, find-eac
 use Rattle.brk_audit_theorems.proofs.Climbs.{Climbs, In, climbs_map, each_in, stays}
 use Rattle.brk_audit_theorems.proofs.Members.{FoundIn, found_in, map-map, one_of_key}
 use Rattle.brk_audit_theorems.proofs.AdoptedTables.{brokers_there}
-use Rattle.brk_audit.specs.Completed.{done_rows, is_done}
+use Rattle.brk_audit.specs.Completed.{done_rows, is_completed_row}
 use Rattle.brk_audit.specs.Settling.{amount_at, broker_at, is_done_in_cash, tax_status_at}
 use Rattle.brk_audit.specs.Sums.{sum_of_account, sum_of_broker, sum_of_movements}
 use Rattle.brk_audit.proofs.Completed.{completed_rows}
@@ -49,9 +49,9 @@ of_broker_sum t f g broker s e =
     ap (λ ts. total_by f (filter (λ u. broker_in (accounts_in t) u.account == broker) ts)) (completed_rows t s)
     ∙ total_mapped f (λ u. broker_in (accounts_in t) u.account == broker) (trade_of_row t) (done_rows t)
     ∙ total_by-same (λ r. f (trade_of_row t r)) g (filter (λ r. broker_in (accounts_in t) r.account == broker) (done_rows t)) (All-of (filter (λ r. broker_in (accounts_in t) r.account == broker) (done_rows t)) e)
-    ∙ ap (total_by g) (filter-filter (λ r. broker_in (accounts_in t) r.account == broker) is_done t.trades
-    ∙ filter-same (λ r. is_done r && (broker_in (accounts_in t) r.account == broker)) (λ r. is_done r && (broker_at t r.account == broker)) t.trades
-    (All-of t.trades (λ r i. is_done r && (same_broker t r.account i == broker))))
+    ∙ ap (total_by g) (filter-filter (λ r. broker_in (accounts_in t) r.account == broker) is_completed_row t.trades
+    ∙ filter-same (λ r. is_completed_row r && (broker_in (accounts_in t) r.account == broker)) (λ r. is_completed_row r && (broker_at t r.account == broker)) t.trades
+    (All-of t.trades (λ r i. is_completed_row r && (same_broker t r.account i == broker))))
 
 of_account_sum : (t : Tables) (account : ℕ) → has_status_rows t ≡ true
     → total_by (amount_of (base_of t).accounts) (filter (λ u. u.account == account) (cash_trades (completed (base_of t)))) ≡ sum_of_account t (λ r. amount_at (tax_status_at t r.account) r) account
@@ -63,9 +63,9 @@ of_account_sum t account s =
     ∙ ap (total_by f) (filter-filter (λ u. u.account == account) (λ u. u.is_cash) (map (trade_of_row t) (done_rows t)))
     ∙ total_mapped f (λ u. u.is_cash && (u.account == account)) (trade_of_row t) (done_rows t)
     ∙ total_by-same (λ r. f (trade_of_row t r)) g (filter (λ r. r.is_cash && (r.account == account)) (done_rows t)) (All-of (filter (λ r. r.is_cash && (r.account == account)) (done_rows t)) (same_amount t))
-    ∙ ap (total_by g) (filter-filter (λ r. r.is_cash && (r.account == account)) is_done t.trades
-    ∙ filter-same (λ r. is_done r && (r.is_cash && (r.account == account))) (λ r. is_done_in_cash r && (r.account == account)) t.trades
-    (All-of t.trades (λ r. regrouped (is_done r) r.is_cash (r.account == account))))
+    ∙ ap (total_by g) (filter-filter (λ r. r.is_cash && (r.account == account)) is_completed_row t.trades
+    ∙ filter-same (λ r. is_completed_row r && (r.is_cash && (r.account == account))) (λ r. is_done_in_cash r && (r.account == account)) t.trades
+    (All-of t.trades (λ r. regrouped (is_completed_row r) r.is_cash (r.account == account))))
   where
     regrouped : (a b c : Bool) → a && (b && c) ≡ (a && b) && c
     regrouped true b c = refl

@@ -28,13 +28,13 @@ use Rattle.brk_audit_theorems.proofs.Climbs.{list_all_true, of_all}
 use Rattle.brk_audit_theorems.proofs.Members.{FoundIn, found_in}
 use Rattle.brk_model_theorems.proofs.FormParts.{form_parts}
 use Rattle.brk_model_theorems.proofs.Conjunctions.{parts10, parts3}
-use Rattle.brk_audit.specs.Completed.{is_done}
+use Rattle.brk_audit.specs.Completed.{is_completed_row}
 use Rattle.brk_audit.specs.PositionSums.{SummariesHold, TellsShares, plain, position_cmp, shares_posting, sum_of_position, told_of_position, told_posting}
 use Rattle.brk_audit.specs.Tally.{at_key, total_at}
 use Rattle.brk_audit.specs.declared.tally.Posting.{Posting}
 use Rattle.brk_audit.proofs.Checked.{rows_back, rows_hold}
 use Rattle.brk_audit.proofs.Postings.{All-filter_map, total_mapped, total_posted}
-use Rattle.brk_audit.specs.Conditions.{IsFormed}
+use Rattle.brk_audit.specs.Conditions.{HasSomeForm}
 
 abbrev pub Place : Type 0
 Place = ℕ × Bor (List ℕ)
@@ -62,11 +62,11 @@ sum_there s ps q e =
     let f : TradeRow → ℤ = λ r. signed (side_of r.kind) r.qty in
     sym (total_mapped (λ p. p.amount) (λ p. is_eq (plain_cmp p.key at)) plain ps)
     ∙ ap (λ xs. total_at plain_cmp xs at) e
-    ∙ total_posted plain_cmp (λ r. is_done (trade_row_of r)) (λ r. ((trade_row_of r).account, (trade_row_of r).symbol)) (λ r. f (trade_row_of r)) s.trades.items at
-    ∙ ap (total_by (λ r. f (trade_row_of r))) (filter-same (λ r. is_done (trade_row_of r) && is_eq (plain_cmp ((trade_row_of r).account, (trade_row_of r).symbol) at))
-    (λ r. is_done (trade_row_of r) && (((trade_row_of r).account == q.0) && bytes_eq (trade_row_of r).symbol q.1.now)) s.trades.items
-    (All-of s.trades.items (λ r i. is_done (trade_row_of r) && is_same_place (trade_row_of r).account q.0 (trade_row_of r).symbol q.1.now i)))
-    ∙ sym (total_mapped f (λ r. is_done r && ((r.account == q.0) && bytes_eq r.symbol q.1.now)) trade_row_of s.trades.items)
+    ∙ total_posted plain_cmp (λ r. is_completed_row (trade_row_of r)) (λ r. ((trade_row_of r).account, (trade_row_of r).symbol)) (λ r. f (trade_row_of r)) s.trades.items at
+    ∙ ap (total_by (λ r. f (trade_row_of r))) (filter-same (λ r. is_completed_row (trade_row_of r) && is_eq (plain_cmp ((trade_row_of r).account, (trade_row_of r).symbol) at))
+    (λ r. is_completed_row (trade_row_of r) && (((trade_row_of r).account == q.0) && bytes_eq (trade_row_of r).symbol q.1.now)) s.trades.items
+    (All-of s.trades.items (λ r i. is_completed_row (trade_row_of r) && is_same_place (trade_row_of r).account q.0 (trade_row_of r).symbol q.1.now i)))
+    ∙ sym (total_mapped f (λ r. is_completed_row r && ((r.account == q.0) && bytes_eq r.symbol q.1.now)) trade_row_of s.trades.items)
 
 told_there : (s : Sheets) (cs : List (Posting Place)) (q : Place) → map plain cs ≡ map (λ r. told_posting (summary_row_of r)) s.summaries.items
     → total_at position_cmp cs q ≡ told_of_position (tables_in_sheets s).summaries q.0 q.1.now
@@ -95,18 +95,18 @@ trade_known schema t r e =
 summary_known : (schema : Schema) (t : Tables) (h : SummaryRow) → summary_form schema t h ≡ true → IsKnown t h.account h.symbol
 summary_known schema t h e = let p = parts3 (has_account t h.account) (has_security t h.symbol) (nat_le (nat_abs h.qty) schema.greatest_summary) e in (p.0, p.1)
 
-postings_known : (s : Sheets) (ps : List (Posting Place)) → IsFormed (tables_in_sheets s) → map plain ps ≡ filter_map (λ r. shares_posting (trade_row_of r)) s.trades.items
+postings_known : (s : Sheets) (ps : List (Posting Place)) → HasSomeForm (tables_in_sheets s) → map plain ps ≡ filter_map (λ r. shares_posting (trade_row_of r)) s.trades.items
     → AllByRecursion (λ p. IsKnown (tables_in_sheets s) p.key.0 p.key.1.now) ps
 postings_known s ps f e =
     let t : Tables = tables_in_sheets s in
     rows_back (λ p. IsKnown t p.key.0 p.key.1.now) (λ p. IsKnown t p.key.0 p.key.1) plain ps (λ p h. h)
     (subst (AllByRecursion (λ p. IsKnown t p.key.0 p.key.1)) (sym e)
-    (All-filter_map (λ p. IsKnown t p.key.0 p.key.1) (λ r. is_done (trade_row_of r))
+    (All-filter_map (λ p. IsKnown t p.key.0 p.key.1) (λ r. is_completed_row (trade_row_of r))
     (λ r. record { key = ((trade_row_of r).account, (trade_row_of r).symbol); amount = signed (side_of (trade_row_of r).kind) (trade_row_of r).qty }) s.trades.items
     (rows_back (λ r. IsKnown t (trade_row_of r).account (trade_row_of r).symbol) (λ r. trade_form f.schema t r ≡ true) trade_row_of s.trades.items (λ r. trade_known f.schema t (trade_row_of r))
     (list_all_true (trade_form f.schema t) t.trades (form_parts f.schema t f.form).trades))))
 
-claims_known : (s : Sheets) (cs : List (Posting Place)) → IsFormed (tables_in_sheets s) → map plain cs ≡ map (λ r. told_posting (summary_row_of r)) s.summaries.items
+claims_known : (s : Sheets) (cs : List (Posting Place)) → HasSomeForm (tables_in_sheets s) → map plain cs ≡ map (λ r. told_posting (summary_row_of r)) s.summaries.items
     → AllByRecursion (λ p. IsKnown (tables_in_sheets s) p.key.0 p.key.1.now) cs
 claims_known s cs f e =
     let t : Tables = tables_in_sheets s in
@@ -173,7 +173,7 @@ module _ (s : Sheets) (sums told : BTreeMap Place ℤ) (ps cs : List (Posting Pl
   known_agree : (xs : List (Posting Place)) → SummariesHold t → AllByRecursion (λ p. IsKnown t p.key.0 p.key.1.now) xs → AllByRecursion (Agree sums told) xs
   known_agree xs h k = All-map xs (λ p e. sum_is p.key ∙ h.sums p.key.0 p.key.1.now e.0 e.1 ∙ sym (told_is p.key)) k
 
-  pub they_agree : IsFormed t → SummariesHold t
+  pub they_agree : HasSomeForm t → SummariesHold t
       → AllByRecursion (Agree sums told) ps × AllByRecursion (Agree sums told) cs × AllByRecursion (λ r. is_zero r.qty ≡ false) s.summaries.items
   they_agree f h = (
     known_agree ps h (postings_known s ps f w.posted),

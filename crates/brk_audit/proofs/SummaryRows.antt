@@ -35,12 +35,12 @@ use Rattle.brk_model_theorems.specs.FormParts.{FormParts}
 use Rattle.brk_model_theorems.proofs.FormParts.{form_parts}
 use Rattle.brk_model_theorems.proofs.Conjunctions.{parts3}
 use Rattle.brk_audit_theorems.proofs.Sorted.{All-block, All-rows}
-use Rattle.brk_audit.specs.Completed.{done_rows, is_done}
+use Rattle.brk_audit.specs.Completed.{done_rows, is_completed_row}
 use Rattle.brk_audit.specs.PositionSums.{SummariesHold, TellsShares, sum_of_position, told_of_position}
 use Rattle.brk_audit.proofs.Completed.{completed_rows}
 use Rattle.brk_audit.proofs.Postings.{total_mapped}
 use Rattle.brk_audit.proofs.Settling.{filter-filter}
-use Rattle.brk_audit.specs.Conditions.{IsFormed}
+use Rattle.brk_audit.specs.Conditions.{HasSomeForm}
 use Rattle.brk_model.specs.Schemas.{Schema}
 
 -- ---- what a position's trades leave
@@ -56,7 +56,7 @@ position_sum t account symbol s =
     ap (λ ts. total_by f (of_position ts account symbol)) (completed_rows t s)
     ∙ ap (total_by f) (filter-filter (λ u. bytes_eq u.symbol symbol) (λ u. u.account == account) (map (trade_of_row t) (done_rows t)))
     ∙ total_mapped f p (trade_of_row t) (done_rows t)
-    ∙ ap (total_by (λ r. signed (side_of r.kind) r.qty)) (filter-filter (λ r. (r.account == account) && bytes_eq r.symbol symbol) is_done t.trades)
+    ∙ ap (total_by (λ r. signed (side_of r.kind) r.qty)) (filter-filter (λ r. (r.account == account) && bytes_eq r.symbol symbol) is_completed_row t.trades)
 
 -- ---- what summaries tell, where they climb
 
@@ -273,7 +273,7 @@ each_alike t xs ys c d n k e =
     All-map xs (λ h m. told_alike xs ys h c d m.1.0 m.0 (e h.account h.symbol m.1.1.0 m.1.1.1))
     (both_all (λ h. In h xs) (λ h. TellsShares h × IsKnown t h) xs (each_in xs) (both_all TellsShares (IsKnown t) xs n k))
 
-pub summaries_by_rows : (schema : Schema) (t : Tables) → IsFormed t → has_status_rows t ≡ true → (ConditionHolds schema condition.Summary t → SummariesHold t) × (SummariesHold t → ConditionHolds schema condition.Summary t)
+pub summaries_by_rows : (schema : Schema) (t : Tables) → HasSomeForm t → has_status_rows t ≡ true → (ConditionHolds schema condition.Summary t → SummariesHold t) × (SummariesHold t → ConditionHolds schema condition.Summary t)
 unfolding ConditionHolds
 summaries_by_rows schema t f s =
     let p : FormParts f.schema t = form_parts f.schema t f.form in

@@ -11,7 +11,7 @@ use Rattle.brk_changes.specs.Rows.{history_row_of, move_row_of, trade_row_of}
 use Rattle.brk_changes.specs.declared.trade_row.TradeRow.{TradeRow}
 use Rattle.brk_changes.specs.declared.history_row.HistoryRow.{HistoryRow}
 use Rattle.brk_changes.specs.declared.move_row.MoveRow.{MoveRow}
-use Rattle.brk_audit.specs.Statuses.{all_go, goes_way, moved_stamps_of, stamps_of}
+use Rattle.brk_audit.specs.Statuses.{all_go, goes_way, moved_stamps_of, completion_stamps_of}
 
 false_true : {A : Type 0} → false ≡ true → A
 false_true e = absurd (cc)
@@ -82,7 +82,7 @@ not_distinct_front (m ∷ ms) ns e =
 
 -- the stamps of completions that rows of the history tell
 abbrev pub told_stamps : List HistoryRow → List ℕ
-told_stamps hs = stamps_of (map history_row_of hs)
+told_stamps hs = completion_stamps_of (map history_row_of hs)
 
 told-append : (hs ks : List HistoryRow) → told_stamps (hs ++ ks) ≡ told_stamps hs ++ told_stamps ks
 told-append [] ks = refl

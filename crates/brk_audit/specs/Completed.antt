@@ -5,8 +5,8 @@ use Rattle.brk_money.specs.declared.status.Status.TheVariants.{Completed, Pendin
 use Rattle.brk_model.specs.Tables.{Tables, TradeRow}
 
 -- True if the trade is completed.
-abbrev pub is_done : TradeRow → Bool
-is_done r = same_status r.status Completed
+abbrev pub is_completed_row : TradeRow → Bool
+is_completed_row r = same_status r.status Completed
 
 -- True if the trade is pending.
 abbrev pub is_waiting : TradeRow → Bool
@@ -14,7 +14,7 @@ is_waiting r = same_status r.status Pending
 
 -- The completed trades.
 abbrev pub done_rows : Tables → List TradeRow
-done_rows t = filter is_done t.trades
+done_rows t = filter is_completed_row t.trades
 
 -- The pending trades.
 abbrev pub waiting_rows : Tables → List TradeRow

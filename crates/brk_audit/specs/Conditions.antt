@@ -8,13 +8,13 @@ use Rattle.brk_changes.specs.Sheets.{tables_in_sheets}
 use Rattle.brk_changes.specs.declared.sheets.Sheets.{Sheets}
 
 -- Each row is well-formed by the limits of some schema.
-pub record IsFormed (t : Tables) : Type 0 where
+pub record HasSomeForm (t : Tables) : Type 0 where
   pub schema : Schema
   pub form : IsTrue (has_form schema t)
 
 -- The typed rows are well-formed by the limits of some schema.
 abbrev pub HasForm : Sheets → Type 0
-HasForm s = IsFormed (tables_in_sheets s)
+HasForm s = HasSomeForm (tables_in_sheets s)
 
 -- Each trade's history is a valid status sequence, and no two completions or movements have the
 -- same stamp.

@@ -11,13 +11,13 @@ use Rattle.brk_model.specs.Form.{has_account, has_security}
 use Rattle.brk_model.specs.Lists.{is_zero, total_by}
 use Rattle.brk_model.specs.Shares.{signed}
 use Rattle.brk_model.specs.Tables.{Tables, SummaryRow, TradeRow}
-use Rattle.brk_audit.specs.Completed.{is_done}
+use Rattle.brk_audit.specs.Completed.{is_completed_row}
 use Rattle.brk_audit.specs.declared.tally.Posting.{Posting}
 
 -- The number of shares that the completed trades of the position leave, negative if sold short.
 abbrev pub sum_of_position : Tables → ℕ → Text → ℤ
 sum_of_position t account symbol =
-    total_by (λ r. signed (side_of r.kind) r.qty) (filter (λ r. is_done r && ((r.account == account) && bytes_eq r.symbol symbol)) t.trades)
+    total_by (λ r. signed (side_of r.kind) r.qty) (filter (λ r. is_completed_row r && ((r.account == account) && bytes_eq r.symbol symbol)) t.trades)
 
 -- The number of shares of the position in the summaries.
 abbrev pub told_of_position : List SummaryRow → ℕ → Text → ℤ
@@ -44,7 +44,7 @@ plain p = record { key = (p.key.0, p.key.1.now); amount = p.amount }
 
 -- The posting of a completed trade's shares at its position, or `None` if it is not completed.
 abbrev pub shares_posting : TradeRow → Option (Posting (ℕ × Text))
-shares_posting r = if is_done r then Some (record { key = (r.account, r.symbol); amount = signed (side_of r.kind) r.qty }) else None
+shares_posting r = if is_completed_row r then Some (record { key = (r.account, r.symbol); amount = signed (side_of r.kind) r.qty }) else None
 
 -- The posting of a summary's quantity at its position.
 abbrev pub told_posting : SummaryRow → Posting (ℕ × Text)

@@ -9,7 +9,7 @@ use Rattle.brk_model.specs.Derived.{due_after, proceeds}
 use Rattle.brk_model.specs.Records.{SettleRule}
 use Rattle.brk_model.specs.Joins.{account_in}
 use Rattle.brk_model.specs.Tables.{Tables, CashRow, MoveRow, RequestRow, SettlementRow, TradeRow}
-use Rattle.brk_audit.specs.Completed.{is_done}
+use Rattle.brk_audit.specs.Completed.{is_completed_row}
 
 -- The broker of the account, or 0 if the account does not exist.
 abbrev pub broker_at : Tables → ℕ → ℕ
@@ -54,8 +54,8 @@ abbrev pub moved_in : CashRow → Moved
 moved_in c = record { trade = c.trade; stamp = c.stamp; amount = c.amount }
 
 -- The cash row of a completed cash trade, with the tax statuses of accounts from `statuses`.
-abbrev pub moved_by : (ℕ → TaxStatus) → TradeRow → Moved
-moved_by statuses r = record { trade = r.id; stamp = r.stamp; amount = amount_at (statuses r.account) r }
+abbrev pub posted_row : (ℕ → TaxStatus) → TradeRow → Moved
+posted_row statuses r = record { trade = r.id; stamp = r.stamp; amount = amount_at (statuses r.account) r }
 
 -- The figures of a row of CASH_MOVE that belongs to a trade.
 pub record Posted : Type 0 where
@@ -81,7 +81,7 @@ is_in_turn n stamp (r ∷ rs) = (r.id == n) && (nat_le stamp r.stamp && is_in_tu
 
 -- True if the trade is a completed cash trade.
 abbrev pub is_done_in_cash : TradeRow → Bool
-is_done_in_cash r = is_done r && r.is_cash
+is_done_in_cash r = is_completed_row r && r.is_cash
 
 -- For any later trades: the rows equal those of `trade` and the later trades if and only if the
 -- rows `others` equal those of the later trades.

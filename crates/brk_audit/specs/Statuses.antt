@@ -59,8 +59,8 @@ all_go (r ∷ rs) hs =
     goes_way r (take (prefix_len (λ h. h.trade == r.id) hs) hs) && all_go rs (drop (prefix_len (λ h. h.trade == r.id) hs) hs)
 
 -- The stamps of the completions.
-abbrev pub stamps_of : List HistoryRow → List ℕ
-stamps_of hs = map (λ h. h.stamp) (filter (λ h. same_status h.status Completed) hs)
+abbrev pub completion_stamps_of : List HistoryRow → List ℕ
+completion_stamps_of hs = map (λ h. h.stamp) (filter (λ h. same_status h.status Completed) hs)
 
 -- The stamps of the movements: deposits and withdrawals.
 abbrev pub moved_stamps_of : List MoveRow → List ℕ

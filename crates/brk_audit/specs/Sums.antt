@@ -3,13 +3,13 @@ use Rattle.std.specs.Prelude.{ℕ, ◌==◌, ◌&&◌, Option, Some, None, if◌
 use Rattle.brk_money.specs.declared.tax_status.TaxStatus.{TaxStatus}
 use Rattle.brk_model.specs.Lists.{total_by}
 use Rattle.brk_model.specs.Tables.{MoveRow, Tables, TradeRow}
-use Rattle.brk_audit.specs.Completed.{is_done}
+use Rattle.brk_audit.specs.Completed.{is_completed_row}
 use Rattle.brk_audit.specs.Settling.{amount_at, broker_at, is_done_in_cash}
 use Rattle.brk_audit.specs.declared.tally.Posting.{Posting}
 
 -- The sum of `amount` over the completed trades of the broker's accounts.
 abbrev pub sum_of_broker : Tables → (TradeRow → ℤ) → ℕ → ℤ
-sum_of_broker t amount broker = total_by amount (filter (λ r. is_done r && (broker_at t r.account == broker)) t.trades)
+sum_of_broker t amount broker = total_by amount (filter (λ r. is_completed_row r && (broker_at t r.account == broker)) t.trades)
 
 -- The sum of `amount` over the completed cash trades of the account.
 abbrev pub sum_of_account : Tables → (TradeRow → ℤ) → ℕ → ℤ
@@ -17,11 +17,11 @@ sum_of_account t amount account = total_by amount (filter (λ r. is_done_in_cash
 
 -- The posting of 1 at the broker of a completed trade's account.
 abbrev pub count_posting : (ℕ → ℕ) → TradeRow → Option (Posting ℕ)
-count_posting brokers r = if is_done r then Some (record { key = brokers r.account; amount = pos 1 }) else None
+count_posting brokers r = if is_completed_row r then Some (record { key = brokers r.account; amount = pos 1 }) else None
 
 -- The posting of a completed trade's commission at the broker of its account.
 abbrev pub commission_posting : (ℕ → ℕ) → TradeRow → Option (Posting ℕ)
-commission_posting brokers r = if is_done r then Some (record { key = brokers r.account; amount = pos r.commission }) else None
+commission_posting brokers r = if is_completed_row r then Some (record { key = brokers r.account; amount = pos r.commission }) else None
 
 -- The posting of a completed cash trade's settlement amount at its account.
 abbrev pub cash_posting : (ℕ → TaxStatus) → TradeRow → Option (Posting ℕ)

@@ -6,7 +6,7 @@ ghost use Rattle.brk_money.specs.declared.fault.Fault.TheVariants.{Memory};
 ghost use Rattle.brk_model.specs.Audit.{ConditionHolds};
 ghost use Rattle.brk_audit.specs.AccountTerms.{tax_status_by};
 ghost use Rattle.brk_audit.specs.Conditions.{HasStatuses};
-ghost use Rattle.brk_audit.specs.Settling.{Differs, Leaves, amount_at, is_done_in_cash, is_in_turn, moved_by, moved_in, posted_by, posted_in};
+ghost use Rattle.brk_audit.specs.Settling.{Differs, Leaves, amount_at, is_done_in_cash, is_in_turn, posted_row, moved_in, posted_by, posted_in};
 ghost use Rattle.brk_changes.specs.Rows.{cash_row_of, move_row_of, trade_row_of};
 ghost use Rattle.brk_changes.specs.Schemas.{schema_of};
 ghost use Rattle.brk_changes.specs.Sheets.{tables_in_sheets};
@@ -44,8 +44,8 @@ fn left_after<'a>(
     terms: &BTreeMap<u64, AccountTerms>,
 ) -> Option<&'a [CashRow]>
     ensures { MatchOption result
-        (Differs moved_in (moved_by (tax_status_by terms.now)) is_done_in_cash (map cash_row_of cash.now) (trade_row_of trade.now))
-        (λ others. Leaves moved_in (moved_by (tax_status_by terms.now)) is_done_in_cash (map cash_row_of cash.now) (trade_row_of trade.now) (map cash_row_of others.now)) }
+        (Differs moved_in (posted_row (tax_status_by terms.now)) is_done_in_cash (map cash_row_of cash.now) (trade_row_of trade.now))
+        (λ others. Leaves moved_in (posted_row (tax_status_by terms.now)) is_done_in_cash (map cash_row_of cash.now) (trade_row_of trade.now) (map cash_row_of others.now)) }
 {
     if !moves_cash(trade) {
         return Some(cash);
@@ -63,7 +63,7 @@ fn left_after<'a>(
 // Returns whether the cash rows are exactly those of the completed cash trades, in the order of the
 // trades.
 fn are_moved(cash: &[CashRow], trades: &[TradeRow], terms: &BTreeMap<u64, AccountTerms>) -> bool
-    ensures { IsTrue result ↔ (map moved_in (map cash_row_of cash.now) ≡ map (moved_by (tax_status_by terms.now)) (filter is_done_in_cash (map trade_row_of trades.now))) }
+    ensures { IsTrue result ↔ (map moved_in (map cash_row_of cash.now) ≡ map (posted_row (tax_status_by terms.now)) (filter is_done_in_cash (map trade_row_of trades.now))) }
 {
     let mut rest = cash;
     for trade in trades {

@@ -2,7 +2,7 @@ ghost use Rattle.std.specs.Prelude.{◌≡◌, ◌≤◌, IfErr, IfOk, IsPermuta
 ghost use Rattle.std.specs.List.{AllByRecursion};
 ghost use Rattle.std.specs.List.Sorted.{IsSortedBy};
 ghost use Rattle.std.specs.Ordering.{is_lt};
-ghost use Rattle.brk_audit.specs.Completed.{is_done};
+ghost use Rattle.brk_audit.specs.Completed.{is_completed_row};
 ghost use Rattle.brk_audit.specs.Positions.{Heads, place_before, row_deal, same_place};
 ghost use Rattle.brk_changes.specs.Rows.{trade_row_of};
 ghost use Rattle.brk_lots.specs.Deals.{AreDeals};
@@ -18,7 +18,7 @@ use std::cmp::Ordering;
 
 // Returns the completed trades, in the order of their rows.
 fn completed(alloc: Global, trades: &[TradeRow]) -> Result<Vec<&TradeRow>, Fault>
-    ensures done { IfOk result (λ done. map (λ row. trade_row_of row.now) done.items ≡ filter is_done (map trade_row_of trades.now)) }
+    ensures done { IfOk result (λ done. map (λ row. trade_row_of row.now) done.items ≡ filter is_completed_row (map trade_row_of trades.now)) }
     ensures fault { IfErr result (λ fault. fault ≡ Memory) }
 {
     let mut done = Vec::new(alloc);
@@ -58,7 +58,7 @@ pub(crate) fn completed_by_position(
     alloc: Global,
     trades: &[TradeRow],
 ) -> Result<Vec<&TradeRow>, Fault>
-    ensures done { IfOk result (λ done. IsPermutation (filter is_done (map trade_row_of trades.now)) (map (λ row. trade_row_of row.now) done.items)) }
+    ensures done { IfOk result (λ done. IsPermutation (filter is_completed_row (map trade_row_of trades.now)) (map (λ row. trade_row_of row.now) done.items)) }
     ensures order { IfOk result (λ done. IsSortedBy (λ one other. place_before (trade_row_of one.now) (trade_row_of other.now)) done.items) }
     ensures fault { IfErr result (λ fault. fault ≡ Memory) }
 {

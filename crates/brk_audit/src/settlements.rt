@@ -5,7 +5,7 @@ ghost use Rattle.brk_model.specs.Audit.{ConditionHolds};
 ghost use Rattle.brk_model.specs.Schemas.{Schema};
 ghost use Rattle.brk_model.specs.Derived.{due_after};
 ghost use Rattle.brk_audit.specs.AccountTerms.{tax_status_by};
-ghost use Rattle.brk_audit.specs.Completed.{is_done};
+ghost use Rattle.brk_audit.specs.Completed.{is_completed_row};
 ghost use Rattle.brk_audit.specs.Conditions.{HasForm, HasStatuses};
 ghost use Rattle.brk_audit.specs.Settling.{Differs, Leaves, amount_at, due_in, due_of};
 ghost use Rattle.brk_changes.specs.Rows.{settlement_row_of, trade_row_of};
@@ -53,8 +53,8 @@ fn left_after<'a>(
     terms: &BTreeMap<u64, AccountTerms>,
 ) -> Option<&'a [SettlementRow]>
     ensures { MatchOption result
-        (Differs due_in (due_of rule.now (tax_status_by terms.now)) is_done (map settlement_row_of settlements.now) (trade_row_of trade.now))
-        (λ others. Leaves due_in (due_of rule.now (tax_status_by terms.now)) is_done (map settlement_row_of settlements.now) (trade_row_of trade.now) (map settlement_row_of others.now)) }
+        (Differs due_in (due_of rule.now (tax_status_by terms.now)) is_completed_row (map settlement_row_of settlements.now) (trade_row_of trade.now))
+        (λ others. Leaves due_in (due_of rule.now (tax_status_by terms.now)) is_completed_row (map settlement_row_of settlements.now) (trade_row_of trade.now) (map settlement_row_of others.now)) }
 {
     if !is_completed(trade.status) {
         return Some(settlements);
@@ -77,7 +77,7 @@ fn are_settled(
     rule: &Option<Day>,
     terms: &BTreeMap<u64, AccountTerms>,
 ) -> bool
-    ensures { IsTrue result ↔ (map due_in (map settlement_row_of settlements.now) ≡ map (due_of rule.now (tax_status_by terms.now)) (filter is_done (map trade_row_of trades.now))) }
+    ensures { IsTrue result ↔ (map due_in (map settlement_row_of settlements.now) ≡ map (due_of rule.now (tax_status_by terms.now)) (filter is_completed_row (map trade_row_of trades.now))) }
 {
     let mut rest = settlements;
     for trade in trades {

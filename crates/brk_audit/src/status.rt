@@ -152,7 +152,7 @@ fn is_new_movement(seen: &mut BTreeSet<u64>, row: &MoveRow) -> Result<bool, Faul
 
 // Returns whether no two completions, deposits or withdrawals have the same stamp.
 fn are_apart(alloc: Global, history: &[HistoryRow], moves: &[MoveRow]) -> Result<bool, Fault>
-    ensures told { IfOk result (λ apart. apart ≡ all_distinct (spec.stamps_of (map history_row_of history.now) ++ spec.moved_stamps_of (map move_row_of moves.now))) }
+    ensures told { IfOk result (λ apart. apart ≡ all_distinct (spec.completion_stamps_of (map history_row_of history.now) ++ spec.moved_stamps_of (map move_row_of moves.now))) }
     ensures fault { IfErr result (λ fault. fault ≡ Memory) }
 {
     let mut seen = BTreeSet::new(alloc);

@@ -8,7 +8,7 @@ use Rattle.std.proofs.lemmas.Cmp.{nat_list_cmp_total}
 use Rattle.std.proofs.lemmas.Map.Text.{is_eq-slice_cmp}
 use Rattle.std.proofs.lemmas.List.{take_more, take-append-drop, append-nil}
 use Rattle.std.proofs.lemmas.List.Folds.{list_any-append}
-use Rattle.brk_model.specs.Form.{one_tax_id_each}
+use Rattle.brk_model.specs.Form.{distinct_tax_ids}
 use Rattle.brk_ref.specs.Records.{customer_of}
 use Rattle.brk_ref.specs.declared.customer.Customer.{Customer}
 
@@ -20,7 +20,7 @@ any-mapped : (c : Customer) (cs : List Customer) → list_any (λ d. bytes_eq d.
 any-mapped c [] = refl
 any-mapped c (d ∷ cs) = ap (λ b. bytes_eq d.tax_id c.tax_id || b) (any-mapped c cs)
 
-pub own-mapped : (cs : List Customer) → are_own cs ≡ one_tax_id_each (map customer_of cs)
+pub own-mapped : (cs : List Customer) → are_own cs ≡ distinct_tax_ids (map customer_of cs)
 own-mapped [] = refl
 own-mapped (c ∷ cs) = λ i. not (any-mapped c cs i) && own-mapped cs i
 

@@ -9,7 +9,7 @@ use Rattle.brk_money.specs.Moments.{last_day, last_stamp}
 use Rattle.brk_model.specs.Limits.{greatest_id}
 use Rattle.brk_model.specs.Lists.{all_distinct}
 use Rattle.brk_model.specs.Schemas.{Schema}
-use Rattle.brk_model.specs.Form.{has_form, has_keys, no_overlap, same_numbers, one_tax_id_each, customer_limits, cash_form, move_form, trades_moved, lacks_later_rows}
+use Rattle.brk_model.specs.Form.{has_form, has_keys, no_overlap, same_numbers, distinct_tax_ids, customer_limits, cash_form, move_form, trades_moved, lacks_later_rows}
 use Rattle.brk_ref.specs.Records.{customer_of, band_of}
 use Rattle.brk_changes.specs.Rows.{trade_row_of, cash_row_of, move_row_of}
 use Rattle.brk_changes.specs.Sheets.{tables_in_sheets}
@@ -41,7 +41,7 @@ moves-counted s = ap (λ n. nat_le n greatest_id) (count-mapped (λ r. is_none r
 -- the tests with memory, after the plain ones
 abbrev pub rests : Sheets → List Bool
 rests s =
-    one_tax_id_each (map customer_of s.customers.items) ∷
+    distinct_tax_ids (map customer_of s.customers.items) ∷
     list_all (customer_limits (tables_in_sheets s)) (map customer_of s.customers.items) ∷
     list_all (cash_form (tables_in_sheets s)) (map cash_row_of s.cash.items) ∷
     list_all (move_form (tables_in_sheets s)) (map move_row_of s.moves.items) ∷

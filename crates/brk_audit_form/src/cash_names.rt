@@ -8,7 +8,7 @@ ghost use Rattle.brk_model.specs.Joins.{trade_in};
 ghost use Rattle.brk_changes.specs.Rows.{cash_row_of, move_row_of, trade_row_of};
 ghost use Rattle.brk_changes.specs.Sheets.{tables_in_sheets};
 ghost use Rattle.brk_audit_form.specs.Conditions.{HasKeys};
-ghost use Rattle.brk_audit_form.specs.Names.{name_in};
+ghost use Rattle.brk_audit_form.specs.Names.{security_name_in};
 
 use crate::limits::{is_balance, is_move_id, is_stamp};
 use crate::references::{find_security, find_trade, has_account};
@@ -20,7 +20,7 @@ use std::alloc::{AllocError, Global};
 // Returns the name of the security, or the empty text if it does not exist.
 fn security_name<'a>(sheets: &'a Sheets, symbol: &Symbol) -> &'a str
     requires { HasKeys sheets.now }
-    ensures { result.now ≡ name_in (tables_in_sheets sheets.now) symbol.now }
+    ensures { result.now ≡ security_name_in (tables_in_sheets sheets.now) symbol.now }
 {
     match find_security(sheets, symbol) {
         Some(security) => security.name.as_str(),

@@ -10,7 +10,7 @@ use std::collections::BTreeSet;
 
 /// Returns whether no two customers have one tax id. Fails with `Memory` only.
 pub(crate) fn has_own_tax_ids(alloc: Global, customers: &[Customer]) -> Result<bool, Fault>
-    ensures told { IfOk result (λ holds. holds ≡ form.one_tax_id_each (map customer_of customers.now)) }
+    ensures told { IfOk result (λ holds. holds ≡ form.distinct_tax_ids (map customer_of customers.now)) }
     ensures fault { IfErr result (λ fault. fault ≡ Memory) }
 {
     let mut seen = BTreeSet::new(alloc);

@@ -24,7 +24,7 @@ use Rattle.brk_model.specs.Adopted.{account_of_row, base_of, movement_of_row, no
 use Rattle.brk_model.specs.Form.{account_form, band_form, has_account, has_broker, has_customer, has_form, has_security, has_trade, history_form, is_amount, is_cash_of_trade, is_id, is_move_id, is_movement, is_price, is_qty, is_stamp, is_tier, last_trade_form, move_form, no_overlap, price_form, same_numbers, trade_form}
 use Rattle.brk_model.specs.Ways.{completion_stamps, has_status_rows, movement_stamps, trade_status}
 use Rattle.brk_model.specs.Names.{AccountExists, BrokerExists, CustomerExists, SecurityExists, NumberedFrom}
-use Rattle.brk_book_theorems.specs.Books.{AreMovementsInOrder, BandsApart, CompletesFirst, DistinctAccounts, DistinctSymbols, HasBounds, HasHolder, HasVolume, BooksInvariant, IsEarly, IsMadeBy, IsOtherwhen, MomentsApart, MovementsApart, PermissionsApart, WaitsFirst}
+use Rattle.brk_book_theorems.specs.Books.{AreMovementsInOrder, BandsApart, CompletesFirst, DistinctAccounts, DistinctSymbols, HasBounds, HasHolder, HasVolume, BooksInvariant, IsEarly, IsMadeBy, IsOtherwhen, DistinctMoments, MovementsApart, DistinctPermissions, WaitsFirst}
 use Rattle.brk_book_theorems.proofs.Bools.{numbers_back}
 use Rattle.brk_book_theorems.proofs.Same.{All-map, All-mapped, All-of, any-none, find-All}
 use Rattle.brk_book_theorems.proofs.Reading.{find-map, is_some-map, some-is-any}
@@ -103,7 +103,7 @@ other_permission p q true e h =
     let s : q.tax_id ≡ p.tax_id = (bytes_eq-Decides q.tax_id p.tax_id).0 k.1 in
     absurd (not_itself (permission_key p) (permission_key q) (λ i. number (sym m i) ∷ word (sym s i) ∷ []) h)
 
-permissions_apart : (ps : List Permission) → Climbs permission_key ps → PermissionsApart ps
+permissions_apart : (ps : List Permission) → Climbs permission_key ps → DistinctPermissions ps
 permissions_apart [] c = tt
 permissions_apart (p ∷ ps) c =
     (All-map ps (λ q h. other_permission p q ((q.account == p.account) && bytes_eq q.tax_id p.tax_id) refl h) c.0, permissions_apart ps c.1)
@@ -229,7 +229,7 @@ one_stamp (x ∷ hs) h k d m n e = by_places (λ m n. one_stamp hs h k parts.1 m
     by_places ih (inr m) (inr n) = ih m n
 
 moments_apart : (t : Tables) (rows : List TradeRow) → all_distinct (completion_stamps t) ≡ true → Climbs trade_key rows → AllByRecursion (IsDone t) rows
-    → MomentsApart (map (trade_of_row t) rows)
+    → DistinctMoments (map (trade_of_row t) rows)
 moments_apart t [] d c h = tt
 moments_apart t (r ∷ rows) d c h = (others rows c.0 h.1, moments_apart t rows d c.1 h.1)
   where
@@ -376,7 +376,7 @@ adopted_books schema t f s =
         early = subst (AllByRecursion (IsEarly t.last)) (sym (filter-map is_completed (trade_of_row t) t.trades))
             (All-mapped (IsEarly t.last) (trade_of_row t) (done_rows t)
             (All-map (done_rows t) (λ r d. early_of t r (list_all_true (history_form t) t.history p.history) d) done));
-        moments = subst MomentsApart (sym (filter-map is_completed (trade_of_row t) t.trades))
+        moments = subst DistinctMoments (sym (filter-map is_completed (trade_of_row t) t.trades))
             (moments_apart t (done_rows t) apart_stamps.first (climbs_filter trade_key (λ r. is_completed (trade_of_row t r)) t.trades k.trades) done);
         clock = clock_of t.last p.clock;
       };

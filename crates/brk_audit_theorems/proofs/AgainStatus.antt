@@ -15,7 +15,7 @@ use Rattle.brk_model.specs.Sheets.{sheets, sheets_of}
 use Rattle.brk_model.specs.Keys.{by_key, row_before, history_key}
 use Rattle.brk_model.specs.Adopted.{movement_of_row}
 use Rattle.brk_model.specs.Ways.{completion_stamps, has_status_rows, movement_stamps, is_last_of, is_rising, is_way, trade_status}
-use Rattle.brk_book_theorems.specs.Books.{BooksInvariant, MomentsApart, MovementsApart}
+use Rattle.brk_book_theorems.specs.Books.{BooksInvariant, DistinctMoments, MovementsApart}
 use Rattle.brk_book_theorems.proofs.Bools.{numbers_back}
 use Rattle.brk_book_theorems.proofs.Order.{by_key-filter}
 use Rattle.brk_book_theorems.proofs.LotReading.{All-sort}
@@ -189,7 +189,7 @@ none_contained : (n : ℕ) (ts : List Trade) → AllByRecursion (λ u. (moment_o
 none_contained n [] h = refl
 none_contained n (t ∷ ts) h = ap (λ b. b || contains_number n (map moment_of ts)) h.0 ∙ none_contained n ts h.1
 
-apart_distinct : (ts : List Trade) → MomentsApart ts → all_distinct (map moment_of ts) ≡ true
+apart_distinct : (ts : List Trade) → DistinctMoments ts → all_distinct (map moment_of ts) ≡ true
 apart_distinct [] a = refl
 apart_distinct (t ∷ ts) a =
     ap (λ b. not b && all_distinct (map moment_of ts)) (none_contained (moment_of t) ts a.0) ∙ apart_distinct ts a.1

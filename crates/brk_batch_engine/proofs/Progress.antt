@@ -10,7 +10,7 @@ use Rattle.csv.specs.declared.reader.Reader.{Reader}
 use Rattle.csv.specs.Reading.{source_of}
 use Rattle.brk_money.specs.Spelling.{Text}
 use Rattle.brk_model.specs.Answers.{Fields, RowStep}
-use Rattle.brk_model.specs.Batch.{AreSettled}
+use Rattle.brk_model.specs.Batch.{AreDecided}
 use Rattle.brk_model.specs.Commands.{Again, Answer, Done, Refused}
 use Rattle.brk_model.specs.Forms.{Read}
 use Rattle.brk_model.specs.Input.{header_of}
@@ -49,7 +49,7 @@ pub record Progress {S X C R : Type 0} (form : Fields → Read X) (step : RowSte
   pub answers : List Answer
   pub moments : List ℕ
   pub taken : Moments gives start.clock moments now.later
-  pub settled : AreSettled form step start.name start.base moments rows answers now.after
+  pub settled : AreDecided form step start.name start.base moments rows answers now.after
   pub size : length rows ≡ now.settled
   pub counts : now.counts ≡ counts_of answers
   pub stands : (text : Option Text) → StandsAt rem text (header_of start.name ∷ []) start.reader

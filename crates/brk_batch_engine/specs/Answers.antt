@@ -12,15 +12,15 @@ use Rattle.brk_batch_engine.specs.declared.answer.RowAnswer.{RowAnswer}
 use Rattle.brk_batch_engine.specs.declared.answer.RowAnswer.TheVariants as given
 
 -- The model's answer of an answer, where `reply` gives the model's reply of a reply.
-abbrev pub answer_of : {R : Type 0} → (R → Reply) → RowAnswer R → Answer
-answer_of reply (given.Done told) = Done (reply told)
-answer_of reply (given.Again line) = Again (string_bytes line)
-answer_of reply (given.Refused refusal) = Refused refusal
+abbrev pub answer_in_model : {R : Type 0} → (R → Reply) → RowAnswer R → Answer
+answer_in_model reply (given.Done told) = Done (reply told)
+answer_in_model reply (given.Again line) = Again (string_bytes line)
+answer_in_model reply (given.Refused refusal) = Refused refusal
 
 -- The model's outcome of a call with a row, where `reply` gives the model's reply of a reply.
-abbrev pub outcome_of : {R : Type 0} → (R → Reply) → Result (RowAnswer R) Fault → Outcome
-outcome_of reply (Ok answer) = Did (answer_of reply answer)
-outcome_of reply (Err fault) = Failed fault
+abbrev pub outcome_in_model : {R : Type 0} → (R → Reply) → Result (RowAnswer R) Fault → Outcome
+outcome_in_model reply (Ok answer) = Did (answer_in_model reply answer)
+outcome_in_model reply (Err fault) = Failed fault
 
 -- The call refines the step: under the disk assumption (`honest`), for every base that the desk
 -- represented, the answer is that of `step`, and the desk represents the base after it.

@@ -51,7 +51,7 @@ pub record Stopped {S X C : Type 0} (form : Fields → Read X) (step : RowStep S
   pub moments : List ℕ
   pub mid : C
   pub taken : Moments gives span.clock moments mid
-  pub settled : model.AreSettled form step name span.base moments rows answers span.after
+  pub settled : model.AreDecided form step name span.base moments rows answers span.after
   pub begins : Begins text (header_of name ∷ rows)
   pub next : HasNext text name rows
   pub counted : count ≡ length told

@@ -3,7 +3,7 @@ ghost use Rattle.csv.specs.Records.{fields_of};
 ghost use Rattle.brk_money.specs.declared.fault.Fault.TheVariants.{Memory};
 ghost use Rattle.brk_model.specs.Run.{MayFail};
 ghost use Rattle.brk_ref.specs.Records.{key_of};
-ghost use Rattle.brk_batch_engine.specs.Answers.{AnsweredBy, FailedBy, Keeps, RepresentsDurably, answer_of};
+ghost use Rattle.brk_batch_engine.specs.Answers.{AnsweredBy, FailedBy, Keeps, RepresentsDurably, answer_in_model};
 
 use crate::records::fields_list;
 use crate::rows::Rows;
@@ -53,7 +53,7 @@ pub fn answer_row<C: Clock, D: Rows>(
     requires last { n ≤ 67108864 }
     ensures earlier { D.honest desk.new → D.honest desk.old }
     ensures ok { IfOk result (λ answer. AnsweredBy D.honest (RepresentsDurably D.stands D.leaves) D.acts D.step C.gives (D.form (fields_of row.now)) batch.now n
-        (answer_of D.told answer) desk.old desk.new clock.old clock.new) }
+        (answer_in_model D.told answer) desk.old desk.new clock.old clock.new) }
     ensures kept { OnErr result (Keeps D.honest D.stands desk.old desk.new) }
     ensures failed { IfErr result (λ fault. FailedBy D.honest D.stands D.leaves D.acts D.step C.gives (D.form (fields_of row.now)) batch.now n fault
         desk.old desk.new clock.old clock.new) }

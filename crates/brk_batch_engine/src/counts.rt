@@ -1,6 +1,6 @@
 ghost use Rattle.std.specs.Prelude.{◌≡◌, ◌+◌, ◌<◌, ◌^◌};
 ghost use Rattle.brk_model.specs.Commands.{Reply};
-ghost use Rattle.brk_batch_engine.specs.Answers.{answer_of};
+ghost use Rattle.brk_batch_engine.specs.Answers.{answer_in_model};
 ghost use Rattle.brk_batch_engine.specs.Counts.{counted};
 
 use crate::answer::RowAnswer;
@@ -29,7 +29,7 @@ impl Counts {
         requires ok { self.ok + 1 < 2 ^ 64 }
         requires again { self.again + 1 < 2 ^ 64 }
         requires no { self.no + 1 < 2 ^ 64 }
-        ensures { (reply : R → Reply) → result ≡ counted self (answer_of reply answer.now) }
+        ensures { (reply : R → Reply) → result ≡ counted self (answer_in_model reply answer.now) }
     {
         let mut counts = self;
         match answer {

@@ -6,7 +6,7 @@ ghost use Rattle.brk_money.specs.declared.refusal.Refusal.TheVariants.{BadText};
 ghost use Rattle.brk_model.specs.Commands.{Refused};
 ghost use Rattle.brk_model.specs.Input.{IsName, end_of, header_of, text_of};
 ghost use Rattle.brk_model.specs.Lines.{answer_line};
-ghost use Rattle.brk_batch_engine.specs.Answers.{answer_of};
+ghost use Rattle.brk_batch_engine.specs.Answers.{answer_in_model};
 ghost use Rattle.brk_batch_engine.specs.Batch.{BatchPost, RefinesModel, CrashStates, TellsCalls};
 ghost use Rattle.brk_batch_engine.specs.Counts.{counts_line};
 ghost use Rattle.brk_batch_engine.specs.Parts.{CutPart, EndPart, HeaderPart, Part};
@@ -32,8 +32,8 @@ fn tell<W: Write, D: Rows>(
     n: u64,
     answer: &RowAnswer<D::Reply>,
 ) -> Result<(), FaultKind>
-    ensures ok { OnOk result (Appends (W.contents writer.old) (W.contents writer.new) (answer_line n (answer_of D.told answer.now))) }
-    ensures err { IfErr result (λ kind. Part (W.contents writer.old) (W.contents writer.new) (answer_line n (answer_of D.told answer.now)) kind) }
+    ensures ok { OnOk result (Appends (W.contents writer.old) (W.contents writer.new) (answer_line n (answer_in_model D.told answer.now))) }
+    ensures err { IfErr result (λ kind. Part (W.contents writer.old) (W.contents writer.new) (answer_line n (answer_in_model D.told answer.now)) kind) }
 {
     let Ok(text) = line_of::<D>(alloc, n, answer) else {
         return Err(FaultKind::Desk(Fault::Memory));

@@ -1,7 +1,7 @@
 ghost use Rattle.std.specs.Prelude.{◌≡◌, IfOk, string_bytes};
 ghost use Rattle.brk_model.specs.Commands.{Reply};
 ghost use Rattle.brk_model.specs.Lines.{answer_line, answer_text};
-ghost use Rattle.brk_batch_engine.specs.Answers.{answer_of};
+ghost use Rattle.brk_batch_engine.specs.Answers.{answer_in_model};
 ghost use Rattle.brk_batch_engine.specs.Counts.{counts_line};
 
 use crate::answer::RowAnswer;
@@ -12,7 +12,7 @@ use std::alloc::{AllocError, Global};
 
 // Returns the word of an answer and its fields, joined by commas.
 fn answer_text<D: Rows>(alloc: Global, answer: &RowAnswer<D::Reply>) -> Result<String, AllocError>
-    ensures { IfOk result (λ text. string_bytes text ≡ answer_text (answer_of D.told answer.now)) }
+    ensures { IfOk result (λ text. string_bytes text ≡ answer_text (answer_in_model D.told answer.now)) }
 {
     match answer {
         RowAnswer::Done(reply) => {
@@ -30,7 +30,7 @@ pub fn line_of<D: Rows>(
     n: u64,
     answer: &RowAnswer<D::Reply>,
 ) -> Result<Vec<u8>, AllocError>
-    ensures { IfOk result (λ line. line.items ≡ answer_line n (answer_of D.told answer.now)) }
+    ensures { IfOk result (λ line. line.items ≡ answer_line n (answer_in_model D.told answer.now)) }
 {
     let text = answer_text::<D>(alloc, answer)?;
     let mut buffer = Buffer::new();

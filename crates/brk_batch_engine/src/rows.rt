@@ -5,9 +5,9 @@ ghost use Rattle.brk_model.specs.Commands.{Reply};
 ghost use Rattle.brk_model.specs.Forms.{Read};
 ghost use Rattle.brk_model.specs.Rows.{line_text};
 ghost use Rattle.brk_model.specs.Run.{MayFail};
-ghost use Rattle.brk_ref.specs.Fields.{Reads, texts};
+ghost use Rattle.brk_ref.specs.Fields.{ParsesAs, texts};
 ghost use Rattle.brk_ref.specs.Records.{key_of};
-ghost use Rattle.brk_batch_engine.specs.Answers.{Acts, Keeps, MayAct, RepresentsDurably, answer_of, outcome_of};
+ghost use Rattle.brk_batch_engine.specs.Answers.{Acts, Keeps, MayAct, RepresentsDurably, answer_in_model, outcome_in_model};
 ghost use Rattle.brk_batch_engine.specs.Script.{MakesCall};
 
 use crate::answer::RowAnswer;
@@ -60,7 +60,7 @@ pub trait Rows {
     /// Parses the fields of a row: returns a command, or the refusal of a malformed row. Fails with
     /// `Memory` only.
     fn parse(alloc: Global, row: &[&[u8]]) -> Planned<Self::Command>
-        ensures read { IfOk result (λ read. Reads asked read (form (texts row.now))) }
+        ensures read { IfOk result (λ read. ParsesAs asked read (form (texts row.now))) }
         ensures fault { OnErr result (result ≡ Err Memory) };
 
     /// Executes a command under its key at the clock reading `now`, and returns its answer.
@@ -74,10 +74,10 @@ pub trait Rows {
         command: &Self::Command,
         key: &Key,
     ) -> Result<RowAnswer<Self::Reply>, Fault>
-        ensures called { acts desk.old now (asked command.now, key_of key.now) (outcome_of told result) desk.new }
+        ensures called { acts desk.old now (asked command.now, key_of key.now) (outcome_in_model told result) desk.new }
         ensures earlier { honest desk.new → honest desk.old }
         ensures ok { IfOk result (λ answer. (sure : Bool) →
-            Acts honest (RepresentsDurably stands leaves sure) step desk.old desk.new now (asked command.now) (key_of key.now) (answer_of told answer)) }
+            Acts honest (RepresentsDurably stands leaves sure) step desk.old desk.new now (asked command.now) (key_of key.now) (answer_in_model told answer)) }
         ensures err { OnErr result (Keeps honest stands desk.old desk.new) }
         ensures stop { OnErr result (MayAct honest stands leaves step desk.old desk.new now (asked command.now) (key_of key.now)) }
         ensures fault { IfErr result MayFail };

@@ -21,7 +21,7 @@ use Rattle.brk_model.specs.Sheets.{sheets, sheets_of}
 use Rattle.brk_model.specs.Tables.{AccountRow, BrokerRow, HoldingRow, SummaryRow, account_row, broker_row, holding_row, summary_rows, tables_at, trade_row}
 use Rattle.brk_book_theorems.specs.Books.{DistinctAccounts, BooksInvariant}
 use Rattle.brk_book_theorems.specs.Sums.{SumsMatch, IsBalance, IsBrokerSum, IsSummary, IsSummed, held_in, is_lot_of}
-use Rattle.brk_book_theorems.specs.TradeReads.{lots_in, position_in, row_lot}
+use Rattle.brk_book_theorems.specs.TradeReads.{lots_of_position, position_in, row_lot}
 use Rattle.brk_book_theorems.proofs.Bools.{numbers_back}
 use Rattle.brk_book_theorems.proofs.Holding.{total_is}
 use Rattle.brk_book_theorems.proofs.LotLives.{lots_live_on}
@@ -90,7 +90,7 @@ balances_add base books =
 lots_held : (base : Base) (account : ℕ) (symbol : Text) → lots_total (position_in (sheets base) account symbol) ≡ held_in (sheets base) account symbol
 lots_held base account symbol =
     let own : List HoldingRow = filter (is_lot_of account symbol) (sheets base).holdings in
-    total-map (λ l. l.qty) row_lot (lots_in (sheets base) account symbol)
+    total-map (λ l. l.qty) row_lot (lots_of_position (sheets base) account symbol)
     ∙ total-sorted (λ r. number r.stamp ∷ number r.trade ∷ []) (λ h. h.qty) own
 
 pub held_is : (base : Base) (account : ℕ) (symbol : Text) → BooksInvariant base → held_in (sheets base) account symbol ≡ summary_of (completed base) account symbol
@@ -216,7 +216,7 @@ nothing_held : (base : Base) (account : ℕ) (symbol : Text) → BooksInvariant 
 nothing_held base account symbol books e =
     let position : position_in (sheets base) account symbol ≡ [] =
     no_lots (position_in (sheets base) account symbol) (position_read base account symbol books) (lots_held base account symbol ∙ e) in
-    none_sorted _ (filter (is_lot_of account symbol) (sheets base).holdings) (none_mapped row_lot (lots_in (sheets base) account symbol) position)
+    none_sorted _ (filter (is_lot_of account symbol) (sheets base).holdings) (none_mapped row_lot (lots_of_position (sheets base) account symbol) position)
 
 zero_is : (q : ℤ) → is_zero q ≡ true → q ≡ pos 0
 zero_is (pos zero) e = refl

@@ -15,7 +15,7 @@ use Rattle.brk_model.specs.Tables.{LastTradeRow, tables_at, security_row, last_t
 use Rattle.brk_model.specs.Keys.{by_key, security_key, last_trade_key, summary_key}
 use Rattle.brk_model.specs.Sheets.{sheets, sheets_of}
 use Rattle.brk_model.specs.Commands.{Tick}
-use Rattle.brk_model.specs.Feed.{is_triggered, triggers, ticked, triggered_by, with_price, with_tick, with_ticks}
+use Rattle.brk_model.specs.Feed.{is_triggered, triggers, ticked, triggered_by, with_last_price, with_tick, with_ticks}
 use Rattle.brk_changes.specs.Changes.{with_last_trade_set}
 use Rattle.brk_model.specs.Names.{NumberedFrom}
 use Rattle.brk_book_theorems.specs.Books.{WaitsFirst, IsOne, DistinctSymbols}
@@ -74,7 +74,7 @@ priced_last stamp tick xs s ys g h =
     same_key r false = refl
 
 set_rows : (base : Base) (stamp : ℕ) (tick : Tick) (s : Security) → DistinctSymbols base.securities → security_with base tick.symbol ≡ Some s
-    → sheets (with_price stamp tick base) ≡ with_last_trade_set (row_after stamp tick (last_trade_row s)) (sheets base)
+    → sheets (with_last_price stamp tick base) ≡ with_last_trade_set (row_after stamp tick (last_trade_row s)) (sheets base)
 unfolding tables_at sheets_of shares_in summary_of balance_of trade_count_of commissions_of
 set_rows base stamp tick s d e =
     let p : Security → Bool = λ u. bytes_eq u.symbol tick.symbol in
@@ -100,7 +100,7 @@ set_rows base stamp tick s d e =
     }
 
 priced_rows : (base : Base) (stamp : ℕ) (tick : Tick) (s : Security) → DistinctSymbols base.securities → security_with base tick.symbol ≡ Some s
-    → sheets (with_price stamp tick base) ≡ with_price_of stamp tick (sheets base)
+    → sheets (with_last_price stamp tick base) ≡ with_price_of stamp tick (sheets base)
 priced_rows base stamp tick s d e =
     set_rows base stamp tick s d e
     ∙ sym (ap (λ o. option_map_or (λ l. with_last_trade_set (row_after stamp tick l) (sheets base)) o (sheets base)) (reads_last_trade base tick.symbol ∙ ap (option_map last_trade_row) e))
@@ -120,7 +120,7 @@ pub record Ready (base : Base) : Type 0 where
 pub ticked_rows : (base : Base) (stamp : ℕ) (tick : Tick) (s : Security) → Ready base → security_with base tick.symbol ≡ Some s
     → sheets (with_tick stamp base tick) ≡ tick_rows stamp tick (sheets base)
 ticked_rows base stamp tick s r e =
-    submitted_all (with_price stamp tick base) stamp (is_triggered tick) [] base.trades r.numbered
+    submitted_all (with_last_price stamp tick base) stamp (is_triggered tick) [] base.trades r.numbered
     (All-of base.trades (λ t k. and_left (has_status Pending t) (bytes_eq t.symbol tick.symbol)
     (and_left (has_status Pending t && bytes_eq t.symbol tick.symbol) (triggers t.kind t.bid tick.price) k))) r.ways
     ∙ (λ i. submitted_rows stamp (sym (reads_triggered base tick r.numbered) i) (priced_rows base stamp tick s r.symbols e i))

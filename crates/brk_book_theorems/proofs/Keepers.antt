@@ -13,7 +13,7 @@ use Rattle.brk_model.specs.Keyed.{keeping}
 use Rattle.brk_model.specs.Tests.{tests, next_stamp, bands_meet}
 use Rattle.brk_model.specs.Step.{listed, records_after}
 use Rattle.brk_model.specs.Names.{BrokerExists, CustomerExists}
-use Rattle.brk_book_theorems.specs.Books.{BooksInvariant, HasVolume, HasBounds, DistinctAccounts, DistinctSymbols, PermissionsApart, BandsApart}
+use Rattle.brk_book_theorems.specs.Books.{BooksInvariant, HasVolume, HasBounds, DistinctAccounts, DistinctSymbols, DistinctPermissions, BandsApart}
 use Rattle.brk_book_theorems.specs.Steps.{LeavesBooks}
 use Rattle.brk_book_theorems.proofs.Bools.{numbers_back, texts_back}
 use Rattle.brk_book_theorems.proofs.Same.{NonePass, All-map, All-append, any-none, find-more, find-none}
@@ -72,7 +72,7 @@ books_customer_tax base now x k e =
 
 -- ---- permissions
 
-permissions_more : (ps : List Permission) (p : Permission) → NonePass (λ q. (q.account == p.account) && bytes_eq q.tax_id p.tax_id) ps → PermissionsApart ps → PermissionsApart (ps ++ p ∷ [])
+permissions_more : (ps : List Permission) (p : Permission) → NonePass (λ q. (q.account == p.account) && bytes_eq q.tax_id p.tax_id) ps → DistinctPermissions ps → DistinctPermissions (ps ++ p ∷ [])
 permissions_more [] p h d = (tt, tt)
 permissions_more (q ∷ ps) p h d = (
   All-append (λ r. ((r.account == q.account) && bytes_eq r.tax_id q.tax_id) ≡ false) ps (p ∷ []) d.0

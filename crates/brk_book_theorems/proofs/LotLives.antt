@@ -8,7 +8,7 @@ use Rattle.std.proofs.lemmas.Bool.Decides.{nat_tests}
 use Rattle.std.proofs.lemmas.Int.{ints}
 use Rattle.brk_money.specs.declared.side.Side.{Side}
 use Rattle.brk_money.specs.declared.side.Side.TheVariants.{Buy}
-use Rattle.brk_lots.specs.Chains.{IsLife, rows_of}
+use Rattle.brk_lots.specs.Chains.{IsLife, changes_of_lot}
 use Rattle.brk_lots.specs.Deals.{AreDeals}
 use Rattle.brk_lots.proofs.Books.{side_after}
 use Rattle.brk_lots.proofs.Counts.{OneSide}
@@ -264,11 +264,11 @@ of_done base lot t books e =
     let same : t.id ≡ lot = eqb-true t.id lot f.passes in
     let changes : changes_in (sheets base) lot ≡ lot_history (completed base) t =
     changes_of base lot (lot_history (completed base) t) (own_changes (completed base) lot t (done_apart base books) f) (history_rises base t books) in
-    let rows : map touch_of_row (changes_in (sheets base) lot) ≡ rows_of t.id deals [] = ap (map touch_of_row) changes in
+    let rows : map touch_of_row (changes_in (sheets base) lot) ≡ changes_of_lot t.id deals [] = ap (map touch_of_row) changes in
     record {
       opened = subst (IsOpened lot) (sym changes) (subst (λ (n : ℕ). IsOpened n (lot_history (completed base) t)) same (opened_first t.id Buy [] deals tt tt (deals_are base t.account t.symbol books)));
       life = subst (λ rs. IsLife rs (left_in (sheets base) lot)) (sym rows)
-          (subst (λ q. IsLife (rows_of t.id deals []) q) (sym (left_is base lot t books f)) (lot_lives base t.account t.symbol t.id books));
+          (subst (λ q. IsLife (changes_of_lot t.id deals []) q) (sym (left_is base lot t books f)) (lot_lives base t.account t.symbol t.id books));
     }
 
 of_none : (base : Base) (lot : ℕ) → BooksInvariant base → find (λ u. u.id == lot) (completed base) ≡ None → IsLotLife (sheets base) lot

@@ -20,8 +20,8 @@ use Rattle.brk_lots.specs.declared.lot.Lot.{Lot}
 use Rattle.brk_lots.proofs.Books.{sides_after}
 use Rattle.brk_lots.proofs.Counts.{OneSide, lot_counts}
 use Rattle.brk_lots.proofs.Runs.{count_of}
-use Rattle.brk_book_theorems.specs.Books.{BooksInvariant, MomentsApart}
-use Rattle.brk_book_theorems.specs.TradeReads.{lot_shares, lots_in, position_in, row_lot}
+use Rattle.brk_book_theorems.specs.Books.{BooksInvariant, DistinctMoments}
+use Rattle.brk_book_theorems.specs.TradeReads.{lot_shares, lots_of_position, position_in, row_lot}
 use Rattle.brk_book_theorems.proofs.Bools.{numbers_back, same_text}
 use Rattle.brk_book_theorems.proofs.Order.{All-insert}
 use Rattle.brk_book_theorems.proofs.Same.{NonePass, All-filter, All-map}
@@ -50,7 +50,7 @@ pub both_hold : {X : Type 0} (P Q : X → Type 0) (xs : List X) → AllByRecursi
 both_hold P Q [] g h = tt
 both_hold P Q (x ∷ xs) g h = ((g.0, h.0), both_hold P Q xs g.1 h.1)
 
-all_differ : (ts : List Trade) → IdsApart ts → MomentsApart ts → AllDiffer ts
+all_differ : (ts : List Trade) → IdsApart ts → DistinctMoments ts → AllDiffer ts
 all_differ [] d m = tt
 all_differ (t ∷ ts) d m = (both_hold (λ u. (u.id == t.id) ≡ false) (λ u. (moment_of u == moment_of t) ≡ false) ts d.0 m.0, all_differ ts d.1 m.1)
 
@@ -78,10 +78,10 @@ unfolding sort_by
 order_sort [] d = tt
 order_sort (t ∷ ts) d = order_insert t (sort_by earlier ts) (All-sort (Differs t) earlier ts d.0) (order_sort ts d.1)
 
-moments_filter : (p : Trade → Bool) (ts : List Trade) → MomentsApart ts → MomentsApart (filter p ts)
+moments_filter : (p : Trade → Bool) (ts : List Trade) → DistinctMoments ts → DistinctMoments (filter p ts)
 moments_filter p [] m = tt
 moments_filter p (t ∷ ts) m =
-    elim (p t) as (λ b. MomentsApart (cond b (t ∷ filter p ts) (filter p ts)))
+    elim (p t) as (λ b. DistinctMoments (cond b (t ∷ filter p ts) (filter p ts)))
     [ true ↦ (All-filter (λ u. (moment_of u == moment_of t) ≡ false) p ts m.0, moments_filter p ts m.1) | false ↦ moments_filter p ts m.1 ]
 
 -- the trades of a position, by rising completion
@@ -194,7 +194,7 @@ shares_held [] = refl
 shares_held (r ∷ rows) = ap (λ shares. lot_shares r ++ shares) (shares_held rows)
 
 pub shares_read : (base : Base) (account : ℕ) (symbol : Text) → BooksInvariant base → shares_of (position_in (sheets base) account symbol) ≡ shares_in (completed base) account symbol
-shares_read base account symbol books = shares_held (lots_in (sheets base) account symbol) ∙ reads_lots base account symbol books
+shares_read base account symbol books = shares_held (lots_of_position (sheets base) account symbol) ∙ reads_lots base account symbol books
 
 pub position_read : (base : Base) (account : ℕ) (symbol : Text) → BooksInvariant base → IsPosition (position_in (sheets base) account symbol)
 unfolding shares_in

@@ -19,7 +19,7 @@ use Rattle.brk_model.specs.Tables.{HoldingRow, tables_at, holding_row}
 use Rattle.brk_model.specs.Names.{NumberedFrom}
 use Rattle.brk_book_theorems.specs.Books.{BooksInvariant}
 use Rattle.brk_lots.specs.Lots.{side_of_qty}
-use Rattle.brk_book_theorems.specs.TradeReads.{lot_shares, lots_in}
+use Rattle.brk_book_theorems.specs.TradeReads.{lot_shares, lots_of_position}
 use Rattle.brk_book_theorems.proofs.Bools.{numbers_back, same_text}
 use Rattle.brk_book_theorems.proofs.Order.{All-insert, by_key-filter, by_key-map, sort_sorted, sorted_filter}
 use Rattle.brk_book_theorems.proofs.Same.{NonePass, All-filter, All-map}
@@ -182,7 +182,7 @@ position_rise base account symbol n =
     (rise_filter (λ t. t.account == account) (completed base) (rise_filter is_completed base.trades (numbered_rise 1 base.trades n)))
 
 pub lots_are : (base : Base) (account : ℕ) (symbol : Text) → NumberedFrom 1 base.trades
-    → lots_in (sheets base) account symbol ≡ filter is_left (map (holding_row (completed base)) (sort_by_key moment_of (of_position (completed base) account symbol)))
+    → lots_of_position (sheets base) account symbol ≡ filter is_left (map (holding_row (completed base)) (sort_by_key moment_of (of_position (completed base) account symbol)))
 lots_are base account symbol n =
     let done : List Trade = completed base in
     let row : Trade → HoldingRow = holding_row done in
@@ -219,7 +219,7 @@ rows_upon done account symbol (t ∷ ts) g h =
     let s : t.symbol ≡ symbol = same_text t.symbol symbol h.0 in
     λ i. lot_shares (record (holding_row done t) { qty = lot_qty (shares_in done (a i) (s i)) t.id }) ++ rows_upon done account symbol ts g.1 h.1 i
 
-pub reads_lots : (base : Base) (account : ℕ) (symbol : Text) → BooksInvariant base → flat_map lot_shares (lots_in (sheets base) account symbol) ≡ shares_in (completed base) account symbol
+pub reads_lots : (base : Base) (account : ℕ) (symbol : Text) → BooksInvariant base → flat_map lot_shares (lots_of_position (sheets base) account symbol) ≡ shares_in (completed base) account symbol
 unfolding shares_in
 reads_lots base account symbol books =
     let done : List Trade = completed base in

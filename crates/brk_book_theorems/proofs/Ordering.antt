@@ -7,7 +7,7 @@ use Rattle.brk_money.specs.declared.status.Status.TheVariants.{Completed, Submit
 use Rattle.brk_money.specs.declared.trade_type.TradeType.{TradeType}
 use Rattle.brk_money.specs.declared.trade_type.TradeType.TheVariants.{MarketBuy, MarketSell, StopLoss, LimitSell, LimitBuy}
 use Rattle.brk_model.specs.Records.{Trade}
-use Rattle.brk_model.specs.Base.{Base, broker_of, completed, has_status, is_completed}
+use Rattle.brk_model.specs.Base.{Base, broker_of_account, completed, has_status, is_completed}
 use Rattle.brk_model.specs.Derived.{pending, shares_in, summary_of, balance_of, trade_count_of, commissions_of}
 use Rattle.brk_model.specs.Schemas.{third_schema}
 use Rattle.brk_model.specs.Tables.{HistoryRow, Tables, tables_at, tables_upon, trade_row, history_rows, request_row}
@@ -33,7 +33,7 @@ first_not_completed LimitBuy = refl
 
 -- the rows of an order
 abbrev pub rows_ordered : Base → ℕ → Order → Bool → Tables
-rows_ordered base stamp o waits = order_rows (trade_row (ordered_trade base stamp o)) waits (broker_of base o.account) (sheets base)
+rows_ordered base stamp o waits = order_rows (trade_row (ordered_trade base stamp o)) waits (broker_of_account base o.account) (sheets base)
 
 -- an order completes nothing
 pub ordered_done : (base : Base) (stamp : ℕ) (o : Order) → completed (with_order base stamp o) ≡ completed base

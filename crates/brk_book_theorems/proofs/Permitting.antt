@@ -8,7 +8,7 @@ use Rattle.brk_model.specs.Base.{Base}
 use Rattle.brk_model.specs.Orders.{is_person, permitted}
 use Rattle.brk_model.specs.Records.{Customer, Executor, Permission}
 use Rattle.brk_model.specs.Sheets.{sheets}
-use Rattle.brk_book_theorems.specs.Books.{BooksInvariant, PermissionsApart}
+use Rattle.brk_book_theorems.specs.Books.{BooksInvariant, DistinctPermissions}
 use Rattle.brk_book_theorems.specs.TradeReads.{permission_in}
 use Rattle.brk_book_theorems.proofs.Bools.{same_text, texts_back}
 use Rattle.brk_book_theorems.proofs.NewKeys.{and_both, both, not_both, same_bytes}
@@ -63,7 +63,7 @@ none_named account e (p ∷ ps) h = by_account (none_named account e ps h.1) (p.
     by_account ih true g = ap (λ b. b || list_any (names e) rest) (other_tax account e p g h.0) ∙ ih
     by_account ih false g = ih
 
-named_by_one : (account : ℕ) (e : Executor) (ps : List Permission) → PermissionsApart ps
+named_by_one : (account : ℕ) (e : Executor) (ps : List Permission) → DistinctPermissions ps
     → list_any (names e) (option_to_list (find (is_for account e.tax_id) ps)) ≡ list_any (names e) (filter (λ p. p.account == account) ps)
 named_by_one account e [] h = refl
 named_by_one account e (p ∷ ps) h = by_test (named_by_one account e ps h.1) (is_for account e.tax_id p) refl

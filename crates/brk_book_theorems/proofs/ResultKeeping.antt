@@ -16,7 +16,7 @@ use Rattle.brk_model.specs.Step.{records_after, with_result_of}
 use Rattle.brk_model.specs.Tests.{next_stamp, refusal_of, result_tests, tests}
 use Rattle.brk_lots.specs.Position.{IsNew}
 use Rattle.brk_model.specs.Names.{AccountExists, SecurityExists, NumberedFrom}
-use Rattle.brk_book_theorems.specs.Books.{CompletesFirst, BooksInvariant, IsEarly, IsNoCompletion, MomentsApart, WaitsFirst}
+use Rattle.brk_book_theorems.specs.Books.{CompletesFirst, BooksInvariant, IsEarly, IsNoCompletion, DistinctMoments, WaitsFirst}
 use Rattle.brk_book_theorems.specs.Steps.{ChangesRows, LeavesBooks}
 use Rattle.brk_book_theorems.specs.Results.{result_rows, rows_of_result}
 use Rattle.brk_book_theorems.specs.TradeReads.{position_in}
@@ -111,7 +111,7 @@ other_moment m n h = grind (arith, nat_tests)
 same_moment : (m n : ℕ) → m < n → (m == n) ≡ false
 same_moment m n h = grind (arith, nat_tests)
 
-moments_more : (xs : List Trade) (t : Trade) (ys : List Trade) → AllByRecursion (λ u. moment_of u < moment_of t) (xs ++ ys) → MomentsApart (xs ++ ys) → MomentsApart (xs ++ t ∷ ys)
+moments_more : (xs : List Trade) (t : Trade) (ys : List Trade) → AllByRecursion (λ u. moment_of u < moment_of t) (xs ++ ys) → DistinctMoments (xs ++ ys) → DistinctMoments (xs ++ t ∷ ys)
 moments_more [] t ys h m = (All-map ys (λ u k. same_moment (moment_of u) (moment_of t) k) h, m)
 moments_more (x ∷ xs) t ys h m = (
   All-append (λ u. (moment_of u == moment_of x) ≡ false) xs (t ∷ ys) (All-front (λ u. (moment_of u == moment_of x) ≡ false) xs ys m.0)
@@ -167,7 +167,7 @@ books_then base now id price t k e accepted =
       times = record {
         early = subst (AllByRecursion (IsEarly (Some stamp))) (sym after)
             (All-append (IsEarly (Some stamp)) A (u ∷ Z) (All-front (IsEarly (Some stamp)) A Z early) (no_later (moment_of u) stamp moment, All-back (IsEarly (Some stamp)) A Z early));
-        moments = subst MomentsApart (sym after) (moments_more A u Z last (subst MomentsApart done k.moments));
+        moments = subst DistinctMoments (sym after) (moments_more A u Z last (subst DistinctMoments done k.moments));
         clock = in_time base now (CompleteTrade id price) accepted;
       };
       movements = movements_beside (sym after) (movements_completion A u Z base.movements

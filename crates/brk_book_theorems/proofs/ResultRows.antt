@@ -19,7 +19,7 @@ use Rattle.brk_model.specs.Keys.{number, word, account_key, broker_key, by_key, 
 use Rattle.brk_model.specs.Sheets.{sheets, sheets_of}
 use Rattle.brk_model.specs.Names.{NumberedFrom}
 use Rattle.brk_book_theorems.specs.Books.{BooksInvariant, IsNoCompletion}
-use Rattle.brk_book_theorems.specs.Results.{ResultRows, cash_rows, change_of_lot, completed_rows, left_of_lot, opened_rows, result_rows, rows_of_result, rows_upon, summary_rows_moved, touched_rows}
+use Rattle.brk_book_theorems.specs.Results.{ResultRows, with_cash_posted, change_of_lot, completed_rows, left_of_lot, opened_rows, result_rows, rows_of_result, rows_upon, summary_rows_moved, touched_rows}
 use Rattle.brk_changes.specs.Changes.{with_broker_numbers, with_lot_change, with_settlement}
 use Rattle.brk_book_theorems.specs.Trading.{status_row}
 use Rattle.brk_book_theorems.proofs.Order.{NewKey, by_key-map, by_key-middle}
@@ -176,11 +176,11 @@ summary_is before after row t = by_test (is_zero after) (is_zero before)
     by_test false true = refl
     by_test false false = refl
 
-cash_is : (u : Trade) (c : ResultRows) (t : Tables) → cash_rows u.is_cash c.cash u.account c.balance t
+cash_is : (u : Trade) (c : ResultRows) (t : Tables) → with_cash_posted u.is_cash c.cash u.account c.balance t
     ≡ record t { accounts = cond u.is_cash (map (with_other_balance u.account c.balance) t.accounts) t.accounts; moves = cond u.is_cash (insert_row move_key c.cash t.moves) t.moves }
 cash_is u c t = by_test u.is_cash
   where
-    by_test : (b : Bool) → cash_rows b c.cash u.account c.balance t
+    by_test : (b : Bool) → with_cash_posted b c.cash u.account c.balance t
         ≡ record t { accounts = cond b (map (with_other_balance u.account c.balance) t.accounts) t.accounts; moves = cond b (insert_row move_key c.cash t.moves) t.moves }
     by_test true = refl
     by_test false = refl
@@ -250,7 +250,7 @@ rows_are u c t =
     B x = with_broker_numbers c.broker c.trades c.commissions x
 
     C : Tables → Tables
-    C x = cash_rows u.is_cash c.cash u.account c.balance x
+    C x = with_cash_posted u.is_cash c.cash u.account c.balance x
 
     S : Tables → Tables
     S x = with_settlement c.settlement x

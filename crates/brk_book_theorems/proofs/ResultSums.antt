@@ -7,7 +7,7 @@ use lib.IntN.{+ℤ_assoc, +ℤ_comm}
 use Rattle.brk_money.specs.Kinds.{side_of}
 use Rattle.brk_model.specs.Lists.{total_by}
 use Rattle.brk_model.specs.Records.{Account, Movement, Trade}
-use Rattle.brk_model.specs.Base.{Base, broker_in, broker_of, completed, is_completed, opening_in}
+use Rattle.brk_model.specs.Base.{Base, broker_in, broker_of_account, completed, is_completed, opening_in}
 use Rattle.brk_model.specs.Derived.{Posting, amount_of, balance_of, cash_trades, commissions_of, of_broker, posting_of_movement, posting_of_trade, postings, postings_of, summary_of, trade_count_of}
 use Rattle.brk_model.specs.Results.{completed_trade, with_result}
 use Rattle.brk_model.specs.Shares.{signed}
@@ -84,21 +84,21 @@ summary_grows base stamp price t xs ys k =
     ∙ ap (λ ts. summary_of ts t.account t.symbol +ℤ signed (side_of t.kind) t.qty) (sym (done_now base stamp price t xs ys k))
 
 pub count_grows : (base : Base) (stamp price : ℕ) (t : Trade) (xs ys : List Trade) → IsResult base stamp price t xs ys
-    → trade_count_of base.accounts (completed (with_result base stamp price t)) (broker_of base t.account) ≡ trade_count_of base.accounts (completed base) (broker_of base t.account) + 1
+    → trade_count_of base.accounts (completed (with_result base stamp price t)) (broker_of_account base t.account) ≡ trade_count_of base.accounts (completed base) (broker_of_account base t.account) + 1
 unfolding completed_trade
 count_grows base stamp price t xs ys k =
-    ap (λ ts. trade_count_of base.accounts ts (broker_of base t.account)) (done_then base stamp price t xs ys k)
+    ap (λ ts. trade_count_of base.accounts ts (broker_of_account base t.account)) (done_then base stamp price t xs ys k)
     ∙ count_one base.accounts (filter is_completed xs) (completed_trade base stamp price t) (filter is_completed ys)
-    ∙ ap (λ ts. trade_count_of base.accounts ts (broker_of base t.account) + 1) (sym (done_now base stamp price t xs ys k))
+    ∙ ap (λ ts. trade_count_of base.accounts ts (broker_of_account base t.account) + 1) (sym (done_now base stamp price t xs ys k))
 
 pub commissions_grow : (base : Base) (stamp price : ℕ) (t : Trade) (xs ys : List Trade) → IsResult base stamp price t xs ys
-    → commissions_of base.accounts (completed (with_result base stamp price t)) (broker_of base t.account)
-    ≡ commissions_of base.accounts (completed base) (broker_of base t.account) + (completed_trade base stamp price t).commission
+    → commissions_of base.accounts (completed (with_result base stamp price t)) (broker_of_account base t.account)
+    ≡ commissions_of base.accounts (completed base) (broker_of_account base t.account) + (completed_trade base stamp price t).commission
 unfolding completed_trade
 commissions_grow base stamp price t xs ys k =
-    ap (λ ts. commissions_of base.accounts ts (broker_of base t.account)) (done_then base stamp price t xs ys k)
+    ap (λ ts. commissions_of base.accounts ts (broker_of_account base t.account)) (done_then base stamp price t xs ys k)
     ∙ commissions_one base.accounts (filter is_completed xs) (completed_trade base stamp price t) (filter is_completed ys)
-    ∙ ap (λ ts. commissions_of base.accounts ts (broker_of base t.account) + (completed_trade base stamp price t).commission) (sym (done_now base stamp price t xs ys k))
+    ∙ ap (λ ts. commissions_of base.accounts ts (broker_of_account base t.account) + (completed_trade base stamp price t).commission) (sym (done_now base stamp price t xs ys k))
 
 pub balance_grows : (base : Base) (stamp price : ℕ) (t : Trade) (xs ys : List Trade) → IsResult base stamp price t xs ys → t.is_cash ≡ true
     → balance_of base.accounts (postings_of (with_result base stamp price t)) t.account

@@ -10,7 +10,7 @@ use Rattle.brk_money.specs.declared.status.Status.{Status}
 use Rattle.brk_money.specs.declared.status.Status.TheVariants.{Completed}
 use Rattle.brk_model.specs.Base.{Base, has_status, is_completed, moment_of, with_trades}
 use Rattle.brk_model.specs.Commands.{AddAccount, AddBand, AddBroker, AddCharge, AddCustomer, AddCustomerTax, AddPermission, AddSecurity, AddTaxRate, Answer, CancelTrade, ChangeCashNames, ChangeCashTypes, ChangeExecutors, Command, CompleteTrade, FeedTicks, PlaceOrder, Reply, DepositCash, WithdrawCash, SetOneDay}
-use Rattle.brk_model.specs.Keyed.{acted, keeping, kept_of, keyed, keyed_step}
+use Rattle.brk_model.specs.Keyed.{acted, keeping, kept_for, keyed, keyed_step}
 use Rattle.brk_model.specs.Lists.{contains_number, update_where}
 use Rattle.brk_model.specs.Queries.{Query, View}
 use Rattle.brk_model.specs.Records.{Key, Kept, Movement, Trade}
@@ -19,7 +19,7 @@ use Rattle.brk_model.specs.Step.{base_after, records_after, reply_to, step, unle
 use Rattle.brk_model.specs.Tests.{next_stamp, refusal_of}
 use Rattle.brk_model.specs.Updates.{changed_cash_name, changed_cash_type, changed_executor, chosen_of_account, chosen_of_symbol}
 use Rattle.brk_model.specs.Names.{AccountExists, SecurityExists}
-use Rattle.brk_book_theorems.specs.Books.{CompletesFirst, BooksInvariant, IsEarly, IsOtherwhen, MomentsApart, MovementsApart, WaitsFirst}
+use Rattle.brk_book_theorems.specs.Books.{CompletesFirst, BooksInvariant, IsEarly, IsOtherwhen, DistinctMoments, MovementsApart, WaitsFirst}
 use Rattle.brk_book_theorems.specs.Steps.{LeavesBooks, base_then}
 use Rattle.brk_book_theorems.proofs.MovementOrder.{movements_later}
 use Rattle.brk_book_theorems.proofs.Completions.{later}
@@ -76,17 +76,17 @@ early_same : (last : Option ℕ) (t u : Trade) → IsSame t u → IsEarly last t
 early_same None t u s e = absurd e
 early_same (Some l) t u s e = subst (λ (m : ℕ). m ≤ l) (sym (same_moment t u s)) e
 
-moments_changed : (p : Trade → Bool) (f : Trade → Trade) (ts : List Trade) → ((t : Trade) → IsSame t (f t)) → MomentsApart (filter is_completed ts)
-    → MomentsApart (filter is_completed (update_where p f ts))
+moments_changed : (p : Trade → Bool) (f : Trade → Trade) (ts : List Trade) → ((t : Trade) → IsSame t (f t)) → DistinctMoments (filter is_completed ts)
+    → DistinctMoments (filter is_completed (update_where p f ts))
 moments_changed p f [] s m = tt
 moments_changed p f (t ∷ ts) s m =
     let k : IsSame t (cond (p t) (f t) t) = changed_or p f s t in
-    subst (λ b. MomentsApart (cond b (cond (p t) (f t) t ∷ filter is_completed (update_where p f ts)) (filter is_completed (update_where p f ts)))) (sym (same_status_of Completed t (cond (p t) (f t) t) k))
+    subst (λ b. DistinctMoments (cond b (cond (p t) (f t) t ∷ filter is_completed (update_where p f ts)) (filter is_completed (update_where p f ts)))) (sym (same_status_of Completed t (cond (p t) (f t) t) k))
     (by_test (is_completed t) k m (moments_changed p f ts s))
   where
-    by_test : (b : Bool) → IsSame t (cond (p t) (f t) t) → MomentsApart (cond b (t ∷ filter is_completed ts) (filter is_completed ts))
-        → (MomentsApart (filter is_completed ts) → MomentsApart (filter is_completed (update_where p f ts)))
-        → MomentsApart (cond b (cond (p t) (f t) t ∷ filter is_completed (update_where p f ts)) (filter is_completed (update_where p f ts)))
+    by_test : (b : Bool) → IsSame t (cond (p t) (f t) t) → DistinctMoments (cond b (t ∷ filter is_completed ts) (filter is_completed ts))
+        → (DistinctMoments (filter is_completed ts) → DistinctMoments (filter is_completed (update_where p f ts)))
+        → DistinctMoments (cond b (cond (p t) (f t) t ∷ filter is_completed (update_where p f ts)) (filter is_completed (update_where p f ts)))
     by_test true k m ih = (
       done_changed (λ v. (moment_of v == moment_of (cond (p t) (f t) t)) ≡ false) p f ts s
           (λ v w same e. ap (λ (n : ℕ). n == moment_of (cond (p t) (f t) t)) (same_moment v w same) ∙ e)
@@ -192,7 +192,7 @@ pub call_keeps : (P : Base → Type 0) → ((base : Base) (key : Option Key) (co
     → ((base : Base) (now : ℕ) (command : Command) → P base → refusal_of base now command ≡ None → P (base_then base now command))
     → (base : Base) (now : ℕ) (command : Command) (key : Option Key) → P base → P (keyed_step base now command key).1
 unfolding keyed_step
-call_keeps P kept step_keeps base now command key h = by_kept (kept_of base key)
+call_keeps P kept step_keeps base now command key h = by_kept (kept_for base key)
   where
     by_kept : (o : Option Kept) → P (keyed base now command key o).1
     by_kept (Some k) = h

@@ -5,7 +5,7 @@ use Rattle.std.specs.Option.{option_map_or}
 use Rattle.std.specs.List.{AllByRecursion}
 use Rattle.std.proofs.lemmas.Bool.{eqb-false, eqb-true, eq-eqb}
 use Rattle.brk_lots.specs.Books.{deals_total, gains, lots_cost, lots_total, spent}
-use Rattle.brk_lots.specs.Chains.{IsLife, rows_of}
+use Rattle.brk_lots.specs.Chains.{IsLife, changes_of_lot}
 use Rattle.brk_lots.specs.Deals.{AreDeals, IsLater}
 use Rattle.brk_lots.specs.Lots.{plain_lot, shares_of}
 use Rattle.brk_lots.proofs.Books.{costs_add_up, quantities_add_up}
@@ -20,7 +20,7 @@ use Rattle.brk_model.specs.Derived.{deal_of, deals_in, shares_in}
 use Rattle.brk_model.specs.Feed.{is_triggered, with_tick, with_ticks}
 use Rattle.brk_model.specs.Keyed.{keeping}
 use Rattle.brk_model.specs.Lists.{contains_number, update_where}
-use Rattle.brk_model.specs.Orders.{ordered_trade, tax_of}
+use Rattle.brk_model.specs.Orders.{ordered_trade, tax_on_deal}
 use Rattle.brk_model.specs.Records.{Key, Trade}
 use Rattle.brk_model.specs.Results.{completed_trade, result_deal, with_result}
 use Rattle.brk_model.specs.Run.{Call, Outcome, Run}
@@ -75,7 +75,7 @@ pub costs_sum : (base : Base) (account : ℕ) (symbol : Text) → BooksInvariant
 costs_sum base account symbol books = costs_add_up (deals_in (completed base) account symbol) (position_in (sheets base) account symbol) (shares_spelled base account symbol books)
 
 pub lot_lives : (base : Base) (account : ℕ) (symbol : Text) (lot : ℕ) → BooksInvariant base
-    → IsLife (rows_of lot (deals_in (completed base) account symbol) []) (lot_qty (replay (deals_in (completed base) account symbol)) lot)
+    → IsLife (changes_of_lot lot (deals_in (completed base) account symbol) []) (lot_qty (replay (deals_in (completed base) account symbol)) lot)
 lot_lives base account symbol lot books = lots_live (deals_in (completed base) account symbol) lot (deals_are base account symbol books)
 
 -- ---- the tax of a completed trade
@@ -223,7 +223,7 @@ run_taxes base calls outcomes after id tax books r k =
     both.1
 
 -- a result is taxed once, by the shares that it closes and the rates of its moment
-tax_is : (base : Base) (stamp price : ℕ) (t : Trade) → (completed_trade base stamp price t).tax ≡ tax_of base t.account (result_deal stamp price t) (shares_in (completed base) t.account t.symbol)
+tax_is : (base : Base) (stamp price : ℕ) (t : Trade) → (completed_trade base stamp price t).tax ≡ tax_on_deal base t.account (result_deal stamp price t) (shares_in (completed base) t.account t.symbol)
 unfolding completed_trade
 tax_is base stamp price t = refl
 

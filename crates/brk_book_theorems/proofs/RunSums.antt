@@ -5,7 +5,7 @@ use Rattle.brk_money.specs.declared.refusal.Refusal.TheVariants.{KeyReused}
 use Rattle.brk_money.specs.Spelling.{Text}
 use Rattle.brk_model.specs.Base.{Base, trade_with}
 use Rattle.brk_model.specs.Commands.{Again, Answer, Command, CompleteTrade, Done, Refused, Reply}
-use Rattle.brk_model.specs.Keyed.{acted, keeping, kept_of, keyed, keyed_step}
+use Rattle.brk_model.specs.Keyed.{acted, keeping, kept_for, keyed, keyed_step}
 use Rattle.brk_model.specs.Records.{Kept, Key, Trade}
 use Rattle.brk_model.specs.Rows.{row_text}
 use Rattle.brk_model.specs.Run.{Answers, Call, Did, Do, Outcome, Run}
@@ -43,7 +43,7 @@ by_refusal base now command key reply after (Some refusal) e k = let j : Refused
 done_is_accepted : (base : Base) (now : ℕ) (command : Command) (key : Option Key) (reply : Reply) (after : Base) → keyed_step base now command key ≡ (Done reply, after)
     → IsAccepted base now command key after
 unfolding keyed_step step
-done_is_accepted base now command key reply after e = by_kept (kept_of base key) e
+done_is_accepted base now command key reply after e = by_kept (kept_for base key) e
   where
     by_kept : (o : Option Kept) → keyed base now command key o ≡ (Done reply, after) → IsAccepted base now command key after
     by_kept (Some k) e = absurd (is_again (bytes_eq k.row_text (row_text command)) k.line base after reply e)

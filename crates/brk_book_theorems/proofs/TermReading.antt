@@ -19,7 +19,7 @@ use Rattle.brk_model.specs.Sheets.{sheets, sheets_of}
 use Rattle.brk_model.specs.Tests.{bands_meet}
 use Rattle.brk_ref.specs.Records.{tax_of}
 use Rattle.brk_ref.specs.declared.tax.Tax.{Tax}
-use Rattle.brk_book_theorems.specs.Reads.{has_permission, has_security, has_charge, has_overlap, tax_rate_of, rate_of, has_tax_rate, pays_tax, rates_of}
+use Rattle.brk_book_theorems.specs.Reads.{has_permission, has_security, has_charge, has_overlap, tax_rate_of, rate_of, has_tax_rate, pays_tax, rates_of_customer}
 use Rattle.brk_book_theorems.proofs.Order.{by_key-filter}
 use Rattle.brk_book_theorems.proofs.Reading.{find-key, find-id, find-map, is_some-map, some-is-any, any-sorted}
 use Rattle.brk_book_theorems.proofs.NewKeys.{same_bytes, code_same, same_codes, both, and_both}
@@ -149,7 +149,7 @@ pub map-or : (o : Option TaxRate) → unwrap_or (option_map (λ r. r.rate) o) 0 
 map-or None = refl
 map-or (Some r) = refl
 
-pub reads_rates : (base : Base) (customer : ℕ) → rates_of (sheets base) customer ≡ base_spec.rates_of base customer
+pub reads_rates : (base : Base) (customer : ℕ) → rates_of_customer (sheets base) customer ≡ base_spec.rates_of base customer
 unfolding tables_at sheets_of
 reads_rates base customer =
     ap (sum_by (λ r. unwrap_or (rate_of (sheets base) r.tax) 0)) (sym (by_key-filter customer_tax_key (λ r. r.customer == customer) base.customer_taxes))
@@ -173,5 +173,5 @@ rates_found t (r ∷ rows) (x ∷ taxes) e =
 
 pub taxes_found : (t : Tables) (customer : ℕ) (taxes : List Tax)
     → map (λ tax. Some (tax_of tax)) taxes ≡ map (λ r. tax_rate_of t r.tax) (filter (λ r. r.customer == customer) t.customer_taxes)
-    → sum_by (λ tax. tax.rate) taxes ≡ rates_of t customer
+    → sum_by (λ tax. tax.rate) taxes ≡ rates_of_customer t customer
 taxes_found t customer taxes e = rates_found t (filter (λ r. r.customer == customer) t.customer_taxes) taxes e

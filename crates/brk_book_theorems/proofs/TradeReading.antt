@@ -20,7 +20,7 @@ use Rattle.brk_model.specs.Sheets.{sheets, sheets_of}
 use Rattle.brk_model.specs.Ways.{is_rising}
 use Rattle.brk_model.specs.Names.{NumberedFrom}
 use Rattle.brk_book_theorems.specs.Books.{BooksInvariant}
-use Rattle.brk_book_theorems.specs.TradeReads.{last_number, permissions_of, volume_in}
+use Rattle.brk_book_theorems.specs.TradeReads.{last_number, permissions_of, last_volume_in}
 use Rattle.brk_book_theorems.specs.Trading.{hit_trades, is_hit}
 use Rattle.brk_book_theorems.proofs.Order.{Sorted, by_key-filter, by_key-map, sort_sorted, sorted_filter}
 use Rattle.brk_book_theorems.proofs.Same.{All-filter, All-mapped}
@@ -95,7 +95,7 @@ same_volume : (o : Option Security) → option_map_or (λ r. r.volume) (option_m
 same_volume None = refl
 same_volume (Some s) = refl
 
-pub reads_volume : (base : Base) (symbol : Text) → volume_in (sheets base) symbol ≡ option_map_or (λ s. s.volume) (security_with base symbol) 0
+pub reads_volume : (base : Base) (symbol : Text) → last_volume_in (sheets base) symbol ≡ option_map_or (λ s. s.volume) (security_with base symbol) 0
 reads_volume base symbol = ap (λ o. option_map_or (λ r. r.volume) o 0) (reads_last_trade base symbol) ∙ same_volume (security_with base symbol)
 
 -- ---- the number of trades

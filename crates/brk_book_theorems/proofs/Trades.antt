@@ -8,7 +8,7 @@ use Rattle.brk_money.specs.Kinds.{is_market}
 use Rattle.brk_money.specs.declared.refusal.Refusal.TheVariants.{NoTrade}
 use Rattle.brk_money.specs.declared.status.Status.TheVariants.{Pending, Canceled}
 use Rattle.brk_model.specs.Records.{Trade}
-use Rattle.brk_model.specs.Base.{Base, broker_of, has_status, marked, security_with, trade_with, with_trades}
+use Rattle.brk_model.specs.Base.{Base, broker_of_account, has_status, marked, security_with, trade_with, with_trades}
 use Rattle.brk_model.specs.Derived.{shares_in, summary_of, balance_of, trade_count_of, commissions_of}
 use Rattle.brk_model.specs.Tables.{Tables, tables_at, trade_row}
 use Rattle.brk_model.specs.Sheets.{sheets, sheets_of}
@@ -36,7 +36,7 @@ pub whole : (after : Base) (stamp : ℕ) (t : Tables) → sheets after ≡ t →
 whole after stamp t e = last_set after stamp ∙ ap (with_last stamp) e
 
 pub step_order : (base : Base) (now : ℕ) (o : Order)
-    → ChangesRows base now (PlaceOrder o) (order_rows (trade_row (ordered_trade base (next_stamp base now) o)) (not (is_market (kind_of o.order_type))) (broker_of base o.account))
+    → ChangesRows base now (PlaceOrder o) (order_rows (trade_row (ordered_trade base (next_stamp base now) o)) (not (is_market (kind_of o.order_type))) (broker_of_account base o.account))
 unfolding records_after
 step_order base now o books e =
     whole (with_order base (next_stamp base now) o) (next_stamp base now) _ (ordered_rows base (next_stamp base now) o books.numbered)

@@ -15,7 +15,7 @@ use Rattle.brk_model.specs.Sheets.{sheets}
 use Rattle.brk_model.specs.Commands.{Tick}
 use Rattle.brk_model.specs.Feed.{ticked, with_tick, with_ticks}
 use Rattle.brk_book_theorems.specs.Books.{BooksInvariant, DistinctSymbols, HasVolume}
-use Rattle.brk_book_theorems.specs.TradeReads.{volume_in}
+use Rattle.brk_book_theorems.specs.TradeReads.{last_volume_in}
 use Rattle.brk_book_theorems.specs.Trading.{feed_rows}
 use Rattle.brk_book_theorems.specs.Ticks.{exceeds_volume, qty_fed}
 use Rattle.brk_book_theorems.proofs.Bools.{both_ways, same_text, texts_back}
@@ -139,7 +139,7 @@ some_fed volume qty g h = more greatest_amount volume qty g h
     more : (limit volume qty : ℕ) → volume ≤ limit → nat_lt limit (volume + qty) ≡ true → 0 < qty
     more limit volume qty g h = grind (arith, nat_tests)
 
-volume_found : (base : Base) (s : Security) → security_with base s.symbol ≡ Some s → volume_in (sheets base) s.symbol ≡ s.volume
+volume_found : (base : Base) (s : Security) → security_with base s.symbol ≡ Some s → last_volume_in (sheets base) s.symbol ≡ s.volume
 volume_found base s e = reads_volume base s.symbol ∙ ap (λ o. option_map_or (λ s. s.volume) o 0) e
 
 pub reads_exceeds : (base : Base) (stamp : ℕ) (ticks : List Tick) → BooksInvariant base → KnowsTicks base ticks
@@ -154,11 +154,11 @@ reads_exceeds base stamp ticks books known =
     to_ticks e =
         let one = any-one _ E base.securities (All-both HasVolume (λ s. security_with base s.symbol ≡ Some s) base.securities books.volumes (each_found base.securities books.symbols)) e in
         let s : Security = one.0 in
-        let volume : volume_in (sheets base) s.symbol ≡ s.volume = volume_found base s one.1.0.1 in
-        let exceeds : nat_lt greatest_amount (volume_in (sheets base) s.symbol + qty_fed s.symbol ticks) ≡ true =
+        let volume : last_volume_in (sheets base) s.symbol ≡ s.volume = volume_found base s one.1.0.1 in
+        let exceeds : nat_lt greatest_amount (last_volume_in (sheets base) s.symbol + qty_fed s.symbol ticks) ≡ true =
         ap (λ n. nat_lt greatest_amount (n + qty_fed s.symbol ticks)) volume ∙ one.1.1 in
         any-more (λ u. bytes_eq u.symbol s.symbol) (exceeds_volume (sheets base) ticks) ticks
-        (λ u same. ap (λ symbol. nat_lt greatest_amount (volume_in (sheets base) symbol + qty_fed symbol ticks)) (same_text u.symbol s.symbol same) ∙ exceeds)
+        (λ u same. ap (λ symbol. nat_lt greatest_amount (last_volume_in (sheets base) symbol + qty_fed symbol ticks)) (same_text u.symbol s.symbol same) ∙ exceeds)
         (tick_of s.symbol ticks (some_fed s.volume (qty_fed s.symbol ticks) one.1.0.0 one.1.1))
 
     to_securities : list_any (exceeds_volume (sheets base) ticks) ticks ≡ true → list_any E base.securities ≡ true
@@ -169,7 +169,7 @@ reads_exceeds base stamp ticks books known =
         let s : Security = found.0 in
         let at : FoundAt Security (λ s. bytes_eq s.symbol u.symbol) s base.securities = find-at (λ s. bytes_eq s.symbol u.symbol) base.securities s found.1 in
         let symbol : s.symbol ≡ u.symbol = same_text s.symbol u.symbol at.passes in
-        let volume : volume_in (sheets base) u.symbol ≡ s.volume = reads_volume base u.symbol ∙ ap (λ o. option_map_or (λ s. s.volume) o 0) found.1 in
+        let volume : last_volume_in (sheets base) u.symbol ≡ s.volume = reads_volume base u.symbol ∙ ap (λ o. option_map_or (λ s. s.volume) o 0) found.1 in
         let exceeds : E s ≡ true = (λ i. nat_lt greatest_amount (sym volume i + qty_fed (symbol i) ticks)) ∙ one.1.1 in
         any-found (λ s. bytes_eq s.symbol u.symbol) E base.securities s found.1 exceeds
 
@@ -203,13 +203,13 @@ volume_after base stamp (tick ∷ ticks) symbol s e =
     ∙ grown stamp tick ticks s
 
 pub volumes_grow : (base : Base) (stamp : ℕ) (ticks : List Tick) (symbol : Text) → BooksInvariant base → KnowsTicks base ticks → is_some (security_with base symbol) ≡ true
-    → volume_in (feed_rows stamp ticks (sheets base)) symbol ≡ volume_in (sheets base) symbol + qty_fed symbol ticks
+    → last_volume_in (feed_rows stamp ticks (sheets base)) symbol ≡ last_volume_in (sheets base) symbol + qty_fed symbol ticks
 volumes_grow base stamp ticks symbol books known there =
     let found = some_of (security_with base symbol) there in
     let s : Security = found.0 in
     let at : FoundAt Security (λ s. bytes_eq s.symbol symbol) s base.securities = find-at (λ s. bytes_eq s.symbol symbol) base.securities s found.1 in
     let same : s.symbol ≡ symbol = same_text s.symbol symbol at.passes in
-    let volume : volume_in (sheets base) symbol ≡ s.volume = reads_volume base symbol ∙ ap (λ o. option_map_or (λ s. s.volume) o 0) found.1 in
-    ap (λ t. volume_in t symbol) (sym (fed_rows base stamp ticks (record { symbols = books.symbols; numbered = books.numbered; ways = books.ways }) known))
+    let volume : last_volume_in (sheets base) symbol ≡ s.volume = reads_volume base symbol ∙ ap (λ o. option_map_or (λ s. s.volume) o 0) found.1 in
+    ap (λ t. last_volume_in t symbol) (sym (fed_rows base stamp ticks (record { symbols = books.symbols; numbered = books.numbered; ways = books.ways }) known))
     ∙ reads_volume (with_ticks stamp base ticks) symbol ∙ volume_after base stamp ticks symbol s found.1
     ∙ (λ i. sym volume i + qty_fed (same i) ticks)

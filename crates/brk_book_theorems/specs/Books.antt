@@ -17,9 +17,9 @@ DistinctAccounts [] = ⊤
 DistinctAccounts (a ∷ rest) = AllByRecursion (λ b. (b.id == a.id) ≡ false) rest × DistinctAccounts rest
 
 -- No account has two permissions for one tax id.
-abbrev pub PermissionsApart : List Permission → Type 0
-PermissionsApart [] = ⊤
-PermissionsApart (p ∷ ps) = AllByRecursion (λ q. ((q.account == p.account) && bytes_eq q.tax_id p.tax_id) ≡ false) ps × PermissionsApart ps
+abbrev pub DistinctPermissions : List Permission → Type 0
+DistinctPermissions [] = ⊤
+DistinctPermissions (p ∷ ps) = AllByRecursion (λ q. ((q.account == p.account) && bytes_eq q.tax_id p.tax_id) ≡ false) ps × DistinctPermissions ps
 
 -- No two securities have one symbol.
 abbrev pub DistinctSymbols : List Security → Type 0
@@ -55,9 +55,9 @@ IsEarly None t = ⊥
 IsEarly (Some last) t = moment_of t ≤ last
 
 -- No two trades have the same stamp of their last status.
-abbrev pub MomentsApart : List Trade → Type 0
-MomentsApart [] = ⊤
-MomentsApart (t ∷ ts) = AllByRecursion (λ u. (moment_of u == moment_of t) ≡ false) ts × MomentsApart ts
+abbrev pub DistinctMoments : List Trade → Type 0
+DistinctMoments [] = ⊤
+DistinctMoments (t ∷ ts) = AllByRecursion (λ u. (moment_of u == moment_of t) ≡ false) ts × DistinctMoments ts
 
 -- The account of the movement exists.
 abbrev pub HasHolder : List Account → Movement → Type 0
@@ -119,7 +119,7 @@ pub record ArePartiesInOrder (all_brokers : List Broker) (all_customers : List C
   -- No two accounts have one id, so each summary belongs to one account.
   pub owners : DistinctAccounts all_accounts
   -- An account has at most one permission for a tax id, so this one alone decides on its executor.
-  pub permissions : PermissionsApart all_permissions
+  pub permissions : DistinctPermissions all_permissions
 
 -- The securities and the bands are consistent.
 pub record IsMarketInOrder (all_securities : List Security) (all_bands : List Band) : Type 0 where
@@ -150,7 +150,7 @@ pub record AreMomentsInOrder (last : Option ℕ) (done : List Trade) : Type 0 wh
   -- position.
   pub early : AllByRecursion (IsEarly last) done
   -- No two trades were completed at one stamp, so the order of a position's lots is unique.
-  pub moments : MomentsApart done
+  pub moments : DistinctMoments done
   -- The last stamp, if there is one, is within the range of stamps.
   pub clock : IfSome last (λ last. last ≤ last_stamp)
 

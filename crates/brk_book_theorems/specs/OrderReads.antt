@@ -22,8 +22,8 @@ abbrev pub charge_in : Tables → TradeType → ℕ → Option ℕ
 charge_in t kind tier = option_map (λ r. r.amount) (find (λ r. same_type r.kind kind && (r.tier == tier)) t.charges)
 
 -- The number of the last trade, or `None` if there are no trades.
-abbrev pub last_trade_in : Tables → Option ℕ
-last_trade_in t = option_map (λ r. r.id) (slice_get (reverse t.trades) 0)
+abbrev pub last_trade_id_in : Tables → Option ℕ
+last_trade_id_in t = option_map (λ r. r.id) (slice_get (reverse t.trades) 0)
 
 -- The customer of the account satisfies `holds`. Vacuous if the account or its customer does not
 -- exist.

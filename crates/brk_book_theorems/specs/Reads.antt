@@ -65,5 +65,5 @@ abbrev pub pays_tax : Tables → ℕ → ℕ → Bool
 pays_tax t customer tax = is_some (find (λ r. (r.customer == customer) && (r.tax == tax)) t.customer_taxes)
 
 -- The sum of the rates that the customer pays; a tax rate that does not exist counts 0.
-abbrev pub rates_of : Tables → ℕ → ℕ
-rates_of t customer = sum_by (λ r. unwrap_or (rate_of t r.tax) 0) (filter (λ r. r.customer == customer) t.customer_taxes)
+abbrev pub rates_of_customer : Tables → ℕ → ℕ
+rates_of_customer t customer = sum_by (λ r. unwrap_or (rate_of t r.tax) 0) (filter (λ r. r.customer == customer) t.customer_taxes)

@@ -4,7 +4,7 @@ use Rattle.brk_money.specs.declared.status.Status.TheVariants.{Completed}
 use Rattle.brk_model.specs.Lists.{is_zero}
 use Rattle.brk_model.specs.Shares.{Deal, Lot, Touch, lots, opened_shares, touches}
 use Rattle.brk_model.specs.Records.{Trade}
-use Rattle.brk_model.specs.Base.{Base, broker_of, completed}
+use Rattle.brk_model.specs.Base.{Base, broker_of_account, completed}
 use Rattle.brk_model.specs.Derived.{balance_of, commissions_of, posting_of_trade, postings, postings_of, shares_in, summary_of, trade_count_of}
 use Rattle.brk_model.specs.Results.{completed_trade, result_deal, with_result}
 use Rattle.brk_model.specs.Tables.{HoldingHistoryRow, HoldingRow, MoveRow, SettlementRow, SummaryRow, Tables, TradeRow, move_row, settlement_row, trade_row}
@@ -77,15 +77,15 @@ summary_rows_moved before after row t =
 
 -- The tables with the cash row added and the balance of the account set, if the trade is a cash
 -- trade; otherwise unchanged.
-abbrev pub cash_rows : (is_cash : Bool) → MoveRow → (account : ℕ) → (balance : ℤ) → Tables → Tables
-cash_rows is_cash cash account balance t = if is_cash then with_balance account balance (with_move cash t) else t
+abbrev pub with_cash_posted : (is_cash : Bool) → MoveRow → (account : ℕ) → (balance : ℤ) → Tables → Tables
+with_cash_posted is_cash cash account balance t = if is_cash then with_balance account balance (with_move cash t) else t
 
 -- ---- the whole result
 
 -- The tables after the result.
 abbrev pub result_rows : ResultRows → Tables → Tables
 result_rows c t =
-    cash_rows c.trade.is_cash c.cash c.trade.account c.balance
+    with_cash_posted c.trade.is_cash c.cash c.trade.account c.balance
     (with_settlement c.settlement
     (with_broker_numbers c.broker c.trades c.commissions
     (summary_rows_moved c.before c.after (record { account = c.trade.account; symbol = c.trade.symbol; qty = c.after })
@@ -103,9 +103,9 @@ rows_upon base after d t = record {
   settlement = settlement_row base.accounts base.rule t;
   cash = move_row (length (postings_of base) + 1) (posting_of_trade base.accounts t);
   balance = balance_of base.accounts (postings base.accounts after base.movements) t.account;
-  broker = broker_of base t.account;
-  trades = pos (trade_count_of base.accounts after (broker_of base t.account));
-  commissions = commissions_of base.accounts after (broker_of base t.account);
+  broker = broker_of_account base t.account;
+  trades = pos (trade_count_of base.accounts after (broker_of_account base t.account));
+  commissions = commissions_of base.accounts after (broker_of_account base t.account);
 }
 
 -- The rows and the figures of the result of the trade `t` at a stamp and a price.

@@ -4,7 +4,7 @@ use Rattle.brk_model.specs.Base.{Base, completed, is_completed, trade_with}
 use Rattle.brk_model.specs.Commands.{CompleteTrade, Done}
 use Rattle.brk_model.specs.Derived.{shares_in}
 use Rattle.brk_model.specs.Joins.{trade_in}
-use Rattle.brk_model.specs.Orders.{tax_of}
+use Rattle.brk_model.specs.Orders.{tax_on_deal}
 use Rattle.brk_model.specs.Records.{Trade}
 use Rattle.brk_model.specs.Results.{result_deal}
 use Rattle.brk_model.specs.Run.{Answers, Call, Did, Do, Outcome, Run}
@@ -30,7 +30,7 @@ pub record HasTax (t : Tables) (id tax : ℕ) : Type 0 where
 -- The tax on the trade if it is completed at the clock reading `now` and this price: of exactly the
 -- shares that it then closes, at the rates of the base.
 abbrev pub tax_upon : Base → ℕ → ℕ → Trade → ℕ
-tax_upon base now price t = tax_of base t.account (result_deal (next_stamp base now) price t) (shares_in (completed base) t.account t.symbol)
+tax_upon base now price t = tax_on_deal base t.account (result_deal (next_stamp base now) price t) (shares_in (completed base) t.account t.symbol)
 
 -- If the call is an accepted result, with or without a key, its trade's row in the tables `later`
 -- has the tax of its completion. Vacuous for other calls and outcomes.

@@ -35,7 +35,7 @@ kept_row key command reply = record { key = key; row_text = row_text command; li
 
 -- The command is accepted and returns `reply`. The tables after it are the changed ones, with
 -- `stamp` as the last stamp. The base after it is consistent.
-pub record IsDone (base : Base) (now : ℕ) (command : Command) (stamp : ℕ) (reply : Reply) (change : Tables → Tables) : Type 0 where
+pub record IsStepDone (base : Base) (now : ℕ) (command : Command) (stamp : ℕ) (reply : Reply) (change : Tables → Tables) : Type 0 where
   pub steps : step base now command ≡ Ok (reply, base_then base now command)
   pub rows : sheets (base_then base now command) ≡ with_last stamp (change (sheets base))
   pub kept : BooksInvariant (base_then base now command)

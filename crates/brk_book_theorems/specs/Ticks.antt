@@ -4,7 +4,7 @@ use Rattle.brk_money.specs.Spelling.{Text}
 use Rattle.brk_model.specs.Limits.{greatest_amount}
 use Rattle.brk_model.specs.Tables.{Tables}
 use Rattle.brk_model.specs.Commands.{Tick}
-use Rattle.brk_book_theorems.specs.TradeReads.{volume_in}
+use Rattle.brk_book_theorems.specs.TradeReads.{last_volume_in}
 
 -- The total quantity of the ticks of the symbol.
 abbrev pub qty_fed : Text → List Tick → ℕ
@@ -16,4 +16,4 @@ is_unknown t tick = is_none (find (λ r. bytes_eq r.symbol tick.symbol) t.last_t
 
 -- True if the volume of the tick's symbol would exceed the limit with all its ticks of the feed.
 abbrev pub exceeds_volume : Tables → List Tick → Tick → Bool
-exceeds_volume t ticks tick = nat_lt greatest_amount (volume_in t tick.symbol + qty_fed tick.symbol ticks)
+exceeds_volume t ticks tick = nat_lt greatest_amount (last_volume_in t tick.symbol + qty_fed tick.symbol ticks)

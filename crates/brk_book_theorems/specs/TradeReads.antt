@@ -35,8 +35,8 @@ abbrev pub band_in : Tables → ℕ → TradeType → Text → ℕ → Option Ba
 band_in t tier kind exchange qty = find (λ r. nat_le r.from_qty qty && nat_le qty r.to_qty) (bands_of t tier kind exchange)
 
 -- The volume of the symbol, or 0 if it has no last trade.
-abbrev pub volume_in : Tables → Text → ℕ
-volume_in t symbol = option_map_or (λ r. r.volume) (find (λ r. bytes_eq r.symbol symbol) t.last_trades) 0
+abbrev pub last_volume_in : Tables → Text → ℕ
+last_volume_in t symbol = option_map_or (λ r. r.volume) (find (λ r. bytes_eq r.symbol symbol) t.last_trades) 0
 
 -- The last trade of the symbol, or `None` if it has none.
 abbrev pub last_trade_in : Tables → Text → Option LastTradeRow
@@ -47,8 +47,8 @@ abbrev pub requests_of : Tables → Text → List RequestRow
 requests_of t symbol = filter (λ r. bytes_eq r.symbol symbol) t.requests
 
 -- The lots of the account in the symbol, the oldest first.
-abbrev pub lots_in : Tables → ℕ → Text → List HoldingRow
-lots_in t account symbol = by_key (λ r. number r.stamp ∷ number r.trade ∷ []) (filter (λ r. (r.account == account) && bytes_eq r.symbol symbol) t.holdings)
+abbrev pub lots_of_position : Tables → ℕ → Text → List HoldingRow
+lots_of_position t account symbol = by_key (λ r. number r.stamp ∷ number r.trade ∷ []) (filter (λ r. (r.account == account) && bytes_eq r.symbol symbol) t.holdings)
 
 -- The shares of the lot, all equal.
 abbrev pub lot_shares : HoldingRow → List Share
@@ -60,7 +60,7 @@ row_lot r = record { trade = r.trade; price = r.price; qty = r.qty; stamp = r.st
 
 -- The lots of the account in the symbol, without account and symbol, the oldest first.
 abbrev pub position_in : Tables → ℕ → Text → List Lot
-position_in t account symbol = map row_lot (lots_in t account symbol)
+position_in t account symbol = map row_lot (lots_of_position t account symbol)
 
 -- The summary of the account in the symbol, or `None` if it has none.
 abbrev pub summary_in : Tables → ℕ → Text → Option SummaryRow

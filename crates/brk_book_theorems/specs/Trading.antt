@@ -15,8 +15,8 @@ status_row trade status stamp = record { trade = trade; status = status; stamp =
 -- ---- an order
 
 -- The request of a pending trade with the broker of its account.
-abbrev pub request_of : TradeRow → ℕ → RequestRow
-request_of r broker = record { trade = r.id; kind = r.kind; symbol = r.symbol; qty = r.qty; bid = r.bid; broker = broker }
+abbrev pub request_of_trade : TradeRow → ℕ → RequestRow
+request_of_trade r broker = record { trade = r.id; kind = r.kind; symbol = r.symbol; qty = r.qty; bid = r.bid; broker = broker }
 
 -- The tables with the request added if the trade is pending (`waits`), and unchanged otherwise.
 abbrev pub requested_if : (waits : Bool) → RequestRow → Tables → Tables
@@ -24,7 +24,7 @@ requested_if waits r t = if waits then with_request r t else t
 
 -- The tables with the trade and its first status added, and its request if it is pending (`waits`).
 abbrev pub order_rows : TradeRow → (waits : Bool) → (broker : ℕ) → Tables → Tables
-order_rows r waits broker t = requested_if waits (request_of r broker) (with_history (status_row r.id r.status r.stamp) (with_trade r t))
+order_rows r waits broker t = requested_if waits (request_of_trade r broker) (with_history (status_row r.id r.status r.stamp) (with_trade r t))
 
 -- ---- a trade that is no longer pending
 

@@ -4,7 +4,7 @@ ghost use Rattle.std.specs.Prelude.{◌≡◌, ℕ, List, None, Some, not};
 ghost use Rattle.std.specs.List.{AllByRecursion};
 ghost use Rattle.brk_money.specs.Kinds.{is_market};
 ghost use Rattle.brk_money.specs.OrderTypes.{kind_of};
-ghost use Rattle.brk_model.specs.Base.{Base, broker_of, completed, empty_base, trade_with};
+ghost use Rattle.brk_model.specs.Base.{Base, broker_of_account, completed, empty_base, trade_with};
 ghost use Rattle.brk_model.specs.Commands.{AddAccount, AddBand, AddBroker, AddCharge, AddCustomer, AddCustomerTax, AddPermission, AddSecurity, AddTaxRate, CancelTrade, Command, CompleteTrade, DepositCash, FeedTicks, Listing, Order, PlaceOrder, Reply, SetOneDay, Tick, WithdrawCash};
 ghost use Rattle.brk_model.specs.Derived.{due_day};
 ghost use Rattle.brk_model.specs.Feed.{triggered_by};
@@ -45,7 +45,7 @@ pub fn records_are_rows()
 /// one of TRADE_REQUEST with its account's broker. No other row changes.
 pub fn orders_are_rows()
     ensures { (base : Base) (now : ℕ) (o : Order)
-        → ChangesRows base now (PlaceOrder o) (order_rows (trade_row (ordered_trade base (next_stamp base now) o)) (not (is_market (kind_of o.order_type))) (broker_of base o.account)) }
+        → ChangesRows base now (PlaceOrder o) (order_rows (trade_row (ordered_trade base (next_stamp base now) o)) (not (is_market (kind_of o.order_type))) (broker_of_account base o.account)) }
 {}
 
 /// Proves that an accepted cancel changes its trade's status, adds a row of TRADE_HISTORY and

@@ -25,9 +25,9 @@ ghost use Rattle.brk_model.specs.Ways.{is_rising};
 ghost use Rattle.brk_ref.specs.Records.{tax_of};
 ghost use Rattle.brk_ref.specs.declared.tax.Tax.{Tax};
 ghost use Rattle.brk_book_theorems.specs.Books.{BooksInvariant};
-ghost use Rattle.brk_book_theorems.specs.Reads.{accounts_of, has_overlap, has_tax_id, rates_of, tax_rate_of};
+ghost use Rattle.brk_book_theorems.specs.Reads.{accounts_of, has_overlap, has_tax_id, rates_of_customer, tax_rate_of};
 ghost use Rattle.brk_book_theorems.specs.Sums.{cash_of_account, done_of_broker};
-ghost use Rattle.brk_book_theorems.specs.TradeReads.{band_in, last_move, last_number, lot_shares, lots_in, permission_in, permissions_of, position_in, row_of_summary, summary_held, summary_in};
+ghost use Rattle.brk_book_theorems.specs.TradeReads.{band_in, last_move, last_number, lot_shares, lots_of_position, permission_in, permissions_of, position_in, row_of_summary, summary_held, summary_in};
 ghost use Rattle.brk_book_theorems.specs.Trading.{hit_trades};
 
 /// Proves that the row with an id is the row of the record with this id.
@@ -60,12 +60,12 @@ pub fn overlaps_are_found()
 /// customer's rates in the tables.
 pub fn found_taxes_add_up()
     ensures { (t : Tables) (customer : ℕ) (taxes : List Tax) → map (λ tax. Some (tax_of tax)) taxes ≡ map (λ r. tax_rate_of t r.tax) (filter (λ r. r.customer == customer) t.customer_taxes)
-        → sum_by (λ tax. tax.rate) taxes ≡ rates_of t customer }
+        → sum_by (λ tax. tax.rate) taxes ≡ rates_of_customer t customer }
 {}
 
 /// Proves that the rates of a customer in the tables sum to those that the customer pays.
 pub fn rates_add_up()
-    ensures { (base : Base) (customer : ℕ) → rates_of (sheets base) customer ≡ base_spec.rates_of base customer }
+    ensures { (base : Base) (customer : ℕ) → rates_of_customer (sheets base) customer ≡ base_spec.rates_of base customer }
 {}
 
 /// Proves that a customer row has a tax id if and only if a customer has it.
@@ -146,7 +146,7 @@ pub fn assets_are_found()
 /// Proves that the shares that an account holds of a symbol are those of its lots, the oldest
 /// first.
 pub fn lots_are_found()
-    ensures { (base : Base) (account : ℕ) (symbol : Text) → BooksInvariant base → flat_map lot_shares (lots_in (sheets base) account symbol) ≡ shares_in (completed base) account symbol }
+    ensures { (base : Base) (account : ℕ) (symbol : Text) → BooksInvariant base → flat_map lot_shares (lots_of_position (sheets base) account symbol) ≡ shares_in (completed base) account symbol }
 {}
 
 /// Proves that the lots of an account in a symbol, the oldest first, form a position whose shares

@@ -3,7 +3,7 @@
 
 ghost use Rattle.std.specs.Prelude.{◌+ℤ◌, ◌≡◌, [], ℕ, List, None, Option, Some, map};
 ghost use Rattle.brk_lots.specs.Books.{deals_total, gains, lots_cost, lots_total, spent};
-ghost use Rattle.brk_lots.specs.Chains.{IsLife, rows_of};
+ghost use Rattle.brk_lots.specs.Chains.{IsLife, changes_of_lot};
 ghost use Rattle.brk_lots.specs.Lots.{plain_lot, shares_of};
 ghost use Rattle.brk_lots.specs.Position.{IsPosition};
 ghost use Rattle.brk_money.specs.Spelling.{Text};
@@ -46,7 +46,7 @@ pub fn lots_match_the_shares()
         → map plain_lot (position_in (sheets after) account symbol) ≡ lots (shares_in (completed after) account symbol) }
     ensures lives { (base after : Base) (calls : List (ℕ × Call)) (outcomes : List Outcome) (account : ℕ) (symbol : Text) (lot : ℕ)
         → BooksInvariant base → Run base calls outcomes after
-        → IsLife (rows_of lot (deals_in (completed after) account symbol) [])
+        → IsLife (changes_of_lot lot (deals_in (completed after) account symbol) [])
         (lot_qty (replay (deals_in (completed after) account symbol)) lot) }
 {}
 

@@ -7,7 +7,7 @@ use Rattle.brk_commands.specs.declared.command.Command.TheVariants as command
 
 -- The command of the model that a command represents.
 abbrev pub command_of : told.Command → Command
-command_of (command.Add reference) = books.command_of reference
+command_of (command.Add reference) = books.adding_command reference
 command_of (command.Order order) = PlaceOrder (order_of order)
 command_of (command.Feed ticks) = FeedTicks (ticks_of ticks)
 command_of (command.Cancel trade) = CancelTrade trade

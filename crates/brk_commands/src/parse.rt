@@ -2,7 +2,7 @@ ghost use Rattle.std.specs.Prelude.{◌≡◌, ◌∷◌, ◌++◌, IfOk, OnErr,
 ghost use Rattle.brk_model.specs.Parse.{parse_by, read_account, read_as, read_band, read_broker, read_charge, read_customer, read_customer_tax, read_permission, read_security, read_tax_rate, order_readers, readers, result_readers, term_readers, update_readers, movement_readers};
 ghost use Rattle.brk_money.specs.declared.fault.Fault.TheVariants.{Memory};
 ghost use Rattle.brk_model.specs.Commands.{AddAccount, AddBand, AddBroker, AddCharge, AddCustomer, AddCustomerTax, AddPermission, AddSecurity, AddTaxRate};
-ghost use Rattle.brk_ref.specs.Fields.{Reads, texts};
+ghost use Rattle.brk_ref.specs.Fields.{ParsesAs, texts};
 ghost use Rattle.brk_commands.specs.Commands.{command_of};
 
 use crate::command::Command;
@@ -16,7 +16,7 @@ use brk_ref::{
 use std::alloc::Global;
 
 fn parse_broker(alloc: Global, fields: &[&[u8]]) -> Planned<Command>
-    ensures read { IfOk result (λ read. Reads command_of read (read_as AddBroker read_broker (texts fields.now))) }
+    ensures read { IfOk result (λ read. ParsesAs command_of read (read_as AddBroker read_broker (texts fields.now))) }
     ensures fault { OnErr result (result ≡ Err Memory) }
 {
     match check_broker(alloc, fields)? {
@@ -26,7 +26,7 @@ fn parse_broker(alloc: Global, fields: &[&[u8]]) -> Planned<Command>
 }
 
 fn parse_customer(alloc: Global, fields: &[&[u8]]) -> Planned<Command>
-    ensures read { IfOk result (λ read. Reads command_of read (read_as AddCustomer read_customer (texts fields.now))) }
+    ensures read { IfOk result (λ read. ParsesAs command_of read (read_as AddCustomer read_customer (texts fields.now))) }
     ensures fault { OnErr result (result ≡ Err Memory) }
 {
     match check_customer(alloc, fields)? {
@@ -36,7 +36,7 @@ fn parse_customer(alloc: Global, fields: &[&[u8]]) -> Planned<Command>
 }
 
 fn parse_account(alloc: Global, fields: &[&[u8]]) -> Planned<Command>
-    ensures read { IfOk result (λ read. Reads command_of read (read_as AddAccount read_account (texts fields.now))) }
+    ensures read { IfOk result (λ read. ParsesAs command_of read (read_as AddAccount read_account (texts fields.now))) }
     ensures fault { OnErr result (result ≡ Err Memory) }
 {
     match check_account(alloc, fields)? {
@@ -46,7 +46,7 @@ fn parse_account(alloc: Global, fields: &[&[u8]]) -> Planned<Command>
 }
 
 fn parse_permission(alloc: Global, fields: &[&[u8]]) -> Planned<Command>
-    ensures read { IfOk result (λ read. Reads command_of read (read_as AddPermission read_permission (texts fields.now))) }
+    ensures read { IfOk result (λ read. ParsesAs command_of read (read_as AddPermission read_permission (texts fields.now))) }
     ensures fault { OnErr result (result ≡ Err Memory) }
 {
     match check_permission(alloc, fields)? {
@@ -56,7 +56,7 @@ fn parse_permission(alloc: Global, fields: &[&[u8]]) -> Planned<Command>
 }
 
 fn parse_security(alloc: Global, fields: &[&[u8]]) -> Planned<Command>
-    ensures read { IfOk result (λ read. Reads command_of read (read_as AddSecurity read_security (texts fields.now))) }
+    ensures read { IfOk result (λ read. ParsesAs command_of read (read_as AddSecurity read_security (texts fields.now))) }
     ensures fault { OnErr result (result ≡ Err Memory) }
 {
     match check_security(alloc, fields)? {
@@ -66,7 +66,7 @@ fn parse_security(alloc: Global, fields: &[&[u8]]) -> Planned<Command>
 }
 
 fn parse_charge(fields: &[&[u8]]) -> Result<Command, Refusal>
-    ensures { Reads command_of result (read_as AddCharge read_charge (texts fields.now)) }
+    ensures { ParsesAs command_of result (read_as AddCharge read_charge (texts fields.now)) }
 {
     match check_charge(fields) {
         Ok(charge) => Ok(Command::Add(Reference::Charge(charge))),
@@ -75,7 +75,7 @@ fn parse_charge(fields: &[&[u8]]) -> Result<Command, Refusal>
 }
 
 fn parse_band(alloc: Global, fields: &[&[u8]]) -> Planned<Command>
-    ensures read { IfOk result (λ read. Reads command_of read (read_as AddBand read_band (texts fields.now))) }
+    ensures read { IfOk result (λ read. ParsesAs command_of read (read_as AddBand read_band (texts fields.now))) }
     ensures fault { OnErr result (result ≡ Err Memory) }
 {
     match check_band(alloc, fields)? {
@@ -85,7 +85,7 @@ fn parse_band(alloc: Global, fields: &[&[u8]]) -> Planned<Command>
 }
 
 fn parse_tax_rate(alloc: Global, fields: &[&[u8]]) -> Planned<Command>
-    ensures read { IfOk result (λ read. Reads command_of read (read_as AddTaxRate read_tax_rate (texts fields.now))) }
+    ensures read { IfOk result (λ read. ParsesAs command_of read (read_as AddTaxRate read_tax_rate (texts fields.now))) }
     ensures fault { OnErr result (result ≡ Err Memory) }
 {
     match check_tax_rate(alloc, fields)? {
@@ -95,7 +95,7 @@ fn parse_tax_rate(alloc: Global, fields: &[&[u8]]) -> Planned<Command>
 }
 
 fn parse_customer_tax(fields: &[&[u8]]) -> Result<Command, Refusal>
-    ensures { Reads command_of result (read_as AddCustomerTax read_customer_tax (texts fields.now)) }
+    ensures { ParsesAs command_of result (read_as AddCustomerTax read_customer_tax (texts fields.now)) }
 {
     match check_customer_tax(fields) {
         Ok(customer_tax) => Ok(Command::Add(Reference::CustomerTax(customer_tax))),
@@ -105,7 +105,7 @@ fn parse_customer_tax(fields: &[&[u8]]) -> Result<Command, Refusal>
 
 // Parses a command on terms (permission, security, charge, band, tax), or of a later kind.
 fn parse_term(alloc: Global, kind: &[u8], fields: &[&[u8]]) -> Planned<Command>
-    ensures read { IfOk result (λ read. Reads command_of read (parse_by (term_readers ++ order_readers ++ result_readers ++ update_readers ++ movement_readers) (kind.now ∷ texts fields.now))) }
+    ensures read { IfOk result (λ read. ParsesAs command_of read (parse_by (term_readers ++ order_readers ++ result_readers ++ update_readers ++ movement_readers) (kind.now ∷ texts fields.now))) }
     ensures fault { OnErr result (result ≡ Err Memory) }
 {
     if kind == b"permission".as_slice() {
@@ -131,7 +131,7 @@ fn parse_term(alloc: Global, kind: &[u8], fields: &[&[u8]]) -> Planned<Command>
 
 // Parses a command of a kind from the fields after it.
 fn parse_kind(alloc: Global, kind: &[u8], fields: &[&[u8]]) -> Planned<Command>
-    ensures read { IfOk result (λ read. Reads command_of read (parse_by readers (kind.now ∷ texts fields.now))) }
+    ensures read { IfOk result (λ read. ParsesAs command_of read (parse_by readers (kind.now ∷ texts fields.now))) }
     ensures fault { OnErr result (result ≡ Err Memory) }
 {
     if kind == b"broker".as_slice() {
@@ -149,7 +149,7 @@ fn parse_kind(alloc: Global, kind: &[u8], fields: &[&[u8]]) -> Planned<Command>
 /// Parses the command of a row from its fields, the kind first, or returns the refusal of their
 /// form. Refuses an unknown kind with `BadText`. Fails with `Memory` only.
 pub fn parse_row(alloc: Global, fields: &[&[u8]]) -> Planned<Command>
-    ensures read { IfOk result (λ read. Reads command_of read (parse_by readers (texts fields.now))) }
+    ensures read { IfOk result (λ read. ParsesAs command_of read (parse_by readers (texts fields.now))) }
     ensures fault { OnErr result (result ≡ Err Memory) }
 {
     let [kind, fields @ ..] = fields else {

@@ -2,7 +2,7 @@ ghost use Rattle.std.specs.Prelude.{◌≡◌, ◌∷◌, ◌++◌, IfOk, OnErr,
 ghost use Rattle.brk_model.specs.Commands.{CancelTrade, FeedTicks, PlaceOrder};
 ghost use Rattle.brk_model.specs.Parse.{order_readers, parse_by, read_as, read_cancel, read_feed, read_order, read_result, result_readers, update_readers, movement_readers};
 ghost use Rattle.brk_money.specs.declared.fault.Fault.TheVariants.{Memory};
-ghost use Rattle.brk_ref.specs.Fields.{Reads, texts};
+ghost use Rattle.brk_ref.specs.Fields.{ParsesAs, texts};
 ghost use Rattle.brk_commands.specs.Commands.{command_of};
 
 use crate::command::Command;
@@ -12,7 +12,7 @@ use brk_orders::{check_cancel, check_feed, check_order, check_result};
 use std::alloc::Global;
 
 fn parse_order(alloc: Global, fields: &[&[u8]]) -> Planned<Command>
-    ensures read { IfOk result (λ read. Reads command_of read (read_as PlaceOrder read_order (texts fields.now))) }
+    ensures read { IfOk result (λ read. ParsesAs command_of read (read_as PlaceOrder read_order (texts fields.now))) }
     ensures fault { OnErr result (result ≡ Err Memory) }
 {
     match check_order(alloc, fields)? {
@@ -22,7 +22,7 @@ fn parse_order(alloc: Global, fields: &[&[u8]]) -> Planned<Command>
 }
 
 fn parse_feed(alloc: Global, fields: &[&[u8]]) -> Planned<Command>
-    ensures read { IfOk result (λ read. Reads command_of read (read_as FeedTicks read_feed (texts fields.now))) }
+    ensures read { IfOk result (λ read. ParsesAs command_of read (read_as FeedTicks read_feed (texts fields.now))) }
     ensures fault { OnErr result (result ≡ Err Memory) }
 {
     match check_feed(alloc, fields)? {
@@ -32,7 +32,7 @@ fn parse_feed(alloc: Global, fields: &[&[u8]]) -> Planned<Command>
 }
 
 fn parse_cancel(fields: &[&[u8]]) -> Result<Command, Refusal>
-    ensures { Reads command_of result (read_as CancelTrade read_cancel (texts fields.now)) }
+    ensures { ParsesAs command_of result (read_as CancelTrade read_cancel (texts fields.now)) }
 {
     match check_cancel(fields) {
         Ok(trade) => Ok(Command::Cancel(trade)),
@@ -41,7 +41,7 @@ fn parse_cancel(fields: &[&[u8]]) -> Result<Command, Refusal>
 }
 
 fn parse_result(fields: &[&[u8]]) -> Result<Command, Refusal>
-    ensures { Reads command_of result (read_result (texts fields.now)) }
+    ensures { ParsesAs command_of result (read_result (texts fields.now)) }
 {
     match check_result(fields) {
         Ok(completion) => Ok(Command::Complete(completion)),
@@ -51,7 +51,7 @@ fn parse_result(fields: &[&[u8]]) -> Result<Command, Refusal>
 
 // Parses an order, a feed, a cancel or a result, or a command of a later kind.
 pub(crate) fn parse_trading(alloc: Global, kind: &[u8], fields: &[&[u8]]) -> Planned<Command>
-    ensures read { IfOk result (λ read. Reads command_of read (parse_by (order_readers ++ result_readers ++ update_readers ++ movement_readers) (kind.now ∷ texts fields.now))) }
+    ensures read { IfOk result (λ read. ParsesAs command_of read (parse_by (order_readers ++ result_readers ++ update_readers ++ movement_readers) (kind.now ∷ texts fields.now))) }
     ensures fault { OnErr result (result ≡ Err Memory) }
 {
     if kind == b"order".as_slice() {

@@ -3,7 +3,7 @@ ghost use Rattle.brk_model.specs.Commands.{ChangeExecutors};
 ghost use Rattle.brk_model.specs.Forms.{read_ids};
 ghost use Rattle.brk_model.specs.Parse.{movement_readers, parse_by, read_as, read_upcash, read_uptext, update_readers};
 ghost use Rattle.brk_money.specs.declared.fault.Fault.TheVariants.{Memory};
-ghost use Rattle.brk_ref.specs.Fields.{Reads, texts};
+ghost use Rattle.brk_ref.specs.Fields.{ParsesAs, texts};
 ghost use Rattle.brk_commands.specs.Commands.{command_of};
 
 use crate::command::Command;
@@ -13,7 +13,7 @@ use brk_orders::{check_upcash, check_upname, check_uptext};
 use std::alloc::Global;
 
 fn parse_upname(alloc: Global, fields: &[&[u8]]) -> Planned<Command>
-    ensures read { IfOk result (λ read. Reads command_of read (read_as ChangeExecutors read_ids (texts fields.now))) }
+    ensures read { IfOk result (λ read. ParsesAs command_of read (read_as ChangeExecutors read_ids (texts fields.now))) }
     ensures fault { OnErr result (result ≡ Err Memory) }
 {
     match check_upname(alloc, fields)? {
@@ -23,7 +23,7 @@ fn parse_upname(alloc: Global, fields: &[&[u8]]) -> Planned<Command>
 }
 
 fn parse_upcash(fields: &[&[u8]]) -> Result<Command, Refusal>
-    ensures { Reads command_of result (read_upcash (texts fields.now)) }
+    ensures { ParsesAs command_of result (read_upcash (texts fields.now)) }
 {
     match check_upcash(fields) {
         Ok(update) => Ok(Command::Update(update)),
@@ -32,7 +32,7 @@ fn parse_upcash(fields: &[&[u8]]) -> Result<Command, Refusal>
 }
 
 fn parse_uptext(alloc: Global, fields: &[&[u8]]) -> Planned<Command>
-    ensures read { IfOk result (λ read. Reads command_of read (read_uptext (texts fields.now))) }
+    ensures read { IfOk result (λ read. ParsesAs command_of read (read_uptext (texts fields.now))) }
     ensures fault { OnErr result (result ≡ Err Memory) }
 {
     match check_uptext(alloc, fields)? {
@@ -43,7 +43,7 @@ fn parse_uptext(alloc: Global, fields: &[&[u8]]) -> Planned<Command>
 
 // Parses a text update, a deposit, a withdrawal or a settlement day.
 pub(crate) fn parse_update(alloc: Global, kind: &[u8], fields: &[&[u8]]) -> Planned<Command>
-    ensures read { IfOk result (λ read. Reads command_of read (parse_by (update_readers ++ movement_readers) (kind.now ∷ texts fields.now))) }
+    ensures read { IfOk result (λ read. ParsesAs command_of read (parse_by (update_readers ++ movement_readers) (kind.now ∷ texts fields.now))) }
     ensures fault { OnErr result (result ≡ Err Memory) }
 {
     if kind == b"upname".as_slice() {

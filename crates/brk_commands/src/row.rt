@@ -122,7 +122,7 @@ fn customer_tax_text(alloc: Global, pays: &CustomerTax) -> Result<String, AllocE
 
 /// Returns the row of a reference record, its fields joined by byte 31.
 pub fn reference_text(alloc: Global, reference: &Reference) -> Result<String, AllocError>
-    ensures { IfOk result (λ row. string_bytes row ≡ model.row_text (books.command_of reference.now)) }
+    ensures { IfOk result (λ row. string_bytes row ≡ model.row_text (books.adding_command reference.now)) }
 {
     match reference {
         Reference::Broker(broker) => broker_text(alloc, broker),

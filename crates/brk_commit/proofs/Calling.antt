@@ -36,7 +36,7 @@ use Rattle.brk_invariant_theorems.proofs.SoundSteps.{keyed_sound}
 use Rattle.brk_store.specs.Holds.{AreTreesOf, Holds, ApplyPost, ReadPost}
 use Rattle.brk_decisions.specs.Decisions.{Decides}
 use Rattle.brk_decisions.proofs.Looking.{none_then, same_then}
-use Rattle.brk_commit.specs.Answers.{IsDone, answer_of}
+use Rattle.brk_commit.specs.Answers.{WasBooked, answer_of}
 use Rattle.brk_commit.specs.Booked.{CallPost, MayBeCommitted, base_after_call}
 use Rattle.brk_store.specs.Audited.{Represents}
 use Rattle.brk_commit.specs.Keys.{IsSought, kept_in, with_key}
@@ -64,7 +64,7 @@ not_done true line reply e = absurd (let f = e in cc)
 not_done false line reply e = absurd (let f = e in cc)
 
 -- what a kept key is answered with is never that it was done now
-never_done : (base : Base) (command : Command) (k : Kept) (answer : booked.Answer) → repeated base command k ≡ (answer_of answer, base) → IsDone (Ok answer) → ⊥
+never_done : (base : Base) (command : Command) (k : Kept) (answer : booked.Answer) → repeated base command k ≡ (answer_of answer, base) → WasBooked (Ok answer) → ⊥
 never_done base command k (given.Done reply) e done = not_done (bytes_eq k.row_text (row_text command)) k.line (reply_of reply) (ap (λ (x : Answer × Base). x.0) e)
 never_done base command k (given.Again line) e done = done
 never_done base command k (given.Refused refusal) e done = done

@@ -20,8 +20,8 @@ BookedNothing (Ok (given.Refused refusal)) = Unit {0}
 BookedNothing (Err fault) = Unit {0}
 
 -- The command was booked by this call: the result is `Done`.
-abbrev pub IsDone : Result booked.Answer Fault → Type 0
-IsDone (Ok (given.Done reply)) = Unit {0}
-IsDone (Ok (given.Again line)) = ⊥
-IsDone (Ok (given.Refused refusal)) = ⊥
-IsDone (Err fault) = ⊥
+abbrev pub WasBooked : Result booked.Answer Fault → Type 0
+WasBooked (Ok (given.Done reply)) = Unit {0}
+WasBooked (Ok (given.Again line)) = ⊥
+WasBooked (Ok (given.Refused refusal)) = ⊥
+WasBooked (Err fault) = ⊥

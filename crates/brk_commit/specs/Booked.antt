@@ -15,7 +15,7 @@ use Rattle.brk_model.specs.Run.{MayFail}
 use Rattle.brk_invariant_theorems.specs.InForm.{IsInForm, IsKeyInForm}
 use Rattle.brk_store.specs.Audited.{Represents}
 use Rattle.brk_store.specs.Holds.{AreTreesOf, IsSame, OnlyCrashState}
-use Rattle.brk_commit.specs.Answers.{BookedNothing, IsDone, answer_of}
+use Rattle.brk_commit.specs.Answers.{BookedNothing, WasBooked, answer_of}
 use Rattle.brk_commit.specs.declared.answer.Answer as booked
 
 -- The call refines the step: for every base that the store represented, the answer is that of the
@@ -51,9 +51,9 @@ pub record CallPost {S : Type 0} (g : Ghosts S) (old new : Held S) (now : ℕ) (
   -- A crash exposes a state that was possible before the call, or the tables after the command.
   pub survives : Survives (state g old) (state g new) (MayBeCommitted g old now command key)
   -- At `Done` a crash exposes only the tables after the command.
-  pub durable : HasCleanDisk (state g new) → IsDone result → (base : Base) → Represents g old base → OnlyCrashState g new (AreTreesOf (sheets (base_after_call base now command key)))
+  pub durable : HasCleanDisk (state g new) → WasBooked result → (base : Base) → Represents g old base → OnlyCrashState g new (AreTreesOf (sheets (base_after_call base now command key)))
   -- At `Done` the store was open, is open, and has committed its current state.
-  pub opened : HasCleanDisk (state g new) → IsDone result → IsTrue (state g old).is_open × IsTrue (state g new).is_open × ((state g new).committed ≡ (state g new).now)
+  pub opened : HasCleanDisk (state g new) → WasBooked result → IsTrue (state g old).is_open × IsTrue (state g new).is_open × ((state g new).committed ≡ (state g new).now)
   -- If nothing was booked, the database was open and is unchanged, if it is open after the call.
   pub same : HasCleanDisk (state g new) → IsTrue (state g new).is_open → BookedNothing result → IsSame (state g old) (state g new)
   -- If the disk assumption holds after the call, it held before.

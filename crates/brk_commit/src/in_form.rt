@@ -84,7 +84,7 @@ fn tax_is_in_form(tax: &Tax)
 }
 
 fn reference_is_in_form(reference: &Reference)
-    ensures { IsInForm (books.command_of reference.now) }
+    ensures { IsInForm (books.adding_command reference.now) }
 {
     match reference {
         Reference::Broker(broker) => broker_is_in_form(broker),

@@ -21,16 +21,16 @@ use Rattle.brk_trade.specs.declared.order.OrderFound.{OrderFound}
 use Rattle.brk_changes.specs.declared.summary_row.SummaryRow.{SummaryRow}
 use Rattle.brk_book_theorems.specs.OrderReads.{IfCustomer, charge_in}
 use Rattle.brk_trade_theorems.specs.OrderPlans.{IsFoundForEstimate, order_account}
-use Rattle.brk_book_theorems.specs.Reads.{rates_of}
+use Rattle.brk_book_theorems.specs.Reads.{rates_of_customer}
 use Rattle.brk_book_theorems.specs.TradeReads.{band_in, permission_in}
-use Rattle.brk_decisions.specs.Finds.{AreAmounts, AreTested, IsCustomer, IsFoundOf, found_of, nothing, worth_in}
+use Rattle.brk_decisions.specs.Finds.{AreAmounts, AreTested, IsCustomer, IsOrderFoundOf, found_of, no_facts, worth_in}
 use Rattle.brk_decisions.specs.declared.tested.OrderFacts.{OrderFacts}
 use Rattle.brk_decisions.specs.declared.amounts.Amounts.{Amounts}
 
 not_none : {X : Type 0} (x : X) → Some x ≡ None → ⊥
 not_none x e = absurd (cc)
 
-pub no_account : (t : Tables) (order : Order) → None ≡ account_in t order.account → IsFoundForEstimate t order nothing
+pub no_account : (t : Tables) (order : Order) → None ≡ account_in t order.account → IsFoundForEstimate t order no_facts
 no_account t order e = record {
   account = ap (option_map order_account) e;
   last_price = λ p. absurd (not_none NoAccount p);
@@ -50,7 +50,7 @@ module _ (t : Tables) (account : ℕ) (a : ref.AccountRow) (c : customer.Custome
   if_customer holds h = if_account (λ a. IfSome (find (λ r. r.id == a.customer) t.customers) holds) (subst (λ x. IfSome x holds) (sym k) h)
 
 pub all_found : (t : Tables) (order : Order) (a : ref.AccountRow) (c : customer.Customer) (tested : OrderFacts) (amounts : Amounts) → IsCustomer t a.account.customer c
-    → AreTested t order c tested → AreAmounts t a order amounts → IsFoundOf t order a (found_of a tested amounts)
+    → AreTested t order c tested → AreAmounts t a order amounts → IsOrderFoundOf t order a (found_of a tested amounts)
 all_found t order a c tested amounts k x y there = record {
   account = ap (option_map order_account) there;
   last_price = λ p. x.last_price;
@@ -59,7 +59,7 @@ all_found t order a c tested amounts k x y there = record {
   charge = λ p. if_customer t order.account a c there k (λ c. tested.charge ≡ charge_in t (kind_of order.order_type) c.tier) x.charge;
   rate = λ p. if_customer t order.account a c there k
       (λ c. IfSome (security_in t order.symbol) (λ s. tested.rate ≡ option_map (λ b. b.rate) (band_in t c.tier (kind_of order.order_type) s.exchange order.qty))) x.rate;
-  rates = λ p. if_account t order.account a c there k (λ a. amounts.rates ≡ rates_of t a.customer) y.rates;
+  rates = λ p. if_account t order.account a c there k (λ a. amounts.rates ≡ rates_of_customer t a.customer) y.rates;
   assets = λ p. if_account t order.account a c there k (λ a. amounts.assets ≡ a.balance +ℤ asset_total t a) y.assets;
   summary = λ p. y.summary;
 }

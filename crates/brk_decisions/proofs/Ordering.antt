@@ -15,7 +15,7 @@ use Rattle.brk_money.specs.declared.fault.Fault.{Fault}
 use Rattle.brk_money.specs.declared.refusal.Refusal.{Refusal}
 use Rattle.brk_orders.specs.Records.{order_of}
 use Rattle.brk_orders.specs.declared.order.Order.{Order}
-use Rattle.brk_trade.specs.Orders.{IsEstimated, IsOrdered, order_tests, trades_test}
+use Rattle.brk_trade.specs.Orders.{IsEstimated, IsOrdered, order_fact_tests, trades_test}
 use Rattle.brk_plans.specs.Reference.{clock_test}
 use Rattle.brk_trade.specs.declared.order.OrderFound.{OrderFound}
 use Rattle.brk_plans.specs.declared.plan.Plan.{Plan}
@@ -23,7 +23,7 @@ use Rattle.brk_book_theorems.specs.Books.{BooksInvariant}
 use Rattle.brk_trade_theorems.specs.OrderPlans.{AreLots, IsFoundForEstimate, IsFoundForOrder, IsReadForPlan}
 use Rattle.brk_trade_theorems.proofs.OrderDoing.{estimate_answered, estimate_refused, estimate_told, order_refused, plan_order_does}
 use Rattle.brk_store.specs.Holds.{ReadPost}
-use Rattle.brk_decisions.specs.Decisions.{Decides, Tells}
+use Rattle.brk_decisions.specs.Decisions.{Decides, IsEstimateTold}
 use Rattle.brk_decisions.proofs.Looking.{read_both}
 
 -- ---- what is known after the reads
@@ -50,7 +50,7 @@ module _ (order : Order) (found : OrderFound) (last : Option ℕ) (now : ℕ) (g
   }
 
   planned : (result : Result Plan Refusal)
-      → MatchResult result (IsOrdered order found given last now) (λ refusal. first_refusal (order_tests found ++ trades_test found.last_trade ∷ clock_test last now ∷ []) ≡ Some refusal)
+      → MatchResult result (IsOrdered order found given last now) (λ refusal. first_refusal (order_fact_tests found ++ trades_test found.last_trade ∷ clock_test last now ∷ []) ≡ Some refusal)
       → (t : Tables) → AreLots t order given → KnownForOrder order last found t → Decides now (PlaceOrder (order_of order)) result t
   planned (Ok plan) p t lots known base books s =
       plan_order_does base order found given last now plan (looked_up t known base books s) (subst (λ x. AreLots x order given) s lots) p
@@ -58,7 +58,7 @@ module _ (order : Order) (found : OrderFound) (last : Option ℕ) (now : ℕ) (g
 
   pub order_decided : (Held : Tables → Type 0) → ((t : Tables) → Held t → AreLots t order given) → (result : Result (Result Plan Refusal) Fault)
       → IfOk result (λ planned. MatchResult planned (IsOrdered order found given last now)
-      (λ refusal. first_refusal (order_tests found ++ trades_test found.last_trade ∷ clock_test last now ∷ []) ≡ Some refusal))
+      (λ refusal. first_refusal (order_fact_tests found ++ trades_test found.last_trade ∷ clock_test last now ∷ []) ≡ Some refusal))
       → IfOk result (λ planned. (t : Tables) → Held t → KnownForOrder order last found t → Decides now (PlaceOrder (order_of order)) planned t)
   order_decided Held lots (Ok result) p = λ t held. planned result p t (lots t held)
   order_decided Held lots (Err fault) p = tt
@@ -66,8 +66,8 @@ module _ (order : Order) (found : OrderFound) (last : Option ℕ) (now : ℕ) (g
 -- ---- an estimate
 
 module _ (order : Order) (found : OrderFound) (given : List Lot → Type 0) where
-  estimated : (result : Result Estimate Refusal) → MatchResult result (IsEstimated order found given) (λ refusal. first_refusal (order_tests found) ≡ Some refusal)
-      → (t : Tables) → AreLots t order given → IsFoundForEstimate t order found → Tells (order_of order) result t
+  estimated : (result : Result Estimate Refusal) → MatchResult result (IsEstimated order found given) (λ refusal. first_refusal (order_fact_tests found) ≡ Some refusal)
+      → (t : Tables) → AreLots t order given → IsFoundForEstimate t order found → IsEstimateTold (order_of order) result t
   estimated (Ok estimate) p t lots known base books s =
       let f = subst (λ x. IsFoundForEstimate x order found) s known in
       let l = subst (λ x. AreLots x order given) s lots in
@@ -75,7 +75,7 @@ module _ (order : Order) (found : OrderFound) (given : List Lot → Type 0) wher
   estimated (Err refusal) p t lots known base books s = estimate_refused base order found refusal books (subst (λ x. IsFoundForEstimate x order found) s known) p
 
   pub estimate_decided : (Held : Tables → Type 0) → ((t : Tables) → Held t → AreLots t order given) → (result : Result (Result Estimate Refusal) Fault)
-      → IfOk result (λ planned. MatchResult planned (IsEstimated order found given) (λ refusal. first_refusal (order_tests found) ≡ Some refusal))
-      → IfOk result (λ planned. (t : Tables) → Held t → IsFoundForEstimate t order found → Tells (order_of order) planned t)
+      → IfOk result (λ planned. MatchResult planned (IsEstimated order found given) (λ refusal. first_refusal (order_fact_tests found) ≡ Some refusal))
+      → IfOk result (λ planned. (t : Tables) → Held t → IsFoundForEstimate t order found → IsEstimateTold (order_of order) planned t)
   estimate_decided Held lots (Ok result) p = λ t held. estimated result p t (lots t held)
   estimate_decided Held lots (Err fault) p = tt

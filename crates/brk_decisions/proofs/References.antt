@@ -15,7 +15,7 @@ use Rattle.brk_plans.specs.declared.plan.Plan.{Plan}
 use Rattle.brk_plans.specs.declared.reference.ReferenceFacts.{ReferenceFacts}
 use Rattle.brk_plans.specs.declared.reference.Reference.{Reference}
 use Rattle.brk_book_theorems.specs.Books.{BooksInvariant}
-use Rattle.brk_plans.specs.Commands.{command_of}
+use Rattle.brk_plans.specs.Commands.{adding_command}
 use Rattle.brk_trade_theorems.specs.Plans.{IsRead as IsLookedUp}
 use Rattle.brk_trade_theorems.specs.Found.{IsFound}
 use Rattle.brk_trade_theorems.proofs.Planning.{plan_does, refusal_does}
@@ -44,12 +44,12 @@ module _ (r : Reference) (found : ReferenceFacts) (last : Option ℕ) (now : ℕ
   }
 
   record_decided : (planned : Result Plan Refusal) → MatchResult planned (IsPlanned r found last now) (λ refusal. first_refusal (tests_of r found ++ clock_test last now ∷ []) ≡ Some refusal)
-      → (t : Tables) → Known r found last t → Decides now (command_of r) planned t
+      → (t : Tables) → Known r found last t → Decides now (adding_command r) planned t
   record_decided (Ok plan) p t known base books e = plan_does base r found last now plan (looked_up t known base books e) p
   record_decided (Err refusal) p t known base books e = refusal_does base r found last now refusal (looked_up t known base books e) p
 
   pub reference_decided : (result : Result (Result Plan Refusal) Fault)
       → IfOk result (λ planned. MatchResult planned (IsPlanned r found last now) (λ refusal. first_refusal (tests_of r found ++ clock_test last now ∷ []) ≡ Some refusal))
-      → IfOk result (λ planned. (t : Tables) → Known r found last t → Decides now (command_of r) planned t)
+      → IfOk result (λ planned. (t : Tables) → Known r found last t → Decides now (adding_command r) planned t)
   reference_decided (Ok planned) p = record_decided planned p
   reference_decided (Err fault) p = tt

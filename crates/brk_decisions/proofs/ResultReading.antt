@@ -12,11 +12,11 @@ use Rattle.brk_changes.specs.declared.broker_numbers.BrokerNumbers.{BrokerNumber
 use Rattle.brk_trade.specs.declared.result_found.ResultFound.{ResultFound}
 use Rattle.brk_changes.specs.declared.summary_row.SummaryRow as summary
 use Rattle.brk_changes.specs.declared.trade_row.TradeRow.{TradeRow}
-use Rattle.brk_book_theorems.specs.Reads.{rates_of}
+use Rattle.brk_book_theorems.specs.Reads.{rates_of_customer}
 use Rattle.brk_trade_theorems.specs.ResultPlans.{result_account}
 use Rattle.brk_book_theorems.specs.TradeReads.{band_in, summary_in}
 use Rattle.brk_decisions.specs.Finds.{IsCustomer}
-use Rattle.brk_decisions.specs.ResultFinds.{AreNumbers, AreParties, IsFoundAt, IsFoundOf, IsListedAs, IsPosting}
+use Rattle.brk_decisions.specs.ResultFinds.{AreTotalsOfBroker, AreParties, IsFoundAt, IsResultFoundOf, IsListedAs, IsPosting}
 use Rattle.brk_decisions.specs.declared.parties.Parties.{Parties}
 use Rattle.brk_decisions.specs.declared.result_finding.SecurityFacts.{SecurityFacts}
 use Rattle.brk_decisions.specs.declared.result_finding.Posting.{Posting}
@@ -36,7 +36,7 @@ parties_with row customer rates broker = record {
 }
 
 pub parties_known : (t : Tables) (row : ref.AccountRow) (customer : customer.Customer) (rates : ℕ) (broker : BrokerNumbers) → IsCustomer t row.account.customer customer
-    → rates ≡ rates_of t row.account.customer → AreNumbers t row.account.broker broker → AreParties t (account_row_of row) (parties_with row customer rates broker)
+    → rates ≡ rates_of_customer t row.account.customer → AreTotalsOfBroker t row.account.broker broker → AreParties t (account_row_of row) (parties_with row customer rates broker)
 parties_known t row customer rates broker k e n = record {
   account = refl;
   tier = subst (λ x. IfSome x (λ (c : Customer). customer.tier ≡ c.tier)) (sym k) refl;
@@ -86,7 +86,7 @@ module _ (t : Tables) (trade : TradeRow) (parties : Parties) (listed : SecurityF
   abbrev pub SummaryKnown : Type 0
   SummaryKnown = held ≡ option_map (λ r. r.qty) (summary_in t trade.account trade.symbol)
 
-  pub found_known : (posting : Posting) → OwnerKnown → SecurityKnown → SummaryKnown → IsPosting t posting → IsFoundOf t trade (found_with trade parties listed held posting)
+  pub found_known : (posting : Posting) → OwnerKnown → SecurityKnown → SummaryKnown → IsPosting t posting → IsResultFoundOf t trade (found_with trade parties listed held posting)
   found_known posting owner security summary posted = record {
     own = refl;
     read = record {
@@ -94,8 +94,8 @@ module _ (t : Tables) (trade : TradeRow) (parties : Parties) (listed : SecurityF
           (λ a k. if_there (find (λ r. r.id == a.customer) t.customers) (λ c. parties.tier ≡ c.tier) RateOf (rate_at security) k.tier);
       summary = λ p. summary;
       account = λ p. of_owner owner (λ a. parties.account ≡ result_account a) (λ a k. k.account);
-      rates = λ p. of_owner owner (λ a. parties.rates ≡ rates_of t a.customer) (λ a k. k.rates);
-      broker = λ p. of_owner owner (λ a. AreNumbers t a.broker parties.broker) (λ a k. k.broker);
+      rates = λ p. of_owner owner (λ a. parties.rates ≡ rates_of_customer t a.customer) (λ a k. k.rates);
+      broker = λ p. of_owner owner (λ a. AreTotalsOfBroker t a.broker parties.broker) (λ a k. k.broker);
       security = λ p. of_security security (λ s. listed.name ≡ s.name) (λ s l. l.name);
       rule = λ p. posted.rule;
       next = λ p. posted.next;
@@ -108,8 +108,8 @@ number_in None = refl
 number_in (Some r) = refl
 
 -- of a trade that was found with its row
-pub there : (t : Tables) (id : ℕ) (row : TradeRow) (found : ResultFound) → Some (trade_row_of row) ≡ trade_in t id → IsFoundOf t row found → IsFoundAt t id (Some found)
+pub there : (t : Tables) (id : ℕ) (row : TradeRow) (found : ResultFound) → Some (trade_row_of row) ≡ trade_in t id → IsResultFoundOf t row found → IsFoundAt t id (Some found)
 there t id row found e k = record {
   trade = sym e ∙ ap (λ r. Some (trade_row_of r)) (sym k.own);
-  read = subst (λ r. IsFoundOf t r found) (sym k.own) k;
+  read = subst (λ r. IsResultFoundOf t r found) (sym k.own) k;
 }

@@ -10,7 +10,7 @@ use Rattle.brk_model.specs.Rows.{estimate_fields}
 use Rattle.brk_model.specs.Sheets.{sheets}
 use Rattle.brk_model.specs.Step.{step}
 use Rattle.brk_model.specs.Tables.{Tables}
-use Rattle.brk_plans.specs.Replies.{told}
+use Rattle.brk_plans.specs.Replies.{estimate_with}
 use Rattle.brk_plans.specs.declared.estimate.Estimate.{Estimate}
 use Rattle.brk_plans.specs.Replies.{estimate_of}
 use Rattle.brk_plans.specs.declared.plan.Plan.{Plan}
@@ -25,9 +25,9 @@ Decides now command planned t =
 
 -- The estimate equals that of the model, which is the view of its query, or the query is refused
 -- with this refusal. Vacuous if the rows are not the tables of a consistent base.
-abbrev pub Tells : Order → Result Estimate Refusal → Tables → Type 0
-Tells order planned t =
+abbrev pub IsEstimateTold : Order → Result Estimate Refusal → Tables → Type 0
+IsEstimateTold order planned t =
     (base : Base) → BooksInvariant base → t ≡ sheets base
     → MatchResult planned
-    (λ e. (e ≡ told (estimate base order)) × (ask base (EstimateOf order) ≡ Ok (estimate_fields (estimate_of e) ∷ [])))
+    (λ e. (e ≡ estimate_with (estimate base order)) × (ask base (EstimateOf order) ≡ Ok (estimate_fields (estimate_of e) ∷ [])))
     (λ refusal. ask base (EstimateOf order) ≡ Err refusal)

@@ -12,7 +12,7 @@ use Rattle.brk_ref.specs.declared.customer.Customer.{Customer}
 use Rattle.brk_trade.specs.declared.order.OrderFound.{OrderFound}
 use Rattle.brk_trade_theorems.specs.OrderPlans.{IsFoundForEstimate}
 use Rattle.brk_book_theorems.specs.OrderReads.{charge_in, last_price_in}
-use Rattle.brk_book_theorems.specs.Reads.{rates_of}
+use Rattle.brk_book_theorems.specs.Reads.{rates_of_customer}
 use Rattle.brk_book_theorems.specs.TradeReads.{band_in, permission_in, summary_in}
 use Rattle.brk_decisions.specs.declared.tested.OrderFacts.{OrderFacts}
 use Rattle.brk_decisions.specs.declared.amounts.Amounts.{Amounts}
@@ -39,13 +39,13 @@ worth_of t account = total_by (worth_in t) (filter (λ row. row.account == accou
 
 -- The amounts are those of the tables for the estimate of an order of the account.
 pub record AreAmounts (t : Tables) (account : AccountRow) (order : Order) (amounts : Amounts) : Type 0 where
-  pub rates : amounts.rates ≡ rates_of t account.account.customer
+  pub rates : amounts.rates ≡ rates_of_customer t account.account.customer
   pub assets : amounts.assets ≡ account.balance +ℤ worth_of t account.account.id
   pub summary : amounts.summary ≡ option_map (λ r. r.qty) (summary_in t order.account order.symbol)
 
 -- The facts for an order whose account does not exist.
-abbrev pub nothing : OrderFound
-nothing = record { account = None; last_price = None; is_permitted = false; charge = None; rate = None; rates = 0; assets = pos 0; summary = None; last_trade = None }
+abbrev pub no_facts : OrderFound
+no_facts = record { account = None; last_price = None; is_permitted = false; charge = None; rate = None; rates = 0; assets = pos 0; summary = None; last_trade = None }
 
 -- The facts for an order of the account, except the last trade.
 abbrev pub found_of : AccountRow → OrderFacts → Amounts → OrderFound
@@ -63,5 +63,5 @@ found_of account tested amounts = record {
 
 -- If the row is that of the order's account, the facts are those of the tables for the order's
 -- estimate.
-abbrev pub IsFoundOf : Tables → Order → AccountRow → OrderFound → Type 0
-IsFoundOf t order account found = Some (account_row_of account) ≡ account_in t order.account → IsFoundForEstimate t order found
+abbrev pub IsOrderFoundOf : Tables → Order → AccountRow → OrderFound → Type 0
+IsOrderFoundOf t order account found = Some (account_row_of account) ≡ account_in t order.account → IsFoundForEstimate t order found

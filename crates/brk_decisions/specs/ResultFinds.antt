@@ -13,7 +13,7 @@ use Rattle.brk_changes.specs.Rows.{trade_row_of}
 use Rattle.brk_changes.specs.declared.broker_numbers.BrokerNumbers.{BrokerNumbers}
 use Rattle.brk_trade.specs.declared.result_found.ResultFound.{ResultFound}
 use Rattle.brk_changes.specs.declared.trade_row.TradeRow.{TradeRow}
-use Rattle.brk_book_theorems.specs.Reads.{rates_of}
+use Rattle.brk_book_theorems.specs.Reads.{rates_of_customer}
 use Rattle.brk_trade_theorems.specs.ResultPlans.{IsFoundForResult, result_account}
 use Rattle.brk_book_theorems.specs.TradeReads.{band_in, last_move, position_in}
 use Rattle.brk_decisions.specs.declared.parties.Parties.{Parties}
@@ -21,24 +21,24 @@ use Rattle.brk_decisions.specs.declared.result_finding.SecurityFacts.{SecurityFa
 use Rattle.brk_decisions.specs.declared.result_finding.Posting.{Posting}
 
 -- The account with this id exists and is `account`.
-abbrev pub IsAccount : Tables → ℕ → ref.AccountRow → Type 0
-IsAccount t id account = account_in t id ≡ Some (account_row_of account)
+abbrev pub IsAccountWith : Tables → ℕ → ref.AccountRow → Type 0
+IsAccountWith t id account = account_in t id ≡ Some (account_row_of account)
 
 -- The security with this symbol exists and is `security`.
 abbrev pub IsSecurity : Tables → Text → Security → Type 0
 IsSecurity t symbol security = security_in t symbol ≡ Some (security_of security)
 
 -- If the broker with this id exists, the totals equal those of its row.
-abbrev pub AreNumbers : Tables → ℕ → BrokerNumbers → Type 0
-AreNumbers t id numbers = IfSome (find (λ r. r.id == id) t.brokers) (λ b. (pos numbers.trades ≡ b.trades) × (numbers.commissions ≡ b.commissions))
+abbrev pub AreTotalsOfBroker : Tables → ℕ → BrokerNumbers → Type 0
+AreTotalsOfBroker t id numbers = IfSome (find (λ r. r.id == id) t.brokers) (λ b. (pos numbers.trades ≡ b.trades) × (numbers.commissions ≡ b.commissions))
 
 -- The parties are those of the account's row: its own fields, the tier and the tax rates of its
 -- customer, and the totals of its broker.
 pub record AreParties (t : Tables) (row : AccountRow) (parties : Parties) : Type 0 where
   pub account : parties.account ≡ result_account row
   pub tier : IfSome (find (λ r. r.id == row.customer) t.customers) (λ c. parties.tier ≡ c.tier)
-  pub rates : parties.rates ≡ rates_of t row.customer
-  pub broker : AreNumbers t row.broker parties.broker
+  pub rates : parties.rates ≡ rates_of_customer t row.customer
+  pub broker : AreTotalsOfBroker t row.broker parties.broker
 
 -- The facts are those of the row of the trade's security: its name, and the rate of the band of the
 -- trade's quantity at this tier.
@@ -52,7 +52,7 @@ pub record IsPosting (t : Tables) (posting : Posting) : Type 0 where
   pub next : posting.next ≡ last_move t + 1
 
 -- The facts are those of the tables for a result of this trade.
-pub record IsFoundOf (t : Tables) (trade : TradeRow) (found : ResultFound) : Type 0 where
+pub record IsResultFoundOf (t : Tables) (trade : TradeRow) (found : ResultFound) : Type 0 where
   pub own : found.trade ≡ trade
   pub read : IsFoundForResult t found
 
@@ -60,7 +60,7 @@ pub record IsFoundOf (t : Tables) (trade : TradeRow) (found : ResultFound) : Typ
 -- trade does not exist.
 pub record IsFoundAt (t : Tables) (id : ℕ) (found : Option ResultFound) : Type 0 where
   pub trade : trade_in t id ≡ option_map (λ f. trade_row_of f.trade) found
-  pub read : IfSome found (λ f. IsFoundOf t f.trade f)
+  pub read : IfSome found (λ f. IsResultFoundOf t f.trade f)
 
 -- The lots given are those of the trade's position, from the end that it closes first; there are
 -- none if the trade does not exist.

@@ -1,7 +1,7 @@
 //! The amounts that the estimate of an order needs.
 
 ghost use Rattle.std.specs.Prelude.{◌≡◌, ◌+ℤ◌, ◌*ℤ◌, IfErr, IfSome, pos};
-ghost use Rattle.brk_book_theorems.specs.Reads.{rates_of};
+ghost use Rattle.brk_book_theorems.specs.Reads.{rates_of_customer};
 ghost use Rattle.brk_decisions.specs.Finds.{AreAmounts, worth_in, worth_of};
 ghost use Rattle.brk_model.specs.Run.{MayFail};
 ghost use Rattle.brk_store.specs.Holds.{ReadPost};
@@ -37,7 +37,7 @@ pub(crate) fn find_rates<S: Alter>(
     store: &mut Store<S>,
     customer: Id,
 ) -> Result<TaxRate, Fault>
-    ensures read { ReadPost S.Store store.old store.new result (λ rates t. rates ≡ rates_of t customer) }
+    ensures read { ReadPost S.Store store.old store.new result (λ rates t. rates ≡ rates_of_customer t customer) }
     ensures fault { IfErr result MayFail }
 {
     match sum_rates(alloc, store, customer)? {

@@ -1,7 +1,7 @@
 //! Decisions on estimates of orders.
 
 ghost use Rattle.std.specs.Prelude.{◌≡◌, ◌+◌, false, Some, IfErr, IfOk, OnErr, OnOk, MatchResult};
-ghost use Rattle.brk_decisions.specs.Decisions.{Tells};
+ghost use Rattle.brk_decisions.specs.Decisions.{IsEstimateTold};
 ghost use Rattle.brk_decisions.specs.LotReads.{LotsGiven};
 ghost use Rattle.brk_lots.specs.Against.{closes_lots};
 ghost use Rattle.brk_model.specs.Run.{MayFail};
@@ -9,9 +9,9 @@ ghost use Rattle.brk_model.specs.Tests.{first_refusal};
 ghost use Rattle.brk_orders.specs.Records.{order_of};
 ghost use Rattle.brk_store.specs.Holds.{ReadPost};
 ghost use Rattle.brk_store.specs.Kept.{IsKept};
-ghost use Rattle.brk_store.specs.Resting.{lent, read_by};
-ghost use Rattle.brk_trade.specs.Estimates.{AsksFew};
-ghost use Rattle.brk_trade.specs.Orders.{IsEstimated, order_tests, terms_of};
+ghost use Rattle.brk_store.specs.Resting.{lent, rows_read_by};
+ghost use Rattle.brk_trade.specs.Estimates.{OrderAsksFew};
+ghost use Rattle.brk_trade.specs.Orders.{IsEstimated, order_fact_tests, terms_of};
 
 use crate::order_finding::find_for_estimate;
 use brk_money::Planned;
@@ -32,9 +32,9 @@ fn plan_over<S: Alter>(
     ensures kept { IsKept S.Store (lent lots.old).now (lent lots.new).now }
     ensures planned { IfOk result (λ planned. MatchResult planned
         (IsEstimated order.now found.now (LotsGiven S.Store lots.old lots.new))
-        (λ refusal. first_refusal (order_tests found.now) ≡ Some refusal)) }
+        (λ refusal. first_refusal (order_fact_tests found.now) ≡ Some refusal)) }
     ensures refused { IfOk result (λ planned. OnErr planned (lots.new ≡ lots.old)) }
-    ensures rows { IfOk result (λ planned. OnOk planned (AsksFew (terms_of order.now found.now) (LotsGiven S.Store lots.old lots.new) (read_by lots.old + 15) (read_by lots.new))) }
+    ensures rows { IfOk result (λ planned. OnOk planned (OrderAsksFew (terms_of order.now found.now) (LotsGiven S.Store lots.old lots.new) (rows_read_by lots.old + 15) (rows_read_by lots.new))) }
     ensures unmet { closes_lots (terms_of order.now found.now).side (terms_of order.now found.now).held ≡ false → lots.new ≡ lots.old }
     ensures fault { IfErr result MayFail }
 {
@@ -50,7 +50,7 @@ pub fn decide_estimate<S: Alter>(
     store: &mut Store<S>,
     order: &Order,
 ) -> Planned<Estimate>
-    ensures read { ReadPost S.Store store.old store.new result (Tells (order_of order.now)) }
+    ensures read { ReadPost S.Store store.old store.new result (IsEstimateTold (order_of order.now)) }
     ensures fault { IfErr result MayFail }
 {
     let found = find_for_estimate(alloc, store, order)?;

@@ -2,7 +2,7 @@
 
 ghost use Rattle.std.specs.Prelude.{◌≡◌, IfErr};
 ghost use Rattle.brk_decisions.specs.Finds.{IsCustomer};
-ghost use Rattle.brk_decisions.specs.ResultFinds.{AreNumbers, IsAccount, IsSecurity};
+ghost use Rattle.brk_decisions.specs.ResultFinds.{AreTotalsOfBroker, IsAccountWith, IsSecurity};
 ghost use Rattle.brk_model.specs.Joins.{price_in};
 ghost use Rattle.brk_model.specs.Run.{MayFail};
 ghost use Rattle.brk_store.specs.Holds.{ReadPost};
@@ -27,7 +27,7 @@ pub(crate) fn known_customer<S: Alter>(store: &mut Store<S>, id: Id) -> Result<C
 
 // Returns the account with an id. Fails with `Store` if there is none.
 pub(crate) fn known_account<S: Alter>(store: &mut Store<S>, id: Id) -> Result<AccountRow, Fault>
-    ensures read { ReadPost S.Store store.old store.new result (λ account t. IsAccount t id account) }
+    ensures read { ReadPost S.Store store.old store.new result (λ account t. IsAccountWith t id account) }
     ensures fault { IfErr result MayFail }
 {
     match store.account(id)? {
@@ -38,7 +38,7 @@ pub(crate) fn known_account<S: Alter>(store: &mut Store<S>, id: Id) -> Result<Ac
 
 // Returns the totals of the broker with an id. Fails with `Store` if there is none.
 pub(crate) fn known_numbers<S: Alter>(store: &mut Store<S>, id: Id) -> Result<BrokerNumbers, Fault>
-    ensures read { ReadPost S.Store store.old store.new result (λ numbers t. AreNumbers t id numbers) }
+    ensures read { ReadPost S.Store store.old store.new result (λ numbers t. AreTotalsOfBroker t id numbers) }
     ensures fault { IfErr result MayFail }
 {
     match store.broker_numbers(id)? {

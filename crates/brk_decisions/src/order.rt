@@ -11,9 +11,9 @@ ghost use Rattle.brk_orders.specs.Records.{order_of};
 ghost use Rattle.brk_plans.specs.Reference.{clock_test};
 ghost use Rattle.brk_store.specs.Holds.{ReadPost};
 ghost use Rattle.brk_store.specs.Kept.{IsKept};
-ghost use Rattle.brk_store.specs.Resting.{lent, read_by};
-ghost use Rattle.brk_trade.specs.Estimates.{AsksFew};
-ghost use Rattle.brk_trade.specs.Orders.{IsOrdered, order_tests, terms_of, trades_test};
+ghost use Rattle.brk_store.specs.Resting.{lent, rows_read_by};
+ghost use Rattle.brk_trade.specs.Estimates.{OrderAsksFew};
+ghost use Rattle.brk_trade.specs.Orders.{IsOrdered, order_fact_tests, terms_of, trades_test};
 
 use crate::order_finding::find_for_order;
 use brk_money::{Planned, Stamp};
@@ -37,9 +37,9 @@ fn plan_over<S: Alter>(
     ensures kept { IsKept S.Store (lent lots.old).now (lent lots.new).now }
     ensures planned { IfOk result (λ planned. MatchResult planned
         (IsOrdered order.now found.now (LotsGiven S.Store lots.old lots.new) last now)
-        (λ refusal. first_refusal (order_tests found.now ++ trades_test found.now.last_trade ∷ clock_test last now ∷ []) ≡ Some refusal)) }
+        (λ refusal. first_refusal (order_fact_tests found.now ++ trades_test found.now.last_trade ∷ clock_test last now ∷ []) ≡ Some refusal)) }
     ensures refused { IfOk result (λ planned. OnErr planned (lots.new ≡ lots.old)) }
-    ensures rows { IfOk result (λ planned. OnOk planned (AsksFew (terms_of order.now found.now) (LotsGiven S.Store lots.old lots.new) (read_by lots.old + 15) (read_by lots.new))) }
+    ensures rows { IfOk result (λ planned. OnOk planned (OrderAsksFew (terms_of order.now found.now) (LotsGiven S.Store lots.old lots.new) (rows_read_by lots.old + 15) (rows_read_by lots.new))) }
     ensures unmet { closes_lots (terms_of order.now found.now).side (terms_of order.now found.now).held ≡ false → lots.new ≡ lots.old }
     ensures fault { IfErr result MayFail }
 {

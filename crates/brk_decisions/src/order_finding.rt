@@ -2,7 +2,7 @@
 
 ghost use Rattle.std.specs.Prelude.{◌≡◌, IfErr};
 ghost use Rattle.brk_trade_theorems.specs.OrderPlans.{IsFoundForEstimate, IsFoundForOrder};
-ghost use Rattle.brk_decisions.specs.Finds.{IsFoundOf, found_of, nothing};
+ghost use Rattle.brk_decisions.specs.Finds.{IsOrderFoundOf, found_of, no_facts};
 ghost use Rattle.brk_model.specs.Run.{MayFail};
 ghost use Rattle.brk_store.specs.Holds.{ReadPost};
 
@@ -19,7 +19,7 @@ use std::alloc::Global;
 
 // Returns the facts for an order whose account does not exist.
 fn nothing() -> OrderFound
-    ensures { result ≡ nothing }
+    ensures { result ≡ no_facts }
 {
     OrderFound {
         account: None,
@@ -61,7 +61,7 @@ fn find_of_account<S: Alter>(
     order: &Order,
     account: &AccountRow,
 ) -> Result<OrderFound, Fault>
-    ensures read { ReadPost S.Store store.old store.new result (λ found t. IsFoundOf t order.now account.now found) }
+    ensures read { ReadPost S.Store store.old store.new result (λ found t. IsOrderFoundOf t order.now account.now found) }
     ensures fault { IfErr result MayFail }
 {
     let customer = known_customer(store, account.account.customer)?;

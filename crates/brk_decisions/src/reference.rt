@@ -1,7 +1,7 @@
 //! Decisions on reference records.
 
 ghost use Rattle.std.specs.Prelude.{IfErr};
-ghost use Rattle.brk_plans.specs.Commands.{command_of};
+ghost use Rattle.brk_plans.specs.Commands.{adding_command};
 ghost use Rattle.brk_decisions.specs.Decisions.{Decides};
 ghost use Rattle.brk_model.specs.Run.{MayFail};
 ghost use Rattle.brk_store.specs.Holds.{ReadPost};
@@ -23,7 +23,7 @@ pub fn decide_reference<S: Alter>(
     now: Stamp,
     reference: &Reference,
 ) -> Planned<Plan>
-    ensures read { ReadPost S.Store store.old store.new result (Decides now (command_of reference.now)) }
+    ensures read { ReadPost S.Store store.old store.new result (Decides now (adding_command reference.now)) }
     ensures fault { IfErr result MayFail }
 {
     let _moment = now.get();

@@ -12,8 +12,8 @@ ghost use Rattle.brk_model.specs.Tables.{Tables};
 ghost use Rattle.brk_money.specs.Moments as moments;
 ghost use Rattle.brk_store.specs.Holds.{Holds, ReadPost};
 ghost use Rattle.brk_store.specs.Kept.{IsKept};
-ghost use Rattle.brk_store.specs.Resting.{lent, read_by};
-ghost use Rattle.brk_trade.specs.Results.{AsksFew, IsCompleted, IsRefused, MeetsNone, moment_of};
+ghost use Rattle.brk_store.specs.Resting.{lent, rows_read_by};
+ghost use Rattle.brk_trade.specs.Results.{ResultAsksFew, IsCompleted, IsRefused, MeetsNone, opening_stamp};
 
 use crate::result_finding::find_for_result;
 use brk_lots::Position;
@@ -39,7 +39,7 @@ fn plan_over<S: Alter>(
     ensures planned { IfOk result (λ planned. MatchResult planned
         (IsCompleted (Some found.now) price (LotsGiven S.Store lots.old lots.new) last now)
         (IsRefused (Some found.now) price (LotsGiven S.Store lots.old lots.new) last now)) }
-    ensures rows { IfOk result (λ planned. AsksFew (Some found.now) price (moment_of (moments.stamp_after last now) now) (LotsGiven S.Store lots.old lots.new) (read_by lots.old + 15) (read_by lots.new)) }
+    ensures rows { IfOk result (λ planned. ResultAsksFew (Some found.now) price (opening_stamp (moments.stamp_after last now) now) (LotsGiven S.Store lots.old lots.new) (rows_read_by lots.old + 15) (rows_read_by lots.new)) }
     ensures unmet { MeetsNone found.now → lots.new ≡ lots.old }
     ensures fault { IfErr result MayFail }
 {

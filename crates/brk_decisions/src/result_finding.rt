@@ -1,7 +1,7 @@
 //! Reads of the facts that decide on a result.
 
 ghost use Rattle.std.specs.Prelude.{◌<◌, IfErr, IfOk, IfSome};
-ghost use Rattle.brk_decisions.specs.ResultFinds.{IsFoundAt, IsFoundOf, IsListedAs, IsPosting};
+ghost use Rattle.brk_decisions.specs.ResultFinds.{IsFoundAt, IsResultFoundOf, IsListedAs, IsPosting};
 ghost use Rattle.brk_model.specs.Joins.{security_in};
 ghost use Rattle.brk_model.specs.Run.{MayFail};
 ghost use Rattle.brk_store.specs.Holds.{ReadPost};
@@ -77,7 +77,7 @@ fn find_of_trade<S: Alter>(
     store: &mut Store<S>,
     trade: TradeRow,
 ) -> Result<ResultFound, Fault>
-    ensures read { ReadPost S.Store store.old store.new result (λ found t. IsFoundOf t trade found) }
+    ensures read { ReadPost S.Store store.old store.new result (λ found t. IsResultFoundOf t trade found) }
     ensures some_shares { IfOk result (λ found. 0 < found.trade.qty) }
     ensures fault { IfErr result MayFail }
 {

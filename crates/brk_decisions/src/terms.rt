@@ -2,7 +2,7 @@
 
 ghost use Rattle.std.specs.Prelude.{◌≡◌, ◌==◌, ◌≤◌, IfErr, SomeIff, Some, filter, map};
 ghost use Rattle.brk_trade_theorems.specs.Found.{IsFoundForTax};
-ghost use Rattle.brk_book_theorems.specs.Reads.{has_account, has_charge, has_overlap, has_permission, has_security, has_tax_rate, pays_tax, rate_of, rates_of, tax_rate_of};
+ghost use Rattle.brk_book_theorems.specs.Reads.{has_account, has_charge, has_overlap, has_permission, has_security, has_tax_rate, pays_tax, rate_of, rates_of_customer, tax_rate_of};
 ghost use Rattle.brk_model.specs.Limits.{greatest_tax_rate};
 ghost use Rattle.brk_model.specs.Run.{MayFail};
 ghost use Rattle.brk_ref.specs.Records.{band_of, tax_of};
@@ -114,7 +114,7 @@ pub(crate) fn sum_rates<S: Alter>(
     store: &mut Store<S>,
     customer: Id,
 ) -> Result<Option<TaxRate>, Fault>
-    ensures read { ReadPost S.Store store.old store.new result (λ rates t. SomeIff rates (rates_of t customer ≤ greatest_tax_rate) (rates_of t customer)) }
+    ensures read { ReadPost S.Store store.old store.new result (λ rates t. SomeIff rates (rates_of_customer t customer ≤ greatest_tax_rate) (rates_of_customer t customer)) }
     ensures fault { IfErr result MayFail }
 {
     let taxes = taxes_of(alloc, store, customer)?;

@@ -6,7 +6,7 @@ use Rattle.std.specs.List.{list_any}
 use Rattle.std.proofs.lemmas.Bool.{eqb-true}
 use Rattle.brk_money.specs.Spelling.{Text}
 use Rattle.brk_money.specs.declared.refusal.Refusal.TheVariants.{NoCustomer}
-use Rattle.brk_model.specs.Ask.{answer_of, ask, query_tests}
+use Rattle.brk_model.specs.Ask.{view_for, ask, query_tests}
 use Rattle.brk_model.specs.Base.{customer_with}
 use Rattle.brk_model.specs.Keys.{customer_key, row_before}
 use Rattle.brk_model.specs.PositionView.{position_view}
@@ -41,14 +41,14 @@ pub no_customer : (id : ℕ) (t : Tables) → None ≡ find (λ c. c.id == id) t
 unfolding ask query_tests
 no_customer id t e = (
   λ base books sound s.
-      refused (is_none (customer_with base id)) NoCustomer (answer_of base (PositionOf id))
+      refused (is_none (customer_with base id)) NoCustomer (view_for base (PositionOf id))
       (is_missing (customer_with base id) (e ∙ ap (λ x. find (λ c. c.id == id) x.customers) s ∙ reads_customer base id)),
   tt,
 )
 
 pub position_seen : (id : ℕ) (x : Customer) (worths : List AccountWorth) (sorted : Vec AccountWorth) (view : View) → IsViewOf worths view → view ≡ views.Position sorted
     → (t : Tables) → Some x ≡ find (λ c. c.id == id) t.customers → WorthsOf x.id worths t → Shows (PositionOf id) (Ok view) t
-unfolding ask query_tests answer_of view_of
+unfolding ask query_tests view_for view_of
 position_seen id x worths sorted view is shown t e w =
     let test : Customer → Bool = λ c. c.id == id in (
       λ base books sound s.
@@ -64,14 +64,14 @@ unfolding ask query_tests sheets_of tables_at
 no_tax_id tax_id t e =
     let test : Customer → Bool = λ c. bytes_eq c.tax_id tax_id in (
       λ base books sound s.
-          refused (is_none (find test base.customers)) NoCustomer (answer_of base (PositionOfTaxId tax_id))
+          refused (is_none (find test base.customers)) NoCustomer (view_for base (PositionOfTaxId tax_id))
           (missing_sorted test base.customers ∙ is_missing (find test (sheets base).customers) (e ∙ ap (λ x. find test x.customers) s)),
       tt,
     )
 
 pub position_seen_by_tax_id : (tax_id : Text) (x : Customer) (worths : List AccountWorth) (sorted : Vec AccountWorth) (view : View) → IsViewOf worths view → view ≡ views.Position sorted
     → (t : Tables) → Some x ≡ find (λ c. bytes_eq c.tax_id tax_id) t.customers → WorthsOf x.id worths t → Shows (PositionOfTaxId tax_id) (Ok view) t
-unfolding ask query_tests answer_of view_of sheets_of tables_at
+unfolding ask query_tests view_for view_of sheets_of tables_at
 position_seen_by_tax_id tax_id x worths sorted view is shown t e w =
     let test : Customer → Bool = λ c. bytes_eq c.tax_id tax_id in (
       λ base books sound s.

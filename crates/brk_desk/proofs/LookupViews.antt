@@ -11,7 +11,7 @@ use Rattle.brk_changes.specs.declared.history_row.HistoryRow as history
 use Rattle.brk_changes.specs.declared.move_row.MoveRow as cash
 use Rattle.brk_changes.specs.declared.settlement_row.SettlementRow as settlement
 use Rattle.brk_changes.specs.declared.trade_row.TradeRow as trade
-use Rattle.brk_model.specs.Ask.{answer_of, ask, query_tests}
+use Rattle.brk_model.specs.Ask.{view_for, ask, query_tests}
 use Rattle.brk_model.specs.Base.{Base, account_with, security_with, trade_with}
 use Rattle.brk_model.specs.Joins.{oldest_first_rows, trade_in}
 use Rattle.brk_model.specs.Lists.{all_distinct, contains_number, insert_by, rising, sort_by}
@@ -79,7 +79,7 @@ seen_by test rows found view is t e looked base books sound s =
 pub no_account_trades : (id first last : ℕ) (t : Tables) → None ≡ find (λ r. r.id == id) t.accounts → Shows (TradesOfAccount id first last) (Err NoAccount) t
 unfolding ask query_tests
 no_account_trades id first last t e =
-    (λ base books sound s. refused (is_none (account_with base id)) NoAccount (answer_of base (TradesOfAccount id first last)) (account_missing base id t s e), tt)
+    (λ base books sound s. refused (is_none (account_with base id)) NoAccount (view_for base (TradesOfAccount id first last)) (account_missing base id t s e), tt)
 
 abbrev pub OfAccount : ℕ → ℕ → ℕ → TradeRow → Bool
 OfAccount account first last r = (r.account == account) && is_between first last r
@@ -88,7 +88,7 @@ pub account_trades_seen : (id first last : ℕ) (a : AccountRow) (rows : List Tr
     → ((t : Tables) (account first last : ℕ) → map looked_up_records found.items ≡ map (lookup_records t) (take 20 (oldest_first_rows (filter (OfAccount account first last) t.trades))) → fields_of view ≡ lookup_view t (OfAccount account first last))
     → (t : Tables) → Some a ≡ find (λ r. r.id == id) t.accounts → rows ≡ take 20 (oldest_first_rows (filter (OfAccount id first last) t.trades)) → AreLookedUp rows found.items t
     → Shows (TradesOfAccount id first last) (Ok view) t
-unfolding ask query_tests answer_of view_of
+unfolding ask query_tests view_for view_of
 account_trades_seen id first last a rows found view shown is t e w looked = (
   λ base books sound s.
       answered (is_none (account_with base id)) NoAccount (lookup_view (tables_of base) (OfAccount id first last)) (account_there base id a t s e)
@@ -111,7 +111,7 @@ security_there base symbol r t s e =
 pub no_symbol_trades : (symbol : Text) (first last : ℕ) (t : Tables) → None ≡ find (λ r. bytes_eq r.symbol symbol) t.securities → Shows (TradesOfSymbol symbol first last) (Err NoSecurity) t
 unfolding ask query_tests
 no_symbol_trades symbol first last t e =
-    (λ base books sound s. refused (is_none (security_with base symbol)) NoSecurity (answer_of base (TradesOfSymbol symbol first last)) (security_missing base symbol t s e), tt)
+    (λ base books sound s. refused (is_none (security_with base symbol)) NoSecurity (view_for base (TradesOfSymbol symbol first last)) (security_missing base symbol t s e), tt)
 
 abbrev pub OfSymbol : Text → ℕ → ℕ → TradeRow → Bool
 OfSymbol symbol first last r = bytes_eq r.symbol symbol && is_between first last r
@@ -120,7 +120,7 @@ pub symbol_trades_seen : (symbol : Text) (first last : ℕ) (row : SecurityRow) 
     → ((t : Tables) (symbol : List ℕ) (first last : ℕ) → map looked_up_records found.items ≡ map (lookup_records t) (take 20 (oldest_first_rows (filter (OfSymbol symbol first last) t.trades))) → fields_of view ≡ lookup_view t (OfSymbol symbol first last))
     → (t : Tables) → Some row ≡ find (λ r. bytes_eq r.symbol symbol) t.securities → rows ≡ take 20 (oldest_first_rows (filter (OfSymbol symbol first last) t.trades)) → AreLookedUp rows found.items t
     → Shows (TradesOfSymbol symbol first last) (Ok view) t
-unfolding ask query_tests answer_of view_of
+unfolding ask query_tests view_for view_of
 symbol_trades_seen symbol first last row rows found view shown is t e w looked = (
   λ base books sound s.
       answered (is_none (security_with base symbol)) NoSecurity (lookup_view (tables_of base) (OfSymbol symbol first last)) (security_there base symbol row t s e)
@@ -138,7 +138,7 @@ pub no_trades : (ids : List ℕ) (t : Tables) → list_any (λ id. is_none (trad
 unfolding ask query_tests
 no_trades ids t e = (
   λ base books sound s.
-      refused (list_any (λ id. is_none (trade_with base id)) ids) NoTrade (answer_of base (TradesWith ids))
+      refused (list_any (λ id. is_none (trade_with base id)) ids) NoTrade (view_for base (TradesWith ids))
       (sym (same_missing base ids) ∙ ap (λ (x : Tables). list_any (λ id. is_none (trade_in x id)) ids) (sym s) ∙ e),
   tt,
 )
@@ -212,7 +212,7 @@ pub trades_seen : (ids : List ℕ) (named ordered : List trade.TradeRow) (found 
     → map trade_row_of ordered ≡ oldest_first_rows (map trade_row_of named) → view ≡ views.Lookup found
     → ((t : Tables) (ids : List ℕ) → map looked_up_records found.items ≡ map (lookup_records t) (take 20 (oldest_first_rows (filter (OfIds ids) t.trades))) → fields_of view ≡ lookup_view t (OfIds ids))
     → (t : Tables) → AreTradesOf t ids named → AreLookedUp (map trade_row_of ordered) found.items t → Shows (TradesWith ids) (Ok view) t
-unfolding ask query_tests answer_of view_of
+unfolding ask query_tests view_for view_of
 trades_seen ids named ordered found view distinct few order shown is t e looked = (
   λ base books sound s.
       answered (list_any (λ id. is_none (trade_with base id)) ids) NoTrade (lookup_view (tables_of base) (OfIds ids))

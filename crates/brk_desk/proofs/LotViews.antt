@@ -6,7 +6,7 @@ use Rattle.brk_money.specs.declared.refusal.Refusal.TheVariants.{NoAccount}
 use Rattle.brk_changes.specs.Rows.{lot_change_of, trade_row_of}
 use Rattle.brk_changes.specs.declared.lot_change.LotChange.{LotChange}
 use Rattle.brk_changes.specs.declared.trade_row.TradeRow as trade
-use Rattle.brk_model.specs.Ask.{answer_of, ask, query_tests}
+use Rattle.brk_model.specs.Ask.{view_for, ask, query_tests}
 use Rattle.brk_model.specs.Base.{Base, account_with}
 use Rattle.brk_model.specs.Joins.{oldest_first_rows, trades_in}
 use Rattle.brk_model.specs.Lists.{sort_by}
@@ -82,7 +82,7 @@ by_lot base trade books sound =
 
 pub no_lots : (id first : ℕ) (t : Tables) → None ≡ find (λ r. r.id == id) t.accounts → Shows (LotsTouched id first) (Err NoAccount) t
 unfolding ask query_tests
-no_lots id first t e = (λ base books sound s. refused (is_none (account_with base id)) NoAccount (answer_of base (LotsTouched id first)) (account_missing base id t s e), tt)
+no_lots id first t e = (λ base books sound s. refused (is_none (account_with base id)) NoAccount (view_for base (LotsTouched id first)) (account_missing base id t s e), tt)
 
 -- the oldest trade of an account at or after a stamp
 abbrev pub IsSince : ℕ → ℕ → Option trade.TradeRow → Tables → Type 0
@@ -90,7 +90,7 @@ IsSince id first o t = option_to_list (option_map trade_row_of o) ≡ take 1 (ol
 
 seen : (id first : ℕ) (a : AccountRow) (lots : Option TouchedLots) (view : View) → view ≡ views.Lots lots → ((t : Tables) (account first : ℕ) → IsTouched t account first lots → fields_of view ≡ lots_view t account first)
     → (t : Tables) → Some a ≡ find (λ r. r.id == id) t.accounts → ((base : Base) → BooksInvariant base → AuditInvariant base → t ≡ sheets base → IsTouched t id first lots) → Shows (LotsTouched id first) (Ok view) t
-unfolding ask query_tests answer_of view_of
+unfolding ask query_tests view_for view_of
 seen id first a lots view shown is t e touched = (
   λ base books sound s.
       answered (is_none (account_with base id)) NoAccount (lots_view (tables_of base) id first) (account_there base id a t s e)

@@ -6,7 +6,7 @@ use Rattle.brk_money.specs.declared.refusal.Refusal.TheVariants.{NoAccount}
 use Rattle.brk_changes.specs.Rows.{history_row_of, trade_row_of}
 use Rattle.brk_changes.specs.declared.history_row.HistoryRow as read
 use Rattle.brk_changes.specs.declared.trade_row.TradeRow as read_trade
-use Rattle.brk_model.specs.Ask.{answer_of, ask, query_tests}
+use Rattle.brk_model.specs.Ask.{view_for, ask, query_tests}
 use Rattle.brk_model.specs.Base.{Base, account_with}
 use Rattle.brk_model.specs.Derived.{postings_of}
 use Rattle.brk_model.specs.Joins.{history_in}
@@ -43,12 +43,12 @@ account_there base id a t s e =
 
 pub no_account : (id : ℕ) (t : Tables) → None ≡ find (λ r. r.id == id) t.accounts → Shows (RecentOf id) (Err NoAccount) t
 unfolding ask query_tests
-no_account id t e = (λ base books sound s. refused (is_none (account_with base id)) NoAccount (answer_of base (RecentOf id)) (account_missing base id t s e), tt)
+no_account id t e = (λ base books sound s. refused (is_none (account_with base id)) NoAccount (view_for base (RecentOf id)) (account_missing base id t s e), tt)
 
 pub recent_seen : (id : ℕ) (a : AccountRow) (trades : Vec read_trade.TradeRow) (history sorted : Vec read.HistoryRow) (view : View) → IsRecent trades.items history.items view
     → view ≡ views.Recent (record { trades = trades; history = sorted })
     → (t : Tables) → Some a ≡ find (λ r. r.id == id) t.accounts → AreRecent id trades.items history.items t → Shows (RecentOf id) (Ok view) t
-unfolding ask query_tests answer_of view_of
+unfolding ask query_tests view_for view_of
 recent_seen id a trades history sorted view is shown t e w = (
   λ base books sound s.
       answered (is_none (account_with base id)) NoAccount (recent_view (tables_of base) id) (account_there base id a t s e)

@@ -6,7 +6,7 @@ use Rattle.brk_money.specs.Spelling.{Text}
 use Rattle.brk_money.specs.declared.refusal.Refusal.TheVariants.{NoAccount}
 use Rattle.brk_changes.specs.Rows.{trade_row_of}
 use Rattle.brk_changes.specs.declared.trade_row.TradeRow.{TradeRow}
-use Rattle.brk_model.specs.Ask.{answer_of, ask, query_tests}
+use Rattle.brk_model.specs.Ask.{view_for, ask, query_tests}
 use Rattle.brk_model.specs.Base.{account_with}
 use Rattle.brk_model.specs.Joins.{recent_first, trades_in}
 use Rattle.brk_model.specs.Queries.{StatusOf}
@@ -41,7 +41,7 @@ AreStatuses account statuses t = map status_rows statuses ≡ map (status_rows_i
 
 pub no_status : (id : ℕ) (t : Tables) → None ≡ find (λ r. r.id == id) t.accounts → Shows (StatusOf id) (Err NoAccount) t
 unfolding ask query_tests
-no_status id t e = (λ base books sound s. refused (is_none (account_with base id)) NoAccount (answer_of base (StatusOf id)) (account_missing base id t s e), tt)
+no_status id t e = (λ base books sound s. refused (is_none (account_with base id)) NoAccount (view_for base (StatusOf id)) (account_missing base id t s e), tt)
 
 -- one account of one customer has one head
 one_head : (t : Tables) (a : AccountRow) (c : Customer) (accounts : List AccountRow) (rest : List (List Text)) → accounts ≡ a ∷ []
@@ -52,7 +52,7 @@ one_head t a c accounts rest e f =
 
 pub status_seen : (id : ℕ) (a : AccountRow) (statuses : Vec TradeStatus) (found : AccountStatus) (view : View) → view ≡ views.Status found
     → (t : Tables) → Some a ≡ find (λ r. r.id == id) t.accounts → AreStatuses id statuses.items t → ArePartiesOf a statuses found t → Shows (StatusOf id) (Ok view) t
-unfolding ask query_tests answer_of view_of status_view
+unfolding ask query_tests view_for view_of status_view
 status_seen id a statuses found view is t e w p = (
   λ base books sound s.
       let c : Customer = p.0 in

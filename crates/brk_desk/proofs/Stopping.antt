@@ -6,7 +6,7 @@ use Rattle.brk_money.specs.declared.fault.Fault.{Fault}
 use Rattle.brk_model.specs.Base.{Base}
 use Rattle.brk_money.specs.declared.refusal.Refusal.{Refusal}
 use Rattle.brk_model.specs.Commands.{Answer, Command, Reply}
-use Rattle.brk_model.specs.Keyed.{acted, kept_of, keyed, keyed_step}
+use Rattle.brk_model.specs.Keyed.{acted, kept_for, keyed, keyed_step}
 use Rattle.brk_model.specs.Records.{Kept, Key}
 use Rattle.brk_model.specs.Run.{Answers, Ask, Call, Did, Do, Outcome, Failed, NoView, Run, Saw}
 use Rattle.brk_model.specs.Step.{step}
@@ -53,7 +53,7 @@ keyed_quiet base now command key None answer after e quiet = acted_quiet base ke
 
 pub quiet_leaves : (base : Base) (now : ℕ) (command : Command) (key : Option Key) (answer : Answer) (after : Base) → keyed_step base now command key ≡ (answer, after) → AcknowledgesNothing (Did answer) → after ≡ base
 unfolding keyed_step
-quiet_leaves base now command key answer after e quiet = keyed_quiet base now command key (kept_of base key) answer after e quiet
+quiet_leaves base now command key answer after e quiet = keyed_quiet base now command key (kept_for base key) answer after e quiet
 
 -- after a run to a base, a call that acknowledges nothing leaves what may stand
 pub stands_still : (base mid : Base) (calls : List (ℕ × Call)) (outcomes : List Outcome) (x : ℕ × Call) (o : Outcome) → Run base calls outcomes mid → Answers mid x.0 x.1 o mid → AcknowledgesNothing o

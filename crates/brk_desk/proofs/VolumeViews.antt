@@ -7,7 +7,7 @@ use Rattle.std.specs.Prelude.{bytes_eq, flat_map, nat_lt, sum_by}
 use Rattle.brk_money.specs.Spelling.{Text}
 use Rattle.brk_changes.specs.Rows.{request_row_of}
 use Rattle.brk_changes.specs.declared.request_row.RequestRow as read
-use Rattle.brk_model.specs.Ask.{answer_of, ask, query_tests}
+use Rattle.brk_model.specs.Ask.{view_for, ask, query_tests}
 use Rattle.brk_model.specs.Lists.{distinct_texts, sort_by}
 use Rattle.brk_model.specs.Queries.{VolumeOf}
 use Rattle.brk_model.specs.Sheets.{sheets}
@@ -24,7 +24,7 @@ use Rattle.brk_view.specs.declared.view.View.TheVariants as views
 use Rattle.brk_view.specs.declared.volumes.BrokerVolume.{BrokerVolume}
 use Rattle.brk_view_theorems.proofs.VolumeRows.{brokers_by_name, same_volumes}
 use Rattle.brk_desk.specs.Shows.{Shows}
-use Rattle.brk_desk.specs.Volumes.{has_requests, is_in, named_in, volumes_in, with_request}
+use Rattle.brk_desk.specs.Volumes.{has_requests, is_in, named_in, volumes_in, with_sector_request}
 use Rattle.brk_desk.proofs.Each.{first_more}
 use Rattle.brk_desk.proofs.Tested.{carried_as}
 
@@ -51,7 +51,7 @@ none_kept t sector broker rest kept e f =
     ∙ sym (filter-both (λ (r : RequestRow). r.broker == broker) (λ r. is_in t sector r.symbol) t.requests)
 
 pub kept_more : (t : Tables) (sector : Text) (before rest : List read.RequestRow) (row : read.RequestRow) (old new : List read.RequestRow) (whole : List RequestRow) → before ≡ rest ++ row ∷ []
-    → new ≡ with_request t sector row old → AreKeptIn t sector before old whole → AreKeptIn t sector rest new whole
+    → new ≡ with_sector_request t sector row old → AreKeptIn t sector before old whole → AreKeptIn t sector rest new whole
 kept_more t sector before rest row old new whole is e h = by_test (is_in t sector row.symbol) refl e
   where
     last : filter (λ (r : RequestRow). is_in t sector r.symbol) (map request_row_of before)
@@ -138,7 +138,7 @@ pub volume_seen : (sector : Text) (names : List Text) (found : List BrokerVolume
     → ((t : Tables) (sector : Text) (names : List Text) (rows : List BrokerRow) → found ≡ map (volume.broker_volume t sector) rows
     → sort_by (by_volume t sector) rows ≡ sort_by (by_volume t sector) (filter (is_shown t sector names) t.brokers) → fields_of view ≡ volume_view t sector names)
     → (t : Tables) → found ≡ map (volume.broker_volume t sector) (flat_map (named_in t sector) names) → Shows (VolumeOf sector names) (Ok view) t
-unfolding ask query_tests answer_of view_of
+unfolding ask query_tests view_for view_of
 volume_seen sector names found sorted view distinct shown is t e = (
   λ base books sound s.
       let at_sheets : found ≡ map (volume.broker_volume (sheets base) sector) (flat_map (named_in (sheets base) sector) names) =

@@ -9,8 +9,8 @@ use Rattle.brk_view.specs.declared.lots.LotTouch.{LotTouch}
 use Rattle.brk_view.specs.declared.lots.TouchedLots.{TouchedLots}
 
 -- The stamp of the trade's last status, or 0 if the trade does not exist.
-abbrev pub stamp_of : Tables → ℕ → ℕ
-stamp_of t trade = option_map_or (λ r. r.stamp) (trade_in t trade) 0
+abbrev pub stamp_of_trade : Tables → ℕ → ℕ
+stamp_of_trade t trade = option_map_or (λ r. r.stamp) (trade_in t trade) 0
 
 -- The changes of the lot, each with the stamp of the trade that made it.
 abbrev pub changes_with : Tables → ℕ → List LotTouch

@@ -14,8 +14,8 @@ abbrev pub is_in : Tables → Text → Text → Bool
 is_in t sector symbol = option_map_or (λ s. bytes_eq s.sector sector) (security_in t symbol) false
 
 -- The requests `found`, with the request of `row` at the end if its security is in the sector.
-abbrev pub with_request : Tables → Text → read.RequestRow → List read.RequestRow → List read.RequestRow
-with_request t sector row found = if is_in t sector row.symbol then found ++ row ∷ [] else found
+abbrev pub with_sector_request : Tables → Text → read.RequestRow → List read.RequestRow → List read.RequestRow
+with_sector_request t sector row found = if is_in t sector row.symbol then found ++ row ∷ [] else found
 
 -- True if the broker has a pending request in the sector.
 abbrev pub has_requests : Tables → Text → BrokerRow → Bool

@@ -2,7 +2,7 @@
 
 ghost use Rattle.std.specs.Prelude.{◌≡◌, ◌==◌, IfErr, filter, map};
 ghost use Rattle.brk_desk.specs.Shows.{Shows};
-ghost use Rattle.brk_desk.specs.Touched.{AreTouched, stamp_of};
+ghost use Rattle.brk_desk.specs.Touched.{AreTouched, stamp_of_trade};
 ghost use Rattle.brk_model.specs.Queries.{LotsTouched};
 ghost use Rattle.brk_model.specs.Run.{MayFail};
 ghost use Rattle.brk_store.specs.Holds.{ReadPost};
@@ -16,7 +16,7 @@ use std::alloc::Global;
 
 // Returns the stamp of a trade's last status. Fails with `Store` if the trade does not exist.
 fn known_stamp<S: Alter>(store: &mut Store<S>, trade: Id) -> Result<Stamp, Fault>
-    ensures read { ReadPost S.Store store.old store.new result (λ stamp t. stamp ≡ stamp_of t trade) }
+    ensures read { ReadPost S.Store store.old store.new result (λ stamp t. stamp ≡ stamp_of_trade t trade) }
     ensures fault { IfErr result MayFail }
 {
     match store.trade(trade)? {

@@ -3,7 +3,7 @@
 ghost use Rattle.std.specs.Prelude.{◌≡◌, ◌++◌, ◌∷◌, [], IfErr, bytes_eq, filter, flat_map, map};
 ghost use Rattle.brk_changes.specs.Rows.{request_row_of};
 ghost use Rattle.brk_desk.specs.Shows.{Shows};
-ghost use Rattle.brk_desk.specs.Volumes.{is_in, named_in, volumes_in, with_request};
+ghost use Rattle.brk_desk.specs.Volumes.{is_in, named_in, volumes_in, with_sector_request};
 ghost use Rattle.brk_model.specs.Queries.{VolumeOf};
 ghost use Rattle.brk_model.specs.Run.{MayFail};
 ghost use Rattle.brk_model.specs.VolumeView.{requests_in};
@@ -41,7 +41,7 @@ fn keep_in_sector<S: Alter>(
     row: RequestRow,
     found: &mut Vec<RequestRow>,
 ) -> Result<(), Fault>
-    ensures read { ReadPost S.Store store.old store.new result (λ _ t. found.new.items ≡ with_request t sector.now row found.old.items) }
+    ensures read { ReadPost S.Store store.old store.new result (λ _ t. found.new.items ≡ with_sector_request t sector.now row found.old.items) }
     ensures fault { IfErr result MayFail }
 {
     if !is_in_sector(store, &row.symbol, sector)? {

@@ -41,18 +41,18 @@ report_status report.Write = 3
 
 -- The exit status of an ending: 0 if the job is done and for help, 2 if the arguments are wrong,
 -- otherwise that of its fault.
-abbrev pub status_of : Ending → ℕ
-status_of ending.Done = 0
-status_of (ending.Open fault) = fault_status fault
-status_of (ending.Batch fault) = batch_status fault.kind
-status_of (ending.Report fault) = report_status fault
-status_of (ending.Serve fault) = 3
-status_of ending.Net = 3
-status_of ending.Output = 3
-status_of (ending.Usage (usage.Help text)) = 0
-status_of (ending.Usage (usage.Words text)) = 2
-status_of (ending.Usage usage.Day) = 2
-status_of (ending.Usage usage.Memory) = 3
+abbrev pub exit_status : Ending → ℕ
+exit_status ending.Done = 0
+exit_status (ending.Open fault) = fault_status fault
+exit_status (ending.Batch fault) = batch_status fault.kind
+exit_status (ending.Report fault) = report_status fault
+exit_status (ending.Serve fault) = 3
+exit_status ending.Net = 3
+exit_status ending.Output = 3
+exit_status (ending.Usage (usage.Help text)) = 0
+exit_status (ending.Usage (usage.Words text)) = 2
+exit_status (ending.Usage usage.Day) = 2
+exit_status (ending.Usage usage.Memory) = 3
 
 -- The ending after the database is closed: a fault of the close is reported only if the job was
 -- done.
@@ -89,12 +89,12 @@ usage_line usage.Day = codes "brk: usage: day\n"
 usage_line usage.Memory = codes "brk: fault: memory\n"
 
 -- The text that is written to standard error.
-abbrev pub line_of : Ending → List ℕ
-line_of ending.Done = []
-line_of (ending.Open fault) = fault_line fault
-line_of (ending.Batch fault) = batch_line fault.kind
-line_of (ending.Report fault) = report_line fault
-line_of (ending.Serve fault) = stream_line fault.kind
-line_of ending.Net = codes "brk: fault: net\n"
-line_of ending.Output = codes "brk: fault: write\n"
-line_of (ending.Usage fault) = usage_line fault
+abbrev pub error_line : Ending → List ℕ
+error_line ending.Done = []
+error_line (ending.Open fault) = fault_line fault
+error_line (ending.Batch fault) = batch_line fault.kind
+error_line (ending.Report fault) = report_line fault
+error_line (ending.Serve fault) = stream_line fault.kind
+error_line ending.Net = codes "brk: fault: net\n"
+error_line ending.Output = codes "brk: fault: write\n"
+error_line (ending.Usage fault) = usage_line fault

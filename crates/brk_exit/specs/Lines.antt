@@ -6,8 +6,8 @@ use Rattle.brk_money.specs.declared.fault.Fault.{Fault}
 use Rattle.brk_money.specs.declared.fault.Fault.TheVariants as fault
 
 -- The bytes of a line: its two parts and a line feed.
-abbrev pub told : Bor (List ℕ) × Bor (List ℕ) → List ℕ
-told line = line.0.now ++ (line.1.now ++ (10 ∷ []))
+abbrev pub line_bytes : Bor (List ℕ) × Bor (List ℕ) → List ℕ
+line_bytes line = line.0.now ++ (line.1.now ++ (10 ∷ []))
 
 -- The line of a fault of a desk.
 abbrev pub fault_line : Fault → List ℕ

@@ -35,7 +35,7 @@ pub enum Ending {
 }
 
 fn batch_line(kind: FaultKind) -> Line<'static>
-    ensures { line.told result ≡ spec.batch_line kind }
+    ensures { line.line_bytes result ≡ spec.batch_line kind }
 {
     match kind {
         FaultKind::BadHeader => ("brk: batch: ", "bad header"),
@@ -48,7 +48,7 @@ fn batch_line(kind: FaultKind) -> Line<'static>
 }
 
 fn stream_line(kind: StreamFault) -> Line<'static>
-    ensures { line.told result ≡ spec.stream_line kind }
+    ensures { line.line_bytes result ≡ spec.stream_line kind }
 {
     match kind {
         StreamFault::Read => ("brk: fault: ", "read"),
@@ -89,7 +89,7 @@ fn report_status(fault: &ReportFault) -> u8
 }
 
 fn status(ending: &Ending) -> u8
-    ensures { result ≡ spec.status_of ending.now }
+    ensures { result ≡ spec.exit_status ending.now }
 {
     match ending {
         Ending::Done => 0,
@@ -145,8 +145,8 @@ fn tell_usage<S: Sink>(fault: &UsageFault, errors: &mut S) -> Result<(), NotWrit
 /// Sends the line of an ending to `errors`. Help and a job that is done have no line. If the sink
 /// fails, it has received a prefix of the line.
 pub fn tell<S: Sink>(ending: &Ending, errors: &mut S) -> Result<(), NotWritten>
-    ensures ok { OnOk result (Appends (S.contents errors.old) (S.contents errors.new) (spec.line_of ending.now)) }
-    ensures err { OnErr result (FailsWithin S.contents S.fails errors.old errors.new (spec.line_of ending.now)) }
+    ensures ok { OnOk result (Appends (S.contents errors.old) (S.contents errors.new) (spec.error_line ending.now)) }
+    ensures err { OnErr result (FailsWithin S.contents S.fails errors.old errors.new (spec.error_line ending.now)) }
 {
     match ending {
         Ending::Done => Ok(()),
@@ -163,8 +163,8 @@ pub fn tell<S: Sink>(ending: &Ending, errors: &mut S) -> Result<(), NotWritten>
 /// Sends the line of an ending to `errors` and returns the exit status, which is the same if the
 /// sink fails. Help and a job that is done have no line.
 pub fn end_with<S: Sink>(ending: &Ending, errors: &mut S) -> u8
-    ensures status { result ≡ spec.status_of ending.now }
-    ensures line { ReceivesUnlessFailed S.contents S.fails errors.old errors.new (spec.line_of ending.now) }
+    ensures status { result ≡ spec.exit_status ending.now }
+    ensures line { ReceivesUnlessFailed S.contents S.fails errors.old errors.new (spec.error_line ending.now) }
 {
     let _ = tell(ending, errors);
     status(ending)

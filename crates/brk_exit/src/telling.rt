@@ -12,7 +12,7 @@ pub type Line<'a> = (&'a str, &'a str);
 
 /// Returns the line of a fault of a desk.
 pub fn fault_line(fault: Fault) -> Line<'static>
-    ensures { spec.told result ≡ spec.fault_line fault }
+    ensures { spec.line_bytes result ≡ spec.fault_line fault }
 {
     match fault {
         Fault::Memory => ("brk: fault: ", "memory"),
@@ -23,8 +23,8 @@ pub fn fault_line(fault: Fault) -> Line<'static>
 
 /// Sends a line. If the sink fails, it has received a prefix of the line.
 pub fn write_line<S: Sink>(sink: &mut S, line: Line<'_>) -> Result<(), NotWritten>
-    ensures ok { OnOk result (Appends (S.contents sink.old) (S.contents sink.new) (spec.told line.entry)) }
-    ensures err { OnErr result (FailsWithin S.contents S.fails sink.old sink.new (spec.told line.entry)) }
+    ensures ok { OnOk result (Appends (S.contents sink.old) (S.contents sink.new) (spec.line_bytes line.entry)) }
+    ensures err { OnErr result (FailsWithin S.contents S.fails sink.old sink.new (spec.line_bytes line.entry)) }
 {
     sink.send(line.0.as_bytes())?;
     sink.send(line.1.as_bytes())?;

@@ -13,7 +13,7 @@ use Rattle.serde_json.specs.Find.{as_str, as_array}
 use Rattle.serde_json.specs.Written.{has_float, items_have_float}
 use Rattle.serde_json.specs.declared.value.Value.{Value}
 use Rattle.brk_money.specs.Spelling.{Text}
-use Rattle.brk_http_model.specs.Bodies.{text_in, texts_in, texts_in_items, texts_of, listed}
+use Rattle.brk_http_model.specs.Bodies.{text_in, texts_in, texts_in_items, texts_of, json_list}
 
 no_text : (d : Data) (t : List ℕ) → None ≡ as_str d → d ≡ string t → ⊥
 no_text d t e f = let g : as_str d ≡ Some t = ap as_str f in cc
@@ -96,10 +96,10 @@ texts_plain : (ts : List Text) → items_have_float (items_of (map string ts)) �
 texts_plain [] = refl
 texts_plain (t ∷ ts) = texts_plain ts
 
-pub list_plain : (ts : List Text) → has_float (listed ts) ≡ false
+pub list_plain : (ts : List Text) → has_float (json_list ts) ≡ false
 list_plain ts = texts_plain ts
 
-pub records_plain : (rs : List (List Text)) → items_have_float (items_of (map listed rs)) ≡ false
+pub records_plain : (rs : List (List Text)) → items_have_float (items_of (map json_list rs)) ≡ false
 records_plain [] = refl
 records_plain (r ∷ rs) = rw (texts_plain r, records_plain rs) refl
 

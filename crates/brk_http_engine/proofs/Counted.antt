@@ -3,13 +3,13 @@ use Rattle.std.proofs.Common.{◌≡◌, ℕ, ◌+◌, ◌≤◌, List, [], ◌�
 use Rattle.std.specs.Prelude.{Result, Ok, Err}
 use Rattle.brk_money.specs.Spelling.{Text}
 use Rattle.brk_io.specs.Span.{IsUntouched, Outside, Span, with_base}
-use Rattle.brk_http_model.specs.Asked.{Forms, Asked, Answers, Calls, asked_of}
+use Rattle.brk_http_model.specs.Asked.{Forms, Asked, HasResponse, Calls, asked_of}
 use Rattle.brk_http_model.specs.Found.{Found, NoMore, Unreadable, Asks}
 use Rattle.brk_http_model.specs.Replies.{Response}
-use Rattle.brk_http_model.specs.Stream.{Next, Ends, GoesOn, One, RepliedTo, Replies, Begins, Responds}
+use Rattle.brk_http_model.specs.Stream.{Next, Finished, Continues, One, RepliedTo, Replies, BeginsWith, Responds}
 use Rattle.brk_http_engine.specs.Limits.{most_at_fault, most_calls}
 use Rattle.brk_http_engine.specs.Promises.{Script, TellsOutcomes, scripted}
-use Rattle.brk_http_engine.specs.Turns.{Answered, Failed}
+use Rattle.brk_http_engine.specs.Turns.{IsTurnAnswered, TurnFailed}
 use Rattle.brk_http_engine.specs.declared.stream.ServeFault.{ServeFault}
 use Rattle.brk_http_engine.specs.declared.turning.FaultKind.{FaultKind}
 use Rattle.brk_http_engine.specs.declared.turning.FaultKind.TheVariants as kinds
@@ -23,7 +23,7 @@ same_script before after n same = let e : calls_of after ≡ calls_of before = a
 
 module _ (forms : Forms) where
   responds_few : (asked : Asked) (before after : Script) (taken : List ℕ) (response : Response) → Responds scripted asked before taken response after → calls_of before ≤ calls_of after + 1
-  responds_few (Answers said) before after taken response (is, none, same) = same_script before after 1 same
+  responds_few (HasResponse said) before after taken response (is, none, same) = same_script before after 1 same
   responds_few (Calls call) before after taken response (now, outcome, is, took, (made, came)) =
       let e : calls_of before ≡ length ((now, call) ∷ after.0) = ap length made in omega (arith, e)
 
@@ -39,23 +39,23 @@ module _ (forms : Forms) where
 
   replies_few : (rs : List Text) (n : ℕ) (next : Next) (before after : Script) (moments : List ℕ) → Replies forms scripted n next before moments rs after
       → calls_of before ≤ calls_of after + length rs
-  replies_few rs n Ends before after moments (none, asked, same) = same_script before after (length rs) same
-  replies_few [] n (GoesOn input) before after moments (none, asked, same) = same_script before after 0 same
-  replies_few (reply ∷ rs) n (GoesOn input) before after moments (taken, more, next, mid, split, first, others) =
+  replies_few rs n Finished before after moments (none, asked, same) = same_script before after (length rs) same
+  replies_few [] n (Continues input) before after moments (none, asked, same) = same_script before after 0 same
+  replies_few (reply ∷ rs) n (Continues input) before after moments (taken, more, next, mid, split, first, others) =
       let one : calls_of before ≤ calls_of mid + 1 = one_few n input before mid taken reply next first in
       let rest : calls_of mid ≤ calls_of after + length rs = replies_few rs (n + 1) next mid after more others in
       omega (arith, one, rest)
 
-  begins_few : (rs : List Text) (n : ℕ) (input rest : Text) (before after : Script) (moments : List ℕ) → Begins forms scripted n input before moments rs rest after
+  begins_few : (rs : List Text) (n : ℕ) (input rest : Text) (before after : Script) (moments : List ℕ) → BeginsWith forms scripted n input before moments rs rest after
       → calls_of before ≤ calls_of after + length rs
   begins_few [] n input rest before after moments (is, asked, same) = same_script before after 0 same
   begins_few (reply ∷ rs) n input rest before after moments (taken, more, left, mid, split, first, others) =
-      let one : calls_of before ≤ calls_of mid + 1 = one_few n input before mid taken reply (GoesOn left) first in
+      let one : calls_of before ≤ calls_of mid + 1 = one_few n input before mid taken reply (Continues left) first in
       let later : calls_of mid ≤ calls_of after + length rs = begins_few rs (n + 1) left rest mid after more others in
       omega (arith, one, later)
 
   module _ {C : Type 0} (gives : C → ℕ → C → Type 0) where
-    failed_few : (n : ℕ) (input : Text) (span : Span Script C) (kind : FaultKind) → Failed forms scripted gives n input span kind → calls_of span.base ≤ calls_of span.after + most_at_fault kind
+    failed_few : (n : ℕ) (input : Text) (span : Span Script C) (kind : FaultKind) → TurnFailed forms scripted gives n input span kind → calls_of span.base ≤ calls_of span.after + most_at_fault kind
     failed_few n input span kinds.Read h = same_script span.base span.after 0 h.base
     failed_few n input span kinds.Memory (inl h) = same_script span.base span.after 1 h.base
     failed_few n input span kinds.Memory (inr (reply, next, h, wrote)) = one_few n input span.base span.after h.taken reply next h.one
@@ -63,7 +63,7 @@ module _ (forms : Forms) where
 
     pub tells_few : (input : Text) (script : Script) (outside : Outside C) (result : Result ℕ ServeFault) → TellsOutcomes forms gives input script outside result → calls_of script ≤ most_calls result
     tells_few input script outside (Ok count) h =
-        let few : calls_of script ≤ 0 + length h.replies = replies_few h.replies 0 (GoesOn input) script ([], []) h.moments h.replied in
+        let few : calls_of script ≤ 0 + length h.replies = replies_few h.replies 0 (Continues input) script ([], []) h.moments h.replied in
         omega (arith, few, h.counted)
     tells_few input script outside (Err fault) h =
         let first : calls_of script ≤ calls_of h.mid + length h.replies = begins_few h.replies 0 input h.rest script h.mid h.moments h.begun in

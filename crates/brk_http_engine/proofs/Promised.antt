@@ -5,12 +5,12 @@ use Rattle.brk_money.specs.Spelling.{Text}
 use Rattle.brk_model.specs.Run.{Call, Outcome}
 use Rattle.brk_io.specs.Calls.{AreMade}
 use Rattle.brk_io.specs.Span.{IsUntouched, Outside, Span, with_base}
-use Rattle.brk_http_model.specs.Asked.{Forms, Asked, Answers, Calls, asked_of}
+use Rattle.brk_http_model.specs.Asked.{Forms, Asked, HasResponse, Calls, asked_of}
 use Rattle.brk_http_model.specs.Found.{Found, NoMore, Unreadable, Asks}
 use Rattle.brk_http_model.specs.Replies.{Response}
-use Rattle.brk_http_model.specs.Stream.{Does, Next, Ends, GoesOn, One, RepliedTo, Replies, Begins, Responds}
+use Rattle.brk_http_model.specs.Stream.{Does, Next, Finished, Continues, One, RepliedTo, Replies, BeginsWith, Responds}
 use Rattle.brk_http_engine.specs.Promises.{KeepsBooks, Script, TellsOutcomes, scripted}
-use Rattle.brk_http_engine.specs.Turns.{Answered, Failed, ServeGives}
+use Rattle.brk_http_engine.specs.Turns.{IsTurnAnswered, TurnFailed, ServeGives}
 use Rattle.brk_http_engine.specs.declared.stream.ServeFault.{ServeFault}
 use Rattle.brk_http_engine.specs.declared.turning.FaultKind.{FaultKind}
 use Rattle.brk_http_engine.specs.declared.turning.FaultKind.TheVariants as kinds
@@ -29,8 +29,8 @@ module _ {D B C : Type 0} (forms : Forms) (acts : Does D) (does : Does B) (hones
   abbrev Carries : D → D → (B → B → Type 0) → Type 0
   Carries old new P = honest new → honest old × ((base : B) → stands old base → (after : B) × stands new after × P base after)
 
-  answered_carries : (n : ℕ) (input : Text) (old new : D) (clock later : C) (was now : Option Text) (reply : Text) (next : Next) → Answered forms acts gives n input (around old new clock later was now) reply next
-      → Carries old new (λ base after. Answered forms does gives n input (around base after clock later was now) reply next)
+  answered_carries : (n : ℕ) (input : Text) (old new : D) (clock later : C) (was now : Option Text) (reply : Text) (next : Next) → IsTurnAnswered forms acts gives n input (around old new clock later was now) reply next
+      → Carries old new (λ base after. IsTurnAnswered forms does gives n input (around base after clock later was now) reply next)
   answered_carries n input old new clock later was now reply next h good =
       let r = sim.one forms acts does honest stands earlier steps n input old new h.taken reply next h.one good in
       (r.0, λ base stood. let k = r.1 base stood in (k.0, k.1, record { taken = h.taken; moments = h.moments; one = k.2 }))
@@ -40,8 +40,8 @@ module _ {D B C : Type 0} (forms : Forms) (acts : Does D) (does : Does B) (hones
   untouched_carries old new clock later was now h good =
       (subst honest h.base good, λ base stood. (base, subst (λ d. stands d base) (sym h.base) stood, record { base = refl; clock = h.clock; written = h.written }))
 
-  failed_carries : (n : ℕ) (input : Text) (old new : D) (clock later : C) (was now : Option Text) (kind : FaultKind) → Failed forms acts gives n input (around old new clock later was now) kind
-      → Carries old new (λ base after. Failed forms does gives n input (around base after clock later was now) kind)
+  failed_carries : (n : ℕ) (input : Text) (old new : D) (clock later : C) (was now : Option Text) (kind : FaultKind) → TurnFailed forms acts gives n input (around old new clock later was now) kind
+      → Carries old new (λ base after. TurnFailed forms does gives n input (around base after clock later was now) kind)
   failed_carries n input old new clock later was now kinds.Read h good = untouched_carries old new clock later was now h good
   failed_carries n input old new clock later was now kinds.Memory (inl h) good =
       let r = untouched_carries old new clock later was now h good in (r.0, λ base stood. let k = r.1 base stood in (k.0, k.1, inl k.2))
@@ -53,7 +53,7 @@ module _ {D B C : Type 0} (forms : Forms) (acts : Does D) (does : Does B) (hones
   pub keeps : (input : Text) (first last : D) (outside : Outside C) (result : Result ℕ ServeFault) → ServeGives forms acts gives input (with_base first last outside) result
       → KeepsBooks honest stands forms does gives input first last outside result
   keeps input first last outside (Ok count) h good base stood =
-      let r = sim.replies_carry forms acts does honest stands earlier steps h.replies 0 (GoesOn input) first last h.moments h.replied good in
+      let r = sim.replies_carry forms acts does honest stands earlier steps h.replies 0 (Continues input) first last h.moments h.replied good in
       let k = r.1 base stood in
       (k.0, k.1, record { moments = h.moments; replies = h.replies; taken = h.taken; replied = k.2; written = h.written; counted = h.counted })
   keeps input first last outside (Err fault) h good base stood =
@@ -91,7 +91,7 @@ module _ {D C : Type 0} (forms : Forms) (acts : Does D) (gives : C → ℕ → C
 
   responds_told : (asked : Asked) (old new : D) (taken : List ℕ) (response : Response) → Responds acts asked old taken response new
       → Told old new (λ before after. Responds scripted asked before taken response after)
-  responds_told (Answers said) old new taken response (is, none, same) after made = (after, stayed old new after same made, (is, none, refl))
+  responds_told (HasResponse said) old new taken response (is, none, same) after made = (after, stayed old new after same made, (is, none, refl))
   responds_told (Calls call) old new taken response (now, outcome, is, took, acted) after made =
       (((now, call) ∷ after.0, outcome ∷ after.1), (new, acted, made), (now, outcome, is, took, (refl, refl)))
 
@@ -110,23 +110,23 @@ module _ {D C : Type 0} (forms : Forms) (acts : Does D) (gives : C → ℕ → C
 
   replies_told : (rs : List Text) (n : ℕ) (next : Next) (old new : D) (moments : List ℕ) → Replies forms acts n next old moments rs new
       → Told old new (λ before after. Replies forms scripted n next before moments rs after)
-  replies_told rs n Ends old new moments (none, asked, same) after made = (after, stayed old new after same made, (none, asked, refl))
-  replies_told [] n (GoesOn input) old new moments (none, asked, same) after made = (after, stayed old new after same made, (none, asked, refl))
-  replies_told (reply ∷ rs) n (GoesOn input) old new moments (taken, more, next, mid, split, first, others) after made =
+  replies_told rs n Finished old new moments (none, asked, same) after made = (after, stayed old new after same made, (none, asked, refl))
+  replies_told [] n (Continues input) old new moments (none, asked, same) after made = (after, stayed old new after same made, (none, asked, refl))
+  replies_told (reply ∷ rs) n (Continues input) old new moments (taken, more, next, mid, split, first, others) after made =
       let l = replies_told rs (n + 1) next mid new more others after made in
       let k = one_told n input old mid taken reply next first l.0 l.1 in
       (k.0, k.1, (taken, more, next, l.0, split, k.2, l.2))
 
-  begins_told : (rs : List Text) (n : ℕ) (input rest : Text) (old new : D) (moments : List ℕ) → Begins forms acts n input old moments rs rest new
-      → Told old new (λ before after. Begins forms scripted n input before moments rs rest after)
+  begins_told : (rs : List Text) (n : ℕ) (input rest : Text) (old new : D) (moments : List ℕ) → BeginsWith forms acts n input old moments rs rest new
+      → Told old new (λ before after. BeginsWith forms scripted n input before moments rs rest after)
   begins_told [] n input rest old new moments (is, asked, same) after made = (after, stayed old new after same made, (is, asked, refl))
   begins_told (reply ∷ rs) n input rest old new moments (taken, more, left, mid, split, first, others) after made =
       let l = begins_told rs (n + 1) left rest mid new more others after made in
-      let k = one_told n input old mid taken reply (GoesOn left) first l.0 l.1 in
+      let k = one_told n input old mid taken reply (Continues left) first l.0 l.1 in
       (k.0, k.1, (taken, more, left, l.0, split, k.2, l.2))
 
-  answered_told : (n : ℕ) (input : Text) (old new : D) (clock later : C) (was now : Option Text) (reply : Text) (next : Next) → Answered forms acts gives n input (around old new clock later was now) reply next
-      → Told old new (λ before after. Answered forms scripted gives n input (around before after clock later was now) reply next)
+  answered_told : (n : ℕ) (input : Text) (old new : D) (clock later : C) (was now : Option Text) (reply : Text) (next : Next) → IsTurnAnswered forms acts gives n input (around old new clock later was now) reply next
+      → Told old new (λ before after. IsTurnAnswered forms scripted gives n input (around before after clock later was now) reply next)
   answered_told n input old new clock later was now reply next h after made =
       let r = one_told n input old new h.taken reply next h.one after made in (r.0, r.1, record { taken = h.taken; moments = h.moments; one = r.2 })
 
@@ -134,8 +134,8 @@ module _ {D C : Type 0} (forms : Forms) (acts : Does D) (gives : C → ℕ → C
       → Told old new (λ before after. IsUntouched (around before after clock later was now))
   untouched_told old new clock later was now h after made = (after, stayed old new after h.base made, record { base = refl; clock = h.clock; written = h.written })
 
-  failed_told : (n : ℕ) (input : Text) (old new : D) (clock later : C) (was now : Option Text) (kind : FaultKind) → Failed forms acts gives n input (around old new clock later was now) kind
-      → Told old new (λ before after. Failed forms scripted gives n input (around before after clock later was now) kind)
+  failed_told : (n : ℕ) (input : Text) (old new : D) (clock later : C) (was now : Option Text) (kind : FaultKind) → TurnFailed forms acts gives n input (around old new clock later was now) kind
+      → Told old new (λ before after. TurnFailed forms scripted gives n input (around before after clock later was now) kind)
   failed_told n input old new clock later was now kinds.Read h after made = untouched_told old new clock later was now h after made
   failed_told n input old new clock later was now kinds.Memory (inl h) after made = let r = untouched_told old new clock later was now h after made in (r.0, r.1, inl r.2)
   failed_told n input old new clock later was now kinds.Memory (inr (reply, next, h, wrote)) after made =
@@ -146,7 +146,7 @@ module _ {D C : Type 0} (forms : Forms) (acts : Does D) (gives : C → ℕ → C
   pub tells : (input : Text) (first : D) (outside : Outside C) (result : Result ℕ ServeFault) → ServeGives forms acts gives input (with_base first last outside) result
       → (script : Script) × AreMade acts first script.0 script.1 last × TellsOutcomes forms gives input script outside result
   tells input first outside (Ok count) h =
-      let r = replies_told h.replies 0 (GoesOn input) first last h.moments h.replied ([], []) refl in
+      let r = replies_told h.replies 0 (Continues input) first last h.moments h.replied ([], []) refl in
       (r.0, r.1, record { moments = h.moments; replies = h.replies; taken = h.taken; replied = r.2; written = h.written; counted = h.counted })
   tells input first outside (Err fault) h =
       let f = failed_told (length h.replies) h.rest h.mid last h.later outside.later h.between outside.new fault.kind h.failed ([], []) refl in

@@ -4,10 +4,10 @@ use Rattle.std.specs.Prelude.{decimal, unwrap_or}
 use Rattle.http.specs.StatusCode.{code_digits, reason_phrase}
 use Rattle.brk_money.specs.Spelling.{Text}
 use Rattle.brk_http_model.specs.Replies.{head_line, line_if, reply_with}
-use Rattle.brk_http_engine.specs.Lines.{first_lines, line_of}
+use Rattle.brk_http_engine.specs.Lines.{first_lines, status_text}
 
-pub digits_and_phrase : (code : ℕ) (digits phrase s1 s2 s3 : Text) → s1 ≡ digits → digits ≡ code_digits code → s2 ≡ s1 ++ 32 ∷ [] → s3 ≡ s2 ++ phrase → phrase ≡ unwrap_or (reason_phrase code) [] → s3 ≡ line_of code
-unfolding line_of
+pub digits_and_phrase : (code : ℕ) (digits phrase s1 s2 s3 : Text) → s1 ≡ digits → digits ≡ code_digits code → s2 ≡ s1 ++ 32 ∷ [] → s3 ≡ s2 ++ phrase → phrase ≡ unwrap_or (reason_phrase code) [] → s3 ≡ status_text code
+unfolding status_text
 digits_and_phrase code digits phrase s1 s2 s3 e1 ed e2 e3 ep = rw (e3, e2, e1, ed, ep) (append_assoc (code_digits code) (32 ∷ []) (unwrap_or (reason_phrase code) []))
 
 pub three_lines : (status : Text) (len : ℕ) (a a' d d' c c' s0 s1 s2 s3 : Text) → a ≡ codes "HTTP/1.1 " ++ status → a' ≡ a → d ≡ decimal len → d' ≡ d → c ≡ codes "Content-Length: " ++ d' → c' ≡ c

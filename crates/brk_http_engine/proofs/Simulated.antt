@@ -2,10 +2,10 @@
 use Rattle.std.proofs.Common.{ℕ, ◌+◌, List, [], ◌∷◌, refl, sym, subst}
 use Rattle.brk_money.specs.Spelling.{Text}
 use Rattle.brk_model.specs.Run.{Call, Outcome}
-use Rattle.brk_http_model.specs.Asked.{Forms, Asked, Answers, Calls, asked_of}
+use Rattle.brk_http_model.specs.Asked.{Forms, Asked, HasResponse, Calls, asked_of}
 use Rattle.brk_http_model.specs.Found.{Found, NoMore, Unreadable, Asks}
 use Rattle.brk_http_model.specs.Replies.{Response}
-use Rattle.brk_http_model.specs.Stream.{Does, Next, Ends, GoesOn, One, RepliedTo, Replies, Begins, Responds}
+use Rattle.brk_http_model.specs.Stream.{Does, Next, Finished, Continues, One, RepliedTo, Replies, BeginsWith, Responds}
 
 module _ {D B : Type 0} (forms : Forms) (acts : Does D) (does : Does B) (honest : D → Type 0) (stands : D → B → Type 0)
     (earlier : (old : D) (now : ℕ) (call : Call) (outcome : Outcome) (new : D) → acts old now call outcome new → honest new → honest old)
@@ -17,7 +17,7 @@ module _ {D B : Type 0} (forms : Forms) (acts : Does D) (does : Does B) (honest 
 
   responds : (asked : Asked) (old new : D) (taken : List ℕ) (response : Response) → Responds acts asked old taken response new
       → Carries old new (λ base after. Responds does asked base taken response after)
-  responds (Answers said) old new taken response (is, none, same) good =
+  responds (HasResponse said) old new taken response (is, none, same) good =
       (subst honest same good, λ base stood. (base, subst (λ d. stands d base) (sym same) stood, (is, none, refl)))
   responds (Calls call) old new taken response (now, outcome, is, took, acted) good =
       (earlier old now call outcome new acted good, λ base stood. let h = steps old now call outcome new acted good base stood in (h.0, h.1, (now, outcome, is, took, h.2)))
@@ -43,11 +43,11 @@ module _ {D B : Type 0} (forms : Forms) (acts : Does D) (does : Does B) (honest 
   -- the replies of a stream over a desk are those over each base that it stood for
   pub replies_carry : (rs : List Text) (n : ℕ) (next : Next) (old new : D) (moments : List ℕ) → Replies forms acts n next old moments rs new
       → Carries old new (λ base after. Replies forms does n next base moments rs after)
-  replies_carry rs n Ends old new moments (none, asked, same) good =
+  replies_carry rs n Finished old new moments (none, asked, same) good =
       (subst honest same good, λ base stood. (base, subst (λ d. stands d base) (sym same) stood, (none, asked, refl)))
-  replies_carry [] n (GoesOn input) old new moments (none, asked, same) good =
+  replies_carry [] n (Continues input) old new moments (none, asked, same) good =
       (subst honest same good, λ base stood. (base, subst (λ d. stands d base) (sym same) stood, (none, asked, refl)))
-  replies_carry (reply ∷ rs) n (GoesOn input) old new moments (taken, more, next, mid, split, first, others) good =
+  replies_carry (reply ∷ rs) n (Continues input) old new moments (taken, more, next, mid, split, first, others) good =
       let later = replies_carry rs (n + 1) next mid new more others good in
       let now = one n input old mid taken reply next first later.0 in (
         now.0,
@@ -58,13 +58,13 @@ module _ {D B : Type 0} (forms : Forms) (acts : Does D) (does : Does B) (honest 
       )
 
   -- and so are the first replies
-  pub begins_carry : (rs : List Text) (n : ℕ) (input rest : Text) (old new : D) (moments : List ℕ) → Begins forms acts n input old moments rs rest new
-      → Carries old new (λ base after. Begins forms does n input base moments rs rest after)
+  pub begins_carry : (rs : List Text) (n : ℕ) (input rest : Text) (old new : D) (moments : List ℕ) → BeginsWith forms acts n input old moments rs rest new
+      → Carries old new (λ base after. BeginsWith forms does n input base moments rs rest after)
   begins_carry [] n input rest old new moments (is, asked, same) good =
       (subst honest same good, λ base stood. (base, subst (λ d. stands d base) (sym same) stood, (is, asked, refl)))
   begins_carry (reply ∷ rs) n input rest old new moments (taken, more, left, mid, split, first, others) good =
       let later = begins_carry rs (n + 1) left rest mid new more others good in
-      let now = one n input old mid taken reply (GoesOn left) first later.0 in (
+      let now = one n input old mid taken reply (Continues left) first later.0 in (
         now.0,
         λ base stood.
             let k = now.1 base stood in

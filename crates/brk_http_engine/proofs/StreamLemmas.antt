@@ -10,8 +10,8 @@ use Rattle.brk_io.specs.Span.{Span}
 use Rattle.brk_io.specs.Moments.{Moments}
 use Rattle.brk_http_model.specs.Asked.{Forms}
 use Rattle.brk_http_model.specs.Found.{NoMore, Finds}
-use Rattle.brk_http_model.specs.Stream.{Does, Next, Ends, GoesOn, One, Replies, Begins}
-use Rattle.brk_http_engine.specs.Turns.{Answered, Turned, Failed, Stopped, ServeGives}
+use Rattle.brk_http_model.specs.Stream.{Does, Next, Finished, Continues, One, Replies, BeginsWith}
+use Rattle.brk_http_engine.specs.Turns.{IsTurnAnswered, Turned, TurnFailed, Stopped, ServeGives}
 use Rattle.brk_http_engine.specs.declared.turning.Turn.TheVariants as turn
 use Rattle.brk_http_engine.specs.declared.turning.FaultKind.{FaultKind}
 use Rattle.brk_http_engine.specs.declared.turning.FaultKind.TheVariants as kinds
@@ -40,32 +40,32 @@ module _ {B C : Type 0} (forms : Forms) (does : Does B) (gives : C → ℕ → C
       (subst (λ j. One forms does n' j b taken reply next after) ei (subst (λ c. One forms does n' i' c taken reply next after) eb h))
 
   -- one reply more, after which the stream goes on
-  begins_more : (rs : List Text) (n k : ℕ) (i j : Text) (b m : B) (ms taken : List ℕ) (reply rest : Text) (after : B) → Begins forms does n i b ms rs j m → n + length rs ≡ k
-      → One forms does k j m taken reply (GoesOn rest) after → Begins forms does n i b (ms ++ taken) (rs ++ reply ∷ []) rest after
+  begins_more : (rs : List Text) (n k : ℕ) (i j : Text) (b m : B) (ms taken : List ℕ) (reply rest : Text) (after : B) → BeginsWith forms does n i b ms rs j m → n + length rs ≡ k
+      → One forms does k j m taken reply (Continues rest) after → BeginsWith forms does n i b (ms ++ taken) (rs ++ reply ∷ []) rest after
   begins_more [] n k i j b m ms taken reply rest after (ei, em, eb) count one =
-      (taken, [], rest, after, ap (λ l. l ++ taken) em ∙ sym (append-nil taken), one_same n k i j b m taken reply (GoesOn rest) after (omega (arith, count)) ei eb one, (refl, refl, refl))
+      (taken, [], rest, after, ap (λ l. l ++ taken) em ∙ sym (append-nil taken), one_same n k i j b m taken reply (Continues rest) after (omega (arith, count)) ei eb one, (refl, refl, refl))
   begins_more (x ∷ rs) n k i j b m ms taken reply rest after (t, more, left, mid, e, first, others) count one =
       (t, more ++ taken, left, mid, ap (λ l. l ++ taken) e ∙ append_assoc t more taken, first, begins_more rs (n + 1) k left j mid m more taken reply rest after others (omega (arith, count)) one)
 
   -- one reply more, which is the last
-  begins_last : (rs : List Text) (n k : ℕ) (i j : Text) (b m : B) (ms taken : List ℕ) (reply : Text) (after : B) → Begins forms does n i b ms rs j m → n + length rs ≡ k
-      → One forms does k j m taken reply Ends after → Replies forms does n (GoesOn i) b (ms ++ taken) (rs ++ reply ∷ []) after
+  begins_last : (rs : List Text) (n k : ℕ) (i j : Text) (b m : B) (ms taken : List ℕ) (reply : Text) (after : B) → BeginsWith forms does n i b ms rs j m → n + length rs ≡ k
+      → One forms does k j m taken reply Finished after → Replies forms does n (Continues i) b (ms ++ taken) (rs ++ reply ∷ []) after
   begins_last [] n k i j b m ms taken reply after (ei, em, eb) count one =
-      (taken, [], Ends, after, ap (λ l. l ++ taken) em ∙ sym (append-nil taken), one_same n k i j b m taken reply Ends after (omega (arith, count)) ei eb one, (refl, refl, refl))
+      (taken, [], Finished, after, ap (λ l. l ++ taken) em ∙ sym (append-nil taken), one_same n k i j b m taken reply Finished after (omega (arith, count)) ei eb one, (refl, refl, refl))
   begins_last (x ∷ rs) n k i j b m ms taken reply after (t, more, left, mid, e, first, others) count one =
-      (t, more ++ taken, GoesOn left, mid, ap (λ l. l ++ taken) e ∙ append_assoc t more taken, first, begins_last rs (n + 1) k left j mid m more taken reply after others (omega (arith, count)) one)
+      (t, more ++ taken, Continues left, mid, ap (λ l. l ++ taken) e ∙ append_assoc t more taken, first, begins_last rs (n + 1) k left j mid m more taken reply after others (omega (arith, count)) one)
 
   -- no request more
-  begins_end : (rs : List Text) (n : ℕ) (i j : Text) (b m : B) (ms : List ℕ) → Begins forms does n i b ms rs j m → Finds j NoMore → Replies forms does n (GoesOn i) b ms rs m
+  begins_end : (rs : List Text) (n : ℕ) (i j : Text) (b m : B) (ms : List ℕ) → BeginsWith forms does n i b ms rs j m → Finds j NoMore → Replies forms does n (Continues i) b ms rs m
   begins_end [] n i j b m ms (ei, em, eb) none = (subst (λ t. Finds t NoMore) ei none, em, eb)
-  begins_end (x ∷ rs) n i j b m ms (t, more, left, mid, e, first, others) none = (t, more, GoesOn left, mid, e, first, begins_end rs (n + 1) left j mid m more others none)
+  begins_end (x ∷ rs) n i j b m ms (t, more, left, mid, e, first, others) none = (t, more, Continues left, mid, e, first, begins_end rs (n + 1) left j mid m more others none)
 
   -- where a stream stands: its first replies are written, and this is left
   pub record Place (input : Text) (span : Span B C) (n : ℕ) (rest : Text) : Type 0 where
     pub moments : List ℕ
     pub replies : List Text
     pub taken : Moments gives span.clock moments span.later
-    pub begun : Begins forms does 0 input span.base moments replies rest span.after
+    pub begun : BeginsWith forms does 0 input span.base moments replies rest span.after
     pub written : Appends span.old span.new (concat replies)
     pub counted : n ≡ length replies
 
@@ -91,7 +91,7 @@ module _ {B C : Type 0} (forms : Forms) (does : Does B) (gives : C → ℕ → C
   over_all span after later new = record { base = span.base; after = after; clock = span.clock; later = later; old = span.old; new = new }
 
   here : (input : Text) (span : Span B C) (n : ℕ) (rest left : Text) (after : B) (later : C) (new : Option Text) (reply : Text) → Place input span n rest
-      → Answered forms does gives n rest (onward span after later new) reply (GoesOn left) → Appends span.new new reply → Place input (over_all span after later new) (n + 1) left
+      → IsTurnAnswered forms does gives n rest (onward span after later new) reply (Continues left) → Appends span.new new reply → Place input (over_all span after later new) (n + 1) left
   here input span n rest left after later new reply p answered wrote = record {
     moments = p.moments ++ answered.taken;
     replies = p.replies ++ reply ∷ [];
@@ -137,17 +137,17 @@ module _ {B C : Type 0} (forms : Forms) (does : Does B) (gives : C → ℕ → C
         moments = p.moments;
         replies = p.replies;
         taken = same_moments _ _ _ p.moments p.taken u.1.clock;
-        replied = subst (λ b. Replies forms does 0 (GoesOn input) span.base p.moments p.replies b) (sym u.1.base) (begins_end p.replies 0 input rest span.base span.after p.moments p.begun u.0);
+        replied = subst (λ b. Replies forms does 0 (Continues input) span.base p.moments p.replies b) (sym u.1.base) (begins_end p.replies 0 input rest span.base span.after p.moments p.begun u.0);
         written = subst (λ t. Appends span.old new t) (append-nil (concat p.replies)) (Appends-trans _ _ _ _ _ p.written u.1.written);
         counted = p.counted;
       }
 
   pub failed_here : (a : Option Text) (span : Span B C) (n : ℕ) (buffer : Text) (left : Option Text) (after : B) (later : C) (new : Option Text) (kind : FaultKind)
-      → SoFar a span n buffer left → IfSome left (λ xs. Failed forms does gives n (buffer ++ xs) (onward span after later new) kind)
+      → SoFar a span n buffer left → IfSome left (λ xs. TurnFailed forms does gives n (buffer ++ xs) (onward span after later new) kind)
       → IfSome a (λ input. Stopped forms does gives input (over_all span after later new) kind n)
   failed_here None span n buffer left after later new kind h t = tt
   failed_here (Some input) span n buffer left after later new kind (rest, is, p) t =
-      let u = at_rest left buffer rest (λ i. Failed forms does gives n i (onward span after later new) kind) is t in
+      let u = at_rest left buffer rest (λ i. TurnFailed forms does gives n i (onward span after later new) kind) is t in
       record {
         moments = p.moments;
         replies = p.replies;
@@ -158,7 +158,7 @@ module _ {B C : Type 0} (forms : Forms) (does : Does B) (gives : C → ℕ → C
         taken = p.taken;
         begun = p.begun;
         written = p.written;
-        failed = subst (λ m. Failed forms does gives m rest (onward span after later new) kind) p.counted u;
+        failed = subst (λ m. TurnFailed forms does gives m rest (onward span after later new) kind) p.counted u;
         counted = p.counted;
       }
 

@@ -6,12 +6,12 @@ use Rattle.brk_io.specs.Span.{IsUntouched, Span}
 use Rattle.brk_http_model.specs.Asked.{Forms}
 use Rattle.brk_http_model.specs.Found.{Request, Found, NoMore, Unreadable, Asks, Finds}
 use Rattle.brk_http_model.specs.Replies.{Wrong, reply_text}
-use Rattle.brk_http_model.specs.Stream.{Does, Ends, next_after}
+use Rattle.brk_http_model.specs.Stream.{Does, Finished, next_after}
 use Rattle.brk_http_model.specs.declared.problem.Problem.{Problem}
-use Rattle.brk_http_reader.specs.Shown.{asked_at, Shows}
+use Rattle.brk_http_reader.specs.Shown.{request_at, Shows}
 use Rattle.brk_http_reader.specs.declared.next.Places.{Places}
 use Rattle.brk_http_reader.specs.declared.next.Front.TheVariants.{Whole}
-use Rattle.brk_http_engine.specs.Turns.{Acted, Answered, Turned, Failed}
+use Rattle.brk_http_engine.specs.Turns.{Acted, IsTurnAnswered, Turned, TurnFailed}
 use Rattle.brk_http_engine.specs.declared.turning.Turn.TheVariants as turn
 use Rattle.brk_http_engine.specs.declared.turning.FaultKind.TheVariants as kinds
 
@@ -26,7 +26,7 @@ module _ {B C : Type 0} (forms : Forms) (does : Does B) (gives : C → ℕ → C
 
   -- the reply to what is no request
   wrong : (problem : Problem) (input : Text) (found : Found) → Finds input found → found ≡ Unreadable problem → span.after ≡ span.base → span.later ≡ span.clock
-      → Answered forms does gives n input span (reply_text (Wrong problem) true) Ends
+      → IsTurnAnswered forms does gives n input span (reply_text (Wrong problem) true) Finished
   wrong problem input found finds is base clock = record {
     taken = [];
     moments = clock;
@@ -42,30 +42,30 @@ module _ {B C : Type 0} (forms : Forms) (does : Does B) (gives : C → ℕ → C
       over (Some xs) (found, finds, same) = (reply_text (Wrong problem) true, wrong problem (x ++ xs) found finds same base clock, rw is at wrote)
 
   pub wrong_failed : (problem : Problem) (reply : Text) → IfSome a (λ xs. (found : Found) × Finds (x ++ xs) found × (found ≡ Unreadable problem)) → span.after ≡ span.base → span.later ≡ span.clock
-      → reply ≡ reply_text (Wrong problem) true → ((k : ℕ) × Appends span.old span.new (take k reply)) → IfSome a (λ xs. Failed forms does gives n (x ++ xs) span kinds.Write)
+      → reply ≡ reply_text (Wrong problem) true → ((k : ℕ) × Appends span.old span.new (take k reply)) → IfSome a (λ xs. TurnFailed forms does gives n (x ++ xs) span kinds.Write)
   wrong_failed problem reply h base clock is (k, wrote) = over a h
     where
-      over : (a : Option Text) → IfSome a (λ xs. (found : Found) × Finds (x ++ xs) found × (found ≡ Unreadable problem)) → IfSome a (λ xs. Failed forms does gives n (x ++ xs) span kinds.Write)
+      over : (a : Option Text) → IfSome a (λ xs. (found : Found) × Finds (x ++ xs) found × (found ≡ Unreadable problem)) → IfSome a (λ xs. TurnFailed forms does gives n (x ++ xs) span kinds.Write)
       over None h = tt
-      over (Some xs) (found, finds, same) = (reply_text (Wrong problem) true, Ends, k, wrong problem (x ++ xs) found finds same base clock, rw is at wrote)
+      over (Some xs) (found, finds, same) = (reply_text (Wrong problem) true, Finished, k, wrong problem (x ++ xs) found finds same base clock, rw is at wrote)
 
-  pub untouched : IsUntouched span → IfSome a (λ xs. Failed forms does gives n (x ++ xs) span kinds.Memory)
+  pub untouched : IsUntouched span → IfSome a (λ xs. TurnFailed forms does gives n (x ++ xs) span kinds.Memory)
   untouched same = over a
     where
-      over : (a : Option Text) → IfSome a (λ xs. Failed forms does gives n (x ++ xs) span kinds.Memory)
+      over : (a : Option Text) → IfSome a (λ xs. TurnFailed forms does gives n (x ++ xs) span kinds.Memory)
       over None = tt
       over (Some xs) = inl same
 
-  pub unread : IsUntouched span → IfSome a (λ xs. Failed forms does gives n (x ++ xs) span kinds.Read)
+  pub unread : IsUntouched span → IfSome a (λ xs. TurnFailed forms does gives n (x ++ xs) span kinds.Read)
   unread same = over a
     where
-      over : (a : Option Text) → IfSome a (λ xs. Failed forms does gives n (x ++ xs) span kinds.Read)
+      over : (a : Option Text) → IfSome a (λ xs. TurnFailed forms does gives n (x ++ xs) span kinds.Read)
       over None = tt
       over (Some xs) = same
 
   -- the reply to a request
   answered : (request : Request) (input rest : Text) (closes : Bool) (reply : Text) (found : Found) → Finds input found → found ≡ Asks request rest
-      → Acted forms does gives n request span closes reply → Answered forms does gives n input span reply (next_after closes rest)
+      → Acted forms does gives n request span closes reply → IsTurnAnswered forms does gives n input span reply (next_after closes rest)
   answered request input rest closes reply found finds is acted = record {
     taken = acted.taken;
     moments = acted.moments;
@@ -77,32 +77,32 @@ module _ {B C : Type 0} (forms : Forms) (does : Does B) (gives : C → ℕ → C
   }
 
   pub request_failed : (q : Places) (y : Text) (left : Option Text) (closes : Bool) (reply : Text) → IfSome a (λ xs. (found : Found) × Finds (x ++ xs) found × Shows (Whole q) y left found)
-      → Acted forms does gives n (asked_at y q) span closes reply → ((k : ℕ) × Appends span.old span.new (take k reply)) → IfSome a (λ xs. Failed forms does gives n (x ++ xs) span kinds.Write)
+      → Acted forms does gives n (request_at y q) span closes reply → ((k : ℕ) × Appends span.old span.new (take k reply)) → IfSome a (λ xs. TurnFailed forms does gives n (x ++ xs) span kinds.Write)
   request_failed q y left closes reply h acted (k, wrote) = over a h
     where
-      over : (a : Option Text) → IfSome a (λ xs. (found : Found) × Finds (x ++ xs) found × Shows (Whole q) y left found) → IfSome a (λ xs. Failed forms does gives n (x ++ xs) span kinds.Write)
+      over : (a : Option Text) → IfSome a (λ xs. (found : Found) × Finds (x ++ xs) found × Shows (Whole q) y left found) → IfSome a (λ xs. TurnFailed forms does gives n (x ++ xs) span kinds.Write)
       over None h = tt
-      over (Some xs) (found, finds, (rest, some, is)) = (reply, next_after closes rest, k, answered (asked_at y q) (x ++ xs) rest closes reply found finds is acted, wrote)
+      over (Some xs) (found, finds, (rest, some, is)) = (reply, next_after closes rest, k, answered (request_at y q) (x ++ xs) rest closes reply found finds is acted, wrote)
 
   pub request_unwritten : (q : Places) (y : Text) (left : Option Text) (closes : Bool) (reply : Text) → IfSome a (λ xs. (found : Found) × Finds (x ++ xs) found × Shows (Whole q) y left found)
-      → Acted forms does gives n (asked_at y q) span closes reply → Appends span.old span.new [] → IfSome a (λ xs. Failed forms does gives n (x ++ xs) span kinds.Memory)
+      → Acted forms does gives n (request_at y q) span closes reply → Appends span.old span.new [] → IfSome a (λ xs. TurnFailed forms does gives n (x ++ xs) span kinds.Memory)
   request_unwritten q y left closes reply h acted wrote = over a h
     where
-      over : (a : Option Text) → IfSome a (λ xs. (found : Found) × Finds (x ++ xs) found × Shows (Whole q) y left found) → IfSome a (λ xs. Failed forms does gives n (x ++ xs) span kinds.Memory)
+      over : (a : Option Text) → IfSome a (λ xs. (found : Found) × Finds (x ++ xs) found × Shows (Whole q) y left found) → IfSome a (λ xs. TurnFailed forms does gives n (x ++ xs) span kinds.Memory)
       over None h = tt
-      over (Some xs) (found, finds, (rest, some, is)) = inr (reply, next_after closes rest, answered (asked_at y q) (x ++ xs) rest closes reply found finds is acted, wrote)
+      over (Some xs) (found, finds, (rest, some, is)) = inr (reply, next_after closes rest, answered (request_at y q) (x ++ xs) rest closes reply found finds is acted, wrote)
 
   pub request_closed : (q : Places) (y : Text) (left : Option Text) (closes : Bool) (reply : Text) → IfSome a (λ xs. (found : Found) × Finds (x ++ xs) found × Shows (Whole q) y left found)
-      → Acted forms does gives n (asked_at y q) span closes reply → closes ≡ true → Appends span.old span.new reply → (after : Option Text) → IfSome a (λ xs. Turned forms does gives n (x ++ xs) span after turn.Closed)
+      → Acted forms does gives n (request_at y q) span closes reply → closes ≡ true → Appends span.old span.new reply → (after : Option Text) → IfSome a (λ xs. Turned forms does gives n (x ++ xs) span after turn.Closed)
   request_closed q y left closes reply h acted last wrote after = over a h
     where
       over : (a : Option Text) → IfSome a (λ xs. (found : Found) × Finds (x ++ xs) found × Shows (Whole q) y left found) → IfSome a (λ xs. Turned forms does gives n (x ++ xs) span after turn.Closed)
       over None h = tt
       over (Some xs) (found, finds, (rest, some, is)) =
-          (reply, subst (λ b. Answered forms does gives n (x ++ xs) span reply (next_after b rest)) last (answered (asked_at y q) (x ++ xs) rest closes reply found finds is acted), wrote)
+          (reply, subst (λ b. IsTurnAnswered forms does gives n (x ++ xs) span reply (next_after b rest)) last (answered (request_at y q) (x ++ xs) rest closes reply found finds is acted), wrote)
 
   pub request_open : (q : Places) (y : Text) (left : Option Text) (closes : Bool) (reply : Text) → IfSome a (λ xs. (found : Found) × Finds (x ++ xs) found × Shows (Whole q) y left found)
-      → Acted forms does gives n (asked_at y q) span closes reply → closes ≡ false → Appends span.old span.new reply → (z : Text) → z ≡ drop q.body.end y
+      → Acted forms does gives n (request_at y q) span closes reply → closes ≡ false → Appends span.old span.new reply → (z : Text) → z ≡ drop q.body.end y
       → IfSome a (λ xs. Turned forms does gives n (x ++ xs) span (prepend_known z left) turn.Open)
   request_open q y left closes reply h acted goes_on wrote z cut = over a h
     where
@@ -111,7 +111,7 @@ module _ {B C : Type 0} (forms : Forms) (does : Does B) (gives : C → ℕ → C
       over (Some xs) (found, finds, (rest, some, is)) = (
         reply,
         rest,
-        subst (λ b. Answered forms does gives n (x ++ xs) span reply (next_after b rest)) goes_on (answered (asked_at y q) (x ++ xs) rest closes reply found finds is acted),
+        subst (λ b. IsTurnAnswered forms does gives n (x ++ xs) span reply (next_after b rest)) goes_on (answered (request_at y q) (x ++ xs) rest closes reply found finds is acted),
         wrote,
         ap (λ front. prepend_known front left) cut ∙ some,
       )

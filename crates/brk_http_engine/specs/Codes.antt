@@ -54,9 +54,9 @@ route_is (route.ToView view) = routes.ToView view.now
 
 -- The model's call of a request, or its response if the request makes no call.
 abbrev pub asked_is : {X Q : Type 0} → (X → model.Command) → (Q → queries.Query) → Asking X Q → asked.Asked
-asked_is command query (asking.Wrong problem) = asked.Answers (Wrong problem)
-asked_is command query (asking.BadRow refusal) = asked.Answers (Came (run.Did (model.Refused refusal)))
-asked_is command query (asking.BadQuery refusal) = asked.Answers (Came (run.NoView refusal))
+asked_is command query (asking.Wrong problem) = asked.HasResponse (Wrong problem)
+asked_is command query (asking.BadRow refusal) = asked.HasResponse (Came (run.Did (model.Refused refusal)))
+asked_is command query (asking.BadQuery refusal) = asked.HasResponse (Came (run.NoView refusal))
 asked_is command query (asking.Row x key) = asked.Calls (run.Do (command x) (key_for key))
 asked_is command query (asking.View q) = asked.Calls (run.Ask (query q))
 

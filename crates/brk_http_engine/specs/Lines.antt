@@ -5,8 +5,8 @@ use Rattle.brk_http_model.specs.Replies.{head_line}
 use Rattle.http.specs.StatusCode.{code_digits, reason_phrase}
 
 -- The status `code` as it is written in a head: its digits, a space and its phrase.
-unfoldable pub line_of : ℕ → Text
-line_of code = code_digits code ++ 32 ∷ unwrap_or (reason_phrase code) []
+unfoldable pub status_text : ℕ → Text
+status_text code = code_digits code ++ 32 ∷ unwrap_or (reason_phrase code) []
 
 -- The first three lines of a head: status, content type and content length.
 unfoldable pub first_lines : Text → ℕ → Text

@@ -6,7 +6,7 @@ use Rattle.brk_money.specs.Spelling.{Text}
 use Rattle.brk_http_model.specs.Asked.{Forms, asked_of}
 use Rattle.brk_http_model.specs.Found.{Request, Finds, NoMore}
 use Rattle.brk_http_model.specs.Replies.{Response, is_fault, reply_text}
-use Rattle.brk_http_model.specs.Stream.{Does, Responds, most_requests, Next, Ends, GoesOn, One, Replies, Begins}
+use Rattle.brk_http_model.specs.Stream.{Does, Responds, most_requests, Next, Finished, Continues, One, Replies, BeginsWith}
 use Rattle.brk_io.specs.Span.{IsUntouched, Span}
 use Rattle.brk_io.specs.Moments.{Moments}
 use Rattle.brk_http_engine.specs.declared.turning.Turn.{Turn}
@@ -17,7 +17,7 @@ use Rattle.brk_http_engine.specs.declared.stream.ServeFault.{ServeFault}
 
 -- The input at the front was answered with `reply`, after which the stream is `next`. The clock
 -- returned the timestamps that were taken.
-pub record Answered {B C : Type 0} (forms : Forms) (does : Does B) (gives : C → ℕ → C → Type 0) (n : ℕ) (input : Text) (span : Span B C) (reply : Text) (next : Next) : Type 0 where
+pub record IsTurnAnswered {B C : Type 0} (forms : Forms) (does : Does B) (gives : C → ℕ → C → Type 0) (n : ℕ) (input : Text) (span : Span B C) (reply : Text) (next : Next) : Type 0 where
   pub taken : List ℕ
   pub moments : Moments gives span.clock taken span.later
   pub one : One forms does n input span.base taken reply next span.after
@@ -37,19 +37,19 @@ pub record Acted {B C : Type 0} (forms : Forms) (does : Does B) (gives : C → �
 -- of the input.
 abbrev pub Turned : {B C : Type 0} → Forms → Does B → (C → ℕ → C → Type 0) → ℕ → Text → Span B C → Option Text → Turn → Type 0
 Turned forms does gives n input span left turn.Ended = Finds input NoMore × IsUntouched span
-Turned forms does gives n input span left turn.Closed = (reply : Text) × Answered forms does gives n input span reply Ends × Appends span.old span.new reply
+Turned forms does gives n input span left turn.Closed = (reply : Text) × IsTurnAnswered forms does gives n input span reply Finished × Appends span.old span.new reply
 Turned forms does gives n input span left turn.Open =
-    (reply : Text) × (rest : Text) × Answered forms does gives n input span reply (GoesOn rest) × Appends span.old span.new reply × (left ≡ Some rest)
+    (reply : Text) × (rest : Text) × IsTurnAnswered forms does gives n input span reply (Continues rest) × Appends span.old span.new reply × (left ≡ Some rest)
 
 -- The turn failed with this fault. `Read`: nothing was executed or written. `Memory`: nothing was
 -- written, but the request may have been executed. `Write`: the request was executed, and the first
 -- `k` bytes of its reply were written, for some `k`.
-abbrev pub Failed : {B C : Type 0} → Forms → Does B → (C → ℕ → C → Type 0) → ℕ → Text → Span B C → FaultKind → Type 0
-Failed forms does gives n input span kinds.Read = IsUntouched span
-Failed forms does gives n input span kinds.Memory =
-    IsUntouched span ⊎ ((reply : Text) × (next : Next) × Answered forms does gives n input span reply next × Appends span.old span.new [])
-Failed forms does gives n input span kinds.Write =
-    (reply : Text) × (next : Next) × (k : ℕ) × Answered forms does gives n input span reply next × Appends span.old span.new (take k reply)
+abbrev pub TurnFailed : {B C : Type 0} → Forms → Does B → (C → ℕ → C → Type 0) → ℕ → Text → Span B C → FaultKind → Type 0
+TurnFailed forms does gives n input span kinds.Read = IsUntouched span
+TurnFailed forms does gives n input span kinds.Memory =
+    IsUntouched span ⊎ ((reply : Text) × (next : Next) × IsTurnAnswered forms does gives n input span reply next × Appends span.old span.new [])
+TurnFailed forms does gives n input span kinds.Write =
+    (reply : Text) × (next : Next) × (k : ℕ) × IsTurnAnswered forms does gives n input span reply next × Appends span.old span.new (take k reply)
 
 -- The stream completed: the writer got exactly its `count` replies, for the timestamps that the
 -- clock returned.
@@ -57,7 +57,7 @@ pub record Served {B C : Type 0} (forms : Forms) (does : Does B) (gives : C → 
   pub moments : List ℕ
   pub replies : List Text
   pub taken : Moments gives span.clock moments span.later
-  pub replied : Replies forms does 0 (GoesOn input) span.base moments replies span.after
+  pub replied : Replies forms does 0 (Continues input) span.base moments replies span.after
   pub written : Appends span.old span.new (concat replies)
   pub counted : count ≡ length replies
 
@@ -71,9 +71,9 @@ pub record Stopped {B C : Type 0} (forms : Forms) (does : Does B) (gives : C →
   pub later : C
   pub between : Option Text
   pub taken : Moments gives span.clock moments later
-  pub begun : Begins forms does 0 input span.base moments replies rest mid
+  pub begun : BeginsWith forms does 0 input span.base moments replies rest mid
   pub written : Appends span.old between (concat replies)
-  pub failed : Failed forms does gives (length replies) rest (record { base = mid; after = span.after; clock = later; later = span.later; old = between; new = span.new }) kind
+  pub failed : TurnFailed forms does gives (length replies) rest (record { base = mid; after = span.after; clock = later; later = span.later; old = between; new = span.new }) kind
   pub counted : count ≡ length replies
 
 -- The result of a stream is as specified: the number of replies of a complete stream, or a fault

@@ -58,7 +58,7 @@ pub enum Word {
 
 // Returns texts as a JSON list.
 fn list_value(alloc: Global, texts: &[String]) -> Result<Value, AllocError>
-    ensures { IfOk result (λ v. view v ≡ spec.listed (map string_bytes texts.now)) }
+    ensures { IfOk result (λ v. view v ≡ spec.json_list (map string_bytes texts.now)) }
 {
     let mut list = Vec::new(alloc);
     for text in texts {
@@ -69,7 +69,7 @@ fn list_value(alloc: Global, texts: &[String]) -> Result<Value, AllocError>
 
 // Returns records of texts as a JSON list of lists.
 fn records_value(alloc: Global, records: &[Vec<String>]) -> Result<Value, AllocError>
-    ensures { IfOk result (λ v. view v ≡ array (items_of (map spec.listed (map list_of records.now)))) }
+    ensures { IfOk result (λ v. view v ≡ array (items_of (map spec.json_list (map list_of records.now)))) }
 {
     let mut list = Vec::new(alloc);
     for record in records {
@@ -93,7 +93,7 @@ fn told_value(alloc: Global, word: Word, value: Value) -> Result<Value, AllocErr
 
 /// Returns the JSON text `{"WORD":["TEXT",..]}`.
 pub fn told_texts(alloc: Global, word: Word, texts: &[String]) -> Result<String, AllocError>
-    ensures { IfOk result (λ s. string_bytes s ≡ spec.told_texts (word_text word) (map string_bytes texts.now)) }
+    ensures { IfOk result (λ s. string_bytes s ≡ spec.json_texts (word_text word) (map string_bytes texts.now)) }
 {
     let list = list_value(alloc, texts)?;
     let told = told_value(alloc, word, list)?;
@@ -102,7 +102,7 @@ pub fn told_texts(alloc: Global, word: Word, texts: &[String]) -> Result<String,
 
 /// Returns the JSON text `{"view":[["TEXT",..],..]}`.
 pub fn told_records(alloc: Global, records: &[Vec<String>]) -> Result<String, AllocError>
-    ensures { IfOk result (λ s. string_bytes s ≡ spec.told_records (codes "view") (map list_of records.now)) }
+    ensures { IfOk result (λ s. string_bytes s ≡ spec.json_records (codes "view") (map list_of records.now)) }
 {
     let list = records_value(alloc, records)?;
     let told = told_value(alloc, Word::View, list)?;
@@ -118,7 +118,7 @@ fn text_value(alloc: Global, text: &str) -> Result<Value, AllocError>
 
 /// Returns the JSON text `{"error":"WORDS"}`.
 pub fn told_error(alloc: Global, words: &str) -> Result<String, AllocError>
-    ensures { IfOk result (λ s. string_bytes s ≡ spec.told_error words.now) }
+    ensures { IfOk result (λ s. string_bytes s ≡ spec.json_error words.now) }
 {
     let text = text_value(alloc, words)?;
     let told = told_value(alloc, Word::Error, text)?;

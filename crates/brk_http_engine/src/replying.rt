@@ -1,11 +1,11 @@
 ghost use Rattle.std.specs.Prelude.{◌≡◌, ◌++◌, [], IfOk, OnOk, Bool, codes, decimal, map, string_bytes, unwrap_or};
 ghost use Rattle.http.specs.StatusCode.{reason_phrase};
-ghost use Rattle.brk_http_model.specs.Replies.{Came, Wrong, asks_for_post, body_of, fault_word, head_line, is_fault, problem_status, problem_words, reply_text, reply_with, status_of, line_if};
+ghost use Rattle.brk_http_model.specs.Replies.{Came, Wrong, asks_for_post, body_of, fault_word, head_line, is_fault, problem_status, problem_words, reply_text, reply_with, response_status, line_if};
 ghost use Rattle.brk_model.specs.Commands as model;
 ghost use Rattle.brk_model.specs.Queries as queries;
 ghost use Rattle.brk_model.specs.Run as run;
 ghost use Rattle.brk_http_model.specs.Routes.{parts_at};
-ghost use Rattle.brk_http_engine.specs.Lines.{first_lines, line_of};
+ghost use Rattle.brk_http_engine.specs.Lines.{first_lines, status_text};
 ghost use Rattle.brk_http_engine.specs.Codes.{list_of, response_of};
 
 use crate::acting::ServiceAnswer;
@@ -19,7 +19,7 @@ use std::alloc::{AllocError, Global};
 
 // Returns the status of a problem.
 fn problem_code(problem: Problem) -> StatusCode
-    ensures { line_of result ≡ problem_status problem }
+    ensures { status_text result ≡ problem_status problem }
 {
     match problem {
         Problem::TooLarge => StatusCode::PAYLOAD_TOO_LARGE,
@@ -53,7 +53,7 @@ fn fault_word(fault: Fault) -> &'static str
 
 // Returns the status of a response.
 fn status_of<R, V>(told: &ServiceAnswer<R, V>) -> StatusCode
-    ensures { (reply : R → model.Reply) (shown : V → queries.View) → line_of result ≡ status_of (response_of reply shown told.now) }
+    ensures { (reply : R → model.Reply) (shown : V → queries.View) → status_text result ≡ response_status (response_of reply shown told.now) }
 {
     match told {
         ServiceAnswer::Wrong(problem) => problem_code(*problem),
@@ -156,7 +156,7 @@ fn phrase_of(code: StatusCode) -> &'static str
 
 // Returns the digits of a status, a space, and its phrase.
 fn status_line(alloc: Global, code: StatusCode) -> Result<String, AllocError>
-    ensures { IfOk result (λ s. string_bytes s ≡ line_of code) }
+    ensures { IfOk result (λ s. string_bytes s ≡ status_text code) }
 {
     let mut line = String::from_str(alloc, code.as_str())?;
     line.push_str(" ")?;
@@ -201,7 +201,7 @@ fn reply_with(
     closes: bool,
     body: &str,
 ) -> Result<String, AllocError>
-    ensures { IfOk result (λ s. string_bytes s ≡ reply_with (line_of code) asks_post closes body.now) }
+    ensures { IfOk result (λ s. string_bytes s ≡ reply_with (status_text code) asks_post closes body.now) }
 {
     let status = status_line(alloc, code)?;
     let mut text = first_lines(alloc, status.as_str(), body.len())?;

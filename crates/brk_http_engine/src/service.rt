@@ -5,7 +5,7 @@ ghost use Rattle.brk_model.specs.Commands as model;
 ghost use Rattle.brk_model.specs.Queries as queries;
 ghost use Rattle.brk_model.specs.Rows.{reply_fields};
 ghost use Rattle.brk_model.specs.Run.{Ask, Call, Do, Outcome};
-ghost use Rattle.brk_ref.specs.Fields.{Reads, texts};
+ghost use Rattle.brk_ref.specs.Fields.{ParsesAs, texts};
 ghost use Rattle.brk_http_model.specs.Asked.{Forms};
 ghost use Rattle.brk_http_engine.specs.Codes.{key_for, list_of, query_outcome, records_of, row_outcome};
 
@@ -61,7 +61,7 @@ pub trait Service {
 
     /// Parses the fields of a row: returns a command, or the refusal of a malformed row.
     fn parse_row(alloc: Global, row: &[&[u8]]) -> Planned<Self::Command>
-        ensures { IfOk result (λ read. Reads command_of read (forms.row (texts row.now))) };
+        ensures { IfOk result (λ read. ParsesAs command_of read (forms.row (texts row.now))) };
 
     /// Returns the name of a view if a view with this name exists, otherwise `None`.
     fn view_named(name: &str) -> Option<&'static str>
@@ -71,7 +71,7 @@ pub trait Service {
 
     /// Parses the arguments of a view: returns a query, or the refusal of a malformed query.
     fn parse_query(alloc: Global, view: &str, arguments: &[&[u8]]) -> Planned<Self::Query>
-        ensures { IfOk result (λ read. Reads query_of read (forms.query view.now (texts arguments.now))) };
+        ensures { IfOk result (λ read. ParsesAs query_of read (forms.query view.now (texts arguments.now))) };
 
     /// Executes a command at the clock reading `now`, with or without a key.
     fn call(

@@ -4,10 +4,10 @@ ghost use Rattle.std.specs.List.{list_all};
 ghost use Rattle.brk_http_engine.specs.Rows.{has_byte, the_routes};
 ghost use Rattle.brk_http_model.specs.Stream.{most_requests};
 ghost use Rattle.httparse.specs.Spans.{IsWithin};
-ghost use Rattle.brk_http_reader.specs.Shown.{asked_at};
+ghost use Rattle.brk_http_reader.specs.Shown.{request_at};
 ghost use Rattle.brk_http_engine.specs.Limits.{most_in_turn};
 ghost use Rattle.brk_http_engine.specs.Promises.{WasCalled};
-ghost use Rattle.brk_http_engine.specs.Turns.{Acted, Failed, Turned};
+ghost use Rattle.brk_http_engine.specs.Turns.{Acted, TurnFailed, Turned};
 
 use crate::acting::act;
 use crate::asking::asking_of;
@@ -87,10 +87,10 @@ fn respond<C: Clock, D: Service>(
     requires body { IsWithin (length buffer.now) places.body }
     ensures called { WasCalled D.acts 1 desk.old desk.new }
     ensures open { IfOk result (λ draft. draft.closes ≡ Bool.false → done + 1 < most_requests) }
-    ensures ok { (old : Option (List ℕ)) (new : Option (List ℕ)) → IfOk result (λ draft. Acted D.forms D.acts C.gives done (asked_at buffer.now places)
+    ensures ok { (old : Option (List ℕ)) (new : Option (List ℕ)) → IfOk result (λ draft. Acted D.forms D.acts C.gives done (request_at buffer.now places)
         (record { base = desk.old; after = desk.new; clock = clock.old; later = clock.new; old = old; new = new }) draft.closes (string_bytes draft.text)) }
     ensures before { result ≡ Err Lack.Before → (desk.new ≡ desk.old) × (clock.new ≡ clock.old) }
-    ensures after { (old : Option (List ℕ)) (new : Option (List ℕ)) → result ≡ Err Lack.After → (closes : Bool) × (reply : List ℕ) × Acted D.forms D.acts C.gives done (asked_at buffer.now places)
+    ensures after { (old : Option (List ℕ)) (new : Option (List ℕ)) → result ≡ Err Lack.After → (closes : Bool) × (reply : List ℕ) × Acted D.forms D.acts C.gives done (request_at buffer.now places)
         (record { base = desk.old; after = desk.new; clock = clock.old; later = clock.new; old = old; new = new }) closes reply }
 {
     let method = places.method.of(buffer);
@@ -127,7 +127,7 @@ pub fn take_turn<R: Read, W: Write, C: Clock, D: Service>(
     ensures ok { IfOk result (λ turn. IfSome (R.remaining reader.old) (λ xs. Turned D.forms D.acts C.gives done (buffer.old.items ++ xs)
         (record { base = desk.old; after = desk.new; clock = clock.old; later = clock.new; old = W.contents writer.old; new = W.contents writer.new })
         (prepend_known buffer.new.items (R.remaining reader.new)) turn)) }
-    ensures err { IfErr result (λ kind. IfSome (R.remaining reader.old) (λ xs. Failed D.forms D.acts C.gives done (buffer.old.items ++ xs)
+    ensures err { IfErr result (λ kind. IfSome (R.remaining reader.old) (λ xs. TurnFailed D.forms D.acts C.gives done (buffer.old.items ++ xs)
         (record { base = desk.old; after = desk.new; clock = clock.old; later = clock.new; old = W.contents writer.old; new = W.contents writer.new }) kind)) }
 {
     let front = match next_request(reader, buffer) {

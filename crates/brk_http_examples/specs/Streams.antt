@@ -6,8 +6,8 @@ use Rattle.brk_http_model.specs.Computed.{replies_from}
 use Rattle.brk_http_model.specs.Found.{Request}
 
 -- Twenty readings of a clock that returns only the start of 2024-03-01.
-abbrev pub clock : List ℕ
-clock = replicate 20 1709251200000
+abbrev pub clock_readings : List ℕ
+clock_readings = replicate 20 1709251200000
 
 -- A request by POST.
 abbrev pub post : Text → Text → Request
@@ -31,5 +31,5 @@ reply status fields len body =
     lines (f ∷ fs) = f ++ codes "\r\n" ++ lines fs
 
 -- These requests to the setting are answered with these replies.
-abbrev pub Gives : List Request → List Text → Type 0
-Gives requests replies = replies_from 0 setting clock requests ≡ replies
+abbrev pub GivesReplies : List Request → List Text → Type 0
+GivesReplies requests replies = replies_from 0 setting clock_readings requests ≡ replies

@@ -3,7 +3,7 @@
 #![tactic(auto, unfolding(crate::proofs::OnLiterals::web_on_literals))]
 
 ghost use Rattle.std.specs.Prelude.{◌≡◌, ◌∷◌, [], ℕ, Ok, Err, Some, None, codes};
-ghost use Rattle.brk_http_model.specs.Asked.{Answers, Asked, all_forms, asked_of};
+ghost use Rattle.brk_http_model.specs.Asked.{HasResponse, Asked, all_forms, asked_of};
 ghost use Rattle.brk_http_model.specs.Bodies.{texts_of};
 ghost use Rattle.brk_http_model.specs.Fields.{body_len};
 ghost use Rattle.brk_http_model.specs.Heads.{head_end, head_end_within};
@@ -69,7 +69,7 @@ pub fn what_is_a_list_of_texts()
 
 /// Shows that the route is checked before the method, and the method before the body.
 pub fn which_check_comes_first()
-    ensures route { asked_of all_forms (get (codes "/ask/nope")) ≡ Answers (Wrong NotFound) }
-    ensures method { asked_of all_forms (get (codes "/ask/lots")) ≡ Answers (Wrong NotAllowed) }
-    ensures body { asked_of all_forms (post (codes "/ask/lots") (codes "[")) ≡ Answers (Wrong BadRequest) }
+    ensures route { asked_of all_forms (get (codes "/ask/nope")) ≡ HasResponse (Wrong NotFound) }
+    ensures method { asked_of all_forms (get (codes "/ask/lots")) ≡ HasResponse (Wrong NotAllowed) }
+    ensures body { asked_of all_forms (post (codes "/ask/lots") (codes "[")) ≡ HasResponse (Wrong BadRequest) }
 {}

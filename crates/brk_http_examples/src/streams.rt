@@ -2,11 +2,11 @@
 #![tactic(auto, unfolding(crate::proofs::OnLiterals::web_on_literals))]
 
 ghost use Rattle.std.specs.Prelude.{◌∷◌, [], codes};
-ghost use Rattle.brk_http_examples.specs.Streams.{Gives, get, last, post, reply};
+ghost use Rattle.brk_http_examples.specs.Streams.{GivesReplies, get, last, post, reply};
 
 /// Shows a row with a key, its retry, and this row without a key.
 pub fn a_row_acts_once()
-    ensures { Gives
+    ensures { GivesReplies
         (post (codes "/rows/H/1") (codes "[\"broker\",\"2\",\"Cy\"]")
         ∷ post (codes "/rows/H/1") (codes "[\"broker\",\"2\",\"Cy\"]")
         ∷ post (codes "/rows") (codes "[\"broker\",\"2\",\"Cy\"]") ∷ [])
@@ -17,7 +17,7 @@ pub fn a_row_acts_once()
 
 /// Shows five requests that leave the stream open.
 pub fn the_stream_stays_open()
-    ensures { Gives
+    ensures { GivesReplies
         (post (codes "/ask/submitted") (codes "[]")
         ∷ post (codes "/ask/submitted") (codes "[\"1\"]")
         ∷ get (codes "/nope")
@@ -32,7 +32,7 @@ pub fn the_stream_stays_open()
 
 /// Shows that a request that asks to close its stream is the last that is answered.
 pub fn the_last_is_said()
-    ensures { Gives
+    ensures { GivesReplies
         (last (get (codes "/rows")) ∷ post (codes "/rows") (codes "[]") ∷ [])
         (reply (codes "405 Method Not Allowed") (codes "Allow: POST" ∷ codes "Connection: close" ∷ []) (codes "30")
         (codes "{\"error\":\"method not allowed\"}") ∷ []) }
@@ -40,7 +40,7 @@ pub fn the_last_is_said()
 
 /// Shows an order with the fields of its reply, its retry, a view of it, and a refused cancel.
 pub fn an_order_is_told()
-    ensures { Gives
+    ensures { GivesReplies
         (post (codes "/rows/H/1") (codes "[\"order\",\"100\",\"TMB\",\"ABC\",\"100\",\"\",\"cash\",\"fifo\",\"Ann\",\"Lee\",\"T10\"]")
         ∷ post (codes "/rows/H/1") (codes "[\"order\",\"100\",\"TMB\",\"ABC\",\"100\",\"\",\"cash\",\"fifo\",\"Ann\",\"Lee\",\"T10\"]")
         ∷ post (codes "/ask/submitted") (codes " [ ] ")

@@ -5,7 +5,7 @@ use Rattle.std.proofs.lemmas.List.{length-append}
 use Rattle.brk_http_engine.specs.declared.stream.ServeFault.{ServeFault}
 use Rattle.brk_http_engine.specs.declared.turning.FaultKind.{FaultKind}
 use Rattle.brk_http_engine.specs.declared.turning.FaultKind.TheVariants as kinds
-use Rattle.brk_http_listener.specs.Listening.{Accepts, IsAccepted, Listens, MayGoOn, Scene, Serves, StreamEnd, Takes, TakesAll}
+use Rattle.brk_http_listener.specs.Listening.{Accepts, IsAccepted, Listens, MayGoOn, Scene, Serves, StreamEnd, TakesStream, TakesAll}
 use Rattle.brk_http_listener.specs.declared.faults.AcceptFault.TheVariants.{Aborted, Failed}
 use Rattle.brk_http_listener.specs.declared.faults.ListenFault.{ListenFault}
 use Rattle.brk_http_listener.specs.declared.faults.ListenFault.TheVariants.{Stream, Net}
@@ -67,7 +67,7 @@ module _ {L C D X : Type 0} (accepts : Accepts L X) (serves : Serves C D X) (Lea
     (none : (old new : D) → new ≡ old → Leads old new) (next : (old mid new : D) → Leads old mid → Leads mid new → Leads old new)
     (each : (clock : C) (desk : D) (stream : X) (ended : Result ℕ ServeFault) (later : C) (after : D)
     → serves clock desk stream ended later after → Leads desk after) where
-  taken_by : (old new : Scene L C D) (end : StreamEnd) → Takes accepts serves old end new → Leads old.desk new.desk
+  taken_by : (old new : Scene L C D) (end : StreamEnd) → TakesStream accepts serves old end new → Leads old.desk new.desk
   taken_by old new None h = none old.desk new.desk h.desk
   taken_by old new (Some ended) (stream, accepted, served) = each old.clock old.desk stream ended new.clock new.desk served
 

@@ -34,9 +34,9 @@ pub record IsAccepted {L C D X : Type 0} (accepts : Accepts L X) (old : Scene L 
   pub desk : new.desk ≡ old.desk
 
 -- One stream was taken, with this end: it was accepted and served, or its peer had broken it off.
-abbrev pub Takes : {L C D X : Type 0} → Accepts L X → Serves C D X → Scene L C D → StreamEnd → Scene L C D → Type 0
-Takes accepts serves old None new = IsAccepted accepts old (Err Aborted) new
-Takes {X = X} accepts serves old (Some ended) new =
+abbrev pub TakesStream : {L C D X : Type 0} → Accepts L X → Serves C D X → Scene L C D → StreamEnd → Scene L C D → Type 0
+TakesStream accepts serves old None new = IsAccepted accepts old (Err Aborted) new
+TakesStream {X = X} accepts serves old (Some ended) new =
     (stream : X) × accepts old.listener (Ok stream) new.listener × serves old.clock old.desk stream ended new.clock new.desk
 
 -- The next stream may be taken: this one did not end because memory ran out.
@@ -49,7 +49,7 @@ MayGoOn (Some (Err fault)) = fault.kind ≢ Memory
 abbrev pub TakesAll : {L C D X : Type 0} → Accepts L X → Serves C D X → Scene L C D → List StreamEnd → Scene L C D → Type 0
 TakesAll accepts serves old [] new = new ≡ old
 TakesAll {L} {C} {D} accepts serves old (end ∷ ends) new =
-    (mid : Scene L C D) × Takes accepts serves old end mid × MayGoOn end × TakesAll accepts serves mid ends new
+    (mid : Scene L C D) × TakesStream accepts serves old end mid × MayGoOn end × TakesAll accepts serves mid ends new
 
 -- The result of taking `streams` streams. `Ok`: exactly so many were taken. `Stream`: after fewer,
 -- one more was accepted and served, and ended with this fault, because memory ran out. `Net`: after
@@ -58,6 +58,6 @@ abbrev pub Listens : {L C D X : Type 0} → Accepts L X → Serves C D X → ℕ
 Listens accepts serves streams old (Ok done) new = (ends : List StreamEnd) × TakesAll accepts serves old ends new × (length ends ≡ streams)
 Listens {L} {C} {D} accepts serves streams old (Err (Stream fault)) new =
     (ends : List StreamEnd) × (mid : Scene L C D) × TakesAll accepts serves old ends mid × (length ends < streams)
-    × Takes accepts serves mid (Some (Err fault)) new × (fault.kind ≡ Memory)
+    × TakesStream accepts serves mid (Some (Err fault)) new × (fault.kind ≡ Memory)
 Listens {L} {C} {D} accepts serves streams old (Err Net) new =
     (ends : List StreamEnd) × (mid : Scene L C D) × TakesAll accepts serves old ends mid × (length ends < streams) × IsAccepted accepts mid (Err Failed) new

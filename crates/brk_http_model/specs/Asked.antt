@@ -28,18 +28,18 @@ all_forms = record { row = parse_by readers; views = map (λ reader. reader.0) v
 
 -- The demand of a request: a response without a call of the desk, or a call.
 pub data Asked : Type 0 where
-  Answers : Response → Asked
+  HasResponse : Response → Asked
   Calls : Call → Asked
 
 -- The call of a command with its key, or the response that its row is refused.
 abbrev pub row_asked : Option Key → Read Command → Asked
 row_asked key (Ok command) = Calls (Do command key)
-row_asked key (Err refusal) = Answers (Came (Did (Refused refusal)))
+row_asked key (Err refusal) = HasResponse (Came (Did (Refused refusal)))
 
 -- The call of a query, or the response that it is refused.
 abbrev pub query_asked : Read Query → Asked
 query_asked (Ok query) = Calls (Ask query)
-query_asked (Err refusal) = Answers (Came (NoView refusal))
+query_asked (Err refusal) = HasResponse (Came (NoView refusal))
 
 -- The demand of a body with these texts: a row or a query, by the route.
 abbrev pub asked_by : Forms → Route → Fields → Asked
@@ -48,15 +48,15 @@ asked_by forms (ToView view) texts = query_asked (forms.query view texts)
 
 -- The demand of a body; the response is `BadRequest` if it is not a JSON list of texts.
 abbrev pub asked_with : Forms → Route → Option Fields → Asked
-asked_with forms route None = Answers (Wrong BadRequest)
+asked_with forms route None = HasResponse (Wrong BadRequest)
 asked_with forms route (Some texts) = asked_by forms route texts
 
 -- The demand of a request with the route of its target. The response is `NotFound` if there is no
 -- route, otherwise `NotAllowed` if the method is not POST.
 abbrev pub asked_at : Forms → Option Route → Request → Asked
-asked_at forms None request = Answers (Wrong NotFound)
+asked_at forms None request = HasResponse (Wrong NotFound)
 asked_at forms (Some route) request =
-    if bytes_eq request.method (codes "POST") then asked_with forms route (texts_of request.body) else Answers (Wrong NotAllowed)
+    if bytes_eq request.method (codes "POST") then asked_with forms route (texts_of request.body) else HasResponse (Wrong NotAllowed)
 
 -- The demand of a request: the call that it makes, or the response for the first check that fails
 -- (target, method, body, form).

@@ -36,21 +36,21 @@ unfoldable pub texts_of : Text → Option (List Text)
 texts_of body = if is_utf8 body then option_and_then texts_in (read body) else None
 
 -- The JSON array of the texts.
-abbrev pub listed : List Text → Data
-listed texts = array (items_of (map string texts))
+abbrev pub json_list : List Text → Data
+json_list texts = array (items_of (map string texts))
 
 -- The JSON text, without white space, of an object with one member: the name `word` and its value.
-abbrev pub told : Text → Data → Text
-told word value = compact_text (object (member word value no_members))
+abbrev pub json_member : Text → Data → Text
+json_member word value = compact_text (object (member word value no_members))
 
 -- The JSON text {"WORD":["TEXT",..]}.
-unfoldable pub told_texts : Text → List Text → Text
-told_texts word texts = told word (listed texts)
+unfoldable pub json_texts : Text → List Text → Text
+json_texts word texts = json_member word (json_list texts)
 
 -- The JSON text {"WORD":[["TEXT",..],..]}.
-unfoldable pub told_records : Text → List (List Text) → Text
-told_records word records = told word (array (items_of (map listed records)))
+unfoldable pub json_records : Text → List (List Text) → Text
+json_records word records = json_member word (array (items_of (map json_list records)))
 
 -- The JSON text {"error":"WORDS"}.
-unfoldable pub told_error : Text → Text
-told_error words = told (codes "error") (string words)
+unfoldable pub json_error : Text → Text
+json_error words = json_member (codes "error") (string words)

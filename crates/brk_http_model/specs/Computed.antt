@@ -9,7 +9,7 @@ use Rattle.brk_model.specs.Commands.{Answer}
 use Rattle.brk_model.specs.Keyed.{keyed_step}
 use Rattle.brk_model.specs.Queries.{View}
 use Rattle.brk_model.specs.Run.{Do, Ask, Outcome, Did, Saw, NoView, Failed}
-use Rattle.brk_http_model.specs.Asked.{Asked, Answers, Calls, all_forms, asked_of}
+use Rattle.brk_http_model.specs.Asked.{Asked, HasResponse, Calls, all_forms, asked_of}
 use Rattle.brk_http_model.specs.Found.{Request}
 use Rattle.brk_http_model.specs.Replies.{Response, Came, is_fault, reply_text}
 use Rattle.brk_http_model.specs.Stream.{most_requests}
@@ -32,7 +32,7 @@ saw (Err refusal) = NoView refusal
 -- The response to a demand if no call fails. A command for which no clock reading is left has the
 -- fault `Store`.
 abbrev pub responded : Base → List ℕ → Asked → Responded
-responded base moments (Answers said) = record { response = said; moments = moments; base = base }
+responded base moments (HasResponse said) = record { response = said; moments = moments; base = base }
 responded base moments (Calls (Ask query)) = record { response = Came (saw (ask base query)); moments = moments; base = base }
 responded base (now ∷ moments) (Calls (Do command key)) = did moments (keyed_step base now command key)
 responded base [] (Calls (Do command key)) = record { response = Came (Failed Store); moments = []; base = base }
@@ -44,11 +44,11 @@ is_last n request response = (n + 1 == most_requests) || request.closes || is_fa
 
 -- The reply to a request, followed by those that `more` gives for the base after it, unless it ends
 -- the stream.
-abbrev pub and_then : ℕ → Request → Responded → (Base → List ℕ → List Text) → List Text
-and_then n request r more = reply_text r.response (is_last n request r.response) ∷ (if is_last n request r.response then [] else more r.base r.moments)
+abbrev pub and_replies : ℕ → Request → Responded → (Base → List ℕ → List Text) → List Text
+and_replies n request r more = reply_text r.response (is_last n request r.response) ∷ (if is_last n request r.response then [] else more r.base r.moments)
 
 -- The replies to the requests, after `n` earlier requests of the stream.
 abbrev pub replies_from : ℕ → Base → List ℕ → List Request → List Text
 replies_from n base moments [] = []
 replies_from n base moments (request ∷ requests) =
-    and_then n request (responded base moments (asked_of all_forms request)) (λ after left. replies_from (n + 1) after left requests)
+    and_replies n request (responded base moments (asked_of all_forms request)) (λ after left. replies_from (n + 1) after left requests)

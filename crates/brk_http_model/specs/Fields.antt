@@ -38,15 +38,15 @@ abbrev pub is_digits : Text → Bool
 is_digits value = nat_lt 0 (length value) && list_all is_ascii_digit value
 
 -- The length `n`, or `TooLarge` if it is above `body_limit`.
-abbrev pub within_limit : ℕ → Result ℕ Problem
-within_limit n = if nat_lt body_limit n then Err TooLarge else Ok n
+abbrev pub within_body_limit : ℕ → Result ℕ Problem
+within_body_limit n = if nat_lt body_limit n then Err TooLarge else Ok n
 
 -- The length that a value announces. It is refused with `BadRequest` if it is not all digits, and
 -- with `TooLarge` if it has more than nine digits or is above `body_limit`.
 abbrev pub length_value : Text → Result ℕ Problem
 length_value value =
     if is_digits value
-    then (if nat_lt 9 (length value) then Err TooLarge else within_limit (digits_value 10 value))
+    then (if nat_lt 9 (length value) then Err TooLarge else within_body_limit (digits_value 10 value))
     else Err BadRequest
 
 -- The length of the body by the values of Content-Length: 0 if there is none, `BadRequest` if there

@@ -34,13 +34,13 @@ head_len (b ∷ bytes) = or_further (line_end_after b bytes) (head_len bytes)
 
 -- The end of a head in an input of `len` bytes: after `n` bytes if an empty line ends there.
 -- Otherwise it is `Nothing` for an empty input, `TooLong` from `limit` bytes on, and `Cut` below.
-abbrev pub end_of : ℕ → Option ℕ → ℕ → HeadEnd
-end_of limit (Some n) len = At n
-end_of limit None len = if len == 0 then Nothing else (if nat_le limit len then TooLong else Cut)
+abbrev pub head_end_of : ℕ → Option ℕ → ℕ → HeadEnd
+head_end_of limit (Some n) len = At n
+head_end_of limit None len = if len == 0 then Nothing else (if nat_le limit len then TooLong else Cut)
 
 -- The end of the head at the front of an input, if a head has at most `limit` bytes.
 abbrev pub head_end_within : ℕ → Text → HeadEnd
-head_end_within limit input = end_of limit (head_len (take limit input)) (length input)
+head_end_within limit input = head_end_of limit (head_len (take limit input)) (length input)
 
 -- The end of the head at the front of an input.
 unfoldable pub head_end : Text → HeadEnd

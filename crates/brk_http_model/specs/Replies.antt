@@ -7,7 +7,7 @@ use Rattle.brk_money.specs.declared.fault.Fault.TheVariants as fault
 use Rattle.brk_model.specs.Commands.{Answer, Done, Again, Refused}
 use Rattle.brk_model.specs.Rows.{reply_fields}
 use Rattle.brk_model.specs.Run.{Outcome, Did, Saw, NoView, Failed}
-use Rattle.brk_http_model.specs.Bodies.{told_texts, told_records, told_error}
+use Rattle.brk_http_model.specs.Bodies.{json_texts, json_records, json_error}
 use Rattle.brk_http_model.specs.Routes.{parts_at}
 use Rattle.brk_http_model.specs.declared.problem.Problem.{Problem}
 use Rattle.brk_http_model.specs.declared.problem.Problem.TheVariants.{TooLarge, BadRequest, NotImplemented, NotFound, NotAllowed}
@@ -54,26 +54,26 @@ outcome_status (NoView refusal) = codes "409 Conflict"
 outcome_status (Failed fault) = codes "503 Service Unavailable"
 
 -- The HTTP status of a response: its number and phrase.
-abbrev pub status_of : Response → Text
-status_of (Wrong problem) = problem_status problem
-status_of (Came outcome) = outcome_status outcome
+abbrev pub response_status : Response → Text
+response_status (Wrong problem) = problem_status problem
+response_status (Came outcome) = outcome_status outcome
 
 -- The body of an answer: its word and its fields; a stored line is split at its commas.
 abbrev pub answer_body : Answer → Text
-answer_body (Done reply) = told_texts (codes "ok") (reply_fields reply)
-answer_body (Again line) = told_texts (codes "again") (parts_at 44 line)
-answer_body (Refused refusal) = told_texts (codes "no") (refusal_fields refusal)
+answer_body (Done reply) = json_texts (codes "ok") (reply_fields reply)
+answer_body (Again line) = json_texts (codes "again") (parts_at 44 line)
+answer_body (Refused refusal) = json_texts (codes "no") (refusal_fields refusal)
 
 -- The body of the outcome of a call.
 abbrev pub outcome_body : Outcome → Text
 outcome_body (Did answer) = answer_body answer
-outcome_body (Saw view) = told_records (codes "view") view
-outcome_body (NoView refusal) = told_texts (codes "no") (refusal_fields refusal)
-outcome_body (Failed fault) = told_error (fault_word fault)
+outcome_body (Saw view) = json_records (codes "view") view
+outcome_body (NoView refusal) = json_texts (codes "no") (refusal_fields refusal)
+outcome_body (Failed fault) = json_error (fault_word fault)
 
 -- The body of a response.
 abbrev pub body_of : Response → Text
-body_of (Wrong problem) = told_error (problem_words problem)
+body_of (Wrong problem) = json_error (problem_words problem)
 body_of (Came outcome) = outcome_body outcome
 
 -- True if the response is `NotAllowed`, the only one that names the allowed method.
@@ -114,4 +114,4 @@ reply_with status asks_post closes body =
 
 -- The bytes of the reply for a response; `closes` is true if it is the last reply of the stream.
 abbrev pub reply_text : Response → Bool → Text
-reply_text response closes = reply_with (status_of response) (asks_for_post response) closes (body_of response)
+reply_text response closes = reply_with (response_status response) (asks_for_post response) closes (body_of response)

@@ -3,7 +3,7 @@
 use Rattle.std.specs.Prelude.{◌≡◌, ℕ, ◌+◌, List, [], ◌∷◌, ◌++◌, Bool, true, false, ◌||◌, ◌==◌}
 use Rattle.brk_money.specs.Spelling.{Text}
 use Rattle.brk_model.specs.Run.{Call, Do, Ask, Outcome}
-use Rattle.brk_http_model.specs.Asked.{Forms, Asked, Answers, Calls, asked_of}
+use Rattle.brk_http_model.specs.Asked.{Forms, Asked, HasResponse, Calls, asked_of}
 use Rattle.brk_http_model.specs.Found.{Request, Found, NoMore, Unreadable, Asks, Finds}
 use Rattle.brk_http_model.specs.Replies.{Response, Wrong, Came, is_fault, reply_text}
 
@@ -24,20 +24,20 @@ Takes (Ask query) now taken = taken ≡ []
 -- A demand has `response` and leads from `base` to `after`, with the clock readings `taken`.
 -- Without a call, no clock reading is taken and the base is unchanged.
 abbrev pub Responds : {B : Type 0} → Does B → Asked → B → List ℕ → Response → B → Type 0
-Responds does (Answers said) base taken response after = (response ≡ said) × (taken ≡ []) × (after ≡ base)
+Responds does (HasResponse said) base taken response after = (response ≡ said) × (taken ≡ []) × (after ≡ base)
 Responds does (Calls call) base taken response after =
     (now : ℕ) × (outcome : Outcome) × (response ≡ Came outcome) × Takes call now taken × does base now call outcome after
 
 -- The state of a stream after a reply: it ends, or it continues with the bytes that are left.
 pub data Next : Type 0 where
-  Ends : Next
-  GoesOn : Text → Next
+  Finished : Next
+  Continues : Text → Next
 
 -- The state of a stream after a reply: it ends if the reply is the last (`true`), otherwise it
 -- continues with `rest`.
 abbrev pub next_after : Bool → Text → Next
-next_after true rest = Ends
-next_after false rest = GoesOn rest
+next_after true rest = Finished
+next_after false rest = Continues rest
 
 -- The bytes `reply` are the reply to `request`, after `n` earlier requests. The stream ends with it
 -- if it is request `most_requests`, if it asks for the end, or if the response is a fault.
@@ -55,7 +55,7 @@ pub record Replied {B : Type 0} (forms : Forms) (does : Does B) (n : ℕ) (reque
 abbrev pub RepliedTo : {B : Type 0} → Forms → Does B → ℕ → Found → B → List ℕ → Text → Next → B → Type 0
 RepliedTo forms does n NoMore base taken reply next after = ⊥
 RepliedTo forms does n (Unreadable problem) base taken reply next after =
-    (reply ≡ reply_text (Wrong problem) true) × (next ≡ Ends) × (taken ≡ []) × (after ≡ base)
+    (reply ≡ reply_text (Wrong problem) true) × (next ≡ Finished) × (taken ≡ []) × (after ≡ base)
 RepliedTo forms does n (Asks request rest) base taken reply next after = Replied forms does n request rest base taken reply next after
 
 -- The bytes `reply` are the first reply to `input`, after `n` earlier requests of the stream.
@@ -67,16 +67,16 @@ pub record One {B : Type 0} (forms : Forms) (does : Does B) (n : ℕ) (input : T
 -- The list contains exactly the replies to the rest of a stream. They take the clock readings
 -- `moments` and lead from `base` to `after`.
 abbrev pub Replies : {B : Type 0} → Forms → Does B → ℕ → Next → B → List ℕ → List Text → B → Type 0
-Replies forms does n Ends base moments replies after = (replies ≡ []) × (moments ≡ []) × (after ≡ base)
-Replies forms does n (GoesOn input) base moments [] after = Finds input NoMore × (moments ≡ []) × (after ≡ base)
-Replies {B} forms does n (GoesOn input) base moments (reply ∷ replies) after =
+Replies forms does n Finished base moments replies after = (replies ≡ []) × (moments ≡ []) × (after ≡ base)
+Replies forms does n (Continues input) base moments [] after = Finds input NoMore × (moments ≡ []) × (after ≡ base)
+Replies {B} forms does n (Continues input) base moments (reply ∷ replies) after =
     (taken : List ℕ) × (more : List ℕ) × (next : Next) × (mid : B)
     × (moments ≡ taken ++ more) × One forms does n input base taken reply next mid × Replies forms does (n + 1) next mid more replies after
 
 -- The list contains the first replies to `input`, after which the stream continues with `rest`.
 -- They take the clock readings `moments` and lead from `base` to `after`.
-abbrev pub Begins : {B : Type 0} → Forms → Does B → ℕ → Text → B → List ℕ → List Text → Text → B → Type 0
-Begins forms does n input base moments [] rest after = (rest ≡ input) × (moments ≡ []) × (after ≡ base)
-Begins {B} forms does n input base moments (reply ∷ replies) rest after =
+abbrev pub BeginsWith : {B : Type 0} → Forms → Does B → ℕ → Text → B → List ℕ → List Text → Text → B → Type 0
+BeginsWith forms does n input base moments [] rest after = (rest ≡ input) × (moments ≡ []) × (after ≡ base)
+BeginsWith {B} forms does n input base moments (reply ∷ replies) rest after =
     (taken : List ℕ) × (more : List ℕ) × (left : Text) × (mid : B)
-    × (moments ≡ taken ++ more) × One forms does n input base taken reply (GoesOn left) mid × Begins forms does (n + 1) left mid more replies rest after
+    × (moments ≡ taken ++ more) × One forms does n input base taken reply (Continues left) mid × BeginsWith forms does (n + 1) left mid more replies rest after

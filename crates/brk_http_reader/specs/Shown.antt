@@ -14,12 +14,12 @@ IsRequestWithin (Broken b) len = ⊤
 IsRequestWithin (Whole r) len = IsWithin len r.method × IsWithin len r.target × IsWithin len r.body
 
 -- The request whose parts are at the positions `r` of the buffer.
-abbrev pub asked_at : List ℕ → Places → Request
-asked_at buffer r = record { method = span_bytes buffer r.method; target = span_bytes buffer r.target; closes = r.closes; body = span_bytes buffer r.body }
+abbrev pub request_at : List ℕ → Places → Request
+request_at buffer r = record { method = span_bytes buffer r.method; target = span_bytes buffer r.target; closes = r.closes; body = span_bytes buffer r.body }
 
 -- The result agrees with the specified `found`. After a whole request, the buffer behind the body
 -- and the bytes `left` in the reader are together the rest of the input.
 abbrev pub Shows : Front → List ℕ → Option (List ℕ) → Found → Type 0
 Shows Ended buffer left found = found ≡ NoMore
 Shows (Broken b) buffer left found = found ≡ Unreadable b
-Shows (Whole r) buffer left found = (rest : List ℕ) × (prepend_known (drop r.body.end buffer) left ≡ Some rest) × (found ≡ Asks (asked_at buffer r) rest)
+Shows (Whole r) buffer left found = (rest : List ℕ) × (prepend_known (drop r.body.end buffer) left ≡ Some rest) × (found ≡ Asks (request_at buffer r) rest)

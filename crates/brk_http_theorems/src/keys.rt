@@ -7,7 +7,7 @@ ghost use Rattle.brk_model.specs.Commands.{Again, Command, Done, Reply};
 ghost use Rattle.brk_model.specs.Records.{Key};
 ghost use Rattle.brk_model.specs.Rows.{line_text, reply_fields};
 ghost use Rattle.brk_model.specs.Run.{Answers, Call, Did, Do, Outcome, Run};
-ghost use Rattle.brk_http_model.specs.Bodies.{told_texts};
+ghost use Rattle.brk_http_model.specs.Bodies.{json_texts};
 ghost use Rattle.brk_http_model.specs.Replies.{answer_body};
 ghost use Rattle.brk_http_model.specs.Routes.{parts_at};
 
@@ -15,7 +15,7 @@ ghost use Rattle.brk_http_model.specs.Routes.{parts_at};
 /// comma. So a retried row is answered with exactly the fields of its first reply.
 pub fn fields_have_no_comma()
     ensures cut { (reply : Reply) → parts_at 44 (line_text reply) ≡ reply_fields reply }
-    ensures told { (reply : Reply) → answer_body (Again (line_text reply)) ≡ told_texts (codes "again") (reply_fields reply) }
+    ensures told { (reply : Reply) → answer_body (Again (line_text reply)) ≡ json_texts (codes "again") (reply_fields reply) }
 {}
 
 /// Proves that a row that a batch committed is answered with its stored reply if it is retried as a

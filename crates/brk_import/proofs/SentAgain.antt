@@ -11,7 +11,7 @@ use Rattle.brk_money.specs.declared.fault.Fault.{Fault}
 use Rattle.brk_model.specs.Answers.{Fields}
 use Rattle.brk_model.specs.Base.{Base}
 use Rattle.brk_model.specs.Batch as model
-use Rattle.brk_model.specs.Batch.{AreSettled, Ending, Ends, row_step}
+use Rattle.brk_model.specs.Batch.{AreDecided, Ending, Ends, row_step}
 use Rattle.brk_model.specs.Commands.{Answer, Command}
 use Rattle.brk_model.specs.Forms.{Read}
 use Rattle.brk_model.specs.Input.{Begins, end_of, header_of}
@@ -44,7 +44,7 @@ module _ {S C : Type 0} (g : Ghosts S) (rests : Settles g) (form : Fields → Re
     pub moments : List ℕ
     pub mid : C
     pub taken : Moments gives one.clock moments mid
-    pub settled : AreSettled form row_step name base moments rows answers after
+    pub settled : AreDecided form row_step name base moments rows answers after
     pub begins : Begins (Some text) (header_of name ∷ rows)
 
   -- a row was under way behind it
@@ -191,10 +191,10 @@ module _ {S C : Type 0} (g : Ghosts S) (rests : Settles g) (form : Fields → Re
     wrote = subst (λ l. Appends two.old two.new l) c.answered.ends.2 c.written
 
     module _ (p : Part after) (more : List Fields) (named : p.name ≡ c.answered.name) (rows_are : c.answered.rows ≡ p.rows ++ more) where
-      second : AreSettled form row_step p.name stood c.moments (p.rows ++ more) c.answered.answers last
+      second : AreDecided form row_step p.name stood c.moments (p.rows ++ more) c.answered.answers last
       second =
-          subst (λ (rs : List Fields). AreSettled form row_step p.name stood c.moments rs c.answered.answers last) rows_are
-          (subst (λ (n : Text). AreSettled form row_step n stood c.moments c.answered.rows c.answered.answers last) (sym named) c.answered.settled)
+          subst (λ (rs : List Fields). AreDecided form row_step p.name stood c.moments rs c.answered.answers last) rows_are
+          (subst (λ (n : Text). AreDecided form row_step n stood c.moments c.answered.rows c.answered.answers last) (sym named) c.answered.settled)
 
       named_again : (moments : List ℕ) (answers : List Answer) → IsCompleted form p.name base moments c.moments (p.rows ++ more) answers c.answered.answers last
           → IsCompleted form c.answered.name base moments c.moments c.answered.rows answers c.answered.answers last
@@ -218,7 +218,7 @@ module _ {S C : Type 0} (g : Ghosts S) (rests : Settles g) (form : Fields → Re
       written = wrote;
       completed = λ none. inl (named_again p on.1.0 on.0 on.1.1 p.moments p.answers
           (completed form p.name base after last p.moments c.moments p.rows on.1.0 p.answers c.answered.answers none p.settled
-          (subst (λ (b : Base). AreSettled form row_step p.name b c.moments (p.rows ++ on.1.0) c.answered.answers last) same (second p on.1.0 on.0 on.1.1))));
+          (subst (λ (b : Base). AreDecided form row_step p.name b c.moments (p.rows ++ on.1.0) c.answered.answers last) same (second p on.1.0 on.0 on.1.1))));
     }
       where
         on : (p.name ≡ c.answered.name) × ((back : List Fields) × (c.answered.rows ≡ p.rows ++ back))

@@ -24,7 +24,7 @@ use std::marker::PhantomData;
 
 // Returns the desk's answer to a row as an answer of the batch engine.
 fn row_answer(answer: Answer) -> RowAnswer<Reply>
-    ensures { engine.answer_of reply_of result ≡ answer_of answer }
+    ensures { engine.answer_in_model reply_of result ≡ answer_of answer }
 {
     match answer {
         Answer::Done(reply) => RowAnswer::Done(reply),

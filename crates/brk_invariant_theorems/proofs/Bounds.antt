@@ -10,8 +10,8 @@ use Rattle.brk_money.specs.declared.side.Side.{Side}
 use Rattle.brk_money.specs.declared.side.Side.TheVariants.{Buy, Sell}
 use Rattle.brk_model.specs.Shares.{Share, Deal, closed_count, closed_shares, closing_value, gain, kept_shares, meets, opened_share, opened_shares, opening_value, sell_value, sell_value_by, shares_after, buy_value}
 use Rattle.brk_model.specs.Derived.{proceeds}
-use Rattle.brk_model.specs.Orders.{tax_of}
-use Rattle.brk_model.specs.Base.{Base, customer_of, is_taxed, rates_of}
+use Rattle.brk_model.specs.Orders.{tax_on_deal}
+use Rattle.brk_model.specs.Base.{Base, customer_of_account, is_taxed, rates_of}
 use Rattle.brk_book_theorems.proofs.Same.{All-append}
 
 -- ---- shares
@@ -116,11 +116,11 @@ gained s b h = omega (arith, ints, h)
 
 -- the tax on a completion
 pub tax_within : (base : Base) (account : ℕ) (d : Deal) (shares : List Share) → d.qty ≤ 9999999 → d.price ≤ 9999999 → AllByRecursion IsCheap shares
-    → rates_of base (customer_of base account) ≤ 100000 → tax_of base account d shares ≤ 10 ^ 14
+    → rates_of base (customer_of_account base account) ≤ 100000 → tax_on_deal base account d shares ≤ 10 ^ 14
 tax_within base account d shares q p h r = by_status (is_taxed base account)
   where
-    by_status : (b : Bool) → cond b (tax (gain d shares) (rates_of base (customer_of base account))) 0 ≤ 10 ^ 14
-    by_status true = tax_high (gain d shares) (rates_of base (customer_of base account)) (gained (sell_value d shares) (buy_value d shares) (sell_high d shares q p h)) r
+    by_status : (b : Bool) → cond b (tax (gain d shares) (rates_of base (customer_of_account base account))) 0 ≤ 10 ^ 14
+    by_status true = tax_high (gain d shares) (rates_of base (customer_of_account base account)) (gained (sell_value d shares) (buy_value d shares) (sell_high d shares q p h)) r
     by_status false = omega arith
 
 halved : (n : ℕ) → n ≤ 10000 * 99999980000001 → half_up n 10000 ≤ 10 ^ 14

@@ -22,7 +22,7 @@ use Rattle.brk_model.specs.Tables.{Tables, account_row, broker_row, history_rows
 use Rattle.brk_model.specs.Sheets.{sheets, sheets_of}
 use Rattle.brk_model.specs.Adopted.{base_of, posting_of_move}
 use Rattle.brk_model.specs.Joins.{history_in, trade_in}
-use Rattle.brk_model.specs.Form.{account_form, broker_form, cash_form, charge_form, customer_form, customer_limits, customer_tax_form, has_account, has_broker, has_customer, has_form, has_security, has_trade, history_form, is_amount, is_cash_name, is_cash_type, is_id, is_price, is_qty, last_trade_form, one_tax_id_each, permission_form, price_form, security_form, settlement_form, summary_form, trade_form, is_movement, move_form}
+use Rattle.brk_model.specs.Form.{account_form, broker_form, cash_form, charge_form, customer_form, customer_limits, customer_tax_form, has_account, has_broker, has_customer, has_form, has_security, has_trade, history_form, is_amount, is_cash_name, is_cash_type, is_id, is_price, is_qty, last_trade_form, distinct_tax_ids, permission_form, price_form, security_form, settlement_form, summary_form, trade_form, is_movement, move_form}
 use Rattle.brk_model.specs.Forms.{is_acl, is_exchange, is_name, is_symbol, is_tax_id}
 use Rattle.brk_model.specs.Keys.{KeyPart, word, by_key, row_before, account_key, band_key, broker_key, cash_key, charge_key, customer_key, customer_tax_key, history_key, kept_key, last_trade_key, permission_key, security_key, settlement_key, summary_key, tax_rate_key, trade_key}
 use Rattle.brk_book_theorems.specs.Books.{BooksInvariant}
@@ -43,7 +43,7 @@ use Rattle.brk_audit_theorems.proofs.Parts.{KeyParts, key_parts}
 use Rattle.brk_model_theorems.specs.FormParts.{FormParts}
 use Rattle.brk_model_theorems.proofs.FormParts.{form_parts}
 use Rattle.brk_model_theorems.proofs.Conjunctions.{parts3, parts4, parts5, parts6, parts10}
-use Rattle.brk_invariant_theorems.specs.Sound.{AuditInvariant, IsSoundTrade, KeysApart, NamesCustomer, is_past, tax_id_key, is_named_by, movement_fields}
+use Rattle.brk_invariant_theorems.specs.Sound.{AuditInvariant, IsSoundTrade, DistinctKeys, NamesCustomer, is_past, tax_id_key, is_named_by, movement_fields}
 use Rattle.brk_invariant_theorems.proofs.OneTrade.{false_true}
 use Rattle.brk_model_theorems.proofs.Conjunctions.{and5, and6}
 use Rattle.brk_invariant_theorems.proofs.FormRows.{any_mark, found_trades, has_account_is, has_customer_is, has_rate_is, rates_same, row_of, same_name}
@@ -65,15 +65,15 @@ back_rows form key rows h = All-unsort (λ r. form r ≡ true) (row_before key) 
 back_mapped : {X Row : Type 0} (form : Row → Bool) (key : Row → List KeyPart) (row : X → Row) (xs : List X) → list_all form (by_key key (map row xs)) ≡ true → AllByRecursion (λ x. form (row x) ≡ true) xs
 back_mapped form key row xs h = All-unmapped (λ r. form r ≡ true) row xs (back_rows form key (map row xs) h)
 
-climbs_apart : {Row : Type 0} (key : Row → List KeyPart) (xs : List Row) → Climbs key xs → KeysApart key xs
+climbs_apart : {Row : Type 0} (key : Row → List KeyPart) (xs : List Row) → Climbs key xs → DistinctKeys key xs
 climbs_apart key [] c = tt
 climbs_apart key (x ∷ xs) c = (All-map xs (λ y h e. not_itself (key x) (key y) (sym e) h) c.0, climbs_apart key xs c.1)
 
-apart_taken : {Row : Type 0} (key : Row → List KeyPart) (before : Row → Row → Bool) (x : Row) (ys : List Row) → KeysApart key (insert_by before x ys) → NewKey key x ys × KeysApart key ys
+apart_taken : {Row : Type 0} (key : Row → List KeyPart) (before : Row → Row → Bool) (x : Row) (ys : List Row) → DistinctKeys key (insert_by before x ys) → NewKey key x ys × DistinctKeys key ys
 apart_taken key before x [] a = (tt, tt)
 apart_taken {Row = Row} key before x (y ∷ ys) a = by_test (before y x) a (apart_taken key before x ys)
   where
-    by_test : (b : Bool) → KeysApart key (cond b (y ∷ insert_by before x ys) (x ∷ y ∷ ys)) → (KeysApart key (insert_by before x ys) → NewKey key x ys × KeysApart key ys) → NewKey key x (y ∷ ys) × KeysApart key (y ∷ ys)
+    by_test : (b : Bool) → DistinctKeys key (cond b (y ∷ insert_by before x ys) (x ∷ y ∷ ys)) → (DistinctKeys key (insert_by before x ys) → NewKey key x ys × DistinctKeys key ys) → NewKey key x (y ∷ ys) × DistinctKeys key (y ∷ ys)
     by_test true k ih =
         let r = ih k.1 in
         let new : AllByRecursion (λ z. key z ≡ key y → ⊥) (x ∷ ys) = out (λ z. key z ≡ key y → ⊥) x ys k.0 in
@@ -88,26 +88,26 @@ apart_taken {Row = Row} key before x (y ∷ ys) a = by_test (before y x) a (apar
             by_place false h ih = h
     by_test false k ih = k
 
-apart_unsort : {Row : Type 0} (key : Row → List KeyPart) (before : Row → Row → Bool) (xs : List Row) → KeysApart key (sort_by before xs) → KeysApart key xs
+apart_unsort : {Row : Type 0} (key : Row → List KeyPart) (before : Row → Row → Bool) (xs : List Row) → DistinctKeys key (sort_by before xs) → DistinctKeys key xs
 unfolding sort_by
 apart_unsort key before [] a = tt
 apart_unsort key before (x ∷ xs) a = let k = apart_taken key before x (sort_by before xs) a in (All-unsort (λ y. key y ≡ key x → ⊥) before xs k.0, apart_unsort key before xs k.1)
 
-apart_unmap : {X Row : Type 0} (key : X → List KeyPart) (key' : Row → List KeyPart) (f : X → Row) (xs : List X) → ((z : X) → key' (f z) ≡ key z) → KeysApart key' (map f xs) → KeysApart key xs
+apart_unmap : {X Row : Type 0} (key : X → List KeyPart) (key' : Row → List KeyPart) (f : X → Row) (xs : List X) → ((z : X) → key' (f z) ≡ key z) → DistinctKeys key' (map f xs) → DistinctKeys key xs
 apart_unmap key key' f [] e a = tt
 apart_unmap key key' f (x ∷ xs) e a =
     (All-map xs (λ y h p. h (e y ∙ p ∙ sym (e x))) (All-unmapped (λ r. key' r ≡ key' (f x) → ⊥) f xs a.0), apart_unmap key key' f xs e a.1)
 
-back_keys : {Row : Type 0} (key : Row → List KeyPart) (xs : List Row) → Climbs key (by_key key xs) → KeysApart key xs
+back_keys : {Row : Type 0} (key : Row → List KeyPart) (xs : List Row) → Climbs key (by_key key xs) → DistinctKeys key xs
 back_keys key xs c = apart_unsort key (row_before key) xs (climbs_apart key (by_key key xs) c)
 
 word_of : (s t : Text) → word s ∷ [] ≡ word t ∷ [] → s ≡ t
 word_of s t e = cc
 
-tax_ids_each : (cs : List Customer) → one_tax_id_each cs ≡ true → KeysApart tax_id_key cs
+tax_ids_each : (cs : List Customer) → distinct_tax_ids cs ≡ true → DistinctKeys tax_id_key cs
 tax_ids_each [] e = tt
 tax_ids_each (c ∷ cs) e =
-    let p = and_parts (not (list_any (λ d. bytes_eq d.tax_id c.tax_id) cs)) (one_tax_id_each cs) e in (
+    let p = and_parts (not (list_any (λ d. bytes_eq d.tax_id c.tax_id) cs)) (distinct_tax_ids cs) e in (
       All-map cs (λ d h q. false_true (sym h ∙ same_bytes d.tax_id c.tax_id (word_of d.tax_id c.tax_id q)))
           (any-none (λ d. bytes_eq d.tax_id c.tax_id) cs (not-true (list_any (λ d. bytes_eq d.tax_id c.tax_id) cs) p.0)),
       tax_ids_each cs p.1,

@@ -28,7 +28,7 @@ use Rattle.brk_book_theorems.proofs.LotReading.{rise_filter}
 use Rattle.brk_audit_theorems.proofs.Marks.{no_more_ways, three_ways}
 use Rattle.brk_audit_theorems.proofs.Sorted.{All-block, All-rows}
 use Rattle.brk_audit_theorems.specs.Told.{account_id, broker_id}
-use Rattle.brk_invariant_theorems.specs.Sound.{AuditInvariant, KeysApart}
+use Rattle.brk_invariant_theorems.specs.Sound.{AuditInvariant, DistinctKeys}
 use Rattle.brk_invariant_theorems.proofs.OneTrade.{false_true}
 use Rattle.brk_invariant_theorems.proofs.SortedRows.{OtherKeys, OthersApart, accounts_apart, apart_filter, apart_flat_map, apart_map, apart_rises, apart_sort, bands_apart, ids_apart, permissions_apart, symbols_apart}
 
@@ -59,7 +59,7 @@ other_code : (id : ℕ) (m n : StatusChange) → bytes_eq (status_code n.status)
 other_code id m n h e =
     not_both (bytes_eq (status_code n.status) (status_code m.status)) (same_bytes (status_code n.status) (status_code m.status) (second_word id id (status_code n.status) (status_code m.status) e)) h
 
-marks_apart : (id : ℕ) (ms : List StatusChange) → is_way (map (λ m. m.status) ms) ≡ true → KeysApart history_key (map (row_of id) ms)
+marks_apart : (id : ℕ) (ms : List StatusChange) → is_way (map (λ m. m.status) ms) ≡ true → DistinctKeys history_key (map (row_of id) ms)
 marks_apart id [] w = tt
 marks_apart id (m ∷ []) w = (tt, tt)
 marks_apart id (m ∷ n ∷ []) w = ((other_code id m n (two_codes m.status n.status w), tt), (tt, tt))
@@ -91,7 +91,7 @@ rows_at done account s = summary_rows done account s.symbol
 abbrev rows_of : List Trade → List Security → Account → List SummaryRow
 rows_of done ss a = flat_map (rows_at done a.id) ss
 
-one_apart : (done : List Trade) (account : ℕ) (symbol : Text) → KeysApart summary_key (summary_rows done account symbol)
+one_apart : (done : List Trade) (account : ℕ) (symbol : Text) → DistinctKeys summary_key (summary_rows done account symbol)
 one_apart done account symbol =
     apart_filter summary_key (λ row. not (is_zero row.qty)) (record { account = account; symbol = symbol; qty = summary_of done account symbol } ∷ []) (tt, tt)
 
@@ -128,7 +128,7 @@ pub All-history : (P : ℕ → ℕ → Type 0) (done : List Trade) (t : Trade) �
 All-history P done t h =
     All-filter (λ r. P r.lot r.trade) (λ row. not (is_zero (row.before -ℤ row.after))) (lot_rows t.id [] (deals_in done t.account t.symbol)) (All-lots P t.id [] (deals_in done t.account t.symbol) h)
 
-lots_apart : (lot : ℕ) (shares : List Share) (deals : List Deal) → KeysApart (λ d. number d.trade ∷ []) deals → KeysApart holding_history_key (lot_rows lot shares deals)
+lots_apart : (lot : ℕ) (shares : List Share) (deals : List Deal) → DistinctKeys (λ d. number d.trade ∷ []) deals → DistinctKeys holding_history_key (lot_rows lot shares deals)
 lots_apart lot shares [] a = tt
 lots_apart lot shares (d ∷ deals) a = (
   All-lots (λ l n. number l ∷ number n ∷ [] ≡ number lot ∷ number d.trade ∷ [] → ⊥) lot (shares_after shares d) deals
@@ -136,7 +136,7 @@ lots_apart lot shares (d ∷ deals) a = (
   lots_apart lot (shares_after shares d) deals a.1,
 )
 
-history_apart : (done : List Trade) (t : Trade) → KeysApart id_key done → KeysApart holding_history_key (lot_history done t)
+history_apart : (done : List Trade) (t : Trade) → DistinctKeys id_key done → DistinctKeys holding_history_key (lot_history done t)
 history_apart done t a =
     let before : Trade → Trade → Bool = λ x y. nat_lt (moment_of x) (moment_of y) in
     apart_filter holding_history_key (λ row. not (is_zero (row.before -ℤ row.after))) (lot_rows t.id [] (deals_in done t.account t.symbol))
@@ -162,9 +162,9 @@ unfolding sheets_of tables_at
 keys_of base books k =
     let done : List Trade = completed base in
     let rise = numbered_rise 1 base.trades books.numbered in
-    let trades : KeysApart id_key base.trades = ids_apart base.trades (rise_apart base.trades rise) in
+    let trades : DistinctKeys id_key base.trades = ids_apart base.trades (rise_apart base.trades rise) in
     let doneIds : IdsApart done = rise_apart done (rise_filter is_completed base.trades rise) in
-    let dones : KeysApart id_key done = ids_apart done doneIds in
+    let dones : DistinctKeys id_key done = ids_apart done doneIds in
     keys_whole (sheets base) (record {
       kept = apart_rises kept_key base.kept k.kept_keys;
       brokers = apart_rises broker_key (map (broker_row base.accounts done) base.brokers) (apart_map broker_id broker_key (broker_row base.accounts done) base.brokers (λ b. refl) k.broker_keys);

@@ -34,7 +34,7 @@ use Rattle.brk_book_theorems.proofs.Steps.{in_order}
 use Rattle.brk_audit_theorems.proofs.Again.{both_all}
 use Rattle.brk_model_theorems.proofs.Conjunctions.{parts3, parts5}
 use Rattle.brk_audit_theorems.specs.Told.{broker_id}
-use Rattle.brk_invariant_theorems.specs.Sound.{AuditInvariant, IsSoundBy, IsSoundTrade, KeysApart, NamesAccount, NamesCustomer, NamesTax, account_fields, broker_fields, is_named_by, is_past, permission_fields, security_fields, tax_id_key}
+use Rattle.brk_invariant_theorems.specs.Sound.{AuditInvariant, IsSoundBy, IsSoundTrade, DistinctKeys, NamesAccount, NamesCustomer, NamesTax, account_fields, broker_fields, is_named_by, is_past, permission_fields, security_fields, tax_id_key}
 use Rattle.brk_invariant_theorems.specs.InForm.{IsInForm, IsKeyInForm}
 use Rattle.brk_invariant_theorems.proofs.OneTrade.{past_itself, sound_last}
 
@@ -44,7 +44,7 @@ LeavesSound base now command = AuditInvariant base → BooksInvariant base → I
 
 -- ---- keys
 
-pub apart_more : {Row : Type 0} (key : Row → List KeyPart) (xs : List Row) (x : Row) → NewKey key x xs → KeysApart key xs → KeysApart key (xs ++ x ∷ [])
+pub apart_more : {Row : Type 0} (key : Row → List KeyPart) (xs : List Row) (x : Row) → NewKey key x xs → DistinctKeys key xs → DistinctKeys key (xs ++ x ∷ [])
 apart_more key [] x n a = (tt, tt)
 apart_more key (y ∷ ys) x n a = (All-append (λ z. key z ≡ key y → ⊥) ys (x ∷ []) a.0 ((λ e. n.0 (sym e)), tt), apart_more key ys x n.1 a.1)
 

@@ -12,7 +12,7 @@ use Rattle.brk_money.specs.declared.status.Status.TheVariants.{Completed, Submit
 use Rattle.brk_model.specs.Schemas.{third_schema}
 use Rattle.brk_model.specs.Limits.{greatest_amount, greatest_charge, greatest_rate, greatest_summary}
 use Rattle.brk_model.specs.Records.{Account, Band, Trade, Movement}
-use Rattle.brk_model.specs.Base.{Base, band_with, broker_in, completed, customer_of, exchange_of, has_status, is_completed, takes_tax_off, tax_status_in, tier_of, trade_with}
+use Rattle.brk_model.specs.Base.{Base, band_with, broker_in, completed, customer_of_account, exchange_of, has_status, is_completed, takes_tax_off, tax_status_in, tier_of, trade_with}
 use Rattle.brk_model.specs.Derived.{balance_of, commissions_of, shares_in, summary_of, postings, due_after}
 use Rattle.brk_model.specs.Commands.{CompleteTrade}
 use Rattle.brk_model.specs.Orders.{commission_of}
@@ -118,7 +118,7 @@ completed_sound base now id price t k books form e accepted h =
     let r : price ≤ 9999999 = price_low price form in
     let c : u.commission ≤ 10 ^ 14 = commission_within base t.account t.kind t.symbol t.qty price k.bands q r in
     let x : u.tax ≤ 10 ^ 14 =
-    tax_within base t.account (result_deal stamp price t) (shares_in (completed base) t.account t.symbol) q r (cheap_shares base t.account t.symbol k.trades) (k.rates (customer_of base t.account)) in
+    tax_within base t.account (result_deal stamp price t) (shares_in (completed base) t.account t.symbol) q r (cheap_shares base t.account t.symbol k.trades) (k.rates (customer_of_account base t.account)) in
     let due = ltb-false last_day (due_after base.rule stamp) p.1.1.1.1.1.0 in
     record {
       alone = record {

@@ -9,7 +9,7 @@ use Rattle.brk_model.specs.Derived.{balance_of, commissions_of, summary_of}
 use Rattle.brk_model.specs.Feed.{with_tick, with_ticks}
 use Rattle.brk_model.specs.Results.{with_result}
 use Rattle.brk_model.specs.Commands.{Command, Reply, Tick, AddBroker, AddCustomer, AddAccount, AddPermission, AddSecurity, AddCharge, AddBand, AddTaxRate, AddCustomerTax, PlaceOrder, FeedTicks, CancelTrade, CompleteTrade, ChangeExecutors, ChangeCashTypes, ChangeCashNames, DepositCash, WithdrawCash, SetOneDay}
-use Rattle.brk_model.specs.Keyed.{acted, kept_of, keyed, keyed_step}
+use Rattle.brk_model.specs.Keyed.{acted, kept_for, keyed, keyed_step}
 use Rattle.brk_model.specs.Step.{records_after, reply_to, step, unless}
 use Rattle.brk_model.specs.Tests.{next_stamp, refusal_of}
 use Rattle.std.specs.Option.{option_map_or}
@@ -106,16 +106,16 @@ records_kept base stamp (WithdrawCash account amount) = refl
 records_kept base stamp (SetOneDay day) = refl
 
 -- where its key is free
-free_sound : (base : Base) (now : ℕ) (command : Command) (key : Option Key) → AuditInvariant base → BooksInvariant base → IsInForm command → IfSome key IsKeyInForm → kept_of base key ≡ None
+free_sound : (base : Base) (now : ℕ) (command : Command) (key : Option Key) → AuditInvariant base → BooksInvariant base → IsInForm command → IfSome key IsKeyInForm → kept_for base key ≡ None
     → AuditInvariant (acted base key command (step base now command)).1
 unfolding step
 free_sound base now command key k books form named free = by_refusal (refusal_of base now command) refl
   where
-    put : (key : Option Key) (reply : Reply) (after : Base) → IfSome key IsKeyInForm → kept_of after key ≡ None → AuditInvariant after → AuditInvariant (acted base key command (Ok (reply, after))).1
+    put : (key : Option Key) (reply : Reply) (after : Base) → IfSome key IsKeyInForm → kept_for after key ≡ None → AuditInvariant after → AuditInvariant (acted base key command (Ok (reply, after))).1
     put None reply after n f h = h
     put (Some key) reply after n f h = sound_kept after key command reply h n f
 
-    same : (key : Option Key) → kept_of base key ≡ None → kept_of (base_then base now command) key ≡ None
+    same : (key : Option Key) → kept_for base key ≡ None → kept_for (base_then base now command) key ≡ None
     same None f = refl
     same (Some key) f = ap (find (λ k. bytes_eq k.key.batch key.batch && (k.key.row == key.row))) (records_kept base (next_stamp base now) command) ∙ f
 
@@ -127,9 +127,9 @@ free_sound base now command key k books form named free = by_refusal (refusal_of
 pub keyed_sound : (base : Base) (now : ℕ) (command : Command) (key : Option Key) → AuditInvariant base → BooksInvariant base → IsInForm command → IfSome key IsKeyInForm
     → AuditInvariant (keyed_step base now command key).1
 unfolding keyed_step
-keyed_sound base now command key k books form named = by_kept (kept_of base key) refl
+keyed_sound base now command key k books form named = by_kept (kept_for base key) refl
   where
-    by_kept : (o : Option Kept) → kept_of base key ≡ o → AuditInvariant (keyed base now command key o).1
+    by_kept : (o : Option Kept) → kept_for base key ≡ o → AuditInvariant (keyed base now command key o).1
     by_kept None e = free_sound base now command key k books form named e
     by_kept (Some row) e = k
 

@@ -19,9 +19,9 @@ use Rattle.brk_model.specs.Keys.{KeyPart, word, charge_key, customer_key, custom
 use Rattle.brk_audit_theorems.specs.Told.{HasValidTransitions, HasNoStrayTexts, StampsRise, broker_id}
 
 -- No two records have one key.
-abbrev pub KeysApart : {Row : Type 0} → (Row → List KeyPart) → List Row → Type 0
-KeysApart key [] = ⊤
-KeysApart key (x ∷ xs) = AllByRecursion (λ y. key y ≡ key x → ⊥) xs × KeysApart key xs
+abbrev pub DistinctKeys : {Row : Type 0} → (Row → List KeyPart) → List Row → Type 0
+DistinctKeys key [] = ⊤
+DistinctKeys key (x ∷ xs) = AllByRecursion (λ y. key y ≡ key x → ⊥) xs × DistinctKeys key xs
 
 -- The tax id of a customer as a key.
 abbrev pub tax_id_key : Customer → List KeyPart
@@ -148,7 +148,7 @@ rates_paid tax_rates customer_taxes customer =
 -- The stored replies are well-formed, and no two have one key.
 pub record IsKeptSound (all_kept : List Kept) : Type 0 where
   pub kept : AllByRecursion (λ k. kept_form k ≡ true) all_kept
-  pub kept_keys : KeysApart kept_key all_kept
+  pub kept_keys : DistinctKeys kept_key all_kept
 
 -- Brokers, customers, accounts and permissions satisfy the conditions on them.
 pub record ArePartiesSound (all_brokers : List Broker) (all_customers : List Customer) (all_accounts : List Account) (all_permissions : List Permission) : Type 0 where
@@ -156,9 +156,9 @@ pub record ArePartiesSound (all_brokers : List Broker) (all_customers : List Cus
   pub customers : AllByRecursion (λ c. customer_form c ≡ true) all_customers
   pub accounts : AllByRecursion (λ a. account_fields a ≡ true) all_accounts
   pub permissions : AllByRecursion (λ p. permission_fields p ≡ true) all_permissions
-  pub broker_keys : KeysApart broker_id all_brokers
-  pub customer_keys : KeysApart customer_key all_customers
-  pub tax_ids : KeysApart tax_id_key all_customers
+  pub broker_keys : DistinctKeys broker_id all_brokers
+  pub customer_keys : DistinctKeys customer_key all_customers
+  pub tax_ids : DistinctKeys tax_id_key all_customers
   -- The account of each permission exists.
   pub permitted : AllByRecursion (NamesAccount all_accounts) all_permissions
   -- A customer has at most `most_accounts` accounts.
@@ -169,9 +169,9 @@ pub record AreTermsSound (all_customers : List Customer) (all_charges : List Cha
   pub charges : AllByRecursion (λ c. charge_form c ≡ true) all_charges
   pub bands : AllByRecursion (λ b. band_form third_schema b ≡ true) all_bands
   pub tax_rates : AllByRecursion (λ r. tax_rate_form r ≡ true) all_tax_rates
-  pub charge_keys : KeysApart charge_key all_charges
-  pub tax_rate_keys : KeysApart tax_rate_key all_tax_rates
-  pub customer_tax_keys : KeysApart customer_tax_key all_taxes
+  pub charge_keys : DistinctKeys charge_key all_charges
+  pub tax_rate_keys : DistinctKeys tax_rate_key all_tax_rates
+  pub customer_tax_keys : DistinctKeys customer_tax_key all_taxes
   -- The customer and the tax rate of each customer's tax exist.
   pub payers : AllByRecursion (NamesCustomer all_customers) all_taxes
   pub taxes : AllByRecursion (NamesTax all_tax_rates) all_taxes

@@ -11,7 +11,7 @@ use Rattle.brk_model.specs.Lists.{is_zero}
 use Rattle.brk_model.specs.Shares.{Share, Deal, Touch, signed, replay, shares_after, opened_share, closed_count, lot_qty, is_change, touch_by}
 use Rattle.brk_lots.specs.Deals.{IsLater, AreDeals}
 use Rattle.brk_model.specs.Tables.{HoldingHistoryRow, is_moved, lot_rows, touch_of_row, touch_row}
-use Rattle.brk_lots.specs.Chains.{rows_of, Falls, IsLife}
+use Rattle.brk_lots.specs.Chains.{changes_of_lot, Falls, IsLife}
 use Rattle.brk_lots.proofs.Runs.{count_of, without}
 use Rattle.brk_lots.proofs.Changes.{all_from, shares_appended}
 use Rattle.brk_lots.proofs.Counts.{OneSide, lot_counts, differ_none, differ, owes}
@@ -40,7 +40,7 @@ abbrev moved : ℕ → List Deal → List Share → List HoldingHistoryRow
 moved t ds us = filter is_moved (lot_rows t us ds)
 
 -- where no deal opens the lot again, it falls
-falls : (t : ℕ) (ds : List Deal) (s : Side) (us : List Share) → OneSide s us → AllByRecursion (λ d. d.trade ≢ t) ds → Falls (lot_qty us t) (rows_of t ds us) (lot_qty (fold shares_after us ds) t)
+falls : (t : ℕ) (ds : List Deal) (s : Side) (us : List Share) → OneSide s us → AllByRecursion (λ d. d.trade ≢ t) ds → Falls (lot_qty us t) (changes_of_lot t ds us) (lot_qty (fold shares_after us ds) t)
 falls t [] s us one h = refl
 falls t (d ∷ ds) s us one h = let a = side_after s d us one in step (falls t ds a.0 (shares_after us d) a.1 h.1) where
   after : List Share
@@ -55,12 +55,12 @@ falls t (d ∷ ds) s us one h = let a = side_after s d us one in step (falls t d
   after_was : lot_qty after t ≡ signed s (count_of t after)
   after_was = lot_after d s us t (stays s d us one) h.0
 
-  step : Falls (lot_qty after t) (rows_of t ds after) to → Falls (lot_qty us t) (rows_of t (d ∷ ds) us) to
+  step : Falls (lot_qty after t) (changes_of_lot t ds after) to → Falls (lot_qty us t) (changes_of_lot t (d ∷ ds) us) to
   step rest = elim (cases_eq (count_of t us) (count_of t after)) [
     | inl e ↦
         let same : lot_qty us t ≡ lot_qty after t = before_is ∙ ap (signed s) e ∙ sym after_was in
         let no : is_change (touch_by t d us) ≡ false = change_by t d s us one h.0 ∙ ap (λ n. not (is_zero (signed s n -ℤ signed s (count_of t after)))) e ∙ ap not (differ_none s (count_of t after)) in
-        subst (λ b. Falls (lot_qty us t) (map touch_of_row (cond b (touch_row d.trade (touch_by t d us) ∷ moved t ds after) (moved t ds after))) to) (sym no) (subst (λ z. Falls z (rows_of t ds after) to) (sym same) rest)
+        subst (λ b. Falls (lot_qty us t) (map touch_of_row (cond b (touch_row d.trade (touch_by t d us) ∷ moved t ds after) (moved t ds after))) to) (sym no) (subst (λ z. Falls z (changes_of_lot t ds after) to) (sym same) rest)
     | inr n ↦
         let yes : is_change (touch_by t d us) ≡ true = change_by t d s us one h.0 ∙ ap not (differ s (count_of t us) (count_of t after) n) in
         let fewer = count_after t d us h.0 in
@@ -90,7 +90,7 @@ zero_is (pos (suc n)) e = cc
 zero_is (negsuc n) e = cc
 
 -- from no share of it, a lot has a life
-life : (t : ℕ) (ds : List Deal) (s : Side) (us : List Share) → OneSide s us → AreDeals ds → count_of t us ≡ 0 → IsLife (rows_of t ds us) (lot_qty (fold shares_after us ds) t)
+life : (t : ℕ) (ds : List Deal) (s : Side) (us : List Share) → OneSide s us → AreDeals ds → count_of t us ≡ 0 → IsLife (changes_of_lot t ds us) (lot_qty (fold shares_after us ds) t)
 life t [] s us one a z = sym (lot_counts s t us one ∙ ap (signed s) z ∙ none_signed s)
 life t (d ∷ ds) s us one a z = let b = side_after s d us one in step b.0 b.1 (cases_eq d.trade t) (life t ds b.0 (shares_after us d) b.1 a.1) where
   after : List Share
@@ -100,7 +100,7 @@ life t (d ∷ ds) s us one a z = let b = side_after s d us one in step b.0 b.1 (
   to = lot_qty (fold shares_after after ds) t
 
   rows : List Touch
-  rows = rows_of t ds after
+  rows = changes_of_lot t ds after
 
   none : lot_qty us t ≡ pos 0
   none = lot_counts s t us one ∙ ap (signed s) z ∙ none_signed s
@@ -113,7 +113,7 @@ life t (d ∷ ds) s us one a z = let b = side_after s d us one in step b.0 b.1 (
       let e0 : lot_qty after t ≡ pos 0 = omega (arith, ints, d0, none) in
       from_none rows to (subst (λ y. Falls y rows to) e0 fall)
 
-  step : (r : Side) → OneSide r after → (d.trade ≡ t) ⊎ (d.trade ≡ t → ⊥) → (count_of t after ≡ 0 → IsLife rows to) → IsLife (rows_of t (d ∷ ds) us) to
+  step : (r : Side) → OneSide r after → (d.trade ≡ t) ⊎ (d.trade ≡ t → ⊥) → (count_of t after ≡ 0 → IsLife rows to) → IsLife (changes_of_lot t (d ∷ ds) us) to
   step r side (inl own) rest =
       let others : AllByRecursion (λ e. e.trade ≢ t) ds = all_from (IsLater d) (IsLater d) (λ e. e.trade ≢ t) (λ e l m x. l.0 (own ∙ sym x)) ds a.0 a.0 in
       opened (is_change (touch_by t d us)) refl (falls t ds r after side others)
@@ -124,5 +124,5 @@ life t (d ∷ ds) s us one a z = let b = side_after s d us one in step b.0 b.1 (
       change_by t d s us one other ∙ ap (λ n. not (is_zero (signed s n -ℤ signed s (count_of t after)))) (z ∙ sym zero_after) ∙ ap not (differ_none s (count_of t after)) in
       subst (λ b. IsLife (map touch_of_row (cond b (touch_row d.trade (touch_by t d us) ∷ moved t ds after) (moved t ds after))) to) (sym no) (rest zero_after)
 
-pub lots_live : (ds : List Deal) (t : ℕ) → AreDeals ds → IsLife (rows_of t ds []) (lot_qty (replay ds) t)
+pub lots_live : (ds : List Deal) (t : ℕ) → AreDeals ds → IsLife (changes_of_lot t ds []) (lot_qty (replay ds) t)
 lots_live ds t a = life t ds Buy [] tt a refl

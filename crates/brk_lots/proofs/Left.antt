@@ -18,7 +18,7 @@ use Rattle.brk_lots.specs.declared.closing.Closing.{Closing}
 use Rattle.brk_lots.specs.Closing.{Applies}
 use Rattle.brk_lots.specs.Lots.{side_of_qty, share_of, shares_of, from_end}
 use Rattle.brk_lots.specs.Position.{IsBeside, IsWalk, IsAfter, IsPosition, IsNew, AreOlder}
-use Rattle.brk_lots.specs.Walks.{met, rows_taken, qty_after, smaller, left_of, lots_left}
+use Rattle.brk_lots.specs.Walks.{met, rows_taken, qty_after, smaller, rest_of_lot, lots_left}
 use Rattle.brk_lots.proofs.Runs.{without, run_lots, size_positive, signed_back, drop_run, length_run}
 use Rattle.brk_lots.proofs.Walks.{touches_none}
 use Rattle.brk_lots.proofs.Changes.{all_from}
@@ -59,15 +59,15 @@ smaller_with l m = each (side_of_qty l.qty) m refl where
   each Buy (suc n) e = let d : int_eq (pos (suc n)) (pos 0) ≡ false = int_differ (pos (suc n)) (pos 0) (λ z. omega (arith, ints, z)) in rw (d, ← e) refl
   each Sell (suc n) e = rw (← e) refl
 
-left_with : (ts : List Touch) (l : Lot) (m : ℕ) → qty_after ts l ≡ signed (side_of_qty l.qty) m → left_of ts l ≡ with_shares m l
+left_with : (ts : List Touch) (l : Lot) (m : ℕ) → qty_after ts l ≡ signed (side_of_qty l.qty) m → rest_of_lot ts l ≡ with_shares m l
 left_with ts l m e = ap (λ q. smaller q l) e ∙ smaller_with l m
 
 -- rows that agree on lots leave the same of them
 left_agree : (ts us : List Touch) (ls : List Lot) → AllByRecursion (λ l. qty_after ts l ≡ qty_after us l) ls → lots_left ts ls ≡ lots_left us ls
 left_agree ts us [] h = refl
 left_agree ts us (l ∷ ls) h =
-    let one : left_of ts l ≡ left_of us l = ap (λ q. cond (int_eq q (pos 0)) [] (record { trade = l.trade; price = l.price; qty = q; stamp = l.stamp } ∷ [])) h.0 in
-    ap (λ (ms : List Lot). ms ++ lots_left ts ls) one ∙ ap (λ (ms : List Lot). left_of us l ++ ms) (left_agree ts us ls h.1)
+    let one : rest_of_lot ts l ≡ rest_of_lot us l = ap (λ q. cond (int_eq q (pos 0)) [] (record { trade = l.trade; price = l.price; qty = q; stamp = l.stamp } ∷ [])) h.0 in
+    ap (λ (ms : List Lot). ms ++ lots_left ts ls) one ∙ ap (λ (ms : List Lot). rest_of_lot us l ++ ms) (left_agree ts us ls h.1)
 
 pub left_kept : (k : ℕ) (ls : List Lot) → IsWalk ls → lots_left (rows_taken k ls) ls ≡ kept k ls
 left_kept k [] w = refl
@@ -99,10 +99,10 @@ left_reverse : (ts : List Touch) (ls : List Lot) → lots_left ts (reverse ls) �
 left_reverse ts [] = refl
 left_reverse ts (l ∷ ls) =
     ap (lots_left ts) (reverse-append (l ∷ []) ls)
-    ∙ flat_map-append (left_of ts) (reverse ls) (l ∷ [])
-    ∙ ap (λ (ms : List Lot). ms ++ (left_of ts l ++ [])) (left_reverse ts ls)
-    ∙ ap (λ (ms : List Lot). reverse (lots_left ts ls) ++ ms) (append-nil (left_of ts l) ∙ one (int_eq (qty_after ts l) (pos 0)))
-    ∙ sym (reverse-append (left_of ts l) (lots_left ts ls)) where
+    ∙ flat_map-append (rest_of_lot ts) (reverse ls) (l ∷ [])
+    ∙ ap (λ (ms : List Lot). ms ++ (rest_of_lot ts l ++ [])) (left_reverse ts ls)
+    ∙ ap (λ (ms : List Lot). reverse (lots_left ts ls) ++ ms) (append-nil (rest_of_lot ts l) ∙ one (int_eq (qty_after ts l) (pos 0)))
+    ∙ sym (reverse-append (rest_of_lot ts l) (lots_left ts ls)) where
       one : (b : Bool) → cond {A = List Lot} b [] (record { trade = l.trade; price = l.price; qty = qty_after ts l; stamp = l.stamp } ∷ []) ≡ reverse (cond {A = List Lot} b [] (record { trade = l.trade; price = l.price; qty = qty_after ts l; stamp = l.stamp } ∷ []))
       one true = refl
       one false = refl
@@ -145,7 +145,7 @@ OfShares P l = (m : ℕ) → AllByRecursion P (with_shares m l)
 all_left : (P : Lot → Type 0) (ts : List Touch) (ls : List Lot) → AllByRecursion (Shrinks ts) ls → AllByRecursion (OfShares P) ls → AllByRecursion P (lots_left ts ls)
 all_left P ts [] s h = tt
 all_left P ts (l ∷ ls) s h =
-    all_join P (left_of ts l) (lots_left ts ls) (rw (left_with ts l s.0.0 s.0.1) (h.0 s.0.0)) (all_left P ts ls s.1 h.1)
+    all_join P (rest_of_lot ts l) (lots_left ts ls) (rw (left_with ts l s.0.0 s.0.1) (h.0 s.0.0)) (all_left P ts ls s.1 h.1)
 
 side_signed : (s : Side) (m : ℕ) → side_of_qty (signed s (suc m)) ≡ s
 side_signed Buy m = refl

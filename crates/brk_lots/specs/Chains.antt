@@ -7,8 +7,8 @@ use Rattle.brk_lots.specs.declared.replay.DealTouch.{DealTouch}
 use Rattle.brk_lots.specs.Lots.{from_end}
 
 -- The history of the lot of a trade: the change of the lot by each deal that changes it.
-abbrev pub rows_of : ℕ → List Deal → List Share → List Touch
-rows_of trade ds us = map touch_of_row (filter is_moved (lot_rows trade us ds))
+abbrev pub changes_of_lot : ℕ → List Deal → List Share → List Touch
+changes_of_lot trade ds us = map touch_of_row (filter is_moved (lot_rows trade us ds))
 
 -- The quantity `after` has fewer shares than `before`, on the same side.
 abbrev pub IsNearer : ℤ → ℤ → Type 0

@@ -56,9 +56,9 @@ abbrev pub smaller : ℤ → Lot → List Lot
 smaller qty l = if int_eq qty (pos 0) then [] else record { trade = l.trade; price = l.price; qty = qty; stamp = l.stamp } ∷ []
 
 -- The rest of a lot after the touches, or no lot if they close it.
-abbrev pub left_of : List Touch → Lot → List Lot
-left_of ts l = smaller (qty_after ts l) l
+abbrev pub rest_of_lot : List Touch → Lot → List Lot
+rest_of_lot ts l = smaller (qty_after ts l) l
 
 -- The rest of the lots after the touches.
 abbrev pub lots_left : List Touch → List Lot → List Lot
-lots_left ts ls = flat_map (left_of ts) ls
+lots_left ts ls = flat_map (rest_of_lot ts) ls

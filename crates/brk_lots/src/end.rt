@@ -61,9 +61,9 @@ impl LotSource for PositionEnd<'_> {
         }
     }
 
-    ghost stays = { λ _. tt };
+    ghost reflexive = { λ _. tt };
 
-    ghost goes_on = { λ _ _ _ _ _. tt };
+    ghost transitive = { λ _ _ _ _ _. tt };
 
     ghost told_before = { λ _ _ _ _. tt };
 }

@@ -6,7 +6,7 @@ ghost use Rattle.brk_money.specs.declared.side.Side.{Side};
 ghost use Rattle.brk_model.specs.Shares.{Deal, replay, lot_qty, lots, history, touches, opened_shares, shares_after, closed_count, signed};
 ghost use Rattle.brk_lots.specs.declared.lot.Lot.{Lot};
 ghost use Rattle.brk_lots.specs.Books.{deals_total, gains, lots_cost, lots_total, spent};
-ghost use Rattle.brk_lots.specs.Chains.{IsLife, opening_touch, rows_of};
+ghost use Rattle.brk_lots.specs.Chains.{IsLife, opening_touch, changes_of_lot};
 ghost use Rattle.brk_lots.specs.Deals.{AreDeals};
 ghost use Rattle.brk_lots.specs.Lots.{shares_of, plain_lot};
 ghost use Rattle.brk_lots.specs.Position.{IsNew, IsPosition};
@@ -24,7 +24,7 @@ pub fn books_balance()
 /// chain. It begins at 0 and opens the lot. Each further row begins where the one before it ended,
 /// comes strictly nearer to 0, and the last ends at the current quantity. Proof-only.
 pub fn lots_live()
-    ensures life { (deals : List Deal) (trade : ℕ) → AreDeals deals → IsLife (rows_of trade deals []) (lot_qty (replay deals) trade) }
+    ensures life { (deals : List Deal) (trade : ℕ) → AreDeals deals → IsLife (changes_of_lot trade deals []) (lot_qty (replay deals) trade) }
     ensures opened { (d : Deal) (ls : List Lot) → IsPosition ls → IsNew d.trade ls →
         lot_qty (shares_after (shares_of ls) d) d.trade ≡ signed d.side (d.qty - closed_count d (shares_of ls)) }
 {}

@@ -41,10 +41,10 @@ pub trait LotSource {
         ensures faulted { IfOk result (λ given. faulted self.new ≡ faulted self.old) };
 
     /// A source is related to itself.
-    ghost stays: { (p : Self) → leads p p };
+    ghost reflexive: { (p : Self) → leads p p };
 
     /// The relation is transitive.
-    ghost goes_on: { (p q r : Self) → leads p q → leads q r → leads p r };
+    ghost transitive: { (p q r : Self) → leads p q → leads q r → leads p r };
 
     /// If reads met the disk assumption up to a later state, they did up to an earlier one.
     ghost told_before: { (p q : Self) → leads p q → reads_faithfully q → reads_faithfully p };

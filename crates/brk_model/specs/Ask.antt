@@ -31,13 +31,13 @@ query_tests base (LotsTouched account first) = lacks_account base account ∷ []
 query_tests base (VolumeOf sector names) = []
 
 -- The view of a query: the rows that it selects, or the figures of an estimate.
-unfoldable pub answer_of : Base → Query → View
-answer_of base (EstimateOf order) = estimate_fields (estimate base order) ∷ []
-answer_of base query = unwrap_or (view_of (tables_of base) query) []
+unfoldable pub view_for : Base → Query → View
+view_for base (EstimateOf order) = estimate_fields (estimate base order) ∷ []
+view_for base query = unwrap_or (view_of (tables_of base) query) []
 
 -- The result of a query: the first refusal that applies, otherwise its view.
 unfoldable pub ask : Base → Query → Result View Refusal
-ask base query = unless (first_refusal (query_tests base query)) (answer_of base query)
+ask base query = unless (first_refusal (query_tests base query)) (view_for base query)
 
 -- ---- from arguments to a query
 

@@ -87,16 +87,16 @@ abbrev pub opening_in : List Account → ℕ → ℤ
 opening_in accounts account = option_map_or (λ a. a.opening) (find_account accounts account) (pos 0)
 
 -- The broker of an account; 0 if the account does not exist.
-abbrev pub broker_of : Base → ℕ → ℕ
-broker_of base account = broker_in base.accounts account
+abbrev pub broker_of_account : Base → ℕ → ℕ
+broker_of_account base account = broker_in base.accounts account
 
 -- The customer of an account; 0 if the account does not exist.
-abbrev pub customer_of : Base → ℕ → ℕ
-customer_of base account = option_map_or (λ a. a.customer) (account_with base account) 0
+abbrev pub customer_of_account : Base → ℕ → ℕ
+customer_of_account base account = option_map_or (λ a. a.customer) (account_with base account) 0
 
 -- The tier of an account's customer; 0 if the customer does not exist.
 abbrev pub tier_of : Base → ℕ → ℕ
-tier_of base account = option_map_or (λ c. c.tier) (customer_with base (customer_of base account)) 0
+tier_of base account = option_map_or (λ c. c.tier) (customer_with base (customer_of_account base account)) 0
 
 -- The exchange of a security; empty if the security does not exist.
 abbrev pub exchange_of : Base → Text → Text

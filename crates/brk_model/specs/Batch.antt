@@ -32,7 +32,7 @@ pub record Batch (B : Type 0) : Type 0 where
 
 -- The batch name is well-formed, no row is an end record, and the rows have these answers, one
 -- each, and lead from `base` to `after`.
-pub record AreSettled {B C : Type 0} (form : Fields → Read C) (step : RowStep B C) (name : Text) (base : B) (moments : List ℕ)
+pub record AreDecided {B C : Type 0} (form : Fields → Read C) (step : RowStep B C) (name : Text) (base : B) (moments : List ℕ)
     (rows : List Fields) (answers : List Answer) (after : B) : Type 0 where
   pub named : IsName name
   pub rows_only : AllByRecursion (λ row. ¬ (IsEnd row)) rows
@@ -71,7 +71,7 @@ pub record IsAnswered {B C : Type 0} (form : Fields → Read C) (step : RowStep 
   pub rows : List Fields
   pub answers : List Answer
   pub told : List Answer
-  pub settled : AreSettled form step name base moments rows answers batch.base
+  pub settled : AreDecided form step name base moments rows answers batch.base
   pub ends : Ends text batch.ending name rows answers told batch.text
   pub counted : batch.rows ≡ length told
 

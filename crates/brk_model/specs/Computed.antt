@@ -14,29 +14,29 @@ use Rattle.brk_model.specs.Lines.{lines_from, end_line}
 use Rattle.brk_model.specs.Batch.{Batch, Ending, EndedWell, BadHeader, NoEnd, BadEnd, row_step}
 
 -- A list of answers, with the base after them.
-abbrev pub Answered : Type 0 → Type 0
-Answered B = List Answer × B
+abbrev pub AnswersAndBase : Type 0 → Type 0
+AnswersAndBase B = List Answer × B
 
 -- The run with one answer in front.
-abbrev pub joined : {B : Type 0} → Answer → Answered B → Answered B
+abbrev pub joined : {B : Type 0} → Answer → AnswersAndBase B → AnswersAndBase B
 joined answer run = (answer ∷ run.0, run.1)
 
 -- The answer, followed by the answers that `more` gives from the base after it.
-abbrev pub and_then : {B : Type 0} → Answer × B → (B → Answered B) → Answered B
+abbrev pub and_then : {B : Type 0} → Answer × B → (B → AnswersAndBase B) → AnswersAndBase B
 and_then answered more = joined answered.0 (more answered.1)
 
 -- The answers to the calls, executed in order, and the base after them.
-abbrev pub in_turn : {B C : Type 0} → RowStep B C → B → List (RowCall C) → Answered B
-in_turn step base [] = ([], base)
-in_turn step base (call ∷ calls) = and_then (call_step step base call) (λ b. in_turn step b calls)
+abbrev pub answered_in_turn : {B C : Type 0} → RowStep B C → B → List (RowCall C) → AnswersAndBase B
+answered_in_turn step base [] = ([], base)
+answered_in_turn step base (call ∷ calls) = and_then (call_step step base call) (λ b. answered_in_turn step b calls)
 
 -- The answers to all rows: those of the run, with the refusals of malformed rows between them.
-abbrev pub with_forms : {B C : Type 0} → (Fields → Read C) → List Fields → Answered B → Answered B
+abbrev pub with_forms : {B C : Type 0} → (Fields → Read C) → List Fields → AnswersAndBase B → AnswersAndBase B
 with_forms form rows run = (woven form rows run.0, run.1)
 
 -- The answers to the rows, executed in order and numbered from 1, and the base after them.
-abbrev pub settled : {B C : Type 0} → (Fields → Read C) → RowStep B C → Text → B → List ℕ → List Fields → Answered B
-settled form step name base moments rows = with_forms form rows (in_turn step base (calls_of name moments (formed_from form 1 rows)))
+abbrev pub settled : {B C : Type 0} → (Fields → Read C) → RowStep B C → Text → B → List ℕ → List Fields → AnswersAndBase B
+settled form step name base moments rows = with_forms form rows (answered_in_turn step base (calls_of name moments (formed_from form 1 rows)))
 
 -- True if a record is an end record, correct or not.
 abbrev pub is_end : Fields → Bool
@@ -57,9 +57,9 @@ split_at_end [] = ([], None)
 split_at_end (row ∷ rows) = if is_end row then ([], Some row) else with_row row (split_at_end rows)
 
 -- The batch name of a header, or none if the record is no header.
-abbrev pub name_in : Fields → Option Text
-name_in (word ∷ name ∷ []) = if bytes_eq word (codes "batch") then (if is_batch_name name then Some name else None) else None
-name_in _ = None
+abbrev pub name_of_header : Fields → Option Text
+name_of_header (word ∷ name ∷ []) = if bytes_eq word (codes "batch") then (if is_batch_name name then Some name else None) else None
+name_of_header _ = None
 
 -- True if an end record holds the number `n`, the number of rows before it.
 abbrev pub is_right : ℕ → Fields → Bool
@@ -67,42 +67,42 @@ is_right n (word ∷ count ∷ []) = bytes_eq count (decimal n)
 is_right n _ = false
 
 -- The batch of these answers, one line each, without the last line of a complete batch.
-abbrev pub told : {B : Type 0} → Answered B → Ending → Batch B
-told run ending = record { text = lines_from 1 run.0; base = run.1; ending = ending; rows = length run.0 }
+abbrev pub batch_without_end : {B : Type 0} → AnswersAndBase B → Ending → Batch B
+batch_without_end run ending = record { text = lines_from 1 run.0; base = run.1; ending = ending; rows = length run.0 }
 
 -- The complete batch of these answers, one line each, and its last line.
-abbrev pub told_whole : {B : Type 0} → Answered B → Batch B
-told_whole run = record { text = lines_from 1 run.0 ++ end_line run.0; base = run.1; ending = EndedWell; rows = length run.0 }
+abbrev pub complete_batch : {B : Type 0} → AnswersAndBase B → Batch B
+complete_batch run = record { text = lines_from 1 run.0 ++ end_line run.0; base = run.1; ending = EndedWell; rows = length run.0 }
 
 -- The batch of these answers and the refusal of one row more, which was not executed.
-abbrev pub told_cut : {B : Type 0} → Answered B → Batch B
-told_cut run = told (run.0 ++ Refused BadText ∷ [], run.1) NoEnd
+abbrev pub cut_batch : {B : Type 0} → AnswersAndBase B → Batch B
+cut_batch run = batch_without_end (run.0 ++ Refused BadText ∷ [], run.1) NoEnd
 
 -- The batch of rows before an end record: complete if this record is correct, otherwise ended by
 -- `BadEnd`.
 abbrev pub ended_by : {B C : Type 0} → (Fields → Read C) → RowStep B C → Text → B → List ℕ → List Fields → Fields → Batch B
 ended_by form step name base moments rows last =
-    if is_right (length rows) last then told_whole (settled form step name base moments rows) else told (settled form step name base moments rows) BadEnd
+    if is_right (length rows) last then complete_batch (settled form step name base moments rows) else batch_without_end (settled form step name base moments rows) BadEnd
 
 -- The batch of rows without an end record: the last one is refused and not executed.
 abbrev pub cut_off : {B C : Type 0} → (Fields → Read C) → RowStep B C → Text → B → List ℕ → List Fields → Batch B
-cut_off form step name base moments [] = told (settled form step name base moments []) NoEnd
-cut_off form step name base moments (row ∷ rows) = told_cut (settled form step name base moments (take (length rows) (row ∷ rows)))
+cut_off form step name base moments [] = batch_without_end (settled form step name base moments []) NoEnd
+cut_off form step name base moments (row ∷ rows) = cut_batch (settled form step name base moments (take (length rows) (row ∷ rows)))
 
 -- The batch of rows, with or without an end record.
-abbrev pub rows_of : {B C : Type 0} → (Fields → Read C) → RowStep B C → Text → B → List ℕ → Split → Batch B
-rows_of form step name base moments (rows, Some last) = ended_by form step name base moments rows last
-rows_of form step name base moments (rows, None) = cut_off form step name base moments rows
+abbrev pub batch_of_split : {B C : Type 0} → (Fields → Read C) → RowStep B C → Text → B → List ℕ → Split → Batch B
+batch_of_split form step name base moments (rows, Some last) = ended_by form step name base moments rows last
+batch_of_split form step name base moments (rows, None) = cut_off form step name base moments rows
 
 -- The batch of the records after a header; if there is no header, nothing is executed.
 abbrev pub named : {B C : Type 0} → (Fields → Read C) → RowStep B C → Option Text → B → List ℕ → List Fields → Batch B
 named form step None base moments rows = record { text = []; base = base; ending = BadHeader; rows = 0 }
-named form step (Some name) base moments rows = rows_of form step name base moments (split_at_end rows)
+named form step (Some name) base moments rows = batch_of_split form step name base moments (split_at_end rows)
 
 -- The batch of all records of an input.
 abbrev pub batch_from : {B C : Type 0} → (Fields → Read C) → RowStep B C → B → List ℕ → List Fields → Batch B
 batch_from form step base moments [] = named form step None base moments []
-batch_from form step base moments (header ∷ rows) = named form step (name_in header) base moments rows
+batch_from form step base moments (header ∷ rows) = named form step (name_of_header header) base moments rows
 
 -- The result of a batch's bytes, executed from a base with the readings of a clock.
 unfoldable pub batch : Base → List ℕ → Text → Batch Base

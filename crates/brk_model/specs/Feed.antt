@@ -28,12 +28,12 @@ abbrev pub ticked : ℕ → Tick → Security → Security
 ticked stamp tick s = record s { last_price = tick.price; volume = s.volume + tick.qty; moment = stamp }
 
 -- The base with the last price, the volume and the stamp of the tick's security updated.
-abbrev pub with_price : ℕ → Tick → Base → Base
-with_price stamp tick base = record base { securities = update_where (λ s. bytes_eq s.symbol tick.symbol) (ticked stamp tick) base.securities }
+abbrev pub with_last_price : ℕ → Tick → Base → Base
+with_last_price stamp tick base = record base { securities = update_where (λ s. bytes_eq s.symbol tick.symbol) (ticked stamp tick) base.securities }
 
 -- The base after a tick: its security is updated, and the trades that it triggers are submitted.
 abbrev pub with_tick : ℕ → Base → Tick → Base
-with_tick stamp base tick = with_trades (is_triggered tick) (marked stamp Submitted) (with_price stamp tick base)
+with_tick stamp base tick = with_trades (is_triggered tick) (marked stamp Submitted) (with_last_price stamp tick base)
 
 -- The base after the ticks, in order.
 unfoldable pub with_ticks : ℕ → Base → List Tick → Base

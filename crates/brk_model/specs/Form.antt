@@ -234,9 +234,9 @@ has_keys t =
     && rises move_key t.moves
 
 -- True if no two customers have the same tax id.
-abbrev pub one_tax_id_each : List Customer → Bool
-one_tax_id_each [] = true
-one_tax_id_each (c ∷ customers) = not (list_any (λ d. bytes_eq d.tax_id c.tax_id) customers) && one_tax_id_each customers
+abbrev pub distinct_tax_ids : List Customer → Bool
+distinct_tax_ids [] = true
+distinct_tax_ids (c ∷ customers) = not (list_any (λ d. bytes_eq d.tax_id c.tax_id) customers) && distinct_tax_ids customers
 
 -- True if the tables satisfy the condition `Form` in a schema. Columns are well-formed and within
 -- its limits, and references resolve. Every table is sorted by key, and no key and no tax id occurs
@@ -248,7 +248,7 @@ unfoldable pub has_form : Schema → Tables → Bool
 has_form schema t =
     option_map_or (λ last. nat_le last last_stamp) t.last true
     && has_keys t
-    && one_tax_id_each t.customers
+    && distinct_tax_ids t.customers
     && list_all kept_form t.kept
     && list_all broker_form t.brokers
     && list_all customer_form t.customers && list_all (customer_limits t) t.customers

@@ -37,10 +37,10 @@ keyed base now command key (Some k) = repeated base command k
 keyed base now command key None = acted base key command (step base now command)
 
 -- The request and the reply that are stored under the key, if there is a key.
-abbrev pub kept_of : Base → Option Key → Option Kept
-kept_of base None = None
-kept_of base (Some key) = kept_under base key
+abbrev pub kept_for : Base → Option Key → Option Kept
+kept_for base None = None
+kept_for base (Some key) = kept_under base key
 
 -- The answer to a call, a command with or without a key, and the base after it.
 unfoldable pub keyed_step : Base → ℕ → Command → Option Key → Answer × Base
-keyed_step base now command key = keyed base now command key (kept_of base key)
+keyed_step base now command key = keyed base now command key (kept_for base key)

@@ -10,7 +10,7 @@ use Rattle.brk_money.specs.declared.status.Status.{Status}
 use Rattle.brk_money.specs.declared.status.Status.TheVariants.{Submitted, Pending}
 use Rattle.brk_money.specs.declared.trade_type.TradeType.{TradeType}
 use Rattle.brk_model.specs.Records.{Customer, Permission, Executor, Trade}
-use Rattle.brk_model.specs.Base.{Base, completed, customer_with, charge_with, band_with, customer_of, tier_of, exchange_of, last_price, rates_of, is_taxed}
+use Rattle.brk_model.specs.Base.{Base, completed, customer_with, charge_with, band_with, customer_of_account, tier_of, exchange_of, last_price, rates_of, is_taxed}
 use Rattle.brk_model.specs.Shares.{Share, Deal, buy_value, sell_value, gain}
 use Rattle.brk_model.specs.Derived.{shares_in, postings_of, balance_of, holdings_of}
 use Rattle.brk_model.specs.Commands.{Order, Estimate, Reply, Ordered}
@@ -28,7 +28,7 @@ permitted c permissions e =
 -- True if the executor may order for the account, or if the account's customer does not exist.
 abbrev pub is_permitted : Base → ℕ → Executor → Bool
 is_permitted base account e =
-    option_map_or (λ c. permitted c (filter (λ p. p.account == account) base.permissions) e) (customer_with base (customer_of base account)) true
+    option_map_or (λ c. permitted c (filter (λ p. p.account == account) base.permissions) e) (customer_with base (customer_of_account base account)) true
 
 -- The price that the order asks for, or the last price of its security if it asks for none
 -- (Trade-Order, frame 3).
@@ -42,8 +42,8 @@ commission_of base account kind symbol qty price =
 
 -- The tax on the gain of the deal `d` against the shares of an account, in cents; 0 if the account
 -- is not taxable.
-abbrev pub tax_of : Base → ℕ → Deal → List Share → ℕ
-tax_of base account d shares = if is_taxed base account then tax (gain d shares) (rates_of base (customer_of base account)) else 0
+abbrev pub tax_on_deal : Base → ℕ → Deal → List Share → ℕ
+tax_on_deal base account d shares = if is_taxed base account then tax (gain d shares) (rates_of base (customer_of_account base account)) else 0
 
 -- The order as a deal at its requested price, with the id of the next trade and the stamp 0.
 abbrev pub deal_at : Base → Order → Deal
@@ -61,7 +61,7 @@ estimate_upon shares base o = record {
   price = requested_price base o;
   buy_value = buy_value (deal_at base o) shares;
   sell_value = sell_value (deal_at base o) shares;
-  tax = tax_of base o.account (deal_at base o) shares;
+  tax = tax_on_deal base o.account (deal_at base o) shares;
   commission = unwrap_or (commission_of base o.account (kind_of o.order_type) o.symbol o.qty (requested_price base o)) 0;
   charge = option_map_or (λ c. c.amount) (charge_with base (kind_of o.order_type) (tier_of base o.account)) 0;
   assets = assets_of base o.account;

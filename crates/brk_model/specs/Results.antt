@@ -7,7 +7,7 @@ use Rattle.brk_model.specs.Records.{Trade}
 use Rattle.brk_model.specs.Base.{Base, completed, marked, with_trades, security_name}
 use Rattle.brk_model.specs.Shares.{Deal, buy_value, sell_value}
 use Rattle.brk_model.specs.Derived.{shares_in, amount_of, due_day, postings_of, balance_of}
-use Rattle.brk_model.specs.Orders.{commission_of, tax_of}
+use Rattle.brk_model.specs.Orders.{commission_of, tax_on_deal}
 use Rattle.brk_model.specs.Commands.{Completion}
 
 -- The deal of a trade that is completed at `price` with `stamp`.
@@ -35,7 +35,7 @@ unfoldable pub completed_trade : Base → ℕ → ℕ → Trade → Trade
 completed_trade base stamp price t = marked stamp Completed (record t {
   price = Some price;
   commission = unwrap_or (commission_of base t.account t.kind t.symbol t.qty price) 0;
-  tax = tax_of base t.account (result_deal stamp price t) (shares_in (completed base) t.account t.symbol);
+  tax = tax_on_deal base t.account (result_deal stamp price t) (shares_in (completed base) t.account t.symbol);
   cash_type = first_cash_type t;
   cash_name = first_cash_name base t;
 })

@@ -28,9 +28,9 @@ MayFail fault = (fault ≡ Memory) ⊎ (fault ≡ Store)
 
 -- The call is a command, and its keyed step at the clock reading `now` gives `answer` and the base
 -- `after`. It is false of a query.
-abbrev pub IsAnswered : Base → ℕ → Call → Answer → Base → Type 0
-IsAnswered base now (Do command key) answer after = keyed_step base now command key ≡ (answer, after)
-IsAnswered base now (Ask query) answer after = ⊥
+abbrev pub GivesAnswer : Base → ℕ → Call → Answer → Base → Type 0
+GivesAnswer base now (Do command key) answer after = keyed_step base now command key ≡ (answer, after)
+GivesAnswer base now (Ask query) answer after = ⊥
 
 -- The call is a query, `seen` is its view or its refusal, and `after` equals `base`. It is false of
 -- a command.
@@ -41,7 +41,7 @@ IsSeen base (Do command key) seen after = ⊥
 -- From `base`, the call at the clock reading `now` may have this outcome and lead to the base
 -- `after`.
 abbrev pub Answers : Base → ℕ → Call → Outcome → Base → Type 0
-Answers base now call (Did answer) after = IsAnswered base now call answer after
+Answers base now call (Did answer) after = GivesAnswer base now call answer after
 Answers base now call (Saw view) after = IsSeen base call (Ok view) after
 Answers base now call (NoView refusal) after = IsSeen base call (Err refusal) after
 Answers base now call (Failed fault) after = MayFail fault × (after ≡ base)

@@ -14,7 +14,7 @@ use Rattle.brk_money.specs.declared.refusal.Limit.TheVariants as limit
 use Rattle.brk_money.specs.declared.status.Status.TheVariants.{Pending, Submitted}
 use Rattle.brk_model.specs.Limits.{greatest_amount, greatest_summary, greatest_tax_rate, greatest_id, most_accounts}
 use Rattle.brk_model.specs.Records.{Band, Trade, Movement}
-use Rattle.brk_model.specs.Base.{Base, broker_with, customer_with, account_with, security_with, tax_rate_with, trade_with, charge_with, band_with, broker_of, tier_of, exchange_of, rates_of, completed, has_status}
+use Rattle.brk_model.specs.Base.{Base, broker_with, customer_with, account_with, security_with, tax_rate_with, trade_with, charge_with, band_with, broker_of_account, tier_of, exchange_of, rates_of, completed, has_status}
 use Rattle.brk_model.specs.Tables.{status_of}
 use Rattle.brk_model.specs.Derived.{due_after, summary_of, postings_of, balance_of, commissions_of}
 use Rattle.brk_model.specs.Orders.{is_permitted}
@@ -89,7 +89,7 @@ result_tests base after stamp t =
     ∷ (is_none (band_with base (tier_of base t.account) t.kind (exchange_of base t.symbol) t.qty), NoRate)
     ∷ (nat_lt greatest_summary (nat_abs (summary_of (completed after) t.account t.symbol)), Range limit.Summary)
     ∷ (t.is_cash && nat_lt greatest_amount (nat_abs (balance_of after.accounts (postings_of after) t.account)), Range limit.Balance)
-    ∷ (nat_lt greatest_amount (commissions_of after.accounts (completed after) (broker_of base t.account)), Range limit.Broker)
+    ∷ (nat_lt greatest_amount (commissions_of after.accounts (completed after) (broker_of_account base t.account)), Range limit.Broker)
     ∷ (nat_lt last_day (due_after base.rule stamp), ClockEnd)
     ∷ []
 

@@ -25,7 +25,7 @@ use Rattle.brk_model.specs.LookupView.{lookup_view, lots_view}
 use Rattle.brk_model.specs.VolumeView.{volume_view}
 use Rattle.brk_model.specs.Views.{view_of}
 use Rattle.brk_model.specs.Statement.{statement}
-use Rattle.brk_model.specs.Ask.{query_tests, answer_of, ask, parse_query}
+use Rattle.brk_model.specs.Ask.{query_tests, view_for, ask, parse_query}
 use Rattle.brk_model.specs.Adopted.{base_of}
 use Rattle.brk_model.specs.Form.{has_keys, has_form}
 use Rattle.brk_model.specs.Ways.{has_status_rows}
@@ -38,8 +38,8 @@ use Rattle.brk_model_examples.specs.Waiting.{waiting}
 use Rattle.brk_model_examples.specs.Extremes.{at_the_end, ten_accounts, full_volume}
 use Rattle.brk_model_examples.specs.Crowds.{fifty_one, misnamed, twenty_one}
 use Rattle.brk_model_examples.specs.Sales.{closed_by}
-use Rattle.brk_model_examples.specs.Bought.{bought_tables, first_tables, other_number, second_row, left_behind, large_quantity, large_band, day_set, early_day, no_quantity, no_last_trade, no_submission, other_status, a_request, other_lot, other_lot_price, other_trade_price, other_history, other_summary, other_count, other_commissions, other_commission, other_settlement, other_cash, other_balance, two_changes}
+use Rattle.brk_model_examples.specs.Bought.{bought_tables, first_tables, other_number, second_row, left_behind, large_quantity, large_band, day_set, early_day, no_quantity, lacks_last_trade, no_submission, other_status, a_request, other_lot, other_lot_price, other_trade_price, other_history, other_summary, other_count, other_commissions, other_commission, other_settlement, other_cash, other_balance, two_changes}
 
 unfoldable pub model_on_literals : ⊤
-unfolding digits civil_of day_number lib.Utf8.encode is_utf8 chars csv_on_literals sort_by total_by replace_text empty_base shares_after buy_value sell_value lots touches history shares_in summary_of balance_of holdings_of trade_count_of commissions_of tables_at sheets_of estimate with_ticks triggered_by completed_trade completion tests refusal_of records_after reply_to step row_fields reply_fields parse_row keyed_step batch position_view recent_view status_view submitted_view lookup_view lots_view volume_view view_of query_tests answer_of ask parse_query statement base_of has_keys has_form has_status_rows ConditionHolds upgraded setting bought bought_twice sold sold_last_first flipped covered closed waiting deposited one_day at_the_end ten_accounts full_volume fifty_one misnamed twenty_one closed_by bought_tables first_tables other_number second_row left_behind large_quantity large_band day_set early_day no_quantity no_last_trade no_submission other_status a_request other_lot other_lot_price other_trade_price other_history other_summary other_count other_commissions other_commission other_settlement other_cash other_balance two_changes
+unfolding digits civil_of day_number lib.Utf8.encode is_utf8 chars csv_on_literals sort_by total_by replace_text empty_base shares_after buy_value sell_value lots touches history shares_in summary_of balance_of holdings_of trade_count_of commissions_of tables_at sheets_of estimate with_ticks triggered_by completed_trade completion tests refusal_of records_after reply_to step row_fields reply_fields parse_row keyed_step batch position_view recent_view status_view submitted_view lookup_view lots_view volume_view view_of query_tests view_for ask parse_query statement base_of has_keys has_form has_status_rows ConditionHolds upgraded setting bought bought_twice sold sold_last_first flipped covered closed waiting deposited one_day at_the_end ten_accounts full_volume fifty_one misnamed twenty_one closed_by bought_tables first_tables other_number second_row left_behind large_quantity large_band day_set early_day no_quantity lacks_last_trade no_submission other_status a_request other_lot other_lot_price other_trade_price other_history other_summary other_count other_commissions other_commission other_settlement other_cash other_balance two_changes
 model_on_literals = tt

@@ -74,8 +74,8 @@ unfoldable pub no_quantity : Tables
 no_quantity = record bought_tables { trades = map {B = TradeRow} (λ t. record t { qty = 0 }) bought_tables.trades }
 
 -- The security has no last trade.
-unfoldable pub no_last_trade : Tables
-no_last_trade = record bought_tables { last_trades = [] }
+unfoldable pub lacks_last_trade : Tables
+lacks_last_trade = record bought_tables { last_trades = [] }
 
 -- The submission of the trade has no row in the history.
 unfoldable pub no_submission : Tables

@@ -6,7 +6,7 @@ ghost use Rattle.std.specs.Prelude.{None, Some, pos, negsuc, codes};
 ghost use Rattle.brk_money.specs.declared.fault.Condition.TheVariants as condition;
 ghost use Rattle.brk_model.specs.Audit.{IsAudit};
 ghost use Rattle.brk_model.specs.Schemas.{first_schema, second_schema, third_schema};
-ghost use Rattle.brk_model_examples.specs.Bought.{bought_tables, no_quantity, no_last_trade, no_submission, other_status, a_request, other_lot, other_lot_price, other_trade_price, other_history, other_summary, other_count, other_commissions, other_commission, other_settlement, other_cash, other_balance, two_changes, first_tables, other_number, second_row, left_behind, large_quantity, large_band, day_set, early_day, movement_of};
+ghost use Rattle.brk_model_examples.specs.Bought.{bought_tables, no_quantity, lacks_last_trade, no_submission, other_status, a_request, other_lot, other_lot_price, other_trade_price, other_history, other_summary, other_count, other_commissions, other_commission, other_settlement, other_cash, other_balance, two_changes, first_tables, other_number, second_row, left_behind, large_quantity, large_band, day_set, early_day, movement_of};
 
 /// Shows that the tables after a purchase pass, also with a set settlement day or a movement.
 pub fn tables_pass()
@@ -21,7 +21,7 @@ pub fn tables_pass()
 /// Shows the condition that each change fails, and the first condition if two changes fail.
 pub fn changes_are_told()
     ensures no_quantity { IsAudit third_schema no_quantity (Some condition.Form) }
-    ensures no_last_trade { IsAudit third_schema no_last_trade (Some condition.Form) }
+    ensures no_last_trade { IsAudit third_schema lacks_last_trade (Some condition.Form) }
     ensures no_submission { IsAudit third_schema no_submission (Some condition.Status) }
     ensures other_status { IsAudit third_schema other_status (Some condition.Status) }
     ensures a_request { IsAudit third_schema a_request (Some condition.Requests) }

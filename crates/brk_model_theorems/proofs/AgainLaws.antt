@@ -13,8 +13,8 @@ use Rattle.brk_model.specs.Keyed.{keyed_step}
 use Rattle.brk_model.specs.Answers.{Fields, RowCall, InTurn, call_step, with_formed, formed_from, calls_of, woven, woven_one, AreAnswered}
 use Rattle.brk_model.specs.Input.{text_of, IsName, IsEnd, header_of, end_of}
 use Rattle.brk_model.specs.Lines.{lines_from, end_line, is_refused, count_refused}
-use Rattle.brk_model.specs.Batch.{Batch, Ending, EndedWell, BadHeader, NoEnd, BadEnd, AreSettled, BatchText, HasNoHeader, Ends, IsAnswered, row_step}
-use Rattle.brk_model.specs.Computed.{told_whole}
+use Rattle.brk_model.specs.Batch.{Batch, Ending, EndedWell, BadHeader, NoEnd, BadEnd, AreDecided, BatchText, HasNoHeader, Ends, IsAnswered, row_step}
+use Rattle.brk_model.specs.Computed.{complete_batch}
 use Rattle.brk_model_theorems.specs.Laws.{LeadsTo, IsCleanBatch, again_of}
 use Rattle.brk_model_theorems.proofs.KeptLaws.{Grows, grows-on, run-grows, still, remembers, answers-again}
 use Rattle.brk_model_theorems.proofs.RunLaws.{rows-run}
@@ -101,7 +101,7 @@ none-woven form n (row ∷ rows) replies l h = one (form row) n (formed_from for
 
 -- the rows of a batch settled again
 pub settled-again : (form : Fields → Read Command) (name : Text) (moments others : List ℕ) (rows : List Fields) (answers told : List Answer) (base after later last : Base) → count_refused answers ≡ 0
-    → AreSettled form row_step name base moments rows answers after → Grows after later → AreSettled form row_step name later others rows told last
+    → AreDecided form row_step name base moments rows answers after → Grows after later → AreDecided form row_step name later others rows told last
     → (told ≡ map again_of answers) × (last ≡ later)
 settled-again form name moments others rows answers told base after later last none first g second =
     (two.all ∙ ap (woven form rows) again.0 ∙ woven-again form rows one.replies ∙ ap (map again_of) (sym one.all), again.1)
@@ -182,7 +182,7 @@ made text base ending rows = record { text = text; base = base; ending = ending;
 
 -- a batch of these answers, from its parts
 by_parts : (batch : Batch Base) (answers : List Answer) (base : Base) → batch.text ≡ lines_from 1 answers ++ end_line answers → batch.base ≡ base → batch.ending ≡ EndedWell
-    → batch.rows ≡ length answers → batch ≡ told_whole {B = Base} (answers, base)
+    → batch.rows ≡ length answers → batch ≡ complete_batch {B = Base} (answers, base)
 unfolding made
 by_parts batch answers base t b e n =
     let text : Text = lines_from 1 answers ++ end_line answers in
@@ -232,7 +232,7 @@ no-header input name rest named e (inr begins) = begins.2 name named (first-same
 
 by_kind : (form : Fields → Read Command) (base later : Base) (moments others : List ℕ) (input : Text) (answers : List Answer) (first second : Batch Base)
     (one : IsAnswered form row_step base moments (Some (text_of input)) first) → one.answers ≡ answers → count_refused answers ≡ 0 → HasRecords input one.name one.rows
-    → Grows first.base later → BatchText form row_step later others input second → second ≡ told_whole {B = Base} (map again_of answers, later)
+    → Grows first.base later → BatchText form row_step later others input second → second ≡ complete_batch {B = Base} (map again_of answers, later)
 by_kind form base later moments others input answers first second one these none has g (inr two) = absurd (no-header input one.name _ one.settled.named has.1 two.headless)
 by_kind form base later moments others input answers first second one these none has g (inl two) =
     by_parts second (map again_of answers) later (k.4 ∙ ap (λ a. lines_from 1 a ++ end_line a) same) again.1 k.0 (two.counted ∙ ap length (k.3 ∙ same))
@@ -240,11 +240,11 @@ by_kind form base later moments others input answers first second one these none
     k : (second.ending ≡ EndedWell) × (one.name ≡ two.name) × (one.rows ≡ two.rows) × (two.told ≡ two.answers) × (second.text ≡ lines_from 1 two.answers ++ end_line two.answers)
     k = by_ending input one.name two.name one.rows two.rows two.answers two.told second.ending second.text one.settled.rows_only two.settled.rows_only has two.ends
 
-    named : AreSettled form row_step one.name later others two.rows two.answers second.base
-    named = subst (λ n. AreSettled form row_step n later others two.rows two.answers second.base) (sym k.1) two.settled
+    named : AreDecided form row_step one.name later others two.rows two.answers second.base
+    named = subst (λ n. AreDecided form row_step n later others two.rows two.answers second.base) (sym k.1) two.settled
 
-    settled : AreSettled form row_step one.name later others one.rows two.answers second.base
-    settled = subst (λ rs. AreSettled form row_step one.name later others rs two.answers second.base) (sym k.2) named
+    settled : AreDecided form row_step one.name later others one.rows two.answers second.base
+    settled = subst (λ rs. AreDecided form row_step one.name later others rs two.answers second.base) (sym k.2) named
 
     again : (two.answers ≡ map again_of one.answers) × (second.base ≡ later)
     again = settled-again form one.name moments others one.rows one.answers two.answers base first.base later second.base (ap count_refused these ∙ none) one.settled g settled
@@ -253,7 +253,7 @@ by_kind form base later moments others input answers first second one these none
     same = again.0 ∙ ap (map again_of) these
 
 pub comes-again : (form : Fields → Read Command) (base later : Base) (moments others : List ℕ) (input : Text) (answers : List Answer) (first second : Batch Base) → IsCleanBatch form base moments input answers first
-    → LeadsTo first.base later → BatchText form row_step later others input second → second ≡ told_whole {B = Base} (map again_of answers, later)
+    → LeadsTo first.base later → BatchText form row_step later others input second → second ≡ complete_batch {B = Base} (map again_of answers, later)
 comes-again form base later moments others input answers first second went leads two =
     let one : IsAnswered form row_step base moments (Some (text_of input)) first = went.answered in
     let has = by_first input one.name one.rows one.answers one.told first.ending first.text went.ended one.ends in

@@ -13,16 +13,16 @@ use Rattle.brk_model.specs.Parse.{parse_row}
 use Rattle.brk_model.specs.Commands.{Answer, Refused}
 use Rattle.brk_model.specs.Answers.{Fields, RowStep, RowCall, call_step, InTurn, formed_from, with_formed, calls_of, woven, woven_one}
 use Rattle.brk_model.specs.Input.{text_of, Begins, AreAll, IsName, IsEnd, header_of, end_of}
-use Rattle.brk_model.specs.Batch.{Batch, BadEnd, AreSettled, IsAnswered, IsUnanswered, BatchText, row_step}
-use Rattle.brk_model.specs.Computed.{Answered, in_turn, settled, is_end, Split, with_row, split_at_end, name_in, is_right, told, told_whole, ended_by, cut_off, rows_of, named, batch_from, batch}
+use Rattle.brk_model.specs.Batch.{Batch, BadEnd, AreDecided, IsAnswered, IsUnanswered, BatchText, row_step}
+use Rattle.brk_model.specs.Computed.{AnswersAndBase, answered_in_turn, settled, is_end, Split, with_row, split_at_end, name_of_header, is_right, batch_without_end, complete_batch, ended_by, cut_off, batch_of_split, named, batch_from, batch}
 
 -- ---- a run and its answers
 
-pub run_of : {B C : Type 0} (step : RowStep B C) (base : B) (calls : List (RowCall C)) → InTurn step base calls (in_turn step base calls).0 (in_turn step base calls).1
+pub run_of : {B C : Type 0} (step : RowStep B C) (base : B) (calls : List (RowCall C)) → InTurn step base calls (answered_in_turn step base calls).0 (answered_in_turn step base calls).1
 run_of step base [] = refl
 run_of step base (call ∷ calls) = (refl, run_of step (call_step step base call).1 calls)
 
-pub length-in_turn : {B C : Type 0} (step : RowStep B C) (base : B) (calls : List (RowCall C)) → length (in_turn step base calls).0 ≡ length calls
+pub length-in_turn : {B C : Type 0} (step : RowStep B C) (base : B) (calls : List (RowCall C)) → length (answered_in_turn step base calls).0 ≡ length calls
 length-in_turn step base [] = refl
 length-in_turn step base (call ∷ calls) = ap suc (length-in_turn step (call_step step base call).1 calls)
 
@@ -127,7 +127,7 @@ abbrev pub NameSays : Fields → Option Text → Type 0
 NameSays header (Some name) = (header ≡ header_of name) × IsName name
 NameSays header None = (name : Text) → IsName name → header ≡ header_of name → ⊥
 
-pub header_says : (header : Fields) → NameSays header (name_in header)
+pub header_says : (header : Fields) → NameSays header (name_of_header header)
 unfolding second_of first_of
 header_says [] = λ name named e. absurd (cc)
 header_says (word ∷ []) = λ name named e. absurd (cc)
@@ -160,17 +160,17 @@ right_says n (word ∷ count ∷ []) h = at (bytes_eq count (decimal n)) refl
 -- rows that are none of them an end record, settled
 pub settles : {B C : Type 0} (form : Fields → Read C) (step : RowStep B C) (name : Text) (base : B) (moments : List ℕ) (rows : List Fields)
     → IsName name → AllByRecursion (λ row. ¬ (IsEnd row)) rows → length rows ≤ length moments
-    → AreSettled form step name base (take (length (formed_from form 1 rows)) moments) rows (settled form step name base moments rows).0 (settled form step name base moments rows).1
+    → AreDecided form step name base (take (length (formed_from form 1 rows)) moments) rows (settled form step name base moments rows).0 (settled form step name base moments rows).1
 settles {B = B} {C = C} form step name base moments rows named only h = record {
   named = named;
   rows_only = only;
   answered = record {
-    replies = (in_turn step base calls).0;
+    replies = (answered_in_turn step base calls).0;
     one_each = length-taken (length formed) moments enough;
-    run = subst (λ cs. InTurn step base cs (in_turn step base calls).0 (in_turn step base calls).1) (sym (calls-take name moments formed)) (run_of step base calls);
+    run = subst (λ cs. InTurn step base cs (answered_in_turn step base calls).0 (answered_in_turn step base calls).1) (sym (calls-take name moments formed)) (run_of step base calls);
     all = refl;
   };
-  each = length-woven form 1 rows (in_turn step base calls).0 (length-in_turn step base calls ∙ length-calls name moments formed enough);
+  each = length-woven form 1 rows (answered_in_turn step base calls).0 (length-in_turn step base calls ∙ length-calls name moments formed enough);
 }
   where
     formed : List (ℕ × C)
@@ -201,10 +201,10 @@ pub ends_with : {B C : Type 0} (form : Fields → Read C) (step : RowStep B C) (
     → Comes form step base moments text (ended_by form step name base moments rows last)
 ends_with {B = B} form step name base moments text rows last more named only end all h = at (is_right (length rows) last) (right_says (length rows) last end)
   where
-    run : Answered B
+    run : AnswersAndBase B
     run = settled form step name base moments rows
 
-    at : (b : Bool) → RightSays (length rows) last b → Comes form step base moments text (cond b (told_whole run) (told run BadEnd))
+    at : (b : Bool) → RightSays (length rows) last b → Comes form step base moments text (cond b (complete_batch run) (batch_without_end run BadEnd))
     at true k = (
       length (formed_from form 1 rows),
       inl (record {
@@ -278,7 +278,7 @@ cuts_off {B = B} form step name base moments text (row ∷ rows) named only all 
     front : List Fields
     front = take (length rows) (row ∷ rows)
 
-    run : Answered B
+    run : AnswersAndBase B
     run = settled form step name base moments front
 
     end : (last : Fields) × (row ∷ rows ≡ front ++ last ∷ [])
@@ -293,7 +293,7 @@ cuts_off {B = B} form step name base moments text (row ∷ rows) named only all 
 -- the records after a header
 pub comes_named : {B C : Type 0} (form : Fields → Read C) (step : RowStep B C) (name : Text) (base : B) (moments : List ℕ) (text : Text) (rest : List Fields) (split : Split)
     → IsName name → records default_config text ≡ header_of name ∷ rest → length rest ≤ length moments → Splits rest split
-    → Comes form step base moments text (rows_of form step name base moments split)
+    → Comes form step base moments text (batch_of_split form step name base moments split)
 comes_named form step name base moments text rest (rows, Some last) named all h s =
     ends_with form step name base moments text rows last s.2.0 named s.0 s.1 (all ∙ ap (λ rs. header_of name ∷ rs) s.2.1)
     (let k = length-append_one rows last s.2.0 in let e = ap length s.2.1 in omega (k, e, h, arith))
@@ -320,7 +320,7 @@ pub comes : {B C : Type 0} (form : Fields → Read C) (step : RowStep B C) (base
     → records default_config text ≡ all → length all ≤ length moments → Comes form step base moments text (batch_from form step base moments all)
 comes form step base moments text [] e h = comes_headless form step base moments text (inl e)
 comes form step base moments text (header ∷ rest) e h =
-    comes_headed form step base moments text header rest (name_in header) e (omega (h, arith)) (header_says header)
+    comes_headed form step base moments text header rest (name_of_header header) e (omega (h, arith)) (header_says header)
 
 -- the function gives the batch text, and takes the first of the moments
 pub computes : (base : Base) (moments : List ℕ) (input : Text) → length (records default_config (text_of input)) ≤ length moments

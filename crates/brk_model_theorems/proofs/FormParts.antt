@@ -8,7 +8,7 @@ use Rattle.brk_model.specs.Limits.{greatest_id}
 use Rattle.brk_model.specs.Lists.{all_distinct}
 use Rattle.brk_model.specs.Schemas.{Schema}
 use Rattle.brk_model.specs.Tables.{Tables}
-use Rattle.brk_model.specs.Form.{kept_form, broker_form, customer_form, customer_limits, account_form, permission_form, security_form, last_trade_form, charge_form, band_form, no_overlap, tax_rate_form, customer_tax_form, trade_form, same_numbers, history_form, request_form, holding_form, summary_form, holding_history_form, settlement_form, cash_form, move_form, trades_moved, lacks_later_rows, has_keys, has_form, one_tax_id_each, rises}
+use Rattle.brk_model.specs.Form.{kept_form, broker_form, customer_form, customer_limits, account_form, permission_form, security_form, last_trade_form, charge_form, band_form, no_overlap, tax_rate_form, customer_tax_form, trade_form, same_numbers, history_form, request_form, holding_form, summary_form, holding_history_form, settlement_form, cash_form, move_form, trades_moved, lacks_later_rows, has_keys, has_form, distinct_tax_ids, rises}
 use Rattle.brk_model.specs.Keys.{kept_key, broker_key, customer_key, account_key, permission_key, security_key, last_trade_key, charge_key, band_key, tax_rate_key, customer_tax_key, trade_key, history_key, request_key, holding_key, summary_key, holding_history_key, settlement_key, cash_key, move_key}
 use Rattle.brk_model_theorems.specs.FormParts.{FormParts, KeysRise}
 use Rattle.brk_model_theorems.proofs.Conjunctions.{parts, whole}
@@ -19,7 +19,7 @@ use Rattle.brk_model_theorems.proofs.Conjunctions.{parts, whole}
 abbrev forms : Schema → Tables → List Bool
 forms schema t =
     has_keys t ∷
-    one_tax_id_each t.customers ∷
+    distinct_tax_ids t.customers ∷
     list_all kept_form t.kept ∷
     list_all broker_form t.brokers ∷
     list_all customer_form t.customers ∷

@@ -9,7 +9,7 @@ use Rattle.brk_model.specs.Records.{Key, Kept}
 use Rattle.brk_model.specs.Base.{Base}
 use Rattle.brk_model.specs.Commands.{Command, Reply, Answer, Done, Again, Refused}
 use Rattle.brk_model.specs.Rows.{row_text}
-use Rattle.brk_model.specs.Keyed.{kept_under, keyed_step, keyed, acted, kept_of}
+use Rattle.brk_model.specs.Keyed.{kept_under, keyed_step, keyed, acted, kept_for}
 use Rattle.brk_model.specs.Step.{step}
 use Rattle.brk_model.specs.Run.{Call, Do, Ask, Outcome, Did, Saw, NoView, Failed, Answers, Run}
 use Rattle.brk_model.specs.Lines.{is_refused}
@@ -44,7 +44,7 @@ keyed-grows base now command key None = acted-grows base now key command (step b
 
 pub keyed_step-grows : (base : Base) (now : ℕ) (command : Command) (key : Option Key) → Grows base (keyed_step base now command key).1
 unfolding keyed_step
-keyed_step-grows base now command key = keyed-grows base now command key (kept_of base key)
+keyed_step-grows base now command key = keyed-grows base now command key (kept_for base key)
 
 call-grows : (base : Base) (now : ℕ) (call : Call) (outcome : Outcome) (after : Base) → Answers base now call outcome after → Grows base after
 call-grows base now (Do command key) (Did answer) after a = subst (λ r. Grows base r.1) a (keyed_step-grows base now command key)

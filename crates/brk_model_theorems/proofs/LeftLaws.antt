@@ -8,7 +8,7 @@ use Rattle.brk_model.specs.Keyed.{kept_under, keyed, keyed_step, repeated}
 use Rattle.brk_model.specs.Answers.{RowCall, InTurn, call_step}
 use Rattle.brk_model.specs.Batch.{row_step}
 use Rattle.brk_model.specs.Run.{Did}
-use Rattle.brk_model_theorems.specs.Laws.{AreKeptAnswers, AreRemembered, IsKeptAnswer, IsRemembered, answers_left, call_of, calls_left, done_answers, done_calls}
+use Rattle.brk_model_theorems.specs.Laws.{AreKeptAnswers, AreRemembered, IsKeptAnswer, IsRemembered, answers_left, call_of_row, calls_left, done_answers, done_calls}
 use Rattle.brk_model_theorems.proofs.KeyLaws.{found_again, keeps, row_kept}
 use Rattle.brk_model_theorems.proofs.KeptLaws.{Grows, grows-on, keyed_step-grows, run-grows, stays}
 use Rattle.brk_model_theorems.proofs.PartLaws.{in-turn-joined}
@@ -89,7 +89,7 @@ done-kept base after (call ∷ calls) (answer ∷ answers) r = (by_answer answer
     by_answer : (answer : Answer) → answer ≡ (call_step row_step base call).0 → IsRemembered after call answer
     by_answer (Done reply) e =
         let k = keeps base call.now call.command call.key reply mid (ap (λ a. (a, mid)) (sym e)) in
-        stays mid after call.key (row_kept call.key call.command reply) (run-grows (map call_of calls) (map Did answers) mid after (rows-run mid calls answers after r.1))
+        stays mid after call.key (row_kept call.key call.command reply) (run-grows (map call_of_row calls) (map Did answers) mid after (rows-run mid calls answers after r.1))
         (found_again base call.command call.key reply mid k)
     by_answer (Again line) e = tt
     by_answer (Refused refusal) e = tt

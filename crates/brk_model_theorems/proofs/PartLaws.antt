@@ -7,7 +7,7 @@ use Rattle.brk_model.specs.Base.{Base}
 use Rattle.brk_model.specs.Forms.{Read}
 use Rattle.brk_model.specs.Commands.{Command, Answer, Refused}
 use Rattle.brk_model.specs.Answers.{Fields, RowCall, InTurn, call_step, with_formed, formed_from, calls_of, woven, woven_one}
-use Rattle.brk_model.specs.Batch.{AreSettled, Batch, IsAnswered, row_step}
+use Rattle.brk_model.specs.Batch.{AreDecided, Batch, IsAnswered, row_step}
 use Rattle.brk_model.specs.Input.{Begins, IsEnd, end_of, header_of, text_of}
 use Rattle.brk_model.specs.Lines.{count_refused, is_refused}
 use Rattle.brk_model_theorems.specs.Laws.{LeadsTo, IsCleanBatch, again_of}
@@ -107,7 +107,7 @@ record Parted (form : Fields → Read Command) (name : Text) (base : Base) (mome
   pub replies : List Answer
   pub moments_are : moments ≡ early ++ late
   pub answers_are : answers ≡ first ++ rest
-  pub settled : AreSettled form row_step name base early front first mid
+  pub settled : AreDecided form row_step name base early front first mid
   pub one_each : length late ≡ length (formed_from form (1 + length front) more)
   pub run : InTurn row_step mid (calls_of name late (formed_from form (1 + length front) more)) replies after
   pub all : rest ≡ woven form more replies
@@ -117,7 +117,7 @@ length-joined [] ys = omega arith
 length-joined (x ∷ xs) ys = let h = length-joined xs ys in omega (h, arith)
 
 parted : (form : Fields → Read Command) (name : Text) (base : Base) (moments : List ℕ) (front more : List Fields) (answers : List Answer) (after : Base)
-    → AreSettled form row_step name base moments (front ++ more) answers after → Parted form name base moments front more answers after
+    → AreDecided form row_step name base moments (front ++ more) answers after → Parted form name base moments front more answers after
 parted form name base moments front more answers after s = record {
   mid = t.mid;
   early = p.front;
@@ -164,10 +164,10 @@ parted form name base moments front more answers after s = record {
 
 -- the second part after another settling of the first one
 pub joined : (form : Fields → Read Command) (name : Text) (base mid after : Base) (early late : List ℕ) (front more : List Fields) (first replies : List Answer)
-    → AreSettled form row_step name base early front first mid → AllByRecursion (λ row. ¬ (IsEnd row)) (front ++ more)
+    → AreDecided form row_step name base early front first mid → AllByRecursion (λ row. ¬ (IsEnd row)) (front ++ more)
     → length late ≡ length (formed_from form (1 + length front) more)
     → InTurn row_step mid (calls_of name late (formed_from form (1 + length front) more)) replies after
-    → AreSettled form row_step name base (early ++ late) (front ++ more) (first ++ woven form more replies) after
+    → AreDecided form row_step name base (early ++ late) (front ++ more) (first ++ woven form more replies) after
 joined form name base mid after early late front more first replies s only lates r = record {
   named = s.named;
   rows_only = only;
@@ -219,7 +219,7 @@ none-front (x ∷ xs) ys h = let k = none-first x (xs ++ ys) h in none-with x xs
 
 -- the first rows of those that were settled before
 pub part-again : (form : Fields → Read Command) (name : Text) (base after later last : Base) (moments others : List ℕ) (front more : List Fields) (answers told : List Answer)
-    → count_refused answers ≡ 0 → AreSettled form row_step name base moments (front ++ more) answers after → Grows after later → AreSettled form row_step name later others front told last
+    → count_refused answers ≡ 0 → AreDecided form row_step name base moments (front ++ more) answers after → Grows after later → AreDecided form row_step name later others front told last
     → (told ≡ map again_of (take (length front) answers)) × (last ≡ later)
 part-again form name base after later last moments others front more answers told none one g two =
     let p = parted form name base moments front more answers after one in
@@ -231,9 +231,9 @@ part-again form name base after later last moments others front more answers tol
 
 -- rows of which the first ones were settled before
 pub completed-by : (form : Fields → Read Command) (name : Text) (base mid last : Base) (moments others : List ℕ) (front more : List Fields) (answers told : List Answer)
-    → count_refused answers ≡ 0 → AreSettled form row_step name base moments front answers mid → AreSettled form row_step name mid others (front ++ more) told last
+    → count_refused answers ≡ 0 → AreDecided form row_step name base moments front answers mid → AreDecided form row_step name mid others (front ++ more) told last
     → (take (length front) told ≡ map again_of answers)
-    × AreSettled form row_step name base (moments ++ drop (length moments) others) (front ++ more) (answers ++ drop (length front) told) last
+    × AreDecided form row_step name base (moments ++ drop (length moments) others) (front ++ more) (answers ++ drop (length front) told) last
 completed-by form name base mid last moments others front more answers told none one two =
     (ap (λ (n : ℕ). take n told) (sym p.settled.each) ∙ ap (take (length p.first)) p.answers_are ∙ take-front p.first p.rest ∙ again.0, whole)
   where
@@ -250,15 +250,15 @@ completed-by form name base mid last moments others front more answers told none
     rests : drop (length front) told ≡ woven form more p.replies
     rests = ap (λ (n : ℕ). drop n told) (sym p.settled.each) ∙ ap (drop (length p.first)) p.answers_are ∙ drop-front p.first p.rest ∙ p.all
 
-    both : AreSettled form row_step name base (moments ++ p.late) (front ++ more) (answers ++ woven form more p.replies) last
+    both : AreDecided form row_step name base (moments ++ p.late) (front ++ more) (answers ++ woven form more p.replies) last
     both =
         joined form name base mid last moments p.late front more answers p.replies one two.rows_only p.one_each
         (subst (λ b. InTurn row_step b (calls_of name p.late (formed_from form (1 + length front) more)) p.replies last) again.1 p.run)
 
-    whole : AreSettled form row_step name base (moments ++ drop (length moments) others) (front ++ more) (answers ++ drop (length front) told) last
+    whole : AreDecided form row_step name base (moments ++ drop (length moments) others) (front ++ more) (answers ++ drop (length front) told) last
     whole =
-        subst (λ ms. AreSettled form row_step name base (moments ++ ms) (front ++ more) (answers ++ drop (length front) told) last) (sym lates)
-        (subst (λ l. AreSettled form row_step name base (moments ++ p.late) (front ++ more) (answers ++ l) last) (sym rests) both)
+        subst (λ ms. AreDecided form row_step name base (moments ++ ms) (front ++ more) (answers ++ drop (length front) told) last) (sym lates)
+        (subst (λ l. AreDecided form row_step name base (moments ++ p.late) (front ++ more) (answers ++ l) last) (sym rests) both)
 
 -- ---- the rows of a text
 
@@ -274,7 +274,7 @@ prefix (row ∷ rows) (other ∷ others) rest end more only h e =
 -- whatever rows of a batch that went through are settled again change nothing
 pub rows-again : (form : Fields → Read Command) (base later last : Base) (moments others : List ℕ) (input : Text) (answers told : List Answer) (first : Batch Base) (name : Text) (rows : List Fields)
     → IsCleanBatch form base moments input answers first → LeadsTo first.base later → Begins (Some (text_of input)) (header_of name ∷ rows)
-    → AreSettled form row_step name later others rows told last → (told ≡ map again_of (take (length rows) answers)) × (last ≡ later)
+    → AreDecided form row_step name later others rows told last → (told ≡ map again_of (take (length rows) answers)) × (last ≡ later)
 rows-again form base later last moments others input answers told first name rows went leads begins two =
     (again.0 ∙ ap (λ l. map again_of (take (length rows) l)) went.these, again.1)
   where
@@ -294,11 +294,11 @@ rows-again form base later last moments others input answers told first name row
     back = prefix rows one.rows begins.0 (end_of (length one.rows)) has.0 two.rows_only (right_end (length one.rows))
         (others-same (header_of name) (header_of one.name) (rows ++ begins.0) (one.rows ++ end_of (length one.rows) ∷ has.0) same)
 
-    named : AreSettled form row_step name base moments one.rows one.answers first.base
-    named = subst (λ n. AreSettled form row_step n base moments one.rows one.answers first.base) names one.settled
+    named : AreDecided form row_step name base moments one.rows one.answers first.base
+    named = subst (λ n. AreDecided form row_step n base moments one.rows one.answers first.base) names one.settled
 
-    settled : AreSettled form row_step name base moments (rows ++ back.0) one.answers first.base
-    settled = subst (λ rs. AreSettled form row_step name base moments rs one.answers first.base) back.1 named
+    settled : AreDecided form row_step name base moments (rows ++ back.0) one.answers first.base
+    settled = subst (λ rs. AreDecided form row_step name base moments rs one.answers first.base) back.1 named
 
     again : (told ≡ map again_of (take (length rows) one.answers)) × (last ≡ later)
     again =

@@ -9,7 +9,7 @@ use Rattle.brk_model.specs.Commands.{Command, Reply}
 use Rattle.brk_model.specs.Rows.{row_text}
 use Rattle.brk_model.specs.Tests.{Test, next_stamp, tests, refusal_of}
 use Rattle.brk_model.specs.Step.{base_after, step}
-use Rattle.brk_model.specs.Keyed.{keyed_step, keyed, acted, kept_of, keeping}
+use Rattle.brk_model.specs.Keyed.{keyed_step, keyed, acted, kept_for, keeping}
 use Rattle.brk_model.specs.Run.{Call, Do, Ask, Outcome, Did, Saw, NoView, Failed, Answers, Run}
 use Rattle.brk_model_theorems.specs.Laws.{IsReached}
 use Rattle.brk_model_theorems.proofs.Steps.{Accepted, accepted}
@@ -35,7 +35,7 @@ keyed-kept P k base now command key (Some row) p = at (bytes_eq row.row_text (ro
 
 keyed_step-kept : (P : Base → Type 0) → IsKept P → (base : Base) (now : ℕ) (command : Command) (key : Option Key) → P base → P (keyed_step base now command key).1
 unfolding keyed_step
-keyed_step-kept P k base now command key p = keyed-kept P k base now command key (kept_of base key) p
+keyed_step-kept P k base now command key p = keyed-kept P k base now command key (kept_for base key) p
 
 call-kept : (P : Base → Type 0) → IsKept P → (base : Base) (now : ℕ) (call : Call) (outcome : Outcome) (after : Base) → Answers base now call outcome after → P base → P after
 call-kept P k base now (Do command key) (Did answer) after a p = subst P (ap (λ r. r.1) a) (keyed_step-kept P k base now command key p)

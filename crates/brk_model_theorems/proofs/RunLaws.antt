@@ -7,20 +7,20 @@ use Rattle.brk_model.specs.Records.{Key, Kept}
 use Rattle.brk_model.specs.Base.{Base}
 use Rattle.brk_model.specs.Commands.{Command, Reply, Answer, Done, Again, Refused}
 use Rattle.brk_model.specs.Rows.{row_text}
-use Rattle.brk_model.specs.Keyed.{keyed_step, keyed, acted, kept_of, keeping}
+use Rattle.brk_model.specs.Keyed.{keyed_step, keyed, acted, kept_for, keeping}
 use Rattle.brk_model.specs.Step.{step}
 use Rattle.brk_model.specs.Tests.{next_stamp}
 use Rattle.brk_model.specs.Run.{Call, Do, Ask, Outcome, Did, Saw, NoView, Failed, Answers, Run}
 use Rattle.brk_model.specs.Answers.{RowCall, InTurn, call_step}
 use Rattle.brk_model.specs.Batch.{row_step}
-use Rattle.brk_model_theorems.specs.Laws.{stamp_of, stamp_in, stamps_of, RiseFrom, moved, moved_by, accepted_after, call_of}
+use Rattle.brk_model_theorems.specs.Laws.{stamp_of_reply, stamp_in, accepted_stamps, RiseFrom, moved, base_after_answer, accepted_after, call_of_row}
 use Rattle.brk_model_theorems.proofs.Steps.{Accepted, accepted, reply-stamp, next-above}
 
 -- ---- what an answer says of the base after it
 
 -- an accepted command takes a stamp above the last one, and all else leaves the base
 abbrev pub Says : Base → Answer → Base → Type 0
-Says base (Done reply) after = (after.last ≡ Some (stamp_of reply)) × IfSome base.last (λ l. l < stamp_of reply)
+Says base (Done reply) after = (after.last ≡ Some (stamp_of_reply reply)) × IfSome base.last (λ l. l < stamp_of_reply reply)
 Says base (Again line) after = after ≡ base
 Says base (Refused refusal) after = after ≡ base
 
@@ -33,7 +33,7 @@ acted-says : (base : Base) (now : ℕ) (key : Option Key) (command : Command) (r
 acted-says base now key command (Err refusal) h = refl
 acted-says base now key command (Ok booked) h =
     let k : Accepted base now command booked.0 booked.1 = accepted base now command booked.0 booked.1 h in
-    let s : stamp_of booked.0 ≡ next_stamp base now = ap stamp_of k.told ∙ reply-stamp base _ command in
+    let s : stamp_of_reply booked.0 ≡ next_stamp base now = ap stamp_of_reply k.told ∙ reply-stamp base _ command in
     (keeping-last key command booked.0 booked.1 ∙ ap (λ b. b.last) k.moved ∙ ap Some (sym s), subst (λ n. IfSome base.last (λ l. l < n)) (sym s) (next-above base now))
 
 keyed-says : (base : Base) (now : ℕ) (command : Command) (key : Option Key) (found : Option Kept) → Says base (keyed base now command key found).0 (keyed base now command key found).1
@@ -48,11 +48,11 @@ pub keyed_step-says : (base : Base) (now : ℕ) (command : Command) (key : Optio
 unfolding keyed_step
 keyed_step-says base now command key answer after e =
     let P : Answer × Base → Type 0 = λ r. Says base r.0 r.1 in
-    subst P e (keyed-says base now command key (kept_of base key))
+    subst P e (keyed-says base now command key (kept_for base key))
 
 -- ---- the accepted commands alone
 
-answer-moved : (base : Base) (now : ℕ) (call : Call) (answer : Answer) (after : Base) → Answers base now call (Did answer) after → after ≡ moved_by base now call answer
+answer-moved : (base : Base) (now : ℕ) (call : Call) (answer : Answer) (after : Base) → Answers base now call (Did answer) after → after ≡ base_after_answer base now call answer
 answer-moved base now (Do command key) (Done reply) after a = ap (λ r. r.1) (sym a)
 answer-moved base now (Do command key) (Again line) after a = keyed_step-says base now command key (Again line) after a
 answer-moved base now (Do command key) (Refused refusal) after a = keyed_step-says base now command key (Refused refusal) after a
@@ -95,17 +95,17 @@ rise-one base now (Ask query) (NoView refusal) mid stamps a h = subst (λ b. Ris
 rise-one base now call (Failed fault) mid stamps a h = subst (λ b. RiseFrom b.last stamps) a.1 h
 
 -- the stamps of a run's accepted commands rise from the last stamp
-pub stamps-rise : (calls : List (ℕ × Call)) (outcomes : List Outcome) (base after : Base) → Run base calls outcomes after → RiseFrom base.last (stamps_of outcomes)
+pub stamps-rise : (calls : List (ℕ × Call)) (outcomes : List Outcome) (base after : Base) → Run base calls outcomes after → RiseFrom base.last (accepted_stamps outcomes)
 stamps-rise [] [] base after r = tt
 stamps-rise [] (outcome ∷ outcomes) base after r = absurd r
 stamps-rise (call ∷ calls) [] base after r = absurd r
 stamps-rise (call ∷ calls) (outcome ∷ outcomes) base after r =
-    rise-one base call.0 call.1 outcome r.0 (stamps_of outcomes) r.1 (stamps-rise calls outcomes r.0 after r.2)
+    rise-one base call.0 call.1 outcome r.0 (accepted_stamps outcomes) r.1 (stamps-rise calls outcomes r.0 after r.2)
 
 -- ---- the rows of a batch are calls
 
 pub rows-run : (base : Base) (calls : List (RowCall Command)) (answers : List Answer) (after : Base) → InTurn row_step base calls answers after
-    → Run base (map call_of calls) (map Did answers) after
+    → Run base (map call_of_row calls) (map Did answers) after
 rows-run base [] [] after r = r
 rows-run base [] (answer ∷ answers) after r = absurd r
 rows-run base (call ∷ calls) [] after r = absurd r

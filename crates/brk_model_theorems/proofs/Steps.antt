@@ -9,7 +9,7 @@ use Rattle.brk_model.specs.Feed.{with_tick, with_ticks}
 use Rattle.brk_model.specs.Results.{with_result, completion}
 use Rattle.brk_model.specs.Tests.{next_stamp, refusal_of}
 use Rattle.brk_model.specs.Step.{records_after, reply_to, base_after, unless, step}
-use Rattle.brk_model_theorems.specs.Laws.{stamp_of}
+use Rattle.brk_model_theorems.specs.Laws.{stamp_of_reply}
 
 -- ---- kept rows
 
@@ -46,12 +46,12 @@ records-kept base stamp (SetOneDay day) = refl
 
 -- ---- the stamp
 
-result-stamp : (base : Base) (stamp price : ℕ) (found : Option Trade) → stamp_of (option_map_or (λ t. CompletedTrade stamp (completion base stamp price t)) found (Booked stamp)) ≡ stamp
+result-stamp : (base : Base) (stamp price : ℕ) (found : Option Trade) → stamp_of_reply (option_map_or (λ t. CompletedTrade stamp (completion base stamp price t)) found (Booked stamp)) ≡ stamp
 result-stamp base stamp price None = refl
 result-stamp base stamp price (Some t) = refl
 
 -- a reply tells the stamp
-pub reply-stamp : (base : Base) (stamp : ℕ) (command : Command) → stamp_of (reply_to base stamp command) ≡ stamp
+pub reply-stamp : (base : Base) (stamp : ℕ) (command : Command) → stamp_of_reply (reply_to base stamp command) ≡ stamp
 unfolding reply_to
 reply-stamp base stamp (AddBroker b) = refl
 reply-stamp base stamp (AddCustomer c) = refl

@@ -7,14 +7,14 @@ use Rattle.brk_model.specs.Limits.{greatest_id}
 use Rattle.brk_model.specs.Lists.{all_distinct}
 use Rattle.brk_model.specs.Schemas.{Schema}
 use Rattle.brk_model.specs.Tables.{Tables}
-use Rattle.brk_model.specs.Form.{kept_form, broker_form, customer_form, customer_limits, account_form, permission_form, security_form, last_trade_form, charge_form, band_form, no_overlap, tax_rate_form, customer_tax_form, trade_form, same_numbers, history_form, request_form, holding_form, summary_form, holding_history_form, settlement_form, cash_form, move_form, trades_moved, lacks_later_rows, has_keys, one_tax_id_each, rises}
+use Rattle.brk_model.specs.Form.{kept_form, broker_form, customer_form, customer_limits, account_form, permission_form, security_form, last_trade_form, charge_form, band_form, no_overlap, tax_rate_form, customer_tax_form, trade_form, same_numbers, history_form, request_form, holding_form, summary_form, holding_history_form, settlement_form, cash_form, move_form, trades_moved, lacks_later_rows, has_keys, distinct_tax_ids, rises}
 use Rattle.brk_model.specs.Keys.{kept_key, broker_key, customer_key, account_key, permission_key, security_key, last_trade_key, charge_key, band_key, tax_rate_key, customer_tax_key, trade_key, history_key, request_key, holding_key, summary_key, holding_history_key, settlement_key, cash_key, move_key}
 
 -- Every part of the condition `Form` holds of the tables, by the limits of a schema.
 pub record FormParts (schema : Schema) (t : Tables) : Type 0 where
   pub clock : option_map_or (λ last. nat_le last last_stamp) t.last true ≡ true
   pub keys : has_keys t ≡ true
-  pub tax_ids : one_tax_id_each t.customers ≡ true
+  pub tax_ids : distinct_tax_ids t.customers ≡ true
   pub kept : list_all kept_form t.kept ≡ true
   pub brokers : list_all broker_form t.brokers ≡ true
   pub customers : list_all customer_form t.customers ≡ true

@@ -11,22 +11,22 @@ use Rattle.brk_model.specs.Answers.{Fields, RowCall}
 use Rattle.brk_model.specs.Forms.{Read}
 use Rattle.brk_model.specs.Input.{text_of}
 use Rattle.brk_model.specs.Lines.{count_refused}
-use Rattle.brk_model.specs.Batch.{AreSettled, Batch, EndedWell, IsAnswered, row_step}
+use Rattle.brk_model.specs.Batch.{AreDecided, Batch, EndedWell, IsAnswered, row_step}
 use Rattle.brk_model.specs.Run.{Call, Do, Ask, Outcome, Did, Saw, NoView, Failed, Run}
 
 -- The stamp of a reply.
-abbrev pub stamp_of : Reply → ℕ
-stamp_of (Booked stamp) = stamp
-stamp_of (Ordered stamp trade status estimate) = stamp
-stamp_of (Ticked stamp triggered) = stamp
-stamp_of (CanceledTrade stamp) = stamp
-stamp_of (CompletedTrade stamp completion) = stamp
-stamp_of (Changed stamp count) = stamp
-stamp_of (MovedCash stamp move balance) = stamp
+abbrev pub stamp_of_reply : Reply → ℕ
+stamp_of_reply (Booked stamp) = stamp
+stamp_of_reply (Ordered stamp trade status estimate) = stamp
+stamp_of_reply (Ticked stamp triggered) = stamp
+stamp_of_reply (CanceledTrade stamp) = stamp
+stamp_of_reply (CompletedTrade stamp completion) = stamp
+stamp_of_reply (Changed stamp count) = stamp
+stamp_of_reply (MovedCash stamp move balance) = stamp
 
 -- The stamp of an outcome that accepts a command, as a list; empty for other outcomes.
 abbrev pub stamp_in : Outcome → List ℕ
-stamp_in (Did (Done reply)) = stamp_of reply ∷ []
+stamp_in (Did (Done reply)) = stamp_of_reply reply ∷ []
 stamp_in (Did (Again line)) = []
 stamp_in (Did (Refused refusal)) = []
 stamp_in (Saw view) = []
@@ -34,9 +34,9 @@ stamp_in (NoView refusal) = []
 stamp_in (Failed fault) = []
 
 -- The stamps of the accepted commands, in order.
-abbrev pub stamps_of : List Outcome → List ℕ
-stamps_of [] = []
-stamps_of (outcome ∷ outcomes) = stamp_in outcome ++ stamps_of outcomes
+abbrev pub accepted_stamps : List Outcome → List ℕ
+accepted_stamps [] = []
+accepted_stamps (outcome ∷ outcomes) = stamp_in outcome ++ accepted_stamps outcomes
 
 -- The stamps are strictly ascending, and the first is greater than `last` if there is one.
 abbrev pub RiseFrom : Option ℕ → List ℕ → Type 0
@@ -45,16 +45,16 @@ RiseFrom last (stamp ∷ stamps) = IfSome last (λ l. l < stamp) × RiseFrom (So
 
 -- The base after a call with this answer: that of the keyed step if the answer is `Done`, otherwise
 -- `base`.
-abbrev pub moved_by : Base → ℕ → Call → Answer → Base
-moved_by base now (Do command key) (Done reply) = (keyed_step base now command key).1
-moved_by base now (Do command key) (Again line) = base
-moved_by base now (Do command key) (Refused refusal) = base
-moved_by base now (Ask query) answer = base
+abbrev pub base_after_answer : Base → ℕ → Call → Answer → Base
+base_after_answer base now (Do command key) (Done reply) = (keyed_step base now command key).1
+base_after_answer base now (Do command key) (Again line) = base
+base_after_answer base now (Do command key) (Refused refusal) = base
+base_after_answer base now (Ask query) answer = base
 
 -- The base after a call with this outcome: that of the keyed step if a command was accepted,
 -- otherwise `base`.
 abbrev pub moved : Base → ℕ → Call → Outcome → Base
-moved base now call (Did answer) = moved_by base now call answer
+moved base now call (Did answer) = base_after_answer base now call answer
 moved base now call (Saw view) = base
 moved base now call (NoView refusal) = base
 moved base now call (Failed fault) = base
@@ -66,8 +66,8 @@ accepted_after base (call ∷ calls) [] = base
 accepted_after base (call ∷ calls) (outcome ∷ outcomes) = accepted_after (moved base call.0 call.1 outcome) calls outcomes
 
 -- The call of a row of a batch, with its clock reading.
-abbrev pub call_of : RowCall Command → ℕ × Call
-call_of call = (call.now, Do call.command (Some call.key))
+abbrev pub call_of_row : RowCall Command → ℕ × Call
+call_of_row call = (call.now, Do call.command (Some call.key))
 
 -- The call is a command with this key, and it was accepted.
 abbrev pub IsDoneUnder : Key → Call → Outcome → Type 0
@@ -174,4 +174,4 @@ StandsAfter form name mid front more stood = (stood ≡ mid) ⊎ ((moment : ℕ)
 -- rows have the answers in `told`, at the clock readings `later`.
 pub record IsCompleted (form : Fields → Read Command) (name : Text) (base : Base) (earlier later : List ℕ) (rows : List Fields) (answers told : List Answer) (last : Base) : Type 0 where
   pub again : take (length answers) told ≡ map again_of answers
-  pub settled : AreSettled form row_step name base (earlier ++ drop (length earlier) later) rows (answers ++ drop (length answers) told) last
+  pub settled : AreDecided form row_step name base (earlier ++ drop (length earlier) later) rows (answers ++ drop (length answers) told) last

@@ -8,11 +8,11 @@ ghost use Rattle.brk_model.specs.Answers.{Fields, InTurn, RowCall};
 ghost use Rattle.brk_model.specs.Forms.{Read};
 ghost use Rattle.brk_model.specs.Parse.{parse_row};
 ghost use Rattle.brk_model.specs.Input.{Begins, header_of, text_of};
-ghost use Rattle.brk_model.specs.Batch.{AreSettled, Batch, BatchText, row_step};
+ghost use Rattle.brk_model.specs.Batch.{AreDecided, Batch, BatchText, row_step};
 ghost use Rattle.brk_model.specs.Lines.{count_refused};
-ghost use Rattle.brk_model.specs.Computed.{batch, told_whole};
+ghost use Rattle.brk_model.specs.Computed.{batch, complete_batch};
 ghost use Rattle.brk_model.specs.Run.{Did, Run};
-ghost use Rattle.brk_model_theorems.specs.Laws.{AreKeptAnswers, AreRemembered, IsBookedNext, IsCompleted, LeadsTo, StandsAfter, IsCleanBatch, again_of, answers_left, call_of, calls_left, done_answers, done_calls};
+ghost use Rattle.brk_model_theorems.specs.Laws.{AreKeptAnswers, AreRemembered, IsBookedNext, IsCompleted, LeadsTo, StandsAfter, IsCleanBatch, again_of, answers_left, call_of_row, calls_left, done_answers, done_calls};
 
 /// Proves that the batch that the function `batch` computes is the result of the input by the rows
 /// and the step of the brokerage, with the first `n` of the clock readings, for some `n`. It needs at
@@ -25,7 +25,7 @@ pub fn batch_is_computed()
 /// Proves that the well-formed rows of a batch are the calls of a run, each with its key.
 pub fn rows_are_calls()
     ensures { (base after : Base) (calls : List (RowCall Command)) (answers : List Answer) → InTurn row_step base calls answers after
-        → Run base (map call_of calls) (map Did answers) after }
+        → Run base (map call_of_row calls) (map Did answers) after }
 {}
 
 /// Proves that the retry of a complete batch that refused no row changes nothing and is answered
@@ -33,7 +33,7 @@ pub fn rows_are_calls()
 /// clock readings; the format check may be any.
 pub fn a_retried_batch_changes_nothing()
     ensures { (form : Fields → Read Command) (base later : Base) (moments others : List ℕ) (input : List ℕ) (answers : List Answer) (first second : Batch Base) → IsCleanBatch form base moments input answers first
-        → LeadsTo first.base later → BatchText form row_step later others input second → second ≡ told_whole (map again_of answers, later) }
+        → LeadsTo first.base later → BatchText form row_step later others input second → second ≡ complete_batch (map again_of answers, later) }
 {}
 
 /// Proves that the rows that a retry decides, of a complete batch that refused no row, change
@@ -43,7 +43,7 @@ pub fn rows_settled_again_change_nothing()
     ensures { (form : Fields → Read Command) (base later last : Base) (moments others : List ℕ) (input : List ℕ) (answers told : List Answer)
         (first : Batch Base) (name : List ℕ) (rows : List Fields) → IsCleanBatch form base moments input answers first
         → LeadsTo first.base later → Begins (Some (text_of input)) (header_of name ∷ rows)
-        → AreSettled form row_step name later others rows told last
+        → AreDecided form row_step name later others rows told last
         → (told ≡ map again_of (take (length rows) answers)) × (last ≡ later) }
 {}
 
@@ -73,10 +73,10 @@ pub fn two_attempts_are_one_run()
 /// stored lines.
 pub fn a_retried_batch_is_completed()
     ensures { (form : Fields → Read Command) (name : List ℕ) (base mid last : Base) (moments others : List ℕ) (front more : List Fields)
-        (answers told : List Answer) → count_refused answers ≡ 0 → AreSettled form row_step name base moments front answers mid
-        → AreSettled form row_step name mid others (front ++ more) told last
+        (answers told : List Answer) → count_refused answers ≡ 0 → AreDecided form row_step name base moments front answers mid
+        → AreDecided form row_step name mid others (front ++ more) told last
         → (take (length front) told ≡ map again_of answers)
-        × AreSettled form row_step name base (moments ++ drop (length moments) others) (front ++ more)
+        × AreDecided form row_step name base (moments ++ drop (length moments) others) (front ++ more)
         (answers ++ drop (length front) told) last }
 {}
 
@@ -86,8 +86,8 @@ pub fn a_retried_batch_is_completed()
 /// answer, or it is decided in the retry.
 pub fn a_stopped_batch_is_completed()
     ensures { (form : Fields → Read Command) (name : List ℕ) (base mid stood last : Base) (moments others : List ℕ) (front more : List Fields)
-        (answers told : List Answer) → count_refused answers ≡ 0 → AreSettled form row_step name base moments front answers mid
-        → StandsAfter form name mid front more stood → AreSettled form row_step name stood others (front ++ more) told last
+        (answers told : List Answer) → count_refused answers ≡ 0 → AreDecided form row_step name base moments front answers mid
+        → StandsAfter form name mid front more stood → AreDecided form row_step name stood others (front ++ more) told last
         → IsCompleted form name base moments others (front ++ more) answers told last
         ⊎ ((moment : ℕ) × (answer : Answer) × IsBookedNext form name mid front more moment answer stood
         × IsCompleted form name base (moments ++ moment ∷ []) others (front ++ more) (answers ++ answer ∷ []) told last) }

@@ -7,7 +7,7 @@ ghost use Rattle.brk_model.specs.Records.{Key};
 ghost use Rattle.brk_model.specs.Commands.{Again, Command, Refused};
 ghost use Rattle.brk_model.specs.Keyed.{keyed_step};
 ghost use Rattle.brk_model.specs.Run.{Call, Outcome, Run};
-ghost use Rattle.brk_model_theorems.specs.Laws.{RiseFrom, accepted_after, stamps_of};
+ghost use Rattle.brk_model_theorems.specs.Laws.{RiseFrom, accepted_after, accepted_stamps};
 
 /// Proves that a row that is refused, or answered with its stored line, leaves the base unchanged.
 pub fn others_leave_the_base()
@@ -23,5 +23,5 @@ pub fn accepted_commands_make_the_base()
 /// Proves that the stamps of a run's accepted commands are strictly ascending and greater than the
 /// last stamp before it.
 pub fn stamps_rise()
-    ensures { (base after : Base) (calls : List (ℕ × Call)) (outcomes : List Outcome) → Run base calls outcomes after → RiseFrom base.last (stamps_of outcomes) }
+    ensures { (base after : Base) (calls : List (ℕ × Call)) (outcomes : List Outcome) → Run base calls outcomes after → RiseFrom base.last (accepted_stamps outcomes) }
 {}

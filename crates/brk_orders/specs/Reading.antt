@@ -9,5 +9,5 @@ seen view (Ok x) = Ok (view x)
 seen view (Err refusal) = Err refusal
 
 -- Two lists that were parsed, appended, or the refusal of the first failing format check.
-abbrev pub joined : {X : Type 0} → Read (List X) → Read (List X) → Read (List X)
-joined front last = Ok (λ xs ys. xs ++ ys) ⊛ front ⊛ last
+abbrev pub joined_lists : {X : Type 0} → Read (List X) → Read (List X) → Read (List X)
+joined_lists front last = Ok (λ xs ys. xs ++ ys) ⊛ front ⊛ last

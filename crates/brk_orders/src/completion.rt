@@ -1,6 +1,6 @@
 ghost use Rattle.brk_model.specs.Parse.{read_result};
 ghost use Rattle.brk_orders.specs.Records.{result_of};
-ghost use Rattle.brk_ref.specs.Fields.{Reads, texts};
+ghost use Rattle.brk_ref.specs.Fields.{ParsesAs, texts};
 
 use brk_money::{Id, Price, Refusal};
 use brk_ref::{parse_id, parse_price};
@@ -19,7 +19,7 @@ pub struct Completion {
 /// Refuses with `BadText` (18) if there are not exactly two fields or TRADE is not an id, otherwise
 /// with `BadPrice` (9) if PRICE is not a price. Does not allocate.
 pub fn check_result(fields: &[&[u8]]) -> Result<Completion, Refusal>
-    ensures { Reads result_of result (read_result (texts fields.now)) }
+    ensures { ParsesAs result_of result (read_result (texts fields.now)) }
 {
     let [trade, price] = fields else {
         return Err(Refusal::BadText);

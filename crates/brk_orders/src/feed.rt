@@ -3,9 +3,9 @@ ghost use Rattle.brk_model.specs.Forms as forms;
 ghost use Rattle.brk_model.specs.Forms.{some_of};
 ghost use Rattle.brk_model.specs.Parse.{read_feed, read_ticks};
 ghost use Rattle.brk_money.specs.declared.fault.Fault.TheVariants.{Memory};
-ghost use Rattle.brk_orders.specs.Reading.{joined, seen};
+ghost use Rattle.brk_orders.specs.Reading.{joined_lists, seen};
 ghost use Rattle.brk_orders.specs.Records.{alone, items_of, ticks_of};
-ghost use Rattle.brk_ref.specs.Fields.{Reads, texts};
+ghost use Rattle.brk_ref.specs.Fields.{ParsesAs, texts};
 
 use crate::tick::{Tick, tick_from};
 use brk_money::{Planned, Refusal};
@@ -36,7 +36,7 @@ impl Feed {
     /// Returns the feed of these ticks. Refuses with `BadText` (18) if there are none, and with
     /// `TooMany` (20) if there are more than 20. Never allocates.
     pub fn new(ticks: Vec<Tick>) -> Result<Feed, Refusal>
-        ensures { Reads ticks_of result (some_of (ticks_of ticks.items)) }
+        ensures { ParsesAs ticks_of result (some_of (ticks_of ticks.items)) }
     {
         if ticks.is_empty() {
             return Err(Refusal::BadText);
@@ -82,7 +82,7 @@ fn first_of(one: Refusal, other: Refusal) -> Refusal
 // Appends one tick to ticks that were parsed, or returns the refusal of the format check that comes
 // first.
 fn with_tick(ticks: Result<Vec<Tick>, Refusal>, tick: Result<Tick, Refusal>) -> Planned<Vec<Tick>>
-    ensures read { IfOk result (λ read. seen items_of read ≡ joined (seen items_of ticks) (seen alone tick)) }
+    ensures read { IfOk result (λ read. seen items_of read ≡ joined_lists (seen items_of ticks) (seen alone tick)) }
     ensures fault { OnErr result (result ≡ Err Memory) }
 {
     match (ticks, tick) {
@@ -99,7 +99,7 @@ fn with_tick(ticks: Result<Vec<Tick>, Refusal>, tick: Result<Tick, Refusal>) -> 
 // Parses the texts of ticks, three for each. All are checked, and the refusal is that of the first
 // failing format check, of whichever tick.
 fn ticks_from(alloc: Global, fields: &[&[u8]]) -> Planned<Vec<Tick>>
-    ensures read { IfOk result (λ read. Reads items_of read (read_ticks (texts fields.now))) }
+    ensures read { IfOk result (λ read. ParsesAs items_of read (read_ticks (texts fields.now))) }
     ensures fault { OnErr result (result ≡ Err Memory) }
 {
     let mut ticks = Ok(Vec::new(alloc));
@@ -121,7 +121,7 @@ fn ticks_from(alloc: Global, fields: &[&[u8]]) -> Planned<Vec<Tick>>
 /// with `BadPrice` (9) for a price, and with `TooMany` (20) for more than 20 ticks. All fields are
 /// checked before the number of ticks; no tick at all is `BadText`.
 pub fn check_feed(alloc: Global, fields: &[&[u8]]) -> Planned<Feed>
-    ensures read { IfOk result (λ read. Reads ticks_of read (read_feed (texts fields.now))) }
+    ensures read { IfOk result (λ read. ParsesAs ticks_of read (read_feed (texts fields.now))) }
     ensures fault { OnErr result (result ≡ Err Memory) }
 {
     match ticks_from(alloc, fields)? {

@@ -3,7 +3,7 @@ ghost use Rattle.std.specs.Option.{ok_or};
 ghost use Rattle.brk_model.specs.Forms.{read_day};
 ghost use Rattle.brk_model.specs.Parse.{read_oneday};
 ghost use Rattle.brk_money.specs.declared.refusal.Refusal.TheVariants.{BadText};
-ghost use Rattle.brk_ref.specs.Fields.{Reads, texts};
+ghost use Rattle.brk_ref.specs.Fields.{ParsesAs, texts};
 
 use brk_money::{Day, Refusal, parse_day};
 
@@ -25,7 +25,7 @@ fn calendar_day(bytes: &[u8]) -> Option<Day>
 /// Refuses with `BadText` if there is not exactly one field, or if it is not a day of the calendar.
 /// Does not allocate.
 pub fn check_oneday(fields: &[&[u8]]) -> Result<Day, Refusal>
-    ensures { Reads (λ day. day) result (read_oneday (texts fields.now)) }
+    ensures { ParsesAs (λ day. day) result (read_oneday (texts fields.now)) }
 {
     let [day] = fields else {
         return Err(Refusal::BadText);

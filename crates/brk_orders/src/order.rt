@@ -7,7 +7,7 @@ ghost use Rattle.brk_money.specs.declared.fault.Fault.TheVariants.{Memory};
 ghost use Rattle.brk_money.specs.declared.refusal.Refusal.TheVariants.{BadText};
 ghost use Rattle.brk_orders.specs.Records.{order_of, told_texts};
 ghost use Rattle.brk_ref.specs.Records.{executor_of};
-ghost use Rattle.brk_ref.specs.Fields.{Reads, texts};
+ghost use Rattle.brk_ref.specs.Fields.{ParsesAs, texts};
 
 use brk_money::{Fault, Id, OrderType, Planned, Price, Qty, Refusal, TradeType};
 use brk_ref::{Executor, Name, Symbol, TaxId, parse_id, parse_price, parse_qty, parse_type};
@@ -134,7 +134,7 @@ fn order_type_for(kind: Option<TradeType>, price: &[u8]) -> Result<OrderType, Re
 
 // Parses the fields of an order.
 fn order_from(alloc: Global, told: Told<'_>) -> Planned<Order>
-    ensures read { IfOk result (λ read. Reads order_of read (read_order (told_texts told.entry))) }
+    ensures read { IfOk result (λ read. ParsesAs order_of read (read_order (told_texts told.entry))) }
     ensures fault { OnErr result (result ≡ Err Memory) }
 {
     let Some(account) = parse_id(told.account) else {
@@ -177,7 +177,7 @@ fn order_from(alloc: Global, told: Told<'_>) -> Planned<Order>
 /// Refuses with `BadText` (18) for a malformed text, otherwise with `BadQty` (8) for the quantity,
 /// with `BadPrice` (9) for the price, and with `BadType` (7) for the type.
 pub fn check_order(alloc: Global, fields: &[&[u8]]) -> Planned<Order>
-    ensures read { IfOk result (λ read. Reads order_of read (read_order (texts fields.now))) }
+    ensures read { IfOk result (λ read. ParsesAs order_of read (read_order (texts fields.now))) }
     ensures fault { OnErr result (result ≡ Err Memory) }
 {
     let [

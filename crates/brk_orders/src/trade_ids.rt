@@ -3,7 +3,7 @@ ghost use Rattle.brk_model.specs.Forms.{distinct_ids, read_each, read_id, read_i
 ghost use Rattle.brk_model.specs.Lists.{all_distinct, contains_number};
 ghost use Rattle.brk_money.specs.declared.fault.Fault.TheVariants.{Memory};
 ghost use Rattle.brk_orders.specs.Records.{ids_in};
-ghost use Rattle.brk_ref.specs.Fields.{Reads, texts};
+ghost use Rattle.brk_ref.specs.Fields.{ParsesAs, texts};
 
 use brk_money::{Id, Planned, Refusal};
 use brk_ref::parse_id;
@@ -34,7 +34,7 @@ impl TradeIds {
     /// Returns these trades. Refuses with `BadText` (18) if there are none or one is named twice,
     /// and with `TooMany` (20) if there are more than 20. Never allocates.
     pub fn new(ids: Vec<Id>) -> Result<TradeIds, Refusal>
-        ensures { Reads (λ trades. trades) result (distinct_ids ids.items) }
+        ensures { ParsesAs (λ trades. trades) result (distinct_ids ids.items) }
     {
         if !are_distinct(&ids) {
             return Err(Refusal::BadText);
@@ -77,7 +77,7 @@ fn are_distinct(ids: &[Id]) -> bool
 
 // Parses the ids of trades.
 fn ids_from(alloc: Global, fields: &[&[u8]]) -> Planned<Vec<Id>>
-    ensures read { IfOk result (λ read. Reads ids_in read (read_each read_id (texts fields.now))) }
+    ensures read { IfOk result (λ read. ParsesAs ids_in read (read_each read_id (texts fields.now))) }
     ensures fault { OnErr result (result ≡ Err Memory) }
 {
     let mut ids = Vec::new(alloc);
@@ -95,7 +95,7 @@ fn ids_from(alloc: Global, fields: &[&[u8]]) -> Planned<Vec<Id>>
 /// Refuses with `BadText` (18) if a field is malformed, if an id is named twice, or if there are
 /// none. Otherwise refuses with `TooMany` (20) if there are more than 20.
 pub fn check_ids(alloc: Global, fields: &[&[u8]]) -> Planned<TradeIds>
-    ensures read { IfOk result (λ read. Reads (λ trades. trades) read (read_ids (texts fields.now))) }
+    ensures read { IfOk result (λ read. ParsesAs (λ trades. trades) read (read_ids (texts fields.now))) }
     ensures fault { OnErr result (result ≡ Err Memory) }
 {
     match ids_from(alloc, fields)? {

@@ -4,7 +4,7 @@ ghost use Rattle.brk_model.specs.Forms.{read_ids};
 ghost use Rattle.brk_model.specs.Parse.{read_as, read_upcash, read_uptext};
 ghost use Rattle.brk_money.specs.declared.fault.Fault.TheVariants.{Memory};
 ghost use Rattle.brk_orders.specs.Records.{update_of};
-ghost use Rattle.brk_ref.specs.Fields.{Reads, texts};
+ghost use Rattle.brk_ref.specs.Fields.{ParsesAs, texts};
 
 use crate::span::{Span, parse_stamp};
 use crate::trade_ids::{TradeIds, check_ids};
@@ -27,7 +27,7 @@ pub enum Update {
 /// Reads an update of executors' names from the fields, 1 to 20 distinct ids of trades, or returns
 /// the refusal of malformed fields. Fails with `Memory` only.
 pub fn check_upname(alloc: Global, fields: &[&[u8]]) -> Planned<Update>
-    ensures read { IfOk result (λ read. Reads update_of read (read_as ChangeExecutors read_ids (texts fields.now))) }
+    ensures read { IfOk result (λ read. ParsesAs update_of read (read_as ChangeExecutors read_ids (texts fields.now))) }
     ensures fault { OnErr result (result ≡ Err Memory) }
 {
     match check_ids(alloc, fields)? {
@@ -39,7 +39,7 @@ pub fn check_upname(alloc: Global, fields: &[&[u8]]) -> Planned<Update>
 /// Reads an update of cash types from the fields ACCOUNT, FROM and TO, or returns the refusal of
 /// malformed fields. Never allocates.
 pub fn check_upcash(fields: &[&[u8]]) -> Result<Update, Refusal>
-    ensures { Reads update_of result (read_upcash (texts fields.now)) }
+    ensures { ParsesAs update_of result (read_upcash (texts fields.now)) }
 {
     let [account, first, last] = fields else {
         return Err(Refusal::BadText);
@@ -60,7 +60,7 @@ pub fn check_upcash(fields: &[&[u8]]) -> Result<Update, Refusal>
 /// Reads an update of cash texts from the fields SYMBOL, FROM and TO, or returns the refusal of
 /// malformed fields. Fails with `Memory` only.
 pub fn check_uptext(alloc: Global, fields: &[&[u8]]) -> Planned<Update>
-    ensures read { IfOk result (λ read. Reads update_of read (read_uptext (texts fields.now))) }
+    ensures read { IfOk result (λ read. ParsesAs update_of read (read_uptext (texts fields.now))) }
     ensures fault { OnErr result (result ≡ Err Memory) }
 {
     let [symbol, first, last] = fields else {

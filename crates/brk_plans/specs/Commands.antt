@@ -5,13 +5,13 @@ use Rattle.brk_plans.specs.declared.reference.Reference.{Reference}
 use Rattle.brk_plans.specs.declared.reference.Reference.TheVariants as reference
 
 -- The model's command that adds the record.
-abbrev pub command_of : Reference → Command
-command_of (reference.Broker broker) = AddBroker (broker_of broker)
-command_of (reference.Customer customer) = AddCustomer (customer_of customer)
-command_of (reference.Account account) = AddAccount (account_of account)
-command_of (reference.Permission permission) = AddPermission (permission_of permission)
-command_of (reference.Security listing) = AddSecurity (listing_of listing)
-command_of (reference.Charge charge) = AddCharge (charge_of charge)
-command_of (reference.Band band) = AddBand (band_of band)
-command_of (reference.TaxRate tax) = AddTaxRate (tax_of tax)
-command_of (reference.CustomerTax pays) = AddCustomerTax (customer_tax_of pays)
+abbrev pub adding_command : Reference → Command
+adding_command (reference.Broker broker) = AddBroker (broker_of broker)
+adding_command (reference.Customer customer) = AddCustomer (customer_of customer)
+adding_command (reference.Account account) = AddAccount (account_of account)
+adding_command (reference.Permission permission) = AddPermission (permission_of permission)
+adding_command (reference.Security listing) = AddSecurity (listing_of listing)
+adding_command (reference.Charge charge) = AddCharge (charge_of charge)
+adding_command (reference.Band band) = AddBand (band_of band)
+adding_command (reference.TaxRate tax) = AddTaxRate (tax_of tax)
+adding_command (reference.CustomerTax pays) = AddCustomerTax (customer_tax_of pays)

@@ -57,16 +57,16 @@ abbrev pub span_of : Tick → List Tick → Span
 span_of first others = fold (widened_by first.symbol) (record { lowest = first.price; highest = first.price }) others
 
 -- True if the price triggers the request.
-abbrev pub is_triggered : ℕ → RequestRow → Bool
-is_triggered price request = triggers request.kind request.bid price
+abbrev pub is_request_triggered : ℕ → RequestRow → Bool
+is_request_triggered price request = triggers request.kind request.bid price
 
 -- The trades of the requests that the price triggers, in the order of the requests.
 abbrev pub triggered_at : ℕ → List RequestRow → List ℕ
-triggered_at price requests = map (λ r. r.trade) (filter (is_triggered price) requests)
+triggered_at price requests = map (λ r. r.trade) (filter (is_request_triggered price) requests)
 
 -- The requests that the price does not trigger.
 abbrev pub waiting_at : ℕ → List RequestRow → List RequestRow
-waiting_at price requests = filter (λ r. not (is_triggered price r)) requests
+waiting_at price requests = filter (λ r. not (is_request_triggered price r)) requests
 
 -- The last trade of a symbol after a tick of it: the price, the stamp, and the volume plus the
 -- quantity.

@@ -25,8 +25,8 @@ signed_by Deposit amount = pos amount
 signed_by Withdrawal amount = neg_ℤ (pos amount)
 
 -- The amount of the movement in cents, negative for a withdrawal.
-abbrev pub signed : Movement → ℤ
-signed m = signed_by m.direction m.amount
+abbrev pub signed_amount : Movement → ℤ
+signed_amount m = signed_by m.direction m.amount
 
 -- The text of the cash row (CM_NAME).
 abbrev pub name_of : Direction → Text
@@ -34,18 +34,18 @@ name_of Deposit = codes "Deposit"
 name_of Withdrawal = codes "Withdrawal"
 
 -- The balance of the account after the movement.
-abbrev pub balance_after : Movement → MoveFound → ℤ
-balance_after m found = unwrap_or found.balance (pos 0) +ℤ signed m
+abbrev pub moved_balance : Movement → MoveFound → ℤ
+moved_balance m found = unwrap_or found.balance (pos 0) +ℤ signed_amount m
 
 -- The checks of a movement against the facts in the tables.
 abbrev pub move_tests : Movement → MoveFound → List Test
 move_tests m found =
-    (is_none found.balance, NoAccount) ∷ (nat_lt greatest_amount (nat_abs (balance_after m found)), Range limit.Balance)
+    (is_none found.balance, NoAccount) ∷ (nat_lt greatest_amount (nat_abs (moved_balance m found)), Range limit.Balance)
     ∷ (nat_le greatest_id found.movements, Range limit.Moves) ∷ []
 
 -- The cash row of a movement.
-abbrev pub move_row : Movement → (number stamp : ℕ) → tables.MoveRow
-move_row m number stamp = record { id = number; account = m.account; trade = None; stamp = stamp; amount = signed m; name = name_of m.direction }
+abbrev pub planned_move_row : Movement → (number stamp : ℕ) → tables.MoveRow
+planned_move_row m number stamp = record { id = number; account = m.account; trade = None; stamp = stamp; amount = signed_amount m; name = name_of m.direction }
 
 -- The row changes of a movement: its cash row, the balance of the account, and the last stamp.
 abbrev pub move_changes : ℕ → MoveRow → ℤ → ℕ → List Change
@@ -55,7 +55,7 @@ move_changes account row balance stamp = change.AddMove row ∷ change.SetBalanc
 -- stamp. Its reply has the stamp, the number and the balance.
 pub record IsMoved (m : Movement) (number : ℕ) (balance : ℤ) (stamp : ℕ) (plan : Plan) : Type 0 where
   pub row : MoveRow
-  pub posted : move_row_of row ≡ move_row m number stamp
+  pub posted : move_row_of row ≡ planned_move_row m number stamp
   pub told : plan.reply ≡ reply.Moved stamp number balance
   pub changes : plan.changes.items ≡ move_changes m.account row balance stamp
 
@@ -65,4 +65,4 @@ pub record IsMove (m : Movement) (found : MoveFound) (last : Option ℕ) (now : 
   pub stamp : ℕ
   pub accepted : first_refusal (move_tests m found ++ clock_test last now ∷ []) ≡ None
   pub stamped : stamp_after last now ≡ Some stamp
-  pub moves : IsMoved m found.next (balance_after m found) stamp plan
+  pub moves : IsMoved m found.next (moved_balance m found) stamp plan

@@ -41,8 +41,8 @@ reply_of (reply.Changed stamp count) = Changed stamp count
 reply_of (reply.Moved stamp number balance) = MovedCash stamp number balance
 
 -- The program's estimate with the figures of the model's estimate `e`.
-abbrev pub told : model.Estimate → Estimate
-told e = record {
+abbrev pub estimate_with : model.Estimate → Estimate
+estimate_with e = record {
   price = e.price;
   buy_value = e.buy_value;
   sell_value = e.sell_value;

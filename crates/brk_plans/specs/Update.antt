@@ -23,23 +23,23 @@ use Rattle.brk_plans.specs.declared.plan.Plan.{Plan}
 use Rattle.brk_plans.specs.declared.reply.Reply.TheVariants.{Changed}
 
 -- The other settlement text of a cash trade (`is_cash`) or of a margin trade.
-abbrev pub changed_cash_type : Bool → Text → Text
-changed_cash_type is_cash word =
+abbrev pub cash_type_anew : Bool → Text → Text
+cash_type_anew is_cash word =
     if is_cash then other_word (codes "Cash Account") (codes "Cash") word else other_word (codes "Margin Account") (codes "Margin") word
 
 -- The cash text of a trade: its type, its quantity, `words` and the name of its security.
-abbrev pub cash_text : Text → TradeType → ℕ → Text → Text
-cash_text words kind qty security = type_name kind ++ 32 ∷ decimal qty ++ words ++ security
+abbrev pub cash_text_with : Text → TradeType → ℕ → Text → Text
+cash_text_with words kind qty security = type_name kind ++ 32 ∷ decimal qty ++ words ++ security
 
 -- The new cash text of a trade: with " Shares of " if `name` contains " shares of ", otherwise with
 -- " shares of ".
 abbrev pub text_anew : TradeType → ℕ → Text → Text → Text
 text_anew kind qty security name =
-    if holds_text (codes " shares of ") name then cash_text (codes " Shares of ") kind qty security else cash_text (codes " shares of ") kind qty security
+    if holds_text (codes " shares of ") name then cash_text_with (codes " Shares of ") kind qty security else cash_text_with (codes " shares of ") kind qty security
 
 -- The new cash text of a trade of the security with this name.
-abbrev pub changed_cash_name : Text → CashText → Text
-changed_cash_name security p = text_anew p.kind p.qty security (string_bytes p.name)
+abbrev pub cash_name_anew : Text → CashText → Text
+cash_name_anew security p = text_anew p.kind p.qty security (string_bytes p.name)
 
 -- The refusal if what the update names does not exist.
 abbrev pub missing : told.Update → Refusal
@@ -57,11 +57,11 @@ executor_set trade = with_executor trade.id (changed_executor (string_bytes trad
 
 -- The update of the settlement text of a trade.
 abbrev pub cash_type_set : SettlementText → Tables → Tables
-cash_type_set s = with_cash_type s.trade (changed_cash_type s.is_cash (cash_type_word s.cash_type))
+cash_type_set s = with_cash_type s.trade (cash_type_anew s.is_cash (cash_type_word s.cash_type))
 
 -- The update of the cash text of a trade.
 abbrev pub cash_name_set : Text → CashText → Tables → Tables
-cash_name_set security p = with_cash_name p.trade (changed_cash_name security p)
+cash_name_set security p = with_cash_name p.trade (cash_name_anew security p)
 
 -- The updates of the tables, trade by trade.
 abbrev pub words_set : TextUpdate → List (Tables → Tables)

@@ -28,7 +28,7 @@ pub struct MoveFound {
 
 // Returns the amount in cents, negative for a withdrawal.
 fn signed(movement: &Movement) -> Cents
-    ensures { result ≡ spec.signed movement.now }
+    ensures { result ≡ spec.signed_amount movement.now }
 {
     let cents = movement.amount.get() as i64;
     let cents = match movement.direction {
@@ -60,7 +60,7 @@ pub fn added(balance: Cents, amount: Cents) -> Option<Cents>
 // Returns the balance after the movement, or the first refusal that applies.
 fn balance_after(movement: &Movement, found: &MoveFound) -> Result<Cents, Refusal>
     ensures { MatchResult result
-        (λ balance. (first_refusal (move_tests movement.now found.now) ≡ None) × (balance ≡ spec.balance_after movement.now found.now))
+        (λ balance. (first_refusal (move_tests movement.now found.now) ≡ None) × (balance ≡ spec.moved_balance movement.now found.now))
         (λ refusal. first_refusal (move_tests movement.now found.now) ≡ Some refusal) }
 {
     let Some(balance) = found.balance else {
@@ -82,7 +82,7 @@ fn move_row(
     number: MoveId,
     stamp: Stamp,
 ) -> Result<MoveRow, AllocError>
-    ensures { IfOk result (λ row. move_row_of row ≡ spec.move_row movement.now number stamp) }
+    ensures { IfOk result (λ row. move_row_of row ≡ spec.planned_move_row movement.now number stamp) }
 {
     Ok(MoveRow {
         id: number,

@@ -49,7 +49,7 @@ pub fn changed_executor(alloc: Global, name: &str) -> Result<String, AllocError>
 
 /// Returns the other settlement text of a cash trade (`is_cash`) or of a margin trade.
 pub fn changed_cash_type(is_cash: bool, cash_type: CashType) -> CashType
-    ensures { cash_type_word result ≡ spec.changed_cash_type is_cash (cash_type_word cash_type) }
+    ensures { cash_type_word result ≡ spec.cash_type_anew is_cash (cash_type_word cash_type) }
 {
     match (is_cash, cash_type) {
         (true, CashType::CashAccount) => CashType::Cash,
@@ -73,7 +73,7 @@ fn cash_text(
     words: &str,
     security: &Name,
 ) -> Result<String, AllocError>
-    ensures { IfOk result (λ text. string_bytes text ≡ spec.cash_text words.now paid.now.kind paid.now.qty security.now) }
+    ensures { IfOk result (λ text. string_bytes text ≡ spec.cash_text_with words.now paid.now.kind paid.now.qty security.now) }
 {
     let mut text = String::from_str(alloc, paid.kind.name())?;
     add_shares(&mut text, paid.qty, words)?;
@@ -88,7 +88,7 @@ pub fn changed_cash_name(
     paid: &CashText,
     security: &Name,
 ) -> Result<String, AllocError>
-    ensures { IfOk result (λ text. string_bytes text ≡ spec.changed_cash_name security.now paid.now) }
+    ensures { IfOk result (λ text. string_bytes text ≡ spec.cash_name_anew security.now paid.now) }
 {
     if holds(paid.name.as_str(), " shares of ") {
         cash_text(alloc, paid, " Shares of ", security)

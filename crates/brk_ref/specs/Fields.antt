@@ -11,6 +11,6 @@ texts fields = map (λ (field : Bor (List ℕ)). field.now) fields
 
 -- The parser agrees with the model: `wanted` is the record that was parsed, seen by `view`, or the
 -- same refusal.
-abbrev pub Reads : {A B : Type 0} → (A → B) → Result A Refusal → Read B → Type 0
-Reads view (Ok x) wanted = wanted ≡ Ok (view x)
-Reads view (Err refusal) wanted = wanted ≡ Err refusal
+abbrev pub ParsesAs : {A B : Type 0} → (A → B) → Result A Refusal → Read B → Type 0
+ParsesAs view (Ok x) wanted = wanted ≡ Ok (view x)
+ParsesAs view (Err refusal) wanted = wanted ≡ Err refusal

@@ -2,7 +2,7 @@ ghost use Rattle.std.specs.Prelude.{◌≡◌, ◌∷◌, [], IfOk, OnErr, Err};
 ghost use Rattle.brk_model.specs.Parse.{read_account};
 ghost use Rattle.brk_money.specs.declared.fault.Fault.TheVariants.{Memory};
 ghost use Rattle.brk_ref.specs.Records.{account_of};
-ghost use Rattle.brk_ref.specs.Fields.{Reads, texts};
+ghost use Rattle.brk_ref.specs.Fields.{ParsesAs, texts};
 
 use crate::name::Name;
 use crate::numbers::{parse_id, parse_opening, parse_tax_status};
@@ -38,7 +38,7 @@ fn account_from(
     tax_status: &[u8],
     opening: &[u8],
 ) -> Planned<Account>
-    ensures read { IfOk result (λ read. Reads account_of read (read_account (id.now ∷ customer.now ∷ broker.now ∷ name.now ∷ tax_status.now ∷ opening.now ∷ []))) }
+    ensures read { IfOk result (λ read. ParsesAs account_of read (read_account (id.now ∷ customer.now ∷ broker.now ∷ name.now ∷ tax_status.now ∷ opening.now ∷ []))) }
     ensures fault { OnErr result (result ≡ Err Memory) }
 {
     let Some(id) = parse_id(id) else {
@@ -77,7 +77,7 @@ fn account_on(
     broker: &[u8],
     terms: &[&[u8]],
 ) -> Planned<Account>
-    ensures read { IfOk result (λ read. Reads account_of read (read_account (id.now ∷ customer.now ∷ broker.now ∷ texts terms.now))) }
+    ensures read { IfOk result (λ read. ParsesAs account_of read (read_account (id.now ∷ customer.now ∷ broker.now ∷ texts terms.now))) }
     ensures fault { OnErr result (result ≡ Err Memory) }
 {
     let [name, tax_status, opening] = terms else {
@@ -89,7 +89,7 @@ fn account_on(
 /// Parses the fields ID, CUSTOMER, BROKER, NAME, TAXST and OPENING of an account, or returns the
 /// refusal of malformed fields. Fails with `Memory` only.
 pub fn check_account(alloc: Global, fields: &[&[u8]]) -> Planned<Account>
-    ensures read { IfOk result (λ read. Reads account_of read (read_account (texts fields.now))) }
+    ensures read { IfOk result (λ read. ParsesAs account_of read (read_account (texts fields.now))) }
     ensures fault { OnErr result (result ≡ Err Memory) }
 {
     let [id, customer, broker, terms @ ..] = fields else {

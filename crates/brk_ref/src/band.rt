@@ -6,7 +6,7 @@ ghost use Rattle.brk_model.specs.Tests.{bands_meet};
 ghost use Rattle.brk_money.specs.declared.fault.Fault.TheVariants.{Memory};
 ghost use Rattle.brk_money.specs.declared.refusal.Refusal.TheVariants.{BadQty};
 ghost use Rattle.brk_ref.specs.Records.{band_of};
-ghost use Rattle.brk_ref.specs.Fields.{Reads, texts};
+ghost use Rattle.brk_ref.specs.Fields.{ParsesAs, texts};
 
 use crate::exchange::Exchange;
 use crate::numbers::{parse_qty, parse_rate};
@@ -54,7 +54,7 @@ fn band_from(
     high: &[u8],
     rate: &[u8],
 ) -> Planned<Band>
-    ensures read { IfOk result (λ read. Reads band_of read (read_band (tier.now ∷ kind.now ∷ exchange.now ∷ low.now ∷ high.now ∷ rate.now ∷ []))) }
+    ensures read { IfOk result (λ read. ParsesAs band_of read (read_band (tier.now ∷ kind.now ∷ exchange.now ∷ low.now ∷ high.now ∷ rate.now ∷ []))) }
     ensures fault { OnErr result (result ≡ Err Memory) }
 {
     let Some(tier) = Tier::parse(tier) else {
@@ -90,7 +90,7 @@ fn band_on(
     exchange: &[u8],
     terms: &[&[u8]],
 ) -> Planned<Band>
-    ensures read { IfOk result (λ read. Reads band_of read (read_band (tier.now ∷ kind.now ∷ exchange.now ∷ texts terms.now))) }
+    ensures read { IfOk result (λ read. ParsesAs band_of read (read_band (tier.now ∷ kind.now ∷ exchange.now ∷ texts terms.now))) }
     ensures fault { OnErr result (result ≡ Err Memory) }
 {
     let [low, high, rate] = terms else {
@@ -102,7 +102,7 @@ fn band_on(
 /// Parses the fields TIER, TYPE, EXCHANGE, FROM, TO and RATE of a band, or returns the refusal of
 /// malformed fields. Fails with `Memory` only.
 pub fn check_band(alloc: Global, fields: &[&[u8]]) -> Planned<Band>
-    ensures read { IfOk result (λ read. Reads band_of read (read_band (texts fields.now))) }
+    ensures read { IfOk result (λ read. ParsesAs band_of read (read_band (texts fields.now))) }
     ensures fault { OnErr result (result ≡ Err Memory) }
 {
     let [tier, kind, exchange, terms @ ..] = fields else {

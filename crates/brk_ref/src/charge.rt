@@ -1,7 +1,7 @@
 ghost use Rattle.std.specs.Prelude.{◌∷◌, []};
 ghost use Rattle.brk_model.specs.Parse.{read_charge};
 ghost use Rattle.brk_ref.specs.Records.{charge_of};
-ghost use Rattle.brk_ref.specs.Fields.{Reads, texts};
+ghost use Rattle.brk_ref.specs.Fields.{ParsesAs, texts};
 
 use crate::charge_amount::ChargeAmount;
 use crate::numbers::parse_charge_amount;
@@ -19,7 +19,7 @@ pub struct Charge {
 
 // Parses the fields of a charge.
 fn charge_from(kind: &[u8], tier: &[u8], amount: &[u8]) -> Result<Charge, Refusal>
-    ensures { Reads charge_of result (read_charge (kind.now ∷ tier.now ∷ amount.now ∷ [])) }
+    ensures { ParsesAs charge_of result (read_charge (kind.now ∷ tier.now ∷ amount.now ∷ [])) }
 {
     let Some(tier) = Tier::parse(tier) else {
         return Err(Refusal::BadText);
@@ -36,7 +36,7 @@ fn charge_from(kind: &[u8], tier: &[u8], amount: &[u8]) -> Result<Charge, Refusa
 /// Parses the fields TYPE, TIER and AMOUNT of a charge, or returns the refusal of malformed fields.
 /// Never allocates.
 pub fn check_charge(fields: &[&[u8]]) -> Result<Charge, Refusal>
-    ensures { Reads charge_of result (read_charge (texts fields.now)) }
+    ensures { ParsesAs charge_of result (read_charge (texts fields.now)) }
 {
     let [kind, tier, amount] = fields else {
         return Err(Refusal::BadText);

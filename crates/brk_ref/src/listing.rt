@@ -2,7 +2,7 @@ ghost use Rattle.std.specs.Prelude.{◌≡◌, ◌∷◌, [], IfOk, OnErr, Err};
 ghost use Rattle.brk_model.specs.Parse.{read_security};
 ghost use Rattle.brk_money.specs.declared.fault.Fault.TheVariants.{Memory};
 ghost use Rattle.brk_ref.specs.Records.{listing_of};
-ghost use Rattle.brk_ref.specs.Fields.{Reads, texts};
+ghost use Rattle.brk_ref.specs.Fields.{ParsesAs, texts};
 
 use crate::exchange::Exchange;
 use crate::name::Name;
@@ -28,7 +28,7 @@ fn listing_from(
     sector: &[u8],
     price: &[u8],
 ) -> Planned<Listing>
-    ensures read { IfOk result (λ read. Reads listing_of read (read_security (symbol.now ∷ name.now ∷ exchange.now ∷ sector.now ∷ price.now ∷ []))) }
+    ensures read { IfOk result (λ read. ParsesAs listing_of read (read_security (symbol.now ∷ name.now ∷ exchange.now ∷ sector.now ∷ price.now ∷ []))) }
     ensures fault { OnErr result (result ≡ Err Memory) }
 {
     let Some(symbol) = Symbol::parse(alloc, symbol)? else {
@@ -58,7 +58,7 @@ fn listing_from(
 /// Parses the fields SYMBOL, NAME, EXCHANGE, SECTOR and PRICE of a listing, or returns the refusal
 /// of malformed fields. Fails with `Memory` only.
 pub fn check_security(alloc: Global, fields: &[&[u8]]) -> Planned<Listing>
-    ensures read { IfOk result (λ read. Reads listing_of read (read_security (texts fields.now))) }
+    ensures read { IfOk result (λ read. ParsesAs listing_of read (read_security (texts fields.now))) }
     ensures fault { OnErr result (result ≡ Err Memory) }
 {
     let [symbol, name, exchange, sector, price] = fields else {

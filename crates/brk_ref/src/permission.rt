@@ -3,7 +3,7 @@ ghost use Rattle.brk_model.specs.Orders as orders;
 ghost use Rattle.brk_model.specs.Parse.{read_permission};
 ghost use Rattle.brk_money.specs.declared.fault.Fault.TheVariants.{Memory};
 ghost use Rattle.brk_ref.specs.Records.{customer_of, executor_of, permission_of};
-ghost use Rattle.brk_ref.specs.Fields.{Reads, texts};
+ghost use Rattle.brk_ref.specs.Fields.{ParsesAs, texts};
 
 use crate::acl::Acl;
 use crate::customer::Customer;
@@ -34,7 +34,7 @@ fn permission_from(
     last_name: &[u8],
     first_name: &[u8],
 ) -> Planned<Permission>
-    ensures read { IfOk result (λ read. Reads permission_of read (read_permission (account.now ∷ acl.now ∷ tax_id.now ∷ last_name.now ∷ first_name.now ∷ []))) }
+    ensures read { IfOk result (λ read. ParsesAs permission_of read (read_permission (account.now ∷ acl.now ∷ tax_id.now ∷ last_name.now ∷ first_name.now ∷ []))) }
     ensures fault { OnErr result (result ≡ Err Memory) }
 {
     let Some(account) = parse_id(account) else {
@@ -64,7 +64,7 @@ fn permission_from(
 /// Parses the fields ACCOUNT, ACL, TAXID, LAST and FIRST of a permission, or returns the refusal of
 /// malformed fields. Fails with `Memory` only.
 pub fn check_permission(alloc: Global, fields: &[&[u8]]) -> Planned<Permission>
-    ensures read { IfOk result (λ read. Reads permission_of read (read_permission (texts fields.now))) }
+    ensures read { IfOk result (λ read. ParsesAs permission_of read (read_permission (texts fields.now))) }
     ensures fault { OnErr result (result ≡ Err Memory) }
 {
     let [account, acl, tax_id, last_name, first_name] = fields else {

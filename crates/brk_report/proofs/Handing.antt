@@ -8,7 +8,7 @@ use Rattle.brk_money.specs.declared.fault.Fault.TheVariants as fault
 use Rattle.brk_model.specs.Run.{MayFail}
 use Rattle.brk_model.specs.Statement.{lines_text}
 use Rattle.brk_model.specs.Tables.{Tables}
-use Rattle.brk_report_lines.specs.Written.{BreaksIn, Writes}
+use Rattle.brk_report_lines.specs.Written.{BreaksIn, WritesLines}
 use Rattle.brk_report_lines.specs.declared.fault.LinesFault.{LinesFault}
 use Rattle.brk_report_lines.specs.declared.fault.LinesFault.TheVariants.{Desk}
 use Rattle.brk_report.specs.Parts.{WritesDays, days_lines}
@@ -24,7 +24,7 @@ pub on_err : {Y : Type 0} (P : LinesFault → Type 0) (outer : Result Y LinesFau
 on_err P (Err out) e is h = subst P (sym is) h
 on_err P (Ok y) e is h = absurd is
 
-pub breaks_as : {Y : Type 0} (lines : List Text) (a b : Option Text) (outer : Result Y LinesFault) (e : LinesFault) → IsErrAnd outer (λ out. out ≡ e) → BreaksIn lines a b e → Writes lines a b outer
+pub breaks_as : {Y : Type 0} (lines : List Text) (a b : Option Text) (outer : Result Y LinesFault) (e : LinesFault) → IsErrAnd outer (λ out. out ≡ e) → BreaksIn lines a b e → WritesLines lines a b outer
 breaks_as lines a b (Err out) e is h = subst (BreaksIn lines a b) (sym is) h
 breaks_as lines a b (Ok y) e is h = absurd is
 
@@ -40,11 +40,11 @@ line_first line lines a b e h = breaks_before (line ∷ []) lines a b e h
 pub line_then : (line : Text) (lines : List Text) (a b c : Option Text) (e : LinesFault) → Appends a b (lines_text (line ∷ [])) → BreaksIn lines b c e → BreaksIn (line ∷ lines) a c e
 line_then line lines a b c e h k = breaks_behind (line ∷ []) lines a b c e h k
 
-pub behind : {R : Type 0} (xs ys : List Text) (a b c : Option Text) (r : Result R LinesFault) → Appends a b (lines_text xs) → Writes ys b c r → Writes (xs ++ ys) a c r
+pub behind : {R : Type 0} (xs ys : List Text) (a b c : Option Text) (r : Result R LinesFault) → Appends a b (lines_text xs) → WritesLines ys b c r → WritesLines (xs ++ ys) a c r
 behind xs ys a b c (Ok u) h k = then_all xs ys a b c h k
 behind xs ys a b c (Err e) h k = breaks_behind xs ys a b c e h k
 
-pub none_written : {Y : Type 0} (line : Text) (lines : List Text) (a : Option Text) (outer : Result Y LinesFault) (e : LinesFault) (f : Fault) → IsErrAnd outer (λ out. out ≡ e) → e ≡ Desk f → MayFail f → Writes (line ∷ lines) a a outer
+pub none_written : {Y : Type 0} (line : Text) (lines : List Text) (a : Option Text) (outer : Result Y LinesFault) (e : LinesFault) (f : Fault) → IsErrAnd outer (λ out. out ≡ e) → e ≡ Desk f → MayFail f → WritesLines (line ∷ lines) a a outer
 none_written line lines a outer e f is same may = breaks_as (line ∷ lines) a a outer e is (subst (BreaksIn (line ∷ lines) a a) (sym same) (may, ([], line, lines, refl, appends_none a)))
 
 pub days_broke : (t : Tables) (account from to : ℕ) (opening : ℤ) (a b : Option Text) (outer : Result ℕ LinesFault) (e : LinesFault) → IsErrAnd outer (λ out. out ≡ e) → BreaksIn (days_lines t account from to opening) a b e

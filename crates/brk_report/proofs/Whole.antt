@@ -15,7 +15,7 @@ use Rattle.brk_model.specs.Tables.{AccountRow, Tables}
 use Rattle.brk_desk.specs.declared.head.Head.{Head}
 use Rattle.brk_report.specs.Parts.{all_lines, days_lines, held_lines, top_lines}
 use Rattle.brk_report.specs.Stated.{AreLines, States}
-use Rattle.brk_report_lines.specs.Written.{BreaksIn, Writes}
+use Rattle.brk_report_lines.specs.Written.{BreaksIn, WritesLines}
 use Rattle.brk_report_lines.specs.declared.fault.LinesFault.{LinesFault}
 use Rattle.brk_report_lines.specs.declared.fault.LinesFault.TheVariants.{Desk, Write}
 use Rattle.brk_report_lines.specs.declared.fault.ReportFault.TheVariants as stated
@@ -66,7 +66,7 @@ lines_at t account head from to opening = top_lines account head.name from to op
 
 -- nothing is written of them
 pub none_of : {Y : Type 0} (t : Tables) (account : ℕ) (head : Head) (from to : ℕ) (a : Option Text) (outer : Result Y LinesFault) (e : LinesFault) (f : Fault) → IsErrAnd outer (λ out. out ≡ e) → e ≡ Desk f → MayFail f
-    → Writes (all_lines t account head from to) a a outer
+    → WritesLines (all_lines t account head from to) a a outer
 none_of t account head from to a outer e f is same may =
     let opening = head.opening +ℤ cash_total (cash_before from (cash_in t account)) in
     none_written (codes "Statement of account " ++ decimal account)

@@ -2,7 +2,7 @@
 
 ghost use Rattle.brk_report.specs.Stated.{Keeps, OverRows};
 ghost use Rattle.brk_report.specs.Parts.{WritesDays, held_lines, top_lines};
-ghost use Rattle.brk_report_lines.specs.Written.{Writes};
+ghost use Rattle.brk_report_lines.specs.Written.{WritesLines};
 
 use crate::sections::{write_cash, write_lots};
 use brk_desk::{Desk, Head};
@@ -24,7 +24,7 @@ pub(crate) fn write_top<W: Write>(
     opening: Wide,
     writer: &mut W,
 ) -> Result<(), LinesFault>
-    ensures { Writes (top_lines account head.now.name from to opening) (W.contents writer.old) (W.contents writer.new) result }
+    ensures { WritesLines (top_lines account head.now.name from to opening) (W.contents writer.old) (W.contents writer.new) result }
 {
     write_line(writer, title_line(alloc, account))?;
     write_line(writer, name_line(alloc, &head.name))?;
@@ -61,7 +61,7 @@ pub(crate) fn write_held<W: Write, S: Alter>(
     writer: &mut W,
 ) -> Result<(), LinesFault>
     ensures keeps { Keeps S.Store desk.old desk.new }
-    ensures written { OverRows S.Store desk.old desk.new (λ t. Writes (held_lines t account holdings cash) (W.contents writer.old) (W.contents writer.new) result) }
+    ensures written { OverRows S.Store desk.old desk.new (λ t. WritesLines (held_lines t account holdings cash) (W.contents writer.old) (W.contents writer.new) result) }
 {
     let lots = write_lots(alloc, desk, account, writer)?;
     write_line(writer, amount_line(alloc, "Holdings", holdings))?;

@@ -1,6 +1,6 @@
 ghost use Rattle.brk_report.specs.Parts.{all_lines};
 ghost use Rattle.brk_report.specs.Stated.{IsStated, Keeps, OverRows};
-ghost use Rattle.brk_report_lines.specs.Written.{Writes};
+ghost use Rattle.brk_report_lines.specs.Written.{WritesLines};
 
 use crate::parts::{write_days, write_held, write_top};
 use crate::sections::sum_before;
@@ -22,7 +22,7 @@ fn write_all<W: Write, S: Alter>(
     writer: &mut W,
 ) -> Result<(), LinesFault>
     ensures keeps { Keeps S.Store desk.old desk.new }
-    ensures written { OverRows S.Store desk.old desk.new (λ t. Writes (all_lines t account head.now from to) (W.contents writer.old) (W.contents writer.new) result) }
+    ensures written { OverRows S.Store desk.old desk.new (λ t. WritesLines (all_lines t account head.now from to) (W.contents writer.old) (W.contents writer.new) result) }
 {
     let opening = sum_before(desk, account, from, head.opening)?;
     write_top(alloc, account, head, from, to, opening, writer)?;

@@ -82,9 +82,9 @@ impl Visitor<MoveRow, LinesFault> for Sum {
         Ok(())
     }
 
-    ghost stays = { λ _. tt };
+    ghost reflexive = { λ _. tt };
 
-    ghost goes_on = { λ _ _ _ _ _. tt };
+    ghost transitive = { λ _ _ _ _ _. tt };
 }
 
 /// A visitor that writes a line for each record, and counts the records.
@@ -118,9 +118,9 @@ impl<R: Line, W: Write> Visitor<R, LinesFault> for Lines<'_, W> {
         Ok(())
     }
 
-    ghost stays = { λ _. refl };
+    ghost reflexive = { λ _. refl };
 
-    ghost goes_on = { λ _ _ _ a b. b ∙ a };
+    ghost transitive = { λ _ _ _ a b. b ∙ a };
 }
 
 /// The number of cash rows that were written, and an amount plus their total.
@@ -173,7 +173,7 @@ impl<W: Write> Visitor<MoveRow, LinesFault> for CashLines<'_, W> {
         Ok(())
     }
 
-    ghost stays = { λ _. refl };
+    ghost reflexive = { λ _. refl };
 
-    ghost goes_on = { λ _ _ _ a b. b ∙ a };
+    ghost transitive = { λ _ _ _ a b. b ∙ a };
 }

@@ -34,6 +34,6 @@ BreaksOff lines old new (Desk fault) = MayFail fault × ((first : List Text) × 
 BreaksOff lines old new Write = WrotePart lines old new
 
 -- The writer got all lines, or writing them failed as `BreaksIn` specifies.
-abbrev pub Writes : {R : Type 0} → List Text → Option Text → Option Text → Result R LinesFault → Type 0
-Writes lines old new (Ok r) = Appends old new (lines_text lines)
-Writes lines old new (Err fault) = BreaksIn lines old new fault
+abbrev pub WritesLines : {R : Type 0} → List Text → Option Text → Option Text → Result R LinesFault → Type 0
+WritesLines lines old new (Ok r) = Appends old new (lines_text lines)
+WritesLines lines old new (Err fault) = BreaksIn lines old new fault

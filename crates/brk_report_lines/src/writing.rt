@@ -1,7 +1,7 @@
 ghost use Rattle.std.specs.Prelude.{◌≡◌, [], ◌∷◌, IfErr, IfOk};
 ghost use Rattle.brk_money.specs.Spelling.{Text};
 ghost use Rattle.brk_model.specs.Run.{MayFail};
-ghost use Rattle.brk_report_lines.specs.Written.{Writes, ended};
+ghost use Rattle.brk_report_lines.specs.Written.{WritesLines, ended};
 
 use crate::fault::LinesFault;
 use brk_io::write_out;
@@ -10,7 +10,7 @@ use std::io::Write;
 
 /// Writes `line`, or returns `Desk` with the fault that `line` has instead.
 pub fn write_line<W: Write>(writer: &mut W, line: Result<Vec<u8>, Fault>) -> Result<(), LinesFault>
-    ensures written { (text : Text) → IfOk line (λ l. l.items ≡ ended text) → IfErr line MayFail → Writes (text ∷ []) (W.contents writer.old) (W.contents writer.new) result }
+    ensures written { (text : Text) → IfOk line (λ l. l.items ≡ ended text) → IfErr line MayFail → WritesLines (text ∷ []) (W.contents writer.old) (W.contents writer.new) result }
 {
     let line = match line {
         Ok(line) => line,

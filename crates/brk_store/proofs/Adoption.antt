@@ -42,7 +42,7 @@ use Rattle.brk_tables_upgrade.specs.Upgrade.{KeepsOtherTables, Upgrades}
 use Rattle.brk_tables_scan.specs.Schemas.{HasDesk, IsDefined, IsDefinedAs}
 use Rattle.brk_tables_scan.proofs.Defined.{desk_is_there}
 use Rattle.brk_store.specs.Audited.{AreUpgraded, Answered, Audited, AuditedBy, IsUpgraded, HasThirdIn, AdoptPost, AuditPost, IsDefinedIn, OnAnswer}
-use Rattle.brk_store.specs.AuditResult.{Tells}
+use Rattle.brk_store.specs.AuditResult.{IsResultOfAudit}
 use Rattle.brk_store.specs.Holds.{Holds, IsSame}
 use Rattle.brk_store.specs.Kept.{kept_none}
 use Rattle.brk_store.specs.declared.examining.AuditResult.{AuditResult}
@@ -200,8 +200,8 @@ module _ {S : Type 0} (g : Ghosts S) (old first : Held S) (settled : IsTrue (sta
     clean_then : (end : Held S) → Survives (state g first) (state g end) (λ _. ⊥) → HasCleanDisk (state g end) → HasCleanDisk (state g old)
     clean_then end late = clean_before (state g old) (state g end) (λ _. ⊥) (through g old first end settled (Ok told) Looked step late)
 
-    told_at : (end : Held S) (one : AuditResult) → told ≡ one → Survives (state g first) (state g end) (λ _. ⊥) → HasCleanDisk (state g end) → IsDefinedIn g old → Tells one (state g old).now
-    told_at end one is late clean defined = let l = looked end late clean in subst (λ e. Tells e (state g old).now) is (l.2 (defined (clean_then end late clean) l.0))
+    told_at : (end : Held S) (one : AuditResult) → told ≡ one → Survives (state g first) (state g end) (λ _. ⊥) → HasCleanDisk (state g end) → IsDefinedIn g old → IsResultOfAudit one (state g old).now
+    told_at end one is late clean defined = let l = looked end late clean in subst (λ e. IsResultOfAudit e (state g old).now) is (l.2 (defined (clean_then end late clean) l.0))
 
     -- a condition fails
     pub fails : (end : Held S) (failing : Condition) → told ≡ Fails failing → Survives (state g first) (state g end) (λ _. ⊥) → (HasCleanDisk (state g end) → IsRolledBack (state g first) (state g end)) → AdoptPost g old end (Err (Damaged failing))
@@ -259,7 +259,7 @@ module _ {S : Type 0} (g : Ghosts S) (old first : Held S) (settled : IsTrue (sta
         made : IsStep {V = Unit {0}} {E = Fault} (state g (begun old)) (state g mid) (Ok tt) (λ _ a b. Made schema a.now b.now)
         made =
             step_then (state g (begun old)) (state g first) (state g mid) told (Ok tt) Looked (λ _ a b. Upgrades (schema_of schema) a.now b.now) (λ _ a b. Made schema a.now b.now)
-            (λ _ l m. ((λ defined. subst (λ e. Tells e (state g old).now) is (l.2 defined)), subst (λ d. Upgrades (schema_of schema) d (state g mid).now) l.1 m)) step move
+            (λ _ l m. ((λ defined. subst (λ e. IsResultOfAudit e (state g old).now) is (l.2 defined)), subst (λ d. Upgrades (schema_of schema) d (state g mid).now) l.1 m)) step move
 
         over : Survives (state g old) (state g end) (λ trees. (db : Database) × Made schema (state g old).now db × (trees ≡ db.trees))
         over = whole g old mid end settled (Made schema) made late
@@ -279,7 +279,7 @@ module _ {S : Type 0} (g : Ghosts S) (old first : Held S) (settled : IsTrue (sta
         never defined third clean =
             let l = looked_at clean in
             let before = clean_old clean in
-            let p = subst (λ e. Tells e (state g old).now) is (l.2 (defined before l.0)) in
+            let p = subst (λ e. IsResultOfAudit e (state g old).now) is (l.2 (defined before l.0)) in
             older_has_none schema older (sym (one_desk Third schema p.0 (state g old).now (third before l.0) p.1.0))
 
         left : IsDefinedIn g old → Survives (state g old) (state g end) (AreUpgraded (state g old).now)

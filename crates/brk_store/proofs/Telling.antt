@@ -13,7 +13,7 @@ use Rattle.brk_sql.specs.Model.{IsStep}
 use Rattle.brk_sql.proofs.Inside.{step_then, step_read}
 use Rattle.brk_tables_scan.specs.Schemas.{HasDesk, IsDefined}
 use Rattle.brk_store.specs.Audited.{Audited, AuditedBy, HasDeskOf}
-use Rattle.brk_store.specs.AuditResult.{Tells}
+use Rattle.brk_store.specs.AuditResult.{IsResultOfAudit}
 use Rattle.brk_store.specs.declared.examining.AuditResult.{AuditResult}
 use Rattle.brk_store.specs.declared.examining.AuditResult.TheVariants.{Passes, Fails}
 use Rattle.brk_store.proofs.Answering.{Asked, Tried}
@@ -86,7 +86,7 @@ module _ (a b c d : State) (third second first : Bool) (one : IsStep {V = Bool} 
 -- ---- the rows
 
 abbrev pub Looked : AuditResult → State → State → Type 0
-Looked told a b = IsTrue a.is_open × (b.now ≡ a.now) × (IsDefined a.now → Tells told a.now)
+Looked told a b = IsTrue a.is_open × (b.now ≡ a.now) × (IsDefined a.now → IsResultOfAudit told a.now)
 
 pub tells_none : (a b : State) → IsStep {V = Option known.Schema} {E = Fault} a b (Ok None) Found → IsStep {V = AuditResult} {E = Fault} a b (Ok (Fails condition.Schema)) Looked
 tells_none a b step =
@@ -95,7 +95,7 @@ tells_none a b step =
 
 module _ (a b c : State) (schema : known.Schema) (there : IsStep {V = Option known.Schema} {E = Fault} a b (Ok (Some schema)) Found) where
   -- the desk that is there, and what its conditions told
-  examined : (answer : Option Condition) (told : AuditResult) → ((db : Database) → HasDesk (schema_of schema) db → AuditedBy (schema_of schema) db answer → Tells told db)
+  examined : (answer : Option Condition) (told : AuditResult) → ((db : Database) → HasDesk (schema_of schema) db → AuditedBy (schema_of schema) db answer → IsResultOfAudit told db)
       → IsStep {V = Option Condition} {E = Fault} b c (Ok answer) (Tried schema) → IsStep {V = AuditResult} {E = Fault} a c (Ok told) Looked
   examined answer told tells step =
       step_then a b c (Some schema) (Ok told) Found (λ seen x y. (told ≡ seen) × Tried schema answer x y) Looked

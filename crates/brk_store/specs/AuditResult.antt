@@ -9,6 +9,6 @@ use Rattle.brk_store.specs.declared.examining.AuditResult.TheVariants.{Passes, F
 
 -- `Passes schema` says that the database has rows of `schema` that pass all its conditions, with
 -- texts in UTF-8. `Fails failing` says that an audit of the database answers `failing`.
-abbrev pub Tells : AuditResult → Database → Type 0
-Tells (Passes schema) db = (t : Tables) × Answered (schema_of schema) t db None
-Tells (Fails failing) db = Audited db (Some failing)
+abbrev pub IsResultOfAudit : AuditResult → Database → Type 0
+IsResultOfAudit (Passes schema) db = (t : Tables) × Answered (schema_of schema) t db None
+IsResultOfAudit (Fails failing) db = Audited db (Some failing)

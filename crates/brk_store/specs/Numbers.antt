@@ -4,6 +4,6 @@ use Rattle.brk_model.specs.Tables.{BrokerRow}
 use Rattle.brk_changes.specs.declared.broker_numbers.BrokerNumbers.{BrokerNumbers}
 
 -- The totals equal those of the broker's row, or both are `None`.
-abbrev pub AreNumbers : Option BrokerNumbers → Option BrokerRow → Type 0
-AreNumbers None row = row ≡ None
-AreNumbers (Some n) row = (r : BrokerRow) × (row ≡ Some r) × (pos n.trades ≡ r.trades) × (n.commissions ≡ r.commissions)
+abbrev pub AreBrokerTotals : Option BrokerNumbers → Option BrokerRow → Type 0
+AreBrokerTotals None row = row ≡ None
+AreBrokerTotals (Some n) row = (r : BrokerRow) × (row ≡ Some r) × (pos n.trades ≡ r.trades) × (n.commissions ≡ r.commissions)

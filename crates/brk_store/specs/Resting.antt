@@ -15,8 +15,8 @@ abbrev pub lent : {S P : Type 0} → Pages S P → MutBor (Held S)
 lent p = p.store
 
 -- The number of rows that the pages have read.
-abbrev pub read_by : {S P : Type 0} → Pages S P → ℕ
-read_by p = p.read
+abbrev pub rows_read_by : {S P : Type 0} → Pages S P → ℕ
+rows_read_by p = p.read
 
 -- The lots `ls` are those that the source has still to return, for some rows that the store holds.
 abbrev pub Rests : {S : Type 0} → Ghosts S → Pages S Page → List Lot → Type 0

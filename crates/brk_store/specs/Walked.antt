@@ -6,7 +6,7 @@ use Rattle.sqlite.specs.State.{HasCleanDisk, Survives}
 use Rattle.brk_money.specs.declared.fault.Fault.{Fault}
 use Rattle.brk_model.specs.Statement.{cash_in}
 use Rattle.brk_model.specs.Tables.{Tables, MoveRow}
-use Rattle.brk_tables_walks.specs.Walks.{BreaksOff, Takes}
+use Rattle.brk_tables_walks.specs.Walks.{BreaksOff, TakesInOrder}
 use Rattle.brk_tables_walks.specs.declared.walking.WalkError.{WalkError}
 use Rattle.brk_tables_walks.specs.declared.walking.WalkError.TheVariants.{Failed, Cause}
 use Rattle.brk_store.specs.Holds.{Holds, IsSame}
@@ -17,22 +17,22 @@ abbrev pub cash_of : ℕ → ℕ → ℕ → Tables → List MoveRow
 cash_of account from to t = filter (λ r. nat_le from r.stamp && nat_le r.stamp to) (cash_in t account)
 
 -- The records `all` are the whole list, for whatever rows the store holds.
-abbrev pub AreAll : {S M : Type 0} → Ghosts S → Held S → (Tables → List M) → List M → Type 0
-AreAll g store list all = (t : Tables) → Holds g store t → all ≡ list t
+abbrev pub AreAllStored : {S M : Type 0} → Ghosts S → Held S → (Tables → List M) → List M → Type 0
+AreAllStored g store list all = (t : Tables) → Holds g store t → all ≡ list t
 
 -- The records `first` are a prefix of the list, for whatever rows the store holds.
-abbrev pub AreFirst : {S M : Type 0} → Ghosts S → Held S → (Tables → List M) → List M → Type 0
-AreFirst {S} {M} g store list first = (t : Tables) → Holds g store t → (rest : List M) × (first ++ rest ≡ list t)
+abbrev pub AreFirstStored : {S M : Type 0} → Ghosts S → Held S → (Tables → List M) → List M → Type 0
+AreFirstStored {S} {M} g store list first = (t : Tables) → Holds g store t → (rest : List M) × (first ++ rest ≡ list t)
 
 -- The postcondition of a walk, which passes the records of a list to a visitor, one at a time and
 -- in order, until the visitor stops.
 pub record WalkPost {S X M V E : Type 0} (g : Ghosts S) (old new : Held S) (of : X → M) (list : Tables → List M) (takes : V → X → V → Type 0) (stops : V → X → E → V → Type 0)
     (before after : V) (result : Result (Unit {0}) (WalkError E)) : Type 0 where
   -- At `Ok` the visitor has taken every record.
-  pub all : HasCleanDisk (state g new) → OnOk result (Takes (AreAll g old list) of takes before after)
+  pub all : HasCleanDisk (state g new) → OnOk result (TakesInOrder (AreAllStored g old list) of takes before after)
   -- At a fault the visitor has taken a prefix of the records. At its own error it has taken the
   -- records before the one at which it stopped.
-  pub early : HasCleanDisk (state g new) → IfErr result (BreaksOff (AreFirst g old list) of takes stops before after)
+  pub early : HasCleanDisk (state g new) → IfErr result (BreaksOff (AreFirstStored g old list) of takes stops before after)
   -- `Ok` is returned only if the store was open.
   pub opened : HasCleanDisk (state g new) → OnOk result (IsTrue (state g old).is_open)
   -- The store holds the rows that it held, whatever the result.

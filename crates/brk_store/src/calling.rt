@@ -26,9 +26,9 @@ impl<R, E, F: FnMut(&R) -> Result<(), E>> Visitor<R, E> for Calls<F> {
         (self.call)(item)
     }
 
-    ghost stays = { λ _. tt };
+    ghost reflexive = { λ _. tt };
 
-    ghost goes_on = { λ _ _ _ _ _. tt };
+    ghost transitive = { λ _ _ _ _ _. tt };
 }
 
 /// A visitor that calls a closure with each lot and its symbol.
@@ -59,7 +59,7 @@ impl<E, F: FnMut(&str, &Lot) -> Result<(), E>> Visitor<HoldingRow, E> for LotCal
         (self.call)(item.symbol.as_str(), &lot)
     }
 
-    ghost stays = { λ _. tt };
+    ghost reflexive = { λ _. tt };
 
-    ghost goes_on = { λ _ _ _ _ _. tt };
+    ghost transitive = { λ _ _ _ _ _. tt };
 }

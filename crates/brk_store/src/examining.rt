@@ -6,7 +6,7 @@ ghost use Rattle.brk_money.specs.declared.fault.Fault.TheVariants as fault;
 ghost use Rattle.brk_model.specs.Run.{MayFail};
 ghost use Rattle.brk_sql.specs.Model.{Steps};
 ghost use Rattle.brk_store.specs.Audited.{HasDeskOf};
-ghost use Rattle.brk_store.specs.AuditResult.{Tells};
+ghost use Rattle.brk_store.specs.AuditResult.{IsResultOfAudit};
 ghost use Rattle.brk_store.specs.declared.examining.AuditResult.TheVariants as told;
 ghost use Rattle.brk_tables_scan.specs.Schemas.{IsDefined};
 
@@ -50,7 +50,7 @@ pub(crate) fn audit_by_own_schema<S: Alter>(
     alloc: Global,
 ) -> Result<AuditResult, Fault>
     ensures same_reference { tx.new.conn.ghost_name ≡ tx.old.conn.ghost_name }
-    ensures step { Steps S.Store tx.old tx.new result (λ examined a b. IsTrue a.is_open × (b.now ≡ a.now) × (IsDefined a.now → Tells examined a.now)) }
+    ensures step { Steps S.Store tx.old tx.new result (λ examined a b. IsTrue a.is_open × (b.now ≡ a.now) × (IsDefined a.now → IsResultOfAudit examined a.now)) }
     ensures condition { IfOk result (λ examined. examined ≢ told.Fails NotEmpty) }
     ensures fault { IfErr result MayFail }
 {

@@ -3,7 +3,7 @@
 ghost use Rattle.std.specs.Prelude.{IfSome, pos, ◌≡◌, ◌==◌, Err, OnErr, find, option_map};
 ghost use Rattle.brk_money.specs.declared.fault.Fault.TheVariants as fault;
 ghost use Rattle.brk_store.specs.Holds.{ReadPost};
-ghost use Rattle.brk_store.specs.Numbers.{AreNumbers};
+ghost use Rattle.brk_store.specs.Numbers.{AreBrokerTotals};
 
 use crate::Store;
 use brk_changes::{Amount, BrokerNumbers, TradeCount};
@@ -35,7 +35,7 @@ impl<S: Alter> Store<S> {
     /// Returns the totals of a broker, or `None` if the broker does not exist. Fails with `Store`
     /// only, also if a total is out of range.
     pub fn broker_numbers(&mut self, broker: Id) -> Result<Option<BrokerNumbers>, Fault>
-        ensures read { ReadPost S.Store self.old self.new result (λ numbers t. AreNumbers numbers (find (λ r. r.id == broker) t.brokers)) }
+        ensures read { ReadPost S.Store self.old self.new result (λ numbers t. AreBrokerTotals numbers (find (λ r. r.id == broker) t.brokers)) }
         ensures fault { OnErr result (result ≡ Err fault.Store) }
     {
         let Some(row) = self.broker(broker)? else {

@@ -132,7 +132,7 @@ impl<S: Alter> Store<S> {
     ghost use Rattle.brk_lots.specs.Lots.{from_end};
     ghost use Rattle.brk_model.specs.Tables.{Tables};
     ghost use Rattle.brk_store.specs.Holds.{Holds};
-    ghost use Rattle.brk_store.specs.Resting.{lent, read_by};
+    ghost use Rattle.brk_store.specs.Resting.{lent, rows_read_by};
     ghost use Rattle.brk_book_theorems.specs.TradeReads.{position_in};
 
     /// Returns a source of the lots of an account in a security, the newest first if `lifo`,
@@ -153,7 +153,7 @@ impl<S: Alter> Store<S> {
         ensures same { (lent result).now ≡ self.old }
         ensures remaining { (t : Tables) → Holds S.Store self.old t → ⟦<Pages<'static, S, Page> as LotSource>⟧.remaining result (from_end lifo (position_in t account symbol.now)) }
         ensures asked { ⟦<Pages<'static, S, Page> as LotSource>⟧.asked result ≡ 0 }
-        ensures unread { read_by result ≡ 0 }
+        ensures unread { rows_read_by result ≡ 0 }
     {
         let page = Page {
             rows: Vec::new(alloc),
@@ -179,11 +179,11 @@ impl<S: Alter> Pages<'_, S, Page> {
     ghost use Rattle.brk_lots.specs.declared.lot.Lot.{Lot as TheLot};
     ghost use Rattle.brk_model.specs.Run.{MayFail};
     ghost use Rattle.brk_store.specs.Kept.{IsKept};
-    ghost use Rattle.brk_store.specs.Resting.{Rests, read_by};
+    ghost use Rattle.brk_store.specs.Resting.{Rests, rows_read_by};
 
     /// Returns the number of rows read: at least the number of lots returned, and at most 15 more.
     pub fn rows_read(&self) -> u64
-        ensures counted { result ≡ read_by self.now }
+        ensures counted { result ≡ rows_read_by self.now }
         ensures least { ⟦<Pages<'static, S, Page> as LotSource>⟧.asked self.now ≤ result }
         ensures most { result ≤ ⟦<Pages<'static, S, Page> as LotSource>⟧.asked self.now + 15 }
     {
@@ -262,9 +262,9 @@ impl<S: Alter> LotSource for Pages<'_, S, Page> {
         }
     }
 
-    ghost stays = { λ p. (refl, kept_none p.store.now) };
+    ghost reflexive = { λ p. (refl, kept_none p.store.now) };
 
-    ghost goes_on = { λ p q r a b. (b.0 ∙ a.0, kept_then p.store.now q.store.now r.store.now a.1 b.1) };
+    ghost transitive = { λ p q r a b. (b.0 ∙ a.0, kept_then p.store.now q.store.now r.store.now a.1 b.1) };
 
     ghost told_before = { λ p q m. clean_at p.store.now q.store.now m.1 };
 }

@@ -12,7 +12,7 @@ use Rattle.brk_tables_schema.specs.Cells.{nat, move_cells}
 use Rattle.brk_tables_schema.specs.Desk.{CashMoves, desk}
 use Rattle.brk_tables_schema.specs.Order.{by_key_values}
 use Rattle.brk_tables_schema.proofs.Order.{key_total}
-use Rattle.brk_tables_walks.specs.Lists.{stamp_key, cash_between, is_between}
+use Rattle.brk_tables_walks.specs.Lists.{stamp_key, cash_between, is_cash_between}
 use Rattle.brk_tables_schema.proofs.Tests.{same_number}
 use Rattle.brk_tables_schema.proofs.Compared.{at_least, at_most}
 use Rattle.brk_tables_walks.proofs.CashBetween
@@ -22,7 +22,7 @@ pub tells_cash_between : (old new : State) (account from to : ℕ) (rows : List 
     → Tells desk (λ t. rows ≡ map move_cells (cash_between account from to t)) old.now
 tells_cash_between old new account from to rows shown = λ t tree h.
     tells_sorted desk CashMoves CashBetween.statement (nat account ∷ nat from ∷ nat to ∷ []) (read CashBetween.statement) CashBetween.terms CashBetween.project CashBetween.order CashBetween.paging CashBetween.names CashBetween.understood_as
-    (is_between account from to)
+    (is_cash_between account from to)
     (λ tree r x e.
     let a0 : column r 2 ≡ nat x.account = ap (λ row. column row 1) e in
     let a1 : column r 4 ≡ nat x.stamp = ap (λ row. column row 3) e in
@@ -35,7 +35,7 @@ tells_cash_between old new account from to rows shown = λ t tree h.
     let q1 : column b 0 ≡ nat y.id = ap (λ row. column row 0) f in
     rw (p0, q0, p1, q1) refl)
     old new rows shown (λ x y e. second (value_cmp (nat x.stamp) (nat y.stamp)) _ e) t tree h
-    ∙ ap (map move_cells) (sym (sorted stamp_key (filter (is_between account from to) t.moves)))
+    ∙ ap (map move_cells) (sym (sorted stamp_key (filter (is_cash_between account from to) t.moves)))
 
 pub cash_start : (s : State) (account from to : ℕ) (rows : List Row) → IsTrue s.is_open → Begins CashBetween.statement (nat account ∷ nat from ∷ nat to ∷ []) s rows
     → Tells desk (λ t. (tail : List Row) × (rows ++ tail ≡ map move_cells (cash_between account from to t))) s.now

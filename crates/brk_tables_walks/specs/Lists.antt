@@ -16,10 +16,10 @@ abbrev pub stamp_key : MoveRow → List KeyPart
 stamp_key r = number r.stamp ∷ number r.id ∷ []
 
 -- True if the row is of the account and its stamp is between `from` and `to`, both included.
-abbrev pub is_between : ℕ → ℕ → ℕ → MoveRow → Bool
-is_between account from to row = (row.account == account) && (nat_le from row.stamp && nat_le row.stamp to)
+abbrev pub is_cash_between : ℕ → ℕ → ℕ → MoveRow → Bool
+is_cash_between account from to row = (row.account == account) && (nat_le from row.stamp && nat_le row.stamp to)
 
 -- The cash rows of an account between two stamps, both included, sorted by stamp and then by
 -- number.
 abbrev pub cash_between : ℕ → ℕ → ℕ → Tables → List MoveRow
-cash_between account from to t = by_key stamp_key (filter (is_between account from to) t.moves)
+cash_between account from to t = by_key stamp_key (filter (is_cash_between account from to) t.moves)

@@ -25,8 +25,8 @@ pub trait Visitor<R, E> {
         ensures stops { IfErr result (λ e. stops self.old item.now e self.new) };
 
     /// A visitor is related to itself.
-    ghost stays: { (p : Self) → leads p p };
+    ghost reflexive: { (p : Self) → leads p p };
 
     /// The relation is transitive.
-    ghost goes_on: { (p q r : Self) → leads p q → leads q r → leads p r };
+    ghost transitive: { (p q r : Self) → leads p q → leads q r → leads p r };
 }

@@ -14,7 +14,7 @@ use Rattle.brk_money.specs.declared.refusal.Refusal.{Refusal}
 use Rattle.brk_money.specs.declared.side.Side.{Side}
 use Rattle.brk_money.specs.declared.side.Side.TheVariants.{Buy, Sell}
 use Rattle.brk_plans.proofs.Refusals.{first_joined, first_of}
-use Rattle.brk_trade.specs.Outcomes.{deal_of, first_tests, last_tests, result_tests, values_in}
+use Rattle.brk_trade.specs.Outcomes.{deal_of_row, first_tests, last_tests, all_result_tests, values_in}
 use Rattle.brk_trade.specs.declared.result_found.ResultFound.{ResultFound}
 use Rattle.brk_changes.specs.declared.trade_row.TradeRow.{TradeRow}
 
@@ -24,22 +24,22 @@ first_after ts us e = first_joined ts us ∙ ap (λ refusal. first_of refusal (f
 
 -- what the first tests refuse is refused for their reason
 pub first_refuses : (found : ResultFound) (price : ℕ) (values : Values) (clock : Option ℕ) (refusal : Refusal)
-    → first_refusal (first_tests found) ≡ Some refusal → first_refusal (result_tests found price values clock) ≡ Some refusal
+    → first_refusal (first_tests found) ≡ Some refusal → first_refusal (all_result_tests found price values clock) ≡ Some refusal
 first_refuses found price values clock refusal e =
     first_joined (first_tests found) (last_tests found price values clock) ∙ ap (λ cause. first_of cause (first_refusal (last_tests found price values clock))) e
 
 -- the values of the shares that a trade closes are the same at any moment
 same_bought : (side : Side) (t : TradeRow) (price stamp other : ℕ) (us : List Share)
-    → buy_value_by side (deal_of t price stamp) us ≡ buy_value_by side (deal_of t price other) us
+    → buy_value_by side (deal_of_row t price stamp) us ≡ buy_value_by side (deal_of_row t price other) us
 same_bought Buy t price stamp other us = refl
 same_bought Sell t price stamp other us = refl
 
 same_sold : (side : Side) (t : TradeRow) (price stamp other : ℕ) (us : List Share)
-    → sell_value_by side (deal_of t price stamp) us ≡ sell_value_by side (deal_of t price other) us
+    → sell_value_by side (deal_of_row t price stamp) us ≡ sell_value_by side (deal_of_row t price other) us
 same_sold Buy t price stamp other us = refl
 same_sold Sell t price stamp other us = refl
 
-pub at_any_moment : (t : TradeRow) (price stamp other : ℕ) (us : List Share) → values_of (deal_of t price stamp) us ≡ values_of (deal_of t price other) us
+pub at_any_moment : (t : TradeRow) (price stamp other : ℕ) (us : List Share) → values_of (deal_of_row t price stamp) us ≡ values_of (deal_of_row t price other) us
 unfolding buy_value sell_value
 at_any_moment t price stamp other us = rw (same_bought (side_of t.kind) t price stamp other us, same_sold (side_of t.kind) t price stamp other us) refl
 
@@ -57,12 +57,12 @@ touched_count d ls closing k = sym (length-map closing.touched.items plain_touch
 
 -- a refusal that the values tell, over the lots of a position, after the first tests found no cause
 pub refused_by_values : (found : ResultFound) (price : ℕ) (ls : List Lot) (at stamp : ℕ) (closing : Closing) (clock : _) (refusal : Refusal)
-    → IsClosing (deal_of found.trade price at) ls closing → first_refusal (first_tests found) ≡ None
+    → IsClosing (deal_of_row found.trade price at) ls closing → first_refusal (first_tests found) ≡ None
     → first_refusal (last_tests found price (values_in closing) clock) ≡ Some refusal
-    → first_refusal (result_tests found price (values_of (deal_of found.trade price stamp) (shares_of ls)) clock) ≡ Some refusal
+    → first_refusal (all_result_tests found price (values_of (deal_of_row found.trade price stamp) (shares_of ls)) clock) ≡ Some refusal
 refused_by_values found price ls at stamp closing clock refusal k first last =
-    let same = closing_values (deal_of found.trade price at) ls closing k ∙ at_any_moment found.trade price at stamp (shares_of ls) in
-    first_after (first_tests found) (last_tests found price (values_of (deal_of found.trade price stamp) (shares_of ls)) clock) first
+    let same = closing_values (deal_of_row found.trade price at) ls closing k ∙ at_any_moment found.trade price at stamp (shares_of ls) in
+    first_after (first_tests found) (last_tests found price (values_of (deal_of_row found.trade price stamp) (shares_of ls)) clock) first
     ∙ ap (λ values. first_refusal (last_tests found price values clock)) (sym same) ∙ last
 
 -- three elements added one after another

@@ -4,7 +4,7 @@ use Rattle.brk_money.specs.OrderTypes.{kind_of}
 use Rattle.brk_money.specs.Amounts.{commission, tax}
 use Rattle.brk_money.specs.Kinds.{side_of}
 use Rattle.brk_money.specs.declared.tax_status.TaxStatus.{TaxStatus}
-use Rattle.brk_model.specs.Base.{Base, bears_tax, tax_status_in, rates_of, customer_of, tier_of, exchange_of, band_with, charge_with}
+use Rattle.brk_model.specs.Base.{Base, bears_tax, tax_status_in, rates_of, customer_of_account, tier_of, exchange_of, band_with, charge_with}
 use Rattle.brk_model.specs.Commands.{Order}
 use Rattle.brk_model.specs.Orders.{requested_price, assets_of}
 use Rattle.brk_trade.specs.declared.estimate.Terms.{Terms}
@@ -29,7 +29,7 @@ pub record AreTerms (base : Base) (o : Order) (terms : Terms) : Type 0 where
   pub qty : terms.qty ≡ o.qty
   pub price : terms.price ≡ requested_price base o
   pub tax_status : terms.tax_status ≡ tax_status_in base.accounts o.account
-  pub rates : terms.rates ≡ rates_of base (customer_of base o.account)
+  pub rates : terms.rates ≡ rates_of base (customer_of_account base o.account)
   -- The rate is that of the band that the model finds.
   pub rate : option_map (λ b. b.rate) (band_with base (tier_of base o.account) (kind_of o.order_type) (exchange_of base o.symbol) o.qty) ≡ Some terms.rate
   -- The charge is the one that the model finds.
@@ -42,7 +42,7 @@ deal_by terms trade stamp lifo = record { trade = trade; side = terms.side; qty 
 
 -- The source is asked for at most one lot more than the order would touch as a trade that opened
 -- none of the given lots.
-abbrev pub AsksFew : Terms → (List Lot → Type 0) → (before after : ℕ) → Type 0
-AsksFew terms given before after =
+abbrev pub OrderAsksFew : Terms → (List Lot → Type 0) → (before after : ℕ) → Type 0
+OrderAsksFew terms given before after =
     (ls : List Lot) (trade stamp : ℕ) (lifo : Bool) → AreGiven given lifo ls → IsNew trade ls
     → after ≤ before + length (touches (deal_by terms trade stamp lifo) (shares_of ls)) + 1

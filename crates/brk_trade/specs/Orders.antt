@@ -2,7 +2,7 @@
 use Rattle.std.specs.Prelude.{◌≡◌, ℕ, ◌+◌, Bool, not, nat_le, is_none, unwrap_or, if◌then◌else◌, pos, List, [], ◌∷◌, ◌++◌, map, Option, Some, None, option_to_list}
 use Rattle.std.specs.Option.{option_map_or}
 use Rattle.brk_trade.specs.Estimates.{AreTerms, commission_by}
-use Rattle.brk_plans.specs.Replies.{told}
+use Rattle.brk_plans.specs.Replies.{estimate_with}
 use Rattle.brk_plans.specs.declared.estimate.Estimate.{Estimate}
 use Rattle.brk_trade.specs.declared.estimate.Terms.{Terms}
 use Rattle.brk_lots.specs.Lots.{shares_of}
@@ -37,14 +37,14 @@ use Rattle.brk_changes.specs.declared.request_row.RequestRow.{RequestRow}
 use Rattle.brk_changes.specs.declared.trade_row.TradeRow.{TradeRow}
 
 -- The checks of an order against the facts in the tables.
-abbrev pub order_tests : OrderFound → List Test
-order_tests found =
+abbrev pub order_fact_tests : OrderFound → List Test
+order_fact_tests found =
     (is_none found.account, NoAccount) ∷ (is_none found.last_price, NoSecurity) ∷ (not found.is_permitted, NotPermitted)
     ∷ (is_none found.charge, NoCharge) ∷ (is_none found.rate, NoRate) ∷ []
 
 -- The price that the order asks for, or the last price if it asks for none.
-abbrev pub requested_price : Order → ℕ → ℕ
-requested_price order last = unwrap_or (price_asked order.order_type) last
+abbrev pub price_requested : Order → ℕ → ℕ
+price_requested order last = unwrap_or (price_asked order.order_type) last
 
 -- The terms of an order. A fact that does not exist counts 0, as an account without tax, or as no
 -- shares held.
@@ -52,7 +52,7 @@ abbrev pub terms_of : Order → OrderFound → Terms
 terms_of order found = record {
   side = side_of (kind_of order.order_type);
   qty = order.qty;
-  price = requested_price order (unwrap_or found.last_price 0);
+  price = price_requested order (unwrap_or found.last_price 0);
   tax_status = option_map_or (λ a. a.tax_status) found.account Untaxed;
   rates = found.rates;
   rate = unwrap_or found.rate 0;
@@ -63,7 +63,7 @@ terms_of order found = record {
 
 -- The order passes its checks, and `placement` has its terms and the broker of its account.
 pub record IsPlacement (order : Order) (found : OrderFound) (placement : Placement) : Type 0 where
-  pub tested : first_refusal (order_tests found) ≡ None
+  pub tested : first_refusal (order_fact_tests found) ≡ None
   pub terms : placement.terms ≡ terms_of order found
   pub broker : placement.broker ≡ option_map_or (λ a. a.broker) found.account 0
 
@@ -72,11 +72,11 @@ pub record IsPlacement (order : Order) (found : OrderFound) (placement : Placeme
 abbrev pub IsEstimate : Terms → (List Lot → Type 0) → Estimate → Type 0
 IsEstimate terms given estimate =
     (base : Base) (o : model.Order) (ls : List Lot) → AreTerms base o terms → shares_in (completed base) o.account o.symbol ≡ shares_of ls
-    → AreGiven given o.is_lifo ls → terms.held ≡ lots_total ls → estimate ≡ told (model_orders.estimate base o)
+    → AreGiven given o.is_lifo ls → terms.held ≡ lots_total ls → estimate ≡ estimate_with (model_orders.estimate base o)
 
 -- The order passes its checks, and the estimate is that of its terms (`IsEstimate`).
 pub record IsEstimated (order : Order) (found : OrderFound) (given : List Lot → Type 0) (estimate : Estimate) : Type 0 where
-  pub accepted : first_refusal (order_tests found) ≡ None
+  pub accepted : first_refusal (order_fact_tests found) ≡ None
   pub estimated : IsEstimate (terms_of order found) given estimate
 
 -- The check that an id is left for the trade. Trades are numbered from 1 without a gap.
@@ -108,28 +108,28 @@ row_named order terms trade stamp symbol executor = record {
 }
 
 -- The trade row of an order with these terms.
-abbrev pub trade_row : Order → Terms → (trade stamp : ℕ) → tables.TradeRow
-trade_row order terms trade stamp = row_named order terms trade stamp order.symbol (model_orders.executor_name (executor_of order.executor))
+abbrev pub ordered_row : Order → Terms → (trade stamp : ℕ) → tables.TradeRow
+ordered_row order terms trade stamp = row_named order terms trade stamp order.symbol (model_orders.executor_name (executor_of order.executor))
 
 -- The request of the order's trade with the account's broker, or `None` if the order is a market
 -- order.
-abbrev pub request_row : Order → Terms → (broker trade : ℕ) → Option RequestRow
-request_row order terms broker trade =
+abbrev pub ordered_request : Order → Terms → (broker trade : ℕ) → Option RequestRow
+ordered_request order terms broker trade =
     if is_market (kind_of order.order_type) then None
     else Some (record { trade = trade; kind = kind_of order.order_type; symbol = order.symbol; qty = order.qty; bid = terms.price; broker = broker })
 
 -- The row changes that add a trade: its row, its first status, its request if it has one, and the
 -- last stamp.
-abbrev pub changes_of : TradeRow → Option RequestRow → List Change
-changes_of row request =
+abbrev pub changes_of_order : TradeRow → Option RequestRow → List Change
+changes_of_order row request =
     change.AddTrade row ∷ change.AddHistory (record { trade = row.id; status = row.status; stamp = row.stamp })
     ∷ map change.AddRequest (option_to_list request) ++ change.SetLast row.stamp ∷ []
 
 -- The row changes are those of an order with these terms.
-pub record AreChanges (order : Order) (terms : Terms) (broker trade stamp : ℕ) (changes : List Change) : Type 0 where
+pub record AreOrderChanges (order : Order) (terms : Terms) (broker trade stamp : ℕ) (changes : List Change) : Type 0 where
   pub row : TradeRow
-  pub added : trade_row_of row ≡ trade_row order terms trade stamp
-  pub changed : changes ≡ changes_of row (request_row order terms broker trade)
+  pub added : trade_row_of row ≡ ordered_row order terms trade stamp
+  pub changed : changes ≡ changes_of_order row (ordered_request order terms broker trade)
 
 -- The plan adds the trade with its first status, and its request if it is pending, and sets the
 -- last stamp. Its reply has the stamp, the number, the status and the estimate. The order passes
@@ -137,8 +137,8 @@ pub record AreChanges (order : Order) (terms : Terms) (broker trade stamp : ℕ)
 pub record IsOrdered (order : Order) (found : OrderFound) (given : List Lot → Type 0) (last : Option ℕ) (now : ℕ) (plan : Plan) : Type 0 where
   pub stamp : ℕ
   pub estimate : Estimate
-  pub accepted : first_refusal (order_tests found ++ trades_test found.last_trade ∷ clock_test last now ∷ []) ≡ None
+  pub accepted : first_refusal (order_fact_tests found ++ trades_test found.last_trade ∷ clock_test last now ∷ []) ≡ None
   pub stamped : stamp_after last now ≡ Some stamp
   pub estimated : IsEstimate (terms_of order found) given estimate
   pub told : plan.reply ≡ Ordered (record { stamp = stamp; trade = next_trade found.last_trade; status = model_orders.first_status (kind_of order.order_type); estimate = estimate })
-  pub changes : AreChanges order (terms_of order found) (option_map_or (λ a. a.broker) found.account 0) (next_trade found.last_trade) stamp plan.changes.items
+  pub changes : AreOrderChanges order (terms_of order found) (option_map_or (λ a. a.broker) found.account 0) (next_trade found.last_trade) stamp plan.changes.items

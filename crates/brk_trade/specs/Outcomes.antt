@@ -24,8 +24,8 @@ abbrev pub greatest_value : ℕ
 greatest_value = greatest_qty * greatest_price
 
 -- The trade as a deal with the lots of its account and symbol.
-abbrev pub deal_of : TradeRow → (price stamp : ℕ) → Deal
-deal_of t price stamp = record { trade = t.id; side = side_of t.kind; qty = t.qty; price = price; stamp = stamp; is_lifo = t.is_lifo }
+abbrev pub deal_of_row : TradeRow → (price stamp : ℕ) → Deal
+deal_of_row t price stamp = record { trade = t.id; side = side_of t.kind; qty = t.qty; price = price; stamp = stamp; is_lifo = t.is_lifo }
 
 -- The number of shares of the symbol that the account holds after the trade, negative if sold
 -- short.
@@ -41,13 +41,13 @@ abbrev pub tax_upon : ResultFound → Values → ℕ
 tax_upon found values = tax_at found.account.tax_status found.rates values
 
 -- The tax that is withheld from the settlement; 0 if the tax status withholds none.
-abbrev pub withheld : ResultFound → Values → ℕ
-withheld found values = if takes_tax_off found.account.tax_status then tax_upon found values else 0
+abbrev pub tax_withheld : ResultFound → Values → ℕ
+tax_withheld found values = if takes_tax_off found.account.tax_status then tax_upon found values else 0
 
 -- The settlement amount of the trade, negative if the account pays.
-abbrev pub amount_of : ResultFound → ℕ → Values → ℤ
-amount_of found price values =
-    proceeds (side_of found.trade.kind) (found.trade.qty * price) -ℤ pos (found.trade.charge + commission_at found price + withheld found values)
+abbrev pub amount_settled : ResultFound → ℕ → Values → ℤ
+amount_settled found price values =
+    proceeds (side_of found.trade.kind) (found.trade.qty * price) -ℤ pos (found.trade.charge + commission_at found price + tax_withheld found values)
 
 -- The balance of the account plus the amount; a margin trade leaves it unchanged.
 abbrev pub balance_with : ResultFound → ℤ → ℤ
@@ -55,7 +55,7 @@ balance_with found amount = if found.trade.is_cash then found.account.balance +�
 
 -- The balance of the account after the trade.
 abbrev pub balance_after : ResultFound → ℕ → Values → ℤ
-balance_after found price values = balance_with found (amount_of found price values)
+balance_after found price values = balance_with found (amount_settled found price values)
 
 -- The commission total of the broker after the trade.
 abbrev pub commissions_after : ResultFound → ℕ → ℕ
@@ -78,21 +78,21 @@ last_tests found price values stamp =
     ∷ (nat_lt greatest_amount (commissions_after found price), Range limit.Broker) ∷ due_test found.rule stamp ∷ []
 
 -- All checks of a result of a trade.
-abbrev pub result_tests : ResultFound → ℕ → Values → Option ℕ → List Test
-result_tests found price values stamp = first_tests found ++ last_tests found price values stamp
+abbrev pub all_result_tests : ResultFound → ℕ → Values → Option ℕ → List Test
+all_result_tests found price values stamp = first_tests found ++ last_tests found price values stamp
 
 -- The buy value and the sell value of the closed shares, as absolute values.
 abbrev pub values_in : Closing → Values
 values_in closing = record { buy_value = nat_abs closing.buy_value; sell_value = nat_abs closing.sell_value }
 
 -- The figures of a completion.
-abbrev pub outcome_of : ResultFound → ℕ → Values → ℕ → ResultNumbers
-outcome_of found price values stamp = record {
+abbrev pub numbers_of_result : ResultFound → ℕ → Values → ℕ → ResultNumbers
+numbers_of_result found price values stamp = record {
   stamp = stamp;
   due_day = due_after found.rule stamp;
   commission = commission_at found price;
   tax = tax_upon found values;
-  amount = amount_of found price values;
+  amount = amount_settled found price values;
   summary = summary_after found;
   balance = balance_after found price values;
   commissions = commissions_after found price;

@@ -21,7 +21,7 @@ use Rattle.brk_money.specs.declared.refusal.Refusal.{Refusal}
 use Rattle.brk_money.specs.declared.refusal.Refusal.TheVariants.{NoTrade}
 use Rattle.brk_money.specs.declared.status.Status.TheVariants as status
 use Rattle.brk_changes.specs.Rows.{move_row_of}
-use Rattle.brk_trade.specs.Outcomes.{deal_of, first_tests, result_tests, outcome_of, values_in}
+use Rattle.brk_trade.specs.Outcomes.{deal_of_row, first_tests, all_result_tests, numbers_of_result, values_in}
 use Rattle.brk_changes.specs.declared.cash_type.CashType.{CashType}
 use Rattle.brk_changes.specs.declared.cash_type.CashType.TheVariants as cash_type
 use Rattle.brk_changes.specs.declared.change.Change.{Change}
@@ -61,8 +61,8 @@ summary_change (Some held) t qty =
     else change.SetSummary (record { account = t.account; symbol = t.symbol; qty = qty })
 
 -- The first settlement text of a cash trade (`is_cash`) or of a margin trade.
-abbrev pub first_cash_type : Bool → CashType
-first_cash_type is_cash = if is_cash then cash_type.CashAccount else cash_type.Margin
+abbrev pub settlement_type : Bool → CashType
+settlement_type is_cash = if is_cash then cash_type.CashAccount else cash_type.Margin
 
 -- The quantity in the cash text of a trade.
 abbrev pub shares_text : ℕ → Text
@@ -73,8 +73,8 @@ abbrev pub cash_name : TradeRow → Text → Text
 cash_name t security = type_name t.kind ++ 32 ∷ decimal t.qty ++ codes " shares of " ++ security
 
 -- The cash row of the trade with the next number, or `None` if it is not a cash trade.
-abbrev pub cash_row : ResultFound → ResultNumbers → Option tables.MoveRow
-cash_row found outcome =
+abbrev pub cash_row_posted : ResultFound → ResultNumbers → Option tables.MoveRow
+cash_row_posted found outcome =
     if found.trade.is_cash
     then Some (record {
       id = found.next;
@@ -103,7 +103,7 @@ broker_change found commissions = change.SetBrokerNumbers found.account.broker (
 -- The row change that adds the settlement.
 abbrev pub settlement_change : TradeRow → ResultNumbers → Change
 settlement_change t outcome =
-    change.AddSettlement (record { trade = t.id; cash_type = first_cash_type t.is_cash; due_day = outcome.due_day; amount = outcome.amount })
+    change.AddSettlement (record { trade = t.id; cash_type = settlement_type t.is_cash; due_day = outcome.due_day; amount = outcome.amount })
 
 -- The row changes of the account's summary, of the broker totals and of the settlement.
 abbrev pub sum_changes : ResultFound → ResultNumbers → List Change
@@ -113,8 +113,8 @@ sum_changes found outcome =
 -- The row changes that complete a trade: its own row, the lots that it touches and the one that it
 -- opens, the summary, the broker totals and the settlement, the cash row of a cash trade, and the
 -- last stamp.
-abbrev pub changes_of : ResultFound → ℕ → Closing → ResultNumbers → Option MoveRow → List Change
-changes_of found price closing outcome cash =
+abbrev pub changes_of_result : ResultFound → ℕ → Closing → ResultNumbers → Option MoveRow → List Change
+changes_of_result found price closing outcome cash =
     trade_changes found.trade.id price outcome
     ++ flat_map (touched_changes found.trade.id) closing.touched.items
     ++ flat_map (opened_changes found.trade) (option_to_list closing.opened)
@@ -123,10 +123,10 @@ changes_of found price closing outcome cash =
     ++ change.SetLast outcome.stamp ∷ []
 
 -- The row changes complete the trade with these closed lots and figures.
-pub record AreChanges (found : ResultFound) (price : ℕ) (closing : Closing) (outcome : ResultNumbers) (changes : List Change) : Type 0 where
+pub record AreResultChanges (found : ResultFound) (price : ℕ) (closing : Closing) (outcome : ResultNumbers) (changes : List Change) : Type 0 where
   pub cash : Option MoveRow
-  pub moved : option_map move_row_of cash ≡ cash_row found outcome
-  pub changed : changes ≡ changes_of found price closing outcome cash
+  pub moved : option_map move_row_of cash ≡ cash_row_posted found outcome
+  pub changed : changes ≡ changes_of_result found price closing outcome cash
 
 -- The figures of a completion in its reply.
 abbrev pub told_of : ResultNumbers → Completed
@@ -161,10 +161,10 @@ pub record IsCompletion (found : ResultFound) (price : ℕ) (given : List Lot �
   pub stamp : ℕ
   pub closing : Closing
   pub stamped : stamp_after last now ≡ Some stamp
-  pub closes : (ls : List Lot) → AreMet given found ls → IsClosing (deal_of found.trade price stamp) ls closing
-  pub accepted : first_refusal (result_tests found price (values_in closing) (Some stamp)) ≡ None
-  pub told : plan.reply ≡ reply.Completed (told_of (outcome_of found price (values_in closing) stamp))
-  pub changes : AreChanges found price closing (outcome_of found price (values_in closing) stamp) plan.changes.items
+  pub closes : (ls : List Lot) → AreMet given found ls → IsClosing (deal_of_row found.trade price stamp) ls closing
+  pub accepted : first_refusal (all_result_tests found price (values_in closing) (Some stamp)) ≡ None
+  pub told : plan.reply ≡ reply.Completed (told_of (numbers_of_result found price (values_in closing) stamp))
+  pub changes : AreResultChanges found price closing (numbers_of_result found price (values_in closing) stamp) plan.changes.items
 
 -- The trade exists, and the plan completes it.
 abbrev pub IsCompleted : Option ResultFound → ℕ → (List Lot → Type 0) → Option ℕ → ℕ → Plan → Type 0
@@ -178,7 +178,7 @@ pub record IsRefusal (found : ResultFound) (price : ℕ) (given : List Lot → T
   -- It is the refusal of the first check that fails, with the values of the shares of the given
   -- lots that the trade would close.
   pub late : (ls : List Lot) (stamp : ℕ) → AreMet given found ls
-      → first_refusal (result_tests found price (values_of (deal_of found.trade price stamp) (shares_of ls)) (stamp_after last now)) ≡ Some refusal
+      → first_refusal (all_result_tests found price (values_of (deal_of_row found.trade price stamp) (shares_of ls)) (stamp_after last now)) ≡ Some refusal
 
 -- The refusal of a result: `NoTrade` if there is no trade, otherwise one from the facts of the
 -- trade.
@@ -188,12 +188,12 @@ IsRefused (Some found) price given last now refusal = IsRefusal found price give
 
 -- The stamp of an opened lot: the stamp of the command, or the clock reading `now` if no stamp is
 -- left.
-abbrev pub moment_of : Option ℕ → ℕ → ℕ
-moment_of stamp now = unwrap_or stamp now
+abbrev pub opening_stamp : Option ℕ → ℕ → ℕ
+opening_stamp stamp now = unwrap_or stamp now
 
 -- The source is asked for at most one lot more than the trade touches, and for none if there is no
 -- trade.
-abbrev pub AsksFew : Option ResultFound → ℕ → ℕ → (List Lot → Type 0) → (before after : ℕ) → Type 0
-AsksFew None price stamp given before after = after ≤ before
-AsksFew (Some found) price stamp given before after =
-    (ls : List Lot) → AreMet given found ls → after ≤ before + length (touches (deal_of found.trade price stamp) (shares_of ls)) + 1
+abbrev pub ResultAsksFew : Option ResultFound → ℕ → ℕ → (List Lot → Type 0) → (before after : ℕ) → Type 0
+ResultAsksFew None price stamp given before after = after ≤ before
+ResultAsksFew (Some found) price stamp given before after =
+    (ls : List Lot) → AreMet given found ls → after ≤ before + length (touches (deal_of_row found.trade price stamp) (shares_of ls)) + 1

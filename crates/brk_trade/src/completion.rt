@@ -3,7 +3,7 @@
 ghost use Rattle.std.specs.Prelude.{◌≡◌, ◌++◌, flat_map, option_map, option_to_list, string_bytes, IfOk, OnOk, OnErr, Err};
 ghost use Rattle.brk_money.specs.declared.fault.Fault.TheVariants.{Memory};
 ghost use Rattle.brk_trade.specs.Results as spec;
-ghost use Rattle.brk_trade.specs.Results.{AreChanges};
+ghost use Rattle.brk_trade.specs.Results.{AreResultChanges};
 ghost use Rattle.brk_changes.specs.Rows.{move_row_of};
 
 use crate::outcome::ResultNumbers;
@@ -142,7 +142,7 @@ fn summary_change(found: &ResultFound, outcome: &ResultNumbers) -> Result<Change
 
 // Returns the first settlement text of a cash trade (`is_cash`) or of a margin trade.
 fn first_cash_type(is_cash: bool) -> CashType
-    ensures { result ≡ spec.first_cash_type is_cash }
+    ensures { result ≡ spec.settlement_type is_cash }
 {
     if is_cash {
         CashType::CashAccount
@@ -213,7 +213,7 @@ fn cash_row(
     found: &ResultFound,
     outcome: &ResultNumbers,
 ) -> Result<Option<MoveRow>, AllocError>
-    ensures { IfOk result (λ cash. option_map move_row_of cash ≡ spec.cash_row found.now outcome.now) }
+    ensures { IfOk result (λ cash. option_map move_row_of cash ≡ spec.cash_row_posted found.now outcome.now) }
 {
     if !found.trade.is_cash {
         return Ok(None);
@@ -258,7 +258,7 @@ fn changes_of(
     outcome: &ResultNumbers,
     cash: Option<MoveRow>,
 ) -> Result<Vec<Change>, Fault>
-    ensures changes { IfOk result (λ changes. changes.items ≡ spec.changes_of found.now price closing.now outcome.now cash) }
+    ensures changes { IfOk result (λ changes. changes.items ≡ spec.changes_of_result found.now price closing.now outcome.now cash) }
     ensures fault { OnErr result (result ≡ Err Memory) }
 {
     let trade = &found.trade;
@@ -280,7 +280,7 @@ pub(crate) fn completion_changes(
     closing: &Closing,
     outcome: &ResultNumbers,
 ) -> Result<Vec<Change>, Fault>
-    ensures changes { IfOk result (λ changes. AreChanges found.now price closing.now outcome.now changes.items) }
+    ensures changes { IfOk result (λ changes. AreResultChanges found.now price closing.now outcome.now changes.items) }
     ensures fault { OnErr result (result ≡ Err Memory) }
 {
     let cash = cash_row(alloc, found, outcome)?;

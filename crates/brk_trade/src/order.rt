@@ -8,11 +8,11 @@ ghost use Rattle.brk_money.specs.declared.fault.Fault.{Fault};
 ghost use Rattle.brk_ref.specs.Records.{executor_of};
 ghost use Rattle.brk_money.specs.declared.refusal.Limit.TheVariants as limit;
 ghost use Rattle.brk_money.specs.declared.refusal.Refusal.TheVariants.{Range};
-ghost use Rattle.brk_trade.specs.Estimates.{AsksFew, commission_by};
+ghost use Rattle.brk_trade.specs.Estimates.{OrderAsksFew, commission_by};
 ghost use Rattle.brk_trade.specs.Orders as spec;
 ghost use Rattle.brk_plans.specs.Reference.{clock_test};
 ghost use Rattle.brk_changes.specs.Rows.{trade_row_of};
-ghost use Rattle.brk_trade.specs.Orders.{AreChanges, IsEstimated, IsOrdered, IsPlacement, order_tests, terms_of, trades_test};
+ghost use Rattle.brk_trade.specs.Orders.{AreOrderChanges, IsEstimated, IsOrdered, IsPlacement, order_fact_tests, terms_of, trades_test};
 
 use crate::estimate::{Terms, estimate_order};
 use brk_changes::{Amount, Change, HistoryRow, RequestRow, TradeRow};
@@ -70,7 +70,7 @@ struct Placement {
 // Returns the price at which the order is estimated: its own, or the last price if it asks for
 // none.
 fn requested_price(order: &Order, last: Price) -> Price
-    ensures { result ≡ spec.requested_price order.now last }
+    ensures { result ≡ spec.price_requested order.now last }
 {
     order.order_type.price().unwrap_or(last)
 }
@@ -79,7 +79,7 @@ fn requested_price(order: &Order, last: Price) -> Price
 fn placement_of(order: &Order, found: &OrderFound) -> Result<Placement, Refusal>
     ensures { MatchResult result
         (IsPlacement order.now found.now)
-        (λ refusal. first_refusal (order_tests found.now) ≡ Some refusal) }
+        (λ refusal. first_refusal (order_fact_tests found.now) ≡ Some refusal) }
 {
     let Some(account) = found.account else {
         return Err(Refusal::NoAccount);
@@ -126,9 +126,9 @@ pub fn plan_estimate<L: LotSource>(
     ensures leads { L.leads source.old source.new }
     ensures planned { IfOk result (λ planned. MatchResult planned
         (IsEstimated order.now found.now (AsTold (L.reads_faithfully source.new) (L.remaining source.old)))
-        (λ refusal. first_refusal (order_tests found.now) ≡ Some refusal)) }
+        (λ refusal. first_refusal (order_fact_tests found.now) ≡ Some refusal)) }
     ensures refused { IfOk result (λ planned. OnErr planned (source.new ≡ source.old)) }
-    ensures asked { IfOk result (λ planned. OnOk planned (AsksFew (terms_of order.now found.now) (AsTold (L.reads_faithfully source.new) (L.remaining source.old)) (L.asked source.old) (L.asked source.new))) }
+    ensures asked { IfOk result (λ planned. OnOk planned (OrderAsksFew (terms_of order.now found.now) (AsTold (L.reads_faithfully source.new) (L.remaining source.old)) (L.asked source.old) (L.asked source.new))) }
     // It asks for no lot if the account holds no shares that the order would close.
     ensures unmet { closes_lots (terms_of order.now found.now).side (terms_of order.now found.now).held ≡ false → source.new ≡ source.old }
     // No fault of the source is ignored, and each is returned as it came.
@@ -219,7 +219,7 @@ fn trade_row(
     stamp: Stamp,
 ) -> Result<TradeRow, AllocError>
     requires { commission ≡ commission_by terms.now }
-    ensures { IfOk result (λ row. trade_row_of row ≡ spec.trade_row order.now terms.now trade stamp) }
+    ensures { IfOk result (λ row. trade_row_of row ≡ spec.ordered_row order.now terms.now trade stamp) }
 {
     let symbol = order.symbol.clone()?;
     let executor = executor_name(alloc, &order.executor)?;
@@ -232,7 +232,7 @@ fn request_row(
     placement: &Placement,
     trade: Id,
 ) -> Result<Option<RequestRow>, AllocError>
-    ensures { IfOk result (λ request. request ≡ spec.request_row order.now placement.now.terms placement.now.broker trade) }
+    ensures { IfOk result (λ request. request ≡ spec.ordered_request order.now placement.now.terms placement.now.broker trade) }
 {
     if order.order_type.kind().is_market() {
         return Ok(None);
@@ -254,7 +254,7 @@ fn changes_of(
     row: TradeRow,
     request: Option<RequestRow>,
 ) -> Result<Vec<Change>, AllocError>
-    ensures { IfOk result (λ changes. changes.items ≡ spec.changes_of row request) }
+    ensures { IfOk result (λ changes. changes.items ≡ spec.changes_of_order row request) }
 {
     let stamp = row.stamp;
     let history = HistoryRow {
@@ -282,7 +282,7 @@ fn order_changes(
     stamp: Stamp,
 ) -> Result<Vec<Change>, AllocError>
     requires { commission ≡ commission_by placement.now.terms }
-    ensures { IfOk result (λ changes. AreChanges order.now placement.now.terms placement.now.broker trade stamp changes.items) }
+    ensures { IfOk result (λ changes. AreOrderChanges order.now placement.now.terms placement.now.broker trade stamp changes.items) }
 {
     let terms = &placement.terms;
     let row = trade_row(alloc, order, terms, commission, trade, stamp)?;
@@ -312,9 +312,9 @@ pub fn plan_order<L: LotSource>(
     ensures leads { L.leads source.old source.new }
     ensures planned { IfOk result (λ planned. MatchResult planned
         (IsOrdered order.now found.now (AsTold (L.reads_faithfully source.new) (L.remaining source.old)) last now)
-        (λ refusal. first_refusal (order_tests found.now ++ trades_test found.now.last_trade ∷ clock_test last now ∷ []) ≡ Some refusal)) }
+        (λ refusal. first_refusal (order_fact_tests found.now ++ trades_test found.now.last_trade ∷ clock_test last now ∷ []) ≡ Some refusal)) }
     ensures refused { IfOk result (λ planned. OnErr planned (source.new ≡ source.old)) }
-    ensures asked { IfOk result (λ planned. OnOk planned (AsksFew (terms_of order.now found.now) (AsTold (L.reads_faithfully source.new) (L.remaining source.old)) (L.asked source.old) (L.asked source.new))) }
+    ensures asked { IfOk result (λ planned. OnOk planned (OrderAsksFew (terms_of order.now found.now) (AsTold (L.reads_faithfully source.new) (L.remaining source.old)) (L.asked source.old) (L.asked source.new))) }
     // It asks for no lot if the account holds no shares that the order would close.
     ensures unmet { closes_lots (terms_of order.now found.now).side (terms_of order.now found.now).held ≡ false → source.new ≡ source.old }
     // No fault of the source is ignored, and each is returned as it came.

@@ -5,7 +5,7 @@ ghost use Rattle.brk_model.specs.Limits.{greatest_price, greatest_summary};
 ghost use Rattle.brk_model.specs.Shares as shares;
 ghost use Rattle.brk_model.specs.Tests.{first_refusal};
 ghost use Rattle.brk_trade.specs.Outcomes as spec;
-ghost use Rattle.brk_trade.specs.Outcomes.{first_tests, last_tests, outcome_of, values_in};
+ghost use Rattle.brk_trade.specs.Outcomes.{first_tests, last_tests, numbers_of_result, values_in};
 
 use crate::result_found::ResultFound;
 use crate::settling::{
@@ -108,7 +108,7 @@ pub(crate) fn complete(
     requires rate { found.now.rate ≡ Some known.now.rate }
     requires summary { known.now.summary ≡ spec.summary_after found.now }
     ensures { MatchResult result
-        (λ outcome. (first_refusal (last_tests found.now price (values_in closing.now) stamp) ≡ None) × (stamp ≡ Some outcome.stamp) × (outcome ≡ outcome_of found.now price (values_in closing.now) outcome.stamp))
+        (λ outcome. (first_refusal (last_tests found.now price (values_in closing.now) stamp) ≡ None) × (stamp ≡ Some outcome.stamp) × (outcome ≡ numbers_of_result found.now price (values_in closing.now) outcome.stamp))
         (λ refusal. first_refusal (last_tests found.now price (values_in closing.now) stamp) ≡ Some refusal) }
 {
     let values = values_of(found.trade.qty, closing);

@@ -5,8 +5,8 @@ ghost use Rattle.brk_lots.specs.Sources.{AsTold};
 ghost use Rattle.brk_model.specs.Limits.{greatest_price};
 ghost use Rattle.brk_money.specs.Moments as moments;
 ghost use Rattle.brk_money.specs.declared.fault.Fault.{Fault};
-ghost use Rattle.brk_trade.specs.Outcomes.{deal_of};
-ghost use Rattle.brk_trade.specs.Results.{AreMet, AsksFew, IsCompleted, IsRefused, MeetsNone, moment_of, told_of};
+ghost use Rattle.brk_trade.specs.Outcomes.{deal_of_row};
+ghost use Rattle.brk_trade.specs.Results.{AreMet, ResultAsksFew, IsCompleted, IsRefused, MeetsNone, opening_stamp, told_of};
 
 use crate::completion::completion_changes;
 use crate::outcome::{ResultNumbers, complete, rate_and_summary};
@@ -43,7 +43,7 @@ fn close_met<L: LotSource>(
 ) -> Result<Closing, Fault>
     ensures leads { L.leads source.old source.new }
     ensures closing { IfOk result (λ closing. (ls : List Lot) → AreMet (AsTold (L.reads_faithfully source.new) (L.remaining source.old)) found.now ls →
-        IsClosing (deal_of found.now.trade price stamp) ls closing) }
+        IsClosing (deal_of_row found.now.trade price stamp) ls closing) }
     ensures bought { IfOk result (λ closing. (pos 0 ≤ℤ closing.buy_value) × (closing.buy_value ≤ℤ pos (found.now.trade.qty * greatest_price))) }
     ensures sold { IfOk result (λ closing. (pos 0 ≤ℤ closing.sell_value) × (closing.sell_value ≤ℤ pos (found.now.trade.qty * greatest_price))) }
     ensures asked { IfOk result (λ closing. L.asked source.new ≤ L.asked source.old + vec_len closing.touched + 1) }
@@ -88,7 +88,7 @@ pub fn plan_result<L: LotSource>(
     ensures planned { IfOk result (λ planned. MatchResult planned
         (IsCompleted (option_map (λ f. f.now) found.entry) price (AsTold (L.reads_faithfully source.new) (L.remaining source.old)) last now)
         (IsRefused (option_map (λ f. f.now) found.entry) price (AsTold (L.reads_faithfully source.new) (L.remaining source.old)) last now)) }
-    ensures asked { IfOk result (λ planned. AsksFew (option_map (λ f. f.now) found.entry) price (moment_of (moments.stamp_after last now) now) (AsTold (L.reads_faithfully source.new) (L.remaining source.old)) (L.asked source.old) (L.asked source.new)) }
+    ensures asked { IfOk result (λ planned. ResultAsksFew (option_map (λ f. f.now) found.entry) price (opening_stamp (moments.stamp_after last now) now) (AsTold (L.reads_faithfully source.new) (L.remaining source.old)) (L.asked source.old) (L.asked source.new)) }
     // It asks for no lot if the account holds no shares that the trade would close.
     ensures unmet { IfSome (option_map (λ f. f.now) found.entry) (λ f. MeetsNone f → source.new ≡ source.old) }
     // No fault of the source is ignored, and each is returned as it came.

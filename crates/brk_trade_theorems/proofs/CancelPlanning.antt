@@ -20,17 +20,17 @@ use Rattle.brk_plans.specs.declared.plan.Plan.{Plan}
 use Rattle.brk_book_theorems.specs.Steps.{base_then}
 use Rattle.brk_trade_theorems.specs.Plans.{DoesCommand}
 use Rattle.brk_trade_theorems.specs.TradePlans.{IsReadForCancel}
-use Rattle.brk_trade_theorems.specs.TradeTests.{cancel_tests}
+use Rattle.brk_trade_theorems.specs.TradeTests.{cancel_row_tests}
 use Rattle.brk_trade_theorems.proofs.TradePlanning.{cancel_refusal, cancel_done, refused_step}
 
 -- a cancel is tested by its trade's status as by the whole row
 same_tests : (row : Option TradeRow) (last : Option ℕ) (now : ℕ)
-    → planner.cancel_tests (option_map (λ r. r.status) row) ++ clock_test last now ∷ [] ≡ cancel_tests row last now
+    → planner.cancel_tests (option_map (λ r. r.status) row) ++ clock_test last now ∷ [] ≡ cancel_row_tests row last now
 same_tests None last now = refl
 same_tests (Some r) last now = refl
 
 read_tests : (base : Base) (id : ℕ) (found : Option Status) (last : Option ℕ) (now : ℕ) → IsReadForCancel base id found last now
-    → first_refusal (planner.cancel_tests found ++ clock_test last now ∷ []) ≡ first_refusal (cancel_tests (trade_in (sheets base) id) (sheets base).last now)
+    → first_refusal (planner.cancel_tests found ++ clock_test last now ∷ []) ≡ first_refusal (cancel_row_tests (trade_in (sheets base) id) (sheets base).last now)
 read_tests base id found last now k =
     (λ i. first_refusal (planner.cancel_tests (k.status_read i) ++ clock_test (k.last_read i) now ∷ []))
     ∙ ap first_refusal (same_tests (trade_in (sheets base) id) (sheets base).last now)

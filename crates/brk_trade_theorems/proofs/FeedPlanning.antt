@@ -28,7 +28,7 @@ use Rattle.brk_trade_theorems.specs.Plans.{DoesCommand}
 use Rattle.brk_trade_theorems.specs.TradePlans.{IsQuoted, IsReadForFeed, QuotesApart}
 use Rattle.brk_book_theorems.specs.TradeReads.{last_trade_in}
 use Rattle.brk_book_theorems.specs.Ticks.{exceeds_volume, is_unknown}
-use Rattle.brk_trade_theorems.specs.TradeTests.{feed_tests}
+use Rattle.brk_trade_theorems.specs.TradeTests.{feed_row_tests}
 use Rattle.brk_book_theorems.specs.Trading.{fed_trades}
 use Rattle.brk_book_theorems.proofs.Same.{All-map, any-none}
 use Rattle.brk_book_theorems.proofs.Tested.{not_not}
@@ -67,14 +67,14 @@ known_quotes : (ticks : List Tick) (quotes : List SymbolState) → list_any (lac
 known_quotes ticks quotes e = All-map ticks (λ tick n. not_not (list_any (is_of tick.symbol) quotes) n) (any-none (lacks_quote quotes) ticks e)
 
 read_tests : (base : Base) (stamp : ℕ) (ticks : List Tick) (quotes : List SymbolState) (last : Option ℕ) (now : ℕ) → IsReadForFeed base ticks quotes last now
-    → first_refusal (planner.feed_tests stamp ticks quotes ++ clock_test last now ∷ []) ≡ first_refusal (feed_tests (sheets base) (ticks_of ticks) (sheets base).last now)
+    → first_refusal (planner.feed_tests stamp ticks quotes ++ clock_test last now ∷ []) ≡ first_refusal (feed_row_tests (sheets base) (ticks_of ticks) (sheets base).last now)
 read_tests base stamp ticks quotes last now k = by_unknown (list_any (lacks_quote quotes) ticks) refl
   where
     same : list_any (lacks_quote quotes) ticks ≡ list_any (is_unknown (sheets base)) (ticks_of ticks)
     same = same_unknown (sheets base) ticks quotes (held_quotes base ticks quotes last now k) k.quotes_read.apart k.quotes_read.quoted
 
     by_unknown : (b : Bool) → list_any (lacks_quote quotes) ticks ≡ b → first_refusal (planner.feed_tests stamp ticks quotes ++ clock_test last now ∷ [])
-        ≡ first_refusal (feed_tests (sheets base) (ticks_of ticks) (sheets base).last now)
+        ≡ first_refusal (feed_row_tests (sheets base) (ticks_of ticks) (sheets base).last now)
     by_unknown true e =
         refused_first (list_any (lacks_quote quotes) ticks) (list_any (is_unknown (sheets base)) (ticks_of ticks)) NoSecurity
         ((list_any exceeds (quotes_after stamp ticks quotes), Range limit.Volume) ∷ clock_test last now ∷ [])

@@ -36,7 +36,7 @@ use Rattle.brk_plans.specs.declared.movement.MoveFound.{MoveFound}
 use Rattle.brk_plans.specs.declared.plan.Plan.{Plan}
 use Rattle.brk_book_theorems.specs.Books.{BooksInvariant}
 use Rattle.brk_book_theorems.specs.Movements.{balance_with, row_of_movement, rows_of_movement}
-use Rattle.brk_book_theorems.specs.Steps.{ChangesRows, IsDone, LeavesBooks, base_then}
+use Rattle.brk_book_theorems.specs.Steps.{ChangesRows, IsStepDone, LeavesBooks, base_then}
 use Rattle.brk_book_theorems.proofs.MoveReading.{moves_counted, reads_last_move}
 use Rattle.brk_book_theorems.proofs.Movements.{books_deposit, books_one_day, books_withdrawal, step_deposit, step_one_day, step_withdrawal}
 use Rattle.brk_book_theorems.proofs.Order.{append_nil}
@@ -89,18 +89,18 @@ account_read base m found k =
     ∙ is_none-map (account_row base.accounts (postings_of base)) (account_with base m.account)
 
 balance_read : (base : Base) (m : Movement) (found : MoveFound) (stamp : ℕ) → IsFoundForMove (sheets base) m found → is_none found.balance ≡ false
-    → planner.balance_after m found ≡ balance_with base (moved m.direction stamp m.account m.amount)
+    → planner.moved_balance m found ≡ balance_with base (moved m.direction stamp m.account m.amount)
 balance_read base m found stamp k there =
     let balance = balance_found base m.account found.balance (account_with base m.account) refl
     (k.balance ∙ ap (option_map (λ r. r.balance)) (reads_account base m.account)) (sym (account_read base m found k) ∙ there) in
-    ap (λ z. z +ℤ planner.signed m) balance ∙ balance_moved base (moved m.direction stamp m.account m.amount)
+    ap (λ z. z +ℤ planner.signed_amount m) balance ∙ balance_moved base (moved m.direction stamp m.account m.amount)
 
 tests_read : (base : Base) (m : Movement) (found : MoveFound) (last : Option ℕ) (now stamp : ℕ) → IsReadForMove base m found last now
     → first_refusal (move_tests m found ++ clock_test last now ∷ [])
     ≡ first_refusal (movement_tests base (moved m.direction stamp m.account m.amount) ++ (nat_lt last_stamp (next_stamp base now), ClockEnd) ∷ (false, TooEarly) ∷ [])
 tests_read base m found last now stamp k =
     let alike = same_first (is_none found.balance) (is_none (account_with base m.account)) NoAccount
-    ((nat_lt greatest_amount (nat_abs (planner.balance_after m found)), Range limit.Balance) ∷ (nat_le greatest_id found.movements, Range limit.Moves) ∷ clock_test last now ∷ [])
+    ((nat_lt greatest_amount (nat_abs (planner.moved_balance m found)), Range limit.Balance) ∷ (nat_le greatest_id found.movements, Range limit.Moves) ∷ clock_test last now ∷ [])
     ((nat_lt greatest_amount (nat_abs (balance_with base (moved m.direction stamp m.account m.amount))), Range limit.Balance)
     ∷ (nat_le greatest_id (length base.movements), Range limit.Moves) ∷ (nat_lt last_stamp (next_stamp base now), ClockEnd) ∷ (false, TooEarly) ∷ [])
     (account_read base m found k.looked_up) (λ there.
@@ -150,14 +150,14 @@ move_plan_does base m found last now plan k p =
     let next : p.stamp ≡ next_stamp base now = stamp_read base last now p.stamp k.last_read p.stamped in
     let accepted : refusal_of base now command ≡ None = sym (move_read base m found last now k) ∙ p.accepted in
     let there : is_none found.balance ≡ false = first_passes (is_none found.balance) NoAccount
-    ((nat_lt greatest_amount (nat_abs (planner.balance_after m found)), Range limit.Balance) ∷ (nat_le greatest_id found.movements, Range limit.Moves) ∷ clock_test last now ∷ []) p.accepted in
+    ((nat_lt greatest_amount (nat_abs (planner.moved_balance m found)), Range limit.Balance) ∷ (nat_le greatest_id found.movements, Range limit.Moves) ∷ clock_test last now ∷ []) p.accepted in
     let number : found.next ≡ length (postings_of base) + 1 = k.looked_up.next ∙ ap (λ n. n + 1) (reads_last_move base) in
-    let balance : planner.balance_after m found ≡ balance_with base (moved m.direction p.stamp m.account m.amount) = balance_read base m found p.stamp k.looked_up there in
-    let row : move_row_of p.moves.row ≡ row_of_movement base (moved m.direction p.stamp m.account m.amount) = p.moves.posted ∙ (λ i. record (planner.move_row m found.next p.stamp) { id = number i }) in
+    let balance : planner.moved_balance m found ≡ balance_with base (moved m.direction p.stamp m.account m.amount) = balance_read base m found p.stamp k.looked_up there in
+    let row : move_row_of p.moves.row ≡ row_of_movement base (moved m.direction p.stamp m.account m.amount) = p.moves.posted ∙ (λ i. record (planner.planned_move_row m found.next p.stamp) { id = number i }) in
     let told : movement_reply base (moved m.direction p.stamp m.account m.amount) ≡ reply_of plan.reply =
     (λ i. MovedCash p.stamp (sym number i) (sym balance i)) ∙ sym (ap reply_of p.moves.told) in
     let change : ℕ → Tables → Tables = λ stamp. rows_of_movement base (moved m.direction stamp m.account m.amount) in
-    let done : IsDone base now command p.stamp (reply_of plan.reply) (change p.stamp) =
+    let done : IsStepDone base now command p.stamp (reply_of plan.reply) (change p.stamp) =
     is_done base now command p.stamp (reply_of plan.reply) change k.books accepted next
     (reply_as base (next_stamp base now) m.account m.amount m.direction ∙ ap (λ stamp. movement_reply base (moved m.direction stamp m.account m.amount)) (sym next) ∙ told)
     (rows_as base now m.account m.amount m.direction) (books_as base now m.account m.amount m.direction) in
@@ -204,7 +204,7 @@ unfolding reply_to
 one_day_plan_does base day rule last now plan k p =
     let next : p.stamp ≡ next_stamp base now = stamp_read base last now p.stamp k.last_read p.stamped in
     let accepted : refusal_of base now (SetOneDay day) ≡ None = sym (one_day_read base day rule last now k) ∙ p.accepted in
-    let done : IsDone base now (SetOneDay day) p.stamp (Booked p.stamp) (with_rule day) =
+    let done : IsStepDone base now (SetOneDay day) p.stamp (Booked p.stamp) (with_rule day) =
     is_done base now (SetOneDay day) p.stamp (Booked p.stamp) (λ stamp. with_rule day) k.books accepted next (ap Booked (sym next)) (step_one_day base now day) (books_one_day base now day) in
     record {
       steps = done.steps ∙ ap (λ reply. Ok (reply, base_then base now (SetOneDay day))) (sym (ap reply_of p.told));

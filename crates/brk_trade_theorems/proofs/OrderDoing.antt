@@ -2,11 +2,11 @@
 use Rattle.std.proofs.Common.{◌≡◌, ℕ, ◌+◌, Bool, true, false, not, cond, List, [], ◌∷◌, ◌++◌, refl, sym, ◌∙◌, ap, length, Option, Some, None}
 use Rattle.std.specs.Prelude.{nat_le, nat_lt, option_map, unwrap_or, Ok, Err}
 use Rattle.std.specs.Option.{option_map_or}
-use Rattle.brk_plans.specs.Replies.{told}
+use Rattle.brk_plans.specs.Replies.{estimate_with}
 use Rattle.brk_plans.specs.declared.estimate.Estimate.{Estimate}
 use Rattle.brk_trade.specs.declared.estimate.Terms.{Terms}
 use Rattle.brk_lots.specs.declared.lot.Lot.{Lot}
-use Rattle.brk_model.specs.Ask.{answer_of, ask, query_tests}
+use Rattle.brk_model.specs.Ask.{view_for, ask, query_tests}
 use Rattle.brk_model.specs.Base.{Base}
 use Rattle.brk_model.specs.Commands as model
 use Rattle.brk_model.specs.Commands.{PlaceOrder}
@@ -30,7 +30,7 @@ use Rattle.brk_money.specs.declared.refusal.Refusal.TheVariants.{Range, ClockEnd
 use Rattle.brk_orders.specs.Records.{order_of}
 use Rattle.brk_orders.specs.declared.order.Order.{Order}
 use Rattle.brk_changes.specs.Changes.{after_changes, with_history, with_last, with_request, with_trade}
-use Rattle.brk_trade.specs.Orders.{IsEstimated, IsOrdered, changes_of, next_trade, order_tests, request_row, terms_of, trade_row, trades_test}
+use Rattle.brk_trade.specs.Orders.{IsEstimated, IsOrdered, changes_of_order, next_trade, order_fact_tests, ordered_request, terms_of, ordered_row, trades_test}
 use Rattle.brk_plans.specs.Reference.{clock_test}
 use Rattle.brk_plans.specs.Replies.{estimate_of, reply_of}
 use Rattle.brk_changes.specs.Rows.{request_row_of, trade_row_of}
@@ -41,9 +41,9 @@ use Rattle.brk_changes.specs.declared.trade_row.TradeRow.{TradeRow}
 use Rattle.brk_book_theorems.specs.Books.{BooksInvariant}
 use Rattle.brk_trade_theorems.specs.OrderPlans.{AreLots, IsFoundForEstimate, IsFoundForOrder, IsReadForPlan}
 use Rattle.brk_trade_theorems.specs.Plans.{DoesCommand}
-use Rattle.brk_book_theorems.specs.Steps.{IsDone, base_then}
+use Rattle.brk_book_theorems.specs.Steps.{IsStepDone, base_then}
 use Rattle.brk_book_theorems.specs.TradeReads.{position_in}
-use Rattle.brk_book_theorems.specs.Trading.{order_rows, request_of, requested_if, status_row}
+use Rattle.brk_book_theorems.specs.Trading.{order_rows, request_of_trade, requested_if, status_row}
 use Rattle.brk_book_theorems.proofs.Holding.{lots_given}
 use Rattle.brk_book_theorems.proofs.LotOrder.{shares_read}
 use Rattle.brk_trade_theorems.proofs.OrderFinding.{AllFound, all_found, all_passed, terms_read, tests_read}
@@ -56,12 +56,12 @@ use Rattle.brk_book_theorems.proofs.Trades.{step_order}
 
 -- ---- the refusal
 
-number_read : (base : Base) (order : Order) (found : OrderFound) → BooksInvariant base → IsFoundForOrder (sheets base) order found → first_refusal (order_tests found) ≡ None
+number_read : (base : Base) (order : Order) (found : OrderFound) → BooksInvariant base → IsFoundForOrder (sheets base) order found → first_refusal (order_fact_tests found) ≡ None
     → unwrap_or found.last_trade 0 ≡ length base.trades
 number_read base order found books k e = ap (λ o. unwrap_or o 0) (k.last_trade e) ∙ reads_number base books
 
 pub order_refusal_read : (base : Base) (order : Order) (found : OrderFound) (last : Option ℕ) (now : ℕ) → IsReadForPlan base order found last now
-    → first_refusal (order_tests found ++ trades_test found.last_trade ∷ clock_test last now ∷ []) ≡ refusal_of base now (PlaceOrder (order_of order))
+    → first_refusal (order_fact_tests found ++ trades_test found.last_trade ∷ clock_test last now ∷ []) ≡ refusal_of base now (PlaceOrder (order_of order))
 unfolding refusal_of tests
 order_refusal_read base order found last now k =
     let clock = clock_read base last now k.books k.last_read k.moment in
@@ -71,36 +71,36 @@ order_refusal_read base order found last now k =
     λ i. first_refusal ((nat_le greatest_id (number i), Range limit.Trades) ∷ (clock i, ClockEnd) ∷ []))
 
 pub order_refused : (base : Base) (order : Order) (found : OrderFound) (last : Option ℕ) (now : ℕ) (refusal : Refusal) → IsReadForPlan base order found last now
-    → first_refusal (order_tests found ++ trades_test found.last_trade ∷ clock_test last now ∷ []) ≡ Some refusal → step base now (PlaceOrder (order_of order)) ≡ Err refusal
+    → first_refusal (order_fact_tests found ++ trades_test found.last_trade ∷ clock_test last now ∷ []) ≡ Some refusal → step base now (PlaceOrder (order_of order)) ≡ Err refusal
 order_refused base order found last now refusal k e = refused_step base now (PlaceOrder (order_of order)) refusal (sym (order_refusal_read base order found last now k) ∙ e)
 
 -- what was found refuses no order that is accepted
-found_refuses_none : (found : OrderFound) (last : Option ℕ) (now : ℕ) → first_refusal (order_tests found ++ trades_test found.last_trade ∷ clock_test last now ∷ []) ≡ None
-    → first_refusal (order_tests found) ≡ None
+found_refuses_none : (found : OrderFound) (last : Option ℕ) (now : ℕ) → first_refusal (order_fact_tests found ++ trades_test found.last_trade ∷ clock_test last now ∷ []) ≡ None
+    → first_refusal (order_fact_tests found) ≡ None
 found_refuses_none found last now e =
-    let p = none_refuse (order_tests found ++ trades_test found.last_trade ∷ clock_test last now ∷ []) e in
+    let p = none_refuse (order_fact_tests found ++ trades_test found.last_trade ∷ clock_test last now ∷ []) e in
     all_passed found p.0 p.1.0 p.1.1.0 p.1.1.1.0 p.1.1.1.1.0
 
 -- ---- the estimate
 
 pub estimate_told : (base : Base) (order : Order) (found : OrderFound) (given : List Lot → Type 0) (e : Estimate) → BooksInvariant base → IsFoundForEstimate (sheets base) order found
-    → AreLots (sheets base) order given → IsEstimated order found given e → e ≡ told (estimate base (order_of order))
+    → AreLots (sheets base) order given → IsEstimated order found given e → e ≡ estimate_with (estimate base (order_of order))
 estimate_told base order found given e books k l h =
     h.estimated base (order_of order) (position_in (sheets base) order.account order.symbol) (terms_read base order found books k h.accepted)
     (sym (shares_read base order.account order.symbol books)) (lots_given base order.account order.symbol order.is_lifo given books l) (all_found base order found books k h.accepted).held
 
-told_back : (e : model.Estimate) → estimate_of (told e) ≡ e
+told_back : (e : model.Estimate) → estimate_of (estimate_with e) ≡ e
 told_back e = refl
 
 pub estimate_refused : (base : Base) (order : Order) (found : OrderFound) (refusal : Refusal) → BooksInvariant base → IsFoundForEstimate (sheets base) order found
-    → first_refusal (order_tests found) ≡ Some refusal → ask base (EstimateOf (order_of order)) ≡ Err refusal
+    → first_refusal (order_fact_tests found) ≡ Some refusal → ask base (EstimateOf (order_of order)) ≡ Err refusal
 unfolding ask query_tests
 estimate_refused base order found refusal books k e =
-    ap (λ o. unless o (answer_of base (EstimateOf (order_of order)))) (sym (tests_read base order found [] [] books k (λ n. refl)) ∙ e)
+    ap (λ o. unless o (view_for base (EstimateOf (order_of order)))) (sym (tests_read base order found [] [] books k (λ n. refl)) ∙ e)
 
 pub estimate_answered : (base : Base) (order : Order) (found : OrderFound) (given : List Lot → Type 0) (e : Estimate) → BooksInvariant base → IsFoundForEstimate (sheets base) order found
     → AreLots (sheets base) order given → IsEstimated order found given e → ask base (EstimateOf (order_of order)) ≡ Ok (estimate_fields (estimate_of e) ∷ [])
-unfolding ask query_tests answer_of
+unfolding ask query_tests view_for
 estimate_answered base order found given e books k l h =
     ap (λ o. unless o (estimate_fields (estimate base (order_of order)) ∷ [])) (sym (tests_read base order found [] [] books k (λ n. refl)) ∙ h.accepted)
     ∙ ap (λ e. Ok (estimate_fields e ∷ [])) (sym (ap estimate_of (estimate_told base order found given e books k l h) ∙ told_back (estimate base (order_of order))))
@@ -116,7 +116,7 @@ commission_or None rate qty price e = absurd (cc)
 commission_or (Some b) rate qty price e = let h : b.rate ≡ rate = cc in ap (λ r. commission r qty price) h
 
 row_made : (base : Base) (order : Order) (found : OrderFound) (stamp : ℕ) → AllFound base order found → unwrap_or found.last_trade 0 ≡ length base.trades
-    → tables.trade_row (ordered_trade base stamp (order_of order)) ≡ trade_row order (terms_of order found) (next_trade found.last_trade) stamp
+    → tables.trade_row (ordered_trade base stamp (order_of order)) ≡ ordered_row order (terms_of order found) (next_trade found.last_trade) stamp
 unfolding estimate
 row_made base order found stamp f number =
     let o : model.Order = order_of order in
@@ -127,18 +127,18 @@ row_made base order found stamp f number =
     λ i. record (tables.trade_row (ordered_trade base stamp o)) { id = sym number i + 1; bid = price i; charge = charge i; commission = rate i }
 
 -- the changes of an order are the rows that it makes
-changes_made : (order : Order) (terms : Terms) (broker trade stamp : ℕ) (row : TradeRow) (t : Tables) → trade_row_of row ≡ trade_row order terms trade stamp
-    → after_changes (changes_of row (request_row order terms broker trade)) t ≡ with_last stamp (order_rows (trade_row order terms trade stamp) (not (is_market (kind_of order.order_type))) broker t)
+changes_made : (order : Order) (terms : Terms) (broker trade stamp : ℕ) (row : TradeRow) (t : Tables) → trade_row_of row ≡ ordered_row order terms trade stamp
+    → after_changes (changes_of_order row (ordered_request order terms broker trade)) t ≡ with_last stamp (order_rows (ordered_row order terms trade stamp) (not (is_market (kind_of order.order_type))) broker t)
 changes_made order terms broker trade stamp row t e = by_market (is_market (kind_of order.order_type))
   where
     r : tables.TradeRow
-    r = trade_row order terms trade stamp
+    r = ordered_row order terms trade stamp
 
     request : RequestRow
     request = record { trade = trade; kind = (kind_of order.order_type); symbol = order.symbol; qty = order.qty; bid = terms.price; broker = broker }
 
-    by_market : (b : Bool) → after_changes (changes_of row (cond b None (Some request))) t
-        ≡ with_last stamp (requested_if (not b) (request_of r broker) (with_history (status_row r.id r.status r.stamp) (with_trade r t)))
+    by_market : (b : Bool) → after_changes (changes_of_order row (cond b None (Some request))) t
+        ≡ with_last stamp (requested_if (not b) (request_of_trade r broker) (with_history (status_row r.id r.status r.stamp) (with_trade r t)))
     by_market true = ap (λ r. with_last r.stamp (with_history (status_row r.id r.status r.stamp) (with_trade r t))) e
     by_market false = ap (λ r. with_last r.stamp (with_request (request_row_of request) (with_history (status_row r.id r.status r.stamp) (with_trade r t)))) e
 
@@ -147,12 +147,12 @@ changes_made order terms broker trade stamp row t e = by_market (is_market (kind
 -- the rows of an order by what was found
 abbrev planned_rows : Order → OrderFound → ℕ → Tables → Tables
 planned_rows order found stamp =
-    order_rows (trade_row order (terms_of order found) (next_trade found.last_trade) stamp) (not (is_market (kind_of order.order_type)))
+    order_rows (ordered_row order (terms_of order found) (next_trade found.last_trade) stamp) (not (is_market (kind_of order.order_type)))
     (option_map_or (λ a. a.broker) found.account 0)
 
 order_made : (base : Base) (order : Order) (found : OrderFound) (last : Option ℕ) (now stamp : ℕ) → IsReadForPlan base order found last now
-    → first_refusal (order_tests found ++ trades_test found.last_trade ∷ clock_test last now ∷ []) ≡ None → stamp_after last now ≡ Some stamp
-    → IsDone base now (PlaceOrder (order_of order)) stamp (model.Ordered stamp (next_trade found.last_trade) (first_status (kind_of order.order_type)) (estimate base (order_of order))) (planned_rows order found stamp)
+    → first_refusal (order_fact_tests found ++ trades_test found.last_trade ∷ clock_test last now ∷ []) ≡ None → stamp_after last now ≡ Some stamp
+    → IsStepDone base now (PlaceOrder (order_of order)) stamp (model.Ordered stamp (next_trade found.last_trade) (first_status (kind_of order.order_type)) (estimate base (order_of order))) (planned_rows order found stamp)
 unfolding reply_to
 order_made base order found last now stamp k t s =
     let o : model.Order = order_of order in

@@ -4,7 +4,7 @@ use Rattle.std.specs.Prelude.{is_some, is_none, option_map, unwrap_or, find, IfS
 use Rattle.std.specs.Option.{option_map_or}
 use Rattle.brk_trade.specs.Estimates.{AreTerms}
 use Rattle.brk_model.specs.Base as base_spec
-use Rattle.brk_model.specs.Base.{Base, account_with, band_with, broker_of, charge_with, completed, customer_of, customer_with, exchange_of, last_price, security_with, tier_of}
+use Rattle.brk_model.specs.Base.{Base, account_with, band_with, broker_of_account, charge_with, completed, customer_of_account, customer_with, exchange_of, last_price, security_with, tier_of}
 use Rattle.brk_model.specs.Joins.{account_in, security_in}
 use Rattle.brk_model.specs.Orders.{assets_of, is_permitted, permitted}
 use Rattle.brk_model.specs.PositionView.{asset_total}
@@ -21,14 +21,14 @@ use Rattle.brk_money.specs.declared.tax_status.TaxStatus.TheVariants.{Untaxed}
 use Rattle.brk_orders.specs.Records.{order_of}
 use Rattle.brk_orders.specs.declared.order.Order.{Order}
 use Rattle.brk_ref.specs.Records.{executor_of}
-use Rattle.brk_trade.specs.Orders.{order_tests, terms_of}
+use Rattle.brk_trade.specs.Orders.{order_fact_tests, terms_of}
 use Rattle.brk_trade.specs.declared.order.OrderFound.{OrderFound}
 use Rattle.brk_model.specs.Names.{CustomerExists}
 use Rattle.brk_lots.specs.Books.{lots_total}
 use Rattle.brk_book_theorems.specs.Books.{BooksInvariant}
 use Rattle.brk_book_theorems.specs.OrderReads.{IfCustomer, charge_in}
 use Rattle.brk_trade_theorems.specs.OrderPlans.{IsFoundForEstimate, Passes, order_account}
-use Rattle.brk_book_theorems.specs.Reads.{rates_of}
+use Rattle.brk_book_theorems.specs.Reads.{rates_of_customer}
 use Rattle.brk_book_theorems.specs.TradeReads.{band_in, permission_in, position_in}
 use Rattle.brk_book_theorems.proofs.Holding.{held_read, total_is}
 use Rattle.brk_book_theorems.proofs.Same.{find-All}
@@ -48,7 +48,7 @@ pub record OwnerFound (base : Base) (account : ℕ) : Type 0 where
   pub there : account_with base account ≡ Some a
   pub row : account_in (sheets base) account ≡ Some (account_row base.accounts (postings_of base) a)
   pub customer_row : find (λ r. r.id == a.customer) (sheets base).customers ≡ Some c
-  pub customer_is : customer_with base (customer_of base account) ≡ Some c
+  pub customer_is : customer_with base (customer_of_account base account) ≡ Some c
 
 pub owner_found : (base : Base) (account : ℕ) → BooksInvariant base → is_some (account_with base account) ≡ true → OwnerFound base account
 owner_found base account books h =
@@ -137,12 +137,12 @@ same_first true c refusal xs ys e h = record { first = ap (λ c. first_refusal (
 same_first false c refusal xs ys e h = record { first = (h refl).first ∙ ap (λ c. first_refusal ((c, refusal) ∷ ys)) e }
 
 pub all_passed : (found : OrderFound) → is_none found.account ≡ false → is_none found.last_price ≡ false → not found.is_permitted ≡ false → is_none found.charge ≡ false → is_none found.rate ≡ false
-    → first_refusal (order_tests found) ≡ None
+    → first_refusal (order_fact_tests found) ≡ None
 all_passed found a s p c r = rw (a, s, p, c, r) refl
 
 -- from the permission on, of an account and a security that are there
 owned_read : (base : Base) (order : Order) (found : OrderFound) (xs ys : List Test) → BooksInvariant base → IsFoundForEstimate (sheets base) order found
-    → (first_refusal (order_tests found) ≡ None → first_refusal xs ≡ first_refusal ys) → is_none found.account ≡ false → is_none found.last_price ≡ false
+    → (first_refusal (order_fact_tests found) ≡ None → first_refusal xs ≡ first_refusal ys) → is_none found.account ≡ false → is_none found.last_price ≡ false
     → OwnerFound base order.account → is_some (security_with base order.symbol) ≡ true
     → Alike ((not found.is_permitted, NotPermitted) ∷ (is_none found.charge, NoCharge) ∷ (is_none found.rate, NoRate) ∷ xs)
     ((not (is_permitted base order.account (executor_of order.executor)), NotPermitted)
@@ -158,9 +158,9 @@ owned_read base order found xs ys books k later a s f l =
 
 -- an order and what else it is tested for are refused by what was found as by the base
 pub tests_read : (base : Base) (order : Order) (found : OrderFound) (xs ys : List Test) → BooksInvariant base → IsFoundForEstimate (sheets base) order found
-    → (first_refusal (order_tests found) ≡ None → first_refusal xs ≡ first_refusal ys) → first_refusal (order_tests found ++ xs) ≡ first_refusal (model.order_tests base (order_of order) ++ ys)
+    → (first_refusal (order_fact_tests found) ≡ None → first_refusal xs ≡ first_refusal ys) → first_refusal (order_fact_tests found ++ xs) ≡ first_refusal (model.order_tests base (order_of order) ++ ys)
 tests_read base order found xs ys books k later =
-    let alike : Alike (order_tests found ++ xs) (model.order_tests base (order_of order) ++ ys) =
+    let alike : Alike (order_fact_tests found ++ xs) (model.order_tests base (order_of order) ++ ys) =
     same_first _ _ NoAccount _ _ (account_read base order found k) (λ a.
     same_first _ _ NoSecurity _ _ (security_read base order found k (passes_account found a)) (λ s.
     owned_read base order found xs ys books k later a s
@@ -187,13 +187,13 @@ last_price_read : (base : Base) (order : Order) (found : OrderFound) → IsFound
 last_price_read base order found k p =
     ap (λ o. unwrap_or o 0) (k.last_price p ∙ ap (option_map (λ r. r.price)) (reads_last_trade base order.symbol)) ∙ price_or (security_with base order.symbol)
 
-rates_read : (base : Base) (order : Order) (found : OrderFound) → IsFoundForEstimate (sheets base) order found → OwnerFound base order.account → first_refusal (order_tests found) ≡ None
-    → found.rates ≡ base_spec.rates_of base (customer_of base order.account)
+rates_read : (base : Base) (order : Order) (found : OrderFound) → IsFoundForEstimate (sheets base) order found → OwnerFound base order.account → first_refusal (order_fact_tests found) ≡ None
+    → found.rates ≡ base_spec.rates_of base (customer_of_account base order.account)
 rates_read base order found k f e =
-    of_account base order.account (λ a. found.rates ≡ rates_of (sheets base) a.customer) f (k.rates e)
+    of_account base order.account (λ a. found.rates ≡ rates_of_customer (sheets base) a.customer) f (k.rates e)
     ∙ reads_rates base f.a.customer ∙ ap (base_spec.rates_of base) (sym (ap (λ x. option_map_or (λ a. a.customer) x 0) f.there))
 
-all_assets : (base : Base) (order : Order) (found : OrderFound) → BooksInvariant base → IsFoundForEstimate (sheets base) order found → OwnerFound base order.account → first_refusal (order_tests found) ≡ None
+all_assets : (base : Base) (order : Order) (found : OrderFound) → BooksInvariant base → IsFoundForEstimate (sheets base) order found → OwnerFound base order.account → first_refusal (order_fact_tests found) ≡ None
     → found.assets ≡ assets_of base order.account
 all_assets base order found books k f e =
     of_account base order.account (λ a. found.assets ≡ a.balance +ℤ asset_total (sheets base) a) f (k.assets e)
@@ -201,7 +201,7 @@ all_assets base order found books k f e =
 
 -- what was found for an order that nothing refuses
 pub record AllFound (base : Base) (order : Order) (found : OrderFound) : Type 0 where
-  pub broker : option_map_or (λ a. a.broker) found.account 0 ≡ broker_of base order.account
+  pub broker : option_map_or (λ a. a.broker) found.account 0 ≡ broker_of_account base order.account
   pub terms : AreTerms base (order_of order) (terms_of order found)
   pub held : (terms_of order found).held ≡ lots_total (position_in (sheets base) order.account order.symbol)
 
@@ -210,10 +210,10 @@ broker_or : (accounts : List Account) (posted : List Posting) (a : Option Accoun
 broker_or accounts posted None = refl
 broker_or accounts posted (Some a) = refl
 
-pub all_found : (base : Base) (order : Order) (found : OrderFound) → BooksInvariant base → IsFoundForEstimate (sheets base) order found → first_refusal (order_tests found) ≡ None
+pub all_found : (base : Base) (order : Order) (found : OrderFound) → BooksInvariant base → IsFoundForEstimate (sheets base) order found → first_refusal (order_fact_tests found) ≡ None
     → AllFound base order found
 all_found base order found books k e =
-    let p = none_refuse (order_tests found) e in
+    let p = none_refuse (order_fact_tests found) e in
     let f : OwnerFound base order.account = owner_found base order.account books (not_not (is_some (account_with base order.account)) (sym (account_read base order found k) ∙ p.0)) in
     let one : Passes 1 found = passes_account found p.0 in
     let listed = not_not (is_some (security_with base order.symbol)) (sym (security_read base order found k one) ∙ p.1.0) in
@@ -237,6 +237,6 @@ all_found base order found books k e =
       held = held_read base order.account order.symbol found.summary books (ap is_some f.there) listed (k.summary e) ∙ sym (total_is base order.account order.symbol books);
     }
 
-pub terms_read : (base : Base) (order : Order) (found : OrderFound) → BooksInvariant base → IsFoundForEstimate (sheets base) order found → first_refusal (order_tests found) ≡ None
+pub terms_read : (base : Base) (order : Order) (found : OrderFound) → BooksInvariant base → IsFoundForEstimate (sheets base) order found → first_refusal (order_fact_tests found) ≡ None
     → AreTerms base (order_of order) (terms_of order found)
 terms_read base order found books k e = (all_found base order found books k e).terms

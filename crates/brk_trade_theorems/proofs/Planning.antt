@@ -22,9 +22,9 @@ use Rattle.brk_plans.specs.declared.reference.Reference.{Reference}
 use Rattle.brk_plans.specs.declared.reference.Reference.TheVariants as reference
 use Rattle.brk_ref.specs.Records.{broker_of, customer_of, account_of, permission_of, listing_of, charge_of, band_of, tax_of, customer_tax_of}
 use Rattle.brk_book_theorems.specs.Books.{BooksInvariant}
-use Rattle.brk_book_theorems.specs.Reads.{rates_of}
+use Rattle.brk_book_theorems.specs.Reads.{rates_of_customer}
 use Rattle.brk_plans.specs.Replies.{reply_of}
-use Rattle.brk_plans.specs.Commands.{command_of}
+use Rattle.brk_plans.specs.Commands.{adding_command}
 use Rattle.brk_book_theorems.specs.Steps.{base_then, LeavesBooks}
 use Rattle.brk_trade_theorems.specs.Plans.{IsRead, DoesCommand}
 use Rattle.brk_book_theorems.proofs.Reading.{is_none-map, reads_has_broker, reads_has_customer, reads_same_customer, reads_tax_id, reads_has_account, reads_count, reads_last}
@@ -46,7 +46,7 @@ exceeds_read None sum rate h = above sum (unwrap_or rate 0) h
 exceeds_read (Some r) sum rate h = ap (λ n. nat_lt greatest_tax_rate (n + unwrap_or rate 0)) h.1
 
 pub refusal_read : (base : Base) (r : Reference) (found : ReferenceFacts) (last : Option ℕ) (now : ℕ) → IsRead base r found last now
-    → first_refusal (tests_of r found ++ clock_test last now ∷ []) ≡ refusal_of base now (command_of r)
+    → first_refusal (tests_of r found ++ clock_test last now ∷ []) ≡ refusal_of base now (adding_command r)
 unfolding refusal_of tests
 refusal_read base (reference.Broker b) found last now k =
     let same = k.looked_up ∙ reads_has_broker base b.id in
@@ -90,15 +90,15 @@ refusal_read base (reference.CustomerTax x) found last now k =
     let rate = k.looked_up.rate_there ∙ reads_rate base x.tax in
     let none = ap is_none rate ∙ is_none-map (λ r. r.rate) (tax_rate_with base x.tax) in
     let same = k.looked_up.same_id ∙ reads_pays_tax base x.customer x.tax in
-    let sum = exceeds_read found.rates (rates_of (sheets base) x.customer) found.rate k.looked_up.sum
+    let sum = exceeds_read found.rates (rates_of_customer (sheets base) x.customer) found.rate k.looked_up.sum
     ∙ (λ i. nat_lt greatest_tax_rate (reads_rates base x.customer i + unwrap_or (rate i) 0))
     ∙ ap (λ n. nat_lt greatest_tax_rate (base_spec.rates_of base x.customer + n)) (map-or (tax_rate_with base x.tax)) in
     let clock = clock_read base last now k.books k.last_read k.moment in
     λ i. first_refusal ((not (customer i), NoCustomer) ∷ (none i, NoTax) ∷ exists_if (same i) ∷ (sum i, TaxSum) ∷ (clock i, ClockEnd) ∷ [])
 
 -- the rows and the books after the command of a record
-reference_rows : (base : Base) (now : ℕ) (r : Reference) → BooksInvariant base → refusal_of base now (command_of r) ≡ None
-    → sheets (base_then base now (command_of r)) ≡ after_changes (rows_added (next_stamp base now) r ++ change.SetLast (next_stamp base now) ∷ []) (sheets base)
+reference_rows : (base : Base) (now : ℕ) (r : Reference) → BooksInvariant base → refusal_of base now (adding_command r) ≡ None
+    → sheets (base_then base now (adding_command r)) ≡ after_changes (rows_added (next_stamp base now) r ++ change.SetLast (next_stamp base now) ∷ []) (sheets base)
 reference_rows base now (reference.Broker b) books e = step_broker base now (broker_of b) books e
 reference_rows base now (reference.Customer c) books e = step_customer base now (customer_of c) books e
 reference_rows base now (reference.Account a) books e = step_account base now (account_of a) books e
@@ -109,7 +109,7 @@ reference_rows base now (reference.Band b) books e = step_band base now (band_of
 reference_rows base now (reference.TaxRate r) books e = step_tax_rate base now (tax_of r) books e
 reference_rows base now (reference.CustomerTax x) books e = step_customer_tax base now (customer_tax_of x) books e
 
-reference_books : (base : Base) (now : ℕ) (r : Reference) → LeavesBooks base now (command_of r)
+reference_books : (base : Base) (now : ℕ) (r : Reference) → LeavesBooks base now (adding_command r)
 reference_books base now (reference.Broker b) = books_broker base now (broker_of b)
 reference_books base now (reference.Customer c) = books_customer base now (customer_of c)
 reference_books base now (reference.Account a) = books_account base now (account_of a)
@@ -120,7 +120,7 @@ reference_books base now (reference.Band b) = books_band base now (band_of b)
 reference_books base now (reference.TaxRate r) = books_tax_rate base now (tax_of r)
 reference_books base now (reference.CustomerTax x) = books_customer_tax base now (customer_tax_of x)
 
-reference_reply : (base : Base) (stamp : ℕ) (r : Reference) → reply_to base stamp (command_of r) ≡ Booked stamp
+reference_reply : (base : Base) (stamp : ℕ) (r : Reference) → reply_to base stamp (adding_command r) ≡ Booked stamp
 unfolding reply_to
 reference_reply base stamp (reference.Broker b) = refl
 reference_reply base stamp (reference.Customer c) = refl
@@ -133,14 +133,14 @@ reference_reply base stamp (reference.TaxRate r) = refl
 reference_reply base stamp (reference.CustomerTax x) = refl
 
 pub plan_does : (base : Base) (r : Reference) (found : ReferenceFacts) (last : Option ℕ) (now : ℕ) (plan : Plan) → IsRead base r found last now → IsPlanned r found last now plan
-    → DoesCommand base now (command_of r) plan
+    → DoesCommand base now (adding_command r) plan
 unfolding step
 plan_does base r found last now plan k p =
-    let e : refusal_of base now (command_of r) ≡ None = sym (refusal_read base r found last now k) ∙ p.accepted in
+    let e : refusal_of base now (adding_command r) ≡ None = sym (refusal_read base r found last now k) ∙ p.accepted in
     let s : p.stamp ≡ next_stamp base now = stamp_is last now p.stamp p.stamped ∙ ap (λ o. moved_past o now) (k.last_read ∙ reads_last base) in
     record {
-      steps = ap (λ o. unless o (reply_to base (next_stamp base now) (command_of r), base_then base now (command_of r))) e
-          ∙ ap (λ reply. Ok (reply, base_then base now (command_of r)))
+      steps = ap (λ o. unless o (reply_to base (next_stamp base now) (adding_command r), base_then base now (adding_command r))) e
+          ∙ ap (λ reply. Ok (reply, base_then base now (adding_command r)))
           (reference_reply base (next_stamp base now) r ∙ sym (ap Booked s) ∙ sym (ap reply_of p.told));
       rows = reference_rows base now r k.books e
           ∙ ap (λ stamp. after_changes (rows_added stamp r ++ change.SetLast stamp ∷ []) (sheets base)) (sym s)
@@ -149,7 +149,7 @@ plan_does base r found last now plan k p =
     }
 
 pub refusal_does : (base : Base) (r : Reference) (found : ReferenceFacts) (last : Option ℕ) (now : ℕ) (refusal : Refusal) → IsRead base r found last now
-    → first_refusal (tests_of r found ++ clock_test last now ∷ []) ≡ Some refusal → step base now (command_of r) ≡ Err refusal
+    → first_refusal (tests_of r found ++ clock_test last now ∷ []) ≡ Some refusal → step base now (adding_command r) ≡ Err refusal
 unfolding step
 refusal_does base r found last now refusal k e =
-    ap (λ o. unless o (reply_to base (next_stamp base now) (command_of r), base_then base now (command_of r))) (sym (refusal_read base r found last now k) ∙ e)
+    ap (λ o. unless o (reply_to base (next_stamp base now) (adding_command r), base_then base now (adding_command r))) (sym (refusal_read base r found last now k) ∙ e)

@@ -11,7 +11,7 @@ use Rattle.brk_orders.specs.Records.{tick_of, ticks_of}
 use Rattle.brk_orders.specs.declared.tick.Tick.{Tick}
 use Rattle.brk_ref.specs.Records.{last_trade_of}
 use Rattle.brk_changes.specs.Changes.{after_changes, with_last_trade_set}
-use Rattle.brk_plans.specs.Feed.{SymbolState, changes_of_quote, changes_of_tick, changes_of_ticks, ids_of_tick, ids_of_ticks, is_of, is_triggered, last_after, quote_after, quotes_after_tick, submitted, triggered_at, waiting_at}
+use Rattle.brk_plans.specs.Feed.{SymbolState, changes_of_quote, changes_of_tick, changes_of_ticks, ids_of_tick, ids_of_ticks, is_of, is_request_triggered, last_after, quote_after, quotes_after_tick, submitted, triggered_at, waiting_at}
 use Rattle.brk_plans.specs.declared.span.Span.{Span}
 use Rattle.brk_changes.specs.Rows.{request_row_of}
 use Rattle.brk_changes.specs.declared.change.Change.{Change}
@@ -57,7 +57,7 @@ rows_triggered price (r ∷ requests) = by_test (triggers r.kind r.bid price) (r
     Rows = filter (λ r. triggers r.kind r.bid price) (map request_row_of requests)
 
     by_test : (b : Bool) → triggered_at price requests ≡ map (λ r. r.trade) Rows
-        → map (λ r. r.trade) (cond b (r ∷ filter (is_triggered price) requests) (filter (is_triggered price) requests))
+        → map (λ r. r.trade) (cond b (r ∷ filter (is_request_triggered price) requests) (filter (is_request_triggered price) requests))
         ≡ map (λ r. r.trade) (cond b (request_row_of r ∷ Rows) Rows)
     by_test true e = ap (λ ids. r.trade ∷ ids) e
     by_test false e = e

@@ -16,7 +16,7 @@ use Rattle.brk_orders.specs.declared.tick.Tick.{Tick}
 use Rattle.brk_ref.specs.Records.{last_trade_of}
 use Rattle.brk_plans.specs.Feed.{SymbolState, exceeds, is_of, quote_after, quotes_after, quotes_after_tick}
 use Rattle.brk_book_theorems.specs.Books.{BooksInvariant, DistinctSymbols, HasVolume}
-use Rattle.brk_book_theorems.specs.TradeReads.{volume_in}
+use Rattle.brk_book_theorems.specs.TradeReads.{last_volume_in}
 use Rattle.brk_trade_theorems.specs.TradePlans.{QuotesApart}
 use Rattle.brk_book_theorems.specs.Ticks.{exceeds_volume, qty_fed}
 use Rattle.brk_book_theorems.proofs.Same.{All-map, All-mapped, find-All}
@@ -97,13 +97,13 @@ market_knows quotes ticks known = All-mapped (λ u. is_some (security_with (mark
 
 -- their volumes are those that the tables have
 market_volume : (t : Tables) (ticks : List Tick) (symbol : Text) (quotes : List SymbolState) → AllByRecursion (IsHeld t ticks) quotes → QuotesApart quotes → list_any (is_of symbol) quotes ≡ true
-    → volume_in (sheets (market quotes)) symbol ≡ volume_in t symbol
+    → last_volume_in (sheets (market quotes)) symbol ≡ last_volume_in t symbol
 market_volume t ticks symbol quotes k d e =
     let q = quote_of t ticks symbol quotes k d e in
     reads_volume (market quotes) symbol
     ∙ ap (λ o. option_map_or (λ s. s.volume) o 0) (find-map (λ s. bytes_eq s.symbol symbol) security_of quotes ∙ ap (option_map security_of) q.found)
     ∙ sym (quote_volume t ticks q.quote q.read)
-    ∙ ap (volume_in t) q.same
+    ∙ ap (last_volume_in t) q.same
 
 any-each : {X : Type 0} (p q : X → Bool) (xs : List X) → AllByRecursion (λ x. p x ≡ q x) xs → list_any p xs ≡ list_any q xs
 any-each p q [] h = refl

@@ -16,7 +16,7 @@ use Rattle.brk_changes.specs.declared.request_row.RequestRow as request
 use Rattle.brk_plans.specs.declared.quote.Quote.{Quote}
 use Rattle.brk_plans.specs.declared.span.Span.{Span}
 use Rattle.brk_book_theorems.specs.Books.{BooksInvariant}
-use Rattle.brk_book_theorems.specs.TradeReads.{last_trade_in, requests_of, volume_in}
+use Rattle.brk_book_theorems.specs.TradeReads.{last_trade_in, requests_of, last_volume_in}
 use Rattle.brk_trade_theorems.specs.TradePlans.{AreQuotes, IsQuote, IsQuoteOfOne, IsQuoted, QuotesApart}
 use Rattle.brk_book_theorems.proofs.Bools.{same_text, texts_back}
 use Rattle.brk_book_theorems.proofs.Same.{NonePass, All-append, All-map, any-none, filter-none, find-All, map-last}
@@ -98,7 +98,7 @@ quote_of t ticks symbol quotes r d e =
     }
 
 -- its volume is that of its symbol
-pub quote_volume : (t : Tables) (ticks : List Tick) (quote : SymbolState) → IsHeld t ticks quote → volume_in t quote.last.symbol ≡ quote.last.volume
+pub quote_volume : (t : Tables) (ticks : List Tick) (quote : SymbolState) → IsHeld t ticks quote → last_volume_in t quote.last.symbol ≡ quote.last.volume
 quote_volume t ticks quote k = ap (λ o. option_map_or (λ r. r.volume) o 0) k.last_trade
 
 -- ---- quotes are read one by one

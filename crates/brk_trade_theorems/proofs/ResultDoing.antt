@@ -8,7 +8,7 @@ use Rattle.brk_lots.specs.Lots.{from_end, plain_lot, plain_touch, shares_of}
 use Rattle.brk_lots.specs.declared.closing.Closing.{Closing}
 use Rattle.brk_lots.specs.declared.lot.Lot.{Lot}
 use Rattle.brk_lots.specs.declared.lot.Touch.{Touch}
-use Rattle.brk_model.specs.Base.{Base, broker_of, completed, moment_of, trade_with}
+use Rattle.brk_model.specs.Base.{Base, broker_of_account, completed, moment_of, trade_with}
 use Rattle.brk_model.specs.Commands as model
 use Rattle.brk_model.specs.Commands.{CompleteTrade, CompletedTrade}
 use Rattle.brk_model.specs.Derived as derived
@@ -30,10 +30,10 @@ use Rattle.brk_money.specs.declared.side.Side.{Side}
 use Rattle.brk_money.specs.declared.side.Side.TheVariants.{Buy, Sell}
 use Rattle.brk_money.specs.declared.status.Status.TheVariants.{Completed}
 use Rattle.brk_changes.specs.Changes.{after_change, after_changes, with_balance, with_broker_numbers, with_completion, with_history, with_last, with_lot_change, with_move, with_settlement}
-use Rattle.brk_trade.specs.Outcomes.{deal_of, outcome_of, result_tests, summary_after, values_in}
+use Rattle.brk_trade.specs.Outcomes.{deal_of_row, numbers_of_result, all_result_tests, summary_after, values_in}
 use Rattle.brk_plans.specs.Replies.{reply_of}
 use Rattle.brk_trade.specs.Results as planner
-use Rattle.brk_trade.specs.Results.{IsCompleted, cash_changes, changes_of, first_cash_type, opened_changes, sum_changes, summary_change, touched_changes, told_of, trade_changes}
+use Rattle.brk_trade.specs.Results.{IsCompleted, cash_changes, changes_of_result, settlement_type, opened_changes, sum_changes, summary_change, touched_changes, told_of, trade_changes}
 use Rattle.brk_changes.specs.Rows.{cash_type_word, move_row_of, trade_row_of}
 use Rattle.brk_changes.specs.declared.move_row.MoveRow.{MoveRow}
 use Rattle.brk_changes.specs.declared.change.Change.{Change}
@@ -46,9 +46,9 @@ use Rattle.brk_changes.specs.declared.summary_row.SummaryRow as summary
 use Rattle.brk_changes.specs.declared.trade_row.TradeRow as planned
 use Rattle.brk_book_theorems.specs.Books.{BooksInvariant}
 use Rattle.brk_trade_theorems.specs.Plans.{DoesCommand}
-use Rattle.brk_book_theorems.specs.Steps.{IsDone, base_then}
+use Rattle.brk_book_theorems.specs.Steps.{IsStepDone, base_then}
 use Rattle.brk_trade_theorems.specs.ResultPlans.{IsReadForResult, PassesFirst}
-use Rattle.brk_book_theorems.specs.Results.{cash_rows, completed_rows, opened_rows, result_rows, rows_of_result, summary_rows_moved, touched_rows}
+use Rattle.brk_book_theorems.specs.Results.{with_cash_posted, completed_rows, opened_rows, result_rows, rows_of_result, summary_rows_moved, touched_rows}
 use Rattle.brk_book_theorems.specs.TradeReads.{position_in, row_of_summary, summary_in}
 use Rattle.brk_book_theorems.specs.Trading.{status_row}
 use Rattle.brk_trade_theorems.proofs.QuotedTicks.{after_more}
@@ -133,7 +133,7 @@ record Planned (base : Base) (price : ℕ) (last : Option ℕ) (now : ℕ) (t : 
   pub three : PassesFirst 3 found
 
 abbrev outcome_planned : ResultFound → ℕ → Closing → ℕ → ResultNumbers
-outcome_planned found price closing stamp = outcome_of found price (values_in closing) stamp
+outcome_planned found price closing stamp = numbers_of_result found price (values_in closing) stamp
 
 -- what it comes to is what the definitions say
 record Agrees (base : Base) (price : ℕ) (t : Trade) (found : ResultFound) (closing : Closing) (stamp : ℕ) : Type 0 where
@@ -143,9 +143,9 @@ record Agrees (base : Base) (price : ℕ) (t : Trade) (found : ResultFound) (clo
   pub due : (outcome_planned found price closing stamp).due_day ≡ due_day base.rule (completed_trade base stamp price t)
   pub summary : (outcome_planned found price closing stamp).summary ≡ summary_of (completed (with_result base stamp price t)) t.account t.symbol
   pub balance : (outcome_planned found price closing stamp).balance ≡ balance_of base.accounts (postings_of (with_result base stamp price t)) t.account
-  pub commissions : (outcome_planned found price closing stamp).commissions ≡ commissions_of base.accounts (completed (with_result base stamp price t)) (broker_of base t.account)
-  pub trades : pos (found.broker.trades + 1) ≡ pos (trade_count_of base.accounts (completed (with_result base stamp price t)) (broker_of base t.account))
-  pub broker : found.account.broker ≡ broker_of base t.account
+  pub commissions : (outcome_planned found price closing stamp).commissions ≡ commissions_of base.accounts (completed (with_result base stamp price t)) (broker_of_account base t.account)
+  pub trades : pos (found.broker.trades + 1) ≡ pos (trade_count_of base.accounts (completed (with_result base stamp price t)) (broker_of_account base t.account))
+  pub broker : found.account.broker ≡ broker_of_account base t.account
 
 agrees : (base : Base) (price : ℕ) (last : Option ℕ) (now : ℕ) (t : Trade) (found : ResultFound) (closing : Closing) (stamp : ℕ) → Planned base price last now t found closing stamp
     → Agrees base price t found closing stamp
@@ -153,13 +153,13 @@ agrees base price last now t found closing stamp k =
     let f = k.found_it in
     record {
       commission = commission_read base stamp price t found f k.one k.rated;
-      tax = ap (λ v. (outcome_of found price v stamp).tax) k.values ∙ tax_read base stamp price t found f k.three;
-      amount = ap (λ v. (outcome_of found price v stamp).amount) k.values ∙ amount_read base stamp price t found f k.three k.rated k.one;
+      tax = ap (λ v. (numbers_of_result found price v stamp).tax) k.values ∙ tax_read base stamp price t found f k.three;
+      amount = ap (λ v. (numbers_of_result found price v stamp).amount) k.values ∙ amount_read base stamp price t found f k.three k.rated k.one;
       due = λ i. due_after (rule_found base t found f k.three i) (sym (moment_then base stamp price t) i);
       summary = summary_read base stamp price t k.front k.back found f k.result k.two;
-      balance = ap (λ v. (outcome_of found price v stamp).balance) k.values ∙ balance_read base stamp price t k.front k.back found f k.result k.three k.rated k.one;
+      balance = ap (λ v. (numbers_of_result found price v stamp).balance) k.values ∙ balance_read base stamp price t k.front k.back found f k.result k.three k.rated k.one;
       commissions = commissions_read base stamp price t k.front k.back found f k.result k.three k.rated k.one;
-      trades = one_more found.broker.trades (trade_count_of base.accounts (completed base) (broker_of base t.account)) (broker_found base t found f k.three).0
+      trades = one_more found.broker.trades (trade_count_of base.accounts (completed base) (broker_of_account base t.account)) (broker_found base t found f k.three).0
           ∙ ap pos (sym (count_grows base stamp price t k.front k.back k.result));
       broker = ap (λ a. a.broker) (account_found base t found f k.three);
     }
@@ -203,7 +203,7 @@ lots_made base price last now t found closing stamp k x =
     ∙ opened_made found.trade (option_to_list closing.opened) (touched_rows found.trade.id (map plain_touch closing.touched.items) x)
     ∙ (λ i. opened_rows (k.found_it.row i) (k.opened i) (touched_rows (k.found_it.row i).id (k.touched i) x))
 
-cash_type_read : (b : Bool) → cash_type_word (first_cash_type b) ≡ cond b (codes "Cash Account") (codes "Margin")
+cash_type_read : (b : Bool) → cash_type_word (settlement_type b) ≡ cond b (codes "Cash Account") (codes "Margin")
 cash_type_read true = refl
 cash_type_read false = refl
 
@@ -249,16 +249,16 @@ sums_made base price last now t found closing stamp k x =
     let f = k.found_it in
     λ i. with_settlement (record {
       trade = (f.row i).id;
-      cash_type = (ap (λ (r : TradeRow). cash_type_word (first_cash_type r.is_cash)) f.row ∙ cash_type_read t.is_cash) i;
+      cash_type = (ap (λ (r : TradeRow). cash_type_word (settlement_type r.is_cash)) f.row ∙ cash_type_read t.is_cash) i;
       due_day = a.due i;
       amount = a.amount i;
     })
     (with_broker_numbers (a.broker i) (a.trades i) (a.commissions i) (summary_row_is base price last now t found closing stamp k x i))
 
 cash_made : (base : Base) (price : ℕ) (last : Option ℕ) (now : ℕ) (t : Trade) (found : ResultFound) (closing : Closing) (stamp : ℕ) → Planned base price last now t found closing stamp
-    → (cash : Option MoveRow) → option_map move_row_of cash ≡ planner.cash_row found (outcome_planned found price closing stamp) → (x : Tables)
+    → (cash : Option MoveRow) → option_map move_row_of cash ≡ planner.cash_row_posted found (outcome_planned found price closing stamp) → (x : Tables)
     → after_changes (flat_map (cash_changes found.trade.account (outcome_planned found price closing stamp).balance) (option_to_list cash)) x
-    ≡ cash_rows t.is_cash (rows_of_result base stamp price t).cash t.account (rows_of_result base stamp price t).balance x
+    ≡ with_cash_posted t.is_cash (rows_of_result base stamp price t).cash t.account (rows_of_result base stamp price t).balance x
 unfolding completed_trade
 cash_made base price last now t found closing stamp k cash moved x = by_cash t.is_cash refl cash (moved ∙ told)
   where
@@ -284,7 +284,7 @@ cash_made base price last now t found closing stamp k cash moved x = by_cash t.i
     name : t.is_cash ≡ true → row.name ≡ results.cash_text (codes " shares of ") base t
     name e = ap (λ b. cond b (results.cash_text (codes " shares of ") base t) []) e
 
-    told : planner.cash_row found (outcome_planned found price closing stamp)
+    told : planner.cash_row_posted found (outcome_planned found price closing stamp)
         ≡ cond t.is_cash (Some moves) None
     told = λ i. cond (f.row i).is_cash (Some (record {
       id = next_found base t found f k.three i;
@@ -297,7 +297,7 @@ cash_made base price last now t found closing stamp k cash moved x = by_cash t.i
 
     Made : Bool → Option MoveRow → Type 0
     Made b cash = after_changes (flat_map (cash_changes found.trade.account (outcome_planned found price closing stamp).balance) (option_to_list cash)) x
-        ≡ cash_rows b row t.account (rows_of_result base stamp price t).balance x
+        ≡ with_cash_posted b row t.account (rows_of_result base stamp price t).balance x
 
     unsome : (c d : tables.MoveRow) → Some c ≡ Some d → c ≡ d
     unsome c d e = cc
@@ -313,8 +313,8 @@ cash_made base price last now t found closing stamp k cash moved x = by_cash t.i
         let j : Some (move_row_of c) ≡ Some moves =
         h ∙ ap (λ b. cond b (Some moves) None) e in
         let same : move_row_of c ≡ row = unsome (move_row_of c) moves j ∙ (λ i. record row { name = sym (name e) i }) in
-        (λ i. with_balance (f.row i).account (a.balance i) (with_move (same i) x)) ∙ sym (ap (λ b. cash_rows b row t.account (rows_of_result base stamp price t).balance x) e)
-    by_cash false e None h = sym (ap (λ b. cash_rows b row t.account (rows_of_result base stamp price t).balance x) e)
+        (λ i. with_balance (f.row i).account (a.balance i) (with_move (same i) x)) ∙ sym (ap (λ b. with_cash_posted b row t.account (rows_of_result base stamp price t).balance x) e)
+    by_cash false e None h = sym (ap (λ b. with_cash_posted b row t.account (rows_of_result base stamp price t).balance x) e)
     by_cash false e (Some c) h =
         let j : Some (move_row_of c) ≡ None =
         h ∙ ap (λ b. cond b (Some moves) None) e in
@@ -322,8 +322,8 @@ cash_made base price last now t found closing stamp k cash moved x = by_cash t.i
 
 -- all of them
 changes_made : (base : Base) (price : ℕ) (last : Option ℕ) (now : ℕ) (t : Trade) (found : ResultFound) (closing : Closing) (stamp : ℕ) → Planned base price last now t found closing stamp
-    → (cash : Option MoveRow) → option_map move_row_of cash ≡ planner.cash_row found (outcome_planned found price closing stamp) → (x : Tables)
-    → after_changes (changes_of found price closing (outcome_planned found price closing stamp) cash) x ≡ with_last stamp (result_rows (rows_of_result base stamp price t) x)
+    → (cash : Option MoveRow) → option_map move_row_of cash ≡ planner.cash_row_posted found (outcome_planned found price closing stamp) → (x : Tables)
+    → after_changes (changes_of_result found price closing (outcome_planned found price closing stamp) cash) x ≡ with_last stamp (result_rows (rows_of_result base stamp price t) x)
 unfolding completed_trade
 changes_made base price last now t found closing stamp k cash moved x =
     let o : ResultNumbers = outcome_planned found price closing stamp in
@@ -345,7 +345,7 @@ changes_made base price last now t found closing stamp k cash moved x =
 
 -- an accepted result is done by its rows
 pub result_done : (base : Base) (id price now stamp : ℕ) (t : Trade) → BooksInvariant base → trade_with base id ≡ Some t → refusal_of base now (CompleteTrade id price) ≡ None
-    → stamp ≡ next_stamp base now → IsDone base now (CompleteTrade id price) stamp (CompletedTrade stamp (completion base stamp price t)) (result_rows (rows_of_result base stamp price t))
+    → stamp ≡ next_stamp base now → IsStepDone base now (CompleteTrade id price) stamp (CompletedTrade stamp (completion base stamp price t)) (result_rows (rows_of_result base stamp price t))
 unfolding reply_to
 result_done base id price now stamp t books e accepted next =
     is_done base now (CompleteTrade id price) stamp (CompletedTrade stamp (completion base stamp price t)) (λ stamp. result_rows (rows_of_result base stamp price t)) books accepted next
@@ -360,11 +360,11 @@ result_plan_does base id price (Some found) given last now plan k p =
     let t = trade_of base id (trade_row_of found.trade) k.trade_read in
     let f : TradeFound base t.0 found = trade_found base id t.0 found k.books t.1 t.2 k.looked_up in
     let next : p.stamp ≡ next_stamp base now = stamp_read base last now p.stamp k.last_read p.stamped in
-    let tests = none_refuse (result_tests found price (values_in p.closing) (Some p.stamp)) p.accepted in
+    let tests = none_refuse (all_result_tests found price (values_in p.closing) (Some p.stamp)) p.accepted in
     let held = position_in (sheets base) found.trade.account found.trade.symbol in
     let met = lots_met base id found given k.books k.trade_read (at_market found tests.0) (k.lots_read (passes_status found tests.0)) (held_by_row base t.0 found f (passes_rate found tests.0 tests.1.0)) in
-    let closes : IsClosing (deal_of found.trade price p.stamp) held p.closing = p.closes held met in
-    let deal : deal_of found.trade price p.stamp ≡ result_deal p.stamp price t.0 = deal_read t.0 found price p.stamp t.2 in
+    let closes : IsClosing (deal_of_row found.trade price p.stamp) held p.closing = p.closes held met in
+    let deal : deal_of_row found.trade price p.stamp ≡ result_deal p.stamp price t.0 = deal_read t.0 found price p.stamp t.2 in
     let same : shares_of held ≡ shares_in (completed base) t.0.account t.0.symbol = lots_shares base t.0 found f in
     let values : values_in p.closing ≡ result_values base p.stamp price t.0 = λ i. record {
       buy_value = (ap nat_abs closes.bought ∙ (λ i. shares.buy_value (deal i) (same i))) i;
@@ -372,8 +372,8 @@ result_plan_does base id price (Some found) given last now plan k p =
     } in
     let accepted : refusal_of base now (CompleteTrade id price) ≡ None =
     sym (result_refusal base now id price t.0 found last f t.1 k.last_read k.moment)
-    ∙ (λ i. first_refusal (result_tests found price (result_values base (sym next i) price t.0) (p.stamped i)))
-    ∙ sym (ap (λ v. first_refusal (result_tests found price v (Some p.stamp))) values) ∙ p.accepted in
+    ∙ (λ i. first_refusal (all_result_tests found price (result_values base (sym next i) price t.0) (p.stamped i)))
+    ∙ sym (ap (λ v. first_refusal (all_result_tests found price v (Some p.stamp))) values) ∙ p.accepted in
     let stands : Found base now price t.0 = found_at base now id price t.0 k.books t.1 (submitted base now id price t.0 t.1 accepted) in
     let made : Planned base price last now t.0 found p.closing p.stamp = record {
       found_it = f;

@@ -6,7 +6,7 @@ use Rattle.std.proofs.lemmas.Bool.{eqb-true}
 use Rattle.brk_lots.specs.Values.{values_of}
 use Rattle.brk_lots.specs.declared.values.Values.{Values}
 use Rattle.brk_model.specs.Base as base_spec
-use Rattle.brk_model.specs.Base.{Base, band_with, bears_tax, broker_of, broker_with, completed, customer_of, exchange_of, has_status, last_mark, security_name, security_with, takes_tax_off, tax_status_in, tier_of, trade_with}
+use Rattle.brk_model.specs.Base.{Base, band_with, bears_tax, broker_of_account, broker_with, completed, customer_of_account, exchange_of, has_status, last_mark, security_name, security_with, takes_tax_off, tax_status_in, tier_of, trade_with}
 use Rattle.brk_model.specs.Commands.{CompleteTrade}
 use Rattle.brk_model.specs.Derived as derived
 use Rattle.brk_model.specs.Derived.{balance_of, commissions_of, due_after, postings_of, proceeds, shares_in, summary_of, trade_count_of}
@@ -26,14 +26,14 @@ use Rattle.brk_money.specs.declared.refusal.Limit.TheVariants as limit
 use Rattle.brk_money.specs.declared.refusal.Refusal.TheVariants.{ClockEnd, NoRate, NoTrade, Range, TooEarly, WrongStatus}
 use Rattle.brk_money.specs.declared.status.Status.TheVariants.{Canceled, Submitted}
 use Rattle.brk_money.specs.declared.tax_status.TaxStatus.TheVariants.{Untaxed}
-use Rattle.brk_trade.specs.Outcomes.{amount_of, balance_after, commission_at, commissions_after, due_test, result_tests, summary_after, tax_upon}
+use Rattle.brk_trade.specs.Outcomes.{amount_settled, balance_after, commission_at, commissions_after, due_test, all_result_tests, summary_after, tax_upon}
 use Rattle.brk_changes.specs.Rows.{trade_row_of}
 use Rattle.brk_trade.specs.declared.result_found.ResultAccount.{ResultAccount}
 use Rattle.brk_trade.specs.declared.result_found.ResultFound.{ResultFound}
 use Rattle.brk_model.specs.Names.{AccountExists, BrokerExists, SecurityExists}
 use Rattle.brk_book_theorems.specs.Books.{BooksInvariant}
 use Rattle.brk_book_theorems.specs.OrderReads.{IfCustomer}
-use Rattle.brk_book_theorems.specs.Reads.{rates_of}
+use Rattle.brk_book_theorems.specs.Reads.{rates_of_customer}
 use Rattle.brk_trade_theorems.specs.ResultPlans.{IsFoundForResult, PassesFirst, result_account}
 use Rattle.brk_book_theorems.specs.TradeReads.{band_in, summary_in}
 use Rattle.brk_book_theorems.proofs.Holding.{held_read}
@@ -112,7 +112,7 @@ held_found base t found k p =
 
 -- an account, as the definitions have it
 abbrev pub account_is : Base → Trade → ResultAccount
-account_is base t = record { broker = broker_of base t.account; tax_status = tax_status_in base.accounts t.account; balance = balance_of base.accounts (postings_of base) t.account }
+account_is base t = record { broker = broker_of_account base t.account; tax_status = tax_status_in base.accounts t.account; balance = balance_of base.accounts (postings_of base) t.account }
 
 account_id : (base : Base) (account : ℕ) (f : OwnerFound base account) → f.a.id ≡ account
 account_id base account f = let g : FoundAt Account (λ a. a.id == account) f.a base.accounts = find-at (λ a. a.id == account) base.accounts f.a f.there in eqb-true f.a.id account g.passes
@@ -128,21 +128,21 @@ account_found base t found k p =
       balance = balance_of base.accounts (postings_of base) (account_id base t.account k.owner i);
     })
 
-rates_found : (base : Base) (t : Trade) (found : ResultFound) → TradeFound base t found → PassesFirst 3 found → found.rates ≡ base_spec.rates_of base (customer_of base t.account)
+rates_found : (base : Base) (t : Trade) (found : ResultFound) → TradeFound base t found → PassesFirst 3 found → found.rates ≡ base_spec.rates_of base (customer_of_account base t.account)
 rates_found base t found k p =
-    of_account base t.account (λ a. found.rates ≡ rates_of (sheets base) a.customer) k.owner
-    (subst (λ (r : TradeRow). IfSome (account_in (sheets base) r.account) (λ a. found.rates ≡ rates_of (sheets base) a.customer)) k.row (k.read.rates p))
+    of_account base t.account (λ a. found.rates ≡ rates_of_customer (sheets base) a.customer) k.owner
+    (subst (λ (r : TradeRow). IfSome (account_in (sheets base) r.account) (λ a. found.rates ≡ rates_of_customer (sheets base) a.customer)) k.row (k.read.rates p))
     ∙ reads_rates base k.owner.a.customer ∙ ap (base_spec.rates_of base) (sym (ap (λ x. option_map_or (λ a. a.customer) x 0) k.owner.there))
 
 pub broker_found : (base : Base) (t : Trade) (found : ResultFound) → TradeFound base t found → PassesFirst 3 found
-    → (pos found.broker.trades ≡ pos (trade_count_of base.accounts (completed base) (broker_of base t.account)))
-    × (found.broker.commissions ≡ commissions_of base.accounts (completed base) (broker_of base t.account))
+    → (pos found.broker.trades ≡ pos (trade_count_of base.accounts (completed base) (broker_of_account base t.account)))
+    × (found.broker.commissions ≡ commissions_of base.accounts (completed base) (broker_of_account base t.account))
 broker_found base t found k p =
     let a : Account = k.owner.a in
     let named = some_of (broker_with base a.broker) (find-All (BrokerExists base) (λ x. x.id == t.account) base.accounts a k.books.brokers k.owner.there) in
     let b : Broker = named.0 in
     let g : FoundAt Broker (λ b. b.id == a.broker) b base.brokers = find-at (λ b. b.id == a.broker) base.brokers b named.1 in
-    let same : b.id ≡ broker_of base t.account = eqb-true b.id a.broker g.passes ∙ sym (ap (λ x. option_map_or (λ a. a.broker) x 0) k.owner.there) in
+    let same : b.id ≡ broker_of_account base t.account = eqb-true b.id a.broker g.passes ∙ sym (ap (λ x. option_map_or (λ a. a.broker) x 0) k.owner.there) in
     let row = reads_broker base a.broker ∙ ap (option_map (broker_row base.accounts (completed base))) named.1 in
     let told = subst (λ x. IfSome x (λ r. (pos found.broker.trades ≡ r.trades) × (found.broker.commissions ≡ r.commissions))) row
     (of_account base t.account (λ a. IfSome (find (λ r. r.id == a.broker) (sheets base).brokers) (λ r. (pos found.broker.trades ≡ r.trades) × (found.broker.commissions ≡ r.commissions))) k.owner
@@ -190,7 +190,7 @@ tax_read base stamp price t found k p =
     λ i. cond (bears_tax (account_found base t found k p i).tax_status) (tax g (rates_found base t found k p i)) 0
 
 pub amount_read : (base : Base) (stamp price : ℕ) (t : Trade) (found : ResultFound) → TradeFound base t found → PassesFirst 3 found → is_none found.rate ≡ false → PassesFirst 1 found
-    → amount_of found price (result_values base stamp price t) ≡ derived.amount_of base.accounts (completed_trade base stamp price t)
+    → amount_settled found price (result_values base stamp price t) ≡ derived.amount_of base.accounts (completed_trade base stamp price t)
 unfolding completed_trade
 amount_read base stamp price t found k p h q =
     let c = commission_read base stamp price t found k q h in
@@ -208,7 +208,7 @@ balance_read base stamp price t xs ys found k r p h q =
     a : found.account ≡ account_is base t
     a = account_found base t found k p
 
-    m : amount_of found price (result_values base stamp price t) ≡ derived.amount_of base.accounts (completed_trade base stamp price t)
+    m : amount_settled found price (result_values base stamp price t) ≡ derived.amount_of base.accounts (completed_trade base stamp price t)
     m = amount_read base stamp price t found k p h q
 
     by_cash : (b : Bool) → t.is_cash ≡ b
@@ -228,7 +228,7 @@ summary_read base stamp price t xs ys found k r p =
 
 pub commissions_read : (base : Base) (stamp price : ℕ) (t : Trade) (xs ys : List Trade) (found : ResultFound) → TradeFound base t found → IsResult base stamp price t xs ys
     → PassesFirst 3 found → is_none found.rate ≡ false → PassesFirst 1 found
-    → commissions_after found price ≡ commissions_of base.accounts (completed (with_result base stamp price t)) (broker_of base t.account)
+    → commissions_after found price ≡ commissions_of base.accounts (completed (with_result base stamp price t)) (broker_of_account base t.account)
 commissions_read base stamp price t xs ys found k r p h q =
     (λ i. (broker_found base t found k p).1 i + commission_read base stamp price t found k q h i) ∙ sym (commissions_grow base stamp price t xs ys r)
 
@@ -264,7 +264,7 @@ due_read base last now (Some stamp) books l h e =
 
 all_alike : (base : Base) (now id price : ℕ) (t : Trade) (found : ResultFound) (last : Option ℕ) → TradeFound base t found → trade_with base id ≡ Some t
     → last ≡ (sheets base).last → now ≤ last_stamp
-    → Alike (result_tests found price (result_values base (next_stamp base now) price t) (stamp_after last now))
+    → Alike (all_result_tests found price (result_values base (next_stamp base now) price t) (stamp_after last now))
     (model.result_tests base (with_result base (next_stamp base now) price t) (next_stamp base now) t ++ (nat_lt last_stamp (next_stamp base now), ClockEnd) ∷ (false, TooEarly) ∷ [])
 all_alike base now id price t found last k e l h =
     subst (λ s. Alike ((not (same_status found.trade.status Submitted), WrongStatus s) ∷ F) G) (ap (λ (r : TradeRow). r.status) (sym k.row))
@@ -298,7 +298,7 @@ all_alike base now id price t found last k e l h =
 
 pub result_refusal : (base : Base) (now id price : ℕ) (t : Trade) (found : ResultFound) (last : Option ℕ) → TradeFound base t found → trade_with base id ≡ Some t
     → last ≡ (sheets base).last → now ≤ last_stamp
-    → first_refusal (result_tests found price (result_values base (next_stamp base now) price t) (stamp_after last now)) ≡ refusal_of base now (CompleteTrade id price)
+    → first_refusal (all_result_tests found price (result_values base (next_stamp base now) price t) (stamp_after last now)) ≡ refusal_of base now (CompleteTrade id price)
 unfolding refusal_of tests
 result_refusal base now id price t found last k e l h =
     (all_alike base now id price t found last k e l h).first

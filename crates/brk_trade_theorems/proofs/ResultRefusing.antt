@@ -20,7 +20,7 @@ use Rattle.brk_money.specs.Kinds.{same_status, side_of}
 use Rattle.brk_money.specs.Moments.{stamp_after}
 use Rattle.brk_money.specs.declared.refusal.Refusal.{Refusal}
 use Rattle.brk_money.specs.declared.status.Status.TheVariants.{Submitted}
-use Rattle.brk_trade.specs.Outcomes.{deal_of, first_tests, result_tests}
+use Rattle.brk_trade.specs.Outcomes.{deal_of_row, first_tests, all_result_tests}
 use Rattle.brk_trade.specs.Results.{AreMet, IsRefused, held_by}
 use Rattle.brk_trade.proofs.Results.{first_refuses}
 use Rattle.brk_changes.specs.Rows.{trade_row_of}
@@ -75,7 +75,7 @@ pub held_by_row : (base : Base) (t : Trade) (found : ResultFound) → TradeFound
 held_by_row base t found f p = held_found base t found f p ∙ sym (ap (λ (r : TradeRow). summary_of (completed base) r.account r.symbol) f.row)
 
 -- it meets them as the definitions say
-pub deal_read : (t : Trade) (found : ResultFound) (price stamp : ℕ) → trade_row_of found.trade ≡ trade_row t → deal_of found.trade price stamp ≡ result_deal stamp price t
+pub deal_read : (t : Trade) (found : ResultFound) (price stamp : ℕ) → trade_row_of found.trade ≡ trade_row t → deal_of_row found.trade price stamp ≡ result_deal stamp price t
 deal_read t found price stamp row = ap (λ (r : TradeRow). record { trade = r.id; side = side_of r.kind; qty = r.qty; price = price; stamp = stamp; is_lifo = r.is_lifo }) row
 
 -- ---- the refusal
@@ -108,7 +108,7 @@ result_refused base id price (Some found) given last now refusal k r = by_first 
     stamp : ℕ
     stamp = next_stamp base now
 
-    of_base : first_refusal (result_tests found price (result_values base stamp price t.0) (stamp_after last now)) ≡ refusal_of base now (CompleteTrade id price)
+    of_base : first_refusal (all_result_tests found price (result_values base stamp price t.0) (stamp_after last now)) ≡ refusal_of base now (CompleteTrade id price)
     of_base = result_refusal base now id price t.0 found last f t.1 k.last_read k.moment
 
     by_first : (o : Option Refusal) → first_refusal (first_tests found) ≡ o → step base now (CompleteTrade id price) ≡ Err refusal
@@ -120,8 +120,8 @@ result_refused base id price (Some found) given last now refusal k r = by_first 
         let p = none_refuse (first_tests found) e in
         let held = held_by_row base t.0 found f (passes_rate found p.0 p.1.0) in
         let met = lots_met base id found given k.books k.trade_read (at_market found p.0) (k.lots_read (passes_status found p.0)) held in
-        let values : values_of (deal_of found.trade price stamp) (shares_of (position_in (sheets base) found.trade.account found.trade.symbol)) ≡ result_values base stamp price t.0 =
+        let values : values_of (deal_of_row found.trade price stamp) (shares_of (position_in (sheets base) found.trade.account found.trade.symbol)) ≡ result_values base stamp price t.0 =
         λ i. values_of (deal_read t.0 found price stamp t.2 i) (lots_shares base t.0 found f i) in
         refused_step base now (CompleteTrade id price) refusal
-        (sym of_base ∙ sym (ap (λ v. first_refusal (result_tests found price v (stamp_after last now))) values)
+        (sym of_base ∙ sym (ap (λ v. first_refusal (all_result_tests found price v (stamp_after last now))) values)
         ∙ r.late (position_in (sheets base) found.trade.account found.trade.symbol) stamp met)

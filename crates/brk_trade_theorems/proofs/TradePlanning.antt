@@ -23,9 +23,9 @@ use Rattle.brk_changes.specs.Changes.{with_last}
 use Rattle.brk_plans.specs.Reference.{clock_test}
 use Rattle.brk_plans.proofs.Refusals.{first_joined, first_of}
 use Rattle.brk_book_theorems.specs.Books.{BooksInvariant}
-use Rattle.brk_book_theorems.specs.Steps.{base_then, ChangesRows, IsDone, LeavesBooks}
+use Rattle.brk_book_theorems.specs.Steps.{base_then, ChangesRows, IsStepDone, LeavesBooks}
 use Rattle.brk_book_theorems.specs.Trading.{cancel_rows, feed_rows, fed_trades}
-use Rattle.brk_trade_theorems.specs.TradeTests.{cancel_tests, feed_tests}
+use Rattle.brk_trade_theorems.specs.TradeTests.{cancel_row_tests, feed_row_tests}
 use Rattle.brk_book_theorems.specs.Ticks.{exceeds_volume, is_unknown}
 use Rattle.brk_book_theorems.proofs.Same.{All-map, any-none}
 use Rattle.brk_book_theorems.proofs.Reading.{is_none-map, reads_last}
@@ -52,7 +52,7 @@ stamp_read base last now stamp l e = stamp_is last now stamp e ∙ ap (λ o. mov
 -- an accepted command is done by a change that leads to its rows
 pub is_done : (base : Base) (now : ℕ) (command : Command) (stamp : ℕ) (reply : Reply) (change : ℕ → Tables → Tables) → BooksInvariant base → refusal_of base now command ≡ None
     → stamp ≡ next_stamp base now → reply_to base (next_stamp base now) command ≡ reply → ChangesRows base now command (change (next_stamp base now)) → LeavesBooks base now command
-    → IsDone base now command stamp reply (change stamp)
+    → IsStepDone base now command stamp reply (change stamp)
 unfolding step
 is_done base now command stamp reply change books e s told rows kept = record {
   steps = ap (λ o. unless o (reply_to base (next_stamp base now) command, base_then base now command)) e ∙ ap (λ reply. Ok (reply, base_then base now command)) told;
@@ -80,23 +80,23 @@ mark_status None = refl
 mark_status (Some m) = refl
 
 same_tests : (o : Option Trade) (last : Option ℕ) (now : ℕ)
-    → cancel_tests (option_map trade_row o) last now ≡ option_map_or (λ t. wrong_status (has_status Pending t) t ∷ []) o ((true, NoTrade) ∷ []) ++ clock_test last now ∷ []
+    → cancel_row_tests (option_map trade_row o) last now ≡ option_map_or (λ t. wrong_status (has_status Pending t) t ∷ []) o ((true, NoTrade) ∷ []) ++ clock_test last now ∷ []
 same_tests None last now = refl
 same_tests (Some t) last now = ap (λ b. (not b, WrongStatus (status_of t)) ∷ clock_test last now ∷ []) (mark_status (last_mark t))
 
 pub cancel_refusal : (base : Base) (now id : ℕ) → BooksInvariant base → now ≤ last_stamp
-    → first_refusal (cancel_tests (trade_in (sheets base) id) (sheets base).last now) ≡ refusal_of base now (CancelTrade id)
+    → first_refusal (cancel_row_tests (trade_in (sheets base) id) (sheets base).last now) ≡ refusal_of base now (CancelTrade id)
 unfolding refusal_of tests
 cancel_refusal base now id books h =
     let clock = clock_read base (sheets base).last now books refl h in
-    ap (λ o. first_refusal (cancel_tests o (sheets base).last now)) (reads_trade base id)
+    ap (λ o. first_refusal (cancel_row_tests o (sheets base).last now)) (reads_trade base id)
     ∙ ap first_refusal (same_tests (trade_with base id) (sheets base).last now)
     ∙ ap (λ b. first_refusal (option_map_or (λ t. wrong_status (has_status Pending t) t ∷ []) (trade_with base id) ((true, NoTrade) ∷ []) ++ (b, ClockEnd) ∷ [])) clock
     ∙ never_early (option_map_or (λ t. wrong_status (has_status Pending t) t ∷ []) (trade_with base id) ((true, NoTrade) ∷ [])) (nat_lt last_stamp (next_stamp base now))
 
 pub cancel_done : (base : Base) (now id stamp : ℕ) → BooksInvariant base → now ≤ last_stamp
-    → first_refusal (cancel_tests (trade_in (sheets base) id) (sheets base).last now) ≡ None → stamp_after (sheets base).last now ≡ Some stamp
-    → IsDone base now (CancelTrade id) stamp (CanceledTrade stamp) (cancel_rows stamp id)
+    → first_refusal (cancel_row_tests (trade_in (sheets base) id) (sheets base).last now) ≡ None → stamp_after (sheets base).last now ≡ Some stamp
+    → IsStepDone base now (CancelTrade id) stamp (CanceledTrade stamp) (cancel_rows stamp id)
 unfolding reply_to
 cancel_done base now id stamp books h e s =
     let next = stamp_read base (sheets base).last now stamp refl s in
@@ -106,7 +106,7 @@ cancel_done base now id stamp books h e s =
 -- ---- a feed
 
 pub feed_refusal : (base : Base) (now : ℕ) (ticks : List Tick) → BooksInvariant base → now ≤ last_stamp
-    → first_refusal (feed_tests (sheets base) ticks (sheets base).last now) ≡ refusal_of base now (FeedTicks ticks)
+    → first_refusal (feed_row_tests (sheets base) ticks (sheets base).last now) ≡ refusal_of base now (FeedTicks ticks)
 unfolding refusal_of tests
 feed_refusal base now ticks books h = by_unknown (list_any unknown ticks) refl
   where
@@ -122,7 +122,7 @@ feed_refusal base now ticks books h = by_unknown (list_any unknown ticks) refl
     exceeds : Bool
     exceeds = list_any (λ s. nat_lt greatest_amount s.volume) (with_ticks (next_stamp base now) base ticks).securities
 
-    by_unknown : (b : Bool) → list_any unknown ticks ≡ b → first_refusal (feed_tests (sheets base) ticks (sheets base).last now)
+    by_unknown : (b : Bool) → list_any unknown ticks ≡ b → first_refusal (feed_row_tests (sheets base) ticks (sheets base).last now)
         ≡ first_refusal ((list_any unknown ticks, NoSecurity) ∷ (exceeds, Range limit.Volume) ∷ (nat_lt last_stamp (next_stamp base now), ClockEnd) ∷ [])
     by_unknown true e =
         refused_first (list_any (is_unknown (sheets base)) ticks) (list_any unknown ticks) NoSecurity
@@ -134,8 +134,8 @@ feed_refusal base now ticks books h = by_unknown (list_any unknown ticks) refl
         λ i. first_refusal ((same i, NoSecurity) ∷ (volumes i, Range limit.Volume) ∷ (clock i, ClockEnd) ∷ [])
 
 pub feed_done : (base : Base) (now : ℕ) (ticks : List Tick) (stamp : ℕ) → BooksInvariant base → now ≤ last_stamp
-    → first_refusal (feed_tests (sheets base) ticks (sheets base).last now) ≡ None → stamp_after (sheets base).last now ≡ Some stamp
-    → IsDone base now (FeedTicks ticks) stamp (Ticked stamp (fed_trades stamp ticks (sheets base))) (feed_rows stamp ticks)
+    → first_refusal (feed_row_tests (sheets base) ticks (sheets base).last now) ≡ None → stamp_after (sheets base).last now ≡ Some stamp
+    → IsStepDone base now (FeedTicks ticks) stamp (Ticked stamp (fed_trades stamp ticks (sheets base))) (feed_rows stamp ticks)
 unfolding reply_to
 feed_done base now ticks stamp books h e s =
     let next = stamp_read base (sheets base).last now stamp refl s in

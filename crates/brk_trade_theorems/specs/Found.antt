@@ -6,7 +6,7 @@ use Rattle.brk_ref.specs.Records.{band_of}
 use Rattle.brk_plans.specs.declared.reference.ReferenceFacts.{ReferenceFacts}
 use Rattle.brk_plans.specs.declared.reference.Reference.{Reference}
 use Rattle.brk_plans.specs.declared.reference.Reference.TheVariants as reference
-use Rattle.brk_book_theorems.specs.Reads.{has_broker, has_customer, has_tax_id, has_account, accounts_of, has_permission, has_security, has_charge, has_overlap, has_tax_rate, rate_of, pays_tax, rates_of}
+use Rattle.brk_book_theorems.specs.Reads.{has_broker, has_customer, has_tax_id, has_account, accounts_of, has_permission, has_security, has_charge, has_overlap, has_tax_rate, rate_of, pays_tax, rates_of_customer}
 
 -- The facts of an account are those in the tables.
 pub record IsFoundForAccount (t : Tables) (id customer broker : ℕ) (found : ReferenceFacts) : Type 0 where
@@ -21,7 +21,7 @@ pub record IsFoundForTax (t : Tables) (customer tax : ℕ) (found : ReferenceFac
   pub customer_there : found.customer ≡ has_customer t customer
   pub rate_there : found.rate ≡ rate_of t tax
   pub same_id : found.same_id ≡ pays_tax t customer tax
-  pub sum : SomeIff found.rates (rates_of t customer ≤ greatest_tax_rate) (rates_of t customer)
+  pub sum : SomeIff found.rates (rates_of_customer t customer ≤ greatest_tax_rate) (rates_of_customer t customer)
 
 -- The facts of a record are those in the tables. It says nothing of facts that the kind of record
 -- does not need.

@@ -12,13 +12,13 @@ use Rattle.brk_money.specs.OrderTypes.{kind_of}
 use Rattle.brk_money.specs.Moments.{last_stamp}
 use Rattle.brk_orders.specs.declared.order.Order.{Order}
 use Rattle.brk_ref.specs.Records.{executor_of}
-use Rattle.brk_trade.specs.Orders.{order_tests}
+use Rattle.brk_trade.specs.Orders.{order_fact_tests}
 use Rattle.brk_trade.specs.declared.order.OrderAccount.{OrderAccount}
 use Rattle.brk_trade.specs.declared.order.OrderFound.{OrderFound}
 use Rattle.brk_book_theorems.specs.Books.{BooksInvariant}
-use Rattle.brk_book_theorems.specs.Reads.{rates_of}
+use Rattle.brk_book_theorems.specs.Reads.{rates_of_customer}
 use Rattle.brk_book_theorems.specs.TradeReads.{band_in, permission_in, summary_in}
-use Rattle.brk_book_theorems.specs.OrderReads.{GivesLots, IfCustomer, charge_in, last_price_in, last_trade_in}
+use Rattle.brk_book_theorems.specs.OrderReads.{GivesLots, IfCustomer, charge_in, last_price_in, last_trade_id_in}
 
 -- ---- lookups
 
@@ -31,7 +31,7 @@ order_account r = record { broker = r.broker; tax_status = r.tax_status }
 -- The first `n` checks of the order pass, so more facts are read. The checks are, in order:
 -- account, security, executor, charge and band.
 abbrev pub Passes : ℕ → OrderFound → Type 0
-Passes n found = first_refusal (take n (order_tests found)) ≡ None
+Passes n found = first_refusal (take n (order_fact_tests found)) ≡ None
 
 -- The facts of an estimate are those in the tables. A clause is vacuous if an earlier check fails,
 -- since its fact is not needed then.
@@ -48,7 +48,7 @@ pub record IsFoundForEstimate (t : Tables) (order : Order) (found : OrderFound) 
   pub rate : Passes 4 found
       → IfCustomer t order.account (λ c. IfSome (security_in t order.symbol) (λ s. found.rate ≡ option_map (λ b. b.rate) (band_in t c.tier (kind_of order.order_type) s.exchange order.qty)))
   -- The rates are the sum of those that the customer pays.
-  pub rates : Passes 5 found → IfSome (account_in t order.account) (λ a. found.rates ≡ rates_of t a.customer)
+  pub rates : Passes 5 found → IfSome (account_in t order.account) (λ a. found.rates ≡ rates_of_customer t a.customer)
   -- The assets are the balance plus the market value of the holdings.
   pub assets : Passes 5 found → IfSome (account_in t order.account) (λ a. found.assets ≡ a.balance +ℤ asset_total t a)
   -- The summary is that of the account in the symbol.
@@ -57,7 +57,7 @@ pub record IsFoundForEstimate (t : Tables) (order : Order) (found : OrderFound) 
 -- The facts of an order are those of its estimate, and the number of the last trade.
 pub record IsFoundForOrder (t : Tables) (order : Order) (found : OrderFound) : Type 0 where
   pub estimate : IsFoundForEstimate t order found
-  pub last_trade : Passes 5 found → found.last_trade ≡ last_trade_in t
+  pub last_trade : Passes 5 found → found.last_trade ≡ last_trade_id_in t
 
 -- ---- lots
 

@@ -14,7 +14,7 @@ use Rattle.brk_trade.specs.declared.result_found.ResultFound.{ResultFound}
 use Rattle.brk_changes.specs.declared.trade_row.TradeRow.{TradeRow}
 use Rattle.brk_book_theorems.specs.Books.{BooksInvariant}
 use Rattle.brk_book_theorems.specs.OrderReads.{GivesLots, IfCustomer}
-use Rattle.brk_book_theorems.specs.Reads.{rates_of}
+use Rattle.brk_book_theorems.specs.Reads.{rates_of_customer}
 use Rattle.brk_book_theorems.specs.TradeReads.{band_in, last_move, summary_in}
 
 -- ---- facts
@@ -40,7 +40,7 @@ pub record IsFoundForResult (t : Tables) (found : ResultFound) : Type 0 where
   pub summary : PassesFirst 2 found → found.summary ≡ option_map (λ r. r.qty) (summary_in t found.trade.account found.trade.symbol)
   pub account : PassesFirst 3 found → IfSome (account_in t found.trade.account) (λ a. found.account ≡ result_account a)
   -- The rates are the sum of those that the customer pays.
-  pub rates : PassesFirst 3 found → IfSome (account_in t found.trade.account) (λ a. found.rates ≡ rates_of t a.customer)
+  pub rates : PassesFirst 3 found → IfSome (account_in t found.trade.account) (λ a. found.rates ≡ rates_of_customer t a.customer)
   -- The totals are those of the account's broker.
   pub broker : PassesFirst 3 found
       → IfSome (account_in t found.trade.account) (λ a. IfSome (find (λ r. r.id == a.broker) t.brokers) (λ b.

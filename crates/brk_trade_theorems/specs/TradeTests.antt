@@ -14,14 +14,14 @@ use Rattle.brk_book_theorems.specs.Ticks.{exceeds_volume, is_unknown}
 -- ---- a cancel
 
 -- The checks of a cancel against the row of its trade, the last stamp and the clock reading.
-abbrev pub cancel_tests : Option TradeRow → Option ℕ → ℕ → List Test
-cancel_tests None last now = (true, NoTrade) ∷ clock_test last now ∷ []
-cancel_tests (Some r) last now = (not (same_status r.status Pending), WrongStatus r.status) ∷ clock_test last now ∷ []
+abbrev pub cancel_row_tests : Option TradeRow → Option ℕ → ℕ → List Test
+cancel_row_tests None last now = (true, NoTrade) ∷ clock_test last now ∷ []
+cancel_row_tests (Some r) last now = (not (same_status r.status Pending), WrongStatus r.status) ∷ clock_test last now ∷ []
 
 -- ---- a feed
 
 -- The checks of a feed against the last trades of its symbols, the last stamp and the clock
 -- reading.
-abbrev pub feed_tests : Tables → List Tick → Option ℕ → ℕ → List Test
-feed_tests t ticks last now =
+abbrev pub feed_row_tests : Tables → List Tick → Option ℕ → ℕ → List Test
+feed_row_tests t ticks last now =
     (list_any (is_unknown t) ticks, NoSecurity) ∷ (list_any (exceeds_volume t ticks) ticks, Range limit.Volume) ∷ clock_test last now ∷ []

@@ -2,7 +2,7 @@
 
 ghost use Rattle.std.specs.Prelude.{◌≡◌, ◌∷◌, ◌++◌, [], ℕ, Err, List, None, Ok, Option, Some};
 ghost use Rattle.brk_trade.specs.Estimates.{AreTerms};
-ghost use Rattle.brk_plans.specs.Replies.{told};
+ghost use Rattle.brk_plans.specs.Replies.{estimate_with};
 ghost use Rattle.brk_plans.specs.declared.estimate.Estimate.{Estimate};
 ghost use Rattle.brk_lots.specs.Sources.{Exactly};
 ghost use Rattle.brk_lots.specs.declared.lot.Lot.{Lot};
@@ -18,7 +18,7 @@ ghost use Rattle.brk_model.specs.Tests.{first_refusal, refusal_of};
 ghost use Rattle.brk_money.specs.declared.refusal.Refusal.{Refusal};
 ghost use Rattle.brk_orders.specs.Records.{order_of};
 ghost use Rattle.brk_orders.specs.declared.order.Order.{Order};
-ghost use Rattle.brk_trade.specs.Orders.{IsEstimated, IsOrdered, order_tests, terms_of, trades_test};
+ghost use Rattle.brk_trade.specs.Orders.{IsEstimated, IsOrdered, order_fact_tests, terms_of, trades_test};
 ghost use Rattle.brk_plans.specs.Reference.{clock_test};
 ghost use Rattle.brk_plans.specs.Replies.{estimate_of};
 ghost use Rattle.brk_trade.specs.declared.order.OrderFound.{OrderFound};
@@ -31,16 +31,16 @@ ghost use Rattle.brk_trade_theorems.specs.Plans.{DoesCommand};
 /// it.
 pub fn terms_follow_from_the_tables()
     ensures { (base : Base) (order : Order) (found : OrderFound) → BooksInvariant base → IsFoundForEstimate (sheets base) order found
-        → first_refusal (order_tests found) ≡ None → AreTerms base (order_of order) (terms_of order found) }
+        → first_refusal (order_fact_tests found) ≡ None → AreTerms base (order_of order) (terms_of order found) }
 {}
 
 /// Proves that the checks of an order against its facts refuse it as the base does, and that its
 /// plan implements the command.
 pub fn order_plans_do_commands()
     ensures first { (base : Base) (order : Order) (found : OrderFound) (last : Option ℕ) (now : ℕ) → IsReadForPlan base order found last now
-        → first_refusal (order_tests found ++ trades_test found.last_trade ∷ clock_test last now ∷ []) ≡ refusal_of base now (PlaceOrder (order_of order)) }
+        → first_refusal (order_fact_tests found ++ trades_test found.last_trade ∷ clock_test last now ∷ []) ≡ refusal_of base now (PlaceOrder (order_of order)) }
     ensures refused { (base : Base) (order : Order) (found : OrderFound) (last : Option ℕ) (now : ℕ) (refusal : Refusal) → IsReadForPlan base order found last now
-        → first_refusal (order_tests found ++ trades_test found.last_trade ∷ clock_test last now ∷ []) ≡ Some refusal
+        → first_refusal (order_fact_tests found ++ trades_test found.last_trade ∷ clock_test last now ∷ []) ≡ Some refusal
         → step base now (PlaceOrder (order_of order)) ≡ Err refusal }
     ensures done { (base : Base) (order : Order) (found : OrderFound) (lots : List Lot) (last : Option ℕ) (now : ℕ) (plan : Plan) → IsReadForPlan base order found last now
         → AreLots (sheets base) order (Exactly lots) → IsOrdered order found (Exactly lots) last now plan → DoesCommand base now (PlaceOrder (order_of order)) plan }
@@ -50,9 +50,9 @@ pub fn order_plans_do_commands()
 /// model's estimate, and its fields are the view of the query.
 pub fn estimate_plans_answer_queries()
     ensures refused { (base : Base) (order : Order) (found : OrderFound) (refusal : Refusal) → BooksInvariant base → IsFoundForEstimate (sheets base) order found
-        → first_refusal (order_tests found) ≡ Some refusal → ask base (EstimateOf (order_of order)) ≡ Err refusal }
+        → first_refusal (order_fact_tests found) ≡ Some refusal → ask base (EstimateOf (order_of order)) ≡ Err refusal }
     ensures told { (base : Base) (order : Order) (found : OrderFound) (lots : List Lot) (e : Estimate) → BooksInvariant base → IsFoundForEstimate (sheets base) order found
-        → AreLots (sheets base) order (Exactly lots) → IsEstimated order found (Exactly lots) e → e ≡ told (estimate base (order_of order)) }
+        → AreLots (sheets base) order (Exactly lots) → IsEstimated order found (Exactly lots) e → e ≡ estimate_with (estimate base (order_of order)) }
     ensures answered { (base : Base) (order : Order) (found : OrderFound) (lots : List Lot) (e : Estimate) → BooksInvariant base → IsFoundForEstimate (sheets base) order found
         → AreLots (sheets base) order (Exactly lots) → IsEstimated order found (Exactly lots) e
         → ask base (EstimateOf (order_of order)) ≡ Ok (estimate_fields (estimate_of e) ∷ []) }

@@ -13,9 +13,9 @@ ghost use Rattle.brk_model.specs.Sheets.{sheets};
 ghost use Rattle.brk_model.specs.Step.{step};
 ghost use Rattle.brk_model.specs.Tests.{first_refusal, refusal_of};
 ghost use Rattle.brk_book_theorems.specs.Books.{BooksInvariant};
-ghost use Rattle.brk_book_theorems.specs.Steps.{IsDone};
-ghost use Rattle.brk_book_theorems.specs.TradeReads.{volume_in};
-ghost use Rattle.brk_trade_theorems.specs.TradeTests.{cancel_tests, feed_tests};
+ghost use Rattle.brk_book_theorems.specs.Steps.{IsStepDone};
+ghost use Rattle.brk_book_theorems.specs.TradeReads.{last_volume_in};
+ghost use Rattle.brk_trade_theorems.specs.TradeTests.{cancel_row_tests, feed_row_tests};
 ghost use Rattle.brk_book_theorems.specs.Ticks.{qty_fed};
 ghost use Rattle.brk_book_theorems.specs.Trading.{cancel_rows, fed_trades, feed_rows};
 
@@ -28,10 +28,10 @@ pub fn refused_commands_step_to_refusals()
 /// they pass, its row changes implement the command.
 pub fn cancels_follow_from_the_tables()
     ensures first { (base : Base) (now id : ℕ) → BooksInvariant base → now ≤ last_stamp
-        → first_refusal (cancel_tests (trade_in (sheets base) id) (sheets base).last now) ≡ refusal_of base now (CancelTrade id) }
+        → first_refusal (cancel_row_tests (trade_in (sheets base) id) (sheets base).last now) ≡ refusal_of base now (CancelTrade id) }
     ensures done { (base : Base) (now id stamp : ℕ) → BooksInvariant base → now ≤ last_stamp
-        → first_refusal (cancel_tests (trade_in (sheets base) id) (sheets base).last now) ≡ None → stamp_after (sheets base).last now ≡ Some stamp
-        → IsDone base now (CancelTrade id) stamp (CanceledTrade stamp) (cancel_rows stamp id) }
+        → first_refusal (cancel_row_tests (trade_in (sheets base) id) (sheets base).last now) ≡ None → stamp_after (sheets base).last now ≡ Some stamp
+        → IsStepDone base now (CancelTrade id) stamp (CanceledTrade stamp) (cancel_rows stamp id) }
 {}
 
 /// Proves that the checks of a feed against the last trades of its symbols refuse it as the base
@@ -39,10 +39,10 @@ pub fn cancels_follow_from_the_tables()
 /// the reply.
 pub fn feeds_follow_from_the_tables()
     ensures first { (base : Base) (now : ℕ) (ticks : List Tick) → BooksInvariant base → now ≤ last_stamp
-        → first_refusal (feed_tests (sheets base) ticks (sheets base).last now) ≡ refusal_of base now (FeedTicks ticks) }
+        → first_refusal (feed_row_tests (sheets base) ticks (sheets base).last now) ≡ refusal_of base now (FeedTicks ticks) }
     ensures done { (base : Base) (now : ℕ) (ticks : List Tick) (stamp : ℕ) → BooksInvariant base → now ≤ last_stamp
-        → first_refusal (feed_tests (sheets base) ticks (sheets base).last now) ≡ None → stamp_after (sheets base).last now ≡ Some stamp
-        → IsDone base now (FeedTicks ticks) stamp (Ticked stamp (fed_trades stamp ticks (sheets base))) (feed_rows stamp ticks) }
+        → first_refusal (feed_row_tests (sheets base) ticks (sheets base).last now) ≡ None → stamp_after (sheets base).last now ≡ Some stamp
+        → IsStepDone base now (FeedTicks ticks) stamp (Ticked stamp (fed_trades stamp ticks (sheets base))) (feed_rows stamp ticks) }
 {}
 
 /// Proves that a feed of known symbols adds to the volume of a symbol the total quantity of its
@@ -50,5 +50,5 @@ pub fn feeds_follow_from_the_tables()
 pub fn feeds_let_volumes_grow()
     ensures { (base : Base) (stamp : ℕ) (ticks : List Tick) (symbol : Text) → BooksInvariant base
         → AllByRecursion (λ tick. is_some (security_with base tick.symbol) ≡ true) ticks → is_some (security_with base symbol) ≡ true
-        → volume_in (feed_rows stamp ticks (sheets base)) symbol ≡ volume_in (sheets base) symbol + qty_fed symbol ticks }
+        → last_volume_in (feed_rows stamp ticks (sheets base)) symbol ≡ last_volume_in (sheets base) symbol + qty_fed symbol ticks }
 {}

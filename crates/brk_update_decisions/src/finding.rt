@@ -6,7 +6,7 @@ ghost use Rattle.brk_changes.specs.Chosen as chosen;
 ghost use Rattle.brk_model.specs.Joins.{account_in, security_in, trade_in};
 ghost use Rattle.brk_model.specs.Run.{MayFail};
 ghost use Rattle.brk_store.specs.Holds.{ReadPost};
-ghost use Rattle.brk_update_theorems.specs.Corrections.{ArePaid, AreSettled, AreTradesOf, IsFoundForUpdate, IsNamed};
+ghost use Rattle.brk_update_theorems.specs.Corrections.{ArePaid, AreSettlementTexts, AreTradesOf, IsFoundForUpdate, IsNamed};
 ghost use Rattle.brk_orders.specs.declared.update.Update.TheVariants as update;
 
 use crate::known::{known_cash_name, known_cash_type};
@@ -47,7 +47,7 @@ fn find_settled<S: Alter>(
     account: Id,
     span: Span,
 ) -> Result<Vec<SettlementText>, Fault>
-    ensures read { ReadPost S.Store store.old store.new result (λ settled t. AreSettled t (chosen.completed_of_account account span.first span.last t) settled.items) }
+    ensures read { ReadPost S.Store store.old store.new result (λ settled t. AreSettlementTexts t (chosen.completed_of_account account span.first span.last t) settled.items) }
     ensures fault { IfErr result MayFail }
 {
     let trades = store.completed_of_account(alloc, account, span)?;

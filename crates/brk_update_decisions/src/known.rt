@@ -4,7 +4,7 @@ ghost use Rattle.std.specs.Prelude.{◌≡◌, IfErr, Some, option_map, string_b
 ghost use Rattle.brk_changes.specs.Rows.{cash_type_word};
 ghost use Rattle.brk_model.specs.Run.{MayFail};
 ghost use Rattle.brk_store.specs.Holds.{ReadPost};
-ghost use Rattle.brk_update_theorems.specs.Corrections.{cash_in, settlement_in};
+ghost use Rattle.brk_update_theorems.specs.Corrections.{cash_row_of_trade, settlement_in};
 
 use brk_money::{Fault, Id};
 use brk_store::Store;
@@ -24,7 +24,7 @@ pub(crate) fn known_cash_type<S: Alter>(store: &mut Store<S>, trade: Id) -> Resu
 
 // Returns the name of a trade's cash row (CM_NAME). Fails with `Store` if the trade has none.
 pub(crate) fn known_cash_name<S: Alter>(store: &mut Store<S>, trade: Id) -> Result<String, Fault>
-    ensures read { ReadPost S.Store store.old store.new result (λ name t. Some (string_bytes name) ≡ option_map (λ c. c.name) (cash_in t trade)) }
+    ensures read { ReadPost S.Store store.old store.new result (λ name t. Some (string_bytes name) ≡ option_map (λ c. c.name) (cash_row_of_trade t trade)) }
     ensures fault { IfErr result MayFail }
 {
     match store.cash_row(trade)? {

@@ -52,7 +52,7 @@ use Rattle.brk_trade_theorems.proofs.TradePlanning.{refused_step, stamp_read}
 use Rattle.brk_book_theorems.proofs.TradeReading.{reads_trade}
 use Rattle.brk_book_theorems.proofs.Trades.{whole}
 use Rattle.brk_book_theorems.proofs.Volumes.{any-same}
-use Rattle.brk_update_theorems.specs.Corrections.{ArePaid, AreSettled, AreTradesOf, IsCorrected, IsFoundForUpdate, IsNamed, IsReadForUpdate, PaidRow, SettledRow, cash_in, paid_in, paid_row, settled_in, settled_row, settlement_in}
+use Rattle.brk_update_theorems.specs.Corrections.{ArePaid, AreSettlementTexts, AreTradesOf, IsCorrected, IsFoundForUpdate, IsNamed, IsReadForUpdate, PaidRow, SettledRow, cash_row_of_trade, paid_in, paid_row, settled_in, settled_row, settlement_in}
 use Rattle.brk_update_theorems.proofs.Choosing.{account_rows, chosen_trades, of_chosen, symbol_rows}
 use Rattle.brk_update_theorems.proofs.Owning.{own_cash, own_rows, own_settlements}
 use Rattle.brk_update_theorems.proofs.Rewording.{reworded, tables_reworded}
@@ -155,7 +155,7 @@ cash_types_rows base ids =
     ∙ tables_reworded (λ t. t.executor) (word_then p) (λ t. t.cash_name) base
 
 cash_types_along : (t : Tables) (cs : List SettlementText) → fold (λ t c. cash_type_set c t) t cs
-    ≡ record t { settlements = fold (λ rows c. update_where (λ r. r.trade == c.trade) (λ r. record r { cash_type = planner.changed_cash_type c.is_cash (cash_type_word c.cash_type) }) rows) t.settlements cs }
+    ≡ record t { settlements = fold (λ rows c. update_where (λ r. r.trade == c.trade) (λ r. record r { cash_type = planner.cash_type_anew c.is_cash (cash_type_word c.cash_type) }) rows) t.settlements cs }
 cash_types_along t [] = refl
 cash_types_along t (c ∷ cs) = cash_types_along (cash_type_set c t) cs
 
@@ -175,7 +175,7 @@ found_of view told id (c ∷ cs) (u ∷ us) P own e h =
 same_row : (base : Base) (t u : Trade) → t.id ≡ u.id → trade_in (sheets base) t.id ≡ Some (trade_row t) → trade_in (sheets base) u.id ≡ Some (trade_row u) → trade_row u ≡ trade_row t
 same_row base t u same own other = some_is _ _ (sym other ∙ ap (trade_in (sheets base)) (sym same) ∙ own)
 
-pub cash_types_set : (base : Base) (account first last : ℕ) (cs : List SettlementText) → BooksInvariant base → AreSettled (sheets base) (completed_of_account account first last (sheets base)) cs
+pub cash_types_set : (base : Base) (account first last : ℕ) (cs : List SettlementText) → BooksInvariant base → AreSettlementTexts (sheets base) (completed_of_account account first last (sheets base)) cs
     → sheets (with_cash_types (chosen_of_account base account first last) base) ≡ fold (λ t c. cash_type_set c t) (sheets base) cs
 unfolding tables_at sheets_of
 cash_types_set base account first last cs books read =
@@ -187,14 +187,14 @@ cash_types_set base account first last cs books read =
     cash_types_rows base ids
     ∙ sym (cash_types_along (sheets base) cs
     ∙ ap (λ settlements. record (sheets base) { settlements = settlements })
-    (all_set (λ (r : SettlementRow). r.trade) (λ w (r : SettlementRow). record r { cash_type = w }) (λ (c : SettlementText). c.trade) (λ (c : SettlementText). planner.changed_cash_type c.is_cash (cash_type_word c.cash_type))
+    (all_set (λ (r : SettlementRow). r.trade) (λ w (r : SettlementRow). record r { cash_type = w }) (λ (c : SettlementText). c.trade) (λ (c : SettlementText). planner.cash_type_anew c.is_cash (cash_type_word c.cash_type))
     (settlement_row base.accounts base.rule) changed_cash_type (λ w r. refl) (λ v w r. refl) (λ t. refl) settlement_key (λ w r. refl) cs (completed base)
     (All-map (completed base) (λ t own. All-map cs (λ c f same.
     let at : t.id ≡ f.0.id = eqb-true t.id c.trade same ∙ ap (λ (r : SettledRow). r.0) f.1 in
     let one : trade_row f.0 ≡ trade_row t = same_row base t f.0 at own.0 f.2.0 in
     let word : cash_type_word c.cash_type ≡ t.cash_type =
     some_is _ _ (ap (λ (r : SettledRow). r.2) f.1 ∙ ap (λ (n : ℕ). option_map (λ (s : SettlementRow). s.cash_type) (settlement_in (sheets base) n)) (sym at) ∙ ap (option_map (λ (s : SettlementRow). s.cash_type)) own.1) in
-    λ i. planner.changed_cash_type ((ap (λ (r : SettledRow). r.1) f.1 ∙ ap (λ (r : TradeRow). r.is_cash) one) i) (word i)) found.0)
+    λ i. planner.cash_type_anew ((ap (λ (r : SettledRow). r.1) f.1 ∙ ap (λ (r : TradeRow). r.is_cash) one) i) (word i)) found.0)
     (All-both _ _ (completed base) (All-filter _ is_completed base.trades rows) (own_settlements base books.numbered)))
     ∙ ap (by_key settlement_key)
     (ap (λ is. map (λ t. cond (contains_number t.id is) (record (settlement_row base.accounts base.rule t) { cash_type = changed_cash_type t }) (settlement_row base.accounts base.rule t)) (completed base)) found.1
@@ -231,7 +231,7 @@ cash_names_rows base ids =
     ∙ tables_reworded (λ t. t.executor) (λ t. t.cash_type) (text_then base p) base
 
 cash_names_along : (security : Text) (t : Tables) (cs : List CashText) → fold (λ t c. cash_name_set security c t) t cs
-    ≡ record t { moves = fold (λ rows c. update_where (is_cash_of c.trade) (λ r. record r { name = planner.changed_cash_name security c }) rows) t.moves cs }
+    ≡ record t { moves = fold (λ rows c. update_where (is_cash_of c.trade) (λ r. record r { name = planner.cash_name_anew security c }) rows) t.moves cs }
 cash_names_along security t [] = refl
 cash_names_along security t (c ∷ cs) = cash_names_along security (cash_name_set security c t) cs
 
@@ -261,15 +261,15 @@ cash_names_set base symbol first last name cs books is_named read =
     cash_names_rows base ids
     ∙ sym (cash_names_along name (sheets base) cs
     ∙ ap (λ moves. record (sheets base) { moves = moves })
-    (each_text (λ (c : CashText). c.trade) (λ (c : CashText). planner.changed_cash_name name c) (sheets base).moves cs
-    ∙ rows_through (all_named (λ (c : CashText). c.trade) (λ (c : CashText). planner.changed_cash_name name c) cs) (postings_of base)
+    (each_text (λ (c : CashText). c.trade) (λ (c : CashText). planner.cash_name_anew name c) (sheets base).moves cs
+    ∙ rows_through (all_named (λ (c : CashText). c.trade) (λ (c : CashText). planner.cash_name_anew name c) cs) (postings_of base)
     ∙ ap (λ ps. by_key move_key (numbered 1 (in_turn ps)))
-    (texts_named (λ (c : CashText). c.trade) (λ (c : CashText). planner.changed_cash_name name c) (changed_cash_name base) base.accounts (completed base) base.movements cs
+    (texts_named (λ (c : CashText). c.trade) (λ (c : CashText). planner.cash_name_anew name c) (changed_cash_name base) base.accounts (completed base) base.movements cs
     (All-map (cash_trades (completed base)) (λ t own. All-map cs (λ c f same.
     let at : t.id ≡ f.0.id = eqb-true t.id c.trade same ∙ ap (λ (r : PaidRow). r.0) f.1 in
     let one : trade_row f.0 ≡ trade_row t = same_row base t f.0 at own.0 f.2.0 in
     let text : string_bytes c.name ≡ t.cash_name =
-    some_is _ _ (ap (λ (r : PaidRow). r.3) f.1 ∙ ap (λ (n : ℕ). option_map (λ (r : MoveRow). r.name) (cash_in (sheets base) n)) (sym at) ∙ own.1) in
+    some_is _ _ (ap (λ (r : PaidRow). r.3) f.1 ∙ ap (λ (n : ℕ). option_map (λ (r : MoveRow). r.name) (cash_row_of_trade (sheets base) n)) (sym at) ∙ own.1) in
     let its_symbol : t.symbol ≡ symbol = ap (λ (r : TradeRow). r.symbol) (sym one) ∙ same_text f.0.symbol symbol (and_last f.0.is_cash (bytes_eq f.0.symbol symbol) (is_within first last f.0) f.2.1) in
     let its_name : name ≡ security_name base t.symbol = sym (ap (security_name base) its_symbol ∙ name_is base symbol name is_named) in
     λ i. planner.text_anew ((ap (λ (r : PaidRow). r.1) f.1 ∙ ap (λ (r : TradeRow). r.kind) one) i) ((ap (λ (r : PaidRow). r.2) f.1 ∙ ap (λ (r : TradeRow). r.qty) one) i) (its_name i) (text i)) found.0)

@@ -19,7 +19,7 @@ use Rattle.brk_book_theorems.proofs.Places.{filter-append}
 use Rattle.brk_book_theorems.proofs.Reading.{find-id, find-map}
 use Rattle.brk_book_theorems.proofs.Same.{All-filter, All-map, NonePass}
 use Rattle.brk_book_theorems.proofs.TradeReading.{reads_trade}
-use Rattle.brk_update_theorems.specs.Corrections.{cash_in, settlement_in}
+use Rattle.brk_update_theorems.specs.Corrections.{cash_row_of_trade, settlement_in}
 use Rattle.brk_update_theorems.proofs.Through.{All-both, filter-map}
 
 -- no two trades have one id
@@ -94,21 +94,21 @@ name_of (Some r) = refl
 
 -- the text of the cash row of a trade
 own_name : (base : Base) (t : Trade) → filter (λ u. u.id == t.id) (cash_trades (completed base)) ≡ t ∷ []
-    → option_map (λ r. r.name) (cash_in (sheets base) t.id) ≡ Some t.cash_name
+    → option_map (λ r. r.name) (cash_row_of_trade (sheets base) t.id) ≡ Some t.cash_name
 own_name base t alone =
     let P : Trade → Posting = posting_of_trade base.accounts in
     let posted : filter (is_posted_by t.id) (postings_of base) ≡ P t ∷ [] =
     filter-append (is_posted_by t.id) (map P (cash_trades (completed base))) (map posting_of_movement base.movements)
     ∙ (λ i. filter-map (is_posted_by t.id) (λ u. u.id == t.id) P (cash_trades (completed base)) (λ u. refl) i ++ no_movement t.id base.movements i)
     ∙ ap (λ us. map P us ++ []) alone in
-    name_of (cash_in (sheets base) t.id)
+    name_of (cash_row_of_trade (sheets base) t.id)
     ∙ ap (option_map (λ p. p.name)) (sym (find-map (is_posted_by t.id) posting_of_move (sheets base).moves)
     ∙ ap (find (is_posted_by t.id)) (rows_posted base)
     ∙ found_first (is_posted_by t.id) (in_turn (postings_of base))
     ∙ ap (find (λ p. true)) (turn_filter (is_posted_by t.id) (postings_of base) ∙ ap in_turn posted ∙ turn_one (P t)))
 
 pub own_cash : (base : Base) → NumberedFrom 1 base.trades
-    → AllByRecursion (λ t. option_map (λ r. r.name) (cash_in (sheets base) t.id) ≡ Some t.cash_name) (cash_trades (completed base))
+    → AllByRecursion (λ t. option_map (λ r. r.name) (cash_row_of_trade (sheets base) t.id) ≡ Some t.cash_name) (cash_trades (completed base))
 own_cash base n =
     All-map (cash_trades (completed base)) (λ t e. own_name base t e)
     (each_alone (cash_trades (completed base)) (apart_filter (λ t. t.is_cash) (completed base) (apart_filter is_completed base.trades (apart_numbered 1 base.trades n))))

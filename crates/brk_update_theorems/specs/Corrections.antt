@@ -31,8 +31,8 @@ abbrev pub settlement_in : Tables → ℕ → Option SettlementRow
 settlement_in t trade = find (λ r. r.trade == trade) t.settlements
 
 -- The cash row of the trade, or `None` if it has none.
-abbrev pub cash_in : Tables → ℕ → Option MoveRow
-cash_in t trade = find (is_cash_of trade) t.moves
+abbrev pub cash_row_of_trade : Tables → ℕ → Option MoveRow
+cash_row_of_trade t trade = find (is_cash_of trade) t.moves
 
 -- The trades are those with the ids `ids`, in this order, and each of them exists.
 abbrev pub AreTradesOf : Tables → List ℕ → List row.TradeRow → Type 0
@@ -60,11 +60,11 @@ paid_row p = (p.trade, p.kind, p.qty, Some (string_bytes p.name))
 
 -- The cash text of the trade in the tables.
 abbrev pub paid_in : Tables → TradeRow → PaidRow
-paid_in t r = (r.id, r.kind, r.qty, option_map (λ c. c.name) (cash_in t r.id))
+paid_in t r = (r.id, r.kind, r.qty, option_map (λ c. c.name) (cash_row_of_trade t r.id))
 
 -- The settlement texts are those of the trades in the tables.
-abbrev pub AreSettled : Tables → List TradeRow → List SettlementText → Type 0
-AreSettled t trades settled = map settled_row settled ≡ map (settled_in t) trades
+abbrev pub AreSettlementTexts : Tables → List TradeRow → List SettlementText → Type 0
+AreSettlementTexts t trades settled = map settled_row settled ≡ map (settled_in t) trades
 
 -- The cash texts are those of the trades in the tables.
 abbrev pub ArePaid : Tables → List TradeRow → List CashText → Type 0
@@ -79,7 +79,7 @@ IsNamed t symbol name = option_map (λ s. s.name) (security_in t symbol) ≡ Som
 abbrev pub IsCorrected : Tables → told.Update → TextUpdate → Type 0
 IsCorrected t (update.Executors ids) (corrected.Executors trades) = AreTradesOf t ids trades.items
 IsCorrected t (update.CashTypes account span) (corrected.CashTypes settled) =
-    (is_none (account_in t account) ≡ false) × AreSettled t (completed_of_account account span.first span.last t) settled.items
+    (is_none (account_in t account) ≡ false) × AreSettlementTexts t (completed_of_account account span.first span.last t) settled.items
 IsCorrected t (update.CashNames symbol span) (corrected.CashNames name paid) =
     IsNamed t symbol name × ArePaid t (completed_cash_of_symbol symbol span.first span.last t) paid.items
 IsCorrected t _ _ = ⊥

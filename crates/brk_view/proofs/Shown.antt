@@ -25,7 +25,7 @@ use Rattle.brk_money.specs.Spelling.{Text}
 use Rattle.brk_ref.specs.Records.{security_of}
 use Rattle.brk_ref.specs.declared.security.Security.{Security}
 use Rattle.std.specs.Global.{Vec}
-use Rattle.brk_view.specs.Lookup.{IsOfTrade, LookedUpRows, looked_up_records, looked_up_rows, lookup_rows, moment_of, moment_record, older, older_moment, status_in}
+use Rattle.brk_view.specs.Lookup.{IsOfTrade, LookedUpRows, looked_up_records, looked_up_rows, lookup_rows, status_moment, moment_record, older, older_moment, status_in}
 use Rattle.brk_view.specs.Lots.{IsTouched, first_since, touch_before, touch_in, touch_record, touched_records, touches_of}
 use Rattle.brk_view.specs.Recent.{newer, recent_status, recent_trade}
 use Rattle.brk_view.specs.Status.{shown_trade, status_names, status_rows, status_rows_in}
@@ -98,14 +98,14 @@ older_shown trades = sym (map_sorted older older_row trade_row_of trades (λ a b
 abbrev older_status : tables.HistoryRow → tables.HistoryRow → Bool
 older_status a b = nat_lt a.stamp b.stamp
 
-moments_carried : (history : List HistoryRow) → sort_by older_moment (map moment_of history) ≡ map status_in (sort_by (λ a b. nat_lt a.stamp b.stamp) (map history_row_of history))
+moments_carried : (history : List HistoryRow) → sort_by older_moment (map status_moment history) ≡ map status_in (sort_by (λ a b. nat_lt a.stamp b.stamp) (map history_row_of history))
 moments_carried history =
     let before : HistoryRow → HistoryRow → Bool = λ a b. nat_lt a.stamp b.stamp in
-    map_sorted before older_moment moment_of history (λ a b. refl)
+    map_sorted before older_moment status_moment history (λ a b. refl)
     ∙ sym (map_map status_in history_row_of (sort_by before history)) ∙ ap (map status_in) (sym (map_sorted before older_status history_row_of history (λ a b. refl)))
 
 pub one_carried : (t : Tables) (trade : TradeRow) (settlement : Option SettlementRow) (cash : Option MoveRow) (history : List HistoryRow) (moments : Vec StatusMoment)
-    → moments.items ≡ sort_by older_moment (map moment_of history) → IsOfTrade t trade settlement cash history
+    → moments.items ≡ sort_by older_moment (map status_moment history) → IsOfTrade t trade settlement cash history
     → looked_up_rows (record { trade = trade; settlement = settlement; cash = cash; history = moments }) ≡ lookup_rows t (trade_row_of trade)
 one_carried t trade settlement cash history moments e is = λ i. record {
   trade = trade_row_of trade;
@@ -128,7 +128,7 @@ pub rows_shown : (t : Tables) (found : List LookedUp) (rows : List tables.TradeR
 rows_shown t found rows e =
     sym (map_map shown_rows looked_up_rows found) ∙ ap (map shown_rows) e ∙ map_map shown_rows (lookup_rows t) rows ∙ (λ i. map (λ row. rows_in_shown t row i) rows)
 
-pub one_shown : (t : Tables) (trade : TradeRow) (settlement : Option SettlementRow) (cash : Option MoveRow) (history : List HistoryRow) (moments : Vec StatusMoment) → moments.items ≡ sort_by older_moment (map moment_of history)
+pub one_shown : (t : Tables) (trade : TradeRow) (settlement : Option SettlementRow) (cash : Option MoveRow) (history : List HistoryRow) (moments : Vec StatusMoment) → moments.items ≡ sort_by older_moment (map status_moment history)
     → IsOfTrade t trade settlement cash history
     → looked_up_records (record { trade = trade; settlement = settlement; cash = cash; history = moments }) ≡ model.lookup_records t (trade_row_of trade)
 one_shown t trade settlement cash history moments e is =

@@ -28,8 +28,8 @@ abbrev pub older : TradeRow → TradeRow → Bool
 older a b = rising a.stamp b.stamp a.id b.id
 
 -- The status and the stamp of a history row, without its trade.
-abbrev pub moment_of : HistoryRow → StatusMoment
-moment_of r = record { stamp = r.stamp; status = r.status }
+abbrev pub status_moment : HistoryRow → StatusMoment
+status_moment r = record { stamp = r.stamp; status = r.status }
 
 -- The record of a status of a trade: the word `history`, its stamp and its code.
 abbrev pub moment_record : StatusMoment → List Text
@@ -40,8 +40,8 @@ abbrev pub state_fields : tables.TradeRow → List Text
 state_fields t = codes "trade" ∷ decimal t.id ∷ decimal t.stamp ∷ status_code t.status ∷ type_code t.kind ∷ []
 
 -- The fields of a trade from its symbol to its executor, the next four.
-abbrev pub term_fields : tables.TradeRow → List Text
-term_fields t = t.symbol ∷ decimal t.qty ∷ price_text t.bid ∷ t.executor ∷ []
+abbrev pub order_fields_of : tables.TradeRow → List Text
+order_fields_of t = t.symbol ∷ decimal t.qty ∷ price_text t.bid ∷ t.executor ∷ []
 
 -- The fields of a trade from its price to its tax, the next four. The field of the price is empty
 -- if the trade was not completed.

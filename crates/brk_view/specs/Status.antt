@@ -23,12 +23,12 @@ status_fields t = decimal t.id ∷ decimal t.stamp ∷ status_name t.status ∷ 
 
 -- The other five fields of a trade, of which the last two are the name and the exchange of its
 -- security.
-abbrev pub term_fields : TradeStatus → List Text
-term_fields s = decimal s.trade.qty ∷ string_bytes s.trade.executor ∷ price_text s.trade.charge ∷ s.security.name ∷ s.security.exchange ∷ []
+abbrev pub detail_fields : TradeStatus → List Text
+detail_fields s = decimal s.trade.qty ∷ string_bytes s.trade.executor ∷ price_text s.trade.charge ∷ s.security.name ∷ s.security.exchange ∷ []
 
 -- The record of a trade, with ten fields.
 abbrev pub shown_trade : TradeStatus → List Text
-shown_trade s = status_fields s.trade ++ term_fields s
+shown_trade s = status_fields s.trade ++ detail_fields s
 
 -- A trade with its security, as rows of the tables.
 abbrev pub status_rows : TradeStatus → tables.TradeRow × Option SecurityRow

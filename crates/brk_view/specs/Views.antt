@@ -27,8 +27,8 @@ abbrev pub submitted_record : TradeRow → List Text
 submitted_record row = decimal row.id ∷ type_code row.kind ∷ row.symbol ∷ decimal row.qty ∷ price_text row.bid ∷ []
 
 -- The record of a submitted trade: id, type, symbol, quantity and bid price.
-abbrev pub trade_record : SubmittedTrade → List Text
-trade_record trade = decimal trade.id ∷ type_code trade.kind ∷ trade.symbol ∷ decimal trade.qty ∷ price_text trade.bid ∷ []
+abbrev pub record_of_submitted : SubmittedTrade → List Text
+record_of_submitted trade = decimal trade.id ∷ type_code trade.kind ∷ trade.symbol ∷ decimal trade.qty ∷ price_text trade.bid ∷ []
 
 -- The record of an estimate, with seven fields.
 abbrev pub estimate_record : estimate.Estimate → List Text
@@ -44,7 +44,7 @@ fields_of (view.Status account) = status_records account
 fields_of (view.Lookup trades) = flat_map looked_up_records trades.items
 fields_of (view.Lots lots) = touched_records lots
 fields_of (view.Volume brokers) = map volume_record brokers.items
-fields_of (view.Submitted trades) = map trade_record trades.items
+fields_of (view.Submitted trades) = map record_of_submitted trades.items
 fields_of (view.Estimate estimate) = estimate_record estimate ∷ []
 
 -- The texts of a record.

@@ -3,7 +3,7 @@ ghost use Rattle.brk_model.specs.Ask.{read_names};
 ghost use Rattle.brk_model.specs.Forms.{read_each, read_name, some_of};
 ghost use Rattle.brk_model.specs.Lists.{distinct_texts};
 ghost use Rattle.brk_money.specs.declared.fault.Fault.TheVariants.{Memory};
-ghost use Rattle.brk_ref.specs.Fields.{Reads, texts};
+ghost use Rattle.brk_ref.specs.Fields.{ParsesAs, texts};
 ghost use Rattle.brk_view.specs.BrokerNames.{each_once, is_named, names_in, with_name};
 
 use brk_money::{Fault, Planned, Refusal};
@@ -35,7 +35,7 @@ impl BrokerNames {
     // Returns the names, which are different. Refuses none (18) and more than 20 (20).
     fn of(names: Vec<Name>) -> Result<BrokerNames, Refusal>
         requires { distinct_texts names.items ≡ names.items }
-        ensures { Reads (λ told. told) result (some_of names.items) }
+        ensures { ParsesAs (λ told. told) result (some_of names.items) }
     {
         if names.is_empty() {
             return Err(Refusal::BadText);
@@ -76,7 +76,7 @@ fn add_once(names: &mut Vec<Name>, name: Name) -> Result<(), Fault>
 
 // Parses names and returns each once, at its first position. Fails with `Memory` only.
 fn names_from(alloc: Global, fields: &[&[u8]]) -> Planned<Vec<Name>>
-    ensures read { IfOk result (λ read. Reads names_in read (each_once (read_each read_name (texts fields.now)))) }
+    ensures read { IfOk result (λ read. ParsesAs names_in read (each_once (read_each read_name (texts fields.now)))) }
     ensures distinct { IfOk result (λ read. IfOk read (λ names. distinct_texts names.items ≡ names.items)) }
     ensures fault { OnErr result (result ≡ Err Memory) }
 {
@@ -93,7 +93,7 @@ fn names_from(alloc: Global, fields: &[&[u8]]) -> Planned<Vec<Name>>
 /// Parses broker names, each counted once, or returns the refusal of their form: 1 to 20 names are
 /// allowed. All fields are checked before the number of names. Fails with `Memory` only.
 pub fn check_names(alloc: Global, fields: &[&[u8]]) -> Planned<BrokerNames>
-    ensures read { IfOk result (λ read. Reads (λ names. names) read (read_names (texts fields.now))) }
+    ensures read { IfOk result (λ read. ParsesAs (λ names. names) read (read_names (texts fields.now))) }
     ensures fault { OnErr result (result ≡ Err Memory) }
 {
     match names_from(alloc, fields)? {

@@ -2,7 +2,7 @@
 //! Proof-only: there is no code to call.
 
 ghost use Rattle.std.specs.Prelude.{◌≡◌, ◌∷◌, [], filter, map, true};
-ghost use Rattle.brk_plans.specs.Replies.{told};
+ghost use Rattle.brk_plans.specs.Replies.{estimate_with};
 ghost use Rattle.brk_model.specs.Commands.{Estimate};
 ghost use Rattle.brk_model.specs.Form.{rises};
 ghost use Rattle.brk_model.specs.Keys.{trade_key};
@@ -23,5 +23,5 @@ pub fn submitted_rows_are_the_view()
 
 /// Proves that an estimate of the model is shown as one record, with its seven numbers.
 pub fn an_estimate_is_its_numbers()
-    ensures { (e : Estimate) → fields_of (views.Estimate (told e)) ≡ estimate_fields e ∷ [] }
+    ensures { (e : Estimate) → fields_of (views.Estimate (estimate_with e)) ≡ estimate_fields e ∷ [] }
 {}

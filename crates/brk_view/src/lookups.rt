@@ -7,7 +7,7 @@ ghost use Rattle.brk_model.specs.Lists.{contains_number, sort_by};
 ghost use Rattle.brk_model.specs.LookupView.{is_between, lookup_records, lookup_view};
 ghost use Rattle.brk_model.specs.Tables.{Tables};
 ghost use Rattle.brk_money.specs.declared.fault.Fault.TheVariants.{Memory};
-ghost use Rattle.brk_view.specs.Lookup.{IsOfTrade, looked_up_records, looked_up_rows, lookup_rows, moment_of, older, older_moment};
+ghost use Rattle.brk_view.specs.Lookup.{IsOfTrade, looked_up_records, looked_up_rows, lookup_rows, status_moment, older, older_moment};
 ghost use Rattle.brk_view.specs.Views.{fields_of};
 ghost use Rattle.brk_view.specs.declared.view.View.TheVariants as views;
 
@@ -57,7 +57,7 @@ pub struct LookedUp {
 
 // Returns the statuses of a trade, the oldest first. Fails with `Memory` only.
 fn moments_of(alloc: Global, history: &[HistoryRow]) -> Result<Vec<StatusMoment>, Fault>
-    ensures order { IfOk result (λ moments. moments.items ≡ sort_by older_moment (map moment_of history.now)) }
+    ensures order { IfOk result (λ moments. moments.items ≡ sort_by older_moment (map status_moment history.now)) }
     ensures fault { OnErr result (result ≡ Err Memory) }
 {
     let mut moments = Vec::new(alloc);

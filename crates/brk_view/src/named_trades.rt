@@ -2,7 +2,7 @@ ghost use Rattle.std.specs.Prelude.{◌≡◌, ◌≤◌, Err, IfOk, OnErr, leng
 ghost use Rattle.brk_model.specs.Forms.{distinct_ids, read_ids};
 ghost use Rattle.brk_model.specs.Lists.{all_distinct};
 ghost use Rattle.brk_money.specs.declared.fault.Fault.TheVariants.{Memory};
-ghost use Rattle.brk_ref.specs.Fields.{Reads, texts};
+ghost use Rattle.brk_ref.specs.Fields.{ParsesAs, texts};
 
 use brk_money::{Id, Planned, Refusal};
 use brk_orders::{TradeIds, check_ids};
@@ -20,7 +20,7 @@ impl NamedTrades {
     /// Returns the trades. Refuses an id that is repeated and no id at all (18), and more than 20
     /// (20). Does not allocate.
     pub fn new(ids: Vec<Id>) -> Result<NamedTrades, Refusal>
-        ensures { Reads (λ named. named.trades) result (distinct_ids ids.items) }
+        ensures { ParsesAs (λ named. named.trades) result (distinct_ids ids.items) }
     {
         match TradeIds::new(ids) {
             Ok(trades) => Ok(NamedTrades { trades }),
@@ -31,7 +31,7 @@ impl NamedTrades {
 
 /// Parses the trades, or returns the refusal of their form. Fails with `Memory` only.
 pub fn check_named(alloc: Global, fields: &[&[u8]]) -> Planned<NamedTrades>
-    ensures read { IfOk result (λ read. Reads (λ named. named.trades) read (read_ids (texts fields.now))) }
+    ensures read { IfOk result (λ read. ParsesAs (λ named. named.trades) read (read_ids (texts fields.now))) }
     ensures fault { OnErr result (result ≡ Err Memory) }
 {
     match check_ids(alloc, fields)? {

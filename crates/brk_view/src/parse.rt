@@ -4,7 +4,7 @@ ghost use Rattle.brk_model.specs.Ask.{account_views, lookup_views, read_none, vo
 ghost use Rattle.brk_model.specs.Parse.{parse_by, read_as, read_order};
 ghost use Rattle.brk_model.specs.Queries.{EstimateOf, SubmittedTrades};
 ghost use Rattle.brk_money.specs.declared.fault.Fault.TheVariants.{Memory};
-ghost use Rattle.brk_ref.specs.Fields.{Reads, texts};
+ghost use Rattle.brk_ref.specs.Fields.{ParsesAs, texts};
 ghost use Rattle.brk_view.specs.Queries.{query_of};
 
 use crate::parse_accounts::{parse_position, parse_position_of_tax_id, parse_recent, parse_status};
@@ -18,7 +18,7 @@ use std::alloc::Global;
 
 // Parses the query of the submitted trades, which has no argument.
 fn parse_submitted(arguments: &[&[u8]]) -> Result<Query, Refusal>
-    ensures { Reads query_of result (read_none SubmittedTrades (texts arguments.now)) }
+    ensures { ParsesAs query_of result (read_none SubmittedTrades (texts arguments.now)) }
 {
     let [] = arguments else {
         return Err(Refusal::BadText);
@@ -28,7 +28,7 @@ fn parse_submitted(arguments: &[&[u8]]) -> Result<Query, Refusal>
 
 // Parses the query of an order's estimate. Its arguments are the fields of the order.
 fn parse_estimate(alloc: Global, arguments: &[&[u8]]) -> Planned<Query>
-    ensures read { IfOk result (λ read. Reads query_of read (read_as EstimateOf read_order (texts arguments.now))) }
+    ensures read { IfOk result (λ read. ParsesAs query_of read (read_as EstimateOf read_order (texts arguments.now))) }
     ensures fault { OnErr result (result ≡ Err Memory) }
 {
     match check_order(alloc, arguments)? {
@@ -39,7 +39,7 @@ fn parse_estimate(alloc: Global, arguments: &[&[u8]]) -> Planned<Query>
 
 // Parses a query of a lookup view or of the volume view.
 fn parse_lookup_view(alloc: Global, view: &str, arguments: &[&[u8]]) -> Planned<Query>
-    ensures read { IfOk result (λ read. Reads query_of read (parse_by (lookup_views ++ volume_views) (view.now ∷ texts arguments.now))) }
+    ensures read { IfOk result (λ read. ParsesAs query_of read (parse_by (lookup_views ++ volume_views) (view.now ∷ texts arguments.now))) }
     ensures fault { OnErr result (result ≡ Err Memory) }
 {
     match view {
@@ -54,7 +54,7 @@ fn parse_lookup_view(alloc: Global, view: &str, arguments: &[&[u8]]) -> Planned<
 
 // Parses a query of an account view, of a lookup view or of the volume view.
 fn parse_account_view(alloc: Global, view: &str, arguments: &[&[u8]]) -> Planned<Query>
-    ensures read { IfOk result (λ read. Reads query_of read (parse_by (account_views ++ lookup_views ++ volume_views) (view.now ∷ texts arguments.now))) }
+    ensures read { IfOk result (λ read. ParsesAs query_of read (parse_by (account_views ++ lookup_views ++ volume_views) (view.now ∷ texts arguments.now))) }
     ensures fault { OnErr result (result ≡ Err Memory) }
 {
     match view {
@@ -78,7 +78,7 @@ fn parse_account_view(alloc: Global, view: &str, arguments: &[&[u8]]) -> Planned
 /// if the arguments are otherwise well-formed.
 #[tactic(auto, unfolding(brk_model::specs::Ask::parse_query))]
 pub fn parse_query(alloc: Global, view: &str, arguments: &[&[u8]]) -> Planned<Query>
-    ensures read { IfOk result (λ read. Reads query_of read (model.parse_query view.now (texts arguments.now))) }
+    ensures read { IfOk result (λ read. ParsesAs query_of read (model.parse_query view.now (texts arguments.now))) }
     ensures fault { OnErr result (result ≡ Err Memory) }
 {
     match view {

@@ -4,7 +4,7 @@ ghost use Rattle.brk_model.specs.Forms.{read_id, read_tax_id};
 ghost use Rattle.brk_model.specs.Parse.{read_as};
 ghost use Rattle.brk_model.specs.Queries.{PositionOf, PositionOfTaxId, RecentOf, StatusOf};
 ghost use Rattle.brk_money.specs.declared.fault.Fault.TheVariants.{Memory};
-ghost use Rattle.brk_ref.specs.Fields.{Reads, texts};
+ghost use Rattle.brk_ref.specs.Fields.{ParsesAs, texts};
 ghost use Rattle.brk_view.specs.Queries.{query_of};
 
 use crate::query::Query;
@@ -14,7 +14,7 @@ use std::alloc::Global;
 
 // Parses the query of the accounts of a customer.
 pub(crate) fn parse_position(arguments: &[&[u8]]) -> Result<Query, Refusal>
-    ensures { Reads query_of result (read_one (read_as PositionOf read_id) (texts arguments.now)) }
+    ensures { ParsesAs query_of result (read_one (read_as PositionOf read_id) (texts arguments.now)) }
 {
     let [customer] = arguments else {
         return Err(Refusal::BadText);
@@ -27,7 +27,7 @@ pub(crate) fn parse_position(arguments: &[&[u8]]) -> Result<Query, Refusal>
 
 // Parses the query of the accounts of the customer with a tax id.
 pub(crate) fn parse_position_of_tax_id(alloc: Global, arguments: &[&[u8]]) -> Planned<Query>
-    ensures read { IfOk result (λ read. Reads query_of read (read_one (read_as PositionOfTaxId read_tax_id) (texts arguments.now))) }
+    ensures read { IfOk result (λ read. ParsesAs query_of read (read_one (read_as PositionOfTaxId read_tax_id) (texts arguments.now))) }
     ensures fault { OnErr result (result ≡ Err Memory) }
 {
     let [tax_id] = arguments else {
@@ -41,7 +41,7 @@ pub(crate) fn parse_position_of_tax_id(alloc: Global, arguments: &[&[u8]]) -> Pl
 
 // Parses the query of an account's last trades and statuses.
 pub(crate) fn parse_recent(arguments: &[&[u8]]) -> Result<Query, Refusal>
-    ensures { Reads query_of result (read_one (read_as RecentOf read_id) (texts arguments.now)) }
+    ensures { ParsesAs query_of result (read_one (read_as RecentOf read_id) (texts arguments.now)) }
 {
     let [account] = arguments else {
         return Err(Refusal::BadText);
@@ -54,7 +54,7 @@ pub(crate) fn parse_recent(arguments: &[&[u8]]) -> Result<Query, Refusal>
 
 // Parses the query of an account's parties and its last trades.
 pub(crate) fn parse_status(arguments: &[&[u8]]) -> Result<Query, Refusal>
-    ensures { Reads query_of result (read_one (read_as StatusOf read_id) (texts arguments.now)) }
+    ensures { ParsesAs query_of result (read_one (read_as StatusOf read_id) (texts arguments.now)) }
 {
     let [account] = arguments else {
         return Err(Refusal::BadText);

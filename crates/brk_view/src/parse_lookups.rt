@@ -4,7 +4,7 @@ ghost use Rattle.brk_model.specs.Forms.{read_id, read_ids, read_symbol};
 ghost use Rattle.brk_model.specs.Parse.{read_as};
 ghost use Rattle.brk_model.specs.Queries.{TradesOfAccount, TradesOfSymbol, TradesWith};
 ghost use Rattle.brk_money.specs.declared.fault.Fault.TheVariants.{Memory};
-ghost use Rattle.brk_ref.specs.Fields.{Reads, texts};
+ghost use Rattle.brk_ref.specs.Fields.{ParsesAs, texts};
 ghost use Rattle.brk_view.specs.Queries.{query_of};
 
 use crate::broker_names::check_names;
@@ -17,7 +17,7 @@ use std::alloc::Global;
 
 // Parses the query of trades by their ids.
 pub(crate) fn parse_trades(alloc: Global, arguments: &[&[u8]]) -> Planned<Query>
-    ensures read { IfOk result (λ read. Reads query_of read (read_as TradesWith read_ids (texts arguments.now))) }
+    ensures read { IfOk result (λ read. ParsesAs query_of read (read_as TradesWith read_ids (texts arguments.now))) }
     ensures fault { OnErr result (result ≡ Err Memory) }
 {
     match check_named(alloc, arguments)? {
@@ -28,7 +28,7 @@ pub(crate) fn parse_trades(alloc: Global, arguments: &[&[u8]]) -> Planned<Query>
 
 // Parses the query of an account's trades between two stamps.
 pub(crate) fn parse_account_trades(arguments: &[&[u8]]) -> Result<Query, Refusal>
-    ensures { Reads query_of result (read_span read_id (λ account first last. TradesOfAccount account first last) (texts arguments.now)) }
+    ensures { ParsesAs query_of result (read_span read_id (λ account first last. TradesOfAccount account first last) (texts arguments.now)) }
 {
     let [account, first, last] = arguments else {
         return Err(Refusal::BadText);
@@ -48,7 +48,7 @@ pub(crate) fn parse_account_trades(arguments: &[&[u8]]) -> Result<Query, Refusal
 
 // Parses the query of a symbol's trades between two stamps.
 pub(crate) fn parse_symbol_trades(alloc: Global, arguments: &[&[u8]]) -> Planned<Query>
-    ensures read { IfOk result (λ read. Reads query_of read (read_span read_symbol (λ symbol first last. TradesOfSymbol symbol first last) (texts arguments.now))) }
+    ensures read { IfOk result (λ read. ParsesAs query_of read (read_span read_symbol (λ symbol first last. TradesOfSymbol symbol first last) (texts arguments.now))) }
     ensures fault { OnErr result (result ≡ Err Memory) }
 {
     let [symbol, first, last] = arguments else {
@@ -69,7 +69,7 @@ pub(crate) fn parse_symbol_trades(alloc: Global, arguments: &[&[u8]]) -> Planned
 
 // Parses the query of the lots that an account's first trade at or after a stamp touched.
 pub(crate) fn parse_lots(arguments: &[&[u8]]) -> Result<Query, Refusal>
-    ensures { Reads query_of result (read_lots (texts arguments.now)) }
+    ensures { ParsesAs query_of result (read_lots (texts arguments.now)) }
 {
     let [account, first] = arguments else {
         return Err(Refusal::BadText);
@@ -87,7 +87,7 @@ pub(crate) fn parse_lots(arguments: &[&[u8]]) -> Result<Query, Refusal>
 // names.
 #[tactic(auto, using(brk_ref::proofs::Applied::text_left, brk_ref::proofs::Applied::text_right))]
 pub(crate) fn parse_volume(alloc: Global, arguments: &[&[u8]]) -> Planned<Query>
-    ensures read { IfOk result (λ read. Reads query_of read (read_volume (texts arguments.now))) }
+    ensures read { IfOk result (λ read. ParsesAs query_of read (read_volume (texts arguments.now))) }
     ensures fault { OnErr result (result ≡ Err Memory) }
 {
     let [sector, names @ ..] = arguments else {

@@ -7,7 +7,7 @@ ghost use Rattle.brk_model.specs.StatusView.{submitted_view};
 ghost use Rattle.brk_model.specs.Tables.{Tables};
 ghost use Rattle.brk_money.specs.declared.fault.Fault.TheVariants.{Memory};
 ghost use Rattle.brk_changes.specs.Rows.{trade_row_of};
-ghost use Rattle.brk_view.specs.Views.{fields_of, is_submitted, submitted_record, trade_record};
+ghost use Rattle.brk_view.specs.Views.{fields_of, is_submitted, submitted_record, record_of_submitted};
 ghost use Rattle.brk_view.specs.declared.view.SubmittedTrade.{SubmittedTrade};
 ghost use Rattle.brk_view.specs.declared.view.View.TheVariants as views;
 
@@ -18,7 +18,7 @@ use std::alloc::Global;
 
 // Returns the fields of a submitted trade that a view shows. Fails with `Memory` only.
 fn submitted_trade(row: &TradeRow) -> Result<SubmittedTrade, Fault>
-    ensures shown { IfOk result (λ trade. trade_record trade ≡ submitted_record (trade_row_of row.now)) }
+    ensures shown { IfOk result (λ trade. record_of_submitted trade ≡ submitted_record (trade_row_of row.now)) }
     ensures fault { OnErr result (result ≡ Err Memory) }
 {
     let symbol = row.symbol.clone()?;
@@ -36,7 +36,7 @@ fn submitted_trade(row: &TradeRow) -> Result<SubmittedTrade, Fault>
 pub fn submitted(alloc: Global, rows: &[TradeRow]) -> Result<View, Fault>
     ensures shown { IfOk result (λ view. fields_of view ≡ map submitted_record (map trade_row_of rows.now)) }
     ensures carried { IfOk result (λ view. (trades : Vec SubmittedTrade)
-        × (view ≡ views.Submitted trades) × (map trade_record trades.items ≡ map submitted_record (map trade_row_of rows.now))) }
+        × (view ≡ views.Submitted trades) × (map record_of_submitted trades.items ≡ map submitted_record (map trade_row_of rows.now))) }
     // If the rows are the submitted rows of a table, as a store reads them, the view equals the
     // specified view.
     ensures view { IfOk result (λ view. (t : Tables) → map trade_row_of rows.now ≡ filter is_submitted (sheets_of t).trades → fields_of view ≡ submitted_view t) }

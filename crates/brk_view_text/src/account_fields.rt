@@ -138,7 +138,7 @@ fn status_texts(alloc: Global, trade: &TradeRow) -> Result<Vec<String>, Fault>
 
 // Appends the other five fields, of which the last two are those of its security.
 fn add_terms(alloc: Global, texts: &mut Vec<String>, status: &TradeStatus) -> Result<(), Fault>
-    ensures texts { OnOk result (record_of texts.new ≡ record_of texts.old ++ statuses.term_fields status.now) }
+    ensures texts { OnOk result (record_of texts.new ≡ record_of texts.old ++ statuses.detail_fields status.now) }
     ensures fault { OnErr result (result ≡ Err Memory) }
 {
     texts.push(number_text(alloc, u64::from(status.trade.qty.get()))?)?;

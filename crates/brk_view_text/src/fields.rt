@@ -1,12 +1,12 @@
 //! The records of a view, as texts.
 
 ghost use Rattle.std.specs.Prelude.{◌≡◌, ◌∷◌, [], IfOk, OnErr, Err, decimal, map, string_bytes};
-ghost use Rattle.brk_plans.specs.Replies.{told};
+ghost use Rattle.brk_plans.specs.Replies.{estimate_with};
 ghost use Rattle.brk_model.specs.Commands as model;
 ghost use Rattle.brk_model.specs.Rows.{estimate_fields};
 ghost use Rattle.brk_money.specs.Spelling.{cents_text};
 ghost use Rattle.brk_money.specs.declared.fault.Fault.TheVariants.{Memory};
-ghost use Rattle.brk_view.specs.Views.{estimate_record, fields_of, record_of, records_of, trade_record};
+ghost use Rattle.brk_view.specs.Views.{estimate_record, fields_of, record_of, records_of, record_of_submitted};
 ghost use Rattle.brk_view.specs.declared.view.View.TheVariants as views;
 
 use crate::account_fields::{recent_records, status_records, worth_records};
@@ -34,7 +34,7 @@ fn amount_texts(alloc: Global, amounts: &[Wide]) -> Result<Vec<String>, Fault>
 
 // Returns the record of a submitted trade.
 fn trade_texts(alloc: Global, trade: &SubmittedTrade) -> Result<Vec<String>, Fault>
-    ensures texts { IfOk result (λ texts. record_of texts ≡ trade_record trade.now) }
+    ensures texts { IfOk result (λ texts. record_of texts ≡ record_of_submitted trade.now) }
     ensures fault { OnErr result (result ≡ Err Memory) }
 {
     let mut texts = Vec::new(alloc);
@@ -48,7 +48,7 @@ fn trade_texts(alloc: Global, trade: &SubmittedTrade) -> Result<Vec<String>, Fau
 
 // Returns a record for each trade.
 fn submitted_records(alloc: Global, trades: &[SubmittedTrade]) -> Result<Vec<Vec<String>>, Fault>
-    ensures records { IfOk result (λ records. records_of records ≡ map trade_record trades.now) }
+    ensures records { IfOk result (λ records. records_of records ≡ map record_of_submitted trades.now) }
     ensures fault { OnErr result (result ≡ Err Memory) }
 {
     let mut records = Vec::new(alloc);
@@ -85,7 +85,7 @@ fn estimate_records(alloc: Global, estimate: &Estimate) -> Result<Vec<Vec<String
 pub fn view_fields(alloc: Global, view: &View) -> Result<Vec<Vec<String>>, Fault>
     ensures records { IfOk result (λ records. records_of records ≡ fields_of view.now) }
     // If the estimate is one of the model, its record equals that of the model.
-    ensures estimate { IfOk result (λ records. (e : model.Estimate) → view.now ≡ views.Estimate (told e) → records_of records ≡ estimate_fields e ∷ []) }
+    ensures estimate { IfOk result (λ records. (e : model.Estimate) → view.now ≡ views.Estimate (estimate_with e) → records_of records ≡ estimate_fields e ∷ []) }
     ensures fault { OnErr result (result ≡ Err Memory) }
 {
     match view {

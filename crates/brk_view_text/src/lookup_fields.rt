@@ -4,7 +4,7 @@ ghost use Rattle.std.specs.Prelude.{◌≡◌, ◌++◌, ◌∷◌, [], Err, IfO
 ghost use Rattle.brk_changes.specs.Rows.{move_row_of, settlement_row_of, trade_row_of};
 ghost use Rattle.brk_model.specs.LookupView as model;
 ghost use Rattle.brk_money.specs.declared.fault.Fault.TheVariants.{Memory};
-ghost use Rattle.brk_view.specs.Lookup.{condition_fields, cost_fields, looked_up_records, moment_record, state_fields, term_fields};
+ghost use Rattle.brk_view.specs.Lookup.{condition_fields, cost_fields, looked_up_records, moment_record, state_fields, order_fields_of};
 ghost use Rattle.brk_view.specs.Views.{record_of, records_of};
 
 use crate::texts::{amount_text, maybe_price_text, number_text, stamp_text, word_text};
@@ -30,7 +30,7 @@ fn state_texts(alloc: Global, trade: &TradeRow) -> Result<Vec<String>, Fault>
 
 // Appends the next four fields: its symbol, quantity, bid price and executor.
 fn add_terms(alloc: Global, texts: &mut Vec<String>, trade: &TradeRow) -> Result<(), Fault>
-    ensures texts { OnOk result (record_of texts.new ≡ record_of texts.old ++ term_fields (trade_row_of trade.now)) }
+    ensures texts { OnOk result (record_of texts.new ≡ record_of texts.old ++ order_fields_of (trade_row_of trade.now)) }
     ensures fault { OnErr result (result ≡ Err Memory) }
 {
     texts.push(word_text(alloc, trade.symbol.as_str())?)?;

@@ -12,7 +12,7 @@ use Rattle.brk_audit_theorems.proofs.Parts.{key_parts}
 use Rattle.brk_model_theorems.proofs.FormParts.{form_parts}
 use Rattle.brk_audit.specs.declared.account_terms.AccountTerms.{AccountTerms}
 use Rattle.brk_audit.specs.AccountTerms.{broker_by, terms_of}
-use Rattle.brk_audit.specs.Completed.{is_done}
+use Rattle.brk_audit.specs.Completed.{is_completed_row}
 use Rattle.brk_audit.specs.Settling.{broker_at}
 use Rattle.brk_audit.specs.Sums.{commission_posting, sum_of_broker}
 use Rattle.brk_audit.specs.Tally.{at_key, total_at}
@@ -31,7 +31,7 @@ returns-clause-told c = λ schema.
     c.in_ok-postings.ensures.all ∙ ap (filter_map (λ r. commission_posting (broker_by terms) (trade_row_of r))) c.deref-2.ensures.value in
     let sum : (q : ℕ) → at_key nat_cmp c.in_ok-sums.sums q ≡ sum_of_broker t (λ r. pos r.commission) q = λ q.
     c.in_ok-sums.ensures.sums q ∙ ap (λ ps. total_at nat_cmp ps q) (c.deref-3.ensures.value ∙ posted)
-    ∙ posted_sum is_done (λ r. broker_by terms r.account) (λ r. broker_at t r.account) (λ r. pos r.commission) (λ r. pos r.commission) s.trades.items q (λ r. same_brokers s terms has r.account) (λ r. refl) in
+    ∙ posted_sum is_completed_row (λ r. broker_by terms r.account) (λ r. broker_at t r.account) (λ r. pos r.commission) (λ r. pos r.commission) s.trades.items q (λ r. same_brokers s terms has r.account) (λ r. refl) in
     told_by (λ row. pos row.commissions ≡ at_key nat_cmp c.in_ok-sums.sums row.broker.id) (λ row. pos row.commissions ≡ sum_of_broker t (λ r. pos r.commission) row.id) broker_row_of s.brokers.items c.deref-4.result.now c.deref-4.ensures.value c.are_sums.ensures
     (λ row e. e ∙ sum row.broker.id)
     (λ row e. e ∙ sym (sum row.broker.id))

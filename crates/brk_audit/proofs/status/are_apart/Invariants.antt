@@ -3,17 +3,17 @@ use Rattle.std.specs.Ordering.{nat_cmp}
 use Rattle.std.specs.BTreeSet.{contains}
 use Rattle.brk_model.specs.Lists.{all_distinct, contains_number}
 use Rattle.brk_changes.specs.Rows.{history_row_of, move_row_of}
-use Rattle.brk_audit.specs.Statuses.{moved_stamps_of, stamps_of}
+use Rattle.brk_audit.specs.Statuses.{moved_stamps_of, completion_stamps_of}
 use Rattle.brk_audit.proofs.status.are_apart.Given as goal
 
 abbrev pub invariant-loop-row : goal.invariant-loop-row
 invariant-loop-row l = record {
-  seen : (q : ℕ) → contains nat_cmp l.seen q ≡ contains_number q (stamps_of (map history_row_of (take l.row-index l.history)));
-  apart : all_distinct (stamps_of (map history_row_of (take l.row-index l.history))) ≡ true;
+  seen : (q : ℕ) → contains nat_cmp l.seen q ≡ contains_number q (completion_stamps_of (map history_row_of (take l.row-index l.history)));
+  apart : all_distinct (completion_stamps_of (map history_row_of (take l.row-index l.history))) ≡ true;
 }
 
 abbrev pub invariant-loop-movement : goal.invariant-loop-movement
 invariant-loop-movement l = record {
-  seen : (q : ℕ) → contains nat_cmp l.seen q ≡ contains_number q (stamps_of (map history_row_of l.history) ++ moved_stamps_of (map move_row_of (take l.movement-index l.moves)));
-  apart : all_distinct (stamps_of (map history_row_of l.history) ++ moved_stamps_of (map move_row_of (take l.movement-index l.moves))) ≡ true;
+  seen : (q : ℕ) → contains nat_cmp l.seen q ≡ contains_number q (completion_stamps_of (map history_row_of l.history) ++ moved_stamps_of (map move_row_of (take l.movement-index l.moves)));
+  apart : all_distinct (completion_stamps_of (map history_row_of l.history) ++ moved_stamps_of (map move_row_of (take l.movement-index l.moves))) ≡ true;
 }

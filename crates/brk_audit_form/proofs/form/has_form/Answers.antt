@@ -2,7 +2,7 @@ use Rattle.std.proofs.Common.{false, sym, ◌∙◌, ap, map}
 use Rattle.std.specs.Prelude.{Bool, ◌&&◌}
 use Rattle.std.specs.List.{list_all}
 use Rattle.brk_model.specs.Audit.{ConditionHolds}
-use Rattle.brk_model.specs.Form.{has_form, one_tax_id_each, customer_limits, cash_form, move_form, trades_moved}
+use Rattle.brk_model.specs.Form.{has_form, distinct_tax_ids, customer_limits, cash_form, move_form, trades_moved}
 use Rattle.brk_model.specs.Lists.{all_distinct}
 use Rattle.brk_ref.specs.Records.{customer_of}
 use Rattle.brk_changes.specs.Rows.{cash_row_of, move_row_of}
@@ -13,7 +13,7 @@ use Rattle.brk_audit_form.proofs.WholeForm.{form_told, told, each_told}
 use Rattle.brk_audit_form.proofs.form.has_form.Goals as goal
 
 abbrev own : Sheets → Bool
-own s = one_tax_id_each (map customer_of s.customers.items)
+own s = distinct_tax_ids (map customer_of s.customers.items)
 
 abbrev limits : Sheets → Bool
 limits s = list_all (customer_limits (tables_in_sheets s)) (map customer_of s.customers.items)
@@ -41,7 +41,7 @@ returns-then-not-has_own-clause-told c =
     let s = c.args.sheets.now in
     let schema = schema_of c.args.schema in
     let plain = sym c.has_plain_form.ensures ∙ c.if-not-has_plain_form.false in
-    let first = sym (ap (λ l. one_tax_id_each (map customer_of l)) c.deref.ensures.value) ∙ sym c.in_ok-has_own.ensures.told ∙ c.if-not-has_own.true in
+    let first = sym (ap (λ l. distinct_tax_ids (map customer_of l)) c.deref.ensures.value) ∙ sym c.in_ok-has_own.ensures.told ∙ c.if-not-has_own.true in
     told false (has_form schema (tables_in_sheets s)) (sym (λ i. plain i && first i && limits s && cash s && moves s && owns s) ∙ form_told schema s)
 
 pub returns-then-not-has_limits-clause-told : goal.returns-then-not-has_limits-clause-told
@@ -50,7 +50,7 @@ returns-then-not-has_limits-clause-told c =
     let s = c.args.sheets.now in
     let schema = schema_of c.args.schema in
     let plain = sym c.has_plain_form.ensures ∙ c.if-not-has_plain_form.false in
-    let first = sym (ap (λ l. one_tax_id_each (map customer_of l)) c.deref.ensures.value) ∙ sym c.in_ok-has_own.ensures.told ∙ c.if-not-has_own.false in
+    let first = sym (ap (λ l. distinct_tax_ids (map customer_of l)) c.deref.ensures.value) ∙ sym c.in_ok-has_own.ensures.told ∙ c.if-not-has_own.false in
     let second = sym c.in_ok-has_limits.ensures.told ∙ c.if-not-has_limits.true in
     told false (has_form schema (tables_in_sheets s)) (sym (λ i. plain i && first i && second i && cash s && moves s && owns s) ∙ form_told schema s)
 
@@ -60,7 +60,7 @@ returns-then-not-has_cash-clause-told c =
     let s = c.args.sheets.now in
     let schema = schema_of c.args.schema in
     let plain = sym c.has_plain_form.ensures ∙ c.if-not-has_plain_form.false in
-    let first = sym (ap (λ l. one_tax_id_each (map customer_of l)) c.deref.ensures.value) ∙ sym c.in_ok-has_own.ensures.told ∙ c.if-not-has_own.false in
+    let first = sym (ap (λ l. distinct_tax_ids (map customer_of l)) c.deref.ensures.value) ∙ sym c.in_ok-has_own.ensures.told ∙ c.if-not-has_own.false in
     let second = sym c.in_ok-has_limits.ensures.told ∙ c.if-not-has_limits.false in
     let third = sym c.in_ok-has_cash.ensures.told ∙ c.if-not-has_cash.true in
     told false (has_form schema (tables_in_sheets s)) (sym (λ i. plain i && first i && second i && third i && moves s && owns s) ∙ form_told schema s)
@@ -71,7 +71,7 @@ returns-then-not-has_moves-clause-told c =
     let s = c.args.sheets.now in
     let schema = schema_of c.args.schema in
     let plain = sym c.has_plain_form.ensures ∙ c.if-not-has_plain_form.false in
-    let first = sym (ap (λ l. one_tax_id_each (map customer_of l)) c.deref.ensures.value) ∙ sym c.in_ok-has_own.ensures.told ∙ c.if-not-has_own.false in
+    let first = sym (ap (λ l. distinct_tax_ids (map customer_of l)) c.deref.ensures.value) ∙ sym c.in_ok-has_own.ensures.told ∙ c.if-not-has_own.false in
     let second = sym c.in_ok-has_limits.ensures.told ∙ c.if-not-has_limits.false in
     let third = sym c.in_ok-has_cash.ensures.told ∙ c.if-not-has_cash.false in
     let fourth = sym c.in_ok-has_moves.ensures.told ∙ c.if-not-has_moves.true in
@@ -83,7 +83,7 @@ returns-clause-told c =
     let s = c.args.sheets.now in
     let schema = schema_of c.args.schema in
     let plain = sym c.has_plain_form.ensures ∙ c.if-not-has_plain_form.false in
-    let first = sym (ap (λ l. one_tax_id_each (map customer_of l)) c.deref.ensures.value) ∙ sym c.in_ok-has_own.ensures.told ∙ c.if-not-has_own.false in
+    let first = sym (ap (λ l. distinct_tax_ids (map customer_of l)) c.deref.ensures.value) ∙ sym c.in_ok-has_own.ensures.told ∙ c.if-not-has_own.false in
     let second = sym c.in_ok-has_limits.ensures.told ∙ c.if-not-has_limits.false in
     let third = sym c.in_ok-has_cash.ensures.told ∙ c.if-not-has_cash.false in
     let fourth = sym c.in_ok-has_moves.ensures.told ∙ c.if-not-has_moves.false in

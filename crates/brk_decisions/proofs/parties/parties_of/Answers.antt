@@ -2,9 +2,9 @@ use Rattle.std.proofs.Common.{◌≡◌}
 use Rattle.brk_money.specs.declared.fault.Fault.{Fault}
 use Rattle.brk_model.specs.Tables.{Tables}
 use Rattle.brk_ref.specs.Records.{account_row_of}
-use Rattle.brk_book_theorems.specs.Reads.{rates_of}
+use Rattle.brk_book_theorems.specs.Reads.{rates_of_customer}
 use Rattle.brk_decisions.specs.Finds.{IsCustomer}
-use Rattle.brk_decisions.specs.ResultFinds.{AreNumbers, AreParties}
+use Rattle.brk_decisions.specs.ResultFinds.{AreTotalsOfBroker, AreParties}
 use Rattle.brk_decisions.proofs.Looking.{read_both}
 use Rattle.brk_decisions.proofs.ResultReading.{parties_known, parties_with}
 use Rattle.brk_decisions.proofs.parties.parties_of.Goals as goal
@@ -17,12 +17,12 @@ returns-clause-read g c =
     let rates = c.in_ok-rates.rates in
     let broker = c.in_ok-broker.broker in
     read_both g.S.Store old c.find_rates.new.store c.known_numbers.new.store {H = Fault} rates broker (parties_with row customer rates broker)
-    (λ rates (t : Tables). IsCustomer t row.account.customer customer × (rates ≡ rates_of t row.account.customer))
-    (λ broker (t : Tables). AreNumbers t row.account.broker broker)
+    (λ rates (t : Tables). IsCustomer t row.account.customer customer × (rates ≡ rates_of_customer t row.account.customer))
+    (λ broker (t : Tables). AreTotalsOfBroker t row.account.broker broker)
     (λ parties (t : Tables). AreParties t (account_row_of row) parties)
     (λ t k n. parties_known t row customer rates broker k.0 k.1 n)
     (read_both g.S.Store old c.known_customer.new.store c.find_rates.new.store {H = Fault} customer rates rates
-    (λ customer (t : Tables). IsCustomer t row.account.customer customer) (λ rates (t : Tables). rates ≡ rates_of t row.account.customer)
-    (λ rates (t : Tables). IsCustomer t row.account.customer customer × (rates ≡ rates_of t row.account.customer))
+    (λ customer (t : Tables). IsCustomer t row.account.customer customer) (λ rates (t : Tables). rates ≡ rates_of_customer t row.account.customer)
+    (λ rates (t : Tables). IsCustomer t row.account.customer customer × (rates ≡ rates_of_customer t row.account.customer))
     (λ t k e. (k, e)) c.in_ok-customer.ensures.read c.in_ok-rates.ensures.read)
     c.in_ok-broker.ensures.read

@@ -5,7 +5,7 @@ use Rattle.brk_model.specs.Tables.{Tables}
 use Rattle.brk_changes.specs.Rows.{trade_row_of}
 use Rattle.brk_trade.specs.declared.result_found.ResultFound.{ResultFound}
 use Rattle.brk_changes.specs.declared.trade_row.TradeRow.{TradeRow}
-use Rattle.brk_decisions.specs.ResultFinds.{IsFoundAt, IsFoundOf}
+use Rattle.brk_decisions.specs.ResultFinds.{IsFoundAt, IsResultFoundOf}
 use Rattle.brk_store.proofs.Retelling.{retold}
 use Rattle.brk_decisions.proofs.Looking.{read_both}
 use Rattle.brk_decisions.proofs.ResultReading.{there}
@@ -17,7 +17,7 @@ returns-in_ok-found-in-Some-clause-read g c =
     let found = c.in_ok-found-in-Some.found in
     read_both g.S.Store c.args.store.now c.trade.new.self c.find_of_trade.new.store {H = Fault} (Some row) found (Some found)
     (λ o (t : Tables). option_map trade_row_of o ≡ find (λ (r : tables.TradeRow). r.id == c.args.trade) t.trades)
-    (λ found (t : Tables). IsFoundOf t row found)
+    (λ found (t : Tables). IsResultFoundOf t row found)
     (λ o (t : Tables). IsFoundAt t c.args.trade o)
     (λ t e k. there t c.args.trade row found e k)
     (rw c.in-Some.is at c.in_ok-row.ensures.read) c.in_ok-found-in-Some.ensures.read

@@ -2,7 +2,7 @@ use Rattle.std.proofs.Common.{◌≡◌, option_map}
 use Rattle.brk_money.specs.declared.fault.Fault.{Fault}
 use Rattle.brk_model.specs.Tables.{SummaryRow, Tables}
 use Rattle.brk_book_theorems.specs.TradeReads.{summary_in}
-use Rattle.brk_decisions.specs.ResultFinds.{IsFoundOf, IsPosting}
+use Rattle.brk_decisions.specs.ResultFinds.{IsResultFoundOf, IsPosting}
 use Rattle.brk_decisions.proofs.Looking.{read_both}
 use Rattle.brk_decisions.proofs.ResultReading.{OwnerKnown, SecurityKnown, SummaryKnown, found_known, found_with}
 use Rattle.brk_decisions.proofs.result_finding.find_of_trade.Goals as goal
@@ -18,7 +18,7 @@ returns-clause-read g c =
     read_both g.S.Store old c.find_summary.new.store c.find_posting.new.store {H = Fault} summary posting (found_with trade parties listed summary posting)
     (λ summary (t : Tables). (OwnerKnown t trade parties listed summary × SecurityKnown t trade parties listed summary) × SummaryKnown t trade parties listed summary)
     (λ posting (t : Tables). IsPosting t posting)
-    (λ found (t : Tables). IsFoundOf t trade found)
+    (λ found (t : Tables). IsResultFoundOf t trade found)
     (λ t k p. found_known t trade parties listed summary posting k.0.0 k.0.1 k.1 p)
     (read_both g.S.Store old c.find_listed.new.store c.find_summary.new.store {H = Fault} listed summary summary
     (λ listed (t : Tables). OwnerKnown t trade parties listed summary × SecurityKnown t trade parties listed summary)

@@ -8,7 +8,7 @@ use Rattle.brk_store.proofs.Retelling.{retold}
 use Rattle.brk_decisions.proofs.Looking.{read_both}
 use Rattle.brk_view.specs.Lots.{touch_in}
 use Rattle.brk_view.specs.declared.lots.LotTouch.{LotTouch}
-use Rattle.brk_desk.specs.Touched.{changes_with, stamp_of}
+use Rattle.brk_desk.specs.Touched.{changes_with, stamp_of_trade}
 use Rattle.brk_desk.proofs.Each.{list_more, map_map}
 use Rattle.brk_desk.proofs.lots.touches_of.Goals as goal
 
@@ -36,7 +36,7 @@ loop-row-preserved g c =
     rw c.in_ok-push.ensures.items
     (read_both g.S.Store c.args.store.now c.loop-row.store c.known_stamp.new.store {H = Fault} tt stamp tt
     (λ _. FirstChanges c.args.lot rows before i)
-    (λ stamp (t : Tables). stamp ≡ stamp_of t row.trade)
+    (λ stamp (t : Tables). stamp ≡ stamp_of_trade t row.trade)
     (λ _. FirstChanges c.args.lot rows (before ++ with stamp ∷ []) (i + 1))
     (λ t p e. (p.0, list_more (λ r. touch_in t (lot_change_of r)) rows i row before (with stamp) c.loop-row-test.true c.row-item.is p.1 (ap with e)))
     c.loop-row.invariant c.in_ok-stamp.ensures.read)

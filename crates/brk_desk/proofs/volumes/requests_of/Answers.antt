@@ -5,7 +5,7 @@ use Rattle.brk_model.specs.Tables.{RequestRow, Tables}
 use Rattle.brk_model.specs.VolumeView.{requests_in}
 use Rattle.brk_store.proofs.Retelling.{retold}
 use Rattle.brk_decisions.proofs.Looking.{read_both}
-use Rattle.brk_desk.specs.Volumes.{with_request}
+use Rattle.brk_desk.specs.Volumes.{with_sector_request}
 use Rattle.brk_desk.proofs.VolumeViews.{AreKeptIn, all_kept, kept_more, none_kept}
 use Rattle.brk_desk.proofs.volumes.requests_of.Goals as goal
 
@@ -31,7 +31,7 @@ loop-row-preserved g c =
     let new = c.keep_in_sector.new.found.items in
     read_both g.S.Store c.args.store.now c.loop-row.store c.keep_in_sector.new.store {H = Fault} tt tt tt
     (λ _ (t : Tables). AreKeptIn t sector before old (requests_in t sector broker))
-    (λ _ (t : Tables). new ≡ with_request t sector row old)
+    (λ _ (t : Tables). new ≡ with_sector_request t sector row old)
     (λ _ (t : Tables). AreKeptIn t sector rest new (requests_in t sector broker))
     (λ t p e. kept_more t sector before rest row old new _ c.in-Some.ensures.items e p)
     c.loop-row.invariant c.in_ok-keep_in_sector.ensures.read

@@ -3,11 +3,11 @@ use Rattle.std.proofs.lemmas.Result.{IfOk-weaker}
 use Rattle.serde_json.specs.Data.{object, member, no_members, string}
 use Rattle.serde_json.specs.View.{view}
 use Rattle.serde_json.specs.Written.{has_float, compact_text}
-use Rattle.brk_http_model.specs.Bodies.{told_error}
+use Rattle.brk_http_model.specs.Bodies.{json_error}
 use Rattle.brk_http_engine.proofs.bodies.told_error.Goals as goal
 
 pub returns : goal.returns
-unfolding told_error
+unfolding json_error
 returns c =
     let is : view c.in_ok-told.told ≡ object (member (codes "error") (string c.args.words.now) no_members) =
     c.in_ok-told.ensures ∙ ap (λ d. object (member (codes "error") d no_members)) c.in_ok-text.ensures in

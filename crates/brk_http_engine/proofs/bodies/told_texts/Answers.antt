@@ -3,15 +3,15 @@ use Rattle.std.proofs.lemmas.Result.{IfOk-weaker}
 use Rattle.serde_json.specs.Data.{object, member, no_members}
 use Rattle.serde_json.specs.View.{view}
 use Rattle.serde_json.specs.Written.{has_float, compact_text}
-use Rattle.brk_http_model.specs.Bodies.{listed, told_texts}
+use Rattle.brk_http_model.specs.Bodies.{json_list, json_texts}
 use Rattle.brk_http_engine.specs.Words.{word_text}
 use Rattle.brk_http_engine.proofs.BodyLemmas.{list_plain}
 use Rattle.brk_http_engine.proofs.bodies.told_texts.Goals as goal
 
 pub returns : goal.returns
-unfolding told_texts
+unfolding json_texts
 returns c =
-    let is : view c.in_ok-told.told ≡ object (member (word_text c.args.word) (listed (map string_bytes c.args.texts.now)) no_members) =
+    let is : view c.in_ok-told.told ≡ object (member (word_text c.args.word) (json_list (map string_bytes c.args.texts.now)) no_members) =
     c.in_ok-told.ensures ∙ ap (λ d. object (member (word_text c.args.word) d no_members)) c.in_ok-list.ensures in
     let plain : has_float (view c.in_ok-told.told) ≡ false = ap has_float is ∙ rw (list_plain (map string_bytes c.args.texts.now)) refl in
     IfOk-weaker c.to_string.result _ _ (λ s h. h plain ∙ ap compact_text is) c.to_string.ensures.text

@@ -1,5 +1,5 @@
 use Rattle.std.proofs.Common.{ap, codes}
-use Rattle.brk_http_model.specs.Bodies.{told_texts}
+use Rattle.brk_http_model.specs.Bodies.{json_texts}
 use Rattle.brk_http_theorems.proofs.Commas.{fields_cut}
 use Rattle.brk_http_theorems.proofs.keys.fields_have_no_comma.Goals as goal
 
@@ -7,4 +7,4 @@ pub returns-clause-cut : goal.returns-clause-cut
 returns-clause-cut c = fields_cut
 
 pub returns-clause-told : goal.returns-clause-told
-returns-clause-told c = λ reply. ap (told_texts (codes "again")) (fields_cut reply)
+returns-clause-told c = λ reply. ap (json_texts (codes "again")) (fields_cut reply)

@@ -42,7 +42,7 @@ loop-left-preserved g c =
     let touched : List Touch = i.taken.0 in
     let earlier = g.met.L.LotSource.told_before before after c.next.ensures.leads in
     record {
-      leads = g.met.L.LotSource.goes_on c.args.source.now before after i.leads c.next.ensures.leads;
+      leads = g.met.L.LotSource.transitive c.args.source.now before after i.leads c.next.ensures.leads;
       taken = (
         touched ++ c.touch.result ∷ [],
         c.in_ok-add.ensures.added touched i.taken.1,

@@ -1,6 +1,6 @@
 use Rattle.std.proofs.Common.{ℕ, [], ◌∷◌, ◌++◌, codes, decimal, length, map, subst}
 use Rattle.brk_model.specs.Statement.{amount_line, lot_line, lots_in}
-use Rattle.brk_report_lines.specs.Written.{Writes}
+use Rattle.brk_report_lines.specs.Written.{WritesLines}
 use Rattle.brk_report_lines.proofs.Composed.{breaks_behind, breaks_off}
 use Rattle.brk_report.proofs.Handing.{behind, breaks_as, line_first, wants}
 use Rattle.brk_report.proofs.parts.write_held.Goals as goal
@@ -22,5 +22,5 @@ returns-clause-written g c = λ clean t holds.
     behind (map lot_line (lots_in t c.args.account)) (amount_line (codes "Holdings") c.args.holdings ∷ (codes "Cash rows " ++ decimal c.args.cash ++ codes ", lots " ++ decimal (length (lots_in t c.args.account))) ∷ []) _ _ _ _ lots.0
     (behind (amount_line (codes "Holdings") c.args.holdings ∷ []) ((codes "Cash rows " ++ decimal c.args.cash ++ codes ", lots " ++ decimal (length (lots_in t c.args.account))) ∷ []) _ _ _ _
     (c.in_ok-write_line.ensures.written (amount_line (codes "Holdings") c.args.holdings) c.amount_line.ensures.line (wants _ c.amount_line.ensures.fault))
-    (subst (λ (n : ℕ). Writes ((codes "Cash rows " ++ decimal c.args.cash ++ codes ", lots " ++ decimal n) ∷ []) (g.W.Write.contents c.write_line.new.writer) (g.W.Write.contents c.write_line-2.new.writer) c.write_line-2.result) lots.1
+    (subst (λ (n : ℕ). WritesLines ((codes "Cash rows " ++ decimal c.args.cash ++ codes ", lots " ++ decimal n) ∷ []) (g.W.Write.contents c.write_line.new.writer) (g.W.Write.contents c.write_line-2.new.writer) c.write_line-2.result) lots.1
     (c.write_line-2.ensures.written (codes "Cash rows " ++ decimal c.args.cash ++ codes ", lots " ++ decimal c.in_ok-lots.lots) c.counts_line.ensures.line (wants _ c.counts_line.ensures.fault))))

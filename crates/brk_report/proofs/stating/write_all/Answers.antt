@@ -1,6 +1,6 @@
 use Rattle.std.proofs.Common.{ℕ, ℤ, ◌++◌, length, subst}
 use Rattle.brk_model.specs.Statement.{cash_in, cash_within}
-use Rattle.brk_report_lines.specs.Written.{BreaksIn, Writes}
+use Rattle.brk_report_lines.specs.Written.{BreaksIn, WritesLines}
 use Rattle.brk_report_lines.proofs.Composed.{breaks_before, breaks_behind}
 use Rattle.brk_report.specs.Parts.{days_lines, held_lines, top_lines}
 use Rattle.brk_report.proofs.Handing.{behind, breaks_as}
@@ -45,7 +45,7 @@ returns-clause-written g c = λ clean t holds.
     let done = c.in_ok-cash.ensures.written mid t first in
     let days = days_lines t c.args.account c.args.from c.args.to opening in
     let rest = held_lines t c.args.account c.args.head.now.holdings (length (cash_within c.args.from c.args.to (cash_in t c.args.account))) in
-    subst (λ (z : ℤ). Writes (lines z) (g.W.Write.contents c.args.writer.now) (g.W.Write.contents c.write_held.new.writer) c.write_held.result) (c.in_ok-opening.ensures.sum early t holds)
+    subst (λ (z : ℤ). WritesLines (lines z) (g.W.Write.contents c.args.writer.now) (g.W.Write.contents c.write_held.new.writer) c.write_held.result) (c.in_ok-opening.ensures.sum early t holds)
     (behind (top_lines c.args.account c.args.head.now.name c.args.from c.args.to opening) (days ++ rest) _ _ _ _ c.in_ok-write_top.ensures
     (behind days rest _ _ _ _ done.0
-    (subst (λ (n : ℕ). Writes (held_lines t c.args.account c.args.head.now.holdings n) (g.W.Write.contents c.write_days.new.writer) (g.W.Write.contents c.write_held.new.writer) c.write_held.result) done.1 (c.write_held.ensures.written clean t second))))
+    (subst (λ (n : ℕ). WritesLines (held_lines t c.args.account c.args.head.now.holdings n) (g.W.Write.contents c.write_days.new.writer) (g.W.Write.contents c.write_held.new.writer) c.write_held.result) done.1 (c.write_held.ensures.written clean t second))))

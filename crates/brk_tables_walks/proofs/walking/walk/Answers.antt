@@ -29,7 +29,7 @@ rows-init g c =
       refl,
       commits_none _ _ _ _ c.requires.query made.survives,
       made.mode,
-      (c.requires.ready, g.met.V.Visitor.stays c.args.visitor.now),
+      (c.requires.ready, g.met.V.Visitor.reflexive c.args.visitor.now),
       λ clean.
           let b = begun g.S.Store _ _ c.args.conn.now _ c.requires.query (made.begun clean) in ([], b.0, refl, b.1),
     )
@@ -122,7 +122,7 @@ rows-preserved g c =
       moved.same_reference ∙ i.0,
       through _ _ _ i.1 moved.survives,
       λ e. moved.mode (i.2 e),
-      (c.in-Ok-visit.ensures.ready, g.met.V.Visitor.goes_on _ _ _ i.3.1 c.in-Ok-visit.ensures.leads),
+      (c.in-Ok-visit.ensures.ready, g.met.V.Visitor.transitive _ _ _ i.3.1 c.in-Ok-visit.ensures.leads),
       λ clean.
           let was = i.4 (omega (arith, moved.survives.clean, clean)) in
           let on = (rw (c.in-Ok-Some.is, c.in-Ok-Some.field-0-is) at (moved.ok clean)) c.args.sql.now (bound c.args.params.now) (map g.R.Record.cells was.0) was.1 in
@@ -157,7 +157,7 @@ returns-in-Err-record_in-clause-early g c clean =
     (c.in-Err-record_in.ensures.fault, record { records = was.0; begins = inr (was.3.0.was_open, begins_at _ _ _ _ was.3.0.now_is _ (given_begin g.S.Store _ _ c.rows.rows.conn.now _ was.1)); taken = was.2 })
 
 pub returns-in-Err-clause-leads : goal.returns-in-Err-clause-leads
-returns-in-Err-clause-leads g c = g.met.V.Visitor.stays _
+returns-in-Err-clause-leads g c = g.met.V.Visitor.reflexive _
 
 pub returns-in-Err-visit-clause-leads : goal.returns-in-Err-visit-clause-leads
-returns-in-Err-visit-clause-leads g c = g.met.V.Visitor.goes_on _ _ _ c.rows.invariant.3.1 c.in-Err-visit.ensures.leads
+returns-in-Err-visit-clause-leads g c = g.met.V.Visitor.transitive _ _ _ c.rows.invariant.3.1 c.in-Err-visit.ensures.leads

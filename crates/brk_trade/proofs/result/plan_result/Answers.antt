@@ -6,8 +6,8 @@ use Rattle.brk_lots.specs.Values.{values_of}
 use Rattle.brk_lots.specs.declared.lot.Lot.{Lot}
 use Rattle.brk_model.specs.Tests.{first_refusal}
 use Rattle.brk_money.specs.Moments.{stamp_after}
-use Rattle.brk_trade.specs.Outcomes.{deal_of, first_tests, last_tests, result_tests, values_in}
-use Rattle.brk_trade.specs.Results.{AreChanges, AreMet, IsCompletion, moment_of, told_of}
+use Rattle.brk_trade.specs.Outcomes.{deal_of_row, first_tests, last_tests, all_result_tests, values_in}
+use Rattle.brk_trade.specs.Results.{AreResultChanges, AreMet, IsCompletion, opening_stamp, told_of}
 use Rattle.brk_trade.specs.declared.outcome.ResultNumbers.{ResultNumbers}
 use Rattle.brk_plans.specs.declared.plan.Plan.{Plan}
 use Rattle.brk_plans.specs.declared.reply.Reply.TheVariants.{Completed}
@@ -23,8 +23,8 @@ returns-in-Err-complete-clause-planned g c =
     let told = rw moved at c.in-Err-complete.ensures in
     let refusal = c.in-Err-complete.refusal in
     let late : (ls : List Lot) (stamp : ℕ) → AreMet (AsTold (g.L.LotSource.reads_faithfully c.close_met.new.source) (g.L.LotSource.remaining c.args.source.now)) found ls
-    → first_refusal (result_tests found c.args.price (values_of (deal_of found.trade c.args.price stamp) (shares_of ls)) (stamp_after c.args.last c.args.now)) ≡ Some refusal = λ ls stamp met.
-    let closes : IsClosing (deal_of found.trade c.args.price c.match-moved.at) ls closing = c.in_ok-closing.ensures.closing ls met in
+    → first_refusal (all_result_tests found c.args.price (values_of (deal_of_row found.trade c.args.price stamp) (shares_of ls)) (stamp_after c.args.last c.args.now)) ≡ Some refusal = λ ls stamp met.
+    let closes : IsClosing (deal_of_row found.trade c.args.price c.match-moved.at) ls closing = c.in_ok-closing.ensures.closing ls met in
     refused_by_values found c.args.price ls c.match-moved.at stamp closing (stamp_after c.args.last c.args.now) refusal closes c.in-Ok.ensures.0 told in
     rw c.in-Some.is (record { early = rw c.in-Ok.ensures.0 tt; late = late })
 
@@ -32,10 +32,10 @@ pub returns-in-Err-complete-clause-asked : goal.returns-in-Err-complete-clause-a
 returns-in-Err-complete-clause-asked g c =
     let found = c.in-Some.found.now in
     let closing = c.in_ok-closing.closing in
-    let at : c.match-moved.at ≡ moment_of (stamp_after c.args.last c.args.now) c.args.now = elim c.match-moved.branch [ in-Some-moved w ↦ search rules | in-None w ↦ search rules ] in
+    let at : c.match-moved.at ≡ opening_stamp (stamp_after c.args.last c.args.now) c.args.now = elim c.match-moved.branch [ in-Some-moved w ↦ search rules | in-None w ↦ search rules ] in
     rw (c.in-Some.is, ← at) (λ ls met.
-    let closes : IsClosing (deal_of found.trade c.args.price c.match-moved.at) ls closing = c.in_ok-closing.ensures.closing ls met in
-    let count = touched_count (deal_of found.trade c.args.price c.match-moved.at) ls closing closes in
+    let closes : IsClosing (deal_of_row found.trade c.args.price c.match-moved.at) ls closing = c.in_ok-closing.ensures.closing ls met in
+    let count = touched_count (deal_of_row found.trade c.args.price c.match-moved.at) ls closing closes in
     omega (arith, c.in_ok-closing.ensures.asked, count, closing.touched.ok.0))
 
 pub returns-clause-planned : goal.returns-clause-planned
@@ -46,11 +46,11 @@ returns-clause-planned g c =
     let outcome = c.in-Ok-complete.outcome in
     let done = c.in-Ok-complete.ensures in
     let moved : c.match-moved.moved ≡ stamp_after c.args.last c.args.now = elim c.match-moved.branch [ in-Some-moved w ↦ search rules | in-None w ↦ search rules ] in
-    let at : c.match-moved.at ≡ moment_of (stamp_after c.args.last c.args.now) c.args.now = elim c.match-moved.branch [ in-Some-moved w ↦ search rules | in-None w ↦ search rules ] in
+    let at : c.match-moved.at ≡ opening_stamp (stamp_after c.args.last c.args.now) c.args.now = elim c.match-moved.branch [ in-Some-moved w ↦ search rules | in-None w ↦ search rules ] in
     let stamped : stamp_after c.args.last c.args.now ≡ Some outcome.stamp = sym moved ∙ done.1 in
-    let stamp : c.match-moved.at ≡ outcome.stamp = at ∙ ap (λ o. moment_of o c.args.now) stamped in
+    let stamp : c.match-moved.at ≡ outcome.stamp = at ∙ ap (λ o. opening_stamp o c.args.now) stamped in
     let tested = rw done.1 at done.0 in
-    let changed : ResultNumbers → Type 0 = λ o. AreChanges found price closing o c.in_ok-changes.changes.items in
+    let changed : ResultNumbers → Type 0 = λ o. AreResultChanges found price closing o c.in_ok-changes.changes.items in
     let plan : Plan = record { changes = c.in_ok-changes.changes; reply = Completed c.told.result } in
     let completed : IsCompletion found price (AsTold (g.L.LotSource.reads_faithfully c.close_met.new.source) (g.L.LotSource.remaining c.args.source.now)) c.args.last c.args.now plan = record {
       stamp = outcome.stamp;
@@ -67,10 +67,10 @@ pub returns-clause-asked : goal.returns-clause-asked
 returns-clause-asked g c =
     let found = c.in-Some.found.now in
     let closing = c.in_ok-closing.closing in
-    let at : c.match-moved.at ≡ moment_of (stamp_after c.args.last c.args.now) c.args.now = elim c.match-moved.branch [ in-Some-moved w ↦ search rules | in-None w ↦ search rules ] in
+    let at : c.match-moved.at ≡ opening_stamp (stamp_after c.args.last c.args.now) c.args.now = elim c.match-moved.branch [ in-Some-moved w ↦ search rules | in-None w ↦ search rules ] in
     rw (c.in-Some.is, ← at) (λ ls met.
-    let closes : IsClosing (deal_of found.trade c.args.price c.match-moved.at) ls closing = c.in_ok-closing.ensures.closing ls met in
-    let count = touched_count (deal_of found.trade c.args.price c.match-moved.at) ls closing closes in
+    let closes : IsClosing (deal_of_row found.trade c.args.price c.match-moved.at) ls closing = c.in_ok-closing.ensures.closing ls met in
+    let count = touched_count (deal_of_row found.trade c.args.price c.match-moved.at) ls closing closes in
     omega (arith, c.in_ok-closing.ensures.asked, count, closing.touched.ok.0))
 
 pub returns-in-Err-clause-planned : goal.returns-in-Err-clause-planned
@@ -79,5 +79,5 @@ returns-in-Err-clause-planned g c =
     let cause = c.in-Err.ensures in
     rw c.in-Some.is (record {
       early = rw cause refl;
-      late = λ ls stamp met. first_refuses found c.args.price (values_of (deal_of found.trade c.args.price stamp) (shares_of ls)) (stamp_after c.args.last c.args.now) c.in-Err.refusal cause;
+      late = λ ls stamp met. first_refuses found c.args.price (values_of (deal_of_row found.trade c.args.price stamp) (shares_of ls)) (stamp_after c.args.last c.args.now) c.in-Err.refusal cause;
     })

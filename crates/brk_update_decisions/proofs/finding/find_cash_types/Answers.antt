@@ -9,7 +9,7 @@ use Rattle.brk_plans.specs.declared.corrected.TextUpdate.{TextUpdate}
 use Rattle.brk_plans.specs.declared.corrected.TextUpdate.TheVariants.{CashTypes}
 use Rattle.brk_decisions.proofs.Looking.{read_both}
 use Rattle.brk_store.proofs.Retelling.{retold}
-use Rattle.brk_update_theorems.specs.Corrections.{AreSettled, IsFoundForUpdate}
+use Rattle.brk_update_theorems.specs.Corrections.{AreSettlementTexts, IsFoundForUpdate}
 use Rattle.brk_update_decisions.proofs.Found.{missing_if, present_if}
 use Rattle.brk_update_decisions.proofs.finding.find_cash_types.Goals as goal
 
@@ -29,7 +29,7 @@ returns-clause-read g c =
     let settled = c.in_ok-settled.settled in
     read_both g.S.Store c.args.store.now c.is_account_there.new.store c.find_settled.new.store {X = Option TextUpdate} {H = Fault} there settled (Some (CashTypes settled))
     (λ there (t : Tables). there ≡ is_some (account_in t c.args.account))
-    (λ settled (t : Tables). AreSettled t (completed_of_account c.args.account span.first span.last t) settled.items)
+    (λ settled (t : Tables). AreSettlementTexts t (completed_of_account c.args.account span.first span.last t) settled.items)
     (λ found (t : Tables). IsFoundForUpdate t (update.CashTypes c.args.account span) found)
     (λ t e k. (present_if (account_in t c.args.account) there e c.if-not-branch.false, k))
     c.in_ok-is_account_there.ensures.read c.in_ok-settled.ensures.read

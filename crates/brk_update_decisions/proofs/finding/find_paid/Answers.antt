@@ -10,7 +10,7 @@ use Rattle.brk_changes.specs.declared.trade_row.TradeRow.{TradeRow}
 use Rattle.brk_plans.specs.declared.corrected.CashText.{CashText}
 use Rattle.brk_decisions.proofs.Looking.{read_both}
 use Rattle.brk_store.proofs.Retelling.{retold}
-use Rattle.brk_update_theorems.specs.Corrections.{ArePaid, paid_in, paid_row, cash_in}
+use Rattle.brk_update_theorems.specs.Corrections.{ArePaid, paid_in, paid_row, cash_row_of_trade}
 use Rattle.brk_update_decisions.proofs.Found.{one_more, twice}
 use Rattle.brk_update_decisions.proofs.finding.find_paid.Goals as goal
 
@@ -37,7 +37,7 @@ loop-trade-preserved g c =
     let name = c.in_ok-name.name in
     read_both g.S.Store c.args.store.now c.loop-trade.store c.known_cash_name.new.store {H = Fault} tt name tt
     (λ _. FirstPaid c.args.symbol.now span.first span.last rows c.loop-trade.paid.items i)
-    (λ name (t : Tables). Some (string_bytes name) ≡ option_map (λ r. r.name) (cash_in t trade.id))
+    (λ name (t : Tables). Some (string_bytes name) ≡ option_map (λ r. r.name) (cash_row_of_trade t trade.id))
     (λ _. FirstPaid c.args.symbol.now span.first span.last rows c.push.new.self.items (i + 1))
     (λ t p e. (
       p.0,

@@ -8,7 +8,7 @@ use Rattle.brk_changes.specs.declared.trade_row.TradeRow.{TradeRow}
 use Rattle.brk_plans.specs.declared.corrected.SettlementText.{SettlementText}
 use Rattle.brk_decisions.proofs.Looking.{read_both}
 use Rattle.brk_store.proofs.Retelling.{retold}
-use Rattle.brk_update_theorems.specs.Corrections.{AreSettled, settled_in, settled_row, settlement_in}
+use Rattle.brk_update_theorems.specs.Corrections.{AreSettlementTexts, settled_in, settled_row, settlement_in}
 use Rattle.brk_update_decisions.proofs.Found.{one_more, twice}
 use Rattle.brk_update_decisions.proofs.finding.find_settled.Goals as goal
 
@@ -51,6 +51,6 @@ returns-clause-read g c =
     let i = c.loop-trade.trade-index in
     retold g.S.Store c.args.store.now c.loop-trade.store tt c.loop-trade.settled
     (λ _. FirstSettled c.args.account span.first span.last rows c.loop-trade.settled.items i)
-    (λ settled (t : Tables). AreSettled t (completed_of_account c.args.account span.first span.last t) settled.items)
+    (λ settled (t : Tables). AreSettlementTexts t (completed_of_account c.args.account span.first span.last t) settled.items)
     (λ t p. p.1 ∙ ap (map (λ r. settled_in t (trade_row_of r))) (take_all i rows c.loop-trade-test.false) ∙ twice trade_row_of (settled_in t) rows ∙ ap (map (settled_in t)) p.0)
     c.loop-trade.invariant

@@ -4,13 +4,13 @@ use Rattle.brk_model.specs.LookupView.{is_cash_of}
 use Rattle.brk_model.specs.Tables.{MoveRow, Tables}
 use Rattle.brk_changes.specs.Rows.{move_row_of}
 use Rattle.brk_store.proofs.Retelling.{retold}
-use Rattle.brk_update_theorems.specs.Corrections.{cash_in}
+use Rattle.brk_update_theorems.specs.Corrections.{cash_row_of_trade}
 use Rattle.brk_update_decisions.proofs.known.known_cash_name.Goals as goal
 
 pub returns-in-Some-clause-read : goal.returns-in-Some-clause-read
 returns-in-Some-clause-read g c =
     retold g.S.Store c.args.store.now c.cash_row.new.self (Some c.in-Some.cash) c.in-Some.cash.name
     (λ o (t : Tables). option_map move_row_of o ≡ find (is_cash_of c.args.trade) t.moves)
-    (λ name (t : Tables). Some (string_bytes name) ≡ option_map (λ c. c.name) (cash_in t c.args.trade))
+    (λ name (t : Tables). Some (string_bytes name) ≡ option_map (λ c. c.name) (cash_row_of_trade t c.args.trade))
     (λ t e. ap (option_map (λ (r : MoveRow). r.name)) e)
     (rw c.in-Some.is at c.in_ok-cash.ensures.read)

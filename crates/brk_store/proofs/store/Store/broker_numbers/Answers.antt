@@ -3,7 +3,7 @@ use Rattle.brk_model.specs.Tables.{BrokerRow, Tables}
 use Rattle.brk_ref.specs.declared.broker.BrokerRow as broker
 use Rattle.brk_ref.specs.Records.{broker_row_of}
 use Rattle.brk_changes.specs.declared.broker_numbers.BrokerNumbers.{BrokerNumbers}
-use Rattle.brk_store.specs.Numbers.{AreNumbers}
+use Rattle.brk_store.specs.Numbers.{AreBrokerTotals}
 use Rattle.brk_store.proofs.Retelling.{retold}
 use Rattle.brk_store.proofs.store.Store.broker_numbers.Goals as goal
 
@@ -11,7 +11,7 @@ pub returns-in_default-clause-read : goal.returns-in_default-clause-read
 returns-in_default-clause-read g c =
     retold g.S.Store c.args.self.now c.broker.new.self {V = Option broker.BrokerRow} {X = Option BrokerNumbers} None None
     (λ o (t : Tables). option_map broker_row_of o ≡ find (λ (r : BrokerRow). r.id == c.args.broker) t.brokers)
-    (λ numbers (t : Tables). AreNumbers numbers (find (λ (r : BrokerRow). r.id == c.args.broker) t.brokers))
+    (λ numbers (t : Tables). AreBrokerTotals numbers (find (λ (r : BrokerRow). r.id == c.args.broker) t.brokers))
     (λ t e. sym e)
     (rw c.in_default.is at c.in_ok-row.ensures.read)
 
@@ -19,6 +19,6 @@ pub returns-in-Some-numbers_in-clause-read : goal.returns-in-Some-numbers_in-cla
 returns-in-Some-numbers_in-clause-read g c =
     retold g.S.Store c.args.self.now c.broker.new.self (Some c.in-Some.row) (Some c.in-Some-numbers_in.numbers)
     (λ o (t : Tables). option_map broker_row_of o ≡ find (λ (r : BrokerRow). r.id == c.args.broker) t.brokers)
-    (λ numbers (t : Tables). AreNumbers numbers (find (λ (r : BrokerRow). r.id == c.args.broker) t.brokers))
+    (λ numbers (t : Tables). AreBrokerTotals numbers (find (λ (r : BrokerRow). r.id == c.args.broker) t.brokers))
     (λ t e. (broker_row_of c.in-Some.row, sym e, c.in-Some-numbers_in.ensures.0, c.in-Some-numbers_in.ensures.1))
     (rw c.in-Some.is at c.in_ok-row.ensures.read)
