@@ -10,6 +10,7 @@ import os
 import re
 import subprocess
 import sys
+import textwrap
 
 OUT = 'crates/brk_tables_schema/proofs'
 SPECS = 'crates/brk_tables_schema/specs'
@@ -506,6 +507,7 @@ pub data Which : Type 0 where
 abbrev pub desk_rows : Schema → Option ℕ → List DeskRow
 desk_rows schema last = record {{ id = 1; schema = schema.number; last = last }} ∷ []
 
+-- The key of DESK: D_ID.
 abbrev pub desk_key : DeskRow → List KeyPart
 desk_key r = number r.id ∷ []
 
@@ -514,6 +516,7 @@ abbrev pub rule_rows : Option ℕ → List RuleRow
 rule_rows None = []
 rule_rows (Some day) = record {{ id = 1; day = day }} ∷ []
 
+-- The key of SETTLE_RULE: SR_ID.
 abbrev pub rule_key : RuleRow → List KeyPart
 rule_key r = number r.id ∷ []
 
@@ -526,6 +529,7 @@ has_table schema w = true
 abbrev pub shape : Which → ℕ → Table
 {both(lambda d: f'shape {d[2]} = {d[0]}')}
 
+-- The shape of a table in the tree `tree` has its rows there.
 abbrev pub placed : (w : Which) (tree : ℕ) → (shape w tree).tree ≡ tree
 {both(lambda d: f'placed {d[2]} tree = refl')}
 
@@ -533,9 +537,11 @@ abbrev pub placed : (w : Which) (tree : ℕ) → (shape w tree).tree ≡ tree
 abbrev pub Item : Which → Type 0
 {both(lambda d: f'Item {d[2]} = {d[3]}')}
 
+-- The row of a table that encodes a record: its cells, column by column.
 abbrev pub encode : (w : Which) → Item w → Row
 {both(lambda d: f'encode {d[2]} = {d[0]}_cells')}
 
+-- The key of a row of a table.
 abbrev pub key : (w : Which) → Item w → List KeyPart
 {both(lambda d: f'key {d[2]} = {d[4]}')}
 
@@ -543,11 +549,11 @@ abbrev pub key : (w : Which) → Item w → List KeyPart
 abbrev pub order : (w : Which) → Item w → Item w → Ordering
 order w = by_key_values (key w)
 
--- The rows that a table holds in a schema.
+-- The rows of a table of a desk with the tables `t`. Only the row of DESK depends on the schema.
 abbrev pub list_in : Schema → (w : Which) → Tables → List (Item w)
 {both(lambda d: f'list_in schema {d[2]} t = {d[5]}')}
 
--- The rows that a table holds in the third schema, which an open desk has.
+-- The rows of a table of a desk with the tables `t`, in the third schema, which an open desk has.
 abbrev pub list : (w : Which) → Tables → List (Item w)
 list = list_in third_schema
 
@@ -559,10 +565,11 @@ desk_in schema = record {{ shape = shape; placed = placed; Item = Item; encode =
 abbrev pub desk : Desk Which Tables
 desk = desk_in third_schema
 
+-- All tables of the third schema.
 abbrev pub all_tables : List Which
 all_tables = {lst(d[2] for d in DATA)}
 
--- The list of the tables of a schema, and of those that it lacks.
+-- The tables of a schema.
 abbrev pub tables_in : Schema → List Which
 tables_in schema = filter (has_table schema) all_tables
 
@@ -674,6 +681,7 @@ use Rattle.brk_tables_schema.specs.Desk.{{Which, {', '.join(d[2] for d in DATA)}
 use Rattle.brk_tables_create.specs.declared.table.Table.{{Table}}
 use Rattle.brk_tables_create.specs.declared.table.Table.TheVariants as table
 
+-- The table of the specification that a table of the code represents.
 abbrev pub which_of : Table → Which
 {chr(10).join(f'which_of table.{d[2]} = {d[2]}' for d in DATA)}
 
@@ -979,6 +987,15 @@ def groups():
         sys.exit('tools/tables.py: GROUPS lacks a group for the last tables')
     return [(*group, DATA[4 * n:4 * n + 4]) for n, group in enumerate(GROUPS)]
 
+def named(tables):
+    """The names of some tables, in a sentence"""
+    words = [d[1] for d in tables]
+    return ', '.join(words[:-1]) + ' and ' + words[-1]
+
+def remark(text):
+    """A comment of a specification"""
+    return '\n'.join(textwrap.wrap(text, 100, initial_indent='-- ', subsequent_indent='-- ', break_on_hyphens=False))
+
 def raw_field(d):
     """The field that holds the rows of a table as the database shows them"""
     return 'desk' if d[0] == 'desk_row' else sheet_field(d)
@@ -1220,7 +1237,7 @@ use Rattle.brk_tables_scan.specs.declared.raw.RawSheets.{{RawSheets}}
 abbrev pub Stays : State → State → Type 0
 Stays old new = IsTrue old.is_open × (new.now ≡ old.now)
 
--- The reads show the rows of these tables, whole, and change nothing.
+-- The reads show the rows of these four tables, whole, and change nothing.
 pub record ShowsFour (first second third fourth : Which) (a b c d : List Row) (old new : State) : Type 0 where
   pub stays : Stays old new
   pub one : ShowsAll first a old.now
@@ -1230,20 +1247,22 @@ pub record ShowsFour (first second third fourth : Which) (a b c d : List Row) (o
 """
     for word, _, _, tables in groups()[:-1]:
         out += f"""
+{remark(f'The reads show the rows of {named(tables)}, whole, and change nothing.')}
 abbrev pub Shows{word} : {word}Rows → State → State → Type 0
 Shows{word} raw = ShowsFour {' '.join(d[2] for d in tables)} {' '.join(f'raw.{raw_field(d)}.items' for d in tables)}
 """
     out += f"""
--- The reads show the rows of the tables that later schemas add, if `schema` has them.
+-- The reads show the rows of CASH_MOVE and of SETTLE_RULE, whole, each if the schema `desk` has the
+-- table. They change nothing.
 pub record ShowsLater (desk : Schema) (raw : LaterRows) (old new : State) : Type 0 where
   pub same : new.now ≡ old.now
 {chr(10).join(f'  pub {raw_field(d)} : ShowsIf desk {d[2]} raw.{raw_field(d)}.items old.now' for d in groups()[-1][3])}
 
--- The reads show the rows of each table of `schema`.
+-- The raw rows of a table.
 abbrev pub raw_rows : RawSheets → Which → List Row
 {chr(10).join(f'raw_rows raw {d[2]} = raw.{field}.{raw_field(d)}.items' for _, field, _, tables in groups() for d in tables)}
 
--- The reads show each table of `schema` whole and no other table, and change nothing.
+-- The reads show each table of the schema `desk`, whole, and change nothing.
 abbrev pub ShowsDesk : Schema → RawSheets → State → State → Type 0
 ShowsDesk desk raw old new = Stays old new × ((w : Which) → ShowsIf desk w (raw_rows raw w) old.now)
 """
@@ -1258,10 +1277,11 @@ def decoded_group(word, field, tables):
     form = lambda d: VALUES[d[0]][3] if d[0] in VALUES else f'list_all (all_formed {d[0]}_forms) raw.{raw_field(d)}.items'
     fields = '\n'.join(f'  pub {raw_field(d)} : map {shown(d)} {of(d)} ≡ raw.{raw_field(d)}.items' for d in tables)
     return f"""
--- The raw rows encode the rows of these tables.
+{remark(f'The raw rows of {named(tables)} encode the typed rows.')}
 pub record Is{word} {'(schema : Schema) ' if first else ''}(sheets : {word}Sheets) (raw : {word}Rows) : Type 0 where
 {fields}
 
+{remark(f'True if each column of each raw row of {named(tables)} is well-formed.')}
 abbrev pub formed_{field} : {'Schema → ' if first else ''}{word}Rows → Bool
 formed_{field} {'desk ' if first else ''}raw = {' && '.join(form(d) for d in tables)}
 """
@@ -1287,11 +1307,12 @@ use Rattle.brk_tables_scan.specs.declared.raw.RawSheets.{{RawSheets}}
     out += ''.join(decoded_group(word, field, tables) for word, field, _, tables in groups())
     desk = lambda word: 'desk ' if word == 'First' else ''
     out += f"""
--- True if each column of each row is well-formed.
+-- True if each column of each raw row is well-formed, and the row of DESK is that of the schema
+-- `desk`.
 abbrev pub formed : Schema → RawSheets → Bool
 formed desk raw = {' && '.join(f'formed_{field} {desk(word)}raw.{field}' for word, field, _ in GROUPS)}
 
--- The sheets are the typed rows of all tables.
+-- The sheets are the typed rows of all tables: the raw rows encode them, in the schema `desk`.
 abbrev pub AreSheets : Schema → Sheets → RawSheets → Type 0
 AreSheets desk sheets raw = (w : Which) → map (encode w) (list_in desk w (tables_in_sheets sheets)) ≡ raw_rows raw w
 """

@@ -4,6 +4,7 @@ use Rattle.brk_tables_schema.specs.Desk.{Which, TheDesk, KeptRows, Brokers, Cust
 use Rattle.brk_tables_create.specs.declared.table.Table.{Table}
 use Rattle.brk_tables_create.specs.declared.table.Table.TheVariants as table
 
+-- The table of the specification that a table of the code represents.
 abbrev pub which_of : Table → Which
 which_of table.TheDesk = TheDesk
 which_of table.KeptRows = KeptRows

@@ -41,6 +41,7 @@ pub data Which : Type 0 where
 abbrev pub desk_rows : Schema → Option ℕ → List DeskRow
 desk_rows schema last = record { id = 1; schema = schema.number; last = last } ∷ []
 
+-- The key of DESK: D_ID.
 abbrev pub desk_key : DeskRow → List KeyPart
 desk_key r = number r.id ∷ []
 
@@ -49,6 +50,7 @@ abbrev pub rule_rows : Option ℕ → List RuleRow
 rule_rows None = []
 rule_rows (Some day) = record { id = 1; day = day } ∷ []
 
+-- The key of SETTLE_RULE: SR_ID.
 abbrev pub rule_key : RuleRow → List KeyPart
 rule_key r = number r.id ∷ []
 
@@ -83,6 +85,7 @@ shape CashRows = cash
 shape CashMoves = move
 shape SettleRules = rule
 
+-- The shape of a table in the tree `tree` has its rows there.
 abbrev pub placed : (w : Which) (tree : ℕ) → (shape w tree).tree ≡ tree
 placed TheDesk tree = refl
 placed KeptRows tree = refl
@@ -132,6 +135,7 @@ Item CashRows = CashRow
 Item CashMoves = MoveRow
 Item SettleRules = RuleRow
 
+-- The row of a table that encodes a record: its cells, column by column.
 abbrev pub encode : (w : Which) → Item w → Row
 encode TheDesk = desk_row_cells
 encode KeptRows = kept_cells
@@ -156,6 +160,7 @@ encode CashRows = cash_cells
 encode CashMoves = move_cells
 encode SettleRules = rule_cells
 
+-- The key of a row of a table.
 abbrev pub key : (w : Which) → Item w → List KeyPart
 key TheDesk = desk_key
 key KeptRows = kept_key
@@ -184,7 +189,7 @@ key SettleRules = rule_key
 abbrev pub order : (w : Which) → Item w → Item w → Ordering
 order w = by_key_values (key w)
 
--- The rows that a table holds in a schema.
+-- The rows of a table of a desk with the tables `t`. Only the row of DESK depends on the schema.
 abbrev pub list_in : Schema → (w : Which) → Tables → List (Item w)
 list_in schema TheDesk t = desk_rows schema t.last
 list_in schema KeptRows t = t.kept
@@ -209,7 +214,7 @@ list_in schema CashRows t = t.cash
 list_in schema CashMoves t = t.moves
 list_in schema SettleRules t = rule_rows t.rule
 
--- The rows that a table holds in the third schema, which an open desk has.
+-- The rows of a table of a desk with the tables `t`, in the third schema, which an open desk has.
 abbrev pub list : (w : Which) → Tables → List (Item w)
 list = list_in third_schema
 
@@ -221,10 +226,11 @@ desk_in schema = record { shape = shape; placed = placed; Item = Item; encode = 
 abbrev pub desk : Desk Which Tables
 desk = desk_in third_schema
 
+-- All tables of the third schema.
 abbrev pub all_tables : List Which
 all_tables = TheDesk ∷ KeptRows ∷ Brokers ∷ Customers ∷ Accounts ∷ Permissions ∷ Securities ∷ LastTrades ∷ Charges ∷ Bands ∷ TaxRates ∷ CustomerTaxes ∷ Trades ∷ TradeHistory ∷ Requests ∷ Holdings ∷ Summaries ∷ HoldingHistory ∷ Settlements ∷ CashRows ∷ CashMoves ∷ SettleRules ∷ []
 
--- The list of the tables of a schema, and of those that it lacks.
+-- The tables of a schema.
 abbrev pub tables_in : Schema → List Which
 tables_in schema = filter (has_table schema) all_tables
 
