@@ -431,7 +431,7 @@ use Rattle.brk_sql.specs.Desk.{text, whole, perhaps, refers, table_of}
         uniques = ([] if rowkey else [f'({primary})']) + [f'({u} ∷ [])' for u in UNIQUE.get(t, [])]
         refs = lst(f'refers {spot(i)} ({q(r.split(".")[0])}) ({q(r.split(".")[1])})' for i, (c, k, _, r) in enumerate(cols) if r)
         out += f"""
--- {sql}
+-- The shape of {sql}, with its rows in the tree `tree`.
 abbrev pub {t} : ℕ → Table
 {t} tree = table_of ({q(sql)}) tree ({cs})
     {'(Some 0)' if rowkey else 'None'} ({primary}) ({lst(uniques)}) ({refs})
@@ -477,7 +477,7 @@ flag b = Int (pos (if b then 1 else 0))
 """
     for t, sql, w, row, key, rows, rowkey, cols in DATA:
         out += f"""
--- {sql}
+-- The cells of a row of {sql}, in the order of its columns.
 abbrev pub {t}_cells : {row} → Row
 {t}_cells r = {lst(e for _, _, e, _ in cols)}
 """

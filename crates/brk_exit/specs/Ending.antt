@@ -15,8 +15,8 @@ use Rattle.brk_args.specs.declared.job.UsageFault.{UsageFault}
 use Rattle.brk_args.specs.declared.job.UsageFault.TheVariants as usage
 use Rattle.brk_exit.specs.Lines.{fault_line}
 
--- The exit status of a fault: 1 if the tables are not a desk's, 3 if memory ran out or the store
--- failed.
+-- The exit status of a fault: 1 for `Damaged`, whichever condition fails, and 3 for `Memory` and
+-- `Store`.
 abbrev pub fault_status : Fault → ℕ
 fault_status (fault.Damaged condition) = 1
 fault_status fault.Memory = 3

@@ -97,9 +97,9 @@ is_fault (Wrong problem) = false
 abbrev pub head_line : Text → Text
 head_line text = text ++ 13 ∷ 10 ∷ []
 
--- The line of a head if `stands` is true, otherwise no bytes.
+-- The line of a head if `is_there` is true, otherwise no bytes.
 abbrev pub line_if : Bool → Text → Text
-line_if stands text = if stands then head_line text else []
+line_if is_there text = if is_there then head_line text else []
 
 -- The bytes of a reply: the status line, the fields, an empty line and the body. It has `Allow:
 -- POST` if `asks_post` is true, and `Connection: close` if `closes` is true.

@@ -35,7 +35,22 @@ pub record Base : Type 0 where
 
 -- The empty base: no record, no settlement day and no last stamp.
 unfoldable pub empty_base : Base
-empty_base = record { brokers = []; customers = []; accounts = []; permissions = []; securities = []; charges = []; bands = []; tax_rates = []; customer_taxes = []; trades = []; movements = []; rule = None; kept = []; last = None }
+empty_base = record {
+  brokers = [];
+  customers = [];
+  accounts = [];
+  permissions = [];
+  securities = [];
+  charges = [];
+  bands = [];
+  tax_rates = [];
+  customer_taxes = [];
+  trades = [];
+  movements = [];
+  rule = None;
+  kept = [];
+  last = None;
+}
 
 -- The broker with this id, or none.
 abbrev pub broker_with : Base → ℕ → Option Broker

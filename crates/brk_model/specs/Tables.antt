@@ -267,7 +267,30 @@ cash_rows schema accounts done = if schema.has_moves then [] else map (cash_row 
 
 -- The tables without rows, as they are before any command is accepted.
 abbrev pub no_rows : Tables
-no_rows = record { last = None; kept = []; brokers = []; customers = []; accounts = []; permissions = []; securities = []; last_trades = []; charges = []; bands = []; tax_rates = []; customer_taxes = []; trades = []; history = []; requests = []; holdings = []; summaries = []; holding_history = []; settlements = []; cash = []; moves = []; rule = None }
+no_rows = record {
+  last = None;
+  kept = [];
+  brokers = [];
+  customers = [];
+  accounts = [];
+  permissions = [];
+  securities = [];
+  last_trades = [];
+  charges = [];
+  bands = [];
+  tax_rates = [];
+  customer_taxes = [];
+  trades = [];
+  history = [];
+  requests = [];
+  holdings = [];
+  summaries = [];
+  holding_history = [];
+  settlements = [];
+  cash = [];
+  moves = [];
+  rule = None;
+}
 
 -- The tables of a base in a schema, if `done` are its completed trades. From them the totals of
 -- brokers, the balances, lots, summaries, lot changes, settlements and cash rows are computed, and
