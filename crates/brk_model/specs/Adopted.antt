@@ -20,7 +20,13 @@ marks_in tables trade = sort_by_key (λ m. m.stamp) (map (λ h. record { stamp =
 -- The posting of a trade's cash row to the account of the trade; the account is 0 if the trade does
 -- not exist.
 abbrev pub posting_of_cash : Tables → CashRow → Posting
-posting_of_cash tables c = record { account = option_map_or (λ t. t.account) (trade_in tables c.trade) 0; trade = Some c.trade; stamp = c.stamp; amount = c.amount; name = c.name }
+posting_of_cash tables c = record {
+  account = option_map_or (λ t. t.account) (trade_in tables c.trade) 0;
+  trade = Some c.trade;
+  stamp = c.stamp;
+  amount = c.amount;
+  name = c.name;
+}
 
 -- The posting of a numbered cash row.
 abbrev pub posting_of_move : MoveRow → Posting

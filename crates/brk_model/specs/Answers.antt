@@ -28,7 +28,8 @@ call_step step base call = step base call.now call.command call.key
 -- each from the base after the one before.
 abbrev pub InTurn : {B C : Type 0} → RowStep B C → B → List (RowCall C) → List Answer → B → Type 0
 InTurn step base [] [] after = after ≡ base
-InTurn step base (call ∷ calls) (answer ∷ answers) after = (answer ≡ (call_step step base call).0) × InTurn step (call_step step base call).1 calls answers after
+InTurn step base (call ∷ calls) (answer ∷ answers) after =
+    (answer ≡ (call_step step base call).0) × InTurn step (call_step step base call).1 calls answers after
 InTurn step base [] (answer ∷ answers) after = ⊥
 InTurn step base (call ∷ calls) [] after = ⊥
 

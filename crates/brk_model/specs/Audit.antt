@@ -40,7 +40,8 @@ row_conditions =
 -- The answer is the first of the conditions that fails, or none if all hold.
 abbrev pub IsFirstFailing : Schema → List Condition → Tables → Option Condition → Type 0
 IsFirstFailing schema [] t answer = answer ≡ None
-IsFirstFailing schema (c ∷ cs) t answer = (ConditionHolds schema c t × IsFirstFailing schema cs t answer) ⊎ ((¬ ConditionHolds schema c t) × (answer ≡ Some c))
+IsFirstFailing schema (c ∷ cs) t answer =
+    (ConditionHolds schema c t × IsFirstFailing schema cs t answer) ⊎ ((¬ ConditionHolds schema c t) × (answer ≡ Some c))
 
 -- The answer is the result of an audit of tables of a schema whose rows are sorted by key: the
 -- first condition that fails, or none.

@@ -82,7 +82,8 @@ cut_batch run = batch_without_end (run.0 ++ Refused BadText ∷ [], run.1) NoEnd
 -- `BadEnd`.
 abbrev pub ended_by : {B C : Type 0} → (Fields → Read C) → RowStep B C → Text → B → List ℕ → List Fields → Fields → Batch B
 ended_by form step name base moments rows last =
-    if is_right (length rows) last then complete_batch (settled form step name base moments rows) else batch_without_end (settled form step name base moments rows) BadEnd
+    if is_right (length rows) last then complete_batch (settled form step name base moments rows)
+    else batch_without_end (settled form step name base moments rows) BadEnd
 
 -- The batch of rows without an end record: the last one is refused and not executed.
 abbrev pub cut_off : {B C : Type 0} → (Fields → Read C) → RowStep B C → Text → B → List ℕ → List Fields → Batch B

@@ -107,7 +107,9 @@ charge_form c = is_tier c.tier && nat_le c.amount greatest_charge
 -- True if the columns of a row of COMMISSION_RATE are well-formed, and its lower bound is at most
 -- its upper bound.
 abbrev pub band_form : Schema → Band → Bool
-band_form schema b = is_tier b.tier && is_exchange b.exchange && is_qty schema b.from_qty && is_qty schema b.to_qty && nat_le b.from_qty b.to_qty && nat_le b.rate greatest_rate
+band_form schema b =
+    is_tier b.tier && is_exchange b.exchange && is_qty schema b.from_qty && is_qty schema b.to_qty && nat_le b.from_qty b.to_qty
+    && nat_le b.rate greatest_rate
 
 -- True if the columns of a row of TAXRATE are well-formed.
 abbrev pub tax_rate_form : TaxRate → Bool
@@ -158,7 +160,8 @@ holding_history_form t h = has_trade t h.lot && has_trade t h.trade
 -- True if the text is one of the two cash types of a cash trade, or of a margin trade.
 abbrev pub is_cash_type : Bool → Text → Bool
 is_cash_type is_cash word =
-    if is_cash then bytes_eq word (codes "Cash Account") || bytes_eq word (codes "Cash") else bytes_eq word (codes "Margin") || bytes_eq word (codes "Margin Account")
+    if is_cash then bytes_eq word (codes "Cash Account") || bytes_eq word (codes "Cash")
+    else bytes_eq word (codes "Margin") || bytes_eq word (codes "Margin Account")
 
 -- True if the trade of a row of SETTLEMENT exists, its cash type is one of the two of that trade,
 -- and its due day and amount are within their limits.
@@ -169,7 +172,8 @@ settlement_form t s =
 -- True if the name is one of the two that a cash row of the trade may have.
 abbrev pub is_cash_name : Tables → Text → TradeRow → Bool
 is_cash_name t name row =
-    bytes_eq name (cash_text (codes " shares of ") (base_of t) (trade_of_row t row)) || bytes_eq name (cash_text (codes " Shares of ") (base_of t) (trade_of_row t row))
+    bytes_eq name (cash_text (codes " shares of ") (base_of t) (trade_of_row t row))
+    || bytes_eq name (cash_text (codes " Shares of ") (base_of t) (trade_of_row t row))
 
 -- True if the trade of a row of CASH_TRANSACTION exists, its name is one of the two of that trade,
 -- and its stamp and amount are well-formed.
@@ -190,7 +194,8 @@ is_cash_of_trade t r trade = option_map_or (is_cash_name t r.name) (trade_in t t
 -- it has none, name and amount are those of a movement.
 abbrev pub move_form : Tables → MoveRow → Bool
 move_form t r =
-    is_move_id r.id && has_account t r.account && option_map_or (is_cash_of_trade t r) r.trade (is_movement r.name r.amount) && is_stamp t r.stamp && is_amount r.amount
+    is_move_id r.id && has_account t r.account && option_map_or (is_cash_of_trade t r) r.trade (is_movement r.name r.amount)
+    && is_stamp t r.stamp && is_amount r.amount
 
 -- The trades of cash rows; a row without a trade has none.
 abbrev pub trades_moved : List MoveRow → List ℕ

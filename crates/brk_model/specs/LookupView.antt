@@ -23,8 +23,10 @@ cash_record c = codes "cash" ∷ decimal c.stamp ∷ cents_text c.amount ∷ c.n
 -- price is empty if the trade has none.
 abbrev pub trade_record : TradeRow → List Text
 trade_record t =
-    codes "trade" ∷ decimal t.id ∷ decimal t.stamp ∷ status_code t.status ∷ type_code t.kind ∷ t.symbol ∷ decimal t.qty ∷ price_text t.bid ∷ t.executor
-    ∷ option_map_or price_text t.price [] ∷ price_text t.charge ∷ price_text t.commission ∷ price_text t.tax ∷ cash_word t.is_cash ∷ end_word t.is_lifo ∷ []
+    codes "trade" ∷ decimal t.id ∷ decimal t.stamp ∷ status_code t.status ∷ type_code t.kind
+    ∷ t.symbol ∷ decimal t.qty ∷ price_text t.bid ∷ t.executor
+    ∷ option_map_or price_text t.price [] ∷ price_text t.charge ∷ price_text t.commission ∷ price_text t.tax
+    ∷ cash_word t.is_cash ∷ end_word t.is_lifo ∷ []
 
 -- True if the cash row belongs to the trade with the id `trade`.
 abbrev pub is_cash_of : ℕ → MoveRow → Bool

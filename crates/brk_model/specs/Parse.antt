@@ -154,13 +154,19 @@ read_as wrap read input = Ok wrap ⊛ read input
 -- The parsers of brokers, customers and accounts.
 abbrev pub party_readers : List (Reader Command)
 party_readers =
-    (codes "broker", read_as AddBroker read_broker) ∷ (codes "customer", read_as AddCustomer read_customer) ∷ (codes "account", read_as AddAccount read_account) ∷ []
+    (codes "broker", read_as AddBroker read_broker)
+    ∷ (codes "customer", read_as AddCustomer read_customer)
+    ∷ (codes "account", read_as AddAccount read_account) ∷ []
 
 -- The parsers of permissions, securities, charges, bands, tax rates and the taxes of customers.
 abbrev pub term_readers : List (Reader Command)
 term_readers =
-    (codes "permission", read_as AddPermission read_permission) ∷ (codes "security", read_as AddSecurity read_security) ∷ (codes "charge", read_as AddCharge read_charge)
-    ∷ (codes "band", read_as AddBand read_band) ∷ (codes "taxrate", read_as AddTaxRate read_tax_rate) ∷ (codes "custtax", read_as AddCustomerTax read_customer_tax) ∷ []
+    (codes "permission", read_as AddPermission read_permission)
+    ∷ (codes "security", read_as AddSecurity read_security)
+    ∷ (codes "charge", read_as AddCharge read_charge)
+    ∷ (codes "band", read_as AddBand read_band)
+    ∷ (codes "taxrate", read_as AddTaxRate read_tax_rate)
+    ∷ (codes "custtax", read_as AddCustomerTax read_customer_tax) ∷ []
 
 -- The parsers of the nine kinds of reference rows.
 abbrev pub reference_readers : List (Reader Command)
@@ -168,7 +174,10 @@ reference_readers = party_readers ++ term_readers
 
 -- The parsers of orders, feeds and cancels.
 abbrev pub order_readers : List (Reader Command)
-order_readers = (codes "order", read_as PlaceOrder read_order) ∷ (codes "feed", read_as FeedTicks read_feed) ∷ (codes "cancel", read_as CancelTrade read_cancel) ∷ []
+order_readers =
+    (codes "order", read_as PlaceOrder read_order)
+    ∷ (codes "feed", read_as FeedTicks read_feed)
+    ∷ (codes "cancel", read_as CancelTrade read_cancel) ∷ []
 
 -- The parser of results.
 abbrev pub result_readers : List (Reader Command)
@@ -176,12 +185,17 @@ result_readers = (codes "result", read_result) ∷ []
 
 -- The parsers of the three text updates.
 abbrev pub update_readers : List (Reader Command)
-update_readers = (codes "upname", read_as ChangeExecutors read_ids) ∷ (codes "upcash", read_upcash) ∷ (codes "uptext", read_uptext) ∷ []
+update_readers =
+    (codes "upname", read_as ChangeExecutors read_ids)
+    ∷ (codes "upcash", read_upcash)
+    ∷ (codes "uptext", read_uptext) ∷ []
 
 -- The parsers of deposits, withdrawals and the settlement day.
 abbrev pub movement_readers : List (Reader Command)
 movement_readers =
-    (codes "deposit", read_movement (λ a n. DepositCash a n)) ∷ (codes "withdraw", read_movement (λ a n. WithdrawCash a n)) ∷ (codes "oneday", read_as SetOneDay read_oneday) ∷ []
+    (codes "deposit", read_movement (λ a n. DepositCash a n))
+    ∷ (codes "withdraw", read_movement (λ a n. WithdrawCash a n))
+    ∷ (codes "oneday", read_as SetOneDay read_oneday) ∷ []
 
 -- The parsers of all row kinds.
 abbrev pub readers : List (Reader Command)

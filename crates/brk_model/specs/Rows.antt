@@ -22,7 +22,8 @@ end_word is_lifo = if is_lifo then codes "lifo" else codes "fifo"
 -- The ten fields of an order; the field of the price is empty if the type asks for none.
 abbrev pub order_fields : Order → List Text
 order_fields o =
-    decimal o.account ∷ type_code (kind_of o.order_type) ∷ o.symbol ∷ decimal o.qty ∷ option_map_or price_text (price_asked o.order_type) [] ∷ cash_word o.is_cash ∷ end_word o.is_lifo
+    decimal o.account ∷ type_code (kind_of o.order_type) ∷ o.symbol ∷ decimal o.qty
+    ∷ option_map_or price_text (price_asked o.order_type) [] ∷ cash_word o.is_cash ∷ end_word o.is_lifo
     ∷ o.executor.first_name ∷ o.executor.last_name ∷ o.executor.tax_id ∷ []
 
 -- The three fields of a tick: symbol, price and quantity.
@@ -33,7 +34,8 @@ tick_fields tick = tick.symbol ∷ price_text tick.price ∷ decimal tick.qty �
 unfoldable pub row_fields : Command → List Text
 row_fields (AddBroker b) = codes "broker" ∷ decimal b.id ∷ b.name ∷ []
 row_fields (AddCustomer c) = codes "customer" ∷ decimal c.id ∷ decimal c.tier ∷ c.tax_id ∷ c.last_name ∷ c.first_name ∷ []
-row_fields (AddAccount a) = codes "account" ∷ decimal a.id ∷ decimal a.customer ∷ decimal a.broker ∷ a.name ∷ decimal (tax_status_number a.tax_status) ∷ cents_text a.opening ∷ []
+row_fields (AddAccount a) =
+    codes "account" ∷ decimal a.id ∷ decimal a.customer ∷ decimal a.broker ∷ a.name ∷ decimal (tax_status_number a.tax_status) ∷ cents_text a.opening ∷ []
 row_fields (AddPermission p) = codes "permission" ∷ decimal p.account ∷ p.acl ∷ p.tax_id ∷ p.last_name ∷ p.first_name ∷ []
 row_fields (AddSecurity l) = codes "security" ∷ l.symbol ∷ l.name ∷ l.exchange ∷ l.sector ∷ price_text l.price ∷ []
 row_fields (AddCharge c) = codes "charge" ∷ type_code c.kind ∷ decimal c.tier ∷ price_text c.amount ∷ []
@@ -59,13 +61,15 @@ row_text command = join_with_byte 31 (row_fields command)
 -- assets.
 abbrev pub estimate_fields : Estimate → List Text
 estimate_fields e =
-    price_text e.price ∷ price_text e.buy_value ∷ price_text e.sell_value ∷ price_text e.tax ∷ price_text e.commission ∷ price_text e.charge ∷ cents_text e.assets ∷ []
+    price_text e.price ∷ price_text e.buy_value ∷ price_text e.sell_value ∷ price_text e.tax
+    ∷ price_text e.commission ∷ price_text e.charge ∷ cents_text e.assets ∷ []
 
 -- The seven fields of a completion: commission, tax, amount, due day, buy value, sell value and
 -- balance.
 abbrev pub completion_fields : Completion → List Text
 completion_fields c =
-    price_text c.commission ∷ price_text c.tax ∷ cents_text c.amount ∷ day_text c.due_day ∷ price_text c.buy_value ∷ price_text c.sell_value ∷ cents_text c.balance ∷ []
+    price_text c.commission ∷ price_text c.tax ∷ cents_text c.amount ∷ day_text c.due_day
+    ∷ price_text c.buy_value ∷ price_text c.sell_value ∷ cents_text c.balance ∷ []
 
 -- The fields of a reply, its stamp first.
 unfoldable pub reply_fields : Reply → List Text

@@ -158,8 +158,15 @@ broker_row accounts done b =
 
 -- The CUSTOMER_ACCOUNT row of an account, with its balance.
 abbrev pub account_row : List Account → List Posting → Account → AccountRow
-account_row accounts posted a =
-    record { id = a.id; customer = a.customer; broker = a.broker; name = a.name; tax_status = a.tax_status; opening = a.opening; balance = balance_of accounts posted a.id }
+account_row accounts posted a = record {
+  id = a.id;
+  customer = a.customer;
+  broker = a.broker;
+  name = a.name;
+  tax_status = a.tax_status;
+  opening = a.opening;
+  balance = balance_of accounts posted a.id;
+}
 
 -- The SECURITY row of a security.
 abbrev pub security_row : Security → SecurityRow

@@ -110,7 +110,8 @@ tests_of_trade base id tests = option_map_or tests (trade_with base id) ((true, 
 -- The checks of a command, in the sequence in which they are made.
 unfoldable pub tests : Base → ℕ → Command → List Test
 tests base stamp (AddBroker b) = exists_if (is_some (broker_with base b.id)) ∷ []
-tests base stamp (AddCustomer c) = exists_if (list_any (λ d. (d.id == c.id)) base.customers) ∷ exists_if (list_any (λ d. bytes_eq d.tax_id c.tax_id) base.customers) ∷ []
+tests base stamp (AddCustomer c) =
+    exists_if (list_any (λ d. (d.id == c.id)) base.customers) ∷ exists_if (list_any (λ d. bytes_eq d.tax_id c.tax_id) base.customers) ∷ []
 tests base stamp (AddAccount a) =
     lacks_customer base a.customer ∷ lacks_broker base a.broker ∷ exists_if (is_some (account_with base a.id))
     ∷ (nat_le most_accounts (length (filter (λ b. b.customer == a.customer) base.accounts)), Range limit.Accounts) ∷ []
