@@ -26,14 +26,10 @@ abbrev pub at_most : ℕ → Option ℕ → Option ℕ
 at_most limit None = None
 at_most limit (Some n) = if nat_le n limit then Some n else None
 
--- The greatest absolute value of an amount, in cents.
-abbrev pub most_cents : ℕ
-most_cents = Cents.GREATEST
-
--- The absolute value of the amount is at most `most_cents`.
+-- The absolute value of the amount, in cents, is at most `Cents.GREATEST`.
 abbrev pub IsWithin : ℤ → Type 0
-IsWithin (pos n) = n ≤ most_cents
-IsWithin (negsuc n) = suc n ≤ most_cents
+IsWithin (pos n) = n ≤ Cents.GREATEST
+IsWithin (negsuc n) = suc n ≤ Cents.GREATEST
 
 -- The text of `n` cents without a sign, such as 12.05: digits, a point and two digits.
 abbrev pub magnitude_text : ℕ → Text
@@ -79,10 +75,10 @@ civil_value text = record { year = digits_value (take 4 text); month = digits_va
 abbrev pub day_of_text : Text → Option ℕ
 day_of_text text = if_spelled day_text (day_number (civil_value text)) text
 
--- The amount, if its absolute value is at most `most_cents`; otherwise none.
+-- The amount, if its absolute value is at most `Cents.GREATEST`; otherwise none.
 abbrev pub within_limit : Option ℤ → Option ℤ
 within_limit None = None
-within_limit (Some z) = if nat_le (nat_abs z) most_cents then Some z else None
+within_limit (Some z) = if nat_le (nat_abs z) Cents.GREATEST then Some z else None
 
 -- The number that results from reading more digits after the number `n`.
 abbrev pub read_on : ℕ → List ℕ → ℕ

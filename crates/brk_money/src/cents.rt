@@ -1,6 +1,6 @@
 ghost use Rattle.std.specs.Prelude.{◌≡◌, ◌≢◌, ◌≤◌, ◌+◌, ◌<◌, ◌^◌, ◌≤ℤ◌, ℕ, ℤ, pos, neg_ℤ, SomeIff, IfSome, IfNone, Some};
 ghost use Rattle.brk_money.specs.declared.cents.TheConstants.Cents;
-ghost use Rattle.brk_money.specs.Spelling.{cents_text, magnitude_text, most_cents, IsWithin};
+ghost use Rattle.brk_money.specs.Spelling.{cents_text, magnitude_text, IsWithin};
 
 use crate::whole::parse_whole;
 use std::marker::Model;
@@ -48,8 +48,8 @@ impl Cents {
 // Returns the cents that the bytes spell without a sign, or `None` if they spell none.
 #[tactic(auto, using(crate::proofs::Plain::plain_split, crate::proofs::Plain::plain_joined))]
 fn parse_plain(bytes: &[u8]) -> Option<u64>
-    ensures found { IfSome result (λ n. (n ≤ most_cents) × (bytes.now ≡ magnitude_text n)) }
-    ensures none { IfNone result ((n : ℕ) → n ≤ most_cents → bytes.now ≢ magnitude_text n) }
+    ensures found { IfSome result (λ n. (n ≤ Cents.GREATEST) × (bytes.now ≡ magnitude_text n)) }
+    ensures none { IfNone result ((n : ℕ) → n ≤ Cents.GREATEST → bytes.now ≢ magnitude_text n) }
 {
     if bytes.len() < 3 {
         return None;

@@ -1,13 +1,14 @@
 ghost use Rattle.std.specs.Prelude.{◌≡◌, ◌≢◌, ◌+◌, ◌-◌, ◌*◌, ◌^◌, ◌<◌, ◌≤◌, ℕ, true, IfSome, IfNone};
 ghost use Rattle.std.specs.Fmt.{decimal};
 ghost use Rattle.std.specs.Str.{all_ascii_digits};
-ghost use Rattle.brk_money.specs.Spelling.{most_cents, read_on};
+ghost use Rattle.brk_money.specs.declared.cents.TheConstants.Cents;
+ghost use Rattle.brk_money.specs.Spelling.{read_on};
 
 // Returns the number that the bytes spell in decimal digits, or `None` if a byte is no digit or the
 // number is above `limit`.
 #[tactic(auto, using(crate::proofs::Digits::read_on_le))]
 fn read_digits(bytes: &[u8], limit: u64) -> Option<u64>
-    requires { limit ≤ most_cents }
+    requires { limit ≤ Cents.GREATEST }
     ensures found { IfSome result (λ n. (all_ascii_digits bytes.now ≡ true) × (read_on 0 bytes.now ≡ n) × (n ≤ limit)) }
     ensures none { IfNone result (all_ascii_digits bytes.now ≡ true → limit < read_on 0 bytes.now) }
 {
@@ -28,7 +29,7 @@ fn read_digits(bytes: &[u8], limit: u64) -> Option<u64>
 /// decimal digits without a sign or a leading zero.
 #[tactic(auto, using(crate::proofs::Digits::whole_found, crate::proofs::Digits::whole_only))]
 pub fn parse_whole(bytes: &[u8], limit: u64) -> Option<u64>
-    requires { limit ≤ most_cents }
+    requires { limit ≤ Cents.GREATEST }
     ensures found { IfSome result (λ n. (n ≤ limit) × (bytes.now ≡ decimal n)) }
     ensures none { IfNone result ((n : ℕ) → n ≤ limit → bytes.now ≢ decimal n) }
 {

@@ -4,7 +4,8 @@ use Rattle.std.specs.Prelude.{Option, Some, None, Ok, Err, MatchOption, SomeIff,
 use Rattle.std.specs.Option.{ok_or, option_and_then}
 use Rattle.std.proofs.lemmas.Int.{ints}
 use Rattle.std.proofs.lemmas.Bool.{leb-true, leb-false, le-leb, ne_eqb}
-use Rattle.brk_money.specs.Spelling.{Text, IsWithin, most_cents, at_most, within_limit, cents_of}
+use Rattle.brk_money.specs.Spelling.{Text, IsWithin, at_most, within_limit, cents_of}
+use Rattle.brk_money.specs.declared.cents.TheConstants.Cents
 use Rattle.brk_money.specs.Kinds.{tax_status_of}
 use Rattle.brk_money.specs.declared.refusal.Refusal.{Refusal}
 use Rattle.brk_money.specs.declared.refusal.Refusal.TheVariants.{BadText}
@@ -61,12 +62,12 @@ up_to high refusal None = refl
 up_to high refusal (Some n) = rw (le-leb 0 n (omega arith)) refl
 
 -- an amount that is not below 0
-pub below_zero : (o : Option ℤ) (z r : ℤ) → o ≡ Some z → r ≡ z → r <ℤ pos 0 → None ≡ at_most most_cents (unsigned o)
+pub below_zero : (o : Option ℤ) (z r : ℤ) → o ≡ Some z → r ≡ z → r <ℤ pos 0 → None ≡ at_most Cents.GREATEST (unsigned o)
 below_zero o (pos n) r e f h = absurd (omega (arith, ints, f, h))
 below_zero o (negsuc n) r e f h = rw e refl
 
-pub from_zero_on : (o : Option ℤ) (z r : ℤ) → o ≡ Some z → r ≡ z → pos 0 ≤ℤ r → IsWithin z → Some (nat_abs r) ≡ at_most most_cents (unsigned o)
-from_zero_on o (pos n) r e f h w = rw (e, f, le-leb n most_cents w) refl
+pub from_zero_on : (o : Option ℤ) (z r : ℤ) → o ≡ Some z → r ≡ z → pos 0 ≤ℤ r → IsWithin z → Some (nat_abs r) ≡ at_most Cents.GREATEST (unsigned o)
+from_zero_on o (pos n) r e f h w = rw (e, f, le-leb n Cents.GREATEST w) refl
 from_zero_on o (negsuc n) r e f h w = absurd (omega (arith, ints, f, h))
 
 -- the tax status with a number up to 2

@@ -1,6 +1,7 @@
 ghost use Rattle.std.specs.Prelude.{◌≡◌};
 ghost use Rattle.std.specs.Option.{ok_or};
-ghost use Rattle.brk_money.specs.Spelling.{at_most, cents_of, most_cents};
+ghost use Rattle.brk_money.specs.Spelling.{at_most, cents_of};
+ghost use Rattle.brk_money.specs.declared.cents.TheConstants.Cents;
 ghost use Rattle.brk_model.specs.Forms.{read_amount, read_charge_amount, read_commission_rate, read_id, read_opening, read_price, read_qty, read_rate_of_tax, read_tax_status, unsigned};
 ghost use Rattle.brk_money.specs.declared.refusal.Refusal.TheVariants.{BadPrice, BadQty, BadText};
 
@@ -71,7 +72,7 @@ pub fn parse_tax_rate(bytes: &[u8]) -> Option<TaxRate>
 // Parses an amount in cents that is not below 0. Returns `None` if the bytes are malformed or
 // exceed 10^17 cents.
 fn parse_unsigned(bytes: &[u8]) -> Option<u64>
-    ensures { result ≡ at_most most_cents (unsigned (cents_of bytes.now)) }
+    ensures { result ≡ at_most Cents.GREATEST (unsigned (cents_of bytes.now)) }
 {
     let Some(cents) = parse_cents(bytes) else {
         return None;

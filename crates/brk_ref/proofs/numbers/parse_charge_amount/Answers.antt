@@ -1,6 +1,7 @@
 use Rattle.std.proofs.Common.{lit≤, ◌∙◌}
 use Rattle.std.specs.Prelude.{Some}
-use Rattle.brk_money.specs.Spelling.{most_cents, cents_of}
+use Rattle.brk_money.specs.Spelling.{cents_of}
+use Rattle.brk_money.specs.declared.cents.TheConstants.Cents
 use Rattle.brk_money.specs.declared.refusal.Refusal.TheVariants.{BadText}
 use Rattle.brk_model.specs.Forms.{unsigned}
 use Rattle.brk_ref.proofs.Limits.{within_limits, from_zero, up_to}
@@ -8,6 +9,6 @@ use Rattle.brk_ref.proofs.numbers.parse_charge_amount.Goals as goal
 
 pub returns : goal.returns
 returns c =
-    within_limits 0 1000000 most_cents BadText (unsigned (cents_of c.args.bytes.now)) (Some c.in-Some.cents) c.new.result (lit≤ tt) c.in-Some.ensures
+    within_limits 0 1000000 Cents.GREATEST BadText (unsigned (cents_of c.args.bytes.now)) (Some c.in-Some.cents) c.new.result (lit≤ tt) c.in-Some.ensures
     (from_zero 1000000 c.in-Some.cents c.new.result c.new.ensures)
     ∙ up_to 1000000 BadText (unsigned (cents_of c.args.bytes.now))

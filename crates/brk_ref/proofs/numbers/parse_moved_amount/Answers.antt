@@ -1,6 +1,7 @@
 use Rattle.std.proofs.Common.{lit≤}
 use Rattle.std.specs.Prelude.{Some}
-use Rattle.brk_money.specs.Spelling.{most_cents, cents_of}
+use Rattle.brk_money.specs.Spelling.{cents_of}
+use Rattle.brk_money.specs.declared.cents.TheConstants.Cents
 use Rattle.brk_money.specs.declared.refusal.Refusal.TheVariants.{BadText}
 use Rattle.brk_model.specs.Forms.{unsigned}
 use Rattle.brk_ref.proofs.Limits.{within_limits}
@@ -8,4 +9,4 @@ use Rattle.brk_ref.proofs.numbers.parse_moved_amount.Goals as goal
 
 pub returns : goal.returns
 returns c =
-    within_limits 1 100_000_000_000_000_000 most_cents BadText (unsigned (cents_of c.args.bytes.now)) (Some c.in-Some.cents) c.new.result (lit≤ tt) c.in-Some.ensures c.new.ensures
+    within_limits 1 100_000_000_000_000_000 Cents.GREATEST BadText (unsigned (cents_of c.args.bytes.now)) (Some c.in-Some.cents) c.new.result (lit≤ tt) c.in-Some.ensures c.new.ensures
