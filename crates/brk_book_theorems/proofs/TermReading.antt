@@ -19,7 +19,7 @@ use Rattle.brk_model.specs.Sheets.{sheets, sheets_of}
 use Rattle.brk_model.specs.Tests.{bands_meet}
 use Rattle.brk_ref.specs.Records.{tax_of}
 use Rattle.brk_ref.specs.declared.tax.Tax.{Tax}
-use Rattle.brk_book_theorems.specs.Reads.{has_permission, has_security, has_charge, has_overlap, tax_rate_of, rate_of, has_tax_rate, pays_tax, rates_of_customer}
+use Rattle.brk_book_theorems.specs.Reads.{finds_permission, finds_security, finds_charge, has_overlap, tax_rate_of, rate_of, finds_tax_rate, pays_tax, rates_of_customer}
 use Rattle.brk_book_theorems.proofs.Order.{by_key-filter}
 use Rattle.brk_book_theorems.proofs.Reading.{find-key, find-id, find-map, is_some-map, some-is-any, any-sorted}
 use Rattle.brk_book_theorems.proofs.NewKeys.{same_bytes, code_same, same_codes, both, and_both}
@@ -76,17 +76,17 @@ reads_customer_tax base customer tax =
 -- ---- whether they are there
 
 pub reads_has_permission : (base : Base) (account : ℕ) (tax_id : Text)
-    → has_permission (sheets base) account tax_id ≡ list_any (λ q. (q.account == account) && bytes_eq q.tax_id tax_id) base.permissions
+    → finds_permission (sheets base) account tax_id ≡ list_any (λ q. (q.account == account) && bytes_eq q.tax_id tax_id) base.permissions
 reads_has_permission base account tax_id =
     ap is_some (reads_permission base account tax_id) ∙ some-is-any (λ q. (q.account == account) && bytes_eq q.tax_id tax_id) base.permissions
 
-pub reads_has_security : (base : Base) (symbol : Text) → has_security (sheets base) symbol ≡ is_some (security_with base symbol)
+pub reads_has_security : (base : Base) (symbol : Text) → finds_security (sheets base) symbol ≡ is_some (security_with base symbol)
 reads_has_security base symbol = ap is_some (reads_security base symbol) ∙ is_some-map security_row (security_with base symbol)
 
-pub reads_has_charge : (base : Base) (kind : TradeType) (tier : ℕ) → has_charge (sheets base) kind tier ≡ is_some (charge_with base kind tier)
+pub reads_has_charge : (base : Base) (kind : TradeType) (tier : ℕ) → finds_charge (sheets base) kind tier ≡ is_some (charge_with base kind tier)
 reads_has_charge base kind tier = ap is_some (reads_charge base kind tier)
 
-pub reads_has_tax_rate : (base : Base) (id : ℕ) → has_tax_rate (sheets base) id ≡ is_some (tax_rate_with base id)
+pub reads_has_tax_rate : (base : Base) (id : ℕ) → finds_tax_rate (sheets base) id ≡ is_some (tax_rate_with base id)
 reads_has_tax_rate base id = ap is_some (reads_tax_rate base id)
 
 pub reads_pays_tax : (base : Base) (customer tax : ℕ)

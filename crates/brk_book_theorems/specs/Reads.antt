@@ -9,36 +9,36 @@ use Rattle.brk_model.specs.Tables.{Tables}
 use Rattle.brk_model.specs.Tests.{bands_meet}
 
 -- True if a broker has the id.
-abbrev pub has_broker : Tables → ℕ → Bool
-has_broker t id = is_some (find (λ r. r.id == id) t.brokers)
+abbrev pub finds_broker : Tables → ℕ → Bool
+finds_broker t id = is_some (find (λ r. r.id == id) t.brokers)
 
 -- True if a customer has the id.
-abbrev pub has_customer : Tables → ℕ → Bool
-has_customer t id = is_some (find (λ r. r.id == id) t.customers)
+abbrev pub finds_customer : Tables → ℕ → Bool
+finds_customer t id = is_some (find (λ r. r.id == id) t.customers)
 
 -- True if a customer has the tax id.
-abbrev pub has_tax_id : Tables → Text → Bool
-has_tax_id t tax_id = is_some (find (λ r. bytes_eq r.tax_id tax_id) t.customers)
+abbrev pub finds_tax_id : Tables → Text → Bool
+finds_tax_id t tax_id = is_some (find (λ r. bytes_eq r.tax_id tax_id) t.customers)
 
 -- True if an account has the id.
-abbrev pub has_account : Tables → ℕ → Bool
-has_account t id = is_some (find (λ r. r.id == id) t.accounts)
+abbrev pub finds_account : Tables → ℕ → Bool
+finds_account t id = is_some (find (λ r. r.id == id) t.accounts)
 
 -- The number of accounts of the customer.
 abbrev pub accounts_of : Tables → ℕ → ℕ
 accounts_of t customer = length (filter (λ r. r.customer == customer) t.accounts)
 
 -- True if the account has a permission for the tax id.
-abbrev pub has_permission : Tables → ℕ → Text → Bool
-has_permission t account tax_id = is_some (find (λ r. (r.account == account) && bytes_eq r.tax_id tax_id) t.permissions)
+abbrev pub finds_permission : Tables → ℕ → Text → Bool
+finds_permission t account tax_id = is_some (find (λ r. (r.account == account) && bytes_eq r.tax_id tax_id) t.permissions)
 
 -- True if a security has the symbol.
-abbrev pub has_security : Tables → Text → Bool
-has_security t symbol = is_some (find (λ r. bytes_eq r.symbol symbol) t.securities)
+abbrev pub finds_security : Tables → Text → Bool
+finds_security t symbol = is_some (find (λ r. bytes_eq r.symbol symbol) t.securities)
 
 -- True if there is a charge for the type and the tier.
-abbrev pub has_charge : Tables → TradeType → ℕ → Bool
-has_charge t kind tier = is_some (find (λ r. same_type r.kind kind && (r.tier == tier)) t.charges)
+abbrev pub finds_charge : Tables → TradeType → ℕ → Bool
+finds_charge t kind tier = is_some (find (λ r. same_type r.kind kind && (r.tier == tier)) t.charges)
 
 -- The bands of the tier, the type and the exchange.
 abbrev pub bands_of : Tables → ℕ → TradeType → Text → List Band
@@ -53,8 +53,8 @@ abbrev pub tax_rate_of : Tables → ℕ → Option TaxRate
 tax_rate_of t id = find (λ r. r.id == id) t.tax_rates
 
 -- True if a tax rate has the id.
-abbrev pub has_tax_rate : Tables → ℕ → Bool
-has_tax_rate t id = is_some (tax_rate_of t id)
+abbrev pub finds_tax_rate : Tables → ℕ → Bool
+finds_tax_rate t id = is_some (tax_rate_of t id)
 
 -- The rate of the tax rate with the id `tax`, or `None` if there is none.
 abbrev pub rate_of : Tables → ℕ → Option ℕ

@@ -25,7 +25,7 @@ ghost use Rattle.brk_model.specs.Ways.{is_rising};
 ghost use Rattle.brk_ref.specs.Records.{tax_of};
 ghost use Rattle.brk_ref.specs.declared.tax.Tax.{Tax};
 ghost use Rattle.brk_book_theorems.specs.Books.{BooksInvariant};
-ghost use Rattle.brk_book_theorems.specs.Reads.{accounts_of, has_overlap, has_tax_id, rates_of_customer, tax_rate_of};
+ghost use Rattle.brk_book_theorems.specs.Reads.{accounts_of, has_overlap, finds_tax_id, rates_of_customer, tax_rate_of};
 ghost use Rattle.brk_book_theorems.specs.Sums.{cash_of_account, done_of_broker};
 ghost use Rattle.brk_book_theorems.specs.TradeReads.{band_in, last_move, last_number, lot_shares, lots_of_position, permission_in, permissions_of, position_in, row_of_summary, summary_held, summary_in};
 ghost use Rattle.brk_book_theorems.specs.Trading.{hit_trades};
@@ -70,7 +70,7 @@ pub fn rates_add_up()
 
 /// Proves that a customer row has a tax id if and only if a customer has it.
 pub fn tax_ids_are_found()
-    ensures { (base : Base) (tax_id : Text) → has_tax_id (sheets base) tax_id ≡ list_any (λ c. bytes_eq c.tax_id tax_id) base.customers }
+    ensures { (base : Base) (tax_id : Text) → finds_tax_id (sheets base) tax_id ≡ list_any (λ c. bytes_eq c.tax_id tax_id) base.customers }
 {}
 
 /// Proves that a customer has as many account rows as accounts.

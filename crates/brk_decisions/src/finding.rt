@@ -3,7 +3,7 @@
 ghost use Rattle.std.specs.Prelude.{◌≡◌, IfErr};
 ghost use Rattle.brk_model.specs.Run.{MayFail};
 ghost use Rattle.brk_trade_theorems.specs.Found.{IsFound, IsFoundForAccount};
-ghost use Rattle.brk_book_theorems.specs.Reads.{accounts_of, has_account, has_broker, has_customer, has_security, has_tax_id, has_tax_rate};
+ghost use Rattle.brk_book_theorems.specs.Reads.{accounts_of, finds_account, finds_broker, finds_customer, finds_security, finds_tax_id, finds_tax_rate};
 ghost use Rattle.brk_store.specs.Holds.{ReadPost};
 
 use crate::terms::{
@@ -32,7 +32,7 @@ pub(crate) const NOTHING: ReferenceFacts = ReferenceFacts {
 
 // Returns true if the broker exists.
 fn is_broker_there<S: Alter>(store: &mut Store<S>, id: Id) -> Result<bool, Fault>
-    ensures read { ReadPost S.Store store.old store.new result (λ there t. there ≡ has_broker t id) }
+    ensures read { ReadPost S.Store store.old store.new result (λ there t. there ≡ finds_broker t id) }
     ensures fault { IfErr result MayFail }
 {
     Ok(store.broker(id)?.is_some())
@@ -40,7 +40,7 @@ fn is_broker_there<S: Alter>(store: &mut Store<S>, id: Id) -> Result<bool, Fault
 
 // Returns true if the customer exists.
 pub(crate) fn is_customer_there<S: Alter>(store: &mut Store<S>, id: Id) -> Result<bool, Fault>
-    ensures read { ReadPost S.Store store.old store.new result (λ there t. there ≡ has_customer t id) }
+    ensures read { ReadPost S.Store store.old store.new result (λ there t. there ≡ finds_customer t id) }
     ensures fault { IfErr result MayFail }
 {
     Ok(store.customer(id)?.is_some())
@@ -48,7 +48,7 @@ pub(crate) fn is_customer_there<S: Alter>(store: &mut Store<S>, id: Id) -> Resul
 
 // Returns true if a customer has the tax id.
 fn is_tax_id_there<S: Alter>(store: &mut Store<S>, tax_id: &TaxId) -> Result<bool, Fault>
-    ensures read { ReadPost S.Store store.old store.new result (λ there t. there ≡ has_tax_id t tax_id.now) }
+    ensures read { ReadPost S.Store store.old store.new result (λ there t. there ≡ finds_tax_id t tax_id.now) }
     ensures fault { IfErr result MayFail }
 {
     Ok(store.customer_by_tax_id(tax_id)?.is_some())
@@ -56,7 +56,7 @@ fn is_tax_id_there<S: Alter>(store: &mut Store<S>, tax_id: &TaxId) -> Result<boo
 
 // Returns true if the account exists.
 pub(crate) fn is_account_there<S: Alter>(store: &mut Store<S>, id: Id) -> Result<bool, Fault>
-    ensures read { ReadPost S.Store store.old store.new result (λ there t. there ≡ has_account t id) }
+    ensures read { ReadPost S.Store store.old store.new result (λ there t. there ≡ finds_account t id) }
     ensures fault { IfErr result MayFail }
 {
     Ok(store.account(id)?.is_some())
@@ -76,7 +76,7 @@ fn count_accounts<S: Alter>(
 
 // Reads the facts that decide on a broker.
 fn find_for_broker<S: Alter>(store: &mut Store<S>, broker: &Broker) -> Result<ReferenceFacts, Fault>
-    ensures read { ReadPost S.Store store.old store.new result (λ found t. found.same_id ≡ has_broker t broker.now.id) }
+    ensures read { ReadPost S.Store store.old store.new result (λ found t. found.same_id ≡ finds_broker t broker.now.id) }
     ensures fault { IfErr result MayFail }
 {
     let same_id = is_broker_there(store, broker.id)?;
@@ -88,7 +88,7 @@ fn find_for_customer<S: Alter>(
     store: &mut Store<S>,
     customer: &Customer,
 ) -> Result<ReferenceFacts, Fault>
-    ensures read { ReadPost S.Store store.old store.new result (λ found t. (found.same_id ≡ has_customer t customer.now.id) × (found.same_tax_id ≡ has_tax_id t customer.now.tax_id)) }
+    ensures read { ReadPost S.Store store.old store.new result (λ found t. (found.same_id ≡ finds_customer t customer.now.id) × (found.same_tax_id ≡ finds_tax_id t customer.now.tax_id)) }
     ensures fault { IfErr result MayFail }
 {
     let same_id = is_customer_there(store, customer.id)?;
@@ -127,7 +127,7 @@ fn find_for_security<S: Alter>(
     store: &mut Store<S>,
     symbol: &Symbol,
 ) -> Result<ReferenceFacts, Fault>
-    ensures read { ReadPost S.Store store.old store.new result (λ found t. found.same_id ≡ has_security t symbol.now) }
+    ensures read { ReadPost S.Store store.old store.new result (λ found t. found.same_id ≡ finds_security t symbol.now) }
     ensures fault { IfErr result MayFail }
 {
     let same_id = is_security_there(store, symbol)?;
@@ -136,7 +136,7 @@ fn find_for_security<S: Alter>(
 
 // Reads the facts that decide on a tax rate.
 fn find_for_tax<S: Alter>(store: &mut Store<S>, id: Id) -> Result<ReferenceFacts, Fault>
-    ensures read { ReadPost S.Store store.old store.new result (λ found t. found.same_id ≡ has_tax_rate t id) }
+    ensures read { ReadPost S.Store store.old store.new result (λ found t. found.same_id ≡ finds_tax_rate t id) }
     ensures fault { IfErr result MayFail }
 {
     let same_id = is_tax_there(store, id)?;

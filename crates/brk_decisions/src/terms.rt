@@ -2,7 +2,7 @@
 
 ghost use Rattle.std.specs.Prelude.{◌≡◌, ◌==◌, ◌≤◌, IfErr, SomeIff, Some, filter, map};
 ghost use Rattle.brk_trade_theorems.specs.Found.{IsFoundForTax};
-ghost use Rattle.brk_book_theorems.specs.Reads.{has_account, has_charge, has_overlap, has_permission, has_security, has_tax_rate, pays_tax, rate_of, rates_of_customer, tax_rate_of};
+ghost use Rattle.brk_book_theorems.specs.Reads.{finds_account, finds_charge, has_overlap, finds_permission, finds_security, finds_tax_rate, pays_tax, rate_of, rates_of_customer, tax_rate_of};
 ghost use Rattle.brk_model.specs.Limits.{greatest_tax_rate};
 ghost use Rattle.brk_model.specs.Run.{MayFail};
 ghost use Rattle.brk_ref.specs.Records.{band_of, tax_of};
@@ -22,7 +22,7 @@ fn is_permission_there<S: Alter>(
     account: Id,
     tax_id: &TaxId,
 ) -> Result<bool, Fault>
-    ensures read { ReadPost S.Store store.old store.new result (λ there t. there ≡ has_permission t account tax_id.now) }
+    ensures read { ReadPost S.Store store.old store.new result (λ there t. there ≡ finds_permission t account tax_id.now) }
     ensures fault { IfErr result MayFail }
 {
     Ok(store.permission(account, tax_id)?.is_some())
@@ -33,7 +33,7 @@ pub(crate) fn is_security_there<S: Alter>(
     store: &mut Store<S>,
     symbol: &Symbol,
 ) -> Result<bool, Fault>
-    ensures read { ReadPost S.Store store.old store.new result (λ there t. there ≡ has_security t symbol.now) }
+    ensures read { ReadPost S.Store store.old store.new result (λ there t. there ≡ finds_security t symbol.now) }
     ensures fault { IfErr result MayFail }
 {
     Ok(store.security(symbol)?.is_some())
@@ -45,7 +45,7 @@ pub(crate) fn is_charge_there<S: Alter>(
     kind: TradeType,
     tier: Tier,
 ) -> Result<bool, Fault>
-    ensures read { ReadPost S.Store store.old store.new result (λ there t. there ≡ has_charge t kind tier) }
+    ensures read { ReadPost S.Store store.old store.new result (λ there t. there ≡ finds_charge t kind tier) }
     ensures fault { IfErr result MayFail }
 {
     Ok(store.charge(kind, tier)?.is_some())
@@ -66,7 +66,7 @@ pub(crate) fn is_overlap_there<S: Alter>(
 
 // Returns true if the tax exists.
 pub(crate) fn is_tax_there<S: Alter>(store: &mut Store<S>, id: Id) -> Result<bool, Fault>
-    ensures read { ReadPost S.Store store.old store.new result (λ there t. there ≡ has_tax_rate t id) }
+    ensures read { ReadPost S.Store store.old store.new result (λ there t. there ≡ finds_tax_rate t id) }
     ensures fault { IfErr result MayFail }
 {
     Ok(store.tax_rate(id)?.is_some())
@@ -127,7 +127,7 @@ pub(crate) fn find_for_permission<S: Alter>(
     permission: &Permission,
 ) -> Result<ReferenceFacts, Fault>
     ensures read { ReadPost S.Store store.old store.new result (λ found t.
-        (found.account ≡ has_account t permission.now.account) × (found.same_id ≡ has_permission t permission.now.account permission.now.tax_id)) }
+        (found.account ≡ finds_account t permission.now.account) × (found.same_id ≡ finds_permission t permission.now.account permission.now.tax_id)) }
     ensures fault { IfErr result MayFail }
 {
     let account = is_account_there(store, permission.account)?;
@@ -144,7 +144,7 @@ pub(crate) fn find_for_charge<S: Alter>(
     store: &mut Store<S>,
     charge: &Charge,
 ) -> Result<ReferenceFacts, Fault>
-    ensures read { ReadPost S.Store store.old store.new result (λ found t. found.same_id ≡ has_charge t charge.now.kind charge.now.tier) }
+    ensures read { ReadPost S.Store store.old store.new result (λ found t. found.same_id ≡ finds_charge t charge.now.kind charge.now.tier) }
     ensures fault { IfErr result MayFail }
 {
     let same_id = is_charge_there(store, charge.kind, charge.tier)?;

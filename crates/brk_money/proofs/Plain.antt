@@ -3,7 +3,7 @@ use Rattle.std.proofs.Common.{◌≡◌, ◌+◌, ◌-◌, ◌*◌, ◌/◌, ◌
 use Rattle.std.specs.Prelude.{suc, ℤ, pos, negsuc}
 use Rattle.std.specs.Fmt.{decimal}
 use Rattle.std.proofs.lemmas.List.{length-append, take_at, drop_at, take-append-drop, get_or_append_left, take_all}
-use Rattle.brk_money.specs.Spelling.{magnitude_text, cents_text, IsWithin}
+use Rattle.brk_money.specs.Spelling.{magnitude_text, cents_text, IsAmount}
 use Rattle.std.proofs.lemmas.Fmt.{decimal_injective}
 use Rattle.std.proofs.lemmas.Str.Parse.{tells_all_ascii_digits}
 use Rattle.std.specs.Str.{all_ascii_digits}
@@ -75,7 +75,7 @@ plain_first n h =
     rw (get_or_append_left (decimal (n / 100)) (46 ∷ (48 + n % 100 / 10) ∷ (48 + n % 10) ∷ []) 0 0 w.some) first
 
 -- what is spelled with a minus is an amount below 0
-pub minus_only : (bs : List ℕ) (z : ℤ) → IsWithin z → bs ≡ cents_text z → get_or bs 0 0 ≡ 45
+pub minus_only : (bs : List ℕ) (z : ℤ) → IsAmount z → bs ≡ cents_text z → get_or bs 0 0 ≡ 45
     → (n : ℕ) × (n ≤ 10 ^ 17) × (0 < n) × (take (length bs - 1) (drop 1 bs) ≡ magnitude_text n)
 minus_only bs (pos n) h e first =
     let other = plain_first n h in
@@ -85,7 +85,7 @@ minus_only bs (negsuc n) h e first =
     (suc n, h, omega arith, ap (λ (l : List ℕ). take (length l - 1) (drop 1 l)) e ∙ take_all (length (45 ∷ magnitude_text (suc n)) - 1) (magnitude_text (suc n)) (omega arith))
 
 -- no two amounts are spelled alike
-pub cents_injective : (y z : ℤ) → IsWithin y → IsWithin z → cents_text y ≡ cents_text z → y ≡ z
+pub cents_injective : (y z : ℤ) → IsAmount y → IsAmount z → cents_text y ≡ cents_text z → y ≡ z
 cents_injective (pos m) (pos n) a b e = ap pos (plain_injective m n a b e)
 cents_injective (pos m) (negsuc n) a b e =
     let first = plain_first m a in

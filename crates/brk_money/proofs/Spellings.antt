@@ -9,7 +9,7 @@ use Rattle.std.proofs.lemmas.Bool.{leb-true, le-leb, ne_eqb}
 use Rattle.std.proofs.lemmas.List.Elements.{filter-append}
 use Rattle.std.proofs.lemmas.List.Sums.{fold-append}
 use Rattle.std.specs.List.{AllByRecursion}
-use Rattle.brk_money.specs.Spelling.{Text, if_spelled, digits_value, number_of, at_most, read_on, cents_of, cents_text, cents_value, magnitude_text, IsWithin, within_limit}
+use Rattle.brk_money.specs.Spelling.{Text, if_spelled, digits_value, number_of, at_most, read_on, cents_of, cents_text, cents_value, magnitude_text, IsAmount, within_limit}
 use Rattle.brk_money.proofs.Digits.{whole_only}
 use Rattle.brk_money.proofs.Plain.{plain_first}
 
@@ -101,28 +101,28 @@ digits_value-magnitude n h =
     last n = omega arith
 
 -- the sign is told by the first byte
-cents_value-text : (z : ℤ) → IsWithin z → cents_value (cents_text z) ≡ z
+cents_value-text : (z : ℤ) → IsAmount z → cents_value (cents_text z) ≡ z
 cents_value-text (pos n) h =
     let first = plain_first n h in
     let unsigned : (slice_index (magnitude_text n) 0 == 45) ≡ false = ne_eqb _ _ (λ e. omega arith) in
     rw unsigned (ap pos (digits_value-magnitude n h))
 cents_value-text (negsuc n) h = ap (λ (v : ℕ). neg_ℤ (pos v)) (digits_value-magnitude (suc n) h)
 
-pub cents_of-text : (text : Text) (z : ℤ) → IsWithin z → text ≡ cents_text z → cents_of text ≡ Some z
+pub cents_of-text : (text : Text) (z : ℤ) → IsAmount z → text ≡ cents_text z → cents_of text ≡ Some z
 cents_of-text text z h e = spells cents_text (cents_value text) z text (ap cents_value e ∙ cents_value-text z h) e
 
-within_size : (z : ℤ) → IsWithin z → nat_le (nat_abs z) (10 ^ 17) ≡ true
+within_size : (z : ℤ) → IsAmount z → nat_le (nat_abs z) (10 ^ 17) ≡ true
 within_size (pos n) h = le-leb n (10 ^ 17) h
 within_size (negsuc n) h = le-leb (suc n) (10 ^ 17) h
 
-size_within : (z : ℤ) → nat_le (nat_abs z) (10 ^ 17) ≡ true → IsWithin z
+size_within : (z : ℤ) → nat_le (nat_abs z) (10 ^ 17) ≡ true → IsAmount z
 size_within (pos n) h = leb-true n (10 ^ 17) h
 size_within (negsuc n) h = leb-true (suc n) (10 ^ 17) h
 
-pub within_found : (text : Text) (z : ℤ) → IsWithin z → text ≡ cents_text z → Some z ≡ within_limit (cents_of text)
+pub within_found : (text : Text) (z : ℤ) → IsAmount z → text ≡ cents_text z → Some z ≡ within_limit (cents_of text)
 within_found text z h e = sym (rw (cents_of-text text z h e, within_size z h) refl)
 
-within_by : (o : Option ℤ) → ((z : ℤ) → IsWithin z → o ≡ Some z → ⊥) → None ≡ within_limit o
+within_by : (o : Option ℤ) → ((z : ℤ) → IsAmount z → o ≡ Some z → ⊥) → None ≡ within_limit o
 within_by None h = refl
 within_by (Some z) h = with_test (nat_le (nat_abs z) (10 ^ 17)) refl
   where
@@ -130,7 +130,7 @@ within_by (Some z) h = with_test (nat_le (nat_abs z) (10 ^ 17)) refl
     with_test true e = absurd (h z (size_within z e) refl)
     with_test false e = refl
 
-pub within_none : (text : Text) → ((z : ℤ) → IsWithin z → text ≢ cents_text z) → None ≡ within_limit (cents_of text)
+pub within_none : (text : Text) → ((z : ℤ) → IsAmount z → text ≢ cents_text z) → None ≡ within_limit (cents_of text)
 within_none text h = within_by (cents_of text) (λ z w e. h z w (spelled cents_text (cents_value text) z text e))
 
 -- what a reader of numbers up to a limit answers
@@ -140,7 +140,7 @@ number_read text limit (Some n) small found none = at_most_found text n limit sm
 number_read text limit None small found none = at_most_none text limit none
 
 -- what a reader of amounts answers
-pub cents_read : (text : Text) (o : Option ℤ) → IfSome o (λ z. IsWithin z × (text ≡ cents_text z))
-    → IfNone o ((z : ℤ) → IsWithin z → text ≢ cents_text z) → o ≡ within_limit (cents_of text)
+pub cents_read : (text : Text) (o : Option ℤ) → IfSome o (λ z. IsAmount z × (text ≡ cents_text z))
+    → IfNone o ((z : ℤ) → IsAmount z → text ≢ cents_text z) → o ≡ within_limit (cents_of text)
 cents_read text (Some z) found none = within_found text z found.0 found.1
 cents_read text None found none = within_none text none

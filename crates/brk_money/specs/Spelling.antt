@@ -27,9 +27,9 @@ at_most limit None = None
 at_most limit (Some n) = if nat_le n limit then Some n else None
 
 -- The absolute value of the amount, in cents, is at most `Cents.GREATEST`.
-abbrev pub IsWithin : ℤ → Type 0
-IsWithin (pos n) = n ≤ Cents.GREATEST
-IsWithin (negsuc n) = suc n ≤ Cents.GREATEST
+abbrev pub IsAmount : ℤ → Type 0
+IsAmount (pos n) = n ≤ Cents.GREATEST
+IsAmount (negsuc n) = suc n ≤ Cents.GREATEST
 
 -- The text of `n` cents without a sign, such as 12.05: digits, a point and two digits.
 abbrev pub magnitude_text : ℕ → Text

@@ -1,6 +1,6 @@
 ghost use Rattle.std.specs.Prelude.{◌≡◌, ◌≢◌, ◌≤◌, ◌+◌, ◌<◌, ◌^◌, ◌≤ℤ◌, ℕ, ℤ, pos, neg_ℤ, SomeIff, IfSome, IfNone, Some};
 ghost use Rattle.brk_money.specs.declared.cents.TheConstants.Cents;
-ghost use Rattle.brk_money.specs.Spelling.{cents_text, magnitude_text, IsWithin};
+ghost use Rattle.brk_money.specs.Spelling.{cents_text, magnitude_text, IsAmount};
 
 use crate::whole::parse_whole;
 use std::marker::Model;
@@ -75,8 +75,8 @@ fn parse_plain(bytes: &[u8]) -> Option<u64>
 /// `10.0` spell none.
 #[tactic(auto, using(crate::proofs::Plain::plain_split))]
 pub fn parse_cents(bytes: &[u8]) -> Option<Cents>
-    ensures found { IfSome result (λ cents. IsWithin cents × (bytes.now ≡ cents_text cents)) }
-    ensures none { IfNone result ((z : ℤ) → IsWithin z → bytes.now ≢ cents_text z) }
+    ensures found { IfSome result (λ cents. IsAmount cents × (bytes.now ≡ cents_text cents)) }
+    ensures none { IfNone result ((z : ℤ) → IsAmount z → bytes.now ≢ cents_text z) }
 {
     match bytes {
         [b'-', rest @ ..] => {
@@ -100,5 +100,5 @@ pub fn parse_cents(bytes: &[u8]) -> Option<Cents>
 /// Proof-only: does nothing at run time. No two amounts within the limits have the same canonical
 /// text.
 pub fn one_spelling()
-    ensures { (y z : ℤ) → IsWithin y → IsWithin z → cents_text y ≡ cents_text z → y ≡ z }
+    ensures { (y z : ℤ) → IsAmount y → IsAmount z → cents_text y ≡ cents_text z → y ≡ z }
 {}

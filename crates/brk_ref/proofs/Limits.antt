@@ -4,7 +4,7 @@ use Rattle.std.specs.Prelude.{Option, Some, None, Ok, Err, MatchOption, SomeIff,
 use Rattle.std.specs.Option.{ok_or, option_and_then}
 use Rattle.std.proofs.lemmas.Int.{ints}
 use Rattle.std.proofs.lemmas.Bool.{leb-true, leb-false, le-leb, ne_eqb}
-use Rattle.brk_money.specs.Spelling.{Text, IsWithin, at_most, within_limit, cents_of}
+use Rattle.brk_money.specs.Spelling.{Text, IsAmount, at_most, within_limit, cents_of}
 use Rattle.brk_money.specs.declared.cents.TheConstants.Cents
 use Rattle.brk_money.specs.Kinds.{tax_status_of}
 use Rattle.brk_money.specs.declared.refusal.Refusal.{Refusal}
@@ -66,7 +66,7 @@ pub below_zero : (o : Option ℤ) (z r : ℤ) → o ≡ Some z → r ≡ z → r
 below_zero o (pos n) r e f h = absurd (omega (arith, ints, f, h))
 below_zero o (negsuc n) r e f h = rw e refl
 
-pub from_zero_on : (o : Option ℤ) (z r : ℤ) → o ≡ Some z → r ≡ z → pos 0 ≤ℤ r → IsWithin z → Some (nat_abs r) ≡ at_most Cents.GREATEST (unsigned o)
+pub from_zero_on : (o : Option ℤ) (z r : ℤ) → o ≡ Some z → r ≡ z → pos 0 ≤ℤ r → IsAmount z → Some (nat_abs r) ≡ at_most Cents.GREATEST (unsigned o)
 from_zero_on o (pos n) r e f h w = rw (e, f, le-leb n Cents.GREATEST w) refl
 from_zero_on o (negsuc n) r e f h w = absurd (omega (arith, ints, f, h))
 

@@ -25,7 +25,7 @@ use Rattle.brk_plans.specs.declared.reply.Reply.{Reply}
 use Rattle.brk_plans.specs.declared.reply.Reply.TheVariants as reply
 use Rattle.brk_book_theorems.specs.Steps.{base_then}
 use Rattle.brk_trade_theorems.specs.Plans.{DoesCommand}
-use Rattle.brk_trade_theorems.specs.TradePlans.{IsQuoted, IsReadForFeed, QuotesApart}
+use Rattle.brk_trade_theorems.specs.TradePlans.{IsQuoted, IsReadForFeed, DistinctQuotes}
 use Rattle.brk_book_theorems.specs.TradeReads.{last_trade_in}
 use Rattle.brk_book_theorems.specs.Ticks.{exceeds_volume, is_unknown}
 use Rattle.brk_trade_theorems.specs.TradeTests.{feed_row_tests}
@@ -42,7 +42,7 @@ use Rattle.brk_trade_theorems.proofs.QuotedVolumes.{quotes_exceed}
 -- ---- what is tested
 
 -- a symbol that has a last trade has a quote, and no other has
-same_known : (t : Tables) (ticks : List Tick) (quotes : List SymbolState) (tick : Tick) → AllByRecursion (IsHeld t ticks) quotes → QuotesApart quotes → IsQuoted t quotes tick
+same_known : (t : Tables) (ticks : List Tick) (quotes : List SymbolState) (tick : Tick) → AllByRecursion (IsHeld t ticks) quotes → DistinctQuotes quotes → IsQuoted t quotes tick
     → list_any (is_of tick.symbol) quotes ≡ is_some (last_trade_in t tick.symbol)
 same_known t ticks quotes tick k d h = both_ways (list_any (is_of tick.symbol) quotes) (is_some (last_trade_in t tick.symbol)) there h
   where
@@ -51,7 +51,7 @@ same_known t ticks quotes tick k d h = both_ways (list_any (is_of tick.symbol) q
         let q = quote_of t ticks tick.symbol quotes k d e in
         ap is_some (sym (ap (last_trade_in t) q.same) ∙ q.read.last_trade)
 
-same_unknown : (t : Tables) (ticks : List Tick) (quotes : List SymbolState) → AllByRecursion (IsHeld t ticks) quotes → QuotesApart quotes → AllByRecursion (IsQuoted t quotes) ticks
+same_unknown : (t : Tables) (ticks : List Tick) (quotes : List SymbolState) → AllByRecursion (IsHeld t ticks) quotes → DistinctQuotes quotes → AllByRecursion (IsQuoted t quotes) ticks
     → list_any (lacks_quote quotes) ticks ≡ list_any (is_unknown t) (ticks_of ticks)
 same_unknown t ticks quotes k d quoted = each ticks quoted
   where

@@ -18,7 +18,7 @@ use Rattle.brk_changes.specs.declared.change.Change.{Change}
 use Rattle.brk_changes.specs.declared.request_row.RequestRow as request
 use Rattle.brk_book_theorems.specs.TradeReads.{last_trade_in, requests_of}
 use Rattle.brk_book_theorems.specs.Trading.{fed_trades, feed_rows, hit_trades, is_hit, moved_rows, row_after, submitted_rows, tick_rows, with_price_of}
-use Rattle.brk_trade_theorems.specs.TradePlans.{QuotesApart}
+use Rattle.brk_trade_theorems.specs.TradePlans.{DistinctQuotes}
 use Rattle.brk_book_theorems.proofs.Bools.{same_text}
 use Rattle.brk_book_theorems.proofs.Same.{NonePass, All-map, All-of, filter-same}
 use Rattle.brk_book_theorems.proofs.Places.{All-updated, filter-all}
@@ -175,7 +175,7 @@ quotes_stay t stamp tick ticks all [] q d k = tt
 quotes_stay t stamp tick ticks all (quote ∷ quotes) q d k =
     (quote_stays t stamp tick ticks all quote q d k.0 (is_of tick.symbol quote) refl, quotes_stay t stamp tick ticks all quotes q d k.1)
 
-apart_stay : (stamp : ℕ) (tick : Tick) (quotes : List SymbolState) → QuotesApart quotes → QuotesApart (quotes_after_tick stamp quotes tick)
+apart_stay : (stamp : ℕ) (tick : Tick) (quotes : List SymbolState) → DistinctQuotes quotes → DistinctQuotes (quotes_after_tick stamp quotes tick)
 apart_stay stamp tick [] d = tt
 apart_stay stamp tick (quote ∷ quotes) d = (
   by_test (is_of tick.symbol quote) (All-updated (λ other. is_of quote.last.symbol other ≡ false) (is_of tick.symbol) (quote_after stamp tick) quotes (λ other h. h) d.0),
@@ -206,7 +206,7 @@ HaveQuotes quotes ticks = AllByRecursion (λ tick. list_any (is_of tick.symbol) 
 -- what ticks are planned from
 pub record Quoted (t : Tables) (ticks : List Tick) (quotes : List SymbolState) : Type 0 where
   pub read : AllByRecursion (IsHeld t ticks) quotes
-  pub apart : QuotesApart quotes
+  pub apart : DistinctQuotes quotes
   pub requests : AreApart t.requests
   pub known : HaveQuotes quotes ticks
 

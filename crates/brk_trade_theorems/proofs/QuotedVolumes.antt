@@ -17,7 +17,7 @@ use Rattle.brk_ref.specs.Records.{last_trade_of}
 use Rattle.brk_plans.specs.Feed.{SymbolState, exceeds, is_of, quote_after, quotes_after, quotes_after_tick}
 use Rattle.brk_book_theorems.specs.Books.{BooksInvariant, DistinctSymbols, HasVolume}
 use Rattle.brk_book_theorems.specs.TradeReads.{last_volume_in}
-use Rattle.brk_trade_theorems.specs.TradePlans.{QuotesApart}
+use Rattle.brk_trade_theorems.specs.TradePlans.{DistinctQuotes}
 use Rattle.brk_book_theorems.specs.Ticks.{exceeds_volume, qty_fed}
 use Rattle.brk_book_theorems.proofs.Same.{All-map, All-mapped, find-All}
 use Rattle.brk_book_theorems.proofs.Reading.{find-map, is_some-map, some-is-any}
@@ -51,11 +51,11 @@ market quotes = record {
   last = None;
 }
 
-distinct : (quotes : List SymbolState) → QuotesApart quotes → DistinctSymbols (map security_of quotes)
+distinct : (quotes : List SymbolState) → DistinctQuotes quotes → DistinctSymbols (map security_of quotes)
 distinct [] d = tt
 distinct (quote ∷ quotes) d = (All-mapped (λ u. bytes_eq u.symbol quote.last.symbol ≡ false) security_of quotes d.0, distinct quotes d.1)
 
-market_books : (quotes : List SymbolState) → QuotesApart quotes → AllByRecursion (λ quote. quote.last.volume ≤ greatest_amount) quotes → BooksInvariant (market quotes)
+market_books : (quotes : List SymbolState) → DistinctQuotes quotes → AllByRecursion (λ quote. quote.last.volume ≤ greatest_amount) quotes → BooksInvariant (market quotes)
 market_books quotes d v = record {
   parties = record { brokers = tt; customers = tt; owners = tt; permissions = tt };
   market = record { symbols = distinct quotes d; volumes = All-mapped HasVolume security_of quotes v; bands = tt; apart = tt };
@@ -96,7 +96,7 @@ market_knows quotes ticks known = All-mapped (λ u. is_some (security_with (mark
         ap is_some (find-map (λ s. bytes_eq s.symbol symbol) security_of quotes) ∙ is_some-map security_of (find (is_of symbol) quotes) ∙ some-is-any (is_of symbol) quotes
 
 -- their volumes are those that the tables have
-market_volume : (t : Tables) (ticks : List Tick) (symbol : Text) (quotes : List SymbolState) → AllByRecursion (IsHeld t ticks) quotes → QuotesApart quotes → list_any (is_of symbol) quotes ≡ true
+market_volume : (t : Tables) (ticks : List Tick) (symbol : Text) (quotes : List SymbolState) → AllByRecursion (IsHeld t ticks) quotes → DistinctQuotes quotes → list_any (is_of symbol) quotes ≡ true
     → last_volume_in (sheets (market quotes)) symbol ≡ last_volume_in t symbol
 market_volume t ticks symbol quotes k d e =
     let q = quote_of t ticks symbol quotes k d e in
@@ -123,7 +123,7 @@ quotes_within base ticks quotes books k = All-map quotes (λ quote q. by_securit
         subst (λ n. n ≤ greatest_amount) (ap (λ o. option_map_or (λ r. r.volume) o 0) g)
         (find-All HasVolume (λ u. bytes_eq u.symbol quote.last.symbol) base.securities s books.volumes e)
 
-pub quotes_exceed : (base : Base) (stamp : ℕ) (ticks : List Tick) (quotes : List SymbolState) → BooksInvariant base → AllByRecursion (IsHeld (sheets base) ticks) quotes → QuotesApart quotes
+pub quotes_exceed : (base : Base) (stamp : ℕ) (ticks : List Tick) (quotes : List SymbolState) → BooksInvariant base → AllByRecursion (IsHeld (sheets base) ticks) quotes → DistinctQuotes quotes
     → HaveQuotes quotes ticks → list_any exceeds (quotes_after stamp ticks quotes) ≡ list_any (exceeds_volume (sheets base) (ticks_of ticks)) (ticks_of ticks)
 quotes_exceed base stamp ticks quotes books k d known =
     market_exceeds (quotes_after stamp ticks quotes)

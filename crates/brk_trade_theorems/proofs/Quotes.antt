@@ -17,7 +17,7 @@ use Rattle.brk_plans.specs.declared.quote.Quote.{Quote}
 use Rattle.brk_plans.specs.declared.span.Span.{Span}
 use Rattle.brk_book_theorems.specs.Books.{BooksInvariant}
 use Rattle.brk_book_theorems.specs.TradeReads.{last_trade_in, requests_of, last_volume_in}
-use Rattle.brk_trade_theorems.specs.TradePlans.{AreQuotes, IsQuote, IsQuoteOfOne, IsQuoted, QuotesApart}
+use Rattle.brk_trade_theorems.specs.TradePlans.{AreQuotes, IsQuote, IsQuoteOfOne, IsQuoted, DistinctQuotes}
 use Rattle.brk_book_theorems.proofs.Bools.{same_text, texts_back}
 use Rattle.brk_book_theorems.proofs.Same.{NonePass, All-append, All-map, any-none, filter-none, find-All, map-last}
 use Rattle.brk_book_theorems.proofs.Places.{FoundAt, filter-one, find-at, some_of}
@@ -76,18 +76,18 @@ pub record QuoteOf (t : Tables) (ticks : List Tick) (symbol : Text) (quotes : Li
   pub read : IsHeld t ticks quote
   pub same : quote.last.symbol ≡ symbol
 
-none_after : (before : List SymbolState) (quote : SymbolState) (after : List SymbolState) → QuotesApart (before ++ quote ∷ after) → NonePass (is_of quote.last.symbol) after
+none_after : (before : List SymbolState) (quote : SymbolState) (after : List SymbolState) → DistinctQuotes (before ++ quote ∷ after) → NonePass (is_of quote.last.symbol) after
 none_after [] quote after d = d.0
 none_after (q ∷ before) quote after d = none_after before quote after d.1
 
-pub quote_of : (t : Tables) (ticks : List Tick) (symbol : Text) (quotes : List SymbolState) → AllByRecursion (IsHeld t ticks) quotes → QuotesApart quotes → list_any (is_of symbol) quotes ≡ true
+pub quote_of : (t : Tables) (ticks : List Tick) (symbol : Text) (quotes : List SymbolState) → AllByRecursion (IsHeld t ticks) quotes → DistinctQuotes quotes → list_any (is_of symbol) quotes ≡ true
     → QuoteOf t ticks symbol quotes
 quote_of t ticks symbol quotes r d e =
     let found = some_of (find (is_of symbol) quotes) (some-is-any (is_of symbol) quotes ∙ e) in
     let f : FoundAt SymbolState (is_of symbol) found.0 quotes = find-at (is_of symbol) quotes found.0 found.1 in
     let same : found.0.last.symbol ≡ symbol = same_text found.0.last.symbol symbol f.passes in
     let others : NonePass (is_of symbol) f.after =
-    subst (λ s. NonePass (is_of s) f.after) same (none_after f.before found.0 f.after (subst QuotesApart f.stands d)) in
+    subst (λ s. NonePass (is_of s) f.after) same (none_after f.before found.0 f.after (subst DistinctQuotes f.stands d)) in
     record {
       quote = found.0;
       found = found.1;
@@ -119,7 +119,7 @@ not_listed t all ticks tick quotes k e =
     none : false ≡ true → ⊥
     none h = absurd (cc)
 
-apart_last : (quotes : List SymbolState) (quote : SymbolState) → QuotesApart quotes → NonePass (is_of quote.last.symbol) quotes → QuotesApart (quotes ++ quote ∷ [])
+apart_last : (quotes : List SymbolState) (quote : SymbolState) → DistinctQuotes quotes → NonePass (is_of quote.last.symbol) quotes → DistinctQuotes (quotes ++ quote ∷ [])
 apart_last [] quote d h = (tt, tt)
 apart_last (q ∷ quotes) quote d h = (
   All-append (λ other. is_of q.last.symbol other ≡ false) quotes (quote ∷ []) d.0 (texts_back quote.last.symbol q.last.symbol ∙ h.0, tt),

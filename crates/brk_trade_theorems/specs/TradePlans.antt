@@ -56,9 +56,9 @@ pub record IsQuoteOfOne (t : Tables) (ticks : List Tick) (quote : SymbolState) :
   pub is : IsQuote t tick ticks quote
 
 -- No two quotes are of one symbol.
-abbrev pub QuotesApart : List SymbolState → Type 0
-QuotesApart [] = ⊤
-QuotesApart (quote ∷ quotes) = AllByRecursion (λ other. is_of quote.last.symbol other ≡ false) quotes × QuotesApart quotes
+abbrev pub DistinctQuotes : List SymbolState → Type 0
+DistinctQuotes [] = ⊤
+DistinctQuotes (quote ∷ quotes) = AllByRecursion (λ other. is_of quote.last.symbol other ≡ false) quotes × DistinctQuotes quotes
 
 -- If the symbol of the tick has a last trade, one of the quotes is of it.
 abbrev pub IsQuoted : Tables → List SymbolState → Tick → Type 0
@@ -68,7 +68,7 @@ IsQuoted t quotes tick = is_some (last_trade_in t tick.symbol) ≡ true → list
 -- `ticks` that has a last trade. No two are of one symbol.
 pub record AreQuotes (t : Tables) (all ticks : List Tick) (quotes : List SymbolState) : Type 0 where
   pub read : AllByRecursion (IsQuoteOfOne t all) quotes
-  pub apart : QuotesApart quotes
+  pub apart : DistinctQuotes quotes
   pub quoted : AllByRecursion (IsQuoted t quotes) ticks
 
 -- The base is consistent, the quotes of the ticks are read from its tables, and the clock reading

@@ -3,7 +3,7 @@ use Rattle.std.specs.Prelude.{◌&&◌}
 use Rattle.brk_money.specs.Kinds.{same_type}
 use Rattle.brk_model.specs.Tables.{Tables}
 use Rattle.brk_ref.specs.Records.{charge_of}
-use Rattle.brk_book_theorems.specs.Reads.{has_charge}
+use Rattle.brk_book_theorems.specs.Reads.{finds_charge}
 use Rattle.brk_book_theorems.proofs.Reading.{is_there}
 use Rattle.brk_store.proofs.Retelling.{retold}
 use Rattle.brk_decisions.proofs.terms.is_charge_there.Goals as goal
@@ -11,7 +11,7 @@ use Rattle.brk_decisions.proofs.terms.is_charge_there.Goals as goal
 pub returns : goal.returns
 returns g c = record {
   read = retold g.S.Store c.args.store.now c.charge.new.self c.in_ok-charge.field-0 c.is_some.result
-      (λ o (t : Tables). option_map charge_of o ≡ find (λ r. same_type r.kind c.args.kind && (r.tier == c.args.tier)) t.charges) (λ there (t : Tables). there ≡ has_charge t c.args.kind c.args.tier)
+      (λ o (t : Tables). option_map charge_of o ≡ find (λ r. same_type r.kind c.args.kind && (r.tier == c.args.tier)) t.charges) (λ there (t : Tables). there ≡ finds_charge t c.args.kind c.args.tier)
       (λ t e. c.is_some.ensures ∙ is_there charge_of c.in_ok-charge.field-0 (find (λ r. same_type r.kind c.args.kind && (r.tier == c.args.tier)) t.charges) e)
       c.in_ok-charge.ensures.read;
   fault = tt;

@@ -2,7 +2,7 @@ use Rattle.std.proofs.Common.{◌≡◌, ◌==◌, ◌∙◌, find, option_map}
 use Rattle.std.specs.Prelude.{◌&&◌, bytes_eq}
 use Rattle.brk_model.specs.Tables.{Tables}
 use Rattle.brk_ref.specs.Records.{permission_of}
-use Rattle.brk_book_theorems.specs.Reads.{has_permission}
+use Rattle.brk_book_theorems.specs.Reads.{finds_permission}
 use Rattle.brk_book_theorems.proofs.Reading.{is_there}
 use Rattle.brk_store.proofs.Retelling.{retold}
 use Rattle.brk_decisions.proofs.terms.is_permission_there.Goals as goal
@@ -10,7 +10,7 @@ use Rattle.brk_decisions.proofs.terms.is_permission_there.Goals as goal
 pub returns : goal.returns
 returns g c = record {
   read = retold g.S.Store c.args.store.now c.permission.new.self c.in_ok-permission.field-0 c.is_some.result
-      (λ o (t : Tables). option_map permission_of o ≡ find (λ r. (r.account == c.args.account) && bytes_eq r.tax_id c.args.tax_id.now) t.permissions) (λ there (t : Tables). there ≡ has_permission t c.args.account c.args.tax_id.now)
+      (λ o (t : Tables). option_map permission_of o ≡ find (λ r. (r.account == c.args.account) && bytes_eq r.tax_id c.args.tax_id.now) t.permissions) (λ there (t : Tables). there ≡ finds_permission t c.args.account c.args.tax_id.now)
       (λ t e. c.is_some.ensures ∙ is_there permission_of c.in_ok-permission.field-0 (find (λ r. (r.account == c.args.account) && bytes_eq r.tax_id c.args.tax_id.now) t.permissions) e)
       c.in_ok-permission.ensures.read;
   fault = tt;

@@ -1,7 +1,7 @@
 use Rattle.std.proofs.Common.{◌≡◌, ◌==◌, ◌∙◌, find, option_map}
 use Rattle.brk_model.specs.Tables.{Tables}
 use Rattle.brk_ref.specs.Records.{tax_of}
-use Rattle.brk_book_theorems.specs.Reads.{has_tax_rate}
+use Rattle.brk_book_theorems.specs.Reads.{finds_tax_rate}
 use Rattle.brk_book_theorems.proofs.Reading.{is_there}
 use Rattle.brk_store.proofs.Retelling.{retold}
 use Rattle.brk_decisions.proofs.terms.is_tax_there.Goals as goal
@@ -9,7 +9,7 @@ use Rattle.brk_decisions.proofs.terms.is_tax_there.Goals as goal
 pub returns : goal.returns
 returns g c = record {
   read = retold g.S.Store c.args.store.now c.tax_rate.new.self c.in_ok-tax_rate.field-0 c.is_some.result
-      (λ o (t : Tables). option_map tax_of o ≡ find (λ r. r.id == c.args.id) t.tax_rates) (λ there (t : Tables). there ≡ has_tax_rate t c.args.id)
+      (λ o (t : Tables). option_map tax_of o ≡ find (λ r. r.id == c.args.id) t.tax_rates) (λ there (t : Tables). there ≡ finds_tax_rate t c.args.id)
       (λ t e. c.is_some.ensures ∙ is_there tax_of c.in_ok-tax_rate.field-0 (find (λ r. r.id == c.args.id) t.tax_rates) e)
       c.in_ok-tax_rate.ensures.read;
   fault = tt;
