@@ -21,7 +21,7 @@ use Rattle.brk_audit_theorems.proofs.Parts.{KeyParts, key_parts}
 use Rattle.brk_model_theorems.specs.FormParts.{FormParts}
 use Rattle.brk_model_theorems.proofs.FormParts.{form_parts}
 use Rattle.brk_audit_theorems.proofs.AdoptedHistory.{joined}
-use Rattle.brk_audit.specs.Statuses.{all_go, goes_way, completion_stamps_of}
+use Rattle.brk_audit.specs.Statuses.{all_valid, is_valid_history, completion_stamps_of}
 use Rattle.brk_audit.proofs.Statuses.{status_by_rows}
 use Rattle.brk_audit.specs.Conditions.{HasSomeForm}
 use Rattle.brk_model.specs.Schemas.{Schema}
@@ -47,16 +47,16 @@ others t r rs c =
     All-flat_map (λ h. (h.trade == r.id) ≡ false) (λ u. history_in t u.id) rs
     (All-map rs (λ u b. All-map (history_in t u.id) (λ h e. ap (λ n. n == r.id) (eqb-true h.trade u.id e) ∙ later_id r.id u.id b) (all_pass (λ h. h.trade == u.id) t.history)) c)
 
-go_each : (t : Tables) (rs : List TradeRow) → Climbs trade_key rs → all_go rs (runs t rs) ≡ list_all (λ r. goes_way r (history_in t r.id)) rs
+go_each : (t : Tables) (rs : List TradeRow) → Climbs trade_key rs → all_valid rs (runs t rs) ≡ list_all (λ r. is_valid_history r (history_in t r.id)) rs
 unfolding runs
 go_each t [] c = refl
 go_each t (r ∷ rs) c =
     let own : List HistoryRow = history_in t r.id in
     let n : prefix_len (λ h. h.trade == r.id) (own ++ runs t rs) ≡ length own =
     whole_prefix (λ h. h.trade == r.id) own (runs t rs) (all_pass (λ h. h.trade == r.id) t.history) (others t r rs c.0) in
-    (λ i. goes_way r (take (n i) (own ++ runs t rs)) && all_go rs (drop (n i) (own ++ runs t rs)))
-    ∙ (λ i. goes_way r (take_at own (runs t rs) (length own) refl i) && all_go rs (drop_at own (runs t rs) (length own) refl i))
-    ∙ ap (λ b. goes_way r own && b) (go_each t rs c.1)
+    (λ i. is_valid_history r (take (n i) (own ++ runs t rs)) && all_valid rs (drop (n i) (own ++ runs t rs)))
+    ∙ (λ i. is_valid_history r (take_at own (runs t rs) (length own) refl i) && all_valid rs (drop_at own (runs t rs) (length own) refl i))
+    ∙ ap (λ b. is_valid_history r own && b) (go_each t rs c.1)
 
 -- ---- together
 
@@ -65,22 +65,22 @@ same_tests true b f g = sym (f refl)
 same_tests false true f g = g refl
 same_tests false false f g = refl
 
-same_all : (t : Tables) (rs : List TradeRow) → Climbs history_key t.history → list_all (trade_status t) rs ≡ list_all (λ r. goes_way r (history_in t r.id)) rs
+same_all : (t : Tables) (rs : List TradeRow) → Climbs history_key t.history → list_all (trade_status t) rs ≡ list_all (λ r. is_valid_history r (history_in t r.id)) rs
 same_all t [] c = refl
 same_all t (r ∷ rs) c =
-    let e : trade_status t r ≡ goes_way r (history_in t r.id) =
-    same_tests (trade_status t r) (goes_way r (history_in t r.id)) (status_by_rows t r c).0 (status_by_rows t r c).1 in
+    let e : trade_status t r ≡ is_valid_history r (history_in t r.id) =
+    same_tests (trade_status t r) (is_valid_history r (history_in t r.id)) (status_by_rows t r c).0 (status_by_rows t r c).1 in
     λ i. e i && same_all t rs c i
 
-pub statuses_by_rows : (t : Tables) → HasSomeForm t → has_status_rows t ≡ all_go t.trades t.history && all_distinct (completion_stamps_of t.history ++ movement_stamps t)
+pub statuses_by_rows : (t : Tables) → HasSomeForm t → has_status_rows t ≡ all_valid t.trades t.history && all_distinct (completion_stamps_of t.history ++ movement_stamps t)
 unfolding has_status_rows runs
 statuses_by_rows t f =
     let p : FormParts f.schema t = form_parts f.schema t f.form in
     let k : KeyParts t = key_parts t p.keys in
     let j : runs t t.trades ≡ t.history = joined t k.history k.trades (list_all_true (history_form t) t.history p.history) in
-    ap (λ b. b && all_distinct (completion_stamps t ++ movement_stamps t)) (same_all t t.trades k.history ∙ sym (go_each t t.trades k.trades) ∙ ap (all_go t.trades) j)
+    ap (λ b. b && all_distinct (completion_stamps t ++ movement_stamps t)) (same_all t t.trades k.history ∙ sym (go_each t t.trades k.trades) ∙ ap (all_valid t.trades) j)
 
-pub status_holds : (schema : Schema) (t : Tables) (go apart : Bool) → HasSomeForm t → go ≡ all_go t.trades t.history → apart ≡ all_distinct (completion_stamps_of t.history ++ movement_stamps t)
+pub status_holds : (schema : Schema) (t : Tables) (go apart : Bool) → HasSomeForm t → go ≡ all_valid t.trades t.history → apart ≡ all_distinct (completion_stamps_of t.history ++ movement_stamps t)
     → (go && apart ≡ true → ConditionHolds schema condition.Status t) × (ConditionHolds schema condition.Status t → go && apart ≡ true)
 unfolding ConditionHolds
 status_holds schema t go apart f g a =

@@ -12,7 +12,7 @@ use Rattle.brk_model.specs.Tables.{Tables, TradeRow, HistoryRow, history_rows}
 use Rattle.brk_model.specs.Joins.{history_in}
 use Rattle.brk_model.specs.Keys.{word, key_before, by_key, history_key}
 use Rattle.brk_model.specs.Adopted.{marks_in, trade_of_row}
-use Rattle.brk_model.specs.Ways.{is_last_of, is_rising, is_way, trade_status}
+use Rattle.brk_model.specs.Ways.{is_last_of, is_rising, is_valid_sequence, trade_status}
 use Rattle.brk_book_theorems.proofs.Same.{All-map}
 use Rattle.brk_book_theorems.proofs.LotReading.{all_pass}
 use Rattle.brk_audit_theorems.proofs.Climbs.{Climbs, climbs_filter, stays}
@@ -20,7 +20,7 @@ use Rattle.brk_audit_theorems.proofs.Members.{sorted_each}
 use Rattle.brk_audit_theorems.proofs.Marks.{no_more_ways}
 use Rattle.brk_audit_theorems.proofs.AdoptedHistory.{own_rows}
 use Rattle.brk_model_theorems.proofs.Conjunctions.{parts3}
-use Rattle.brk_audit.specs.Statuses.{goes_way, is_at}
+use Rattle.brk_audit.specs.Statuses.{is_valid_history, is_at}
 
 false_true : {A : Type 0} → false ≡ true → A
 false_true e = absurd (cc)
@@ -55,25 +55,25 @@ put_three a b c e f g = rw e (rw f (rw g refl))
 
 -- ---- from marks that are a way to rows
 
-one_goes : (r : TradeRow) (id : ℕ) (s : Status) (x : ℕ) → is_way (s ∷ []) ≡ true → is_at r (at id s x) ≡ true → goes_way r (at id s x ∷ []) ≡ true
+one_goes : (r : TradeRow) (id : ℕ) (s : Status) (x : ℕ) → is_valid_sequence (s ∷ []) ≡ true → is_at r (at id s x) ≡ true → is_valid_history r (at id s x ∷ []) ≡ true
 one_goes r id Submitted x w l = l
 one_goes r id Pending x w l = l
 one_goes r id _ x w l = false_true w
 
-two_go : (r : TradeRow) (id : ℕ) (s u : Status) (x y : ℕ) → is_way (s ∷ u ∷ []) ≡ true → nat_lt x y ≡ true → is_at r (at id u y) ≡ true
-    → goes_way r (by_key history_key (at id s x ∷ at id u y ∷ [])) ≡ true
+two_go : (r : TradeRow) (id : ℕ) (s u : Status) (x y : ℕ) → is_valid_sequence (s ∷ u ∷ []) ≡ true → nat_lt x y ≡ true → is_at r (at id u y) ≡ true
+    → is_valid_history r (by_key history_key (at id s x ∷ at id u y ∷ [])) ≡ true
 two_go r id Submitted Completed x y w l e =
-    ap (goes_way r) (put_over (at id Submitted x) (at id Completed y) (by_code id Completed Submitted y x)) ∙ and_from (nat_lt x y) (is_at r (at id Completed y)) l e
+    ap (is_valid_history r) (put_over (at id Submitted x) (at id Completed y) (by_code id Completed Submitted y x)) ∙ and_from (nat_lt x y) (is_at r (at id Completed y)) l e
 two_go r id Pending Canceled x y w l e =
-    ap (goes_way r) (put_over (at id Pending x) (at id Canceled y) (by_code id Canceled Pending y x)) ∙ and_from (nat_lt x y) (is_at r (at id Canceled y)) l e
+    ap (is_valid_history r) (put_over (at id Pending x) (at id Canceled y) (by_code id Canceled Pending y x)) ∙ and_from (nat_lt x y) (is_at r (at id Canceled y)) l e
 two_go r id Pending Submitted x y w l e =
-    ap (goes_way r) (put_under (at id Pending x) (at id Submitted y) (by_code id Submitted Pending y x)) ∙ and_from (nat_lt x y) (is_at r (at id Submitted y)) l e
+    ap (is_valid_history r) (put_under (at id Pending x) (at id Submitted y) (by_code id Submitted Pending y x)) ∙ and_from (nat_lt x y) (is_at r (at id Submitted y)) l e
 two_go r id _ _ x y w l e = false_true w
 
-three_go : (r : TradeRow) (id : ℕ) (s u v : Status) (x y z : ℕ) → is_way (s ∷ u ∷ v ∷ []) ≡ true → nat_lt x y ≡ true → nat_lt y z ≡ true → is_at r (at id v z) ≡ true
-    → goes_way r (by_key history_key (at id s x ∷ at id u y ∷ at id v z ∷ [])) ≡ true
+three_go : (r : TradeRow) (id : ℕ) (s u v : Status) (x y z : ℕ) → is_valid_sequence (s ∷ u ∷ v ∷ []) ≡ true → nat_lt x y ≡ true → nat_lt y z ≡ true → is_at r (at id v z) ≡ true
+    → is_valid_history r (by_key history_key (at id s x ∷ at id u y ∷ at id v z ∷ [])) ≡ true
 three_go r id Pending Submitted Completed x y z w l m e =
-    ap (goes_way r) (put_three (at id Pending x) (at id Submitted y) (at id Completed z)
+    ap (is_valid_history r) (put_three (at id Pending x) (at id Submitted y) (at id Completed z)
     (by_code id Completed Submitted z y) (by_code id Completed Pending z x) (by_code id Submitted Pending y x))
     ∙ and_from (nat_lt x y && nat_lt y z) (is_at r (at id Completed z)) (and_from (nat_lt x y) (nat_lt y z) l m) e
 three_go r id Submitted Completed v x y z w l m e = false_true w
@@ -82,11 +82,11 @@ three_go r id _ _ _ x y z w l m e = false_true w
 
 -- what a trade's right statuses say of its marks
 record IsRightOf (r : TradeRow) (ms : List StatusChange) : Type 0 where
-  way : is_way (map (λ m. m.status) ms) ≡ true
+  way : is_valid_sequence (map (λ m. m.status) ms) ≡ true
   rising : is_rising (map (λ m. m.stamp) ms) ≡ true
   last : is_last_of r ms ≡ true
 
-marks_go : (r : TradeRow) (id : ℕ) (ms : List StatusChange) → IsRightOf r ms → goes_way r (by_key history_key (map (λ m. at id m.status m.stamp) ms)) ≡ true
+marks_go : (r : TradeRow) (id : ℕ) (ms : List StatusChange) → IsRightOf r ms → is_valid_history r (by_key history_key (map (λ m. at id m.status m.stamp) ms)) ≡ true
 unfolding sort_by
 marks_go r id [] h = false_true h.way
 marks_go r id (m ∷ []) h = one_goes r id m.status m.stamp h.way h.last
@@ -115,22 +115,22 @@ over_both : (m n o : StatusChange) → nat_lt o.stamp n.stamp ≡ false → nat_
 unfolding sort_by
 over_both m n o e f g = rw e (rw f (rw g refl))
 
-right_two : (r : TradeRow) (s u : Status) (x y : ℕ) → is_way (s ∷ u ∷ []) ≡ true → nat_lt x y ≡ true → is_last_of r (mark u y ∷ []) ≡ true → IsRightOf r (mark s x ∷ mark u y ∷ [])
+right_two : (r : TradeRow) (s u : Status) (x y : ℕ) → is_valid_sequence (s ∷ u ∷ []) ≡ true → nat_lt x y ≡ true → is_last_of r (mark u y ∷ []) ≡ true → IsRightOf r (mark s x ∷ mark u y ∷ [])
 right_two r s u x y w l e = record { way = w; rising = and_from (nat_lt x y) true l refl; last = e }
 
 along : (r : TradeRow) (ms ns : List StatusChange) → ms ≡ ns → IsRightOf r ns → IsRightOf r ms
 along r ms ns e h = record {
-  way = ap (λ xs. is_way (map (λ m. m.status) xs)) e ∙ h.way;
+  way = ap (λ xs. is_valid_sequence (map (λ m. m.status) xs)) e ∙ h.way;
   rising = ap (λ xs. is_rising (map (λ m. m.stamp) xs)) e ∙ h.rising;
   last = ap (is_last_of r) e ∙ h.last;
 }
 
-right_one : (r : TradeRow) (id : ℕ) (s : Status) (x : ℕ) → goes_way r (at id s x ∷ []) ≡ true → IsRightOf r (mark s x ∷ [])
+right_one : (r : TradeRow) (id : ℕ) (s : Status) (x : ℕ) → is_valid_history r (at id s x ∷ []) ≡ true → IsRightOf r (mark s x ∷ [])
 right_one r id Submitted x e = record { way = refl; rising = refl; last = e }
 right_one r id Pending x e = record { way = refl; rising = refl; last = e }
 right_one r id _ x e = false_true e
 
-two_right : (r : TradeRow) (id : ℕ) (s u : Status) (x y : ℕ) → goes_way r (at id s x ∷ at id u y ∷ []) ≡ true → IsRightOf r (sort_by_key (λ m. m.stamp) (mark s x ∷ mark u y ∷ []))
+two_right : (r : TradeRow) (id : ℕ) (s u : Status) (x y : ℕ) → is_valid_history r (at id s x ∷ at id u y ∷ []) ≡ true → IsRightOf r (sort_by_key (λ m. m.stamp) (mark s x ∷ mark u y ∷ []))
 two_right r id Completed Submitted x y e =
     let k = and_parts (nat_lt y x) (is_at r (at id Completed x)) e in
     along r (sort_by_key (λ m. m.stamp) (mark Completed x ∷ mark Submitted y ∷ [])) (mark Submitted y ∷ mark Completed x ∷ [])
@@ -145,7 +145,7 @@ two_right r id Pending Submitted x y e =
     (under (mark Pending x) (mark Submitted y) (before x y k.0)) (right_two r Pending Submitted x y refl k.0 k.1)
 two_right r id _ _ x y e = false_true e
 
-three_right : (r : TradeRow) (id : ℕ) (s u v : Status) (x y z : ℕ) → goes_way r (at id s x ∷ at id u y ∷ at id v z ∷ []) ≡ true
+three_right : (r : TradeRow) (id : ℕ) (s u v : Status) (x y z : ℕ) → is_valid_history r (at id s x ∷ at id u y ∷ at id v z ∷ []) ≡ true
     → IsRightOf r (sort_by_key (λ m. m.stamp) (mark s x ∷ mark u y ∷ mark v z ∷ []))
 three_right r id Completed Pending Submitted x y z e =
     let k = parts3 (nat_lt y z) (nat_lt z x) (is_at r (at id Completed x)) e in
@@ -160,7 +160,7 @@ three_right r id Completed Pending Submitted x y z e =
     later a b c l m = grind arith
 three_right r id _ _ _ x y z e = false_true e
 
-rows_right : (r : TradeRow) (id : ℕ) (hs : List HistoryRow) → AllByRecursion (λ h. h.trade ≡ id) hs → goes_way r hs ≡ true
+rows_right : (r : TradeRow) (id : ℕ) (hs : List HistoryRow) → AllByRecursion (λ h. h.trade ≡ id) hs → is_valid_history r hs ≡ true
     → IsRightOf r (sort_by_key (λ m. m.stamp) (map (λ h. mark h.status h.stamp) hs))
 unfolding sort_by
 rows_right r id [] t e = false_true e
@@ -183,18 +183,18 @@ own_history t r c =
 
 right_of : (t : Tables) (r : TradeRow) → trade_status t r ≡ true → IsRightOf r (marks_in t r.id)
 right_of t r e =
-    let k = parts3 (is_way (map (λ m. m.status) (marks_in t r.id))) (is_rising (map (λ m. m.stamp) (marks_in t r.id))) (is_last_of r (marks_in t r.id)) e in
+    let k = parts3 (is_valid_sequence (map (λ m. m.status) (marks_in t r.id))) (is_rising (map (λ m. m.stamp) (marks_in t r.id))) (is_last_of r (marks_in t r.id)) e in
     record { way = k.0; rising = k.1; last = k.2 }
 
 status_of : (t : Tables) (r : TradeRow) → IsRightOf r (marks_in t r.id) → trade_status t r ≡ true
 status_of t r h =
-    let way : Bool = is_way (map (λ m. m.status) (marks_in t r.id)) in
+    let way : Bool = is_valid_sequence (map (λ m. m.status) (marks_in t r.id)) in
     let rising : Bool = is_rising (map (λ m. m.stamp) (marks_in t r.id)) in
     and_from (way && rising) (is_last_of r (marks_in t r.id)) (and_from way rising h.way h.rising) h.last
 
 pub status_by_rows : (t : Tables) (r : TradeRow) → Climbs history_key t.history
-    → (trade_status t r ≡ true → goes_way r (history_in t r.id) ≡ true) × (goes_way r (history_in t r.id) ≡ true → trade_status t r ≡ true)
+    → (trade_status t r ≡ true → is_valid_history r (history_in t r.id) ≡ true) × (is_valid_history r (history_in t r.id) ≡ true → trade_status t r ≡ true)
 status_by_rows t r c = (
-  (λ e. sym (ap (goes_way r) (own_history t r c)) ∙ marks_go r r.id (marks_in t r.id) (right_of t r e)),
+  (λ e. sym (ap (is_valid_history r) (own_history t r c)) ∙ marks_go r r.id (marks_in t r.id) (right_of t r e)),
   (λ e. status_of t r (rows_right r r.id (history_in t r.id) (of_trade t r.id) e)),
 )

@@ -11,7 +11,7 @@ use Rattle.brk_changes.specs.Rows.{history_row_of, move_row_of, trade_row_of}
 use Rattle.brk_changes.specs.declared.trade_row.TradeRow.{TradeRow}
 use Rattle.brk_changes.specs.declared.history_row.HistoryRow.{HistoryRow}
 use Rattle.brk_changes.specs.declared.move_row.MoveRow.{MoveRow}
-use Rattle.brk_audit.specs.Statuses.{all_go, goes_way, moved_stamps_of, completion_stamps_of}
+use Rattle.brk_audit.specs.Statuses.{all_valid, is_valid_history, moved_stamps_of, completion_stamps_of}
 
 false_true : {A : Type 0} → false ≡ true → A
 false_true e = absurd (cc)
@@ -25,14 +25,14 @@ prefix_len-map p f (x ∷ xs) = ap (λ n. cond (p (f x)) (1 + n) 0) (prefix_len-
 -- one trade further
 pub go_more : (ts : List TradeRow) (i : ℕ) (t : TradeRow) (hs rows others : List HistoryRow) (n : ℕ) → i < length ts → t ≡ get_or ts i t
     → n ≡ prefix_len (λ h. h.trade == t.id) hs → rows ≡ take n hs → others ≡ drop n hs
-    → all_go (map trade_row_of (drop i ts)) (map history_row_of hs)
-    ≡ goes_way (trade_row_of t) (map history_row_of rows) && all_go (map trade_row_of (drop (i + 1) ts)) (map history_row_of others)
+    → all_valid (map trade_row_of (drop i ts)) (map history_row_of hs)
+    ≡ is_valid_history (trade_row_of t) (map history_row_of rows) && all_valid (map trade_row_of (drop (i + 1) ts)) (map history_row_of others)
 go_more ts i t hs rows others n l e m r o =
     let k : prefix_len (λ h. h.trade == t.id) (map history_row_of hs) ≡ n = prefix_len-map (λ h. h.trade == t.id) history_row_of hs ∙ sym m in
-    ap (λ us. all_go (map trade_row_of us) (map history_row_of hs)) (drop_more ts i t l ∙ ap (λ u. u ∷ drop (i + 1) ts) (sym e))
-    ∙ (λ j. goes_way (trade_row_of t) (take (k j) (map history_row_of hs)) && all_go (map trade_row_of (drop (i + 1) ts)) (drop (k j) (map history_row_of hs)))
-    ∙ (λ j. goes_way (trade_row_of t) ((take-map history_row_of n hs ∙ ap (map history_row_of) (sym r)) j)
-    && all_go (map trade_row_of (drop (i + 1) ts)) ((drop-map history_row_of n hs ∙ ap (map history_row_of) (sym o)) j))
+    ap (λ us. all_valid (map trade_row_of us) (map history_row_of hs)) (drop_more ts i t l ∙ ap (λ u. u ∷ drop (i + 1) ts) (sym e))
+    ∙ (λ j. is_valid_history (trade_row_of t) (take (k j) (map history_row_of hs)) && all_valid (map trade_row_of (drop (i + 1) ts)) (drop (k j) (map history_row_of hs)))
+    ∙ (λ j. is_valid_history (trade_row_of t) ((take-map history_row_of n hs ∙ ap (map history_row_of) (sym r)) j)
+    && all_valid (map trade_row_of (drop (i + 1) ts)) ((drop-map history_row_of n hs ∙ ap (map history_row_of) (sym o)) j))
 
 -- ---- stamps
 

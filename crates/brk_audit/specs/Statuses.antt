@@ -29,8 +29,8 @@ two_by _ _ first second = false
 
 -- True if the two history rows are a valid status sequence, and the trade's row has the last of
 -- them.
-abbrev pub goes_two : TradeRow → HistoryRow → HistoryRow → Bool
-goes_two r a b = two_by a.status b.status (nat_lt b.stamp a.stamp && is_at r a) (nat_lt a.stamp b.stamp && is_at r b)
+abbrev pub are_valid_two : TradeRow → HistoryRow → HistoryRow → Bool
+are_valid_two r a b = two_by a.status b.status (nat_lt b.stamp a.stamp && is_at r a) (nat_lt a.stamp b.stamp && is_at r b)
 
 -- For three statuses, sorted by code: `told` if they are a valid sequence, otherwise false.
 abbrev pub three_by : Status → Status → Status → Bool → Bool
@@ -39,24 +39,24 @@ three_by _ _ _ told = false
 
 -- True if the three history rows are a valid status sequence, and the trade's row has the last of
 -- them.
-abbrev pub goes_three : TradeRow → HistoryRow → HistoryRow → HistoryRow → Bool
-goes_three r a b c = three_by a.status b.status c.status (nat_lt b.stamp c.stamp && nat_lt c.stamp a.stamp && is_at r a)
+abbrev pub are_valid_three : TradeRow → HistoryRow → HistoryRow → HistoryRow → Bool
+are_valid_three r a b c = three_by a.status b.status c.status (nat_lt b.stamp c.stamp && nat_lt c.stamp a.stamp && is_at r a)
 
 -- True if the history rows of a trade are a valid status sequence, and the trade's row has the last
 -- of them.
-abbrev pub goes_way : TradeRow → List HistoryRow → Bool
-goes_way r [] = false
-goes_way r (h ∷ []) = is_first h.status && is_at r h
-goes_way r (a ∷ b ∷ []) = goes_two r a b
-goes_way r (a ∷ b ∷ c ∷ []) = goes_three r a b c
-goes_way r (a ∷ b ∷ c ∷ d ∷ hs) = false
+abbrev pub is_valid_history : TradeRow → List HistoryRow → Bool
+is_valid_history r [] = false
+is_valid_history r (h ∷ []) = is_first h.status && is_at r h
+is_valid_history r (a ∷ b ∷ []) = are_valid_two r a b
+is_valid_history r (a ∷ b ∷ c ∷ []) = are_valid_three r a b c
+is_valid_history r (a ∷ b ∷ c ∷ d ∷ hs) = false
 
 -- True if the history rows of each trade are a valid status sequence. The rows are in the order of
 -- the trades.
-abbrev pub all_go : List TradeRow → List HistoryRow → Bool
-all_go [] hs = true
-all_go (r ∷ rs) hs =
-    goes_way r (take (prefix_len (λ h. h.trade == r.id) hs) hs) && all_go rs (drop (prefix_len (λ h. h.trade == r.id) hs) hs)
+abbrev pub all_valid : List TradeRow → List HistoryRow → Bool
+all_valid [] hs = true
+all_valid (r ∷ rs) hs =
+    is_valid_history r (take (prefix_len (λ h. h.trade == r.id) hs) hs) && all_valid rs (drop (prefix_len (λ h. h.trade == r.id) hs) hs)
 
 -- The stamps of the completions.
 abbrev pub completion_stamps_of : List HistoryRow → List ℕ

@@ -57,7 +57,7 @@ fn is_at(trade: &TradeRow, row: HistoryRow) -> bool
 // Returns whether the two history rows, sorted by the codes of their statuses, are a valid status
 // sequence, and the trade's row has the last of them.
 fn goes_two(trade: &TradeRow, a: HistoryRow, b: HistoryRow) -> bool
-    ensures { result ≡ spec.goes_two (trade_row_of trade.now) (history_row_of a) (history_row_of b) }
+    ensures { result ≡ spec.are_valid_two (trade_row_of trade.now) (history_row_of a) (history_row_of b) }
 {
     match (a.status, b.status) {
         (Status::Completed, Status::Submitted) | (Status::Canceled, Status::Pending) => {
@@ -71,7 +71,7 @@ fn goes_two(trade: &TradeRow, a: HistoryRow, b: HistoryRow) -> bool
 // Returns whether the three history rows, sorted by the codes of their statuses, are a valid status
 // sequence, and the trade's row has the last of them.
 fn goes_three(trade: &TradeRow, a: HistoryRow, b: HistoryRow, c: HistoryRow) -> bool
-    ensures { result ≡ spec.goes_three (trade_row_of trade.now) (history_row_of a) (history_row_of b) (history_row_of c) }
+    ensures { result ≡ spec.are_valid_three (trade_row_of trade.now) (history_row_of a) (history_row_of b) (history_row_of c) }
 {
     match (a.status, b.status, c.status) {
         (Status::Completed, Status::Pending, Status::Submitted) => {
@@ -84,7 +84,7 @@ fn goes_three(trade: &TradeRow, a: HistoryRow, b: HistoryRow, c: HistoryRow) -> 
 // Returns whether the history rows of a trade, sorted by the codes of their statuses, are a valid
 // status sequence, and the trade's row has the last of them.
 fn goes_way(trade: &TradeRow, rows: &[HistoryRow]) -> bool
-    ensures { result ≡ spec.goes_way (trade_row_of trade.now) (map history_row_of rows.now) }
+    ensures { result ≡ spec.is_valid_history (trade_row_of trade.now) (map history_row_of rows.now) }
 {
     match rows {
         [only] => is_first(only.status) && is_at(trade, *only),
@@ -109,7 +109,7 @@ fn leading_rows(history: &[HistoryRow], trade: Id) -> usize
 // Returns whether the history rows of each trade are a valid status sequence. The rows are in the
 // order of the trades.
 fn all_go(trades: &[TradeRow], history: &[HistoryRow]) -> bool
-    ensures { result ≡ spec.all_go (map trade_row_of trades.now) (map history_row_of history.now) }
+    ensures { result ≡ spec.all_valid (map trade_row_of trades.now) (map history_row_of history.now) }
 {
     let mut rest = history;
     for trade in trades {

@@ -14,7 +14,7 @@ use Rattle.brk_model.specs.Tables.{HistoryRow, TradeRow, history_rows, tables_at
 use Rattle.brk_model.specs.Sheets.{sheets, sheets_of}
 use Rattle.brk_model.specs.Keys.{by_key, row_before, history_key}
 use Rattle.brk_model.specs.Adopted.{movement_of_row}
-use Rattle.brk_model.specs.Ways.{completion_stamps, has_status_rows, movement_stamps, is_last_of, is_rising, is_way, trade_status}
+use Rattle.brk_model.specs.Ways.{completion_stamps, has_status_rows, movement_stamps, is_last_of, is_rising, is_valid_sequence, trade_status}
 use Rattle.brk_book_theorems.specs.Books.{BooksInvariant, DistinctMoments, MovementsApart}
 use Rattle.brk_book_theorems.proofs.Bools.{numbers_back}
 use Rattle.brk_book_theorems.proofs.Order.{by_key-filter}
@@ -55,7 +55,7 @@ pub some_last : (m : StatusChange) (ms : List StatusChange) → (n : StatusChang
 some_last m [] = (m, refl)
 some_last m (o ∷ ms) = some_last o ms
 
-pub last_row : (t : Trade) (ms : List StatusChange) → t.marks ≡ ms → is_way (map (λ m. m.status) ms) ≡ true → is_last_of (trade_row t) ms ≡ true
+pub last_row : (t : Trade) (ms : List StatusChange) → t.marks ≡ ms → is_valid_sequence (map (λ m. m.status) ms) ≡ true → is_last_of (trade_row t) ms ≡ true
 last_row t [] e w = w
 last_row t (m ∷ ms) e w =
     let l = some_last m ms in
@@ -64,9 +64,9 @@ last_row t (m ∷ ms) e w =
 
 each_right : (base : Base) (t : Trade) → IsRead base t → StampsRise t → HasValidTransitions t → trade_status (sheets base) (trade_row t) ≡ true
 each_right base t r s w =
-    ap (λ ms. is_way (map (λ m. m.status) ms) && is_rising (map (λ m. m.stamp) ms) && is_last_of (trade_row t) ms) (marks_again base t r s)
-    ∙ and_from (is_way (map (λ m. m.status) t.marks) && is_rising (map (λ m. m.stamp) t.marks)) (is_last_of (trade_row t) t.marks)
-    (and_from (is_way (map (λ m. m.status) t.marks)) (is_rising (map (λ m. m.stamp) t.marks)) w s) (last_row t t.marks refl w)
+    ap (λ ms. is_valid_sequence (map (λ m. m.status) ms) && is_rising (map (λ m. m.stamp) ms) && is_last_of (trade_row t) ms) (marks_again base t r s)
+    ∙ and_from (is_valid_sequence (map (λ m. m.status) t.marks) && is_rising (map (λ m. m.stamp) t.marks)) (is_last_of (trade_row t) t.marks)
+    (and_from (is_valid_sequence (map (λ m. m.status) t.marks)) (is_rising (map (λ m. m.stamp) t.marks)) w s) (last_row t t.marks refl w)
 
 mapped : {X Y : Type 0} (P : Y → Type 0) (f : X → Y) (xs : List X) → AllByRecursion (λ x. P (f x)) xs → AllByRecursion P (map f xs)
 mapped P f [] h = tt
@@ -84,7 +84,7 @@ is_done h = same_status h.status Completed
 abbrev row_of : ℕ → StatusChange → HistoryRow
 row_of id m = record { trade = id; status = m.status; stamp = m.stamp }
 
-pub first_of_two : (a b : Status) → is_way (a ∷ b ∷ []) ≡ true → same_status a Completed ≡ false
+pub first_of_two : (a b : Status) → is_valid_sequence (a ∷ b ∷ []) ≡ true → same_status a Completed ≡ false
 first_of_two Completed Completed e = cc
 first_of_two Completed Active e = cc
 first_of_two Completed Submitted e = cc
@@ -105,7 +105,7 @@ one_stamp id m = by_test (same_status m.status Completed)
     by_test true = refl
     by_test false = refl
 
-own_stamp : (id : ℕ) (ms : List StatusChange) → is_way (map (λ m. m.status) ms) ≡ true
+own_stamp : (id : ℕ) (ms : List StatusChange) → is_valid_sequence (map (λ m. m.status) ms) ≡ true
     → map (λ h. h.stamp) (filter (λ h. same_status h.status Completed) (map (row_of id) ms))
     ≡ one_if (option_map_or (λ m. same_status m.status Completed) (last_or None ms) false) (option_map_or (λ m. m.stamp) (last_or None ms) 0)
 own_stamp id [] w = refl

@@ -12,7 +12,7 @@ use Rattle.brk_model.specs.Base.{last_mark}
 use Rattle.brk_model.specs.Tables.{Tables, TradeRow, HistoryRow}
 use Rattle.brk_model.specs.Joins.{history_in}
 use Rattle.brk_model.specs.Adopted.{marks_in, trade_of_row}
-use Rattle.brk_model.specs.Ways.{is_way, is_last_of, is_rising, trade_status}
+use Rattle.brk_model.specs.Ways.{is_valid_sequence, is_last_of, is_rising, trade_status}
 use Rattle.brk_book_theorems.specs.Books.{WaitsFirst, CompletesFirst, IsNoCompletion, IsOne}
 use Rattle.brk_book_theorems.proofs.Same.{All-map, All-mapped}
 use Rattle.brk_book_theorems.proofs.LotReading.{All-sort}
@@ -24,13 +24,13 @@ false_true e = absurd (cc)
 
 -- ---- ways
 
-pub two_ways : (a b : Status) → is_way (a ∷ b ∷ []) ≡ true → same_status b Pending ≡ false
+pub two_ways : (a b : Status) → is_valid_sequence (a ∷ b ∷ []) ≡ true → same_status b Pending ≡ false
 two_ways Submitted Completed e = refl
 two_ways Pending Canceled e = refl
 two_ways Pending Submitted e = refl
 two_ways a Pending e = absurd (no a e)
   where
-    no : (a : Status) → is_way (a ∷ Pending ∷ []) ≡ true → ⊥
+    no : (a : Status) → is_valid_sequence (a ∷ Pending ∷ []) ≡ true → ⊥
     no Completed e = cc
     no Active e = cc
     no Submitted e = cc
@@ -41,7 +41,7 @@ two_ways a Active e = refl
 two_ways a Submitted e = refl
 two_ways a Canceled e = refl
 
-pub two_submitted : (a b : Status) → is_way (a ∷ b ∷ []) ≡ true → same_status b Submitted ≡ true → same_status a Completed ≡ false
+pub two_submitted : (a b : Status) → is_valid_sequence (a ∷ b ∷ []) ≡ true → same_status b Submitted ≡ true → same_status a Completed ≡ false
 two_submitted Completed Submitted e h = cc
 two_submitted Active b e h = refl
 two_submitted Submitted b e h = refl
@@ -52,7 +52,7 @@ two_submitted Completed Active e h = cc
 two_submitted Completed Pending e h = cc
 two_submitted Completed Canceled e h = cc
 
-pub three_ways : (a b c : Status) → is_way (a ∷ b ∷ c ∷ []) ≡ true → (a ≡ Pending) × (b ≡ Submitted) × (c ≡ Completed)
+pub three_ways : (a b c : Status) → is_valid_sequence (a ∷ b ∷ c ∷ []) ≡ true → (a ≡ Pending) × (b ≡ Submitted) × (c ≡ Completed)
 three_ways Completed Completed c e = false_true e
 three_ways Completed Active c e = false_true e
 three_ways Completed Submitted c e = false_true e
@@ -83,7 +83,7 @@ three_ways Canceled Submitted c e = false_true e
 three_ways Canceled Pending c e = false_true e
 three_ways Canceled Canceled c e = false_true e
 
-pub no_more_ways : (a b c d : Status) (ss : List Status) → is_way (a ∷ b ∷ c ∷ d ∷ ss) ≡ true → ⊥
+pub no_more_ways : (a b c d : Status) (ss : List Status) → is_valid_sequence (a ∷ b ∷ c ∷ d ∷ ss) ≡ true → ⊥
 no_more_ways Completed Completed c d ss e = false_true e
 no_more_ways Completed Active c d ss e = false_true e
 no_more_ways Completed Submitted c d ss e = false_true e
@@ -114,7 +114,7 @@ no_more_ways Canceled Submitted c d ss e = false_true e
 no_more_ways Canceled Pending c d ss e = false_true e
 no_more_ways Canceled Canceled c d ss e = false_true e
 
-pending_is_one : (marks : List StatusChange) → is_way (map (λ m. m.status) marks) ≡ true → option_map_or (λ m. same_status m.status Pending) (last_or None marks) false ≡ true → IsOne marks
+pending_is_one : (marks : List StatusChange) → is_valid_sequence (map (λ m. m.status) marks) ≡ true → option_map_or (λ m. same_status m.status Pending) (last_or None marks) false ≡ true → IsOne marks
 pending_is_one [] w h = false_true h
 pending_is_one (m ∷ []) w h = tt
 pending_is_one (m ∷ n ∷ []) w h = false_true (sym (two_ways m.status n.status w) ∙ h)
@@ -129,7 +129,7 @@ submitted_not_done Submitted e = refl
 submitted_not_done Pending e = refl
 submitted_not_done Canceled e = refl
 
-submitted_uncompleted : (marks : List StatusChange) → is_way (map (λ m. m.status) marks) ≡ true → option_map_or (λ m. same_status m.status Submitted) (last_or None marks) false ≡ true
+submitted_uncompleted : (marks : List StatusChange) → is_valid_sequence (map (λ m. m.status) marks) ≡ true → option_map_or (λ m. same_status m.status Submitted) (last_or None marks) false ≡ true
     → AllByRecursion IsNoCompletion marks
 submitted_uncompleted [] w h = tt
 submitted_uncompleted (m ∷ []) w h = (submitted_not_done m.status h, tt)
@@ -138,13 +138,13 @@ submitted_uncompleted (m ∷ n ∷ o ∷ []) w h = let k = three_ways m.status n
     false_true (sym (ap (λ s. same_status s Submitted) k.2) ∙ h)
 submitted_uncompleted (m ∷ n ∷ o ∷ p ∷ marks) w h = absurd (no_more_ways m.status n.status o.status p.status (map (λ m. m.status) marks) w)
 
-way_of : (t : Tables) (row : TradeRow) → trade_status t row ≡ true → is_way (map (λ m. m.status) (marks_in t row.id)) ≡ true
+way_of : (t : Tables) (row : TradeRow) → trade_status t row ≡ true → is_valid_sequence (map (λ m. m.status) (marks_in t row.id)) ≡ true
 way_of t row e =
-    (parts3 (is_way (map (λ m. m.status) (marks_in t row.id))) (is_rising (map (λ m. m.stamp) (marks_in t row.id))) (is_last_of row (marks_in t row.id)) e).0
+    (parts3 (is_valid_sequence (map (λ m. m.status) (marks_in t row.id))) (is_rising (map (λ m. m.stamp) (marks_in t row.id))) (is_last_of row (marks_in t row.id)) e).0
 
 last_of : (t : Tables) (row : TradeRow) → trade_status t row ≡ true → is_last_of row (marks_in t row.id) ≡ true
 last_of t row e =
-    (parts3 (is_way (map (λ m. m.status) (marks_in t row.id))) (is_rising (map (λ m. m.stamp) (marks_in t row.id))) (is_last_of row (marks_in t row.id)) e).2
+    (parts3 (is_valid_sequence (map (λ m. m.status) (marks_in t row.id))) (is_rising (map (λ m. m.stamp) (marks_in t row.id))) (is_last_of row (marks_in t row.id)) e).2
 
 pub waits_first : (t : Tables) (row : TradeRow) → trade_status t row ≡ true → WaitsFirst (trade_of_row t row)
 waits_first t row e h = pending_is_one (marks_in t row.id) (way_of t row e) h

@@ -5,7 +5,7 @@ use Rattle.std.specs.List.{AllByRecursion}
 use Rattle.brk_model.specs.Records.{Account, Broker, Security, Trade}
 use Rattle.brk_model.specs.Keys.{KeyPart, number, word, by_key, band_key, charge_key, customer_key, customer_tax_key, kept_key, permission_key, tax_rate_key}
 use Rattle.brk_model.specs.Base.{Base, is_completed}
-use Rattle.brk_model.specs.Ways.{is_rising, is_way}
+use Rattle.brk_model.specs.Ways.{is_rising, is_valid_sequence}
 
 -- The stamps of the trade's statuses are in ascending order.
 abbrev pub StampsRise : Trade → Type 0
@@ -13,7 +13,7 @@ StampsRise t = is_rising (map (λ m. m.stamp) t.marks) ≡ true
 
 -- The statuses of the trade are a valid status sequence.
 abbrev pub HasValidTransitions : Trade → Type 0
-HasValidTransitions t = is_way (map (λ m. m.status) t.marks) ≡ true
+HasValidTransitions t = is_valid_sequence (map (λ m. m.status) t.marks) ≡ true
 
 -- The trade has no settlement text if it is not completed, and no cash text if it is not a
 -- completed cash trade.

@@ -15,7 +15,7 @@ use Rattle.brk_model.specs.Tests.{next_stamp, refusal_of}
 use Rattle.std.specs.Prelude.{bytes_eq}
 use Rattle.brk_book_theorems.specs.Books.{BooksInvariant}
 use Rattle.brk_book_theorems.specs.Steps.{base_then}
-use Rattle.brk_book_theorems.specs.Runs.{HasTax, IsTaxed, RunAddsUp, TaxStands, TaxesStand, tax_upon}
+use Rattle.brk_book_theorems.specs.Runs.{HasTax, IsTaxed, RunAddsUp, KeepsTax, KeepTaxes, tax_upon}
 use Rattle.brk_book_theorems.proofs.AddingUp.{sums_add_up}
 use Rattle.brk_book_theorems.proofs.ResultKeeping.{result_named}
 use Rattle.brk_book_theorems.proofs.RunKeeping.{run_books}
@@ -71,7 +71,7 @@ tax_stays base mid now id price key reply calls outcomes after books next e r =
     (k.0, k.1, taxed_row after id (tax_upon base now price k.0) (run_taxes mid calls outcomes after id (tax_upon base now price k.0) next r k.2))
 
 pub taxes_stand : (base : Base) (calls : List (ℕ × Call)) (outcomes : List Outcome) (after : Base) → BooksInvariant base → Run base calls outcomes after
-    → TaxesStand (sheets after) base calls outcomes
+    → KeepTaxes (sheets after) base calls outcomes
 taxes_stand base [] [] after books r = tt
 taxes_stand base [] (outcome ∷ outcomes) after books r = tt
 taxes_stand base (call ∷ calls) [] after books r = tt
@@ -81,7 +81,7 @@ taxes_stand base (call ∷ calls) (outcome ∷ outcomes) after books r =
     next : BooksInvariant r.0
     next = run_books base (call ∷ []) (outcome ∷ []) r.0 books (r.0, r.1, refl)
 
-    one : (c : Call) (o : Outcome) → Answers base call.0 c o r.0 → TaxStands (sheets after) base call.0 c o
+    one : (c : Call) (o : Outcome) → Answers base call.0 c o r.0 → KeepsTax (sheets after) base call.0 c o
     one (Do (CompleteTrade id price) key) (Did (Done reply)) k = tax_stays base r.0 call.0 id price key reply calls outcomes after books next k r.2
     one c o k = tt
 

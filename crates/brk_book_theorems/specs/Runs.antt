@@ -34,18 +34,18 @@ tax_upon base now price t = tax_on_deal base t.account (result_deal (next_stamp 
 
 -- If the call is an accepted result, with or without a key, its trade's row in the tables `later`
 -- has the tax of its completion. Vacuous for other calls and outcomes.
-abbrev pub TaxStands : Tables → Base → ℕ → Call → Outcome → Type 0
-TaxStands later base now (Do (CompleteTrade id price) key) (Did (Done reply)) =
+abbrev pub KeepsTax : Tables → Base → ℕ → Call → Outcome → Type 0
+KeepsTax later base now (Do (CompleteTrade id price) key) (Did (Done reply)) =
     (t : Trade) × (trade_with base id ≡ Some t) × HasTax later id (tax_upon base now price t)
-TaxStands later base now call outcome = ⊤
+KeepsTax later base now call outcome = ⊤
 
 -- The trade of each accepted result of a run from `base` has in the tables `later` the tax of its
--- completion (`TaxStands`).
-abbrev pub TaxesStand : Tables → Base → List (ℕ × Call) → List Outcome → Type 0
-TaxesStand later base (call ∷ calls) (outcome ∷ outcomes) =
-    TaxStands later base call.0 call.1 outcome
-    × ((mid : Base) × Answers base call.0 call.1 outcome mid × TaxesStand later mid calls outcomes)
-TaxesStand later base calls outcomes = ⊤
+-- completion (`KeepsTax`).
+abbrev pub KeepTaxes : Tables → Base → List (ℕ × Call) → List Outcome → Type 0
+KeepTaxes later base (call ∷ calls) (outcome ∷ outcomes) =
+    KeepsTax later base call.0 call.1 outcome
+    × ((mid : Base) × Answers base call.0 call.1 outcome mid × KeepTaxes later mid calls outcomes)
+KeepTaxes later base calls outcomes = ⊤
 
 -- The calls can have these outcomes and lead to `after`, which is consistent. The sums in its
 -- tables equal those of their rows. Each accepted result was taxed on exactly the shares that it
@@ -54,4 +54,4 @@ pub record RunAddsUp (base : Base) (calls : List (ℕ × Call)) (outcomes : List
   pub run : Run base calls outcomes after
   pub order : BooksInvariant after
   pub sums : SumsMatch (sheets after)
-  pub taxes : TaxesStand (sheets after) base calls outcomes
+  pub taxes : KeepTaxes (sheets after) base calls outcomes

@@ -18,7 +18,7 @@ ghost use Rattle.brk_model.specs.Sheets.{sheets};
 ghost use Rattle.brk_model.specs.Tests.{refusal_of};
 ghost use Rattle.brk_book_theorems.specs.Books.{BooksInvariant};
 ghost use Rattle.brk_book_theorems.specs.Steps.{LeavesBooks, base_then};
-ghost use Rattle.brk_book_theorems.specs.Runs.{HasTax, IsTaxed, RunAddsUp, TaxesStand, tax_upon};
+ghost use Rattle.brk_book_theorems.specs.Runs.{HasTax, IsTaxed, RunAddsUp, KeepTaxes, tax_upon};
 ghost use Rattle.brk_book_theorems.specs.Sums.{SumsMatch};
 ghost use Rattle.brk_book_theorems.specs.TradeReads.{position_in};
 
@@ -83,7 +83,7 @@ pub fn results_are_taxed()
         → BooksInvariant base → Run base calls outcomes after → IsTaxed id tax base → IsTaxed id tax after }
     ensures row { (base : Base) (id tax : ℕ) → IsTaxed id tax base → HasTax (sheets base) id tax }
     ensures run { (base after : Base) (calls : List (ℕ × Call)) (outcomes : List Outcome)
-        → BooksInvariant base → Run base calls outcomes after → TaxesStand (sheets after) base calls outcomes }
+        → BooksInvariant base → Run base calls outcomes after → KeepTaxes (sheets after) base calls outcomes }
 {}
 
 /// Proves that a run from a consistent base, or from the empty one, leads to a consistent base. The

@@ -15,7 +15,7 @@ use Rattle.brk_store.specs.Holds.{AreTreesOf, OnlyCrashState}
 -- pass the audit of their schema, and the store represents their base, in schema 3. A crash then
 -- exposes only the tables of this base. Says nothing of these if the disk assumption fails, or once
 -- the store is closed.
-pub record StandsOnRows {S : Type 0} (g : Ghosts S) (store : Held S) : Type 0 where
+pub record RepresentsRows {S : Type 0} (g : Ghosts S) (store : Held S) : Type 0 where
   -- The state of the connection when the file was opened.
   pub found : Held S
   pub adopted : AdoptPost g found store (Ok tt)

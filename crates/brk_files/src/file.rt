@@ -2,7 +2,7 @@
 
 ghost use Rattle.std.specs.Prelude.{◌≡◌, IfErr, IfOk, false};
 ghost use Rattle.sqlite.specs.Files.{over_files};
-ghost use Rattle.brk_files.specs.Opened.{StandsOnRows};
+ghost use Rattle.brk_files.specs.Opened.{RepresentsRows};
 
 use brk_money::{Condition, Fault};
 use brk_store::Store;
@@ -38,7 +38,7 @@ fn connect(rt: &HostRuntime, path: &str) -> Result<Connection<FileStore<File>>, 
 
 // Adopts the database of a connection.
 fn take<S: Alter>(alloc: Global, conn: Connection<S>) -> Result<Store<S>, (Connection<S>, Fault)>
-    ensures { IfOk result (λ store. StandsOnRows S.Store store) }
+    ensures { IfOk result (λ store. RepresentsRows S.Store store) }
 {
     Store::adopt(alloc, conn)
 }
@@ -46,7 +46,7 @@ fn take<S: Alter>(alloc: Global, conn: Connection<S>) -> Result<Store<S>, (Conne
 // Adopts the database of a connection. If that fails, closes the file.
 fn adopt(rt: &HostRuntime, conn: Connection<FileStore<File>>) -> Result<FileDesk, Fault>
     requires { conn.in_transaction ≡ false }
-    ensures { IfOk result (λ store. StandsOnRows over_files store) }
+    ensures { IfOk result (λ store. RepresentsRows over_files store) }
 {
     match take(rt.alloc(), conn) {
         Ok(store) => Ok(store),
@@ -63,7 +63,7 @@ fn adopt(rt: &HostRuntime, conn: Connection<FileStore<File>>) -> Result<FileDesk
 /// A new desk is closed and opened again, so that its tables are in the file itself, and a file
 /// that then loses its log is never taken for a new one.
 pub fn open_or_make(rt: &HostRuntime, path: &str) -> Result<FileDesk, Fault>
-    ensures stands { IfOk result (λ store. StandsOnRows over_files store) }
+    ensures stands { IfOk result (λ store. RepresentsRows over_files store) }
 {
     match Store::create(connect(rt, path)?) {
         Ok(store) => {
@@ -89,7 +89,7 @@ fn is_missing(rt: &HostRuntime, path: &str) -> bool {
 /// Opens the desk in the file at `path`, and upgrades a file of an older schema. Creates nothing:
 /// if the file is missing or empty, fails with `Damaged(Schema)`.
 pub fn open(rt: &HostRuntime, path: &str) -> Result<FileDesk, Fault>
-    ensures stands { IfOk result (λ store. StandsOnRows over_files store) }
+    ensures stands { IfOk result (λ store. RepresentsRows over_files store) }
 {
     if is_missing(rt, path) {
         return Err(Fault::Damaged(Condition::Schema));

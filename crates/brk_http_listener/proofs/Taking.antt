@@ -5,7 +5,7 @@ use Rattle.std.proofs.lemmas.List.{length-append}
 use Rattle.brk_http_engine.specs.declared.stream.ServeFault.{ServeFault}
 use Rattle.brk_http_engine.specs.declared.turning.FaultKind.{FaultKind}
 use Rattle.brk_http_engine.specs.declared.turning.FaultKind.TheVariants as kinds
-use Rattle.brk_http_listener.specs.Listening.{Accepts, IsAccepted, Listens, MayGoOn, Scene, Serves, StreamEnd, TakesStream, TakesAll}
+use Rattle.brk_http_listener.specs.Listening.{Accepts, IsAccepted, Listens, MayTakeNext, Scene, Serves, StreamEnd, TakesStream, TakesAll}
 use Rattle.brk_http_listener.specs.declared.faults.AcceptFault.TheVariants.{Aborted, Failed}
 use Rattle.brk_http_listener.specs.declared.faults.ListenFault.{ListenFault}
 use Rattle.brk_http_listener.specs.declared.faults.ListenFault.TheVariants.{Stream, Net}
@@ -36,7 +36,7 @@ module _ {L C D X : Type 0} (accepts : Accepts L X) (serves : Serves C D X) wher
   one_refused old new h = ([], old, refl, omega arith, h)
 
   pub one_served : (old new : Scene L C D) (stream : X) (ended : Result ℕ ServeFault) → accepts old.listener (Ok stream) new.listener
-      → serves old.clock old.desk stream ended new.clock new.desk → MayGoOn (Some ended) → Listens accepts serves 1 old (Ok tt) new
+      → serves old.clock old.desk stream ended new.clock new.desk → MayTakeNext (Some ended) → Listens accepts serves 1 old (Ok tt) new
   one_served old new stream ended accepted served on = (Some ended ∷ [], (new, (stream, accepted, served), on, refl), refl)
 
   pub one_failed : (old new : Scene L C D) (stream : X) (fault : ServeFault) → accepts old.listener (Ok stream) new.listener

@@ -40,16 +40,16 @@ TakesStream {X = X} accepts serves old (Some ended) new =
     (stream : X) × accepts old.listener (Ok stream) new.listener × serves old.clock old.desk stream ended new.clock new.desk
 
 -- The next stream may be taken: this one did not end because memory ran out.
-abbrev pub MayGoOn : StreamEnd → Type 0
-MayGoOn None = Unit {0}
-MayGoOn (Some (Ok count)) = Unit {0}
-MayGoOn (Some (Err fault)) = fault.kind ≢ Memory
+abbrev pub MayTakeNext : StreamEnd → Type 0
+MayTakeNext None = Unit {0}
+MayTakeNext (Some (Ok count)) = Unit {0}
+MayTakeNext (Some (Err fault)) = fault.kind ≢ Memory
 
 -- Streams were taken, in order, with these ends. After each of them the next may be taken.
 abbrev pub TakesAll : {L C D X : Type 0} → Accepts L X → Serves C D X → Scene L C D → List StreamEnd → Scene L C D → Type 0
 TakesAll accepts serves old [] new = new ≡ old
 TakesAll {L} {C} {D} accepts serves old (end ∷ ends) new =
-    (mid : Scene L C D) × TakesStream accepts serves old end mid × MayGoOn end × TakesAll accepts serves mid ends new
+    (mid : Scene L C D) × TakesStream accepts serves old end mid × MayTakeNext end × TakesAll accepts serves mid ends new
 
 -- The result of taking `streams` streams. `Ok`: exactly so many were taken. `Stream`: after fewer,
 -- one more was accepted and served, and ended with this fault, because memory ran out. `Net`: after

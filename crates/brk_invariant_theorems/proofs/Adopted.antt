@@ -18,7 +18,7 @@ use Rattle.brk_model.specs.Sheets.{sheets, sheets_of}
 use Rattle.brk_model.specs.Adopted.{base_of, marks_in, trade_of_row, is_posted_by, postings_in}
 use Rattle.brk_model.specs.Audit.{ConditionHolds}
 use Rattle.brk_model.specs.Form.{has_form}
-use Rattle.brk_model.specs.Ways.{completion_stamps, has_status_rows, is_last_of, is_rising, is_way, trade_status, movement_stamps}
+use Rattle.brk_model.specs.Ways.{completion_stamps, has_status_rows, is_last_of, is_rising, is_valid_sequence, trade_status, movement_stamps}
 use Rattle.brk_book_theorems.specs.Books.{BooksInvariant, MovementsApart}
 use Rattle.brk_book_theorems.proofs.Same.{All-map, All-mapped}
 use Rattle.brk_book_theorems.proofs.Reading.{find-id, find-map}
@@ -82,7 +82,7 @@ movements_told t books p = rising (completed (base_of t)) (base_of t).movements 
 told_of : (t : Tables) → Passes third_schema t → has_status_rows t ≡ true → AllByRecursion (IsRead (base_of t)) (base_of t).trades → is_rising (map (λ m. m.stamp) (base_of t).movements) ≡ true → HasValidHistories (base_of t)
 unfolding base_of has_status_rows
 told_of t p s k rises =
-    let status = All-map t.trades (λ r e. parts3 (is_way (map (λ m. m.status) (marks_in t r.id))) (is_rising (map (λ m. m.stamp) (marks_in t r.id))) (is_last_of r (marks_in t r.id)) e)
+    let status = All-map t.trades (λ r e. parts3 (is_valid_sequence (map (λ m. m.status) (marks_in t r.id))) (is_rising (map (λ m. m.stamp) (marks_in t r.id))) (is_last_of r (marks_in t r.id)) e)
     (list_all_true (trade_status t) t.trades (and_parts (list_all (trade_status t) t.trades) (all_distinct (completion_stamps t ++ movement_stamps t)) s).0) in
     record {
       stamps = All-mapped StampsRise (trade_of_row t) t.trades (All-map t.trades (λ r e. e.1) status);

@@ -18,7 +18,7 @@ use Rattle.brk_model.specs.Tables.{HistoryRow, SummaryRow, account_row, broker_r
 use Rattle.brk_model.specs.Sheets.{sheets, sheets_of}
 use Rattle.brk_model.specs.Form.{has_keys, rises}
 use Rattle.brk_model.specs.Keys.{KeyPart, number, word, kept_key, broker_key, customer_key, account_key, permission_key, security_key, last_trade_key, charge_key, band_key, tax_rate_key, customer_tax_key, trade_key, history_key, request_key, holding_key, summary_key, holding_history_key, settlement_key, cash_key, move_key}
-use Rattle.brk_model.specs.Ways.{is_way}
+use Rattle.brk_model.specs.Ways.{is_valid_sequence}
 use Rattle.brk_model_theorems.proofs.FormParts.{keys_whole}
 use Rattle.brk_book_theorems.specs.Books.{DistinctAccounts, DistinctSymbols, BooksInvariant}
 use Rattle.brk_book_theorems.proofs.NewKeys.{not_both, same_bytes}
@@ -49,7 +49,7 @@ second_number l k m n e = cc
 abbrev row_of : ℕ → StatusChange → HistoryRow
 row_of id m = record { trade = id; status = m.status; stamp = m.stamp }
 
-two_codes : (a b : Status) → is_way (a ∷ b ∷ []) ≡ true → bytes_eq (status_code b) (status_code a) ≡ false
+two_codes : (a b : Status) → is_valid_sequence (a ∷ b ∷ []) ≡ true → bytes_eq (status_code b) (status_code a) ≡ false
 two_codes Submitted Completed w = refl
 two_codes Pending Canceled w = refl
 two_codes Pending Submitted w = refl
@@ -59,7 +59,7 @@ other_code : (id : ℕ) (m n : StatusChange) → bytes_eq (status_code n.status)
 other_code id m n h e =
     not_both (bytes_eq (status_code n.status) (status_code m.status)) (same_bytes (status_code n.status) (status_code m.status) (second_word id id (status_code n.status) (status_code m.status) e)) h
 
-marks_apart : (id : ℕ) (ms : List StatusChange) → is_way (map (λ m. m.status) ms) ≡ true → DistinctKeys history_key (map (row_of id) ms)
+marks_apart : (id : ℕ) (ms : List StatusChange) → is_valid_sequence (map (λ m. m.status) ms) ≡ true → DistinctKeys history_key (map (row_of id) ms)
 marks_apart id [] w = tt
 marks_apart id (m ∷ []) w = (tt, tt)
 marks_apart id (m ∷ n ∷ []) w = ((other_code id m n (two_codes m.status n.status w), tt), (tt, tt))

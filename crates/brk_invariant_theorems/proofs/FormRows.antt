@@ -25,7 +25,7 @@ use Rattle.brk_model.specs.Joins.{history_in, trade_in}
 use Rattle.brk_model.specs.Form.{account_form, band_form, broker_form, cash_form, charge_form, customer_form, customer_limits, customer_tax_form, has_account, has_broker, has_customer, has_form, has_security, has_trade, history_form, holding_form, holding_history_form, is_amount, is_cash_name, is_cash_type, is_id, is_price, is_qty, kept_form, last_trade_form, permission_form, price_form, request_form, same_numbers, security_form, settlement_form, summary_form, tax_rate_form, trade_form, is_movement, move_form, trades_moved}
 use Rattle.brk_model.specs.Forms.{is_acl, is_exchange, is_name, is_symbol, is_tax_id}
 use Rattle.brk_model.specs.Keys.{KeyPart, word, by_key, row_before, account_key, band_key, broker_key, cash_key, charge_key, customer_key, customer_tax_key, history_key, holding_history_key, holding_key, kept_key, last_trade_key, permission_key, request_key, security_key, settlement_key, summary_key, tax_rate_key, trade_key, move_key}
-use Rattle.brk_model.specs.Ways.{is_way}
+use Rattle.brk_model.specs.Ways.{is_valid_sequence}
 use Rattle.brk_model.specs.Names.{AccountExists, BrokerExists, CustomerExists, SecurityExists, NumberedFrom}
 use Rattle.brk_model_theorems.proofs.FormParts.{form_whole}
 use Rattle.brk_model_theorems.proofs.Conjunctions.{and10, and3, and4, and5, and6, parts3, parts4, parts5, parts6}
@@ -120,7 +120,7 @@ done_all base books k = filtered (Known base) is_completed base.trades (known_al
 there : (base : Base) (t : Trade) → Known base t → has_trade (sheets base) t.id ≡ true
 there base t h = has_trade_is base t.id ∙ ap is_some h.found
 
-last_of : (t : Trade) (ms : List StatusChange) → t.marks ≡ ms → is_way (map (λ m. m.status) ms) ≡ true → (n : StatusChange) × (last_mark t ≡ Some n)
+last_of : (t : Trade) (ms : List StatusChange) → t.marks ≡ ms → is_valid_sequence (map (λ m. m.status) ms) ≡ true → (n : StatusChange) × (last_mark t ≡ Some n)
 last_of t [] e w = false_true w
 last_of t (m ∷ ms) e w = let l = some_last m ms in (l.0, ap (last_or None) e ∙ l.1)
 
@@ -145,7 +145,7 @@ or_false false = refl
 abbrev pub row_of : ℕ → StatusChange → HistoryRow
 row_of id m = record { trade = id; status = m.status; stamp = m.stamp }
 
-pub any_mark : (id : ℕ) (ms : List StatusChange) → is_way (map (λ m. m.status) ms) ≡ true
+pub any_mark : (id : ℕ) (ms : List StatusChange) → is_valid_sequence (map (λ m. m.status) ms) ≡ true
     → list_any (λ h. same_status h.status Completed) (map (row_of id) ms) ≡ option_map_or (λ m. same_status m.status Completed) (last_or None ms) false
 any_mark id [] w = refl
 any_mark id (m ∷ []) w = or_false (same_status m.status Completed)

@@ -16,7 +16,7 @@ use Rattle.brk_model.specs.Base.{Base, completed, has_status, is_completed, mark
 use Rattle.brk_model.specs.Derived.{deal_of, deals_in, of_account, of_position, shares_in}
 use Rattle.brk_model.specs.Form.{is_price, is_qty}
 use Rattle.brk_model.specs.Tests.{next_stamp}
-use Rattle.brk_model.specs.Ways.{is_rising, is_way}
+use Rattle.brk_model.specs.Ways.{is_rising, is_valid_sequence}
 use Rattle.brk_book_theorems.proofs.Same.{All-filter, All-map, All-mapped, map-last}
 use Rattle.brk_book_theorems.proofs.Completing.{All-passing}
 use Rattle.brk_book_theorems.proofs.LotReading.{All-sort}
@@ -57,37 +57,37 @@ stamps_more base now status t r h =
 
 -- ---- ways
 
-first_waits : (a : Status) → is_way (a ∷ Submitted ∷ []) ≡ true → a ≡ Pending
+first_waits : (a : Status) → is_valid_sequence (a ∷ Submitted ∷ []) ≡ true → a ≡ Pending
 first_waits Completed e = false_true e
 first_waits Active e = false_true e
 first_waits Submitted e = false_true e
 first_waits Pending e = refl
 first_waits Canceled e = false_true e
 
-done_way : (ms : List StatusChange) → is_way (map (λ m. m.status) ms) ≡ true → option_map_or (λ m. same_status m.status Submitted) (last_or None ms) false ≡ true
-    → is_way (map (λ m. m.status) ms ++ Completed ∷ []) ≡ true
+done_way : (ms : List StatusChange) → is_valid_sequence (map (λ m. m.status) ms) ≡ true → option_map_or (λ m. same_status m.status Submitted) (last_or None ms) false ≡ true
+    → is_valid_sequence (map (λ m. m.status) ms ++ Completed ∷ []) ≡ true
 done_way [] w h = false_true h
-done_way (m ∷ []) w h = ap (λ s. is_way (s ∷ Completed ∷ [])) (same_statuses m.status Submitted h)
+done_way (m ∷ []) w h = ap (λ s. is_valid_sequence (s ∷ Completed ∷ [])) (same_statuses m.status Submitted h)
 done_way (m ∷ n ∷ []) w h =
     let e : n.status ≡ Submitted = same_statuses n.status Submitted h in
-    let f : m.status ≡ Pending = first_waits m.status (sym (ap (λ s. is_way (m.status ∷ s ∷ [])) e) ∙ w) in
-    λ i. is_way (f i ∷ e i ∷ Completed ∷ [])
+    let f : m.status ≡ Pending = first_waits m.status (sym (ap (λ s. is_valid_sequence (m.status ∷ s ∷ [])) e) ∙ w) in
+    λ i. is_valid_sequence (f i ∷ e i ∷ Completed ∷ [])
 done_way (m ∷ n ∷ o ∷ []) w h = let k = three_ways m.status n.status o.status w in false_true (sym (ap (λ s. same_status s Submitted) k.2) ∙ h)
 done_way (m ∷ n ∷ o ∷ p ∷ ms) w h = absurd (no_more_ways m.status n.status o.status p.status (map (λ m. m.status) ms) w)
 
-open_way : (s : Status) (ms : List StatusChange) → is_way (Pending ∷ s ∷ []) ≡ true → is_way (map (λ m. m.status) ms) ≡ true
-    → option_map_or (λ m. same_status m.status Pending) (last_or None ms) false ≡ true → is_way (map (λ m. m.status) ms ++ s ∷ []) ≡ true
+open_way : (s : Status) (ms : List StatusChange) → is_valid_sequence (Pending ∷ s ∷ []) ≡ true → is_valid_sequence (map (λ m. m.status) ms) ≡ true
+    → option_map_or (λ m. same_status m.status Pending) (last_or None ms) false ≡ true → is_valid_sequence (map (λ m. m.status) ms ++ s ∷ []) ≡ true
 open_way s [] k w h = false_true h
-open_way s (m ∷ []) k w h = ap (λ u. is_way (u ∷ s ∷ [])) (same_statuses m.status Pending h) ∙ k
+open_way s (m ∷ []) k w h = ap (λ u. is_valid_sequence (u ∷ s ∷ [])) (same_statuses m.status Pending h) ∙ k
 open_way s (m ∷ n ∷ []) k w h = false_true (sym (two_ways m.status n.status w) ∙ h)
 open_way s (m ∷ n ∷ o ∷ []) k w h = let j = three_ways m.status n.status o.status w in false_true (sym (ap (λ s. same_status s Pending) j.2) ∙ h)
 open_way s (m ∷ n ∷ o ∷ p ∷ ms) k w h = absurd (no_more_ways m.status n.status o.status p.status (map (λ m. m.status) ms) w)
 
 pub completes_way : (stamp : ℕ) (t : Trade) → HasValidTransitions t → has_status Submitted t ≡ true → HasValidTransitions (marked stamp Completed t)
-completes_way stamp t w h = ap is_way (map-last (λ m. m.status) t.marks (record { stamp = stamp; status = Completed })) ∙ done_way t.marks w h
+completes_way stamp t w h = ap is_valid_sequence (map-last (λ m. m.status) t.marks (record { stamp = stamp; status = Completed })) ∙ done_way t.marks w h
 
-pub leaves_way : (stamp : ℕ) (status : Status) (t : Trade) → is_way (Pending ∷ status ∷ []) ≡ true → HasValidTransitions t → has_status Pending t ≡ true → HasValidTransitions (marked stamp status t)
-leaves_way stamp status t k w h = ap is_way (map-last (λ m. m.status) t.marks (record { stamp = stamp; status = status })) ∙ open_way status t.marks k w h
+pub leaves_way : (stamp : ℕ) (status : Status) (t : Trade) → is_valid_sequence (Pending ∷ status ∷ []) ≡ true → HasValidTransitions t → has_status Pending t ≡ true → HasValidTransitions (marked stamp status t)
+leaves_way stamp status t k w h = ap is_valid_sequence (map-last (λ m. m.status) t.marks (record { stamp = stamp; status = status })) ∙ open_way status t.marks k w h
 
 -- ---- prices and quantities
 

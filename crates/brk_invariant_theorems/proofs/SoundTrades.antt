@@ -30,7 +30,7 @@ use Rattle.brk_model.specs.Form.{charge_form, is_cash_type, is_price, is_qty, is
 use Rattle.brk_model.specs.Forms.{is_exchange, is_name, is_symbol}
 use Rattle.brk_model.specs.Step.{records_after}
 use Rattle.brk_model.specs.Tests.{next_stamp, tests, wrong_status}
-use Rattle.brk_model.specs.Ways.{is_rising, is_way}
+use Rattle.brk_model.specs.Ways.{is_rising, is_valid_sequence}
 use Rattle.brk_model.specs.Names.{NumberedFrom}
 use Rattle.brk_book_theorems.proofs.Same.{All-append, All-map, All-mapped, find-All, map-last}
 use Rattle.brk_book_theorems.proofs.Places.{FoundAt, find-at, some_of}
@@ -97,10 +97,10 @@ requested_is_price base o form last = by_price (price_asked o.order_type) form
     by_price None f = last
     by_price (Some p) f = f
 
-first_way : (o : Order) → is_way (first_status (kind_of o.order_type) ∷ []) ≡ true
+first_way : (o : Order) → is_valid_sequence (first_status (kind_of o.order_type) ∷ []) ≡ true
 first_way o = by_market (is_market (kind_of o.order_type))
   where
-    by_market : (b : Bool) → is_way (cond b Submitted Pending ∷ []) ≡ true
+    by_market : (b : Bool) → is_valid_sequence (cond b Submitted Pending ∷ []) ≡ true
     by_market true = refl
     by_market false = refl
 
@@ -153,7 +153,7 @@ stamps_below stamp status t r h =
     ap is_rising (map-last (λ m. m.stamp) t.marks (record { stamp = stamp; status = status }))
     ∙ rising_more (map (λ m. m.stamp) t.marks) stamp r (All-mapped (λ n. n < stamp) (λ m. m.stamp) t.marks h)
 
-marked_sound : (b : Base) (stamp : ℕ) (status : Status) (t : Trade) → is_way (Pending ∷ status ∷ []) ≡ true → same_status status Completed ≡ false
+marked_sound : (b : Base) (stamp : ℕ) (status : Status) (t : Trade) → is_valid_sequence (Pending ∷ status ∷ []) ≡ true → same_status status Completed ≡ false
     → IsSoundTrade (record b { last = Some stamp }) t → AllByRecursion (λ m. m.stamp < stamp) t.marks → has_status Pending t ≡ true
     → IsSoundTrade (record b { last = Some stamp }) (marked stamp status t)
 marked_sound b stamp status t w other k below h =

@@ -11,14 +11,14 @@ use Rattle.brk_model.specs.Tables.{Tables, TradeRow}
 use Rattle.brk_model.specs.Adopted.{marks_in}
 
 -- True if the statuses are a valid status sequence of a trade.
-abbrev pub is_way : List Status → Bool
-is_way (Submitted ∷ []) = true
-is_way (Submitted ∷ Completed ∷ []) = true
-is_way (Pending ∷ []) = true
-is_way (Pending ∷ Canceled ∷ []) = true
-is_way (Pending ∷ Submitted ∷ []) = true
-is_way (Pending ∷ Submitted ∷ Completed ∷ []) = true
-is_way _ = false
+abbrev pub is_valid_sequence : List Status → Bool
+is_valid_sequence (Submitted ∷ []) = true
+is_valid_sequence (Submitted ∷ Completed ∷ []) = true
+is_valid_sequence (Pending ∷ []) = true
+is_valid_sequence (Pending ∷ Canceled ∷ []) = true
+is_valid_sequence (Pending ∷ Submitted ∷ []) = true
+is_valid_sequence (Pending ∷ Submitted ∷ Completed ∷ []) = true
+is_valid_sequence _ = false
 
 -- True if the numbers are strictly ascending.
 abbrev pub is_rising : List ℕ → Bool
@@ -37,7 +37,7 @@ is_last_of row (m ∷ n ∷ marks) = is_last_of row (n ∷ marks)
 -- the last of them.
 abbrev pub trade_status : Tables → TradeRow → Bool
 trade_status t row =
-    is_way (map (λ m. m.status) (marks_in t row.id)) && is_rising (map (λ m. m.stamp) (marks_in t row.id)) && is_last_of row (marks_in t row.id)
+    is_valid_sequence (map (λ m. m.status) (marks_in t row.id)) && is_rising (map (λ m. m.stamp) (marks_in t row.id)) && is_last_of row (marks_in t row.id)
 
 -- The stamps of completions in TRADE_HISTORY.
 abbrev pub completion_stamps : Tables → List ℕ

@@ -13,7 +13,7 @@ use Rattle.brk_model.specs.Batch.{AreDecided, row_step}
 use Rattle.brk_model.specs.Input.{Begins, IsEnd, end_of, header_of}
 use Rattle.brk_model.specs.Lines.{count_refused, is_refused}
 use Rattle.brk_model.specs.Parse.{parse_by, readers}
-use Rattle.brk_model_theorems.specs.Laws.{IsBookedNext, IsCompleted, StandsAfter}
+use Rattle.brk_model_theorems.specs.Laws.{IsBookedNext, IsCompleted, IsBaseAfter}
 use Rattle.brk_model_theorems.proofs.AgainLaws.{first-same, name-same, none-first, others-same, right_end}
 use Rattle.brk_model_theorems.proofs.BatchLaws.{All-front}
 use Rattle.brk_model_theorems.proofs.PartLaws.{completed-by, joined, none-with, prefix}
@@ -95,7 +95,7 @@ booked-completed form name base mid stood last moments others front more answers
         (completed form name base stood last (moments ++ moment ∷ []) others (front ++ w.row ∷ []) w.rest (answers ++ answer ∷ []) told (none-joined answers answer none h) first all))
 
 pub stopped-completed : (form : Fields → Read Command) (name : Text) (base mid stood last : Base) (moments others : List ℕ) (front more : List Fields) (answers told : List Answer)
-    → count_refused answers ≡ 0 → AreDecided form row_step name base moments front answers mid → StandsAfter form name mid front more stood
+    → count_refused answers ≡ 0 → AreDecided form row_step name base moments front answers mid → IsBaseAfter form name mid front more stood
     → AreDecided form row_step name stood others (front ++ more) told last
     → IsCompleted form name base moments others (front ++ more) answers told last
     ⊎ ((moment : ℕ) × (answer : Answer) × IsBookedNext form name mid front more moment answer stood

@@ -166,8 +166,8 @@ pub record IsBookedNext (form : Fields → Read Command) (name : Text) (mid : Ba
   pub booked : row_step mid moment command (record { batch = name; row = length front + 1 }) ≡ (answer, stood)
 
 -- The base `stood` is the base `mid` after the rows `front`, or the base after one more row.
-abbrev pub StandsAfter : (Fields → Read Command) → Text → Base → List Fields → List Fields → Base → Type 0
-StandsAfter form name mid front more stood = (stood ≡ mid) ⊎ ((moment : ℕ) × (answer : Answer) × IsBookedNext form name mid front more moment answer stood)
+abbrev pub IsBaseAfter : (Fields → Read Command) → Text → Base → List Fields → List Fields → Base → Type 0
+IsBaseAfter form name mid front more stood = (stood ≡ mid) ⊎ ((moment : ℕ) × (answer : Answer) × IsBookedNext form name mid front more moment answer stood)
 
 -- The rows of a batch are decided as by one uninterrupted run. The first rows have `answers`, at
 -- the clock readings `earlier`, and their retry has the answers that `again_of` gives. The other

@@ -12,7 +12,7 @@ ghost use Rattle.brk_model.specs.Batch.{AreDecided, Batch, BatchText, row_step};
 ghost use Rattle.brk_model.specs.Lines.{count_refused};
 ghost use Rattle.brk_model.specs.Computed.{batch, complete_batch};
 ghost use Rattle.brk_model.specs.Run.{Did, Run};
-ghost use Rattle.brk_model_theorems.specs.Laws.{AreKeptAnswers, AreRemembered, IsBookedNext, IsCompleted, LeadsTo, StandsAfter, IsCleanBatch, again_of, answers_left, call_of_row, calls_left, done_answers, done_calls};
+ghost use Rattle.brk_model_theorems.specs.Laws.{AreKeptAnswers, AreRemembered, IsBookedNext, IsCompleted, LeadsTo, IsBaseAfter, IsCleanBatch, again_of, answers_left, call_of_row, calls_left, done_answers, done_calls};
 
 /// Proves that the batch that the function `batch` computes is the result of the input by the rows
 /// and the step of the brokerage, with the first `n` of the clock readings, for some `n`. It needs at
@@ -87,7 +87,7 @@ pub fn a_retried_batch_is_completed()
 pub fn a_stopped_batch_is_completed()
     ensures { (form : Fields → Read Command) (name : List ℕ) (base mid stood last : Base) (moments others : List ℕ) (front more : List Fields)
         (answers told : List Answer) → count_refused answers ≡ 0 → AreDecided form row_step name base moments front answers mid
-        → StandsAfter form name mid front more stood → AreDecided form row_step name stood others (front ++ more) told last
+        → IsBaseAfter form name mid front more stood → AreDecided form row_step name stood others (front ++ more) told last
         → IsCompleted form name base moments others (front ++ more) answers told last
         ⊎ ((moment : ℕ) × (answer : Answer) × IsBookedNext form name mid front more moment answer stood
         × IsCompleted form name base (moments ++ moment ∷ []) others (front ++ more) (answers ++ answer ∷ []) told last) }

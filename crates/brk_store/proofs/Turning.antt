@@ -16,7 +16,7 @@ use Rattle.brk_changes.specs.Rows.{holding_row_of}
 use Rattle.brk_changes.specs.declared.holding_row.HoldingRow as row
 use Rattle.brk_tables_trading.specs.Pages.{on_page, page_size}
 use Rattle.brk_book_theorems.specs.TradeReads.{row_lot}
-use Rattle.brk_store.specs.Pages.{left_of, further, rows_from}
+use Rattle.brk_store.specs.Pages.{left_of, rows_unread, rows_from}
 
 pub page_turned : (rows : List HoldingRow) (read : ℕ) (page : List row.HoldingRow) → map holding_row_of page ≡ on_page read rows
     → left_of page (nat_lt (length page) page_size) (read + length page) rows ≡ map row_lot (drop read rows)
@@ -28,7 +28,7 @@ page_turned rows read page e = ap (map row_lot) (go (nat_lt (length page) page_s
     size : length page ≡ min 16 (length k)
     size = sym (length-map page holding_row_of) ∙ ap length e ∙ length-take 16 k
 
-    go : (b : Bool) → nat_lt (length page) page_size ≡ b → map holding_row_of page ++ further b (read + length page) rows ≡ k
+    go : (b : Bool) → nat_lt (length page) page_size ≡ b → map holding_row_of page ++ rows_unread b (read + length page) rows ≡ k
     go true h = append-nil (map holding_row_of page) ∙ e ∙ take_all 16 k (omega (arith, ltb-true (length page) 16 h, size))
     go false h =
         let full : length page ≡ 16 = omega (arith, ltb-false (length page) 16 h, size) in

@@ -15,10 +15,10 @@ abbrev pub rows_from : Bool → ℕ → Text → Tables → List HoldingRow
 rows_from lifo account symbol t = from_end lifo (lots_held account symbol t)
 
 -- The rows after the first `read`, or none if all rows were read (`ended`).
-abbrev pub further : Bool → ℕ → List HoldingRow → List HoldingRow
-further ended read rows = if ended then [] else drop read rows
+abbrev pub rows_unread : Bool → ℕ → List HoldingRow → List HoldingRow
+rows_unread ended read rows = if ended then [] else drop read rows
 
 -- The lots that remain: first those of the rows that were read but not returned (`pending`), then
 -- those of the rows that were not read.
 abbrev pub left_of : List row.HoldingRow → Bool → ℕ → List HoldingRow → List Lot
-left_of pending ended read rows = map row_lot (map holding_row_of pending ++ further ended read rows)
+left_of pending ended read rows = map row_lot (map holding_row_of pending ++ rows_unread ended read rows)

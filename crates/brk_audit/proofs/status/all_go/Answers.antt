@@ -3,7 +3,7 @@ use Rattle.std.specs.Prelude.{◌&&◌}
 use Rattle.std.specs.List.{prefix_len}
 use Rattle.std.proofs.lemmas.List.Sums.{prefix_len-le-length}
 use Rattle.brk_changes.specs.Rows.{history_row_of, trade_row_of}
-use Rattle.brk_audit.specs.Statuses.{all_go}
+use Rattle.brk_audit.specs.Statuses.{all_valid}
 use Rattle.brk_audit.proofs.Walks.{go_more}
 use Rattle.brk_audit.proofs.status.all_go.Goals as goal
 
@@ -19,7 +19,7 @@ returns-then-not-goes_way c =
     let s = go_more c.args.trades.now c.loop-trade.trade-index c.trade-item.result c.loop-trade.rest.now c.split_at.result.0.now c.split_at.result.1.now c.leading_rows.result
     c.loop-trade-test.true c.trade-item.is e c.split_at.ensures.front c.split_at.ensures.back in
     let no = sym c.goes_way.ensures ∙ c.if-not-goes_way.true in
-    sym (ap (λ b. b && all_go (map trade_row_of (drop (c.loop-trade.trade-index + 1) c.args.trades.now)) (map history_row_of c.split_at.result.1.now)) no)
+    sym (ap (λ b. b && all_valid (map trade_row_of (drop (c.loop-trade.trade-index + 1) c.args.trades.now)) (map history_row_of c.split_at.result.1.now)) no)
     ∙ sym s ∙ c.loop-trade.invariant
 
 pub loop-trade-preserved : goal.loop-trade-preserved
@@ -28,5 +28,5 @@ loop-trade-preserved c =
     let s = go_more c.args.trades.now c.loop-trade.trade-index c.trade-item.result c.loop-trade.rest.now c.split_at.result.0.now c.split_at.result.1.now c.leading_rows.result
     c.loop-trade-test.true c.trade-item.is e c.split_at.ensures.front c.split_at.ensures.back in
     let yes = sym c.goes_way.ensures ∙ c.if-not-goes_way.false in
-    sym (ap (λ b. b && all_go (map trade_row_of (drop (c.loop-trade.trade-index + 1) c.args.trades.now)) (map history_row_of c.split_at.result.1.now)) yes)
+    sym (ap (λ b. b && all_valid (map trade_row_of (drop (c.loop-trade.trade-index + 1) c.args.trades.now)) (map history_row_of c.split_at.result.1.now)) yes)
     ∙ sym s ∙ c.loop-trade.invariant

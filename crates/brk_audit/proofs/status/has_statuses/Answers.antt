@@ -5,15 +5,15 @@ use Rattle.brk_model.specs.Ways.{movement_stamps}
 use Rattle.brk_model.specs.Tables.{Tables}
 use Rattle.brk_changes.specs.Rows.{history_row_of, move_row_of, trade_row_of}
 use Rattle.brk_changes.specs.Sheets.{tables_in_sheets}
-use Rattle.brk_audit.specs.Statuses.{all_go, moved_stamps_of, completion_stamps_of}
+use Rattle.brk_audit.specs.Statuses.{all_valid, moved_stamps_of, completion_stamps_of}
 use Rattle.brk_audit.proofs.StatusLaw.{status_holds}
 use Rattle.brk_audit.proofs.status.has_statuses.Goals as goal
 
 pub returns-then-not-all_go-clause-told : goal.returns-then-not-all_go-clause-told
 returns-then-not-all_go-clause-told c = λ schema.
     let t : Tables = tables_in_sheets c.args.sheets.now in
-    let go : c.all_go.result ≡ all_go t.trades t.history =
-    c.all_go.ensures ∙ (λ i. all_go (map trade_row_of (c.deref.ensures.value i)) (map history_row_of (c.deref-2.ensures.value i))) in
+    let go : c.all_go.result ≡ all_valid t.trades t.history =
+    c.all_go.ensures ∙ (λ i. all_valid (map trade_row_of (c.deref.ensures.value i)) (map history_row_of (c.deref-2.ensures.value i))) in
     let law = status_holds schema t c.all_go.result (all_distinct (completion_stamps_of t.history ++ movement_stamps t)) c.requires.form go refl in (
       (λ e. absurd (cc)),
       (λ h. sym (and_left c.all_go.result (all_distinct (completion_stamps_of t.history ++ movement_stamps t)) c.if-not-all_go.true) ∙ law.1 h),
@@ -22,8 +22,8 @@ returns-then-not-all_go-clause-told c = λ schema.
 pub returns-clause-told : goal.returns-clause-told
 returns-clause-told c = λ schema.
     let t : Tables = tables_in_sheets c.args.sheets.now in
-    let go : c.all_go.result ≡ all_go t.trades t.history =
-    c.all_go.ensures ∙ (λ i. all_go (map trade_row_of (c.deref.ensures.value i)) (map history_row_of (c.deref-2.ensures.value i))) in
+    let go : c.all_go.result ≡ all_valid t.trades t.history =
+    c.all_go.ensures ∙ (λ i. all_valid (map trade_row_of (c.deref.ensures.value i)) (map history_row_of (c.deref-2.ensures.value i))) in
     let apart : c.in_ok-apart.apart ≡ all_distinct (completion_stamps_of t.history ++ movement_stamps t) =
     c.in_ok-apart.ensures.told ∙ (λ i. all_distinct (completion_stamps_of (map history_row_of (c.deref-3.ensures.value i)) ++ moved_stamps_of (map move_row_of (c.deref-4.ensures.value i)))) in
     let law = status_holds schema t c.all_go.result c.in_ok-apart.apart c.requires.form go apart in (
