@@ -170,6 +170,6 @@ movement_of stamp amount name = record bought_tables {
 unfoldable pub other_balance : Tables
 other_balance = record bought_tables { accounts = record { id = 100; customer = 10; broker = 1; name = codes "Main"; tax_status = Withheld; opening = pos 1000000; balance = pos 897491 } ∷ [] }
 
--- The lot and the summary are missing.
+-- Two conditions fail: the lots and the summaries are missing.
 unfoldable pub two_changes : Tables
 two_changes = record bought_tables { holdings = []; summaries = [] }

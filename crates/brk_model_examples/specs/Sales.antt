@@ -10,7 +10,7 @@ two_deals =
     record { trade = 1; side = Buy; qty = 100; price = 1010; stamp = 1; is_lifo = Bool.false }
     ∷ record { trade = 2; side = Buy; qty = 200; price = 1200; stamp = 2; is_lifo = Bool.false } ∷ []
 
--- A deal against these lots at 13.00.
+-- A deal at 13.00, by a later trade than the two of `two_deals`.
 abbrev pub deal : Side → ℕ → Bool → Deal
 deal side qty is_lifo = record { trade = 9; side = side; qty = qty; price = 1300; stamp = 3; is_lifo = is_lifo }
 
