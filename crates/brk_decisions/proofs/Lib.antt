@@ -1,4 +1,3 @@
-pub mod Counting
 pub mod Looking
 pub mod Deciding
 pub mod References
@@ -10,3 +9,4 @@ pub mod OrderFinds
 pub mod Ordering
 pub mod ResultReading
 pub mod Resulting
+pub mod TradesFound

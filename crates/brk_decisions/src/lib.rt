@@ -19,6 +19,7 @@ mod result_finding;
 mod summary_finding;
 mod terms;
 mod tested;
+mod trades_finding;
 
 pub use amounts::sum_worth;
 pub use cancel::decide_cancel;
@@ -29,3 +30,4 @@ pub use one_day::decide_oneday;
 pub use order::decide_order;
 pub use reference::decide_reference;
 pub use result::decide_result;
+pub use trades_finding::find_trades;

@@ -13,8 +13,9 @@ ghost use Rattle.brk_store.specs.Holds.{ReadPost};
 
 use brk_money::{Fault, Id, Price, Qty, Rate, TradeType};
 use brk_orders::Order;
-use brk_ref::{ChargeAmount, Customer, Exchange, Executor, Symbol, Tier, band_for, permitted};
+use brk_ref::{ChargeAmount, Customer, Exchange, Executor, Symbol, Tier, band_for};
 use brk_store::Store;
+use brk_trade::permitted;
 use sqlite::Alter;
 use std::alloc::Global;
 

@@ -14,7 +14,7 @@ use Rattle.brk_view.specs.declared.view.View.{View}
 use Rattle.brk_sql.proofs.Inside.{clean_before}
 use Rattle.brk_store.specs.Audited.{Represents}
 use Rattle.brk_store.specs.Holds.{Holds, ReadPost}
-use Rattle.brk_desk.specs.Shows.{Shows}
+use Rattle.brk_queries.specs.Shows.{Shows}
 use Rattle.brk_desk.specs.Keeping.{AskPost}
 use Rattle.brk_commit.proofs.Seen.{still_kept}
 

@@ -24,7 +24,7 @@ use Rattle.brk_audit_theorems.specs.Passing.{Passes}
 use Rattle.brk_invariant_theorems.specs.Runs.{IsCallInForm}
 use Rattle.brk_store.specs.Audited.{AuditPost, OnAnswer, Represents}
 use Rattle.brk_store.specs.Holds.{AreTreesOf, Holds, IsSame, OnlyCrashState}
-use Rattle.brk_desk.specs.Shows.{seen_of}
+use Rattle.brk_queries.specs.Shows.{seen_of}
 use Rattle.brk_view.specs.Carried.{CarriesRows}
 use Rattle.brk_view.specs.Queries.{query_of}
 use Rattle.brk_view.specs.declared.view.View.{View}

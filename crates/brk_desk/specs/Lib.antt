@@ -1,12 +1,6 @@
-pub mod Shows
 pub mod Commands
 pub mod Answers
 pub mod Keeping
 pub mod Stops
-pub mod Heads
-pub mod Parties
-pub mod LookedUp
-pub mod Touched
-pub mod Volumes
 pub mod Reopening
 pub mod Runs

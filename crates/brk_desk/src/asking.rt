@@ -2,6 +2,7 @@ ghost use Rattle.brk_desk.specs.Keeping.{AskPost};
 ghost use Rattle.brk_view.specs.Queries.{query_of};
 
 use brk_money::Planned;
+use brk_queries::view_of_query;
 use brk_store::Store;
 use brk_view::{Query, View};
 use sqlite::Alter;
@@ -15,5 +16,5 @@ pub(crate) fn answer_query<S: Alter>(
 ) -> Planned<View>
     ensures asked { AskPost S.Store store.old store.new (query_of query.now) result }
 {
-    crate::looking::view_of_query(alloc, store, query)
+    view_of_query(alloc, store, query)
 }

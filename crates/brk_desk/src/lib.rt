@@ -2,26 +2,17 @@
 //! them.
 #![tactic(auto)]
 
-mod accounts;
 mod asking;
 pub mod beginning;
 pub mod call;
 pub mod desk;
-pub mod head;
 pub mod in_order;
-pub mod looking;
-mod lookups;
-mod lots;
-mod orders;
-mod parties;
-mod recents;
 pub mod reopening;
-mod statuses;
-mod volumes;
 
 pub use brk_commands::{Command, line_text, parse_row, row_text};
 pub use brk_commit::Answer;
 pub use brk_money::{Fault, Planned, Refusal, Stamp};
+pub use brk_queries::Head;
 pub use brk_ref::Key;
 pub use brk_store;
 pub use brk_store::{Visitor, WalkError};
@@ -29,4 +20,3 @@ pub use brk_view::{Query, View, parse_query};
 pub use brk_view_text::view_fields;
 pub use call::{Call, Outcome};
 pub use desk::Desk;
-pub use head::Head;

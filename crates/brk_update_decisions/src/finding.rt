@@ -1,44 +1,22 @@
 //! Reads of the facts that decide on a text update.
 
 ghost use Rattle.std.specs.Prelude.{◌≡◌, IfErr, MatchOption, is_none, is_some, true};
-ghost use Rattle.std.specs.List.{list_any};
 ghost use Rattle.brk_changes.specs.Chosen as chosen;
-ghost use Rattle.brk_model.specs.Joins.{account_in, security_in, trade_in};
+ghost use Rattle.brk_model.specs.Joins.{account_in, security_in};
 ghost use Rattle.brk_model.specs.Run.{MayFail};
 ghost use Rattle.brk_store.specs.Holds.{ReadPost};
-ghost use Rattle.brk_update_theorems.specs.Corrections.{ArePaid, AreSettlementTexts, AreTradesOf, IsFoundForUpdate, IsNamed};
+ghost use Rattle.brk_update_theorems.specs.Corrections.{ArePaid, AreSettlementTexts, IsFoundForUpdate, IsNamed};
 ghost use Rattle.brk_orders.specs.declared.update.Update.TheVariants as update;
 
 use crate::known::{known_cash_name, known_cash_type};
+use brk_decisions::find_trades;
 use brk_money::{Fault, Id};
 use brk_orders::{Span, TradeIds};
 use brk_ref::{Name, Symbol};
 use brk_store::Store;
-use brk_trade::{CashText, SettlementText, TextUpdate, TradeRow};
+use brk_trade::{CashText, SettlementText, TextUpdate};
 use sqlite::Alter;
 use std::alloc::Global;
-
-/// Returns the trades with these ids, in the order of the ids, or `None` if one of them does not
-/// exist. Fails with `Memory` or `Store` only.
-pub fn find_trades<S: Alter>(
-    alloc: Global,
-    store: &mut Store<S>,
-    ids: &[Id],
-) -> Result<Option<Vec<TradeRow>>, Fault>
-    ensures read { ReadPost S.Store store.old store.new result (λ found t.
-        MatchOption found (list_any (λ id. is_none (trade_in t id)) ids.now ≡ true) (λ trades. AreTradesOf t ids.now trades.items)) }
-    ensures fault { IfErr result MayFail }
-{
-    let _last = store.last()?;
-    let mut trades = Vec::new(alloc);
-    for id in ids {
-        match store.trade(*id)? {
-            Some(trade) => trades.push(trade)?,
-            None => return Ok(None),
-        }
-    }
-    Ok(Some(trades))
-}
 
 // Returns the selected trades of an account, each with the cash type of its settlement.
 fn find_settled<S: Alter>(

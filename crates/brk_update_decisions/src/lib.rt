@@ -3,8 +3,7 @@
 #![tactic(auto)]
 
 pub mod correcting;
-pub mod finding;
+mod finding;
 mod known;
 
 pub use correcting::decide_update;
-pub use finding::find_trades;

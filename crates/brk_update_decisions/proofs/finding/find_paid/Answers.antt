@@ -11,7 +11,7 @@ use Rattle.brk_plans.specs.declared.corrected.CashText.{CashText}
 use Rattle.brk_decisions.proofs.Looking.{read_both}
 use Rattle.brk_store.proofs.Retelling.{retold}
 use Rattle.brk_update_theorems.specs.Corrections.{ArePaid, paid_in, paid_row, cash_row_of_trade}
-use Rattle.brk_update_decisions.proofs.Found.{one_more, twice}
+use Rattle.brk_decisions.proofs.TradesFound.{one_more, twice}
 use Rattle.brk_update_decisions.proofs.finding.find_paid.Goals as goal
 
 -- what was read is of the first of the trades that are chosen

@@ -9,7 +9,7 @@ use Rattle.brk_plans.specs.declared.corrected.SettlementText.{SettlementText}
 use Rattle.brk_decisions.proofs.Looking.{read_both}
 use Rattle.brk_store.proofs.Retelling.{retold}
 use Rattle.brk_update_theorems.specs.Corrections.{AreSettlementTexts, settled_in, settled_row, settlement_in}
-use Rattle.brk_update_decisions.proofs.Found.{one_more, twice}
+use Rattle.brk_decisions.proofs.TradesFound.{one_more, twice}
 use Rattle.brk_update_decisions.proofs.finding.find_settled.Goals as goal
 
 -- what was read is of the first of the trades that are chosen

@@ -1,0 +1,36 @@
+//! Reads of trades by their ids.
+
+ghost use Rattle.std.specs.Prelude.{◌≡◌, IfErr, MatchOption, is_none, true};
+ghost use Rattle.std.specs.List.{list_any};
+ghost use Rattle.brk_model.specs.Joins.{trade_in};
+ghost use Rattle.brk_model.specs.Run.{MayFail};
+ghost use Rattle.brk_store.specs.Holds.{ReadPost};
+ghost use Rattle.brk_update_theorems.specs.Corrections.{AreTradesOf};
+
+use brk_money::{Fault, Id};
+use brk_store::Store;
+use brk_trade::TradeRow;
+use sqlite::Alter;
+use std::alloc::Global;
+
+/// Returns the trades with these ids, in the order of the ids, or `None` if one of them does not
+/// exist. Fails with `Memory` or `Store` only.
+pub fn find_trades<S: Alter>(
+    alloc: Global,
+    store: &mut Store<S>,
+    ids: &[Id],
+) -> Result<Option<Vec<TradeRow>>, Fault>
+    ensures read { ReadPost S.Store store.old store.new result (λ found t.
+        MatchOption found (list_any (λ id. is_none (trade_in t id)) ids.now ≡ true) (λ trades. AreTradesOf t ids.now trades.items)) }
+    ensures fault { IfErr result MayFail }
+{
+    let _last = store.last()?;
+    let mut trades = Vec::new(alloc);
+    for id in ids {
+        match store.trade(*id)? {
+            Some(trade) => trades.push(trade)?,
+            None => return Ok(None),
+        }
+    }
+    Ok(Some(trades))
+}

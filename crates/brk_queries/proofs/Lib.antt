@@ -1,0 +1,9 @@
+pub mod Tested
+pub mod Each
+pub mod OrderViews
+pub mod AccountViews
+pub mod RecentViews
+pub mod StatusViews
+pub mod LookupViews
+pub mod LotViews
+pub mod VolumeViews

@@ -1,0 +1,17 @@
+//! The answers to queries, read from a store: each view as typed rows, or a refusal. Also the head of
+//! an account's statement.
+#![tactic(auto)]
+
+mod accounts;
+pub mod head;
+pub mod looking;
+mod lookups;
+mod lots;
+mod orders;
+mod parties;
+mod recents;
+mod statuses;
+mod volumes;
+
+pub use head::{Head, find_head};
+pub use looking::view_of_query;

@@ -1,0 +1,41 @@
+//! The views of submitted trades and of an order's estimate.
+
+ghost use Rattle.std.specs.Prelude.{IfErr};
+ghost use Rattle.brk_queries.specs.Shows.{Shows};
+ghost use Rattle.brk_model.specs.Queries.{EstimateOf, SubmittedTrades};
+ghost use Rattle.brk_model.specs.Run.{MayFail};
+ghost use Rattle.brk_orders.specs.Records.{order_of};
+ghost use Rattle.brk_store.specs.Holds.{ReadPost};
+
+use brk_decisions::decide_estimate;
+use brk_money::Planned;
+use brk_orders::Order;
+use brk_store::Store;
+use brk_view::{View, submitted};
+use sqlite::Alter;
+use std::alloc::Global;
+
+// Returns the view of the submitted trades.
+pub(crate) fn see_submitted<S: Alter>(alloc: Global, store: &mut Store<S>) -> Planned<View>
+    ensures read { ReadPost S.Store store.old store.new result (Shows SubmittedTrades) }
+    ensures fault { IfErr result MayFail }
+{
+    let rows = store.submitted_trades(alloc)?;
+    let view = submitted(alloc, &rows)?;
+    Ok(Ok(view))
+}
+
+// Returns the view of an order's estimate, or the refusal.
+pub(crate) fn see_estimate<S: Alter>(
+    alloc: Global,
+    store: &mut Store<S>,
+    order: &Order,
+) -> Planned<View>
+    ensures read { ReadPost S.Store store.old store.new result (Shows (EstimateOf (order_of order.now))) }
+    ensures fault { IfErr result MayFail }
+{
+    match decide_estimate(alloc, store, order)? {
+        Ok(estimate) => Ok(Ok(View::Estimate(estimate))),
+        Err(refusal) => Ok(Err(refusal)),
+    }
+}

@@ -1,0 +1,148 @@
+//! The view of the brokers' volumes in a sector.
+
+ghost use Rattle.std.specs.Prelude.{◌≡◌, ◌++◌, ◌∷◌, [], IfErr, bytes_eq, filter, flat_map, map};
+ghost use Rattle.brk_changes.specs.Rows.{request_row_of};
+ghost use Rattle.brk_queries.specs.Shows.{Shows};
+ghost use Rattle.brk_queries.specs.Volumes.{is_in, named_in, volumes_in, with_request};
+ghost use Rattle.brk_model.specs.Queries.{VolumeOf};
+ghost use Rattle.brk_model.specs.Run.{MayFail};
+ghost use Rattle.brk_model.specs.VolumeView.{requests_in};
+ghost use Rattle.brk_ref.specs.Records.{broker_row_of};
+ghost use Rattle.brk_store.specs.Holds.{ReadPost};
+ghost use Rattle.brk_view.specs.Volume as volume;
+
+use brk_changes::RequestRow;
+use brk_money::{Fault, Id, Planned};
+use brk_ref::{BrokerRow, Name, Symbol};
+use brk_store::Store;
+use brk_view::{BrokerNames, BrokerVolume, View, broker_volume, request_volume};
+use sqlite::Alter;
+use std::alloc::Global;
+
+// Returns true if the security of a symbol exists and is in a sector.
+fn is_in_sector<S: Alter>(
+    store: &mut Store<S>,
+    symbol: &Symbol,
+    sector: &Name,
+) -> Result<bool, Fault>
+    ensures read { ReadPost S.Store store.old store.new result (λ is t. is ≡ is_in t sector.now symbol.now) }
+    ensures fault { IfErr result MayFail }
+{
+    match store.security(symbol)? {
+        Some(security) => Ok(security.sector.as_str() == sector.as_str()),
+        None => Ok(false),
+    }
+}
+
+// Appends a request to others if its security is in a sector.
+fn keep_in_sector<S: Alter>(
+    store: &mut Store<S>,
+    sector: &Name,
+    row: RequestRow,
+    found: &mut Vec<RequestRow>,
+) -> Result<(), Fault>
+    ensures read { ReadPost S.Store store.old store.new result (λ _ t. found.new.items ≡ with_request t sector.now row found.old.items) }
+    ensures fault { IfErr result MayFail }
+{
+    if !is_in_sector(store, &row.symbol, sector)? {
+        return Ok(());
+    }
+    found.push(row)?;
+    Ok(())
+}
+
+// Returns the requests of a broker in a sector, sorted by trade, ascending.
+fn requests_of<S: Alter>(
+    alloc: Global,
+    store: &mut Store<S>,
+    sector: &Name,
+    broker: Id,
+) -> Result<Vec<RequestRow>, Fault>
+    ensures read { ReadPost S.Store store.old store.new result (λ found t. map request_row_of found.items ≡ requests_in t sector.now broker) }
+    ensures fault { IfErr result MayFail }
+{
+    let mut rest = store.requests_of_broker(alloc, broker)?;
+    let mut found = Vec::new(alloc);
+    while let Some(row) = rest.pop() {
+        keep_in_sector(store, sector, row, &mut found)?;
+    }
+    found.reverse();
+    Ok(found)
+}
+
+// Appends the volume of a broker in a sector, if the broker has a request in it.
+fn add_volume<S: Alter>(
+    alloc: Global,
+    store: &mut Store<S>,
+    sector: &Name,
+    row: &BrokerRow,
+    found: &mut Vec<BrokerVolume>,
+) -> Result<(), Fault>
+    ensures read { ReadPost S.Store store.old store.new result (λ _ t. found.new.items ≡ found.old.items ++ volumes_in t sector.now (broker_row_of row.now ∷ [])) }
+    ensures fault { IfErr result MayFail }
+{
+    let requests = requests_of(alloc, store, sector, row.broker.id)?;
+    if requests.is_empty() {
+        return Ok(());
+    }
+    let name = row.broker.name.clone()?;
+    let volume = request_volume(&requests);
+    found.push(BrokerVolume {
+        broker: row.broker.id,
+        name,
+        volume,
+    })?;
+    Ok(())
+}
+
+// Appends the volumes in a sector of the brokers with a name.
+fn add_named<S: Alter>(
+    alloc: Global,
+    store: &mut Store<S>,
+    sector: &Name,
+    name: &Name,
+    found: &mut Vec<BrokerVolume>,
+) -> Result<(), Fault>
+    ensures read { ReadPost S.Store store.old store.new result (λ _ t. found.new.items ≡ found.old.items ++ volumes_in t sector.now (filter (λ b. bytes_eq b.name name.now) t.brokers)) }
+    ensures fault { IfErr result MayFail }
+{
+    let rows = store.brokers_named(alloc, name)?;
+    for row in &rows {
+        add_volume(alloc, store, sector, row, found)?;
+    }
+    Ok(())
+}
+
+// Returns the volumes in a sector of the brokers with these names, name by name.
+fn volumes_of<S: Alter>(
+    alloc: Global,
+    store: &mut Store<S>,
+    sector: &Name,
+    names: &[Name],
+) -> Result<Vec<BrokerVolume>, Fault>
+    ensures read { ReadPost S.Store store.old store.new result (λ found t. found.items ≡ map (volume.broker_volume t sector.now) (flat_map (named_in t sector.now) names.now)) }
+    ensures fault { IfErr result MayFail }
+{
+    let _last = store.last()?;
+    let mut found = Vec::new(alloc);
+    for name in names {
+        add_named(alloc, store, sector, name, &mut found)?;
+    }
+    Ok(found)
+}
+
+// Returns the view of the volumes in a sector of the brokers with these names.
+pub(crate) fn see_volume<S: Alter>(
+    alloc: Global,
+    store: &mut Store<S>,
+    sector: &Name,
+    names: &BrokerNames,
+) -> Planned<View>
+    ensures read { ReadPost S.Store store.old store.new result (Shows (VolumeOf sector.now names.now)) }
+    ensures fault { IfErr result MayFail }
+{
+    let names = names.names();
+    let found = volumes_of(alloc, store, sector, names)?;
+    let view = broker_volume(alloc, found)?;
+    Ok(Ok(view))
+}
