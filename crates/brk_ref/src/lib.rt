@@ -50,7 +50,7 @@ pub use numbers::{
     parse_charge_amount, parse_id, parse_moved_amount, parse_opening, parse_price, parse_qty,
     parse_rate, parse_tax_rate, parse_tax_status,
 };
-pub use permission::{Permission, check_permission, permitted};
+pub use permission::{Permission, check_permission};
 pub use row_number::RowNumber;
 pub use security::Security;
 pub use symbol::Symbol;

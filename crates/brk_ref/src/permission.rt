@@ -1,13 +1,10 @@
-ghost use Rattle.std.specs.Prelude.{◌≡◌, ◌∷◌, [], IfOk, OnErr, Err, map};
-ghost use Rattle.brk_model.specs.Orders as orders;
+ghost use Rattle.std.specs.Prelude.{◌≡◌, ◌∷◌, [], IfOk, OnErr, Err};
 ghost use Rattle.brk_model.specs.Parse.{read_permission};
 ghost use Rattle.brk_money.specs.declared.fault.Fault.TheVariants.{Memory};
-ghost use Rattle.brk_ref.specs.Records.{customer_of, executor_of, permission_of};
+ghost use Rattle.brk_ref.specs.Records.{permission_of};
 ghost use Rattle.brk_ref.specs.Fields.{ParsesAs, texts};
 
 use crate::acl::Acl;
-use crate::customer::Customer;
-use crate::executor::Executor;
 use crate::name::Name;
 use crate::numbers::parse_id;
 use crate::tax_id::TaxId;
@@ -71,40 +68,4 @@ pub fn check_permission(alloc: Global, fields: &[&[u8]]) -> Planned<Permission>
         return Ok(Err(Refusal::BadText));
     };
     permission_from(alloc, account, acl, tax_id, last_name, first_name)
-}
-
-// Returns true if the executor has this first name, last name and tax id.
-fn is_person(executor: &Executor, first_name: &Name, last_name: &Name, tax_id: &TaxId) -> bool
-    ensures { result ≡ orders.is_person (executor_of executor.now) first_name.now last_name.now tax_id.now }
-{
-    executor.first_name.as_str() == first_name.as_str()
-        && executor.last_name.as_str() == last_name.as_str()
-        && executor.tax_id.as_str() == tax_id.as_str()
-}
-
-// Returns true if the permission has the executor's first name, last name and tax id.
-fn names(permission: &Permission, executor: &Executor) -> bool
-    ensures { result ≡ orders.is_person (executor_of executor.now) permission.now.first_name permission.now.last_name permission.now.tax_id }
-{
-    is_person(
-        executor,
-        &permission.first_name,
-        &permission.last_name,
-        &permission.tax_id,
-    )
-}
-
-/// Returns true if the executor may place orders for an account (Trade-Order). First name, last
-/// name and tax id must be those of `customer` or of one of `permissions`.
-pub fn permitted(customer: &Customer, permissions: &[Permission], executor: &Executor) -> bool
-    ensures { result ≡ orders.permitted (customer_of customer.now) (map permission_of permissions.now) (executor_of executor.now) }
-{
-    is_person(
-        executor,
-        &customer.first_name,
-        &customer.last_name,
-        &customer.tax_id,
-    ) || permissions
-        .iter()
-        .any(|permission| names(permission, executor))
 }

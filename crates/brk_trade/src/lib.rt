@@ -7,6 +7,7 @@ mod completion;
 pub mod estimate;
 pub mod order;
 pub mod outcome;
+mod permitting;
 pub mod result;
 pub mod result_found;
 mod settling;
@@ -23,5 +24,6 @@ pub use brk_plans::{
 pub use estimate::{Terms, estimate_order, tax_on};
 pub use order::{OrderAccount, OrderFound, plan_estimate, plan_order};
 pub use outcome::ResultNumbers;
+pub use permitting::permitted;
 pub use result::plan_result;
 pub use result_found::{ResultAccount, ResultFound};

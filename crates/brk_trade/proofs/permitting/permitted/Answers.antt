@@ -4,7 +4,7 @@ use Rattle.std.proofs.lemmas.Iterator.Search.{any_from_yields_List}
 use Rattle.brk_model.specs.Orders.{is_person}
 use Rattle.brk_ref.specs.Records.{executor_of, permission_of}
 use Rattle.brk_ref.proofs.Lists.{any_mapped, or_rest}
-use Rattle.brk_ref.proofs.permission.permitted.Goals as goal
+use Rattle.brk_trade.proofs.permitting.permitted.Goals as goal
 
 pub returns-else-is_person : goal.returns-else-is_person
 returns-else-is_person c =
