@@ -30,6 +30,11 @@ pub enum Job {
         view: String,
         arguments: Vec<String>,
     },
+    /// The explanation that the words ask for, of the file at `db`.
+    Explain {
+        db: String,
+        words: Vec<String>,
+    },
     /// The given number of streams, in sequence, at a port of this machine, with `db` and `at` as
     /// for a batch.
     Serve {

@@ -31,3 +31,7 @@ Write -- before an argument that begins with a hyphen.
 
 Example:
   brk ask --db desk.db --heads customer 10";
+
+/// Ends the help of `brk explain`.
+pub const EXPLAIN: &str = "Example:
+  brk explain --db desk.db trade 3";

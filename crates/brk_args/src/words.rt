@@ -5,8 +5,9 @@ use clap::error::ErrorKind;
 use clap::{Arg, ArgAction, ArgMatches, Command, Error, value_parser};
 use std::alloc::{AllocError, Global};
 
-// The version of the program, and the schema of the files that it writes.
-const VERSION: &str = "0.1.0 (schema 3)";
+// The version of the program, the schema of the files that it writes, and the kit that proves it:
+// what follows `rattle-kit-` in the output of `rt version`.
+const VERSION: &str = "0.1.0 (schema 3, kit 13f)";
 
 // Returns the argument of a file that is created if it is missing or empty.
 fn made_file<'a>(alloc: Global) -> Arg<'a> {
@@ -51,19 +52,22 @@ fn batch<'a>(alloc: Global) -> Result<Command<'a>, AllocError> {
         .arg(moment(alloc))
 }
 
-// Returns the arguments of `brk statement`.
-fn statement<'a>(alloc: Global) -> Result<Command<'a>, AllocError> {
-    let account = Arg::new(alloc, "account")
+fn account<'a>(alloc: Global) -> Arg<'a> {
+    Arg::new(alloc, "account")
         .long("account")
         .value_name("ID")
         .value_parser(value_parser!(u64).range(1..=Id::GREATEST as i64))
         .help("The account")
-        .required(true);
+        .required(true)
+}
+
+// Returns the arguments of `brk statement`.
+fn statement<'a>(alloc: Global) -> Result<Command<'a>, AllocError> {
     Command::new(alloc, "statement")
         .about("Prints the statement of an account: its cash, day by day, and its lots")
         .after_help(notes::STATEMENT)
         .arg(kept_file(alloc))?
-        .arg(account)?
+        .arg(account(alloc))?
         .arg(day(alloc, "from", "The first day, as 2024-03-01"))?
         .arg(day(alloc, "to", "The last day"))
 }
@@ -84,16 +88,22 @@ fn flag<'a>(alloc: Global, name: &'static str, help: &'static str) -> Arg<'a> {
         .help(help)
 }
 
-// Returns the arguments of `brk ask`.
-fn ask<'a>(alloc: Global) -> Result<Command<'a>, AllocError> {
-    let view = Arg::new(alloc, "view")
+fn view<'a>(alloc: Global) -> Arg<'a> {
+    Arg::new(alloc, "view")
         .value_name("VIEW")
         .help("The name of the view")
-        .required(true);
-    let arguments = Arg::new(alloc, "arguments")
+        .required(true)
+}
+
+fn arguments<'a>(alloc: Global) -> Arg<'a> {
+    Arg::new(alloc, "arguments")
         .value_name("ARGUMENT")
         .num_args(0..)
-        .help("The arguments of the view");
+        .help("The arguments of the view")
+}
+
+// Returns the arguments of `brk ask`.
+fn ask<'a>(alloc: Global) -> Result<Command<'a>, AllocError> {
     Command::new(alloc, "ask")
         .about("Prints a view of a desk: a CSV row for each record")
         .after_help(notes::ASK)
@@ -104,51 +114,79 @@ fn ask<'a>(alloc: Global) -> Result<Command<'a>, AllocError> {
             "heads",
             "Prints the names of the fields first, where all records have the same",
         ))?
-        .arg(view)?
-        .arg(arguments)
+        .arg(view(alloc))?
+        .arg(arguments(alloc))
 }
 
-// Returns the arguments of `brk serve`.
-fn serve<'a>(alloc: Global) -> Result<Command<'a>, AllocError> {
-    let port = Arg::new(alloc, "port")
+// Returns the arguments of `brk explain`.
+fn explain<'a>(alloc: Global) -> Result<Command<'a>, AllocError> {
+    let words = Arg::new(alloc, "words")
+        .value_name("WORD")
+        .num_args(0..)
+        .help("What is explained: trade ID, or account ID");
+    Command::new(alloc, "explain")
+        .about("Prints how the amounts of a trade or of an account come about")
+        .after_help(notes::EXPLAIN)
+        .arg(kept_file(alloc))?
+        .arg(words)
+}
+
+fn port<'a>(alloc: Global) -> Arg<'a> {
+    Arg::new(alloc, "port")
         .long("port")
         .value_name("P")
         .value_parser(value_parser!(u16).range(1..=65_535))
         .help("The port of 127.0.0.1")
-        .required(true);
-    let streams = Arg::new(alloc, "streams")
+        .required(true)
+}
+
+fn streams<'a>(alloc: Global) -> Arg<'a> {
+    Arg::new(alloc, "streams")
         .long("streams")
         .value_name("N")
         .value_parser(value_parser!(u32).range(1..=1_000_000))
         .default_value("1")
-        .help("The number of streams that are served before the program ends");
+        .help("The number of streams that are served before the program ends")
+}
+
+// Returns the arguments of `brk serve`.
+fn serve<'a>(alloc: Global) -> Result<Command<'a>, AllocError> {
     Command::new(alloc, "serve")
         .about("Serves the desk over HTTP, one stream after the other")
         .after_help(notes::SERVE)
-        .arg(port)?
+        .arg(port(alloc))?
         .arg(made_file(alloc))?
         .arg(moment(alloc))?
-        .arg(streams)
+        .arg(streams(alloc))
 }
 
-// Returns the arguments of `brk`.
-fn grammar<'a>(alloc: Global) -> Result<Command<'a>, AllocError> {
-    let batch = batch(alloc)?;
-    let statement = statement(alloc)?;
-    let ask = ask(alloc)?;
-    let audit = audit(alloc)?;
-    let serve = serve(alloc)?;
+// Adds a command to those of another. As a function of its own: one that holds several commands at
+// each place where it may return is proved in more than a minute.
+fn with<'a>(
+    command: Result<Command<'a>, AllocError>,
+    added: Result<Command<'a>, AllocError>,
+) -> Result<Command<'a>, AllocError> {
+    command?.subcommand(added?)
+}
+
+// Returns the command `brk` without the commands that it has.
+fn program<'a>(alloc: Global) -> Result<Command<'a>, AllocError> {
     Command::new(alloc, "brk")
-        .bin_name("brk")?
         .version(VERSION)
         .about("A brokerage back office")
         .subcommand_required(true)
         .arg_required_else_help(true)
-        .subcommand(batch)?
-        .subcommand(statement)?
-        .subcommand(ask)?
-        .subcommand(audit)?
-        .subcommand(serve)
+        .bin_name("brk")
+}
+
+// Returns the arguments of `brk`.
+fn grammar<'a>(alloc: Global) -> Result<Command<'a>, AllocError> {
+    let command = with(program(alloc), batch(alloc));
+    let command = with(command, statement(alloc));
+    let command = with(command, ask(alloc));
+    let command = with(command, explain(alloc));
+    let command = with(command, audit(alloc));
+    with(command, serve(alloc))
 }
 
 // Returns the text that was given for `name`, or an empty text.
@@ -216,6 +254,13 @@ fn ask_of(alloc: Global, matches: &ArgMatches<'_>) -> Result<Job, UsageFault> {
     })
 }
 
+fn explain_of(alloc: Global, matches: &ArgMatches<'_>) -> Result<Job, UsageFault> {
+    Ok(Job::Explain {
+        db: text_of(alloc, matches, "db")?,
+        words: texts_of(alloc, matches, "words")?,
+    })
+}
+
 // Returns the job that the matched arguments give.
 fn job_of(alloc: Global, name: &str, matches: &ArgMatches<'_>) -> Result<Job, UsageFault> {
     if name == "statement" {
@@ -226,6 +271,9 @@ fn job_of(alloc: Global, name: &str, matches: &ArgMatches<'_>) -> Result<Job, Us
     }
     if name == "ask" {
         return ask_of(alloc, matches);
+    }
+    if name == "explain" {
+        return explain_of(alloc, matches);
     }
     if name == "audit" {
         let db = text_of(alloc, matches, "db")?;

@@ -1,16 +1,9 @@
 //! The program `brk`: a brokerage desk at the command line.
 #![tactic(auto)]
 
-mod ask;
-mod audit;
-mod batch;
-mod moment;
-mod serve;
-mod statement;
-
-use brk_args::{Job, UsageFault, no_text, read_words};
-use brk_ask::Form;
+use brk_args::{UsageFault, no_text};
 use brk_exit::{Ending, end_with};
+use brk_jobs::run;
 use std::alloc::AllocError;
 use std::env;
 use std::io::ErrorKind;
@@ -30,57 +23,16 @@ fn given_words(rt: &HostRuntime) -> Result<Vec<String>, UsageFault> {
     }
 }
 
-// Executes the job of the command-line arguments.
-fn run(rt: &HostRuntime) -> Ending {
-    match given_words(rt).and_then(read_words) {
-        Ok(Job::Batch { db, at }) => batch::run(rt, db, at),
-        Ok(
-            Job::Statement {
-                db,
-                account,
-                from,
-                to,
-            },
-        ) => statement::run(rt, db.as_str(), account, from, to),
-        Ok(
-            Job::Ask {
-                db,
-                json,
-                heads,
-                view,
-                arguments,
-            },
-        ) => ask::run(
-            rt,
-            db.as_str(),
-            view.as_str(),
-            &arguments,
-            Form { json, heads },
-        ),
-        Ok(Job::Audit { db }) => audit::run(rt, db.as_str()),
-        Ok(
-            Job::Serve {
-                port,
-                db,
-                at,
-                streams,
-            },
-        ) => serve::run(rt, port, db, at, streams),
-        Err(UsageFault::Help(text)) => show(rt, text),
+// Executes the job of the command-line arguments, from standard input to standard output.
+fn executed(rt: &HostRuntime) -> Ending {
+    match given_words(rt) {
+        Ok(words) => run(rt, words, rt.reader(), &mut rt.stdout()),
         Err(fault) => Ending::Usage(fault),
     }
 }
 
-// Prints the help that was requested.
-fn show(rt: &HostRuntime, text: String) -> Ending {
-    match rt.print(text.as_str()) {
-        Ok(()) => Ending::Usage(UsageFault::Help(text)),
-        Err(_) => Ending::Output,
-    }
-}
-
 fn main(rt: HostRuntime) -> ExitCode {
-    let ending = run(&rt);
+    let ending = executed(&rt);
     let mut errors = rt.stderr();
     ExitCode::from(end_with(&ending, &mut errors))
 }

@@ -1,8 +1,12 @@
 //! A desk's database in a file.
 
-ghost use Rattle.std.specs.Prelude.{◌≡◌, IfErr, IfOk, false};
+ghost use Rattle.std.specs.Prelude.{◌≡◌, Err, IfOk, MatchResult, Ok, OnErr, OnOk};
+ghost use Rattle.brk_money.specs.declared.fault.Fault.TheVariants as fault;
 ghost use Rattle.sqlite.specs.Files.{over_files};
+ghost use Rattle.brk_store.specs.Audited.{AdoptPost};
+ghost use Rattle.brk_files.specs.Files.{IsClosedFile, IsOpenedFile};
 ghost use Rattle.brk_files.specs.Opened.{RepresentsRows};
+ghost use Rattle.brk_files.specs.Opening.{IsAdoption, OpenOrMakePost, OpenPost};
 
 use brk_money::{Condition, Fault};
 use brk_store::Store;
@@ -14,21 +18,31 @@ use std::io::ErrorKind;
 /// A desk's database in a file, which its connection locks for this program alone.
 pub type FileDesk = Store<FileStore<File>>;
 
-/// Closes a desk's file. Until then a part of what was committed may be in the log beside the file.
-/// Fails with `Store` only. No contract specifies the file that is left.
-pub fn close(store: FileDesk) -> Result<(), Fault> {
-    shut(store.into_conn())
-}
-
-fn shut(conn: Connection<FileStore<File>>) -> Result<(), Fault> {
-    match conn.close() {
-        Ok(()) => Ok(()),
-        Err(_) => Err(Fault::Store),
+fn shut(conn: Connection<FileStore<File>>) -> Result<(), Fault>
+    ensures closed { OnOk result (IsClosedFile conn) }
+    ensures fault { OnErr result (result ≡ Err fault.Store) }
+{
+    match conn.close_files() {
+        Ok(_) => Ok(()),
+        Err((_, store)) => {
+            drop(store.close());
+            Err(Fault::Store)
+        }
     }
 }
 
+/// Closes a desk's file. At `Ok` the last commit is in the database file, also without its log;
+/// until then a part of what was committed may be in the log beside it. Fails with `Store` only.
+pub fn close(store: FileDesk) -> Result<(), Fault>
+    ensures closed { OnOk result (IsClosedFile store) }
+    ensures fault { OnErr result (result ≡ Err fault.Store) }
+{
+    shut(store.into_conn())
+}
+
 fn connect(rt: &HostRuntime, path: &str) -> Result<Connection<FileStore<File>>, Fault>
-    ensures { IfOk result (λ conn. conn.in_transaction ≡ false) }
+    ensures opened { IfOk result IsOpenedFile }
+    ensures fault { OnErr result (result ≡ Err fault.Store) }
 {
     match Connection::open(rt, path) {
         Ok(conn) => Ok(conn),
@@ -38,15 +52,16 @@ fn connect(rt: &HostRuntime, path: &str) -> Result<Connection<FileStore<File>>, 
 
 // Adopts the database of a connection.
 fn take<S: Alter>(alloc: Global, conn: Connection<S>) -> Result<Store<S>, (Connection<S>, Fault)>
-    ensures { IfOk result (λ store. RepresentsRows S.Store store) }
+    ensures adopted { MatchResult result (λ store. AdoptPost S.Store conn store (Ok tt)) (λ e. AdoptPost S.Store conn e.0 (Err e.1)) }
+    ensures stands { IfOk result (λ store. RepresentsRows S.Store store) }
 {
     Store::adopt(alloc, conn)
 }
 
 // Adopts the database of a connection. If that fails, closes the file.
 fn adopt(rt: &HostRuntime, conn: Connection<FileStore<File>>) -> Result<FileDesk, Fault>
-    requires { conn.in_transaction ≡ false }
-    ensures { IfOk result (λ store. RepresentsRows over_files store) }
+    ensures adopted { IsAdoption conn result }
+    ensures stands { IfOk result (λ store. RepresentsRows over_files store) }
 {
     match take(rt.alloc(), conn) {
         Ok(store) => Ok(store),
@@ -63,17 +78,20 @@ fn adopt(rt: &HostRuntime, conn: Connection<FileStore<File>>) -> Result<FileDesk
 /// A new desk is closed and opened again, so that its tables are in the file itself, and a file
 /// that then loses its log is never taken for a new one.
 pub fn open_or_make(rt: &HostRuntime, path: &str) -> Result<FileDesk, Fault>
+    ensures opened { OpenOrMakePost result }
     ensures stands { IfOk result (λ store. RepresentsRows over_files store) }
 {
-    match Store::create(connect(rt, path)?) {
+    let first = connect(rt, path)?;
+    match Store::create(first) {
         Ok(store) => {
             close(store)?;
-            adopt(rt, connect(rt, path)?)
+            let conn = connect(rt, path)?;
+            adopt(rt, conn)
         }
         Err((conn, Fault::Damaged(_))) => adopt(rt, conn),
-        Err((conn, fault)) => {
+        Err((conn, _)) => {
             let _ = shut(conn);
-            Err(fault)
+            Err(Fault::Store)
         }
     }
 }
@@ -89,10 +107,12 @@ fn is_missing(rt: &HostRuntime, path: &str) -> bool {
 /// Opens the desk in the file at `path`, and upgrades a file of an older schema. Creates nothing:
 /// if the file is missing or empty, fails with `Damaged(Schema)`.
 pub fn open(rt: &HostRuntime, path: &str) -> Result<FileDesk, Fault>
+    ensures opened { OpenPost result }
     ensures stands { IfOk result (λ store. RepresentsRows over_files store) }
 {
     if is_missing(rt, path) {
         return Err(Fault::Damaged(Condition::Schema));
     }
-    adopt(rt, connect(rt, path)?)
+    let conn = connect(rt, path)?;
+    adopt(rt, conn)
 }

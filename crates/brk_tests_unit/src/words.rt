@@ -18,6 +18,14 @@ fn millis(at: Option<Stamp>) -> i64 {
     }
 }
 
+fn with_words(mut text: String, words: &[String]) -> Result<String, AllocError> {
+    for word in words {
+        text.push_str(" ")?;
+        text.push_str(word.as_str())?;
+    }
+    Ok(text)
+}
+
 fn told_job(alloc: Global, job: &Job) -> Result<String, AllocError> {
     match job {
         Job::Batch { db, at } => format!(in alloc; "batch {} {}", file(db), millis(*at)),
@@ -37,13 +45,10 @@ fn told_job(alloc: Global, job: &Job) -> Result<String, AllocError> {
             view,
             arguments,
         } => {
-            let mut text = format!(in alloc; "ask {db} {json} {heads} {view}")?;
-            for argument in arguments {
-                text.push_str(" ")?;
-                text.push_str(argument.as_str())?;
-            }
-            Ok(text)
+            let text = format!(in alloc; "ask {db} {json} {heads} {view}")?;
+            with_words(text, arguments)
         }
+        Job::Explain { db, words } => with_words(format!(in alloc; "explain {db}")?, words),
         Job::Audit { db } => format!(in alloc; "audit {db}"),
         Job::Serve {
             port,
@@ -71,7 +76,7 @@ fn told(alloc: Global, words: &[&str]) -> Result<String, Fail> {
 }
 
 // Words, and the job that they ask for: a file or `-`, milliseconds or -1, days since 1970-01-01.
-const JOBS: [(&[&str], &str); 14] = [
+const JOBS: [(&[&str], &str); 16] = [
     (&["batch"], "batch - -1"),
     (&["batch", "--db", "a b.db"], "batch a b.db -1"),
     (&["batch", "--at", "0"], "batch - 0"),
@@ -129,6 +134,11 @@ const JOBS: [(&[&str], &str); 14] = [
         &["ask", "--db", "a.db", "submitted"],
         "ask a.db false false submitted",
     ),
+    (
+        &["explain", "--db", "a.db", "trade", "3"],
+        "explain a.db trade 3",
+    ),
+    (&["explain", "--db", "a.db", "--", "-x"], "explain a.db -x"),
     (&["audit", "--db", "a.db"], "audit a.db"),
     (&["serve", "--port", "1"], "serve 1 - -1 1"),
     (
@@ -401,6 +411,7 @@ const HELP: &str = "A brokerage back office\n\nUsage: brk <COMMAND>\n\nCommands:
     \x20 batch      Reads a batch from standard input and writes a line for each row\n\
     \x20 statement  Prints the statement of an account: its cash, day by day, and its lots\n\
     \x20 ask        Prints a view of a desk: a CSV row for each record\n\
+    \x20 explain    Prints how the amounts of a trade or of an account come about\n\
     \x20 audit      Recomputes every derived table of a desk, and prints ok if all are right\n\
     \x20 serve      Serves the desk over HTTP, one stream after the other\n\
     \x20 help       Print this message or the help of the given subcommand(s)\n\nOptions:\n\
@@ -414,7 +425,7 @@ const BATCH_HELP: &str = "Reads a batch from standard input and writes a line fo
 
 // Words, and what a reader of the shell is told.
 const TEXTS: [(&[&str], &str); 3] = [
-    (&["--version"], "help: brk 0.1.0 (schema 3)\n"),
+    (&["--version"], "help: brk 0.1.0 (schema 3, kit 13f)\n"),
     (
         &["bath"],
         "wrong: error: unrecognized subcommand 'bath'\n\n  tip: a similar subcommand exists: 'batch'\n\n\

@@ -1,0 +1,6 @@
+//! The program's clock.
+#![tactic(auto)]
+
+pub mod moments;
+
+pub use moments::{Moments, stamp_of};

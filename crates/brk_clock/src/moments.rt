@@ -1,0 +1,63 @@
+ghost use Rattle.std.specs.Prelude.{◌≡◌};
+ghost use Rattle.brk_clock.specs.Readings.{Gives, clock_of, stamp_at};
+
+use brk_io::Clock;
+use brk_money::Stamp;
+use std::rt;
+use std::time::{SystemTime, UNIX_EPOCH};
+
+/// The program's clock.
+#[derive(Drop)]
+pub enum Moments<'a, R> {
+    /// A clock that always returns this timestamp.
+    At(Stamp),
+    /// The machine's clock.
+    Machine(&'a R),
+}
+
+/// Returns the stamp of a time of the machine: its whole milliseconds since 1970-01-01 UTC, or the
+/// greatest stamp if they are more.
+pub fn stamp_of(time: SystemTime) -> Stamp
+    ensures { result ≡ stamp_at time }
+{
+    match time.duration_since(UNIX_EPOCH) {
+        Ok(since) => {
+            let millis = since.as_millis().min(Stamp::GREATEST as u128) as i64;
+            Stamp::nearest(millis)
+        }
+        Err(_) => Stamp::nearest(0),
+    }
+}
+
+// Returns the reading of the machine's clock, or 0 if it cannot be read.
+fn reading<R: rt::Clock>(clock: &R) -> Stamp {
+    match SystemTime::now(clock) {
+        Ok(time) => stamp_of(time),
+        Err(_) => Stamp::nearest(0),
+    }
+}
+
+impl<'a, R: rt::Clock> Moments<'a, R> {
+    /// Returns a clock that always returns `at`, or the machine's clock if there is no `at`.
+    pub fn new(clock: &'a R, at: Option<Stamp>) -> Moments<'a, R>
+        ensures { result ≡ clock_of clock.entry at }
+    {
+        match at {
+            Some(stamp) => Moments::At(stamp),
+            None => Moments::Machine(clock),
+        }
+    }
+}
+
+/// No contract specifies the time that the machine's clock has. If the clock cannot be read, the
+/// reading is 0.
+impl<R: rt::Clock> Clock for Moments<'_, R> {
+    ghost gives = { Gives };
+
+    fn now(&mut self) -> Stamp {
+        match self {
+            Moments::At(stamp) => *stamp,
+            Moments::Machine(clock) => reading(*clock),
+        }
+    }
+}

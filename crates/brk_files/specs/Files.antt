@@ -1,0 +1,19 @@
+-- Connections to files, just opened or before they were closed.
+use Rattle.sqlite_disk.specs.declared.Disk.{Ghosts}
+use Rattle.sqlite_disk.specs.declared.Files.{Files}
+use Rattle.sqlite_wal.specs.Reads.{AreClean}
+use Rattle.sqlite_store.specs.declared.store.FileStore.{FileStore}
+use Rattle.sqlite.specs.Held.{Held, IsNew}
+use Rattle.sqlite.specs.State.{HasCleanDisk}
+use Rattle.sqlite.specs.Files.{file_state, IsOpened}
+use Rattle.sqlite.specs.Closing.{IsCopied}
+
+-- The connection is new. It is open, unless the disk assumption fails.
+pub record IsOpenedFile {D : Type 0} {g : Ghosts D} (conn : Held (FileStore D g)) : Type 0 where
+  pub opened : HasCleanDisk (file_state conn) → IsOpened conn
+  pub fresh : IsNew conn
+
+-- The last commit of the connection is in a database file, also without its log, and a crash leaves
+-- it there. Says nothing if the disk assumption fails.
+abbrev pub IsClosedFile : {D : Type 0} {g : Ghosts D} → Held (FileStore D g) → Type 0
+IsClosedFile {D} {g} conn = (files : Files D) × (AreClean g files.log files.db → IsCopied conn files)

@@ -1,0 +1,26 @@
+use crate::borrowed::borrowed;
+use brk_ask::{Form, ask};
+use brk_desk::Desk;
+use brk_exit::Ending;
+use brk_money::Fault;
+use sqlite::Alter;
+use std::alloc::Global;
+use std::io::Write;
+
+/// Writes the view that a name and its arguments ask for, of a desk.
+pub(crate) fn print<S: Alter, W: Write>(
+    alloc: Global,
+    desk: &mut Desk<S>,
+    view: &str,
+    arguments: &[String],
+    form: Form,
+    output: &mut W,
+) -> Ending {
+    let Ok(arguments) = borrowed(alloc, arguments) else {
+        return Ending::Open(Fault::Memory);
+    };
+    match ask(alloc, desk, view, &arguments, form, output) {
+        Ok(()) => Ending::Done,
+        Err(fault) => Ending::Report(fault),
+    }
+}

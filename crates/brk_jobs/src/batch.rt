@@ -1,0 +1,22 @@
+use brk_clock::Moments;
+use brk_desk::Desk;
+use brk_exit::Ending;
+use brk_import::run_batch;
+use brk_money::Stamp;
+use sqlite::Alter;
+use std::io::{Read, Write};
+
+/// Executes a batch from `input` on a desk, and writes its lines to `output`.
+pub(crate) fn book<R: Read + Drop, W: Write, S: Alter>(
+    rt: &HostRuntime,
+    at: Option<Stamp>,
+    input: R,
+    output: &mut W,
+    desk: &mut Desk<S>,
+) -> Ending {
+    let mut clock = Moments::new(rt, at);
+    match run_batch(rt.alloc(), input, output, &mut clock, desk) {
+        Ok(_) => Ending::Done,
+        Err(fault) => Ending::Batch(fault),
+    }
+}

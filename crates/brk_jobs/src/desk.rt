@@ -1,0 +1,104 @@
+//! A job at its desk, which is in memory, or in a file that is closed at the end.
+
+use crate::{ask, batch, explain, serve, statement};
+use brk_args::Job;
+use brk_ask::Form;
+use brk_desk::Desk;
+use brk_exit::{Ending, after_close};
+use brk_files as file;
+use brk_files::FileDesk;
+use brk_money::Fault;
+use brk_store::Store;
+use sqlite::{Alter, Connection};
+use std::io::{Read, Write};
+
+// Executes a job at an open desk. An audit has passed when the desk is open.
+fn execute<R: Read + Drop, W: Write, S: Alter>(
+    rt: &HostRuntime,
+    desk: &mut Desk<S>,
+    job: &Job,
+    input: R,
+    output: &mut W,
+) -> Ending {
+    match job {
+        Job::Batch { db: _, at } => batch::book(rt, *at, input, output, desk),
+        Job::Statement {
+            db: _,
+            account,
+            from,
+            to,
+        } => statement::print(rt.alloc(), desk, *account, *from, *to, output),
+        Job::Ask {
+            db: _,
+            json,
+            heads,
+            view,
+            arguments,
+        } => {
+            let form = Form {
+                json: *json,
+                heads: *heads,
+            };
+            ask::print(rt.alloc(), desk, view.as_str(), arguments, form, output)
+        }
+        Job::Explain { db: _, words } => explain::print(rt.alloc(), desk, words, output),
+        Job::Audit { db: _ } => Ending::Done,
+        Job::Serve {
+            port,
+            db: _,
+            at,
+            streams,
+        } => serve::listen(rt, *port, *at, *streams, desk),
+    }
+}
+
+// Executes a job at the desk of a store, and returns the store. Each call of a function over any
+// store, at a store of files, takes the prover some twenty seconds. So this crate has one such call,
+// of this function.
+fn at_store<R: Read + Drop, W: Write, S: Alter>(
+    rt: &HostRuntime,
+    store: Store<S>,
+    job: &Job,
+    input: R,
+    output: &mut W,
+) -> (Ending, Store<S>) {
+    let mut desk = Desk::new(store);
+    let ending = execute(rt, &mut desk, job, input, output);
+    (ending, desk.into_store())
+}
+
+/// Executes a job at a desk in a file that was opened, and closes the file.
+pub(crate) fn in_file<R: Read + Drop, W: Write>(
+    rt: &HostRuntime,
+    opened: Result<FileDesk, Fault>,
+    job: &Job,
+    input: R,
+    output: &mut W,
+) -> Ending {
+    match opened {
+        Ok(store) => {
+            let (ending, store) = at_store(rt, store, job, input, output);
+            after_close(ending, file::close(store))
+        }
+        Err(fault) => Ending::Open(fault),
+    }
+}
+
+/// Executes a job at a new desk in memory.
+pub(crate) fn in_memory<R: Read + Drop, W: Write>(
+    rt: &HostRuntime,
+    job: &Job,
+    input: R,
+    output: &mut W,
+) -> Ending {
+    let Ok(conn) = Connection::open_in_memory(rt.alloc()) else {
+        return Ending::Open(Fault::Store);
+    };
+    match Store::create(conn) {
+        Ok(store) => {
+            let (ending, _store) = at_store(rt, store, job, input, output);
+            ending
+        }
+        Err((_, fault)) => Ending::Open(fault),
+    }
+}

@@ -1,0 +1,28 @@
+use crate::borrowed::borrowed;
+use brk_desk::Desk;
+use brk_exit::Ending;
+use brk_explain::{ReportFault, explain, parse_explain};
+use brk_money::Fault;
+use sqlite::Alter;
+use std::alloc::Global;
+use std::io::Write;
+
+/// Writes the explanation that the words ask for, of a desk.
+pub(crate) fn print<S: Alter, W: Write>(
+    alloc: Global,
+    desk: &mut Desk<S>,
+    words: &[String],
+    output: &mut W,
+) -> Ending {
+    let Ok(words) = borrowed(alloc, words) else {
+        return Ending::Open(Fault::Memory);
+    };
+    let what = match parse_explain(&words) {
+        Ok(what) => what,
+        Err(refusal) => return Ending::Report(ReportFault::Refused(refusal)),
+    };
+    match explain(alloc, desk, what, output) {
+        Ok(()) => Ending::Done,
+        Err(fault) => Ending::Report(fault),
+    }
+}

@@ -1,0 +1,14 @@
+//! The jobs of the program.
+#![tactic(auto)]
+
+mod ask;
+mod audit;
+mod batch;
+mod borrowed;
+mod desk;
+mod explain;
+pub mod jobs;
+mod serve;
+mod statement;
+
+pub use jobs::run;

@@ -1,0 +1,28 @@
+//! Serves a desk to programs on the same machine.
+
+use brk_clock::Moments;
+use brk_desk::Desk;
+use brk_exit::Ending;
+use brk_http::{ListenFault, serve_on};
+use brk_money::Stamp;
+use sqlite::Alter;
+use std::net::TcpListener;
+
+/// Serves `streams` streams on a port that only this machine can reach.
+pub(crate) fn listen<S: Alter>(
+    rt: &HostRuntime,
+    port: u16,
+    at: Option<Stamp>,
+    streams: u32,
+    desk: &mut Desk<S>,
+) -> Ending {
+    let Ok(mut listener) = TcpListener::bind(rt, ("127.0.0.1", port)) else {
+        return Ending::Net;
+    };
+    let mut clock = Moments::new(rt, at);
+    match serve_on(rt.alloc(), &mut listener, streams, &mut clock, desk) {
+        Ok(()) => Ending::Done,
+        Err(ListenFault::Stream(fault)) => Ending::Serve(fault),
+        Err(ListenFault::Net) => Ending::Net,
+    }
+}

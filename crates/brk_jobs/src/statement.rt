@@ -1,0 +1,22 @@
+use brk_desk::Desk;
+use brk_exit::Ending;
+use brk_money::{Day, Id};
+use brk_report::statement;
+use sqlite::Alter;
+use std::alloc::Global;
+use std::io::Write;
+
+/// Writes the statement of an account of a desk from `from` to `to`, both included.
+pub(crate) fn print<S: Alter, W: Write>(
+    alloc: Global,
+    desk: &mut Desk<S>,
+    account: Id,
+    from: Day,
+    to: Day,
+    output: &mut W,
+) -> Ending {
+    match statement(alloc, desk, account, from, to, output) {
+        Ok(()) => Ending::Done,
+        Err(fault) => Ending::Report(fault),
+    }
+}

@@ -1,0 +1,81 @@
+//! The commands of transcripts.
+
+use crate::failed::Failed;
+use crate::folder;
+use brk_exit::end_with;
+use brk_jobs::run;
+use std::alloc::{AllocError, Global};
+
+// Returns the command-line arguments of a command, the program's own name first.
+fn words_of(alloc: Global, text: &str) -> Result<Vec<String>, AllocError> {
+    let mut words = Vec::new(alloc);
+    words.push(String::from_str(alloc, "brk")?)?;
+    for word in text.split(' ') {
+        words.push(String::from_str(alloc, word)?)?;
+    }
+    Ok(words)
+}
+
+// Adds the lines that were written to a stream, each after the mark of the stream. A last line
+// without a line feed ends in a backslash.
+fn add_lines(out: &mut String, mark: char, bytes: &[u8]) -> Result<(), Failed> {
+    let text = str::from_utf8(bytes).unwrap_or("not UTF-8");
+    for line in text.split_inclusive('\n') {
+        match line.strip_suffix('\n') {
+            Some(whole) => writeln!(out, "{mark} {whole}")?,
+            None => writeln!(out, "{mark} {line}\\")?,
+        }
+    }
+    Ok(())
+}
+
+// Runs the program, and adds what it prints and its exit status.
+fn run_program(
+    rt: &HostRuntime,
+    out: &mut String,
+    words: &str,
+    input: &[u8],
+) -> Result<(), Failed> {
+    let alloc = rt.alloc();
+    let mut printed = Vec::new(alloc);
+    let mut errors = Vec::new(alloc);
+    let ending = run(rt, words_of(alloc, words)?, input, &mut printed);
+    let status = end_with(&ending, &mut errors);
+    add_lines(out, '>', &printed)?;
+    add_lines(out, '!', &errors)?;
+    writeln!(out, "= {status}")?;
+    Ok(())
+}
+
+// Changes a file past the program, and adds whether that was done.
+fn change(
+    rt: &HostRuntime,
+    out: &mut String,
+    verb: &str,
+    words: &str,
+    input: &[u8],
+) -> Result<(), Failed> {
+    let done = match verb {
+        "write" => folder::write(rt, words, input),
+        "copy" => folder::copy(rt, words),
+        "cut" => folder::cut(rt, words),
+        "sql" => folder::execute(rt, words, input),
+        _ => false,
+    };
+    writeln!(out, "= {}", if done { "done" } else { "failed" })?;
+    Ok(())
+}
+
+/// Executes a command with its input, and adds its output lines.
+pub fn execute(
+    rt: &HostRuntime,
+    out: &mut String,
+    command: &str,
+    input: &[u8],
+) -> Result<(), Failed> {
+    let (verb, words) = command.split_once(' ').unwrap_or((command, ""));
+    match verb {
+        "$" => run_program(rt, out, words, input),
+        _ => change(rt, out, verb, words, input),
+    }
+}

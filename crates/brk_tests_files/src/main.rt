@@ -1,0 +1,35 @@
+//! Replays transcripts of the program over files: reads them from standard input, executes their
+//! commands in the folder that it runs in, and prints them again with its own output lines in place
+//! of those that it read.
+#![tactic(auto)]
+
+mod commands;
+mod failed;
+mod folder;
+mod replay;
+
+use failed::Failed;
+use std::io;
+use std::process::ExitCode;
+
+// Replays standard input onto standard output.
+fn run(rt: &HostRuntime) -> Result<(), Failed> {
+    let Ok(text) = io::read_to_string(rt.alloc(), rt.reader()) else {
+        return Err(Failed::Input);
+    };
+    let replayed = replay::replayed(rt, text.as_str())?;
+    match rt.print(replayed.as_str()) {
+        Ok(()) => Ok(()),
+        Err(_) => Err(Failed::Output),
+    }
+}
+
+fn main(rt: HostRuntime) -> ExitCode {
+    match run(&rt) {
+        Ok(()) => ExitCode::SUCCESS,
+        Err(failed) => {
+            let _ = rt.eprint(failed.word());
+            ExitCode::FAILURE
+        }
+    }
+}

@@ -1,0 +1,79 @@
+//! A transcript, line by line.
+
+use crate::commands::execute;
+use crate::failed::Failed;
+use std::alloc::{AllocError, Global};
+
+// A command and its input so far, of which the output lines are due.
+#[derive(Drop)]
+struct Due<'a> {
+    command: &'a str,
+    input: Vec<u8>,
+}
+
+// Executes the command that is due, if there is one.
+fn settle(rt: &HostRuntime, out: &mut String, due: Option<Due<'_>>) -> Result<(), Failed> {
+    match due {
+        Some(due) => execute(rt, out, due.command, &due.input),
+        None => Ok(()),
+    }
+}
+
+// Returns whether a line is an output line.
+fn is_output(line: &str) -> bool {
+    line.starts_with("> ") || line.starts_with("! ") || line.starts_with("= ")
+}
+
+// Returns what a line begins: a command, unless it is a comment or empty.
+fn begun(alloc: Global, line: &str) -> Option<Due<'_>> {
+    if line.is_empty() || line.starts_with('#') {
+        return None;
+    }
+    Some(Due {
+        command: line,
+        input: Vec::new(alloc),
+    })
+}
+
+// Adds an input line to the command that is due.
+fn with_input<'a>(due: Option<Due<'a>>, text: &str) -> Result<Option<Due<'a>>, AllocError> {
+    let Some(mut due) = due else {
+        return Ok(None);
+    };
+    due.input.extend_from_slice(text.as_bytes())?;
+    due.input.push(b'\n')?;
+    Ok(Some(due))
+}
+
+// Takes the next line that is no output line, and returns what is due then.
+fn take<'a>(
+    rt: &HostRuntime,
+    out: &mut String,
+    due: Option<Due<'a>>,
+    line: &'a str,
+) -> Result<Option<Due<'a>>, Failed> {
+    match line.strip_prefix("| ") {
+        Some(text) => {
+            writeln!(out, "{line}")?;
+            Ok(with_input(due, text)?)
+        }
+        None => {
+            settle(rt, out, due)?;
+            writeln!(out, "{line}")?;
+            Ok(begun(rt.alloc(), line))
+        }
+    }
+}
+
+/// Returns the transcript with the output lines of its commands as they are now.
+pub fn replayed(rt: &HostRuntime, text: &str) -> Result<String, Failed> {
+    let mut out = String::new(rt.alloc());
+    let mut due = None;
+    for line in text.strip_suffix('\n').unwrap_or(text).split('\n') {
+        if !is_output(line) {
+            due = take(rt, &mut out, due, line)?;
+        }
+    }
+    settle(rt, &mut out, due)?;
+    Ok(out)
+}

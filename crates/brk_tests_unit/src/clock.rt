@@ -1,0 +1,55 @@
+//! The program's clock.
+
+use brk_clock::Moments;
+use brk_exit::brk_io::Clock;
+use brk_money::Stamp;
+use std::io::{self, ErrorKind};
+use std::rt;
+use std::time::Duration;
+
+// A machine's clock that has one time, or that cannot be read.
+#[derive(Drop)]
+struct Stopped(Option<Duration>);
+
+impl rt::Clock for Stopped {
+    fn monotonic(&self) -> io::Result<Duration> {
+        Ok(Duration::from_secs(7))
+    }
+
+    fn since_1970(&self) -> io::Result<Duration> {
+        self.0.ok_or(io::Error::from(ErrorKind::Unsupported))
+    }
+}
+
+// 2024-03-01 00:00 UTC in milliseconds.
+const PAST: i64 = 1_709_251_200_000;
+
+#[test]
+fn a_given_timestamp_is_every_reading(rt: HostRuntime) {
+    let mut clock = Moments::new(&rt, Some(Stamp::nearest(PAST)));
+    assert_eq!(rt; clock.now().get(), PAST);
+    assert_eq!(rt; clock.now().get(), PAST);
+}
+
+#[test]
+fn a_reading_is_the_time_in_whole_milliseconds(rt: HostRuntime) {
+    let machine = Stopped(Some(Duration::new(1_709_251_200, 123_999_999)));
+    let mut clock = Moments::new(&machine, None);
+    assert_eq!(rt; clock.now().get(), PAST + 123);
+    assert_eq!(rt; clock.now().get(), PAST + 123);
+}
+
+// 10000-01-01 00:00 UTC is in second 253_402_300_800.
+#[test]
+fn a_late_reading_is_the_last_stamp(rt: HostRuntime) {
+    let last = Stopped(Some(Duration::new(253_402_300_799, 999_000_000)));
+    assert_eq!(rt; Moments::new(&last, None).now().get(), Stamp::GREATEST);
+    let late = Stopped(Some(Duration::from_secs(253_402_300_800)));
+    assert_eq!(rt; Moments::new(&late, None).now().get(), Stamp::GREATEST);
+}
+
+#[test]
+fn a_clock_that_cannot_be_read_gives_zero(rt: HostRuntime) {
+    let machine = Stopped(None);
+    assert_eq!(rt; Moments::new(&machine, None).now().get(), 0);
+}
