@@ -5,6 +5,7 @@ use crate::failed::Failed;
 use crate::place::{Place, adopt};
 use crate::tables::add_tables;
 use crate::views::{add_refusal, ask, print};
+use brk_explain::{explain, parse_explain};
 use brk_http::serve_stream;
 use brk_import::brk_desk::Desk;
 use brk_import::{Clock, FaultKind, run_batch};
@@ -119,6 +120,31 @@ fn state(
     }
 }
 
+// Writes an explanation: its words are those of the command.
+fn explained(
+    alloc: Global,
+    out: &mut String,
+    desk: &mut Desk<MemStore>,
+    words: &str,
+) -> Result<(), Failed> {
+    let mut asked = Vec::new(alloc);
+    for word in words.split(' ') {
+        asked.push(word.as_bytes())?;
+    }
+    let what = match parse_explain(&asked) {
+        Ok(what) => what,
+        Err(refusal) => return add_refusal(out, refusal),
+    };
+    let mut lines = Vec::new(alloc);
+    let ended = explain(alloc, desk, what, &mut lines);
+    add_written(out, &lines)?;
+    match ended {
+        Ok(()) => Ok(()),
+        Err(ReportFault::Refused(refusal)) => add_refusal(out, refusal),
+        Err(_) => add_line(out, "! fault"),
+    }
+}
+
 // Adds the answer of an audit or of an adoption.
 fn add_audited(out: &mut String, audited: Result<(), Fault>) -> Result<(), Failed> {
     match audited {
@@ -216,6 +242,7 @@ fn at_desk(
         "ask" => ask(alloc, out, desk, words, pieces),
         "print" => print(alloc, out, desk, words, pieces),
         "statement" => state(alloc, out, desk, words),
+        "explain" => explained(alloc, out, desk, words),
         _ => add_line(out, "! no such command"),
     }
 }

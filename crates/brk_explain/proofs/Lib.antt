@@ -1,0 +1,4 @@
+pub mod Some
+pub mod Walked
+pub mod Whole
+pub mod Words

@@ -1,0 +1,36 @@
+-- What stays in the explanation of a completed trade, through any run of calls.
+use Rattle.std.specs.Prelude.{◌≡◌, [], option_map}
+use Rattle.brk_model.specs.Records.{Trade}
+use Rattle.brk_model.specs.Base.{Base}
+use Rattle.brk_model.specs.Sheets.{sheets}
+use Rattle.brk_model.specs.Tables.{trade_row}
+use Rattle.brk_explain_model.specs.Trades.{cash_moved}
+use Rattle.brk_explain_theorems.specs.Balances.{after_in, before_in}
+use Rattle.brk_explain_theorems.specs.Closings.{story_in}
+use Rattle.brk_explain_theorems.specs.Equations.{order_in}
+
+-- The explanation of the trade `t` of the base, and that of the same trade, `u`, of the base `later`,
+-- have the same columns, lots, amounts, days and balances.
+pub record StaysTold (base later : Base) (t u : Trade) : Type 0 where
+  -- All columns of the trade but the executor's name.
+  pub row : record (trade_row u) { executor = [] } ≡ record (trade_row t) { executor = [] }
+  pub customer : (order_in later u).customer ≡ (order_in base t).customer
+  pub broker : (order_in later u).broker ≡ (order_in base t).broker
+  pub tax_status : (order_in later u).tax_status ≡ (order_in base t).tax_status
+  pub opening : (order_in later u).opening ≡ (order_in base t).opening
+  -- The status changes.
+  pub statuses : (order_in later u).statuses ≡ (order_in base t).statuses
+  -- The lots that it closed, and its own lot: so BUY, SELL, Realised gain and the shares.
+  pub price : (story_in later u).price ≡ (story_in base t).price
+  pub closings : (story_in later u).closings ≡ (story_in base t).closings
+  pub own_lot : (story_in later u).own_lot ≡ (story_in base t).own_lot
+  -- The settlement, its due day, and the cash that it moved.
+  pub settlement : (story_in later u).settlement.amount ≡ (story_in base t).settlement.amount
+  pub due : (story_in later u).settlement.due_day ≡ (story_in base t).settlement.due_day
+  pub moved : cash_moved (story_in later u) ≡ cash_moved (story_in base t)
+  -- The number of its cash row, and of the account's cash rows before it.
+  pub number : option_map (λ row. row.id) (story_in later u).cash ≡ option_map (λ row. row.id) (story_in base t).cash
+  pub rows : (story_in later u).cash_rows ≡ (story_in base t).cash_rows
+  -- The balances before and after it.
+  pub before : before_in (sheets later) u ≡ before_in (sheets base) t
+  pub after : after_in (sheets later) u ≡ after_in (sheets base) t

@@ -1,0 +1,24 @@
+//! Theorems: the balances that explanations print.
+
+ghost use Rattle.std.specs.Prelude.{◌≡◌, ℕ, None, Some, true};
+ghost use Rattle.brk_model.specs.Base.{Base, is_completed, trade_with};
+ghost use Rattle.brk_model.specs.Commands.{CompleteTrade};
+ghost use Rattle.brk_model.specs.Joins.{account_in};
+ghost use Rattle.brk_model.specs.Records.{Trade};
+ghost use Rattle.brk_model.specs.Sheets.{sheets};
+ghost use Rattle.brk_model.specs.Tables.{AccountRow};
+ghost use Rattle.brk_model.specs.Tests.{refusal_of};
+ghost use Rattle.brk_book_theorems.specs.Books.{BooksInvariant};
+ghost use Rattle.brk_explain_theorems.specs.Balances.{AccountAsTold, BalancesAsTold, KeepsBalanceAfter};
+
+/// Proves that all cash rows of an account are listed, that the last running balance is its
+/// balance, and that this with the market values of its holdings is its assets. The balances before
+/// and after a completed trade are those of its account by the postings before its completion, and
+/// by these and its own. Through any run after an accepted result the balance after the trade stays
+/// the balance of its account in the base after that result.
+pub fn balances_are_explained()
+    ensures account { (base : Base) (id : ℕ) (r : AccountRow) → BooksInvariant base → account_in (sheets base) id ≡ Some r → AccountAsTold base r }
+    ensures trade { (base : Base) (t : Trade) → BooksInvariant base → trade_with base t.id ≡ Some t → is_completed t ≡ true → BalancesAsTold base t }
+    ensures stays { (base : Base) (now id price : ℕ) (t : Trade) → BooksInvariant base → trade_with base id ≡ Some t → refusal_of base now (CompleteTrade id price) ≡ None
+        → KeepsBalanceAfter base now id price }
+{}

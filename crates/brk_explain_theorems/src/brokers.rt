@@ -1,0 +1,14 @@
+//! Theorems: the totals that the explanation of a broker prints.
+
+ghost use Rattle.std.specs.Prelude.{◌≡◌, ◌==◌, ℕ, Some, find};
+ghost use Rattle.brk_model.specs.Base.{Base};
+ghost use Rattle.brk_model.specs.Sheets.{sheets};
+ghost use Rattle.brk_model.specs.Tables.{BrokerRow};
+ghost use Rattle.brk_book_theorems.specs.Books.{BooksInvariant};
+ghost use Rattle.brk_explain_theorems.specs.Brokers.{BrokerAsTold};
+
+/// Proves that the last running sum of a broker's commissions is the broker's total, and that as
+/// many trades are listed as the broker has.
+pub fn commissions_are_explained()
+    ensures { (base : Base) (id : ℕ) (b : BrokerRow) → BooksInvariant base → find (λ r. r.id == id) (sheets base).brokers ≡ Some b → BrokerAsTold base b }
+{}

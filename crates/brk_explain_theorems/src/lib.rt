@@ -1,0 +1,11 @@
+//! Theorems about explanations: the totals that they print follow from the lines above them, and
+//! are the numbers of the tables. Proof-only: there is no code to call.
+#![tactic(auto)]
+
+pub mod balances;
+pub mod brokers;
+pub mod closings;
+pub mod gains;
+pub mod replies;
+pub mod settlements;
+pub mod stays;

@@ -1,0 +1,21 @@
+//! Theorems: the figures of the reply to a result, and those that the explanation of its trade
+//! prints.
+
+ghost use Rattle.std.specs.Prelude.{◌≡◌, ℕ, Ok, Option, Some};
+ghost use Rattle.brk_model.specs.Base.{Base, trade_with};
+ghost use Rattle.brk_model.specs.Commands.{CompleteTrade, CompletedTrade, Completion, Done};
+ghost use Rattle.brk_model.specs.Keyed.{keyed_step};
+ghost use Rattle.brk_model.specs.Records.{Key, Trade};
+ghost use Rattle.brk_model.specs.Step.{step};
+ghost use Rattle.brk_book_theorems.specs.Books.{BooksInvariant};
+ghost use Rattle.brk_explain_theorems.specs.Told.{TellsCompletion};
+
+/// Proves that after an accepted result, with or without a key, the commission, the tax, the
+/// amount, the due day, the buy value, the sell value and the balance of its reply are those that
+/// the explanation of its trade prints.
+pub fn explanations_are_told()
+    ensures result { (base after : Base) (now id price stamp : ℕ) (c : Completion) → BooksInvariant base → step base now (CompleteTrade id price) ≡ Ok (CompletedTrade stamp c, after)
+        → (u : Trade) × (trade_with after id ≡ Some u) × TellsCompletion after u c }
+    ensures called { (base after : Base) (now id price stamp : ℕ) (key : Option Key) (c : Completion) → BooksInvariant base
+        → keyed_step base now (CompleteTrade id price) key ≡ (Done (CompletedTrade stamp c), after) → (u : Trade) × (trade_with after id ≡ Some u) × TellsCompletion after u c }
+{}
