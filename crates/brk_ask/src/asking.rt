@@ -1,5 +1,5 @@
-ghost use Rattle.std.specs.Prelude.{◌≡◌, OnErr, Err, IfOk};
-ghost use Rattle.brk_ask.specs.Asked.{PrintPost, WritesText};
+ghost use Rattle.std.specs.Prelude.{◌≡◌, OnErr, Err, IfOk, Ok};
+ghost use Rattle.brk_ask.specs.Asked.{IsQueryAnswered, PrintPost, WritesText};
 ghost use Rattle.brk_ask.specs.Printed.{printed_view};
 ghost use Rattle.brk_model.specs.Ask as model;
 ghost use Rattle.brk_money.specs.declared.fault.Fault.TheVariants.{Memory};
@@ -56,6 +56,23 @@ fn write_view<W: Write>(
     }
 }
 
+// Asks the desk a query, and writes its view.
+fn ask_query<W: Write, S: Alter>(
+    alloc: Global,
+    desk: &mut Desk<S>,
+    query: &Query,
+    form: Form,
+    writer: &mut W,
+) -> Result<(), ReportFault>
+    ensures { IsQueryAnswered S.Store desk.old desk.new form (Ok (query_of query.now)) (W.contents writer.old) (W.contents writer.new) result }
+{
+    match desk.ask(alloc, query) {
+        Ok(Ok(view)) => write_view(alloc, query, &view, form, writer),
+        Ok(Err(refusal)) => Err(ReportFault::Refused(refusal)),
+        Err(fault) => Err(ReportFault::Desk(fault)),
+    }
+}
+
 /// Asks the desk the query of a view's name and its arguments, and writes its view. The desk is
 /// asked nothing else.
 ///
@@ -75,13 +92,8 @@ pub fn ask<W: Write, S: Alter>(
 ) -> Result<(), ReportFault>
     ensures asked { PrintPost S.Store desk.old desk.new form (model.parse_query view.now (texts arguments.now)) (W.contents writer.old) (W.contents writer.new) result }
 {
-    let query = match parse_query(alloc, view, arguments) {
-        Ok(Ok(query)) => query,
-        Ok(Err(refusal)) => return Err(ReportFault::Refused(refusal)),
-        Err(fault) => return Err(ReportFault::Desk(fault)),
-    };
-    match desk.ask(alloc, &query) {
-        Ok(Ok(view)) => write_view(alloc, &query, &view, form, writer),
+    match parse_query(alloc, view, arguments) {
+        Ok(Ok(query)) => ask_query(alloc, desk, &query, form, writer),
         Ok(Err(refusal)) => Err(ReportFault::Refused(refusal)),
         Err(fault) => Err(ReportFault::Desk(fault)),
     }

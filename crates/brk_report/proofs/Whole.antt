@@ -12,14 +12,14 @@ use Rattle.brk_model.specs.PositionView.{asset_total}
 use Rattle.brk_model.specs.Run.{MayFail}
 use Rattle.brk_model.specs.Statement.{amount_line, cash_before, cash_in, cash_line, cash_total, cash_within, lines_text, lot_line, lots_in, statement, statement_lines}
 use Rattle.brk_model.specs.Tables.{AccountRow, Tables}
-use Rattle.brk_desk.specs.declared.head.Head.{Head}
+use Rattle.brk_queries.specs.declared.head.Head.{Head}
 use Rattle.brk_report.specs.Parts.{all_lines, days_lines, held_lines, top_lines}
 use Rattle.brk_report.specs.Stated.{AreLines, States}
 use Rattle.brk_report_lines.specs.Written.{BreaksIn, WritesLines}
 use Rattle.brk_report_lines.specs.declared.fault.LinesFault.{LinesFault}
 use Rattle.brk_report_lines.specs.declared.fault.LinesFault.TheVariants.{Desk, Write}
 use Rattle.brk_report_lines.specs.declared.fault.ReportFault.TheVariants as stated
-use Rattle.brk_desk.specs.Heads.{IsHead}
+use Rattle.brk_queries.specs.Heads.{IsHead}
 use Rattle.brk_report.proofs.Handing.{none_written}
 
 passes_found : {X : Type 0} (p : X → Bool) (xs : List X) (x : X) → find p xs ≡ Some x → p x ≡ true

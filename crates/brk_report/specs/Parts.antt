@@ -4,7 +4,7 @@ use Rattle.std.specs.Io.KnownBytes.{Appends}
 use Rattle.brk_money.specs.Spelling.{Text, day_text}
 use Rattle.brk_model.specs.Statement.{amount_line, cash_before, cash_in, cash_line, cash_total, cash_within, lines_text, lot_line, lots_in}
 use Rattle.brk_model.specs.Tables.{Tables}
-use Rattle.brk_desk.specs.declared.head.Head.{Head}
+use Rattle.brk_queries.specs.declared.head.Head.{Head}
 use Rattle.brk_report_lines.specs.Written.{BreaksIn}
 use Rattle.brk_report_lines.specs.declared.fault.LinesFault.{LinesFault}
 

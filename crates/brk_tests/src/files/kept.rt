@@ -1,9 +1,7 @@
 //! Desks in files, which are closed, opened again and audited.
 
-use crate::files::machine::{Held, Seen, Stop, run};
-use crate::worked::{
-    LAST_FIRST_LINES, LAST_FIRST_ROWS, LINES, ROWS, SET, accepted, batch_of, repeated,
-};
+use crate::files::machine::{Held, Sent, Stop, run, set_files};
+use crate::worked::{LAST_FIRST_LINES, LAST_FIRST_ROWS, LINES, ROWS, accepted, batch_of, repeated};
 use std::alloc::Global;
 use std::test::Fail;
 
@@ -15,8 +13,7 @@ fn expect_sent(
     batch: &str,
     lines: &str,
 ) -> Result<Held, Fail> {
-    let mut seen = Seen::nothing(alloc);
-    let (held, _) = run(alloc, held, Stop::NEVER, batch.as_bytes(), &mut seen)?;
+    let Sent { seen, held, .. } = run(alloc, held, Stop::NEVER, batch.as_bytes())?;
     if seen.is_sound && seen.lines.as_slice() == lines.as_bytes() {
         Ok(held)
     } else {
@@ -28,10 +25,8 @@ fn expect_sent(
 fn expect_kept(alloc: Global, name: &str, rows: &[&str], lines: &[&str]) -> Result<(), Fail> {
     let batch = batch_of(alloc, rows)?;
     let (told, again) = (accepted(alloc, lines)?, repeated(alloc, lines)?);
-    let nothing = Held::nothing(alloc);
-    let mut seen = Seen::nothing(alloc);
-    let (held, _) = run(alloc, &nothing, Stop::NEVER, SET, &mut seen)?;
-    let held = expect_sent(alloc, &held, name, batch.as_str(), told.as_str())?;
+    let set = set_files(alloc)?;
+    let held = expect_sent(alloc, &set, name, batch.as_str(), told.as_str())?;
     expect_sent(alloc, &held, name, batch.as_str(), again.as_str())?;
     Ok(())
 }

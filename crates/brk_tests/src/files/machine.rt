@@ -3,6 +3,7 @@
 
 use crate::desks::Still;
 use crate::tables::all_tables;
+use crate::worked::SET;
 use brk_import::brk_desk::Desk;
 use brk_import::brk_desk::brk_store::Store;
 use brk_import::run_batch;
@@ -153,13 +154,25 @@ fn book_in(
     }
 }
 
-/// A file with these bytes, which takes so many calls and fails at each one after.
-pub fn file_of(alloc: Global, bytes: &[u8], calls: u64) -> Result<Fuse<Memory>, Fail> {
+// A file with these bytes, which takes so many calls and fails at each one after.
+fn file_of(alloc: Global, bytes: &[u8], calls: u64) -> Result<Fuse<Memory>, Fail> {
     let mut file = Memory::new(alloc);
     if file.write_at(0, bytes).is_err() || file.sync().is_err() {
         return Err("no memory for a file")?;
     }
     Ok(Fuse::new(file, calls))
+}
+
+/// The two files with these bytes, each of which takes so many calls and fails at each one after.
+pub fn files_of(
+    alloc: Global,
+    held: &Held,
+    log_calls: u64,
+    db_calls: u64,
+) -> Result<Files<Fuse<Memory>>, Fail> {
+    let log = file_of(alloc, &held.log, log_calls)?;
+    let db = file_of(alloc, &held.db, db_calls)?;
+    Ok(Files { log, db })
 }
 
 // Takes the bytes that a file holds once the machine comes back. Tells whether it was stopped, or takes no call more.
@@ -176,25 +189,48 @@ fn come_back(
     Ok(was_stopped)
 }
 
-/// Sends a batch to the desk in these files until the machine stops: what they hold after it, and whether it did stop.
-pub fn run(
+// What the files hold once the machine comes back, and whether it was stopped.
+fn left_in(
     alloc: Global,
-    held: &Held,
-    stop: Stop,
-    batch: &[u8],
-    seen: &mut Seen,
-) -> Result<(Held, bool), Fail> {
+    files: Files<Fuse<Memory>>,
+    loses: bool,
+) -> Result<(Held, bool), AllocError> {
+    let Files { mut log, mut db } = files;
+    let mut left = Held::nothing(alloc);
+    let is_log = come_back(&mut log, loses, &mut left.log)?;
+    let is_db = come_back(&mut db, loses, &mut left.db)?;
+    Ok((left, is_log || is_db))
+}
+
+/// A batch that was sent to the desk in files: what was seen of it, what the files hold after it, and whether the machine stopped.
+#[derive(Drop)]
+pub struct Sent {
+    pub seen: Seen,
+    pub held: Held,
+    pub was_stopped: bool,
+}
+
+/// Sends a batch to the desk in these files until the machine stops.
+pub fn run(alloc: Global, held: &Held, stop: Stop, batch: &[u8]) -> Result<Sent, Fail> {
     let (log_calls, db_calls) = match stop.file {
         File::Log => (stop.calls, u64::MAX),
         File::Database => (u64::MAX, stop.calls),
     };
-    let log = file_of(alloc, &held.log, log_calls)?;
-    let db = file_of(alloc, &held.db, db_calls)?;
-    let Files { mut log, mut db } = book_in(alloc, Files { log, db }, batch, seen);
-    let mut left = Held::nothing(alloc);
-    let is_log = come_back(&mut log, stop.loses, &mut left.log)?;
-    let is_db = come_back(&mut db, stop.loses, &mut left.db)?;
-    Ok((left, is_log || is_db))
+    let files = files_of(alloc, held, log_calls, db_calls)?;
+    let mut seen = Seen::nothing(alloc);
+    let files = book_in(alloc, files, batch, &mut seen);
+    let (held, was_stopped) = left_in(alloc, files, stop.loses)?;
+    Ok(Sent {
+        seen,
+        held,
+        was_stopped,
+    })
+}
+
+/// The bytes of the files of a desk that was set up.
+pub fn set_files(alloc: Global) -> Result<Held, Fail> {
+    let Sent { held, .. } = run(alloc, &Held::nothing(alloc), Stop::NEVER, SET)?;
+    Ok(held)
 }
 
 // Changes the tables of a database, and stores whether that succeeds.
@@ -229,14 +265,11 @@ fn change_in(
 /// The bytes of these files after another program changes the desk in them.
 pub fn changed(alloc: Global, held: &Held, text: &str) -> Result<Held, Fail> {
     let mut is_done = false;
-    let log = file_of(alloc, &held.log, u64::MAX)?;
-    let db = file_of(alloc, &held.db, u64::MAX)?;
-    let Files { mut log, mut db } = change_in(alloc, Files { log, db }, text, &mut is_done);
+    let files = files_of(alloc, held, u64::MAX, u64::MAX)?;
+    let files = change_in(alloc, files, text, &mut is_done);
     if !is_done {
         return Err("a change that fails")?;
     }
-    let mut left = Held::nothing(alloc);
-    come_back(&mut log, false, &mut left.log)?;
-    come_back(&mut db, false, &mut left.db)?;
+    let (left, _) = left_in(alloc, files, false)?;
     Ok(left)
 }

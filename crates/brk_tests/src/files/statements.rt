@@ -1,9 +1,9 @@
 //! A disk that fails within a statement, at each of its calls in turn: whole first lines are written, and never the last.
 
-use crate::files::machine::{Held, Seen, Stop, desk_in, file_of, run};
+use crate::files::machine::{Held, Sent, Stop, desk_in, files_of, run};
 use brk_money::{Fault, Id, parse_day};
 use brk_report::{ReportFault, statement};
-use sqlite::{Files, Options};
+use sqlite::Options;
 use std::alloc::Global;
 use std::test::Fail;
 
@@ -48,12 +48,11 @@ fn written(
     let account = Id::new(100).ok_or("an account")?;
     let from = parse_day(b"2024-03-01").ok_or("a first day")?;
     let to = parse_day(b"2024-03-31").ok_or("a last day")?;
-    let log = file_of(alloc, &held.log, u64::MAX)?;
-    let db = file_of(alloc, &held.db, calls)?;
+    let files = files_of(alloc, held, u64::MAX, calls)?;
     // The desk keeps one page in memory, so that rows are read from the disk.
     let mut options = Options::new(1);
     options.cache_pages = 1;
-    let Some(mut desk) = desk_in(alloc, Files { log, db }, options) else {
+    let Some(mut desk) = desk_in(alloc, files, options) else {
         return Ok(None);
     };
     Ok(Some(statement(alloc, &mut desk, account, from, to, text)))
@@ -68,8 +67,7 @@ fn is_of_first_lines(text: &[u8]) -> bool {
 #[test]
 fn a_disk_may_fail_within_a_statement(rt: HostRuntime) -> Result<(), Fail> {
     let alloc = rt.alloc();
-    let mut seen = Seen::nothing(alloc);
-    let (held, _) = run(alloc, &Held::nothing(alloc), Stop::NEVER, BATCH, &mut seen)?;
+    let Sent { held, .. } = run(alloc, &Held::nothing(alloc), Stop::NEVER, BATCH)?;
     let (mut faults, mut parts) = (0u64, 0u64);
     for calls in 0..10_000 {
         let mut text = Vec::new(alloc);

@@ -3,7 +3,7 @@
 
 use crate::cuts::batch::{ROWS, all_lines};
 use crate::desks::set_desk;
-use crate::files::machine::{File, Held, Seen, Stop, book, changed, run};
+use crate::files::machine::{File, Held, Seen, Sent, Stop, book, changed, run, set_files};
 use crate::worked;
 use crate::worked::{SET, SET_LINES, batch_of};
 use std::alloc::Global;
@@ -65,8 +65,8 @@ fn holds(is_so: bool, stop: Stop, what: &str) -> Result<(), Fail> {
 // All tables of a desk in memory that was set up and was sent the first rows of the batch.
 fn tables_after(alloc: Global, rows: usize) -> Result<String, Fail> {
     let batch = batch_of(alloc, &ROWS[..rows.min(6)])?;
-    let mut seen = Seen::nothing(alloc);
     let conn = set_desk(alloc)?.into_store().into_conn();
+    let mut seen = Seen::nothing(alloc);
     drop(book(alloc, conn, batch.as_bytes(), &mut seen));
     let Seen { after, .. } = seen;
     if after.is_empty() {
@@ -80,14 +80,18 @@ fn is_done(seen: &Seen, lines: &str, tables: &str) -> bool {
     seen.is_sound && seen.lines.as_slice() == lines.as_bytes() && seen.after.as_str() == tables
 }
 
-// Makes a desk until a stop, and then sets up the desk that is found, or made where none is found. Tells whether there was a
-// stop.
+// Makes a desk until a stop, and then sets up the desk that is found, or made where none is found. Tells whether it is then as
+// these tables, and whether there was a stop.
+fn made(alloc: Global, stop: Stop, tables: &str) -> Result<(bool, bool), Fail> {
+    let first = run(alloc, &Held::nothing(alloc), stop, NO_ROWS)?;
+    let again = run(alloc, &first.held, Stop::NEVER, SET)?;
+    Ok((is_done(&again.seen, SET_LINES, tables), first.was_stopped))
+}
+
+// Makes a desk until a stop, and then sets it up. Tells whether there was a stop.
 fn stops_making(alloc: Global, stop: Stop, tables: &str) -> Result<bool, Fail> {
-    let mut seen = Seen::nothing(alloc);
-    let nothing = Held::nothing(alloc);
-    let (held, was_stopped) = run(alloc, &nothing, stop, NO_ROWS, &mut Seen::nothing(alloc))?;
-    run(alloc, &held, Stop::NEVER, SET, &mut seen)?;
-    holds(is_done(&seen, SET_LINES, tables), stop, "it is not set up")?;
+    let (is_set, was_stopped) = made(alloc, stop, tables)?;
+    holds(is_set, stop, "it is not set up")?;
     Ok(was_stopped)
 }
 
@@ -131,14 +135,17 @@ struct Twice {
 }
 
 fn sent_twice(alloc: Global, stop: Stop, start: &Held, batch: &str) -> Result<Twice, Fail> {
-    let mut first = Seen::nothing(alloc);
-    let mut again = Seen::nothing(alloc);
-    let (held, was_stopped) = run(alloc, start, stop, batch.as_bytes(), &mut first)?;
-    run(alloc, &held, Stop::NEVER, batch.as_bytes(), &mut again)?;
-    Ok(Twice {
-        first,
+    let first = run(alloc, start, stop, batch.as_bytes())?;
+    let again = run(alloc, &first.held, Stop::NEVER, batch.as_bytes())?;
+    let Sent {
+        seen,
         was_stopped,
-        again,
+        ..
+    } = first;
+    Ok(Twice {
+        first: seen,
+        was_stopped,
+        again: again.seen,
     })
 }
 
@@ -165,6 +172,16 @@ fn expect_twice(
     )
 }
 
+// Compares both with the tables after each row of the batch.
+fn expect_booked(alloc: Global, stop: Stop, twice: &Twice, tables: &[String]) -> Result<(), Fail> {
+    let last = tables.last().map(String::as_str).unwrap_or("");
+    let rows = rows_after(&twice.first.lines, twice.again.before.as_str(), tables);
+    holds(rows.is_some(), stop, "tables of no row")?;
+    let whole = all_lines(alloc, 0)?;
+    let rest = all_lines(alloc, rows.unwrap_or(0))?;
+    expect_twice(stop, twice, whole.as_str(), rest.as_str(), last)
+}
+
 // Sends the batch until a stop, and then again to the desk that is found. Tells whether there was a stop.
 fn stops_booking(
     alloc: Global,
@@ -173,13 +190,8 @@ fn stops_booking(
     batch: &str,
     tables: &[String],
 ) -> Result<bool, Fail> {
-    let last = tables.last().map(String::as_str).unwrap_or("");
     let twice = sent_twice(alloc, stop, start, batch)?;
-    let rows = rows_after(&twice.first.lines, twice.again.before.as_str(), tables);
-    holds(rows.is_some(), stop, "tables of no row")?;
-    let whole = all_lines(alloc, 0)?;
-    let rest = all_lines(alloc, rows.unwrap_or(0))?;
-    expect_twice(stop, &twice, whole.as_str(), rest.as_str(), last)?;
+    expect_booked(alloc, stop, &twice, tables)?;
     Ok(twice.was_stopped)
 }
 
@@ -191,14 +203,7 @@ fn a_store_may_be_stopped_while_it_books(rt: HostRuntime) -> Result<(), Fail> {
         let after = tables_after(rt.alloc(), rows)?;
         tables.push(after)?;
     }
-    let nothing = Held::nothing(rt.alloc());
-    let (start, _) = run(
-        rt.alloc(),
-        &nothing,
-        Stop::NEVER,
-        SET,
-        &mut Seen::nothing(rt.alloc()),
-    )?;
+    let start = set_files(rt.alloc())?;
     for stop in STOPS {
         let mut was_stopped = true;
         for calls in 0..MOST_CALLS {
@@ -213,37 +218,51 @@ fn a_store_may_be_stopped_while_it_books(rt: HostRuntime) -> Result<(), Fail> {
     Ok(())
 }
 
+// A desk in files that traded.
+fn traded(alloc: Global) -> Result<Sent, Fail> {
+    let batch = batch_of(alloc, &worked::ROWS[..6])?;
+    let set = set_files(alloc)?;
+    run(alloc, &set, Stop::NEVER, batch.as_bytes())
+}
+
 // The files of an older desk that traded, and its tables once they are moved.
 fn older(alloc: Global, change: &str) -> Result<(Held, String), Fail> {
-    let mut seen = Seen::nothing(alloc);
-    let batch = batch_of(alloc, &worked::ROWS[..6])?;
-    let nothing = Held::nothing(alloc);
-    let (set, _) = run(alloc, &nothing, Stop::NEVER, SET, &mut seen)?;
-    let mut seen = Seen::nothing(alloc);
-    let (traded, _) = run(alloc, &set, Stop::NEVER, batch.as_bytes(), &mut seen)?;
-    let held = changed(alloc, &traded, change)?;
+    let Sent { seen, held, .. } = traded(alloc)?;
     let Seen { after, .. } = seen;
     if after.is_empty() {
         return Err("tables that could not be read")?;
     }
+    let held = changed(alloc, &held, change)?;
     Ok((held, after))
+}
+
+// What was seen of the move of an older desk until a stop, and then again: whether it was not begun or complete, whether it is
+// complete after it, and whether there was a stop.
+#[derive(Clone, Copy)]
+struct MoveSeen {
+    is_whole: bool,
+    is_done: bool,
+    was_stopped: bool,
+}
+
+// Opens an older desk until a stop, and then again.
+fn moved(alloc: Global, stop: Stop, start: &Held, tables: &str) -> Result<MoveSeen, Fail> {
+    let first = run(alloc, start, stop, NO_ROWS)?;
+    let again = run(alloc, &first.held, Stop::NEVER, NO_ROWS)?;
+    let is_older = again.seen.before.is_empty() && first.seen.lines.is_empty();
+    Ok(MoveSeen {
+        is_whole: is_older || again.seen.before.as_str() == tables,
+        is_done: is_done(&again.seen, "end,0,0,0\n", tables),
+        was_stopped: first.was_stopped,
+    })
 }
 
 // Opens an older desk until a stop, and then again. The move is atomic, and no batch is answered before its commit. Returns whether there was a stop.
 fn stops_moving(alloc: Global, stop: Stop, start: &Held, tables: &str) -> Result<bool, Fail> {
-    let mut first = Seen::nothing(alloc);
-    let mut seen = Seen::nothing(alloc);
-    let (held, was_stopped) = run(alloc, start, stop, NO_ROWS, &mut first)?;
-    run(alloc, &held, Stop::NEVER, NO_ROWS, &mut seen)?;
-    let is_older = seen.before.is_empty() && first.lines.is_empty();
-    let is_whole = is_older || seen.before.as_str() == tables;
-    holds(is_whole, stop, "it is moved in part")?;
-    holds(
-        is_done(&seen, "end,0,0,0\n", tables),
-        stop,
-        "it is not moved",
-    )?;
-    Ok(was_stopped)
+    let moved = moved(alloc, stop, start, tables)?;
+    holds(moved.is_whole, stop, "it is moved in part")?;
+    holds(moved.is_done, stop, "it is not moved")?;
+    Ok(moved.was_stopped)
 }
 
 // Stops the move of an older desk at each call of each file. Returns whether a run without a stop came for each.

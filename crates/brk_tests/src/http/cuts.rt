@@ -30,24 +30,31 @@ struct Three {
     replies: [String; 3],
 }
 
-fn three_requests(alloc: Global) -> Result<Three, AllocError> {
-    let first = post(alloc, "/rows/C/1", "[\"broker\",\"2\",\"Cy\"]")?;
-    let second = post(alloc, "/rows/C/1", "[\"broker\",\"2\",\"Cy\"]")?;
-    let third = post(alloc, "/ask/submitted", "[]")?;
-    let one = first.len();
-    let two = one.saturating_add(second.len());
-    let mut input = first;
-    input.push_str(second.as_str())?;
-    input.push_str(third.as_str())?;
+// The requests, and where each ends.
+fn requests(alloc: Global) -> Result<(String, [usize; 3]), AllocError> {
+    let mut input = post(alloc, "/rows/C/1", "[\"broker\",\"2\",\"Cy\"]")?;
+    let one = input.len();
+    input.push_str(post(alloc, "/rows/C/1", "[\"broker\",\"2\",\"Cy\"]")?.as_str())?;
+    let two = input.len();
+    input.push_str(post(alloc, "/ask/submitted", "[]")?.as_str())?;
     let ends = [one, two, input.len()];
-    let replies = [
-        reply(alloc, Told::Open("200 OK", "{\"ok\":[\"1709251200016\"]}"))?,
-        reply(
-            alloc,
-            Told::Open("200 OK", "{\"again\":[\"1709251200016\"]}"),
-        )?,
-        reply(alloc, Told::Open("200 OK", "{\"view\":[]}"))?,
-    ];
+    Ok((input, ends))
+}
+
+// What they are answered with.
+fn three_replies(alloc: Global) -> Result<[String; 3], AllocError> {
+    let first = reply(alloc, Told::Open("200 OK", "{\"ok\":[\"1709251200016\"]}"))?;
+    let second = reply(
+        alloc,
+        Told::Open("200 OK", "{\"again\":[\"1709251200016\"]}"),
+    )?;
+    let third = reply(alloc, Told::Open("200 OK", "{\"view\":[]}"))?;
+    Ok([first, second, third])
+}
+
+fn three_requests(alloc: Global) -> Result<Three, AllocError> {
+    let (input, ends) = requests(alloc)?;
+    let replies = three_replies(alloc)?;
     Ok(Three {
         input,
         ends,
@@ -93,6 +100,15 @@ fn a_stream_may_be_cut_at_each_byte(rt: HostRuntime) -> Result<(), Fail> {
     Ok(())
 }
 
+// The replies to all requests at a desk that executed the first one before, or did not.
+fn all_replies(alloc: Global, all: &Three, executed: bool) -> Result<String, AllocError> {
+    let first = if executed { 1 } else { 0 };
+    let mut wanted = String::from_str(alloc, all.replies[first].as_str())?;
+    wanted.push_str(all.replies[1].as_str())?;
+    wanted.push_str(all.replies[2].as_str())?;
+    Ok(wanted)
+}
+
 // Sends all requests to a desk that executed the first one before, or did not, and compares the replies and all tables after them.
 fn complete(
     alloc: Global,
@@ -101,10 +117,7 @@ fn complete(
     all: &Three,
     executed: bool,
 ) -> Result<(), Fail> {
-    let first = if executed { 1 } else { 0 };
-    let mut wanted = String::from_str(alloc, all.replies[first].as_str())?;
-    wanted.push_str(all.replies[1].as_str())?;
-    wanted.push_str(all.replies[2].as_str())?;
+    let wanted = all_replies(alloc, all, executed)?;
     let (out, ended) = served(alloc, &mut desk, all.input.as_bytes(), 64);
     if out.as_slice() != wanted.as_bytes() || ended != Ok(3) {
         return Err(Fail::new(format_args!("{name}: the stream that is sent again")));

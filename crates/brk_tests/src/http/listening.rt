@@ -2,9 +2,11 @@
 
 use crate::desks::{Still, new_desk};
 use brk_http::{ListenFault, serve_on};
+use std::alloc::Global;
 use std::io;
 use std::io::Write;
 use std::net::{Shutdown, TcpListener, TcpStream};
+use std::process::Abort;
 use std::test::Fail;
 
 // The bytes that each peer sends, in the order of their streams, and its replies. A peer without replies breaks its stream off: the
@@ -44,25 +46,57 @@ const PEERS: [(&str, Option<&str>); 6] = [
     ),
 ];
 
-#[test]
-fn streams_share_a_desk(rt: HostRuntime) -> Result<(), Fail> {
-    let mut desk = new_desk(rt.alloc())?;
-    let mut clock = Still::first();
-    let mut listener = TcpListener::bind(&rt, ("127.0.0.1", 0))?;
-    let mut whole = Vec::new(rt.alloc());
+// Connects a peer, which sends its bytes. One that waits for replies ends its side.
+fn connected(
+    rt: &HostRuntime,
+    listener: &TcpListener,
+    input: &str,
+    waits: bool,
+) -> Result<TcpStream, Fail> {
+    let mut peer = TcpStream::connect(rt, listener.local_addr()?)?;
+    peer.write_all(input.as_bytes())?;
+    if waits {
+        peer.shutdown(Shutdown::Write)?;
+    }
+    Ok(peer)
+}
+
+// Connects all peers. Returns those that wait for replies, each with the replies that are wanted; the others break off.
+fn all_connected(
+    rt: &HostRuntime,
+    listener: &TcpListener,
+) -> Result<Vec<(TcpStream, &'static str)>, Fail> {
+    let mut waiting = Vec::new(rt.alloc());
     for (input, replies) in PEERS {
-        let mut peer = TcpStream::connect(&rt, listener.local_addr()?)?;
-        peer.write_all(input.as_bytes())?;
+        let peer = connected(rt, listener, input, replies.is_some())?;
         if let Some(wanted) = replies {
-            peer.shutdown(Shutdown::Write)?;
-            whole.push((peer, wanted))?;
+            waiting.push((peer, wanted))?;
         }
     }
-    assert!(rt; serve_on(rt.alloc(), &mut listener, 6, &mut clock, &mut desk) == Ok(()));
-    for (peer, wanted) in whole {
-        let told = io::read_to_string(rt.alloc(), peer)?;
+    Ok(waiting)
+}
+
+// Compares what the peers were told.
+fn expect_told(
+    rt: &impl Abort,
+    alloc: Global,
+    waiting: Vec<(TcpStream, &'static str)>,
+) -> Result<(), Fail> {
+    for (peer, wanted) in waiting {
+        let told = io::read_to_string(alloc, peer)?;
         assert!(rt; told.as_str() == wanted, "{wanted:?}");
     }
+    Ok(())
+}
+
+#[test]
+fn streams_share_a_desk(rt: HostRuntime) -> Result<(), Fail> {
+    let mut listener = TcpListener::bind(&rt, ("127.0.0.1", 0))?;
+    let waiting = all_connected(&rt, &listener)?;
+    let mut desk = new_desk(rt.alloc())?;
+    let mut clock = Still::first();
+    assert!(rt; serve_on(rt.alloc(), &mut listener, 6, &mut clock, &mut desk) == Ok(()));
+    expect_told(&rt, rt.alloc(), waiting)?;
     listener.set_nonblocking(true)?;
     assert!(rt;
         serve_on(rt.alloc(), &mut listener, 1, &mut clock, &mut desk) == Err(ListenFault::Net)

@@ -3,7 +3,7 @@ use Rattle.std.specs.Prelude.{nat_lt}
 use Rattle.std.proofs.lemmas.Bool.{lt-ltb}
 use Rattle.std.proofs.lemmas.Bool.Decides.{nat_tests}
 use Rattle.std.proofs.lemmas.Int.{ints}
-use Rattle.brk_desk.specs.Heads.{IsHead}
+use Rattle.brk_queries.specs.Heads.{IsHead}
 use Rattle.brk_report.proofs.Keeping.{clean_then, keeps_read, keeps_still, keeps_then}
 use Rattle.brk_report.proofs.Whole.{refused_account, refused_days, states_all, states_fault, states_write}
 use Rattle.brk_report.proofs.stating.statement.Goals as goal
