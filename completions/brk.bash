@@ -30,6 +30,7 @@ _brk_is_before_value() {
         "batch --db" | "batch --at") return 0 ;;
         "statement --db" | "statement --account" | "statement --from" | "statement --to") return 0 ;;
         "ask --db") return 0 ;;
+        "explain --db") return 0 ;;
         "audit --db") return 0 ;;
         "serve --port" | "serve --db" | "serve --at" | "serve --streams") return 0 ;;
     esac
@@ -45,6 +46,7 @@ _brk_value() {
         "statement --from") _brk_hint DAY 'The first day, as 2024-03-01' ;;
         "statement --to") _brk_hint DAY 'The last day' ;;
         "ask --db") _brk_files ;;
+        "explain --db") _brk_files ;;
         "audit --db") _brk_files ;;
         "serve --port") _brk_hint P 'The port of 127.0.0.1 (from 1 to 65535)' ;;
         "serve --db") _brk_files ;;
@@ -58,6 +60,7 @@ _brk_options() {
         batch) echo '--db --at --help' ;;
         statement) echo '--db --account --from --to --help' ;;
         ask) echo '--db --json --heads --help' ;;
+        explain) echo '--db --help' ;;
         audit) echo '--db --help' ;;
         serve) echo '--port --db --at --streams --help' ;;
         '') echo '--help --version' ;;
@@ -81,11 +84,12 @@ _brk_view() {
 
 _brk_text() {
     case $1 in
-        '') _brk_words 'batch statement ask audit serve help' ;;
-        help) [[ ${#texts[@]} -gt 0 ]] || _brk_words 'batch statement ask audit serve' ;;
+        '') _brk_words 'batch statement ask explain audit serve help' ;;
+        help) [[ ${#texts[@]} -gt 0 ]] || _brk_words 'batch statement ask explain audit serve' ;;
         batch) [[ -n $ended ]] || _brk_words "$(_brk_options batch)" ;;
         statement) [[ -n $ended ]] || _brk_words "$(_brk_options statement)" ;;
         ask) if [[ ${#texts[@]} -eq 0 ]]; then _brk_words 'customer taxid recent status submitted estimate trades accounttrades symboltrades lots volume'; else _brk_view "${texts[0]}"; fi ;;
+        explain) [[ -n $ended ]] || _brk_words "$(_brk_options explain)" ;;
         audit) [[ -n $ended ]] || _brk_words "$(_brk_options audit)" ;;
         serve) [[ -n $ended ]] || _brk_words "$(_brk_options serve)" ;;
     esac

@@ -39,16 +39,18 @@ end
 complete -c brk -e
 complete -c brk -f
 complete -c brk -n __brk_is_first -s h -l help -d 'Prints the help'
-complete -c brk -n __brk_is_first -s V -l version -d 'Prints the version and the schema of new files'
+complete -c brk -n __brk_is_first -s V -l version -d 'Prints the version, the schema of new files and the kit of the proofs'
 complete -c brk -n '__brk_is_first' -a batch -d 'Reads a batch from standard input and writes a line for each row'
 complete -c brk -n '__brk_is_first' -a statement -d 'Prints the statement of an account: its cash, day by day, and its lots'
 complete -c brk -n '__brk_is_first' -a ask -d 'Prints a view of a desk: a CSV row for each record'
+complete -c brk -n '__brk_is_first' -a explain -d 'Prints how the amounts of a trade or of an account come about'
 complete -c brk -n '__brk_is_first' -a audit -d 'Recomputes every derived table of a desk, and prints ok if all are right'
 complete -c brk -n '__brk_is_first' -a serve -d 'Serves the desk over HTTP, one stream after the other'
 complete -c brk -n '__brk_is_first' -a help -d 'Prints the commands, or the help of a command'
 complete -c brk -n '__brk_is_bare help' -a batch -d 'Reads a batch from standard input and writes a line for each row'
 complete -c brk -n '__brk_is_bare help' -a statement -d 'Prints the statement of an account: its cash, day by day, and its lots'
 complete -c brk -n '__brk_is_bare help' -a ask -d 'Prints a view of a desk: a CSV row for each record'
+complete -c brk -n '__brk_is_bare help' -a explain -d 'Prints how the amounts of a trade or of an account come about'
 complete -c brk -n '__brk_is_bare help' -a audit -d 'Recomputes every derived table of a desk, and prints ok if all are right'
 complete -c brk -n '__brk_is_bare help' -a serve -d 'Serves the desk over HTTP, one stream after the other'
 
@@ -77,6 +79,9 @@ complete -c brk -n '__brk_is_bare ask' -a accounttrades -d 'ACCOUNT FROM TO'
 complete -c brk -n '__brk_is_bare ask' -a symboltrades -d 'SYMBOL FROM TO'
 complete -c brk -n '__brk_is_bare ask' -a lots -d 'ACCOUNT FROM'
 complete -c brk -n '__brk_is_bare ask' -a volume -d 'SECTOR NAME ..'
+
+complete -c brk -n '__brk_is explain' -s h -l help -d 'Prints the help'
+complete -c brk -n '__brk_lacks explain db' -l db -r -F -d 'FILE: The file of the desk'
 
 complete -c brk -n '__brk_is audit' -s h -l help -d 'Prints the help'
 complete -c brk -n '__brk_lacks audit db' -l db -r -F -d 'FILE: The file of the desk'

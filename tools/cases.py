@@ -1,6 +1,7 @@
 #!/usr/bin/env python3
-"""Joins the transcripts of cases/ into the input of brk_cases and into the output that is wanted of it, which are the same bytes. Run it
-at the top of the repository after a change of a transcript; .ci/run runs it, and asks that nothing changed.
+"""Joins the transcripts of cases/ into the input of brk_cases and into the output that is wanted of it, which are the same bytes, and those of
+cases/files/ in the same way for brk_tests_files. Run it at the top of the repository after a change of a transcript; .ci/run runs it, and asks
+that nothing changed.
 
     tools/cases.py
 """
@@ -8,20 +9,28 @@ import os
 import pathlib
 import sys
 
-PROGRAM = pathlib.Path('crates/brk_cases')
+# each program that replays transcripts, and their folder
+PROGRAMS = {'crates/brk_cases': 'cases', 'crates/brk_tests_files': 'cases/files'}
 
 
-def main():
-    joined = b''
-    for path in sorted(pathlib.Path('cases').glob('*.txt')):
+def joined(folder):
+    """The transcripts of a folder, one after the other."""
+    texts = []
+    for path in sorted(pathlib.Path(folder).glob('*.txt')):
         text = path.read_bytes()
         if not text.endswith(b'\n'):
             sys.exit(f'tools/cases.py: {path} does not end with a line feed')
-        joined += text
-    for name in ('stdin', 'stdout'):
-        path = PROGRAM / name
-        if not path.exists() or path.read_bytes() != joined:
-            path.write_bytes(joined)
+        texts.append(text)
+    return b''.join(texts)
+
+
+def main():
+    for program, folder in PROGRAMS.items():
+        text = joined(folder)
+        for name in ('stdin', 'stdout'):
+            path = pathlib.Path(program) / name
+            if not path.exists() or path.read_bytes() != text:
+                path.write_bytes(text)
 
 
 if __name__ == '__main__':

@@ -1,13 +1,42 @@
 #!/usr/bin/env python3
-"""Writes the tables of docs/DEFINITIONS.md from the comments above the definitions of brk_money, brk_model and brk_http_model. The headings
-of that page and the text that stands elsewhere in it are written by hand: under a heading '### FILE' the script writes what
-the file's head says and a row for each of its definitions, in their order. Run it at the top of the repository after a change
-of a definition; `.ci/run` does so first. It prints nothing where all is well."""
+"""Writes the tables and the contents of docs/DEFINITIONS.md from the comments above the definitions of the model and of the crates whose public
+functions cite more. The headings of that page and the text that stands elsewhere in it are written by hand: under a heading '### FILE' the script
+writes what the file's head says and a row for each of its definitions, in their order, and under the heading '## Contents' a link to each heading.
+Run it at the top of the repository after a change of a definition; `.ci/run` does so first. It prints nothing where all is well."""
 import re
 import sys
 
 PAGE = 'docs/DEFINITIONS.md'
-CRATES = ['brk_money', 'brk_model', 'brk_http_model']
+CONTENTS = '## Contents'
+
+# The specification of the product: its definitions are from the standard or our own, and the page says which.
+MODEL = ['brk_money', 'brk_model', 'brk_http_model']
+
+# The crates that implement it, whose definitions are all our own.
+CODE = [
+    'brk_changes',
+    'brk_sql',
+    'brk_tables_schema',
+    'brk_tables_create',
+    'brk_tables_scan',
+    'brk_store',
+    'brk_commit',
+    'brk_view',
+    'brk_queries',
+    'brk_desk',
+    'brk_io',
+    'brk_batch_engine',
+    'brk_import',
+    'brk_http_engine',
+    'brk_http_listener',
+    'brk_http',
+    'brk_report_lines',
+    'brk_report',
+    'brk_ask',
+    'brk_files',
+    'brk_exit',
+]
+CRATES = MODEL + CODE
 
 # What a file's definitions are from, where that is not this project's own profile.
 FILES = {
@@ -117,11 +146,45 @@ def origin(name, word):
 def section(crate, name):
     """The text under a file's heading"""
     head, rows = definitions(crate, name)
+    if crate in CODE:
+        table = [f'| `{word}` | {sentence(comment)} |' for word, comment in rows]
+        return [f'### {name}', '', sentence(head), '', '| Name | What it means |', '|---|---|', *table, '']
     for word in ' '.join(NAMES.get(name, {}).values()).split():
         if word not in dict(rows):
             fail(f'{word} is listed here for {name}, which has no such definition')
     table = [f'| `{word}` | {sentence(comment)} | {origin(name, word)} |' for word, comment in rows]
     return [f'### {name}', '', sentence(head), '', '| Name | What it means | From |', '|---|---|---|', *table, '']
+
+
+def anchors(lines):
+    """The headings of the page with their depth, text and anchor; an anchor that is taken gets a number behind it"""
+    taken = {}
+    for line in lines:
+        found = re.match(r'(#{1,3}) (.*)', line)
+        if found:
+            anchor = re.sub(r'[^a-z0-9_ -]', '', found[2].lower()).replace(' ', '-')
+            number = taken[anchor] = taken.get(anchor, -1) + 1
+            yield len(found[1]), found[2], f'{anchor}-{number}' if number else anchor
+
+
+def contents(lines):
+    """A line for each part of the page, with a link to each file of the part"""
+    out, begun = [], False
+    for depth, text, anchor in anchors(lines):
+        link = f'[{text}](#{anchor})'
+        if depth == 1 and text.endswith(')'):
+            begun = True
+            out.append([f'- {link}: ', []])
+        elif depth == 3 and begun:
+            out[-1][1].append(link)
+    return [part + ', '.join(links) for part, links in out]
+
+
+def with_contents(lines):
+    """The page with its contents anew"""
+    at = lines.index(CONTENTS) if CONTENTS in lines else fail(f'{PAGE} has no heading {CONTENTS}')
+    end = next(n for n in range(at + 1, len(lines)) if lines[n].startswith('#'))
+    return lines[: at + 1] + ['', *contents(lines), ''] + lines[end:]
 
 
 def page(lines):
@@ -151,7 +214,7 @@ def page(lines):
 def cited(lines):
     """Each definition that the table of rules names by its file stands there"""
     known = {}
-    for crate in CRATES:
+    for crate in MODEL:
         for name in files(crate):
             known.setdefault(name, set()).update(word for word, _ in definitions(crate, name)[1])
     for line in lines:
@@ -164,7 +227,7 @@ def cited(lines):
 if __name__ == '__main__':
     with open(PAGE) as file:
         before = file.read()
-    after = page(before.splitlines())
+    after = with_contents(page(before.splitlines()))
     cited(after)
     text = '\n'.join(after).rstrip('\n') + '\n'
     if text != before:

@@ -1,6 +1,6 @@
 -- The conditions that an audit checks of tables, each only if those before it hold (consistency
 -- conditions, and this project's own).
-use Rattle.std.specs.Prelude.{◌≡◌, ◌⊎◌, List, [], ◌∷◌, map, Option, Some, None, IsTrue}
+use Rattle.std.specs.Prelude.{◌≡◌, ◌⊎◌, ⊤, List, [], ◌∷◌, map, Option, Some, None, IsTrue}
 use Rattle.brk_money.specs.declared.fault.Condition.{Condition}
 use Rattle.brk_money.specs.declared.fault.Condition.TheVariants as condition
 use Rattle.brk_model.specs.Schemas.{Schema}
