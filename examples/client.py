@@ -1,5 +1,6 @@
 #!/usr/bin/env python3
-"""Sends a batch to `brk batch` through a pipe, and tells what came of each of its rows.
+"""Sends a batch to `brk batch` through a pipe, and tells what came of each of its rows. Beforehand it names each row
+whose kind or number of fields is wrong by examples/kinds.csv.
 
     python3 examples/client.py [--at MS]
 
@@ -14,6 +15,7 @@ import subprocess
 import sys
 
 BRK = pathlib.Path(__file__).resolve().parent.parent / "brk"
+KINDS = pathlib.Path(__file__).resolve().parent / "kinds.csv"
 
 REFUSALS = {
     1: "no such account",
@@ -61,6 +63,27 @@ ROWS = [
 ]
 
 
+def fields_of_kinds():
+    """The fields of each kind of row, as examples/kinds.csv has them: the name of each, and whether it may occur again."""
+    kinds = {}
+    with open(KINDS, newline="", encoding="utf-8") as file:
+        for line in csv.DictReader(file):
+            kinds.setdefault(line["kind"], []).append((line["field"], line["occurs"] != "1"))
+    return kinds
+
+
+def unknown_form(row, kinds):
+    """Why a row is of no kind, or has another number of fields than its kind; none if its fields can be named."""
+    fields = kinds.get(row[0])
+    if fields is None:
+        return "no such kind"
+    once = sum(not again for _, again in fields)
+    group = len(fields) - once
+    more = len(row) - 1 - once
+    fits = more == 0 if group == 0 else more > 0 and more % group == 0
+    return None if fits else "the fields are " + ", ".join(name for name, _ in fields)
+
+
 def batch_of(name, rows):
     """The bytes of a batch: the header, the rows, and the end with their number."""
     text = io.StringIO(newline="")
@@ -93,6 +116,10 @@ def told(answer):
 
 
 def main():
+    kinds = fields_of_kinds()
+    for number, row in enumerate(ROWS, start=1):
+        if why := unknown_form(row, kinds):
+            print(f"{number} {row[0]}: {why}; it will be refused", file=sys.stderr)
     status, lines = send("CLIENT-1", ROWS, sys.argv[1:])
     answers = {int(line[0]): line[1:] for line in lines if line[0] != "end"}
     for number, row in enumerate(ROWS, start=1):
