@@ -5,7 +5,7 @@ import { ask, fileSecurity, fileTrade, Refused } from "./desk.js";
 import { explain, UNKNOWN } from "./derivation.js";
 import { el, field, form, keepRoles, link, note, problem, table } from "./dom.js";
 import { amount, moment, whole } from "./money.js";
-import { agreesWithLots, readTrades, STATUSES, TYPES } from "./trades.js";
+import { agreesWithLots, CUT, readTrades, STATUSES, TYPES } from "./trades.js";
 
 function check({ holds, shown }) {
   return holds ? ` \u2713 equals the desk's ${shown}` : ` \u2715 the desk shows ${shown}`;
@@ -124,7 +124,10 @@ async function showDerivation(main, id, account) {
     const trade = known.trades.find((each) => each.id === id) ?? null;
     progress.remove();
     if (trade === null) {
-      main.append(problem(new Error(`Trade ${found.id} is not one of account ${account}.`)), tradeForm(id, account));
+      const why = known.isCut
+        ? `is not among the trades that the desk lists of account ${account}. ${CUT}`
+        : `is not one of account ${account}.`;
+      main.append(problem(new Error(`Trade ${found.id} ${why}`)), tradeForm(id, account));
       return;
     }
     await derivation(main, known, trade);
