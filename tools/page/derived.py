@@ -87,10 +87,10 @@ def derivations(trial, views):
     )
     trial.show("trade/3")
     trial.tell("a trade without its account is found in the file", len(trial.tab.texts("#part-settlement")), 1)
-    trial.show("trade/3/101")
+    trial.show("trade/3/110")
     trial.tell(
         "a trade of another account is told in words",
-        "Trade 3 is not one of account 101." in " ".join(trial.tab.texts(".problem")),
+        "Trade 3 is not one of account 110." in " ".join(trial.tab.texts(".problem")),
     )
 
 
