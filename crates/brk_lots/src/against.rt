@@ -16,7 +16,7 @@ use brk_money::{Amount, Id, Price, Qty, Side, Stamp, Wide};
 use std::alloc::Global;
 
 /// Returns true if the shares that are held in all (HS_QTY) are on the other side of a trade:
-/// bought shares for a sale, shares sold short for a purchase. Otherwise the trade closes no lot.
+/// bought shares for a sale, shares sold short for a purchase.
 pub fn closes_lots(side: Side, held: i64) -> bool
     ensures { result ≡ closes_lots side held }
 {
@@ -27,7 +27,7 @@ pub fn closes_lots(side: Side, held: i64) -> bool
 }
 
 /// Returns the effect of a trade on a position without lots on the other side: it opens a lot of
-/// all its shares (Trade-Result). Never allocates.
+/// all its shares (Trade-Result).
 pub fn open_without_closing(
     alloc: Global,
     side: Side,

@@ -37,7 +37,7 @@ impl Model for Position {
 }
 
 impl Position {
-    /// Returns the position without lots. Never allocates.
+    /// Returns the position without lots.
     pub fn new(alloc: Global) -> Position
         ensures { result ≡ [] }
     {

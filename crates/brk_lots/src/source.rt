@@ -5,7 +5,8 @@ ghost use Rattle.brk_money.specs.declared.fault.Fault.{Fault};
 use crate::lot::Lot;
 use brk_money::Fault;
 
-/// A source of the lots of a position from one of its ends. It skips no lot and repeats none.
+/// A source of the lots of a position from one of its ends. As long as it reads faithfully, it skips
+/// no lot and repeats none.
 pub trait LotSource {
     /// Relates the source to the lots that remain, in the order in which it yields them.
     ghost remaining: { Self → List Lot → Type 0 };
@@ -27,8 +28,8 @@ pub trait LotSource {
     /// The effect of a call that fails: the source before it, the fault, and the source after it.
     ghost fails: { Self → Fault → Self → Type 0 };
 
-    /// Returns the next lot, or `None` after the last. An error leaves the remaining lots
-    /// unchanged, so the call may be retried.
+    /// Returns the next lot, or `None` after the last, as long as the source reads faithfully. An
+    /// error leaves the remaining lots unchanged, so the call may be retried.
     fn next(&mut self) -> Result<Option<Lot>, Fault>
         ensures leads { leads self.old self.new }
         ensures given { IfOk result (λ given. reads_faithfully self.new → (ls : List Lot) → remaining self.old ls →

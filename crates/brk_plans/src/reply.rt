@@ -35,7 +35,7 @@ pub struct Completed {
 /// The reply to an accepted command, with its stamp.
 #[derive(Drop)]
 pub enum Reply {
-    /// A row of reference data was added.
+    /// A row of reference data was added, or the settlement day was set.
     Booked(Stamp),
     /// An order was placed.
     Ordered(Ordered),
