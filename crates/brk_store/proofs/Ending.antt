@@ -137,6 +137,7 @@ module _ {S : Type 0} (g : Ghosts S) (old mid end : Held S) (settled : IsTrue (s
       absent = λ clean. (tells _ _ (all clean).2).0;
       others = λ clean. (tells _ _ (all clean).2).1.others;
       taken = λ clean e. absurd (let f = e in cc);
+      occupied = λ clean there. absurd (let none = (tells _ _ (all clean).2).0 in let some = there in cc);
       same = λ clean o. tt;
       survives = survives_weaker (state g old) (state g end) _ _ (λ _ db h. (h.0, (tells _ _ h.1).1.rows, h.2)) whole;
       durable = λ clean trees may. ((state g end).now, (tells _ _ (all clean).2).1.rows, leaves_now law clean trees may);
@@ -163,6 +164,7 @@ module _ {S : Type 0} (g : Ghosts S) (old mid end : Held S) (settled : IsTrue (s
       absent = λ clean. tt;
       others = λ clean. tt;
       taken = λ clean e. absurd (let f = e in cc);
+      occupied = λ clean there. inr refl;
       same = kept_at e fails;
       survives = survives_weaker (state g old) (state g end) _ _ (λ _ db h. (h.0, (tells _ _ h.1).1.rows, h.2)) whole;
       durable = λ clean. tt;

@@ -7,6 +7,7 @@ use Rattle.sqlite.specs.State.{HasCleanDisk}
 use Rattle.brk_model.specs.Tables.{Tables}
 use Rattle.brk_sql.proofs.Inside.{clean_before}
 use Rattle.brk_tables_schema.specs.Made.{HasRows}
+use Rattle.brk_tables_walks.specs.Walk.{EndsBy}
 use Rattle.brk_tables_walks.specs.Walks as tables
 use Rattle.brk_tables_walks.specs.Walks.{BreaksOff, Takes, Walks}
 use Rattle.brk_tables_walks.specs.declared.walking.WalkError.{WalkError}
@@ -32,6 +33,7 @@ module _ {S X M V E : Type 0} (g : Ghosts S) (old new : Held S) (of : X → M) (
   is_walked result w = record {
     all = λ clean. done result (clean_at result w clean) (w.all clean);
     early = λ clean. broken result (clean_at result w clean) (w.early clean);
+    fault = w.fault;
     opened = λ clean. opens result (w.all clean);
     kept = λ t holds clean o. let k = w.same clean o in subst (HasRows t) (sym k.1) (holds (clean_at result w clean) k.0);
     same = λ clean o. let k = w.same clean o in record { was_open = k.0; now = k.1; committed = k.2 };
@@ -61,6 +63,7 @@ pub is_walked_by : {S X M V W E : Type 0} (g : Ghosts S) (old new : Held S) (of 
 is_walked_by {S} {X} {M} {V} {W} {E} g old new of list inner takes stops before after result w = record {
   all = λ clean. done result (w.all clean);
   early = λ clean. broken result (w.early clean);
+  fault = ends result w.fault;
   opened = w.opened;
   kept = w.kept;
   same = w.same;
@@ -76,3 +79,8 @@ is_walked_by {S} {X} {M} {V} {W} {E} g old new of list inner takes stops before 
     broken (Ok u) h = tt
     broken (Err (Failed fault)) h = (h.0, (h.1.0, folds_inner inner takes before h.1.0 after h.1.1, h.1.2))
     broken (Err (Cause e)) h = (h.0, h.1, inner h.2, folds_inner inner takes before h.0 h.2 h.3, h.4, h.5)
+
+    ends : (r : Result (Unit {0}) (WalkError E)) → IfErr r (EndsBy (λ p x e q. stops (inner p) x e (inner q)) after) → IfErr r (EndsBy stops (inner after))
+    ends (Ok u) h = tt
+    ends (Err (Failed fault)) h = h
+    ends (Err (Cause e)) h = (inner h.0, h.1, h.2)

@@ -1,5 +1,5 @@
 -- The rows that a store holds, and the postconditions of its calls.
-use Rattle.std.specs.Prelude.{◌≡◌, ℕ, true, false, Result, Err, IfOk, OnOk, OnErr, IsTrue}
+use Rattle.std.specs.Prelude.{◌≡◌, ◌⊎◌, ℕ, true, false, Result, Err, IfOk, OnOk, OnErr, IsTrue}
 use Rattle.sqlite_trees.specs.declared.store.Store.{Ghosts}
 use Rattle.sqlite_trees.specs.Tree.{Trees}
 use Rattle.sqlite.specs.Effect.{Database}
@@ -7,7 +7,7 @@ use Rattle.sqlite.specs.Held.{Held, state}
 use Rattle.sqlite.specs.State.{State, HasCleanDisk, IsLive, Survives}
 use Rattle.brk_money.specs.declared.fault.Condition.TheVariants.{NotEmpty}
 use Rattle.brk_money.specs.declared.fault.Fault.{Fault}
-use Rattle.brk_money.specs.declared.fault.Fault.TheVariants.{Damaged}
+use Rattle.brk_money.specs.declared.fault.Fault.TheVariants.{Damaged, Store}
 use Rattle.brk_model.specs.Tables.{Tables, no_rows}
 use Rattle.brk_sql.specs.Desk.{HasTables, KeepsOthers, SparesStrangers}
 use Rattle.brk_tables_schema.specs.Desk.{Which, desk}
@@ -78,6 +78,9 @@ pub record CreatePost {S : Type 0} (g : Ghosts S) (old new : Held S) (result : R
   pub others : HasCleanDisk (state g new) → OnOk result (KeepsOthers (state g old).now (state g new).now)
   -- The error is `Damaged(NotEmpty)` only if one of the tables existed.
   pub taken : HasCleanDisk (state g new) → result ≡ Err (Damaged NotEmpty) → has_table_of_desk (state g old).now.schema ≡ true
+  -- If one of the tables existed, the error is `Damaged(NotEmpty)`, or `Store`.
+  pub occupied : HasCleanDisk (state g new) → has_table_of_desk (state g old).now.schema ≡ true
+      → (result ≡ Err (Damaged NotEmpty)) ⊎ (result ≡ Err Store)
   -- At an error the database was open and is unchanged, if it is open after the call.
   pub same : HasCleanDisk (state g new) → IsTrue (state g new).is_open → OnErr result (IsSame (state g old) (state g new))
   -- A crash exposes a state that was possible before the call, or the tables without rows.

@@ -6,6 +6,7 @@ use Rattle.sqlite.specs.State.{HasCleanDisk, Survives}
 use Rattle.brk_money.specs.declared.fault.Fault.{Fault}
 use Rattle.brk_model.specs.Statement.{cash_in}
 use Rattle.brk_model.specs.Tables.{Tables, MoveRow}
+use Rattle.brk_tables_walks.specs.Walk.{EndsBy}
 use Rattle.brk_tables_walks.specs.Walks.{BreaksOff, Takes}
 use Rattle.brk_tables_walks.specs.declared.walking.WalkError.{WalkError}
 use Rattle.brk_tables_walks.specs.declared.walking.WalkError.TheVariants.{Failed, Cause}
@@ -33,6 +34,9 @@ pub record WalkPost {S X M V E : Type 0} (g : Ghosts S) (old new : Held S) (of :
   -- At a fault the visitor has taken a prefix of the records. At its own error it has taken the
   -- records before the one at which it stopped.
   pub early : HasCleanDisk (state g new) → IfErr result (BreaksOff (AreFirst g old list) of takes stops before after)
+  -- The error is `Memory` or `Store`, or that of the visitor, whether or not the disk assumption
+  -- holds.
+  pub fault : IfErr result (EndsBy stops after)
   -- `Ok` is returned only if the store was open.
   pub opened : HasCleanDisk (state g new) → OnOk result (IsTrue (state g old).is_open)
   -- The store holds the rows that it held, whatever the result.

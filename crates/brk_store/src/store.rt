@@ -41,7 +41,8 @@ impl<S: Alter> Store<S> {
     ///
     /// Errors return the connection, with no transaction open that was not open before, and the
     /// open database unchanged: `Damaged(NotEmpty)`, only if one of the tables exists; `Store`,
-    /// also if a transaction is open on `conn`, which is then returned unchanged.
+    /// also if a transaction is open on `conn`, which is then returned unchanged. If one of the
+    /// tables exists, the result is one of these errors.
     ///
     /// A crash exposes a state that was possible before the call, or the tables without rows; after
     /// `Ok` only the latter. After an error too, a crash may find the tables created.

@@ -12,7 +12,7 @@ use Rattle.brk_sql.proofs.Order.{map_twice}
 use Rattle.brk_tables_schema.specs.Desk.{desk}
 use Rattle.brk_tables_walks.specs.declared.walking.WalkError.{WalkError}
 use Rattle.brk_tables_walks.specs.declared.walking.WalkError.TheVariants.{Failed, Cause}
-use Rattle.brk_tables_walks.specs.Walk.{TakesAll, EndsEarly}
+use Rattle.brk_tables_walks.specs.Walk.{TakesAll, EndsBy, EndsEarly}
 use Rattle.brk_tables_walks.specs.Walks.{AreAll, AreFirst, BreaksOff, Takes, Walks}
 
 map_parts : {X Y : Type 0} (f : X → Y) (xs ys : List X) → map f (xs ++ ys) ≡ map f xs ++ map f ys
@@ -45,10 +45,11 @@ module _ {X M : Type 0} (of : X → M) (cells : M → Row) (back : Row → M) (i
     pub walks : Survives (state g old) (state g new) (λ _. ⊥) → (IsTrue (state g old).is_open → (state g old).now ≡ (state g old).committed)
         → (HasCleanDisk (state g new) → OnOk result (TakesAll (λ x. cells (of x)) takes sql params (state g old) before after))
         → (HasCleanDisk (state g new) → IfErr result (EndsEarly (λ x. cells (of x)) takes stops sql params (state g old) before after))
-        → (HasCleanDisk (state g new) → IsUnchanged (state g old) (state g new) ⊎ IsRolledBack (state g old) (state g new)) → Walks g old new of list takes stops before after result
-    walks survives settled all early kept = record {
+        → (HasCleanDisk (state g new) → IsUnchanged (state g old) (state g new) ⊎ IsRolledBack (state g old) (state g new)) → IfErr result (EndsBy stops after) → Walks g old new of list takes stops before after result
+    walks survives settled all early kept fault = record {
       all = λ clean. done result (all clean);
       early = λ clean. broken result (early clean);
+      fault = fault;
       same = λ clean o. same_at settled (kept clean) o;
       survives = survives;
     }

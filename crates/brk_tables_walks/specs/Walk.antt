@@ -14,6 +14,11 @@ use Rattle.brk_tables_walks.specs.declared.walking.WalkError.TheVariants.{Failed
 abbrev pub IsQuery : List ℕ → Type 0
 IsQuery sql = (schema : Schema) (c : Compiled) → understood schema sql ≡ Ok c → c.returning ≡ None
 
+-- The walk failed with `Memory` or `Store`, or the visitor stopped at some record with this error.
+abbrev pub EndsBy : {V X E : Type 0} → (V → X → E → V → Type 0) → V → WalkError E → Type 0
+EndsBy stops after (Failed fault) = MayFail fault
+EndsBy {V} {X} stops after (Cause e) = (at : V) × (next : X) × stops at next e after
+
 module _ {V X : Type 0} (cells : X → Row) (takes : V → X → V → Type 0) where
   -- The visitor took all records of the query's result, in order.
   pub record TakesAll (sql : List ℕ) (params : Row) (db : State) (old new : V) : Type 0 where

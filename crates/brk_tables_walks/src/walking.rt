@@ -3,7 +3,7 @@ ghost use Rattle.sqlite.specs.Held.{state};
 ghost use Rattle.sqlite.specs.State.{HasCleanDisk, IsRolledBack, IsUnchanged, Survives};
 ghost use Rattle.sqlite.specs.Values.{bound};
 ghost use Rattle.brk_model.specs.Run.{MayFail};
-ghost use Rattle.brk_tables_walks.specs.Walk.{EndsEarly, IsQuery, TakesAll};
+ghost use Rattle.brk_tables_walks.specs.Walk.{EndsBy, EndsEarly, IsQuery, TakesAll};
 
 use crate::visitor::Visitor;
 use brk_money::Fault;
@@ -50,6 +50,9 @@ pub fn walk<S: Alter, R: Record, E, V: Visitor<R, E>>(
     // At the visitor's error, it took the records before the one at which it stopped. Otherwise it
     // took the first records, possibly none.
     ensures early { HasCleanDisk (state S.Store conn.new) → IfErr result (EndsEarly R.cells V.takes V.stops sql.now (bound params.now) (state S.Store conn.old) visitor.old visitor.new) }
+    // The error is `Memory` or `Store`, or that of the visitor, whether or not the disk assumption
+    // holds.
+    ensures fault { IfErr result (EndsBy V.stops visitor.new) }
     ensures same { HasCleanDisk (state S.Store conn.new) → OnOk result (IsUnchanged (state S.Store conn.old) (state S.Store conn.new)) }
     ensures kept { HasCleanDisk (state S.Store conn.new) → IsUnchanged (state S.Store conn.old) (state S.Store conn.new) ⊎ IsRolledBack (state S.Store conn.old) (state S.Store conn.new) }
     ensures mode { conn.old.in_transaction ≡ false → conn.new.in_transaction ≡ false }

@@ -18,4 +18,4 @@ returns-clause-walked g c =
     let new = c.walk.new.conn in
     walks move_row_of move_cells move_back move_is_back g.S.Store old new (cash_between c.args.account c.args.from c.args.to) g.V.Visitor.takes g.V.Visitor.stops _ _ _ CashBetween.statement (nat c.args.account ∷ nat c.args.from ∷ nat c.args.to ∷ [])
     (tells_cash_between (state g.S.Store old) (state g.S.Store old) c.args.account c.args.from c.args.to) (λ rows up begins. cash_start (state g.S.Store old) c.args.account c.args.from c.args.to rows up begins)
-    c.walk.ensures.crash (c.is_autocommit-settled.ensures.settled (search rules)) (rw (c.id_value.ensures, c.stamp_value.ensures, c.stamp_value-2.ensures) at c.walk.ensures.all) (rw (c.id_value.ensures, c.stamp_value.ensures, c.stamp_value-2.ensures) at c.walk.ensures.early) c.walk.ensures.kept
+    c.walk.ensures.crash (c.is_autocommit-settled.ensures.settled (search rules)) (rw (c.id_value.ensures, c.stamp_value.ensures, c.stamp_value-2.ensures) at c.walk.ensures.all) (rw (c.id_value.ensures, c.stamp_value.ensures, c.stamp_value-2.ensures) at c.walk.ensures.early) c.walk.ensures.kept c.walk.ensures.fault

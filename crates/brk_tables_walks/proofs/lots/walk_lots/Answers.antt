@@ -18,4 +18,4 @@ returns-clause-walked g c =
     let new = c.walk.new.conn in
     walks holding_row_of holding_cells holding_back holding_is_back g.S.Store old new (lots_by_symbol c.args.account) g.V.Visitor.takes g.V.Visitor.stops _ _ _ LotsBySymbol.statement (nat c.args.account ∷ [])
     (tells_lots_by_symbol (state g.S.Store old) (state g.S.Store old) c.args.account) (λ rows up begins. lots_start (state g.S.Store old) c.args.account rows up begins)
-    c.walk.ensures.crash (c.is_autocommit-settled.ensures.settled (search rules)) (rw c.id_value.ensures at c.walk.ensures.all) (rw c.id_value.ensures at c.walk.ensures.early) c.walk.ensures.kept
+    c.walk.ensures.crash (c.is_autocommit-settled.ensures.settled (search rules)) (rw c.id_value.ensures at c.walk.ensures.all) (rw c.id_value.ensures at c.walk.ensures.early) c.walk.ensures.kept c.walk.ensures.fault

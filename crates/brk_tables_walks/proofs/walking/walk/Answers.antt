@@ -161,3 +161,18 @@ returns-in-Err-clause-leads g c = g.met.V.Visitor.stays _
 
 pub returns-in-Err-visit-clause-leads : goal.returns-in-Err-visit-clause-leads
 returns-in-Err-visit-clause-leads g c = g.met.V.Visitor.goes_on _ _ _ c.rows.invariant.3.1 c.in-Err-visit.ensures.leads
+
+pub returns-in-Err-clause-fault : goal.returns-in-Err-clause-fault
+returns-in-Err-clause-fault g c = inr refl
+
+pub returns-in-Err-next-clause-fault : goal.returns-in-Err-next-clause-fault
+returns-in-Err-next-clause-fault g c = inr refl
+
+pub returns-in-Err-record_in-clause-fault : goal.returns-in-Err-record_in-clause-fault
+returns-in-Err-record_in-clause-fault g c = c.in-Err-record_in.ensures.fault
+
+pub returns-in-Err-visit-clause-fault : goal.returns-in-Err-visit-clause-fault
+returns-in-Err-visit-clause-fault g c = (c.rows.visitor, c.in-Ok-record_in.item, c.in-Err-visit.ensures.stops)
+
+pub returns-clause-fault : goal.returns-clause-fault
+returns-clause-fault g c = inr refl
