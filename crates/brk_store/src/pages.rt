@@ -29,8 +29,8 @@ pub struct Page {
     ghost some_shares: { All (λ r. r.qty ≢ pos 0) rows.items },
 }
 
-/// A source of the lots of an account in a security, from one end, which reads 16 rows at a time.
-/// It borrows the store.
+/// A source of the lots of an account in a security, from one end. It has read at most 15 rows more
+/// than the lots that it returned (`rows_read`). It borrows the store.
 pub type LotPages<'a, S> = Pages<'a, S, Page>;
 
 /// Pages of a borrowed store. The page is a type parameter, so that a caller knows the store's
@@ -136,7 +136,7 @@ impl<S: Alter> Store<S> {
     ghost use Rattle.brk_book_theorems.specs.TradeReads.{position_in};
 
     /// Returns a source of the lots of an account in a security, the newest first if `lifo`,
-    /// otherwise the oldest first. Reads nothing yet: the source reads 16 rows at a time.
+    /// otherwise the oldest first. Has read no row yet.
     ///
     /// A call of the source fails with `Memory` or `Store`. The remaining lots and the open
     /// database are then unchanged, so the call may be retried.
@@ -173,13 +173,19 @@ impl<S: Alter> Store<S> {
 }
 
 impl<S: Alter> Pages<'_, S, Page> {
-    ghost use Rattle.std.specs.Prelude.{◌≡◌, ◌≢◌, ◌≤◌, ◌+◌, ◌-◌, ◌∷◌, IfErr, IfOk, IfSome, List, MatchOption, [], length, pos};
+    ghost use Rattle.std.specs.Prelude.{◌≡◌, ◌≢◌, ◌≤◌, ◌+◌, ◌-◌, ◌∷◌, IfErr, IfOk, IfSome, List, MatchOption, OnErr, [], length, map, pos};
+    ghost use Rattle.std.specs.List.{All};
     ghost use Rattle.sqlite.specs.Held.{state};
     ghost use Rattle.sqlite.specs.State.{HasCleanDisk};
     ghost use Rattle.brk_lots.specs.declared.lot.Lot.{Lot as TheLot};
+    ghost use Rattle.brk_changes.specs.Rows.{holding_row_of};
     ghost use Rattle.brk_model.specs.Run.{MayFail};
+    ghost use Rattle.brk_model.specs.Tables.{Tables};
+    ghost use Rattle.brk_store.specs.Holds.{Holds};
     ghost use Rattle.brk_store.specs.Kept.{IsKept};
+    ghost use Rattle.brk_store.specs.Pages.{rows_from};
     ghost use Rattle.brk_store.specs.Resting.{Rests, read_by};
+    ghost use Rattle.brk_tables_trading.specs.Pages.{on_page, page_size};
 
     /// Returns the number of rows read: at least the number of lots returned, and at most 15 more.
     pub fn rows_read(&self) -> u64
@@ -188,6 +194,35 @@ impl<S: Alter> Pages<'_, S, Page> {
         ensures most { result ≤ ⟦<Pages<'static, S, Page> as LotSource>⟧.asked self.now + 15 }
     {
         u64::from(self.read)
+    }
+
+    // Reads the next page and adds its rows to the number of rows read. Fails with `Memory` or
+    // `Store`, also with `Store` if that number exceeds 32 bits; the number is then unchanged.
+    fn next_page(&mut self) -> Result<Vec<HoldingRow>, Fault>
+        ensures same_reference { self.new.store.ghost_name ≡ self.old.store.ghost_name }
+        ensures same { self.new ≡ record self.old { store = self.new.store; read = self.new.read } }
+        ensures store { IsKept S.Store self.old.store.now self.new.store.now }
+        ensures told { HasCleanDisk (state S.Store self.new.store.now) → IfOk result (λ page. (t : Tables) → Holds S.Store self.old.store.now t →
+            map holding_row_of page.items ≡ on_page self.old.read (rows_from self.old.lifo self.old.account self.old.symbol.now t)) }
+        ensures counted { IfOk result (λ page. self.new.read ≡ self.old.read + length page.items) }
+        ensures unread { OnErr result (self.new.read ≡ self.old.read) }
+        ensures few { IfOk result (λ page. length page.items ≤ page_size) }
+        ensures some_shares { IfOk result (λ page. All (λ r. r.qty ≢ pos 0) page.items) }
+        ensures fault { IfErr result MayFail }
+    {
+        let page = known_page(
+            self.store,
+            self.alloc,
+            self.account,
+            self.symbol,
+            self.lifo,
+            self.read,
+        )?;
+        let Some(read) = self.read.checked_add(page.len() as u32) else {
+            return Err(Fault::Store);
+        };
+        self.read = read;
+        Ok(page)
     }
 
     // Turns to the next page and returns its first lot, or `None` if no lot remains.
@@ -205,22 +240,11 @@ impl<S: Alter> Pages<'_, S, Page> {
         if self.ended {
             return Ok(None);
         }
-        let page = known_page(
-            self.store,
-            self.alloc,
-            self.account,
-            self.symbol,
-            self.lifo,
-            self.read,
-        )?;
-        let Some(read) = self.read.checked_add(page.len() as u32) else {
-            return Err(Fault::Store);
-        };
+        let page = self.next_page()?;
         let first = match page.first() {
             Some(row) => Some(lot_of(row)),
             None => None,
         };
-        self.read = read;
         self.ended = page.len() < PAGE_SIZE;
         self.page = Page {
             rows: page,

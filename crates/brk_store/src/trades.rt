@@ -91,10 +91,10 @@ impl<S: Alter> Store<S> {
         brk_tables_trading::last_trade_by_symbol(&mut tx, symbol)
     }
 
-    /// Returns a page of the lots of an account in a security: at most 16, after the first
-    /// `skipped`, sorted by opening stamp and then by trade, the oldest first. Fails with `Memory`
-    /// or `Store`.
-    pub fn oldest_lots(
+    // Returns a page of the lots of an account in a security: at most 16, after the first
+    // `skipped`, sorted by opening stamp and then by trade, the oldest first. Fails with `Memory`
+    // or `Store`.
+    pub(crate) fn oldest_lots(
         &mut self,
         alloc: Global,
         account: Id,
@@ -108,10 +108,10 @@ impl<S: Alter> Store<S> {
         brk_tables_trading::oldest_lots(&mut tx, alloc, account, symbol, skipped)
     }
 
-    /// Returns a page of the lots of an account in a security: at most 16, after the first
-    /// `skipped`, sorted by opening stamp and then by trade, the newest first. Fails with `Memory`
-    /// or `Store`.
-    pub fn newest_lots(
+    // Returns a page of the lots of an account in a security: at most 16, after the first
+    // `skipped`, sorted by opening stamp and then by trade, the newest first. Fails with `Memory`
+    // or `Store`.
+    pub(crate) fn newest_lots(
         &mut self,
         alloc: Global,
         account: Id,

@@ -6,17 +6,19 @@ use Rattle.brk_book_theorems.specs.TradeReads.{row_lot}
 use Rattle.brk_store.specs.Pages.{left_of, rows_from}
 use Rattle.brk_store.proofs.Turning.{turned}
 use Rattle.brk_store.proofs.pages.Pages+S+Page.turn.Goals as goal
-use Rattle.brk_store.proofs.pages.Pages+S+Page.turn.Goals.{in-Some-first, in-None}
+use Rattle.brk_store.proofs.pages.Pages+S+Page.turn.Goals.{in-Some, in-None}
 
 pub returns-clause-given : goal.returns-clause-given
 returns-clause-given g c told ls h =
     let self = c.args.self.now in
+    let after = c.next_page.new.self in
     let page = c.in_ok-page.page.items in
     let rows = rows_from self.lifo self.account self.symbol.now h.0 in
-    let count : c.in-Some.read ≡ self.read + length page = search rules in
-    let ended : nat_lt c.len-2.result 16 ≡ nat_lt (length page) 16 = search rules in
+    let count : after.read ≡ self.read + length page = c.in_ok-page.ensures.counted in
+    let ended : nat_lt c.len.result 16 ≡ nat_lt (length page) 16 = search rules in
     let none : drop self.page.given self.page.rows.items ≡ [] = drop_all self.page.given self.page.rows.items (search rules) in
     let left : ls ≡ map row_lot (drop self.read rows) = h.2 ∙ ap (λ p. left_of p self.ended self.read rows) none ∙ ap (λ b. left_of [] b self.read rows) c.if-self.false in
-    let first : c.match-first.first ≡ option_map lot_in (slice_get page 0) = elim c.match-first.branch [ in-Some-first w ↦ search rules | in-None w ↦ search rules ] in
-    turned g.S.Store c.known_page.new.store self.lifo self.account self.symbol.now h.0 (c.in_ok-page.ensures.read.kept h.0 h.1) self.read c.in-Some.read page (nat_lt c.len-2.result 16) c.match-first.first ls
-    (c.in_ok-page.ensures.read.told told h.0 h.1) count ended first left
+    let first : c.match-first.first ≡ option_map lot_in (slice_get page 0) = elim c.match-first.branch [ in-Some w ↦ search rules | in-None w ↦ search rules ] in
+    rw c.in_ok-page.ensures.same
+    (turned g.S.Store after.store.now self.lifo self.account self.symbol.now h.0 (c.in_ok-page.ensures.store.kept h.0 h.1) self.read after.read page (nat_lt c.len.result 16) c.match-first.first ls
+    (c.in_ok-page.ensures.told told h.0 h.1) count ended first left)
