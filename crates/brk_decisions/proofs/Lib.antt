@@ -1,4 +1,3 @@
-pub mod Counting
 pub mod Looking
 pub mod Deciding
 pub mod References

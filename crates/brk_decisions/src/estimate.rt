@@ -1,6 +1,6 @@
 //! Decisions on estimates of orders.
 
-ghost use Rattle.std.specs.Prelude.{◌≡◌, ◌+◌, false, Some, IfErr, IfOk, OnErr, OnOk, MatchResult};
+ghost use Rattle.std.specs.Prelude.{◌≡◌, ◌+◌, false, Some, IfErr, IfOk, OnErr, MatchResult};
 ghost use Rattle.brk_decisions.specs.Decisions.{Tells};
 ghost use Rattle.brk_decisions.specs.LotReads.{LotsGiven};
 ghost use Rattle.brk_lots.specs.Against.{closes_lots};
@@ -22,7 +22,7 @@ use sqlite::Alter;
 use std::alloc::Global;
 
 // Plans an estimate from the facts that were found. Of the position it has only `lots`, of which it
-// reads at most 16 rows more than the lots that the order would touch.
+// reads at most 16 rows more than the lots that the order would touch, also if it fails.
 fn plan_over<S: Alter>(
     order: &Order,
     found: &OrderFound,
@@ -34,7 +34,7 @@ fn plan_over<S: Alter>(
         (IsEstimated order.now found.now (LotsGiven S.Store lots.old lots.new))
         (λ refusal. first_refusal (order_tests found.now) ≡ Some refusal)) }
     ensures refused { IfOk result (λ planned. OnErr planned (lots.new ≡ lots.old)) }
-    ensures rows { IfOk result (λ planned. OnOk planned (AsksFew (terms_of order.now found.now) (LotsGiven S.Store lots.old lots.new) (read_by lots.old + 15) (read_by lots.new))) }
+    ensures rows { AsksFew (terms_of order.now found.now) (LotsGiven S.Store lots.old lots.new) (read_by lots.old + 15) (read_by lots.new) }
     ensures unmet { closes_lots (terms_of order.now found.now).side (terms_of order.now found.now).held ≡ false → lots.new ≡ lots.old }
     ensures fault { IfErr result MayFail }
 {

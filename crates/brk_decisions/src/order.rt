@@ -1,6 +1,6 @@
 //! Decisions on orders.
 
-ghost use Rattle.std.specs.Prelude.{◌≡◌, ◌+◌, ◌++◌, ◌∷◌, [], false, Some, IfErr, IfOk, OnErr, OnOk, MatchResult};
+ghost use Rattle.std.specs.Prelude.{◌≡◌, ◌+◌, ◌++◌, ◌∷◌, [], false, Some, IfErr, IfOk, OnErr, MatchResult};
 ghost use Rattle.brk_decisions.specs.Decisions.{Decides};
 ghost use Rattle.brk_decisions.specs.LotReads.{LotsGiven};
 ghost use Rattle.brk_lots.specs.Against.{closes_lots};
@@ -24,7 +24,7 @@ use sqlite::Alter;
 use std::alloc::Global;
 
 // Plans an order from the facts that were found. Of the position it has only `lots`, of which it
-// reads at most 16 rows more than the lots that the order would touch.
+// reads at most 16 rows more than the lots that the order would touch, also if it fails.
 fn plan_over<S: Alter>(
     alloc: Global,
     order: &Order,
@@ -39,7 +39,7 @@ fn plan_over<S: Alter>(
         (IsOrdered order.now found.now (LotsGiven S.Store lots.old lots.new) last now)
         (λ refusal. first_refusal (order_tests found.now ++ trades_test found.now.last_trade ∷ clock_test last now ∷ []) ≡ Some refusal)) }
     ensures refused { IfOk result (λ planned. OnErr planned (lots.new ≡ lots.old)) }
-    ensures rows { IfOk result (λ planned. OnOk planned (AsksFew (terms_of order.now found.now) (LotsGiven S.Store lots.old lots.new) (read_by lots.old + 15) (read_by lots.new))) }
+    ensures rows { AsksFew (terms_of order.now found.now) (LotsGiven S.Store lots.old lots.new) (read_by lots.old + 15) (read_by lots.new) }
     ensures unmet { closes_lots (terms_of order.now found.now).side (terms_of order.now found.now).held ≡ false → lots.new ≡ lots.old }
     ensures fault { IfErr result MayFail }
 {

@@ -25,7 +25,7 @@ use sqlite::Alter;
 use std::alloc::Global;
 
 // Plans the result of a trade from the facts that were found. Of its position it has only `lots`, of
-// which it reads at most 16 rows more than the lots that the trade touches.
+// which it reads at most 16 rows more than the lots that the trade touches, also if it fails.
 fn plan_over<S: Alter>(
     alloc: Global,
     found: &ResultFound,
@@ -39,7 +39,7 @@ fn plan_over<S: Alter>(
     ensures planned { IfOk result (λ planned. MatchResult planned
         (IsCompleted (Some found.now) price (LotsGiven S.Store lots.old lots.new) last now)
         (IsRefused (Some found.now) price (LotsGiven S.Store lots.old lots.new) last now)) }
-    ensures rows { IfOk result (λ planned. AsksFew (Some found.now) price (moment_of (moments.stamp_after last now) now) (LotsGiven S.Store lots.old lots.new) (read_by lots.old + 15) (read_by lots.new)) }
+    ensures rows { AsksFew (Some found.now) price (moment_of (moments.stamp_after last now) now) (LotsGiven S.Store lots.old lots.new) (read_by lots.old + 15) (read_by lots.new) }
     ensures unmet { MeetsNone found.now → lots.new ≡ lots.old }
     ensures fault { IfErr result MayFail }
 {

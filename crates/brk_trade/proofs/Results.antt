@@ -1,13 +1,13 @@
 -- What a result comes to does not hang on the moment, and what is closed tells it.
-use Rattle.std.proofs.Common.{◌≡◌, ℕ, nat_abs, Bool, true, false, List, [], ◌∷◌, ◌++◌, length, refl, sym, ap, ◌∙◌, Option, Some, None}
-use Rattle.std.proofs.lemmas.List.{append_assoc, length-map, length-reverse}
+use Rattle.std.proofs.Common.{◌≡◌, ℕ, nat_abs, List, [], ◌∷◌, ◌++◌, refl, sym, ap, ◌∙◌, Option, Some, None}
+use Rattle.std.proofs.lemmas.List.{append_assoc}
 use Rattle.brk_lots.specs.Values.{values_of}
 use Rattle.brk_lots.specs.Closing.{IsClosing}
-use Rattle.brk_lots.specs.Lots.{from_end, plain_touch, shares_of}
+use Rattle.brk_lots.specs.Lots.{shares_of}
 use Rattle.brk_lots.specs.declared.closing.Closing.{Closing}
 use Rattle.brk_lots.specs.declared.lot.Lot.{Lot}
 use Rattle.brk_lots.specs.declared.values.Values.{Values}
-use Rattle.brk_model.specs.Shares.{Deal, Share, buy_value, buy_value_by, sell_value, sell_value_by, touches}
+use Rattle.brk_model.specs.Shares.{Deal, Share, buy_value, buy_value_by, sell_value, sell_value_by}
 use Rattle.brk_model.specs.Tests.{Test, first_refusal}
 use Rattle.brk_money.specs.Kinds.{side_of}
 use Rattle.brk_money.specs.declared.refusal.Refusal.{Refusal}
@@ -46,14 +46,6 @@ at_any_moment t price stamp other us = rw (same_bought (side_of t.kind) t price 
 -- what is closed has these values
 pub closing_values : (d : Deal) (ls : List Lot) (closing : Closing) → IsClosing d ls closing → values_in closing ≡ values_of d (shares_of ls)
 closing_values d ls closing k = λ i. record { buy_value = nat_abs (k.bought i); sell_value = nat_abs (k.sold i) }
-
-same_length : {X : Type 0} (lifo : Bool) (xs : List X) → length (from_end lifo xs) ≡ length xs
-same_length true xs = length-reverse xs
-same_length false xs = refl
-
--- as many lots are touched as the trade touches
-pub touched_count : (d : Deal) (ls : List Lot) (closing : Closing) → IsClosing d ls closing → length closing.touched.items ≡ length (touches d (shares_of ls))
-touched_count d ls closing k = sym (length-map closing.touched.items plain_touch) ∙ ap length k.touched ∙ same_length d.is_lifo (touches d (shares_of ls))
 
 -- a refusal that the values tell, over the lots of a position, after the first tests found no cause
 pub refused_by_values : (found : ResultFound) (price : ℕ) (ls : List Lot) (at stamp : ℕ) (closing : Closing) (clock : _) (refusal : Refusal)

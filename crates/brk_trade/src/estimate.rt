@@ -76,7 +76,7 @@ fn values_upon<L: LotSource>(source: &mut L, terms: &Terms) -> Result<Values, Fa
     ensures values { IfOk result (λ values. (ls : List Lot) (trade stamp : ℕ) (lifo : Bool) →
         AreGiven (AsTold (L.reads_faithfully source.new) (L.remaining source.old)) lifo ls → terms.now.held ≡ lots_total ls →
         values ≡ values_of (deal_by terms.now trade stamp lifo) (shares_of ls)) }
-    ensures asked { IfOk result (λ values. AsksFew terms.now (AsTold (L.reads_faithfully source.new) (L.remaining source.old)) (L.asked source.old) (L.asked source.new)) }
+    ensures asked { AsksFew terms.now (AsTold (L.reads_faithfully source.new) (L.remaining source.old)) (L.asked source.old) (L.asked source.new) }
     ensures unmet { closes_lots terms.now.side terms.now.held ≡ false → source.new ≡ source.old }
     ensures faulted { IfOk result (λ values. L.faulted source.new ≡ L.faulted source.old) }
     ensures fault { IfErr result (λ fault. (before : L) × L.fails before fault source.new) }
@@ -102,9 +102,9 @@ pub fn estimate_order<L: LotSource>(source: &mut L, terms: &Terms) -> Result<Est
         AreTerms base o terms.now → shares_in (completed base) o.account o.symbol ≡ shares_of ls → AreGiven (AsTold (L.reads_faithfully source.new) (L.remaining source.old)) o.is_lifo ls →
         terms.now.held ≡ lots_total ls → estimate ≡ told (spec_orders.estimate base o)) }
     ensures commission { IfOk result (λ estimate. estimate.commission ≡ commission_by terms.now) }
-    // It asks for at most one lot more than the order would touch, and for none if it would close
-    // none.
-    ensures asked { IfOk result (λ estimate. AsksFew terms.now (AsTold (L.reads_faithfully source.new) (L.remaining source.old)) (L.asked source.old) (L.asked source.new)) }
+    // It asks for at most one lot more than the order would touch, also if it fails, and for none if
+    // it would close none.
+    ensures asked { AsksFew terms.now (AsTold (L.reads_faithfully source.new) (L.remaining source.old)) (L.asked source.old) (L.asked source.new) }
     ensures unmet { closes_lots terms.now.side terms.now.held ≡ false → source.new ≡ source.old }
     // No fault of the source is ignored, and each is returned as it came.
     ensures faulted { IfOk result (λ estimate. L.faulted source.new ≡ L.faulted source.old) }

@@ -1,4 +1,4 @@
-ghost use Rattle.std.specs.Prelude.{◌≡◌, ◌⊎◌, ◌++◌, ◌∷◌, [], ℕ, List, drop, IfOk, IfErr, OnOk, OnErr, MatchResult, MatchOption, Some, None, false, string_bytes};
+ghost use Rattle.std.specs.Prelude.{◌≡◌, ◌⊎◌, ◌++◌, ◌∷◌, [], ℕ, List, drop, IfOk, IfErr, OnErr, MatchResult, MatchOption, Some, None, false, string_bytes};
 ghost use Rattle.brk_lots.specs.declared.lot.Lot.{Lot};
 ghost use Rattle.brk_lots.specs.Against.{closes_lots};
 ghost use Rattle.brk_lots.specs.Sources.{AsTold};
@@ -128,7 +128,8 @@ pub fn plan_estimate<L: LotSource>(
         (IsEstimated order.now found.now (AsTold (L.reads_faithfully source.new) (L.remaining source.old)))
         (λ refusal. first_refusal (order_tests found.now) ≡ Some refusal)) }
     ensures refused { IfOk result (λ planned. OnErr planned (source.new ≡ source.old)) }
-    ensures asked { IfOk result (λ planned. OnOk planned (AsksFew (terms_of order.now found.now) (AsTold (L.reads_faithfully source.new) (L.remaining source.old)) (L.asked source.old) (L.asked source.new))) }
+    // It asks for at most one lot more than the order would touch, also if it fails.
+    ensures asked { AsksFew (terms_of order.now found.now) (AsTold (L.reads_faithfully source.new) (L.remaining source.old)) (L.asked source.old) (L.asked source.new) }
     // It asks for no lot if the account holds no shares that the order would close.
     ensures unmet { closes_lots (terms_of order.now found.now).side (terms_of order.now found.now).held ≡ false → source.new ≡ source.old }
     // No fault of the source is ignored, and each is returned as it came.
@@ -314,7 +315,8 @@ pub fn plan_order<L: LotSource>(
         (IsOrdered order.now found.now (AsTold (L.reads_faithfully source.new) (L.remaining source.old)) last now)
         (λ refusal. first_refusal (order_tests found.now ++ trades_test found.now.last_trade ∷ clock_test last now ∷ []) ≡ Some refusal)) }
     ensures refused { IfOk result (λ planned. OnErr planned (source.new ≡ source.old)) }
-    ensures asked { IfOk result (λ planned. OnOk planned (AsksFew (terms_of order.now found.now) (AsTold (L.reads_faithfully source.new) (L.remaining source.old)) (L.asked source.old) (L.asked source.new))) }
+    // It asks for at most one lot more than the order would touch, also if it fails.
+    ensures asked { AsksFew (terms_of order.now found.now) (AsTold (L.reads_faithfully source.new) (L.remaining source.old)) (L.asked source.old) (L.asked source.new) }
     // It asks for no lot if the account holds no shares that the order would close.
     ensures unmet { closes_lots (terms_of order.now found.now).side (terms_of order.now found.now).held ≡ false → source.new ≡ source.old }
     // No fault of the source is ignored, and each is returned as it came.

@@ -1,8 +1,10 @@
-ghost use Rattle.std.specs.Prelude.{◌≡◌, ◌⊎◌, ◌+◌, ◌*◌, ◌≤◌, ◌≤ℤ◌, ℕ, List, drop, option_map, pos, vec_len, IfOk, IfErr, IfSome, MatchResult};
+ghost use Rattle.std.specs.Prelude.{◌≡◌, ◌⊎◌, ◌+◌, ◌*◌, ◌≤◌, ◌≤ℤ◌, ℕ, List, drop, length, option_map, pos, IfOk, IfErr, IfSome, MatchResult};
 ghost use Rattle.brk_lots.specs.declared.lot.Lot.{Lot};
 ghost use Rattle.brk_lots.specs.Closing.{IsClosing};
+ghost use Rattle.brk_lots.specs.Lots.{shares_of};
 ghost use Rattle.brk_lots.specs.Sources.{AsTold};
 ghost use Rattle.brk_model.specs.Limits.{greatest_price};
+ghost use Rattle.brk_model.specs.Shares.{touches};
 ghost use Rattle.brk_money.specs.Moments as moments;
 ghost use Rattle.brk_money.specs.declared.fault.Fault.{Fault};
 ghost use Rattle.brk_trade.specs.Outcomes.{deal_of};
@@ -46,7 +48,8 @@ fn close_met<L: LotSource>(
         IsClosing (deal_of found.now.trade price stamp) ls closing) }
     ensures bought { IfOk result (λ closing. (pos 0 ≤ℤ closing.buy_value) × (closing.buy_value ≤ℤ pos (found.now.trade.qty * greatest_price))) }
     ensures sold { IfOk result (λ closing. (pos 0 ≤ℤ closing.sell_value) × (closing.sell_value ≤ℤ pos (found.now.trade.qty * greatest_price))) }
-    ensures asked { IfOk result (λ closing. L.asked source.new ≤ L.asked source.old + vec_len closing.touched + 1) }
+    ensures most { (ls : List Lot) → AreMet (AsTold (L.reads_faithfully source.new) (L.remaining source.old)) found.now ls →
+        L.asked source.new ≤ L.asked source.old + length (touches (deal_of found.now.trade price stamp) (shares_of ls)) + 1 }
     ensures unmet { MeetsNone found.now → source.new ≡ source.old }
     ensures faulted { IfOk result (λ closing. L.faulted source.new ≡ L.faulted source.old) }
     ensures fault { IfErr result (λ fault. (fault ≡ Fault.Memory) ⊎ ((before : L) × L.fails before fault source.new)) }
@@ -88,7 +91,8 @@ pub fn plan_result<L: LotSource>(
     ensures planned { IfOk result (λ planned. MatchResult planned
         (IsCompleted (option_map (λ f. f.now) found.entry) price (AsTold (L.reads_faithfully source.new) (L.remaining source.old)) last now)
         (IsRefused (option_map (λ f. f.now) found.entry) price (AsTold (L.reads_faithfully source.new) (L.remaining source.old)) last now)) }
-    ensures asked { IfOk result (λ planned. AsksFew (option_map (λ f. f.now) found.entry) price (moment_of (moments.stamp_after last now) now) (AsTold (L.reads_faithfully source.new) (L.remaining source.old)) (L.asked source.old) (L.asked source.new)) }
+    // It asks for at most one lot more than the trade touches, also if it fails.
+    ensures asked { AsksFew (option_map (λ f. f.now) found.entry) price (moment_of (moments.stamp_after last now) now) (AsTold (L.reads_faithfully source.new) (L.remaining source.old)) (L.asked source.old) (L.asked source.new) }
     // It asks for no lot if the account holds no shares that the trade would close.
     ensures unmet { IfSome (option_map (λ f. f.now) found.entry) (λ f. MeetsNone f → source.new ≡ source.old) }
     // No fault of the source is ignored, and each is returned as it came.

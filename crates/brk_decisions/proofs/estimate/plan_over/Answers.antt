@@ -1,5 +1,4 @@
 use Rattle.std.proofs.Common.{arith}
-use Rattle.brk_decisions.proofs.Counting.{if_planned}
 use Rattle.brk_decisions.proofs.estimate.plan_over.Goals as goal
 
 pub returns-clause-same_reference : goal.returns-clause-same_reference
@@ -9,5 +8,5 @@ pub returns-clause-kept : goal.returns-clause-kept
 returns-clause-kept g c = c.plan_estimate.ensures.leads.1
 
 pub returns-clause-rows : goal.returns-clause-rows
-returns-clause-rows g c =
-    if_planned c.plan_estimate.result c.plan_estimate.ensures.asked (λ asked ls trade stamp lifo given fresh. omega (arith, asked ls trade stamp lifo given fresh, c.plan_estimate.new.source.page.few))
+returns-clause-rows g c ls trade stamp lifo given fresh =
+    omega (arith, c.plan_estimate.ensures.asked ls trade stamp lifo given fresh, c.plan_estimate.new.source.page.few)

@@ -1,5 +1,4 @@
 use Rattle.std.proofs.Common.{arith}
-use Rattle.brk_decisions.proofs.Counting.{if_ok}
 use Rattle.brk_decisions.proofs.result.plan_over.Goals as goal
 
 pub returns-clause-same_reference : goal.returns-clause-same_reference
@@ -9,5 +8,4 @@ pub returns-clause-kept : goal.returns-clause-kept
 returns-clause-kept g c = c.plan_result.ensures.leads.1
 
 pub returns-clause-rows : goal.returns-clause-rows
-returns-clause-rows g c =
-    if_ok c.plan_result.result c.plan_result.ensures.asked (λ asked ls met. omega (arith, asked ls met, c.plan_result.new.source.page.few))
+returns-clause-rows g c ls met = omega (arith, c.plan_result.ensures.asked ls met, c.plan_result.new.source.page.few)

@@ -1,4 +1,4 @@
-use Rattle.std.proofs.Common.{rules, arith, ◌≡◌, ℕ, List, Some, refl, sym, ap, subst, ◌∙◌}
+use Rattle.std.proofs.Common.{rules, ◌≡◌, ℕ, List, Some, refl, sym, ap, subst, ◌∙◌}
 use Rattle.brk_lots.specs.Closing.{IsClosing}
 use Rattle.brk_lots.specs.Lots.{shares_of}
 use Rattle.brk_lots.specs.Sources.{AsTold}
@@ -11,7 +11,7 @@ use Rattle.brk_trade.specs.Results.{AreChanges, AreMet, IsCompletion, moment_of,
 use Rattle.brk_trade.specs.declared.outcome.ResultNumbers.{ResultNumbers}
 use Rattle.brk_plans.specs.declared.plan.Plan.{Plan}
 use Rattle.brk_plans.specs.declared.reply.Reply.TheVariants.{Completed}
-use Rattle.brk_trade.proofs.Results.{first_after, first_refuses, refused_by_values, touched_count}
+use Rattle.brk_trade.proofs.Results.{first_after, first_refuses, refused_by_values}
 use Rattle.brk_trade.proofs.result.plan_result.Goals as goal
 use Rattle.brk_trade.proofs.result.plan_result.Goals.{in-Some-moved, in-None}
 
@@ -27,16 +27,6 @@ returns-in-Err-complete-clause-planned g c =
     let closes : IsClosing (deal_of found.trade c.args.price c.match-moved.at) ls closing = c.in_ok-closing.ensures.closing ls met in
     refused_by_values found c.args.price ls c.match-moved.at stamp closing (stamp_after c.args.last c.args.now) refusal closes c.in-Ok.ensures.0 told in
     rw c.in-Some.is (record { early = rw c.in-Ok.ensures.0 tt; late = late })
-
-pub returns-in-Err-complete-clause-asked : goal.returns-in-Err-complete-clause-asked
-returns-in-Err-complete-clause-asked g c =
-    let found = c.in-Some.found.now in
-    let closing = c.in_ok-closing.closing in
-    let at : c.match-moved.at ≡ moment_of (stamp_after c.args.last c.args.now) c.args.now = elim c.match-moved.branch [ in-Some-moved w ↦ search rules | in-None w ↦ search rules ] in
-    rw (c.in-Some.is, ← at) (λ ls met.
-    let closes : IsClosing (deal_of found.trade c.args.price c.match-moved.at) ls closing = c.in_ok-closing.ensures.closing ls met in
-    let count = touched_count (deal_of found.trade c.args.price c.match-moved.at) ls closing closes in
-    omega (arith, c.in_ok-closing.ensures.asked, count, closing.touched.ok.0))
 
 pub returns-clause-planned : goal.returns-clause-planned
 returns-clause-planned g c =
@@ -63,16 +53,6 @@ returns-clause-planned g c =
     } in
     rw c.in-Some.is completed
 
-pub returns-clause-asked : goal.returns-clause-asked
-returns-clause-asked g c =
-    let found = c.in-Some.found.now in
-    let closing = c.in_ok-closing.closing in
-    let at : c.match-moved.at ≡ moment_of (stamp_after c.args.last c.args.now) c.args.now = elim c.match-moved.branch [ in-Some-moved w ↦ search rules | in-None w ↦ search rules ] in
-    rw (c.in-Some.is, ← at) (λ ls met.
-    let closes : IsClosing (deal_of found.trade c.args.price c.match-moved.at) ls closing = c.in_ok-closing.ensures.closing ls met in
-    let count = touched_count (deal_of found.trade c.args.price c.match-moved.at) ls closing closes in
-    omega (arith, c.in_ok-closing.ensures.asked, count, closing.touched.ok.0))
-
 pub returns-in-Err-clause-planned : goal.returns-in-Err-clause-planned
 returns-in-Err-clause-planned g c =
     let found = c.in-Some.found.now in
@@ -81,3 +61,23 @@ returns-in-Err-clause-planned g c =
       early = rw cause refl;
       late = λ ls stamp met. first_refuses found c.args.price (values_of (deal_of found.trade c.args.price stamp) (shares_of ls)) (stamp_after c.args.last c.args.now) c.in-Err.refusal cause;
     })
+
+pub returns-in-Err-complete-clause-asked : goal.returns-in-Err-complete-clause-asked
+returns-in-Err-complete-clause-asked g c =
+    let at : c.match-moved.at ≡ moment_of (stamp_after c.args.last c.args.now) c.args.now = elim c.match-moved.branch [ in-Some-moved w ↦ search rules | in-None w ↦ search rules ] in
+    rw (c.in-Some.is, ← at) c.close_met.ensures.most
+
+pub returns-clause-asked : goal.returns-clause-asked
+returns-clause-asked g c =
+    let at : c.match-moved.at ≡ moment_of (stamp_after c.args.last c.args.now) c.args.now = elim c.match-moved.branch [ in-Some-moved w ↦ search rules | in-None w ↦ search rules ] in
+    rw (c.in-Some.is, ← at) c.close_met.ensures.most
+
+pub returns-in_err-closing-clause-asked : goal.returns-in_err-closing-clause-asked
+returns-in_err-closing-clause-asked g c =
+    let at : c.match-moved.at ≡ moment_of (stamp_after c.args.last c.args.now) c.args.now = elim c.match-moved.branch [ in-Some-moved w ↦ search rules | in-None w ↦ search rules ] in
+    rw (c.in-Some.is, ← at) c.close_met.ensures.most
+
+pub returns-in_err-changes-clause-asked : goal.returns-in_err-changes-clause-asked
+returns-in_err-changes-clause-asked g c =
+    let at : c.match-moved.at ≡ moment_of (stamp_after c.args.last c.args.now) c.args.now = elim c.match-moved.branch [ in-Some-moved w ↦ search rules | in-None w ↦ search rules ] in
+    rw (c.in-Some.is, ← at) c.close_met.ensures.most
