@@ -1,4 +1,4 @@
--- How a batch ends from where it stands.
+-- The endings of a batch.
 use Rattle.std.proofs.Common.{◌≡◌, ◌+◌, ◌⊎◌, ◌++◌, ◌∷◌, [], ℕ, List, sym, ap, ◌∙◌, refl, length, arith, inl, inr, subst}
 use Rattle.std.specs.Prelude.{Option, Ok, Err}
 use Rattle.std.specs.Io.KnownBytes.{Appends}
@@ -36,7 +36,7 @@ span_of start now later new = record { base = start.base; after = now.after; clo
 pub begins_at : {R : Type 0} (rem : R → Option Text) (text : Option Text) (records : List Fields) (reader : Reader R) → StandsAt rem text records reader → Begins text records
 begins_at rem text records reader h = begins_of text records reader.state (source_of rem reader) h
 
--- what was settled, with the lines that were told of it
+-- the rows that were decided, with their answers
 abbrev pub stopped_of : {S X C R : Type 0} (form : Fields → Read X) (step : RowStep S X) (gives : C → ℕ → C → Type 0) (rem : R → Option Text)
     (start : Start S C R) (now : At S C R) (later : C) (new : Option Text) (text : Option Text) → Progress form step gives rem start now
     → StandsAt rem text (header_of start.name ∷ []) start.reader → Stopped form step gives text (span_of start now later new) now.settled
@@ -127,7 +127,7 @@ read_failed form step gives rem start now new text p kind wrote (inl e) h =
 read_failed form step gives rem start now new text p kind wrote (inr e) h =
     rw e (inr (inr (stopped_of form step gives rem start now now.later new text p h, refl, refl, inl refl, inl wrote)))
 
--- nothing was asked or written yet
+-- no call was made and nothing written yet
 pub untouched : {S C : Type 0} (base : S) (clock : C) (old : Option Text) → IsUntouched (record { base = base; after = base; clock = clock; later = clock; old = old; new = old })
 untouched base clock old = record { base = refl; clock = refl; written = Appends-nil old }
 
@@ -187,7 +187,7 @@ failed_row form step gives rem start now later new text p next reader f moment c
   given = given;
 }
 
--- what a stop leaves then
+-- the states that a crash exposes then
 pub answer_left : {D S X C R : Type 0} (honest : D → Type 0) (stands : D → S → Type 0) (leaves : D → S → S → Type 0) (acts : MakesCall D X)
     (form : Fields → Read X) (step : RowStep S X) (gives : C → ℕ → C → Type 0) (rem : R → Option Text)
     (start : Start S C R) (now : At S C R) (later : C) (new : Option Text) (text : Option Text) (p : Progress form step gives rem start now) (next : Fields) (reader : Reader R) (f : Fault) (desk last : D)
@@ -227,7 +227,7 @@ tell_failed form step gives rem start now mid new text p front answer kinds.BadH
 tell_failed form step gives rem start now mid new text p front answer kinds.NoEnd split wrote part h = absurd part
 tell_failed form step gives rem start now mid new text p front answer kinds.BadEnd split wrote part h = absurd part
 
--- what was settled, with the refusal of the row that has no record after it
+-- the rows that were decided, with the refusal of the row that has no record after it
 abbrev pub cut_stopped : {S X C R : Type 0} (form : Fields → Read X) (step : RowStep S X) (gives : C → ℕ → C → Type 0) (rem : R → Option Text)
     (start : Start S C R) (now : At S C R) (new : Option Text) (text : Option Text) → Progress form step gives rem start now
     → StandsAt rem text (header_of start.name ∷ []) start.reader → Stopped form step gives text (span_of start now now.later new) (now.settled + 1)

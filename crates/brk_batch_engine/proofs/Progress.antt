@@ -1,4 +1,4 @@
--- How far a batch has come.
+-- The progress of a batch.
 use Rattle.std.proofs.Common.{◌≡◌, ◌+◌, ◌++◌, ◌∷◌, [], ℕ, List, Bool, refl, length, arith, cond, count_by}
 use Rattle.std.specs.Prelude.{Option}
 use Rattle.std.specs.List.{AllByRecursion}
@@ -29,7 +29,7 @@ pub record Start (S C R : Type 0) : Type 0 where
   pub old : Option Text
   pub reader : Reader R
 
--- where it stands: so many rows were answered, and the record after them was read
+-- the place of a batch: the number of rows that were answered, and the record after them
 pub record At (S C R : Type 0) : Type 0 where
   pub settled : ℕ
   pub counts : Counts
@@ -73,7 +73,7 @@ told_more old mid new answers all answer n wrote more place split = rw (split, l
 count_next : (test : Answer → Bool) (answer : Answer) (all : List Answer) → count_by test (answer ∷ all) ≡ cond (test answer) 1 0 + count_by test all
 count_next test answer all = sum_by-cons (λ (x : Answer). cond (test x) 1 0) answer all
 
--- the three counts of all answers come to their number
+-- the three counts of the answers add up to their number
 pub counts_whole : (all : List Answer) → count_done all + count_again all + count_refused all ≡ length all
 counts_whole [] = refl
 counts_whole (answer ∷ all) =

@@ -94,7 +94,7 @@ called_push acts first mid last calls replies call answer made acted =
     rw (map-append called_of calls (call ∷ []), map-append Did replies (answer ∷ []))
     (made_then acts first mid last (map called_of calls) (called_of call ∷ []) (map Did replies) (Did answer ∷ []) made (last, acted, refl))
 
--- these rows took those moments, and were answered so
+-- these rows took these clock readings and have these answers
 pub record Answered {D S X C : Type 0} (honest : D → Type 0) (stands : Bool → D → S → Type 0) (acts : MakesCall D X) (form : Fields → Read X) (step : RowStep S X) (gives : C → ℕ → C → Type 0)
     (batch : Text) (first : D) (clock : C) (rows : List Fields) (answers : List Answer) (desk : D) (later : C) : Type 0 where
   pub moments : List ℕ
@@ -161,7 +161,7 @@ recorded_turns {X} (c ∷ cs) (a ∷ rs) before e = (
       (recorded_turns cs rs (before ++ (called_of c ∷ [])) (omega arith)),
 )
 
--- the moments of the calls are those that they took
+-- the clock readings of the calls are those that they took
 pub calls_taken : {X : Type 0} (batch : Text) (ms : List ℕ) (fs : List (ℕ × X)) → length ms ≡ length fs → map (λ (c : ℕ × (X × Key)). c.0) (map called_of (calls_of batch ms fs)) ≡ ms
 calls_taken batch [] [] e = refl
 calls_taken batch [] (g ∷ gs) e = absurd (omega arith)

@@ -1,6 +1,6 @@
--- How far a batch has come, whatever is known of its desk.
+-- The progress of a batch, whatever is known of its desk.
 use Rattle.std.proofs.Common.{◌≡◌, ◌+◌, ◌++◌, ◌∷◌, [], ℕ, List, Ok, Err, inl, inr, sym, ap, ◌∙◌, refl, length, arith, map, subst}
-use Rattle.std.specs.Prelude.{Bool, true, false, Option, Result}
+use Rattle.std.specs.Prelude.{Bool, true, false, IfErr, Option, Result}
 use Rattle.std.specs.Io.KnownBytes.{Appends}
 use Rattle.std.specs.List.{AllByRecursion}
 use Rattle.std.proofs.lemmas.List.{length-append, map-append}
@@ -15,7 +15,7 @@ use Rattle.brk_model.specs.Lines.{lines_from}
 use Rattle.brk_model.specs.Records.{Key}
 use Rattle.brk_model.specs.Run.{Did, Failed, MayFail, Outcome}
 use Rattle.brk_batch_engine.specs.Answers.{AnsweredBy, FailedBy, Keeps, RepresentsDurably}
-use Rattle.brk_batch_engine.specs.Batch.{BatchGives, BatchPost, LeavesAt, TellsCalls}
+use Rattle.brk_batch_engine.specs.Batch.{BatchGives, BatchPost, LeavesAt, OnlyMemory, TellsCalls}
 use Rattle.brk_batch_engine.specs.Script.{MakesCall, RowCalls, recorded}
 use Rattle.brk_io.proofs.Calls.{made_then}
 use Rattle.brk_io.specs.Moments.{Moments}
@@ -35,7 +35,7 @@ pub record Head (C R : Type 0) : Type 0 where
   pub old : Option Text
   pub reader : Reader R
 
--- where it stands: so many rows were answered, and the record after them was read
+-- the place of a batch: the number of rows that were answered, and the record after them
 pub record Place (C R : Type 0) : Type 0 where
   pub settled : ℕ
   pub counts : Counts
@@ -120,7 +120,7 @@ start_of head base = record { name = head.name; base = base; clock = head.clock;
 abbrev pub at_of : {S C R : Type 0} → Place C R → S → At S C R
 at_of place after = record { settled = place.settled; counts = place.counts; row = place.row; after = after; later = place.later; reader = place.reader }
 
--- how far it has come by some steps, over some base
+-- the progress of a batch by some steps, over some base
 abbrev pub progress_of : {D S T X C R : Type 0} (honest : D → Type 0) (stands : Bool → D → S → Type 0) (acts : MakesCall D X) (form : Fields → Read X) (step : RowStep S X) (gives : C → ℕ → C → Type 0)
     (rem : R → Option Text) (first : D) (head : Head C R) (desk : D) (place : Place C R) (r : Reached honest stands acts form step gives rem first head desk place)
     (other : RowStep T X) (base after : T) → InTurn other base (calls_of head.name r.answered.moments (formed_from form 1 r.rows)) r.answered.replies after
@@ -141,20 +141,20 @@ progress_of honest stands acts form step gives rem first head desk place r other
   stands = r.read;
 }
 
--- a stop leaves the base after the batch alone
+-- a crash exposes only the base after the batch
 pub alone_at : {D S X C : Type 0} (form : Fields → Read X) (step : RowStep S X) (gives : C → ℕ → C → Type 0) (leaves : D → S → S → Type 0) (text : Option Text) (span : Span S C) (last : D)
     (result : Result Counts BatchFault) → leaves last span.after span.after → LeavesAt form step gives leaves text span last result
 alone_at form step gives leaves text span last (Ok counts) alone = alone
 alone_at form step gives leaves text span last (Err fault) alone = inl alone
 
--- where each call was answered, the calls and their answers are told
+-- if each call was answered, the script has the calls and their answers
 pub tells_all : {D S X C R : Type 0} (honest : D → Type 0) (stands : Bool → D → S → Type 0) (acts : MakesCall D X) (form : Fields → Read X) (step : RowStep S X) (gives : C → ℕ → C → Type 0)
     (rem : R → Option Text) (first : D) (head : Head C R) (desk : D) (place : Place C R) (r : Reached honest stands acts form step gives rem first head desk place)
-    (text : Option Text) (was now : Option Text) (result : Result Counts BatchFault)
+    (text : Option Text) (was now : Option Text) (result : Result Counts BatchFault) → IfErr result (λ fault. OnlyMemory fault.kind)
     → ((T : Type 0) (other : RowStep T X) (base after : T) → InTurn other base (calls_of head.name r.answered.moments (formed_from form 1 r.rows)) r.answered.replies after
     → BatchGives form other gives text (record { base = base; after = after; clock = head.clock; later = place.later; old = was; new = now }) result)
     → TellsCalls acts form gives text first desk (record { clock = head.clock; later = place.later; old = was; new = now }) result
-tells_all {X = X} honest stands acts form step gives rem first head desk place r text was now result so =
+tells_all {X = X} honest stands acts form step gives rem first head desk place r text was now result memory so =
     let calls = calls_of head.name r.answered.moments (formed_from form 1 r.rows) in
     let each : length r.answered.replies ≡ length calls = r.answered.replied ∙ sym (calls_length head.name r.answered.moments (formed_from form 1 r.rows) r.answered.one_each) in (
       (map called_of calls, map Did r.answered.replies),
@@ -165,11 +165,12 @@ tells_all {X = X} honest stands acts form step gives rem first head desk place r
           r.answered.replies,
           refl,
           so (List Answer × RowCalls X) recorded (r.answered.replies, []) ([], map called_of calls) (recorded_turns calls r.answered.replies [] each),
+          memory,
         ),
       ),
     )
 
--- a call that failed is told too
+-- the script has also a call that failed
 pub tells_failed : {D S X C R : Type 0} (honest : D → Type 0) (stands : Bool → D → S → Type 0) (acts : MakesCall D X) (form : Fields → Read X) (step : RowStep S X) (gives : C → ℕ → C → Type 0)
     (rem : R → Option Text) (first : D) (head : Head C R) (desk : D) (place : Place C R) (r : Reached honest stands acts form step gives rem first head desk place)
     (text : Option Text) (new : Option Text) (later : C) (last : D) (next : Fields) (reader : Reader R) (f : Fault) (moment : ℕ) (command : X)
@@ -203,7 +204,7 @@ tells_failed {D = D} {X = X} honest stands acts form step gives rem first head d
       ),
     )
 
--- whatever failed, the calls are told
+-- whatever failed, the script has the calls
 pub tells_fault : {D S X C R : Type 0} (honest : D → Type 0) (stands : D → S → Type 0) (leaves : D → S → S → Type 0) (acts : MakesCall D X) (form : Fields → Read X) (step : RowStep S X)
     (gives : C → ℕ → C → Type 0) (rem : R → Option Text) (first : D) (head : Head C R) (desk : D) (place : Place C R)
     (r : Reached honest (RepresentsDurably stands leaves) acts form step gives rem first head desk place)
@@ -216,11 +217,11 @@ pub tells_fault : {D S X C R : Type 0} (honest : D → Type 0) (stands : D → S
     → BatchGives form other gives text (record { base = base; after = after; clock = head.clock; later = later; old = head.old; new = new }) (Err (record { rows = place.settled; kind = kinds.Desk f })))
     → TellsCalls acts form gives text first last (record { clock = head.clock; later = later; old = head.old; new = new }) (Err (record { rows = place.settled; kind = kinds.Desk f }))
 tells_fault honest stands leaves acts form step gives rem first head desk place r text new later last next reader f (inl same) may wrote found h so =
-    rw (same.0, same.1) (tells_all honest (RepresentsDurably stands leaves) acts form step gives rem first head desk place r text head.old new (Err (record { rows = place.settled; kind = kinds.Desk f })) (rw same.1 at so))
+    rw (same.0, same.1) (tells_all honest (RepresentsDurably stands leaves) acts form step gives rem first head desk place r text head.old new (Err (record { rows = place.settled; kind = kinds.Desk f })) same.2 (rw same.1 at so))
 tells_fault honest stands leaves acts form step gives rem first head desk place r text new later last next reader f (inr way) may wrote found h so =
     tells_failed honest (RepresentsDurably stands leaves) acts form step gives rem first head desk place r text new later last next reader f way.0 way.1 way.2 way.3 way.4 may wrote found h
 
--- what holds by all steps, over all bases that they lead from and to, is what the batch comes to
+-- what holds by all steps, over all bases that they lead from and to, is the postcondition of the batch
 pub comes : {D S X C R : Type 0} (honest : D → Type 0) (stands : D → S → Type 0) (leaves : D → S → S → Type 0) (acts : MakesCall D X) (form : Fields → Read X) (step : RowStep S X)
     (gives : C → ℕ → C → Type 0) (rem : R → Option Text) (first : D) (head : Head C R) (desk : D) (place : Place C R)
     (r : Reached honest (RepresentsDurably stands leaves) acts form step gives rem first head desk place)
@@ -241,27 +242,27 @@ comes {S = S} honest stands leaves acts form step gives rem first head desk plac
       (led.0, keeps good led.0 led.1.0, so S step base led.0 led.2, stops good base led.0 led.2 led.1.0 led.1.1);
 }
 
--- the same where each call was answered
+-- the postcondition, if each call was answered
 pub comes_answered : {D S X C R : Type 0} (honest : D → Type 0) (stands : D → S → Type 0) (leaves : D → S → S → Type 0) (acts : MakesCall D X) (form : Fields → Read X) (step : RowStep S X)
     (gives : C → ℕ → C → Type 0) (rem : R → Option Text) (first : D) (head : Head C R) (desk : D) (place : Place C R)
     (r : Reached honest (RepresentsDurably stands leaves) acts form step gives rem first head desk place)
-    (text : Option Text) (was now : Option Text) (result : Result Counts BatchFault)
+    (text : Option Text) (was now : Option Text) (result : Result Counts BatchFault) → IfErr result (λ fault. OnlyMemory fault.kind)
     → ((T : Type 0) (other : RowStep T X) (base after : T) → InTurn other base (calls_of head.name r.answered.moments (formed_from form 1 r.rows)) r.answered.replies after
     → BatchGives form other gives text (record { base = base; after = after; clock = head.clock; later = place.later; old = was; new = now }) result)
     → BatchPost honest stands leaves acts form step gives text first desk (record { clock = head.clock; later = place.later; old = was; new = now }) result
-comes_answered honest stands leaves acts form step gives rem first head desk place r text was now result so =
+comes_answered honest stands leaves acts form step gives rem first head desk place r text was now result memory so =
     comes honest stands leaves acts form step gives rem first head desk place r desk text (record { clock = head.clock; later = place.later; old = was; new = now }) result
-    (λ good. good) (λ good base stood. stood) so (tells_all honest (RepresentsDurably stands leaves) acts form step gives rem first head desk place r text was now result so)
+    (λ good. good) (λ good base stood. stood) so (tells_all honest (RepresentsDurably stands leaves) acts form step gives rem first head desk place r text was now result memory so)
     (λ good base after turns stood alone.
     alone_at form step gives leaves text (record { base = base; after = after; clock = head.clock; later = place.later; old = was; new = now }) desk result alone)
 
--- the same where nothing was asked of the desk
+-- the postcondition, if the desk was not called
 pub comes_at_once : {D S X C : Type 0} (honest : D → Type 0) (stands : D → S → Type 0) (leaves : D → S → S → Type 0) (acts : MakesCall D X) (form : Fields → Read X) (step : RowStep S X)
-    (gives : C → ℕ → C → Type 0) (desk : D) (text : Option Text) (clock : C) (was now : Option Text) (result : Result Counts BatchFault)
+    (gives : C → ℕ → C → Type 0) (desk : D) (text : Option Text) (clock : C) (was now : Option Text) (result : Result Counts BatchFault) → IfErr result (λ fault. OnlyMemory fault.kind)
     → ((T : Type 0) (other : RowStep T X) (base : T) → BatchGives form other gives text (record { base = base; after = base; clock = clock; later = clock; old = was; new = now }) result)
     → BatchPost honest stands leaves acts form step gives text desk desk (record { clock = clock; later = clock; old = was; new = now }) result
-comes_at_once {S = S} {X = X} honest stands leaves acts form step gives desk text clock was now result so = record {
-  told = (([], []), refl, (refl, inl ([], refl, so (List Answer × RowCalls X) recorded ([], []))));
+comes_at_once {S = S} {X = X} honest stands leaves acts form step gives desk text clock was now result memory so = record {
+  told = (([], []), refl, (refl, inl ([], refl, so (List Answer × RowCalls X) recorded ([], []), memory)));
   kept = λ good base stood. (base, stood, so S step base);
   left = λ good base stood alone.
       (base, stood, so S step base, alone_at form step gives leaves text (record { base = base; after = base; clock = clock; later = clock; old = was; new = now }) desk result alone);

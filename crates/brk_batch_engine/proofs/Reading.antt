@@ -1,4 +1,4 @@
--- How the records of an input are read in turn.
+-- The records of an input, read in order.
 use Rattle.std.proofs.Common.{◌≡◌, ◌++◌, ◌∷◌, ◌∙◌, [], ℕ, List, Bool, true, false, take, refl, length, arith, append_assoc, subst, sym}
 use Rattle.std.specs.Prelude.{Option, None, Some, MatchBool, option_map}
 use Rattle.csv.specs.Reading.{ReadRecord, Reached, default_config, source_of, strip_bom}

@@ -2,6 +2,7 @@
 use Rattle.std.specs.Prelude.{◌≡◌, ◌⊎◌, ℕ, Bool, true, false, Result, Ok, Err, string_bytes}
 use Rattle.brk_money.specs.Spelling.{Text}
 use Rattle.brk_money.specs.declared.fault.Fault.{Fault}
+use Rattle.brk_money.specs.declared.fault.Fault.TheVariants.{Memory}
 use Rattle.brk_model.specs.Answers.{RowStep}
 use Rattle.brk_model.specs.Commands.{Again, Answer, Done, Refused, Reply}
 use Rattle.brk_model.specs.Forms.{Read}
@@ -53,11 +54,11 @@ AnsweredBy honest stands acts step gives (Ok command) batch n answer old new clo
     (moment : ℕ) × gives clock moment later × acts old moment (command, record { batch = batch; row = n }) (Did answer) new
     × ((sure : Bool) → Acts honest (stands sure) step old new moment command (record { batch = batch; row = n }) answer)
 
--- Row `n` failed with this fault. Either the clock was not read and the desk not called, or the row
--- is a command that read the clock once and was one call of the desk, under the key of the row,
--- which failed.
+-- Row `n` failed with this fault. Either memory ran out, the clock was not read and the desk not
+-- called, or the row is a command that read the clock once and was one call of the desk, under the
+-- key of the row, which failed.
 abbrev pub FailedBy : {D S X C : Type 0} → (D → Type 0) → (D → S → Type 0) → (D → S → S → Type 0) → MakesCall D X → RowStep S X → (C → ℕ → C → Type 0) → Read X → Text → ℕ → Fault → D → D → C → C → Type 0
 FailedBy {X = X} honest stands leaves acts step gives read batch n fault old new clock later =
-    ((new ≡ old) × (later ≡ clock))
+    ((new ≡ old) × (later ≡ clock) × (fault ≡ Memory))
     ⊎ ((moment : ℕ) × (command : X) × (read ≡ Ok command) × gives clock moment later × acts old moment (command, record { batch = batch; row = n }) (Failed fault) new
     × MayAct honest stands leaves step old new moment command (record { batch = batch; row = n }))

@@ -1,5 +1,5 @@
 -- The effect of a run of a batch, by how it ends.
-use Rattle.std.specs.Prelude.{◌≡◌, ◌+◌, ◌<◌, ◌⊎◌, ◌∷◌, ◌++◌, [], List, ℕ, Option, Result, Ok, Err, take, length, map}
+use Rattle.std.specs.Prelude.{◌≡◌, ◌+◌, ◌<◌, ◌⊎◌, ◌∷◌, ◌++◌, [], IfErr, List, ℕ, Option, Result, Ok, Err, take, length, map}
 use Rattle.std.specs.Io.KnownBytes.{Appends}
 use Rattle.brk_money.specs.Spelling.{Text}
 use Rattle.brk_money.specs.declared.fault.Fault.{Fault}
@@ -122,11 +122,21 @@ pub record FailedRow {S X C : Type 0} (form : Fields → Read X) (step : RowStep
   pub moment : ℕ
   pub given : gives stopped.mid moment span.later
 
+-- If the fault is one of the desk, it is `Memory`.
+abbrev pub OnlyMemory : FaultKind → Type 0
+OnlyMemory (kinds.Desk fault) = fault ≡ Memory
+OnlyMemory kinds.BadHeader = Unit {0}
+OnlyMemory kinds.NoEnd = Unit {0}
+OnlyMemory kinds.BadEnd = Unit {0}
+OnlyMemory kinds.Read = Unit {0}
+OnlyMemory kinds.Write = Unit {0}
+
 -- Every call of the script was answered. A desk that answers by its outcomes records just its calls
--- and gives these lines and this result.
+-- and gives these lines and this result. A fault of the desk is `Memory`.
 abbrev pub TellsAnswers : {X C : Type 0} → (Fields → Read X) → (C → ℕ → C → Type 0) → Option Text → Script X → Outside C → Result Counts BatchFault → Type 0
 TellsAnswers form gives text script outside result =
     (answers : List Answer) × (script.1 ≡ map Did answers) × BatchGives form recorded gives text (with_base (answers, []) ([], script.0) outside) result
+    × IfErr result (λ fault. OnlyMemory fault.kind)
 
 -- The last call of the script failed, and its fault is the result. It is that of the row after the
 -- decided rows, under the key of that row. The calls before it were answered.

@@ -1,6 +1,7 @@
 use Rattle.std.specs.Prelude.{Err, option_map}
 use Rattle.brk_model.specs.Input.{text_of}
 use Rattle.brk_batch_engine.proofs.Endings.{header_failed}
+use Rattle.brk_batch_engine.proofs.Memory.{header_memory}
 use Rattle.brk_batch_engine.proofs.Reached.{comes_at_once}
 use Rattle.brk_batch_engine.proofs.engine.run.Goals as goal
 
@@ -10,5 +11,5 @@ returns g c =
     let part = c.in-Err.ensures.err text c.open_records-records.ensures.start in
     let come = comes_at_once g.D.Rows.honest g.D.Rows.stands g.D.Rows.leaves g.D.Rows.acts g.D.Rows.form g.D.Rows.step g.C.Clock.gives c.args.desk.now text
     c.args.clock.now (g.W.Write.contents c.args.writer.now) (g.W.Write.contents c.args.writer.now) (Err (record { rows = 0; kind = c.in-Err.kind }))
-    (λ T other base. header_failed _ _ _ text base _ _ c.in-Err.kind part) in
+    (header_memory text c.in-Err.kind part) (λ T other base. header_failed _ _ _ text base _ _ c.in-Err.kind part) in
     record { told = come.told; kept = come.kept; left = come.left }

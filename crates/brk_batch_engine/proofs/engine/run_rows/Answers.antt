@@ -4,18 +4,19 @@ use Rattle.csv.specs.Records.{fields_of}
 use Rattle.brk_model.specs.Input.{header_of}
 use Rattle.brk_batch_engine.specs.Answers.{RepresentsDurably}
 use Rattle.brk_batch_engine.proofs.Endings.{answer_failed, answer_left, end_failed, ended_well, failed_asked, no_rows, nothing_read, read_failed, row_cut_off, tell_failed, turns_over, untouched}
+use Rattle.brk_batch_engine.proofs.Memory.{cut_memory, end_memory, part_memory, read_memory}
 use Rattle.brk_batch_engine.proofs.Progress.{told_more}
 use Rattle.brk_batch_engine.proofs.Reached.{comes, comes_answered, comes_at_once, progress_of, reached_more, reached_start, tells_fault}
 use Rattle.brk_batch_engine.proofs.engine.run_rows.Goals as goal
 
 pub returns-in-Err : goal.returns-in-Err
 returns-in-Err g c = λ text h.
-    comes_at_once _ _ _ _ _ _ _ _ text _ _ _ _ (λ T other base. nothing_read _ _ _ text _ c.in-Err.kind (untouched base _ _) c.in-Err.ensures.kind)
+    comes_at_once _ _ _ _ _ _ _ _ text _ _ _ _ (read_memory c.in-Err.kind c.in-Err.ensures.kind) (λ T other base. nothing_read _ _ _ text _ c.in-Err.kind (untouched base _ _) c.in-Err.ensures.kind)
 
 pub returns-then-not-has_first : goal.returns-then-not-has_first
 returns-then-not-has_first g c = λ text h.
     let all = rw c.if-not-has_first.true at (c.in-Ok.ensures.found text (header_of c.args.name.now ∷ []) h) in
-    comes_at_once _ _ _ _ _ _ _ _ text _ _ _ _ (λ T other base. no_rows _ _ _ text _ base _ _ c.requires.named all)
+    comes_at_once _ _ _ _ _ _ _ _ text _ _ _ _ tt (λ T other base. no_rows _ _ _ text _ base _ _ c.requires.named all)
 
 pub loop-settled-init : goal.loop-settled-init
 loop-settled-init g c =
@@ -27,28 +28,28 @@ loop-settled-init g c =
 pub returns-in-Err-finish : goal.returns-in-Err-finish
 returns-in-Err-finish g c = λ text h.
     let r = c.loop-settled.invariant.reached in
-    comes_answered _ _ _ _ _ _ _ _ _ _ _ _ r text _ _ _ (λ T other base after turns.
+    comes_answered _ _ _ _ _ _ _ _ _ _ _ _ r text _ _ _ (end_memory _ _ _ _ _ c.in-Err-finish.kind c.in-Err-finish.ensures.err) (λ T other base after turns.
     end_failed _ _ _ _ _ _ _ _ text (progress_of _ _ _ _ _ _ _ _ _ _ _ r other base after turns) c.in-Err-finish.kind c.loop-settled.invariant.written
     (c.if-is_end.ensures.0 refl) c.in-Err-finish.ensures.err h)
 
 pub returns-then-is_end : goal.returns-then-is_end
 returns-then-is_end g c = λ text h.
     let r = c.loop-settled.invariant.reached in
-    comes_answered _ _ _ _ _ _ _ _ _ _ _ _ r text _ _ _ (λ T other base after turns.
+    comes_answered _ _ _ _ _ _ _ _ _ _ _ _ r text _ _ _ tt (λ T other base after turns.
     ended_well _ _ _ _ _ _ _ _ text (progress_of _ _ _ _ _ _ _ _ _ _ _ r other base after turns) c.loop-settled.invariant.written
     c.in_default.ensures.right c.in_default.ensures.ok h)
 
 pub returns-in-Err-read_record : goal.returns-in-Err-read_record
 returns-in-Err-read_record g c = λ text h.
     let r = c.loop-settled.invariant.reached in
-    comes_answered _ _ _ _ _ _ _ _ _ _ _ _ r text _ _ _ (λ T other base after turns.
+    comes_answered _ _ _ _ _ _ _ _ _ _ _ _ r text _ _ _ (read_memory c.in-Err-read_record.kind c.in-Err-read_record.ensures.kind) (λ T other base after turns.
     read_failed _ _ _ _ _ _ _ text (progress_of _ _ _ _ _ _ _ _ _ _ _ r other base after turns) c.in-Err-read_record.kind c.loop-settled.invariant.written
     c.in-Err-read_record.ensures.kind h)
 
 pub returns-then-not-has_next : goal.returns-then-not-has_next
 returns-then-not-has_next g c = λ text h.
     let r = c.loop-settled.invariant.reached in
-    comes_answered _ _ _ _ _ _ _ _ _ _ _ _ r text _ _ _ (λ T other base after turns.
+    comes_answered _ _ _ _ _ _ _ _ _ _ _ _ r text _ _ _ (cut_memory _ _ _ _ c.cut_off-kind.ensures) (λ T other base after turns.
     row_cut_off _ _ _ _ _ _ _ _ text (progress_of _ _ _ _ _ _ _ _ _ _ _ r other base after turns) _ c.loop-settled.invariant.written
     (λ ends. let no = c.if-is_end.ensures.1 ends in cc) c.cut_off-kind.ensures
     (λ t before stood. rw c.if-not-has_next.true at (c.in-Ok-read_record.ensures.found t before stood)) h)
@@ -77,7 +78,7 @@ returns-in-Err-tell g c =
     let more = reached_more _ _ _ _ _ _ _ _ _ _ _ _ c.with-counts.result _ _ _ c.read_record-in-loop-settled.new.records c.loop-settled.invariant.reached
     (λ ends. let no = c.if-is_end.ensures.1 ends in cc) (c.with-counts.ensures g.D.Rows.told) c.in-Ok-answer_row.ensures.earlier c.in-Ok-answer_row.ensures.ok
     (λ t before stood. rw c.if-not-has_next.false at (c.in-Ok-read_record.ensures.found t before stood)) in
-    λ text h. comes_answered _ _ _ _ _ _ _ _ _ _ _ _ more.0 text _ _ _ (λ T other base after turns.
+    λ text h. comes_answered _ _ _ _ _ _ _ _ _ _ _ _ more.0 text _ _ _ (part_memory _ _ _ c.in-Err-tell.kind c.in-Err-tell.ensures.err) (λ T other base after turns.
     tell_failed _ _ _ _ _ _ _ _ text (progress_of _ _ _ _ _ _ _ _ _ _ _ more.0 other base after turns) _ _ c.in-Err-tell.kind more.1
     c.loop-settled.invariant.written c.in-Err-tell.ensures.err h)
 
@@ -96,5 +97,5 @@ loop-settled-preserved g c =
 pub returns : goal.returns
 returns g c = λ text h.
     let r = c.loop-settled.invariant.reached in
-    comes_answered _ _ _ _ _ _ _ _ _ _ _ _ r text _ _ _ (λ T other base after turns.
+    comes_answered _ _ _ _ _ _ _ _ _ _ _ _ r text _ _ _ refl (λ T other base after turns.
     turns_over _ _ _ _ _ _ _ text 67108864 (omega arith) (progress_of _ _ _ _ _ _ _ _ _ _ _ r other base after turns) c.loop-settled.invariant.written h)

@@ -6,7 +6,7 @@ use Rattle.brk_batch_engine.specs.Answers.{RepresentsDurably}
 use Rattle.brk_batch_engine.proofs.Reached.{Reached}
 use Rattle.brk_batch_engine.proofs.engine.run_rows.Given as goal
 
--- so many rows were answered and told, and the record after them was read
+-- the rows before the counter were answered and their lines written, and the record after them was read
 abbrev pub invariant-loop-settled : goal.invariant-loop-settled
 invariant-loop-settled g l = record {
   setup : ReadsBatch l.records;
