@@ -1,3 +1,4 @@
 pub mod Called
+pub mod Settled
 pub mod Under
 pub mod SentAgain

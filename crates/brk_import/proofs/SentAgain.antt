@@ -1,5 +1,6 @@
--- A batch that was stopped and is sent again.
-use Rattle.std.proofs.Common.{◌≡◌, ◌⊎◌, ◌∙◌, inl, inr, ℕ, ◌+◌, List, [], ◌∷◌, ◌++◌, length, Some, None, Result, Ok, Err, refl, sym, ap, subst}
+-- A batch that was interrupted and is retried.
+use Rattle.std.proofs.Common.{◌≡◌, ◌⊎◌, ◌∙◌, inl, inr, ℕ, ◌+◌, List, [], ◌∷◌, ◌++◌, length, Some, None, Result, Ok, Err, refl, sym, ap, subst, arith, append_assoc}
+use Rattle.std.specs.List.{AllByRecursion}
 use Rattle.csv.specs.Reading.{records, default_config}
 use Rattle.sqlite_trees.specs.Tree.{Trees}
 use Rattle.sqlite_trees.specs.declared.store.Store.{Ghosts}
@@ -8,16 +9,18 @@ use Rattle.sqlite.specs.State.{HasCleanDisk}
 use Rattle.std.specs.Io.KnownBytes.{Appends}
 use Rattle.brk_money.specs.Spelling.{Text}
 use Rattle.brk_money.specs.declared.fault.Fault.{Fault}
-use Rattle.brk_model.specs.Answers.{Fields}
+use Rattle.brk_model.specs.Answers.{Fields, calls_of, formed_from}
 use Rattle.brk_model.specs.Base.{Base}
 use Rattle.brk_model.specs.Batch as model
 use Rattle.brk_model.specs.Batch.{AreSettled, Ending, Ends, row_step}
 use Rattle.brk_model.specs.Commands.{Answer, Command}
 use Rattle.brk_model.specs.Forms.{Read}
-use Rattle.brk_model.specs.Input.{Begins, end_of, header_of}
+use Rattle.brk_model.specs.Input.{Begins, IsEnd, end_of, header_of}
 use Rattle.brk_model.specs.Lines.{end_line, lines_from}
 use Rattle.brk_model.specs.Sheets.{sheets}
 use Rattle.brk_model_theorems.specs.Laws.{IsBookedNext, IsCompleted}
+use Rattle.brk_model_theorems.proofs.BatchLaws.{All-front}
+use Rattle.brk_model_theorems.proofs.LeftLaws.{done-kept, left-over, one-run}
 use Rattle.brk_model_theorems.proofs.StoppedLaws.{booked-completed, completed, next-goes-on, rows-go-on}
 use Rattle.brk_io.specs.Moments.{Moments}
 use Rattle.brk_io.specs.Span.{Outside, with_base}
@@ -27,16 +30,18 @@ use Rattle.brk_desk.specs.Reopening.{IsConsistent, IsReopened, IsDurable}
 use Rattle.brk_desk.proofs.Reopened.{Settles, kept_can_be, taken_over}
 use Rattle.brk_batch_engine.specs.Batch.{BatchGives, CameTo, Faulted, IsUnderWay, RefinesModel, LeavesAt, CrashStates, Stopped}
 use Rattle.brk_import.specs.Leaving.{LeavesOneOf}
-use Rattle.brk_import.specs.SentAgain.{IsSentAgain}
+use Rattle.brk_import.specs.SentAgain.{AreOneRun, IsSentAgain}
 use Rattle.brk_io.specs.declared.batch_fault.BatchFault.{BatchFault}
 use Rattle.brk_io.specs.declared.batch_fault.FaultKind.{FaultKind}
 use Rattle.brk_io.specs.declared.batch_fault.FaultKind.TheVariants as kinds
 use Rattle.brk_batch_engine.specs.declared.counts.Counts.{Counts}
+use Rattle.brk_batch_engine.proofs.Pushes.{moments_push}
 use Rattle.brk_batch_engine.proofs.Reading.{begins_front, begins_less}
+use Rattle.brk_import.proofs.Settled.{settled_push}
 
 module _ {S C : Type 0} (g : Ghosts S) (rests : Settles g) (form : Fields → Read Command) (apart : (n : ℕ) (command : Command) → form (end_of n) ≡ Ok command → ⊥) (gives : C → ℕ → C → Type 0)
     (text : Text) (one : Outside C) (base : Base) where
-  -- what the first sending settled
+  -- the rows that the first run decided
   record Part (after : Base) : Type 0 where
     pub name : Text
     pub rows : List Fields
@@ -47,7 +52,7 @@ module _ {S C : Type 0} (g : Ghosts S) (rests : Settles g) (form : Fields → Re
     pub settled : AreSettled form row_step name base moments rows answers after
     pub begins : Begins (Some text) (header_of name ∷ rows)
 
-  -- a row was under way behind it
+  -- the call of the row after them failed, and the row was committed
   record Under (after stood : Base) : Type 0 where
     pub part : Part after
     pub row : Fields
@@ -58,11 +63,11 @@ module _ {S C : Type 0} (g : Ghosts S) (rests : Settles g) (form : Fields → Re
     pub given : gives part.mid moment one.later
     pub booked : (row_step after moment command (record { batch = part.name; row = length part.rows + 1 })).1 ≡ stood
 
-  -- nothing was settled, or a part
+  -- no row was decided, or some were
   abbrev First : Base → Type 0
   First after = (after ≡ base) ⊎ Part after
 
-  -- what stands, of what a stop left
+  -- the base whose tables a crash exposed
   record Found (trees : Trees) : Type 0 where
     pub after : Base
     pub stood : Base
@@ -70,7 +75,7 @@ module _ {S C : Type 0} (g : Ghosts S) (rests : Settles g) (form : Fields → Re
     pub are : AreTreesOf (sheets stood) trees
     pub how : ((stood ≡ after) × First after) ⊎ Under after stood
 
-  -- ---- the first sending
+  -- ---- the first run
 
   ending_begins : (ending : Ending) (name : Text) (rows : List Fields) (answers told : List Answer) (out : Text) → Ends (Some text) ending name rows answers told out → Begins (Some text) (header_of name ∷ rows)
   ending_begins model.EndedWell name rows answers told out ends = begins_front (Some text) (header_of name ∷ rows) (end_of (length rows) ∷ []) ends.0
@@ -167,10 +172,10 @@ module _ {S C : Type 0} (g : Ghosts S) (rests : Settles g) (form : Fields → Re
       let l = leaves clean base at.keeps (λ t m. inl (at.alone t m)) in
       found_at left trees may l.0 l.1 (by_result result l.0 l.2) result l.3
 
-  -- ---- the second one
+  -- ---- the retry
 
   module _ (after stood last : Base) (two : Outside C) (count : ℕ) (c : CameTo form row_step gives (Some text) (with_base stood last two) model.EndedWell count) where
-    -- where nothing was settled, no row was
+    -- if no row was decided, the rows are none
     none_settled : after ≡ base → Part after
     none_settled same = record {
       name = c.answered.name;
@@ -202,7 +207,7 @@ module _ {S C : Type 0} (g : Ghosts S) (rests : Settles g) (form : Fields → Re
           subst (λ (n : Text). IsCompleted form n base moments c.moments c.answered.rows answers c.answered.answers last) named
           (subst (λ (rs : List Fields). IsCompleted form p.name base moments c.moments rs answers c.answered.answers last) (sym rows_are) k)
 
-    -- no row was under way
+    -- no call failed, or its row was not committed
     from_part : stood ≡ after → Part after → IsSentAgain form gives (Some text) base last one two
     from_part same p = record {
       name = c.answered.name;
@@ -224,7 +229,7 @@ module _ {S C : Type 0} (g : Ghosts S) (rests : Settles g) (form : Fields → Re
         on : (p.name ≡ c.answered.name) × ((back : List Fields) × (c.answered.rows ≡ p.rows ++ back))
         on = rows-go-on text p.name c.answered.name p.rows c.answered.rows p.settled.rows_only p.begins c.answered.ends.0
 
-    -- a row was
+    -- a row was committed and not answered
     from_under : Under after stood → IsSentAgain form gives (Some text) base last one two
     from_under u = record {
       name = c.answered.name;
@@ -261,6 +266,72 @@ module _ {S C : Type 0} (g : Ghosts S) (rests : Settles g) (form : Fields → Re
     from_how (inl (same, first)) = from_part same (part_of first)
     from_how (inr u) = from_under u
 
+    -- whatever was refused, both runs are one: the rows that the first run accepted, then the others
+    one_run_of : (front back : List Fields) (moments : List ℕ) (mid : C) (answers : List Answer) → Moments gives one.clock moments mid → c.answered.rows ≡ front ++ back
+        → AreSettled form row_step c.answered.name base moments front answers stood → AreOneRun form gives (Some text) base last one two
+    one_run_of front back moments mid answers taken split first = record {
+      name = c.answered.name;
+      rows = c.answered.rows;
+      whole = c.answered.ends.0;
+      front = front;
+      back = back;
+      split = split;
+      moments = moments;
+      mid = mid;
+      taken = taken;
+      answers = answers;
+      stood = stood;
+      first = first;
+      told = c.answered.answers;
+      others = c.moments;
+      asked = c.taken;
+      second = c.answered.settled;
+      written = wrote;
+      run = one-run base stood last (calls_of c.answered.name moments (formed_from form 1 front)) (calls_of c.answered.name c.moments (formed_from form 1 c.answered.rows))
+          first.answered.replies c.answered.settled.answered.replies first.answered.run c.answered.settled.answered.run;
+      stored = done-kept base stood (calls_of c.answered.name moments (formed_from form 1 front)) first.answered.replies first.answered.run;
+      repeated = (left-over stood last (calls_of c.answered.name c.moments (formed_from form 1 c.answered.rows)) c.answered.settled.answered.replies c.answered.settled.answered.run).1;
+    }
+
+    one_from_part : stood ≡ after → Part after → AreOneRun form gives (Some text) base last one two
+    one_from_part same p =
+        one_run_of p.rows on.1.0 p.moments p.mid p.answers p.taken on.1.1
+        (subst (λ (n : Text). AreSettled form row_step n base p.moments p.rows p.answers stood) on.0
+        (subst (λ (b : Base). AreSettled form row_step p.name base p.moments p.rows p.answers b) (sym same) p.settled))
+      where
+        on : (p.name ≡ c.answered.name) × ((back : List Fields) × (c.answered.rows ≡ p.rows ++ back))
+        on = rows-go-on text p.name c.answered.name p.rows c.answered.rows p.settled.rows_only p.begins c.answered.ends.0
+
+    one_from_under : Under after stood → AreOneRun form gives (Some text) base last one two
+    one_from_under u =
+        one_run_of (p.rows ++ u.row ∷ []) on.1.0 (p.moments ++ u.moment ∷ []) one.later (p.answers ++ answer ∷ [])
+        (moments_push gives one.clock p.mid one.later p.moments u.moment p.taken u.given) split
+        (subst (λ (n : Text). AreSettled form row_step n base (p.moments ++ u.moment ∷ []) (p.rows ++ u.row ∷ []) (p.answers ++ answer ∷ []) stood) on.0
+        (settled_push form row_step p.name base after stood p.moments p.rows p.answers p.settled u.row u.command u.formed u.moment answer
+        acted
+        (All-front (λ row. ¬ (IsEnd row)) (p.rows ++ u.row ∷ []) on.1.0 (subst (λ (rs : List Fields). AllByRecursion (λ row. ¬ (IsEnd row)) rs) split c.answered.settled.rows_only))))
+      where
+        p : Part after
+        p = u.part
+
+        on : (p.name ≡ c.answered.name) × ((rest : List Fields) × (c.answered.rows ≡ p.rows ++ u.row ∷ rest))
+        on = next-goes-on text p.name c.answered.name p.rows c.answered.rows u.row p.settled.rows_only u.begins c.answered.ends.0 (λ n e. apart n u.command (ap form (sym e) ∙ u.formed))
+
+        answer : Answer
+        answer = (row_step after u.moment u.command (record { batch = p.name; row = length p.rows + 1 })).0
+
+        acted : row_step after u.moment u.command (record { batch = p.name; row = 1 + length p.rows }) ≡ (answer, stood)
+        acted =
+            let place : 1 + length p.rows ≡ length p.rows + 1 = omega arith in
+            ap (λ (n : ℕ). row_step after u.moment u.command (record { batch = p.name; row = n })) place ∙ ap (λ (b : Base). (answer, b)) u.booked
+
+        split : c.answered.rows ≡ (p.rows ++ u.row ∷ []) ++ on.1.0
+        split = on.1.1 ∙ sym (append_assoc p.rows (u.row ∷ []) on.1.0)
+
+    one_from_how : ((stood ≡ after) × First after) ⊎ Under after stood → AreOneRun form gives (Some text) base last one two
+    one_from_how (inl (same, first)) = one_from_part same (part_of first)
+    one_from_how (inr u) = one_from_under u
+
   -- ---- both
 
   pub sent_again : (first left conn store last : Held S) (two : Outside C) (ended : Result Counts BatchFault) (taken : Result (Unit {0}) Fault) (counts : Counts) → IsDurable g first base
@@ -268,12 +339,12 @@ module _ {S C : Type 0} (g : Ghosts S) (rests : Settles g) (form : Fields → Re
       → HasCleanDisk (state g left) → IsReopened g left conn → AdoptPost g conn store taken → HasCleanDisk (state g store)
       → OnAnswer taken (λ failing. failing ≡ None)
       × (RefinesModel (λ desk. HasCleanDisk (state g desk)) (λ desk. Represents g desk) form row_step gives (Some text) store last two (Ok counts) → HasCleanDisk (state g last)
-      → (after : Base) × Represents g last after × IsSentAgain form gives (Some text) base after one two)
+      → (after : Base) × Represents g last after × IsSentAgain form gives (Some text) base after one two × AreOneRun form gives (Some text) base after one two)
   sent_again first left conn store last two ended taken counts at leaves clean again adopted next =
       let f = found first left ended at leaves clean again.0 again.1 in
       let t = taken_over g rests again.0 conn store taken again.2 adopted next f.stood f.can f.are (λ (b : Base). b ≡ f.stood) refl in (
         t.undamaged,
         λ keeps good.
             let k = keeps good f.stood (subst (Represents g store) t.may t.stands.keeps) in
-            (k.0, k.1, from_how f.after f.stood k.0 two (counts.ok + counts.again + counts.no) k.2.0 f.how),
+            (k.0, k.1, from_how f.after f.stood k.0 two (counts.ok + counts.again + counts.no) k.2.0 f.how, one_from_how f.after f.stood k.0 two (counts.ok + counts.again + counts.no) k.2.0 f.how),
       )

@@ -1,4 +1,4 @@
--- A row that was answered, or not, under its key.
+-- A call of a row under its key, answered or failed.
 use Rattle.std.proofs.Common.{◌≡◌, ◌⊎◌, ℕ, Bool, true, false, Result, Ok, Err, Some, inl, inr, ap, refl, subst, sym}
 use Rattle.sqlite_trees.specs.Tree.{Trees}
 use Rattle.sqlite_trees.specs.declared.store.Store.{Ghosts}
@@ -33,7 +33,7 @@ use Rattle.brk_import.specs.Leaving.{LeavesOneOf}
 use Rattle.brk_import.specs.Rows.{DeskActs}
 
 module _ {S : Type 0} (g : Ghosts S) (old new : Held S) (now : ℕ) (command : Command) where
-  -- a call that booked nothing leaves what was left before
+  -- after a call that committed nothing, a crash exposes what it exposed before
   quiet_left : (key : Key) (answer : Answer) → ((base after : Base) → row_step base now command key ≡ (answer_of answer, after) → after ≡ base) → CallPost g old new now command (Some key) (Ok answer)
       → Acts (λ desk. HasCleanDisk (state g desk)) (RepresentsDurably (λ desk. Represents g desk) (LeavesOneOf g) true) row_step old new now command key (answer_of answer)
   quiet_left key answer quiet called clean base sure =
@@ -72,7 +72,7 @@ module _ {S : Type 0} (g : Ghosts S) (old new : Held S) (now : ℕ) (command : C
   acts key answer called false = called.answered
   acts key answer called true = answered_left key answer called
 
-  -- it was not answered
+  -- the call failed
   pub may_act : (key : Key) (fault : Fault) → CallPost g old new now command (Some key) (Err fault)
       → MayAct (λ desk. HasCleanDisk (state g desk)) (λ desk. Represents g desk) (LeavesOneOf g) row_step old new now command key
   may_act key fault called clean base keeps alone trees may = elim (called.survives.crash clean trees may) [

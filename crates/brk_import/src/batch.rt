@@ -22,15 +22,16 @@ use sqlite::Alter;
 use std::alloc::Global;
 use std::io::{Read, Write};
 
-/// Reads a batch of rows, executes each on the desk, and writes its line before the next one is
-/// executed. Returns the counts of the answers.
+/// Reads a batch of rows, executes them on the desk in order, and writes a line for each. Returns
+/// the counts of the answers.
 ///
 /// The input is comma-separated: `batch,NAME`, then the rows, then `end,N` with the number of rows.
-/// The first 67,108,864 bytes of an input are read. A row is executed after the next record has
-/// been read, so the last row of a cut input is never executed: it is refused with 18.
+/// A longer input is cut after 67,108,864 bytes. A row is executed only if a record follows it, so
+/// the last row of a cut input is never executed: it is refused with 18.
 ///
-/// Row n of batch NAME has the key (NAME, n), under which it is accepted at most once. The clock is
-/// read once for each decided row that is well-formed and has a record after it. The lines are
+/// Row n of batch NAME has the key (NAME, n), under which it is accepted at most once. Each decided
+/// row that is well-formed and has a record after it is one call of the desk; one more call may have
+/// failed at the end. The clock is read once for each call, and not otherwise. The lines are
 /// `n,ok,FIELDS`, `n,again,FIELDS` or `n,no,FIELDS`, and after the correct end record
 /// `end,OK,AGAIN,NO`.
 ///

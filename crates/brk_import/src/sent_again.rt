@@ -4,7 +4,7 @@ ghost use Rattle.std.specs.Prelude.{◌≡◌, ℕ, List, None, Ok, Result, Some
 ghost use Rattle.brk_desk.specs.Reopening.{IsReopened, IsDurable};
 ghost use Rattle.brk_batch_engine.specs.Batch.{RefinesModel, CrashStates};
 ghost use Rattle.brk_import.specs.Leaving.{LeavesOneOf};
-ghost use Rattle.brk_import.specs.SentAgain.{IsSentAgain};
+ghost use Rattle.brk_import.specs.SentAgain.{AreOneRun, IsSentAgain};
 ghost use Rattle.brk_io.specs.declared.batch_fault.BatchFault as faults;
 ghost use Rattle.brk_batch_engine.specs.declared.counts.Counts as counted;
 ghost use Rattle.brk_model.specs.Base.{Base};
@@ -22,9 +22,11 @@ use sqlite::Alter;
 
 /// Proves, under the disk assumption and for a reader with specified content, that adopting a crash
 /// state of a batch never reports damage, if a crash before the batch exposed only the tables of
-/// the base that the desk represented. If the batch is then retried and completes, both runs equal
-/// one uninterrupted run, if the first run refused none of the rows that it answered. This includes
-/// a row that was committed but not answered.
+/// the base that the desk represented. If the batch is then retried and completes, both runs are
+/// equivalent to one run, whatever rows they refused: first the rows that the first run accepted,
+/// then the rows of the retry that were not stored by then (`AreOneRun`). If the first run refused
+/// none of the rows that it answered, both runs equal one uninterrupted run of the batch
+/// (`IsSentAgain`). Both include a row that was committed but not answered.
 pub fn an_interrupted_batch_can_be_retried<S: Alter, C: Clock>()
     ensures { (input : List ℕ) (base : Base) (first left conn store last : Held S) (one two : Outside C) (ended : Result counted.Counts faults.BatchFault)
         (taken : Result (Unit {0}) money.Fault) (counts : counted.Counts) → IsDurable S.Store first base
@@ -34,5 +36,6 @@ pub fn an_interrupted_batch_can_be_retried<S: Alter, C: Clock>()
         → OnAnswer taken (λ failing. failing ≡ None)
         × (RefinesModel (λ desk. HasCleanDisk (state S.Store desk)) (λ desk. Represents S.Store desk) (parse_by readers) row_step
         C.gives (Some (text_of input)) store last two (Ok counts) → HasCleanDisk (state S.Store last)
-        → (after : Base) × Represents S.Store last after × IsSentAgain (parse_by readers) C.gives (Some (text_of input)) base after one two) }
+        → (after : Base) × Represents S.Store last after × IsSentAgain (parse_by readers) C.gives (Some (text_of input)) base after one two
+        × AreOneRun (parse_by readers) C.gives (Some (text_of input)) base after one two) }
 {}

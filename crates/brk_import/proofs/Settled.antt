@@ -1,0 +1,52 @@
+-- One more row of a batch that is settled.
+use Rattle.std.proofs.Common.{◌≡◌, ◌∙◌, ℕ, ◌+◌, List, [], ◌∷◌, ◌++◌, length, refl, arith, sym, ap}
+use Rattle.std.specs.Prelude.{Ok}
+use Rattle.std.specs.List.{AllByRecursion}
+use Rattle.std.proofs.lemmas.List.{length-append}
+use Rattle.brk_money.specs.Spelling.{Text}
+use Rattle.brk_model.specs.Answers.{Fields, InTurn, RowCall, RowStep, call_step, calls_of, formed_from, with_formed, woven}
+use Rattle.brk_model.specs.Batch.{AreSettled}
+use Rattle.brk_model.specs.Commands.{Answer}
+use Rattle.brk_model.specs.Forms.{Read}
+use Rattle.brk_model.specs.Input.{IsEnd}
+use Rattle.brk_batch_engine.proofs.Pushes.{calls_length, calls_push, formed_push, run_push, woven_push}
+
+-- calls in turn have one answer each
+turned : {S X : Type 0} (step : RowStep S X) (base after : S) (calls : List (RowCall X)) (answers : List Answer) → InTurn step base calls answers after → length answers ≡ length calls
+turned step base after [] [] r = refl
+turned step base after [] (a ∷ rs) r = absurd r
+turned step base after (c ∷ cs) [] r = absurd r
+turned step base after (c ∷ cs) (a ∷ rs) r = let more = turned step (call_step step base c).1 after cs rs r.1 in omega arith
+
+module _ {S X : Type 0} (form : Fields → Read X) (step : RowStep S X) (name : Text) (base mid after : S) (moments : List ℕ) (rows : List Fields) (answers : List Answer)
+    (h : AreSettled form step name base moments rows answers mid) (row : Fields) (command : X) (formed : form row ≡ Ok command) (moment : ℕ) (answer : Answer)
+    (acted : step mid moment command (record { batch = name; row = 1 + length rows }) ≡ (answer, after)) where
+  calls : formed_from form 1 (rows ++ row ∷ []) ≡ formed_from form 1 rows ++ (1 + length rows, command) ∷ []
+  calls = formed_push form 1 rows row ∙ ap (λ (o : Read X). formed_from form 1 rows ++ with_formed o (1 + length rows) []) formed
+
+  longer : length (formed_from form 1 (rows ++ row ∷ [])) ≡ length (formed_from form 1 rows) + 1
+  longer = ap length calls ∙ length-append (formed_from form 1 rows) ((1 + length rows, command) ∷ [])
+
+  run : InTurn step base (calls_of name (moments ++ moment ∷ []) (formed_from form 1 (rows ++ row ∷ []))) (h.answered.replies ++ answer ∷ []) after
+  run =
+      rw (calls, calls_push name moments (formed_from form 1 rows) moment (1 + length rows, command) h.answered.one_each)
+      (run_push step base mid after _ h.answered.replies _ answer h.answered.run acted)
+
+  replied : length h.answered.replies ≡ length (formed_from form 1 rows)
+  replied = turned step base mid (calls_of name moments (formed_from form 1 rows)) h.answered.replies h.answered.run ∙ calls_length name moments (formed_from form 1 rows) h.answered.one_each
+
+  wove : woven form (rows ++ row ∷ []) (h.answered.replies ++ answer ∷ []) ≡ woven form rows h.answered.replies ++ answer ∷ []
+  wove = rw formed at (woven_push form 1 rows row h.answered.replies (answer ∷ []) replied)
+
+  pub settled_push : AllByRecursion (λ r. ¬ (IsEnd r)) (rows ++ row ∷ []) → AreSettled form step name base (moments ++ moment ∷ []) (rows ++ row ∷ []) (answers ++ answer ∷ []) after
+  settled_push only = record {
+    named = h.named;
+    rows_only = only;
+    answered = record {
+      replies = h.answered.replies ++ answer ∷ [];
+      one_each = length-append moments (moment ∷ []) ∙ ap (λ (n : ℕ). n + 1) h.answered.one_each ∙ sym longer;
+      run = run;
+      all = ap (λ (l : List Answer). l ++ answer ∷ []) h.answered.all ∙ sym wove;
+    };
+    each = length-append answers (answer ∷ []) ∙ ap (λ (n : ℕ). n + 1) h.each ∙ sym (length-append rows (row ∷ []));
+  }
