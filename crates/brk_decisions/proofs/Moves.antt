@@ -1,5 +1,5 @@
 -- What was read for a movement of cash decides on it.
-use Rattle.std.proofs.Common.{◌≡◌, ◌≤◌, ◌∙◌, ℕ, ℤ, Option, Result, Ok, Err, IfOk, ap, filter, length, subst}
+use Rattle.std.proofs.Common.{◌≡◌, ◌≤◌, ◌∙◌, Bool, ℕ, ℤ, Option, Result, Ok, Err, IfOk, ap, filter, length, subst}
 use Rattle.std.specs.Prelude.{MatchResult, ◌∷◌, ◌++◌, [], Some, is_none, nat_le, option_map}
 use Rattle.sqlite_trees.specs.declared.store.Store.{Ghosts}
 use Rattle.sqlite.specs.Held.{Held}
@@ -30,8 +30,8 @@ abbrev pub BalanceKnown : ℕ → Option ℤ → Tables → Type 0
 BalanceKnown account balance t = balance ≡ option_map (λ r. r.balance) (account_in t account)
 
 -- whether there are as many movements as there may be
-abbrev pub CountKnown : ℕ → Tables → Type 0
-CountKnown movements t = nat_le greatest_id movements ≡ nat_le greatest_id (length (filter (λ r. is_none r.trade) t.moves))
+abbrev pub CountKnown : Bool → Tables → Type 0
+CountKnown all t = all ≡ nat_le greatest_id (length (filter (λ r. is_none r.trade) t.moves))
 
 -- the last stamp, and what is found for a movement
 abbrev pub Known : Movement → MoveFound → Option ℕ → Tables → Type 0

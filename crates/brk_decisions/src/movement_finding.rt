@@ -21,11 +21,11 @@ pub(crate) fn find_for_move<S: Alter>(
     ensures fault { IfErr result MayFail }
 {
     let balance = store.balance_of(movement.account)?;
-    let movements = store.movements_for_limit()?;
+    let has_all_movements = store.has_all_movements()?;
     let next = store.next_move()?;
     Ok(MoveFound {
         balance,
-        movements,
+        has_all_movements,
         next,
     })
 }

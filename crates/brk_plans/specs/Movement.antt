@@ -1,10 +1,10 @@
 -- Deposits and withdrawals: their checks, and the plan of an accepted one.
-use Rattle.std.specs.Prelude.{◌≡◌, ℕ, ℤ, pos, neg_ℤ, ◌+ℤ◌, nat_abs, nat_le, nat_lt, is_none, unwrap_or, codes, List, [], ◌∷◌, ◌++◌, Option, None, Some}
+use Rattle.std.specs.Prelude.{◌≡◌, ℕ, ℤ, pos, neg_ℤ, ◌+ℤ◌, nat_abs, nat_lt, is_none, unwrap_or, codes, List, [], ◌∷◌, ◌++◌, Option, None, Some}
 use Rattle.brk_money.specs.Moments.{stamp_after}
 use Rattle.brk_money.specs.Spelling.{Text}
 use Rattle.brk_money.specs.declared.refusal.Refusal.TheVariants.{NoAccount, Range}
 use Rattle.brk_money.specs.declared.refusal.Limit.TheVariants as limit
-use Rattle.brk_model.specs.Limits.{greatest_amount, greatest_id}
+use Rattle.brk_model.specs.Limits.{greatest_amount}
 use Rattle.brk_model.specs.Tables as tables
 use Rattle.brk_model.specs.Tests.{Test, first_refusal}
 use Rattle.brk_orders.specs.declared.movement.Direction.{Direction}
@@ -41,7 +41,7 @@ balance_after m found = unwrap_or found.balance (pos 0) +ℤ signed m
 abbrev pub move_tests : Movement → MoveFound → List Test
 move_tests m found =
     (is_none found.balance, NoAccount) ∷ (nat_lt greatest_amount (nat_abs (balance_after m found)), Range limit.Balance)
-    ∷ (nat_le greatest_id found.movements, Range limit.Moves) ∷ []
+    ∷ (found.has_all_movements, Range limit.Moves) ∷ []
 
 -- The cash row of a movement.
 abbrev pub move_row : Movement → (number stamp : ℕ) → tables.MoveRow

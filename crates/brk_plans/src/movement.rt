@@ -19,9 +19,8 @@ use std::alloc::{AllocError, Global};
 pub struct MoveFound {
     /// The balance of the account in cents, or `None` if the account does not exist (CA_BAL).
     pub balance: Option<Cents>,
-    /// At least `Id::GREATEST` if there are that many deposits and withdrawals, otherwise any
-    /// number below it.
-    pub movements: u64,
+    /// True if there are at least `Id::GREATEST` deposits and withdrawals.
+    pub has_all_movements: bool,
     /// The number of the next cash row (CM_ID).
     pub next: MoveId,
 }
@@ -69,7 +68,7 @@ fn balance_after(movement: &Movement, found: &MoveFound) -> Result<Cents, Refusa
     let Some(balance) = added(balance, signed(movement)) else {
         return Err(Refusal::Range(Limit::Balance));
     };
-    if found.movements >= Id::GREATEST {
+    if found.has_all_movements {
         return Err(Refusal::Range(Limit::Moves));
     }
     Ok(balance)

@@ -52,7 +52,7 @@ impl<S: Alter> Store<S> {
 
     // Returns true if there are at least `ALL_MOVEMENTS` deposits and withdrawals. The database
     // goes over all cash rows.
-    fn has_all_movements(&mut self) -> Result<bool, Fault>
+    fn counts_all_movements(&mut self) -> Result<bool, Fault>
         ensures read { ReadPost S.Store self.old self.new result (λ all t. all ≡ nat_le greatest_id (length (filter (λ r. is_none r.trade) t.moves))) }
         ensures fault { OnErr result (result ≡ Err fault.Store) }
     {
@@ -76,21 +76,17 @@ impl<S: Alter> Store<S> {
         }
     }
 
-    /// Returns at least `Id::GREATEST` if there are that many deposits and withdrawals, otherwise a
-    /// number below it, which need not be their number. Fails with `Store` only.
-    pub fn movements_for_limit(&mut self) -> Result<u64, Fault>
-        ensures read { ReadPost S.Store self.old self.new result (λ count t. nat_le greatest_id count ≡ nat_le greatest_id (length (filter (λ r. is_none r.trade) t.moves))) }
+    /// Returns true if there are at least `Id::GREATEST` deposits and withdrawals. Fails with
+    /// `Store` only.
+    pub fn has_all_movements(&mut self) -> Result<bool, Fault>
+        ensures read { ReadPost S.Store self.old self.new result (λ all t. all ≡ nat_le greatest_id (length (filter (λ r. is_none r.trade) t.moves))) }
         ensures fault { OnErr result (result ≡ Err fault.Store) }
     {
         let next = self.next_move()?;
         // Below this number there cannot be that many, so they are not counted.
         if next.get() < ALL_MOVEMENTS {
-            return Ok(next.get());
+            return Ok(false);
         }
-        if self.has_all_movements()? {
-            Ok(ALL_MOVEMENTS)
-        } else {
-            Ok(0)
-        }
+        self.counts_all_movements()
     }
 }

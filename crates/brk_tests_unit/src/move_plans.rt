@@ -13,7 +13,7 @@ struct Case {
     direction: Direction,
     cents: u64,
     balance: Option<i64>,
-    movements: u64,
+    has_all_movements: bool,
     next: u64,
 }
 
@@ -24,7 +24,7 @@ fn found(case: Case) -> Result<MoveFound, Fail> {
     };
     Ok(MoveFound {
         balance,
-        movements: case.movements,
+        has_all_movements: case.has_all_movements,
         next: MoveId::new(case.next).ok_or("number")?,
     })
 }
@@ -52,7 +52,7 @@ fn movements_with_their_numbers_and_balances(rt: HostRuntime) -> Result<(), Fail
         direction: Direction::Deposit,
         cents: 10_000,
         balance: Some(840_340),
-        movements: 0,
+        has_all_movements: false,
         next: 4,
     };
     let withdrawal = Case {
@@ -67,11 +67,11 @@ fn movements_with_their_numbers_and_balances(rt: HostRuntime) -> Result<(), Fail
     };
     let unknown = Case {
         balance: None,
-        movements: 1_000_000_000_000,
+        has_all_movements: true,
         ..deposit
     };
     let full = Case {
-        movements: 1_000_000_000_000,
+        has_all_movements: true,
         ..deposit
     };
     for (case, wanted) in [

@@ -100,7 +100,7 @@ tests_read : (base : Base) (m : Movement) (found : MoveFound) (last : Option ℕ
     ≡ first_refusal (movement_tests base (moved m.direction stamp m.account m.amount) ++ (nat_lt last_stamp (next_stamp base now), ClockEnd) ∷ (false, TooEarly) ∷ [])
 tests_read base m found last now stamp k =
     let alike = same_first (is_none found.balance) (is_none (account_with base m.account)) NoAccount
-    ((nat_lt greatest_amount (nat_abs (planner.balance_after m found)), Range limit.Balance) ∷ (nat_le greatest_id found.movements, Range limit.Moves) ∷ clock_test last now ∷ [])
+    ((nat_lt greatest_amount (nat_abs (planner.balance_after m found)), Range limit.Balance) ∷ (found.has_all_movements, Range limit.Moves) ∷ clock_test last now ∷ [])
     ((nat_lt greatest_amount (nat_abs (balance_with base (moved m.direction stamp m.account m.amount))), Range limit.Balance)
     ∷ (nat_le greatest_id (length base.movements), Range limit.Moves) ∷ (nat_lt last_stamp (next_stamp base now), ClockEnd) ∷ (false, TooEarly) ∷ [])
     (account_read base m found k.looked_up) (λ there.
@@ -150,7 +150,7 @@ move_plan_does base m found last now plan k p =
     let next : p.stamp ≡ next_stamp base now = stamp_read base last now p.stamp k.last_read p.stamped in
     let accepted : refusal_of base now command ≡ None = sym (move_read base m found last now k) ∙ p.accepted in
     let there : is_none found.balance ≡ false = first_passes (is_none found.balance) NoAccount
-    ((nat_lt greatest_amount (nat_abs (planner.balance_after m found)), Range limit.Balance) ∷ (nat_le greatest_id found.movements, Range limit.Moves) ∷ clock_test last now ∷ []) p.accepted in
+    ((nat_lt greatest_amount (nat_abs (planner.balance_after m found)), Range limit.Balance) ∷ (found.has_all_movements, Range limit.Moves) ∷ clock_test last now ∷ []) p.accepted in
     let number : found.next ≡ length (postings_of base) + 1 = k.looked_up.next ∙ ap (λ n. n + 1) (reads_last_move base) in
     let balance : planner.balance_after m found ≡ balance_with base (moved m.direction p.stamp m.account m.amount) = balance_read base m found p.stamp k.looked_up there in
     let row : move_row_of p.moves.row ≡ row_of_movement base (moved m.direction p.stamp m.account m.amount) = p.moves.posted ∙ (λ i. record (planner.move_row m found.next p.stamp) { id = number i }) in

@@ -17,9 +17,9 @@ use Rattle.brk_book_theorems.specs.TradeReads.{last_move}
 -- The facts of a movement are those in the tables.
 pub record IsFoundForMove (t : Tables) (m : Movement) (found : MoveFound) : Type 0 where
   pub balance : found.balance ≡ option_map (λ r. r.balance) (account_in t m.account)
-  -- The count reaches the greatest id if and only if the number of movements does; movements are
-  -- the cash rows without a trade.
-  pub counted : nat_le greatest_id found.movements ≡ nat_le greatest_id (length (filter (λ r. is_none r.trade) t.moves))
+  -- True if and only if the number of movements reaches the greatest id; movements are the cash rows
+  -- without a trade.
+  pub counted : found.has_all_movements ≡ nat_le greatest_id (length (filter (λ r. is_none r.trade) t.moves))
   -- The next number follows that of the last cash row.
   pub next : found.next ≡ last_move t + 1
 

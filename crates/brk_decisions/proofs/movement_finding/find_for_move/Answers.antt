@@ -13,15 +13,15 @@ returns-clause-read g c =
     let old = c.args.store.now in
     let m = c.args.movement.now in
     let balance = c.in_ok-balance.balance in
-    let movements = c.in_ok-movements.movements in
+    let all = c.in_ok-has_all_movements.has_all_movements in
     let next = c.in_ok-next.next in
-    let found : MoveFound = record { balance = balance; movements = movements; next = next } in
-    read_both g.S.Store old c.movements_for_limit.new.self c.next_move.new.self {H = Fault} movements next found
-    (λ movements (t : Tables). BalanceKnown m.account balance t × CountKnown movements t)
+    let found : MoveFound = record { balance = balance; has_all_movements = all; next = next } in
+    read_both g.S.Store old c.has_all_movements.new.self c.next_move.new.self {H = Fault} all next found
+    (λ all (t : Tables). BalanceKnown m.account balance t × CountKnown all t)
     (λ next (t : Tables). next ≡ last_move t + 1)
     (λ found (t : Tables). IsFoundForMove t m found)
     (λ t k n. record { balance = k.0; counted = k.1; next = n })
-    (read_both g.S.Store old c.balance_of.new.self c.movements_for_limit.new.self {H = Fault} balance movements movements
-    (BalanceKnown m.account) CountKnown (λ movements (t : Tables). BalanceKnown m.account balance t × CountKnown movements t)
-    (λ t b n. (b, n)) c.in_ok-balance.ensures.read c.in_ok-movements.ensures.read)
+    (read_both g.S.Store old c.balance_of.new.self c.has_all_movements.new.self {H = Fault} balance all all
+    (BalanceKnown m.account) CountKnown (λ all (t : Tables). BalanceKnown m.account balance t × CountKnown all t)
+    (λ t b n. (b, n)) c.in_ok-balance.ensures.read c.in_ok-has_all_movements.ensures.read)
     c.in_ok-next.ensures.read
