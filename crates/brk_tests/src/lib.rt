@@ -23,6 +23,8 @@ mod many_results;
 #[cfg(test)]
 mod row_calls;
 #[cfg(test)]
+mod rows_at_desk;
+#[cfg(test)]
 mod rows_read;
 #[cfg(test)]
 mod statements;

@@ -1,0 +1,97 @@
+//! How many calls of its file a desk makes to sell a share of a position of many lots: no more than for one of a single lot.
+
+use crate::desks::Still;
+use crate::files::machine::{Held, Seen, Stop, desk_in, file_of, run};
+use crate::worked::SET;
+use brk_import::run_batch;
+use sqlite::{Files, Options};
+use std::alloc::Global;
+use std::test::Fail;
+
+const LOTS: u64 = 100;
+
+// Purchases of lots of two shares each: one for account 101, and LOTS for account 100.
+fn purchases(alloc: Global) -> Result<String, Fail> {
+    let mut batch = String::from_str(alloc, "batch,P\naccount,101,10,1,Side,1,10000.00\n")?;
+    for n in 1..=LOTS {
+        writeln!(batch, "order,100,TMB,ABC,2,,cash,fifo,Ann,Lee,T10")?;
+        writeln!(batch, "result,{n},10.00")?;
+    }
+    writeln!(batch, "order,101,TMB,ABC,2,,cash,fifo,Ann,Lee,T10")?;
+    writeln!(batch, "result,{},10.00", LOTS + 1)?;
+    writeln!(batch, "end,{}", 2 * LOTS + 3)?;
+    Ok(batch)
+}
+
+// The files of a desk with these lots.
+fn files_of_lots(alloc: Global) -> Result<Held, Fail> {
+    let mut seen = Seen::nothing(alloc);
+    let (set, _) = run(alloc, &Held::nothing(alloc), Stop::NEVER, SET, &mut seen)?;
+    let batch = purchases(alloc)?;
+    let mut seen = Seen::nothing(alloc);
+    let (held, _) = run(alloc, &set, Stop::NEVER, batch.as_bytes(), &mut seen)?;
+    if !seen.lines.ends_with(b"end,203,0,0\n") {
+        return Err("the purchases")?;
+    }
+    Ok(held)
+}
+
+// The order and the result of a sale.
+fn sale(alloc: Global, account: u64, shares: u64) -> Result<String, Fail> {
+    let trade = LOTS + 2;
+    Ok(format!(in alloc;
+        "batch,S\norder,{account},TMS,ABC,{shares},,cash,fifo,Ann,Lee,T10\nresult,{trade},10.00\nend,2\n"
+    )?)
+}
+
+// Whether a desk completes a sale if the file of its database takes this many calls. The desk has
+// one page of the file in memory, so it reads each page anew.
+fn is_booked(
+    alloc: Global,
+    held: &Held,
+    account: u64,
+    shares: u64,
+    calls: u64,
+) -> Result<bool, Fail> {
+    let batch = sale(alloc, account, shares)?;
+    let files = Files {
+        log: file_of(alloc, &held.log, u64::MAX)?,
+        db: file_of(alloc, &held.db, calls)?,
+    };
+    let mut options = Options::new(1);
+    options.cache_pages = 1;
+    let mut lines = Vec::new(alloc);
+    if let Some(mut desk) = desk_in(alloc, files, options) {
+        drop(run_batch(
+            alloc,
+            batch.as_bytes(),
+            &mut lines,
+            &mut Still::first(),
+            &mut desk,
+        ));
+    }
+    Ok(lines.ends_with(b"end,2,0,0\n"))
+}
+
+// The least number of calls that suffice for the sale of a share.
+fn calls_of_sale(alloc: Global, held: &Held, account: u64) -> Result<u64, Fail> {
+    let mut most = 0u64;
+    for bit in [4_096, 2_048, 1_024, 512, 256, 128, 64, 32, 16, 8, 4, 2, 1] {
+        let more = most.saturating_add(bit);
+        if !is_booked(alloc, held, account, 1, more)? {
+            most = more;
+        }
+    }
+    Ok(most.saturating_add(1))
+}
+
+#[test]
+fn sells_a_share_of_many_lots_as_one_of_a_single_lot(rt: HostRuntime) -> Result<(), Fail> {
+    let alloc = rt.alloc();
+    let held = files_of_lots(alloc)?;
+    let calls = calls_of_sale(alloc, &held, 101)?;
+    assert!(rt; is_booked(alloc, &held, 101, 1, calls)?, "{calls}");
+    assert!(rt; is_booked(alloc, &held, 100, 1, calls)?, "{calls}");
+    assert!(rt; !is_booked(alloc, &held, 100, 33, calls)?, "{calls}");
+    Ok(())
+}
