@@ -1,5 +1,5 @@
 -- What a walk with a visitor that writes lines has written, and what one that adds up has added.
-use Rattle.std.proofs.Common.{◌≡◌, ℕ, ◌+◌, ℤ, ◌+ℤ◌, List, [], ◌∷◌, ◌++◌, IfErr, Option, Result, Ok, Err, length, map, refl, sym, ap, subst, ◌∙◌, arith}
+use Rattle.std.proofs.Common.{◌≡◌, ℕ, ◌+◌, ℤ, ◌+ℤ◌, List, [], ◌∷◌, ◌++◌, IfErr, Option, Result, Ok, Err, length, map, inr, refl, sym, ap, subst, ◌∙◌, arith}
 use Rattle.std.specs.List.{FoldsTo}
 use Rattle.std.specs.Io.KnownBytes.{Appends}
 use Rattle.std.proofs.KnownBytes.{Appends-trans}
@@ -7,6 +7,7 @@ use Rattle.sqlite_trees.specs.declared.store.Store.{Ghosts}
 use Rattle.sqlite.specs.Held.{Held, state}
 use Rattle.sqlite.specs.State.{HasCleanDisk}
 use Rattle.brk_money.specs.Spelling.{Text}
+use Rattle.brk_money.specs.declared.fault.Fault.TheVariants as faults
 use Rattle.brk_model.specs.Lists.{total_by}
 use Rattle.brk_model.specs.Statement.{lines_text}
 use Rattle.brk_model.specs.Tables.{Tables}
@@ -15,7 +16,6 @@ use Rattle.brk_store.specs.Walked.{WalkPost}
 use Rattle.brk_tables_walks.specs.declared.walking.WalkError.{WalkError}
 use Rattle.brk_tables_walks.specs.declared.walking.WalkError.TheVariants.{Failed, Cause}
 use Rattle.brk_report_lines.specs.Written.{BreaksIn, BreaksOff, Writes, ended}
-use Rattle.brk_tables_walks.specs.Walk.{EndsBy}
 use Rattle.brk_report.specs.Stated.{MayBreak}
 use Rattle.brk_report_lines.specs.declared.fault.LinesFault.{LinesFault}
 use Rattle.brk_report_lines.specs.declared.fault.LinesFault.TheVariants.{Desk, Write}
@@ -42,11 +42,15 @@ pub in_written : {Y : Type 0} (lines : List Text) (a b : Option Text) (r : Resul
 in_written lines a b (Ok y) h = tt
 in_written lines a b (Err e) h = in_broken lines a b e h
 
+pub of_store : (e : LinesFault) → e ≡ Desk faults.Store → MayBreak e
+of_store e same = subst MayBreak (sym same) (inr refl)
+
 -- the fault of a walk, whatever the disk
-pub known_end : {X V : Type 0} (stops : V → X → LinesFault → V → Type 0) (after : V) → ((p : V) (x : X) (e : LinesFault) (q : V) → stops p x e q → MayBreak e) → (result : Result (Unit {0}) (WalkError LinesFault))
-    → IfErr result (EndsBy stops after) → (stop : WalkError LinesFault) → result ≡ Err stop → (e : LinesFault) → e ≡ fault_of stop → MayBreak e
-known_end stops after may result ends (Failed fault) is e same = subst MayBreak (sym same) (rw is at ends)
-known_end stops after may result ends (Cause f) is e same = let h = rw is at ends in subst MayBreak (sym same) (may h.0 h.1 f after h.2)
+module _ {S X M V : Type 0} (g : Ghosts S) (old new : Held S) (of : X → M) (list : Tables → List M) (takes : V → X → V → Type 0) (stops : V → X → LinesFault → V → Type 0) (before after : V)
+    (result : Result (Unit {0}) (WalkError LinesFault)) (walked : WalkPost g old new of list takes stops before after result) where
+  pub known_end : ((p : V) (x : X) (e : LinesFault) (q : V) → stops p x e q → MayBreak e) → (stop : WalkError LinesFault) → result ≡ Err stop → (e : LinesFault) → e ≡ fault_of stop → MayBreak e
+  known_end may (Failed cause) is e same = subst MayBreak (sym same) (rw is at (walked.fault))
+  known_end may (Cause cause) is e same = let h = rw is at (walked.fault) in subst MayBreak (sym same) (may h.0 h.1 cause after h.2)
 
 module _ {S X M V : Type 0} (g : Ghosts S) (old new : Held S) (of : X → M) (list : Tables → List M) (takes : V → X → V → Type 0) (stops : V → X → LinesFault → V → Type 0) (before after : V)
     (t : Tables) (clean : HasCleanDisk (state g new)) (holds : Holds g old t) (result : Result (Unit {0}) (WalkError LinesFault)) (walked : WalkPost g old new of list takes stops before after result) where

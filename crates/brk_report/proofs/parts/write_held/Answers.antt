@@ -37,4 +37,5 @@ returns-in_err-write_line-clause-fault g c =
 
 pub returns-clause-fault : goal.returns-clause-fault
 returns-clause-fault g c =
-    in_written _ _ _ _ (c.write_line-2.ensures.written (codes "Cash rows " ++ decimal c.args.cash ++ codes ", lots " ++ decimal c.in_ok-lots.lots) c.counts_line.ensures.line (wants _ c.counts_line.ensures.fault))
+    in_written ((codes "Cash rows " ++ decimal c.args.cash ++ codes ", lots " ++ decimal c.in_ok-lots.lots) ∷ []) _ _ _
+    (c.write_line-2.ensures.written (codes "Cash rows " ++ decimal c.args.cash ++ codes ", lots " ++ decimal c.in_ok-lots.lots) c.counts_line.ensures.line (wants _ c.counts_line.ensures.fault))

@@ -1,12 +1,11 @@
-use Rattle.std.proofs.Common.{◌+ℤ◌, arith, List, ap, inr, refl, subst, sym, ◌∙◌}
+use Rattle.std.proofs.Common.{◌+ℤ◌, arith, List, ap, ◌∙◌}
 use Rattle.brk_changes.specs.Rows.{move_row_of}
 use Rattle.brk_model.specs.Statement.{cash_total}
 use Rattle.brk_model.specs.Tables as tables
 use Rattle.brk_store.specs.Walked.{cash_of}
 use Rattle.brk_report.specs.declared.visitors.Sum.{Sum}
 use Rattle.brk_report.proofs.Days.{none_before, rows_before}
-use Rattle.brk_report.specs.Stated.{MayBreak}
-use Rattle.brk_report.proofs.Section.{added_all, known_end}
+use Rattle.brk_report.proofs.Section.{added_all, known_end, of_store}
 use Rattle.brk_report.proofs.sections.sum_before.Goals as goal
 
 pub returns-in_default-clause-sum : goal.returns-in_default-clause-sum
@@ -21,4 +20,5 @@ returns-in-Ok-clause-sum g c = λ clean t holds.
 
 pub returns-in-Err-clause-fault : goal.returns-in-Err-clause-fault
 returns-in-Err-clause-fault g c =
-    known_end _ _ (λ p x e q h. subst MayBreak (sym h) (inr refl)) c.visit_cash.result c.visit_cash.ensures.walked.fault c.in-Err.stop c.in-Err.is c.broken.result c.broken.ensures
+    known_end g.S.Store _ _ move_row_of (cash_of c.args.account c.nearest.result c.in-Some.last) _ _ _ _ c.visit_cash.result c.visit_cash.ensures.walked
+    (λ p x e q h. of_store e h) c.in-Err.stop c.in-Err.is c.broken.result c.broken.ensures

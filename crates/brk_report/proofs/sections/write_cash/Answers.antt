@@ -1,4 +1,4 @@
-use Rattle.std.proofs.Common.{◌≡◌, ◌+ℤ◌, List, Ok, length, map, refl, rules, sym, subst}
+use Rattle.std.proofs.Common.{◌≡◌, ◌+ℤ◌, [], ◌∷◌, List, Ok, length, map, refl, rules, sym, subst}
 use Rattle.std.specs.Io.KnownBytes.{Appends}
 use Rattle.sqlite.specs.Held.{state}
 use Rattle.sqlite.specs.State.{HasCleanDisk}
@@ -48,4 +48,6 @@ returns-in-Err-clause-written g c =
 
 pub returns-in-Err-clause-fault : goal.returns-in-Err-clause-fault
 returns-in-Err-clause-fault g c =
-    known_end _ _ (λ p x e q h. in_broken _ _ _ e h) c.visit_cash.result c.visit_cash.ensures.walked.fault c.in-Err.stop c.in-Err.is c.broken.result c.broken.ensures
+    known_end g.S.Store _ _ move_row_of (cash_of c.args.account c.first_stamp.result c.last_stamp.result) _ _ _ _ c.visit_cash.result c.visit_cash.ensures.walked
+    (λ (p : CashLines g.row.W.Denot) x e (q : CashLines g.row.W.Denot) h. in_broken (cash_line (move_row_of x) ∷ []) (g.W.Write.contents p.writer.now) (g.W.Write.contents q.writer.now) e h)
+    c.in-Err.stop c.in-Err.is c.broken.result c.broken.ensures

@@ -1,4 +1,4 @@
-use Rattle.std.proofs.Common.{map, refl, rules, sym, subst}
+use Rattle.std.proofs.Common.{[], ◌∷◌, map, refl, rules, sym, subst}
 use Rattle.std.specs.Io.KnownBytes.{Appends}
 use Rattle.brk_changes.specs.Rows.{holding_row_of}
 use Rattle.brk_model.specs.Statement.{lines_text, lot_line, lots_in}
@@ -22,4 +22,6 @@ returns-in-Err-clause-written g c = λ clean t holds.
 
 pub returns-in-Err-clause-fault : goal.returns-in-Err-clause-fault
 returns-in-Err-clause-fault g c =
-    known_end _ _ (λ p x e q h. in_broken _ _ _ e h) c.visit_lots.result c.visit_lots.ensures.walked.fault c.in-Err.stop c.in-Err.is c.broken.result c.broken.ensures
+    known_end g.S.Store _ _ holding_row_of (λ t. lots_in t c.args.account) _ _ _ _ c.visit_lots.result c.visit_lots.ensures.walked
+    (λ (p : Lines g.row.W.Denot) x e (q : Lines g.row.W.Denot) h. in_broken (lot_line (holding_row_of x) ∷ []) (g.W.Write.contents p.writer.now) (g.W.Write.contents q.writer.now) e h)
+    c.in-Err.stop c.in-Err.is c.broken.result c.broken.ensures
