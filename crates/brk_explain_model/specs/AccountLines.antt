@@ -1,0 +1,84 @@
+-- The lines of the explanation of an account.
+use Rattle.std.specs.Prelude.{ℕ, ◌==◌, List, [], ◌∷◌, ◌++◌, map, filter, length, Option, ℤ, pos, ◌+ℤ◌, ◌*ℤ◌, codes, decimal}
+use Rattle.std.specs.Fmt.{signed_decimal}
+use Rattle.std.specs.Option.{option_map_or}
+use Rattle.brk_money.specs.Spelling.{Text}
+use Rattle.brk_money.specs.Kinds.{tax_status_number}
+use Rattle.brk_model.specs.Rows.{price_text}
+use Rattle.brk_model.specs.Tables.{Tables, AccountRow, HoldingRow, MoveRow, SummaryRow}
+use Rattle.brk_model.specs.Joins.{price_in}
+use Rattle.brk_model.specs.PositionView.{asset_total}
+use Rattle.brk_model.specs.Statement.{at_left, at_right, cash_in, lot_line, lots_in}
+use Rattle.brk_explain_model.specs.Texts.{amount_column, count, moment_text, money, words}
+use Rattle.brk_explain_model.specs.Running.{running_lines}
+
+-- The title, and the account.
+abbrev pub account_top : AccountRow → List Text
+account_top a =
+    (codes "Account " ++ decimal a.id ++ codes ", times in UTC")
+    ∷ words (codes "Name") a.name
+    ∷ count (codes "Customer") a.customer
+    ∷ count (codes "Broker") a.broker
+    ∷ count (codes "Tax status") (tax_status_number a.tax_status)
+    ∷ money (codes "Opening") a.opening
+    ∷ codes "#      posted                       cash row         trade                 amount                balance name"
+    ∷ []
+
+-- The text of the trade of a cash row: a hyphen if it has none.
+abbrev pub trade_text : Option ℕ → Text
+trade_text trade = option_map_or decimal trade (codes "-")
+
+-- The row of a cash row: its moment, number, trade and amount, the balance after it, and its name.
+abbrev pub posted_line : MoveRow → ℤ → Text
+posted_line row balance =
+    at_left 6 (codes "Posted") ++ 32 ∷ moment_text row.stamp ++ 32 ∷ at_right 13 (decimal row.id) ++ 32 ∷ at_right 13 (trade_text row.trade)
+    ++ amount_column row.amount ++ amount_column balance ++ 32 ∷ row.name
+
+-- The rows of the cash rows, each with the balance after it, from the opening balance.
+abbrev pub posted_lines : ℤ → List MoveRow → List Text
+posted_lines opening rows = running_lines (λ row. row.amount) posted_line opening rows
+
+-- The balance, and the names of the columns of lots and holdings.
+abbrev pub balance_part : AccountRow → List Text
+balance_part a = money (codes "Balance") a.balance ∷ codes "#      symbol                    lot      shares      price                  worth" ∷ []
+
+-- The row of a lot.
+abbrev pub held_lot_line : HoldingRow → Text
+held_lot_line row = at_left 6 (codes "Lot") ++ 32 ∷ lot_line row
+
+-- The market value of a holding summary at the last price, in cents.
+abbrev pub worth_at : ℕ → SummaryRow → ℤ
+worth_at price row = row.qty *ℤ pos price
+
+-- The row of a holding summary at a last price: the symbol, the quantity, the price and the market
+-- value.
+abbrev pub summary_line : ℕ → SummaryRow → Text
+summary_line price row =
+    at_left 6 (codes "Held") ++ 32 ∷ at_left 15 row.symbol ++ 32 ∷ at_right 13 [] ++ 32 ∷ at_right 11 (signed_decimal row.qty) ++ 32 ∷ at_right 10 (price_text price)
+    ++ amount_column (worth_at price row)
+
+-- The row of a holding summary at the last price of its symbol.
+abbrev pub held_line : Tables → SummaryRow → Text
+held_line tables row = summary_line (price_in tables row.symbol) row
+
+-- The holding summaries of an account, in the order of the table HOLDING_SUMMARY.
+abbrev pub summaries_in : Tables → ℕ → List SummaryRow
+summaries_in tables account = filter (λ row. row.account == account) tables.summaries
+
+-- The market value of the holdings, the assets, and the last line, of the numbers of rows.
+abbrev pub account_end : ℤ → ℤ → ℕ → ℕ → ℕ → List Text
+account_end balance holdings cash lots symbols =
+    money (codes "Holdings") holdings
+    ∷ money (codes "Assets") (balance +ℤ holdings)
+    ∷ (codes "Cash rows " ++ decimal cash ++ codes ", lots " ++ decimal lots ++ codes ", symbols " ++ decimal symbols)
+    ∷ []
+
+-- The lines of the explanation of an account.
+unfoldable pub account_lines : Tables → AccountRow → List Text
+account_lines tables a =
+    account_top a
+    ++ posted_lines a.opening (cash_in tables a.id)
+    ++ balance_part a
+    ++ map held_lot_line (lots_in tables a.id)
+    ++ map (held_line tables) (summaries_in tables a.id)
+    ++ account_end a.balance (asset_total tables a) (length (cash_in tables a.id)) (length (lots_in tables a.id)) (length (summaries_in tables a.id))

@@ -1,0 +1,9 @@
+pub mod Texts
+pub mod Running
+pub mod Trades
+pub mod TradeLines
+pub mod AccountLines
+pub mod Holdings
+pub mod HoldingLines
+pub mod BrokerLines
+pub mod Explain

@@ -1,0 +1,244 @@
+-- What the explanation of a trade reads from the tables, and the amounts that follow from it. The
+-- tables are read in the order of their keys.
+use Rattle.std.specs.Prelude.{ℕ, ◌*◌, Bool, not, ◌&&◌, ◌==◌, nat_le, nat_lt, if◌then◌else◌, List, [], map, filter, find, flat_map, reverse, sum_by, length, Option, Some, None, unwrap_or, option_to_list, ℤ, pos, nat_abs, ◌+ℤ◌, ◌-ℤ◌, bytes_eq}
+use Rattle.std.specs.Option.{option_map, option_map_or}
+use Rattle.brk_money.specs.Spelling.{Text}
+use Rattle.brk_money.specs.Amounts.{commission, tax}
+use Rattle.brk_money.specs.Kinds.{same_status, same_type, side_of}
+use Rattle.brk_money.specs.Moments.{day_of}
+use Rattle.brk_money.specs.declared.side.Side.{Side}
+use Rattle.brk_money.specs.declared.side.Side.TheVariants.{Buy, Sell}
+use Rattle.brk_money.specs.declared.status.Status.TheVariants.{Completed}
+use Rattle.brk_money.specs.declared.tax_status.TaxStatus.{TaxStatus}
+use Rattle.brk_money.specs.declared.tax_status.TaxStatus.TheVariants.{Untaxed}
+use Rattle.brk_model.specs.Lists.{sort_by, sort_by_key}
+use Rattle.brk_model.specs.Records.{Customer, Band, TaxRate, SettleRule}
+use Rattle.brk_model.specs.Base.{bears_tax, takes_tax_off}
+use Rattle.brk_model.specs.Derived.{proceeds, settlement_days}
+use Rattle.brk_model.specs.Tables.{Tables, SecurityRow, TradeRow, HistoryRow, HoldingHistoryRow, SettlementRow, MoveRow}
+use Rattle.brk_model.specs.Joins.{account_in, history_in, security_in, trade_in}
+use Rattle.brk_model.specs.LookupView.{is_cash_of}
+use Rattle.brk_model.specs.Statement.{cash_in, cash_total}
+
+-- ---- what is read
+
+-- A trade as ordered, with its account, the name of its security and its status changes, oldest
+-- first.
+pub record OrderStory : Type 0 where
+  pub trade : TradeRow
+  pub account_name : Text
+  pub customer : ℕ
+  pub broker : ℕ
+  pub tax_status : TaxStatus
+  pub opening : ℤ
+  pub security_name : Text
+  pub statuses : List HistoryRow
+
+-- A lot of which a trade closed shares: the trade that opened the lot, with its stamp and price,
+-- and the lot's quantity before and after the closing.
+pub record Closing : Type 0 where
+  pub lot : ℕ
+  pub stamp : ℕ
+  pub price : ℕ
+  pub before : ℤ
+  pub after : ℤ
+
+-- The results of a completed trade: the lots that it closed, in the order of closing; its own lot,
+-- if it opened one; the customer's tax rates and the commission band, as they are now; the
+-- settlement; the cash row, if it has one; and the sum and the number of the account's cash rows
+-- before the completion. `rule` is the settlement rule as it is now.
+pub record ResultStory : Type 0 where
+  pub closings : List Closing
+  pub own_lot : Option HoldingHistoryRow
+  pub rates : List TaxRate
+  pub band : Option Band
+  pub settlement : SettlementRow
+  pub cash : Option MoveRow
+  pub cash_before : ℤ
+  pub cash_rows : ℕ
+  pub rule : SettleRule
+
+-- What the explanation of a trade reads: the trade as ordered, and its results once it is completed.
+pub record TradeStory : Type 0 where
+  pub order : OrderStory
+  pub result : Option ResultStory
+
+-- The price of a completed trade, in cents; 0 if the row has none.
+abbrev pub price_at : TradeRow → ℕ
+price_at u = unwrap_or u.price 0
+
+-- True if the status of the trade is `Completed`.
+abbrev pub is_completed_row : TradeRow → Bool
+is_completed_row u = same_status u.status Completed
+
+-- The status changes of a trade, sorted by stamp, ascending.
+abbrev pub statuses_in : Tables → ℕ → List HistoryRow
+statuses_in tables trade = sort_by (λ a b. nat_lt a.stamp b.stamp) (history_in tables trade)
+
+-- The trade as ordered. A name is empty, a number is 0 and the tax status is `Untaxed` where the row
+-- does not exist.
+abbrev pub order_story : Tables → TradeRow → OrderStory
+order_story tables u = record {
+  trade = u;
+  account_name = option_map_or (λ a. a.name) (account_in tables u.account) [];
+  customer = option_map_or (λ a. a.customer) (account_in tables u.account) 0;
+  broker = option_map_or (λ a. a.broker) (account_in tables u.account) 0;
+  tax_status = option_map_or (λ a. a.tax_status) (account_in tables u.account) Untaxed;
+  opening = option_map_or (λ a. a.opening) (account_in tables u.account) (pos 0);
+  security_name = option_map_or (λ s. s.name) (security_in tables u.symbol) [];
+  statuses = statuses_in tables u.id;
+}
+
+-- The price of the trade that opened a lot, in cents; 0 if the trade does not exist.
+abbrev pub lot_price : Tables → ℕ → ℕ
+lot_price tables lot = option_map_or price_at (trade_in tables lot) 0
+
+-- The stamp at which a lot was opened; 0 if the trade that opened it does not exist.
+abbrev pub lot_stamp : Tables → ℕ → ℕ
+lot_stamp tables lot = option_map_or (λ t. t.stamp) (trade_in tables lot) 0
+
+-- The closing that a HOLDING_HISTORY row records.
+abbrev pub closing_of : Tables → HoldingHistoryRow → Closing
+closing_of tables row = record { lot = row.lot; stamp = lot_stamp tables row.lot; price = lot_price tables row.lot; before = row.before; after = row.after }
+
+-- The list, reversed if the last elements come first.
+abbrev pub from_end : {X : Type 0} → Bool → List X → List X
+from_end is_lifo xs = if is_lifo then reverse xs else xs
+
+-- True if the row records what the trade changed in a lot that another trade opened.
+abbrev pub is_closing_by : ℕ → HoldingHistoryRow → Bool
+is_closing_by trade row = (row.trade == trade) && not (row.lot == trade)
+
+-- The lots of which a trade closed shares, in the order of closing: by the stamps at which they were
+-- opened, ascending, or descending if the trade closes the last shares first.
+abbrev pub closings_in : Tables → TradeRow → List Closing
+closings_in tables u =
+    from_end u.is_lifo (sort_by_key (λ c. c.stamp) (map (closing_of tables) (filter (is_closing_by u.id) tables.holding_history)))
+
+-- The row of the lot that a trade opened, or none.
+abbrev pub own_lot_in : Tables → ℕ → Option HoldingHistoryRow
+own_lot_in tables trade = find (λ row. (row.trade == trade) && (row.lot == trade)) tables.holding_history
+
+-- The tax rates of a customer, in the order of the table CUSTOMER_TAXRATE.
+abbrev pub rates_in : Tables → ℕ → List TaxRate
+rates_in tables customer =
+    flat_map (λ x. option_to_list (find (λ r. r.id == x.tax) tables.tax_rates)) (filter (λ x. x.customer == customer) tables.customer_taxes)
+
+-- The band of a tier, a trade's type and an exchange that has the trade's quantity, or none.
+abbrev pub band_on : Tables → TradeRow → ℕ → Text → Option Band
+band_on tables u tier exchange =
+    find (λ b. (b.tier == tier) && same_type b.kind u.kind && bytes_eq b.exchange exchange && nat_le b.from_qty u.qty && nat_le u.qty b.to_qty) tables.bands
+
+-- The band for a trade of a customer in a security; none if one of them does not exist.
+abbrev pub band_for : Tables → TradeRow → Option Customer → Option SecurityRow → Option Band
+band_for tables u None security = None
+band_for tables u (Some c) None = None
+band_for tables u (Some c) (Some s) = band_on tables u c.tier s.exchange
+
+-- The band that applies to a trade, or none.
+abbrev pub band_in : Tables → TradeRow → Option Band
+band_in tables u = band_for tables u (find (λ c. c.id == (order_story tables u).customer) tables.customers) (security_in tables u.symbol)
+
+-- A SETTLEMENT row of zeros.
+abbrev pub no_settlement : SettlementRow
+no_settlement = record { trade = 0; cash_type = []; due_day = 0; amount = pos 0 }
+
+-- The SETTLEMENT row of a trade; a row of zeros if it has none.
+abbrev pub settlement_in : Tables → ℕ → SettlementRow
+settlement_in tables trade = unwrap_or (find (λ s. s.trade == trade) tables.settlements) no_settlement
+
+-- The cash rows of the trade's account before its completion.
+abbrev pub cash_until : Tables → TradeRow → List MoveRow
+cash_until tables u = filter (λ row. nat_lt row.stamp u.stamp) (cash_in tables u.account)
+
+-- The results of a completed trade.
+abbrev pub result_story : Tables → TradeRow → ResultStory
+result_story tables u = record {
+  closings = closings_in tables u;
+  own_lot = own_lot_in tables u.id;
+  rates = rates_in tables (order_story tables u).customer;
+  band = band_in tables u;
+  settlement = settlement_in tables u.id;
+  cash = find (is_cash_of u.id) tables.moves;
+  cash_before = cash_total (cash_until tables u);
+  cash_rows = length (cash_until tables u);
+  rule = tables.rule;
+}
+
+-- What the explanation of a trade reads from the tables.
+unfoldable pub story_of : Tables → TradeRow → TradeStory
+story_of tables u = record { order = order_story tables u; result = if is_completed_row u then Some (result_story tables u) else None }
+
+-- ---- what follows
+
+-- The number of shares that were closed.
+abbrev pub taken : Closing → ℕ
+taken c = nat_abs (c.before -ℤ c.after)
+
+-- What the closed shares were bought for, in cents: at the lot's price in a sale, and at the price
+-- of the trade in a purchase.
+abbrev pub bought_for : Side → ℕ → Closing → ℕ
+bought_for Sell price c = taken c * c.price
+bought_for Buy price c = taken c * price
+
+-- What the closed shares were sold for, in cents: at the price of the trade in a sale, and at the
+-- lot's price in a purchase.
+abbrev pub sold_for : Side → ℕ → Closing → ℕ
+sold_for Sell price c = taken c * price
+sold_for Buy price c = taken c * c.price
+
+-- The number of shares that the closings closed.
+abbrev pub taken_total : List Closing → ℕ
+taken_total closings = sum_by taken closings
+
+-- The buy value of a trade: what the shares that it closed were bought for, in cents.
+abbrev pub buy_total : TradeRow → List Closing → ℕ
+buy_total u closings = sum_by (bought_for (side_of u.kind) (price_at u)) closings
+
+-- The sell value of a trade: what the shares that it closed were sold for, in cents.
+abbrev pub sell_total : TradeRow → List Closing → ℕ
+sell_total u closings = sum_by (sold_for (side_of u.kind) (price_at u)) closings
+
+-- The realised gain of a trade, in cents.
+abbrev pub gain_total : TradeRow → List Closing → ℤ
+gain_total u closings = pos (sell_total u closings) -ℤ pos (buy_total u closings)
+
+-- The quantity of the lot that the trade opened, below 0 if it was sold short; 0 if there is none.
+abbrev pub opened : ResultStory → ℤ
+opened r = option_map_or (λ row. row.after) r.own_lot (pos 0)
+
+-- The sum of the tax rates, in hundred-thousandths.
+abbrev pub rates_total : List TaxRate → ℕ
+rates_total rates = sum_by (λ rate. rate.rate) rates
+
+-- The tax on the gain at the tax rates of now, in cents; 0 if the account is not taxable.
+abbrev pub tax_now : OrderStory → ResultStory → ℕ
+tax_now o r = if bears_tax o.tax_status then tax (gain_total o.trade r.closings) (rates_total r.rates) else 0
+
+-- The commission on the trade in the band of now, in cents; none if there is no band.
+abbrev pub commission_now : OrderStory → ResultStory → Option ℕ
+commission_now o r = option_map (λ b. commission b.rate o.trade.qty (price_at o.trade)) r.band
+
+-- The value of the trade, in cents: below 0 for a purchase.
+abbrev pub value_of : TradeRow → ℤ
+value_of u = proceeds (side_of u.kind) (u.qty * price_at u)
+
+-- The tax that is withheld from the settlement, in cents.
+abbrev pub withheld_of : OrderStory → ℕ
+withheld_of o = if takes_tax_off o.tax_status then o.trade.tax else 0
+
+-- The amount by which the trade changed the balance, in cents; 0 without a cash row.
+abbrev pub cash_moved : ResultStory → ℤ
+cash_moved r = option_map_or (λ row. row.amount) r.cash (pos 0)
+
+-- The balance before the trade, in cents.
+abbrev pub balance_before : OrderStory → ResultStory → ℤ
+balance_before o r = o.opening +ℤ r.cash_before
+
+-- The balance after the trade, in cents.
+abbrev pub balance_after : OrderStory → ResultStory → ℤ
+balance_after o r = balance_before o r +ℤ cash_moved r
+
+-- The number of days from the completion to the settlement, by the rule of now.
+abbrev pub days_to_settle : OrderStory → ResultStory → ℕ
+days_to_settle o r = settlement_days r.rule (day_of o.trade.stamp)
