@@ -4,6 +4,7 @@ use Rattle.std.specs.Option.{option_map_or}
 use Rattle.brk_money.specs.Spelling.{Text, day_text}
 use Rattle.brk_money.specs.Kinds.{side_of, status_code, status_name, tax_status_number, type_code, type_name}
 use Rattle.brk_money.specs.Moments.{day_of}
+use Rattle.brk_money.specs.declared.side.Side.{Side}
 use Rattle.brk_money.specs.declared.status.Status.{Status}
 use Rattle.brk_money.specs.declared.status.Status.TheVariants.{Submitted, Pending, Canceled}
 use Rattle.brk_money.specs.declared.trade_type.TradeType.{TradeType}
@@ -13,7 +14,7 @@ use Rattle.brk_model.specs.Rows.{cash_word, price_text}
 use Rattle.brk_model.specs.Tables.{HistoryRow, HoldingHistoryRow, MoveRow, TradeRow}
 use Rattle.brk_model.specs.Statement.{at_left, at_right}
 use Rattle.brk_explain_model.specs.Texts.{count, fact, moment_text, money, row_start, shares_column, value_column, words}
-use Rattle.brk_explain_model.specs.Trades.{Closing, OrderStory, ResultStory, TradeStory, balance_after, balance_before, bought_for, buy_total, cash_moved, commission_now, days_to_settle, gain_total, opened, price_at, rates_total, sell_total, sold_for, taken, taken_total, tax_now, value_of, withheld_of}
+use Rattle.brk_explain_model.specs.Trades.{Closing, OrderStory, ResultStory, TradeStory, balance_after, balance_before, bought_for, buy_total, cash_moved, commission_now, days_to_settle, gain_total, opened, rates_total, sell_total, sold_for, taken, taken_total, tax_now, value_of, withheld_of}
 
 -- ---- the order
 
@@ -88,31 +89,31 @@ waiting_lines o =
 abbrev pub lots_head : Text
 lots_head = codes "#      opened                            lot      shares      price       bought for         sold for        left"
 
--- The row of a closing: the lot, the closed shares, the lot's price, what these shares were bought
--- and sold for, and what is left of the lot.
-abbrev pub closing_line : TradeRow → Closing → Text
-closing_line u c =
-    row_start (codes "Closed") (moment_text c.stamp) c.lot (pos (taken c)) c.price ++ value_column (pos (bought_for (side_of u.kind) (price_at u) c))
-    ++ value_column (pos (sold_for (side_of u.kind) (price_at u) c)) ++ shares_column c.after
+-- The row of a closing by a trade on this side at this price: the lot, the closed shares, the lot's
+-- price, what these shares were bought and sold for, and what is left of the lot.
+abbrev pub closing_line : Side → ℕ → Closing → Text
+closing_line side price c =
+    row_start (codes "Closed") (moment_text c.stamp) c.lot (pos (taken c)) c.price ++ value_column (pos (bought_for side price c))
+    ++ value_column (pos (sold_for side price c)) ++ shares_column c.after
 
--- The row of the lot that the trade opened.
-abbrev pub own_lot_line : TradeRow → HoldingHistoryRow → Text
-own_lot_line u row = row_start (codes "Opened") (moment_text u.stamp) u.id row.after (price_at u)
+-- The row of the lot that the trade opened at its price.
+abbrev pub own_lot_line : TradeRow → ℕ → HoldingHistoryRow → Text
+own_lot_line u price row = row_start (codes "Opened") (moment_text u.stamp) u.id row.after price
 
 -- The row of the lot that the trade opened, if it opened one.
-abbrev pub own_lot_lines : TradeRow → Option HoldingHistoryRow → List Text
-own_lot_lines u None = []
-own_lot_lines u (Some row) = own_lot_line u row ∷ []
+abbrev pub own_lot_lines : TradeRow → ℕ → Option HoldingHistoryRow → List Text
+own_lot_lines u price None = []
+own_lot_lines u price (Some row) = own_lot_line u price row ∷ []
 
 -- The price, the lots that were closed and opened, and the gain.
 abbrev pub lots_lines : OrderStory → ResultStory → List Text
 lots_lines o r =
-    money (codes "Price") (pos (price_at o.trade)) ∷ lots_head ∷ map (closing_line o.trade) r.closings ++ own_lot_lines o.trade r.own_lot
+    money (codes "Price") (pos r.price) ∷ lots_head ∷ map (closing_line (side_of o.trade.kind) r.price) r.closings ++ own_lot_lines o.trade r.price r.own_lot
     ++ count (codes "Shares closed") (taken_total r.closings)
     ∷ count (codes "Shares opened") (nat_abs (opened r))
-    ∷ money (codes "BUY") (pos (buy_total o.trade r.closings))
-    ∷ money (codes "SELL") (pos (sell_total o.trade r.closings))
-    ∷ money (codes "Realised gain") (gain_total o.trade r.closings)
+    ∷ money (codes "BUY") (pos (buy_total (side_of o.trade.kind) r.price r.closings))
+    ∷ money (codes "SELL") (pos (sell_total (side_of o.trade.kind) r.price r.closings))
+    ∷ money (codes "Realised gain") (gain_total (side_of o.trade.kind) r.price r.closings)
     ∷ []
 
 -- The row of a tax rate: its id, the rate in hundred-thousandths, and its name.
@@ -146,7 +147,7 @@ abbrev pub settlement_lines : OrderStory → ResultStory → List Text
 settlement_lines o r =
     band_line r.band
     ∷ commission_line (commission_now o r)
-    ∷ money (codes "Value") (value_of o.trade)
+    ∷ money (codes "Value") (value_of o r)
     ∷ money (codes "Charge") (neg_ℤ (pos o.trade.charge))
     ∷ money (codes "Commission") (neg_ℤ (pos o.trade.commission))
     ∷ money (codes "Tax withheld") (neg_ℤ (pos (withheld_of o)))

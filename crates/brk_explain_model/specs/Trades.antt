@@ -43,11 +43,12 @@ pub record Closing : Type 0 where
   pub before : ℤ
   pub after : ℤ
 
--- The results of a completed trade: the lots that it closed, in the order of closing; its own lot,
+-- The results of a completed trade: its price; the lots that it closed, in the order of closing; its own lot,
 -- if it opened one; the customer's tax rates and the commission band, as they are now; the
 -- settlement; the cash row, if it has one; and the sum and the number of the account's cash rows
 -- before the completion. `rule` is the settlement rule as it is now.
 pub record ResultStory : Type 0 where
+  pub price : ℕ
   pub closings : List Closing
   pub own_lot : Option HoldingHistoryRow
   pub rates : List TaxRate
@@ -154,6 +155,7 @@ cash_until tables u = filter (λ row. nat_lt row.stamp u.stamp) (cash_in tables 
 -- The results of a completed trade.
 abbrev pub result_story : Tables → TradeRow → ResultStory
 result_story tables u = record {
+  price = price_at u;
   closings = closings_in tables u;
   own_lot = own_lot_in tables u.id;
   rates = rates_in tables (order_story tables u).customer;
@@ -191,17 +193,17 @@ sold_for Buy price c = taken c * c.price
 abbrev pub taken_total : List Closing → ℕ
 taken_total closings = sum_by taken closings
 
--- The buy value of a trade: what the shares that it closed were bought for, in cents.
-abbrev pub buy_total : TradeRow → List Closing → ℕ
-buy_total u closings = sum_by (bought_for (side_of u.kind) (price_at u)) closings
+-- The buy value of a trade on this side at this price: what the shares that it closed were bought for, in cents.
+abbrev pub buy_total : Side → ℕ → List Closing → ℕ
+buy_total side price closings = sum_by (bought_for side price) closings
 
--- The sell value of a trade: what the shares that it closed were sold for, in cents.
-abbrev pub sell_total : TradeRow → List Closing → ℕ
-sell_total u closings = sum_by (sold_for (side_of u.kind) (price_at u)) closings
+-- The sell value of a trade on this side at this price: what the shares that it closed were sold for, in cents.
+abbrev pub sell_total : Side → ℕ → List Closing → ℕ
+sell_total side price closings = sum_by (sold_for side price) closings
 
--- The realised gain of a trade, in cents.
-abbrev pub gain_total : TradeRow → List Closing → ℤ
-gain_total u closings = pos (sell_total u closings) -ℤ pos (buy_total u closings)
+-- The realised gain of a trade on this side at this price, in cents.
+abbrev pub gain_total : Side → ℕ → List Closing → ℤ
+gain_total side price closings = pos (sell_total side price closings) -ℤ pos (buy_total side price closings)
 
 -- The quantity of the lot that the trade opened, below 0 if it was sold short; 0 if there is none.
 abbrev pub opened : ResultStory → ℤ
@@ -213,15 +215,15 @@ rates_total rates = sum_by (λ rate. rate.rate) rates
 
 -- The tax on the gain at the tax rates of now, in cents; 0 if the account is not taxable.
 abbrev pub tax_now : OrderStory → ResultStory → ℕ
-tax_now o r = if bears_tax o.tax_status then tax (gain_total o.trade r.closings) (rates_total r.rates) else 0
+tax_now o r = if bears_tax o.tax_status then tax (gain_total (side_of o.trade.kind) r.price r.closings) (rates_total r.rates) else 0
 
 -- The commission on the trade in the band of now, in cents; none if there is no band.
 abbrev pub commission_now : OrderStory → ResultStory → Option ℕ
-commission_now o r = option_map (λ b. commission b.rate o.trade.qty (price_at o.trade)) r.band
+commission_now o r = option_map (λ b. commission b.rate o.trade.qty r.price) r.band
 
 -- The value of the trade, in cents: below 0 for a purchase.
-abbrev pub value_of : TradeRow → ℤ
-value_of u = proceeds (side_of u.kind) (u.qty * price_at u)
+abbrev pub value_of : OrderStory → ResultStory → ℤ
+value_of o r = proceeds (side_of o.trade.kind) (o.trade.qty * r.price)
 
 -- The tax that is withheld from the settlement, in cents.
 abbrev pub withheld_of : OrderStory → ℕ

@@ -1,0 +1,52 @@
+-- The abstract value of each typed row of an explanation.
+use Rattle.std.specs.Prelude.{◌≡◌, ℕ, map, option_map, Option, Some, None}
+use Rattle.brk_changes.specs.Rows.{history_row_of, lot_change_of, move_row_of, settlement_row_of, trade_row_of}
+use Rattle.brk_ref.specs.Records.{band_of, tax_of}
+use Rattle.brk_model.specs.Joins.{trade_in}
+use Rattle.brk_model.specs.Tables.{Tables, TradeRow}
+use Rattle.brk_explain_model.specs.Trades.{Closing, OrderStory, ResultStory, TradeStory, story_of}
+use Rattle.brk_explain_rows.specs.declared.closing.Closing as closing
+use Rattle.brk_explain_rows.specs.declared.story.OrderStory as order_story
+use Rattle.brk_explain_rows.specs.declared.story.ResultStory as result_story
+use Rattle.brk_explain_rows.specs.declared.story.TradeStory as trade_story
+
+-- The abstract closing of a closing.
+abbrev pub closing_row_of : closing.Closing → Closing
+closing_row_of c = record { lot = c.lot; stamp = c.stamp; price = c.price; before = c.before; after = c.after }
+
+-- The abstract order of a trade as ordered.
+abbrev pub order_story_of : order_story.OrderStory → OrderStory
+order_story_of o = record {
+  trade = trade_row_of o.trade;
+  account_name = o.account.account.name;
+  customer = o.account.account.customer;
+  broker = o.account.account.broker;
+  tax_status = o.account.account.tax_status;
+  opening = o.account.account.opening;
+  security_name = o.security.name;
+  statuses = map history_row_of o.statuses.items;
+}
+
+-- The abstract results of a completed trade.
+abbrev pub result_story_of : result_story.ResultStory → ResultStory
+result_story_of r = record {
+  price = r.price;
+  closings = map closing_row_of r.closings.items;
+  own_lot = option_map lot_change_of r.own_lot;
+  rates = map tax_of r.rates.items;
+  band = option_map band_of r.band;
+  settlement = settlement_row_of r.settlement;
+  cash = option_map move_row_of r.cash;
+  cash_before = r.cash_before;
+  cash_rows = r.cash_rows;
+  rule = r.rule;
+}
+
+-- The abstract story of a trade's story.
+abbrev pub trade_story_of : trade_story.TradeStory → TradeStory
+trade_story_of s = record { order = order_story_of s.order; result = option_map result_story_of s.result }
+
+-- The story is that of the trade with this id. It is `None` if the trade does not exist.
+abbrev pub IsStoryOf : ℕ → Option trade_story.TradeStory → Tables → Type 0
+IsStoryOf trade None t = trade_in t trade ≡ None
+IsStoryOf trade (Some s) t = (u : TradeRow) × (trade_in t trade ≡ Some u) × (trade_story_of s ≡ story_of t u)
