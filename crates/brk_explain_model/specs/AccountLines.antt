@@ -4,10 +4,10 @@ use Rattle.std.specs.Fmt.{signed_decimal}
 use Rattle.std.specs.Option.{option_map_or}
 use Rattle.brk_money.specs.Spelling.{Text}
 use Rattle.brk_money.specs.Kinds.{tax_status_number}
+use Rattle.brk_model.specs.Lists.{total_by}
 use Rattle.brk_model.specs.Rows.{price_text}
 use Rattle.brk_model.specs.Tables.{Tables, AccountRow, HoldingRow, MoveRow, SummaryRow}
 use Rattle.brk_model.specs.Joins.{price_in}
-use Rattle.brk_model.specs.PositionView.{asset_total}
 use Rattle.brk_model.specs.Statement.{at_left, at_right, cash_in, lot_line, lots_in}
 use Rattle.brk_explain_model.specs.Texts.{amount_column, count, moment_text, money, words}
 use Rattle.brk_explain_model.specs.Running.{running_lines}
@@ -46,24 +46,32 @@ balance_part a = money (codes "Balance") a.balance ∷ codes "#      symbol     
 abbrev pub held_lot_line : HoldingRow → Text
 held_lot_line row = at_left 6 (codes "Lot") ++ 32 ∷ lot_line row
 
+-- A holding summary, with the last price of its symbol, in cents.
+pub record Held : Type 0 where
+  pub summary : SummaryRow
+  pub price : ℕ
+
 -- The market value of a holding summary at the last price, in cents.
-abbrev pub worth_at : ℕ → SummaryRow → ℤ
-worth_at price row = row.qty *ℤ pos price
+abbrev pub worth_of : Held → ℤ
+worth_of held = held.summary.qty *ℤ pos held.price
 
--- The row of a holding summary at a last price: the symbol, the quantity, the price and the market
--- value.
-abbrev pub summary_line : ℕ → SummaryRow → Text
-summary_line price row =
-    at_left 6 (codes "Held") ++ 32 ∷ at_left 15 row.symbol ++ 32 ∷ at_right 13 [] ++ 32 ∷ at_right 11 (signed_decimal row.qty) ++ 32 ∷ at_right 10 (price_text price)
-    ++ amount_column (worth_at price row)
+-- The sum of the market values, in cents.
+abbrev pub worth_total : List Held → ℤ
+worth_total all = total_by worth_of all
 
--- The row of a holding summary at the last price of its symbol.
-abbrev pub held_line : Tables → SummaryRow → Text
-held_line tables row = summary_line (price_in tables row.symbol) row
+-- The row of a holding summary: its symbol and quantity, the last price and the market value.
+abbrev pub held_line : Held → Text
+held_line held =
+    at_left 6 (codes "Held") ++ 32 ∷ at_left 15 held.summary.symbol ++ 32 ∷ at_right 13 [] ++ 32 ∷ at_right 11 (signed_decimal held.summary.qty)
+    ++ 32 ∷ at_right 10 (price_text held.price) ++ amount_column (worth_of held)
 
--- The holding summaries of an account, in the order of the table HOLDING_SUMMARY.
-abbrev pub summaries_in : Tables → ℕ → List SummaryRow
-summaries_in tables account = filter (λ row. row.account == account) tables.summaries
+-- A holding summary with the last price of its symbol; 0 if it has none.
+abbrev pub held_at : Tables → SummaryRow → Held
+held_at tables row = record { summary = row; price = price_in tables row.symbol }
+
+-- The holding summaries of an account with last prices, in the order of the table HOLDING_SUMMARY.
+abbrev pub held_in : Tables → ℕ → List Held
+held_in tables account = map (held_at tables) (filter (λ row. row.account == account) tables.summaries)
 
 -- The market value of the holdings, the assets, and the last line, of the numbers of rows.
 abbrev pub account_end : ℤ → ℤ → ℕ → ℕ → ℕ → List Text
@@ -80,5 +88,5 @@ account_lines tables a =
     ++ posted_lines a.opening (cash_in tables a.id)
     ++ balance_part a
     ++ map held_lot_line (lots_in tables a.id)
-    ++ map (held_line tables) (summaries_in tables a.id)
-    ++ account_end a.balance (asset_total tables a) (length (cash_in tables a.id)) (length (lots_in tables a.id)) (length (summaries_in tables a.id))
+    ++ map held_line (held_in tables a.id)
+    ++ account_end a.balance (worth_total (held_in tables a.id)) (length (cash_in tables a.id)) (length (lots_in tables a.id)) (length (held_in tables a.id))

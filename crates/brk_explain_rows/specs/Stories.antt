@@ -1,10 +1,13 @@
 -- The abstract value of each typed row of an explanation.
 use Rattle.std.specs.Prelude.{◌≡◌, ℕ, map, option_map, Option, Some, None}
-use Rattle.brk_changes.specs.Rows.{history_row_of, lot_change_of, move_row_of, settlement_row_of, trade_row_of}
-use Rattle.brk_ref.specs.Records.{band_of, tax_of}
-use Rattle.brk_model.specs.Joins.{trade_in}
+use Rattle.brk_changes.specs.Rows.{history_row_of, lot_change_of, move_row_of, settlement_row_of, summary_row_of, trade_row_of}
+use Rattle.brk_ref.specs.Records.{account_row_of, band_of, tax_of}
+use Rattle.brk_model.specs.Joins.{account_in, trade_in}
 use Rattle.brk_model.specs.Tables.{Tables, TradeRow}
+use Rattle.brk_explain_model.specs.AccountLines.{Held, held_in}
 use Rattle.brk_explain_model.specs.Trades.{Closing, OrderStory, ResultStory, TradeStory, story_of}
+use Rattle.brk_explain_rows.specs.declared.account_story.AccountStory as account_story
+use Rattle.brk_explain_rows.specs.declared.account_story.Held as held
 use Rattle.brk_explain_rows.specs.declared.closing.Closing as closing
 use Rattle.brk_explain_rows.specs.declared.story.OrderStory as order_story
 use Rattle.brk_explain_rows.specs.declared.story.ResultStory as result_story
@@ -50,3 +53,12 @@ trade_story_of s = record { order = order_story_of s.order; result = option_map 
 abbrev pub IsStoryOf : ℕ → Option trade_story.TradeStory → Tables → Type 0
 IsStoryOf trade None t = trade_in t trade ≡ None
 IsStoryOf trade (Some s) t = (u : TradeRow) × (trade_in t trade ≡ Some u) × (trade_story_of s ≡ story_of t u)
+
+-- The abstract holding summary with its last price.
+abbrev pub held_of : held.Held → Held
+held_of h = record { summary = summary_row_of h.summary; price = h.price }
+
+-- The story is that of the account with this id. It is `None` if the account does not exist.
+abbrev pub IsAccountOf : ℕ → Option account_story.AccountStory → Tables → Type 0
+IsAccountOf account None t = account_in t account ≡ None
+IsAccountOf account (Some s) t = (account_in t account ≡ Some (account_row_of s.account)) × (map held_of s.held.items ≡ held_in t account)

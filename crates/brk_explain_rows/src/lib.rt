@@ -1,8 +1,10 @@
-//! Typed rows of explanations: what an explanation of a trade reads.
+//! Typed rows of explanations: what an explanation reads.
 #![tactic(auto)]
 
+pub mod account_story;
 pub mod closing;
 pub mod story;
 
+pub use account_story::{AccountStory, Held};
 pub use closing::Closing;
 pub use story::{OrderStory, ResultStory, TradeStory};

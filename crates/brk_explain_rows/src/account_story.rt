@@ -1,0 +1,18 @@
+use brk_changes::SummaryRow;
+use brk_money::Price;
+use brk_ref::AccountRow;
+
+/// A holding summary, with the last price of its symbol.
+#[derive(Drop)]
+pub struct Held {
+    pub summary: SummaryRow,
+    pub price: Price,
+}
+
+/// What the explanation of an account reads beside the rows over which it walks.
+#[derive(Drop)]
+pub struct AccountStory {
+    pub account: AccountRow,
+    /// Its holding summaries, by symbol.
+    pub held: Vec<Held>,
+}
