@@ -13,7 +13,7 @@ use Rattle.brk_explain_model.specs.Texts.{amount_column, count, moment_text, mon
 use Rattle.brk_explain_model.specs.Running.{running_lines}
 
 -- The title, and the account.
-abbrev pub account_top : AccountRow → List Text
+unfoldable pub account_top : AccountRow → List Text
 account_top a =
     (codes "Account " ++ decimal a.id ++ codes ", times in UTC")
     ∷ words (codes "Name") a.name
@@ -29,7 +29,7 @@ abbrev pub trade_text : Option ℕ → Text
 trade_text trade = option_map_or decimal trade (codes "-")
 
 -- The row of a cash row: its moment, number, trade and amount, the balance after it, and its name.
-abbrev pub posted_line : MoveRow → ℤ → Text
+unfoldable pub posted_line : MoveRow → ℤ → Text
 posted_line row balance =
     at_left 6 (codes "Posted") ++ 32 ∷ moment_text row.stamp ++ 32 ∷ at_right 13 (decimal row.id) ++ 32 ∷ at_right 13 (trade_text row.trade)
     ++ amount_column row.amount ++ amount_column balance ++ 32 ∷ row.name
@@ -39,11 +39,11 @@ abbrev pub posted_lines : ℤ → List MoveRow → List Text
 posted_lines opening rows = running_lines (λ row. row.amount) posted_line opening rows
 
 -- The balance, and the names of the columns of lots and holdings.
-abbrev pub balance_part : AccountRow → List Text
+unfoldable pub balance_part : AccountRow → List Text
 balance_part a = money (codes "Balance") a.balance ∷ codes "#      symbol                    lot      shares      price                  worth" ∷ []
 
 -- The row of a lot.
-abbrev pub held_lot_line : HoldingRow → Text
+unfoldable pub held_lot_line : HoldingRow → Text
 held_lot_line row = at_left 6 (codes "Lot") ++ 32 ∷ lot_line row
 
 -- A holding summary, with the last price of its symbol, in cents.
@@ -60,7 +60,7 @@ abbrev pub worth_total : List Held → ℤ
 worth_total all = total_by worth_of all
 
 -- The row of a holding summary: its symbol and quantity, the last price and the market value.
-abbrev pub held_line : Held → Text
+unfoldable pub held_line : Held → Text
 held_line held =
     at_left 6 (codes "Held") ++ 32 ∷ at_left 15 held.summary.symbol ++ 32 ∷ at_right 13 [] ++ 32 ∷ at_right 11 (signed_decimal held.summary.qty)
     ++ 32 ∷ at_right 10 (price_text held.price) ++ amount_column (worth_of held)
@@ -74,7 +74,7 @@ abbrev pub held_in : Tables → ℕ → List Held
 held_in tables account = map (held_at tables) (filter (λ row. row.account == account) tables.summaries)
 
 -- The market value of the holdings, the assets, and the last line, of the numbers of rows.
-abbrev pub account_end : ℤ → ℤ → ℕ → ℕ → ℕ → List Text
+unfoldable pub account_end : ℤ → ℤ → ℕ → ℕ → ℕ → List Text
 account_end balance holdings cash lots symbols =
     money (codes "Holdings") holdings
     ∷ money (codes "Assets") (balance +ℤ holdings)

@@ -23,18 +23,23 @@ abbrev pub closes_words : Bool → Text
 closes_words is_lifo = if is_lifo then codes "last in first out" else codes "first in first out"
 
 -- The line of a status change: its moment, and the code and the name of the status.
-abbrev pub status_line : HistoryRow → Text
+unfoldable pub status_line : HistoryRow → Text
 status_line row = at_left 6 (codes "Status") ++ 32 ∷ moment_text row.stamp ++ 32 ∷ status_code row.status ++ 32 ∷ status_name row.status
 
--- The title, and the trade as it was ordered.
-abbrev pub ordered_lines : OrderStory → List Text
-ordered_lines o =
+-- The title, and the parties of the trade.
+unfoldable pub party_lines : OrderStory → List Text
+party_lines o =
     (codes "Trade " ++ decimal o.trade.id ++ codes ", times in UTC")
     ∷ (count (codes "Account") o.trade.account ++ 32 ∷ o.account_name)
     ∷ count (codes "Customer") o.customer
     ∷ count (codes "Broker") o.broker
     ∷ words (codes "Executor") o.trade.executor
-    ∷ words (codes "Type") (type_code o.trade.kind ++ 32 ∷ type_name o.trade.kind)
+    ∷ []
+
+-- What was ordered.
+unfoldable pub asked_lines : OrderStory → List Text
+asked_lines o =
+    words (codes "Type") (type_code o.trade.kind ++ 32 ∷ type_name o.trade.kind)
     ∷ words (codes "Security") (at_left 15 o.trade.symbol ++ 32 ∷ o.security_name)
     ∷ count (codes "Shares") o.trade.qty
     ∷ money (codes "Price asked") (pos o.trade.bid)
@@ -43,8 +48,8 @@ ordered_lines o =
     ∷ []
 
 -- The lines of the order and of the status changes.
-abbrev pub order_lines : OrderStory → List Text
-order_lines o = ordered_lines o ++ map status_line o.statuses
+unfoldable pub order_lines : OrderStory → List Text
+order_lines o = party_lines o ++ asked_lines o ++ map status_line o.statuses
 
 -- ---- a trade that is not completed
 
@@ -73,7 +78,7 @@ waits_for Submitted kind price = codes "a result"
 waits_for _ kind price = codes "nothing"
 
 -- The lines of a trade that is not completed, after its status changes. No share and no cent moved.
-abbrev pub waiting_lines : OrderStory → List Text
+unfoldable pub waiting_lines : OrderStory → List Text
 waiting_lines o =
     (money (codes "Charge") (pos o.trade.charge) ++ 32 ∷ charge_words o.trade.status)
     ∷ (money (codes "Commission") (pos o.trade.commission) ++ 32 ∷ commission_words o.trade.status)
@@ -85,69 +90,90 @@ waiting_lines o =
 
 -- ---- a completed trade
 
--- The names of the columns of the rows of lots.
-abbrev pub lots_head : Text
-lots_head = codes "#      opened                            lot      shares      price       bought for         sold for        left"
-
 -- The row of a closing by a trade on this side at this price: the lot, the closed shares, the lot's
 -- price, what these shares were bought and sold for, and what is left of the lot.
-abbrev pub closing_line : Side → ℕ → Closing → Text
+unfoldable pub closing_line : Side → ℕ → Closing → Text
 closing_line side price c =
     row_start (codes "Closed") (moment_text c.stamp) c.lot (pos (taken c)) c.price ++ value_column (pos (bought_for side price c))
     ++ value_column (pos (sold_for side price c)) ++ shares_column c.after
 
 -- The row of the lot that the trade opened at its price.
-abbrev pub own_lot_line : TradeRow → ℕ → HoldingHistoryRow → Text
+unfoldable pub own_lot_line : TradeRow → ℕ → HoldingHistoryRow → Text
 own_lot_line u price row = row_start (codes "Opened") (moment_text u.stamp) u.id row.after price
 
 -- The row of the lot that the trade opened, if it opened one.
-abbrev pub own_lot_lines : TradeRow → ℕ → Option HoldingHistoryRow → List Text
+unfoldable pub own_lot_lines : TradeRow → ℕ → Option HoldingHistoryRow → List Text
 own_lot_lines u price None = []
 own_lot_lines u price (Some row) = own_lot_line u price row ∷ []
 
--- The price, the lots that were closed and opened, and the gain.
-abbrev pub lots_lines : OrderStory → ResultStory → List Text
-lots_lines o r =
-    money (codes "Price") (pos r.price) ∷ lots_head ∷ map (closing_line (side_of o.trade.kind) r.price) r.closings ++ own_lot_lines o.trade r.price r.own_lot
-    ++ count (codes "Shares closed") (taken_total r.closings)
-    ∷ count (codes "Shares opened") (nat_abs (opened r))
-    ∷ money (codes "BUY") (pos (buy_total (side_of o.trade.kind) r.price r.closings))
+-- The price, and the names of the columns of the rows of lots.
+unfoldable pub price_lines : ResultStory → List Text
+price_lines r =
+    money (codes "Price") (pos r.price)
+    ∷ codes "#      opened                            lot      shares      price       bought for         sold for        left"
+    ∷ []
+
+-- The rows of the lots that the trade closed.
+unfoldable pub closing_lines : OrderStory → ResultStory → List Text
+closing_lines o r = map (closing_line (side_of o.trade.kind) r.price) r.closings
+
+-- The numbers of shares that were closed and opened.
+unfoldable pub shares_lines : ResultStory → List Text
+shares_lines r = count (codes "Shares closed") (taken_total r.closings) ∷ count (codes "Shares opened") (nat_abs (opened r)) ∷ []
+
+-- The gain, and the values of which it is the difference.
+unfoldable pub gain_lines : OrderStory → ResultStory → List Text
+gain_lines o r =
+    money (codes "BUY") (pos (buy_total (side_of o.trade.kind) r.price r.closings))
     ∷ money (codes "SELL") (pos (sell_total (side_of o.trade.kind) r.price r.closings))
     ∷ money (codes "Realised gain") (gain_total (side_of o.trade.kind) r.price r.closings)
     ∷ []
 
+-- The lots that were closed and opened, and the gain.
+unfoldable pub lots_lines : OrderStory → ResultStory → List Text
+lots_lines o r = price_lines r ++ closing_lines o r ++ own_lot_lines o.trade r.price r.own_lot ++ shares_lines r ++ gain_lines o r
+
 -- The row of a tax rate: its id, the rate in hundred-thousandths, and its name.
-abbrev pub rate_line : TaxRate → Text
+unfoldable pub rate_line : TaxRate → Text
 rate_line rate = at_left 6 (codes "Rate") ++ 32 ∷ at_right 13 (decimal rate.id) ++ 32 ∷ at_right 11 (decimal rate.rate) ++ 32 ∷ rate.name
 
--- The tax of the gain at the rates of now, and the tax that was recorded.
-abbrev pub tax_lines : OrderStory → ResultStory → List Text
-tax_lines o r =
-    count (codes "Tax status") (tax_status_number o.tax_status) ∷ map rate_line r.rates
-    ++ (count (codes "Rates now") (rates_total r.rates) ++ codes " of 100000")
+-- The line of the tax status.
+unfoldable pub tax_status_lines : OrderStory → List Text
+tax_status_lines o = count (codes "Tax status") (tax_status_number o.tax_status) ∷ []
+
+-- The sum of the rates of now, the tax of the gain at this sum, and the tax that was recorded.
+unfoldable pub tax_now_lines : OrderStory → ResultStory → List Text
+tax_now_lines o r =
+    (count (codes "Rates now") (rates_total r.rates) ++ codes " of 100000")
     ∷ money (codes "Tax now") (pos (tax_now o r))
     ∷ money (codes "Tax recorded") (pos o.trade.tax)
     ∷ []
 
+-- The lines of the tax.
+unfoldable pub tax_lines : OrderStory → ResultStory → List Text
+tax_lines o r = tax_status_lines o ++ map rate_line r.rates ++ tax_now_lines o r
+
 -- The line of the commission band: the rate in hundredths of a percent, the quantities, the tier and
 -- the exchange.
-abbrev pub band_line : Option Band → Text
+unfoldable pub band_line : Option Band → Text
 band_line None = fact (codes "Band now") (codes "none")
 band_line (Some b) =
     count (codes "Band now") b.rate ++ codes " of 10000 for " ++ decimal b.from_qty ++ codes " to " ++ decimal b.to_qty ++ codes ", tier " ++ decimal b.tier
     ++ codes ", " ++ b.exchange
 
 -- The line of the commission in the band of now.
-abbrev pub commission_line : Option ℕ → Text
+unfoldable pub commission_line : Option ℕ → Text
 commission_line None = fact (codes "Commission now") (codes "none")
 commission_line (Some amount) = money (codes "Commission now") (pos amount)
 
--- The settlement: its four parts with their signs, and their sum.
-abbrev pub settlement_lines : OrderStory → ResultStory → List Text
+-- The commission band of now, and the commission in it.
+unfoldable pub commission_lines : OrderStory → ResultStory → List Text
+commission_lines o r = band_line r.band ∷ commission_line (commission_now o r) ∷ []
+
+-- The settlement: its four parts with their signs, their sum, and its type.
+unfoldable pub settlement_lines : OrderStory → ResultStory → List Text
 settlement_lines o r =
-    band_line r.band
-    ∷ commission_line (commission_now o r)
-    ∷ money (codes "Value") (value_of o r)
+    money (codes "Value") (value_of o r)
     ∷ money (codes "Charge") (neg_ℤ (pos o.trade.charge))
     ∷ money (codes "Commission") (neg_ℤ (pos o.trade.commission))
     ∷ money (codes "Tax withheld") (neg_ℤ (pos (withheld_of o)))
@@ -156,7 +182,7 @@ settlement_lines o r =
     ∷ []
 
 -- The days of the settlement.
-abbrev pub due_lines : OrderStory → ResultStory → List Text
+unfoldable pub due_lines : OrderStory → ResultStory → List Text
 due_lines o r =
     words (codes "Completed on") (day_text (day_of o.trade.stamp))
     ∷ words (codes "One day from") (option_map_or day_text r.rule (codes "none"))
@@ -165,12 +191,12 @@ due_lines o r =
     ∷ []
 
 -- The line of the trade's cash row: its number and its name.
-abbrev pub cash_row_line : Option MoveRow → Text
+unfoldable pub cash_row_line : Option MoveRow → Text
 cash_row_line None = fact (codes "Cash row") (codes "none")
 cash_row_line (Some row) = count (codes "Cash row") row.id ++ 32 ∷ row.name
 
--- The balance before and after the trade, and the last line, of the numbers of rows.
-abbrev pub balance_lines : OrderStory → ResultStory → List Text
+-- The balance before and after the trade.
+unfoldable pub balance_lines : OrderStory → ResultStory → List Text
 balance_lines o r =
     cash_row_line r.cash
     ∷ money (codes "Opening") o.opening
@@ -178,15 +204,21 @@ balance_lines o r =
     ∷ money (codes "Balance before") (balance_before o r)
     ∷ money (codes "Cash moved") (cash_moved r)
     ∷ money (codes "Balance after") (balance_after o r)
-    ∷ (codes "Statuses " ++ decimal (length o.statuses) ++ codes ", lots closed " ++ decimal (length r.closings) ++ codes ", cash rows before " ++ decimal r.cash_rows)
+    ∷ []
+
+-- The last line of a completed trade: the numbers of status changes, lots and cash rows.
+unfoldable pub counts_lines : OrderStory → ResultStory → List Text
+counts_lines o r =
+    (codes "Statuses " ++ decimal (length o.statuses) ++ codes ", lots closed " ++ decimal (length r.closings) ++ codes ", cash rows before " ++ decimal r.cash_rows)
     ∷ []
 
 -- The lines of a completed trade, after its status changes.
-abbrev pub completed_lines : OrderStory → ResultStory → List Text
-completed_lines o r = lots_lines o r ++ tax_lines o r ++ settlement_lines o r ++ due_lines o r ++ balance_lines o r
+unfoldable pub completed_lines : OrderStory → ResultStory → List Text
+completed_lines o r =
+    lots_lines o r ++ tax_lines o r ++ commission_lines o r ++ settlement_lines o r ++ due_lines o r ++ balance_lines o r ++ counts_lines o r
 
 -- The lines after the status changes of a trade.
-abbrev pub outcome_lines : OrderStory → Option ResultStory → List Text
+unfoldable pub outcome_lines : OrderStory → Option ResultStory → List Text
 outcome_lines o None = waiting_lines o
 outcome_lines o (Some r) = completed_lines o r
 
