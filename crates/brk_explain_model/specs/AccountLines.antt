@@ -4,11 +4,12 @@ use Rattle.std.specs.Fmt.{signed_decimal}
 use Rattle.std.specs.Option.{option_map_or}
 use Rattle.brk_money.specs.Spelling.{Text}
 use Rattle.brk_money.specs.Kinds.{tax_status_number}
+use Rattle.brk_money.specs.Moments.{last_day}
 use Rattle.brk_model.specs.Lists.{total_by}
 use Rattle.brk_model.specs.Rows.{price_text}
 use Rattle.brk_model.specs.Tables.{Tables, AccountRow, HoldingRow, MoveRow, SummaryRow}
 use Rattle.brk_model.specs.Joins.{price_in}
-use Rattle.brk_model.specs.Statement.{at_left, at_right, cash_in, lot_line, lots_in}
+use Rattle.brk_model.specs.Statement.{at_left, at_right, cash_in, cash_within, lot_line, lots_in}
 use Rattle.brk_explain_model.specs.Texts.{amount_column, count, moment_text, money, words}
 use Rattle.brk_explain_model.specs.Running.{running_lines}
 
@@ -23,6 +24,11 @@ account_top a =
     ∷ money (codes "Opening") a.opening
     ∷ codes "#      posted                       cash row         trade                 amount                balance name"
     ∷ []
+
+-- The account's cash rows of all days, 1970-01-01 to 9999-12-31, sorted by stamp, ascending. No stamp
+-- of a table that passes an audit is later.
+abbrev pub posted_in : Tables → ℕ → List MoveRow
+posted_in tables account = cash_within 0 last_day (cash_in tables account)
 
 -- The text of the trade of a cash row: a hyphen if it has none.
 abbrev pub trade_text : Option ℕ → Text
@@ -81,12 +87,16 @@ account_end balance holdings cash lots symbols =
     ∷ (codes "Cash rows " ++ decimal cash ++ codes ", lots " ++ decimal lots ++ codes ", symbols " ++ decimal symbols)
     ∷ []
 
+-- The lines of the holding summaries, and the lines after them; `cash` and `lots` are the numbers of
+-- cash rows and lots.
+abbrev pub account_bottom : AccountRow → List Held → ℕ → ℕ → List Text
+account_bottom a held cash lots = map held_line held ++ account_end a.balance (worth_total held) cash lots (length held)
+
 -- The lines of the explanation of an account.
 unfoldable pub account_lines : Tables → AccountRow → List Text
 account_lines tables a =
     account_top a
-    ++ posted_lines a.opening (cash_in tables a.id)
+    ++ posted_lines a.opening (posted_in tables a.id)
     ++ balance_part a
     ++ map held_lot_line (lots_in tables a.id)
-    ++ map held_line (held_in tables a.id)
-    ++ account_end a.balance (worth_total (held_in tables a.id)) (length (cash_in tables a.id)) (length (lots_in tables a.id)) (length (held_in tables a.id))
+    ++ account_bottom a (held_in tables a.id) (length (posted_in tables a.id)) (length (lots_in tables a.id))

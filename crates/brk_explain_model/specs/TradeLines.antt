@@ -36,11 +36,19 @@ party_lines o =
     ∷ words (codes "Executor") o.trade.executor
     ∷ []
 
+-- The line of the type: its code and its name.
+abbrev pub type_line : OrderStory → Text
+type_line o = words (codes "Type") (type_code o.trade.kind) ++ 32 ∷ type_name o.trade.kind
+
+-- The line of the security: its symbol in 15 places, and its name.
+abbrev pub security_line : OrderStory → Text
+security_line o = words (codes "Security") (at_left 15 o.trade.symbol) ++ 32 ∷ o.security_name
+
 -- What was ordered.
 unfoldable pub asked_lines : OrderStory → List Text
 asked_lines o =
-    words (codes "Type") (type_code o.trade.kind ++ 32 ∷ type_name o.trade.kind)
-    ∷ words (codes "Security") (at_left 15 o.trade.symbol ++ 32 ∷ o.security_name)
+    type_line o
+    ∷ security_line o
     ∷ count (codes "Shares") o.trade.qty
     ∷ money (codes "Price asked") (pos o.trade.bid)
     ∷ words (codes "Settles by") (cash_word o.trade.is_cash)

@@ -17,7 +17,7 @@ fn put_spaces(out: &mut Vec<u8>, count: usize) -> Result<(), Fault>
 }
 
 /// Appends a text, left-aligned in `places` places. Fails with `Memory` only.
-pub(crate) fn put_left(out: &mut Vec<u8>, places: usize, text: &[u8]) -> Result<(), Fault>
+pub fn put_left(out: &mut Vec<u8>, places: usize, text: &[u8]) -> Result<(), Fault>
     requires { places ≤ 22 }
     ensures ok { OnOk result (out.new.items ≡ out.old.items ++ at_left places text.now) }
     ensures fault { OnErr result (result ≡ Err Memory) }
@@ -27,7 +27,7 @@ pub(crate) fn put_left(out: &mut Vec<u8>, places: usize, text: &[u8]) -> Result<
 }
 
 /// Appends a text, right-aligned in `places` places. Fails with `Memory` only.
-pub(crate) fn put_right(out: &mut Vec<u8>, places: usize, text: &[u8]) -> Result<(), Fault>
+pub fn put_right(out: &mut Vec<u8>, places: usize, text: &[u8]) -> Result<(), Fault>
     requires { places ≤ 22 }
     ensures ok { OnOk result (out.new.items ≡ out.old.items ++ at_right places text.now) }
     ensures fault { OnErr result (result ≡ Err Memory) }

@@ -1,0 +1,125 @@
+//! Lines of a label and a value. The functions fail with `Memory` only.
+
+ghost use Rattle.std.specs.Prelude.{◌≡◌, ◌++◌, Err, OnErr, OnOk, decimal};
+ghost use Rattle.brk_explain_model.specs.Texts as texts;
+ghost use Rattle.brk_money.specs.declared.fault.Fault.TheVariants.{Memory};
+ghost use Rattle.brk_report_lines.specs.Written.{ended};
+
+use brk_money::{Fault, Wide, write_cents};
+use brk_report_lines::{put_left, put_right};
+use itoa::Buffer;
+use std::alloc::Global;
+
+/// Appends a label in 15 places, a space and a text.
+#[tactic(auto, unfolding(brk_explain_model::specs::Texts::words))]
+pub(crate) fn put_words(out: &mut Vec<u8>, label: &str, text: &[u8]) -> Result<(), Fault>
+    ensures ok { OnOk result (out.new.items ≡ out.old.items ++ texts.words label.now text.now) }
+    ensures fault { OnErr result (result ≡ Err Memory) }
+{
+    put_left(out, 15, label.as_bytes())?;
+    out.push(b' ')?;
+    out.extend_from_slice(text)?;
+    Ok(())
+}
+
+/// Appends a label in 15 places, a space and a value, right-aligned in 22 places.
+#[tactic(auto, unfolding(brk_explain_model::specs::Texts::fact))]
+pub(crate) fn put_fact(out: &mut Vec<u8>, label: &str, value: &[u8]) -> Result<(), Fault>
+    ensures ok { OnOk result (out.new.items ≡ out.old.items ++ texts.fact label.now value.now) }
+    ensures fault { OnErr result (result ≡ Err Memory) }
+{
+    put_left(out, 15, label.as_bytes())?;
+    out.push(b' ')?;
+    put_right(out, 22, value)
+}
+
+/// Appends the fact of a number.
+#[tactic(auto, unfolding(brk_explain_model::specs::Texts::count))]
+pub(crate) fn put_count(out: &mut Vec<u8>, label: &str, n: u64) -> Result<(), Fault>
+    ensures ok { OnOk result (out.new.items ≡ out.old.items ++ texts.count label.now n) }
+    ensures fault { OnErr result (result ≡ Err Memory) }
+{
+    let mut buffer = Buffer::new();
+    put_fact(out, label, buffer.format(n).as_bytes())
+}
+
+/// Appends the fact of an amount.
+#[tactic(auto, unfolding(brk_explain_model::specs::Texts::money))]
+pub(crate) fn put_money(
+    alloc: Global,
+    out: &mut Vec<u8>,
+    label: &str,
+    amount: Wide,
+) -> Result<(), Fault>
+    ensures ok { OnOk result (out.new.items ≡ out.old.items ++ texts.money label.now amount) }
+    ensures fault { OnErr result (result ≡ Err Memory) }
+{
+    let mut cents = Vec::new(alloc);
+    write_cents(&mut cents, amount)?;
+    put_fact(out, label, cents.as_slice())
+}
+
+/// Appends the line of a label and a text.
+pub(crate) fn words_line(out: &mut Vec<u8>, label: &str, text: &[u8]) -> Result<(), Fault>
+    ensures ok { OnOk result (out.new.items ≡ out.old.items ++ ended (texts.words label.now text.now)) }
+    ensures fault { OnErr result (result ≡ Err Memory) }
+{
+    put_words(out, label, text)?;
+    out.push(b'\n')?;
+    Ok(())
+}
+
+/// Appends the line of a label and a value.
+pub(crate) fn fact_line(out: &mut Vec<u8>, label: &str, value: &[u8]) -> Result<(), Fault>
+    ensures ok { OnOk result (out.new.items ≡ out.old.items ++ ended (texts.fact label.now value.now)) }
+    ensures fault { OnErr result (result ≡ Err Memory) }
+{
+    put_fact(out, label, value)?;
+    out.push(b'\n')?;
+    Ok(())
+}
+
+/// Appends the line of a number.
+pub(crate) fn count_line(out: &mut Vec<u8>, label: &str, n: u64) -> Result<(), Fault>
+    ensures ok { OnOk result (out.new.items ≡ out.old.items ++ ended (texts.count label.now n)) }
+    ensures fault { OnErr result (result ≡ Err Memory) }
+{
+    put_count(out, label, n)?;
+    out.push(b'\n')?;
+    Ok(())
+}
+
+/// Appends the line of an amount.
+pub(crate) fn money_line(
+    alloc: Global,
+    out: &mut Vec<u8>,
+    label: &str,
+    amount: Wide,
+) -> Result<(), Fault>
+    ensures ok { OnOk result (out.new.items ≡ out.old.items ++ ended (texts.money label.now amount)) }
+    ensures fault { OnErr result (result ≡ Err Memory) }
+{
+    put_money(alloc, out, label, amount)?;
+    out.push(b'\n')?;
+    Ok(())
+}
+
+/// Appends the line of a text.
+pub(crate) fn text_line(out: &mut Vec<u8>, text: &[u8]) -> Result<(), Fault>
+    ensures ok { OnOk result (out.new.items ≡ out.old.items ++ ended text.now) }
+    ensures fault { OnErr result (result ≡ Err Memory) }
+{
+    out.extend_from_slice(text)?;
+    out.push(b'\n')?;
+    Ok(())
+}
+
+/// Appends a number.
+pub(crate) fn put_number(out: &mut Vec<u8>, n: u64) -> Result<(), Fault>
+    ensures ok { OnOk result (out.new.items ≡ out.old.items ++ decimal n) }
+    ensures fault { OnErr result (result ≡ Err Memory) }
+{
+    let mut buffer = Buffer::new();
+    out.extend_from_slice(buffer.format(n).as_bytes())?;
+    Ok(())
+}

@@ -1,0 +1,66 @@
+//! The text of a moment. The functions fail with `Memory` only.
+
+ghost use Rattle.std.specs.Prelude.{◌≡◌, ◌++◌, ◌<◌, Err, IfOk, OnErr, OnOk};
+ghost use Rattle.brk_explain_model.specs.Texts.{clock_text, moment_text};
+ghost use Rattle.brk_money.specs.Spelling.{padded_decimal};
+ghost use Rattle.brk_money.specs.declared.fault.Fault.TheVariants.{Memory};
+
+use brk_money::{Fault, Stamp, day_of, write_day};
+use std::alloc::Global;
+
+// Appends a number below 100 in two digits.
+#[tactic(auto, using(crate::proofs::Padded::two))]
+fn put_two(out: &mut Vec<u8>, n: u8) -> Result<(), Fault>
+    requires { n < 100 }
+    ensures ok { OnOk result (out.new.items ≡ out.old.items ++ padded_decimal 2 n) }
+    ensures fault { OnErr result (result ≡ Err Memory) }
+{
+    let digits = [b'0' + n / 10, b'0' + n % 10];
+    out.extend_from_slice(&digits)?;
+    Ok(())
+}
+
+// Appends a number below 1000 in three digits.
+#[tactic(auto, using(crate::proofs::Padded::three))]
+fn put_three(out: &mut Vec<u8>, n: u16) -> Result<(), Fault>
+    requires { n < 1000 }
+    ensures ok { OnOk result (out.new.items ≡ out.old.items ++ padded_decimal 3 n) }
+    ensures fault { OnErr result (result ≡ Err Memory) }
+{
+    let digits = [
+        b'0' + (n / 100) as u8,
+        b'0' + (n / 10 % 10) as u8,
+        b'0' + (n % 10) as u8,
+    ];
+    out.extend_from_slice(&digits)?;
+    Ok(())
+}
+
+// Appends the time of day of a number of milliseconds after midnight.
+#[tactic(auto, unfolding(brk_explain_model::specs::Texts::clock_text))]
+fn put_clock(out: &mut Vec<u8>, millis: u32) -> Result<(), Fault>
+    requires { millis < 86400000 }
+    ensures ok { OnOk result (out.new.items ≡ out.old.items ++ clock_text millis) }
+    ensures fault { OnErr result (result ≡ Err Memory) }
+{
+    put_two(out, (millis / 3_600_000) as u8)?;
+    out.push(b':')?;
+    put_two(out, (millis / 60_000 % 60) as u8)?;
+    out.push(b':')?;
+    put_two(out, (millis / 1000 % 60) as u8)?;
+    out.push(b'.')?;
+    put_three(out, (millis % 1000) as u16)
+}
+
+/// Returns the text of a stamp in UTC, such as `2024-03-01 09:05:00.021`.
+#[tactic(auto, unfolding(brk_explain_model::specs::Texts::moment_text))]
+pub fn moment(alloc: Global, stamp: Stamp) -> Result<Vec<u8>, Fault>
+    ensures ok { IfOk result (λ text. text.items ≡ moment_text stamp) }
+    ensures fault { OnErr result (result ≡ Err Memory) }
+{
+    let mut text = Vec::new(alloc);
+    write_day(&mut text, day_of(stamp))?;
+    text.push(b' ')?;
+    put_clock(&mut text, (stamp.get() as u64 % 86_400_000) as u32)?;
+    Ok(text)
+}

@@ -1,0 +1,229 @@
+//! The amounts of a completed trade. A sum that does not fit is the fault `Store`: no row of a store
+//! that passed its audit leads to one.
+
+ghost use Rattle.std.specs.Prelude.{◌≡◌, ◌+ℤ◌, ◌-ℤ◌, IfErr, IfOk, map, neg_ℤ, pos, if◌then◌else◌};
+ghost use Rattle.brk_explain_model.specs.Trades as trades;
+ghost use Rattle.brk_explain_rows.specs.Stories.{closing_row_of, order_story_of, result_story_of};
+ghost use Rattle.brk_model.specs.Base as base;
+ghost use Rattle.brk_model.specs.Run.{MayFail};
+ghost use Rattle.brk_money.specs.Amounts as amounts;
+ghost use Rattle.brk_ref.specs.Records.{tax_of};
+
+use brk_explain_rows::{Closing, OrderStory, ResultStory};
+use brk_money::{Amount, Cents, Fault, Price, Side, TaxRate, TaxStatus, Wide, commission, tax};
+use brk_ref::{Tax, tax_sum};
+
+/// Returns the number of shares that a closing closed.
+pub(crate) fn taken(closing: &Closing) -> u64
+    ensures { result ≡ trades.taken (closing_row_of closing.now) }
+{
+    (i128::from(closing.before) - i128::from(closing.after)).unsigned_abs() as u64
+}
+
+/// Returns what the closed shares were bought for by a trade on a side at a price.
+pub(crate) fn bought_for(side: Side, price: Price, closing: &Closing) -> u128
+    ensures { result ≡ trades.bought_for side price (closing_row_of closing.now) }
+{
+    match side {
+        Side::Sell => u128::from(taken(closing)) * u128::from(closing.price.get()),
+        Side::Buy => u128::from(taken(closing)) * u128::from(price.get()),
+    }
+}
+
+/// Returns what the closed shares were sold for by a trade on a side at a price.
+pub(crate) fn sold_for(side: Side, price: Price, closing: &Closing) -> u128
+    ensures { result ≡ trades.sold_for side price (closing_row_of closing.now) }
+{
+    match side {
+        Side::Sell => u128::from(taken(closing)) * u128::from(price.get()),
+        Side::Buy => u128::from(taken(closing)) * u128::from(closing.price.get()),
+    }
+}
+
+/// Returns the amount of `cents`. Fails with `Store` if it does not fit.
+pub(crate) fn amount(cents: u128) -> Result<Wide, Fault>
+    ensures amount { IfOk result (λ amount. amount ≡ pos cents) }
+    ensures fault { IfErr result MayFail }
+{
+    match i128::try_from(cents) {
+        Ok(cents) => Ok(Wide::new(cents)),
+        Err(_) => Err(Fault::Store),
+    }
+}
+
+/// Returns the number of shares that the closings closed.
+pub(crate) fn taken_total(closings: &[Closing]) -> Result<u64, Fault>
+    ensures total { IfOk result (λ total. total ≡ trades.taken_total (map closing_row_of closings.now)) }
+    ensures fault { IfErr result MayFail }
+{
+    let mut total: u64 = 0;
+    for closing in closings {
+        let Some(sum) = total.checked_add(taken(closing)) else {
+            return Err(Fault::Store);
+        };
+        total = sum;
+    }
+    Ok(total)
+}
+
+/// Returns the buy value of a trade.
+pub(crate) fn buy_total(side: Side, price: Price, closings: &[Closing]) -> Result<Wide, Fault>
+    ensures total { IfOk result (λ total. total ≡ pos (trades.buy_total side price (map closing_row_of closings.now))) }
+    ensures fault { IfErr result MayFail }
+{
+    let mut total: u128 = 0;
+    for closing in closings {
+        let Some(sum) = total.checked_add(bought_for(side, price, closing)) else {
+            return Err(Fault::Store);
+        };
+        total = sum;
+    }
+    amount(total)
+}
+
+/// Returns the sell value of a trade.
+pub(crate) fn sell_total(side: Side, price: Price, closings: &[Closing]) -> Result<Wide, Fault>
+    ensures total { IfOk result (λ total. total ≡ pos (trades.sell_total side price (map closing_row_of closings.now))) }
+    ensures fault { IfErr result MayFail }
+{
+    let mut total: u128 = 0;
+    for closing in closings {
+        let Some(sum) = total.checked_add(sold_for(side, price, closing)) else {
+            return Err(Fault::Store);
+        };
+        total = sum;
+    }
+    amount(total)
+}
+
+/// Returns the sum of two amounts. Fails with `Store` if it does not fit.
+pub(crate) fn plus(one: Wide, other: Wide) -> Result<Wide, Fault>
+    ensures sum { IfOk result (λ sum. sum ≡ one +ℤ other) }
+    ensures fault { IfErr result MayFail }
+{
+    match one.get().checked_add(other.get()) {
+        Some(sum) => Ok(Wide::new(sum)),
+        None => Err(Fault::Store),
+    }
+}
+
+/// Returns the difference of two amounts. Fails with `Store` if it does not fit.
+pub(crate) fn minus(one: Wide, other: Wide) -> Result<Wide, Fault>
+    ensures difference { IfOk result (λ difference. difference ≡ one -ℤ other) }
+    ensures fault { IfErr result MayFail }
+{
+    match one.get().checked_sub(other.get()) {
+        Some(difference) => Ok(Wide::new(difference)),
+        None => Err(Fault::Store),
+    }
+}
+
+/// Returns the realised gain of a trade.
+pub(crate) fn gain_total(side: Side, price: Price, closings: &[Closing]) -> Result<Wide, Fault>
+    ensures gain { IfOk result (λ gain. gain ≡ trades.gain_total side price (map closing_row_of closings.now)) }
+    ensures fault { IfErr result MayFail }
+{
+    let bought = buy_total(side, price, closings)?;
+    let sold = sell_total(side, price, closings)?;
+    minus(sold, bought)
+}
+
+/// Returns the sum of tax rates.
+pub(crate) fn rates_total(rates: &[Tax]) -> Result<TaxRate, Fault>
+    ensures total { IfOk result (λ total. total ≡ trades.rates_total (map tax_of rates.now)) }
+    ensures fault { IfErr result MayFail }
+{
+    match tax_sum(rates) {
+        Some(total) => Ok(total),
+        None => Err(Fault::Store),
+    }
+}
+
+// Returns an amount within the limits of a balance. Fails with `Store` if it is beyond them.
+fn cents(amount: Wide) -> Result<Cents, Fault>
+    ensures cents { IfOk result (λ cents. cents ≡ amount) }
+    ensures fault { IfErr result MayFail }
+{
+    let Ok(cents) = i64::try_from(amount.get()) else {
+        return Err(Fault::Store);
+    };
+    match Cents::new(cents) {
+        Some(cents) => Ok(cents),
+        None => Err(Fault::Store),
+    }
+}
+
+// Returns true if gains are taxable at this tax status.
+fn bears_tax(status: TaxStatus) -> bool
+    ensures { result ≡ base.bears_tax status }
+{
+    match status {
+        TaxStatus::Untaxed => false,
+        TaxStatus::Withheld | TaxStatus::Reported => true,
+    }
+}
+
+// Returns the tax on a gain at a sum of rates; 0 if gains are not taxable at the tax status.
+fn tax_on(status: TaxStatus, gain: Wide, rates: TaxRate) -> Result<Wide, Fault>
+    ensures tax { IfOk result (λ tax. tax ≡ pos (if base.bears_tax status then amounts.tax gain rates else 0)) }
+    ensures fault { IfErr result MayFail }
+{
+    if !bears_tax(status) {
+        return Ok(Wide::new(0));
+    }
+    let gain = cents(gain)?;
+    Ok(Wide::from(tax(gain, rates)))
+}
+
+/// Returns the tax on the gain of a trade at the tax rates of now.
+pub(crate) fn tax_now(order: &OrderStory, story: &ResultStory) -> Result<Wide, Fault>
+    ensures tax { IfOk result (λ tax. tax ≡ pos (trades.tax_now (order_story_of order.now) (result_story_of story.now))) }
+    ensures fault { IfErr result MayFail }
+{
+    let gain = gain_total(order.trade.kind.side(), story.price, &story.closings)?;
+    let rates = rates_total(&story.rates)?;
+    tax_on(order.account.account.tax_status, gain, rates)
+}
+
+/// Returns the commission on a trade in the band of now, or `None` if there is no band.
+pub(crate) fn commission_now(order: &OrderStory, story: &ResultStory) -> Option<Amount>
+    ensures { result ≡ trades.commission_now (order_story_of order.now) (result_story_of story.now) }
+{
+    match &story.band {
+        Some(band) => {
+            Some(commission(band.rate, order.trade.qty, story.price).unsigned_abs())
+        }
+        None => None,
+    }
+}
+
+/// Returns the value of a trade: below 0 for a purchase.
+pub(crate) fn value_of(order: &OrderStory, story: &ResultStory) -> Wide
+    ensures { result ≡ trades.value_of (order_story_of order.now) (result_story_of story.now) }
+{
+    let value = i128::from(u64::from(order.trade.qty.get()) * u64::from(story.price.get()));
+    match order.trade.kind.side() {
+        Side::Sell => Wide::new(value),
+        Side::Buy => Wide::new(-value),
+    }
+}
+
+/// Returns the tax that is withheld from the settlement, negated.
+pub(crate) fn withheld(order: &OrderStory) -> Wide
+    ensures { result ≡ neg_ℤ (pos (trades.withheld_of (order_story_of order.now))) }
+{
+    match order.account.account.tax_status {
+        TaxStatus::Withheld => Wide::new(-i128::from(order.trade.tax.get())),
+        TaxStatus::Untaxed | TaxStatus::Reported => Wide::new(0),
+    }
+}
+
+/// Returns the amount by which a trade changed the balance; 0 without a cash row.
+pub(crate) fn cash_moved(story: &ResultStory) -> Wide
+    ensures { result ≡ trades.cash_moved (result_story_of story.now) }
+{
+    match &story.cash {
+        Some(row) => Wide::from(row.amount),
+        None => Wide::new(0),
+    }
+}
