@@ -4,6 +4,8 @@ use crate::head::{Head, find_head};
 use brk_changes::{HoldingRow, MoveRow};
 use brk_commands::Command;
 use brk_commit::{Answer, book};
+use brk_explain_reads::{account_story, trade_story};
+use brk_explain_rows::{AccountStory, TradeStory};
 use brk_lots::Lot;
 use brk_money::{Fault, Id, Planned, Stamp};
 use brk_ref::Key;
@@ -50,6 +52,7 @@ impl<S: Alter> Desk<S> {
     ghost use Rattle.std.specs.Fn.{CalledAt};
     ghost use Rattle.brk_changes.specs.Rows.{holding_row_of, move_row_of};
     ghost use Rattle.brk_desk.specs.Heads.{IsHead};
+    ghost use Rattle.brk_explain_rows.specs.Stories.{IsAccountOf, IsStoryOf};
     ghost use Rattle.brk_model.specs.Run.{MayFail};
     ghost use Rattle.brk_model.specs.Statement.{lots_in};
     ghost use Rattle.brk_store.specs.Calling.{CalledAtLot};
@@ -172,6 +175,38 @@ impl<S: Alter> Desk<S> {
         ensures fault { IfErr result MayFail }
     {
         find_head(alloc, &mut self.store, account)
+    }
+
+    /// Returns what the explanation of a trade reads, or `None` if the trade does not exist.
+    ///
+    /// Fails with `Memory` or `Store` only; with `Store` also if a row does not exist that another
+    /// row names, or if a completed trade has no price or no settlement. The open database is
+    /// unchanged, whatever the result.
+    ///
+    /// A crash exposes only states that were possible before the call.
+    pub fn trade_story(&mut self, alloc: Global, trade: Id) -> Result<Option<TradeStory>, Fault>
+        ensures read { ReadPost S.Store self.old self.new result (IsStoryOf trade) }
+        ensures fault { IfErr result MayFail }
+    {
+        trade_story(alloc, &mut self.store, trade)
+    }
+
+    /// Returns the row of an account and its holding summaries with last prices, or `None` if the
+    /// account does not exist.
+    ///
+    /// Fails with `Memory` or `Store` only; with `Store` also if a symbol has no last price. The
+    /// open database is unchanged, whatever the result.
+    ///
+    /// A crash exposes only states that were possible before the call.
+    pub fn account_story(
+        &mut self,
+        alloc: Global,
+        account: Id,
+    ) -> Result<Option<AccountStory>, Fault>
+        ensures read { ReadPost S.Store self.old self.new result (IsAccountOf account) }
+        ensures fault { IfErr result MayFail }
+    {
+        account_story(alloc, &mut self.store, account)
     }
 
     /// Passes the cash rows of an account with stamps from `from` to `to`, both included, to a

@@ -1,0 +1,11 @@
+-- A visitor that adds up the cash rows before a stamp.
+use Rattle.std.specs.Prelude.{◌≡◌, ◌+◌, ◌+ℤ◌, if◌then◌else◌, nat_lt}
+use Rattle.brk_changes.specs.declared.move_row.MoveRow.{MoveRow}
+use Rattle.brk_explain_reads.specs.declared.cash.Earlier.{Earlier}
+
+-- The visitor counts the row and adds its amount if the row is before its stamp. Otherwise its sum
+-- is unchanged.
+abbrev pub TakesEarlier : Earlier → MoveRow → Earlier → Type 0
+TakesEarlier p row q =
+    (q.until ≡ p.until) × (q.sum.rows ≡ (if nat_lt row.stamp p.until then p.sum.rows + 1 else p.sum.rows))
+    × (q.sum.total ≡ (if nat_lt row.stamp p.until then p.sum.total +ℤ row.amount else p.sum.total))

@@ -1,0 +1,65 @@
+//! What the explanation of an account reads besides the rows over which it walks.
+
+ghost use Rattle.std.specs.Prelude.{◌≡◌, IfErr, map};
+ghost use Rattle.brk_changes.specs.Rows.{summary_row_of};
+ghost use Rattle.brk_explain_model.specs.AccountLines.{held_at, held_in};
+ghost use Rattle.brk_explain_rows.specs.Stories.{IsAccountOf, held_of};
+ghost use Rattle.brk_model.specs.Run.{MayFail};
+ghost use Rattle.brk_store.specs.Holds.{ReadPost};
+
+use brk_changes::SummaryRow;
+use brk_explain_rows::{AccountStory, Held};
+use brk_money::{Fault, Id};
+use brk_store::Store;
+use sqlite::Alter;
+use std::alloc::Global;
+
+// Returns a holding summary with the last price of its symbol. Fails with `Store` if the symbol has
+// none.
+fn with_price<S: Alter>(store: &mut Store<S>, summary: SummaryRow) -> Result<Held, Fault>
+    ensures read { ReadPost S.Store store.old store.new result (λ held t. held_of held ≡ held_at t (summary_row_of summary)) }
+    ensures fault { IfErr result MayFail }
+{
+    match store.last_trade(&summary.symbol)? {
+        Some(last) => Ok(Held {
+            summary,
+            price: last.price,
+        }),
+        None => Err(Fault::Store),
+    }
+}
+
+// Returns the holding summaries of an account with last prices, sorted by symbol, ascending.
+fn find_held<S: Alter>(alloc: Global, store: &mut Store<S>, account: Id) -> Result<Vec<Held>, Fault>
+    ensures read { ReadPost S.Store store.old store.new result (λ held t. map held_of held.items ≡ held_in t account) }
+    ensures fault { IfErr result MayFail }
+{
+    let mut rest = store.summaries_of(alloc, account)?;
+    let mut held = Vec::new(alloc);
+    while let Some(summary) = rest.pop() {
+        let one = with_price(store, summary)?;
+        held.push(one)?;
+    }
+    held.reverse();
+    Ok(held)
+}
+
+/// Returns the row of an account and its holding summaries with last prices, or `None` if the
+/// account does not exist.
+///
+/// Fails with `Memory` or `Store` only; with `Store` also if a symbol has no last price. The open
+/// database is unchanged, whatever the result.
+pub fn account_story<S: Alter>(
+    alloc: Global,
+    store: &mut Store<S>,
+    account: Id,
+) -> Result<Option<AccountStory>, Fault>
+    ensures read { ReadPost S.Store store.old store.new result (IsAccountOf account) }
+    ensures fault { IfErr result MayFail }
+{
+    let Some(row) = store.account(account)? else {
+        return Ok(None);
+    };
+    let held = find_held(alloc, store, account)?;
+    Ok(Some(AccountStory { account: row, held }))
+}

@@ -1,0 +1,101 @@
+//! The cash rows of an account before a stamp, walked one at a time.
+
+ghost use Rattle.std.specs.Prelude.{◌≡◌, ◌+◌, ◌+ℤ◌, Err, IfErr, IfOk, OnErr};
+ghost use Rattle.brk_explain_reads.specs.Found.{IsCashUntil};
+ghost use Rattle.brk_model.specs.Run.{MayFail};
+ghost use Rattle.brk_money.specs.declared.fault.Fault.TheVariants as fault;
+ghost use Rattle.brk_store.specs.Holds.{ReadPost};
+
+use brk_changes::MoveRow;
+use brk_money::{Cents, Fault, Id, Stamp, Wide};
+use brk_store::{Store, Visitor, WalkError};
+use sqlite::Alter;
+
+/// The number of some cash rows, and the sum of their amounts, in cents.
+#[derive(Clone, Copy)]
+pub struct CashSum {
+    pub rows: u64,
+    pub total: Wide,
+}
+
+// Returns the sum with one more cash row. Fails with `Store` only.
+fn with_row(sum: &CashSum, amount: Cents) -> Result<CashSum, Fault>
+    ensures sum { IfOk result (λ more. (more.rows ≡ sum.now.rows + 1) × (more.total ≡ sum.now.total +ℤ amount)) }
+    ensures fault { OnErr result (result ≡ Err fault.Store) }
+{
+    let Some(rows) = sum.rows.checked_add(1) else {
+        return Err(Fault::Store);
+    };
+    let Some(total) = sum.total.get().checked_add(i128::from(amount.get())) else {
+        return Err(Fault::Store);
+    };
+    Ok(CashSum {
+        rows,
+        total: Wide::new(total),
+    })
+}
+
+/// A visitor that counts the cash rows before a stamp, and adds up their amounts.
+#[derive(Drop)]
+pub struct Earlier {
+    pub until: Stamp,
+    pub sum: CashSum,
+}
+
+impl Visitor<MoveRow, Fault> for Earlier {
+    ghost use Rattle.std.specs.Prelude.{◌≡◌};
+    ghost use Rattle.brk_explain_reads.specs.Earlier.{TakesEarlier};
+    ghost use Rattle.brk_money.specs.declared.fault.Fault.TheVariants.{Store};
+
+    ghost ready = { λ _. Unit {0} };
+
+    ghost leads = { λ _ _. Unit {0} };
+
+    ghost takes = { TakesEarlier };
+
+    ghost stops = { λ _ _ e _. e ≡ Store };
+
+    fn visit(&mut self, item: &MoveRow) -> Result<(), Fault> {
+        if item.stamp.get() < self.until.get() {
+            self.sum = with_row(&self.sum, item.amount)?;
+        }
+        Ok(())
+    }
+
+    ghost stays = { λ _. tt };
+
+    ghost goes_on = { λ _ _ _ _ _. tt };
+}
+
+// Returns the fault of a walk that failed: `Memory` if the walk failed with it, otherwise `Store`.
+fn fault_in(stop: WalkError<Fault>) -> Fault
+    ensures { MayFail result }
+{
+    match stop {
+        WalkError::Failed(Fault::Memory) => Fault::Memory,
+        _ => Fault::Store,
+    }
+}
+
+// Returns the number of the cash rows of an account with stamps before `until`, and the sum of
+// their amounts.
+pub(crate) fn find_cash_until<S: Alter>(
+    store: &mut Store<S>,
+    account: Id,
+    until: Stamp,
+) -> Result<CashSum, Fault>
+    ensures read { ReadPost S.Store store.old store.new result (λ sum t. IsCashUntil t account until sum) }
+    ensures fault { IfErr result MayFail }
+{
+    let mut earlier = Earlier {
+        until,
+        sum: CashSum {
+            rows: 0,
+            total: Wide::new(0),
+        },
+    };
+    match store.visit_cash::<Fault, Earlier>(account, Stamp::nearest(0), until, &mut earlier) {
+        Ok(()) => Ok(earlier.sum),
+        Err(stop) => Err(fault_in(stop)),
+    }
+}

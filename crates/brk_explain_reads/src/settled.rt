@@ -1,0 +1,37 @@
+//! The settlement of a trade.
+
+ghost use Rattle.std.specs.Prelude.{IfErr};
+ghost use Rattle.brk_explain_reads.specs.Found.{IsSettled};
+ghost use Rattle.brk_model.specs.Run.{MayFail};
+ghost use Rattle.brk_store.specs.Holds.{ReadPost};
+
+use crate::known::known_settlement;
+use brk_changes::{MoveRow, SettlementRow};
+use brk_money::{Day, Fault, Id};
+use brk_store::Store;
+use sqlite::Alter;
+
+/// How a trade was settled, and the settlement day.
+#[derive(Drop)]
+pub struct Settled {
+    pub settlement: SettlementRow,
+    /// The cash row of the trade, or `None` if it has none.
+    pub cash: Option<MoveRow>,
+    /// The first day whose completions settle after one day, if it is set (SR_DAY).
+    pub rule: Option<Day>,
+}
+
+// Returns the settlement of a trade. Fails with `Store` also if it has none.
+pub(crate) fn find_settled<S: Alter>(store: &mut Store<S>, trade: Id) -> Result<Settled, Fault>
+    ensures read { ReadPost S.Store store.old store.new result (λ settled t. IsSettled t trade settled) }
+    ensures fault { IfErr result MayFail }
+{
+    let settlement = known_settlement(store, trade)?;
+    let cash = store.cash_row(trade)?;
+    let rule = store.one_day()?;
+    Ok(Settled {
+        settlement,
+        cash,
+        rule,
+    })
+}
