@@ -36,9 +36,16 @@ pub fn account_top(alloc: Global, row: &AccountRow) -> Result<Vec<u8>, Fault>
     words_line(&mut text, "Name", account.name.as_str().as_bytes())?;
     count_line(&mut text, "Customer", account.customer.get())?;
     count_line(&mut text, "Broker", account.broker.get())?;
-    count_line(&mut text, "Tax status", u64::from(account.tax_status.number()))?;
+    count_line(
+        &mut text,
+        "Tax status",
+        u64::from(account.tax_status.number()),
+    )?;
     money_line(alloc, &mut text, "Opening", Wide::from(account.opening))?;
-    text_line(&mut text, b"#      posted                       cash row         trade                 amount                balance name")?;
+    text_line(
+        &mut text,
+        b"#      posted                       cash row         trade                 amount                balance name",
+    )?;
     Ok(text)
 }
 
@@ -86,7 +93,10 @@ pub fn balance_part(alloc: Global, row: &AccountRow) -> Result<Vec<u8>, Fault>
 {
     let mut text = Vec::new(alloc);
     money_line(alloc, &mut text, "Balance", Wide::from(row.balance))?;
-    text_line(&mut text, b"#      symbol                    lot      shares      price                  worth")?;
+    text_line(
+        &mut text,
+        b"#      symbol                    lot      shares      price                  worth",
+    )?;
     Ok(text)
 }
 
@@ -206,6 +216,14 @@ pub fn account_bottom(
     let holdings = worth_total(held)?;
     let mut text = Vec::new(alloc);
     held_lines(alloc, &mut text, held)?;
-    account_end(alloc, &mut text, row.balance, holdings, cash, lots, held.len())?;
+    account_end(
+        alloc,
+        &mut text,
+        row.balance,
+        holdings,
+        cash,
+        lots,
+        held.len(),
+    )?;
     Ok(text)
 }

@@ -13,7 +13,9 @@ ghost use Rattle.brk_report_lines.specs.Written.{ended};
 use crate::facts::{count_line, money_line, text_line};
 use crate::moments::moment;
 use crate::starts::{put_row_start, put_shares, put_value};
-use crate::sums::{amount, bought_for, buy_total, gain_total, sell_total, sold_for, taken, taken_total};
+use crate::sums::{
+    amount, bought_for, buy_total, gain_total, sell_total, sold_for, taken, taken_total,
+};
 use brk_changes::{LotChange, TradeRow};
 use brk_explain_rows::{Closing, OrderStory, ResultStory};
 use brk_money::{Fault, Price, Side, Wide};
@@ -26,7 +28,10 @@ fn price_lines(alloc: Global, out: &mut Vec<u8>, story: &ResultStory) -> Result<
     ensures fault { OnErr result (result ≡ Err Memory) }
 {
     money_line(alloc, out, "Price", Wide::from(story.price))?;
-    text_line(out, b"#      opened                            lot      shares      price       bought for         sold for        left")
+    text_line(
+        out,
+        b"#      opened                            lot      shares      price       bought for         sold for        left",
+    )
 }
 
 // Appends the row of a closing by a trade on a side at a price. Fails with `Memory` or `Store`.
@@ -45,7 +50,15 @@ fn closing_line(
     let bought = amount(bought_for(side, price, closing))?;
     let sold = amount(sold_for(side, price, closing))?;
     let shares = i128::from(taken(closing));
-    put_row_start(alloc, out, "Closed", &moment, closing.lot, shares, closing.price)?;
+    put_row_start(
+        alloc,
+        out,
+        "Closed",
+        &moment,
+        closing.lot,
+        shares,
+        closing.price,
+    )?;
     put_value(alloc, out, bought)?;
     put_value(alloc, out, sold)?;
     put_shares(out, closing.after)?;
@@ -83,7 +96,15 @@ fn own_lot_line(
     ensures fault { OnErr result (result ≡ Err Memory) }
 {
     let moment = moment(alloc, trade.stamp)?;
-    put_row_start(alloc, out, "Opened", &moment, trade.id, i128::from(lot.after), price)?;
+    put_row_start(
+        alloc,
+        out,
+        "Opened",
+        &moment,
+        trade.id,
+        i128::from(lot.after),
+        price,
+    )?;
     out.push(b'\n')?;
     Ok(())
 }

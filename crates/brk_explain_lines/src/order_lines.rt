@@ -125,12 +125,8 @@ fn asked_lines(alloc: Global, out: &mut Vec<u8>, order: &OrderStory) -> Result<(
 }
 
 /// Appends the lines of the order and of the status changes.
-#[tactic(auto, unfolding(brk_explain_model::specs::TradeLines::order_lines), using(crate::proofs::Parts::three_parts))]
-pub(crate) fn order_lines(
-    alloc: Global,
-    out: &mut Vec<u8>,
-    order: &OrderStory,
-) -> Result<(), Fault>
+#[tactic(auto, unfolding(brk_explain_model::specs::TradeLines::order_lines))]
+pub(crate) fn order_lines(alloc: Global, out: &mut Vec<u8>, order: &OrderStory) -> Result<(), Fault>
     ensures ok { OnOk result (out.new.items ≡ out.old.items ++ lines_text (lines.order_lines (order_story_of order.now))) }
     ensures fault { OnErr result (result ≡ Err Memory) }
 {

@@ -32,8 +32,17 @@ pub(crate) fn settlement_lines(
     money_line(alloc, out, "Charge", charge)?;
     money_line(alloc, out, "Commission", commission)?;
     money_line(alloc, out, "Tax withheld", withheld(order))?;
-    money_line(alloc, out, "Settlement", Wide::from(story.settlement.amount))?;
-    words_line(out, "Cash type", story.settlement.cash_type.word().as_bytes())
+    money_line(
+        alloc,
+        out,
+        "Settlement",
+        Wide::from(story.settlement.amount),
+    )?;
+    words_line(
+        out,
+        "Cash type",
+        story.settlement.cash_type.word().as_bytes(),
+    )
 }
 
 // Returns the text of a day.

@@ -190,9 +190,7 @@ pub(crate) fn commission_now(order: &OrderStory, story: &ResultStory) -> Option<
     ensures { result ≡ trades.commission_now (order_story_of order.now) (result_story_of story.now) }
 {
     match &story.band {
-        Some(band) => {
-            Some(commission(band.rate, order.trade.qty, story.price).unsigned_abs())
-        }
+        Some(band) => { Some(commission(band.rate, order.trade.qty, story.price).unsigned_abs()) }
         None => None,
     }
 }

@@ -57,12 +57,7 @@ fn trigger(alloc: Global, kind: TradeType, price: Price) -> Result<Vec<u8>, Faul
 }
 
 // Returns what a trade waits for.
-fn waits_for(
-    alloc: Global,
-    status: Status,
-    kind: TradeType,
-    price: Price,
-) -> Result<Vec<u8>, Fault>
+fn waits_for(alloc: Global, status: Status, kind: TradeType, price: Price) -> Result<Vec<u8>, Fault>
     ensures ok { IfOk result (λ text. text.items ≡ lines.waits_for status kind price) }
     ensures fault { OnErr result (result ≡ Err Memory) }
 {
@@ -119,7 +114,13 @@ pub(crate) fn waiting_lines(
     let charge = Wide::new(i128::from(trade.charge.get()));
     amount_words(alloc, out, "Charge", charge, charge_words(trade.status))?;
     let commission = Wide::from(trade.commission);
-    amount_words(alloc, out, "Commission", commission, commission_words(trade.status))?;
+    amount_words(
+        alloc,
+        out,
+        "Commission",
+        commission,
+        commission_words(trade.status),
+    )?;
     words_line(out, "Waits for", &waits)?;
     count_line(out, "Shares moved", 0)?;
     money_line(alloc, out, "Cash moved", Wide::new(0))?;

@@ -1,5 +1,5 @@
 -- What the explanation of a holding reads from the tables, and the amounts that follow from it.
-use Rattle.std.specs.Prelude.{ℕ, Bool, not, ◌&&◌, ◌==◌, List, map, filter, find, flat_map, length, Option, is_some, ℤ, pos, ◌-ℤ◌, ◌*ℤ◌, int_lt, bytes_eq}
+use Rattle.std.specs.Prelude.{ℕ, Bool, not, ◌&&◌, ◌==◌, List, map, filter, find, flat_map, length, None, is_some, unwrap_or, ℤ, pos, ◌-ℤ◌, ◌*ℤ◌, int_lt, bytes_eq}
 use Rattle.std.specs.List.{last_or}
 use Rattle.std.specs.Option.{option_map_or}
 use Rattle.brk_money.specs.Spelling.{Text}
@@ -69,7 +69,7 @@ lots_told tables account symbol = map (lot_story tables) (filter (λ u. is_some 
 
 -- What is left of a lot: its quantity after the last change, or what was opened if there is none.
 abbrev pub left_of : LotStory → ℤ
-left_of lot = last_or lot.opened (map (λ c. c.after) lot.changes)
+left_of lot = unwrap_or (last_or None (map (λ c. c.after) lot.changes)) lot.opened
 
 -- The cost of what is left of a lot, in cents: below 0 if it was sold short.
 abbrev pub cost_left : LotStory → ℤ

@@ -1,5 +1,5 @@
 -- The texts of moments, and the kinds of lines of which an explanation consists.
-use Rattle.std.specs.Prelude.{ℕ, ◌/◌, ◌%◌, List, [], ◌∷◌, ◌++◌, ℤ, codes, decimal, replicate}
+use Rattle.std.specs.Prelude.{ℕ, ◌/◌, ◌%◌, ◌∷◌, ◌++◌, ℤ, decimal, replicate}
 use Rattle.std.specs.Fmt.{signed_decimal}
 use Rattle.brk_money.specs.Spelling.{Text, cents_text, day_text, padded_decimal}
 use Rattle.brk_money.specs.Moments.{day_of}

@@ -1,5 +1,5 @@
 -- The lines of the explanation of a trade.
-use Rattle.std.specs.Prelude.{ℕ, Bool, if◌then◌else◌, List, [], ◌∷◌, ◌++◌, map, length, Option, Some, None, ℤ, pos, nat_abs, neg_ℤ, codes, decimal}
+use Rattle.std.specs.Prelude.{ℕ, Bool, if◌then◌else◌, List, [], ◌∷◌, ◌++◌, map, length, Option, Some, None, pos, nat_abs, neg_ℤ, codes, decimal}
 use Rattle.std.specs.Option.{option_map_or}
 use Rattle.brk_money.specs.Spelling.{Text, day_text}
 use Rattle.brk_money.specs.Kinds.{side_of, status_code, status_name, tax_status_number, type_code, type_name}

@@ -1,2 +1,3 @@
 pub mod Composed
+pub mod Cut
 pub mod DayStamps

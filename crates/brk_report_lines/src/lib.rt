@@ -13,4 +13,4 @@ pub use days::{first_stamp, last_stamp, stamp_before};
 pub use fault::{LinesFault, ReportFault};
 pub use head_lines::{amount_line, counts_line, days_line, name_line, title_line};
 pub use row_lines::{cash_line, lot_line};
-pub use writing::write_line;
+pub use writing::{write_line, write_lines};

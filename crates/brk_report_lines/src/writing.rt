@@ -1,6 +1,7 @@
-ghost use Rattle.std.specs.Prelude.{◌≡◌, [], ◌∷◌, IfErr, IfOk};
+ghost use Rattle.std.specs.Prelude.{◌≡◌, List, [], ◌∷◌, IfErr, IfOk};
 ghost use Rattle.brk_money.specs.Spelling.{Text};
 ghost use Rattle.brk_model.specs.Run.{MayFail};
+ghost use Rattle.brk_model.specs.Statement.{lines_text};
 ghost use Rattle.brk_report_lines.specs.Written.{Writes, ended};
 
 use crate::fault::LinesFault;
@@ -17,6 +18,21 @@ pub fn write_line<W: Write>(writer: &mut W, line: Result<Vec<u8>, Fault>) -> Res
         Err(fault) => return Err(LinesFault::Desk(fault)),
     };
     match write_out(writer, line.as_slice()) {
+        Ok(()) => (),
+        Err(_) => return Err(LinesFault::Write),
+    }
+    Ok(())
+}
+
+/// Writes `text`, which is some lines, or returns `Desk` with the fault that `text` has instead.
+pub fn write_lines<W: Write>(writer: &mut W, text: Result<Vec<u8>, Fault>) -> Result<(), LinesFault>
+    ensures written { (line : Text) (lines : List Text) → IfOk text (λ t. t.items ≡ lines_text (line ∷ lines)) → IfErr text MayFail → Writes (line ∷ lines) (W.contents writer.old) (W.contents writer.new) result }
+{
+    let text = match text {
+        Ok(text) => text,
+        Err(fault) => return Err(LinesFault::Desk(fault)),
+    };
+    match write_out(writer, text.as_slice()) {
         Ok(()) => (),
         Err(_) => return Err(LinesFault::Write),
     }

@@ -1,0 +1,23 @@
+use Rattle.std.proofs.Common.{◌≡◌, ◌+ℤ◌, [], ◌∷◌, refl, inr}
+use Rattle.brk_changes.specs.Rows.{move_row_of}
+use Rattle.brk_explain_model.specs.AccountLines.{posted_line}
+use Rattle.brk_money.specs.declared.fault.Fault.TheVariants as fault
+use Rattle.brk_report.proofs.Handing.{nothing_yet, on_err, wants}
+use Rattle.brk_report_lines.specs.Written.{BreaksIn}
+use Rattle.brk_report_lines.specs.declared.fault.LinesFault.TheVariants.{Desk}
+use Rattle.brk_report_lines.proofs.Composed.{appends_none}
+use Rattle.brk_explain.proofs.visitors.PostedRowsVisitorMoveRowLinesFault.visit.Goals as goal
+
+pub returns-in_err-balance-clause-stops : goal.returns-in_err-balance-clause-stops
+returns-in_err-balance-clause-stops g c =
+    let is : c.in_err-balance.field-0.0 ≡ Desk fault.Store = let same = c.in_err-balance.ensures.fault in cc in
+    on_err (BreaksIn (posted_line (move_row_of c.args.item.now) (c.args.self.now.balance +ℤ c.args.item.now.amount) ∷ []) _ _) _ _ c.from_residual.ensures.1 (nothing_yet _ _ _ is)
+
+pub returns-in_default-clause-stops : goal.returns-in_default-clause-stops
+returns-in_default-clause-stops g c =
+    (inr refl, ([], posted_line (move_row_of c.args.item.now) (c.args.self.now.balance +ℤ c.args.item.now.amount), [], refl, appends_none _))
+
+pub returns-in_err-write_line-clause-stops : goal.returns-in_err-write_line-clause-stops
+returns-in_err-write_line-clause-stops g c =
+    on_err (BreaksIn (posted_line (move_row_of c.args.item.now) (c.args.self.now.balance +ℤ c.args.item.now.amount) ∷ []) _ _) _ _ c.from_residual-in_err-write_line.ensures.1
+    ?

@@ -1,0 +1,32 @@
+-- The output of lines that a desk reads and does not change.
+use Rattle.std.specs.Prelude.{◌≡◌, ◌⊎◌, ℕ, List, [], Option, Result, Ok, Err}
+use Rattle.std.specs.Io.KnownBytes.{Appends}
+use Rattle.sqlite_trees.specs.declared.store.Store.{Ghosts}
+use Rattle.sqlite.specs.Held.{Held}
+use Rattle.brk_money.specs.Spelling.{Text}
+use Rattle.brk_money.specs.declared.refusal.Refusal.{Refusal}
+use Rattle.brk_model.specs.Run.{MayFail}
+use Rattle.brk_model.specs.Statement.{lines_text}
+use Rattle.brk_model.specs.Tables.{Tables}
+use Rattle.brk_report.specs.Stated.{Keeps, OverRows}
+use Rattle.brk_report_lines.specs.Written.{WroteFirst, WrotePart}
+use Rattle.brk_report_lines.specs.declared.fault.ReportFault.{ReportFault}
+use Rattle.brk_report_lines.specs.declared.fault.ReportFault.TheVariants.{Refused, Desk, Write}
+
+-- The result of writing `told`, lines or a refusal, is as specified. `Ok`: exactly these lines were
+-- written. `Refused`: this is the refusal. `Desk`: nothing was written, or whole lines from the first
+-- on, without the last one. `Write`: whole lines from the first on, and a part of the next one.
+abbrev pub Tells : Result (List Text) Refusal → Option Text → Option Text → Result (Unit {0}) ReportFault → Type 0
+Tells told old new (Ok u) = (lines : List Text) × (told ≡ Ok lines) × Appends old new (lines_text lines)
+Tells told old new (Err (Refused refusal)) = told ≡ Err refusal
+Tells told old new (Err (Desk fault)) = MayFail fault × (Appends old new [] ⊎ ((lines : List Text) × (told ≡ Ok lines) × WroteFirst lines old new))
+Tells told old new (Err Write) = (lines : List Text) × (told ≡ Ok lines) × WrotePart lines old new
+
+-- The postcondition of writing the lines that `told` gives for the rows of a desk, or returning its
+-- refusal. The desk is only read.
+pub record IsTold {S : Type 0} (g : Ghosts S) (old new : Held S) (told : Tables → Result (List Text) Refusal) (before after : Option Text) (result : Result (Unit {0}) ReportFault) : Type 0 where
+  -- The output is as specified for the rows that the store holds, whatever they are.
+  pub written : OverRows g old new (λ t. Tells (told t) before after result)
+  pub keeps : Keeps g old new
+  -- Nothing is written at a refusal.
+  pub unwritten : (refusal : _) → result ≡ Err (Refused refusal) → after ≡ before

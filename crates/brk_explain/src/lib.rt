@@ -1,0 +1,11 @@
+//! Explains a trade or an account of a desk: writes the derivation of its amounts.
+#![tactic(auto)]
+
+pub mod explaining;
+pub mod parse;
+pub mod sections;
+pub mod visitors;
+
+pub use brk_report_lines::ReportFault;
+pub use explaining::explain;
+pub use parse::{Explain, parse_explain};

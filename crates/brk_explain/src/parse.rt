@@ -1,0 +1,76 @@
+ghost use Rattle.std.specs.Prelude.{◌≡◌, ◌∷◌};
+ghost use Rattle.brk_explain.specs.Requests.{explain_of};
+ghost use Rattle.brk_explain_model.specs.Explain as model;
+ghost use Rattle.brk_model.specs.Parse.{read_as};
+ghost use Rattle.brk_ref.specs.Fields.{Reads, texts};
+
+use brk_money::{Id, Refusal};
+use brk_ref::parse_id;
+
+/// What is to be explained.
+#[derive(Clone, Copy)]
+pub enum Explain {
+    /// The trade with this id.
+    Trade(Id),
+    /// The account with this id.
+    Account(Id),
+}
+
+// Returns the id that exactly one word parses as.
+fn parse_only_id(words: &[&[u8]]) -> Result<Id, Refusal>
+    ensures { Reads (λ id. id) result (model.read_only_id (texts words.now)) }
+{
+    let [id] = words else {
+        return Err(Refusal::BadText);
+    };
+    match parse_id(id) {
+        Some(id) => Ok(id),
+        None => Err(Refusal::BadText),
+    }
+}
+
+// Parses what the words after `trade` name.
+fn parse_trade(words: &[&[u8]]) -> Result<Explain, Refusal>
+    ensures { Reads explain_of result (read_as model.TradeOf model.read_only_id (texts words.now)) }
+{
+    match parse_only_id(words) {
+        Ok(id) => Ok(Explain::Trade(id)),
+        Err(refusal) => Err(refusal),
+    }
+}
+
+// Parses what the words after `account` name.
+fn parse_account(words: &[&[u8]]) -> Result<Explain, Refusal>
+    ensures { Reads explain_of result (read_as model.AccountOf model.read_only_id (texts words.now)) }
+{
+    match parse_only_id(words) {
+        Ok(id) => Ok(Explain::Account(id)),
+        Err(refusal) => Err(refusal),
+    }
+}
+
+// Parses the words after a form, or refuses an unknown form.
+#[tactic(auto, unfolding(brk_explain_model::specs::Explain::explain_words))]
+fn parse_form(form: &[u8], words: &[&[u8]]) -> Result<Explain, Refusal>
+    ensures { Reads explain_of result (model.explain_words (form.now ∷ texts words.now)) }
+{
+    if form == b"trade".as_slice() {
+        return parse_trade(words);
+    }
+    if form == b"account".as_slice() {
+        return parse_account(words);
+    }
+    Err(Refusal::BadText)
+}
+
+/// Parses the words of a command line: `trade ID` or `account ID`. Refuses an unknown form, a wrong
+/// number of words or a malformed id with `BadText`. Never allocates.
+#[tactic(auto, unfolding(brk_explain_model::specs::Explain::explain_words))]
+pub fn parse_explain(words: &[&[u8]]) -> Result<Explain, Refusal>
+    ensures { Reads explain_of result (model.explain_words (texts words.now)) }
+{
+    let [form, rest @ ..] = words else {
+        return Err(Refusal::BadText);
+    };
+    parse_form(form, rest)
+}

@@ -1,0 +1,103 @@
+//! Visitors that write a row for each record, and count the records.
+
+ghost use Rattle.std.specs.Prelude.{◌≡◌, ◌+ℤ◌, Err, IfOk, OnErr};
+ghost use Rattle.brk_money.specs.declared.fault.Fault.TheVariants as fault;
+ghost use Rattle.brk_report_lines.specs.declared.fault.LinesFault.TheVariants.{Desk};
+
+use brk_changes::{HoldingRow, MoveRow};
+use brk_desk::Visitor;
+use brk_explain_lines::{held_lot_line, posted_line};
+use brk_money::{Cents, Fault, Wide};
+use brk_report_lines::{LinesFault, write_line};
+use std::alloc::Global;
+use std::io::Write;
+
+// Returns `total` plus `amount`. Fails with `Store` only.
+fn added(total: Wide, amount: Cents) -> Result<Wide, LinesFault>
+    ensures sum { IfOk result (λ sum. sum ≡ total +ℤ amount) }
+    ensures fault { OnErr result (result ≡ Err (Desk fault.Store)) }
+{
+    match total.get().checked_add(i128::from(amount.get())) {
+        Some(sum) => Ok(Wide::new(sum)),
+        None => Err(LinesFault::Desk(Fault::Store)),
+    }
+}
+
+/// A visitor that writes a row for each cash row, with the balance after it, and counts the rows.
+#[derive(Drop)]
+pub struct PostedRows<'a, W> {
+    pub alloc: Global,
+    pub writer: &'a mut W,
+    pub balance: Wide,
+    pub count: u64,
+}
+
+impl<W: Write> Visitor<MoveRow, LinesFault> for PostedRows<'_, W> {
+    ghost use Rattle.std.specs.Prelude.{◌≡◌, ◌+◌, ◌+ℤ◌, [], ◌∷◌, refl};
+    ghost use Rattle.std.proofs.Common.{◌∙◌};
+    ghost use Rattle.std.specs.Io.KnownBytes.{Appends};
+    ghost use Rattle.brk_changes.specs.Rows.{move_row_of};
+    ghost use Rattle.brk_explain_model.specs.AccountLines.{posted_line};
+    ghost use Rattle.brk_report_lines.specs.Written.{BreaksIn, ended};
+
+    ghost ready = { λ _. Unit {0} };
+
+    ghost leads = { λ p q. q.writer.ghost_name ≡ p.writer.ghost_name };
+
+    ghost takes = { λ p r q. (q.balance ≡ p.balance +ℤ r.amount) × (q.count ≡ p.count + 1) × Appends (W.contents p.writer.now) (W.contents q.writer.now) (ended (posted_line (move_row_of r) (p.balance +ℤ r.amount))) };
+
+    ghost stops = { λ p r e q. BreaksIn (posted_line (move_row_of r) (p.balance +ℤ r.amount) ∷ []) (W.contents p.writer.now) (W.contents q.writer.now) e };
+
+    fn visit(&mut self, item: &MoveRow) -> Result<(), LinesFault> {
+        let balance = added(self.balance, item.amount)?;
+        let Some(count) = self.count.checked_add(1) else {
+            return Err(LinesFault::Desk(Fault::Store));
+        };
+        write_line(self.writer, posted_line(self.alloc, item, balance))?;
+        self.balance = balance;
+        self.count = count;
+        Ok(())
+    }
+
+    ghost stays = { λ _. refl };
+
+    ghost goes_on = { λ _ _ _ a b. b ∙ a };
+}
+
+/// A visitor that writes a row for each lot, and counts the lots.
+#[derive(Drop)]
+pub struct LotRows<'a, W> {
+    pub alloc: Global,
+    pub writer: &'a mut W,
+    pub count: u64,
+}
+
+impl<W: Write> Visitor<HoldingRow, LinesFault> for LotRows<'_, W> {
+    ghost use Rattle.std.specs.Prelude.{◌≡◌, ◌+◌, [], ◌∷◌, refl};
+    ghost use Rattle.std.proofs.Common.{◌∙◌};
+    ghost use Rattle.std.specs.Io.KnownBytes.{Appends};
+    ghost use Rattle.brk_changes.specs.Rows.{holding_row_of};
+    ghost use Rattle.brk_explain_model.specs.AccountLines.{held_lot_line};
+    ghost use Rattle.brk_report_lines.specs.Written.{BreaksIn, ended};
+
+    ghost ready = { λ _. Unit {0} };
+
+    ghost leads = { λ p q. q.writer.ghost_name ≡ p.writer.ghost_name };
+
+    ghost takes = { λ p r q. (q.count ≡ p.count + 1) × Appends (W.contents p.writer.now) (W.contents q.writer.now) (ended (held_lot_line (holding_row_of r))) };
+
+    ghost stops = { λ p r e q. BreaksIn (held_lot_line (holding_row_of r) ∷ []) (W.contents p.writer.now) (W.contents q.writer.now) e };
+
+    fn visit(&mut self, item: &HoldingRow) -> Result<(), LinesFault> {
+        let Some(count) = self.count.checked_add(1) else {
+            return Err(LinesFault::Desk(Fault::Store));
+        };
+        write_line(self.writer, held_lot_line(self.alloc, item))?;
+        self.count = count;
+        Ok(())
+    }
+
+    ghost stays = { λ _. refl };
+
+    ghost goes_on = { λ _ _ _ a b. b ∙ a };
+}
