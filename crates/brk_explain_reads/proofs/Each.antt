@@ -25,20 +25,16 @@ one_more f g xs ys i x y inside is same e =
 -- ---- rows that pass tests
 
 -- the first rows that pass, and the next row
-last_more : {X Z : Type 0} (f : X → Z) (p : Z → Bool) (rows : List X) (i : ℕ) (row : X) → i < length rows → row ≡ get_or rows i row
+pub last_more : {X Z : Type 0} (f : X → Z) (p : Z → Bool) (rows : List X) (i : ℕ) (row : X) → i < length rows → row ≡ get_or rows i row
     → filter p (map f (take i rows)) ++ filter p (f row ∷ []) ≡ filter p (map f (take (i + 1) rows))
 last_more f p rows i row inside is =
     sym (filter-append p (map f (take i rows)) (f row ∷ [])) ∙ ap (filter p) (sym (map-append f (take i rows) (row ∷ []))) ∙ ap (λ xs. filter p (map f xs)) (first_more rows i row inside is)
 
-pub kept_more : {X Z : Type 0} (f : X → Z) (p : Z → Bool) (rows : List X) (i : ℕ) (row : X) (kept : List X) → i < length rows → row ≡ get_or rows i row
-    → map f kept ≡ filter p (map f (take i rows)) → p (f row) ≡ true → map f (kept ++ row ∷ []) ≡ filter p (map f (take (i + 1) rows))
-kept_more f p rows i row kept inside is before passes =
-    map-append f kept (row ∷ []) ∙ (λ j. before j ++ cond (sym passes j) (f row ∷ []) []) ∙ last_more f p rows i row inside is
+pub added_one : {X Z : Type 0} (f : X → Z) (p : Z → Bool) (row : X) (kept : List X) → p (f row) ≡ true → map f (kept ++ row ∷ []) ≡ map f kept ++ filter p (f row ∷ [])
+added_one f p row kept passes = map-append f kept (row ∷ []) ∙ (λ j. map f kept ++ cond (sym passes j) (f row ∷ []) [])
 
-pub kept_same : {X Z : Type 0} (f : X → Z) (p : Z → Bool) (rows : List X) (i : ℕ) (row : X) (kept : List X) → i < length rows → row ≡ get_or rows i row
-    → map f kept ≡ filter p (map f (take i rows)) → p (f row) ≡ false → map f kept ≡ filter p (map f (take (i + 1) rows))
-kept_same f p rows i row kept inside is before fails =
-    sym (append-nil (map f kept)) ∙ (λ j. before j ++ cond (sym fails j) (f row ∷ []) []) ∙ last_more f p rows i row inside is
+pub added_none : {X Z : Type 0} (f : X → Z) (p : Z → Bool) (row : X) (kept : List X) → p (f row) ≡ false → map f kept ≡ map f kept ++ filter p (f row ∷ [])
+added_none f p row kept fails = sym (append-nil (map f kept)) ∙ (λ j. map f kept ++ cond (sym fails j) (f row ∷ []) [])
 
 pub filter_both : {X : Type 0} (p q : X → Bool) (xs : List X) → filter (λ x. p x && q x) xs ≡ filter q (filter p xs)
 filter_both p q [] = refl

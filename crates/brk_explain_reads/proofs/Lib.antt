@@ -2,6 +2,6 @@ pub mod Sorted
 pub mod Reading
 pub mod Each
 pub mod Walked
-pub mod Lots
-pub mod Terms
-pub mod Results
+pub mod LotParts
+pub mod TermParts
+pub mod StoryParts

@@ -1,5 +1,5 @@
 -- Reads of a store one after another.
-use Rattle.std.proofs.Common.{Err, Ok}
+use Rattle.std.proofs.Common.{Err, Ok, Result}
 use Rattle.sqlite_trees.specs.declared.store.Store.{Ghosts}
 use Rattle.sqlite.specs.Held.{Held, state}
 use Rattle.brk_model.specs.Tables.{Tables}
@@ -12,11 +12,19 @@ module _ {S : Type 0} (g : Ghosts S) (old mid end : Held S) where
   pub read_both : {V W X E F H : Type 0} (v : V) (w : W) (x : X) (P : V → Tables → Type 0) (Q : W → Tables → Type 0) (R : X → Tables → Type 0)
       → ((t : Tables) → P v t → Q w t → R x t) → ReadPost {E = E} g old mid (Ok v) P → ReadPost {E = F} g mid end (Ok w) Q → ReadPost {E = H} g old end (Ok x) R
   read_both {V} {W} {X} {E} {F} v w x P Q R tell first second =
-      let on = read_after g old mid end v (Ok {E = F} w) P Q first second in
+      let out : Result W F = Ok w in
+      let on = read_after g old mid end v out P Q first second in
       record {
-        told = λ clean t holds. tell t (first.told (clean_at mid end (kept_read mid end (Ok {E = F} w) Q second) clean) t holds) (on.told clean t holds);
+        told = λ clean t holds. tell t (first.told (clean_at mid end (kept_read mid end out Q second) clean) t holds) (on.told clean t holds);
         opened = on.opened;
         kept = on.kept;
         same = on.same;
         survives = on.survives;
       }
+
+  -- where what comes after two reads fails, they changed nothing
+  pub read_failed : {V W X E F H : Type 0} (v : V) (r : Result W F) (e : H) (P : V → Tables → Type 0) (Q : W → Tables → Type 0) (R : X → Tables → Type 0)
+      → ReadPost {E = E} g old mid (Ok v) P → ReadPost g mid end r Q → ReadPost {E = H} g old end (Err e) R
+  read_failed v r e P Q R first second =
+      let on = read_after g old mid end v r P Q first second in
+      record { told = λ clean. tt; opened = λ clean. tt; kept = on.kept; same = on.same; survives = on.survives }

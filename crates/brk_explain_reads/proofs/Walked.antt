@@ -91,4 +91,4 @@ earlier_told t account start until p q taken none at count total folds all =
     (λ i. earlier_rows (at i) (all i))
     ∙ narrower (λ (r : MoveRow). nat_lt r.stamp until) (λ (r : MoveRow). nat_le start r.stamp && nat_le r.stamp until) (λ r before. within start until r.stamp none before) (cash_in t account) in
     let c = all_added p taken q folds in
-    (c.0 ∙ (λ i. count i + length (same i)), c.1 ∙ (λ i. total i +ℤ cash_total (same i)) ∙ +ℤ_idl (cash_total (cash_until t account until)))
+    (omega (arith, c.0, count, ap length same), c.1 ∙ (λ i. total i +ℤ cash_total (same i)) ∙ +ℤ_idl (cash_total (cash_until t account until)))

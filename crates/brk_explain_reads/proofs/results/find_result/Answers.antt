@@ -3,7 +3,7 @@ use Rattle.brk_changes.specs.Rows.{trade_row_of}
 use Rattle.brk_model.specs.Tables.{Tables}
 use Rattle.brk_explain_reads.specs.Found.{AreLots, AreTerms, IsCashUntil, IsResultOf, IsSettled}
 use Rattle.brk_explain_reads.proofs.Reading.{read_both}
-use Rattle.brk_explain_reads.proofs.Results.{result_known, result_with}
+use Rattle.brk_explain_reads.proofs.StoryParts.{result_known, result_with}
 use Rattle.brk_explain_reads.proofs.results.find_result.Goals as goal
 
 pub returns-clause-read : goal.returns-clause-read

@@ -4,7 +4,7 @@ use Rattle.std.specs.Option.{option_or}
 use Rattle.brk_model.specs.Records.{Band}
 use Rattle.brk_ref.specs.Records.{band_of}
 use Rattle.brk_ref.specs.declared.band.Band as ref
-use Rattle.brk_explain_reads.proofs.Terms.{first_before, first_last}
+use Rattle.brk_explain_reads.proofs.TermParts.{first_before, first_last}
 use Rattle.brk_explain_reads.proofs.terms.band_with.Goals as goal
 
 abbrev Has : ℕ → Band → Bool
@@ -15,8 +15,8 @@ loop-band-init c = first_last (Has c.args.qty) (map band_of c.args.bands.items)
 
 pub loop-band-preserved : goal.loop-band-preserved
 loop-band-preserved c =
-    first_before band_of (Has c.args.qty) c.loop-band.rest.items c.pop.new.self.items c.in-Some.band (option_map band_of c.loop-band.found) (option_map band_of c.band_or.result) _
-    c.in-Some.ensures.items c.loop-band.invariant c.band_or.ensures
+    first_before band_of (Has c.args.qty) c.loop-band.rest.items c.pop.new.self.items c.in-Some.band (option_map band_of c.loop-band.found) (option_map band_of c.band_or-found.result) _
+    c.in-Some.ensures.items c.loop-band.invariant c.band_or-found.ensures
 
 none_left : (rest : List ref.Band) → length rest ≡ 0 → rest ≡ []
 none_left [] e = refl

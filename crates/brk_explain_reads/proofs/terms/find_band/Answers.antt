@@ -7,7 +7,7 @@ use Rattle.brk_model.specs.Tables.{Tables}
 use Rattle.brk_ref.specs.Records.{band_of}
 use Rattle.brk_store.proofs.Retelling.{retold}
 use Rattle.brk_explain_model.specs.Trades.{band_on}
-use Rattle.brk_explain_reads.proofs.Terms.{band_known}
+use Rattle.brk_explain_reads.proofs.TermParts.{band_known}
 use Rattle.brk_explain_reads.proofs.terms.find_band.Goals as goal
 
 pub returns-clause-read : goal.returns-clause-read

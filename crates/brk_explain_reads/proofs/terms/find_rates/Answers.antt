@@ -11,7 +11,7 @@ use Rattle.brk_store.proofs.Retelling.{retold}
 use Rattle.brk_explain_model.specs.Trades.{rates_in}
 use Rattle.brk_explain_reads.proofs.Each.{map_map, one_more}
 use Rattle.brk_explain_reads.proofs.Reading.{read_both}
-use Rattle.brk_explain_reads.proofs.Terms.{one_by_one}
+use Rattle.brk_explain_reads.proofs.TermParts.{one_by_one}
 use Rattle.brk_explain_reads.proofs.terms.find_rates.Goals as goal
 
 -- the tax rate of a customer's tax, if it exists

@@ -7,8 +7,9 @@ use Rattle.brk_store.proofs.Retelling.{retold}
 use Rattle.brk_explain_rows.specs.Stories.{IsStoryOf}
 use Rattle.brk_explain_rows.specs.declared.story.TradeStory.{TradeStory}
 use Rattle.brk_explain_reads.specs.Found.{IsOrderOf, IsResultOf}
-use Rattle.brk_explain_reads.proofs.Reading.{read_both}
-use Rattle.brk_explain_reads.proofs.Results.{story_completed, story_ordered}
+use Rattle.brk_explain_reads.proofs.Reading.{read_both, read_failed}
+use Rattle.std.proofs.lemmas.Result.{err_from_is_err_and}
+use Rattle.brk_explain_reads.proofs.StoryParts.{story_completed, story_ordered}
 use Rattle.brk_explain_reads.proofs.trades.trade_story.Goals as goal
 
 -- the trade with an id
@@ -48,3 +49,20 @@ returns-clause-read g c =
     (λ order (t : Tables). (Some (trade_row_of row) ≡ find (λ (r : TradeRow). r.id == c.args.trade) t.trades) × IsOrderOf row order t)
     (λ t e k. (e, k)) (rw c.in-Some.is at c.in_ok-row.ensures.read) c.in_ok-order.ensures.read)
     c.in_ok-outcome.ensures.read
+
+pub returns-in_err-outcome-clause-read : goal.returns-in_err-outcome-clause-read
+returns-in_err-outcome-clause-read g c =
+    let old = c.args.store.now in
+    let row = c.in-Some.row in
+    let order = c.in_ok-order.order in
+    let p = err_from_is_err_and c.from_residual-in_err-outcome.result c.from_residual-in_err-outcome.ensures.1 in
+    rw p.1
+    (read_failed g.S.Store old c.find_order.new.store c.find_result.new.store order _ p.0
+    (λ order (t : Tables). (Some (trade_row_of row) ≡ find (λ (r : TradeRow). r.id == c.args.trade) t.trades) × IsOrderOf row order t)
+    (λ story (t : Tables). IsResultOf order story t)
+    (IsStoryOf c.args.trade)
+    (read_both g.S.Store old c.trade.new.self c.find_order.new.store {H = Fault} (Some row) order order
+    (IsRowOf c.args.trade) (λ order (t : Tables). IsOrderOf row order t)
+    (λ order (t : Tables). (Some (trade_row_of row) ≡ find (λ (r : TradeRow). r.id == c.args.trade) t.trades) × IsOrderOf row order t)
+    (λ t e k. (e, k)) (rw c.in-Some.is at c.in_ok-row.ensures.read) c.in_ok-order.ensures.read)
+    c.in_err-outcome.ensures.read)
