@@ -1,7 +1,7 @@
 -- Reads of a store one after another.
 use Rattle.std.proofs.Common.{Err, Ok, Result}
 use Rattle.sqlite_trees.specs.declared.store.Store.{Ghosts}
-use Rattle.sqlite.specs.Held.{Held, state}
+use Rattle.sqlite.specs.Held.{Held}
 use Rattle.brk_model.specs.Tables.{Tables}
 use Rattle.brk_store.specs.Holds.{ReadPost}
 use Rattle.brk_store.specs.Kept.{clean_at, kept_read}

@@ -1,21 +1,16 @@
 -- The results of a trade, from the parts that were read.
-use Rattle.std.proofs.Common.{◌≡◌, ◌∙◌, ◌==◌, ℕ, Option, Some, None, ap, cond, false, find, pos, refl, subst, sym, true, []}
+use Rattle.std.proofs.Common.{◌≡◌, ◌∙◌, ◌==◌, ℕ, Some, None, ap, cond, false, find, pos, subst, sym, true, []}
 use Rattle.std.specs.Prelude.{unwrap_or}
 use Rattle.std.specs.Option.{option_map_or}
 use Rattle.brk_changes.specs.Rows.{trade_row_of}
 use Rattle.brk_changes.specs.declared.trade_row.TradeRow as trade
-use Rattle.brk_model.specs.Joins.{account_in, security_in}
 use Rattle.brk_model.specs.Records.{Customer}
-use Rattle.brk_model.specs.Statement.{cash_total}
 use Rattle.brk_model.specs.Tables.{AccountRow, SecurityRow, Tables, TradeRow}
 use Rattle.brk_money.specs.declared.tax_status.TaxStatus.TheVariants.{Untaxed}
-use Rattle.brk_ref.specs.Records.{account_row_of, security_of}
-use Rattle.brk_explain_model.specs.Trades as model
 use Rattle.brk_explain_model.specs.Trades.{band_for, is_completed_row, order_story, rates_in, result_story, story_of}
 use Rattle.brk_explain_rows.specs.Stories.{order_story_of, result_story_of, trade_story_of}
 use Rattle.brk_explain_rows.specs.declared.story.OrderStory.{OrderStory}
 use Rattle.brk_explain_rows.specs.declared.story.ResultStory.{ResultStory}
-use Rattle.brk_explain_rows.specs.declared.story.TradeStory.{TradeStory}
 use Rattle.brk_explain_reads.specs.Found.{AreLots, AreTerms, IsCashUntil, IsOrderOf, IsSettled}
 use Rattle.brk_explain_reads.specs.declared.cash.CashSum.{CashSum}
 use Rattle.brk_explain_reads.specs.declared.lots.TradeLots.{TradeLots}

@@ -1,5 +1,5 @@
 -- A walk over cash rows with a visitor that adds up those before a stamp.
-use Rattle.std.proofs.Common.{◌≡◌, ◌∙◌, ℕ, ◌+◌, ℤ, ◌+ℤ◌, Bool, true, false, ◌&&◌, List, [], ◌∷◌, Result, Ok, Err, ap, arith, filter, length, map, pos, refl, subst, sym}
+use Rattle.std.proofs.Common.{◌≡◌, ◌∙◌, ℕ, ◌+◌, ◌+ℤ◌, Bool, true, false, ◌&&◌, List, [], ◌∷◌, Ok, Err, ap, arith, filter, length, map, pos, refl, subst, sym}
 use Rattle.std.specs.Prelude.{nat_le, nat_lt}
 use Rattle.std.specs.List.{FoldsTo}
 use Rattle.std.proofs.lemmas.Bool.Decides.{nat_tests}

@@ -1,5 +1,5 @@
 -- What was read for an explanation, part by part.
-use Rattle.std.specs.Prelude.{◌≡◌, ℕ, ◌==◌, List, filter, find, length, map, nat_lt, Option, Some, option_map}
+use Rattle.std.specs.Prelude.{◌≡◌, ℕ, ◌==◌, List, filter, find, length, map, nat_lt, Some, option_map}
 use Rattle.brk_changes.specs.Rows.{history_row_of, lot_change_of, move_row_of, settlement_row_of, trade_row_of}
 use Rattle.brk_changes.specs.declared.trade_row.TradeRow as trade
 use Rattle.brk_explain_model.specs.Trades.{band_for, closing_of, closings_in, is_closing_by, own_lot_in, rates_in, result_story, settlement_in, statuses_in}
