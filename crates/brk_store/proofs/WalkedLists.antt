@@ -13,23 +13,26 @@ use Rattle.sqlite_value.proofs.OrderLemmas.{value_cmp-Int}
 use Rattle.sqlite_trees.specs.declared.store.Store.{Ghosts}
 use Rattle.sqlite.specs.Effect.{Database}
 use Rattle.sqlite.specs.Held.{Held, state}
-use Rattle.brk_changes.specs.Rows.{holding_row_of, move_row_of}
+use Rattle.brk_changes.specs.Rows.{holding_row_of, move_row_of, trade_row_of}
 use Rattle.brk_changes.specs.declared.move_row.MoveRow as row
 use Rattle.brk_changes.specs.declared.holding_row.HoldingRow as holding
+use Rattle.brk_changes.specs.declared.trade_row.TradeRow as trade
 use Rattle.brk_model.specs.Keys.{word, by_key, row_before}
 use Rattle.brk_model.specs.Lists.{insert_by, sort_by, text_before}
 use Rattle.brk_model.specs.Statement.{lots_in}
-use Rattle.brk_model.specs.Tables.{HoldingRow, MoveRow, Tables}
+use Rattle.brk_model.specs.Tables.{HoldingRow, MoveRow, Tables, TradeRow}
+use Rattle.brk_money.specs.Kinds.{same_status}
+use Rattle.brk_money.specs.declared.status.Status.TheVariants.{Completed}
 use Rattle.brk_sql.specs.Rows.{Rises}
-use Rattle.brk_tables_schema.specs.Desk.{CashMoves, Holdings, order}
+use Rattle.brk_tables_schema.specs.Desk.{CashMoves, Holdings, Trades, order}
 use Rattle.brk_tables_schema.specs.Made.{HasRows}
 use Rattle.brk_book_theorems.proofs.Bools.{same_text, texts_back}
 use Rattle.brk_book_theorems.proofs.LotReading.{All-sort}
 use Rattle.brk_book_theorems.proofs.Order.{by_key-filter, key_total}
-use Rattle.brk_tables_walks.specs.Lists.{cash_between, lots_by_symbol, stamp_key, symbol_key}
+use Rattle.brk_tables_walks.specs.Lists.{cash_between, completed_by_age, lots_by_symbol, stamp_key, symbol_key, trade_age}
 use Rattle.brk_tables_walks.specs.Walks.{Walks}
 use Rattle.brk_tables_walks.specs.declared.walking.WalkError.{WalkError}
-use Rattle.brk_store.specs.Walked.{WalkPost, cash_of}
+use Rattle.brk_store.specs.Walked.{WalkPost, cash_of, completed_in_turn}
 use Rattle.brk_store.proofs.Walking.{is_walked}
 
 -- ---- rows that stand by a number need no more of it in their order
@@ -135,6 +138,15 @@ cash_same account from to t climb =
     (λ x y k. cash_tie (nat_lt y.stamp x.stamp) (nat_lt x.stamp y.stamp) (nat_lt y.id x.id) (nat_lt x.id y.id) (not_above x.id y.id k))
     (climb_filter (λ (r : MoveRow). r.id) mine t.moves climb))
 
+-- ---- completed trades
+
+pub completed_same : (t : Tables) → Climb (λ r. r.id) t.trades → completed_by_age t ≡ completed_in_turn t
+completed_same t climb =
+    let done = λ (r : TradeRow). same_status r.status Completed in
+    sort_same (λ (r : TradeRow). r.id) (row_before trade_age) (λ a b. nat_lt a.stamp b.stamp) (filter done t.trades)
+    (λ x y k. cash_tie (nat_lt y.stamp x.stamp) (nat_lt x.stamp y.stamp) (nat_lt y.id x.id) (nat_lt x.id y.id) (not_above x.id y.id k))
+    (climb_filter (λ (r : TradeRow). r.id) done t.trades climb)
+
 -- ---- tables of a database climb
 
 less_number : (m n : ℕ) → slice_cmp value_cmp (Int (pos m) ∷ []) (Int (pos n) ∷ []) ≡ Less → nat_lt m n ≡ true
@@ -156,6 +168,9 @@ holdings_climb t db has = climbs (λ (r : HoldingRow). r.trade) (order Holdings)
 pub moves_climb : (t : Tables) (db : Database) → HasRows t db → Climb (λ r. r.id) t.moves
 moves_climb t db has = climbs (λ (r : MoveRow). r.id) (order CashMoves) (λ x y k. less_number x.id y.id k) t.moves (has.1.rows CashMoves).rising
 
+pub trades_climb : (t : Tables) (db : Database) → HasRows t db → Climb (λ r. r.id) t.trades
+trades_climb t db has = climbs (λ (r : TradeRow). r.id) (order Trades) (λ x y k. less_number x.id y.id k) t.trades (has.1.rows Trades).rising
+
 -- ---- walks of a store
 
 pub lots_walked : {S V E : Type 0} (g : Ghosts S) (old new : Held S) (account : ℕ) (takes : V → holding.HoldingRow → V → Type 0) (stops : V → holding.HoldingRow → E → V → Type 0) (before after : V) (result : Result (Unit {0}) (WalkError E))
@@ -167,3 +182,8 @@ pub cash_walked : {S V E : Type 0} (g : Ghosts S) (old new : Held S) (account fr
     → Walks g old new move_row_of (cash_between account from to) takes stops before after result → WalkPost g old new move_row_of (cash_of account from to) takes stops before after result
 cash_walked g old new account from to takes stops before after result w =
     is_walked g old new move_row_of (cash_between account from to) (cash_of account from to) takes stops before after (λ t has. cash_same account from to t (moves_climb t (state g old).now has)) result w
+
+pub completed_walked : {S V E : Type 0} (g : Ghosts S) (old new : Held S) (takes : V → trade.TradeRow → V → Type 0) (stops : V → trade.TradeRow → E → V → Type 0) (before after : V) (result : Result (Unit {0}) (WalkError E))
+    → Walks g old new trade_row_of completed_by_age takes stops before after result → WalkPost g old new trade_row_of completed_in_turn takes stops before after result
+completed_walked g old new takes stops before after result w =
+    is_walked g old new trade_row_of completed_by_age completed_in_turn takes stops before after (λ t has. completed_same t (trades_climb t (state g old).now has)) result w

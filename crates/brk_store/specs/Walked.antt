@@ -4,8 +4,11 @@ use Rattle.sqlite_trees.specs.declared.store.Store.{Ghosts}
 use Rattle.sqlite.specs.Held.{Held, state}
 use Rattle.sqlite.specs.State.{HasCleanDisk, Survives}
 use Rattle.brk_money.specs.declared.fault.Fault.{Fault}
+use Rattle.brk_model.specs.Lists.{sort_by_key}
 use Rattle.brk_model.specs.Statement.{cash_in}
-use Rattle.brk_model.specs.Tables.{Tables, MoveRow}
+use Rattle.brk_model.specs.Tables.{Tables, MoveRow, TradeRow}
+use Rattle.brk_money.specs.Kinds.{same_status}
+use Rattle.brk_money.specs.declared.status.Status.TheVariants.{Completed}
 use Rattle.brk_tables_walks.specs.Walks.{BreaksOff, Takes}
 use Rattle.brk_tables_walks.specs.declared.walking.WalkError.{WalkError}
 use Rattle.brk_tables_walks.specs.declared.walking.WalkError.TheVariants.{Failed, Cause}
@@ -15,6 +18,10 @@ use Rattle.brk_store.specs.Holds.{Holds, IsSame}
 -- ascending.
 abbrev pub cash_of : ℕ → ℕ → ℕ → Tables → List MoveRow
 cash_of account from to t = filter (λ r. nat_le from r.stamp && nat_le r.stamp to) (cash_in t account)
+
+-- The completed trades, sorted by the stamp of completion, ascending.
+abbrev pub completed_in_turn : Tables → List TradeRow
+completed_in_turn t = sort_by_key (λ r. r.stamp) (filter (λ r. same_status r.status Completed) t.trades)
 
 -- The records `all` are the whole list, for whatever rows the store holds.
 abbrev pub AreAll : {S M : Type 0} → Ghosts S → Held S → (Tables → List M) → List M → Type 0

@@ -1,7 +1,7 @@
-//! Reads of brokers by name and of a broker's requests. Each read is a transaction of its own,
-//! which is rolled back.
+//! Reads of brokers by name, and of a broker's requests and accounts. Each read is a transaction of
+//! its own, which is rolled back.
 
-ghost use Rattle.std.specs.Prelude.{◌==◌, IfErr, bytes_eq};
+ghost use Rattle.std.specs.Prelude.{◌≡◌, ◌==◌, IfErr, bytes_eq, filter, map};
 ghost use Rattle.brk_changes.specs.Rows.{request_row_of};
 ghost use Rattle.brk_model.specs.Run.{MayFail};
 ghost use Rattle.brk_ref.specs.Records.{broker_row_of};
@@ -40,5 +40,14 @@ impl<S: Alter> Store<S> {
     {
         let mut tx = begin(&mut self.conn);
         brk_tables_views::requests_of_broker(&mut tx, alloc, broker)
+    }
+
+    /// Returns the ids of the accounts of a broker, ascending. Fails with `Memory` or `Store`.
+    pub fn accounts_of_broker(&mut self, alloc: Global, broker: Id) -> Result<Vec<Id>, Fault>
+        ensures read { ReadPost S.Store self.old self.new result (λ all t. all.items ≡ map (λ r. r.id) (filter (λ r. r.broker == broker) t.accounts)) }
+        ensures fault { IfErr result MayFail }
+    {
+        let mut tx = begin(&mut self.conn);
+        brk_tables_views::accounts_of_broker(&mut tx, alloc, broker)
     }
 }
