@@ -1,4 +1,4 @@
--- The abstract value of each typed row of trades, holdings, settlements and cash.
+-- The value of the model that each typed row of trades, holdings, settlements and cash represents.
 use Rattle.std.specs.Prelude.{List, [], ◌∷◌, codes, string_bytes}
 use Rattle.brk_money.specs.Spelling.{Text}
 use Rattle.brk_model.specs.Keys.{KeyPart, number, by_key}
@@ -15,7 +15,7 @@ use Rattle.brk_changes.specs.declared.move_row.MoveRow as move
 use Rattle.brk_changes.specs.declared.cash_type.CashType.{CashType}
 use Rattle.brk_changes.specs.declared.cash_type.CashType.TheVariants.{CashAccount, Cash, Margin, MarginAccount}
 
--- The abstract TRADE row of a trade's row.
+-- The TRADE row of the model that a trade's row represents.
 abbrev pub trade_row_of : trade.TradeRow → TradeRow
 trade_row_of r = record {
   id = r.id;
@@ -35,23 +35,23 @@ trade_row_of r = record {
   is_lifo = r.is_lifo;
 }
 
--- The abstract TRADE_HISTORY row of a status change.
+-- The TRADE_HISTORY row of the model that a status change represents.
 abbrev pub history_row_of : history.HistoryRow → HistoryRow
 history_row_of r = record { trade = r.trade; status = r.status; stamp = r.stamp }
 
--- The abstract TRADE_REQUEST row of a request.
+-- The TRADE_REQUEST row of the model that a request represents.
 abbrev pub request_row_of : request.RequestRow → RequestRow
 request_row_of r = record { trade = r.trade; kind = r.kind; symbol = r.symbol; qty = r.qty; bid = r.bid; broker = r.broker }
 
--- The abstract HOLDING row of a lot.
+-- The HOLDING row of the model that a lot represents.
 abbrev pub holding_row_of : holding.HoldingRow → HoldingRow
 holding_row_of r = record { trade = r.trade; account = r.account; symbol = r.symbol; stamp = r.stamp; price = r.price; qty = r.qty }
 
--- The abstract HOLDING_SUMMARY row of a summary.
+-- The HOLDING_SUMMARY row of the model that a summary represents.
 abbrev pub summary_row_of : summary.SummaryRow → SummaryRow
 summary_row_of r = record { account = r.account; symbol = r.symbol; qty = r.qty }
 
--- The abstract HOLDING_HISTORY row of a lot change.
+-- The HOLDING_HISTORY row of the model that a lot change represents.
 abbrev pub lot_change_of : lot_change.LotChange → HoldingHistoryRow
 lot_change_of r = record { lot = r.lot; trade = r.trade; before = r.before; after = r.after }
 
@@ -62,15 +62,15 @@ cash_type_word Cash = codes "Cash"
 cash_type_word Margin = codes "Margin"
 cash_type_word MarginAccount = codes "Margin Account"
 
--- The abstract SETTLEMENT row of a settlement.
+-- The SETTLEMENT row of the model that a settlement represents.
 abbrev pub settlement_row_of : settlement.SettlementRow → SettlementRow
 settlement_row_of r = record { trade = r.trade; cash_type = cash_type_word r.cash_type; due_day = r.due_day; amount = r.amount }
 
--- The abstract CASH_TRANSACTION row of a cash row of schema 1.
+-- The CASH_TRANSACTION row of the model that a cash row of schema 1 represents.
 abbrev pub cash_row_of : cash.CashRow → CashRow
 cash_row_of r = record { trade = r.trade; stamp = r.stamp; amount = r.amount; name = string_bytes r.name }
 
--- The abstract CASH_MOVE row of a cash row.
+-- The CASH_MOVE row of the model that a cash row represents.
 abbrev pub move_row_of : move.MoveRow → MoveRow
 move_row_of r = record { id = r.id; account = r.account; trade = r.trade; stamp = r.stamp; amount = r.amount; name = string_bytes r.name }
 

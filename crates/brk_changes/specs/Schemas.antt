@@ -1,9 +1,9 @@
--- The abstract schema of each schema value.
+-- The schema of the model that each schema value represents.
 use Rattle.brk_model.specs.Schemas.{Schema, first_schema, second_schema, third_schema}
 use Rattle.brk_changes.specs.declared.schema.Schema as declared
 use Rattle.brk_changes.specs.declared.schema.Schema.TheVariants.{First, Second, Third}
 
--- The abstract schema of a schema value.
+-- The schema of the model that a schema value represents.
 abbrev pub schema_of : declared.Schema → Schema
 schema_of First = first_schema
 schema_of Second = second_schema

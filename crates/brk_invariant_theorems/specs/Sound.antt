@@ -77,7 +77,7 @@ is_named_by t name =
 abbrev pub has_its_name : List Security → Trade → Bool
 has_its_name securities t = is_named_by t (option_map_or (λ s. s.name) (find (λ s. bytes_eq s.symbol t.symbol) securities) [])
 
--- The trade satisfies the conditions that concern only the trade.
+-- The trade satisfies the part of the audit invariant that concerns only the trade.
 pub record HasSoundRows (t : Trade) : Type 0 where
   pub fields : trade_fields t ≡ true
   -- Its statuses are a valid status sequence, with stamps in ascending order.
@@ -89,8 +89,8 @@ pub record HasSoundRows (t : Trade) : Type 0 where
   pub words : HasNoStrayTexts t
   pub cash_type : is_completed t ≡ true → is_cash_type t.is_cash t.cash_type ≡ true
 
--- The trade satisfies the conditions on it, given the last stamp, the settlement day, the accounts
--- and the securities.
+-- The trade satisfies its part of the audit invariant, given the last stamp, the settlement day,
+-- the accounts and the securities.
 pub record IsSoundBy (last : Option ℕ) (rule : SettleRule) (accounts : List Account) (securities : List Security) (t : Trade) : Type 0 where
   pub alone : HasSoundRows t
   pub open alone use *
@@ -103,7 +103,7 @@ pub record IsSoundBy (last : Option ℕ) (rule : SettleRule) (accounts : List Ac
   -- Its settlement amount is within the limit.
   pub amount : is_completed t ≡ true → is_amount (amount_of accounts t) ≡ true
 
--- The trade satisfies the conditions on it in the base.
+-- The trade satisfies its part of the audit invariant in the base.
 abbrev pub IsSoundTrade : Base → Trade → Type 0
 IsSoundTrade base t = IsSoundBy base.last base.rule base.accounts base.securities t
 
@@ -114,7 +114,8 @@ IsSoundTrade base t = IsSoundBy base.last base.rule base.accounts base.securitie
 abbrev pub movement_fields : Movement → Bool
 movement_fields m = is_movement m.name m.amount && is_amount m.amount
 
--- The movements and the settlement day satisfy the conditions on them.
+-- The movements are well-formed and sorted by stamp, their number is within its limit, and the
+-- settlement day is within the calendar.
 pub record IsCashSound (movements : List Movement) (rule : SettleRule) : Type 0 where
   pub fields : AllByRecursion (λ m. movement_fields m ≡ true) movements
   -- The movements are in ascending order of their stamps, and their number is within the limit of
@@ -150,7 +151,9 @@ pub record IsKeptSound (all_kept : List Kept) : Type 0 where
   pub kept : AllByRecursion (λ k. kept_form k ≡ true) all_kept
   pub kept_keys : DistinctKeys kept_key all_kept
 
--- Brokers, customers, accounts and permissions satisfy the conditions on them.
+-- Brokers, customers, accounts and permissions are well-formed, no two brokers and no two customers
+-- have one key, no two customers have one tax id, the accounts of permissions exist, and no
+-- customer has more than `most_accounts` accounts.
 pub record ArePartiesSound (all_brokers : List Broker) (all_customers : List Customer) (all_accounts : List Account) (all_permissions : List Permission) : Type 0 where
   pub brokers : AllByRecursion (λ b. broker_fields b ≡ true) all_brokers
   pub customers : AllByRecursion (λ c. customer_form c ≡ true) all_customers
@@ -164,7 +167,9 @@ pub record ArePartiesSound (all_brokers : List Broker) (all_customers : List Cus
   -- A customer has at most `most_accounts` accounts.
   pub owned : (customer : ℕ) → length (filter (λ a. a.customer == customer) all_accounts) ≤ most_accounts
 
--- Charges, bands, tax rates and customers' taxes satisfy the conditions on them.
+-- Charges, bands and tax rates are well-formed, no two charges, tax rates or taxes of customers
+-- have one key, what a tax of a customer names exists, and the rates of a customer sum to at most
+-- the greatest tax rate.
 pub record AreTermsSound (all_customers : List Customer) (all_charges : List Charge) (all_bands : List Band) (all_tax_rates : List TaxRate) (all_taxes : List CustomerTax) : Type 0 where
   pub charges : AllByRecursion (λ c. charge_form c ≡ true) all_charges
   pub bands : AllByRecursion (λ b. band_form third_schema b ≡ true) all_bands

@@ -40,6 +40,6 @@ abbrev pub replay_rows : List Deal → List Share → List HoldingHistoryRow
 replay_rows [] us = []
 replay_rows (d ∷ ds) us = deal_rows d us ++ replay_rows ds (shares_after us d)
 
--- The abstract row of a touched lot with the trade of its deal.
+-- The row of HOLDING_HISTORY that a touched lot and the trade of its deal represent.
 abbrev pub plain_row : DealTouch → HoldingHistoryRow
 plain_row t = record { lot = t.touch.lot; trade = t.trade; before = t.touch.before; after = t.touch.after }

@@ -29,14 +29,14 @@ abbrev pub from_end : {X : Type 0} → Bool → List X → List X
 from_end true xs = reverse xs
 from_end false xs = xs
 
--- The abstract lot of a lot.
+-- The lot of the model that a lot represents.
 abbrev pub plain_lot : Lot → model.Lot
 plain_lot l = record { trade = l.trade; price = l.price; stamp = l.stamp; qty = l.qty }
 
--- The abstract touched lot of a touched lot.
+-- The touched lot of the model that a touched lot represents.
 abbrev pub plain_touch : Touch → model.Touch
 plain_touch t = record { lot = t.lot; before = t.before; after = t.after }
 
--- The abstract deal of a deal.
+-- The deal of the model that a deal represents.
 abbrev pub plain_deal : Deal → model.Deal
 plain_deal d = record { trade = d.trade; side = d.side; qty = d.qty; price = d.price; stamp = d.stamp; is_lifo = d.lifo }

@@ -3,7 +3,7 @@ use Rattle.std.specs.Prelude.{List, ◌++◌, Result, Ok, Err}
 use Rattle.brk_money.specs.declared.refusal.Refusal.{Refusal}
 use Rattle.brk_model.specs.Forms.{Read, ◌⊛◌}
 
--- The abstract record of a parsed record, or the same refusal.
+-- The record of the model that a parsed record represents, or the same refusal.
 abbrev pub seen : {A B : Type 0} → (A → B) → Result A Refusal → Read B
 seen view (Ok x) = Ok (view x)
 seen view (Err refusal) = Err refusal

@@ -1,4 +1,5 @@
--- The abstract value of each requested order, tick, completion, text update and movement of cash.
+-- The value of the model that each requested order, tick, completion, text update and movement of
+-- cash represents.
 use Rattle.std.specs.Prelude.{ℕ, List, [], ◌∷◌, map}
 use Rattle.std.specs.Global.{Vec}
 use Rattle.brk_money.specs.Spelling.{Text}
@@ -14,7 +15,7 @@ use Rattle.brk_orders.specs.declared.tick.Tick as tick
 use Rattle.brk_orders.specs.declared.update.Update as told_update
 use Rattle.brk_orders.specs.declared.update.Update.TheVariants as update
 
--- The abstract order of an order.
+-- The order of the model that an order represents.
 abbrev pub order_of : order.Order → Order
 order_of o = record { account = o.account; order_type = o.order_type; symbol = o.symbol; qty = o.qty; is_cash = o.is_cash; is_lifo = o.is_lifo; executor = executor_of o.executor }
 
@@ -23,19 +24,19 @@ abbrev pub told_texts : told.Told → List Text
 told_texts t =
     t.account.now ∷ t.kind.now ∷ t.symbol.now ∷ t.qty.now ∷ t.price.now ∷ t.cash.now ∷ t.end.now ∷ t.first_name.now ∷ t.last_name.now ∷ t.tax_id.now ∷ []
 
--- The abstract tick of a tick.
+-- The tick of the model that a tick represents.
 abbrev pub tick_of : tick.Tick → Tick
 tick_of t = record { symbol = t.symbol; price = t.price; qty = t.qty }
 
--- A list of one abstract tick.
+-- A list of one tick of the model.
 abbrev pub alone : tick.Tick → List Tick
 alone t = tick_of t ∷ []
 
--- The abstract ticks of a list of ticks.
+-- The ticks of the model that a list of ticks represents.
 abbrev pub ticks_of : List tick.Tick → List Tick
 ticks_of ticks = map tick_of ticks
 
--- The abstract ticks of a vector of ticks.
+-- The ticks of the model that a vector of ticks represents.
 abbrev pub items_of : Vec tick.Tick → List Tick
 items_of ticks = ticks_of ticks.items
 

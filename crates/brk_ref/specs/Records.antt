@@ -1,4 +1,4 @@
--- The abstract value of each record of this crate.
+-- The value of the model that each record of this crate represents.
 use Rattle.std.specs.Prelude.{string_bytes}
 use Rattle.brk_model.specs.Records.{Broker, Customer, Account, Permission, Charge, Band, TaxRate, CustomerTax, Key, Kept, Executor}
 use Rattle.brk_model.specs.Commands.{Listing}
@@ -20,67 +20,67 @@ use Rattle.brk_ref.specs.declared.customer_tax.CustomerTax as customer_tax
 use Rattle.brk_ref.specs.declared.key.Key as key
 use Rattle.brk_ref.specs.declared.key.Kept as kept
 
--- The abstract broker of a broker.
+-- The broker of the model that a broker represents.
 abbrev pub broker_of : broker.Broker → Broker
 broker_of b = record { id = b.id; name = b.name }
 
--- The abstract customer of a customer.
+-- The customer of the model that a customer represents.
 abbrev pub customer_of : customer.Customer → Customer
 customer_of c = record { id = c.id; tier = c.tier; tax_id = c.tax_id; last_name = c.last_name; first_name = c.first_name }
 
--- The abstract account of an account.
+-- The account of the model that an account represents.
 abbrev pub account_of : account.Account → Account
 account_of a = record { id = a.id; customer = a.customer; broker = a.broker; name = a.name; tax_status = a.tax_status; opening = a.opening }
 
--- The abstract permission of a permission.
+-- The permission of the model that a permission represents.
 abbrev pub permission_of : permission.Permission → Permission
 permission_of p = record { account = p.account; acl = p.acl; tax_id = p.tax_id; last_name = p.last_name; first_name = p.first_name }
 
--- The abstract executor of an executor.
+-- The executor of the model that an executor represents.
 abbrev pub executor_of : executor.Executor → Executor
 executor_of e = record { first_name = e.first_name; last_name = e.last_name; tax_id = e.tax_id }
 
--- The abstract SECURITY row of a security.
+-- The SECURITY row of the model that a security represents.
 abbrev pub security_of : security.Security → SecurityRow
 security_of s = record { symbol = s.symbol; name = s.name; exchange = s.exchange; sector = s.sector }
 
--- The abstract listing of a listing.
+-- The listing of the model that a listing represents.
 abbrev pub listing_of : listing.Listing → Listing
 listing_of l = record { symbol = l.security.symbol; name = l.security.name; exchange = l.security.exchange; sector = l.security.sector; price = l.price }
 
--- The abstract LAST_TRADE row of a last trade.
+-- The LAST_TRADE row of the model that a last trade represents.
 abbrev pub last_trade_of : last_trade.LastTrade → LastTradeRow
 last_trade_of l = record { symbol = l.symbol; stamp = l.stamp; price = l.price; volume = l.volume }
 
--- The abstract charge of a charge.
+-- The charge of the model that a charge represents.
 abbrev pub charge_of : charge.Charge → Charge
 charge_of c = record { kind = c.kind; tier = c.tier; amount = c.amount }
 
--- The abstract commission band of a band.
+-- The commission band of the model that a band represents.
 abbrev pub band_of : band.Band → Band
 band_of b = record { tier = b.tier; kind = b.kind; exchange = b.exchange; from_qty = b.from_qty; to_qty = b.to_qty; rate = b.rate }
 
--- The abstract tax rate of a tax.
+-- The tax rate of the model that a tax represents.
 abbrev pub tax_of : tax.Tax → TaxRate
 tax_of t = record { id = t.id; name = t.name; rate = t.rate }
 
--- The abstract customer's tax of a customer's tax.
+-- The customer's tax of the model that a customer's tax represents.
 abbrev pub customer_tax_of : customer_tax.CustomerTax → CustomerTax
 customer_tax_of x = record { customer = x.customer; tax = x.tax }
 
--- The abstract key of a key.
+-- The key of the model that a key represents.
 abbrev pub key_of : key.Key → Key
 key_of k = record { batch = k.batch; row = k.row }
 
--- The abstract KEPT row of a stored reply.
+-- The KEPT row of the model that a stored reply represents.
 abbrev pub kept_of : kept.Kept → Kept
 kept_of k = record { key = key_of k.key; row_text = string_bytes k.row_text; line = string_bytes k.line }
 
--- The abstract BROKER row of a broker's row.
+-- The BROKER row of the model that a broker's row represents.
 abbrev pub broker_row_of : broker_row.BrokerRow → BrokerRow
 broker_row_of r = record { id = r.broker.id; name = r.broker.name; trades = r.trades; commissions = r.commissions }
 
--- The abstract CUSTOMER_ACCOUNT row of an account's row.
+-- The CUSTOMER_ACCOUNT row of the model that an account's row represents.
 abbrev pub account_row_of : account_row.AccountRow → AccountRow
 account_row_of r = record {
   id = r.account.id;
